@@ -1,0 +1,16 @@
+-- A run of a source within a bound n: each run of a loop makes at most n turns, and calls nest at most n deep.
+use Rattle.std.specs.Prelude.{ℕ, List}
+use Rattle.qs_events.specs.Events.{Event}
+
+pub data BoundedRun : Type 0 where
+  -- main has returned; the status is its result modulo 256 (C11 5.1.2.2.3)
+  Ended : (trace : List Event) (status : ℕ) → BoundedRun
+  -- the next step has no defined meaning
+  Undefined : (trace : List Event) → BoundedRun
+  -- the bound is used up
+  Short : (trace : List Event) → BoundedRun
+
+abbrev pub trace_of : BoundedRun → List Event
+trace_of (Ended trace status) = trace
+trace_of (Undefined trace) = trace
+trace_of (Short trace) = trace

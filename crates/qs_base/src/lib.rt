@@ -1,8 +1,14 @@
-//! What every crate shares: the fault for want of memory, and names.
+//! What every crate shares: the fault for want of memory, names, and the operations on words.
 #![tactic(auto)]
 
 mod memory;
 mod name;
+mod names;
+#[cfg(test)]
+mod tests;
+mod words;
 
 pub use memory::NoMemory;
 pub use name::Name;
+pub use names::is_name;
+pub use words::{add32, divs32, divu32, mul32, rems32, remu32, sll32, sra32, srl32, sub32};

@@ -3,7 +3,7 @@ use Rattle.std.specs.Prelude.{ℕ, List}
 use Rattle.qs_events.specs.Events.{Event}
 
 pub data BoundedRun : Type 0 where
-  -- main has returned; the status is its result modulo 256 (C11 5.1.2.2.3)
+  -- main has returned (C11 5.1.2.2.3); the status is its result modulo 256
   Ended : (trace : List Event) (status : ℕ) → BoundedRun
   -- the next step has no defined meaning
   Undefined : (trace : List Event) → BoundedRun

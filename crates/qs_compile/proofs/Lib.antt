@@ -1,0 +1,8 @@
+pub mod Agrees
+pub mod Codes
+pub mod Decimals
+pub mod Numbers
+pub mod Pieces
+pub mod Texts
+pub mod WellFormed
+pub mod Words

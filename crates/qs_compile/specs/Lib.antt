@@ -1,0 +1,5 @@
+pub mod Agree
+pub mod Built
+pub mod FirstCode
+pub mod FirstForm
+pub mod Parts

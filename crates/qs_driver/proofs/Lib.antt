@@ -1,0 +1,5 @@
+pub mod Parts
+pub mod Short
+pub mod Builds
+pub mod Answer
+pub mod Follows

@@ -1,0 +1,13 @@
+-- The number with which the program ends.
+use Rattle.std.specs.Prelude.{ℕ}
+use Rattle.qs_driver.specs.declared.status.Status.{Status}
+use Rattle.qs_driver.specs.declared.status.Status.TheVariants.{Done, Source, Words, Missing, StoreFailed, SinkFailed, NoMemory}
+
+abbrev pub code_of : Status → ℕ
+code_of Done = 0
+code_of (Source fault) = 1
+code_of (Words fault) = 3
+code_of (Missing kind) = 4
+code_of (StoreFailed kind) = 5
+code_of SinkFailed = 11
+code_of NoMemory = 12

@@ -1,0 +1,51 @@
+// `build`: from the source in the store to the image in the store.
+ghost use Rattle.qs_driver.specs.Results.{Builds};
+
+use crate::{FileKind, SourceFault, Status, WordsFault};
+use qs_compile::{compile, first_form};
+use qs_image::{Image, write};
+use qs_ports::{ReadFault, Store, read_whole, write_whole};
+use std::alloc::Global;
+
+// The longest source, in bytes.
+const SOURCE_LIMIT: usize = 1_048_576;
+
+/// Writes the image of the source into the out file, and gives it back.
+pub fn build<S: Store>(
+    alloc: Global,
+    source: &str,
+    out: &str,
+    store: &mut S,
+) -> Result<Image, Status>
+    ensures { Builds source.now out.now (S.view store.old) (S.view store.new) result }
+{
+    if source == out {
+        return Err(Status::Words(WordsFault::SameName));
+    }
+    let text = match read_whole(alloc, store, source, SOURCE_LIMIT) {
+        Ok(text) => text,
+        Err(ReadFault::Missing) => return Err(Status::Missing(FileKind::Source)),
+        Err(ReadFault::Failed) => return Err(Status::StoreFailed(FileKind::Source)),
+        Err(ReadFault::NoMemory) => return Err(Status::NoMemory),
+    };
+    let found = match first_form(alloc, &text) {
+        Ok(found) => found,
+        Err(_) => return Err(Status::NoMemory),
+    };
+    let program = match found {
+        Some(program) => program,
+        None => return Err(Status::Source(SourceFault::NotFirstForm)),
+    };
+    let image = match compile(alloc, &program) {
+        Ok(image) => image,
+        Err(_) => return Err(Status::NoMemory),
+    };
+    let bytes = match write(alloc, &image) {
+        Ok(bytes) => bytes,
+        Err(_) => return Err(Status::NoMemory),
+    };
+    match write_whole(store, out, &bytes) {
+        Ok(()) => Ok(image),
+        Err(_) => Err(Status::StoreFailed(FileKind::Output)),
+    }
+}

@@ -1,0 +1,88 @@
+-- What stands where in the bytes of an image.
+use Rattle.std.specs.Prelude.{ℕ, zero, suc, ◌+◌, ◌*◌, ◌/◌, List, [], ◌∷◌, length, take, drop}
+use Rattle.byteorder.specs.Endian.{little_number}
+use Rattle.qs_image.specs.Image.{Image, FunctionRecord}
+
+-- the word in the first four bytes, the lowest first
+unfoldable pub number : List ℕ → ℕ
+number bytes = little_number 4 bytes
+
+-- the word of this number, from 0
+abbrev pub word : ℕ → List ℕ → ℕ
+word w bytes = number (drop (4 * w) bytes)
+
+-- The counts of the header.
+abbrev pub code_count : List ℕ → ℕ
+code_count bytes = word 1 bytes
+
+abbrev pub byte_count : List ℕ → ℕ
+byte_count bytes = word 2 bytes
+
+abbrev pub function_count : List ℕ → ℕ
+function_count bytes = word 3 bytes
+
+abbrev pub names_length : List ℕ → ℕ
+names_length bytes = word 4 bytes
+
+-- how many bytes the counts ask for
+abbrev pub size : List ℕ → ℕ
+size bytes = 32 + 12 * function_count bytes + names_length bytes + 4 * code_count bytes + byte_count bytes
+
+-- One after the other: the header, the table of records, the names, the code, the data.
+abbrev pub behind_header : List ℕ → List ℕ
+behind_header bytes = drop 32 bytes
+
+abbrev pub table_of : List ℕ → List ℕ
+table_of bytes = take (12 * function_count bytes) (behind_header bytes)
+
+abbrev pub behind_table : List ℕ → List ℕ
+behind_table bytes = drop (12 * function_count bytes) (behind_header bytes)
+
+abbrev pub names_of : List ℕ → List ℕ
+names_of bytes = take (names_length bytes) (behind_table bytes)
+
+abbrev pub behind_names : List ℕ → List ℕ
+behind_names bytes = drop (names_length bytes) (behind_table bytes)
+
+abbrev pub code_of : List ℕ → List ℕ
+code_of bytes = take (4 * code_count bytes) (behind_names bytes)
+
+abbrev pub data_of : List ℕ → List ℕ
+data_of bytes = drop (4 * code_count bytes) (behind_names bytes)
+
+-- so many words
+unfoldable pub words : ℕ → List ℕ → List ℕ
+words zero bytes = []
+words (suc n) bytes = number bytes ∷ words n (drop 4 bytes)
+
+abbrev pub words_of : List ℕ → List ℕ
+words_of bytes = words (length bytes / 4) bytes
+
+-- the first record of a table, whose name is the first of the names; of a name that passes the end of the names there is what is there
+abbrev pub first_record : List ℕ → List ℕ → FunctionRecord
+first_record table names = record { name = take (word 0 table) names; address = word 1 table; cost = word 2 table }
+
+-- so many records
+unfoldable pub records : ℕ → List ℕ → List ℕ → List FunctionRecord
+records zero table names = []
+records (suc n) table names = first_record table names ∷ records n (drop 12 table) (drop (word 0 table) names)
+
+abbrev pub records_of : List ℕ → List ℕ → List FunctionRecord
+records_of table names = records (length table / 12) table names
+
+-- the lengths of names that so many records say
+unfoldable pub lengths : ℕ → List ℕ → List ℕ
+lengths zero table = []
+lengths (suc n) table = word 0 table ∷ lengths n (drop 12 table)
+
+abbrev pub lengths_of : List ℕ → List ℕ
+lengths_of table = lengths (length table / 12) table
+
+-- the image of these parts
+abbrev pub image_from : ℕ → ℕ → ℕ → List ℕ → List ℕ → List ℕ → List ℕ → Image
+image_from entry parameters unsigned_set table names code data_bytes =
+    record { entry = entry; parameters = parameters; unsigned_set = unsigned_set; functions = records_of table names; code = words_of code; bytes = data_bytes }
+
+-- What the bytes of an image say. Other bytes say something too, which is no image.
+abbrev pub image_of : List ℕ → Image
+image_of bytes = image_from (word 5 bytes) (word 6 bytes) (word 7 bytes) (table_of bytes) (names_of bytes) (code_of bytes) (data_of bytes)

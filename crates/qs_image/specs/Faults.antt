@@ -1,0 +1,71 @@
+-- The tests of bytes that are read as an image, in their order, and the fault of the first that fails.
+use Rattle.std.specs.Prelude.{ℕ, ◌+◌, ◌*◌, ◌^◌, ◌%◌, Bool, true, false, ◌&&◌, not, List, [], ◌∷◌, ◌++◌, length, take, nat_le, nat_lt, ◌==◌, if◌then◌else◌, Option, Some, None, bytes_eq, codes, sum, option_map}
+use Rattle.std.specs.List.{list_all, list_any, position_from}
+use Rattle.qs_base.specs.Names.{is_between, is_name}
+use Rattle.qs_image.specs.declared.fault.ImageFault.{ImageFault}
+use Rattle.qs_image.specs.declared.fault.ImageFault.TheVariants.{Short, Magic, Count, Trailing, Entry, Cost, Names}
+use Rattle.qs_image.specs.Image.{Image, FunctionRecord}
+use Rattle.qs_image.specs.Bytes.{word, code_count, byte_count, function_count, names_length, size, table_of, lengths_of, image_of}
+
+-- no name is that of a later function
+abbrev pub all_differ : List FunctionRecord → Bool
+all_differ [] = true
+all_differ (f ∷ fs) = not (list_any (λ g. bytes_eq g.name f.name) fs) && all_differ fs
+
+-- each name is one of the language, they differ, one is `main`
+abbrev pub are_names : List FunctionRecord → Bool
+are_names fs = list_all (λ f. is_name f.name) fs && all_differ fs && list_any (λ f. bytes_eq f.name (codes "main")) fs
+
+-- the address of one of so many instructions, the first of which lies at 65,536
+abbrev pub is_address : ℕ → ℕ → Bool
+is_address count address = nat_le 65536 address && nat_lt address (65536 + 4 * count) && address % 4 == 0
+
+abbrev pub are_addresses : Image → Bool
+are_addresses image = is_address (length image.code) image.entry && list_all (λ f. is_address (length image.code) f.address) image.functions
+
+-- a positive multiple of 16 bytes, at most 2^28
+abbrev pub is_cost : ℕ → Bool
+is_cost cost = is_between 1 (2 ^ 28) cost && cost % 16 == 0
+
+abbrev pub unless : Bool → ImageFault → Option ImageFault
+unless test fault = if test then None else Some fault
+
+-- the number of the first function whose cost is none
+abbrev pub cost_fault : List FunctionRecord → Option ImageFault
+cost_fault fs = option_map Cost (position_from (λ f. not (is_cost f.cost)) 0 fs)
+
+-- A test is passed by `None`, and else has its fault.
+abbrev pub header_tests : List ℕ → List (Option ImageFault)
+header_tests bytes =
+    unless (nat_le 32 (length bytes)) Short
+    ∷ unless (bytes_eq (codes "QSI1") (take 4 bytes)) Magic
+    ∷ unless (is_between 1 262144 (code_count bytes)) (Count 1)
+    ∷ unless (nat_le (byte_count bytes) 16777216) (Count 2)
+    ∷ unless (is_between 1 512 (function_count bytes)) (Count 3)
+    ∷ unless (is_between 1 1048576 (names_length bytes)) (Count 4)
+    ∷ unless (nat_le (word 6 bytes) 8) (Count 6)
+    ∷ unless (nat_lt (word 7 bytes) (2 ^ word 6 bytes)) (Count 7)
+    ∷ []
+
+abbrev pub size_tests : List ℕ → List (Option ImageFault)
+size_tests bytes =
+    unless (nat_le (size bytes) (length bytes)) Short
+    ∷ unless (nat_le (length bytes) (size bytes)) Trailing
+    ∷ []
+
+-- of so many bytes of names, the lengths of the names, and what the bytes say
+abbrev pub part_tests : ℕ → List ℕ → Image → List (Option ImageFault)
+part_tests names_length lengths image =
+    unless (sum lengths == names_length && are_names image.functions) Names
+    ∷ unless (are_addresses image) Entry
+    ∷ cost_fault image.functions
+    ∷ []
+
+abbrev pub first_of : List (Option ImageFault) → Option ImageFault
+first_of [] = None
+first_of (None ∷ others) = first_of others
+first_of (Some fault ∷ others) = Some fault
+
+-- The fault of the first test that fails, or `None`, which is where the bytes are an image.
+unfoldable pub first_fault : List ℕ → Option ImageFault
+first_fault bytes = first_of (header_tests bytes ++ size_tests bytes ++ part_tests (names_length bytes) (lengths_of (table_of bytes)) (image_of bytes))

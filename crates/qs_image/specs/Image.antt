@@ -1,0 +1,96 @@
+-- The image as a pure value, and its bytes.
+use Rattle.std.specs.Prelude.{◌≡◌, ℕ, ◌+◌, ◌*◌, ◌/◌, ◌%◌, ◌^◌, ◌<◌, ◌≤◌, ◌≢◌, List, [], ◌∷◌, ◌++◌, length, map, codes, All, AllPairs, Contains, IsTrue}
+use Rattle.qs_base.specs.Names.{is_name}
+
+-- a function with a body: its name, the address of its first instruction, the bytes of stack that a call of it costs
+pub record FunctionRecord : Type 0 where
+  pub name : List ℕ
+  pub address : ℕ
+  pub cost : ℕ
+
+-- the address of the first instruction to run, the count of main's parameters, those of them that are `unsigned` as bits from the lowest on, the functions in the order of their definitions, the words of the code, the bytes of the data
+pub record Image : Type 0 where
+  pub entry : ℕ
+  pub parameters : ℕ
+  pub unsigned_set : ℕ
+  pub functions : List FunctionRecord
+  pub code : List ℕ
+  pub bytes : List ℕ
+
+-- a word of four bytes, the lowest first
+abbrev pub word_bytes : ℕ → List ℕ
+word_bytes word = word % 256 ∷ word / 256 % 256 ∷ word / 65536 % 256 ∷ word / 16777216 % 256 ∷ []
+
+abbrev pub words_bytes : List ℕ → List ℕ
+words_bytes [] = []
+words_bytes (word ∷ words) = word_bytes word ++ words_bytes words
+
+-- the names, one after the other
+abbrev pub joined_names : List FunctionRecord → List ℕ
+joined_names [] = []
+joined_names (f ∷ fs) = f.name ++ joined_names fs
+
+-- a record is three words: length of name, address, cost
+abbrev pub record_words : List FunctionRecord → List ℕ
+record_words [] = []
+record_words (f ∷ fs) = length f.name ∷ f.address ∷ f.cost ∷ record_words fs
+
+-- the words behind the first four bytes, up to the records
+abbrev pub header_words : Image → List ℕ
+header_words image =
+    length image.code
+    ∷ length image.bytes
+    ∷ length image.functions
+    ∷ length (joined_names image.functions)
+    ∷ image.entry
+    ∷ image.parameters
+    ∷ image.unsigned_set
+    ∷ []
+
+-- The bytes of an image: `QSI1`, the header, the records, the names, the code, the data.
+abbrev pub image_bytes : Image → List ℕ
+image_bytes image =
+    codes "QSI1"
+    ++ words_bytes (header_words image)
+    ++ words_bytes (record_words image.functions)
+    ++ joined_names image.functions
+    ++ words_bytes image.code
+    ++ image.bytes
+
+abbrev pub IsBetween : ℕ → ℕ → ℕ → Type 0
+IsBetween low high n = (low ≤ n) × (n ≤ high)
+
+-- the address of one of so many instructions, the first of which lies at 65,536
+pub record IsAddress (count address : ℕ) : Type 0 where
+  pub k : ℕ
+  pub below : k < count
+  pub at : address ≡ 65536 + 4 * k
+
+-- a positive multiple of 16 bytes, at most 2^28
+pub record IsCost (cost : ℕ) : Type 0 where
+  pub k : ℕ
+  pub multiple : cost ≡ 16 * k
+  pub positive : 0 < cost
+  pub most : cost ≤ 2 ^ 28
+
+-- What an image keeps to.
+pub record IsWellFormed (image : Image) : Type 0 where
+  pub code_count : IsBetween 1 262144 (length image.code)
+  pub byte_count : length image.bytes ≤ 16777216
+  pub function_count : IsBetween 1 512 (length image.functions)
+  pub names_length : IsBetween 1 1048576 (length (joined_names image.functions))
+  pub parameters : image.parameters ≤ 8
+  pub unsigned_set : image.unsigned_set < 2 ^ image.parameters
+  pub names : All (λ f. IsTrue (is_name f.name)) image.functions
+  pub differ : AllPairs (λ f g. f.name ≢ g.name) image.functions
+  pub main : Contains (map (λ f. f.name) image.functions) (codes "main")
+  pub entry : IsAddress (length image.code) image.entry
+  pub addresses : All (λ f. IsAddress (length image.code) f.address) image.functions
+  pub costs : All (λ f. IsCost f.cost) image.functions
+  pub words : All (λ word. word < 2 ^ 32) image.code
+  pub octets : All (λ byte. byte < 256) image.bytes
+
+-- The bytes are those of the image, and it keeps to its form.
+pub record IsImage (bytes : List ℕ) (image : Image) : Type 0 where
+  pub read : bytes ≡ image_bytes image
+  pub well_formed : IsWellFormed image

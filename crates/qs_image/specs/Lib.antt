@@ -1,0 +1,5 @@
+pub mod Image
+pub mod Example
+pub mod Bytes
+pub mod Faults
+pub mod View

@@ -1,0 +1,49 @@
+// The image that a compiler makes.
+use qs_base::Name;
+use std::marker::Model;
+
+/// A function with a body.
+#[derive(Debug, Drop)]
+pub struct FunctionRecord {
+    /// The name.
+    pub name: Name,
+    /// The address of the first instruction, from 65,536 on.
+    pub address: u32,
+    /// The bytes of stack that a call costs, the saved return address included.
+    pub cost: u32,
+}
+
+impl Model for FunctionRecord {
+    ghost use Rattle.qs_image.specs.Image.{FunctionRecord as Pure};
+
+    ghost Value = { Pure };
+
+    ghost view = { λ f. record { name = f.name; address = f.address; cost = f.cost } };
+}
+
+/// A compiled program. Contracts see it as a pure image that keeps to its form: `IsWellFormed`.
+#[derive(Debug, Drop)]
+pub struct Image {
+    /// The address of the first instruction to run.
+    pub entry: u32,
+    /// The count of main's parameters, 0 to 8.
+    pub parameters: u32,
+    /// Bit i is set where parameter i of main is `unsigned`.
+    pub unsigned_set: u32,
+    /// The functions with a body, in the order of their definitions.
+    pub functions: Vec<FunctionRecord>,
+    /// The words of the code.
+    pub code: Vec<u32>,
+    /// The bytes of the data.
+    pub bytes: Vec<u8>,
+}
+
+impl Model for Image {
+    ghost use Rattle.qs_image.specs.Image.{Image as Pure, IsWellFormed};
+
+    ghost Value = { Pure };
+
+    ghost view = { λ i. record { entry = i.entry; parameters = i.parameters; unsigned_set = i.unsigned_set; functions = i.functions.items; code = i.code.items; bytes = i.bytes.items } };
+
+    ghost invariant = { λ i. IsWellFormed (record { entry = i.entry; parameters = i.parameters; unsigned_set = i.unsigned_set; functions = i.functions.items; code = i.code.items; bytes = i.bytes.items }) };
+}

@@ -1,0 +1,16 @@
+//! The image: a compiled program as bytes, read and written exactly.
+#![tactic(auto)]
+
+mod fault;
+mod image;
+mod records;
+mod sections;
+mod view;
+mod word;
+mod writing;
+
+pub use fault::ImageFault;
+pub use image::{FunctionRecord, Image};
+pub use records::RecordView;
+pub use view::ImageView;
+pub use writing::write;

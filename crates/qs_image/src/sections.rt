@@ -1,0 +1,54 @@
+// The sections of an image's bytes.
+ghost use Rattle.std.specs.Prelude.{◌≡◌, ◌≤◌, length};
+ghost use Rattle.qs_image.specs.Bytes.{size, names_length, table_of, image_of, records_of};
+ghost use Rattle.qs_image.specs.View.{image_in, records_left};
+
+use crate::records::Records;
+use crate::word::word;
+
+/// The bytes of an image, taken apart: three words of the header, the table of records, the names, the
+/// code and the data.
+#[derive(Clone, Copy, Debug)]
+pub struct Sections<'a> {
+    pub entry: u32,
+    pub parameters: u32,
+    pub unsigned_set: u32,
+    pub table: &'a [u8],
+    pub names: &'a [u8],
+    pub code: &'a [u8],
+    pub data: &'a [u8],
+}
+
+impl<'a> Sections<'a> {
+    /// The sections of bytes that are as long as their counts ask.
+    pub fn of(bytes: &'a [u8]) -> Sections<'a>
+        requires { length bytes.now ≡ size bytes.now }
+        ensures table { result.table.now ≡ table_of bytes.now }
+        ensures names { length result.names.now ≡ names_length bytes.now }
+        ensures image { image_in result ≡ image_of bytes.now }
+    {
+        let (_, behind_header) = bytes.split_at(32);
+        let (table, behind_table) = behind_header.split_at(12 * word(bytes, 3) as usize);
+        let (names, behind_names) = behind_table.split_at(word(bytes, 4) as usize);
+        let (code, data) = behind_names.split_at(4 * word(bytes, 1) as usize);
+        Sections {
+            entry: word(bytes, 5),
+            parameters: word(bytes, 6),
+            unsigned_set: word(bytes, 7),
+            table,
+            names,
+            code,
+            data,
+        }
+    }
+
+    /// The records.
+    pub fn records(&self) -> Records<'a>
+        ensures { records_left result ≡ records_of self.now.table.now self.now.names.now }
+    {
+        Records {
+            table: self.table,
+            names: self.names,
+        }
+    }
+}

@@ -1,0 +1,3 @@
+pub mod ByOpcode
+pub mod RoundTrip
+pub mod Within

@@ -1,0 +1,5 @@
+pub mod Ranges
+pub mod Fields
+pub mod Table
+pub mod Encoding
+pub mod Kinds

@@ -1,0 +1,20 @@
+//! The instructions of RV32I 2.1 and of the M extension 2.0, and their words
+//! (RISC-V Unprivileged ISA 20191213, chapters 2, 7 and 24).
+#![tactic(auto)]
+
+mod decoding;
+mod encoding;
+mod fields;
+mod immediate;
+mod instruction;
+mod kinds;
+mod register;
+
+pub use decoding::decode;
+pub use encoding::encode;
+pub use immediate::{BranchOffset, Immediate, JumpOffset, ShiftAmount, UpperImmediate};
+pub use instruction::{BranchKind, Instr, LoadKind, OpImmKind, OpKind, ShiftImmKind, StoreKind};
+pub use register::Register;
+
+#[cfg(test)]
+mod tests;

@@ -1,0 +1,59 @@
+// The registers.
+ghost use Rattle.std.specs.Prelude.{◌≡◌, ℕ, ◌<◌, ◌↔◌, IsSome, IfSome};
+
+use std::marker::Model;
+
+/// A register, x0 to x31, seen as its number (section 2.1).
+#[derive(Clone, Copy, Debug, PartialEq, Eq)]
+pub struct Register {
+    number: u8,
+}
+
+impl Model for Register {
+    ghost Value = { ℕ };
+
+    ghost view = { λ r. r.number };
+
+    ghost invariant = { λ r. r.number < 32 };
+
+    ghost inverse = { λ n. record { number = n } };
+}
+
+impl Register {
+    /// x0, which always reads 0.
+    pub const ZERO: Register = Register { number: 0 };
+
+    /// x1, the return address.
+    pub const RA: Register = Register { number: 1 };
+
+    /// x2, the stack pointer.
+    pub const SP: Register = Register { number: 2 };
+
+    /// The register of this number, below 32.
+    pub fn new(number: u8) -> Register
+        requires { number < 32 }
+        ensures { result ≡ number }
+    {
+        Register { number }
+    }
+
+    /// The register of this number; None from 32 on.
+    pub fn try_new(number: u8) -> Option<Register>
+        ensures valid { IsSome result ↔ (number < 32) }
+        ensures value { IfSome result (λ r. r ≡ number) }
+    {
+        if number < 32 {
+            Some(Register { number })
+        } else {
+            None
+        }
+    }
+
+    /// The number, 0 to 31.
+    pub fn number(self) -> u8
+        ensures value { result ≡ self }
+        ensures range { self < 32 }
+    {
+        self.number
+    }
+}

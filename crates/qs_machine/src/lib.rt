@@ -1,0 +1,2 @@
+//! The machine. Today its definitions alone: a state, one step, and runs from the start.
+#![tactic(auto)]

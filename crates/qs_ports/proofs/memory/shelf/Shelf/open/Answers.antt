@@ -1,0 +1,9 @@
+use Rattle.std.proofs.Common.{ap, rules}
+use Rattle.qs_ports.specs.ShelfView.{shelf_view}
+use Rattle.qs_ports.proofs.Shelving.{opened_name}
+use Rattle.qs_ports.proofs.memory.shelf.Shelf.open.Goals as goal
+
+pub returns-clause-opened : goal.returns-clause-opened
+returns-clause-opened c = λ faults misses.
+    let s = c.args.self.now in
+    ap (λ r. record (shelf_view s faults misses) { reading = r; place = 0 }) (opened_name s.bytes.items s.files.items c.args.name.now c.find-self.result c.is_some.result (search rules) c.is_some.ensures)

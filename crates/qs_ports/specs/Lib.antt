@@ -1,0 +1,15 @@
+pub mod Causes
+pub mod SinkView
+pub mod StoreView
+pub mod Whole
+pub mod Memory
+pub mod Room
+pub mod CleanSink
+pub mod MemSink
+pub mod Plan
+pub mod Shelf
+pub mod ShelfProps
+pub mod ShelfView
+pub mod MemStore
+pub mod CleanStore
+pub mod System

@@ -1,0 +1,36 @@
+-- What a `MemStore` is for those who use it, and at which calls it fails.
+use Rattle.std.specs.Prelude.{◌≡◌, ◌≢◌, ℕ, List}
+use Rattle.qs_ports.specs.Causes.{one_more}
+use Rattle.qs_ports.specs.StoreView.{StoreView}
+use Rattle.qs_ports.specs.ShelfView.{shelf_view}
+use Rattle.qs_ports.specs.Plan.{calls_in}
+use Rattle.qs_ports.specs.declared.memory.mem_store.MemStore.{MemStore}
+use Rattle.qs_ports.specs.declared.memory.plan.StoreCall.{StoreCall}
+
+abbrev pub mem_store_of : MemStore → StoreView
+mem_store_of s = shelf_view s.shelf s.faults s.misses
+
+-- the most bytes that a call of `read` or `write` moves
+abbrev pub chunk_of : MemStore → ℕ
+chunk_of s = s.chunk
+
+-- the calls that fail, each by its kind and its number among the calls of that kind, from 0
+abbrev pub failing_of : MemStore → List (StoreCall × ℕ)
+failing_of s = s.plan.failing.items
+
+-- how many calls of this kind there were, those that failed included; a count stands still at its last value
+abbrev pub calls_of : MemStore → StoreCall → ℕ
+calls_of s kind = calls_in s.plan kind
+
+-- a store that wasn't called yet, with this chunk and these failing calls
+pub record IsPlanned (s : MemStore) (chunk : ℕ) (failing : List (StoreCall × ℕ)) : Type 0 where
+  pub chunk_is : chunk_of s ≡ chunk
+  pub failing_is : failing_of s ≡ failing
+  pub no_calls : (kind : StoreCall) → calls_of s kind ≡ 0
+
+-- one call more of this kind was counted: the other counts and the plan are as before
+pub record CountsCall (s t : MemStore) (kind : StoreCall) : Type 0 where
+  pub chunk_stays : chunk_of t ≡ chunk_of s
+  pub failing_stays : failing_of t ≡ failing_of s
+  pub calls_rise : calls_of t kind ≡ one_more (calls_of s kind)
+  pub others_stay : (other : StoreCall) → other ≢ kind → calls_of t other ≡ calls_of s other

@@ -1,0 +1,73 @@
+-- Reading and writing files as a whole.
+use Rattle.std.specs.Prelude.{◌≡◌, ◌⊎◌, ℕ, ◌+◌, ◌≤◌, List, [], ◌++◌, length, take, IsTrue, Option, Some, None, Result, Ok, Err, IsSome, Vec}
+use Rattle.std.specs.declared.alloc.Global.{Global}
+use Rattle.qs_ports.specs.StoreView.{StoreView, Keeps, HasSameCounts, HasFailed, HasMissed, Holds, left_of}
+use Rattle.qs_ports.specs.declared.whole.ReadFault.{ReadFault}
+use Rattle.qs_ports.specs.declared.whole.ReadFault.TheVariants.{Missing, Failed, NoMemory}
+use Rattle.qs_ports.specs.declared.whole.WriteFault.{WriteFault}
+use Rattle.qs_ports.specs.declared.store.StoreFault.{StoreFault}
+use Rattle.qs_ports.specs.declared.store.StoreFault.TheVariants as of_store
+
+-- a fault of the store as one of reading
+abbrev pub read_fault_of : StoreFault → ReadFault
+read_fault_of of_store.Missing = Missing
+read_fault_of of_store.Failed = Failed
+
+-- the file is there, and these are its bytes, up to one past the limit
+pub record IsContent (file : Option (List ℕ)) (limit : ℕ) (bytes : List ℕ) : Type 0 where
+  pub content : List ℕ
+  pub there : file ≡ Some content
+  pub read : bytes ≡ take (limit + 1) content
+
+-- the file was read: no file changed, and nothing failed
+pub record IsWhole (v w : StoreView) (name : List ℕ) (limit : ℕ) (bytes : List ℕ) : Type 0 where
+  pub keeps : Keeps v w
+  pub counts : HasSameCounts v w
+  pub content : IsTrue w.told → IsContent (v.files name) limit bytes
+  pub len : length bytes ≤ limit + 1
+
+-- the answer of `read_whole`; none of them changes a file
+abbrev pub ReadsWhole : StoreView → StoreView → List ℕ → ℕ → Result (Vec ℕ Global) ReadFault → Type 0
+ReadsWhole v w name limit (Ok bytes) = IsWhole v w name limit bytes.items
+ReadsWhole v w name limit (Err Missing) = Keeps v w × HasMissed v w × (IsTrue w.told → v.files name ≡ None)
+ReadsWhole v w name limit (Err Failed) = Keeps v w × HasFailed v w
+ReadsWhole v w name limit (Err NoMemory) = Keeps v w × HasSameCounts v w
+
+-- n more bytes of the file were read behind the old ones; none only at its end
+pub record IsMore (v w : StoreView) (old new : List ℕ) (most n : ℕ) : Type 0 where
+  pub keeps : Keeps v w
+  pub counts : HasSameCounts v w
+  pub open_still : IsSome w.reading
+  pub at_most : n ≤ most
+  pub len : length new ≡ length old + n
+  pub bytes : IsTrue w.told → new ++ left_of w ≡ old ++ left_of v
+  pub at_end : IsTrue w.told → n ≡ 0 → left_of w ≡ []
+
+-- the answer of one call of `read` within `read_whole`
+abbrev pub ReadsMore : StoreView → StoreView → List ℕ → List ℕ → ℕ → Result ℕ ReadFault → Type 0
+ReadsMore v w old new most (Ok n) = IsMore v w old new most n
+ReadsMore v w old new most (Err Missing) = ⊥
+ReadsMore v w old new most (Err Failed) = Keeps v w × HasFailed v w
+ReadsMore v w old new most (Err NoMemory) = Keeps v w × HasSameCounts v w
+
+-- how many bytes are moved where a file is made and filled
+abbrev pub moved_by : List ℕ → List ℕ → ℕ
+moved_by name bytes = length name + 1 + length bytes
+
+-- the file holds exactly these bytes, and the other files are as before
+abbrev pub Stores : StoreView → StoreView → List ℕ → List ℕ → Type 0
+Stores v w name bytes = Holds v w name bytes (moved_by name bytes)
+
+-- the file holds the first k bytes of these
+pub record StoresPart (v w : StoreView) (name bytes : List ℕ) (k : ℕ) : Type 0 where
+  pub within : k ≤ length bytes
+  pub stores : Stores v w name (take k bytes)
+
+-- the file wasn't made, and all files are as before, or it holds some first bytes of these
+abbrev pub IsCutShort : StoreView → StoreView → List ℕ → List ℕ → Type 0
+IsCutShort v w name bytes = Keeps v w ⊎ ((k : ℕ) × StoresPart v w name bytes k)
+
+-- the answer of `write_whole`
+abbrev pub WritesWhole : StoreView → StoreView → List ℕ → List ℕ → Result Unit WriteFault → Type 0
+WritesWhole v w name bytes (Ok t) = Stores v w name bytes × HasSameCounts v w
+WritesWhole v w name bytes (Err e) = HasFailed v w × IsCutShort v w name bytes

@@ -1,0 +1,60 @@
+// A sink in memory that never fails.
+use crate::memory::room::Room;
+use crate::{Sink, SinkFault};
+use qs_base::NoMemory;
+use std::alloc::Global;
+
+/// A sink in memory that never fails. It tells what was written to it while the room that was reserved is enough for
+/// that.
+#[derive(Drop)]
+pub struct CleanSink {
+    room: Room,
+}
+
+impl CleanSink {
+    ghost use Rattle.std.specs.Prelude.{IfOk, OnOk, OnErr, ◌≡◌, max};
+    ghost use Rattle.qs_ports.specs.Memory.{IsNewSink};
+    ghost use Rattle.qs_ports.specs.CleanSink.{clean_sink_of};
+
+    /// A sink that nothing was written to, without room.
+    pub fn new(alloc: Global) -> Result<CleanSink, NoMemory>
+        ensures { IfOk result (λ s. IsNewSink (clean_sink_of s) 0) }
+    {
+        Ok(CleanSink {
+            room: Room::new(alloc),
+        })
+    }
+
+    /// Reserves room for at least so many bytes, beside those that were written.
+    pub fn reserve(&mut self, bytes: usize) -> Result<(), NoMemory>
+        ensures ok { OnOk result (clean_sink_of self.new ≡ record (clean_sink_of self.old) { spare = max (clean_sink_of self.old).spare bytes }) }
+        ensures err { OnErr result (clean_sink_of self.new ≡ clean_sink_of self.old) }
+    {
+        self.room.reserve(bytes)
+    }
+
+    /// The bytes that were written so far.
+    pub fn written(&self) -> &[u8]
+        ensures { result.now ≡ (clean_sink_of self.now).written }
+    {
+        &self.room.bytes
+    }
+}
+
+impl Sink for CleanSink {
+    ghost use Rattle.std.specs.Prelude.{◌≡◌, length};
+    ghost use Rattle.qs_ports.specs.SinkView.{Puts};
+    ghost use Rattle.qs_ports.specs.Memory.{tells_on};
+    ghost use Rattle.qs_ports.specs.CleanSink.{clean_sink_of};
+
+    ghost view = { clean_sink_of };
+
+    fn put(&mut self, piece: &[u8]) -> Result<usize, SinkFault>
+        ensures puts { Puts (clean_sink_of self.old) (clean_sink_of self.new) piece.now result }
+        ensures whole { result ≡ Ok (length piece.now) }
+        ensures tells { (clean_sink_of self.new).told ≡ tells_on (clean_sink_of self.old).told (clean_sink_of self.old).spare (length piece.now) }
+    {
+        self.room.add(piece);
+        Ok(piece.len())
+    }
+}

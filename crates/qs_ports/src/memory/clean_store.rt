@@ -1,0 +1,96 @@
+// A store in memory that never fails.
+use crate::memory::shelf::Shelf;
+use crate::{Store, StoreFault};
+use qs_base::NoMemory;
+use std::alloc::Global;
+
+/// A store in memory that never fails. It tells its files while the room that was reserved is enough for what is created
+/// and written.
+#[derive(Drop)]
+pub struct CleanStore {
+    shelf: Shelf,
+    misses: u64,
+}
+
+impl CleanStore {
+    ghost use Rattle.std.specs.Prelude.{IfOk, OnOk, OnErr, ◌≡◌, max, option_copied};
+    ghost use Rattle.qs_ports.specs.Memory.{IsNewStore, files_in};
+    ghost use Rattle.qs_ports.specs.CleanStore.{clean_store_of};
+
+    /// A store with these files, of which the later one of a name counts, and without room for more.
+    pub fn new(alloc: Global, files: Vec<(String, Vec<u8>)>) -> Result<CleanStore, NoMemory>
+        ensures { IfOk result (λ s. IsNewStore (clean_store_of s) (files_in files.items) 0) }
+    {
+        Ok(CleanStore {
+            shelf: Shelf::new(alloc, &files)?,
+            misses: 0,
+        })
+    }
+
+    /// Reserves room for at least so many bytes, beside the files that are there. A file that is created takes the bytes
+    /// of its name and one more.
+    pub fn reserve(&mut self, bytes: usize) -> Result<(), NoMemory>
+        ensures ok { OnOk result (clean_store_of self.new ≡ record (clean_store_of self.old) { spare = max (clean_store_of self.old).spare bytes }) }
+        ensures err { OnErr result (clean_store_of self.new ≡ clean_store_of self.old) }
+    {
+        self.shelf.reserve(bytes)
+    }
+
+    /// The bytes of the file of this name, if there is one.
+    pub fn file(&self, name: &str) -> Option<&[u8]>
+        ensures { option_copied result ≡ (clean_store_of self.now).files name.now }
+    {
+        self.shelf.file(name.as_bytes())
+    }
+}
+
+impl Store for CleanStore {
+    ghost use Rattle.std.specs.Prelude.{IsSome, ◌≡◌, ◌+◌, min, length};
+    ghost use Rattle.qs_ports.specs.StoreView.{Opens, Reads, Creates, Writes, left_of};
+    ghost use Rattle.qs_ports.specs.Memory.{tells_on, open_answer, after_open, after_read, FillsBuffer};
+    ghost use Rattle.qs_ports.specs.CleanStore.{clean_store_of};
+
+    ghost view = { clean_store_of };
+
+    fn open(&mut self, name: &str) -> Result<(), StoreFault>
+        ensures opens { Opens (clean_store_of self.old) (clean_store_of self.new) name.now result }
+        ensures answers { result ≡ open_answer ((clean_store_of self.old).files name.now) }
+        ensures changes { clean_store_of self.new ≡ after_open (clean_store_of self.old) name.now result }
+    {
+        if self.shelf.open(name.as_bytes()) {
+            return Ok(());
+        }
+        self.misses = self.misses.saturating_add(1);
+        Err(StoreFault::Missing)
+    }
+
+    fn read(&mut self, into: &mut [u8]) -> Result<usize, StoreFault>
+        requires { IsSome (clean_store_of self.old).reading }
+        ensures reads { Reads (clean_store_of self.old) (clean_store_of self.new) into.old into.new result }
+        ensures answers { result ≡ Ok (min (length into.old) (length (left_of (clean_store_of self.old)))) }
+        ensures fills { FillsBuffer (clean_store_of self.old) into.old into.new (min (length into.old) (length (left_of (clean_store_of self.old)))) }
+        ensures changes { clean_store_of self.new ≡ after_read (clean_store_of self.old) result }
+    {
+        let most = into.len();
+        Ok(self.shelf.read(into, most))
+    }
+
+    fn create(&mut self, name: &str) -> Result<(), StoreFault>
+        ensures creates { Creates (clean_store_of self.old) (clean_store_of self.new) name.now result }
+        ensures answers { result ≡ Ok tt }
+        ensures tells { (clean_store_of self.new).told ≡ tells_on (clean_store_of self.old).told (clean_store_of self.old).spare (length name.now + 1) }
+    {
+        self.shelf.create(name.as_bytes());
+        Ok(())
+    }
+
+    fn write(&mut self, piece: &[u8]) -> Result<usize, StoreFault>
+        requires { IsSome (clean_store_of self.old).writing }
+        ensures writes { Writes (clean_store_of self.old) (clean_store_of self.new) piece.now result }
+        ensures answers { result ≡ Ok (length piece.now) }
+        ensures tells { (clean_store_of self.new).told ≡ tells_on (clean_store_of self.old).told (clean_store_of self.old).spare (length piece.now) }
+    {
+        self.shelf.append(piece);
+        Ok(piece.len())
+    }
+}

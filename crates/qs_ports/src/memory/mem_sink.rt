@@ -1,0 +1,87 @@
+// A sink in memory that fails at listed calls.
+ghost use Rattle.std.specs.Prelude.{◌≤◌};
+
+use crate::memory::room::Room;
+use crate::{Sink, SinkFault};
+use qs_base::NoMemory;
+use std::alloc::Global;
+
+/// A sink in memory that fails exactly at listed calls, and takes at most a chunk of bytes at each other call. It tells
+/// what was written to it while its room is enough for that.
+#[derive(Drop)]
+pub struct MemSink {
+    room: Room,
+    chunk: usize,
+    failing: Vec<u64>,
+    calls: u64,
+    faults: u64,
+    failed: bool,
+    ghost some: { 1 ≤ chunk },
+}
+
+impl MemSink {
+    ghost use Rattle.std.specs.Prelude.{IfOk, ◌≡◌};
+    ghost use Rattle.qs_ports.specs.Memory.{IsNewSink};
+    ghost use Rattle.qs_ports.specs.MemSink.{mem_sink_of, IsPlanned};
+
+    /// A sink that nothing was written to, with room for so many bytes. The calls of `put` whose numbers, from 0, are in
+    /// `failing` fail.
+    pub fn new(
+        alloc: Global,
+        chunk: usize,
+        failing: Vec<u64>,
+        room: usize,
+    ) -> Result<MemSink, NoMemory>
+        requires { 1 ≤ chunk }
+        ensures fresh { IfOk result (λ s. IsNewSink (mem_sink_of s) room) }
+        ensures planned { IfOk result (λ s. IsPlanned s chunk failing.items) }
+    {
+        let mut bytes = Room::new(alloc);
+        bytes.reserve(room)?;
+        Ok(MemSink {
+            room: bytes,
+            chunk,
+            failing,
+            calls: 0,
+            faults: 0,
+            failed: false,
+        })
+    }
+
+    /// The bytes that were written so far.
+    pub fn written(&self) -> &[u8]
+        ensures { result.now ≡ (mem_sink_of self.now).written }
+    {
+        &self.room.bytes
+    }
+}
+
+impl Sink for MemSink {
+    ghost use Rattle.std.specs.Prelude.{Contains, IsErr, IfOk, OnErr, true, ◌↔◌, ◌≡◌, ◌+◌, min, length};
+    ghost use Rattle.qs_ports.specs.Causes.{one_more};
+    ghost use Rattle.qs_ports.specs.SinkView.{Puts};
+    ghost use Rattle.qs_ports.specs.Memory.{tells_on};
+    ghost use Rattle.qs_ports.specs.MemSink.{mem_sink_of, chunk_of, failing_of, calls_of, CountsCall};
+
+    ghost view = { mem_sink_of };
+
+    fn put(&mut self, piece: &[u8]) -> Result<usize, SinkFault>
+        ensures puts { Puts (mem_sink_of self.old) (mem_sink_of self.new) piece.now result }
+        ensures fails { IsErr result ↔ Contains (failing_of self.old) (calls_of self.old) }
+        ensures counts { CountsCall self.old self.new }
+        ensures moves { IfOk result (λ n. n ≡ min (length piece.now) (chunk_of self.old)) }
+        ensures tells { IfOk result (λ n. (mem_sink_of self.new).told ≡ tells_on (mem_sink_of self.old).told (mem_sink_of self.old).spare n) }
+        ensures failed { OnErr result (mem_sink_of self.new ≡ record (mem_sink_of self.old) { faults = one_more (mem_sink_of self.old).faults; failed = true }) }
+    {
+        let call = self.calls;
+        self.calls = call.saturating_add(1);
+        self.failed = self.failing.contains(&call);
+        if self.failed {
+            self.faults = self.faults.saturating_add(1);
+            return Err(SinkFault);
+        }
+        let count = piece.len().min(self.chunk);
+        self.room.add(&piece[..count]);
+        Ok(count)
+    }
+}

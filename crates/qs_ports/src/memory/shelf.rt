@@ -1,0 +1,193 @@
+// Files over room that was reserved before.
+ghost use Rattle.std.specs.Prelude.{◌≡◌, ◌+◌, ◌-◌, ◌≤◌, ◌<◌, ◌++◌, IsTrue, IfOk, OnOk, OnErr, IsSome, ℕ, false, vec_len, vec_capacity, length, take, drop, min, max, option_copied, is_some, if◌then◌else◌};
+ghost use Rattle.qs_ports.specs.Shelf.{AreWithin, OptionWithin, find, files_of, newest_end};
+ghost use Rattle.qs_ports.specs.ShelfProps.{are_within_prop, option_within_prop};
+
+use crate::memory::span::Span;
+use qs_base::NoMemory;
+use std::alloc::Global;
+
+/// Files in memory. To create a file or to append to it takes no memory: names and contents lie, one after the other, in
+/// room that was reserved before. Where that is too small, the shelf is `full`, and its files aren't told from then on.
+#[derive(Drop)]
+pub struct Shelf {
+    pub bytes: Vec<u8>,
+    pub files: Vec<Span>,
+    pub spare: usize,
+    pub full: bool,
+    pub reading: Option<Span>,
+    pub place: usize,
+    pub writing: bool,
+    ghost room: { vec_len bytes + spare ≤ vec_capacity bytes },
+    ghost slots: { vec_len files + spare ≤ vec_capacity files },
+    ghost within: { AreWithin files.items (length bytes.items) } by { are_within_prop files.items (length bytes.items) },
+    ghost last: { newest_end files.items ≡ length bytes.items },
+    ghost reads: { OptionWithin reading (length bytes.items) } by { option_within_prop reading (length bytes.items) },
+    ghost writes: { IsTrue writing → full ≡ false → 0 < vec_len files },
+}
+
+impl Shelf {
+    ghost use Rattle.std.specs.Prelude.{None};
+    ghost use Rattle.qs_ports.specs.Memory.{IsNewStore, files_in, tells_on};
+    ghost use Rattle.qs_ports.specs.StoreView.{left_of};
+    ghost use Rattle.qs_ports.specs.ShelfView.{shelf_view, Created, Appended};
+
+    /// These files, without room for more. Of two files of one name the later one counts.
+    pub fn new(alloc: Global, entries: &[(String, Vec<u8>)]) -> Result<Shelf, NoMemory>
+        ensures { IfOk result (λ s. IsNewStore (shelf_view s 0 0) (files_in entries.now) 0) }
+    {
+        let mut bytes = Vec::new(alloc);
+        let mut files = Vec::new(alloc);
+        for (name, content) in entries {
+            let start = bytes.len();
+            bytes.extend_from_slice(name.as_bytes())?;
+            let middle = bytes.len();
+            bytes.extend_from_slice(content)?;
+            files.push(Span {
+                name: start,
+                content: middle,
+                end: bytes.len(),
+            })?;
+        }
+        Ok(Shelf {
+            bytes,
+            files,
+            spare: 0,
+            full: false,
+            reading: None,
+            place: 0,
+            writing: false,
+        })
+    }
+
+    /// Reserves room for so many bytes more.
+    pub fn reserve(&mut self, bytes: usize) -> Result<(), NoMemory>
+        ensures reserved { OnOk result ((faults misses : ℕ) → shelf_view self.new faults misses ≡ record (shelf_view self.old faults misses) { spare = max self.old.spare bytes }) }
+        ensures refused { OnErr result ((faults misses : ℕ) → shelf_view self.new faults misses ≡ shelf_view self.old faults misses) }
+    {
+        if self.spare < bytes {
+            self.bytes.reserve(bytes)?;
+            self.files.reserve(bytes)?;
+            self.spare = bytes;
+        }
+        Ok(())
+    }
+
+    /// Makes the file the one for reading, at its start; whether it is there.
+    pub fn open(&mut self, name: &[u8]) -> bool
+        ensures there { result ≡ is_some (files_of self.old.bytes.items self.old.files.items name.now) }
+        ensures opened { (faults misses : ℕ) → shelf_view self.new faults misses ≡ record (shelf_view self.old faults misses) { reading = if result then Some name.now else None; place = 0 } }
+    {
+        self.place = 0;
+        self.reading = find(&self.bytes, &self.files, name);
+        self.reading.is_some()
+    }
+
+    /// Makes no file the one for reading.
+    pub fn close_reading(&mut self)
+        ensures { (faults misses : ℕ) → shelf_view self.new faults misses ≡ record (shelf_view self.old faults misses) { reading = None; place = 0 } }
+    {
+        self.place = 0;
+        self.reading = None;
+    }
+
+    /// Makes no file the one for writing.
+    pub fn close_writing(&mut self)
+        ensures { (faults misses : ℕ) → shelf_view self.new faults misses ≡ record (shelf_view self.old faults misses) { writing = None } }
+    {
+        self.writing = false;
+    }
+
+    /// Makes the file empty and the one for writing.
+    pub fn create(&mut self, name: &[u8])
+        ensures writes { IsTrue self.new.writing }
+        ensures tells { (shelf_view self.new 0 0).told ≡ tells_on (shelf_view self.old 0 0).told self.old.spare (length name.now + 1) }
+        ensures created { (faults misses : ℕ) → Created (shelf_view self.old faults misses) (shelf_view self.new faults misses) name.now }
+    {
+        self.writing = true;
+        if self.full || name.len() >= self.spare {
+            self.full = true;
+            return;
+        }
+        self.spare -= name.len() + 1;
+        let start = self.bytes.len();
+        self.bytes.extend_from_slice(name).unwrap();
+        let end = self.bytes.len();
+        let file = Span {
+            name: start,
+            content: end,
+            end,
+        };
+        self.files.push(file).unwrap();
+    }
+
+    /// Appends the piece to the file for writing.
+    pub fn append(&mut self, piece: &[u8])
+        requires { IsTrue self.old.writing }
+        ensures tells { (shelf_view self.new 0 0).told ≡ tells_on (shelf_view self.old 0 0).told self.old.spare (length piece.now) }
+        ensures appended { (faults misses : ℕ) → Appended (shelf_view self.old faults misses) (shelf_view self.new faults misses) piece.now }
+    {
+        if self.full || piece.len() > self.spare {
+            self.full = true;
+            return;
+        }
+        self.spare -= piece.len();
+        self.bytes.extend_from_slice(piece).unwrap();
+        let newest = self.files.len() - 1;
+        self.files[newest].end += piece.len();
+    }
+
+    /// The bytes of a file.
+    pub fn file(&self, name: &[u8]) -> Option<&[u8]>
+        ensures { option_copied result ≡ files_of self.now.bytes.items self.now.files.items name.now }
+    {
+        let file = find(&self.bytes, &self.files, name)?;
+        Some(&self.bytes[file.content..file.end])
+    }
+
+    /// Reads the next bytes of the file for reading, at most so many.
+    pub fn read(&mut self, into: &mut [u8], most: usize) -> usize
+        requires { IsSome self.old.reading }
+        ensures count { result ≡ min (min most (length into.old)) (length (left_of (shelf_view self.old 0 0))) }
+        ensures bytes { into.new ≡ take result (left_of (shelf_view self.old 0 0)) ++ drop result into.old }
+        ensures place { (faults misses : ℕ) → shelf_view self.new faults misses ≡ record (shelf_view self.old faults misses) { place = self.old.place + result } }
+    {
+        let Some(named) = self.reading else {
+            unreachable!();
+        };
+        let name = &self.bytes[named.name..named.content];
+        let content = match find(&self.bytes, &self.files, name) {
+            Some(file) => &self.bytes[file.content..file.end],
+            None => &[],
+        };
+        let count = copy_from(content, self.place, into, most);
+        self.place += count;
+        count
+    }
+}
+
+// Copies the bytes from this place on, at most so many.
+fn copy_from(content: &[u8], place: usize, into: &mut [u8], most: usize) -> usize
+    ensures count { result ≡ min (min most (length into.old)) (length content.now - place) }
+    ensures bytes { into.new ≡ take result (drop place content.now) ++ drop result into.old }
+{
+    let rest = &content[place.min(content.len())..];
+    let count = most.min(into.len()).min(rest.len());
+    into[..count].copy_from_slice(&rest[..count]);
+    count
+}
+
+// The newest file of this name.
+fn find(bytes: &[u8], files: &[Span], name: &[u8]) -> Option<Span>
+    requires { AreWithin files.now (length bytes.now) }
+    ensures found { result ≡ find bytes.now files.now name.now }
+    ensures within { OptionWithin result (length bytes.now) }
+{
+    let mut found = None;
+    for file in files {
+        if &bytes[file.name..file.content] == name {
+            found = Some(*file);
+        }
+    }
+    found
+}

@@ -1,0 +1,126 @@
+// The files of the system as a store.
+ghost use Rattle.std.specs.Prelude.{◌≡◌, ◌↔◌};
+ghost use Rattle.std.specs.IoError.{error_kind};
+
+use crate::system::again::{read_again, write_again};
+use crate::{Store, StoreFault};
+use std::fs::File;
+use std::io::{Error, ErrorKind};
+use std::rt::Files;
+
+/// The files of the system, by their paths. It tells nothing of what they hold.
+#[derive(Drop)]
+pub struct DirStore<R: Files + Drop> {
+    system: R,
+    reading: Option<R::File>,
+    writing: Option<R::File>,
+    faults: u64,
+    misses: u64,
+}
+
+impl<R: Files + Drop> DirStore<R> {
+    ghost use Rattle.std.specs.Prelude.{None};
+    ghost use Rattle.qs_ports.specs.System.{silent_store, dir_store_of};
+
+    /// The files that this system has, with nothing open.
+    pub fn new(system: R) -> DirStore<R>
+        ensures { dir_store_of result ≡ silent_store None None 0 0 }
+    {
+        DirStore {
+            system,
+            reading: None,
+            writing: None,
+            faults: 0,
+            misses: 0,
+        }
+    }
+}
+
+impl<R: Files + Drop> Store for DirStore<R> {
+    ghost use Rattle.std.specs.Prelude.{IsSome};
+    ghost use Rattle.qs_ports.specs.StoreView.{Opens, Reads, Creates, Writes};
+    ghost use Rattle.qs_ports.specs.System.{dir_store_of, after_silent_open, after_silent_create, after_silent_move};
+
+    ghost view = { dir_store_of };
+
+    fn open(&mut self, name: &str) -> Result<(), StoreFault>
+        ensures opens { Opens (dir_store_of self.old) (dir_store_of self.new) name.now result }
+        ensures changes { dir_store_of self.new ≡ after_silent_open (dir_store_of self.old) result }
+    {
+        self.reading = None;
+        match File::open(&self.system, name) {
+            Ok(file) => {
+                self.reading = Some(file);
+                Ok(())
+            }
+            Err(error) => match fault_of(&error) {
+                StoreFault::Missing => {
+                    self.misses = self.misses.saturating_add(1);
+                    Err(StoreFault::Missing)
+                }
+                StoreFault::Failed => {
+                    self.faults = self.faults.saturating_add(1);
+                    Err(StoreFault::Failed)
+                }
+            },
+        }
+    }
+
+    fn read(&mut self, into: &mut [u8]) -> Result<usize, StoreFault>
+        requires { IsSome (dir_store_of self.old).reading }
+        ensures reads { Reads (dir_store_of self.old) (dir_store_of self.new) into.old into.new result }
+        ensures changes { dir_store_of self.new ≡ after_silent_move (dir_store_of self.old) result }
+    {
+        if let Some(file) = &mut self.reading {
+            if let Ok(count) = read_again(file, into) {
+                return Ok(count);
+            }
+        }
+        self.faults = self.faults.saturating_add(1);
+        Err(StoreFault::Failed)
+    }
+
+    fn create(&mut self, name: &str) -> Result<(), StoreFault>
+        ensures creates { Creates (dir_store_of self.old) (dir_store_of self.new) name.now result }
+        ensures changes { dir_store_of self.new ≡ after_silent_create (dir_store_of self.old) result }
+    {
+        self.writing = None;
+        match File::create(&self.system, name) {
+            Ok(file) => {
+                self.writing = Some(file);
+                Ok(())
+            }
+            Err(_) => {
+                self.faults = self.faults.saturating_add(1);
+                Err(StoreFault::Failed)
+            }
+        }
+    }
+
+    fn write(&mut self, piece: &[u8]) -> Result<usize, StoreFault>
+        requires { IsSome (dir_store_of self.old).writing }
+        ensures writes { Writes (dir_store_of self.old) (dir_store_of self.new) piece.now result }
+        ensures changes { dir_store_of self.new ≡ after_silent_move (dir_store_of self.old) result }
+    {
+        if let Some(file) = &mut self.writing {
+            if let Ok(count) = write_again(file, piece) {
+                if count > 0 || piece.is_empty() {
+                    return Ok(count);
+                }
+            }
+        }
+        self.faults = self.faults.saturating_add(1);
+        Err(StoreFault::Failed)
+    }
+}
+
+// Why a file wasn't opened for reading: it is missing exactly where the system says that it isn't found.
+fn fault_of(error: &Error) -> StoreFault
+    ensures { (result ≡ StoreFault.Missing) ↔ (error_kind error.now ≡ ErrorKind.NotFound) }
+{
+    if error.kind() == ErrorKind::NotFound {
+        StoreFault::Missing
+    } else {
+        StoreFault::Failed
+    }
+}

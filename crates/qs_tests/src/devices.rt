@@ -1,0 +1,74 @@
+// A call of the tool on a store and sinks in memory.
+use qs_base::NoMemory;
+use qs_driver::{Status, run_tool};
+use qs_ports::{MemSink, MemStore, StoreCall};
+use std::alloc::{AllocError, Global};
+
+/// The devices of a call: the source `a.c`, how many bytes a call moves, and which calls fail.
+#[derive(Clone, Copy)]
+pub struct Devices<'a> {
+    pub source: &'a [u8],
+    pub chunk: usize,
+    pub store_fails: &'a [(StoreCall, u64)],
+    pub out_fails: &'a [u64],
+    pub log_fails: &'a [u64],
+}
+
+impl<'a> Devices<'a> {
+    /// Devices that never fail and move all bytes at once.
+    pub fn good(source: &'a [u8]) -> Devices<'a> {
+        Devices {
+            source,
+            chunk: 1_000_000,
+            store_fails: &[],
+            out_fails: &[],
+            log_fails: &[],
+        }
+    }
+}
+
+/// What a call left behind.
+#[derive(Drop)]
+pub struct Ran {
+    pub status: Status,
+    pub store: MemStore,
+    pub out: MemSink,
+    pub log: MemSink,
+}
+
+fn words_of(alloc: Global, texts: &[&str]) -> Result<Vec<String>, AllocError> {
+    let mut words = Vec::new(alloc);
+    for text in texts {
+        words.push(String::from_str(alloc, *text)?)?;
+    }
+    Ok(words)
+}
+
+// A chunk of 0 bytes would never get on: it counts as one.
+fn sink_of(alloc: Global, chunk: usize, fails: &[u64]) -> Result<MemSink, NoMemory> {
+    let failing = Vec::from_slice(alloc, fails)?;
+    MemSink::new(alloc, chunk.max(1), failing, 10_000)
+}
+
+fn store_of(alloc: Global, devices: &Devices<'_>) -> Result<MemStore, NoMemory> {
+    let mut files = Vec::new(alloc);
+    let name = String::from_str(alloc, "a.c")?;
+    files.push((name, Vec::from_slice(alloc, devices.source)?))?;
+    let failing = Vec::from_slice(alloc, devices.store_fails)?;
+    MemStore::new(alloc, files, devices.chunk.max(1), failing, 100_000)
+}
+
+/// Calls the tool with these words.
+pub fn call(alloc: Global, texts: &[&str], devices: &Devices<'_>) -> Result<Ran, NoMemory> {
+    let words = words_of(alloc, texts)?;
+    let mut store = store_of(alloc, devices)?;
+    let mut out = sink_of(alloc, devices.chunk, devices.out_fails)?;
+    let mut log = sink_of(alloc, devices.chunk, devices.log_fails)?;
+    let status = run_tool(alloc, &words, &mut store, &mut out, &mut log);
+    Ok(Ran {
+        status,
+        store,
+        out,
+        log,
+    })
+}

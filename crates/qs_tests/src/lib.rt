@@ -1,0 +1,9 @@
+//! Tests that cross crates: what whole calls of the tool do on stores and sinks in memory, and once on real files.
+#![tactic(auto)]
+
+#[cfg(test)]
+mod devices;
+#[cfg(test)]
+mod files;
+#[cfg(test)]
+mod rows;

@@ -4,8 +4,6 @@
 mod memory;
 mod name;
 mod names;
-#[cfg(test)]
-mod tests;
 mod words;
 
 pub use memory::NoMemory;

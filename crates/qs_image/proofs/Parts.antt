@@ -4,11 +4,11 @@ use Rattle.std.proofs.lemmas.List.Sums.{sum_by-cons}
 use Rattle.std.specs.Prelude.{Bool, false, not, sum, ◌==◌, ◌&&◌, bytes_eq}
 use Rattle.std.specs.List.{list_any}
 use Rattle.qs_image.specs.Faults.{all_differ}
-use Rattle.std.proofs.Common.{◌≡◌, ℕ, zero, suc, ◌+◌, ◌-◌, ◌*◌, ◌/◌, ◌<◌, ◌≤◌, List, [], ◌∷◌, length, take, drop, slice_index, refl, sym, ap, ◌∙◌, arith}
+use Rattle.std.proofs.Common.{◌≡◌, ℕ, zero, suc, ◌+◌, ◌-◌, ◌*◌, ◌/◌, ◌<◌, ◌≤◌, List, [], ◌∷◌, length, drop, slice_index, refl, ap, ◌∙◌, arith}
 use Rattle.std.proofs.Math.Nat.{div-eq-sub-div}
 use Rattle.std.proofs.lemmas.List.{length-drop, drop-drop}
 use Rattle.qs_image.specs.Image.{FunctionRecord}
-use Rattle.qs_image.specs.Bytes.{number, word, words, words_of, first_record, records, records_of, lengths, lengths_of}
+use Rattle.qs_image.specs.Bytes.{word, words, first_record, records, records_of, lengths, lengths_of}
 
 pub length-words : (n : ℕ) (bytes : List ℕ) → length (words n bytes) ≡ n
 unfolding words

@@ -3,6 +3,7 @@
 
 mod fault;
 mod image;
+mod reading;
 mod records;
 mod sections;
 mod view;
@@ -11,6 +12,7 @@ mod writing;
 
 pub use fault::ImageFault;
 pub use image::{FunctionRecord, Image};
+pub use reading::read;
 pub use records::RecordView;
 pub use view::ImageView;
 pub use writing::write;

@@ -1,6 +1,6 @@
 // The sections of an image's bytes.
-ghost use Rattle.std.specs.Prelude.{◌≡◌, ◌≤◌, length};
-ghost use Rattle.qs_image.specs.Bytes.{size, names_length, table_of, image_of, records_of};
+ghost use Rattle.std.specs.Prelude.{◌≡◌, ◌<◌, ◌^◌, length};
+ghost use Rattle.qs_image.specs.Bytes.{size, names_length, table_of, image_of};
 ghost use Rattle.qs_image.specs.View.{image_in, records_left};
 
 use crate::records::Records;
@@ -42,9 +42,19 @@ impl<'a> Sections<'a> {
         }
     }
 
+    /// The count of words of code.
+    pub fn code_count(&self) -> u32
+        requires { length (image_in self.now).code < 2 ^ 32 }
+        ensures { result ≡ length (image_in self.now).code }
+    {
+        (self.code.len() / 4) as u32
+    }
+
     /// The records.
     pub fn records(&self) -> Records<'a>
-        ensures { records_left result ≡ records_of self.now.table.now self.now.names.now }
+        ensures table { result.table.now ≡ self.now.table.now }
+        ensures names { result.names.now ≡ self.now.names.now }
+        ensures records { records_left result ≡ (image_in self.now).functions }
     {
         Records {
             table: self.table,

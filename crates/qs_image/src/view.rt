@@ -74,7 +74,7 @@ impl<'a> ImageView<'a> {
         ensures value { result ≡ length self.now.code }
         ensures well_formed { IsWellFormed self.now }
     {
-        (self.sections.code.len() / 4) as u32
+        self.sections.code_count()
     }
 
     /// Word number `i` of the code, from 0.

@@ -10,7 +10,10 @@ use crate::kinds::{
     branch_funct3, load_funct3, op_funct3, op_funct7, op_imm_funct3, shift_imm_funct3,
     shift_imm_funct7, store_funct3,
 };
-use crate::{BranchOffset, Immediate, Instr, JumpOffset, Register, UpperImmediate};
+use crate::{
+    BranchOffset, Immediate, Instr, JumpOffset, OpKind, Register, ShiftAmount, ShiftImmKind,
+    UpperImmediate,
+};
 
 /// The word of an instruction (chapter 24); of FENCE the one that orders all accesses.
 #[tactic(auto, using(crate::proofs::RoundTrip::round_trip))]
@@ -60,22 +63,8 @@ fn word_of(i: &Instr) -> u32
             rd,
             rs1,
             amount,
-        } => r_word(
-            shift_imm_funct7(kind),
-            u32::from(amount.bits()),
-            rs1,
-            shift_imm_funct3(kind),
-            u32::from(rd.number()),
-            0b0010011,
-        ),
-        Instr::Op { kind, rd, rs1, rs2 } => r_word(
-            op_funct7(kind),
-            u32::from(rs2.number()),
-            rs1,
-            op_funct3(kind),
-            u32::from(rd.number()),
-            0b0110011,
-        ),
+        } => shift_imm_word(kind, amount, rs1, rd),
+        Instr::Op { kind, rd, rs1, rs2 } => op_word(kind, rs2, rs1, rd),
         Instr::Fence => 0x0ff0000f,
         Instr::Ecall => 0x00000073,
         Instr::Ebreak => 0x00100073,
@@ -157,4 +146,34 @@ fn j_word(offset: JumpOffset, rd: Register, opcode: u32) -> u32
     let middle = (bits(imm, 11, 1) << 20) + (bits(imm, 12, 8) << 12);
     let rd = u32::from(rd.number());
     high + middle + (rd << 7) + opcode
+}
+
+fn shift_imm_word(kind: ShiftImmKind, amount: ShiftAmount, rs1: Register, rd: Register) -> u32
+    ensures word { result ≡ words.r_word (words.shift_imm_funct7 kind) amount rs1
+        (words.shift_imm_funct3 kind) rd 0b0010011 }
+    ensures within { amount < 32 }
+    ensures first { rs1 < 32 }
+    ensures destination { rd < 32 }
+{
+    let amount = u32::from(amount.bits());
+    let rd = u32::from(rd.number());
+    r_word(
+        shift_imm_funct7(kind),
+        amount,
+        rs1,
+        shift_imm_funct3(kind),
+        rd,
+        0b0010011,
+    )
+}
+
+fn op_word(kind: OpKind, rs2: Register, rs1: Register, rd: Register) -> u32
+    ensures word { result ≡ words.r_word (words.op_funct7 kind) rs2 rs1 (words.op_funct3 kind) rd 0b0110011 }
+    ensures second { rs2 < 32 }
+    ensures first { rs1 < 32 }
+    ensures destination { rd < 32 }
+{
+    let rs2 = u32::from(rs2.number());
+    let rd = u32::from(rd.number());
+    r_word(op_funct7(kind), rs2, rs1, op_funct3(kind), rd, 0b0110011)
 }

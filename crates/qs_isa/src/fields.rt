@@ -72,12 +72,14 @@ fn sign_extend(count: u32, number: u32) -> u32
     }
 }
 
+/// Bits 31..20, signed.
 pub fn i_immediate(word: u32) -> Immediate
     ensures { result ≡ fields.i_immediate word }
 {
     Immediate::new(sign_extend(12, bits(word, 20, 12)))
 }
 
+/// Bits 31..25, then 11..7, signed.
 pub fn s_immediate(word: u32) -> Immediate
     ensures { result ≡ fields.s_immediate word }
 {
@@ -85,6 +87,7 @@ pub fn s_immediate(word: u32) -> Immediate
     Immediate::new(sign_extend(12, high + bits(word, 7, 5)))
 }
 
+/// Bit 12 is bit 31, bit 11 is bit 7, 10..5 are 30..25, 4..1 are 11..8, signed.
 pub fn b_immediate(word: u32) -> BranchOffset
     ensures { result ≡ fields.b_immediate word }
 {
@@ -93,12 +96,14 @@ pub fn b_immediate(word: u32) -> BranchOffset
     BranchOffset::new(sign_extend(13, high + low))
 }
 
+/// Bits 31..12, the low twelve bits 0.
 pub fn u_immediate(word: u32) -> UpperImmediate
     ensures { result ≡ fields.u_immediate word }
 {
     UpperImmediate::new(bits(word, 12, 20) << 12)
 }
 
+/// Bit 20 is bit 31, 19..12 are 19..12, bit 11 is bit 20, 10..1 are 30..21, signed.
 pub fn j_immediate(word: u32) -> JumpOffset
     ensures { result ≡ fields.j_immediate word }
 {

@@ -1,6 +1,4 @@
-use Rattle.std.proofs.Common.{arith, refl, sym, ◌∙◌, ap}
-use Rattle.std.specs.Prelude.{not, ◌&&◌}
-use Rattle.qs_image.specs.Faults.{all_differ}
+use Rattle.std.proofs.Common.{sym, ◌∙◌}
 use Rattle.qs_image.specs.View.{record_of, records_left}
 use Rattle.qs_image.proofs.Parts.{all_differ-first}
 use Rattle.qs_image.proofs.records.Records.all_differ.Goals as goal

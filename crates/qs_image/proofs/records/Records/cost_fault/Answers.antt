@@ -1,4 +1,4 @@
-use Rattle.std.proofs.Common.{rules, refl, ◌≡◌, Some, None, ap, ◌∙◌, sym, not}
+use Rattle.std.proofs.Common.{rules, refl, ◌≡◌, ap, ◌∙◌, sym, not}
 use borrow.Author.Tests.{tests}
 use Rattle.std.specs.Option.{option_map}
 use Rattle.std.specs.List.{position_from}
@@ -13,13 +13,13 @@ use Rattle.qs_image.proofs.records.Records.cost_fault.Goals as goal
 pub returns-in_err-i : goal.returns-in_err-i
 returns-in_err-i c =
     let place : c.position.result ≡ position_from (λ f. not (is_cost f.cost)) 0 (records_left c.args.self.now) =
-        position_from_yields_List (λ f. not (is_cost f.cost)) c.position.new.self _ c.position.result c.position.ensures.ran (YieldsList-from_first record_of records_left {s = c.args.self.now} (records_left c.args.self.now) refl) (λ x b q k. search (rules, tests))
-        ∙ position_from-zero (λ f. not (is_cost f.cost)) (records_left c.args.self.now) in
+    position_from_yields_List (λ f. not (is_cost f.cost)) c.position.new.self _ c.position.result c.position.ensures.ran (YieldsList-from_first record_of records_left {s = c.args.self.now} (records_left c.args.self.now) refl) (λ x b q k. search (rules, tests))
+    ∙ position_from-zero (λ f. not (is_cost f.cost)) (records_left c.args.self.now) in
     c.from_residual.ensures ∙ ap (option_map Cost) (sym c.in_err-i.was ∙ place)
 
 pub returns : goal.returns
 returns c =
     let place : c.position.result ≡ position_from (λ f. not (is_cost f.cost)) 0 (records_left c.args.self.now) =
-        position_from_yields_List (λ f. not (is_cost f.cost)) c.position.new.self _ c.position.result c.position.ensures.ran (YieldsList-from_first record_of records_left {s = c.args.self.now} (records_left c.args.self.now) refl) (λ x b q k. search (rules, tests))
-        ∙ position_from-zero (λ f. not (is_cost f.cost)) (records_left c.args.self.now) in
+    position_from_yields_List (λ f. not (is_cost f.cost)) c.position.new.self _ c.position.result c.position.ensures.ran (YieldsList-from_first record_of records_left {s = c.args.self.now} (records_left c.args.self.now) refl) (λ x b q k. search (rules, tests))
+    ∙ position_from-zero (λ f. not (is_cost f.cost)) (records_left c.args.self.now) in
     ap (option_map Cost) (sym c.in_ok-i.was ∙ place)

@@ -1,4 +1,4 @@
-use Rattle.std.proofs.Common.{arith, ◌≡◌, sym}
+use Rattle.std.proofs.Common.{arith}
 use Rattle.qs_image.proofs.Parts.{add_up_more, add_up_past, add_up_all}
 use Rattle.qs_image.proofs.records.Records.lengths_add_up.Goals as goal
 

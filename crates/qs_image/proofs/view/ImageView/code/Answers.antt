@@ -1,4 +1,4 @@
-use Rattle.std.proofs.Common.{arith, ◌≡◌, ◌<◌, ◌/◌, length, ◌∙◌, sym}
+use Rattle.std.proofs.Common.{arith, ◌/◌, length, ◌∙◌, sym}
 use Rattle.qs_image.proofs.Parts.{length-words, get-words}
 use Rattle.qs_image.proofs.view.ImageView.code.Goals as goal
 

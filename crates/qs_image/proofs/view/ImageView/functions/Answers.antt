@@ -7,4 +7,4 @@ use Rattle.qs_image.proofs.view.ImageView.functions.Goals as goal
 pub returns : goal.returns
 returns c =
     let found = nth_from_yields_List {v = record_of} c.nth.result c.nth.new.self _ c.nth.ensures.ran (YieldsList-from_first record_of records_left {s = c.records.result} (records_left c.records.result) refl) in
-    rw (← c.self.view_is, ← c.records.ensures) (sym found ∙ ap (option_map record_of) c.unwrap.ensures)
+    rw (← c.self.view_is, ← c.records.ensures.records) (sym found ∙ ap (option_map record_of) c.unwrap.ensures)

@@ -1,10 +1,10 @@
 -- The work and the report together.
-use Rattle.std.proofs.Common.{List, ℕ, Option, Result, refl, inl, inr}
+use Rattle.std.proofs.Common.{List, ℕ, Result, refl, inl, inr}
 use Rattle.qs_ports.specs.StoreView.{StoreView}
 use Rattle.qs_ports.specs.SinkView.{SinkView}
 use Rattle.qs_image.specs.Image.{Image}
 use Rattle.qs_driver.specs.Words.{command_of}
-use Rattle.qs_driver.specs.Tool.{Call, call, Answers, IsDue}
+use Rattle.qs_driver.specs.Tool.{call, Answers}
 use Rattle.qs_driver.specs.Results.{Works, Reports, due_of}
 use Rattle.qs_driver.specs.declared.status.Status.{Status}
 

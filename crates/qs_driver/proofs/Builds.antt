@@ -1,15 +1,14 @@
 -- What `build` came to.
-use Rattle.std.proofs.Common.{◌≡◌, ◌≢◌, ℕ, ◌+◌, ◌<◌, ◌≤◌, List, [], length, take, Option, Some, Ok, Err, sym, ◌∙◌, ap, subst, refl, inl, inr, arith, IsTrue}
+use Rattle.std.proofs.Common.{◌≡◌, ◌≢◌, ℕ, ◌+◌, ◌≤◌, List, length, take, sym, ◌∙◌, subst, refl, inl, inr, arith, IsTrue}
 use Rattle.std.proofs.lemmas.Grind.{common_steps}
 use Rattle.qs_ports.specs.StoreView.{StoreView, Keeps, HasSameCounts, HasFailed, Holds}
-use Rattle.qs_ports.specs.Whole.{IsContent, IsWhole, Stores, IsCutShort, WritesWhole}
-use Rattle.qs_ports.specs.declared.whole.WriteFault.{WriteFault}
+use Rattle.qs_ports.specs.Whole.{IsWhole, Stores, IsCutShort}
 use Rattle.qs_ports.proofs.Wholes.{keeps_more, counts_more, failed_later}
 use Rattle.qs_image.specs.Image.{Image, IsImage}
 use Rattle.qs_compile.specs.FirstForm.{Program, IsFirstForm}
 use Rattle.qs_compile.specs.Built.{IsBuiltFromMain, LowersStackFirst, AgreesFrom}
 use Rattle.qs_driver.specs.Lines.{cost_lines}
-use Rattle.qs_driver.specs.Build.{HoldsProgram, HoldsNoProgram, IsImageOf, HasBuilt, CouldNotWrite, HasAnotherForm, IsUntouched}
+use Rattle.qs_driver.specs.Build.{HoldsProgram, HoldsNoProgram, IsImageOf, HasBuilt, CouldNotWrite, HasAnotherForm}
 use Rattle.qs_driver.proofs.Short.{first_form_is_short}
 
 -- what was read is the whole content where it is short

@@ -1,11 +1,10 @@
 -- What follows from the answer of a call.
-use Rattle.std.proofs.Common.{◌≡◌, ◌≢◌, ◌⊎◌, ◌↔◌, ℕ, ◌<◌, List, [], Option, Some, None, sym, ◌∙◌, ap, subst, refl, inl, inr, arith, IsTrue}
-use Rattle.qs_ports.specs.StoreView.{StoreView}
+use Rattle.std.proofs.Common.{◌≡◌, ◌≢◌, ◌⊎◌, ℕ, ◌<◌, List, Option, Some, None, sym, ◌∙◌, ap, subst, refl, inl, inr, arith, IsTrue}
 use Rattle.qs_compile.specs.FirstForm.{Program, IsFirstForm}
 use Rattle.qs_driver.specs.Words.{Command, command_of, Build}
 use Rattle.qs_driver.specs.Build.{IsDueToBuild, HoldsProgram, HoldsNoProgram}
-use Rattle.qs_driver.specs.Tool.{Call, Answers, IsDueTo, IsDue, OneSinkFailed, Due}
-use Rattle.qs_driver.specs.Promises.{NoneFailed, MeansBuild, IsGoodBuild, Accepts, LacksSource, HasBadSource, NamesOneFileTwice, RefusesExactly, Refuses, ShowsFailures}
+use Rattle.qs_driver.specs.Tool.{Call, Answers, IsDueTo, OneSinkFailed, Due}
+use Rattle.qs_driver.specs.Promises.{NoneFailed, Accepts, LacksSource, HasBadSource, RefusesExactly, Refuses, ShowsFailures}
 use Rattle.qs_driver.specs.declared.status.Status.{Status}
 use Rattle.qs_driver.specs.declared.status.Status.TheVariants.{Done, Source, Words, Missing, StoreFailed, SinkFailed, NoMemory}
 use Rattle.qs_driver.specs.declared.status.SourceFault.TheVariants.{NotFirstForm}

@@ -4,4 +4,5 @@ pub mod Tables
 pub mod Checks
 pub mod Wholes
 pub mod Images
+pub mod Examples
 pub mod Written

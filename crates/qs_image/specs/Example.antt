@@ -31,3 +31,14 @@ smallest_bytes =
 
 pub smallest-bytes : image_bytes smallest ≡ smallest_bytes
 smallest-bytes = refl
+
+-- Two functions, two words of code that return, three bytes of data. main begins at the second word, and the second of its two parameters is `unsigned`.
+abbrev pub larger : Image
+larger = record {
+  entry = 65540;
+  parameters = 2;
+  unsigned_set = 2;
+  functions = record { name = codes "mail"; address = 65536; cost = 16 } ∷ record { name = codes "main"; address = 65540; cost = 48 } ∷ [];
+  code = 32871 ∷ 32871 ∷ [];
+  bytes = codes "hi" ++ 0 ∷ [];
+}

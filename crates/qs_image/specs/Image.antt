@@ -2,19 +2,25 @@
 use Rattle.std.specs.Prelude.{◌≡◌, ℕ, ◌+◌, ◌*◌, ◌/◌, ◌%◌, ◌^◌, ◌<◌, ◌≤◌, ◌≢◌, List, [], ◌∷◌, ◌++◌, length, map, codes, All, AllPairs, Contains, IsTrue}
 use Rattle.qs_base.specs.Names.{is_name}
 
--- a function with a body: its name, the address of its first instruction, the bytes of stack that a call of it costs
+-- a function with a body
 pub record FunctionRecord : Type 0 where
   pub name : List ℕ
+  -- the address of its first instruction
   pub address : ℕ
+  -- the bytes of stack that a call of it costs
   pub cost : ℕ
 
--- the address of the first instruction to run, the count of main's parameters, those of them that are `unsigned` as bits from the lowest on, the functions in the order of their definitions, the words of the code, the bytes of the data
 pub record Image : Type 0 where
+  -- the address of the first instruction to run
   pub entry : ℕ
+  -- the count of main's parameters, and those of them that are `unsigned`, as bits from the lowest on
   pub parameters : ℕ
   pub unsigned_set : ℕ
+  -- in the order of their definitions
   pub functions : List FunctionRecord
+  -- the words of the code
   pub code : List ℕ
+  -- the bytes of the data
   pub bytes : List ℕ
 
 -- a word of four bytes, the lowest first

@@ -1,5 +1,5 @@
 // Reading an image.
-ghost use Rattle.std.specs.Prelude.{◌≡◌, ◌≤◌, ◌==◌, ◌&&◌, length, drop, sum, Some, None, MatchResult, IfOk, IfErr, IsOkAnd};
+ghost use Rattle.std.specs.Prelude.{◌≡◌, ◌≤◌, ◌==◌, ◌&&◌, length, drop, sum, Some, None, MatchResult, IfOk, IsOkAnd};
 ghost use Rattle.qs_image.specs.Image.{Image, IsImage};
 ghost use Rattle.qs_image.specs.Bytes.{word, size, lengths_of, image_of};
 ghost use Rattle.qs_image.specs.Faults.{all_differ, are_names, is_address, are_addresses, is_cost, cost_fault, first_of, header_tests, size_tests, part_tests, first_fault};
@@ -112,7 +112,7 @@ fn sections_of(bytes: &[u8]) -> Result<Sections<'_>, ImageFault>
 pub fn read(bytes: &[u8]) -> Result<ImageView<'_>, ImageFault>
     ensures image { IfOk result (λ image. IsImage bytes.now image) }
     ensures accepts { (image : Image) → IsImage bytes.now image → IsOkAnd result (λ view. view ≡ image) }
-    ensures fault { IfErr result (λ fault. first_fault bytes.now ≡ Some fault) }
+    ensures fault { MatchResult result (λ _. first_fault bytes.now ≡ None) (λ fault. first_fault bytes.now ≡ Some fault) }
 {
     match sections_of(bytes) {
         Ok(sections) => Ok(ImageView { sections }),

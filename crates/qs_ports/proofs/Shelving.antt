@@ -15,18 +15,22 @@ opened_name bytes ss name None false e h = refl
 opened_name bytes ss name (Some s) true e h = ap (λ x. Some x) (find_named bytes ss name s (sym e))
 opened_name bytes ss name (Some s) false e h = absurd (cc)
 
--- the view of a shelf whose bytes and files changed, and whose newest file is open for writing
-abbrev pub reshelved : StoreView → List ℕ → List Span → Option Span → ℕ → StoreView
-reshelved v bytes ss o spare = record v { files = files_of bytes ss; reading = name_of bytes o; writing = writing_name bytes ss true; spare = spare }
+-- the view of a shelf whose bytes and files changed
+abbrev pub reshelved : StoreView → List ℕ → List Span → Option Span → Bool → ℕ → StoreView
+reshelved v bytes ss o writing spare = record v { files = files_of bytes ss; reading = name_of bytes o; writing = writing_name bytes ss writing; spare = spare }
 
--- a file that is created lies behind the others: first its name, and no content
+-- a name from `start` to `middle`, and behind it a content
+abbrev pub span_at : ℕ → ℕ → ℕ → Span
+span_at start middle end = record { name = start; content = middle; end = end }
+
+-- a file that is created lies behind the others: its name, and no content
 abbrev pub new_span : ℕ → ℕ → Span
-new_span start end = record { name = start; content = end; end = end }
+new_span start end = span_at start end end
 
 created_named : (bytes name : List ℕ) (start end : ℕ) → start ≡ length bytes → end ≡ length bytes + length name → name_at (bytes ++ name) (new_span start end) ≡ name
 created_named bytes name start end a b = range_last bytes name start end a b
 
-created_is : (v : StoreView) (bytes name : List ℕ) (start end : ℕ) (ss : List Span) (o : Option Span) (spare : ℕ) → start ≡ length bytes → end ≡ length bytes + length name → v.files ≡ files_of bytes ss → v.reading ≡ name_of bytes o → AreWithin ss (length bytes) → OptionWithin o (length bytes) → spare + (length name + 1) ≡ v.spare → Created v (reshelved v (bytes ++ name) (ss ++ new_span start end ∷ []) o spare) name
+created_is : (v : StoreView) (bytes name : List ℕ) (start end : ℕ) (ss : List Span) (o : Option Span) (spare : ℕ) → start ≡ length bytes → end ≡ length bytes + length name → v.files ≡ files_of bytes ss → v.reading ≡ name_of bytes o → AreWithin ss (length bytes) → OptionWithin o (length bytes) → spare + (length name + 1) ≡ v.spare → Created v (reshelved v (bytes ++ name) (ss ++ new_span start end ∷ []) o true spare) name
 created_is v bytes name start end ss o spare a b f r w wo e =
     let named : name_at (bytes ++ name) (new_span start end) ≡ name = created_named bytes name start end a b in (
       record {
@@ -43,7 +47,7 @@ created_is v bytes name start end ss o spare a b f r w wo e =
       record { reading = name_of_more bytes name o wo ∙ sym r; place = refl },
     )
 
-pub creates : (v : StoreView) (bytes name bytes' : List ℕ) (start end : ℕ) (ss ss' : List Span) (o : Option Span) (spare : ℕ) → bytes' ≡ bytes ++ name → ss' ≡ ss ++ new_span start end ∷ [] → start ≡ length bytes → end ≡ length bytes + length name → v.files ≡ files_of bytes ss → v.reading ≡ name_of bytes o → AreWithin ss (length bytes) → OptionWithin o (length bytes) → spare + (length name + 1) ≡ v.spare → Created v (reshelved v bytes' ss' o spare) name
+pub creates : (v : StoreView) (bytes name bytes' : List ℕ) (start end : ℕ) (ss ss' : List Span) (o : Option Span) (spare : ℕ) → bytes' ≡ bytes ++ name → ss' ≡ ss ++ new_span start end ∷ [] → start ≡ length bytes → end ≡ length bytes + length name → v.files ≡ files_of bytes ss → v.reading ≡ name_of bytes o → AreWithin ss (length bytes) → OptionWithin o (length bytes) → spare + (length name + 1) ≡ v.spare → Created v (reshelved v bytes' ss' o true spare) name
 creates v bytes name bytes' start end ss ss' o spare eb es a b f r w wo e = rw (eb, es) (created_is v bytes name start end ss o spare a b f r w wo e)
 
 pub created_within : (ss ss' : List Span) (start end n k : ℕ) → ss' ≡ ss ++ new_span start end ∷ [] → start ≤ end → end ≡ k → n ≤ k → AreWithin ss n → AreWithin ss' k
@@ -56,7 +60,7 @@ created_end ss ss' start end k es e = rw es (newest_end_push ss (new_span start 
 abbrev pub grown : Span → List ℕ → Span
 grown s p = record s { end = s.end + length p }
 
-appended_is : (v : StoreView) (bytes p : List ℕ) (ss : List Span) (s : Span) (o : Option Span) (spare : ℕ) → v.files ≡ files_of bytes (ss ++ s ∷ []) → v.reading ≡ name_of bytes o → v.writing ≡ writing_name bytes (ss ++ s ∷ []) true → AreWithin (ss ++ s ∷ []) (length bytes) → s.end ≡ length bytes → OptionWithin o (length bytes) → spare + length p ≡ v.spare → Appended v (reshelved v (bytes ++ p) (ss ++ grown s p ∷ []) o spare) p
+appended_is : (v : StoreView) (bytes p : List ℕ) (ss : List Span) (s : Span) (o : Option Span) (spare : ℕ) → v.files ≡ files_of bytes (ss ++ s ∷ []) → v.reading ≡ name_of bytes o → v.writing ≡ writing_name bytes (ss ++ s ∷ []) true → AreWithin (ss ++ s ∷ []) (length bytes) → s.end ≡ length bytes → OptionWithin o (length bytes) → spare + length p ≡ v.spare → Appended v (reshelved v (bytes ++ p) (ss ++ grown s p ∷ []) o true spare) p
 appended_is v bytes p ss s o spare f r wr w se wo e =
     let a : IsWithin s (length bytes) = within_last ss s (length bytes) w in
     let b : AreWithin ss (length bytes) = within_front ss s (length bytes) w in
@@ -83,18 +87,14 @@ appended_is v bytes p ss s o spare f r wr w se wo e =
       ap (λ x. Some x) (newest_name_push (bytes ++ p) ss (grown s p) ∙ kept) ∙ sym open_as,
     )
 
-appends_to_last : (v : StoreView) (bytes p : List ℕ) (ss : List Span) (s x : Span) (n : ℕ) (o : Option Span) (spare : ℕ) → n ≡ length ss → x ≡ slice_index_or (ss ++ s ∷ []) n x → v.files ≡ files_of bytes (ss ++ s ∷ []) → v.reading ≡ name_of bytes o → v.writing ≡ writing_name bytes (ss ++ s ∷ []) true → AreWithin (ss ++ s ∷ []) (length bytes) → newest_end (ss ++ s ∷ []) ≡ length bytes → OptionWithin o (length bytes) → spare + length p ≡ v.spare → Appended v (reshelved v (bytes ++ p) (slice_set (ss ++ s ∷ []) n (grown x p)) o spare) p
+appends_to_last : (v : StoreView) (bytes p : List ℕ) (ss : List Span) (s x : Span) (n : ℕ) (o : Option Span) (spare : ℕ) → n ≡ length ss → x ≡ slice_index_or (ss ++ s ∷ []) n x → v.files ≡ files_of bytes (ss ++ s ∷ []) → v.reading ≡ name_of bytes o → v.writing ≡ writing_name bytes (ss ++ s ∷ []) true → AreWithin (ss ++ s ∷ []) (length bytes) → newest_end (ss ++ s ∷ []) ≡ length bytes → OptionWithin o (length bytes) → spare + length p ≡ v.spare → Appended v (reshelved v (bytes ++ p) (slice_set (ss ++ s ∷ []) n (grown x p)) o true spare) p
 appends_to_last v bytes p ss s x n o spare en ex f r wr w ne wo e =
     let same : x ≡ s = ex ∙ last_read ss s x n en in
     rw (last_set ss s (grown x p) n en, same) (appended_is v bytes p ss s o spare f r wr w (sym (newest_end_push ss s) ∙ ne) wo e)
 
--- the view of a shelf whose bytes and newest file grew
-abbrev pub regrown : StoreView → List ℕ → List Span → Option Span → Bool → ℕ → StoreView
-regrown v bytes ss o writing spare = record v { files = files_of bytes ss; reading = name_of bytes o; writing = writing_name bytes ss writing; spare = spare }
-
-appends_open : (v : StoreView) (bytes p : List ℕ) (ss : List Span) (x : Span) (n : ℕ) (o : Option Span) (spare : ℕ) → HasLast ss → n + 1 ≡ length ss → x ≡ slice_index_or ss n x → v.files ≡ files_of bytes ss → v.reading ≡ name_of bytes o → v.writing ≡ writing_name bytes ss true → AreWithin ss (length bytes) → newest_end ss ≡ length bytes → OptionWithin o (length bytes) → spare + length p ≡ v.spare → Appended v (reshelved v (bytes ++ p) (slice_set ss n (grown x p)) o spare) p
+appends_open : (v : StoreView) (bytes p : List ℕ) (ss : List Span) (x : Span) (n : ℕ) (o : Option Span) (spare : ℕ) → HasLast ss → n + 1 ≡ length ss → x ≡ slice_index_or ss n x → v.files ≡ files_of bytes ss → v.reading ≡ name_of bytes o → v.writing ≡ writing_name bytes ss true → AreWithin ss (length bytes) → newest_end ss ≡ length bytes → OptionWithin o (length bytes) → spare + length p ≡ v.spare → Appended v (reshelved v (bytes ++ p) (slice_set ss n (grown x p)) o true spare) p
 appends_open v bytes p ss x n o spare h en ex f r wr w ne wo e =
-    let P : List Span → Type 0 = λ zs. Appended v (reshelved v (bytes ++ p) (slice_set zs n (grown x p)) o spare) p in
+    let P : List Span → Type 0 = λ zs. Appended v (reshelved v (bytes ++ p) (slice_set zs n (grown x p)) o true spare) p in
     let Q : List Span → Type 0 = λ zs. AreWithin zs (length bytes) in
     let place : n ≡ length h.front = omega (arith, ap length h.is, length-append h.front (h.last ∷ [])) in
     subst P (sym h.is) (appends_to_last v bytes p h.front h.last x n o spare place
@@ -106,7 +106,7 @@ appends_open v bytes p ss x n o spare h en ex f r wr w ne wo e =
     (sym (ap (λ zs. newest_end zs) h.is) ∙ ne)
     wo e)
 
-pub appends : (v : StoreView) (bytes p bytes' : List ℕ) (ss : List Span) (x : Span) (n : ℕ) (o : Option Span) (b : Bool) (spare : ℕ) → bytes' ≡ bytes ++ p → b ≡ true → 0 < length ss → n + 1 ≡ length ss → x ≡ slice_index_or ss n x → v.files ≡ files_of bytes ss → v.reading ≡ name_of bytes o → v.writing ≡ writing_name bytes ss b → AreWithin ss (length bytes) → newest_end ss ≡ length bytes → OptionWithin o (length bytes) → spare + length p ≡ v.spare → Appended v (regrown v bytes' (slice_set ss n (grown x p)) o b spare) p
+pub appends : (v : StoreView) (bytes p bytes' : List ℕ) (ss : List Span) (x : Span) (n : ℕ) (o : Option Span) (b : Bool) (spare : ℕ) → bytes' ≡ bytes ++ p → b ≡ true → 0 < length ss → n + 1 ≡ length ss → x ≡ slice_index_or ss n x → v.files ≡ files_of bytes ss → v.reading ≡ name_of bytes o → v.writing ≡ writing_name bytes ss b → AreWithin ss (length bytes) → newest_end ss ≡ length bytes → OptionWithin o (length bytes) → spare + length p ≡ v.spare → Appended v (reshelved v bytes' (slice_set ss n (grown x p)) o b spare) p
 appends v bytes p bytes' ss x n o b spare eb et h en ex f r wr w ne wo e =
     rw (eb, et) (appends_open v bytes p ss x n o spare (has_last ss h) en ex f r (wr ∙ ap (λ c. writing_name bytes ss c) et) w ne wo e)
 
@@ -164,11 +164,8 @@ put_there bytes name content ss s fs f a b e w n =
 pub puts_entry : (bytes name content bytes' : List ℕ) (ss ss' : List Span) (s : Span) (fs gs : Files) → gs ≡ with_file fs name content → bytes' ≡ (bytes ++ name) ++ content → ss' ≡ ss ++ s ∷ [] → IsSameFiles fs (files_of bytes ss) → s.name ≡ length bytes → s.content ≡ length bytes + length name → s.end ≡ length bytes + length name + length content → AreWithin ss (length bytes) → IsSameFiles gs (files_of bytes' ss')
 puts_entry bytes name content bytes' ss ss' s fs gs eg eb es f a b e w = rw (eg, eb, es) (put_there bytes name content ss s fs f a b e w)
 
-abbrev pub three_span : ℕ → ℕ → ℕ → Span
-three_span start middle end = record { name = start; content = middle; end = end }
+pub entry_within : (ss ss' : List Span) (start middle end n k : ℕ) → ss' ≡ ss ++ span_at start middle end ∷ [] → start ≤ middle → middle ≤ end → end ≡ k → n ≤ k → AreWithin ss n → AreWithin ss' k
+entry_within ss ss' start middle end n k es a b e g w = rw es (within_push ss (span_at start middle end) k (are_within_more ss n k g w) (record { named = a; started = b; ended = omega arith }))
 
-pub entry_within : (ss ss' : List Span) (start middle end n k : ℕ) → ss' ≡ ss ++ three_span start middle end ∷ [] → start ≤ middle → middle ≤ end → end ≡ k → n ≤ k → AreWithin ss n → AreWithin ss' k
-entry_within ss ss' start middle end n k es a b e g w = rw es (within_push ss (three_span start middle end) k (are_within_more ss n k g w) (record { named = a; started = b; ended = omega arith }))
-
-pub entry_end : (ss ss' : List Span) (start middle end k : ℕ) → ss' ≡ ss ++ three_span start middle end ∷ [] → end ≡ k → newest_end ss' ≡ k
-entry_end ss ss' start middle end k es e = rw es (newest_end_push ss (three_span start middle end) ∙ e)
+pub entry_end : (ss ss' : List Span) (start middle end k : ℕ) → ss' ≡ ss ++ span_at start middle end ∷ [] → end ≡ k → newest_end ss' ≡ k
+entry_end ss ss' start middle end k es e = rw es (newest_end_push ss (span_at start middle end) ∙ e)

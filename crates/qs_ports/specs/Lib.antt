@@ -6,10 +6,10 @@ pub mod Memory
 pub mod Room
 pub mod CleanSink
 pub mod MemSink
-pub mod Plan
 pub mod Shelf
 pub mod ShelfProps
 pub mod ShelfView
-pub mod MemStore
 pub mod CleanStore
+pub mod Plan
+pub mod MemStore
 pub mod System

@@ -1,5 +1,5 @@
 -- What a `MemSink` is for those who write to it, and at which calls it fails.
-use Rattle.std.specs.Prelude.{◌≡◌, ℕ, List}
+use Rattle.std.specs.Prelude.{◌≡◌, ℕ, List, Contains}
 use Rattle.qs_ports.specs.Causes.{one_more}
 use Rattle.qs_ports.specs.SinkView.{SinkView}
 use Rattle.qs_ports.specs.Room.{room_view}
@@ -19,6 +19,10 @@ failing_of s = s.failing.items
 -- how many calls of `put` there were, those that failed included; the count stands still at its last value
 abbrev pub calls_of : MemSink → ℕ
 calls_of s = s.calls
+
+-- this call, the next one, is one that fails
+abbrev pub IsListed : MemSink → Type 0
+IsListed s = Contains (failing_of s) (calls_of s)
 
 -- a sink that wasn't called yet, with this chunk and these failing calls
 pub record IsPlanned (s : MemSink) (chunk : ℕ) (failing : List ℕ) : Type 0 where

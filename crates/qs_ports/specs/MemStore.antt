@@ -1,5 +1,5 @@
 -- What a `MemStore` is for those who use it, and at which calls it fails.
-use Rattle.std.specs.Prelude.{◌≡◌, ◌≢◌, ℕ, List}
+use Rattle.std.specs.Prelude.{◌≡◌, ◌≢◌, ℕ, List, Contains}
 use Rattle.qs_ports.specs.Causes.{one_more}
 use Rattle.qs_ports.specs.StoreView.{StoreView}
 use Rattle.qs_ports.specs.ShelfView.{shelf_view}
@@ -21,6 +21,10 @@ failing_of s = s.plan.failing.items
 -- how many calls of this kind there were, those that failed included; a count stands still at its last value
 abbrev pub calls_of : MemStore → StoreCall → ℕ
 calls_of s kind = calls_in s.plan kind
+
+-- this call, the next one of its kind, is one that fails
+abbrev pub IsListed : MemStore → StoreCall → Type 0
+IsListed s kind = Contains (failing_of s) (kind, calls_of s kind)
 
 -- a store that wasn't called yet, with this chunk and these failing calls
 pub record IsPlanned (s : MemStore) (chunk : ℕ) (failing : List (StoreCall × ℕ)) : Type 0 where

@@ -2,7 +2,7 @@
 --
 -- They work over room that was reserved before, and a small room is never a failure. A call that would move more than
 -- the room that is left answers as if it had moved it, and from then on the object doesn't tell what it holds.
-use Rattle.std.specs.Prelude.{◌≡◌, ℕ, ◌+◌, List, [], ◌++◌, take, drop, Bool, true, false, ◌&&◌, nat_le, Option, Some, None, Result, Ok, Err, Vec, String, string_bytes, bytes_eq, if◌then◌else◌, fold}
+use Rattle.std.specs.Prelude.{◌≡◌, ℕ, ◌+◌, List, [], ◌++◌, take, drop, length, min, max, Bool, true, false, ◌&&◌, nat_le, Option, Some, None, Result, Ok, Err, Vec, String, string_bytes, bytes_eq, if◌then◌else◌, fold}
 use Rattle.std.specs.declared.alloc.Global.{Global}
 use Rattle.qs_ports.specs.Causes.{one_more}
 use Rattle.qs_ports.specs.SinkView.{SinkView}
@@ -14,6 +14,22 @@ use Rattle.qs_ports.specs.declared.store.StoreFault.TheVariants.{Missing, Failed
 -- that was left
 abbrev pub tells_on : Bool → ℕ → ℕ → Bool
 tells_on told spare moved = told && nat_le moved spare
+
+-- the same of a sink, before and after the call
+abbrev pub SinkTellsOn : SinkView → SinkView → ℕ → Type 0
+SinkTellsOn v w moved = w.told ≡ tells_on v.told v.spare moved
+
+-- the same of a store
+abbrev pub StoreTellsOn : StoreView → StoreView → ℕ → Type 0
+StoreTellsOn v w moved = w.told ≡ tells_on v.told v.spare moved
+
+-- the sink after a call that failed: one failure more is counted, the last call failed, and all else is as before
+abbrev pub failed_sink : SinkView → SinkView
+failed_sink v = record v { faults = one_more v.faults; failed = true }
+
+-- the same of a store
+abbrev pub failed_store : StoreView → StoreView
+failed_store v = record v { faults = one_more v.faults }
 
 -- a sink that nothing was written to, with so much room
 pub record IsNewSink (v : SinkView) (room : ℕ) : Type 0 where
@@ -49,16 +65,32 @@ pub record IsNewStore (v : StoreView) (files : Files) (room : ℕ) : Type 0 wher
   pub no_faults : v.faults ≡ 0
   pub no_misses : v.misses ≡ 0
 
+-- the sink, and only its room may differ: it is now so many bytes at least
+abbrev pub with_sink_room : SinkView → ℕ → SinkView
+with_sink_room v bytes = record v { spare = max v.spare bytes }
+
+-- the same of a store
+abbrev pub with_store_room : StoreView → ℕ → StoreView
+with_store_room v bytes = record v { spare = max v.spare bytes }
+
 -- the store after `open`
 abbrev pub after_open : StoreView → List ℕ → Result Unit StoreFault → StoreView
 after_open v name (Ok t) = record v { reading = Some name; place = 0 }
 after_open v name (Err Missing) = record v { reading = None; place = 0; misses = one_more v.misses }
-after_open v name (Err Failed) = record v { reading = None; place = 0; faults = one_more v.faults }
+after_open v name (Err Failed) = record (failed_store v) { reading = None; place = 0 }
 
 -- the store after `read`
 abbrev pub after_read : StoreView → Result ℕ StoreFault → StoreView
 after_read v (Ok n) = record v { place = v.place + n }
-after_read v (Err e) = record v { faults = one_more v.faults }
+after_read v (Err e) = failed_store v
+
+-- how many bytes `read` puts into a buffer of this length, if it moves at most so many
+abbrev pub read_count : StoreView → ℕ → ℕ → ℕ
+read_count v most buffer = min (min most buffer) (length (left_of v))
+
+-- the store after a `create` that failed
+abbrev pub after_failed_create : StoreView → StoreView
+after_failed_create v = record (failed_store v) { writing = None }
 
 -- whether `open` finds the file
 abbrev pub open_answer : Option (List ℕ) → Result Unit StoreFault

@@ -1,7 +1,8 @@
 -- What a sink is for those who write to it.
 --
--- A sink takes bytes. It may tell what was written to it, or tell nothing: a sink in memory tells, standard output
--- doesn't. All that is said of written bytes is said of a sink that tells them after the call.
+-- A sink takes bytes. It counts how often it failed, and this count never falls. It may tell what was written to it, or
+-- tell nothing: a sink in memory tells, standard output doesn't. What is said below of written bytes is said of a sink
+-- that tells after the call; such a sink told before the call too.
 use Rattle.std.specs.Prelude.{◌≡◌, ℕ, ◌+◌, ◌<◌, ◌≤◌, List, ◌++◌, length, take, Bool, true, false, IsTrue, Result, Ok, Err}
 use Rattle.qs_ports.specs.Causes.{Rose, one_more}
 use Rattle.qs_ports.specs.declared.sink.SinkFault.{SinkFault}

@@ -1,9 +1,10 @@
 -- What a store of files is for those who use it.
 --
 -- A store holds files by their names. One file may be open for reading, at a place in it, and one for writing. A store
--- may tell what its files hold, or tell nothing: a store in memory tells, the files of the system don't. All that is
--- said of files, names and places is said of a store that tells them after the call. What a failed call says of them
--- is that they are as before.
+-- counts how often it failed and how often it missed a file, and these counts never fall. It may tell what its files
+-- hold, or tell nothing: a store in memory tells, the files of the system don't. What is said below of the content of
+-- files, and of the names and the place of those that are open, is said of a store that tells after the call; such a
+-- store told before the call too.
 use Rattle.std.specs.Prelude.{◌≡◌, ◌≢◌, ℕ, ◌+◌, ◌<◌, ◌≤◌, List, [], ◌++◌, length, take, drop, Bool, IsTrue, Option, Some, None, Result, Ok, Err, IsSome}
 use Rattle.qs_ports.specs.Causes.{Rose}
 use Rattle.qs_ports.specs.SinkView.{IsProgress}

@@ -3,7 +3,7 @@ ghost use Rattle.qs_ports.specs.SinkView.{SinkView, Puts, PutsAll};
 
 use thiserror::Error;
 
-/// The sink failed.
+/// The sink failed, and took nothing.
 #[derive(Clone, Copy, Debug, PartialEq, Eq, Error)]
 #[error("the sink failed")]
 pub struct SinkFault;
@@ -18,7 +18,8 @@ pub trait Sink {
         ensures { Puts (view self.old) (view self.new) piece.now result };
 }
 
-/// Appends all of the bytes, or some first bytes of them up to a failure.
+/// Appends all of the bytes. A fault comes only where the sink counted a failure in this call; some first bytes were
+/// appended then.
 pub fn put_all<K: Sink>(sink: &mut K, bytes: &[u8]) -> Result<(), SinkFault>
     ensures { PutsAll (K.view sink.old) (K.view sink.new) bytes.now result }
 {

@@ -24,8 +24,8 @@ pub trait Store {
     fn open(&mut self, name: &str) -> Result<(), StoreFault>
         ensures { Opens (view self.old) (view self.new) name.now result };
 
-    /// Gives the next bytes of the file that is open for reading, and answers how many: none into a buffer that isn't
-    /// empty exactly at the file's end or past it.
+    /// Puts the next bytes of the file that is open for reading into the buffer, and answers how many: 0 into a buffer
+    /// that isn't empty exactly at the file's end or past it.
     fn read(&mut self, into: &mut [u8]) -> Result<usize, StoreFault>
         requires { IsSome (view self.old).reading }
         ensures { Reads (view self.old) (view self.new) into.old into.new result };
@@ -35,7 +35,7 @@ pub trait Store {
         ensures { Creates (view self.old) (view self.new) name.now result };
 
     /// Appends the first bytes of the piece to the file that is open for writing, at least one where the piece isn't
-    /// empty, and answers how many.
+    /// empty, and answers how many. After `Failed` nothing was appended, where the store tells its files.
     fn write(&mut self, piece: &[u8]) -> Result<usize, StoreFault>
         requires { IsSome (view self.old).writing }
         ensures { Writes (view self.old) (view self.new) piece.now result };

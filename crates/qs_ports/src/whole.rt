@@ -81,7 +81,8 @@ fn read_more<S: Store>(store: &mut S, bytes: &mut Vec<u8>, most: usize) -> Resul
     Ok(count)
 }
 
-/// The bytes of a file, up to one past the limit, so that a file that is longer shows.
+/// The bytes of a file, up to one past the limit, so that a file that is longer than the limit shows. `Missing` and
+/// `Failed` come only where the store counted them in this call.
 pub fn read_whole<S: Store>(
     alloc: Global,
     store: &mut S,
@@ -102,7 +103,8 @@ pub fn read_whole<S: Store>(
     Ok(bytes)
 }
 
-/// Makes a file of these bytes. After a fault the file wasn't made, or holds some first bytes of them.
+/// Makes a file of these bytes. A fault comes only where the store counted a failure in this call; the file wasn't made
+/// then, or holds some first bytes of them.
 pub fn write_whole<S: Store>(store: &mut S, name: &str, bytes: &[u8]) -> Result<(), WriteFault>
     ensures { WritesWhole (S.view store.old) (S.view store.new) name.now bytes.now result }
 {

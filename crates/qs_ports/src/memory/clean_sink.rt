@@ -12,8 +12,8 @@ pub struct CleanSink {
 }
 
 impl CleanSink {
-    ghost use Rattle.std.specs.Prelude.{IfOk, OnOk, OnErr, ◌≡◌, max};
-    ghost use Rattle.qs_ports.specs.Memory.{IsNewSink};
+    ghost use Rattle.std.specs.Prelude.{IfOk, OnOk, OnErr, ◌≡◌};
+    ghost use Rattle.qs_ports.specs.Memory.{IsNewSink, with_sink_room};
     ghost use Rattle.qs_ports.specs.CleanSink.{clean_sink_of};
 
     /// A sink that nothing was written to, without room.
@@ -25,9 +25,9 @@ impl CleanSink {
         })
     }
 
-    /// Reserves room for at least so many bytes, beside those that were written.
+    /// Has room for at least so many bytes beside those that were written. After `NoMemory` the room is as before.
     pub fn reserve(&mut self, bytes: usize) -> Result<(), NoMemory>
-        ensures ok { OnOk result (clean_sink_of self.new ≡ record (clean_sink_of self.old) { spare = max (clean_sink_of self.old).spare bytes }) }
+        ensures ok { OnOk result (clean_sink_of self.new ≡ with_sink_room (clean_sink_of self.old) bytes) }
         ensures err { OnErr result (clean_sink_of self.new ≡ clean_sink_of self.old) }
     {
         self.room.reserve(bytes)
@@ -44,7 +44,7 @@ impl CleanSink {
 impl Sink for CleanSink {
     ghost use Rattle.std.specs.Prelude.{◌≡◌, length};
     ghost use Rattle.qs_ports.specs.SinkView.{Puts};
-    ghost use Rattle.qs_ports.specs.Memory.{tells_on};
+    ghost use Rattle.qs_ports.specs.Memory.{SinkTellsOn};
     ghost use Rattle.qs_ports.specs.CleanSink.{clean_sink_of};
 
     ghost view = { clean_sink_of };
@@ -52,7 +52,7 @@ impl Sink for CleanSink {
     fn put(&mut self, piece: &[u8]) -> Result<usize, SinkFault>
         ensures puts { Puts (clean_sink_of self.old) (clean_sink_of self.new) piece.now result }
         ensures whole { result ≡ Ok (length piece.now) }
-        ensures tells { (clean_sink_of self.new).told ≡ tells_on (clean_sink_of self.old).told (clean_sink_of self.old).spare (length piece.now) }
+        ensures tells { SinkTellsOn (clean_sink_of self.old) (clean_sink_of self.new) (length piece.now) }
     {
         self.room.add(piece);
         Ok(piece.len())

@@ -13,8 +13,8 @@ pub struct CleanStore {
 }
 
 impl CleanStore {
-    ghost use Rattle.std.specs.Prelude.{IfOk, OnOk, OnErr, ◌≡◌, max, option_copied};
-    ghost use Rattle.qs_ports.specs.Memory.{IsNewStore, files_in};
+    ghost use Rattle.std.specs.Prelude.{IfOk, OnOk, OnErr, ◌≡◌, option_copied};
+    ghost use Rattle.qs_ports.specs.Memory.{IsNewStore, files_in, with_store_room};
     ghost use Rattle.qs_ports.specs.CleanStore.{clean_store_of};
 
     /// A store with these files, of which the later one of a name counts, and without room for more.
@@ -27,10 +27,10 @@ impl CleanStore {
         })
     }
 
-    /// Reserves room for at least so many bytes, beside the files that are there. A file that is created takes the bytes
-    /// of its name and one more.
+    /// Has room for at least so many bytes beside the files that are there; a file that is created takes the bytes of
+    /// its name and one more. After `NoMemory` the room is as before.
     pub fn reserve(&mut self, bytes: usize) -> Result<(), NoMemory>
-        ensures ok { OnOk result (clean_store_of self.new ≡ record (clean_store_of self.old) { spare = max (clean_store_of self.old).spare bytes }) }
+        ensures ok { OnOk result (clean_store_of self.new ≡ with_store_room (clean_store_of self.old) bytes) }
         ensures err { OnErr result (clean_store_of self.new ≡ clean_store_of self.old) }
     {
         self.shelf.reserve(bytes)
@@ -45,9 +45,16 @@ impl CleanStore {
 }
 
 impl Store for CleanStore {
-    ghost use Rattle.std.specs.Prelude.{IsSome, ◌≡◌, ◌+◌, min, length};
-    ghost use Rattle.qs_ports.specs.StoreView.{Opens, Reads, Creates, Writes, left_of};
-    ghost use Rattle.qs_ports.specs.Memory.{tells_on, open_answer, after_open, after_read, FillsBuffer};
+    ghost use Rattle.std.specs.Prelude.{IsSome, IfOk, ◌≡◌, ◌+◌, length};
+    ghost use Rattle.qs_ports.specs.StoreView.{Opens, Reads, Creates, Writes};
+    ghost use Rattle.qs_ports.specs.Memory.{
+      StoreTellsOn,
+      FillsBuffer,
+      read_count,
+      open_answer,
+      after_open,
+      after_read,
+    };
     ghost use Rattle.qs_ports.specs.CleanStore.{clean_store_of};
 
     ghost view = { clean_store_of };
@@ -67,8 +74,8 @@ impl Store for CleanStore {
     fn read(&mut self, into: &mut [u8]) -> Result<usize, StoreFault>
         requires { IsSome (clean_store_of self.old).reading }
         ensures reads { Reads (clean_store_of self.old) (clean_store_of self.new) into.old into.new result }
-        ensures answers { result ≡ Ok (min (length into.old) (length (left_of (clean_store_of self.old)))) }
-        ensures fills { FillsBuffer (clean_store_of self.old) into.old into.new (min (length into.old) (length (left_of (clean_store_of self.old)))) }
+        ensures answers { result ≡ Ok (read_count (clean_store_of self.old) (length into.old) (length into.old)) }
+        ensures fills { IfOk result (FillsBuffer (clean_store_of self.old) into.old into.new) }
         ensures changes { clean_store_of self.new ≡ after_read (clean_store_of self.old) result }
     {
         let most = into.len();
@@ -78,7 +85,7 @@ impl Store for CleanStore {
     fn create(&mut self, name: &str) -> Result<(), StoreFault>
         ensures creates { Creates (clean_store_of self.old) (clean_store_of self.new) name.now result }
         ensures answers { result ≡ Ok tt }
-        ensures tells { (clean_store_of self.new).told ≡ tells_on (clean_store_of self.old).told (clean_store_of self.old).spare (length name.now + 1) }
+        ensures tells { StoreTellsOn (clean_store_of self.old) (clean_store_of self.new) (length name.now + 1) }
     {
         self.shelf.create(name.as_bytes());
         Ok(())
@@ -88,7 +95,7 @@ impl Store for CleanStore {
         requires { IsSome (clean_store_of self.old).writing }
         ensures writes { Writes (clean_store_of self.old) (clean_store_of self.new) piece.now result }
         ensures answers { result ≡ Ok (length piece.now) }
-        ensures tells { (clean_store_of self.new).told ≡ tells_on (clean_store_of self.old).told (clean_store_of self.old).spare (length piece.now) }
+        ensures tells { StoreTellsOn (clean_store_of self.old) (clean_store_of self.new) (length piece.now) }
     {
         self.shelf.append(piece);
         Ok(piece.len())

@@ -7,7 +7,7 @@ use qs_base::NoMemory;
 use std::alloc::Global;
 
 /// A sink in memory that fails exactly at listed calls, and takes at most a chunk of bytes at each other call. It tells
-/// what was written to it while its room is enough for that.
+/// what was written to it while its room is enough for that; a small room is no failure.
 #[derive(Drop)]
 pub struct MemSink {
     room: Room,
@@ -24,8 +24,8 @@ impl MemSink {
     ghost use Rattle.qs_ports.specs.Memory.{IsNewSink};
     ghost use Rattle.qs_ports.specs.MemSink.{mem_sink_of, IsPlanned};
 
-    /// A sink that nothing was written to, with room for so many bytes. The calls of `put` whose numbers, from 0, are in
-    /// `failing` fail.
+    /// A sink that nothing was written to, with `room` bytes. A call takes at most `chunk` bytes, 1 or more. The calls of
+    /// `put` whose numbers, from 0, are in `failing` fail.
     pub fn new(
         alloc: Global,
         chunk: usize,
@@ -36,10 +36,10 @@ impl MemSink {
         ensures fresh { IfOk result (λ s. IsNewSink (mem_sink_of s) room) }
         ensures planned { IfOk result (λ s. IsPlanned s chunk failing.items) }
     {
-        let mut bytes = Room::new(alloc);
-        bytes.reserve(room)?;
+        let mut taken = Room::new(alloc);
+        taken.reserve(room)?;
         Ok(MemSink {
-            room: bytes,
+            room: taken,
             chunk,
             failing,
             calls: 0,
@@ -57,21 +57,20 @@ impl MemSink {
 }
 
 impl Sink for MemSink {
-    ghost use Rattle.std.specs.Prelude.{Contains, IsErr, IfOk, OnErr, true, ◌↔◌, ◌≡◌, ◌+◌, min, length};
-    ghost use Rattle.qs_ports.specs.Causes.{one_more};
+    ghost use Rattle.std.specs.Prelude.{IsErr, IfOk, OnErr, ◌↔◌, ◌≡◌, min, length};
     ghost use Rattle.qs_ports.specs.SinkView.{Puts};
-    ghost use Rattle.qs_ports.specs.Memory.{tells_on};
-    ghost use Rattle.qs_ports.specs.MemSink.{mem_sink_of, chunk_of, failing_of, calls_of, CountsCall};
+    ghost use Rattle.qs_ports.specs.Memory.{SinkTellsOn, failed_sink};
+    ghost use Rattle.qs_ports.specs.MemSink.{mem_sink_of, chunk_of, IsListed, CountsCall};
 
     ghost view = { mem_sink_of };
 
     fn put(&mut self, piece: &[u8]) -> Result<usize, SinkFault>
         ensures puts { Puts (mem_sink_of self.old) (mem_sink_of self.new) piece.now result }
-        ensures fails { IsErr result ↔ Contains (failing_of self.old) (calls_of self.old) }
+        ensures fails { IsErr result ↔ IsListed self.old }
         ensures counts { CountsCall self.old self.new }
         ensures moves { IfOk result (λ n. n ≡ min (length piece.now) (chunk_of self.old)) }
-        ensures tells { IfOk result (λ n. (mem_sink_of self.new).told ≡ tells_on (mem_sink_of self.old).told (mem_sink_of self.old).spare n) }
-        ensures failed { OnErr result (mem_sink_of self.new ≡ record (mem_sink_of self.old) { faults = one_more (mem_sink_of self.old).faults; failed = true }) }
+        ensures tells { IfOk result (SinkTellsOn (mem_sink_of self.old) (mem_sink_of self.new)) }
+        ensures failed { OnErr result (mem_sink_of self.new ≡ failed_sink (mem_sink_of self.old)) }
     {
         let call = self.calls;
         self.calls = call.saturating_add(1);

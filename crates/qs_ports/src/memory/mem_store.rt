@@ -8,7 +8,7 @@ use qs_base::NoMemory;
 use std::alloc::Global;
 
 /// A store in memory that fails exactly at listed calls, and moves at most a chunk of bytes at each other call of `read`
-/// and `write`. It tells its files while its room is enough for what is created and written.
+/// and `write`. It tells its files while its room is enough for what is created and written; a small room is no failure.
 #[derive(Drop)]
 pub struct MemStore {
     shelf: Shelf,
@@ -24,8 +24,9 @@ impl MemStore {
     ghost use Rattle.qs_ports.specs.Memory.{IsNewStore, files_in};
     ghost use Rattle.qs_ports.specs.MemStore.{mem_store_of, IsPlanned};
 
-    /// A store with these files, of which the later one of a name counts, and with room for so many bytes more. The
-    /// calls in `failing` fail: each pair is a kind of call and the number of the call among those of its kind, from 0.
+    /// A store with these files, of which the later one of a name counts, and with `room` bytes for what is created and
+    /// written. A call moves at most `chunk` bytes, 1 or more. The calls in `failing` fail: each pair is a kind of call
+    /// and the number of the call among those of its kind, from 0.
     pub fn new(
         alloc: Global,
         files: Vec<(String, Vec<u8>)>,
@@ -57,17 +58,24 @@ impl MemStore {
 }
 
 impl Store for MemStore {
-    ghost use Rattle.std.specs.Prelude.{Contains, IsSome, IfOk, OnErr, ◌↔◌, ◌≡◌, ◌+◌, min, length};
-    ghost use Rattle.qs_ports.specs.Causes.{one_more};
-    ghost use Rattle.qs_ports.specs.StoreView.{Opens, Reads, Creates, Writes, left_of};
-    ghost use Rattle.qs_ports.specs.Memory.{tells_on, after_open, after_read, FillsBuffer};
-    ghost use Rattle.qs_ports.specs.MemStore.{mem_store_of, chunk_of, failing_of, calls_of, CountsCall};
+    ghost use Rattle.std.specs.Prelude.{IsSome, IfOk, OnOk, OnErr, ◌↔◌, ◌≡◌, ◌+◌, min, length};
+    ghost use Rattle.qs_ports.specs.StoreView.{Opens, Reads, Creates, Writes};
+    ghost use Rattle.qs_ports.specs.Memory.{
+      StoreTellsOn,
+      FillsBuffer,
+      read_count,
+      after_open,
+      after_read,
+      after_failed_create,
+      failed_store,
+    };
+    ghost use Rattle.qs_ports.specs.MemStore.{mem_store_of, chunk_of, IsListed, CountsCall};
 
     ghost view = { mem_store_of };
 
     fn open(&mut self, name: &str) -> Result<(), StoreFault>
         ensures opens { Opens (mem_store_of self.old) (mem_store_of self.new) name.now result }
-        ensures fails { (result ≡ Err StoreFault.Failed) ↔ Contains (failing_of self.old) (StoreCall.Open, calls_of self.old StoreCall.Open) }
+        ensures fails { (result ≡ Err StoreFault.Failed) ↔ IsListed self.old StoreCall.Open }
         ensures counts { CountsCall self.old self.new StoreCall.Open }
         ensures changes { mem_store_of self.new ≡ after_open (mem_store_of self.old) name.now result }
     {
@@ -86,9 +94,9 @@ impl Store for MemStore {
     fn read(&mut self, into: &mut [u8]) -> Result<usize, StoreFault>
         requires { IsSome (mem_store_of self.old).reading }
         ensures reads { Reads (mem_store_of self.old) (mem_store_of self.new) into.old into.new result }
-        ensures fails { (result ≡ Err StoreFault.Failed) ↔ Contains (failing_of self.old) (StoreCall.Read, calls_of self.old StoreCall.Read) }
+        ensures fails { (result ≡ Err StoreFault.Failed) ↔ IsListed self.old StoreCall.Read }
         ensures counts { CountsCall self.old self.new StoreCall.Read }
-        ensures moves { IfOk result (λ n. n ≡ min (min (chunk_of self.old) (length into.old)) (length (left_of (mem_store_of self.old)))) }
+        ensures moves { IfOk result (λ n. n ≡ read_count (mem_store_of self.old) (chunk_of self.old) (length into.old)) }
         ensures fills { IfOk result (λ n. FillsBuffer (mem_store_of self.old) into.old into.new n) }
         ensures leaves { OnErr result (into.new ≡ into.old) }
         ensures changes { mem_store_of self.new ≡ after_read (mem_store_of self.old) result }
@@ -102,10 +110,10 @@ impl Store for MemStore {
 
     fn create(&mut self, name: &str) -> Result<(), StoreFault>
         ensures creates { Creates (mem_store_of self.old) (mem_store_of self.new) name.now result }
-        ensures fails { (result ≡ Err StoreFault.Failed) ↔ Contains (failing_of self.old) (StoreCall.Create, calls_of self.old StoreCall.Create) }
+        ensures fails { (result ≡ Err StoreFault.Failed) ↔ IsListed self.old StoreCall.Create }
         ensures counts { CountsCall self.old self.new StoreCall.Create }
-        ensures tells { IfOk result (λ _. (mem_store_of self.new).told ≡ tells_on (mem_store_of self.old).told (mem_store_of self.old).spare (length name.now + 1)) }
-        ensures failed { OnErr result (mem_store_of self.new ≡ record (mem_store_of self.old) { writing = None; faults = one_more (mem_store_of self.old).faults }) }
+        ensures tells { OnOk result (StoreTellsOn (mem_store_of self.old) (mem_store_of self.new) (length name.now + 1)) }
+        ensures failed { OnErr result (mem_store_of self.new ≡ after_failed_create (mem_store_of self.old)) }
     {
         if self.plan.count(StoreCall::Create) {
             self.shelf.close_writing();
@@ -119,11 +127,11 @@ impl Store for MemStore {
     fn write(&mut self, piece: &[u8]) -> Result<usize, StoreFault>
         requires { IsSome (mem_store_of self.old).writing }
         ensures writes { Writes (mem_store_of self.old) (mem_store_of self.new) piece.now result }
-        ensures fails { (result ≡ Err StoreFault.Failed) ↔ Contains (failing_of self.old) (StoreCall.Write, calls_of self.old StoreCall.Write) }
+        ensures fails { (result ≡ Err StoreFault.Failed) ↔ IsListed self.old StoreCall.Write }
         ensures counts { CountsCall self.old self.new StoreCall.Write }
         ensures moves { IfOk result (λ n. n ≡ min (length piece.now) (chunk_of self.old)) }
-        ensures tells { IfOk result (λ n. (mem_store_of self.new).told ≡ tells_on (mem_store_of self.old).told (mem_store_of self.old).spare n) }
-        ensures failed { OnErr result (mem_store_of self.new ≡ record (mem_store_of self.old) { faults = one_more (mem_store_of self.old).faults }) }
+        ensures tells { IfOk result (StoreTellsOn (mem_store_of self.old) (mem_store_of self.new)) }
+        ensures failed { OnErr result (mem_store_of self.new ≡ failed_store (mem_store_of self.old)) }
     {
         if self.plan.count(StoreCall::Write) {
             self.faults = self.faults.saturating_add(1);

@@ -3,9 +3,13 @@
 /// A kind of call on a store.
 #[derive(Clone, Copy, Debug, PartialEq, Eq)]
 pub enum StoreCall {
+    /// A call of `open`.
     Open,
+    /// A call of `read`.
     Read,
+    /// A call of `create`.
     Create,
+    /// A call of `write`.
     Write,
 }
 

@@ -17,7 +17,7 @@ pub struct Room {
 impl Room {
     ghost use Rattle.std.specs.Prelude.{OnOk, OnErr, ◌≡◌, ℕ, Bool, false, length, max};
     ghost use Rattle.qs_ports.specs.SinkView.{Appends};
-    ghost use Rattle.qs_ports.specs.Memory.{IsNewSink, tells_on};
+    ghost use Rattle.qs_ports.specs.Memory.{IsNewSink, SinkTellsOn};
     ghost use Rattle.qs_ports.specs.Room.{room_view};
 
     /// No bytes, and no room.
@@ -31,7 +31,7 @@ impl Room {
         }
     }
 
-    /// Reserves room for so many bytes more.
+    /// Has room for at least so many bytes more.
     pub fn reserve(&mut self, bytes: usize) -> Result<(), NoMemory>
         ensures bytes_stay { self.new.bytes.items ≡ self.old.bytes.items }
         ensures full_stays { self.new.full ≡ self.old.full }
@@ -39,7 +39,7 @@ impl Room {
         ensures refused { OnErr result (self.new.spare ≡ self.old.spare) }
     {
         if self.spare < bytes {
-            self.bytes.reserve(bytes)?;
+            self.bytes.reserve_exact(bytes)?;
             self.spare = bytes;
         }
         Ok(())
@@ -48,7 +48,7 @@ impl Room {
     /// Adds the piece, or is full from then on where there is no room for it.
     pub fn add(&mut self, piece: &[u8])
         ensures appends { (faults : ℕ) (before after : Bool) → Appends (room_view self.old faults before) (room_view self.new faults after) piece.now }
-        ensures tells { (room_view self.new 0 false).told ≡ tells_on (room_view self.old 0 false).told self.old.spare (length piece.now) }
+        ensures tells { SinkTellsOn (room_view self.old 0 false) (room_view self.new 0 false) (length piece.now) }
     {
         if !self.full && piece.len() <= self.spare {
             self.spare -= piece.len();

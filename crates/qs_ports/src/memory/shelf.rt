@@ -1,5 +1,5 @@
 // Files over room that was reserved before.
-ghost use Rattle.std.specs.Prelude.{◌≡◌, ◌+◌, ◌-◌, ◌≤◌, ◌<◌, ◌++◌, IsTrue, IfOk, OnOk, OnErr, IsSome, ℕ, false, vec_len, vec_capacity, length, take, drop, min, max, option_copied, is_some, if◌then◌else◌};
+ghost use Rattle.std.specs.Prelude.{◌≡◌, ◌+◌, ◌-◌, ◌≤◌, ◌<◌, ◌++◌, IsTrue, IfOk, OnOk, OnErr, IsSome, ℕ, false, vec_len, vec_capacity, length, take, drop, min, option_copied, is_some, if◌then◌else◌};
 ghost use Rattle.qs_ports.specs.Shelf.{AreWithin, OptionWithin, find, files_of, newest_end};
 ghost use Rattle.qs_ports.specs.ShelfProps.{are_within_prop, option_within_prop};
 
@@ -8,7 +8,8 @@ use qs_base::NoMemory;
 use std::alloc::Global;
 
 /// Files in memory. To create a file or to append to it takes no memory: names and contents lie, one after the other, in
-/// room that was reserved before. Where that is too small, the shelf is `full`, and its files aren't told from then on.
+/// room that was reserved before. Where that is too small, the shelf is `full`, and doesn't tell its files from then on.
+/// The file that is open for writing is the newest one.
 #[derive(Drop)]
 pub struct Shelf {
     pub bytes: Vec<u8>,
@@ -28,8 +29,14 @@ pub struct Shelf {
 
 impl Shelf {
     ghost use Rattle.std.specs.Prelude.{None};
-    ghost use Rattle.qs_ports.specs.Memory.{IsNewStore, files_in, tells_on};
-    ghost use Rattle.qs_ports.specs.StoreView.{left_of};
+    ghost use Rattle.qs_ports.specs.Memory.{
+      IsNewStore,
+      files_in,
+      with_store_room,
+      StoreTellsOn,
+      read_count,
+      FillsBuffer,
+    };
     ghost use Rattle.qs_ports.specs.ShelfView.{shelf_view, Created, Appended};
 
     /// These files, without room for more. Of two files of one name the later one counts.
@@ -60,14 +67,17 @@ impl Shelf {
         })
     }
 
-    /// Reserves room for so many bytes more.
+    /// Has room for at least so many bytes more. Each file that is created uses one at least, so as many places for
+    /// files are reserved too.
     pub fn reserve(&mut self, bytes: usize) -> Result<(), NoMemory>
-        ensures reserved { OnOk result ((faults misses : ℕ) → shelf_view self.new faults misses ≡ record (shelf_view self.old faults misses) { spare = max self.old.spare bytes }) }
-        ensures refused { OnErr result ((faults misses : ℕ) → shelf_view self.new faults misses ≡ shelf_view self.old faults misses) }
+        ensures reserved { OnOk result ((faults misses : ℕ) →
+            shelf_view self.new faults misses ≡ with_store_room (shelf_view self.old faults misses) bytes) }
+        ensures refused { OnErr result ((faults misses : ℕ) →
+            shelf_view self.new faults misses ≡ shelf_view self.old faults misses) }
     {
         if self.spare < bytes {
-            self.bytes.reserve(bytes)?;
-            self.files.reserve(bytes)?;
+            self.bytes.reserve_exact(bytes)?;
+            self.files.reserve_exact(bytes)?;
             self.spare = bytes;
         }
         Ok(())
@@ -76,7 +86,8 @@ impl Shelf {
     /// Makes the file the one for reading, at its start; whether it is there.
     pub fn open(&mut self, name: &[u8]) -> bool
         ensures there { result ≡ is_some (files_of self.old.bytes.items self.old.files.items name.now) }
-        ensures opened { (faults misses : ℕ) → shelf_view self.new faults misses ≡ record (shelf_view self.old faults misses) { reading = if result then Some name.now else None; place = 0 } }
+        ensures opened { (faults misses : ℕ) → shelf_view self.new faults misses
+            ≡ record (shelf_view self.old faults misses) { reading = if result then Some name.now else None; place = 0 } }
     {
         self.place = 0;
         self.reading = find(&self.bytes, &self.files, name);
@@ -85,7 +96,8 @@ impl Shelf {
 
     /// Makes no file the one for reading.
     pub fn close_reading(&mut self)
-        ensures { (faults misses : ℕ) → shelf_view self.new faults misses ≡ record (shelf_view self.old faults misses) { reading = None; place = 0 } }
+        ensures { (faults misses : ℕ) → shelf_view self.new faults misses
+            ≡ record (shelf_view self.old faults misses) { reading = None; place = 0 } }
     {
         self.place = 0;
         self.reading = None;
@@ -93,7 +105,8 @@ impl Shelf {
 
     /// Makes no file the one for writing.
     pub fn close_writing(&mut self)
-        ensures { (faults misses : ℕ) → shelf_view self.new faults misses ≡ record (shelf_view self.old faults misses) { writing = None } }
+        ensures { (faults misses : ℕ) → shelf_view self.new faults misses
+            ≡ record (shelf_view self.old faults misses) { writing = None } }
     {
         self.writing = false;
     }
@@ -101,8 +114,9 @@ impl Shelf {
     /// Makes the file empty and the one for writing.
     pub fn create(&mut self, name: &[u8])
         ensures writes { IsTrue self.new.writing }
-        ensures tells { (shelf_view self.new 0 0).told ≡ tells_on (shelf_view self.old 0 0).told self.old.spare (length name.now + 1) }
-        ensures created { (faults misses : ℕ) → Created (shelf_view self.old faults misses) (shelf_view self.new faults misses) name.now }
+        ensures tells { StoreTellsOn (shelf_view self.old 0 0) (shelf_view self.new 0 0) (length name.now + 1) }
+        ensures created { (faults misses : ℕ) →
+            Created (shelf_view self.old faults misses) (shelf_view self.new faults misses) name.now }
     {
         self.writing = true;
         if self.full || name.len() >= self.spare {
@@ -124,8 +138,9 @@ impl Shelf {
     /// Appends the piece to the file for writing.
     pub fn append(&mut self, piece: &[u8])
         requires { IsTrue self.old.writing }
-        ensures tells { (shelf_view self.new 0 0).told ≡ tells_on (shelf_view self.old 0 0).told self.old.spare (length piece.now) }
-        ensures appended { (faults misses : ℕ) → Appended (shelf_view self.old faults misses) (shelf_view self.new faults misses) piece.now }
+        ensures tells { StoreTellsOn (shelf_view self.old 0 0) (shelf_view self.new 0 0) (length piece.now) }
+        ensures appended { (faults misses : ℕ) →
+            Appended (shelf_view self.old faults misses) (shelf_view self.new faults misses) piece.now }
     {
         if self.full || piece.len() > self.spare {
             self.full = true;
@@ -148,9 +163,10 @@ impl Shelf {
     /// Reads the next bytes of the file for reading, at most so many.
     pub fn read(&mut self, into: &mut [u8], most: usize) -> usize
         requires { IsSome self.old.reading }
-        ensures count { result ≡ min (min most (length into.old)) (length (left_of (shelf_view self.old 0 0))) }
-        ensures bytes { into.new ≡ take result (left_of (shelf_view self.old 0 0)) ++ drop result into.old }
-        ensures place { (faults misses : ℕ) → shelf_view self.new faults misses ≡ record (shelf_view self.old faults misses) { place = self.old.place + result } }
+        ensures count { result ≡ read_count (shelf_view self.old 0 0) most (length into.old) }
+        ensures bytes { FillsBuffer (shelf_view self.old 0 0) into.old into.new result }
+        ensures place { (faults misses : ℕ) → shelf_view self.new faults misses
+            ≡ record (shelf_view self.old faults misses) { place = self.old.place + result } }
     {
         let Some(named) = self.reading else {
             unreachable!();

@@ -3,7 +3,7 @@ ghost use Rattle.std.specs.Prelude.{IfOk, ◌≤◌, length};
 
 use std::io::{Error, ErrorKind, Read, Result, Write};
 
-// How often a call is tried.
+// How often a call is tried. `File::open` and `File::create` try again by themselves.
 const TRIES: u32 = 1_000;
 
 /// One call of `read` that wasn't interrupted. After so many that were, the error is `Interrupted`.

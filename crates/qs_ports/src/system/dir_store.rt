@@ -8,7 +8,8 @@ use std::fs::File;
 use std::io::{Error, ErrorKind};
 use std::rt::Files;
 
-/// The files of the system, by their paths. It tells nothing of what they hold.
+/// The files of the system, by their paths. It tells nothing of what they hold. `Missing` is the system's answer that it
+/// doesn't find the file to be read; each other error of the system is `Failed`, and so is a write of nothing.
 #[derive(Drop)]
 pub struct DirStore<R: Files + Drop> {
     system: R,

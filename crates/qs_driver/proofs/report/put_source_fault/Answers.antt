@@ -1,4 +1,4 @@
-use Rattle.std.proofs.Common.{◌≡◌, List, ℕ, Option, refl}
+use Rattle.std.proofs.Common.{◌≡◌, Option, refl}
 use Rattle.std.specs.Prelude.{codes}
 use Rattle.qs_driver.specs.Words.{Command}
 use Rattle.qs_driver.specs.Lines.{line, fault_line, file_name}

@@ -2,7 +2,7 @@ use Rattle.std.proofs.Common.{◌≡◌, ◌++◌, ◌∷◌, [], ◌+◌, ◌<�
 use Rattle.std.proofs.lemmas.Grind.{common_steps}
 use Rattle.std.proofs.lemmas.List.Sums.{fold_more}
 use Rattle.qs_ports.specs.Memory.{files_in, no_files, with_entry}
-use Rattle.qs_ports.proofs.Shelving.{puts_entry, entry_within, entry_end, three_span}
+use Rattle.qs_ports.proofs.Shelving.{puts_entry, entry_within, entry_end, span_at}
 use Rattle.qs_ports.proofs.memory.shelf.Shelf.new.Goals as goal
 
 pub loop-name-preserved : goal.loop-name-preserved
@@ -16,7 +16,7 @@ loop-name-preserved c =
     let named : c.extend_from_slice.new.self.items ≡ c.loop-name.bytes.items ++ string_bytes entry.0 = search rules in
     let filled : c.extend_from_slice-in-loop-name.new.self.items ≡ c.extend_from_slice.new.self.items ++ entry.1.items = search rules in
     let bytes : c.extend_from_slice-in-loop-name.new.self.items ≡ (c.loop-name.bytes.items ++ string_bytes entry.0) ++ entry.1.items = filled ∙ ap (λ x. x ++ entry.1.items) named in
-    let files : c.push.new.self.items ≡ c.loop-name.files.items ++ three_span start middle end ∷ [] = search rules in
+    let files : c.push.new.self.items ≡ c.loop-name.files.items ++ span_at start middle end ∷ [] = search rules in
     let start_is : start ≡ length c.loop-name.bytes.items = grind (arith, common_steps) in
     let middle_is : middle ≡ length c.loop-name.bytes.items + length (string_bytes entry.0) = grind (arith, common_steps, ap length named) in
     let end_is : end ≡ length c.loop-name.bytes.items + length (string_bytes entry.0) + length entry.1.items = grind (arith, common_steps, ap length bytes) in
@@ -25,7 +25,7 @@ loop-name-preserved c =
     record {
       within = entry_within c.loop-name.files.items _ start middle end (length c.loop-name.bytes.items) _ files (omega arith) (omega arith) all (omega arith) i.within;
       last = entry_end c.loop-name.files.items _ start middle end _ files all;
-      put = puts_entry c.loop-name.bytes.items (string_bytes entry.0) entry.1.items _ c.loop-name.files.items _ (three_span start middle end)
+      put = puts_entry c.loop-name.bytes.items (string_bytes entry.0) entry.1.items _ c.loop-name.files.items _ (span_at start middle end)
           (files_in (take c.loop-name.name-index c.args.entries.now)) (files_in (take (c.loop-name.name-index + 1) c.args.entries.now))
           (fold_more with_entry no_files c.args.entries.now c.loop-name.name-index entry inside
           ∙ ap (λ x. with_entry (files_in (take c.loop-name.name-index c.args.entries.now)) x) (sym c.loop-name-item.is))

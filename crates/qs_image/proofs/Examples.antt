@@ -1,0 +1,32 @@
+-- The examples keep to the form of an image.
+use Rattle.std.proofs.Common.{◌≡◌, ℕ, ◌<◌, true, List, length, None, refl, sym, inl, inr, subst, arith}
+use Rattle.std.specs.Prelude.{nat_lt}
+use Rattle.std.specs.List.{list_all}
+use Rattle.std.proofs.lemmas.Bool.{cases_lt, ltb-true}
+use Rattle.std.proofs.lemmas.List.{get_or_past}
+use Rattle.std.proofs.lemmas.List.Sums.{AllPass-from_list_all}
+use Rattle.qs_base.specs.Names.{is_keyword, is_name}
+use Rattle.qs_image.specs.Image.{Image, FunctionRecord, IsWellFormed, image_bytes}
+use Rattle.qs_image.specs.Example.{larger}
+use Rattle.qs_image.specs.Bytes.{number, words, records, lengths, image_of}
+use Rattle.qs_image.specs.Faults.{first_fault}
+use Rattle.qs_image.proofs.Words.{IsBytes, IsBytes-from}
+use Rattle.qs_image.proofs.Wholes.{is_image}
+
+all_bytes : (bytes : List ℕ) → list_all (λ b. nat_lt b 256) bytes ≡ true → IsBytes bytes
+all_bytes bytes e = IsBytes-from bytes (λ (i : ℕ).
+    elim (cases_lt i (length bytes)) [
+      | inl within ↦ ltb-true _ _ (AllPass-from_list_all (λ b. nat_lt b 256) bytes e i 0 within)
+      | inr past ↦ subst (λ (b : ℕ). b < 256) (sym (get_or_past bytes i 0 past)) (omega arith)
+    ])
+
+-- what its bytes say passes every test
+pub from_bytes : (image : Image) → list_all (λ b. nat_lt b 256) (image_bytes image) ≡ true → first_fault (image_bytes image) ≡ None → image_of (image_bytes image) ≡ image → IsWellFormed image
+from_bytes image bytes passes says = subst IsWellFormed says (is_image (image_bytes image) (all_bytes (image_bytes image) bytes) passes).well_formed
+
+pub larger-well_formed : IsWellFormed larger
+unfolding first_fault number words records lengths is_name is_keyword
+larger-well_formed = from_bytes larger refl refl refl
+
+pub larger-parts : (functions : List FunctionRecord) (code bytes : List ℕ) → functions ≡ larger.functions → code ≡ larger.code → bytes ≡ larger.bytes → IsWellFormed (record { entry = 65540; parameters = 2; unsigned_set = 2; functions = functions; code = code; bytes = bytes })
+larger-parts functions code bytes p q r = rw (p, q, r) larger-well_formed

@@ -1,32 +1,36 @@
--- `build`: what became of the store at each status, and why.
-use Rattle.std.specs.Prelude.{◌≡◌, ◌≢◌, ℕ, List, [], IsTrue, Option, Some, None}
-use Rattle.qs_ports.specs.StoreView.{StoreView, Keeps, HasSameCounts, HasFailed, HasMissed}
+-- `build`: what is due, what became of the store, and why.
+use Rattle.std.specs.Prelude.{◌≡◌, ◌≢◌, ℕ, List, [], IsTrue, Option}
+use Rattle.qs_ports.specs.StoreView.{StoreView, HasSameCounts, HasFailed}
 use Rattle.qs_ports.specs.Whole.{Stores, IsCutShort}
 use Rattle.qs_image.specs.Image.{Image, IsImage}
 use Rattle.qs_compile.specs.FirstForm.{Program, IsFirstForm}
 use Rattle.qs_compile.specs.Built.{IsBuiltFromMain, LowersStackFirst, AgreesFrom}
+use Rattle.qs_driver.specs.Names.{Names, no_names}
+use Rattle.qs_driver.specs.Files.{IsUntouched, Holds, IsMissing, CouldNotRead, WasTooLong}
 use Rattle.qs_driver.specs.Lines.{cost_lines}
-use Rattle.qs_driver.specs.declared.status.Status.{Status}
-use Rattle.qs_driver.specs.declared.status.Status.TheVariants.{Done, Source, Words, Missing, StoreFailed, SinkFailed, NoMemory}
-use Rattle.qs_driver.specs.declared.status.SourceFault.TheVariants.{NotFirstForm}
-use Rattle.qs_driver.specs.declared.status.WordsFault.TheVariants.{Usage, SameName}
+use Rattle.qs_driver.specs.Due.{Due, IsRefusal}
+use Rattle.qs_driver.specs.declared.status.Status.TheVariants.{Done, Source, Words, Missing, StoreFailed, NoMemory}
+use Rattle.qs_driver.specs.declared.status.SourceFault.TheVariants.{TooLong, NotFirstForm}
+use Rattle.qs_driver.specs.declared.status.WordsFault.TheVariants.{SameName}
 use Rattle.qs_driver.specs.declared.status.FileKind.TheVariants as kinds
 
--- no file changed, and no call failed
-pub record IsUntouched (before after : StoreView) : Type 0 where
-  pub keeps : Keeps before after
-  pub counts : HasSameCounts before after
+-- the longest source, in bytes
+abbrev pub source_limit : ℕ
+source_limit = 1048576
+
+abbrev pub build_names : List ℕ → List ℕ → Names
+build_names source out = record no_names { source = source; output = out }
 
 -- the file is there, and its text is this program
 pub record HoldsProgram (file : Option (List ℕ)) (program : Program) : Type 0 where
   pub content : List ℕ
-  pub there : file ≡ Some content
+  pub holds : Holds file source_limit content
   pub form : IsFirstForm content program
 
 -- the file is there, and its text is no program of the first form
 pub record HoldsNoProgram (file : Option (List ℕ)) : Type 0 where
   pub content : List ℕ
-  pub there : file ≡ Some content
+  pub holds : Holds file source_limit content
   pub no_form : (program : Program) → IsFirstForm content program → ⊥
 
 -- the bytes are those of an image that was built from the program and does what the program does
@@ -37,7 +41,7 @@ pub record IsImageOf (program : Program) (image : Image) (bytes : List ℕ) : Ty
   pub agrees : AgreesFrom 16 program image
 
 -- The source is the program, and the out file holds an image of it; `out` gets the cost of each of its functions.
-pub record HasBuilt (source out : List ℕ) (before after : StoreView) (lines : List ℕ) : Type 0 where
+pub record HasBuilt (source out : List ℕ) (before after : StoreView) (due : Due) : Type 0 where
   pub differ : source ≢ out
   pub program : Program
   pub image : Image
@@ -46,29 +50,10 @@ pub record HasBuilt (source out : List ℕ) (before after : StoreView) (lines : 
   pub image_of : IsImageOf program image bytes
   pub stores : Stores before after out bytes
   pub counts : HasSameCounts before after
-  pub costs : lines ≡ cost_lines image.functions
+  pub is_due : due ≡ record { status = Done; out = cost_lines image.functions; log = [] }
 
--- the words name one file twice
-pub record NamesOneFile (source out : List ℕ) (before after : StoreView) : Type 0 where
-  pub same : source ≡ out
-  pub untouched : IsUntouched before after
-
--- there is no source
-pub record HasNoSource (source out : List ℕ) (before after : StoreView) : Type 0 where
-  pub differ : source ≢ out
-  pub keeps : Keeps before after
-  pub missed : HasMissed before after
-  pub absent : IsTrue before.told → before.files source ≡ None
-
--- a call failed while the source was read
-pub record CouldNotRead (source out : List ℕ) (before after : StoreView) : Type 0 where
-  pub differ : source ≢ out
-  pub keeps : Keeps before after
-  pub failed : HasFailed before after
-
--- a call failed while the image was written: the out file holds some first bytes of it, or wasn't made
+-- A call failed while the image was written: the out file holds some first bytes of it, or wasn't made.
 pub record CouldNotWrite (source out : List ℕ) (before after : StoreView) : Type 0 where
-  pub differ : source ≢ out
   pub program : Program
   pub image : Image
   pub bytes : List ℕ
@@ -77,26 +62,16 @@ pub record CouldNotWrite (source out : List ℕ) (before after : StoreView) : Ty
   pub part : IsCutShort before after out bytes
   pub failed : HasFailed before after
 
--- the source is no program of the first form
-pub record HasAnotherForm (source out : List ℕ) (before after : StoreView) : Type 0 where
-  pub differ : source ≢ out
-  pub untouched : IsUntouched before after
-  pub text : IsTrue before.told → HoldsNoProgram (before.files source)
-
--- no memory was found before anything was written
-pub record LacksMemory (source out : List ℕ) (before after : StoreView) : Type 0 where
-  pub differ : source ≢ out
-  pub untouched : IsUntouched before after
-
--- Why this status is due, and what `out` gets at it.
-abbrev pub IsDueToBuild : List ℕ → List ℕ → StoreView → StoreView → Status → List ℕ → Type 0
-IsDueToBuild source out before after Done lines = HasBuilt source out before after lines
-IsDueToBuild source out before after (Words Usage) lines = ⊥
-IsDueToBuild source out before after (Words SameName) lines = (lines ≡ []) × NamesOneFile source out before after
-IsDueToBuild source out before after (Missing kinds.Source) lines = (lines ≡ []) × HasNoSource source out before after
-IsDueToBuild source out before after (Missing kinds.Output) lines = ⊥
-IsDueToBuild source out before after (StoreFailed kinds.Source) lines = (lines ≡ []) × CouldNotRead source out before after
-IsDueToBuild source out before after (StoreFailed kinds.Output) lines = (lines ≡ []) × CouldNotWrite source out before after
-IsDueToBuild source out before after (Source NotFirstForm) lines = (lines ≡ []) × HasAnotherForm source out before after
-IsDueToBuild source out before after SinkFailed lines = ⊥
-IsDueToBuild source out before after NoMemory lines = (lines ≡ []) × LacksMemory source out before after
+-- What is due to `build`, and why.
+pub data IsDueToBuild (source out : List ℕ) (before after : StoreView) (due : Due) : Type 0 where
+  built : HasBuilt source out before after due → IsDueToBuild source out before after due
+  -- the words name one file twice
+  same_name : source ≡ out → IsUntouched before after → IsRefusal (build_names source out) (Words SameName) due → IsDueToBuild source out before after due
+  missing : source ≢ out → IsMissing before after source → IsRefusal (build_names source out) (Missing kinds.Source) due → IsDueToBuild source out before after due
+  unreadable : source ≢ out → CouldNotRead before after → IsRefusal (build_names source out) (StoreFailed kinds.Source) due → IsDueToBuild source out before after due
+  too_long : source ≢ out → WasTooLong before after source source_limit → IsRefusal (build_names source out) (Source (TooLong kinds.Source)) due → IsDueToBuild source out before after due
+  -- the source is no program of the first form
+  other_form : source ≢ out → IsUntouched before after → (IsTrue before.told → HoldsNoProgram (before.files source)) → IsRefusal (build_names source out) (Source NotFirstForm) due → IsDueToBuild source out before after due
+  unwritable : source ≢ out → CouldNotWrite source out before after → IsRefusal (build_names source out) (StoreFailed kinds.Output) due → IsDueToBuild source out before after due
+  -- no memory was found, before anything was written
+  no_memory : IsUntouched before after → IsRefusal (build_names source out) NoMemory due → IsDueToBuild source out before after due

@@ -1,7 +1,7 @@
 -- The number with which the program ends.
 use Rattle.std.specs.Prelude.{ℕ}
 use Rattle.qs_driver.specs.declared.status.Status.{Status}
-use Rattle.qs_driver.specs.declared.status.Status.TheVariants.{Done, Source, Words, Missing, StoreFailed, SinkFailed, NoMemory}
+use Rattle.qs_driver.specs.declared.status.Status.TheVariants.{Done, Source, Words, Missing, StoreFailed, Image, Trapped, StepLimit, StackTooLarge, SinkFailed, NoMemory}
 
 abbrev pub code_of : Status → ℕ
 code_of Done = 0
@@ -9,5 +9,9 @@ code_of (Source fault) = 1
 code_of (Words fault) = 3
 code_of (Missing kind) = 4
 code_of (StoreFailed kind) = 5
+code_of (Image fault) = 6
+code_of (Trapped cause pc) = 7
+code_of (StepLimit steps) = 8
+code_of (StackTooLarge size) = 10
 code_of SinkFailed = 11
 code_of NoMemory = 12

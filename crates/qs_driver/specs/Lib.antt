@@ -1,8 +1,11 @@
-pub mod Words
 pub mod Names
 pub mod Code
 pub mod Lines
+pub mod Due
+pub mod Files
 pub mod Build
+pub mod Run
+pub mod Results
+pub mod RunResults
 pub mod Tool
 pub mod Promises
-pub mod Results

@@ -1,12 +1,17 @@
 -- The lines that a call writes.
-use Rattle.std.specs.Prelude.{ℕ, List, [], ◌∷◌, ◌++◌, Option, Some, None, codes, decimal, flat_map}
+use Rattle.std.specs.Prelude.{ℕ, List, [], ◌∷◌, ◌++◌, codes, decimal, flat_map}
+use Rattle.std.specs.Int.{w32, to_be_bytes}
+use Rattle.hex.specs.Hex.{encode_lower}
 use Rattle.qs_image.specs.Image.{FunctionRecord}
-use Rattle.qs_driver.specs.Words.{Command, Build}
+use Rattle.qs_image.specs.declared.fault.ImageFault.{ImageFault}
+use Rattle.qs_image.specs.declared.fault.ImageFault.TheVariants as fault
+use Rattle.qs_machine.specs.declared.answers.Cause.{Cause}
+use Rattle.qs_machine.specs.declared.answers.Cause.TheVariants as cause
+use Rattle.qs_driver.specs.Names.{Names, file_name}
 use Rattle.qs_driver.specs.declared.status.Status.{Status}
-use Rattle.qs_driver.specs.declared.status.Status.TheVariants.{Done, Source, Words, Missing, StoreFailed, SinkFailed, NoMemory}
-use Rattle.qs_driver.specs.declared.status.SourceFault.TheVariants.{NotFirstForm}
-use Rattle.qs_driver.specs.declared.status.WordsFault.TheVariants.{Usage, SameName}
-use Rattle.qs_driver.specs.declared.status.FileKind.{FileKind}
+use Rattle.qs_driver.specs.declared.status.Status.TheVariants.{Done, Source, Words, Missing, StoreFailed, Image, Trapped, StepLimit, StackTooLarge, SinkFailed, NoMemory}
+use Rattle.qs_driver.specs.declared.status.SourceFault.TheVariants.{TooLong, NotFirstForm}
+use Rattle.qs_driver.specs.declared.status.WordsFault.TheVariants.{Usage, SameName, ArgCount, ArgRange}
 use Rattle.qs_driver.specs.declared.status.FileKind.TheVariants as kinds
 
 -- a line in two parts, ended by a line feed
@@ -20,19 +25,47 @@ cost_line f = codes "cost " ++ (f.name ++ line (codes " ") (decimal f.cost))
 abbrev pub cost_lines : List FunctionRecord → List ℕ
 cost_lines functions = flat_map cost_line functions
 
--- the name of a file of this kind, as the words give it
-abbrev pub file_name : Option Command → FileKind → List ℕ
-file_name None kind = []
-file_name (Some (Build source out)) kinds.Source = source
-file_name (Some (Build source out)) kinds.Output = out
+-- `exit S`
+abbrev pub exit_line : ℕ → List ℕ
+exit_line status = line (codes "exit ") (decimal status)
+
+-- what is wrong with an image
+abbrev pub image_text : ImageFault → List ℕ
+image_text fault.Short = codes "short"
+image_text fault.Magic = codes "magic"
+image_text (fault.Count word) = codes "count " ++ decimal word
+image_text fault.Trailing = codes "trailing"
+image_text fault.Entry = codes "entry"
+image_text (fault.Cost i) = codes "cost " ++ decimal i
+image_text fault.Names = codes "names"
+
+-- the cause of a trap
+abbrev pub cause_text : Cause → List ℕ
+cause_text cause.Overflow = codes "overflow"
+cause_text cause.IllegalInstruction = codes "illegal"
+cause_text cause.FetchOutside = codes "fetch"
+cause_text cause.JumpMisaligned = codes "jump"
+cause_text cause.LoadMisaligned = codes "load misaligned"
+cause_text cause.LoadOutside = codes "load"
+cause_text cause.StoreMisaligned = codes "store misaligned"
+cause_text cause.StoreOutside = codes "store"
+cause_text cause.UnknownCall = codes "call"
+cause_text cause.Breakpoint = codes "break"
 
 -- the one line that tells a fault
-abbrev pub fault_line : Option Command → Status → List ℕ
-fault_line command Done = []
-fault_line command (Words Usage) = line (codes "usage: qsc COMMAND FILE OPTIONS") []
-fault_line command (Words SameName) = line (codes "same name: ") (file_name command kinds.Output)
-fault_line command (Missing kind) = line (codes "missing: ") (file_name command kind)
-fault_line command (StoreFailed kind) = line (codes "failed: ") (file_name command kind)
-fault_line command (Source NotFirstForm) = line (file_name command kinds.Source) (codes ": not in the first form")
-fault_line command SinkFailed = []
-fault_line command NoMemory = line (codes "out of memory") []
+abbrev pub fault_line : Names → Status → List ℕ
+fault_line names Done = []
+fault_line names (Source (TooLong kind)) = line (codes "too long: ") (file_name names kind)
+fault_line names (Source NotFirstForm) = line names.source (codes ": not in the first form")
+fault_line names (Words Usage) = line (codes "usage: qsc COMMAND FILE OPTIONS") []
+fault_line names (Words SameName) = line (codes "same name: ") names.output
+fault_line names (Words (ArgCount expected given)) = codes "arguments: expected " ++ (decimal expected ++ line (codes " given ") (decimal given))
+fault_line names (Words (ArgRange i)) = codes "argument " ++ line (decimal i) (codes " out of range")
+fault_line names (Missing kind) = line (codes "missing: ") (file_name names kind)
+fault_line names (StoreFailed kind) = line (codes "failed: ") (file_name names kind)
+fault_line names (Image f) = names.image ++ line (codes ": image ") (image_text f)
+fault_line names (Trapped c pc) = codes "trap " ++ (cause_text c ++ line (codes " at 0x") (encode_lower (to_be_bytes w32 pc)))
+fault_line names (StepLimit steps) = line (codes "step limit ") (decimal steps)
+fault_line names (StackTooLarge size) = line (codes "stack too large: ") (decimal size)
+fault_line names SinkFailed = []
+fault_line names NoMemory = line (codes "out of memory") []

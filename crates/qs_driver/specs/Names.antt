@@ -1,8 +1,25 @@
--- The command as the code holds it.
-use Rattle.std.specs.Prelude.{Option, Some, None}
-use Rattle.qs_driver.specs.Words.{Command, Build}
-use Rattle.qs_driver.specs.declared.words.BuildNames.{BuildNames}
+-- The files that a command names.
+use Rattle.std.specs.Prelude.{ℕ, List, []}
+use Rattle.qs_driver.specs.declared.names.FileNames.{FileNames}
+use Rattle.qs_driver.specs.declared.status.FileKind.{FileKind}
+use Rattle.qs_driver.specs.declared.status.FileKind.TheVariants.{Source, Image, Input, Output}
 
-abbrev pub command_in : Option BuildNames → Option Command
-command_in None = None
-command_in (Some names) = Some (Build names.source.now names.out.now)
+-- the names as the words give them; those that a command doesn't have are empty
+pub record Names : Type 0 where
+  pub source : List ℕ
+  pub image : List ℕ
+  pub input : List ℕ
+  pub output : List ℕ
+
+abbrev pub no_names : Names
+no_names = record { source = []; image = []; input = []; output = [] }
+
+abbrev pub file_name : Names → FileKind → List ℕ
+file_name names Source = names.source
+file_name names Image = names.image
+file_name names Input = names.input
+file_name names Output = names.output
+
+-- the names as the code holds them
+abbrev pub names_in : FileNames → Names
+names_in names = record { source = names.source.now; image = names.image.now; input = names.input.now; output = names.output.now }

@@ -1,38 +1,36 @@
 -- What the steps of a call answer.
-use Rattle.std.specs.Prelude.{◌≡◌, ◌⊎◌, ℕ, List, [], Option, Result, Ok, Err}
+use Rattle.std.specs.Prelude.{◌≡◌, ◌⊎◌, ℕ, List, [], Option, Some, None, Result, Ok, Err, Vec}
+use Rattle.std.specs.declared.alloc.Global.{Global}
 use Rattle.qs_ports.specs.StoreView.{StoreView}
 use Rattle.qs_ports.specs.SinkView.{SinkView}
 use Rattle.qs_image.specs.Image.{Image}
-use Rattle.qs_driver.specs.Words.{Command}
-use Rattle.qs_driver.specs.Lines.{cost_lines, fault_line}
-use Rattle.qs_driver.specs.Build.{IsDueToBuild}
-use Rattle.qs_driver.specs.Tool.{Due, IsDueTo, GotAll, OneSinkFailed}
+use Rattle.qs_driver.specs.Names.{Names}
+use Rattle.qs_driver.specs.Files.{IsUntouched, IsMissing, CouldNotRead, WasTooLong, WasRead}
+use Rattle.qs_driver.specs.Lines.{cost_lines}
+use Rattle.qs_driver.specs.Due.{Due, refusal}
+use Rattle.qs_driver.specs.Build.{IsDueToBuild, build_names}
 use Rattle.qs_driver.specs.declared.status.Status.{Status}
-use Rattle.qs_driver.specs.declared.status.Status.TheVariants.{Done, SinkFailed}
+use Rattle.qs_driver.specs.declared.status.Status.TheVariants.{Done, Source, Missing, StoreFailed, NoMemory}
+use Rattle.qs_driver.specs.declared.status.SourceFault.TheVariants.{TooLong}
+use Rattle.qs_driver.specs.declared.status.FileKind.{FileKind}
 
--- the status of the work
-abbrev pub status_of : Result Image Status → Status
-status_of (Ok image) = Done
-status_of (Err status) = status
+-- why a file wasn't read
+pub data NotRead (before after : StoreView) (name : List ℕ) (kind : FileKind) (limit : ℕ) (status : Status) : Type 0 where
+  missing : IsMissing before after name → status ≡ Missing kind → NotRead before after name kind limit status
+  unreadable : CouldNotRead before after → status ≡ StoreFailed kind → NotRead before after name kind limit status
+  too_long : WasTooLong before after name limit → status ≡ Source (TooLong kind) → NotRead before after name kind limit status
+  no_memory : IsUntouched before after → status ≡ NoMemory → NotRead before after name kind limit status
 
--- what `out` gets after the work
-abbrev pub lines_of : Result Image Status → List ℕ
-lines_of (Ok image) = cost_lines image.functions
-lines_of (Err status) = []
+-- the answer of `read_file`
+abbrev pub ReadsFile : StoreView → StoreView → List ℕ → FileKind → ℕ → Result (Vec ℕ Global) Status → Type 0
+ReadsFile before after name kind limit (Ok content) = WasRead before after name limit content.items
+ReadsFile before after name kind limit (Err status) = NotRead before after name kind limit status
+
+-- what is due after the work of `build`
+abbrev pub due_of_build : Names → Result Image Status → Due
+due_of_build names (Ok image) = record { status = Done; out = cost_lines image.functions; log = [] }
+due_of_build names (Err status) = refusal names status
 
 -- the answer of `build`
 abbrev pub Builds : List ℕ → List ℕ → StoreView → StoreView → Result Image Status → Type 0
-Builds source out before after work = IsDueToBuild source out before after (status_of work) (lines_of work)
-
--- the answer of `work`
-abbrev pub Works : Option Command → StoreView → StoreView → Result Image Status → Type 0
-Works command before after work = IsDueTo command before after (status_of work) (lines_of work)
-
-abbrev pub due_of : Option Command → Result Image Status → Due
-due_of command work = record { status = status_of work; out = lines_of work; log = fault_line command (status_of work) }
-
--- the answer of `report`: both sinks got what is due, or one failed
-abbrev pub Reports : Due → SinkView → SinkView → SinkView → SinkView → Status → Type 0
-Reports due out out_after log log_after result =
-    ((result ≡ due.status) × GotAll due out out_after log log_after)
-    ⊎ ((result ≡ SinkFailed) × OneSinkFailed due out out_after log log_after)
+Builds source out before after work = IsDueToBuild source out before after (due_of_build (build_names source out) work)

@@ -1,12 +1,15 @@
--- What a call of the tool does: the status that is due, and what each sink gets.
+-- What a call of the tool does.
 use Rattle.std.specs.Prelude.{◌≡◌, ◌⊎◌, ℕ, List, [], Option, Some, None}
 use Rattle.qs_ports.specs.StoreView.{StoreView}
 use Rattle.qs_ports.specs.SinkView.{SinkView, Appends, IsCut}
-use Rattle.qs_driver.specs.Words.{command_of, Command, Build}
-use Rattle.qs_driver.specs.Lines.{fault_line}
-use Rattle.qs_driver.specs.Build.{IsUntouched, IsDueToBuild}
+use Rattle.qs_cli.specs.Commands.{Command, meaning, Build, Check, Bound, Derive, Outline, Run, Exec, Sample}
+use Rattle.qs_driver.specs.Names.{no_names}
+use Rattle.qs_driver.specs.Files.{IsUntouched}
+use Rattle.qs_driver.specs.Due.{Due, IsRefusal}
+use Rattle.qs_driver.specs.Build.{IsDueToBuild}
+use Rattle.qs_driver.specs.Run.{RunWords, IsDueToRun}
 use Rattle.qs_driver.specs.declared.status.Status.{Status}
-use Rattle.qs_driver.specs.declared.status.Status.TheVariants.{Words, SinkFailed}
+use Rattle.qs_driver.specs.declared.status.Status.TheVariants.{Words, SinkFailed, NoMemory}
 use Rattle.qs_driver.specs.declared.status.WordsFault.TheVariants.{Usage}
 
 -- a call: its words, and the store and the sinks before and after it
@@ -30,21 +33,48 @@ call words store store_after out out_after log log_after = record {
   log_after = log_after;
 }
 
--- a status, and what is to be written at it
-pub record Due : Type 0 where
-  pub status : Status
-  pub out : List ℕ
-  pub log : List ℕ
+-- What a command asks of the tool. Those that aren't built yet are answered as words that mean none.
+pub data Task : Type 0 where
+  ToBuild : (source out : List ℕ) → Task
+  ToRun : RunWords → Task
+  Nothing : Task
 
--- Words that mean no command are refused, and nothing is done; each command has its own causes.
-abbrev pub IsDueTo : Option Command → StoreView → StoreView → Status → List ℕ → Type 0
-IsDueTo None before after status lines = (status ≡ Words Usage) × (lines ≡ []) × IsUntouched before after
-IsDueTo (Some (Build source out)) before after status lines = IsDueToBuild source out before after status lines
+-- `build` takes no derivations yet
+abbrev pub build_task : List ℕ → Option (List ℕ) → List ℕ → Task
+build_task source None out = ToBuild source out
+build_task source (Some proof) out = Nothing
 
--- `log` gets the line of the fault, if there is one
-pub record IsDue (command : Option Command) (before after : StoreView) (due : Due) : Type 0 where
-  pub cause : IsDueTo command before after due.status due.out
-  pub line : due.log ≡ fault_line command due.status
+abbrev pub task_of : Option Command → Task
+task_of None = Nothing
+task_of (Some (Build source proof out)) = build_task source proof out
+task_of (Some (Check source proof)) = Nothing
+task_of (Some (Bound source proof args)) = Nothing
+task_of (Some (Derive source out)) = Nothing
+task_of (Some (Outline source)) = Nothing
+task_of (Some (Run image stack args input steps)) = ToRun (record { image = image; stack = stack; args = args; input = input; steps = steps })
+task_of (Some (Exec source proof args input steps)) = Nothing
+task_of (Some (Sample count out)) = Nothing
+
+-- the task of the words of a call
+abbrev pub task : Call → Task
+task c = task_of (meaning c.words)
+
+-- what is due where the words mean nothing
+pub data IsDueToNothing (before after : StoreView) (due : Due) : Type 0 where
+  usage : IsUntouched before after → IsRefusal no_names (Words Usage) due → IsDueToNothing before after due
+
+abbrev pub IsDueTo : Task → StoreView → StoreView → Due → Type 0
+IsDueTo (ToBuild source out) before after due = IsDueToBuild source out before after due
+IsDueTo (ToRun r) before after due = IsDueToRun r before after due
+IsDueTo Nothing before after due = IsDueToNothing before after due
+
+-- No memory was found for the words; nothing was done.
+pub record LacksMemoryForWords (before after : StoreView) (due : Due) : Type 0 where
+  pub untouched : IsUntouched before after
+  pub is_due : IsRefusal no_names NoMemory due
+
+abbrev pub IsDue : Task → StoreView → StoreView → Due → Type 0
+IsDue t before after due = IsDueTo t before after due ⊎ LacksMemoryForWords before after due
 
 -- both sinks got all that is due
 pub record GotAll (due : Due) (out out_after log log_after : SinkView) : Type 0 where
@@ -58,20 +88,14 @@ OneSinkFailed due out out_after log log_after =
     (((k : ℕ) × IsCut out out_after due.out k) × Appends log log_after [])
     ⊎ (Appends out out_after due.out × ((k : ℕ) × IsCut log log_after due.log k))
 
--- The status was due, and each sink got all of its text.
-pub record Ends (c : Call) (result : Status) : Type 0 where
-  pub due : Due
-  pub is_due : IsDue (command_of c.words) c.store c.store_after due
-  pub same : result ≡ due.status
-  pub got : GotAll due c.out c.out_after c.log c.log_after
+-- how what is due was written: whole, or up to a failure of a sink, and the status says so
+abbrev pub IsWritten : Due → SinkView → SinkView → SinkView → SinkView → Status → Type 0
+IsWritten due out out_after log log_after result =
+    ((result ≡ due.status) × GotAll due out out_after log log_after)
+    ⊎ ((result ≡ SinkFailed) × OneSinkFailed due out out_after log log_after)
 
--- Some status was due, but a sink failed.
-pub record EndsBySinkFailure (c : Call) (result : Status) : Type 0 where
+-- Something was due to the words and the files, and it was written.
+pub record Answers (c : Call) (result : Status) : Type 0 where
   pub due : Due
-  pub is_due : IsDue (command_of c.words) c.store c.store_after due
-  pub same : result ≡ SinkFailed
-  pub failed : OneSinkFailed due c.out c.out_after c.log c.log_after
-
--- Each call ends in one of these ways.
-abbrev pub Answers : Call → Status → Type 0
-Answers c result = Ends c result ⊎ EndsBySinkFailure c result
+  pub is_due : IsDue (task c) c.store c.store_after due
+  pub written : IsWritten due c.out c.out_after c.log c.log_after result

@@ -1,10 +1,11 @@
 // `build`: from the source in the store to the image in the store.
 ghost use Rattle.qs_driver.specs.Results.{Builds};
 
+use crate::files::read_file;
 use crate::{FileKind, SourceFault, Status, WordsFault};
 use qs_compile::{compile, first_form};
 use qs_image::{Image, write};
-use qs_ports::{ReadFault, Store, read_whole, write_whole};
+use qs_ports::{Store, write_whole};
 use std::alloc::Global;
 
 // The longest source, in bytes.
@@ -22,11 +23,9 @@ pub fn build<S: Store>(
     if source == out {
         return Err(Status::Words(WordsFault::SameName));
     }
-    let text = match read_whole(alloc, store, source, SOURCE_LIMIT) {
+    let text = match read_file(alloc, store, source, FileKind::Source, SOURCE_LIMIT) {
         Ok(text) => text,
-        Err(ReadFault::Missing) => return Err(Status::Missing(FileKind::Source)),
-        Err(ReadFault::Failed) => return Err(Status::StoreFailed(FileKind::Source)),
-        Err(ReadFault::NoMemory) => return Err(Status::NoMemory),
+        Err(status) => return Err(status),
     };
     let found = match first_form(alloc, &text) {
         Ok(found) => found,

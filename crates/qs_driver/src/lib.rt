@@ -1,11 +1,15 @@
 //! The tool: one call, `run_tool`, does all that the program does.
 #![tactic(auto)]
 
+mod arguments;
 mod build;
+mod faults;
+mod files;
+mod names;
 mod report;
+mod run;
 mod status;
 mod tool;
-mod words;
 
 pub use status::{FileKind, SourceFault, Status, WordsFault};
 pub use tool::run_tool;

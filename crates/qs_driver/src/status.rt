@@ -1,4 +1,6 @@
 // How a call of the tool ends.
+use qs_image::ImageFault;
+use qs_machine::Cause;
 use thiserror::Error;
 
 /// A file that the words name.
@@ -6,13 +8,20 @@ use thiserror::Error;
 pub enum FileKind {
     /// The C source.
     Source,
+    /// The image that is run.
+    Image,
+    /// The bytes that the run takes as its input.
+    Input,
     /// The file that the command writes.
     Output,
 }
 
-/// What is wrong with a source.
+/// What is wrong with a source, or with the length of any file.
 #[derive(Clone, Copy, Debug, PartialEq, Eq, Error)]
 pub enum SourceFault {
+    /// The file has more bytes than its limit.
+    #[error("too long")]
+    TooLong(FileKind),
     /// It isn't `int main(void){`, pieces `putchar(K);`, `return K;}`.
     #[error("not in the first form")]
     NotFirstForm,
@@ -27,6 +36,12 @@ pub enum WordsFault {
     /// The file to write is a file to read.
     #[error("same name")]
     SameName,
+    /// There are more or fewer arguments than `main` has parameters.
+    #[error("arguments: expected {expected} given {given}")]
+    ArgCount { expected: u32, given: u32 },
+    /// The argument of this number, from 0, is no value of its parameter's type; the first such.
+    #[error("argument {0} out of range")]
+    ArgRange(u32),
 }
 
 /// How a call of the tool ends.
@@ -34,7 +49,7 @@ pub enum WordsFault {
 pub enum Status {
     /// All that the command asks for was done and written.
     Done,
-    /// The source is refused.
+    /// The source is refused, or a file is too long.
     Source(SourceFault),
     /// The words are refused.
     Words(WordsFault),
@@ -42,6 +57,14 @@ pub enum Status {
     Missing(FileKind),
     /// A call on the store failed.
     StoreFailed(FileKind),
+    /// The file to run is no image.
+    Image(ImageFault),
+    /// The machine trapped at this pc.
+    Trapped { cause: Cause, pc: u32 },
+    /// The machine goes on after this many steps.
+    StepLimit(u64),
+    /// The stack is asked to have this many bytes, more than 2^28.
+    StackTooLarge(u64),
     /// A call on a sink failed, whatever the status would have been.
     SinkFailed,
     /// No memory was found.
@@ -62,6 +85,10 @@ impl Status {
             Status::Words(_) => 3,
             Status::Missing(_) => 4,
             Status::StoreFailed(_) => 5,
+            Status::Image(_) => 6,
+            Status::Trapped { .. } => 7,
+            Status::StepLimit(_) => 8,
+            Status::StackTooLarge(_) => 10,
             Status::SinkFailed => 11,
             Status::NoMemory => 12,
         }

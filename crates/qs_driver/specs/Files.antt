@@ -1,0 +1,40 @@
+-- Files that a command reads, and what is said of each.
+use Rattle.std.specs.Prelude.{◌≡◌, ℕ, ◌<◌, ◌≤◌, List, length, IsTrue, Option, Some, None}
+use Rattle.qs_ports.specs.StoreView.{StoreView, Keeps, HasSameCounts, HasFailed, HasMissed}
+
+-- no file changed, and no call failed
+pub record IsUntouched (before after : StoreView) : Type 0 where
+  pub keeps : Keeps before after
+  pub counts : HasSameCounts before after
+
+-- the file is there, is within its limit, and these are its bytes
+pub record Holds (file : Option (List ℕ)) (limit : ℕ) (content : List ℕ) : Type 0 where
+  pub there : file ≡ Some content
+  pub within : length content ≤ limit
+
+-- the file is there, and has more bytes than its limit
+pub record IsTooLong (file : Option (List ℕ)) (limit : ℕ) : Type 0 where
+  pub content : List ℕ
+  pub there : file ≡ Some content
+  pub more : limit < length content
+
+-- there is no such file: a call missed it, and no file changed
+pub record IsMissing (before after : StoreView) (name : List ℕ) : Type 0 where
+  pub keeps : Keeps before after
+  pub missed : HasMissed before after
+  pub absent : IsTrue before.told → before.files name ≡ None
+
+-- a call failed while the file was read, and no file changed
+pub record CouldNotRead (before after : StoreView) : Type 0 where
+  pub keeps : Keeps before after
+  pub failed : HasFailed before after
+
+-- the file was read, it is too long, and no file changed
+pub record WasTooLong (before after : StoreView) (name : List ℕ) (limit : ℕ) : Type 0 where
+  pub untouched : IsUntouched before after
+  pub too_long : IsTrue before.told → IsTooLong (before.files name) limit
+
+-- the file was read: these are its bytes, and no file changed
+pub record WasRead (before after : StoreView) (name : List ℕ) (limit : ℕ) (content : List ℕ) : Type 0 where
+  pub untouched : IsUntouched before after
+  pub holds : IsTrue before.told → Holds (before.files name) limit content

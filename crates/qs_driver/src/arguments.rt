@@ -1,0 +1,55 @@
+// The arguments of main as the words of the machine.
+ghost use Rattle.std.specs.Prelude.{◌≡◌, ◌<◌};
+ghost use Rattle.qs_base.specs.Words.{wrap};
+ghost use Rattle.qs_driver.specs.Run.{fits_parameter};
+ghost use Rattle.qs_driver.specs.RunResults.{FindsWords};
+
+use crate::{Status, WordsFault};
+use qs_image::ImageView;
+use std::alloc::Global;
+
+// Whether the number is a value of parameter i: of `unsigned` where its bit is set, else of `int`.
+fn fits_parameter(image: &ImageView<'_>, i: u32, number: i64) -> bool
+    requires { i < 32 }
+    ensures { result ≡ fits_parameter image.now i number }
+{
+    if image.unsigned_set() >> i & 1 == 1 {
+        0 <= number && number <= i64::from(u32::MAX)
+    } else {
+        i64::from(i32::MIN) <= number && number <= i64::from(i32::MAX)
+    }
+}
+
+// The word of a number modulo 2^32.
+fn word_of(number: i64) -> u32
+    ensures { result ≡ wrap number }
+{
+    number.rem_euclid(1 << 32) as u32
+}
+
+/// The words of the arguments, if there are as many as main has parameters and each is a value of its parameter.
+pub fn argument_words(
+    alloc: Global,
+    image: &ImageView<'_>,
+    args: &[i64],
+) -> Result<Vec<u32>, Status>
+    ensures { FindsWords image.now args.now result }
+{
+    let expected = image.parameters();
+    if args.len() != expected as usize {
+        return Err(Status::Words(WordsFault::ArgCount {
+            expected,
+            given: args.len() as u32,
+        }));
+    }
+    let mut words = Vec::new(alloc);
+    for (i, number) in args.iter().enumerate() {
+        if !fits_parameter(image, i as u32, *number) {
+            return Err(Status::Words(WordsFault::ArgRange(i as u32)));
+        }
+        if words.push(word_of(*number)).is_err() {
+            return Err(Status::NoMemory);
+        }
+    }
+    Ok(words)
+}

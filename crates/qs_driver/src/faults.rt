@@ -1,0 +1,168 @@
+// The line of each fault. Nothing here takes memory.
+ghost use Rattle.std.specs.Prelude.{◌≡◌, ◌++◌, [], ◌∷◌, codes, decimal};
+ghost use Rattle.qs_ports.specs.SinkView.{PutsAll};
+ghost use Rattle.qs_driver.specs.Lines.{line, fault_line, cause_text, image_text};
+ghost use Rattle.qs_driver.specs.Names.{names_in, no_names};
+
+use crate::names::{FileNames, file_name};
+use crate::report::{put_line, put_number, put_parts};
+use crate::{SourceFault, Status, WordsFault};
+use hex::encode_to_slice;
+use itoa::Buffer;
+use qs_image::ImageFault;
+use qs_machine::Cause;
+use qs_ports::{Sink, SinkFault};
+
+fn put_counts<K: Sink>(log: &mut K, expected: u32, given: u32) -> Result<(), SinkFault>
+    ensures { PutsAll (K.view log.old) (K.view log.new) (codes "arguments: expected " ++ (decimal expected ++ line (codes " given ") (decimal given))) result }
+{
+    let mut first = Buffer::new();
+    let mut second = Buffer::new();
+    put_parts(
+        log,
+        &[
+            b"arguments: expected ",
+            first.format(expected).as_bytes(),
+            b" given ",
+            second.format(given).as_bytes(),
+            b"\n",
+        ],
+    )
+}
+
+fn put_range<K: Sink>(log: &mut K, argument: u32) -> Result<(), SinkFault>
+    ensures { PutsAll (K.view log.old) (K.view log.new) (codes "argument " ++ line (decimal argument) (codes " out of range")) result }
+{
+    let mut digits = Buffer::new();
+    put_parts(
+        log,
+        &[
+            b"argument ",
+            digits.format(argument).as_bytes(),
+            b" out of range",
+            b"\n",
+        ],
+    )
+}
+
+fn put_words_fault<K: Sink>(
+    log: &mut K,
+    names: &FileNames<'_>,
+    fault: WordsFault,
+) -> Result<(), SinkFault>
+    ensures { PutsAll (K.view log.old) (K.view log.new) (fault_line (names_in names.now) (Status.Words fault)) result }
+{
+    match fault {
+        WordsFault::Usage => put_line(log, "usage: qsc COMMAND FILE OPTIONS", ""),
+        WordsFault::SameName => put_line(log, "same name: ", names.output),
+        WordsFault::ArgCount { expected, given } => put_counts(log, expected, given),
+        WordsFault::ArgRange(argument) => put_range(log, argument),
+    }
+}
+
+fn put_source_fault<K: Sink>(
+    log: &mut K,
+    names: &FileNames<'_>,
+    fault: SourceFault,
+) -> Result<(), SinkFault>
+    ensures { PutsAll (K.view log.old) (K.view log.new) (fault_line (names_in names.now) (Status.Source fault)) result }
+{
+    match fault {
+        SourceFault::TooLong(kind) => put_line(log, "too long: ", file_name(names, kind)),
+        SourceFault::NotFirstForm => put_line(log, names.source, ": not in the first form"),
+    }
+}
+
+// The word for a fault of an image, and the number behind it, if there is one.
+fn image_words(fault: ImageFault) -> (&'static str, Option<u32>)
+    ensures { image_text fault ≡ (image_words_text result) }
+{
+    match fault {
+        ImageFault::Short => ("short", None),
+        ImageFault::Magic => ("magic", None),
+        ImageFault::Count(word) => ("count ", Some(word)),
+        ImageFault::Trailing => ("trailing", None),
+        ImageFault::Entry => ("entry", None),
+        ImageFault::Cost(record) => ("cost ", Some(record)),
+        ImageFault::Names => ("names", None),
+    }
+}
+
+fn put_image_fault<K: Sink>(log: &mut K, name: &str, fault: ImageFault) -> Result<(), SinkFault>
+    ensures { PutsAll (K.view log.old) (K.view log.new) (name.now ++ line (codes ": image ") (image_text fault)) result }
+{
+    let mut digits = Buffer::new();
+    let (word, number) = image_words(fault);
+    let tail = match number {
+        Some(number) => digits.format(number),
+        None => "",
+    };
+    put_parts(
+        log,
+        &[
+            name.as_bytes(),
+            b": image ",
+            word.as_bytes(),
+            tail.as_bytes(),
+            b"\n",
+        ],
+    )
+}
+
+fn cause_word(cause: Cause) -> &'static str
+    ensures { result.now ≡ cause_text cause }
+{
+    match cause {
+        Cause::Overflow => "overflow",
+        Cause::IllegalInstruction => "illegal",
+        Cause::FetchOutside => "fetch",
+        Cause::JumpMisaligned => "jump",
+        Cause::LoadMisaligned => "load misaligned",
+        Cause::LoadOutside => "load",
+        Cause::StoreMisaligned => "store misaligned",
+        Cause::StoreOutside => "store",
+        Cause::UnknownCall => "call",
+        Cause::Breakpoint => "break",
+    }
+}
+
+fn put_trap<K: Sink>(log: &mut K, cause: Cause, pc: u32) -> Result<(), SinkFault>
+    ensures { PutsAll (K.view log.old) (K.view log.new) (fault_line no_names (Status.Trapped cause pc)) result }
+{
+    let mut digits = [0; 8];
+    let place = pc.to_be_bytes();
+    encode_to_slice(place.as_slice(), &mut digits).unwrap();
+    put_parts(
+        log,
+        &[
+            b"trap ",
+            cause_word(cause).as_bytes(),
+            b" at 0x",
+            digits.as_slice(),
+            b"\n",
+        ],
+    )
+}
+
+/// Puts the line of a fault; nothing at `Done` and `SinkFailed`.
+pub fn put_fault<K: Sink>(
+    log: &mut K,
+    names: &FileNames<'_>,
+    status: Status,
+) -> Result<(), SinkFault>
+    ensures { PutsAll (K.view log.old) (K.view log.new) (fault_line (names_in names.now) status) result }
+{
+    match status {
+        Status::Done => Ok(()),
+        Status::Source(fault) => put_source_fault(log, names, fault),
+        Status::Words(fault) => put_words_fault(log, names, fault),
+        Status::Missing(kind) => put_line(log, "missing: ", file_name(names, kind)),
+        Status::StoreFailed(kind) => put_line(log, "failed: ", file_name(names, kind)),
+        Status::Image(fault) => put_image_fault(log, names.image, fault),
+        Status::Trapped { cause, pc } => put_trap(log, cause, pc),
+        Status::StepLimit(steps) => put_number(log, "step limit ", steps),
+        Status::StackTooLarge(size) => put_number(log, "stack too large: ", size),
+        Status::SinkFailed => Ok(()),
+        Status::NoMemory => put_line(log, "out of memory", ""),
+    }
+}

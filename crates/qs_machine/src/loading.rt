@@ -1,0 +1,84 @@
+// The machine at its start.
+use crate::machine::Machine;
+use crate::memory::Memory;
+use crate::registers::Registers;
+use qs_base::NoMemory;
+use qs_image::ImageView;
+use qs_isa::{Instr, decode};
+use std::alloc::{AllocError, Global};
+use thiserror::Error;
+
+/// Why an image is not loaded.
+#[derive(Clone, Copy, Debug, PartialEq, Eq, Error)]
+pub enum LoadFault {
+    /// The stack has more than 2^28 bytes.
+    #[error("stack too large")]
+    StackTooLarge,
+    /// The image's main has this count of parameters, and the count of arguments is another.
+    #[error("arguments: expected {0}")]
+    ArgCount(u32),
+    /// No memory was found.
+    #[error("out of memory")]
+    NoMemory,
+}
+
+impl From<NoMemory> for LoadFault {
+    fn from(_fault: NoMemory) -> LoadFault {
+        LoadFault::NoMemory
+    }
+}
+
+fn code_bytes(alloc: Global, image: &ImageView<'_>) -> Result<Vec<u8>, NoMemory> {
+    let mut bytes = Vec::new(alloc);
+    for i in 0..image.code_count() {
+        bytes.extend_from_slice(&image.code(i).to_le_bytes())?;
+    }
+    Ok(bytes)
+}
+
+fn instructions(alloc: Global, image: &ImageView<'_>) -> Result<Vec<Option<Instr>>, NoMemory> {
+    let mut instructions = Vec::new(alloc);
+    for i in 0..image.code_count() {
+        instructions.push(decode(image.code(i)))?;
+    }
+    Ok(instructions)
+}
+
+fn data_bytes(alloc: Global, image: &ImageView<'_>) -> Result<Vec<u8>, NoMemory> {
+    let mut bytes = Vec::new(alloc);
+    for i in 0..image.byte_count() {
+        bytes.push(image.bytes(i))?;
+    }
+    Ok(bytes)
+}
+
+fn zeros(alloc: Global, count: usize) -> Result<Vec<u8>, NoMemory> {
+    Ok(vec![in alloc; 0; count]?)
+}
+
+/// Loads an image.
+pub fn load(
+    alloc: Global,
+    image: &ImageView<'_>,
+    stack: u64,
+    args: &[u32],
+) -> Result<Machine, LoadFault> {
+    if stack > 1 << 28 {
+        return Err(LoadFault::StackTooLarge);
+    }
+    if args.len() != image.parameters() as usize {
+        return Err(LoadFault::ArgCount(image.parameters()));
+    }
+    Ok(Machine {
+        instructions: instructions(alloc, image)?,
+        memory: Memory {
+            code: code_bytes(alloc, image)?,
+            data: data_bytes(alloc, image)?,
+            stack: zeros(alloc, stack as usize)?,
+        },
+        registers: Registers::at_start(args),
+        pc: image.entry(),
+        taken: 0,
+        ended: None,
+    })
+}

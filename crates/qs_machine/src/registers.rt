@@ -1,0 +1,47 @@
+// The registers' words.
+ghost use Rattle.std.specs.Prelude.{◌≡◌, ◌≤◌, ◌==◌, length, if◌then◌else◌};
+ghost use Rattle.qs_machine.specs.Run.{start_registers};
+
+use crate::regions::STACK_TOP;
+use qs_isa::Register;
+
+/// The words of x0 to x31. That of x0 is never read.
+#[derive(Clone, Copy, Debug)]
+pub struct Registers {
+    pub words: [u32; 32],
+}
+
+impl Registers {
+    ghost use Rattle.qs_machine.specs.Hart.{registers_of, written};
+
+    /// At the start a0 to a7 hold the arguments and x2 the top of the stack.
+    pub fn at_start(args: &[u32]) -> Registers
+        requires { length args.now ≤ 8 }
+        ensures { registers_of result ≡ start_registers args.now }
+    {
+        let mut words = [0; 32];
+        words[2] = STACK_TOP;
+        words[10..10 + args.len()].copy_from_slice(args);
+        Registers { words }
+    }
+
+    /// The value of a register; x0 reads 0.
+    pub fn read(&self, register: Register) -> u32
+        ensures { result ≡ (if register == 0 then 0 else registers_of self.now register) }
+    {
+        match register.number() {
+            0 => 0,
+            number => self.words[number as usize],
+        }
+    }
+
+    /// Writes a register; what is written to x0 is dropped.
+    pub fn write(&mut self, register: Register, value: u32)
+        ensures { registers_of self.new ≡ written (registers_of self.old) register value }
+    {
+        match register.number() {
+            0 => {}
+            number => self.words[number as usize] = value,
+        }
+    }
+}

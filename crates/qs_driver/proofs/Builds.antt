@@ -1,52 +1,37 @@
 -- What `build` came to.
-use Rattle.std.proofs.Common.{◌≡◌, ◌≢◌, ℕ, ◌+◌, ◌≤◌, List, length, take, sym, ◌∙◌, subst, refl, inl, inr, arith, IsTrue}
-use Rattle.std.proofs.lemmas.Grind.{common_steps}
-use Rattle.qs_ports.specs.StoreView.{StoreView, Keeps, HasSameCounts, HasFailed, Holds}
-use Rattle.qs_ports.specs.Whole.{IsWhole, Stores, IsCutShort}
+use Rattle.std.proofs.Common.{◌≡◌, ◌≢◌, ℕ, ◌+◌, ◌<◌, ◌≤◌, List, [], length, take, Option, Some, Ok, Err, sym, ◌∙◌, ap, subst, refl, inl, inr, arith, IsTrue}
+use Rattle.qs_ports.specs.StoreView.{StoreView, Keeps, HasSameCounts, HasFailed, Holds as HoldsBytes}
+use Rattle.qs_ports.specs.Whole.{Stores, IsCutShort}
 use Rattle.qs_ports.proofs.Wholes.{keeps_more, counts_more, failed_later}
 use Rattle.qs_image.specs.Image.{Image, IsImage}
 use Rattle.qs_compile.specs.FirstForm.{Program, IsFirstForm}
 use Rattle.qs_compile.specs.Built.{IsBuiltFromMain, LowersStackFirst, AgreesFrom}
+use Rattle.qs_driver.specs.Files.{IsUntouched, WasRead}
 use Rattle.qs_driver.specs.Lines.{cost_lines}
-use Rattle.qs_driver.specs.Build.{HoldsProgram, HoldsNoProgram, IsImageOf, HasBuilt, CouldNotWrite, HasAnotherForm}
-use Rattle.qs_driver.proofs.Short.{first_form_is_short}
+use Rattle.qs_driver.specs.Due.{Due, refusal}
+use Rattle.qs_driver.specs.Build.{HoldsProgram, HoldsNoProgram, IsImageOf, HasBuilt, CouldNotWrite, IsDueToBuild, build_names, built, same_name, missing, unreadable, too_long, other_form, unwritable, no_memory, source_limit}
+use Rattle.qs_driver.specs.Results.{Builds, NotRead, due_of_build}
+use Rattle.qs_driver.specs.Results as results
+use Rattle.qs_driver.specs.declared.status.Status.{Status}
+use Rattle.qs_driver.specs.declared.status.Status.TheVariants.{Done, Source, StoreFailed}
+use Rattle.qs_driver.specs.declared.status.SourceFault.TheVariants.{NotFirstForm}
+use Rattle.qs_driver.specs.declared.status.FileKind.TheVariants as kinds
 
--- what was read is the whole content where it is short
-whole_content : (limit : ℕ) (content bytes : List ℕ) → bytes ≡ take (limit + 1) content → length bytes ≤ limit → bytes ≡ content
-whole_content limit content bytes e h = grind (arith, common_steps)
+holds_program : {v w : StoreView} {source text : List ℕ} {p : Program} → WasRead v w source source_limit text → IsFirstForm text p → IsTrue v.told → HoldsProgram (v.files source) p
+holds_program {v} {w} {source} {text} read form told = record { content = text; holds = read.holds told; form = form }
 
-content_is_read : (limit : ℕ) (content : List ℕ) → length content ≤ limit → take (limit + 1) content ≡ content
-content_is_read limit content h = grind (arith, common_steps)
+-- the source wasn't read
+pub not_read : {v w : StoreView} {source : List ℕ} (out : List ℕ) {status : Status} → source ≢ out → NotRead v w source kinds.Source source_limit status → Builds source out v w (Err status)
+not_read {source = source} out differ (results.missing m e) = missing differ m (ap (refusal (build_names source out)) e)
+not_read {source = source} out differ (results.unreadable f e) = unreadable differ f (ap (refusal (build_names source out)) e)
+not_read {source = source} out differ (results.too_long l e) = too_long differ l (ap (refusal (build_names source out)) e)
+not_read {source = source} out differ (results.no_memory u e) = no_memory u (ap (refusal (build_names source out)) e)
 
-holds_program : {v w : StoreView} {source bytes : List ℕ} {limit : ℕ} {p : Program} → 50001 ≤ limit → IsWhole v w source limit bytes → IsFirstForm bytes p → IsTrue v.told → HoldsProgram (v.files source) p
-holds_program {v} {w} {source} {bytes} {limit} {p} large whole form told =
-    let c = whole.content (whole.keeps.tells told (omega arith)).0 in
-    let short = first_form_is_short bytes p form in
-    let same = whole_content limit c.content bytes c.read (omega arith) in
-    record { content = c.content; there = c.there; form = let P : List ℕ → Type 0 = λ x. IsFirstForm x p in subst P same form }
-
-holds_no_program : {v w : StoreView} {source bytes : List ℕ} {limit : ℕ} → 50001 ≤ limit → IsWhole v w source limit bytes → ((p : Program) → IsFirstForm bytes p → ⊥) → IsTrue v.told → HoldsNoProgram (v.files source)
-holds_no_program {v} {w} {source} {bytes} {limit} large whole none told =
-    let c = whole.content (whole.keeps.tells told (omega arith)).0 in
-    record {
-      content = c.content;
-      there = c.there;
-      no_form = λ p form.
-          let short = first_form_is_short c.content p form in
-          let same : bytes ≡ c.content = c.read ∙ content_is_read limit c.content (omega arith) in
-          let P : List ℕ → Type 0 = λ x. IsFirstForm x p in
-          none p (subst P (sym same) form);
-    }
-
-pub another_form : {v w : StoreView} {source out bytes : List ℕ} {limit : ℕ} → 50001 ≤ limit → source ≢ out → IsWhole v w source limit bytes → ((p : Program) → IsFirstForm bytes p → ⊥) → HasAnotherForm source out v w
-another_form large differ whole none = record {
-  differ = differ;
-  untouched = record { keeps = whole.keeps; counts = whole.counts };
-  text = holds_no_program large whole none;
-}
+pub another_form : {v w : StoreView} {source text : List ℕ} (out : List ℕ) → source ≢ out → WasRead v w source source_limit text → ((p : Program) → IsFirstForm text p → ⊥) → Builds source out v w (Err (Source NotFirstForm))
+another_form {text = text} out differ read none = other_form differ read.untouched (λ told. record { content = text; holds = read.holds told; no_form = none }) refl
 
 -- a store that kept its files, and then made one
-keeps_then_holds : {v u w : StoreView} {name bytes : List ℕ} {m : ℕ} → Keeps v u → Holds u w name bytes m → Holds v w name bytes m
+keeps_then_holds : {v u w : StoreView} {name bytes : List ℕ} {m : ℕ} → Keeps v u → HoldsBytes u w name bytes m → HoldsBytes v w name bytes m
 keeps_then_holds {v} {u} {w} {name} {bytes} {m} k h = record {
   was_told = λ t. k.was_told (h.was_told t);
   file = h.file;
@@ -61,31 +46,30 @@ keeps_then_holds {v} {u} {w} {name} {bytes} {m} k h = record {
 pub image_of : {p : Program} {image : Image} {bytes : List ℕ} → IsBuiltFromMain image → LowersStackFirst image → AgreesFrom 16 p image → IsImage bytes image → IsImageOf p image bytes
 image_of b l a i = record { is_image = i; built_from = b; lowers = l; agrees = a }
 
-pub built : {v u w : StoreView} {source out text bytes : List ℕ} {p : Program} {image : Image} {limit : ℕ} → 50001 ≤ limit → source ≢ out → IsWhole v u source limit text → IsFirstForm text p → IsImageOf p image bytes → Stores u w out bytes × HasSameCounts u w → HasBuilt source out v w (cost_lines image.functions)
-built {bytes = bytes} {p = p} {image = image} large differ whole form of (stores, counts) = record {
+pub was_built : {v u w : StoreView} {source out text bytes : List ℕ} {p : Program} {image : Image} → source ≢ out → WasRead v u source source_limit text → IsFirstForm text p → IsImageOf p image bytes → Stores u w out bytes × HasSameCounts u w → Builds source out v w (Ok image)
+was_built {bytes = bytes} {p = p} {image = image} differ read form of (stores, counts) = built (record {
   differ = differ;
   program = p;
   image = image;
   bytes = bytes;
-  text = holds_program large whole form;
+  text = holds_program read form;
   image_of = of;
-  stores = keeps_then_holds whole.keeps stores;
-  counts = counts_more whole.counts counts;
-  costs = refl;
-}
+  stores = keeps_then_holds read.untouched.keeps stores;
+  counts = counts_more read.untouched.counts counts;
+  is_due = refl;
+})
 
 cut_short : {v u w : StoreView} {name bytes : List ℕ} → Keeps v u → IsCutShort u w name bytes → IsCutShort v w name bytes
 cut_short f (inl k) = inl (keeps_more f k)
 cut_short f (inr (n, p)) = inr (n, record { within = p.within; stores = keeps_then_holds f p.stores })
 
-pub not_written : {v u w : StoreView} {source out text bytes : List ℕ} {p : Program} {image : Image} {limit : ℕ} → 50001 ≤ limit → source ≢ out → IsWhole v u source limit text → IsFirstForm text p → IsImageOf p image bytes → HasFailed u w × IsCutShort u w out bytes → CouldNotWrite source out v w
-not_written {bytes = bytes} {p = p} {image = image} large differ whole form of (failed, cut) = record {
-  differ = differ;
+pub not_written : {v u w : StoreView} {source out text bytes : List ℕ} {p : Program} {image : Image} → source ≢ out → WasRead v u source source_limit text → IsFirstForm text p → IsImageOf p image bytes → HasFailed u w × IsCutShort u w out bytes → Builds source out v w (Err (StoreFailed kinds.Output))
+not_written {bytes = bytes} {p = p} {image = image} differ read form of (failed, cut) = unwritable differ (record {
   program = p;
   image = image;
   bytes = bytes;
-  text = holds_program large whole form;
+  text = holds_program read form;
   image_of = of;
-  part = cut_short whole.keeps cut;
-  failed = failed_later whole.counts failed;
-}
+  part = cut_short read.untouched.keeps cut;
+  failed = failed_later read.untouched.counts failed;
+}) refl

@@ -1,164 +1,211 @@
 -- What follows from the answer of a call.
 use Rattle.std.proofs.Common.{◌≡◌, ◌≢◌, ◌⊎◌, ℕ, ◌<◌, List, Option, Some, None, sym, ◌∙◌, ap, subst, refl, inl, inr, arith, IsTrue}
-use Rattle.qs_compile.specs.FirstForm.{Program, IsFirstForm}
-use Rattle.qs_driver.specs.Words.{Command, command_of, Build}
-use Rattle.qs_driver.specs.Build.{IsDueToBuild, HoldsProgram, HoldsNoProgram}
-use Rattle.qs_driver.specs.Tool.{Call, Answers, IsDueTo, OneSinkFailed, Due}
-use Rattle.qs_driver.specs.Promises.{NoneFailed, Accepts, LacksSource, HasBadSource, RefusesExactly, Refuses, ShowsFailures}
+use Rattle.qs_ports.specs.StoreView.{StoreView}
+use Rattle.qs_ports.specs.Causes.{Rose}
+use Rattle.qs_driver.specs.Due.{Due}
+use Rattle.qs_driver.specs.Files.{IsTooLong}
+use Rattle.qs_driver.specs.Build.{IsDueToBuild, HoldsNoProgram, source_limit}
+use Rattle.qs_driver.specs.Build as build
+use Rattle.qs_driver.specs.Run.{RunWords, IsDueToRun, IsDueAt}
+use Rattle.qs_driver.specs.Run as run
+use Rattle.qs_driver.specs.Tool.{Call, Task, ToBuild, ToRun, Nothing, task, Answers, IsDueTo, IsDueToNothing, usage, OneSinkFailed}
+use Rattle.qs_driver.specs.Promises.{NoneFailed, Accepts, IsGoodRun, EndsAs, outcome, LacksSource, HasLongSource, HasBadSource, NamesOneFileTwice, RefusesExactly, Refuses, ShowsFailures}
 use Rattle.qs_driver.specs.declared.status.Status.{Status}
 use Rattle.qs_driver.specs.declared.status.Status.TheVariants.{Done, Source, Words, Missing, StoreFailed, SinkFailed, NoMemory}
-use Rattle.qs_driver.specs.declared.status.SourceFault.TheVariants.{NotFirstForm}
+use Rattle.qs_driver.specs.declared.status.SourceFault.TheVariants.{TooLong, NotFirstForm}
 use Rattle.qs_driver.specs.declared.status.WordsFault.TheVariants.{Usage, SameName}
 use Rattle.qs_driver.specs.declared.status.FileKind.{FileKind}
 use Rattle.qs_driver.specs.declared.status.FileKind.TheVariants as kinds
-
--- a text isn't of the first form and of none
-not_both : (file : Option (List ℕ)) (p : Program) → HoldsNoProgram file → HoldsProgram file p → ⊥
-not_both file p n h =
-    let same : h.content ≡ n.content = let a = n.there in let b = h.there in cc in
-    n.no_form p (subst (λ (x : List ℕ). IsFirstForm x p) same h.form)
-
--- a file isn't there and missing
-not_absent : (file : Option (List ℕ)) (content : List ℕ) → file ≡ None → file ≡ Some content → ⊥
-not_absent file content a b = cc
-
-due_to_build : (c : Call) (command : Option Command) (source out : List ℕ) (status : Status) (lines : List ℕ) → command ≡ Some (Build source out) → IsDueTo command c.store c.store_after status lines → IsDueToBuild source out c.store c.store_after status lines
-due_to_build c command source out status lines e d = let P : Option Command → Type 0 = λ x. IsDueTo x c.store c.store_after status lines in subst P e d
-
-due_to_none : (c : Call) (command : Option Command) (status : Status) (lines : List ℕ) → command ≡ None → IsDueTo command c.store c.store_after status lines → status ≡ Words Usage
-due_to_none c command status lines e d = let P : Option Command → Type 0 = λ x. IsDueTo x c.store c.store_after status lines in (subst P e d).0
-
--- ---- what a good source leads to
-good_is_done : (c : Call) (source out : List ℕ) (p : Program) (status : Status) (lines : List ℕ) → NoneFailed c → source ≢ out → IsTrue c.store.told → HoldsProgram (c.store.files source) p → IsDueToBuild source out c.store c.store_after status lines → (status ≡ Done) ⊎ (status ≡ NoMemory)
-good_is_done c source out p Done lines n ne told h d = inl refl
-good_is_done c source out p (Source NotFirstForm) lines n ne told h d = absurd (not_both (c.store.files source) p (d.1.text told) h)
-good_is_done c source out p (Words Usage) lines n ne told h d = absurd d
-good_is_done c source out p (Words SameName) lines n ne told h d = absurd (ne d.1.same)
-good_is_done c source out p (Missing kinds.Source) lines n ne told h d = absurd (not_absent (c.store.files source) h.content (d.1.absent told) h.there)
-good_is_done c source out p (Missing kinds.Output) lines n ne told h d = absurd d
-good_is_done c source out p (StoreFailed kinds.Source) lines n ne told h d = absurd (n.store d.1.failed.rose)
-good_is_done c source out p (StoreFailed kinds.Output) lines n ne told h d = absurd (n.store d.1.failed.rose)
-good_is_done c source out p SinkFailed lines n ne told h d = absurd d
-good_is_done c source out p NoMemory lines n ne told h d = inr refl
+use Rattle.qs_driver.proofs.BuildEnds.{BuildEnds, done, same, absent, long, other, lacks, build_ends, good_is_done, same_is_refused, absent_is_refused, long_is_refused, bad_is_refused}
+use Rattle.qs_driver.proofs.RunEnds.{IsOfRun, run_status, good_is_run}
 
 no_cut : (c : Call) (due : Due) → OneSinkFailed due c.out c.out_after c.log c.log_after → NoneFailed c → ⊥
 no_cut c due (inl ((k, x), l)) n = n.out x.rose
 no_cut c due (inr (o, (k, x))) n = n.log x.rose
 
+-- ---- what is accepted
+
+due_to : (c : Call) (t u : Task) (due : Due) → t ≡ u → IsDueTo t c.store c.store_after due → IsDueTo u c.store c.store_after due
+due_to c t u due e d = let P : Task → Type 0 = λ x. IsDueTo x c.store c.store_after due in subst P e d
+
 pub accepts : (c : Call) (result : Status) → Answers c result → Accepts c result
-accepts c result (inl e) g n =
-    let P : Status → Type 0 = λ s. (s ≡ Done) ⊎ (s ≡ NoMemory) in
-    subst P (sym e.same) (good_is_done c g.source g.out g.program e.due.status e.due.out n g.command.differ g.told g.text (due_to_build c (command_of c.words) g.source g.out e.due.status e.due.out g.command.means e.is_due.cause))
-accepts c result (inr x) g n = absurd (no_cut c x.due x.failed n)
+accepts c result a = record {
+  build = λ g n. elim a.written [
+    | inl w ↦
+      let P : Status → Type 0 = λ s. (s ≡ Done) ⊎ (s ≡ NoMemory) in
+      subst P (sym w.0) (elim a.is_due [
+        | inl d ↦ good_is_done c.store g.source g.out g.program a.due.status g.build.differ g.told g.text (build_ends c.store c.store_after g.source g.out a.due n.store (due_to c (task c) (ToBuild g.source g.out) a.due g.build.asked d))
+        | inr l ↦ inr (ap (λ x. x.status) l.is_due)
+      ])
+    | inr w ↦ absurd (no_cut c a.due w.1 n)
+  ];
+  run = λ g n. elim a.written [
+    | inl w ↦
+      let P : Status → Type 0 = λ s. EndsAs g.words.steps (outcome g) s ⊎ (s ≡ NoMemory) in
+      subst P (sym w.0) (elim a.is_due [
+        | inl d ↦ good_is_run c g a.due n.store (due_to c (task c) (ToRun g.words) a.due g.asked d)
+        | inr l ↦ inr (ap (λ x. x.status) l.is_due)
+      ])
+    | inr w ↦ absurd (no_cut c a.due w.1 n)
+  ];
+}
 
--- ---- words that mean no command
-only_usage : (c : Call) (command : Option Command) (lines : List ℕ) → IsDueTo command c.store c.store_after (Words Usage) lines → command ≡ None
-only_usage c None lines d = refl
-only_usage c (Some (Build source out)) lines d = absurd d
+-- ---- the cause of each refusal of `build`
 
--- ---- one file named twice
-only_same_name : (c : Call) (command : Option Command) (lines : List ℕ) → IsDueTo command c.store c.store_after (Words SameName) lines → (name : List ℕ) × (command ≡ Some (Build name name))
-only_same_name c None lines d = let e = d.0 in absurd (cc)
-only_same_name c (Some (Build source out)) lines d = (source, ap (λ x. Some (Build source x)) (sym d.1.same))
+not_usage : (v : StoreView) (source out : List ℕ) (status : Status) → BuildEnds v source out status → status ≡ Words Usage → ⊥
+not_usage v source out status (done d t e) f = cc
+not_usage v source out status (same s e) f = cc
+not_usage v source out status (absent d a e) f = cc
+not_usage v source out status (long d l e) f = cc
+not_usage v source out status (other d o e) f = cc
+not_usage v source out status (lacks e) f = cc
 
-same_name_is_due : (c : Call) (name : List ℕ) (status : Status) (lines : List ℕ) → IsDueToBuild name name c.store c.store_after status lines → status ≡ Words SameName
-same_name_is_due c name Done lines d = absurd (d.differ refl)
-same_name_is_due c name (Source NotFirstForm) lines d = absurd (d.1.differ refl)
-same_name_is_due c name (Words Usage) lines d = absurd d
-same_name_is_due c name (Words SameName) lines d = refl
-same_name_is_due c name (Missing kinds.Source) lines d = absurd (d.1.differ refl)
-same_name_is_due c name (Missing kinds.Output) lines d = absurd d
-same_name_is_due c name (StoreFailed kinds.Source) lines d = absurd (d.1.differ refl)
-same_name_is_due c name (StoreFailed kinds.Output) lines d = absurd (d.1.differ refl)
-same_name_is_due c name SinkFailed lines d = absurd d
-same_name_is_due c name NoMemory lines d = absurd (d.1.differ refl)
+only_same : (v : StoreView) (source out : List ℕ) (status : Status) → BuildEnds v source out status → status ≡ Words SameName → source ≡ out
+only_same v source out status (done d t e) f = absurd (cc)
+only_same v source out status (same s e) f = s
+only_same v source out status (absent d a e) f = absurd (cc)
+only_same v source out status (long d l e) f = absurd (cc)
+only_same v source out status (other d o e) f = absurd (cc)
+only_same v source out status (lacks e) f = absurd (cc)
 
--- ---- no source
-only_missing : (c : Call) (lines : List ℕ) (command : Option Command) → command_of c.words ≡ command → IsTrue c.store.told → IsDueTo command c.store c.store_after (Missing kinds.Source) lines → LacksSource c
-only_missing c lines None e told d = let f = d.0 in absurd (cc)
-only_missing c lines (Some (Build source out)) e told d = record { source = source; out = out; command = record { means = e; differ = d.1.differ }; absent = d.1.absent told }
+only_absent : (v : StoreView) (source out : List ℕ) (status : Status) → IsTrue v.told → BuildEnds v source out status → status ≡ Missing kinds.Source → (source ≢ out) × (v.files source ≡ None)
+only_absent v source out status told (done d t e) f = absurd (cc)
+only_absent v source out status told (same s e) f = absurd (cc)
+only_absent v source out status told (absent d a e) f = (d, a told)
+only_absent v source out status told (long d l e) f = absurd (cc)
+only_absent v source out status told (other d o e) f = absurd (cc)
+only_absent v source out status told (lacks e) f = absurd (cc)
 
-missing_is_due : (c : Call) (source out : List ℕ) (status : Status) (lines : List ℕ) → NoneFailed c → status ≢ NoMemory → source ≢ out → IsTrue c.store.told → c.store.files source ≡ None → IsDueToBuild source out c.store c.store_after status lines → status ≡ Missing kinds.Source
-missing_is_due c source out Done lines n m ne told a d = let t = d.text told in absurd (not_absent (c.store.files source) t.content a t.there)
-missing_is_due c source out (Source NotFirstForm) lines n m ne told a d = let t = d.1.text told in absurd (not_absent (c.store.files source) t.content a t.there)
-missing_is_due c source out (Words Usage) lines n m ne told a d = absurd d
-missing_is_due c source out (Words SameName) lines n m ne told a d = absurd (ne d.1.same)
-missing_is_due c source out (Missing kinds.Source) lines n m ne told a d = refl
-missing_is_due c source out (Missing kinds.Output) lines n m ne told a d = absurd d
-missing_is_due c source out (StoreFailed kinds.Source) lines n m ne told a d = absurd (n.store d.1.failed.rose)
-missing_is_due c source out (StoreFailed kinds.Output) lines n m ne told a d = absurd (n.store d.1.failed.rose)
-missing_is_due c source out SinkFailed lines n m ne told a d = absurd d
-missing_is_due c source out NoMemory lines n m ne told a d = absurd (m refl)
+only_long : (v : StoreView) (source out : List ℕ) (status : Status) → IsTrue v.told → BuildEnds v source out status → status ≡ Source (TooLong kinds.Source) → (source ≢ out) × IsTooLong (v.files source) source_limit
+only_long v source out status told (done d t e) f = absurd (cc)
+only_long v source out status told (same s e) f = absurd (cc)
+only_long v source out status told (absent d a e) f = absurd (cc)
+only_long v source out status told (long d l e) f = (d, l told)
+only_long v source out status told (other d o e) f = absurd (cc)
+only_long v source out status told (lacks e) f = absurd (cc)
 
--- ---- another form
-only_bad_source : (c : Call) (lines : List ℕ) (command : Option Command) → command_of c.words ≡ command → IsTrue c.store.told → IsDueTo command c.store c.store_after (Source NotFirstForm) lines → HasBadSource c
-only_bad_source c lines None e told d = let f = d.0 in absurd (cc)
-only_bad_source c lines (Some (Build source out)) e told d = record { source = source; out = out; command = record { means = e; differ = d.1.differ }; text = d.1.text told }
+only_bad : (v : StoreView) (source out : List ℕ) (status : Status) → IsTrue v.told → BuildEnds v source out status → status ≡ Source NotFirstForm → (source ≢ out) × HoldsNoProgram (v.files source)
+only_bad v source out status told (done d t e) f = absurd (cc)
+only_bad v source out status told (same s e) f = absurd (cc)
+only_bad v source out status told (absent d a e) f = absurd (cc)
+only_bad v source out status told (long d l e) f = absurd (cc)
+only_bad v source out status told (other d o e) f = (d, o told)
+only_bad v source out status told (lacks e) f = absurd (cc)
 
-bad_source_is_due : (c : Call) (source out : List ℕ) (status : Status) (lines : List ℕ) → NoneFailed c → status ≢ NoMemory → source ≢ out → IsTrue c.store.told → HoldsNoProgram (c.store.files source) → IsDueToBuild source out c.store c.store_after status lines → status ≡ Source NotFirstForm
-bad_source_is_due c source out Done lines n m ne told b d = absurd (not_both (c.store.files source) d.program b (d.text told))
-bad_source_is_due c source out (Source NotFirstForm) lines n m ne told b d = refl
-bad_source_is_due c source out (Words Usage) lines n m ne told b d = absurd d
-bad_source_is_due c source out (Words SameName) lines n m ne told b d = absurd (ne d.1.same)
-bad_source_is_due c source out (Missing kinds.Source) lines n m ne told b d = absurd (not_absent (c.store.files source) b.content (d.1.absent told) b.there)
-bad_source_is_due c source out (Missing kinds.Output) lines n m ne told b d = absurd d
-bad_source_is_due c source out (StoreFailed kinds.Source) lines n m ne told b d = absurd (n.store d.1.failed.rose)
-bad_source_is_due c source out (StoreFailed kinds.Output) lines n m ne told b d = absurd (n.store d.1.failed.rose)
-bad_source_is_due c source out SinkFailed lines n m ne told b d = absurd d
-bad_source_is_due c source out NoMemory lines n m ne told b d = absurd (m refl)
+-- ---- a refusal that only `build` has
 
--- ---- each refusal exactly
-exactly : (c : Call) (status : Status) (lines : List ℕ) → NoneFailed c → status ≢ NoMemory → IsDueTo (command_of c.words) c.store c.store_after status lines → RefusesExactly c status
-exactly c status lines n m d =
-    let due = λ (s : Status) (e : status ≡ s). (let P : Status → Type 0 = λ x. IsDueTo (command_of c.words) c.store c.store_after x lines in subst P e d) in
-    record {
-      usage = (λ e. only_usage c (command_of c.words) lines (due (Words Usage) e), λ e. due_to_none c (command_of c.words) status lines e d);
-      same_name = (
-        λ e. only_same_name c (command_of c.words) lines (due (Words SameName) e),
-        λ x. same_name_is_due c x.0 status lines (due_to_build c (command_of c.words) x.0 x.0 status lines x.1 d),
-      );
-      missing = λ told. (
-        λ e. only_missing c lines (command_of c.words) refl told (due (Missing kinds.Source) e),
-        λ x. missing_is_due c x.source x.out status lines n m x.command.differ told x.absent (due_to_build c (command_of c.words) x.source x.out status lines x.command.means d),
-      );
-      not_first_form = λ told. (
-        λ e. only_bad_source c lines (command_of c.words) refl told (due (Source NotFirstForm) e),
-        λ x. bad_source_is_due c x.source x.out status lines n m x.command.differ told x.text (due_to_build c (command_of c.words) x.source x.out status lines x.command.means d),
-      );
-    }
+nothing_status : (c : Call) (due : Due) → IsDueToNothing c.store c.store_after due → due.status ≡ Words Usage
+nothing_status c due (usage u d) = ap (λ x. x.status) d
+
+-- the source, the out file and the end, where the status is one that only `build` has
+pub record OfBuild (c : Call) (due : Due) : Type 0 where
+  pub source : List ℕ
+  pub out : List ℕ
+  pub asked : task c ≡ ToBuild source out
+  pub ends : BuildEnds c.store source out due.status
+
+of_build : (c : Call) (t : Task) (due : Due) → task c ≡ t → (Rose c.store.faults c.store_after.faults → ⊥) → IsDueTo t c.store c.store_after due → (IsOfRun due.status → ⊥) → due.status ≢ Words Usage → OfBuild c due
+of_build c (ToBuild source out) due e n d r u = record { source = source; out = out; asked = e; ends = build_ends c.store c.store_after source out due n d }
+of_build c (ToRun words) due e n d r u = absurd (r (run_status words c.store c.store_after due d))
+of_build c Nothing due e n d r u = absurd (u (nothing_status c due d))
+
+only_usage : (c : Call) (t : Task) (due : Due) → task c ≡ t → (Rose c.store.faults c.store_after.faults → ⊥) → IsDueTo t c.store c.store_after due → due.status ≡ Words Usage → task c ≡ Nothing
+only_usage c (ToBuild source out) due e n d s = absurd (not_usage c.store source out due.status (build_ends c.store c.store_after source out due n d) s)
+only_usage c (ToRun words) due e n d s = absurd (subst IsOfRun s (run_status words c.store c.store_after due d))
+only_usage c Nothing due e n d s = e
+
+-- the end of a `build` that was asked for
+build_end : (c : Call) (source out : List ℕ) (due : Due) → task c ≡ ToBuild source out → (Rose c.store.faults c.store_after.faults → ⊥) → IsDueTo (task c) c.store c.store_after due → BuildEnds c.store source out due.status
+build_end c source out due e n d = build_ends c.store c.store_after source out due n (due_to c (task c) (ToBuild source out) due e d)
+
+exactly : (c : Call) (due : Due) → NoneFailed c → due.status ≢ NoMemory → IsDueTo (task c) c.store c.store_after due → RefusesExactly c due.status
+exactly c due n m d = record {
+  usage = (
+    λ s. only_usage c (task c) due refl n.store d s,
+    λ e. nothing_status c due (due_to c (task c) Nothing due e d),
+  );
+  same_name = (
+    λ s. let b = of_build c (task c) due refl n.store d (λ r. subst IsOfRun s r) (λ u. let x = sym s ∙ u in cc) in
+    (b.source, b.asked ∙ ap (ToBuild b.source) (sym (only_same c.store b.source b.out due.status b.ends s))),
+    λ x. same_is_refused c.store x.0 due.status m (build_end c x.0 x.0 due x.1 n.store d),
+  );
+  missing = λ told. (
+    λ s. let b = of_build c (task c) due refl n.store d (λ r. subst IsOfRun s r) (λ u. let x = sym s ∙ u in cc) in
+    let p = only_absent c.store b.source b.out due.status told b.ends s in
+    record { source = b.source; out = b.out; build = record { asked = b.asked; differ = p.0 }; absent = p.1 },
+    λ x. absent_is_refused c.store x.source x.out due.status m x.build.differ told x.absent (build_end c x.source x.out due x.build.asked n.store d),
+  );
+  too_long = λ told. (
+    λ s. let b = of_build c (task c) due refl n.store d (λ r. subst IsOfRun s r) (λ u. let x = sym s ∙ u in cc) in
+    let p = only_long c.store b.source b.out due.status told b.ends s in
+    record { source = b.source; out = b.out; build = record { asked = b.asked; differ = p.0 }; long = p.1 },
+    λ x. long_is_refused c.store x.source x.out due.status m x.build.differ told x.long (build_end c x.source x.out due x.build.asked n.store d),
+  );
+  not_first_form = λ told. (
+    λ s. let b = of_build c (task c) due refl n.store d (λ r. subst IsOfRun s r) (λ u. let x = sym s ∙ u in cc) in
+    let p = only_bad c.store b.source b.out due.status told b.ends s in
+    record { source = b.source; out = b.out; build = record { asked = b.asked; differ = p.0 }; text = p.1 },
+    λ x. bad_is_refused c.store x.source x.out due.status m x.build.differ told x.text (build_end c x.source x.out due x.build.asked n.store d),
+  );
+}
 
 pub refuses : (c : Call) (result : Status) → Answers c result → Refuses c result
-refuses c result (inl e) n m =
+refuses c result a n m = elim a.written [
+  | inl w ↦
     let P : Status → Type 0 = λ s. RefusesExactly c s in
-    subst P (sym e.same) (exactly c e.due.status e.due.out n (λ x. m (e.same ∙ x)) e.is_due.cause)
-refuses c result (inr x) n m = absurd (no_cut c x.due x.failed n)
+    subst P (sym w.0) (elim a.is_due [
+      | inl d ↦ exactly c a.due n (λ x. m (w.0 ∙ x)) d
+      | inr l ↦ absurd (m (w.0 ∙ ap (λ x. x.status) l.is_due))
+    ])
+  | inr w ↦ absurd (no_cut c a.due w.1 n)
+]
 
 -- ---- a failure is never hidden
+
 not_risen : (a b : ℕ) → b ≡ a → a < b → ⊥
 not_risen a b e h = omega arith
 
 abbrev IsStoreFailure : Status → Type 0
 IsStoreFailure s = ((kind : FileKind) × (s ≡ StoreFailed kind)) ⊎ ((s ≡ SinkFailed) ⊎ (s ≡ NoMemory))
 
-build_shows : (c : Call) (source out : List ℕ) (status : Status) (lines : List ℕ) → IsDueToBuild source out c.store c.store_after status lines → c.store.faults < c.store_after.faults → IsStoreFailure status
-build_shows c source out Done lines d h = absurd (not_risen _ _ d.counts.faults h)
-build_shows c source out (Source NotFirstForm) lines d h = absurd (not_risen _ _ d.1.untouched.counts.faults h)
-build_shows c source out (Words Usage) lines d h = absurd d
-build_shows c source out (Words SameName) lines d h = absurd (not_risen _ _ d.1.untouched.counts.faults h)
-build_shows c source out (Missing kinds.Source) lines d h = absurd (not_risen _ _ d.1.missed.faults h)
-build_shows c source out (Missing kinds.Output) lines d h = absurd d
-build_shows c source out (StoreFailed kind) lines d h = inl (kind, refl)
-build_shows c source out SinkFailed lines d h = absurd d
-build_shows c source out NoMemory lines d h = inr (inr refl)
+build_shows : (v w : StoreView) (source out : List ℕ) (due : Due) → IsDueToBuild source out v w due → v.faults < w.faults → IsStoreFailure due.status
+build_shows v w source out due (build.built h) r = absurd (not_risen _ _ h.counts.faults r)
+build_shows v w source out due (build.same_name e u d) r = absurd (not_risen _ _ u.counts.faults r)
+build_shows v w source out due (build.missing ne m d) r = absurd (not_risen _ _ m.missed.faults r)
+build_shows v w source out due (build.unreadable ne f d) r = inl (kinds.Source, ap (λ x. x.status) d)
+build_shows v w source out due (build.too_long ne l d) r = absurd (not_risen _ _ l.untouched.counts.faults r)
+build_shows v w source out due (build.other_form ne u f d) r = absurd (not_risen _ _ u.counts.faults r)
+build_shows v w source out due (build.unwritable ne f d) r = inl (kinds.Output, ap (λ x. x.status) d)
+build_shows v w source out due (build.no_memory u d) r = absurd (not_risen _ _ u.counts.faults r)
 
-store_shows : (c : Call) (command : Option Command) (status : Status) (lines : List ℕ) → IsDueTo command c.store c.store_after status lines → c.store.faults < c.store_after.faults → IsStoreFailure status
-store_shows c None status lines d h = absurd (not_risen _ _ d.2.counts.faults h)
-store_shows c (Some (Build source out)) status lines d h = build_shows c source out status lines d h
+run_shows : (words : RunWords) (v w : StoreView) (due : Due) → IsDueToRun words v w due → v.faults < w.faults → IsStoreFailure due.status
+run_shows words v w due (run.ran h) r = absurd (not_risen _ _ h.untouched.counts.faults r)
+run_shows words v w due (run.image_missing m d) r = absurd (not_risen _ _ m.missed.faults r)
+run_shows words v w due (run.image_unreadable f d) r = inl (kinds.Image, ap (λ x. x.status) d)
+run_shows words v w due (run.image_too_long l d) r = absurd (not_risen _ _ l.untouched.counts.faults r)
+run_shows words v w due (run.no_image fault u f d) r = absurd (not_risen _ _ u.counts.faults r)
+run_shows words v w due (run.count_differs e g u x d) r = absurd (not_risen _ _ u.counts.faults r)
+run_shows words v w due (run.misfit i u x d) r = absurd (not_risen _ _ u.counts.faults r)
+run_shows words v w due (run.stack_too_large u x d) r = absurd (not_risen _ _ u.counts.faults r)
+run_shows words v w due (run.input_missing name x m d) r = absurd (not_risen _ _ m.missed.faults r)
+run_shows words v w due (run.input_unreadable name x f d) r = inl (kinds.Input, ap (λ x. x.status) d)
+run_shows words v w due (run.input_too_long name x l d) r = absurd (not_risen _ _ l.untouched.counts.faults r)
+run_shows words v w due (run.no_memory u d) r = absurd (not_risen _ _ u.counts.faults r)
+
+task_shows : (t : Task) (v w : StoreView) (due : Due) → IsDueTo t v w due → v.faults < w.faults → IsStoreFailure due.status
+task_shows (ToBuild source out) v w due d r = build_shows v w source out due d r
+task_shows (ToRun words) v w due d r = run_shows words v w due d r
+task_shows Nothing v w due (usage u d) r = absurd (not_risen _ _ u.counts.faults r)
 
 pub shows : (c : Call) (result : Status) → Answers c result → ShowsFailures c result
-shows c result (inl e) = record {
-  store = λ h. let P : Status → Type 0 = IsStoreFailure in subst P (sym e.same) (store_shows c (command_of c.words) e.due.status e.due.out e.is_due.cause h);
-  out = λ h. absurd (not_risen _ _ e.got.out_gets.same_faults h);
-  log = λ h. absurd (not_risen _ _ e.got.log_gets.same_faults h);
-}
-shows c result (inr x) = record { store = λ h. inr (inl x.same); out = λ h. x.same; log = λ h. x.same }
+shows c result a = elim a.written [
+  | inl w ↦ record {
+    store = λ h. subst IsStoreFailure (sym w.0) (elim a.is_due [
+      | inl d ↦ task_shows (task c) c.store c.store_after a.due d h
+      | inr l ↦ absurd (not_risen _ _ l.untouched.counts.faults h)
+    ]);
+    out = λ h. absurd (not_risen _ _ w.1.out_gets.same_faults h);
+    log = λ h. absurd (not_risen _ _ w.1.log_gets.same_faults h);
+  }
+  | inr w ↦ record { store = λ h. inr (inl w.0); out = λ h. w.0; log = λ h. w.0 }
+]

@@ -1,5 +1,11 @@
 pub mod Parts
-pub mod Short
+pub mod ReadingFiles
 pub mod Builds
-pub mod Answer
+pub mod Passing
+pub mod Preparing
+pub mod Writings
+pub mod Runs
+pub mod BuildEnds
+pub mod RunEnds
 pub mod Follows
+pub mod Answering

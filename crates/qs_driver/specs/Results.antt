@@ -2,7 +2,8 @@
 use Rattle.std.specs.Prelude.{◌≡◌, ◌⊎◌, ℕ, List, [], Option, Some, None, Result, Ok, Err, Vec}
 use Rattle.std.specs.declared.alloc.Global.{Global}
 use Rattle.qs_ports.specs.StoreView.{StoreView}
-use Rattle.qs_ports.specs.SinkView.{SinkView}
+use Rattle.qs_ports.specs.SinkView.{SinkView, Appends, IsCut}
+use Rattle.qs_ports.specs.declared.sink.SinkFault.{SinkFault}
 use Rattle.qs_image.specs.Image.{Image}
 use Rattle.qs_driver.specs.Names.{Names}
 use Rattle.qs_driver.specs.Files.{IsUntouched, IsMissing, CouldNotRead, WasTooLong, WasRead}
@@ -10,7 +11,7 @@ use Rattle.qs_driver.specs.Lines.{cost_lines}
 use Rattle.qs_driver.specs.Due.{Due, refusal}
 use Rattle.qs_driver.specs.Build.{IsDueToBuild, build_names}
 use Rattle.qs_driver.specs.declared.status.Status.{Status}
-use Rattle.qs_driver.specs.declared.status.Status.TheVariants.{Done, Source, Missing, StoreFailed, NoMemory}
+use Rattle.qs_driver.specs.declared.status.Status.TheVariants.{Done, Source, Missing, StoreFailed, SinkFailed, NoMemory}
 use Rattle.qs_driver.specs.declared.status.SourceFault.TheVariants.{TooLong}
 use Rattle.qs_driver.specs.declared.status.FileKind.{FileKind}
 
@@ -34,3 +35,12 @@ due_of_build names (Err status) = refusal names status
 -- the answer of `build`
 abbrev pub Builds : List ℕ → List ℕ → StoreView → StoreView → Result Image Status → Type 0
 Builds source out before after work = IsDueToBuild source out before after (due_of_build (build_names source out) work)
+
+-- the status after a text was put, if this one is due
+abbrev pub status_after : Result Unit SinkFault → Status → Status
+status_after (Ok u) due = due
+status_after (Err e) due = SinkFailed
+
+-- The text was put on a sink, and the status is the one that is due; or the sink failed within the text, and the status says so.
+abbrev pub IsPut : List ℕ → Status → SinkView → SinkView → Status → Type 0
+IsPut text due v w result = ((result ≡ due) × Appends v w text) ⊎ ((result ≡ SinkFailed) × ((k : ℕ) × IsCut v w text k))

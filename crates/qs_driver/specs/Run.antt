@@ -1,5 +1,5 @@
 -- `run`: what is due, and why.
-use Rattle.std.specs.Prelude.{◌≡◌, ◌≢◌, ℕ, suc, ◌<◌, ◌≤◌, ◌^◌, ◌/◌, ◌%◌, ◌-◌, ◌==◌, Bool, ◌&&◌, if◌then◌else◌, ℤ, pos, negsuc, int_le, List, [], ◌∷◌, length, map, IsTrue, Option, Some, None}
+use Rattle.std.specs.Prelude.{◌≡◌, ◌≢◌, ℕ, ◌+◌, ◌<◌, ◌≤◌, ◌^◌, ◌/◌, ◌%◌, ◌-◌, ◌==◌, Bool, ◌&&◌, if◌then◌else◌, ℤ, pos, negsuc, int_le, List, [], ◌∷◌, length, map, IsTrue, Option, Some, None}
 use Rattle.qs_base.specs.Words.{wrap}
 use Rattle.qs_ports.specs.StoreView.{StoreView}
 use Rattle.qs_image.specs.Image.{Image, IsImage}

@@ -94,6 +94,12 @@ IsWritten due out out_after log log_after result =
     ((result ≡ due.status) × GotAll due out out_after log log_after)
     ⊎ ((result ≡ SinkFailed) × OneSinkFailed due out out_after log log_after)
 
+-- Something was due to the task, and it was written.
+pub record AnswersTask (t : Task) (before after : StoreView) (out out_after log log_after : SinkView) (result : Status) : Type 0 where
+  pub due : Due
+  pub is_due : IsDueTo t before after due
+  pub written : IsWritten due out out_after log log_after result
+
 -- Something was due to the words and the files, and it was written.
 pub record Answers (c : Call) (result : Status) : Type 0 where
   pub due : Due

@@ -1,5 +1,5 @@
 // The arguments of main as the words of the machine.
-ghost use Rattle.std.specs.Prelude.{◌≡◌, ◌<◌};
+ghost use Rattle.std.specs.Prelude.{◌≡◌, ◌<◌, ◌≤◌, length};
 ghost use Rattle.qs_base.specs.Words.{wrap};
 ghost use Rattle.qs_driver.specs.Run.{fits_parameter};
 ghost use Rattle.qs_driver.specs.RunResults.{FindsWords};
@@ -9,7 +9,7 @@ use qs_image::ImageView;
 use std::alloc::Global;
 
 // Whether the number is a value of parameter i: of `unsigned` where its bit is set, else of `int`.
-fn fits_parameter(image: &ImageView<'_>, i: u32, number: i64) -> bool
+fn fits_parameter(image: &ImageView<'_>, i: usize, number: i64) -> bool
     requires { i < 32 }
     ensures { result ≡ fits_parameter image.now i number }
 {
@@ -39,15 +39,16 @@ pub fn argument_words(
     if args.len() != expected as usize {
         return Err(Status::Words(WordsFault::ArgCount {
             expected,
-            given: args.len() as u32,
+            given: args.len(),
         }));
     }
     let mut words = Vec::new(alloc);
     for (i, number) in args.iter().enumerate() {
-        if !fits_parameter(image, i as u32, *number) {
-            return Err(Status::Words(WordsFault::ArgRange(i as u32)));
+        let number = *number;
+        if !fits_parameter(image, i, number) {
+            return Err(Status::Words(WordsFault::ArgRange(i)));
         }
-        if words.push(word_of(*number)).is_err() {
+        if words.push(word_of(number)).is_err() {
             return Err(Status::NoMemory);
         }
     }

@@ -13,24 +13,30 @@ use qs_image::ImageFault;
 use qs_machine::Cause;
 use qs_ports::{Sink, SinkFault};
 
-fn put_counts<K: Sink>(log: &mut K, expected: u32, given: u32) -> Result<(), SinkFault>
-    ensures { PutsAll (K.view log.old) (K.view log.new) (codes "arguments: expected " ++ (decimal expected ++ line (codes " given ") (decimal given))) result }
+fn put_counts_line<K: Sink>(log: &mut K, expected: &str, given: &str) -> Result<(), SinkFault>
+    ensures { PutsAll (K.view log.old) (K.view log.new) (codes "arguments: expected " ++ (expected.now ++ line (codes " given ") given.now)) result }
 {
-    let mut first = Buffer::new();
-    let mut second = Buffer::new();
     put_parts(
         log,
         &[
             b"arguments: expected ",
-            first.format(expected).as_bytes(),
+            expected.as_bytes(),
             b" given ",
-            second.format(given).as_bytes(),
+            given.as_bytes(),
             b"\n",
         ],
     )
 }
 
-fn put_range<K: Sink>(log: &mut K, argument: u32) -> Result<(), SinkFault>
+fn put_counts<K: Sink>(log: &mut K, expected: u32, given: usize) -> Result<(), SinkFault>
+    ensures { PutsAll (K.view log.old) (K.view log.new) (codes "arguments: expected " ++ (decimal expected ++ line (codes " given ") (decimal given))) result }
+{
+    let mut first = Buffer::new();
+    let mut second = Buffer::new();
+    put_counts_line(log, first.format(expected), second.format(given))
+}
+
+fn put_range<K: Sink>(log: &mut K, argument: usize) -> Result<(), SinkFault>
     ensures { PutsAll (K.view log.old) (K.view log.new) (codes "argument " ++ line (decimal argument) (codes " out of range")) result }
 {
     let mut digits = Buffer::new();
@@ -73,40 +79,51 @@ fn put_source_fault<K: Sink>(
     }
 }
 
-// The word for a fault of an image, and the number behind it, if there is one.
-fn image_words(fault: ImageFault) -> (&'static str, Option<u32>)
-    ensures { image_text fault ≡ (image_words_text result) }
+// Puts the line of an image's fault: its word, and the number behind it.
+fn put_image_line<K: Sink>(
+    log: &mut K,
+    name: &str,
+    word: &str,
+    number: &str,
+) -> Result<(), SinkFault>
+    ensures { PutsAll (K.view log.old) (K.view log.new) (name.now ++ line (codes ": image ") (word.now ++ number.now)) result }
 {
-    match fault {
-        ImageFault::Short => ("short", None),
-        ImageFault::Magic => ("magic", None),
-        ImageFault::Count(word) => ("count ", Some(word)),
-        ImageFault::Trailing => ("trailing", None),
-        ImageFault::Entry => ("entry", None),
-        ImageFault::Cost(record) => ("cost ", Some(record)),
-        ImageFault::Names => ("names", None),
-    }
-}
-
-fn put_image_fault<K: Sink>(log: &mut K, name: &str, fault: ImageFault) -> Result<(), SinkFault>
-    ensures { PutsAll (K.view log.old) (K.view log.new) (name.now ++ line (codes ": image ") (image_text fault)) result }
-{
-    let mut digits = Buffer::new();
-    let (word, number) = image_words(fault);
-    let tail = match number {
-        Some(number) => digits.format(number),
-        None => "",
-    };
     put_parts(
         log,
         &[
             name.as_bytes(),
             b": image ",
             word.as_bytes(),
-            tail.as_bytes(),
+            number.as_bytes(),
             b"\n",
         ],
     )
+}
+
+fn put_image_number<K: Sink>(
+    log: &mut K,
+    name: &str,
+    word: &str,
+    number: u32,
+) -> Result<(), SinkFault>
+    ensures { PutsAll (K.view log.old) (K.view log.new) (name.now ++ line (codes ": image ") (word.now ++ decimal number)) result }
+{
+    let mut digits = Buffer::new();
+    put_image_line(log, name, word, digits.format(number))
+}
+
+fn put_image_fault<K: Sink>(log: &mut K, name: &str, fault: ImageFault) -> Result<(), SinkFault>
+    ensures { PutsAll (K.view log.old) (K.view log.new) (name.now ++ line (codes ": image ") (image_text fault)) result }
+{
+    match fault {
+        ImageFault::Short => put_image_line(log, name, "short", ""),
+        ImageFault::Magic => put_image_line(log, name, "magic", ""),
+        ImageFault::Count(word) => put_image_number(log, name, "count ", word),
+        ImageFault::Trailing => put_image_line(log, name, "trailing", ""),
+        ImageFault::Entry => put_image_line(log, name, "entry", ""),
+        ImageFault::Cost(record) => put_image_number(log, name, "cost ", record),
+        ImageFault::Names => put_image_line(log, name, "names", ""),
+    }
 }
 
 fn cause_word(cause: Cause) -> &'static str

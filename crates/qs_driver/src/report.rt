@@ -37,10 +37,7 @@ fn put_cost<K: Sink>(out: &mut K, function: &FunctionRecord) -> Result<(), SinkF
 {
     let mut digits = Buffer::new();
     let cost = digits.format(function.cost).as_bytes();
-    put_parts(
-        out,
-        &[b"cost ", function.name.bytes(), b" ", cost, b"\n"],
-    )
+    put_parts(out, &[b"cost ", function.name.bytes(), b" ", cost, b"\n"])
 }
 
 /// Puts the cost of each function.

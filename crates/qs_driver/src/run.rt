@@ -1,5 +1,6 @@
 // `run`: an image on a stack of a given size.
-ghost use Rattle.qs_driver.specs.RunResults.{Prepares, Ends};
+ghost use Rattle.std.specs.Prelude.{◌≡◌};
+ghost use Rattle.qs_driver.specs.RunResults.{Loads, Prepares, ReadsInput, words_in};
 
 use crate::arguments::argument_words;
 use crate::files::read_file;
@@ -16,7 +17,7 @@ const INPUT_LIMIT: usize = 1_048_576;
 
 /// The words of `run`.
 #[derive(Clone, Copy)]
-pub struct RunWords<'a> {
+pub struct RunOrder<'a> {
     pub image: &'a str,
     pub stack: u64,
     pub args: &'a [i64],
@@ -24,12 +25,17 @@ pub struct RunWords<'a> {
     pub steps: u64,
 }
 
-fn load_bytes(alloc: Global, bytes: &[u8], words: &RunWords<'_>) -> Result<Machine, Status> {
+fn load_bytes(alloc: Global, bytes: &[u8], words: &RunOrder<'_>) -> Result<Machine, Status>
+    ensures { Loads bytes.now (words_in words.now) result }
+{
     let image = match read(bytes) {
         Ok(image) => image,
         Err(fault) => return Err(Status::Image(fault)),
     };
-    let args = argument_words(alloc, &image, words.args)?;
+    let args = match argument_words(alloc, &image, words.args) {
+        Ok(args) => args,
+        Err(status) => return Err(status),
+    };
     match load(alloc, &image, words.stack, &args) {
         Ok(machine) => Ok(machine),
         Err(LoadFault::StackTooLarge) => Err(Status::StackTooLarge(words.stack)),
@@ -40,9 +46,11 @@ fn load_bytes(alloc: Global, bytes: &[u8], words: &RunWords<'_>) -> Result<Machi
 
 fn read_input<S: Store>(
     alloc: Global,
-    words: &RunWords<'_>,
+    words: &RunOrder<'_>,
     store: &mut S,
-) -> Result<Vec<u8>, Status> {
+) -> Result<Vec<u8>, Status>
+    ensures { ReadsInput (words_in words.now) (S.view store.old) (S.view store.new) result }
+{
     match words.input {
         Some(name) => read_file(alloc, store, name, FileKind::Input, INPUT_LIMIT),
         None => Ok(Vec::new(alloc)),
@@ -59,11 +67,21 @@ pub struct Ready {
 /// Reads the image and the input, and loads the image.
 pub fn prepare<S: Store>(
     alloc: Global,
-    words: &RunWords<'_>,
+    words: &RunOrder<'_>,
     store: &mut S,
-) -> Result<Ready, Status> {
-    let bytes = read_file(alloc, store, words.image, FileKind::Image, IMAGE_LIMIT)?;
-    let machine = load_bytes(alloc, &bytes, words)?;
-    let input = read_input(alloc, words, store)?;
-    Ok(Ready { machine, input })
+) -> Result<Ready, Status>
+    ensures { Prepares (words_in words.now) (S.view store.old) (S.view store.new) result }
+{
+    let bytes = match read_file(alloc, store, words.image, FileKind::Image, IMAGE_LIMIT) {
+        Ok(bytes) => bytes,
+        Err(status) => return Err(status),
+    };
+    let machine = match load_bytes(alloc, &bytes, words) {
+        Ok(machine) => machine,
+        Err(status) => return Err(status),
+    };
+    match read_input(alloc, words, store) {
+        Ok(input) => Ok(Ready { machine, input }),
+        Err(status) => Err(status),
+    }
 }

@@ -38,10 +38,10 @@ pub enum WordsFault {
     SameName,
     /// There are more or fewer arguments than `main` has parameters.
     #[error("arguments: expected {expected} given {given}")]
-    ArgCount { expected: u32, given: u32 },
+    ArgCount { expected: u32, given: usize },
     /// The argument of this number, from 0, is no value of its parameter's type; the first such.
     #[error("argument {0} out of range")]
-    ArgRange(u32),
+    ArgRange(usize),
 }
 
 /// How a call of the tool ends.

@@ -1,3 +1,11 @@
 pub mod Steps
 pub mod Reaches
 pub mod Writes
+pub mod Found
+pub mod Choices
+pub mod Memories
+pub mod Doing
+pub mod Starts
+pub mod Growth
+pub mod Runs
+pub mod FromStart

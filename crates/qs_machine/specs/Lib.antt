@@ -3,4 +3,6 @@ pub mod Step
 pub mod Run
 pub mod Bytes
 pub mod Hart
+pub mod Standing
+pub mod Running
 pub mod Example

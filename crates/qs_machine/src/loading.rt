@@ -1,4 +1,12 @@
 // The machine at its start.
+ghost use Rattle.std.specs.Prelude.{◌≡◌, ℕ, List, length, map, replicate, IfOk, IfErr};
+ghost use Rattle.qs_isa.specs.Table.{decode_of};
+ghost use Rattle.qs_image.specs.Image.{words_bytes};
+ghost use Rattle.qs_machine.specs.declared.loading.LoadFault.TheVariants.{NoMemory};
+ghost use Rattle.qs_machine.specs.Run.{start};
+ghost use Rattle.qs_machine.specs.Standing.{taken_of, Stands};
+ghost use Rattle.qs_machine.specs.Running.{MayLoad, IsLoadFault};
+
 use crate::machine::Machine;
 use crate::memory::Memory;
 use crate::registers::Registers;
@@ -23,12 +31,16 @@ pub enum LoadFault {
 }
 
 impl From<NoMemory> for LoadFault {
+    ghost from_gives = { λ _ fault. fault ≡ NoMemory };
+
     fn from(_fault: NoMemory) -> LoadFault {
         LoadFault::NoMemory
     }
 }
 
-fn code_bytes(alloc: Global, image: &ImageView<'_>) -> Result<Vec<u8>, NoMemory> {
+fn code_bytes(alloc: Global, image: &ImageView<'_>) -> Result<Vec<u8>, NoMemory>
+    ensures { IfOk result (λ bytes. bytes.items ≡ words_bytes image.now.code) }
+{
     let mut bytes = Vec::new(alloc);
     for i in 0..image.code_count() {
         bytes.extend_from_slice(&image.code(i).to_le_bytes())?;
@@ -36,7 +48,9 @@ fn code_bytes(alloc: Global, image: &ImageView<'_>) -> Result<Vec<u8>, NoMemory>
     Ok(bytes)
 }
 
-fn instructions(alloc: Global, image: &ImageView<'_>) -> Result<Vec<Option<Instr>>, NoMemory> {
+fn instructions(alloc: Global, image: &ImageView<'_>) -> Result<Vec<Option<Instr>>, NoMemory>
+    ensures { IfOk result (λ instructions. instructions.items ≡ map decode_of image.now.code) }
+{
     let mut instructions = Vec::new(alloc);
     for i in 0..image.code_count() {
         instructions.push(decode(image.code(i)))?;
@@ -44,7 +58,9 @@ fn instructions(alloc: Global, image: &ImageView<'_>) -> Result<Vec<Option<Instr
     Ok(instructions)
 }
 
-fn data_bytes(alloc: Global, image: &ImageView<'_>) -> Result<Vec<u8>, NoMemory> {
+fn data_bytes(alloc: Global, image: &ImageView<'_>) -> Result<Vec<u8>, NoMemory>
+    ensures { IfOk result (λ bytes. bytes.items ≡ image.now.bytes) }
+{
     let mut bytes = Vec::new(alloc);
     for i in 0..image.byte_count() {
         bytes.push(image.bytes(i))?;
@@ -52,17 +68,25 @@ fn data_bytes(alloc: Global, image: &ImageView<'_>) -> Result<Vec<u8>, NoMemory>
     Ok(bytes)
 }
 
-fn zeros(alloc: Global, count: usize) -> Result<Vec<u8>, NoMemory> {
+fn zeros(alloc: Global, count: usize) -> Result<Vec<u8>, NoMemory>
+    ensures { IfOk result (λ bytes. bytes.items ≡ replicate count 0) }
+{
     Ok(vec![in alloc; 0; count]?)
 }
 
-/// Loads an image.
+/// Loads an image, on a stack of so many bytes and with these arguments for its parameters, each a word (a negative
+/// number in two's complement). The machine stands at the start of the program, whatever its input will be.
 pub fn load(
     alloc: Global,
     image: &ImageView<'_>,
     stack: u64,
     args: &[u32],
-) -> Result<Machine, LoadFault> {
+) -> Result<Machine, LoadFault>
+    ensures start { IfOk result (λ machine. (input : List ℕ) → Stands machine image.now stack input (start image.now args.now input)) }
+    ensures fresh { IfOk result (λ machine. taken_of machine ≡ 0) }
+    ensures loads { IfOk result (λ _. MayLoad stack image.now.parameters (length args.now)) }
+    ensures fault { IfErr result (λ fault. IsLoadFault stack image.now.parameters (length args.now) fault) }
+{
     if stack > 1 << 28 {
         return Err(LoadFault::StackTooLarge);
     }

@@ -1,4 +1,6 @@
 // The machine, and what each kind of instruction does to it.
+ghost use Rattle.std.specs.Prelude.{◌≤◌, ◌^◌, length};
+
 use crate::answers::{Cause, End, StepResult};
 use crate::memory::{Memory, load_width, store_width};
 use crate::operations::{is_taken, op_imm_result, op_result, shift_result};
@@ -7,7 +9,7 @@ use crate::registers::Registers;
 use qs_base::add32;
 use qs_isa::{Instr, LoadKind, Register, StoreKind};
 
-/// A machine that was loaded.
+/// A machine that was loaded. It keeps how many bytes of the input it has taken, and how it ended.
 #[derive(Debug, Drop)]
 pub struct Machine {
     pub(crate) instructions: Vec<Option<Instr>>,
@@ -16,19 +18,34 @@ pub struct Machine {
     pub(crate) pc: u32,
     pub(crate) taken: usize,
     pub(crate) ended: Option<End>,
+    ghost code_fits: { length instructions.items ≤ 2 ^ 18 },
 }
 
 impl Machine {
-    fn trap(&self, cause: Cause) -> StepResult {
+    ghost use Rattle.std.specs.Prelude.{◌≡◌, ℕ, ◌+◌, ◌<◌, ◌≤◌, ◌^◌, List, [], ◌∷◌, length, if◌then◌else◌};
+    ghost use Rattle.qs_machine.specs.Step as step;
+    ghost use Rattle.qs_machine.specs.Hart.{registers_of, memory_of, written};
+    ghost use Rattle.qs_image.specs.Image.{Image};
+    ghost use Rattle.qs_machine.specs.Standing.{taken_of, state_of, Does, IsLoaded};
+
+    fn trap(&self, cause: Cause) -> StepResult
+        ensures { result ≡ StepResult.Trapped cause self.now.pc }
+    {
         StepResult::Trapped(cause, self.pc)
     }
 
-    fn next_pc(&self) -> u32 {
+    fn next_pc(&self) -> u32
+        requires { self.now.pc < 2 ^ 31 }
+        ensures { result ≡ self.now.pc + 4 }
+    {
         self.pc + 4
     }
 
     // Writes a register and goes on at an address. The stack pointer may not leave the stack.
-    fn write_and_go(&mut self, rd: Register, value: u32, pc: u32) -> StepResult {
+    fn write_and_go(&mut self, rd: Register, value: u32, pc: u32) -> StepResult
+        ensures does { (input : List ℕ) → Does self.old self.new input (λ image size s. step.write_and_go size s rd value pc) result }
+        ensures taken { taken_of self.new ≡ taken_of self.old }
+    {
         if rd == Register::SP && (value < self.memory.stack_base() || STACK_TOP < value) {
             return self.trap(Cause::Overflow);
         }
@@ -37,17 +54,28 @@ impl Machine {
         StepResult::Going
     }
 
-    fn write(&mut self, rd: Register, value: u32) -> StepResult {
+    fn write(&mut self, rd: Register, value: u32) -> StepResult
+        requires { self.old.pc < 2 ^ 31 }
+        ensures does { (input : List ℕ) → Does self.old self.new input (λ image size s. step.write size s rd value) result }
+        ensures taken { taken_of self.new ≡ taken_of self.old }
+    {
         let next = self.next_pc();
         self.write_and_go(rd, value, next)
     }
 
-    fn go_to(&mut self, pc: u32) -> StepResult {
+    fn go_to(&mut self, pc: u32) -> StepResult
+        ensures does { (input : List ℕ) → Does self.old self.new input (λ image size s. step.go_to s pc) result }
+        ensures taken { taken_of self.new ≡ taken_of self.old }
+    {
         self.pc = pc;
         StepResult::Going
     }
 
-    fn jump(&mut self, rd: Register, target: u32) -> StepResult {
+    fn jump(&mut self, rd: Register, target: u32) -> StepResult
+        requires { self.old.pc < 2 ^ 31 }
+        ensures does { (input : List ℕ) → Does self.old self.new input (λ image size s. step.jump size s rd target) result }
+        ensures taken { taken_of self.new ≡ taken_of self.old }
+    {
         if target % 4 != 0 {
             return self.trap(Cause::JumpMisaligned);
         }
@@ -55,18 +83,27 @@ impl Machine {
         self.write_and_go(rd, next, target)
     }
 
-    fn branch(&mut self, taken: bool, target: u32) -> StepResult {
+    fn branch(&mut self, taken: bool, target: u32) -> StepResult
+        requires { self.old.pc < 2 ^ 31 }
+        ensures does { (input : List ℕ) → Does self.old self.new input (λ image size s. step.branch s taken target) result }
+        ensures taken { taken_of self.new ≡ taken_of self.old }
+    {
         if !taken {
             let next = self.next_pc();
             return self.go_to(next);
         }
-        if target % 4 != 0 {
-            return self.trap(Cause::JumpMisaligned);
+        if target % 4 == 0 {
+            self.go_to(target)
+        } else {
+            self.trap(Cause::JumpMisaligned)
         }
-        self.go_to(target)
     }
 
-    fn load(&mut self, kind: LoadKind, rd: Register, address: u32) -> StepResult {
+    fn load(&mut self, kind: LoadKind, rd: Register, address: u32) -> StepResult
+        requires { self.old.pc < 2 ^ 31 }
+        ensures does { (input : List ℕ) → Does self.old self.new input (λ image size s. step.load image size s kind rd address) result }
+        ensures taken { taken_of self.new ≡ taken_of self.old }
+    {
         if address % load_width(kind) != 0 {
             return self.trap(Cause::LoadMisaligned);
         }
@@ -76,7 +113,11 @@ impl Machine {
         }
     }
 
-    fn store(&mut self, kind: StoreKind, address: u32, value: u32) -> StepResult {
+    fn store(&mut self, kind: StoreKind, address: u32, value: u32) -> StepResult
+        requires { self.old.pc < 2 ^ 31 }
+        ensures does { (input : List ℕ) → Does self.old self.new input (λ image size s. step.store image size s kind address value) result }
+        ensures taken { taken_of self.new ≡ taken_of self.old }
+    {
         if address % store_width(kind) != 0 {
             return self.trap(Cause::StoreMisaligned);
         }
@@ -88,12 +129,23 @@ impl Machine {
     }
 
     // Puts a value into a0 and goes on.
-    fn answer(&mut self, value: u32) {
+    fn answer(&mut self, value: u32)
+        requires { self.old.pc < 2 ^ 31 }
+        ensures answers { (input output : List ℕ) → state_of self.new input output ≡ step.answer (state_of self.old input output) value }
+        ensures loaded { (image : Image) (size : ℕ) → IsLoaded self.old image size → IsLoaded self.new image size }
+        ensures taken { taken_of self.new ≡ taken_of self.old }
+    {
         self.registers.write(Register::new(10), value);
         self.pc = self.next_pc();
     }
 
-    fn take_byte(&mut self, input: &[u8]) -> StepResult {
+    fn take_byte(&mut self, input: &[u8]) -> StepResult
+        requires low { self.old.pc < 2 ^ 31 }
+        requires room { taken_of self.old ≤ length input.now }
+        ensures does { Does self.old self.new input.now (λ image size s. step.take_byte s s.input) result }
+        ensures more { taken_of self.old ≤ taken_of self.new }
+        ensures within { taken_of self.new ≤ length input.now }
+    {
         if self.taken == input.len() {
             self.answer(u32::MAX);
         } else {
@@ -103,7 +155,13 @@ impl Machine {
         StepResult::Going
     }
 
-    fn environment_call(&mut self, call: u32, input: &[u8]) -> StepResult {
+    fn environment_call(&mut self, call: u32, input: &[u8]) -> StepResult
+        requires low { self.old.pc < 2 ^ 31 }
+        requires room { taken_of self.old ≤ length input.now }
+        ensures does { Does self.old self.new input.now (λ image size s. step.environment_call s call) result }
+        ensures more { taken_of self.old ≤ taken_of self.new }
+        ensures within { taken_of self.new ≤ length input.now }
+    {
         let byte = (self.registers.read(Register::new(10)) % 256) as u8;
         match call {
             0 => StepResult::Exited(byte),
@@ -116,7 +174,13 @@ impl Machine {
         }
     }
 
-    pub(crate) fn act(&mut self, instruction: Instr, input: &[u8]) -> StepResult {
+    pub(crate) fn act(&mut self, instruction: Instr, input: &[u8]) -> StepResult
+        requires low { self.old.pc < 2 ^ 31 }
+        requires room { taken_of self.old ≤ length input.now }
+        ensures does { Does self.old self.new input.now (λ image size s. step.act image size s instruction) result }
+        ensures more { taken_of self.old ≤ taken_of self.new }
+        ensures within { taken_of self.new ≤ length input.now }
+    {
         match instruction {
             Instr::Lui { rd, immediate } => self.write(rd, immediate.word()),
             Instr::Auipc { rd, immediate } => self.write(rd, add32(self.pc, immediate.word())),

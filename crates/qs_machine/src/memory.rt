@@ -1,9 +1,9 @@
 // The memory: the bytes of the code, the data and the stack.
-ghost use Rattle.std.specs.Prelude.{◌≡◌, ◌+◌, ◌-◌, ◌≤◌, ◌^◌, Option, Some, None, option_copied, if◌then◌else◌, length};
+ghost use Rattle.std.specs.Prelude.{◌≡◌, ◌+◌, ◌-◌, ◌≤◌, ◌^◌, Option, Some, None, option_copied, if◌then◌else◌, length, IsTrue, false};
 ghost use Rattle.qs_base.specs.Words.{sign_extend};
 ghost use Rattle.qs_machine.specs.Bytes.{loaded_from, bytes_from};
 ghost use Rattle.qs_machine.specs.State.{stack_base};
-ghost use Rattle.qs_machine.specs.Step.{load_width, loaded, store_width};
+ghost use Rattle.qs_machine.specs.Step.{load_width, loaded, store_width, stored};
 
 use crate::regions::{CODE_START, DATA_START, STACK_TOP, place_in, put};
 use byteorder::{ByteOrder, LittleEndian};
@@ -104,6 +104,11 @@ impl Memory {
     /// Stores the low bytes of a word; whether they lie whole in the data or the stack.
     pub fn store(&mut self, kind: StoreKind, address: u32, value: u32) -> bool
         ensures done { result ≡ can_write_in self.old address (store_width kind) }
+        ensures stored { IsTrue result → memory_of self.new ≡ stored kind (memory_of self.old) address value }
+        ensures refused { result ≡ false → self.new ≡ self.old }
+        ensures code { self.new.code.items ≡ self.old.code.items }
+        ensures data_count { length self.new.data.items ≡ length self.old.data.items }
+        ensures stack_count { length self.new.stack.items ≡ length self.old.stack.items }
     {
         let width = store_width(kind);
         if let Some(at) = place_in(DATA_START, self.data.len(), address, width) {

@@ -7,7 +7,9 @@ ghost use Rattle.qs_machine.specs.Bytes.{put_1, put_2, put_4, put_bytes};
 use qs_isa::StoreKind;
 
 pub const CODE_START: u32 = 0x0001_0000;
+
 pub const DATA_START: u32 = 0x1000_0000;
+
 pub const STACK_TOP: u32 = 0x8000_0000;
 
 /// The place in a region of an access that lies in it whole.

@@ -1,9 +1,17 @@
 // Runs.
+ghost use Rattle.std.specs.Prelude.{◌≡◌, ℕ, ◌≤◌, length, IfSome};
+ghost use Rattle.qs_image.specs.Image.{Image};
+ghost use Rattle.qs_machine.specs.State.{State};
+ghost use Rattle.qs_machine.specs.Standing.{taken_of, end_of, Stands};
+ghost use Rattle.qs_machine.specs.Running.{run_end_of, RunsTo};
+
 use crate::answers::{End, RunEnd, StepResult};
 use crate::machine::Machine;
 use qs_ports::{Sink, put_all};
 
-fn run_end_of(end: End) -> RunEnd {
+fn run_end_of(end: End) -> RunEnd
+    ensures { result ≡ run_end_of end }
+{
     match end {
         End::Exited(status) => RunEnd::Exited(status),
         End::Trapped(cause, pc) => RunEnd::Trapped(cause, pc),
@@ -11,8 +19,18 @@ fn run_end_of(end: End) -> RunEnd {
 }
 
 impl Machine {
-    /// Takes steps.
-    pub fn run<K: Sink>(&mut self, steps: u64, input: &[u8], out: &mut K) -> RunEnd {
+    /// Takes at most so many steps, and puts each byte of the output on the sink at once. `input` is the whole
+    /// input, of which the machine has taken some. Takes no memory.
+    ///
+    /// A machine that has ended answers as it did then, and nothing changes. After `SinkFailed` the machine stands
+    /// behind the step that put the byte which the sink did not take.
+    pub fn run<K: Sink>(&mut self, steps: u64, input: &[u8], out: &mut K) -> RunEnd
+        requires { taken_of self.old ≤ length input.now }
+        ensures runs { (image : Image) (size : ℕ) (s : State) → Stands self.old image size input.now s → RunsTo self.new image size input.now s steps (K.view out.old) (K.view out.new) result }
+        ensures again { IfSome (end_of self.old) (λ end. (result ≡ run_end_of end) × (self.new ≡ self.old) × (out.new ≡ out.old)) }
+        ensures more { taken_of self.old ≤ taken_of self.new }
+        ensures within { taken_of self.new ≤ length input.now }
+    {
         if let Some(end) = self.ended {
             return run_end_of(end);
         }

@@ -1,16 +1,23 @@
 // One step.
+ghost use Rattle.std.specs.Prelude.{◌≡◌};
+ghost use Rattle.qs_machine.specs.Standing.{answer_of, end_after};
+
 use crate::answers::{Cause, End, StepResult};
 use crate::fetching::fetch;
 use crate::machine::Machine;
 
-fn answer_of(end: End) -> StepResult {
+fn answer_of(end: End) -> StepResult
+    ensures { result ≡ answer_of end }
+{
     match end {
         End::Exited(status) => StepResult::Exited(status),
         End::Trapped(cause, pc) => StepResult::Trapped(cause, pc),
     }
 }
 
-fn end_of(answer: StepResult) -> Option<End> {
+fn end_of(answer: StepResult) -> Option<End>
+    ensures { result ≡ end_after answer }
+{
     match answer {
         StepResult::Going | StepResult::Put(_) => None,
         StepResult::Exited(status) => Some(End::Exited(status)),
@@ -19,7 +26,18 @@ fn end_of(answer: StepResult) -> Option<End> {
 }
 
 impl Machine {
-    fn take_step(&mut self, input: &[u8]) -> StepResult {
+    ghost use Rattle.std.specs.Prelude.{◌≡◌, ℕ, ◌≤◌, length, IfSome};
+    ghost use Rattle.qs_image.specs.Image.{Image};
+    ghost use Rattle.qs_machine.specs.State.{State};
+    ghost use Rattle.qs_machine.specs.Step as step;
+    ghost use Rattle.qs_machine.specs.Standing.{taken_of, end_of, Does, Stands, Steps, answer_of};
+
+    fn take_step(&mut self, input: &[u8]) -> StepResult
+        requires { taken_of self.old ≤ length input.now }
+        ensures does { Does self.old self.new input.now (λ image size s. step.step image size s) result }
+        ensures more { taken_of self.old ≤ taken_of self.new }
+        ensures within { taken_of self.new ≤ length input.now }
+    {
         match fetch(&self.instructions, self.pc) {
             None => StepResult::Trapped(Cause::FetchOutside, self.pc),
             Some(None) => StepResult::Trapped(Cause::IllegalInstruction, self.pc),
@@ -27,8 +45,15 @@ impl Machine {
         }
     }
 
-    /// Takes a step.
-    pub fn step(&mut self, input: &[u8]) -> StepResult {
+    /// Takes a step. `input` is the whole input, of which the machine has taken some: the rest is what is left. Takes
+    /// no memory. A machine that has ended answers as it did then, and nothing changes.
+    pub fn step(&mut self, input: &[u8]) -> StepResult
+        requires { taken_of self.old ≤ length input.now }
+        ensures steps { (image : Image) (size : ℕ) (s : State) → Stands self.old image size input.now s → Steps self.old self.new image size input.now s result }
+        ensures again { IfSome (end_of self.old) (λ end. (result ≡ answer_of end) × (self.new ≡ self.old)) }
+        ensures more { taken_of self.old ≤ taken_of self.new }
+        ensures within { taken_of self.new ≤ length input.now }
+    {
         if let Some(end) = self.ended {
             return answer_of(end);
         }

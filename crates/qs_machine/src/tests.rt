@@ -1,5 +1,8 @@
 // Runs of small programs, whose words an outside assembler gives (llvm-mc 14, riscv32 with M). The expected values
 // are those of the RISC-V Unprivileged ISA 20191213.
+ghost use Rattle.std.specs.Prelude.{◌≡◌, IfOk};
+ghost use Rattle.qs_machine.specs.Standing.{taken_of};
+
 use super::*;
 use crate::registers::Registers;
 use qs_image::read;
@@ -27,12 +30,9 @@ fn image_of(alloc: Global, words: &[u32], parameters: u32) -> Result<Vec<u8>, Al
 }
 
 /// A machine that runs these words.
-fn machine_of(
-    rt: &HostRuntime,
-    words: &[u32],
-    stack: u64,
-    args: &[u32],
-) -> Result<Machine, Fail> {
+fn machine_of(rt: &HostRuntime, words: &[u32], stack: u64, args: &[u32]) -> Result<Machine, Fail>
+    ensures { IfOk result (λ machine. taken_of machine ≡ 0) }
+{
     let parameters = u32::try_from(args.len()).unwrap_or(0);
     let bytes = image_of(rt.alloc(), words, parameters)?;
     let image = read(&bytes).map_err(|_| "no image")?;
@@ -116,10 +116,26 @@ fn jumps_and_branches(rt: HostRuntime) -> Result<(), Fail> {
     let misaligned = StepResult::Trapped(Cause::JumpMisaligned, 0x10000);
     let going = StepResult::Going;
     let table = [
-        ("jal", 0x0080056fu32, 0u32, 0u32, going, 0x10008u32, 0x10004u32),
+        (
+            "jal",
+            0x0080056fu32,
+            0u32,
+            0u32,
+            going,
+            0x10008u32,
+            0x10004u32,
+        ),
         ("jal +2", 0x0020006f, 5, 0, misaligned, 0x10000, 5),
         ("jalr, odd", 0x00150567, 0x20000, 0, going, 0x20000, 0x10004),
-        ("jalr, half", 0x00150567, 0x20001, 0, misaligned, 0x10000, 0x20001),
+        (
+            "jalr, half",
+            0x00150567,
+            0x20001,
+            0,
+            misaligned,
+            0x10000,
+            0x20001,
+        ),
         ("beq", 0x00b50463, 7, 7, going, 0x10008, 7),
         ("beq not", 0x00b50463, 7, 8, going, 0x10004, 7),
         ("bne", 0x00b51463, 7, 8, going, 0x10008, 7),
@@ -156,7 +172,13 @@ fn loads(rt: HostRuntime) -> Result<(), Fail> {
         ("lw of the stack", 0x00052503, 0x7ffffffc, going, 0),
         ("lw over data", 0x00052503, 0x10000008, outside, 0x10000008),
         ("lh behind code", 0x00051503, 0x10004, outside, 0x10004),
-        ("lb below the stack", 0x00050503, 0x7fffffef, outside, 0x7fffffef),
+        (
+            "lb below the stack",
+            0x00050503,
+            0x7fffffef,
+            outside,
+            0x7fffffef,
+        ),
         ("lb at the top", 0x00050503, 0x80000000, outside, 0x80000000),
         ("lw +2", 0x00052503, 0x10000002, misaligned, 0x10000002),
         ("lw 1", 0x00052503, 1, misaligned, 1),
@@ -183,8 +205,20 @@ fn stores(rt: HostRuntime) -> Result<(), Fail> {
         ("sw", 0x00b52023, 0x10000000, going, 0x11223344),
         ("sw on the stack", 0x00b52023, 0x7ffffff0, going, 0x017fff80),
         ("sw into code", 0x00b52023, 0x10000, outside, 0x017fff80),
-        ("sw behind data", 0x00b52023, 0x10000008, outside, 0x017fff80),
-        ("sw below the stack", 0x00b52023, 0x7fffffec, outside, 0x017fff80),
+        (
+            "sw behind data",
+            0x00b52023,
+            0x10000008,
+            outside,
+            0x017fff80,
+        ),
+        (
+            "sw below the stack",
+            0x00b52023,
+            0x7fffffec,
+            outside,
+            0x017fff80,
+        ),
         ("sw 2", 0x00b52023, 2, misaligned, 0x017fff80),
         ("sh 1", 0x00b51023, 0x10000001, misaligned, 0x017fff80),
     ];
@@ -206,7 +240,11 @@ fn sink(rt: &HostRuntime, failing: &[u64]) -> Result<MemSink, Fail> {
 #[test]
 fn runs_of_one_word(rt: HostRuntime) -> Result<(), Fail> {
     let table = [
-        (0u32, 1u64, RunEnd::Trapped(Cause::IllegalInstruction, 0x10000)),
+        (
+            0u32,
+            1u64,
+            RunEnd::Trapped(Cause::IllegalInstruction, 0x10000),
+        ),
         (0, 0, RunEnd::StepLimit),
         (0x0000006f, 5, RunEnd::StepLimit),
         (0x00100073, 1, RunEnd::Trapped(Cause::Breakpoint, 0x10000)),
@@ -223,7 +261,13 @@ fn runs_of_one_word(rt: HostRuntime) -> Result<(), Fail> {
 
 #[test]
 fn the_stack_has_to_suffice(rt: HostRuntime) -> Result<(), Fail> {
-    let words = [0xff010113u32, 0x00700513, 0x01010113, 0x00000893, 0x00000073];
+    let words = [
+        0xff010113u32,
+        0x00700513,
+        0x01010113,
+        0x00000893,
+        0x00000073,
+    ];
     let overflow = RunEnd::Trapped(Cause::Overflow, 0x10000);
     let table = [
         (0u64, 9u64, overflow),

@@ -1,12 +1,12 @@
 use Rattle.std.proofs.Common.{rules, arith, refl}
-use Rattle.qs_driver.proofs.Builds.{another_form, built, not_written, image_of}
+use Rattle.qs_driver.proofs.Builds.{not_read, another_form, was_built, not_written, image_of}
 use Rattle.qs_driver.proofs.build.build.Goals as goal
 
 pub returns-in-None : goal.returns-in-None
-returns-in-None g c = (refl, another_form (omega arith) (search rules) c.in-Ok.ensures (rw (c.in-None.is, c.deref.ensures.value) at c.in-Ok-first_form.ensures.refused))
+returns-in-None g c = another_form _ (search rules) c.in-Ok.ensures (rw (c.in-None.is, c.deref.ensures.value) at c.in-Ok-first_form.ensures.refused)
 
 pub returns-in-Ok-write_whole : goal.returns-in-Ok-write_whole
-returns-in-Ok-write_whole g c = built (omega arith) (search rules) c.in-Ok.ensures (rw (c.in-Some.is, c.deref.ensures.value) at c.in-Ok-first_form.ensures.recognised) (image_of c.in-Ok-compile.ensures.built c.in-Ok-compile.ensures.lowers c.in-Ok-compile.ensures.agrees c.in-Ok-write.ensures) (rw c.deref-2.ensures.value at c.in-Ok-write_whole.ensures)
+returns-in-Ok-write_whole g c = was_built (search rules) c.in-Ok.ensures (rw (c.in-Some.is, c.deref.ensures.value) at c.in-Ok-first_form.ensures.recognised) (image_of c.in-Ok-compile.ensures.built c.in-Ok-compile.ensures.lowers c.in-Ok-compile.ensures.agrees c.in-Ok-write.ensures) (rw c.deref-2.ensures.value at c.in-Ok-write_whole.ensures)
 
 pub returns : goal.returns
-returns g c = (refl, not_written (omega arith) (search rules) c.in-Ok.ensures (rw (c.in-Some.is, c.deref.ensures.value) at c.in-Ok-first_form.ensures.recognised) (image_of c.in-Ok-compile.ensures.built c.in-Ok-compile.ensures.lowers c.in-Ok-compile.ensures.agrees c.in-Ok-write.ensures) (rw c.deref-2.ensures.value at c.in-Err-write_whole.ensures))
+returns g c = not_written (search rules) c.in-Ok.ensures (rw (c.in-Some.is, c.deref.ensures.value) at c.in-Ok-first_form.ensures.recognised) (image_of c.in-Ok-compile.ensures.built c.in-Ok-compile.ensures.lowers c.in-Ok-compile.ensures.agrees c.in-Ok-write.ensures) (rw c.deref-2.ensures.value at c.in-Err-write_whole.ensures)

@@ -1,0 +1,115 @@
+-- Runs, step by step.
+use Rattle.std.proofs.Common.{◌≡◌, ℕ, zero, suc, ◌+◌, ◌-◌, ◌<◌, ◌≤◌, List, [], ◌∷◌, ◌++◌, Some, Result, Ok, Err, Bool, true, false, refl, sym, ◌∙◌, ap, append_assoc, arith}
+use Rattle.std.specs.Result.{is_err}
+use Rattle.std.proofs.lemmas.List.{append-nil}
+use Rattle.qs_image.specs.Image.{Image}
+use Rattle.qs_ports.specs.declared.sink.SinkFault.{SinkFault}
+use Rattle.qs_ports.specs.SinkView.{SinkView, Appends, IsCut, PutsAll}
+use Rattle.qs_ports.proofs.Sinks.{appends_nothing, appends_more, then_puts, cut_before}
+use Rattle.qs_machine.specs.declared.answers.Cause.{Cause}
+use Rattle.qs_machine.specs.declared.answers.End.TheVariants as end
+use Rattle.qs_machine.specs.declared.machine.Machine.{Machine}
+use Rattle.qs_machine.specs.State.{State}
+use Rattle.qs_machine.specs.Step.{Exits, Traps, step}
+use Rattle.qs_machine.specs.Run.{Outcome, Exited, Trapped, Going, run}
+use Rattle.qs_machine.specs.Standing.{Stands, GoesOn, cause_of, end_of, ended}
+use Rattle.qs_machine.specs.Running.{Reached, HasExited, HasTrapped, IsGoing, IsCutOff, output_of}
+use Rattle.qs_machine.proofs.Steps.{run_next, run_exits, run_traps}
+use Rattle.qs_machine.proofs.Growth.{IsFront, grows-run}
+
+-- so many steps were taken from the state `s`, and what they put was appended to the sink
+pub record HasGone (n : Machine) (image : Image) (size : ℕ) (input : List ℕ) (s : State) (steps : ℕ) (v w : SinkView) : Type 0 where
+  pub next : State
+  pub reached : Reached n image size input s steps next
+  pub bytes : List ℕ
+  pub puts : next.output ≡ s.output ++ bytes
+  pub appended : Appends v w bytes
+
+pub has_begun : (m : Machine) (image : Image) (size : ℕ) (input : List ℕ) (s : State) (v : SinkView) → Stands m image size input s → HasGone m image size input s 0 v v
+has_begun m image size input s v stands = record {
+  next = s;
+  reached = record { stands = stands; ahead = λ more. let e : 0 + more ≡ more = omega arith in ap (λ (k : ℕ). run image size k s) e };
+  bytes = [];
+  puts = sym (append-nil s.output);
+  appended = appends_nothing v;
+}
+
+reached_next : (m n : Machine) (image : Image) (size : ℕ) (input : List ℕ) (s t : State) (steps : ℕ) (bytes : List ℕ) → Reached m image size input s steps t → (g : GoesOn n image size input t bytes) → Reached n image size input s (steps + 1) g.next
+reached_next m n image size input s t steps bytes r g = record {
+  stands = g.stands;
+  ahead = λ more.
+      let e : steps + 1 + more ≡ steps + suc more = omega arith in
+      ap (λ (k : ℕ). run image size k s) e ∙ r.ahead (suc more) ∙ run_next image size more t g.next g.step_is;
+}
+
+-- a step that puts these bytes, which were appended to the sink
+pub goes_further : (m n : Machine) (image : Image) (size : ℕ) (input : List ℕ) (s : State) (steps : ℕ) (u v w : SinkView) (bytes : List ℕ) (h : HasGone m image size input s steps u v) → GoesOn n image size input h.next bytes → Appends v w bytes → HasGone n image size input s (steps + 1) u w
+goes_further m n image size input s steps u v w bytes h g a = record {
+  next = g.next;
+  reached = reached_next m n image size input s h.next steps bytes h.reached g;
+  bytes = h.bytes ++ bytes;
+  puts = g.puts ∙ ap (λ (l : List ℕ). l ++ bytes) h.puts ∙ append_assoc s.output h.bytes bytes;
+  appended = appends_more h.appended a;
+}
+
+-- the run of all steps, from where the machine stands
+from_here : (m : Machine) (image : Image) (size : ℕ) (input : List ℕ) (s t : State) (taken steps : ℕ) → taken < steps → Reached m image size input s taken t → run image size steps s ≡ run image size (suc (steps - taken - 1)) t
+from_here m image size input s t taken steps lt r =
+    let e : steps ≡ taken + suc (steps - taken - 1) = omega arith in
+    ap (λ (k : ℕ). run image size k s) e ∙ r.ahead (suc (steps - taken - 1))
+
+pub exits : (m n : Machine) (image : Image) (size : ℕ) (input : List ℕ) (s : State) (taken steps : ℕ) (v w : SinkView) (status : ℕ) (h : HasGone m image size input s taken v w) → taken < steps → step image size h.next ≡ Exits status → n ≡ ended m (end.Exited status) → HasExited n image size s steps v w status
+exits m n image size input s taken steps v w status h lt e is = record {
+  bytes = h.bytes;
+  run_is = from_here m image size input s h.next taken steps lt h.reached ∙ run_exits image size _ h.next status e ∙ ap (λ (l : List ℕ). Exited l status) h.puts;
+  appended = h.appended;
+  end_is = ap end_of is;
+}
+
+pub traps : (m n : Machine) (image : Image) (size : ℕ) (input : List ℕ) (s : State) (taken steps : ℕ) (v w : SinkView) (cause : Cause) (pc : ℕ) (h : HasGone m image size input s taken v w) → taken < steps → step image size h.next ≡ Traps (cause_of cause) → pc ≡ h.next.pc → n ≡ ended m (end.Trapped cause pc) → HasTrapped n image size s steps v w cause pc
+traps m n image size input s taken steps v w cause pc h lt e at is = record {
+  bytes = h.bytes;
+  run_is = from_here m image size input s h.next taken steps lt h.reached ∙ run_traps image size _ h.next (cause_of cause) e ∙ ap (λ (k : ℕ). Trapped (cause_of cause) k h.next.output) (sym at) ∙ ap (λ (l : List ℕ). Trapped (cause_of cause) pc l) h.puts;
+  appended = h.appended;
+  end_is = ap end_of is;
+}
+
+pub stays : (n : Machine) (image : Image) (size : ℕ) (input : List ℕ) (s : State) (steps : ℕ) (v w : SinkView) → HasGone n image size input s steps v w → IsGoing n image size input s steps v w
+stays n image size input s steps v w h = record {
+  bytes = h.bytes;
+  run_is =
+      let e : steps ≡ steps + 0 = omega arith in
+      ap (λ (k : ℕ). run image size k s) e ∙ h.reached.ahead 0 ∙ ap (λ (l : List ℕ). Going l) h.puts;
+  appended = h.appended;
+  next = h.next;
+  reached = h.reached;
+}
+
+-- the sink failed at a byte
+pub cut_off : (m n : Machine) (image : Image) (size : ℕ) (input : List ℕ) (s : State) (taken steps : ℕ) (u v w : SinkView) (byte : ℕ) (fault : SinkFault) (h : HasGone m image size input s taken u v) → taken < steps → GoesOn n image size input h.next (byte ∷ []) → PutsAll v w (byte ∷ []) (Err fault) → IsCutOff n image size input s steps u w
+cut_off m n image size input s taken steps u v w byte fault h lt g p =
+    let reached = reached_next m n image size input s h.next taken (byte ∷ []) h.reached g in
+    let e : steps ≡ taken + 1 + (steps - taken - 1) = omega arith in
+    let front : IsFront g.next.output (output_of (run image size (steps - taken - 1) g.next)) = grows-run image size (steps - taken - 1) g.next in
+    let run_is : run image size steps s ≡ run image size (steps - taken - 1) g.next = ap (λ (k : ℕ). run image size k s) e ∙ reached.ahead (steps - taken - 1) in
+    let so_far = h.bytes ++ byte ∷ [] in
+    let puts : g.next.output ≡ s.output ++ so_far = g.puts ∙ ap (λ (l : List ℕ). l ++ byte ∷ []) h.puts ∙ append_assoc s.output h.bytes (byte ∷ []) in
+    let cut = cut_before u w so_far front.rest fault fault (then_puts w (byte ∷ []) (Err fault) h.appended p) in
+    record {
+      bytes = so_far ++ front.rest;
+      puts = ap (λ (o : Outcome). output_of o) run_is ∙ front.parts ∙ ap (λ (l : List ℕ). l ++ front.rest) puts ∙ append_assoc s.output so_far front.rest;
+      k = cut.0;
+      cut = cut.1;
+      taken = taken + 1;
+      within = omega arith;
+      next = g.next;
+      reached = reached;
+    }
+
+pub put_failed : (m n : Machine) (image : Image) (size : ℕ) (input : List ℕ) (s : State) (taken steps : ℕ) (u v w : SinkView) (byte : ℕ) (r : Result Unit SinkFault) (h : HasGone m image size input s taken u v) → taken < steps → GoesOn n image size input h.next (byte ∷ []) → is_err r ≡ true → PutsAll v w (byte ∷ []) r → IsCutOff n image size input s steps u w
+put_failed m n image size input s taken steps u v w byte (Ok t) h lt g e p = absurd cc
+put_failed m n image size input s taken steps u v w byte (Err fault) h lt g e p = cut_off m n image size input s taken steps u v w byte fault h lt g p
+
+pub put_whole : (v w : SinkView) (text : List ℕ) (r : Result Unit SinkFault) → is_err r ≡ false → PutsAll v w text r → Appends v w text
+put_whole v w text (Ok t) e p = p
+put_whole v w text (Err fault) e p = absurd cc

@@ -1,0 +1,29 @@
+use Rattle.std.proofs.Common.{◌≡◌, ℕ, ◌*◌, ◌≤◌, length, arith, refl, rules, ap, ◌∙◌, sym, List}
+use Rattle.std.specs.Prelude.{replicate}
+use Rattle.std.proofs.lemmas.List.{length-replicate}
+use Rattle.qs_image.specs.Image.{words_bytes}
+use Rattle.qs_machine.proofs.Choices.{length-words_bytes}
+use Rattle.qs_machine.proofs.Starts.{memory}
+use Rattle.qs_machine.proofs.loading.load.Goals as goal
+
+pub invariant_of-result : goal.invariant_of-result
+invariant_of-result c =
+    let image = c.args.image.now in
+    let w = c.parameters.ensures.well_formed in
+    let most_code = w.code_count.1 in
+    let most_bytes = w.byte_count in
+    let code : length c.in_ok-code_bytes.field-0.items ≡ 4 * length image.code = ap (λ (l : List ℕ). length l) c.in_ok-code_bytes.ensures ∙ length-words_bytes image.code in
+    let bytes : length c.in_ok-data_bytes.field-0.items ≡ length image.bytes = ap (λ (l : List ℕ). length l) c.in_ok-data_bytes.ensures in
+    let stack : length c.in_ok-zeros.field-0.items ≡ c.args.stack = ap (λ (l : List ℕ). length l) c.in_ok-zeros.ensures ∙ length-replicate {A = ℕ} c.args.stack 0 in
+    record { code_fits = omega arith; data_fits = omega arith; stack_fits = omega arith }
+
+pub returns-clause-start : goal.returns-clause-start
+returns-clause-start c = λ input.
+    let image = c.args.image.now in
+    let stack : length c.in_ok-zeros.field-0.items ≡ c.args.stack = ap (λ (l : List ℕ). length l) c.in_ok-zeros.ensures ∙ length-replicate {A = ℕ} c.args.stack 0 in
+    let bytes : length c.in_ok-data_bytes.field-0.items ≡ length image.bytes = ap (λ (l : List ℕ). length l) c.in_ok-data_bytes.ensures in
+    record {
+      loaded = record { instructions = c.in_ok-instructions.ensures; code = c.in_ok-code_bytes.ensures; bytes = bytes; stack = stack };
+      at = rw (memory image c.args.stack c.in_ok-code_bytes.field-0.items c.in_ok-data_bytes.field-0.items c.in_ok-zeros.field-0.items c.in_ok-code_bytes.ensures c.in_ok-data_bytes.ensures c.in_ok-zeros.ensures, ← c.at_start.ensures, ← c.entry.ensures.value) refl;
+      going = refl;
+    }

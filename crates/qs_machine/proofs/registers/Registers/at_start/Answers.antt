@@ -1,0 +1,6 @@
+use Rattle.std.proofs.Common.{◌+◌, ◌-◌, length}
+use Rattle.qs_machine.proofs.Starts.{registers}
+use Rattle.qs_machine.proofs.registers.Registers.at_start.Goals as goal
+
+pub returns : goal.returns
+returns c = registers c.args.args.now c.copy_from_slice.new.self (10 + length c.args.args.now - 10) c.copy_from_slice.ensures.after c.requires

@@ -1,0 +1,95 @@
+-- What a run of a machine does, and how it is loaded.
+use Rattle.std.specs.Prelude.{◌≡◌, ◌≢◌, ℕ, ◌+◌, ◌<◌, ◌≤◌, ◌^◌, List, ◌++◌, Option, Some}
+use Rattle.qs_image.specs.Image.{Image}
+use Rattle.qs_ports.specs.SinkView.{SinkView, Appends, IsCut}
+use Rattle.qs_machine.specs.declared.answers.RunEnd.{RunEnd}
+use Rattle.qs_machine.specs.declared.answers.RunEnd.TheVariants as run_end
+use Rattle.qs_machine.specs.declared.answers.Cause.{Cause}
+use Rattle.qs_machine.specs.declared.answers.End.{End}
+use Rattle.qs_machine.specs.declared.answers.End.TheVariants as end
+use Rattle.qs_machine.specs.declared.machine.Machine.{Machine}
+use Rattle.qs_machine.specs.declared.loading.LoadFault.{LoadFault}
+use Rattle.qs_machine.specs.declared.loading.LoadFault.TheVariants.{StackTooLarge, ArgCount, NoMemory}
+use Rattle.qs_machine.specs.State.{State}
+use Rattle.qs_machine.specs.Run.{Outcome, Exited, Trapped, Going, run}
+use Rattle.qs_machine.specs.Standing.{Stands, cause_of, end_of}
+
+-- the bytes on the output
+abbrev pub output_of : Outcome → List ℕ
+output_of (Exited output status) = output
+output_of (Trapped cause pc output) = output
+output_of (Going output) = output
+
+-- After so many steps from the state `s` the machine stands at the state `next`, from which the run goes on.
+pub record Reached (n : Machine) (image : Image) (size : ℕ) (input : List ℕ) (s : State) (steps : ℕ) (next : State) : Type 0 where
+  pub stands : Stands n image size input next
+  pub ahead : (more : ℕ) → run image size (steps + more) s ≡ run image size more next
+
+-- ---- How a run of at most so many steps ended, which began at the state `s`. The sink was `v` and is `w`.
+
+-- The program exited, and all that it put was appended to the sink.
+pub record HasExited (n : Machine) (image : Image) (size : ℕ) (s : State) (steps : ℕ) (v w : SinkView) (status : ℕ) : Type 0 where
+  pub bytes : List ℕ
+  pub run_is : run image size steps s ≡ Exited (s.output ++ bytes) status
+  pub appended : Appends v w bytes
+  pub end_is : end_of n ≡ Some (end.Exited status)
+
+-- A step trapped, and all that was put before was appended to the sink.
+pub record HasTrapped (n : Machine) (image : Image) (size : ℕ) (s : State) (steps : ℕ) (v w : SinkView) (cause : Cause) (pc : ℕ) : Type 0 where
+  pub bytes : List ℕ
+  pub run_is : run image size steps s ≡ Trapped (cause_of cause) pc (s.output ++ bytes)
+  pub appended : Appends v w bytes
+  pub end_is : end_of n ≡ Some (end.Trapped cause pc)
+
+-- All steps were taken, what was put was appended to the sink, and the program goes on.
+pub record IsGoing (n : Machine) (image : Image) (size : ℕ) (input : List ℕ) (s : State) (steps : ℕ) (v w : SinkView) : Type 0 where
+  pub bytes : List ℕ
+  pub run_is : run image size steps s ≡ Going (s.output ++ bytes)
+  pub appended : Appends v w bytes
+  pub next : State
+  pub reached : Reached n image size input s steps next
+
+-- The sink failed: it got the first k bytes of what the run puts, and the machine stands behind the step that put the byte
+-- which the sink did not take.
+pub record IsCutOff (n : Machine) (image : Image) (size : ℕ) (input : List ℕ) (s : State) (steps : ℕ) (v w : SinkView) : Type 0 where
+  pub bytes : List ℕ
+  pub puts : output_of (run image size steps s) ≡ s.output ++ bytes
+  pub k : ℕ
+  pub cut : IsCut v w bytes k
+  pub taken : ℕ
+  pub within : taken ≤ steps
+  pub next : State
+  pub reached : Reached n image size input s taken next
+
+abbrev pub RunsTo : Machine → Image → ℕ → List ℕ → State → ℕ → SinkView → SinkView → RunEnd → Type 0
+RunsTo n image size input s steps v w (run_end.Exited status) = HasExited n image size s steps v w status
+RunsTo n image size input s steps v w (run_end.Trapped cause pc) = HasTrapped n image size s steps v w cause pc
+RunsTo n image size input s steps v w run_end.StepLimit = IsGoing n image size input s steps v w
+RunsTo n image size input s steps v w run_end.SinkFailed = IsCutOff n image size input s steps v w
+
+-- the answer of a run of a machine that has ended
+abbrev pub run_end_of : End → RunEnd
+run_end_of (end.Exited status) = run_end.Exited status
+run_end_of (end.Trapped cause pc) = run_end.Trapped cause pc
+
+-- ---- Why an image is not loaded
+
+-- an image with so many parameters, on a stack of so many bytes and with so many arguments
+pub record MayLoad (stack parameters arguments : ℕ) : Type 0 where
+  pub small : stack ≤ 2 ^ 28
+  pub same_count : arguments ≡ parameters
+
+-- each fault is that of the first test that fails; memory may be wanting where none does
+abbrev pub IsLoadFault : ℕ → ℕ → ℕ → LoadFault → Type 0
+IsLoadFault stack parameters arguments StackTooLarge = 2 ^ 28 < stack
+IsLoadFault stack parameters arguments (ArgCount expected) = (stack ≤ 2 ^ 28) × (arguments ≢ parameters) × (expected ≡ parameters)
+IsLoadFault stack parameters arguments NoMemory = MayLoad stack parameters arguments
+
+-- ---- a run from the start
+
+-- What a run answered and put on the sink, by the outcome that the definition gives.
+abbrev pub Shows : Outcome → SinkView → SinkView → RunEnd → Type 0
+Shows outcome v w (run_end.Exited status) = (outcome ≡ Exited (output_of outcome) status) × Appends v w (output_of outcome)
+Shows outcome v w (run_end.Trapped cause pc) = (outcome ≡ Trapped (cause_of cause) pc (output_of outcome)) × Appends v w (output_of outcome)
+Shows outcome v w run_end.StepLimit = (outcome ≡ Going (output_of outcome)) × Appends v w (output_of outcome)
+Shows outcome v w run_end.SinkFailed = (k : ℕ) × IsCut v w (output_of outcome) k

@@ -1,0 +1,100 @@
+-- Where a machine stands, and what a step of it does.
+use Rattle.std.specs.Prelude.{◌≡◌, ℕ, List, [], ◌∷◌, ◌++◌, length, map, drop, Option, Some, None}
+use Rattle.qs_isa.specs.Table.{decode_of}
+use Rattle.qs_image.specs.Image.{Image, words_bytes}
+use Rattle.qs_machine.specs.declared.answers.Cause.{Cause as Named}
+use Rattle.qs_machine.specs.declared.answers.Cause.TheVariants as named
+use Rattle.qs_machine.specs.declared.answers.StepResult.{StepResult as Answer}
+use Rattle.qs_machine.specs.declared.answers.StepResult.TheVariants.{Going, Put, Exited, Trapped}
+use Rattle.qs_machine.specs.declared.answers.End.{End}
+use Rattle.qs_machine.specs.declared.answers.End.TheVariants as end
+use Rattle.qs_machine.specs.declared.machine.Machine.{Machine}
+use Rattle.qs_machine.specs.State.{State}
+use Rattle.qs_machine.specs.Step.{Cause, StepResult, Next, Exits, Traps, Overflow, IllegalInstruction, FetchOutside, JumpMisaligned, LoadMisaligned, LoadOutside, StoreMisaligned, StoreOutside, UnknownCall, Breakpoint, step}
+use Rattle.qs_machine.specs.Hart.{registers_of, memory_of}
+
+abbrev pub cause_of : Named → Cause
+cause_of named.Overflow = Overflow
+cause_of named.IllegalInstruction = IllegalInstruction
+cause_of named.FetchOutside = FetchOutside
+cause_of named.JumpMisaligned = JumpMisaligned
+cause_of named.LoadMisaligned = LoadMisaligned
+cause_of named.LoadOutside = LoadOutside
+cause_of named.StoreMisaligned = StoreMisaligned
+cause_of named.StoreOutside = StoreOutside
+cause_of named.UnknownCall = UnknownCall
+cause_of named.Breakpoint = Breakpoint
+
+-- how many bytes of the input it has taken
+abbrev pub taken_of : Machine → ℕ
+taken_of m = m.taken
+
+-- how it ended, where it did
+abbrev pub end_of : Machine → Option End
+end_of m = m.ended
+
+-- the machine with this end, and otherwise as it is
+abbrev pub ended : Machine → End → Machine
+ended m e = record m { ended = Some e }
+
+-- the state, where this is the input and these bytes were put on the output
+abbrev pub state_of : Machine → List ℕ → List ℕ → State
+state_of m input output = record {
+  pc = m.pc;
+  registers = registers_of m.registers;
+  memory = memory_of m.memory;
+  input = drop m.taken input;
+  output = output;
+}
+
+-- It has the code of the image, as many bytes of data, and a stack of `size` bytes.
+pub record IsLoaded (m : Machine) (image : Image) (size : ℕ) : Type 0 where
+  pub instructions : m.instructions.items ≡ map decode_of image.code
+  pub code : m.memory.code.items ≡ words_bytes image.code
+  pub bytes : length m.memory.data.items ≡ length image.bytes
+  pub stack : length m.memory.stack.items ≡ size
+
+-- It runs the image on a stack of `size` bytes, stands at this state where `input` is the input, and goes on.
+pub record Stands (m : Machine) (image : Image) (size : ℕ) (input : List ℕ) (s : State) : Type 0 where
+  pub loaded : IsLoaded m image size
+  pub at : s ≡ state_of m input s.output
+  pub going : end_of m ≡ None
+
+-- The machine `n` is what `m` became by a step whose result by the definition is the given one, from this state.
+abbrev pub Did : Machine → Machine → Image → ℕ → List ℕ → State → StepResult → Answer → Type 0
+Did m n image size input s r Going = (r ≡ Next (state_of n input s.output)) × IsLoaded n image size
+Did m n image size input s r (Put byte) = (r ≡ Next (state_of n input (s.output ++ byte ∷ []))) × IsLoaded n image size
+Did m n image size input s r (Exited status) = (r ≡ Exits status) × (n ≡ m)
+Did m n image size input s r (Trapped cause pc) = (r ≡ Traps (cause_of cause)) × (pc ≡ s.pc) × (n ≡ m)
+
+-- ---- what a step answers, and where the machine then stands
+
+-- It goes on, and has put these bytes.
+pub record GoesOn (n : Machine) (image : Image) (size : ℕ) (input : List ℕ) (s : State) (bytes : List ℕ) : Type 0 where
+  pub next : State
+  pub step_is : step image size s ≡ Next next
+  pub puts : next.output ≡ s.output ++ bytes
+  pub stands : Stands n image size input next
+
+abbrev pub Steps : Machine → Machine → Image → ℕ → List ℕ → State → Answer → Type 0
+Steps m n image size input s Going = GoesOn n image size input s []
+Steps m n image size input s (Put byte) = GoesOn n image size input s (byte ∷ [])
+Steps m n image size input s (Exited status) = (step image size s ≡ Exits status) × (n ≡ ended m (end.Exited status))
+Steps m n image size input s (Trapped cause pc) = (step image size s ≡ Traps (cause_of cause)) × (pc ≡ s.pc) × (n ≡ ended m (end.Trapped cause pc))
+
+-- how a machine has ended after a step
+abbrev pub end_after : Answer → Option End
+end_after Going = None
+end_after (Put byte) = None
+end_after (Exited status) = Some (end.Exited status)
+end_after (Trapped cause pc) = Some (end.Trapped cause pc)
+
+-- the answer of a step of a machine that has ended
+abbrev pub answer_of : End → Answer
+answer_of (end.Exited status) = Exited status
+answer_of (end.Trapped cause pc) = Trapped cause pc
+
+-- What a part of a step does, as a function of the image, the size of the stack and the state, where this is the input.
+abbrev pub Does : Machine → Machine → List ℕ → (Image → ℕ → State → StepResult) → Answer → Type 0
+Does m n input r answer =
+    (image : Image) (size : ℕ) (output : List ℕ) → IsLoaded m image size → Did m n image size input (state_of m input output) (r image size (state_of m input output)) answer

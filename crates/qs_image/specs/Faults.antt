@@ -27,19 +27,18 @@ are_addresses image = is_address (length image.code) image.entry && list_all (λ
 abbrev pub is_cost : ℕ → Bool
 is_cost cost = is_between 1 (2 ^ 28) cost && cost % 16 == 0
 
-abbrev pub unless : Bool → ImageFault → Option ImageFault
-unless test fault = if test then None else Some fault
-
--- the number of the first function whose cost is none
+-- by the number of the first function whose cost is none
 abbrev pub cost_fault : List FunctionRecord → Option ImageFault
 cost_fault fs = option_map Cost (position_from (λ f. not (is_cost f.cost)) 0 fs)
 
--- A test is passed by `None`, and else has its fault.
-abbrev pub header_tests : List ℕ → List (Option ImageFault)
-header_tests bytes =
-    unless (nat_le 32 (length bytes)) Short
-    ∷ unless (bytes_eq (codes "QSI1") (take 4 bytes)) Magic
-    ∷ unless (is_between 1 262144 (code_count bytes)) (Count 1)
+-- A test answers `None` where it is passed, and else its fault.
+abbrev pub unless : Bool → ImageFault → Option ImageFault
+unless test fault = if test then None else Some fault
+
+-- The ranges of the words of the header.
+abbrev pub count_tests : List ℕ → List (Option ImageFault)
+count_tests bytes =
+    unless (is_between 1 262144 (code_count bytes)) (Count 1)
     ∷ unless (nat_le (byte_count bytes) 16777216) (Count 2)
     ∷ unless (is_between 1 512 (function_count bytes)) (Count 3)
     ∷ unless (is_between 1 1048576 (names_length bytes)) (Count 4)
@@ -47,13 +46,19 @@ header_tests bytes =
     ∷ unless (nat_lt (word 7 bytes) (2 ^ word 6 bytes)) (Count 7)
     ∷ []
 
+abbrev pub header_tests : List ℕ → List (Option ImageFault)
+header_tests bytes =
+    unless (nat_le 32 (length bytes)) Short
+    ∷ unless (bytes_eq (codes "QSI1") (take 4 bytes)) Magic
+    ∷ count_tests bytes
+
 abbrev pub size_tests : List ℕ → List (Option ImageFault)
 size_tests bytes =
     unless (nat_le (size bytes) (length bytes)) Short
     ∷ unless (nat_le (length bytes) (size bytes)) Trailing
     ∷ []
 
--- of so many bytes of names, the lengths of the names, and what the bytes say
+-- by the count of the bytes of names, the lengths that the records say, and the image that the bytes say
 abbrev pub part_tests : ℕ → List ℕ → Image → List (Option ImageFault)
 part_tests names_length lengths image =
     unless (sum lengths == names_length && are_names image.functions) Names

@@ -1,19 +1,19 @@
 // Reading an image.
-ghost use Rattle.std.specs.Prelude.{◌≡◌, ◌≤◌, ◌==◌, ◌&&◌, length, drop, sum, Some, None, MatchResult, IfOk, IsOkAnd};
+ghost use Rattle.std.specs.Prelude.{◌≡◌, ◌≤◌, ◌==◌, ◌&&◌, length, sum, Some, None, MatchResult, IfOk, IsOkAnd};
 ghost use Rattle.qs_image.specs.Image.{Image, IsImage};
 ghost use Rattle.qs_image.specs.Bytes.{word, size, lengths_of, image_of};
-ghost use Rattle.qs_image.specs.Faults.{all_differ, are_names, is_address, are_addresses, is_cost, cost_fault, first_of, header_tests, size_tests, part_tests, first_fault};
+ghost use Rattle.qs_image.specs.Faults.{all_differ, are_names, is_address, are_addresses, is_cost, cost_fault, first_of, count_tests, header_tests, size_tests, part_tests, first_fault};
 ghost use Rattle.qs_image.specs.View.{records_left, image_in};
 
 use crate::fault::ImageFault;
-use crate::records::is_address;
-use crate::sections::Sections;
+use crate::records::{RECORD_BYTES, is_address};
+use crate::sections::{HEADER_BYTES, Sections};
 use crate::view::ImageView;
 use crate::word::word;
 
 fn count_fault(bytes: &[u8]) -> Option<ImageFault>
     requires { 32 ≤ length bytes.now }
-    ensures { result ≡ first_of (drop 2 (header_tests bytes.now)) }
+    ensures { result ≡ first_of (count_tests bytes.now) }
 {
     if word(bytes, 1) < 1 || word(bytes, 1) > 262_144 {
         Some(ImageFault::Count(1))
@@ -35,7 +35,7 @@ fn count_fault(bytes: &[u8]) -> Option<ImageFault>
 fn header_fault(bytes: &[u8]) -> Option<ImageFault>
     ensures { result ≡ first_of (header_tests bytes.now) }
 {
-    if bytes.len() < 32 {
+    if bytes.len() < HEADER_BYTES {
         Some(ImageFault::Short)
     } else if !bytes.starts_with(b"QSI1") {
         Some(ImageFault::Magic)
@@ -48,8 +48,8 @@ fn size_fault(bytes: &[u8]) -> Option<ImageFault>
     requires { 32 ≤ length bytes.now }
     ensures { result ≡ first_of (size_tests bytes.now) }
 {
-    let size = 32
-        + 12 * word(bytes, 3) as usize
+    let size = HEADER_BYTES
+        + RECORD_BYTES * word(bytes, 3) as usize
         + word(bytes, 4) as usize
         + 4 * word(bytes, 1) as usize
         + word(bytes, 2) as usize;

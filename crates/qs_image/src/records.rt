@@ -9,6 +9,9 @@ use crate::fault::ImageFault;
 use crate::word::word;
 use qs_base::is_name;
 
+/// A record is three words: the length of the name, the address, the cost.
+pub const RECORD_BYTES: usize = 12;
+
 /// The record of a function in an image that was read.
 #[derive(Clone, Copy, Debug)]
 pub struct RecordView<'a> {
@@ -24,7 +27,7 @@ pub struct RecordView<'a> {
 /// there is what is there.
 #[derive(Clone, Copy, Debug)]
 pub struct Records<'a> {
-    /// Three words for each record: the length of its name, its address, its cost.
+    /// `RECORD_BYTES` for each record.
     pub table: &'a [u8],
     /// The names.
     pub names: &'a [u8],
@@ -68,12 +71,12 @@ impl<'a> Records<'a> {
     fn split_first(&self) -> Option<(RecordView<'a>, Records<'a>)>
         ensures { MatchOption result (records_left self.now ≡ []) (λ first. records_left self.now ≡ record_of first.0 ∷ records_left first.1) }
     {
-        if self.table.len() < 12 {
+        if self.table.len() < RECORD_BYTES {
             return None;
         }
         let length = (word(self.table, 0) as usize).min(self.names.len());
         let (name, names) = self.names.split_at(length);
-        let (_, table) = self.table.split_at(12);
+        let (_, table) = self.table.split_at(RECORD_BYTES);
         let record = RecordView {
             name,
             address: word(self.table, 1),
@@ -88,13 +91,13 @@ impl<'a> Records<'a> {
     {
         let mut table = self.table;
         let mut left = self.names.len();
-        while table.len() >= 12 {
+        while table.len() >= RECORD_BYTES {
             let length = word(table, 0) as usize;
             if length > left {
                 return false;
             }
             left -= length;
-            let (_, others) = table.split_at(12);
+            let (_, others) = table.split_at(RECORD_BYTES);
             table = others;
         }
         left == 0

@@ -3,8 +3,11 @@ ghost use Rattle.std.specs.Prelude.{◌≡◌, ◌<◌, ◌^◌, length};
 ghost use Rattle.qs_image.specs.Bytes.{size, names_length, table_of, image_of};
 ghost use Rattle.qs_image.specs.View.{image_in, records_left};
 
-use crate::records::Records;
+use crate::records::{RECORD_BYTES, Records};
 use crate::word::word;
+
+/// The four bytes `QSI1` and seven words.
+pub const HEADER_BYTES: usize = 32;
 
 /// The bytes of an image, taken apart: three words of the header, the table of records, the names, the
 /// code and the data.
@@ -27,8 +30,8 @@ impl<'a> Sections<'a> {
         ensures names { length result.names.now ≡ names_length bytes.now }
         ensures image { image_in result ≡ image_of bytes.now }
     {
-        let (_, behind_header) = bytes.split_at(32);
-        let (table, behind_table) = behind_header.split_at(12 * word(bytes, 3) as usize);
+        let (_, behind_header) = bytes.split_at(HEADER_BYTES);
+        let (table, behind_table) = behind_header.split_at(RECORD_BYTES * word(bytes, 3) as usize);
         let (names, behind_names) = behind_table.split_at(word(bytes, 4) as usize);
         let (code, data) = behind_names.split_at(4 * word(bytes, 1) as usize);
         Sections {
@@ -48,6 +51,14 @@ impl<'a> Sections<'a> {
         ensures { result ≡ length (image_in self.now).code }
     {
         (self.code.len() / 4) as u32
+    }
+
+    /// The count of records.
+    pub fn function_count(&self) -> u32
+        requires { length (image_in self.now).functions < 2 ^ 32 }
+        ensures { result ≡ length (image_in self.now).functions }
+    {
+        (self.table.len() / RECORD_BYTES) as u32
     }
 
     /// The records.

@@ -58,7 +58,7 @@ impl<'a> ImageView<'a> {
         ensures value { result ≡ length self.now.functions }
         ensures well_formed { IsWellFormed self.now }
     {
-        (self.sections.table.len() / 12) as u32
+        self.sections.function_count()
     }
 
     /// Function number `i`, from 0, in time proportional to `i`: the names before its own have to be passed.

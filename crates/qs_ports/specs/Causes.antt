@@ -1,4 +1,4 @@
--- When a count, of failures or of missing files, has risen.
+-- When a count of failures has risen.
 use Rattle.std.specs.Prelude.{ℕ, ◌+◌, ◌-◌, ◌^◌, ◌≤◌, min}
 
 -- a count that is kept in 64 bits rises by one, and stands still at its last value

@@ -5,6 +5,7 @@ use Rattle.qs_ports.specs.SinkView.{SinkView}
 use Rattle.qs_ports.specs.Room.{room_view}
 use Rattle.qs_ports.specs.declared.memory.mem_sink.MemSink.{MemSink}
 
+-- the sink, with its own count
 abbrev pub mem_sink_of : MemSink → SinkView
 mem_sink_of s = room_view s.room s.faults s.failed
 

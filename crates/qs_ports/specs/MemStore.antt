@@ -7,6 +7,7 @@ use Rattle.qs_ports.specs.Plan.{calls_in}
 use Rattle.qs_ports.specs.declared.memory.mem_store.MemStore.{MemStore}
 use Rattle.qs_ports.specs.declared.memory.plan.StoreCall.{StoreCall}
 
+-- the store, with its own counts
 abbrev pub mem_store_of : MemStore → StoreView
 mem_store_of s = shelf_view s.shelf s.faults s.misses
 

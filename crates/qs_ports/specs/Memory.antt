@@ -23,7 +23,7 @@ SinkTellsOn v w moved = w.told ≡ tells_on v.told v.spare moved
 abbrev pub StoreTellsOn : StoreView → StoreView → ℕ → Type 0
 StoreTellsOn v w moved = w.told ≡ tells_on v.told v.spare moved
 
--- the sink after a call that failed: one failure more is counted, the last call failed, and all else is as before
+-- the sink after a call that failed: one failure more is counted, and all else is as before
 abbrev pub failed_sink : SinkView → SinkView
 failed_sink v = record v { faults = one_more v.faults; failed = true }
 

@@ -4,6 +4,7 @@ use Rattle.std.specs.Prelude.{ℕ, ◌≤◌, List, [], ◌∷◌, Bool, true, f
 use Rattle.qs_ports.specs.StoreView.{Files}
 use Rattle.qs_ports.specs.declared.memory.span.Span.{Span}
 
+-- the name of a file, and its content
 abbrev pub name_at : List ℕ → Span → List ℕ
 name_at bytes s = slice_range bytes s.name s.content
 
@@ -18,13 +19,16 @@ named_or bytes name found s = if bytes_eq (name_at bytes s) name then Some s els
 abbrev pub find : List ℕ → List Span → List ℕ → Option Span
 find bytes spans name = fold (named_or bytes name) None spans
 
+-- the content of a file that may be there
 abbrev pub content_of : List ℕ → Option Span → Option (List ℕ)
 content_of bytes None = None
 content_of bytes (Some s) = Some (content_at bytes s)
 
+-- the files by their names
 abbrev pub files_of : List ℕ → List Span → Files
 files_of bytes spans name = content_of bytes (find bytes spans name)
 
+-- the name of a file that may be there
 abbrev pub name_of : List ℕ → Option Span → Option (List ℕ)
 name_of bytes None = None
 name_of bytes (Some s) = Some (name_at bytes s)
@@ -48,10 +52,12 @@ pub record IsWithin (s : Span) (n : ℕ) : Type 0 where
   pub started : s.content ≤ s.end
   pub ended : s.end ≤ n
 
+-- all files do
 abbrev pub AreWithin : List Span → ℕ → Type 0
 AreWithin [] n = Unit {0}
 AreWithin (s ∷ ss) n = IsWithin s n × AreWithin ss n
 
+-- a file does that may be there
 abbrev pub OptionWithin : Option Span → ℕ → Type 0
 OptionWithin None n = Unit {0}
 OptionWithin (Some s) n = IsWithin s n

@@ -106,6 +106,7 @@ pub record IsRead (v w : StoreView) (n : ℕ) (old new : List ℕ) : Type 0 wher
   pub progress : IsTrue w.told → n ≡ 0 → 0 < length old → left_of v ≡ []
   pub at_end : IsTrue w.told → left_of v ≡ [] → n ≡ 0
 
+-- `read` doesn't miss a file
 abbrev pub ReadAnswers : StoreView → StoreView → List ℕ → List ℕ → Result ℕ StoreFault → Type 0
 ReadAnswers v w old new (Ok n) = IsRead v w n old new
 ReadAnswers v w old new (Err Missing) = ⊥
@@ -142,7 +143,7 @@ pub record FailsAndKeeps (v w : StoreView) : Type 0 where
   pub failed : HasFailed v w
   pub keeps : Keeps v w
 
--- a refused `create` leaves no file open for writing
+-- a refused `create` leaves no file open for writing; `create` doesn't miss a file
 abbrev pub CreateAnswers : StoreView → StoreView → List ℕ → Result Unit StoreFault → Type 0
 CreateAnswers v w name (Ok t) = IsCreated v w name
 CreateAnswers v w name (Err Missing) = ⊥
@@ -162,6 +163,7 @@ pub record IsAppended (v w : StoreView) (piece : List ℕ) (n : ℕ) : Type 0 wh
   pub others : (name : List ℕ) → v.writing ≡ Some name → IsTrue w.told → IsSameBut name v.files w.files
   pub tells : KeepsTelling v w n
 
+-- `write` doesn't miss a file
 abbrev pub WriteAnswers : StoreView → StoreView → List ℕ → Result ℕ StoreFault → Type 0
 WriteAnswers v w piece (Ok n) = IsAppended v w piece n
 WriteAnswers v w piece (Err Missing) = ⊥

@@ -13,6 +13,7 @@ use Rattle.qs_ports.specs.declared.system.std_sink.StdSink.{StdSink}
 abbrev pub silent_sink : ℕ → Bool → SinkView
 silent_sink faults failed = record { told = false; written = []; spare = 0; faults = faults; failed = failed }
 
+-- the sink of a writer
 abbrev pub std_sink_of : {Writer : Type 0} → StdSink Writer → SinkView
 std_sink_of s = silent_sink s.faults s.failed
 
@@ -31,6 +32,7 @@ abbrev pub unnamed : {File : Type 0} → Option File → Option (List ℕ)
 unnamed None = None
 unnamed (Some file) = Some []
 
+-- the store of the system's files
 abbrev pub dir_store_of : {System File Dir : Type 0} → DirStore System File Dir → StoreView
 dir_store_of s = silent_store (unnamed s.reading) (unnamed s.writing) s.faults s.misses
 

@@ -19,7 +19,7 @@ pub trait Sink {
 }
 
 /// Appends all of the bytes. A fault comes only where the sink counted a failure in this call; some first bytes were
-/// appended then.
+/// appended then, and the sink isn't called after it failed.
 pub fn put_all<K: Sink>(sink: &mut K, bytes: &[u8]) -> Result<(), SinkFault>
     ensures { PutsAll (K.view sink.old) (K.view sink.new) bytes.now result }
 {

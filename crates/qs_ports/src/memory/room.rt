@@ -47,7 +47,8 @@ impl Room {
 
     /// Adds the piece, or is full from then on where there is no room for it.
     pub fn add(&mut self, piece: &[u8])
-        ensures appends { (faults : ℕ) (before after : Bool) → Appends (room_view self.old faults before) (room_view self.new faults after) piece.now }
+        ensures appends { (faults : ℕ) (before after : Bool) →
+            Appends (room_view self.old faults before) (room_view self.new faults after) piece.now }
         ensures tells { SinkTellsOn (room_view self.old 0 false) (room_view self.new 0 false) (length piece.now) }
     {
         if !self.full && piece.len() <= self.spare {

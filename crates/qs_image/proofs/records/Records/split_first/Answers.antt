@@ -4,8 +4,8 @@ use Rattle.qs_image.specs.Bytes.{word}
 use Rattle.qs_image.proofs.Parts.{records_of-short, records_of-long}
 use Rattle.qs_image.proofs.records.Records.split_first.Goals as goal
 
-pub returns-then-self-lt12 : goal.returns-then-self-lt12
-returns-then-self-lt12 c = records_of-short c.args.self.now.table.now c.args.self.now.names.now (omega arith)
+pub returns-then-self-lt-RECORD_BYTES : goal.returns-then-self-lt-RECORD_BYTES
+returns-then-self-lt-RECORD_BYTES c = records_of-short c.args.self.now.table.now c.args.self.now.names.now (omega arith)
 
 pub returns : goal.returns
 returns c =

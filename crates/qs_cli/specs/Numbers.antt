@@ -1,0 +1,41 @@
+-- Numbers in the words. 44 is `,` and 45 is `-`.
+use Rattle.std.specs.Prelude.{ℕ, ℤ, pos, neg_ℤ, List, [], ◌∷◌, ◌&&◌, ◌==◌, if◌then◌else◌, Option, Some, None, length, nat_le, nat_lt, option_map, option_and_then}
+use Rattle.std.specs.List.{list_all, slice_split}
+use Rattle.std.specs.Char.{is_ascii_digit}
+use Rattle.std.specs.Str.Parse.{digits_value}
+use Rattle.qs_cli.specs.Words.{Text}
+
+-- 1 to `most` decimal digits
+abbrev pub number_of : ℕ → Text → Option ℕ
+number_of most text =
+    if (nat_lt 0 (length text) && nat_le (length text) most) && list_all is_ascii_digit text then Some (digits_value 10 text) else None
+
+abbrev pub within : ℕ → ℕ → ℕ → Option ℕ
+within low high n = if nat_le low n && nat_le n high then Some n else None
+
+-- a number of 1 to 19 digits, from 1 to 500
+abbrev pub count_of : Text → Option ℕ
+count_of text = option_and_then (within 1 500) (number_of 19 text)
+
+-- a number of 1 to 10 digits, from 1 to 1,000,000,000; 100,000,000 where none is given
+abbrev pub steps_of : Option Text → Option ℕ
+steps_of None = Some 100000000
+steps_of (Some text) = option_and_then (within 1 1000000000) (number_of 10 text)
+
+-- an optional `-` and 1 to 10 digits
+abbrev pub signed_of : Text → Option ℤ
+signed_of [] = None
+signed_of (b ∷ bs) = if b == 45 then option_map (λ n. neg_ℤ (pos n)) (number_of 10 bs) else option_map (λ n. pos n) (number_of 10 (b ∷ bs))
+
+abbrev pub onto : Option ℤ → Option (List ℤ) → Option (List ℤ)
+onto None rest = None
+onto (Some z) rest = option_map (λ zs. z ∷ zs) rest
+
+abbrev pub all_signed_of : List Text → Option (List ℤ)
+all_signed_of [] = Some []
+all_signed_of (part ∷ parts) = onto (signed_of part) (all_signed_of parts)
+
+-- 1 to 8 such numbers with commas between; none where nothing is given
+abbrev pub arguments_of : Option Text → Option (List ℤ)
+arguments_of None = Some []
+arguments_of (Some text) = let parts = slice_split (λ b. b == 44) text in if nat_le (length parts) 8 then all_signed_of parts else None

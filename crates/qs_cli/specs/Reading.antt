@@ -1,0 +1,64 @@
+-- What the code's values say, for its clauses.
+use Rattle.std.specs.Prelude.{◌≡◌, List, Bool, true, false, Option, Some, None, Result, Ok, Err, [], map, string_bytes, option_map}
+use Rattle.std.specs.declared.alloc.Global.{Global}
+use Rattle.std.specs.declared.string.String.{String}
+use Rattle.qs_cli.specs.Words.{Text, Word, Plain, Assigned, Named, Excluded, Options, Values}
+use Rattle.qs_cli.specs.Commands.{meaning}
+use Rattle.qs_cli.specs.Commands as meant
+use Rattle.qs_cli.specs.declared.commands.Command.{Command}
+use Rattle.qs_cli.specs.declared.commands.Command.TheVariants.{Build, Check, Bound, Derive, Outline, Run, Exec, Sample}
+use Rattle.qs_cli.specs.declared.commands.CliFault.{CliFault}
+use Rattle.qs_cli.specs.declared.commands.CliFault.TheVariants.{Usage, NoMemory}
+use Rattle.qs_cli.specs.declared.table.OptionRule.{OptionRule}
+use Rattle.qs_cli.specs.declared.spelling.Shape.{Shape}
+use Rattle.qs_cli.specs.declared.spelling.Shape.TheVariants as shape
+use Rattle.qs_cli.specs.declared.values.Values as code
+use Rattle.clap.specs.Words.{first_value, found_of}
+
+abbrev pub options_of : List OptionRule → Options
+options_of = map (λ o. (o.name.now, o.required))
+
+abbrev pub values_of : code.Values → Values
+values_of values = first_value (found_of values.matches)
+
+abbrev pub is_shape : Shape → Word → Bool
+is_shape shape.Plain Plain = true
+is_shape shape.Plain (Assigned n v) = false
+is_shape shape.Plain (Named n) = false
+is_shape shape.Plain Excluded = false
+is_shape shape.Assigned Plain = false
+is_shape shape.Assigned (Assigned n v) = true
+is_shape shape.Assigned (Named n) = false
+is_shape shape.Assigned Excluded = false
+is_shape shape.Named Plain = false
+is_shape shape.Named (Assigned n v) = false
+is_shape shape.Named (Named n) = true
+is_shape shape.Named Excluded = false
+is_shape shape.Excluded Plain = false
+is_shape shape.Excluded (Assigned n v) = false
+is_shape shape.Excluded (Named n) = false
+is_shape shape.Excluded Excluded = true
+
+-- the option that waits for its value, if one does; its name makes no difference here
+abbrev pub waiting_of : Bool → Option Text
+waiting_of false = None
+waiting_of true = Some []
+
+abbrev pub text_of : Option (String Global) → Option Text
+text_of = option_map string_bytes
+
+abbrev pub command_of : Command → meant.Command
+command_of (Build source proof out) = meant.Build (string_bytes source) (text_of proof) (string_bytes out)
+command_of (Check source proof) = meant.Check (string_bytes source) (text_of proof)
+command_of (Bound source proof args) = meant.Bound (string_bytes source) (text_of proof) args.items
+command_of (Derive source out) = meant.Derive (string_bytes source) (string_bytes out)
+command_of (Outline source) = meant.Outline (string_bytes source)
+command_of (Run image stack args input steps) = meant.Run (string_bytes image) stack args.items (text_of input) steps
+command_of (Exec source proof args input steps) = meant.Exec (string_bytes source) (text_of proof) args.items (text_of input) steps
+command_of (Sample count out) = meant.Sample count (text_of out)
+
+-- the answer to the words: the command that they mean, or Usage where they mean none; want of memory tells nothing
+abbrev pub Reads : List Text → Result Command CliFault → Type 0
+Reads words (Ok command) = meaning words ≡ Some (command_of command)
+Reads words (Err Usage) = meaning words ≡ None
+Reads words (Err NoMemory) = Unit {0}

@@ -1,0 +1,94 @@
+// The commands, and what is wrong with words that mean none.
+ghost use Rattle.std.specs.Prelude.{◌≡◌};
+ghost use Rattle.qs_cli.specs.declared.commands.CliFault.TheVariants as fault;
+
+use qs_base::NoMemory;
+use std::alloc::{AllocError, AllocFailed};
+use thiserror::Error;
+
+/// What the tool is asked to do. Files are named as in the words.
+#[derive(Debug, PartialEq, Eq, Drop)]
+pub enum Command {
+    /// Compile a source file into an image.
+    Build {
+        source: String,
+        proof: Option<String>,
+        out: String,
+    },
+    /// Check a source file and its proofs.
+    Check {
+        source: String,
+        proof: Option<String>,
+    },
+    /// Print the bound on the stack at these arguments of `main`.
+    Bound {
+        source: String,
+        proof: Option<String>,
+        args: Vec<i64>,
+    },
+    /// Write the proofs that are found for a source file.
+    Derive {
+        source: String,
+        out: String,
+    },
+    /// Print the core program of a source file.
+    Outline {
+        source: String,
+    },
+    /// Run an image on a stack of this many bytes, for at most so many steps.
+    Run {
+        image: String,
+        stack: u64,
+        args: Vec<i64>,
+        input: Option<String>,
+        steps: u64,
+    },
+    /// Compile a source file and run it on a stack of the size of its bound, for at most so many steps.
+    Exec {
+        source: String,
+        proof: Option<String>,
+        args: Vec<i64>,
+        input: Option<String>,
+        steps: u64,
+    },
+    /// Make a program of a chain of this many functions, and run it.
+    Sample {
+        count: u64,
+        out: Option<String>,
+    },
+}
+
+/// Why no command was read.
+#[derive(Clone, Copy, Debug, PartialEq, Eq, Error)]
+pub enum CliFault {
+    /// The words mean no command.
+    #[error("the words mean no command")]
+    Usage,
+    /// No memory was found.
+    #[error("out of memory")]
+    NoMemory,
+}
+
+impl From<NoMemory> for CliFault {
+    ghost from_gives = { λ _ e. e ≡ fault.NoMemory };
+
+    fn from(_fault: NoMemory) -> CliFault {
+        CliFault::NoMemory
+    }
+}
+
+impl From<AllocError> for CliFault {
+    ghost from_gives = { λ _ e. e ≡ fault.NoMemory };
+
+    fn from(_fault: AllocError) -> CliFault {
+        CliFault::NoMemory
+    }
+}
+
+impl<T: Drop> From<AllocFailed<T>> for CliFault {
+    ghost from_gives = { λ _ e. e ≡ fault.NoMemory };
+
+    fn from(_fault: AllocFailed<T>) -> CliFault {
+        CliFault::NoMemory
+    }
+}

@@ -1,0 +1,15 @@
+//! The words of the command line, and the command that they mean.
+#![tactic(auto)]
+
+mod commands;
+mod flat;
+mod numbers;
+mod reading;
+mod spelling;
+mod table;
+#[cfg(test)]
+mod tests;
+mod values;
+
+pub use commands::{CliFault, Command};
+pub use reading::read_words;

@@ -1,0 +1,102 @@
+// Numbers in the words.
+ghost use Rattle.std.specs.Prelude.{◌≡◌, ◌≤◌, ◌<◌, ◌^◌, IfSome, IfOk, IsErrOf, Some, None, option_map, map, ◌==◌};
+ghost use Rattle.std.specs.List.{list_all, slice_split};
+ghost use Rattle.std.specs.Char.{is_ascii_digit};
+ghost use Rattle.qs_cli.specs.Numbers.{number_of, count_of, signed_of, all_signed_of, steps_of, arguments_of};
+
+use crate::commands::CliFault;
+use std::alloc::{AllocError, Global};
+
+fn are_digits(text: &str) -> bool
+    ensures { result ≡ list_all is_ascii_digit text.now }
+{
+    text.bytes().all(|b| b.is_ascii_digit())
+}
+
+/// 1 to `most` decimal digits.
+pub(crate) fn number(text: &str, most: usize) -> Option<u64>
+    requires { most ≤ 19 }
+    ensures value { result ≡ number_of most text.now }
+    ensures small { IfSome result (λ n. n < 10 ^ most) }
+{
+    if 0 < text.len() && text.len() <= most && are_digits(text) {
+        text.parse::<u64>().ok()
+    } else {
+        None
+    }
+}
+
+/// 1 to 19 decimal digits, a number from 1 to 500.
+pub(crate) fn count(text: &str) -> Option<u64>
+    ensures { result ≡ count_of text.now }
+{
+    let n = number(text, 19)?;
+    if 1 <= n && n <= 500 { Some(n) } else { None }
+}
+
+/// 1 to 10 decimal digits, a number from 1 to 1,000,000,000. Without a text 100,000,000.
+pub(crate) fn steps(text: Option<&str>) -> Option<u64>
+    ensures { result ≡ steps_of (option_map (λ t. t.now) text.entry) }
+{
+    let Some(text) = text else {
+        return Some(100_000_000);
+    };
+    let n = number(text, 10)?;
+    if 1 <= n && n <= 1_000_000_000 {
+        Some(n)
+    } else {
+        None
+    }
+}
+
+/// An optional `-` and 1 to 10 decimal digits.
+fn signed(text: &str) -> Option<i64>
+    ensures { result ≡ signed_of text.now }
+{
+    match text.strip_prefix('-') {
+        Some(digits) => {
+            let n = number(digits, 10)?;
+            Some(-(n as i64))
+        }
+        None => {
+            let n = number(text, 10)?;
+            Some(n as i64)
+        }
+    }
+}
+
+/// The texts between the commas.
+fn comma_parts(alloc: Global, text: &str) -> Result<Vec<&str>, AllocError>
+    ensures { IfOk result (λ v. map (λ t. t.now) v.items ≡ slice_split (λ b. b == 44) text.now) }
+{
+    text.split(',').collect(alloc)
+}
+
+fn all_signed(alloc: Global, parts: &[&str]) -> Result<Vec<i64>, CliFault>
+    ensures ok { IfOk result (λ v. all_signed_of (map (λ t. t.now) parts.now) ≡ Some v.items) }
+    ensures usage { IsErrOf result CliFault.Usage → all_signed_of (map (λ t. t.now) parts.now) ≡ None }
+{
+    let mut numbers = Vec::new(alloc);
+    for part in parts {
+        let Some(number) = signed(part) else {
+            return Err(CliFault::Usage);
+        };
+        numbers.push(number)?;
+    }
+    Ok(numbers)
+}
+
+/// 1 to 8 such numbers with commas between. Without a text none.
+pub(crate) fn arguments(alloc: Global, text: Option<&str>) -> Result<Vec<i64>, CliFault>
+    ensures ok { IfOk result (λ v. arguments_of (option_map (λ t. t.now) text.entry) ≡ Some v.items) }
+    ensures usage { IsErrOf result CliFault.Usage → arguments_of (option_map (λ t. t.now) text.entry) ≡ None }
+{
+    let Some(text) = text else {
+        return Ok(Vec::new(alloc));
+    };
+    let parts = comma_parts(alloc, text)?;
+    if parts.len() > 8 {
+        return Err(CliFault::Usage);
+    }
+    all_signed(alloc, &parts)
+}

@@ -36,10 +36,13 @@ pub struct Ran {
     pub log: MemSink,
 }
 
-fn words_of(alloc: Global, texts: &[&str]) -> Result<Vec<String>, AllocError> {
+// The words of a line, with one blank between two words.
+fn words_of(alloc: Global, line: &str) -> Result<Vec<String>, AllocError> {
     let mut words = Vec::new(alloc);
-    for text in texts {
-        words.push(String::from_str(alloc, *text)?)?;
+    if !line.is_empty() {
+        for text in line.split(' ') {
+            words.push(String::from_str(alloc, text)?)?;
+        }
     }
     Ok(words)
 }
@@ -58,9 +61,9 @@ fn store_of(alloc: Global, devices: &Devices<'_>) -> Result<MemStore, NoMemory> 
     MemStore::new(alloc, files, devices.chunk.max(1), failing, 100_000)
 }
 
-/// Calls the tool with these words.
-pub fn call(alloc: Global, texts: &[&str], devices: &Devices<'_>) -> Result<Ran, NoMemory> {
-    let words = words_of(alloc, texts)?;
+/// Calls the tool with the words of the line.
+pub fn call(alloc: Global, line: &str, devices: &Devices<'_>) -> Result<Ran, NoMemory> {
+    let words = words_of(alloc, line)?;
     let mut store = store_of(alloc, devices)?;
     let mut out = sink_of(alloc, devices.chunk, devices.out_fails)?;
     let mut log = sink_of(alloc, devices.chunk, devices.log_fails)?;

@@ -8,7 +8,7 @@ use std::process::Abort;
 
 const RETURN_7: &[u8] = b"int main(void){return 7;}";
 
-const BUILD: [&str; 4] = ["build", "a.c", "--out", "a.img"];
+const BUILD: &str = "build a.c --out a.img";
 
 // The image of a program that returns 7, assembled by hand: the head, the record of main and its name, and
 // addi sp, sp, -16; addi a0, x0, 7; addi sp, sp, 16; addi a7, x0, 0; ecall.
@@ -28,7 +28,7 @@ fn expect(rt: &impl Abort, ran: &Ran, status: Status, out: &[u8], log: &[u8]) {
 
 #[test]
 fn a_source_is_built(rt: HostRuntime) -> Result<(), NoMemory> {
-    let ran = call(rt.alloc(), &BUILD, &Devices::good(RETURN_7))?;
+    let ran = call(rt.alloc(), BUILD, &Devices::good(RETURN_7))?;
     expect(&rt, &ran, Status::Done, b"cost main 16\n", b"");
     assert_eq!(rt; ran.store.file("a.img"), Some(IMAGE_7.as_slice()));
     assert_eq!(rt; ran.store.file("a.c"), Some(RETURN_7));
@@ -36,91 +36,71 @@ fn a_source_is_built(rt: HostRuntime) -> Result<(), NoMemory> {
     Ok(())
 }
 
+// Nothing is put on `out`, and there is no image.
+fn expect_refusal(rt: &impl Abort, ran: &Ran, status: Status, code: u8, log: &str) {
+    expect(rt, ran, status, b"", log.as_bytes());
+    assert_eq!(rt; ran.status.code(), code);
+    assert_eq!(rt; ran.store.file("a.img"), None);
+}
+
 #[test]
-fn refusals_have_their_lines(rt: HostRuntime) -> Result<(), NoMemory> {
-    let usage = "usage: qsc COMMAND FILE OPTIONS\n";
-    for (texts, source, status, code, line) in [
-        (
-            ["build", "a.c", "--out", "a.c"],
-            RETURN_7,
-            Status::Words(WordsFault::SameName),
-            3,
-            "same name: a.c\n",
-        ),
-        (
-            ["build", "b.c", "--out", "a.img"],
-            RETURN_7,
-            Status::Missing(FileKind::Source),
-            4,
-            "missing: b.c\n",
-        ),
-        (
-            ["build", "", "--out", "a.img"],
-            RETURN_7,
-            Status::Words(WordsFault::Usage),
-            3,
-            usage,
-        ),
-        (
-            ["build", "a.c", "--out", "-"],
-            RETURN_7,
-            Status::Words(WordsFault::Usage),
-            3,
-            usage,
-        ),
-        (
-            ["build", "a.c", "--on", "a.img"],
-            RETURN_7,
-            Status::Words(WordsFault::Usage),
-            3,
-            usage,
-        ),
-        (
-            ["Build", "a.c", "--out", "a.img"],
-            RETURN_7,
-            Status::Words(WordsFault::Usage),
-            3,
-            usage,
-        ),
-        (
-            BUILD,
-            b"int main(void){return 256;}",
-            Status::Source(SourceFault::NotFirstForm),
-            1,
-            "a.c: not in the first form\n",
-        ),
-        (
-            BUILD,
-            b"",
-            Status::Source(SourceFault::NotFirstForm),
-            1,
-            "a.c: not in the first form\n",
-        ),
+fn words_are_refused(rt: HostRuntime) -> Result<(), NoMemory> {
+    for line in [
+        "",
+        "build",
+        "build a.c",
+        "build a.c --out",
+        "build a.c --out a.img x",
+        "build  --out a.img",
+        "build a.c --out -",
+        "build a.c --on a.img",
+        "Build a.c --out a.img",
+        "--help",
     ] {
-        let ran = call(rt.alloc(), &texts, &Devices::good(source))?;
-        expect(&rt, &ran, status, b"", line.as_bytes());
-        assert_eq!(rt; ran.status.code(), code);
-        assert_eq!(rt; ran.store.file("a.img"), None);
+        let ran = call(rt.alloc(), line, &Devices::good(RETURN_7))?;
+        let usage = "usage: qsc COMMAND FILE OPTIONS\n";
+        expect_refusal(&rt, &ran, Status::Words(WordsFault::Usage), 3, usage);
     }
     Ok(())
 }
 
 #[test]
-fn other_counts_of_words_mean_nothing(rt: HostRuntime) -> Result<(), NoMemory> {
-    let none: [&str; 0] = [];
-    for texts in [
-        none.as_slice(),
-        ["build", "a.c"].as_slice(),
-        ["build", "a.c", "--out", "a.img", "x"].as_slice(),
-        ["--help"].as_slice(),
+fn files_are_refused(rt: HostRuntime) -> Result<(), NoMemory> {
+    let devices = Devices::good(RETURN_7);
+    let same = call(rt.alloc(), "build a.c --out a.c", &devices)?;
+    expect_refusal(
+        &rt,
+        &same,
+        Status::Words(WordsFault::SameName),
+        3,
+        "same name: a.c\n",
+    );
+    let missing = call(rt.alloc(), "build b.c --out a.img", &devices)?;
+    expect_refusal(
+        &rt,
+        &missing,
+        Status::Missing(FileKind::Source),
+        4,
+        "missing: b.c\n",
+    );
+    Ok(())
+}
+
+#[test]
+fn sources_are_refused(rt: HostRuntime) -> Result<(), NoMemory> {
+    for source in [
+        "int main(void){return 256;}",
+        "",
+        "int main(void){return 7;}x",
     ] {
-        let ran = call(rt.alloc(), texts, &Devices::good(RETURN_7))?;
-        expect(
+        let ran = call(rt.alloc(), BUILD, &Devices::good(source.as_bytes()))?;
+        let line = "a.c: not in the first form\n";
+        expect_refusal(
             &rt,
             &ran,
-            Status::Words(WordsFault::Usage),
-            b"",
-            b"usage: qsc COMMAND FILE OPTIONS\n",
+            Status::Source(SourceFault::NotFirstForm),
+            1,
+            line,
         );
     }
     Ok(())
@@ -131,7 +111,7 @@ fn a_write_that_fails_leaves_what_was_written(rt: HostRuntime) -> Result<(), NoM
     let mut devices = Devices::good(RETURN_7);
     devices.chunk = 10;
     devices.store_fails = &[(StoreCall::Write, 1)];
-    let ran = call(rt.alloc(), &BUILD, &devices)?;
+    let ran = call(rt.alloc(), BUILD, &devices)?;
     expect(
         &rt,
         &ran,
@@ -142,7 +122,7 @@ fn a_write_that_fails_leaves_what_was_written(rt: HostRuntime) -> Result<(), NoM
     assert_eq!(rt; ran.store.file("a.img"), Some(&IMAGE_7[..10]));
     assert_eq!(rt; ran.status.code(), 5);
     devices.log_fails = &[0];
-    let ran = call(rt.alloc(), &BUILD, &devices)?;
+    let ran = call(rt.alloc(), BUILD, &devices)?;
     expect(&rt, &ran, Status::SinkFailed, b"", b"");
     assert_eq!(rt; ran.status.code(), 11);
     Ok(())
@@ -158,7 +138,7 @@ fn each_call_on_the_store_may_fail(rt: HostRuntime) -> Result<(), NoMemory> {
         let mut devices = Devices::good(RETURN_7);
         let listed = [(fails, 0)];
         devices.store_fails = &listed;
-        let ran = call(rt.alloc(), &BUILD, &devices)?;
+        let ran = call(rt.alloc(), BUILD, &devices)?;
         expect(&rt, &ran, Status::StoreFailed(kind), b"", line.as_bytes());
         assert_eq!(rt; ran.store.file("a.img"), None);
     }
@@ -170,7 +150,7 @@ fn the_image_is_there_though_its_line_is_cut(rt: HostRuntime) -> Result<(), NoMe
     let mut devices = Devices::good(RETURN_7);
     devices.chunk = 3;
     devices.out_fails = &[2];
-    let ran = call(rt.alloc(), &BUILD, &devices)?;
+    let ran = call(rt.alloc(), BUILD, &devices)?;
     expect(&rt, &ran, Status::SinkFailed, b"cost ", b"");
     assert_eq!(rt; ran.store.file("a.img"), Some(IMAGE_7.as_slice()));
     Ok(())

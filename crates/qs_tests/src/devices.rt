@@ -4,10 +4,12 @@ use qs_driver::{Status, run_tool};
 use qs_ports::{MemSink, MemStore, StoreCall};
 use std::alloc::{AllocError, Global};
 
-/// The devices of a call: the source `a.c`, how many bytes a call moves, and which calls fail.
+/// The devices of a call: the source `a.c` and, where there is one, the image `x.img`; how many bytes a call moves, and
+/// which calls fail.
 #[derive(Clone, Copy)]
 pub struct Devices<'a> {
     pub source: &'a [u8],
+    pub image: Option<&'a [u8]>,
     pub chunk: usize,
     pub store_fails: &'a [(StoreCall, u64)],
     pub out_fails: &'a [u64],
@@ -19,11 +21,19 @@ impl<'a> Devices<'a> {
     pub fn good(source: &'a [u8]) -> Devices<'a> {
         Devices {
             source,
+            image: None,
             chunk: 1_000_000,
             store_fails: &[],
             out_fails: &[],
             log_fails: &[],
         }
+    }
+
+    /// Devices that never fail, with this image and no text in the source.
+    pub fn with_image(image: &'a [u8]) -> Devices<'a> {
+        let mut devices = Devices::good(b"");
+        devices.image = Some(image);
+        devices
     }
 }
 
@@ -57,6 +67,10 @@ fn store_of(alloc: Global, devices: &Devices<'_>) -> Result<MemStore, NoMemory> 
     let mut files = Vec::new(alloc);
     let name = String::from_str(alloc, "a.c")?;
     files.push((name, Vec::from_slice(alloc, devices.source)?))?;
+    if let Some(image) = devices.image {
+        let name = String::from_str(alloc, "x.img")?;
+        files.push((name, Vec::from_slice(alloc, image)?))?;
+    }
     let failing = Vec::from_slice(alloc, devices.store_fails)?;
     MemStore::new(alloc, files, devices.chunk.max(1), failing, 100_000)
 }

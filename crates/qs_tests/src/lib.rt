@@ -7,3 +7,5 @@ mod devices;
 mod files;
 #[cfg(test)]
 mod rows;
+#[cfg(test)]
+mod runs;

@@ -54,7 +54,13 @@ fn words_are_refused(rt: HostRuntime) -> Result<(), NoMemory> {
         "build  --out a.img",
         "build a.c --out -",
         "build a.c --on a.img",
+        "build a.c --out a.img --proof a.q",
         "Build a.c --out a.img",
+        "run x.img",
+        "run x.img --stack 16 --steps 0",
+        "run x.img --stack 16 --args=1,2,3,4,5,6,7,8,9",
+        "check a.c",
+        "sample 3",
         "--help",
     ] {
         let ran = call(rt.alloc(), line, &Devices::good(RETURN_7))?;

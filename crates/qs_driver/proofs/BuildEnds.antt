@@ -1,5 +1,5 @@
 -- How a `build` ends, where no call failed.
-use Rattle.std.proofs.Common.{◌≡◌, ◌≢◌, ◌⊎◌, ℕ, ◌<◌, ◌≤◌, List, length, Option, Some, None, sym, ◌∙◌, ap, subst, refl, inl, inr, arith, IsTrue}
+use Rattle.std.proofs.Common.{◌≡◌, ◌≢◌, ◌⊎◌, ℕ, List, length, Option, Some, None, ap, subst, refl, inl, inr, arith, IsTrue}
 use Rattle.qs_ports.specs.StoreView.{StoreView}
 use Rattle.qs_ports.specs.Causes.{Rose}
 use Rattle.qs_compile.specs.FirstForm.{Program, IsFirstForm}
@@ -43,7 +43,6 @@ pub data BuildEnds (v : StoreView) (source out : List ℕ) (status : Status) : T
   long : source ≢ out → (IsTrue v.told → IsTooLong (v.files source) source_limit) → status ≡ Source (TooLong kinds.Source) → BuildEnds v source out status
   other : source ≢ out → (IsTrue v.told → HoldsNoProgram (v.files source)) → status ≡ Source NotFirstForm → BuildEnds v source out status
   lacks : status ≡ NoMemory → BuildEnds v source out status
-
 
 pub build_ends : (v w : StoreView) (source out : List ℕ) (due : Due) → (Rose v.faults w.faults → ⊥) → IsDueToBuild source out v w due → BuildEnds v source out due.status
 build_ends v w source out due n (build.built h) = done h.differ (λ t. (h.program, h.text t)) (ap (λ d. d.status) h.is_due)

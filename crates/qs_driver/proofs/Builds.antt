@@ -1,19 +1,18 @@
 -- What `build` came to.
-use Rattle.std.proofs.Common.{◌≡◌, ◌≢◌, ℕ, ◌+◌, ◌<◌, ◌≤◌, List, [], length, take, Option, Some, Ok, Err, sym, ◌∙◌, ap, subst, refl, inl, inr, arith, IsTrue}
+use Rattle.std.proofs.Common.{◌≢◌, ℕ, List, Ok, Err, ◌∙◌, ap, refl, inl, inr, arith, IsTrue}
 use Rattle.qs_ports.specs.StoreView.{StoreView, Keeps, HasSameCounts, HasFailed, Holds as HoldsBytes}
 use Rattle.qs_ports.specs.Whole.{Stores, IsCutShort}
 use Rattle.qs_ports.proofs.Wholes.{keeps_more, counts_more, failed_later}
 use Rattle.qs_image.specs.Image.{Image, IsImage}
 use Rattle.qs_compile.specs.FirstForm.{Program, IsFirstForm}
 use Rattle.qs_compile.specs.Built.{IsBuiltFromMain, LowersStackFirst, AgreesFrom}
-use Rattle.qs_driver.specs.Files.{IsUntouched, WasRead}
-use Rattle.qs_driver.specs.Lines.{cost_lines}
-use Rattle.qs_driver.specs.Due.{Due, refusal}
-use Rattle.qs_driver.specs.Build.{HoldsProgram, HoldsNoProgram, IsImageOf, HasBuilt, CouldNotWrite, IsDueToBuild, build_names, built, same_name, missing, unreadable, too_long, other_form, unwritable, no_memory, source_limit}
+use Rattle.qs_driver.specs.Files.{WasRead}
+use Rattle.qs_driver.specs.Due.{refusal}
+use Rattle.qs_driver.specs.Build.{HoldsProgram, IsImageOf, build_names, built, missing, unreadable, too_long, other_form, unwritable, no_memory, source_limit}
 use Rattle.qs_driver.specs.Results.{Builds, NotRead, due_of_build}
 use Rattle.qs_driver.specs.Results as results
 use Rattle.qs_driver.specs.declared.status.Status.{Status}
-use Rattle.qs_driver.specs.declared.status.Status.TheVariants.{Done, Source, StoreFailed}
+use Rattle.qs_driver.specs.declared.status.Status.TheVariants.{Source, StoreFailed}
 use Rattle.qs_driver.specs.declared.status.SourceFault.TheVariants.{NotFirstForm}
 use Rattle.qs_driver.specs.declared.status.FileKind.TheVariants as kinds
 

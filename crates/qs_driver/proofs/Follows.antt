@@ -1,5 +1,5 @@
 -- What follows from the answer of a call.
-use Rattle.std.proofs.Common.{◌≡◌, ◌≢◌, ◌⊎◌, ℕ, ◌<◌, List, Option, Some, None, sym, ◌∙◌, ap, subst, refl, inl, inr, arith, IsTrue}
+use Rattle.std.proofs.Common.{◌≡◌, ◌≢◌, ◌⊎◌, ℕ, ◌<◌, List, None, sym, ◌∙◌, ap, subst, refl, inl, inr, arith, IsTrue}
 use Rattle.qs_ports.specs.StoreView.{StoreView}
 use Rattle.qs_ports.specs.Causes.{Rose}
 use Rattle.qs_driver.specs.Due.{Due}
@@ -9,7 +9,7 @@ use Rattle.qs_driver.specs.Build as build
 use Rattle.qs_driver.specs.Run.{RunWords, IsDueToRun, IsDueAt}
 use Rattle.qs_driver.specs.Run as run
 use Rattle.qs_driver.specs.Tool.{Call, Task, ToBuild, ToRun, Nothing, task, Answers, IsDueTo, IsDueToNothing, usage, OneSinkFailed}
-use Rattle.qs_driver.specs.Promises.{NoneFailed, Accepts, IsGoodRun, EndsAs, outcome, LacksSource, HasLongSource, HasBadSource, NamesOneFileTwice, RefusesExactly, Refuses, ShowsFailures}
+use Rattle.qs_driver.specs.Promises.{NoneFailed, Accepts, EndsAs, outcome, RefusesExactly, Refuses, ShowsFailures}
 use Rattle.qs_driver.specs.declared.status.Status.{Status}
 use Rattle.qs_driver.specs.declared.status.Status.TheVariants.{Done, Source, Words, Missing, StoreFailed, SinkFailed, NoMemory}
 use Rattle.qs_driver.specs.declared.status.SourceFault.TheVariants.{TooLong, NotFirstForm}
@@ -17,7 +17,8 @@ use Rattle.qs_driver.specs.declared.status.WordsFault.TheVariants.{Usage, SameNa
 use Rattle.qs_driver.specs.declared.status.FileKind.{FileKind}
 use Rattle.qs_driver.specs.declared.status.FileKind.TheVariants as kinds
 use Rattle.qs_driver.proofs.BuildEnds.{BuildEnds, done, same, absent, long, other, lacks, build_ends, good_is_done, same_is_refused, absent_is_refused, long_is_refused, bad_is_refused}
-use Rattle.qs_driver.proofs.RunEnds.{IsOfRun, run_status, good_is_run}
+use Rattle.qs_driver.proofs.RunEnds.{IsOfRun, status_of_run, good_is_run}
+use Rattle.qs_driver.proofs.RunStatuses.{told_status}
 
 no_cut : (c : Call) (due : Due) → OneSinkFailed due c.out c.out_after c.log c.log_after → NoneFailed c → ⊥
 no_cut c due (inl ((k, x), l)) n = n.out x.rose
@@ -32,20 +33,20 @@ pub accepts : (c : Call) (result : Status) → Answers c result → Accepts c re
 accepts c result a = record {
   build = λ g n. elim a.written [
     | inl w ↦
-      let P : Status → Type 0 = λ s. (s ≡ Done) ⊎ (s ≡ NoMemory) in
-      subst P (sym w.0) (elim a.is_due [
-        | inl d ↦ good_is_done c.store g.source g.out g.program a.due.status g.build.differ g.told g.text (build_ends c.store c.store_after g.source g.out a.due n.store (due_to c (task c) (ToBuild g.source g.out) a.due g.build.asked d))
-        | inr l ↦ inr (ap (λ x. x.status) l.is_due)
-      ])
+        let P : Status → Type 0 = λ s. (s ≡ Done) ⊎ (s ≡ NoMemory) in
+        subst P (sym w.0) (elim a.is_due [
+          | inl d ↦ good_is_done c.store g.source g.out g.program a.due.status g.build.differ g.told g.text (build_ends c.store c.store_after g.source g.out a.due n.store (due_to c (task c) (ToBuild g.source g.out) a.due g.build.asked d))
+          | inr l ↦ inr (ap (λ x. x.status) l.is_due)
+        ])
     | inr w ↦ absurd (no_cut c a.due w.1 n)
   ];
   run = λ g n. elim a.written [
     | inl w ↦
-      let P : Status → Type 0 = λ s. EndsAs g.words.steps (outcome g) s ⊎ (s ≡ NoMemory) in
-      subst P (sym w.0) (elim a.is_due [
-        | inl d ↦ good_is_run c g a.due n.store (due_to c (task c) (ToRun g.words) a.due g.asked d)
-        | inr l ↦ inr (ap (λ x. x.status) l.is_due)
-      ])
+        let P : Status → Type 0 = λ s. EndsAs g.words.steps (outcome g) s ⊎ (s ≡ NoMemory) in
+        subst P (sym w.0) (elim a.is_due [
+          | inl d ↦ good_is_run c g a.due n.store (due_to c (task c) (ToRun g.words) a.due g.asked d)
+          | inr l ↦ inr (ap (λ x. x.status) l.is_due)
+        ])
     | inr w ↦ absurd (no_cut c a.due w.1 n)
   ];
 }
@@ -106,12 +107,12 @@ pub record OfBuild (c : Call) (due : Due) : Type 0 where
 
 of_build : (c : Call) (t : Task) (due : Due) → task c ≡ t → (Rose c.store.faults c.store_after.faults → ⊥) → IsDueTo t c.store c.store_after due → (IsOfRun due.status → ⊥) → due.status ≢ Words Usage → OfBuild c due
 of_build c (ToBuild source out) due e n d r u = record { source = source; out = out; asked = e; ends = build_ends c.store c.store_after source out due n d }
-of_build c (ToRun words) due e n d r u = absurd (r (run_status words c.store c.store_after due d))
+of_build c (ToRun words) due e n d r u = absurd (r (status_of_run words c.store c.store_after due d))
 of_build c Nothing due e n d r u = absurd (u (nothing_status c due d))
 
 only_usage : (c : Call) (t : Task) (due : Due) → task c ≡ t → (Rose c.store.faults c.store_after.faults → ⊥) → IsDueTo t c.store c.store_after due → due.status ≡ Words Usage → task c ≡ Nothing
 only_usage c (ToBuild source out) due e n d s = absurd (not_usage c.store source out due.status (build_ends c.store c.store_after source out due n d) s)
-only_usage c (ToRun words) due e n d s = absurd (subst IsOfRun s (run_status words c.store c.store_after due d))
+only_usage c (ToRun words) due e n d s = absurd (subst IsOfRun s (status_of_run words c.store c.store_after due d))
 only_usage c Nothing due e n d s = e
 
 -- the end of a `build` that was asked for
@@ -126,37 +127,38 @@ exactly c due n m d = record {
   );
   same_name = (
     λ s. let b = of_build c (task c) due refl n.store d (λ r. subst IsOfRun s r) (λ u. let x = sym s ∙ u in cc) in
-    (b.source, b.asked ∙ ap (ToBuild b.source) (sym (only_same c.store b.source b.out due.status b.ends s))),
+        (b.source, b.asked ∙ ap (ToBuild b.source) (sym (only_same c.store b.source b.out due.status b.ends s))),
     λ x. same_is_refused c.store x.0 due.status m (build_end c x.0 x.0 due x.1 n.store d),
   );
   missing = λ told. (
     λ s. let b = of_build c (task c) due refl n.store d (λ r. subst IsOfRun s r) (λ u. let x = sym s ∙ u in cc) in
-    let p = only_absent c.store b.source b.out due.status told b.ends s in
-    record { source = b.source; out = b.out; build = record { asked = b.asked; differ = p.0 }; absent = p.1 },
+        let p = only_absent c.store b.source b.out due.status told b.ends s in
+        record { source = b.source; out = b.out; build = record { asked = b.asked; differ = p.0 }; absent = p.1 },
     λ x. absent_is_refused c.store x.source x.out due.status m x.build.differ told x.absent (build_end c x.source x.out due x.build.asked n.store d),
   );
   too_long = λ told. (
     λ s. let b = of_build c (task c) due refl n.store d (λ r. subst IsOfRun s r) (λ u. let x = sym s ∙ u in cc) in
-    let p = only_long c.store b.source b.out due.status told b.ends s in
-    record { source = b.source; out = b.out; build = record { asked = b.asked; differ = p.0 }; long = p.1 },
+        let p = only_long c.store b.source b.out due.status told b.ends s in
+        record { source = b.source; out = b.out; build = record { asked = b.asked; differ = p.0 }; long = p.1 },
     λ x. long_is_refused c.store x.source x.out due.status m x.build.differ told x.long (build_end c x.source x.out due x.build.asked n.store d),
   );
   not_first_form = λ told. (
     λ s. let b = of_build c (task c) due refl n.store d (λ r. subst IsOfRun s r) (λ u. let x = sym s ∙ u in cc) in
-    let p = only_bad c.store b.source b.out due.status told b.ends s in
-    record { source = b.source; out = b.out; build = record { asked = b.asked; differ = p.0 }; text = p.1 },
+        let p = only_bad c.store b.source b.out due.status told b.ends s in
+        record { source = b.source; out = b.out; build = record { asked = b.asked; differ = p.0 }; text = p.1 },
     λ x. bad_is_refused c.store x.source x.out due.status m x.build.differ told x.text (build_end c x.source x.out due x.build.asked n.store d),
   );
+  run = λ told r e. told_status c.store c.store_after r due n.store told m (due_to c (task c) (ToRun r) due e d);
 }
 
 pub refuses : (c : Call) (result : Status) → Answers c result → Refuses c result
 refuses c result a n m = elim a.written [
   | inl w ↦
-    let P : Status → Type 0 = λ s. RefusesExactly c s in
-    subst P (sym w.0) (elim a.is_due [
-      | inl d ↦ exactly c a.due n (λ x. m (w.0 ∙ x)) d
-      | inr l ↦ absurd (m (w.0 ∙ ap (λ x. x.status) l.is_due))
-    ])
+      let P : Status → Type 0 = λ s. RefusesExactly c s in
+      subst P (sym w.0) (elim a.is_due [
+        | inl d ↦ exactly c a.due n (λ x. m (w.0 ∙ x)) d
+        | inr l ↦ absurd (m (w.0 ∙ ap (λ x. x.status) l.is_due))
+      ])
   | inr w ↦ absurd (no_cut c a.due w.1 n)
 ]
 

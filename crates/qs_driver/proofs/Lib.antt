@@ -7,5 +7,6 @@ pub mod Writings
 pub mod Runs
 pub mod BuildEnds
 pub mod RunEnds
+pub mod RunStatuses
 pub mod Follows
 pub mod Answering

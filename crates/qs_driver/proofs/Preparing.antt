@@ -1,12 +1,11 @@
 -- How `run` comes to a machine and its input.
-use Rattle.std.proofs.Common.{◌≡◌, ◌≢◌, ℕ, ℤ, ◌≤◌, List, length, Option, Some, None, Result, Ok, Err, Vec, refl, sym, ◌∙◌, ap, subst, arith, IsTrue}
-use Rattle.std.specs.declared.alloc.Global.{Global}
-use Rattle.qs_ports.specs.StoreView.{StoreView, HasSameCounts, HasFailed, HasMissed}
+use Rattle.std.proofs.Common.{◌≡◌, ℕ, List, length, Option, Some, None, Ok, Err, refl, sym, ◌∙◌, ap, subst, arith, IsTrue}
+use Rattle.qs_ports.specs.StoreView.{StoreView, HasSameCounts, HasMissed}
 use Rattle.qs_ports.proofs.Wholes.{keeps_more, counts_more, failed_later}
 use Rattle.qs_image.specs.Image.{Image, IsImage}
 use Rattle.qs_machine.specs.declared.machine.Machine.{Machine}
-use Rattle.qs_driver.specs.Files.{IsUntouched, Holds, IsTooLong, IsMissing, CouldNotRead, WasTooLong, WasRead}
-use Rattle.qs_driver.specs.Due.{Due, refusal}
+use Rattle.qs_driver.specs.Files.{IsUntouched, Holds, IsTooLong, WasRead}
+use Rattle.qs_driver.specs.Due.{refusal}
 use Rattle.qs_driver.specs.Run.{RunWords, run_names, ReadImage, ComesToInput, IsInput, IsDueToRun, image_limit, input_limit}
 use Rattle.qs_driver.specs.Run as run
 use Rattle.qs_driver.specs.Results.{NotRead}

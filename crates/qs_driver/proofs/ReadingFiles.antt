@@ -1,9 +1,9 @@
 -- How a file is read, with its limit.
-use Rattle.std.proofs.Common.{◌≡◌, ℕ, ◌+◌, ◌<◌, ◌≤◌, List, length, take, refl, arith, sym, ◌∙◌, IsTrue, Option, Some}
+use Rattle.std.proofs.Common.{◌≡◌, ℕ, ◌+◌, ◌<◌, ◌≤◌, List, length, take, arith, ◌∙◌, IsTrue, Some}
 use Rattle.std.proofs.lemmas.Grind.{common_steps}
-use Rattle.qs_ports.specs.StoreView.{StoreView, Keeps, HasSameCounts}
-use Rattle.qs_ports.specs.Whole.{IsContent, IsWhole}
-use Rattle.qs_driver.specs.Files.{IsUntouched, Holds, IsTooLong, WasRead, WasTooLong}
+use Rattle.qs_ports.specs.StoreView.{StoreView, Keeps}
+use Rattle.qs_ports.specs.Whole.{IsWhole}
+use Rattle.qs_driver.specs.Files.{WasRead, WasTooLong}
 
 short_content : (limit : ℕ) (content bytes : List ℕ) → bytes ≡ take (limit + 1) content → length bytes ≤ limit → content ≡ bytes
 short_content limit content bytes e h = grind (arith, common_steps)

@@ -1,5 +1,5 @@
 -- How a `run` ends, where no call failed.
-use Rattle.std.proofs.Common.{◌≡◌, ◌≢◌, ◌⊎◌, ℕ, ℤ, ◌<◌, ◌≤◌, List, [], length, Option, Some, None, sym, ◌∙◌, ap, subst, refl, inl, inr, arith, IsTrue}
+use Rattle.std.proofs.Common.{◌≡◌, ◌⊎◌, ℕ, ℤ, List, Option, Some, None, sym, ◌∙◌, ap, subst, inl, inr, arith, IsTrue}
 use Rattle.qs_ports.specs.StoreView.{StoreView}
 use Rattle.qs_ports.specs.Causes.{Rose}
 use Rattle.qs_image.specs.Image.{Image, IsImage}
@@ -9,7 +9,7 @@ use Rattle.qs_driver.specs.Due.{Due}
 use Rattle.qs_driver.specs.Files.{Holds}
 use Rattle.qs_driver.specs.Run.{RunWords, IsDueToRun, IsDueAt, HoldsImage, ReadImage, first_misfit, words_of, image_limit, input_limit}
 use Rattle.qs_driver.specs.Run as run
-use Rattle.qs_driver.specs.Tool.{Call, ToRun, task}
+use Rattle.qs_driver.specs.Tool.{Call}
 use Rattle.qs_driver.specs.Promises.{IsGoodRun, EndsAs, HasInput, outcome}
 use Rattle.qs_driver.specs.declared.status.Status.{Status}
 use Rattle.qs_driver.specs.declared.status.Status.TheVariants.{Done, Source, Words, Missing, StoreFailed, Image as NotAnImage, Trapped, StepLimit, StackTooLarge, SinkFailed, NoMemory}
@@ -51,19 +51,19 @@ outcome_of_run r (Exited output status) due e = of_run due _ e tt
 outcome_of_run r (HasTrapped cause pc output) due (n, c, e) = of_run due _ e tt
 outcome_of_run r (Going output) due e = of_run due _ e tt
 
-pub run_status : (r : RunWords) (v w : StoreView) (due : Due) → IsDueToRun r v w due → IsOfRun due.status
-run_status r v w due (run.ran h) = outcome_of_run r _ due h.is_due
-run_status r v w due (run.image_missing m d) = of_run due _ d tt
-run_status r v w due (run.image_unreadable f d) = of_run due _ d tt
-run_status r v w due (run.image_too_long l d) = of_run due _ d tt
-run_status r v w due (run.no_image fault u f d) = of_run due _ d tt
-run_status r v w due (run.count_differs e g u x d) = of_run due _ d tt
-run_status r v w due (run.misfit i u x d) = of_run due _ d tt
-run_status r v w due (run.stack_too_large u x d) = of_run due _ d tt
-run_status r v w due (run.input_missing name x m d) = of_run due _ d tt
-run_status r v w due (run.input_unreadable name x f d) = of_run due _ d tt
-run_status r v w due (run.input_too_long name x l d) = of_run due _ d tt
-run_status r v w due (run.no_memory u d) = of_run due _ d tt
+pub status_of_run : (r : RunWords) (v w : StoreView) (due : Due) → IsDueToRun r v w due → IsOfRun due.status
+status_of_run r v w due (run.ran h) = outcome_of_run r _ due h.is_due
+status_of_run r v w due (run.image_missing m d) = of_run due _ d tt
+status_of_run r v w due (run.image_unreadable f d) = of_run due _ d tt
+status_of_run r v w due (run.image_too_long l d) = of_run due _ d tt
+status_of_run r v w due (run.no_image fault u f d) = of_run due _ d tt
+status_of_run r v w due (run.count_differs e g u x d) = of_run due _ d tt
+status_of_run r v w due (run.misfit i u x d) = of_run due _ d tt
+status_of_run r v w due (run.stack_too_large u x d) = of_run due _ d tt
+status_of_run r v w due (run.input_missing name x m d) = of_run due _ d tt
+status_of_run r v w due (run.input_unreadable name x f d) = of_run due _ d tt
+status_of_run r v w due (run.input_too_long name x l d) = of_run due _ d tt
+status_of_run r v w due (run.no_memory u d) = of_run due _ d tt
 
 -- ---- an image that can be run
 

@@ -1,9 +1,8 @@
 -- What `run` came to.
-use Rattle.std.proofs.Common.{◌≡◌, ℕ, List, [], Option, refl, sym, ap, subst, inl, inr}
+use Rattle.std.proofs.Common.{◌≡◌, refl, sym, subst, inl, inr}
 use Rattle.qs_ports.specs.StoreView.{StoreView}
-use Rattle.qs_ports.specs.SinkView.{SinkView, Appends, IsCut}
+use Rattle.qs_ports.specs.SinkView.{SinkView}
 use Rattle.qs_ports.proofs.Sinks.{appends_nothing}
-use Rattle.qs_image.specs.Image.{Image}
 use Rattle.qs_machine.specs.Step.{Cause as Meant, Overflow, IllegalInstruction, FetchOutside, JumpMisaligned, LoadMisaligned, LoadOutside, StoreMisaligned, StoreOutside, UnknownCall, Breakpoint}
 use Rattle.qs_machine.specs.Run.{Outcome, Exited, Trapped as HasTrapped, Going, machine}
 use Rattle.qs_machine.specs.Standing.{cause_of}
@@ -14,7 +13,7 @@ use Rattle.qs_machine.specs.declared.answers.RunEnd.{RunEnd}
 use Rattle.qs_machine.specs.declared.answers.RunEnd.TheVariants as end
 use Rattle.qs_driver.specs.Lines.{exit_line, fault_line}
 use Rattle.qs_driver.specs.Due.{Due}
-use Rattle.qs_driver.specs.Run.{RunWords, run_names, words_of, IsDueAt, HasRun, IsDueToRun, ran}
+use Rattle.qs_driver.specs.Run.{RunWords, run_names, words_of, IsDueAt, IsDueToRun, ran}
 use Rattle.qs_driver.specs.RunResults.{IsReady, Finishes}
 use Rattle.qs_driver.specs.Tool.{AnswersTask, ToRun}
 use Rattle.qs_driver.specs.declared.run.Ready.{Ready}

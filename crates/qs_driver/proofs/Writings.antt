@@ -1,11 +1,8 @@
 -- What was put on the sinks, and the status at that.
-use Rattle.std.proofs.Common.{◌≡◌, ℕ, List, [], Result, Ok, Err, refl, inl, inr, subst, sym}
+use Rattle.std.proofs.Common.{ℕ, List, [], Result, Ok, Err, refl, inl, inr}
 use Rattle.qs_ports.specs.SinkView.{SinkView, Appends, PutsAll}
 use Rattle.qs_ports.specs.declared.sink.SinkFault.{SinkFault}
 use Rattle.qs_ports.proofs.Sinks.{appends_nothing}
-use Rattle.qs_driver.specs.Names.{Names}
-use Rattle.qs_driver.specs.Lines.{fault_line}
-use Rattle.qs_driver.specs.Due.{Due, refusal}
 use Rattle.qs_driver.specs.Results.{status_after, IsPut}
 use Rattle.qs_driver.specs.Tool.{IsWritten}
 use Rattle.qs_driver.specs.declared.status.Status.{Status}

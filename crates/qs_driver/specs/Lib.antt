@@ -8,4 +8,5 @@ pub mod Run
 pub mod Results
 pub mod RunResults
 pub mod Tool
+pub mod RunStatus
 pub mod Promises

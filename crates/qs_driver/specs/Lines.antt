@@ -12,7 +12,6 @@ use Rattle.qs_driver.specs.declared.status.Status.{Status}
 use Rattle.qs_driver.specs.declared.status.Status.TheVariants.{Done, Source, Words, Missing, StoreFailed, Image, Trapped, StepLimit, StackTooLarge, SinkFailed, NoMemory}
 use Rattle.qs_driver.specs.declared.status.SourceFault.TheVariants.{TooLong, NotFirstForm}
 use Rattle.qs_driver.specs.declared.status.WordsFault.TheVariants.{Usage, SameName, ArgCount, ArgRange}
-use Rattle.qs_driver.specs.declared.status.FileKind.TheVariants as kinds
 
 -- a line in two parts, ended by a line feed
 abbrev pub line : List ℕ → List ℕ → List ℕ

@@ -9,6 +9,7 @@ use Rattle.qs_compile.specs.FirstForm.{Program}
 use Rattle.qs_driver.specs.Files.{Holds, IsTooLong}
 use Rattle.qs_driver.specs.Build.{HoldsProgram, HoldsNoProgram, source_limit}
 use Rattle.qs_driver.specs.Run.{RunWords, HoldsImage, CanRun, words_of, input_limit}
+use Rattle.qs_driver.specs.RunStatus.{run_status}
 use Rattle.qs_driver.specs.Tool.{Call, Answers, ToBuild, ToRun, Nothing, task}
 use Rattle.qs_driver.specs.declared.status.Status.{Status}
 use Rattle.qs_driver.specs.declared.status.Status.TheVariants.{Done, Source, Words, Missing, StoreFailed, Trapped, StepLimit, SinkFailed, NoMemory}
@@ -96,13 +97,15 @@ pub record HasBadSource (c : Call) : Type 0 where
 abbrev pub NamesOneFileTwice : Call → Type 0
 NamesOneFileTwice c = (name : List ℕ) × (task c ≡ ToBuild name name)
 
--- Where no call failed and memory was found, each of these refusals comes exactly where its cause is.
+-- Where no call failed and memory was found, each refusal of `build` comes exactly where its cause is, and the status of
+-- `run` is the one that the words and the files tell.
 pub record RefusesExactly (c : Call) (result : Status) : Type 0 where
   pub usage : (result ≡ Words Usage) ↔ (task c ≡ Nothing)
   pub same_name : (result ≡ Words SameName) ↔ NamesOneFileTwice c
   pub missing : IsTrue c.store.told → (result ≡ Missing kinds.Source) ↔ LacksSource c
   pub too_long : IsTrue c.store.told → (result ≡ Source (TooLong kinds.Source)) ↔ HasLongSource c
   pub not_first_form : IsTrue c.store.told → (result ≡ Source NotFirstForm) ↔ HasBadSource c
+  pub run : IsTrue c.store.told → (r : RunWords) → task c ≡ ToRun r → result ≡ run_status c.store.files r
 
 abbrev pub Refuses : Call → Status → Type 0
 Refuses c result = NoneFailed c → result ≢ NoMemory → RefusesExactly c result

@@ -1,16 +1,16 @@
 -- What the steps of `run` answer.
-use Rattle.std.specs.Prelude.{◌≡◌, ◌≢◌, ◌⊎◌, ℕ, ℤ, ◌<◌, ◌≤◌, ◌^◌, List, [], length, Option, Some, None, Result, Ok, Err, Vec}
+use Rattle.std.specs.Prelude.{◌≡◌, ◌≢◌, ℕ, ℤ, ◌<◌, ◌^◌, List, [], length, Option, Some, None, Result, Ok, Err, Vec}
 use Rattle.std.specs.declared.alloc.Global.{Global}
 use Rattle.qs_ports.specs.StoreView.{StoreView}
 use Rattle.qs_ports.specs.SinkView.{SinkView}
 use Rattle.qs_image.specs.Image.{Image, IsImage}
 use Rattle.qs_image.specs.Faults.{first_fault}
 use Rattle.qs_image.specs.declared.fault.ImageFault.{ImageFault}
-use Rattle.qs_machine.specs.Run.{start, Outcome, run}
+use Rattle.qs_machine.specs.Run.{start}
 use Rattle.qs_machine.specs.Standing.{Stands, taken_of}
 use Rattle.qs_machine.specs.declared.machine.Machine.{Machine}
 use Rattle.qs_driver.specs.Files.{IsUntouched}
-use Rattle.qs_driver.specs.Due.{Due, refusal}
+use Rattle.qs_driver.specs.Due.{refusal}
 use Rattle.qs_driver.specs.Run.{RunWords, run_names, first_misfit, words_of, CanRun, ReadImage, IsInput, IsDueToRun, input_limit}
 use Rattle.qs_driver.specs.Lines.{exit_line, fault_line}
 use Rattle.qs_driver.specs.Results.{ReadsFile, IsPut}

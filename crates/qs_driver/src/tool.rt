@@ -56,12 +56,7 @@ fn run_build<S: Store, O: Sink, L: Sink>(
 }
 
 // Puts the line at the end of a run.
-fn finish<L: Sink>(
-    end: RunEnd,
-    words: &RunOrder<'_>,
-    names: &FileNames<'_>,
-    log: &mut L,
-) -> Status
+fn finish<L: Sink>(end: RunEnd, words: &RunOrder<'_>, names: &FileNames<'_>, log: &mut L) -> Status
     requires { names_in names.now ≡ run_names (words_in words.now) }
     ensures { Finishes (words_in words.now) end (L.view log.old) (L.view log.new) result }
 {

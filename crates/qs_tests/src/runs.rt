@@ -141,3 +141,52 @@ fn an_image_that_was_built(rt: HostRuntime) -> Result<(), NoMemory> {
     }
     Ok(())
 }
+
+// The image of an illegal word, with this byte at this place.
+fn changed(alloc: Global, at: usize, byte: u8) -> Result<Vec<u8>, AllocError> {
+    let mut image = one_word(alloc, [0, 0, 0, 0])?;
+    if let Some(place) = image.get_mut(at) {
+        *place = byte;
+    }
+    Ok(image)
+}
+
+// Byte 24 counts the parameters of main, and byte 28 has a bit for each that is `unsigned`.
+#[test]
+fn arguments_and_spoilt_images(rt: HostRuntime) -> Result<(), NoMemory> {
+    for (at, byte, words, code, log) in [
+        (
+            24,
+            1u8,
+            "run x.img --stack 0 --args=-2147483648",
+            7,
+            "trap illegal at 0x00010000\n",
+        ),
+        (
+            24,
+            1,
+            "run x.img --stack 0 --args=2147483648",
+            3,
+            "argument 0 out of range\n",
+        ),
+        (
+            24,
+            1,
+            "run x.img --stack 0",
+            3,
+            "arguments: expected 1 given 0\n",
+        ),
+        (0, 0, "run x.img --stack 0", 6, "x.img: image magic\n"),
+        (4, 2, "run x.img --stack 0", 6, "x.img: image short\n"),
+        (4, 0, "run x.img --stack 0", 6, "x.img: image count 1\n"),
+        (40, 17, "run x.img --stack 0", 6, "x.img: image cost 0\n"),
+        (44, 0x6e, "run x.img --stack 0", 6, "x.img: image names\n"),
+    ] {
+        let image = changed(rt.alloc(), at, byte)?;
+        let ran = call(rt.alloc(), words, &Devices::with_image(&image))?;
+        assert_eq!(rt; ran.status.code(), code);
+        assert!(rt; ran.out.written().is_empty());
+        assert_eq!(rt; ran.log.written(), log.as_bytes());
+    }
+    Ok(())
+}

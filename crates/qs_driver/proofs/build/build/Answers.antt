@@ -1,5 +1,5 @@
-use Rattle.std.proofs.Common.{rules, arith, refl}
-use Rattle.qs_driver.proofs.Builds.{not_read, another_form, was_built, not_written, image_of}
+use Rattle.std.proofs.Common.{rules}
+use Rattle.qs_driver.proofs.Builds.{another_form, was_built, not_written, image_of}
 use Rattle.qs_driver.proofs.build.build.Goals as goal
 
 pub returns-in-None : goal.returns-in-None

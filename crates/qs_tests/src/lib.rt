@@ -6,6 +6,8 @@ mod devices;
 #[cfg(test)]
 mod files;
 #[cfg(test)]
+mod names;
+#[cfg(test)]
 mod rows;
 #[cfg(test)]
 mod runs;

@@ -190,3 +190,25 @@ fn arguments_and_spoilt_images(rt: HostRuntime) -> Result<(), NoMemory> {
     }
     Ok(())
 }
+
+#[test]
+fn images_that_are_cut(rt: HostRuntime) -> Result<(), NoMemory> {
+    let mut image = one_word(rt.alloc(), [0, 0, 0, 0])?;
+    image.push(0)?;
+    for (length, log) in [
+        (53, "x.img: image trailing\n"),
+        (51, "x.img: image short\n"),
+        (31, "x.img: image short\n"),
+        (0, "x.img: image short\n"),
+    ] {
+        let bytes = image.get(..length).unwrap_or(b"");
+        let ran = call(
+            rt.alloc(),
+            "run x.img --stack 0",
+            &Devices::with_image(bytes),
+        )?;
+        assert_eq!(rt; ran.status.code(), 6);
+        assert_eq!(rt; ran.log.written(), log.as_bytes());
+    }
+    Ok(())
+}

@@ -1,0 +1,127 @@
+-- The trees that the program's values stand for.
+use Rattle.std.specs.Prelude.{ℕ, List, [], ◌∷◌, Option, Some, None, map, option_map, Box}
+use Rattle.std.specs.declared.alloc.Global.{Global}
+use Rattle.qs_syntax.specs.Trees.{ExprTree, expr, ShapeTree, int, text, name, unary, step, cast, size_type, size_expr, binary, assign, choice, comma, index, member, call, Exprs, exprs_of, LengthsTree, DeclaratorTree, InitialiserTree, value, list, Initialisers, initialisers_of, VariableTree, DeclarationTree, ParameterTree, MembersTree, StartTree, no_start, start_expression, start_declaration, StmtTree, empty, expression, declaration, block, branch, while_loop, do_loop, for_loop, break, continue, return, Stmts, stmts_of, Else, else_of, StructTree, ForwardTree, FunctionTree, DeclTree, structure, forward, function, variables, UnitTree}
+use Rattle.qs_syntax.specs.declared.tree.Expr.{Expr, Expr-F, fold-Expr}
+use Rattle.qs_syntax.specs.declared.tree.Shape.{Shape-F}
+use Rattle.qs_syntax.specs.declared.tree.Lengths.{Lengths}
+use Rattle.qs_syntax.specs.declared.tree.Declarator.{Declarator}
+use Rattle.qs_syntax.specs.declared.tree.Initialiser.{Initialiser, Initialiser-F, fold-Initialiser}
+use Rattle.qs_syntax.specs.declared.tree.InitialiserList.{InitialiserList-F}
+use Rattle.qs_syntax.specs.declared.tree.Variable.{Variable}
+use Rattle.qs_syntax.specs.declared.tree.Declaration.{Declaration}
+use Rattle.qs_syntax.specs.declared.tree.Parameter.{Parameter}
+use Rattle.qs_syntax.specs.declared.tree.Members.{Members}
+use Rattle.qs_syntax.specs.declared.tree.Start.{Start}
+use Rattle.qs_syntax.specs.declared.tree.Start.TheVariants as starts
+use Rattle.qs_syntax.specs.declared.tree.Stmt.{Stmt, Stmt-F, fold-Stmt}
+use Rattle.qs_syntax.specs.declared.tree.Struct.{Struct}
+use Rattle.qs_syntax.specs.declared.tree.Forward.{Forward}
+use Rattle.qs_syntax.specs.declared.tree.Function.{Function}
+use Rattle.qs_syntax.specs.declared.tree.Decl.{Decl}
+use Rattle.qs_syntax.specs.declared.tree.Decl.TheVariants as decls
+
+-- one level of an expression, with each part already seen as its tree
+abbrev pub shape_step : Shape-F ShapeTree ExprTree → ShapeTree
+shape_step (Shape-F.Int n unsigned) = int n unsigned
+shape_step (Shape-F.Text bytes) = text bytes
+shape_step (Shape-F.Name x) = name x
+shape_step (Shape-F.Unary sign a) = unary sign a.value
+shape_step (Shape-F.Step sign a) = step sign a.value
+shape_step (Shape-F.Cast type a) = cast type a.value
+shape_step (Shape-F.SizeType type) = size_type type
+shape_step (Shape-F.SizeExpr a) = size_expr a.value
+shape_step (Shape-F.Binary sign a b) = binary sign a.value b.value
+shape_step (Shape-F.Assign sign a b) = assign sign a.value b.value
+shape_step (Shape-F.Cond a b c) = choice a.value b.value c.value
+shape_step (Shape-F.Comma a b) = comma a.value b.value
+shape_step (Shape-F.Index a b) = index a.value b.value
+shape_step (Shape-F.Member access a x) = member access a.value x
+shape_step (Shape-F.Call f arguments) = call f (exprs_of arguments.items)
+
+abbrev pub expr_step : Expr-F ShapeTree ExprTree → ExprTree
+expr_step e = expr e.id e.token e.shape
+
+-- the tree of an expression
+abbrev pub expr_tree : Expr → ExprTree
+expr_tree = fold-Expr ShapeTree ExprTree shape_step expr_step
+
+abbrev pub exprs_tree : List Expr → Exprs
+exprs_tree es = exprs_of (map expr_tree es)
+
+abbrev pub option_tree : Option Expr → Option ExprTree
+option_tree None = None
+option_tree (Some e) = Some (expr_tree e)
+
+abbrev pub lengths_tree : Lengths → LengthsTree
+lengths_tree l = record { is_open = l.is_open; given = map expr_tree l.given.items }
+
+abbrev pub declarator_tree : Declarator → DeclaratorTree
+declarator_tree d = record { id = d.id; token = d.token; stars = d.stars; name = d.name; lengths = lengths_tree d.lengths }
+
+abbrev pub initialiser_step : Initialiser-F InitialiserTree InitialiserTree → InitialiserTree
+initialiser_step (Initialiser-F.Value e) = value (expr_tree e)
+initialiser_step (Initialiser-F.List l) = l
+
+abbrev pub list_step : InitialiserList-F InitialiserTree InitialiserTree → InitialiserTree
+list_step l = list l.id l.token (initialisers_of l.items.items)
+
+abbrev pub initialiser_tree : Initialiser → InitialiserTree
+initialiser_tree = fold-Initialiser InitialiserTree InitialiserTree initialiser_step list_step
+
+abbrev pub initialisers_tree : List Initialiser → Initialisers
+initialisers_tree is = initialisers_of (map initialiser_tree is)
+
+abbrev pub variable_tree : Variable → VariableTree
+variable_tree v = record { declarator = declarator_tree v.declarator; initialiser = option_map initialiser_tree v.initialiser }
+
+abbrev pub declaration_tree : Declaration → DeclarationTree
+declaration_tree d = record { base = d.base; variables = map variable_tree d.variables.items }
+
+abbrev pub parameter_tree : Parameter → ParameterTree
+parameter_tree p = record { id = p.id; token = p.token; base = p.base; stars = p.stars; name = p.name; lengths = lengths_tree p.lengths }
+
+abbrev pub members_tree : Members → MembersTree
+members_tree m = record { base = m.base; declarators = map declarator_tree m.declarators.items }
+
+abbrev pub start_tree : Start → StartTree
+start_tree starts.Nothing = no_start
+start_tree (starts.Expression e) = start_expression (expr_tree e)
+start_tree (starts.Declaration d) = start_declaration (declaration_tree d)
+
+abbrev pub stmt_step : Stmt-F StmtTree → StmtTree
+stmt_step (Stmt-F.Empty n) = empty n.id n.token
+stmt_step (Stmt-F.Expression n e) = expression n.id n.token (expr_tree e)
+stmt_step (Stmt-F.Declaration d) = declaration (declaration_tree d)
+stmt_step (Stmt-F.Block items) = block (stmts_of items.items)
+stmt_step (Stmt-F.If n e s t) = branch n.id n.token (expr_tree e) s.value (else_of (option_map (λ b. b.value) t))
+stmt_step (Stmt-F.While n e s) = while_loop n.id n.token (expr_tree e) s.value
+stmt_step (Stmt-F.Do n s e) = do_loop n.id n.token s.value (expr_tree e)
+stmt_step (Stmt-F.For n start e u s) = for_loop n.id n.token (start_tree start) (option_tree e) (option_tree u) s.value
+stmt_step (Stmt-F.Break n) = break n.id n.token
+stmt_step (Stmt-F.Continue n) = continue n.id n.token
+stmt_step (Stmt-F.Return n e) = return n.id n.token (option_tree e)
+
+abbrev pub stmt_tree : Stmt → StmtTree
+stmt_tree = fold-Stmt StmtTree stmt_step
+
+abbrev pub else_tree : Option (Box Stmt Global) → Else
+else_tree o = else_of (option_map (λ b. stmt_tree b.value) o)
+
+abbrev pub stmts_tree : List Stmt → Stmts
+stmts_tree ss = stmts_of (map stmt_tree ss)
+
+abbrev pub struct_tree : Struct → StructTree
+struct_tree s = record { id = s.id; token = s.token; name = s.name; members = map members_tree s.members.items }
+
+abbrev pub forward_tree : Forward → ForwardTree
+forward_tree f = record { id = f.id; token = f.token; name = f.name }
+
+abbrev pub function_tree : Function → FunctionTree
+function_tree f = record { id = f.id; token = f.token; base = f.base; stars = f.stars; name = f.name; parameters = map parameter_tree f.parameters.items; body = option_map (λ b. stmts_tree b.items) f.body }
+
+abbrev pub decl_tree : Decl → DeclTree
+decl_tree (decls.Struct s) = structure (struct_tree s)
+decl_tree (decls.Forward f) = forward (forward_tree f)
+decl_tree (decls.Function f) = function (function_tree f)
+decl_tree (decls.Variable d) = variables (declaration_tree d)

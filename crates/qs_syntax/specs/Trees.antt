@@ -1,0 +1,157 @@
+-- The trees of the language as plain data, without addresses and capacities (C11 6.5 to 6.9). Each node has its number and the number
+-- of the token at which it stands.
+use Rattle.std.specs.Prelude.{ℕ, Bool, List, [], ◌∷◌, Option, Some, None}
+use Rattle.qs_syntax.specs.declared.tree.UnarySign.{UnarySign}
+use Rattle.qs_syntax.specs.declared.tree.StepSign.{StepSign}
+use Rattle.qs_syntax.specs.declared.tree.BinarySign.{BinarySign}
+use Rattle.qs_syntax.specs.declared.tree.AssignSign.{AssignSign}
+use Rattle.qs_syntax.specs.declared.tree.Access.{Access}
+use Rattle.qs_syntax.specs.declared.tree.Base.{Base}
+use Rattle.qs_syntax.specs.declared.tree.TypeName.{TypeName}
+
+-- ---- expressions (6.5)
+
+mutual
+  pub data ExprTree : Type 0 where
+    expr : (id token : ℕ) → ShapeTree → ExprTree
+
+  pub data ShapeTree : Type 0 where
+    -- a value, and whether it is unsigned
+    int : ℕ → Bool → ShapeTree
+    text : List ℕ → ShapeTree
+    name : List ℕ → ShapeTree
+    unary : UnarySign → ExprTree → ShapeTree
+    step : StepSign → ExprTree → ShapeTree
+    cast : TypeName → ExprTree → ShapeTree
+    size_type : TypeName → ShapeTree
+    size_expr : ExprTree → ShapeTree
+    binary : BinarySign → ExprTree → ExprTree → ShapeTree
+    assign : AssignSign → ExprTree → ExprTree → ShapeTree
+    choice : ExprTree → ExprTree → ExprTree → ShapeTree
+    comma : ExprTree → ExprTree → ShapeTree
+    index : ExprTree → ExprTree → ShapeTree
+    member : Access → ExprTree → List ℕ → ShapeTree
+    call : List ℕ → Exprs → ShapeTree
+
+  pub data Exprs : Type 0 where
+    no_exprs : Exprs
+    expr_and : ExprTree → Exprs → Exprs
+
+abbrev pub exprs_of : List ExprTree → Exprs
+exprs_of [] = no_exprs
+exprs_of (e ∷ es) = expr_and e (exprs_of es)
+
+-- ---- declarations (6.7)
+
+-- the lengths in brackets, but for first ones that are empty
+pub record LengthsTree : Type 0 where
+  pub is_open : Bool
+  pub given : List ExprTree
+
+pub record DeclaratorTree : Type 0 where
+  pub id : ℕ
+  pub token : ℕ
+  pub stars : ℕ
+  pub name : List ℕ
+  pub lengths : LengthsTree
+
+mutual
+  pub data InitialiserTree : Type 0 where
+    value : ExprTree → InitialiserTree
+    list : (id token : ℕ) → Initialisers → InitialiserTree
+
+  pub data Initialisers : Type 0 where
+    no_initialisers : Initialisers
+    initialiser_and : InitialiserTree → Initialisers → Initialisers
+
+abbrev pub initialisers_of : List InitialiserTree → Initialisers
+initialisers_of [] = no_initialisers
+initialisers_of (i ∷ is) = initialiser_and i (initialisers_of is)
+
+pub record VariableTree : Type 0 where
+  pub declarator : DeclaratorTree
+  pub initialiser : Option InitialiserTree
+
+pub record DeclarationTree : Type 0 where
+  pub base : Base
+  pub variables : List VariableTree
+
+pub record ParameterTree : Type 0 where
+  pub id : ℕ
+  pub token : ℕ
+  pub base : Base
+  pub stars : ℕ
+  pub name : Option (List ℕ)
+  pub lengths : LengthsTree
+
+pub record MembersTree : Type 0 where
+  pub base : Base
+  pub declarators : List DeclaratorTree
+
+-- ---- statements (6.8)
+
+pub data StartTree : Type 0 where
+  no_start : StartTree
+  start_expression : ExprTree → StartTree
+  start_declaration : DeclarationTree → StartTree
+
+mutual
+  pub data StmtTree : Type 0 where
+    empty : (id token : ℕ) → StmtTree
+    expression : (id token : ℕ) → ExprTree → StmtTree
+    declaration : DeclarationTree → StmtTree
+    block : Stmts → StmtTree
+    branch : (id token : ℕ) → ExprTree → StmtTree → Else → StmtTree
+    while_loop : (id token : ℕ) → ExprTree → StmtTree → StmtTree
+    do_loop : (id token : ℕ) → StmtTree → ExprTree → StmtTree
+    for_loop : (id token : ℕ) → StartTree → Option ExprTree → Option ExprTree → StmtTree → StmtTree
+    break : (id token : ℕ) → StmtTree
+    continue : (id token : ℕ) → StmtTree
+    return : (id token : ℕ) → Option ExprTree → StmtTree
+
+  pub data Stmts : Type 0 where
+    no_stmts : Stmts
+    stmt_and : StmtTree → Stmts → Stmts
+
+  pub data Else : Type 0 where
+    no_else : Else
+    else_by : StmtTree → Else
+
+abbrev pub stmts_of : List StmtTree → Stmts
+stmts_of [] = no_stmts
+stmts_of (s ∷ ss) = stmt_and s (stmts_of ss)
+
+abbrev pub else_of : Option StmtTree → Else
+else_of None = no_else
+else_of (Some s) = else_by s
+
+-- ---- what stands at file scope (6.9)
+
+pub record StructTree : Type 0 where
+  pub id : ℕ
+  pub token : ℕ
+  pub name : List ℕ
+  pub members : List MembersTree
+
+pub record ForwardTree : Type 0 where
+  pub id : ℕ
+  pub token : ℕ
+  pub name : List ℕ
+
+pub record FunctionTree : Type 0 where
+  pub id : ℕ
+  pub token : ℕ
+  pub base : Base
+  pub stars : ℕ
+  pub name : List ℕ
+  pub parameters : List ParameterTree
+  pub body : Option Stmts
+
+pub data DeclTree : Type 0 where
+  structure : StructTree → DeclTree
+  forward : ForwardTree → DeclTree
+  function : FunctionTree → DeclTree
+  variables : DeclarationTree → DeclTree
+
+abbrev pub UnitTree : Type 0
+UnitTree = List DeclTree

@@ -1,0 +1,19 @@
+// Tokens as the grammar sees them.
+use crate::tokens::{Keyword, Mark};
+use crate::tree::Text;
+use qs_base::Name;
+
+/// A token as the grammar sees it. The number of the token comes first.
+#[derive(Debug, Drop)]
+pub enum Lexeme {
+    /// A name.
+    Name(u32, Name),
+    /// A keyword.
+    Keyword(u32, Keyword),
+    /// A number or character: its value, and whether it is `unsigned` and no `int`.
+    Constant(u32, u32, bool),
+    /// A string literal: the bytes that it stands for.
+    Text(u32, Text),
+    /// A mark.
+    Mark(u32, Mark),
+}

@@ -1,0 +1,15 @@
+//! The words of the language: its tokens, and its trees.
+#![tactic(auto)]
+
+mod copy;
+mod lexeme;
+mod tokens;
+mod tree;
+
+pub use lexeme::Lexeme;
+pub use tokens::{Keyword, Mark, Token, TokenKind};
+pub use tree::{
+    Access, AssignSign, Base, BinarySign, Decl, Declaration, Declarator, Expr, Forward, Function,
+    Initialiser, InitialiserList, Lengths, Members, Node, Parameter, Shape, Start, StepSign, Stmt,
+    Struct, Text, TypeName, UnarySign, Variable,
+};

@@ -1,0 +1,5 @@
+pub mod Heads
+pub mod Parse
+pub mod ParseDeclarations
+pub mod ParseStatements
+pub mod Stops

@@ -1,0 +1,2 @@
+//! The parser: from tokens to trees.
+#![tactic(auto)]

@@ -1,0 +1,6 @@
+//! The words of the language: its tokens.
+#![tactic(auto)]
+
+mod tokens;
+
+pub use tokens::{Keyword, Mark, Token, TokenKind};

@@ -6,3 +6,4 @@ pub mod Reads
 pub mod ReadsDeclarations
 pub mod ReadsStatements
 pub mod ReadsUnits
+pub mod Numbering

@@ -3,7 +3,7 @@ use Rattle.std.specs.Prelude.{ℕ, List, [], ◌∷◌, Option, Some, None, map,
 use Rattle.std.specs.declared.alloc.Global.{Global}
 use Rattle.qs_syntax.specs.Trees.{ExprTree, expr, ShapeTree, int, text, name, unary, step, cast, size_type, size_expr, binary, assign, choice, comma, index, member, call, Exprs, exprs_of, LengthsTree, DeclaratorTree, InitialiserTree, value, list, Initialisers, initialisers_of, VariableTree, DeclarationTree, ParameterTree, MembersTree, StartTree, no_start, start_expression, start_declaration, StmtTree, empty, expression, declaration, block, branch, while_loop, do_loop, for_loop, break, continue, return, Stmts, stmts_of, Else, else_of, StructTree, ForwardTree, FunctionTree, DeclTree, structure, forward, function, variables, UnitTree}
 use Rattle.qs_syntax.specs.declared.tree.Expr.{Expr, Expr-F, fold-Expr}
-use Rattle.qs_syntax.specs.declared.tree.Shape.{Shape-F}
+use Rattle.qs_syntax.specs.declared.tree.Shape.{Shape, Shape-F, fold-Shape}
 use Rattle.qs_syntax.specs.declared.tree.Lengths.{Lengths}
 use Rattle.qs_syntax.specs.declared.tree.Declarator.{Declarator}
 use Rattle.qs_syntax.specs.declared.tree.Initialiser.{Initialiser, Initialiser-F, fold-Initialiser}
@@ -41,6 +41,9 @@ shape_step (Shape-F.Call f arguments) = call f (exprs_of arguments.items)
 
 abbrev pub expr_step : Expr-F ShapeTree ExprTree → ExprTree
 expr_step e = expr e.id e.token e.shape
+
+abbrev pub shape_tree : Shape → ShapeTree
+shape_tree = fold-Shape ShapeTree ExprTree shape_step expr_step
 
 -- the tree of an expression
 abbrev pub expr_tree : Expr → ExprTree

@@ -3,6 +3,9 @@
 
 mod copy;
 mod lexeme;
+mod numbered_declarations;
+mod numbered_statements;
+mod numbering;
 mod tokens;
 mod tree;
 

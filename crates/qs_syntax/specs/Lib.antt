@@ -7,3 +7,4 @@ pub mod ReadsDeclarations
 pub mod ReadsStatements
 pub mod ReadsUnits
 pub mod Numbering
+pub mod Units

@@ -7,7 +7,7 @@ use Rattle.qs_syntax.specs.declared.tree.Shape.{Shape, Shape-F, fold-Shape}
 use Rattle.qs_syntax.specs.declared.tree.Lengths.{Lengths}
 use Rattle.qs_syntax.specs.declared.tree.Declarator.{Declarator}
 use Rattle.qs_syntax.specs.declared.tree.Initialiser.{Initialiser, Initialiser-F, fold-Initialiser}
-use Rattle.qs_syntax.specs.declared.tree.InitialiserList.{InitialiserList-F}
+use Rattle.qs_syntax.specs.declared.tree.InitialiserList.{InitialiserList, InitialiserList-F, fold-InitialiserList}
 use Rattle.qs_syntax.specs.declared.tree.Variable.{Variable}
 use Rattle.qs_syntax.specs.declared.tree.Declaration.{Declaration}
 use Rattle.qs_syntax.specs.declared.tree.Parameter.{Parameter}
@@ -71,6 +71,9 @@ list_step l = list l.id l.token (initialisers_of l.items.items)
 
 abbrev pub initialiser_tree : Initialiser → InitialiserTree
 initialiser_tree = fold-Initialiser InitialiserTree InitialiserTree initialiser_step list_step
+
+abbrev pub list_tree : InitialiserList → InitialiserTree
+list_tree = fold-InitialiserList InitialiserTree InitialiserTree initialiser_step list_step
 
 abbrev pub initialisers_tree : List Initialiser → Initialisers
 initialisers_tree is = initialisers_of (map initialiser_tree is)

@@ -5,9 +5,11 @@ mod copy;
 mod lexeme;
 mod numbered_declarations;
 mod numbered_statements;
+mod numbered_units;
 mod numbering;
 mod tokens;
 mod tree;
+mod unit;
 
 pub use lexeme::Lexeme;
 pub use tokens::{Keyword, Mark, Token, TokenKind};
@@ -16,3 +18,4 @@ pub use tree::{
     Initialiser, InitialiserList, Lengths, Members, Node, Parameter, Shape, Start, StepSign, Stmt,
     Struct, Text, TypeName, UnarySign, Variable,
 };
+pub use unit::{Unit, numbered};

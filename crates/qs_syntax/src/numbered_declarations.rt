@@ -1,6 +1,6 @@
 // Copies of declarations whose nodes are numbered.
 ghost use Rattle.std.specs.Prelude.{◌≡◌, ◌+◌, ◌<◌, ◌^◌, IfOk, OnOk, map, option_map};
-ghost use Rattle.qs_syntax.specs.TreeOf.{lengths_tree, declarator_tree, initialiser_tree, initialisers_tree, variable_tree, declaration_tree, parameter_tree, members_tree};
+ghost use Rattle.qs_syntax.specs.TreeOf.{lengths_tree, declarator_tree, initialiser_tree, list_tree, initialisers_tree, variable_tree, declaration_tree, parameter_tree, members_tree};
 ghost use Rattle.qs_syntax.specs.Numbering.{lengths_nodes, numbered_lengths, declarator_nodes, numbered_declarator, initialiser_nodes, numbered_initialiser, initialisers_nodes, numbered_initialisers, variable_nodes, numbered_variable, declaration_nodes, numbered_declaration, parameter_nodes, numbered_parameter, members_nodes, numbered_members, option_nodes, option_numbered};
 
 use crate::numbering::numbered_expr;
@@ -58,17 +58,28 @@ pub fn numbered_initialiser(
 {
     match from {
         Initialiser::Value(e) => Ok(Initialiser::Value(numbered_expr(alloc, e, next)?)),
-        Initialiser::List(list) => {
-            let id = *next;
-            *next += 1;
-            let items = numbered_initialisers(alloc, &list.items, next)?;
-            Ok(Initialiser::List(InitialiserList {
-                id,
-                token: list.token,
-                items,
-            }))
-        }
+        Initialiser::List(list) => Ok(Initialiser::List(numbered_list(alloc, list, next)?)),
     }
+}
+
+#[cycle(number_initialiser)]
+fn numbered_list(
+    alloc: Global,
+    from: &InitialiserList,
+    next: &mut u32,
+) -> Result<InitialiserList, NoMemory>
+    requires { next.old + initialiser_nodes (list_tree from.now) < 2 ^ 32 }
+    ensures tree { IfOk result (λ to. list_tree to ≡ numbered_initialiser next.old (list_tree from.now)) }
+    ensures end { OnOk result (next.new ≡ next.old + initialiser_nodes (list_tree from.now)) }
+{
+    let id = *next;
+    *next += 1;
+    let items = numbered_initialisers(alloc, &from.items, next)?;
+    Ok(InitialiserList {
+        id,
+        token: from.token,
+        items,
+    })
 }
 
 #[cycle(number_initialiser)]
@@ -103,11 +114,7 @@ fn numbered_option(
     }
 }
 
-fn numbered_variable(
-    alloc: Global,
-    from: &Variable,
-    next: &mut u32,
-) -> Result<Variable, NoMemory>
+fn numbered_variable(alloc: Global, from: &Variable, next: &mut u32) -> Result<Variable, NoMemory>
     requires { next.old + variable_nodes (variable_tree from.now) < 2 ^ 32 }
     ensures tree { IfOk result (λ to. variable_tree to ≡ numbered_variable next.old (variable_tree from.now)) }
     ensures end { OnOk result (next.new ≡ next.old + variable_nodes (variable_tree from.now)) }
@@ -170,11 +177,7 @@ pub fn numbered_parameter(
     })
 }
 
-pub fn numbered_members(
-    alloc: Global,
-    from: &Members,
-    next: &mut u32,
-) -> Result<Members, NoMemory>
+pub fn numbered_members(alloc: Global, from: &Members, next: &mut u32) -> Result<Members, NoMemory>
     requires { next.old + members_nodes (members_tree from.now) < 2 ^ 32 }
     ensures tree { IfOk result (λ to. members_tree to ≡ numbered_members next.old (members_tree from.now)) }
     ensures end { OnOk result (next.new ≡ next.old + members_nodes (members_tree from.now)) }

@@ -46,7 +46,10 @@ fn numbered_shape(alloc: Global, shape: &Shape, next: &mut u32) -> Result<Shape,
         Shape::Name(name) => Ok(Shape::Name(name.copy(alloc)?)),
         Shape::Unary(sign, a) => Ok(Shape::Unary(*sign, boxed(alloc, a, next)?)),
         Shape::Step(sign, a) => Ok(Shape::Step(*sign, boxed(alloc, a, next)?)),
-        Shape::Cast(type_name, a) => Ok(Shape::Cast(type_name.copy(alloc)?, boxed(alloc, a, next)?)),
+        Shape::Cast(type_name, a) => Ok(Shape::Cast(
+            type_name.copy(alloc)?,
+            boxed(alloc, a, next)?,
+        )),
         Shape::SizeType(type_name) => Ok(Shape::SizeType(type_name.copy(alloc)?)),
         Shape::SizeExpr(a) => Ok(Shape::SizeExpr(boxed(alloc, a, next)?)),
         Shape::Binary(sign, a, b) => {

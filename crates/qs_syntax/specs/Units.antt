@@ -1,0 +1,35 @@
+-- What a unit is: trees that some tokens are read as, with their nodes numbered.
+use Rattle.std.specs.Prelude.{◌≡◌, ℕ, ◌≤◌, ◌^◌, nat_lt, Bool, true, ◌||◌, List}
+use Rattle.std.specs.List.{list_all}
+use Rattle.qs_base.specs.Names.{is_name}
+use Rattle.qs_syntax.specs.declared.lexeme.Lexeme.{Lexeme}
+use Rattle.qs_syntax.specs.declared.lexeme.Lexeme.TheVariants.{Name, Keyword, Constant, Text, Mark}
+use Rattle.qs_syntax.specs.Trees.{DeclTree}
+use Rattle.qs_syntax.specs.ReadsUnits.{ReadsUnit}
+use Rattle.qs_syntax.specs.Numbering.{numbered_unit}
+
+-- the greatest height of a reading
+abbrev pub height_limit : ℕ
+height_limit = 128
+
+-- a name is none of the keywords (6.4.2.1), and a constant is a value of its type (6.4.4.1)
+abbrev pub is_lexeme : Lexeme → Bool
+is_lexeme (Name at x) = is_name x
+is_lexeme (Keyword at k) = true
+is_lexeme (Constant at n unsigned) = unsigned || nat_lt n (2 ^ 31)
+is_lexeme (Text at bytes) = true
+is_lexeme (Mark at m) = true
+
+-- these trees, numbered, are the reading of some tokens, which is not too high
+pub record Reading (ds : List DeclTree) : Type 0 where
+  pub tokens : List Lexeme
+  pub height : ℕ
+  pub unnumbered : List DeclTree
+  pub are_tokens : list_all is_lexeme tokens ≡ true
+  pub reads : ReadsUnit height tokens unnumbered
+  pub low : height ≤ height_limit
+  pub are_numbered : ds ≡ numbered_unit unnumbered
+
+-- there is such a reading
+abbrev pub IsRead : List DeclTree → Type 0
+IsRead ds = ∥ Reading ds ∥₁

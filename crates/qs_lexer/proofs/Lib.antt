@@ -1,0 +1,10 @@
+pub mod Tests
+pub mod Tables
+pub mod Fronts
+pub mod Ends
+pub mod Begins
+pub mod Whites
+pub mod Formed
+pub mod Elements
+pub mod Only
+pub mod Steps

@@ -8,3 +8,5 @@ pub mod Formed
 pub mod Elements
 pub mod Only
 pub mod Steps
+pub mod Firsts
+pub mod Spelled

@@ -31,7 +31,7 @@ first_and_others : (bytes : List ℕ) → 0 < length bytes → elements_behind 0
 first_and_others [] h = absurd (omega arith)
 first_and_others (b ∷ bs) h =
     ap (λ es. first_element (b ∷ bs) ∷ es)
-      (behind_drop (element_length (b ∷ bs) - 1) bs ∙ ap (elements_behind 0) (drop_less (element_length (b ∷ bs)) b bs (element_some (b ∷ bs))))
+    (behind_drop (element_length (b ∷ bs) - 1) bs ∙ ap (elements_behind 0) (drop_less (element_length (b ∷ bs)) b bs (element_some (b ∷ bs))))
 
 drop_past : (n : ℕ) (bytes : List ℕ) → length bytes ≤ n → drop n bytes ≡ []
 drop_past zero [] h = refl

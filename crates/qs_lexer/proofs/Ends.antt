@@ -1,7 +1,7 @@
 -- Loops up to an end.
-use Rattle.std.proofs.Common.{◌≡◌, ℕ, ◌+◌, ◌<◌, ◌≤◌, suc, Bool, true, false, List, [], ◌∷◌, Option, Some, None, length, get_or, take, drop, refl, ap, sym, ◌∙◌, add-one, drop-cons, arith, add_assoc, zero-add, ◌*◌, nat_lt, mul-le-mul_left}
+use Rattle.std.proofs.Common.{◌≡◌, ℕ, ◌+◌, ◌<◌, ◌≤◌, suc, Bool, true, List, [], ◌∷◌, Option, Some, None, length, get_or, drop, refl, ap, sym, ◌∙◌, add-one, drop-cons, arith, zero-add, ◌*◌, mul-le-mul_left}
 use Rattle.qs_lexer.specs.Bytes.{digit_after_blanks, is_blank}
-use Rattle.qs_lexer.specs.Ends.{Turn, Goes, Ends, Fails, end_of, end_after, later}
+use Rattle.qs_lexer.specs.Ends.{Turn, Goes, Ends, Fails, end_of, later}
 use Rattle.qs_lexer.specs.Numbers.{value_from, digit_value}
 
 pub later-later : (i : ℕ) (o : Option ℕ) → later i (later 1 o) ≡ later (i + 1) o

@@ -1,9 +1,7 @@
 -- Which fronts of a list have a shape.
-use Rattle.std.proofs.Common.{◌≡◌, ℕ, ◌+◌, ◌-◌, ◌<◌, ◌≤◌, ◌⊎◌, inl, inr, zero, suc, Bool, true, false, cond, ◌&&◌, List, [], ◌∷◌, Option, Some, None, is_some, length, take, drop, refl, ap, sym, ◌∙◌, arith, nat_le, nat_lt, ◌==◌}
-use Rattle.std.proofs.lemmas.List.{length-take-le}
+use Rattle.std.proofs.Common.{◌≡◌, ℕ, ◌+◌, ◌<◌, ◌≤◌, zero, suc, Bool, true, false, cond, ◌&&◌, List, [], ◌∷◌, Option, Some, None, length, take, refl, ap, sym, ◌∙◌, arith, nat_le, ◌==◌}
 use Rattle.std.proofs.lemmas.Bool.Decides.{nat_tests}
 use Rattle.std.specs.List.{list_all, prefix_len}
-use Rattle.std.proofs.lemmas.List.Sums.{prefix_len-le-length}
 use Rattle.qs_lexer.specs.Bytes.{is_empty}
 use Rattle.qs_lexer.specs.Ends.{Turn, Goes, Ends, Fails, closes, closes_after, end_of, end_after, later}
 use Rattle.qs_lexer.specs.Pieces.{Longest, NoFront}

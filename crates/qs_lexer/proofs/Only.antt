@@ -1,9 +1,9 @@
 -- A text has one reading.
-use Rattle.std.proofs.Common.{◌≡◌, ℕ, ◌+◌, ◌-◌, ◌<◌, ◌≤◌, ◌⊎◌, inl, inr, zero, suc, Bool, true, false, List, [], ◌∷◌, ◌++◌, Result, Ok, Err, length, take, drop, refl, ap, sym, ◌∙◌, subst, arith}
+use Rattle.std.proofs.Common.{◌≡◌, ℕ, ◌<◌, ◌⊎◌, inl, inr, suc, Bool, true, false, List, [], ◌∷◌, ◌++◌, Result, Ok, Err, length, take, drop, refl, ap, sym, ◌∙◌, subst, arith}
 use Rattle.std.proofs.Math.Seq.{drop-length}
 use Rattle.std.specs.declared.vec.Vec.{Vec}
 use Rattle.std.specs.declared.alloc.Global.{Global}
-use Rattle.qs_lexer.specs.Pieces.{Longest, NoFront, IsFront, IsAbsent, Stands, Next, class_of, has_form, piece_of, piece_without}
+use Rattle.qs_lexer.specs.Pieces.{Stands, Next, class_of, has_form, piece_of}
 use Rattle.qs_lexer.specs.Tokens.{ReadsTo, start, white_space, token, token_at, Tokens, LexFaultAt}
 use Rattle.qs_lexer.specs.Results.{Says, SaysFault, GivesTokens, GivesFault, fault_at}
 use Rattle.qs_lexer.specs.declared.fault.FaultKind.{FaultKind}
@@ -95,12 +95,12 @@ unfolding count
 passes start e x h n s = absurd (omega arith)
 passes {text = text} {us = us} {g = g} {b = b} (white_space {tokens = ts} {fresh = f} {at = a} n i d t) e x h y s =
     step_back (count d) (count e) h (λ l. passes d e x l y s) (λ q.
-      let r : Same ts f a us g b = same d e q in
-      differ (pieces.White n i) x (one_next g (drop b text) (pieces.White n i) x (moved text f g a b (pieces.White n i) r.fresh r.at t) y) refl s)
+    let r : Same ts f a us g b = same d e q in
+    differ (pieces.White n i) x (one_next g (drop b text) (pieces.White n i) x (moved text f g a b (pieces.White n i) r.fresh r.at t) y) refl s)
 passes {text = text} {us = us} {g = g} {b = b} (token {tokens = ts} {fresh = f} {at = a} n i d t) e x h y s =
     step_back (count d) (count e) h (λ l. passes d e x l y s) (λ q.
-      let r : Same ts f a us g b = same d e q in
-      differ (pieces.Token n i) x (one_next g (drop b text) (pieces.Token n i) x (moved text f g a b (pieces.Token n i) r.fresh r.at t) y) refl s)
+    let r : Same ts f a us g b = same d e q in
+    differ (pieces.Token n i) x (one_next g (drop b text) (pieces.Token n i) x (moved text f g a b (pieces.Token n i) r.fresh r.at t) y) refl s)
 
 record OneEnd (ts : List Token) (a : ℕ) (x : Piece) (us : List Token) (b : ℕ) (y : Piece) : Type 0 where
   tokens : ts ≡ us

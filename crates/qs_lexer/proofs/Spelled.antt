@@ -1,13 +1,13 @@
 -- What holds of each token of a text.
-use Rattle.std.proofs.Common.{◌≡◌, ℕ, ◌+◌, ◌-◌, ◌<◌, ◌≤◌, ◌⊎◌, inl, inr, zero, suc, Bool, true, false, cond, not, ◌&&◌, ◌||◌, List, [], ◌∷◌, ◌++◌, Option, Some, None, is_some, Result, Ok, Err, length, take, drop, map, All, refl, ap, sym, ◌∙◌, subst, arith, bytes_eq, nat_lt, ◌^◌, ◌==◌}
+use Rattle.std.proofs.Common.{◌≡◌, ℕ, ◌+◌, ◌-◌, ◌≤◌, inl, inr, zero, suc, Bool, true, false, cond, not, ◌&&◌, ◌||◌, List, [], ◌∷◌, ◌++◌, Option, Some, None, is_some, Result, Ok, Err, length, take, drop, All, refl, ap, sym, ◌∙◌, subst, arith, bytes_eq, nat_lt, ◌^◌, ◌==◌}
 use Rattle.std.specs.List.{list_any}
 use Rattle.std.proofs.lemmas.List.{length-take-le, length-drop}
 use Rattle.std.proofs.lemmas.List.Elements.{All-append, All-nil}
 use Rattle.qs_base.specs.Names.{is_keyword, is_name, is_word, keywords}
-use Rattle.qs_lexer.specs.Laws.{InOrder, IsTextLiteral, IsTokenOf, spelling}
-use Rattle.qs_lexer.specs.Literals.{character_of, character_of_elements, character_with, elements_of, is_bad, is_wide, text_of}
+use Rattle.qs_lexer.specs.Laws.{InOrder, IsTextLiteral, IsTokenOf}
+use Rattle.qs_lexer.specs.Literals.{character_of, character_of_elements, elements_of, is_bad, is_wide, text_of}
 use Rattle.qs_lexer.specs.Numbers.{are_digits, base_of, digits_of, has_suffix, number_of, number_without_suffix, typed, value_of, without_suffix}
-use Rattle.qs_lexer.specs.Pieces.{Longest, Next, Stands, class_of, has_form, is_token, piece_of, piece_without, token_or_fault}
+use Rattle.qs_lexer.specs.Pieces.{Longest, Next, class_of, has_form, is_token, piece_of, piece_without, token_or_fault}
 use Rattle.qs_lexer.specs.Tables.{look_up}
 use Rattle.qs_lexer.specs.Tokens.{ReadsTo, start, white_space, token, token_at, Tokens}
 use Rattle.qs_lexer.specs.Words.{keyword_of, keyword_table, mark_of, mark_with, word_of, word_with}
@@ -25,7 +25,7 @@ use Rattle.qs_syntax.specs.declared.tokens.Token.{Token}
 use Rattle.qs_syntax.specs.declared.tokens.TokenKind.{TokenKind}
 use Rattle.qs_syntax.specs.declared.tokens.TokenKind.TheVariants as kinds
 use Rattle.qs_lexer.proofs.Firsts.{is_token_class, longest_token}
-use Rattle.qs_lexer.proofs.Steps.{Moves, next_moves}
+use Rattle.qs_lexer.proofs.Steps.{next_moves}
 
 -- ---- the keywords of both tables are the same
 
@@ -74,12 +74,12 @@ typed_other : (base : ℕ) (suffix : Bool) (value : ℕ) → GivesOther (typed b
 typed_other base suffix value =
     let wider : Result TokenKind FaultKind = cond (nat_lt value (2 ^ 32) && (suffix || not (base == 10))) (Ok (kinds.Number value true)) (Err faults.WideLiteral) in
     other_if (nat_lt value (2 ^ 31)) (Ok (kinds.Number value suffix)) wider refl
-      (other_if (nat_lt value (2 ^ 32) && (suffix || not (base == 10))) (Ok (kinds.Number value true)) (Err faults.WideLiteral) refl tt)
+    (other_if (nat_lt value (2 ^ 32) && (suffix || not (base == 10))) (Ok (kinds.Number value true)) (Err faults.WideLiteral) refl tt)
 
 without_other : (literal : List ℕ) (suffix : Bool) → GivesOther (number_without_suffix literal suffix)
 without_other literal suffix =
     other_if (nat_lt 0 (length (digits_of literal)) && are_digits (base_of literal) (digits_of literal)) (typed (base_of literal) suffix (value_of (base_of literal) (digits_of literal))) (Err faults.BadLiteral)
-      (typed_other (base_of literal) suffix (value_of (base_of literal) (digits_of literal))) tt
+    (typed_other (base_of literal) suffix (value_of (base_of literal) (digits_of literal))) tt
 
 number_other : (literal : List ℕ) → GivesOther (number_of literal)
 number_other literal = without_other (without_suffix literal) (has_suffix literal)
@@ -135,6 +135,7 @@ word_name word kind h e k = name_of word h (by (keyword_of word) (kinds.Name) (o
   where
     ok_is : (x y : TokenKind) → good x ≡ good y → x ≡ y
     ok_is x y e = cc
+
     by : (o : Option Keyword) (n : TokenKind) → word_with o ≡ kinds.Name → o ≡ None
     by None n e = refl
     by (Some keyword) n e = cc

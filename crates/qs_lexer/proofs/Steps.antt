@@ -1,9 +1,9 @@
 -- A piece takes at least one byte, and none that is not there; the loop over the pieces.
-use Rattle.std.proofs.Common.{◌≡◌, ℕ, ◌+◌, ◌-◌, ◌<◌, ◌≤◌, ◌⊎◌, inl, inr, zero, suc, Bool, true, false, List, [], ◌∷◌, ◌++◌, Result, Ok, Err, length, take, drop, refl, ap, sym, ◌∙◌, subst, arith}
+use Rattle.std.proofs.Common.{◌≡◌, ℕ, ◌+◌, ◌-◌, ◌≤◌, inl, inr, zero, suc, Bool, true, false, List, [], ◌∷◌, ◌++◌, Result, Ok, Err, length, take, drop, refl, ap, sym, ◌∙◌, subst, arith}
 use Rattle.std.proofs.lemmas.List.{length-take-le, length-drop}
 use Rattle.qs_lexer.specs.Literals.{character_of, text_of}
 use Rattle.qs_lexer.specs.Numbers.{number_of}
-use Rattle.qs_lexer.specs.Pieces.{Longest, Stands, Next, class_of, has_form, piece_of, piece_without, token_or_fault, is_mark}
+use Rattle.qs_lexer.specs.Pieces.{Stands, Next, class_of, has_form, piece_of, piece_without, token_or_fault, is_mark}
 use Rattle.qs_lexer.specs.Results.{SaysFault, fault_at}
 use Rattle.qs_lexer.specs.Tokens.{ReadsTo, start, white_space, token, token_at, Tokens, LexFaultAt}
 use Rattle.qs_lexer.specs.Words.{mark_of, mark_with, word_of}

@@ -1,5 +1,5 @@
 -- Tables of words: spellings that are in none.
-use Rattle.std.proofs.Common.{◌≡◌, ℕ, ◌<◌, ◌≤◌, zero, suc, Bool, true, false, ◌&&◌, List, [], ◌∷◌, Option, Some, None, is_some, length, refl, ap, ◌∙◌, arith, bytes_eq, ◌==◌}
+use Rattle.std.proofs.Common.{◌≡◌, ℕ, ◌<◌, ◌≤◌, Bool, true, false, ◌&&◌, List, [], ◌∷◌, None, length, refl, arith, bytes_eq, ◌==◌}
 use Rattle.qs_lexer.specs.Tables.{look_up}
 
 and_false : (b : Bool) → (b && false) ≡ false

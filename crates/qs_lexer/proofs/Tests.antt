@@ -1,5 +1,5 @@
 -- Conjunctions of tests.
-use Rattle.std.proofs.Common.{◌≡◌, ℕ, Bool, true, false, cond, ◌&&◌, ◌||◌, Option, Some, None, refl, ◌==◌}
+use Rattle.std.proofs.Common.{◌≡◌, ℕ, Bool, true, false, cond, ◌&&◌, Option, Some, None, refl, ◌==◌}
 use Rattle.qs_lexer.proofs.Fronts.{is_at}
 
 pub and_true : (b c : Bool) → b ≡ true → (b && c) ≡ c

@@ -1,5 +1,5 @@
 -- What the code finds stands there: white space.
-use Rattle.std.proofs.Common.{◌≡◌, ℕ, ◌+◌, ◌-◌, ◌<◌, ◌≤◌, inl, inr, zero, suc, Bool, true, false, cond, ◌&&◌, List, [], ◌∷◌, Option, Some, None, length, take, drop, refl, ap, sym, ◌∙◌, arith, nat_le, ◌==◌}
+use Rattle.std.proofs.Common.{◌≡◌, ℕ, ◌+◌, ◌<◌, ◌≤◌, inl, inr, zero, suc, Bool, true, false, cond, ◌&&◌, List, [], ◌∷◌, Some, None, length, take, drop, refl, ap, sym, ◌∙◌, arith, nat_le, ◌==◌}
 use Rattle.std.proofs.lemmas.List.{length-take-le}
 use Rattle.std.proofs.lemmas.Bool.Decides.{nat_tests}
 use Rattle.std.specs.List.{list_all, prefix_len}
@@ -8,11 +8,11 @@ use Rattle.qs_base.specs.Names.{is_digit}
 use Rattle.qs_lexer.specs.Bytes.{blanks_then_digit, digit_after_blanks, is_blank, is_empty, is_in_line, is_space, starts, starts_with}
 use Rattle.qs_lexer.specs.Ends.{closes, comment_turn, end_of}
 use Rattle.qs_lexer.specs.Heads.{Opens}
-use Rattle.qs_lexer.specs.Pieces.{Longest, NoFront, Stands, has_form, piece_without, still_fresh}
+use Rattle.qs_lexer.specs.Pieces.{NoFront, Stands, has_form, piece_without, still_fresh}
 use Rattle.qs_lexer.specs.declared.pieces.Class.TheVariants.{Space, LineComment, BlockComment, LineMarker}
 use Rattle.qs_lexer.specs.declared.pieces.Piece.{Piece}
 use Rattle.qs_lexer.specs.declared.pieces.Piece.TheVariants as pieces
-use Rattle.qs_lexer.proofs.Fronts.{list_all_take, closes_take, end_within, longest_of_le, longest_of_at, is_at}
+use Rattle.qs_lexer.proofs.Fronts.{list_all_take, closes_take, end_within, longest_of_le, longest_of_at}
 use Rattle.qs_lexer.proofs.Tests.{and_true, and_false, cond_true, three_true, third_false, second_false, at_none, at_some}
 
 -- a white piece of n bytes
@@ -32,6 +32,7 @@ space_first fresh a tail piece h s = inl (record {
     not_empty zero xs l w = absurd (omega arith)
     not_empty (suc k) [] l w = absurd (omega arith)
     not_empty (suc k) (x ∷ xs) l w = refl
+
     each : (m : ℕ) → 1 < m → m ≤ suc (length tail) → has_form Space (take m (a ∷ tail)) ≡ false
     each zero l w = absurd (omega arith)
     each (suc m) l w = and_false (is_space a) (is_empty (take m tail)) (not_empty m tail (omega arith) (omega arith))

@@ -1,5 +1,5 @@
 -- What a list begins with.
-use Rattle.std.specs.Prelude.{◌≡◌, ℕ, Bool, true, List, drop, length, take, nat_le, Option, None, if◌then◌else◌}
+use Rattle.std.specs.Prelude.{◌≡◌, ℕ, true, List, drop, length, take, nat_le, Option, None, if◌then◌else◌}
 use Rattle.qs_lexer.specs.Bytes.{starts_with}
 use Rattle.qs_lexer.specs.Words.{mark_of}
 use Rattle.qs_syntax.specs.declared.tokens.Mark.{Mark}

@@ -11,13 +11,11 @@ pub fn one_reading()
     ensures one_kind { (text : List ℕ) (kind other : FaultKind) (at place : ℕ) → LexFaultAt text kind at → LexFaultAt text other place → kind ≡ other }
     ensures one_place { (text : List ℕ) (kind other : FaultKind) (at place : ℕ) → LexFaultAt text kind at → LexFaultAt text other place → at ≡ place }
     ensures not_both { (text : List ℕ) (tokens : List Token) (kind : FaultKind) (at : ℕ) → Tokens text tokens → LexFaultAt text kind at → ⊥ }
-{
-}
+{}
 
 /// Each token lies in the text and is the longest that can stand there, names are names of the language
 /// and texts are text literals; the tokens stand in order, none over another.
 pub fn each_token()
     ensures tokens_of { (text : List ℕ) (tokens : List Token) → Tokens text tokens → All (IsTokenOf text) tokens }
     ensures in_order { (text : List ℕ) (tokens : List Token) → Tokens text tokens → InOrder 0 tokens (length text) }
-{
-}
+{}

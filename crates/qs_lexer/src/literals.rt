@@ -128,7 +128,6 @@ fn escape(bytes: &[u8]) -> Element
 
 /// How many bytes behind a backslash belong to its escape.
 fn escape_length(bytes: &[u8]) -> usize
-    requires { length bytes.now < 2 ^ 62 }
     ensures count { result ≡ escape_length bytes.now }
     ensures within { result ≤ length bytes.now + 1 }
 {
@@ -159,7 +158,6 @@ fn first_element(bytes: &[u8]) -> Element
 
 /// How many bytes the first element takes.
 fn element_length(bytes: &[u8]) -> usize
-    requires { length bytes.now < 2 ^ 62 }
     ensures count { result ≡ element_length bytes.now }
     ensures within { result ≤ length bytes.now + 1 }
 {
@@ -196,7 +194,6 @@ fn character_with(element: Element) -> Result<TokenKind, FaultKind>
 }
 
 fn character_in(body: &[u8]) -> Result<TokenKind, FaultKind>
-    requires { length body.now < 2 ^ 62 }
     ensures { result ≡ character_of_elements (elements_behind 0 body.now) }
 {
     match body {
@@ -213,7 +210,6 @@ fn character_in(body: &[u8]) -> Result<TokenKind, FaultKind>
 
 /// The character that a literal is (C11 6.4.4.4).
 pub fn character_of(literal: &[u8]) -> Result<TokenKind, FaultKind>
-    requires { length literal.now < 2 ^ 62 }
     ensures { result ≡ character_of literal.now }
 {
     character_in(inside(literal))
@@ -246,7 +242,6 @@ fn or_wide(wide: bool, element: Element) -> bool
 }
 
 fn text_in(body: &[u8]) -> Result<TokenKind, FaultKind>
-    requires { length body.now < 2 ^ 62 }
     ensures { result ≡ text_with (elements_behind 0 body.now) }
 {
     let mut wide = false;
@@ -269,7 +264,6 @@ fn text_in(body: &[u8]) -> Result<TokenKind, FaultKind>
 
 /// What a literal in double quotes is: a text, if each of its elements is a byte (C11 6.4.5).
 pub fn text_of(literal: &[u8]) -> Result<TokenKind, FaultKind>
-    requires { length literal.now < 2 ^ 62 }
     ensures { result ≡ text_of literal.now }
 {
     text_in(inside(literal))
@@ -286,7 +280,6 @@ fn put_element(element: Element, into: &mut Vec<u8>) -> Result<(), NoMemory>
 }
 
 fn put_elements(body: &[u8], into: &mut Vec<u8>) -> Result<(), NoMemory>
-    requires { length body.now < 2 ^ 62 }
     ensures { OnOk result (into.new.items ≡ into.old.items ++ byte_values (elements_behind 0 body.now)) }
 {
     let mut at = 0;
@@ -301,7 +294,6 @@ fn put_elements(body: &[u8], into: &mut Vec<u8>) -> Result<(), NoMemory>
 /// Puts the bytes that a text literal stands for behind those of `into`: the values of its elements, its
 /// escapes resolved (C11 6.4.5). The literal is the slice of a `Text` token, with its quotes.
 pub fn text_bytes(literal: &[u8], into: &mut Vec<u8>) -> Result<(), NoMemory>
-    requires short { length literal.now < 2 ^ 62 }
     ensures appends { OnOk result (into.new.items ≡ into.old.items ++ elements literal.now) }
 {
     put_elements(inside(literal), into)

@@ -6,7 +6,10 @@ ghost use Rattle.qs_lexer.specs.Heads.{Opens, mark_front};
 ghost use Rattle.qs_lexer.specs.Pieces.{Next, Stands, still_fresh, token_or_fault};
 ghost use Rattle.qs_lexer.specs.declared.pieces.Class.TheVariants as class;
 
-use crate::bytes::{blanks_then_digit, class_of, comment_end, is_blank, line_length, number_length, quote_end, word_length};
+use crate::bytes::{
+    blanks_then_digit, class_of, comment_end, is_blank, line_length, number_length, quote_end,
+    word_length,
+};
 use crate::fault::FaultKind;
 use crate::literals::{character_of, text_of};
 use crate::numbers::number_of;
@@ -47,8 +50,7 @@ fn line_comment(rest: &[u8]) -> Piece
 }
 
 fn block_comment(rest: &[u8]) -> Piece
-    requires opens { Opens 47 42 rest.now }
-    requires short { length rest.now < 2 ^ 31 }
+    requires { Opens 47 42 rest.now }
     ensures { (fresh : Bool) → Stands fresh class.BlockComment rest.now result }
 {
     let (_, body) = rest.split_at(2);
@@ -87,8 +89,7 @@ fn number(rest: &[u8]) -> Piece
 }
 
 fn character(rest: &[u8]) -> Piece
-    requires quoted { starts_with 39 rest.now ≡ true }
-    requires short { length rest.now < 2 ^ 31 }
+    requires { starts_with 39 rest.now ≡ true }
     ensures { (fresh : Bool) → Stands fresh class.Character rest.now result }
 {
     let (_, behind) = rest.split_at(1);
@@ -102,8 +103,7 @@ fn character(rest: &[u8]) -> Piece
 }
 
 fn text(rest: &[u8]) -> Piece
-    requires quoted { starts_with 34 rest.now ≡ true }
-    requires short { length rest.now < 2 ^ 31 }
+    requires { starts_with 34 rest.now ≡ true }
     ensures { (fresh : Bool) → Stands fresh class.Text rest.now result }
 {
     let (_, behind) = rest.split_at(1);
@@ -145,7 +145,6 @@ fn mark(rest: &[u8]) -> Piece
 /// What stands first; `fresh` says that it may be first on its line.
 #[tactic(auto, using(crate::proofs::Begins::next_is, crate::proofs::Begins::begun_as))]
 pub fn next(fresh: bool, rest: &[u8]) -> Piece
-    requires { length rest.now < 2 ^ 31 }
     ensures { Next fresh rest.now result }
 {
     match class_of(fresh, rest) {

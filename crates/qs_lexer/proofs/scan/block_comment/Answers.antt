@@ -12,7 +12,7 @@ overflow_add-result c =
     omega (arith, c.split_at.ensures.back_len)
 
 pub returns-in-Some : goal.returns-in-Some
-returns-in-Some c = λ fresh. block_ends fresh c.args.rest.now c.split_at.result.1.now c.in-Some.n (White (c.in-Some.n + 2) false) c.requires.opens c.split_at.ensures.back (sym c.comment_end.ensures ∙ c.in-Some.is) refl
+returns-in-Some c = λ fresh. block_ends fresh c.args.rest.now c.split_at.result.1.now c.in-Some.n (White (c.in-Some.n + 2) false) c.requires c.split_at.ensures.back (sym c.comment_end.ensures ∙ c.in-Some.is) refl
 
 pub returns-in-None : goal.returns-in-None
-returns-in-None c = λ fresh. block_open fresh c.args.rest.now c.split_at.result.1.now (Fault OpenComment) c.requires.opens c.split_at.ensures.back (sym c.comment_end.ensures ∙ c.in-None.is) refl
+returns-in-None c = λ fresh. block_open fresh c.args.rest.now c.split_at.result.1.now (Fault OpenComment) c.requires c.split_at.ensures.back (sym c.comment_end.ensures ∙ c.in-None.is) refl

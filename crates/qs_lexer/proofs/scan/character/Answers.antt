@@ -1,4 +1,4 @@
-use Rattle.std.proofs.Common.{◌≤◌, ◌<◌, ◌+◌, length, refl, false, arith, sym, ap, ◌∙◌}
+use Rattle.std.proofs.Common.{◌≤◌, ◌+◌, length, refl, false, arith, sym, ap, ◌∙◌}
 use Rattle.qs_lexer.specs.Ends.{end_of, quote_turn}
 use Rattle.qs_lexer.specs.Literals.{character_of}
 use Rattle.qs_lexer.specs.Pieces.{token_or_fault}
@@ -14,13 +14,13 @@ within c =
     omega (arith, c.split_at.ensures.back_len)
 
 pub overflow_add-n : goal.overflow_add-n
-overflow_add-n c = omega (arith, within c, c.requires.short)
+overflow_add-n c = let w : c.in-Some.n + 1 ≤ length c.args.rest.now = within c in omega arith
 
 pub split_at-requires-in-Some : goal.split_at-requires-in-Some
 split_at-requires-in-Some c = within c
 
 pub returns-in-Some : goal.returns-in-Some
-returns-in-Some c = λ fresh. character_ends fresh c.args.rest.now c.in-Some.n c.token_or_fault.result c.requires.quoted
+returns-in-Some c = λ fresh. character_ends fresh c.args.rest.now c.in-Some.n c.token_or_fault.result c.requires
     (ap (end_of (quote_turn 39) false) (sym c.split_at.ensures.back) ∙ sym c.quote_end.ensures ∙ c.in-Some.is)
     (c.token_or_fault.ensures ∙ ap (token_or_fault (c.in-Some.n + 1)) (c.character_of.ensures ∙ ap character_of c.split_at-in-Some.ensures.front))
 

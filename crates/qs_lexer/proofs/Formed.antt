@@ -19,7 +19,7 @@ use Rattle.qs_syntax.specs.declared.tokens.Mark.{Mark}
 use Rattle.qs_syntax.specs.declared.tokens.TokenKind.TheVariants as kinds
 use Rattle.qs_lexer.proofs.Fronts.{list_all_take, closes_take, end_within, longest_of_le, longest_of_at, longest_same}
 use Rattle.qs_lexer.proofs.Tables.{KeysUpTo, key, no_key, look_up_long}
-use Rattle.qs_lexer.proofs.Tests.{and_true, and_false, cond_true, at_none, at_some}
+use Rattle.qs_lexer.proofs.Conjunctions.{and_true, and_false, cond_true, at_none, at_some}
 
 -- ---- words and numbers: a byte of the one class, and bytes of the other
 

@@ -1,4 +1,4 @@
-pub mod Tests
+pub mod Conjunctions
 pub mod Tables
 pub mod Fronts
 pub mod Ends
@@ -10,3 +10,4 @@ pub mod Only
 pub mod Steps
 pub mod Firsts
 pub mod Spelled
+pub mod Examples

@@ -13,7 +13,7 @@ use Rattle.qs_lexer.specs.declared.pieces.Class.TheVariants.{Space, LineComment,
 use Rattle.qs_lexer.specs.declared.pieces.Piece.{Piece}
 use Rattle.qs_lexer.specs.declared.pieces.Piece.TheVariants as pieces
 use Rattle.qs_lexer.proofs.Fronts.{list_all_take, closes_take, end_within, longest_of_le, longest_of_at}
-use Rattle.qs_lexer.proofs.Tests.{and_true, and_false, cond_true, three_true, third_false, second_false, at_none, at_some}
+use Rattle.qs_lexer.proofs.Conjunctions.{and_true, and_false, cond_true, three_true, third_false, second_false, at_none, at_some}
 
 -- a white piece of n bytes
 white_is : (n : ℕ) (rest : List ℕ) (still : Bool) (piece : Piece) → n ≤ length rest → piece ≡ pieces.White n still → piece ≡ pieces.White (length (take n rest)) still

@@ -15,3 +15,6 @@ pub use fault::{FaultKind, LexFault};
 pub use laws::{each_token, one_reading};
 pub use literals::text_bytes;
 pub use reading::tokens;
+
+#[cfg(test)]
+mod tests;

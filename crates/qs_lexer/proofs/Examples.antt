@@ -1,5 +1,5 @@
 -- Small texts, computed from the definitions.
-use Rattle.std.proofs.Common.{◌≡◌, Bool, true, false, List, [], ◌∷◌, ℕ, Option, Some, None, Result, Ok, Err, codes, refl, take, drop}
+use Rattle.std.proofs.Common.{◌≡◌, true, false, [], ◌∷◌, Some, None, Ok, Err, codes, refl}
 use Rattle.qs_lexer.specs.Literals.{character_of, elements, simple_escape, text_of}
 use Rattle.qs_lexer.specs.Numbers.{number_of}
 use Rattle.qs_lexer.specs.Pieces.{class_of, is_block_comment, is_line_marker, is_quoted}

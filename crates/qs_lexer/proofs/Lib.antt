@@ -1,0 +1,13 @@
+pub mod Conjunctions
+pub mod Tables
+pub mod Fronts
+pub mod Ends
+pub mod Begins
+pub mod Whites
+pub mod Formed
+pub mod Elements
+pub mod Only
+pub mod Steps
+pub mod Firsts
+pub mod Spelled
+pub mod Examples

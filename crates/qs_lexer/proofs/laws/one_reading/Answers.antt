@@ -1,0 +1,14 @@
+use Rattle.qs_lexer.proofs.Only.{not_both, one_kind, one_list, one_place}
+use Rattle.qs_lexer.proofs.laws.one_reading.Goals as goal
+
+pub returns-clause-one_list : goal.returns-clause-one_list
+returns-clause-one_list c = one_list
+
+pub returns-clause-one_kind : goal.returns-clause-one_kind
+returns-clause-one_kind c = one_kind
+
+pub returns-clause-one_place : goal.returns-clause-one_place
+returns-clause-one_place c = one_place
+
+pub returns-clause-not_both : goal.returns-clause-not_both
+returns-clause-not_both c = not_both

@@ -4,7 +4,7 @@ use Rattle.qs_syntax.specs.declared.lexeme.Lexeme.{Lexeme}
 use Rattle.qs_parser.specs.Parse.{Stop, Unexpected, Deep, Parse, bind}
 
 -- behind the tokens `done`: R of these and of what was taken
-abbrev pub Outcome : {A : Type 0} → (A → List Lexeme → Type 0) → List Lexeme → List Lexeme → Result (A × List Lexeme) Stop → Type 0
+abbrev Outcome : {A : Type 0} → (A → List Lexeme → Type 0) → List Lexeme → List Lexeme → Result (A × List Lexeme) Stop → Type 0
 Outcome R done ts (Ok x) = (front : List Lexeme) × (ts ≡ front ++ x.1) × R x.0 (done ++ front)
 Outcome R done ts (Err e) = Unit {0}
 

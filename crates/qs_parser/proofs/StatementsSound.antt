@@ -13,25 +13,25 @@ use Rattle.qs_syntax.specs.Trees as trees
 use Rattle.qs_syntax.specs.Reads.{Reads, Form, Expression, place}
 use Rattle.qs_syntax.specs.ReadsStatements.{is_open, ReadsOptional, nothing_there, something_there, ReadsStart, a_start_declaration, a_start_expression, no_start_at_all, ReadsStatement, a_block, an_empty, an_expression, an_if, an_if_with_else, a_while, a_do, a_for, a_break, a_continue, a_return, ReadsItem, a_statement, a_declared, ReadsItems, no_item, an_item}
 use Rattle.qs_parser.specs.Heads.{is_mark, is_keyword, starts, starts_with, begins_type}
-use Rattle.qs_parser.specs.Parse.{Stop, Parse, bind, unexpected, expect, E, part, begins_one}
+use Rattle.qs_parser.specs.Parse.{Stop, Parse, bind, unexpected, expect, E, part}
 use Rattle.qs_parser.specs.ParseDeclarations.{declaration_within}
 use Rattle.qs_parser.specs.ParseStatements.{S, optional, condition, start_of, begins_statement, item, items, in_block, after_then, after_if, after_while, expect_while, after_do, after_for, after_return, keyword_statement, statement_at, statement}
 use Rattle.qs_parser.proofs.HeadsLaws.{keyword_is, mark_is}
 use Rattle.qs_parser.proofs.Sound.{Sound, Sound-ok, Sound-err, Sound-after, Sound-mono}
 use Rattle.qs_parser.proofs.SoundSteps.{Sound-if}
 use Rattle.qs_parser.proofs.ExpressionsSound.{IsRead, sound_part}
-use Rattle.qs_parser.proofs.ExpressionsBegin.{begins}
+use Rattle.qs_parser.proofs.ExpressionsBegin.{place_more}
 use Rattle.qs_parser.proofs.DeclarationsSteps.{Sound-behind, Sound-first, Sound-mark, Sound-part, Sound-part-is, Sound-last}
 use Rattle.qs_parser.proofs.DeclarationsLists.{Closed, Ends, all_closed}
 use Rattle.qs_parser.proofs.DeclarationsSound.{IsDeclaration, sound_declaration_within}
 
 -- ---- an `else` is taken where it can be
 
-abbrev NoElse : List Lexeme → Type 0
+abbrev pub NoElse : List Lexeme → Type 0
 NoElse ts = starts_with keywords.Else ts ≡ false
 
 -- what follows a statement that an `else` would belong to is no `else`
-abbrev Takes : Result (S × List Lexeme) Stop → Type 0
+abbrev pub Takes : Result (S × List Lexeme) Stop → Type 0
 Takes (Ok x) = is_open x.0.0 ≡ true → NoElse x.1
 Takes (Err s) = Unit {0}
 
@@ -83,7 +83,7 @@ module _ (m : ℕ) (inner : Parse S) (takes : (ts : List Lexeme) → Takes (inne
       takes_if (is_mark marks.Semicolon t) _ _ (λ _ o. absurd (true≢false (sym o)))
       (λ _. takes_if (is_mark marks.OpenBrace t) _ _ (λ _. takes_closed (items m inner (length ts) [] 0 ts) (λ ss. (block (stmts_of ss.0), ss.1 + 1)) (λ ss. refl)) (λ _. takes_keyword t ts))
 
-takes_statement : (n : ℕ) (ts : List Lexeme) → Takes (statement n ts)
+pub takes_statement : (n : ℕ) (ts : List Lexeme) → Takes (statement n ts)
 unfolding statement
 takes_statement zero ts = takes_if (begins_statement ts) _ _ (λ _. tt) (λ _. tt)
 takes_statement (suc m) ts = takes_statement_at m (statement m) (λ us. takes_statement m us) ts
@@ -92,7 +92,7 @@ takes_statement (suc m) ts = takes_statement_at m (statement m) (λ us. takes_st
 
 -- a keyword, and what follows
 module _ {A : Type 0} {R : A → List Lexeme → Type 0} where
-  Sound-keyword : (k : key.Keyword) (t : Lexeme) (ts : List Lexeme) {r : Result (A × List Lexeme) Stop} → is_keyword k t ≡ true → Sound (λ x l. R x (Keyword (number_of t) k ∷ l)) [] ts r → Sound R [] (t ∷ ts) r
+  pub Sound-keyword : (k : key.Keyword) (t : Lexeme) (ts : List Lexeme) {r : Result (A × List Lexeme) Stop} → is_keyword k t ≡ true → Sound (λ x l. R x (Keyword (number_of t) k ∷ l)) [] ts r → Sound R [] (t ∷ ts) r
   Sound-keyword k t ts e s = rw (keyword_is k t e) (Sound-first s)
 
   Sound-while : (m : ℕ) (inner : Parse S) (ts : List Lexeme) (f : Unit {0} → Parse A) → ((w : ℕ) (us : List Lexeme) → Sound (λ x l. R x (Keyword w keywords.While ∷ l)) [] us (f tt us)) → Sound R [] ts (bind (expect_while m inner ts) f)
@@ -134,7 +134,7 @@ sound_start m ts =
 abbrev pub IsStatement : ℕ → S → List Lexeme → Type 0
 IsStatement n x l = ReadsStatement x.1 l x.0 × (x.1 ≤ n)
 
-abbrev AllItems : ℕ → List Lexeme → List StmtTree → Type 0
+abbrev pub AllItems : ℕ → List Lexeme → List StmtTree → Type 0
 AllItems h l ss = ReadsItems h l (stmts_of ss)
 
 abbrev IsItem : ℕ → S → List Lexeme → Type 0
@@ -184,13 +184,8 @@ for_read m at o a e u s ws xs ys zs (start, l1) (first, n, d1, r1, l2) (second, 
 return_read : (m at : ℕ) (e : Option ExprTree × ℕ) (xs : List Lexeme) → IsOptional m marks.Semicolon e xs → IsStatement (suc m) (return 0 at e.0, e.1 + 1) (Keyword at keywords.Return ∷ xs)
 return_read m at e xs (inside, s, d, r, le) = (rw (d, add-one e.1) (a_return at s r), omega arith)
 
--- tokens that begin an expression have a first one
-begun_place : (ts us : List Lexeme) → begins_one (ts ++ []) ≡ true → place (ts ++ us) ≡ place ts
-begun_place [] us e = absurd (true≢false (sym e))
-begun_place (t ∷ ts) us e = refl
-
 expression_read : (m : ℕ) (ts us : List Lexeme) (e : E) (front : List Lexeme) → ts ≡ front ++ us → IsRead m Expression e front → (s : ℕ) → IsStatement (suc m) (expression 0 (place ts) e.0, e.1 + 1) (front ++ Mark s marks.Semicolon ∷ [])
-expression_read m ts us e front split (r, le) s = (rw (split, begun_place front us (begins r []), add-one e.1) (an_expression s r), omega arith)
+expression_read m ts us e front split (r, le) s = (rw (split, place_more r us, add-one e.1) (an_expression s r), omega arith)
 
 -- ---- the functions
 

@@ -122,8 +122,8 @@ unfoldable pub groups : (m : ℕ) → ℕ → List MembersTree → ℕ → Parse
 groups m zero done h ts = unexpected ts
 groups m (suc n) done h ts =
     bind (members m ts) (λ g us.
-    if starts marks.CloseBrace us then bind (expect marks.CloseBrace us) (λ _ vs. Ok ((done ++ g.0 ∷ [], max h g.1), vs))
-    else groups m n (done ++ g.0 ∷ []) (max h g.1) us)
+      if starts marks.CloseBrace us then bind (expect marks.CloseBrace us) (λ _ vs. Ok ((done ++ g.0 ∷ [], max h g.1), vs))
+      else groups m n (done ++ g.0 ∷ []) (max h g.1) us)
 
 -- behind the stars of a parameter that begins at `start`
 abbrev pub with_name : (m : ℕ) → (start : ℕ) → Base → ℕ → Parse (ParameterTree × ℕ)

@@ -1,2 +1,5 @@
 pub mod Sound
 pub mod HeadsLaws
+pub mod SoundSteps
+pub mod TypesSound
+pub mod TypesComplete

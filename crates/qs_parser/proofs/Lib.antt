@@ -3,3 +3,5 @@ pub mod HeadsLaws
 pub mod SoundSteps
 pub mod TypesSound
 pub mod TypesComplete
+pub mod ExpressionsBegin
+pub mod ExpressionsSound

@@ -16,6 +16,9 @@ pub with_token : (Q : List Lexeme → Type 0) (done : List Lexeme) (t : Lexeme) 
 with_token Q done t ts q = subst Q (sym (append_assoc done (t ∷ []) ts)) q
 
 module _ {A : Type 0} {R : A → List Lexeme → Type 0} where
+  pub Sound-ends : (done ts us : List Lexeme) (x : A) (front : List Lexeme) → ts ≡ front ++ us → R x (done ++ front) → Sound R done ts (Ok (x, us))
+  Sound-ends done ts us x front e r = record { is = (front, e, r) }
+
   pub Sound-if : {done ts : List Lexeme} {r s : Result (A × List Lexeme) Stop} (b : Bool) → (b ≡ true → Sound R done ts r) → (b ≡ false → Sound R done ts s) → Sound R done ts (cond b r s)
   Sound-if true f g = f refl
   Sound-if false f g = g refl

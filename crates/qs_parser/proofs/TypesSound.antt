@@ -13,7 +13,7 @@ use Rattle.qs_parser.specs.Heads.{is_mark, is_keyword, starts}
 use Rattle.qs_parser.specs.Parse.{Stop, bind, expect_name, skip_consts, after_unsigned, after_signed, base, type, stars_from, stars, type_name}
 use Rattle.qs_parser.proofs.HeadsLaws.{keyword_is, mark_is, starts_is}
 use Rattle.qs_parser.proofs.Sound.{Sound, Sound-ok, Sound-err, Sound-after, Sound-token, Sound-bind}
-use Rattle.qs_parser.proofs.SoundSteps.{Sound-if, sound_expect_name}
+use Rattle.qs_parser.proofs.SoundSteps.{Sound-if, Sound-ends, sound_expect_name}
 
 -- what is left, where the front has a property
 pub record Taken (R : List Lexeme → Type 0) (ts us : List Lexeme) : Type 0 where
@@ -78,9 +78,6 @@ sound_base (t ∷ ts) =
 module _ {A : Type 0} {R : A → List Lexeme → Type 0} where
   pub Sound-skip : (done ts us : List Lexeme) (r : Result (A × List Lexeme) Stop) (c : Taken ReadsConsts ts us) → Sound R (done ++ c.front) us r → Sound R done ts r
   Sound-skip done ts us r c s = Sound-after done ts c.front us c.split r s
-
-  pub Sound-ends : (done ts us : List Lexeme) (x : A) (front : List Lexeme) → ts ≡ front ++ us → R x (done ++ front) → Sound R done ts (Ok (x, us))
-  Sound-ends done ts us x front e r = record { is = (front, e, r) }
 
 pub sound_type : (ts : List Lexeme) → Sound IsType [] ts (type ts)
 unfolding type

@@ -1,9 +1,7 @@
 -- How an expression begins, and that its reading has a height.
-use Rattle.std.proofs.Common.{◌≡◌, ℕ, zero, suc, ◌<◌, Bool, true, false, List, [], ◌∷◌, ◌++◌, refl, sym, ap, ◌∙◌, append_assoc, append-nil, arith}
-use Rattle.std.specs.Prelude.{max}
+use Rattle.std.proofs.Common.{◌≡◌, ℕ, ◌<◌, Bool, true, false, List, [], ◌∷◌, ◌++◌, refl, append_assoc, arith}
 use Rattle.qs_syntax.specs.declared.lexeme.Lexeme.{Lexeme}
 use Rattle.qs_syntax.specs.declared.lexeme.Lexeme.TheVariants.{Name, Keyword, Constant, Text, Mark}
-use Rattle.qs_syntax.specs.declared.tokens.Keyword.TheVariants as keywords
 use Rattle.qs_syntax.specs.declared.tokens.Mark.TheVariants as marks
 use Rattle.qs_syntax.specs.declared.tree.UnarySign.{UnarySign}
 use Rattle.qs_syntax.specs.declared.tree.UnarySign.TheVariants as unaries

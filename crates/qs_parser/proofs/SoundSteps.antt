@@ -1,13 +1,13 @@
 -- The steps of the parser: marks, names, tests and room.
-use Rattle.std.proofs.Common.{◌≡◌, ℕ, zero, suc, ◌<◌, ◌≤◌, Bool, true, false, cond, List, [], ◌∷◌, ◌++◌, Result, Ok, Err, refl, sym, ap, subst, append_assoc, arith}
-use Rattle.std.specs.Prelude.{◌==◌, nat_le}
+use Rattle.std.proofs.Common.{◌≡◌, ℕ, ◌≤◌, Bool, true, false, cond, List, [], ◌∷◌, ◌++◌, Result, Ok, Err, refl, sym, ap, subst, append_assoc}
+use Rattle.std.specs.Prelude.{nat_le}
 use Rattle.std.proofs.lemmas.Bool.{leb-true}
 use Rattle.qs_syntax.specs.declared.lexeme.Lexeme.{Lexeme}
 use Rattle.qs_syntax.specs.declared.lexeme.Lexeme.TheVariants.{Name, Keyword, Constant, Text, Mark}
 use Rattle.qs_syntax.specs.declared.tokens.Mark as mark
 use Rattle.qs_syntax.specs.Signs.{number_of}
 use Rattle.qs_parser.specs.Heads.{is_mark}
-use Rattle.qs_parser.specs.Parse.{Stop, Parse, bind, deeper, above, expect, expect_name}
+use Rattle.qs_parser.specs.Parse.{Stop, Parse, bind, expect, expect_name}
 use Rattle.qs_parser.proofs.HeadsLaws.{mark_is}
 use Rattle.qs_parser.proofs.Sound.{Outcome, Sound, Sound-ok, Sound-err, Sound-after, Sound-token}
 
@@ -23,12 +23,9 @@ module _ {A : Type 0} {R : A → List Lexeme → Type 0} where
   Sound-if true f g = f refl
   Sound-if false f g = g refl
 
-  pub Sound-above : {done ts : List Lexeme} (m h : ℕ) (p : Parse A) → (h ≤ m → Sound R done ts (p ts)) → Sound R done ts (above m h p ts)
-  Sound-above m h p f = Sound-if (nat_le h m) (λ e. f (leb-true h m e)) (λ e. Sound-err)
-
-  pub Sound-deeper : {done ts : List Lexeme} (m : ℕ) (p : Parse A) → (0 < m → Sound R done ts (p ts)) → Sound R done ts (deeper m p ts)
-  Sound-deeper zero p f = Sound-err
-  Sound-deeper (suc m) p f = Sound-if (suc m == 0) (λ e. Sound-err) (λ e. f (omega arith))
+  -- where a part needs room
+  pub Sound-above : {done ts : List Lexeme} {r s : Result (A × List Lexeme) Stop} (m h : ℕ) → Sound R done ts s → (h ≤ m → Sound R done ts r) → Sound R done ts (cond (nat_le h m) r s)
+  Sound-above m h g f = Sound-if (nat_le h m) (λ e. f (leb-true h m e)) (λ e. g)
 
 -- the mark alone
 abbrev pub IsMark : mark.Mark → Unit {0} → List Lexeme → Type 0

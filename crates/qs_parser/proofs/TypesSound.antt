@@ -86,7 +86,7 @@ sound_type ts =
     Sound-skip [] ts (skip_consts ts) _ before
     (Sound-bind _ (sound_base (skip_consts ts))
     (λ b front us r. let behind : Taken ReadsConsts us (skip_consts us) = taken_consts us in
-        Sound-ends (before.front ++ front) us (skip_consts us) b behind.front behind.split (subst (λ l. ReadsType l b) (sym (append_assoc before.front front behind.front)) (a_type before.is r behind.is))))
+    Sound-ends (before.front ++ front) us (skip_consts us) b behind.front behind.split (subst (λ l. ReadsType l b) (sym (append_assoc before.front front behind.front)) (a_type before.is r behind.is))))
 
 -- stars behind a star
 pub record StarsTaken (ts : List Lexeme) (n : ℕ) (x : ℕ × List Lexeme) : Type 0 where
@@ -107,15 +107,25 @@ no_stars ts n = record { consts = []; further = []; count = 0; split = refl; are
 
 star_first : (t : Lexeme) (ts : List Lexeme) (n : ℕ) (x : ℕ × List Lexeme) → is_mark marks.Star t ≡ true → StarsTaken ts (n + 1) x → StarsTaken (t ∷ ts) n x
 star_first t ts n x e s = record {
-    consts = []; further = t ∷ (s.consts ++ s.further); count = suc s.count; split = ap (λ l. t ∷ l) s.split; are_consts = no_const;
-    are_stars = subst (λ u. ReadsStars (u ∷ (s.consts ++ s.further)) (suc s.count)) (sym (mark_is marks.Star t e)) (a_star (number_of t) s.are_consts s.are_stars);
-    total = omega arith }
+  consts = [];
+  further = t ∷ (s.consts ++ s.further);
+  count = suc s.count;
+  split = ap (λ l. t ∷ l) s.split;
+  are_consts = no_const;
+  are_stars = subst (λ u. ReadsStars (u ∷ (s.consts ++ s.further)) (suc s.count)) (sym (mark_is marks.Star t e)) (a_star (number_of t) s.are_consts s.are_stars);
+  total = omega arith;
+}
 
 const_first : (t : Lexeme) (ts : List Lexeme) (n : ℕ) (x : ℕ × List Lexeme) → is_keyword keywords.Const t ≡ true → StarsTaken ts n x → StarsTaken (t ∷ ts) n x
 const_first t ts n x e s = record {
-    consts = t ∷ s.consts; further = s.further; count = s.count; split = ap (λ l. t ∷ l) s.split;
-    are_consts = subst (λ u. ReadsConsts (u ∷ s.consts)) (sym (keyword_is keywords.Const t e)) (a_const (number_of t) s.are_consts);
-    are_stars = s.are_stars; total = s.total }
+  consts = t ∷ s.consts;
+  further = s.further;
+  count = s.count;
+  split = ap (λ l. t ∷ l) s.split;
+  are_consts = subst (λ u. ReadsConsts (u ∷ s.consts)) (sym (keyword_is keywords.Const t e)) (a_const (number_of t) s.are_consts);
+  are_stars = s.are_stars;
+  total = s.total;
+}
 
 stars_from_taken : (n : ℕ) (ts : List Lexeme) → StarsTaken ts n (stars_from n ts)
 stars_from_taken n [] = no_stars [] n
@@ -134,8 +144,10 @@ pub record StarsRead (ts : List Lexeme) (x : ℕ × List Lexeme) : Type 0 where
 
 first_star : (at : ℕ) (us ts : List Lexeme) (x : ℕ × List Lexeme) → ts ≡ Mark at marks.Star ∷ us → StarsTaken us 1 x → StarsRead ts x
 first_star at us ts x e s = record {
-    front = Mark at marks.Star ∷ (s.consts ++ s.further); split = e ∙ ap (λ l. Mark at marks.Star ∷ l) s.split;
-    is = subst (ReadsStars (Mark at marks.Star ∷ (s.consts ++ s.further))) (let same : suc s.count ≡ x.0 = omega arith in same) (a_star at s.are_consts s.are_stars) }
+  front = Mark at marks.Star ∷ (s.consts ++ s.further);
+  split = e ∙ ap (λ l. Mark at marks.Star ∷ l) s.split;
+  is = subst (ReadsStars (Mark at marks.Star ∷ (s.consts ++ s.further))) (let same : suc s.count ≡ x.0 = omega arith in same) (a_star at s.are_consts s.are_stars);
+}
 
 pub stars_read : (ts : List Lexeme) → StarsRead ts (stars ts)
 unfolding stars
@@ -154,4 +166,4 @@ pub sound_type_name : (ts : List Lexeme) → Sound IsTypeName [] ts (type_name t
 unfolding type_name
 sound_type_name ts = Sound-bind _ (sound_type ts)
     (λ b front us r. let behind : StarsRead us (stars us) = stars_read us in
-        Sound-ends front us (stars us).1 (record { base = b; stars = (stars us).0 }) behind.front behind.split (a_type_name r behind.is))
+    Sound-ends front us (stars us).1 (record { base = b; stars = (stars us).0 }) behind.front behind.split (a_type_name r behind.is))

@@ -5,3 +5,4 @@ pub mod TypesSound
 pub mod TypesComplete
 pub mod ExpressionsBegin
 pub mod ExpressionsSound
+pub mod ExpressionsComplete

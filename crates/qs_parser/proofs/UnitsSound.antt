@@ -56,7 +56,7 @@ sound_outer_type ts =
     (λ b front us r. let behind : Taken _ us (skip_consts us) = taken_consts us in
       Sound-ends [] us (skip_consts us) b behind.front behind.split (an_outer_type before.is r behind.is))))
 
-outer_place : {l : List Lexeme} {b : Base} → ReadsOuterType l b → (us : List Lexeme) → place (l ++ us) ≡ place l
+pub outer_place : {l : List Lexeme} {b : Base} → ReadsOuterType l b → (us : List Lexeme) → place (l ++ us) ≡ place l
 outer_place (an_outer_type {zs = zs} no_prefix b c) us = first_place b zs us
 outer_place (an_outer_type (a_const_prefix at r) b c) us = refl
 outer_place (an_outer_type (a_static_prefix at r) b c) us = refl

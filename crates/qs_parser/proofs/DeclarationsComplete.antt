@@ -15,7 +15,7 @@ use Rattle.qs_parser.specs.Stops.{strength_at, Stops}
 use Rattle.qs_parser.proofs.HeadsLaws.{starts_is, not_starts}
 use Rattle.qs_parser.proofs.TypesComplete.{goes_on_type, stars_go_on, finds_stars, finds_type, type_begins}
 use Rattle.qs_parser.proofs.ExpressionsBegin.{begins, high}
-use Rattle.qs_parser.proofs.FindsStub.{finds}
+use Rattle.qs_parser.proofs.ExpressionsComplete.{finds}
 
 -- ---- lists that are read from the front
 

@@ -18,7 +18,7 @@ use Rattle.qs_parser.specs.ParseStatements.{S, optional, condition, start_of, it
 use Rattle.qs_parser.specs.Stops.{strength_at}
 use Rattle.qs_parser.proofs.HeadsLaws.{starts_with_is}
 use Rattle.qs_parser.proofs.ExpressionsBegin.{begins, begins_no_type, place_more, high}
-use Rattle.qs_parser.proofs.FindsStub.{finds}
+use Rattle.qs_parser.proofs.ExpressionsComplete.{finds}
 use Rattle.qs_parser.proofs.DeclarationsComplete.{Items, nothing_more, one_more, from_zero, has_room, not_begun, not_typed, finds_declaration, declaration_begins}
 use Rattle.qs_parser.proofs.StatementsSound.{NoElse}
 

@@ -6,3 +6,4 @@ pub mod TypesComplete
 pub mod ExpressionsBegin
 pub mod ExpressionsSound
 pub mod ExpressionsComplete
+pub mod ExpressionsExamples

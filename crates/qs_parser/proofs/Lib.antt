@@ -7,3 +7,15 @@ pub mod ExpressionsBegin
 pub mod ExpressionsSound
 pub mod ExpressionsComplete
 pub mod ExpressionsExamples
+pub mod DeclarationsSteps
+pub mod DeclarationsLists
+pub mod DeclarationsSound
+pub mod DeclarationsMembers
+pub mod DeclarationsParameters
+pub mod StatementsSound
+pub mod UnitsSound
+pub mod DeclarationsComplete
+pub mod DeclarationsMembersComplete
+pub mod DeclarationsParametersComplete
+pub mod StatementsComplete
+pub mod UnitsComplete

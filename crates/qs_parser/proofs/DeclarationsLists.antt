@@ -8,7 +8,7 @@ use Rattle.qs_parser.specs.Heads.{starts}
 use Rattle.qs_parser.specs.Parse.{Parse, bind, expect}
 use Rattle.qs_parser.proofs.Sound.{Sound, Sound-ok, Sound-mono}
 use Rattle.qs_parser.proofs.SoundSteps.{Sound-if}
-use Rattle.qs_parser.proofs.DeclarationsSteps.{Sound-mark}
+use Rattle.qs_parser.proofs.DeclarationsSteps.{Sound-mark-next}
 
 -- further items behind those that are done, of at most n levels, with the mark at their end
 abbrev pub Closed : {X : Type 0} → mark.Mark → (ℕ → List Lexeme → List X → Type 0) → ℕ → List X → ℕ → List X × ℕ → List Lexeme → Type 0
@@ -40,5 +40,5 @@ module _ {X : Type 0} (closing : mark.Mark) (One : ℕ → List Lexeme → X →
       → Sound (λ y l. Closed closing All n done h y (front ++ l)) [] ts (if starts closing ts then bind (expect closing ts) (λ _ us. Ok ((done ++ x ∷ [], max h k), us)) else bind (expect marks.Comma ts) (λ _ us. others (done ++ x ∷ []) (max h k) us))
   sound_after n others good done h x k front r le ts =
       Sound-if (starts closing ts)
-      (λ _. Sound-mark closing ts _ (λ c us. Sound-ok (closed_last n done h x k front c r le)))
-      (λ _. Sound-mark marks.Comma ts _ (λ at us. Sound-mono (closed_further n done h x k front at r le) (good (done ++ x ∷ []) (max h k) us)))
+      (λ _. Sound-mark-next closing ts _ (λ c us. Sound-ok (closed_last n done h x k front c r le)))
+      (λ _. Sound-mark-next marks.Comma ts _ (λ at us. Sound-mono (closed_further n done h x k front at r le) (good (done ++ x ∷ []) (max h k) us)))

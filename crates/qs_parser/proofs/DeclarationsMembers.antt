@@ -12,7 +12,7 @@ use Rattle.qs_parser.specs.ParseDeclarations.{declarators, members, groups}
 use Rattle.qs_parser.proofs.Sound.{Sound, Sound-ok, Sound-err, Sound-mono}
 use Rattle.qs_parser.proofs.SoundSteps.{Sound-if}
 use Rattle.qs_parser.proofs.TypesSound.{sound_type}
-use Rattle.qs_parser.proofs.DeclarationsSteps.{Sound-mark, Sound-part, Sound-last}
+use Rattle.qs_parser.proofs.DeclarationsSteps.{Sound-mark-next, Sound-part, Sound-last}
 use Rattle.qs_parser.proofs.DeclarationsLists.{Closed, Ends, all_closed, sound_after}
 use Rattle.qs_parser.proofs.DeclarationsSound.{sound_declarator}
 
@@ -65,5 +65,5 @@ sound_groups m zero done h ts = Sound-err
 sound_groups m (suc n) done h ts =
     Sound-part _ (sound_members m ts)
     (λ g front us r. Sound-if (starts marks.CloseBrace us)
-    (λ _. Sound-mark marks.CloseBrace us _ (λ c vs. Sound-ok (last_group m done h g front c r)))
+    (λ _. Sound-mark-next marks.CloseBrace us _ (λ c vs. Sound-ok (last_group m done h g front c r)))
     (λ _. Sound-mono (further_group m done h g front r) (sound_groups m n (done ++ g.0 ∷ []) (max h g.1) us)))

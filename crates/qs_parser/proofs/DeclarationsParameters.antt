@@ -18,7 +18,7 @@ use Rattle.qs_parser.proofs.HeadsLaws.{keyword_is, keyword_number_tells}
 use Rattle.qs_parser.proofs.Sound.{Sound, Sound-ok, Sound-err, Sound-after, Sound-mono}
 use Rattle.qs_parser.proofs.SoundSteps.{Sound-if}
 use Rattle.qs_parser.proofs.TypesSound.{sound_type, StarsRead, stars_read}
-use Rattle.qs_parser.proofs.DeclarationsSteps.{Sound-behind, Sound-first, Sound-mark, Sound-no-mark, Sound-part-is, Sound-last}
+use Rattle.qs_parser.proofs.DeclarationsSteps.{Sound-behind, Sound-first, Sound-mark-next, Sound-no-mark, Sound-part-is, Sound-last}
 use Rattle.qs_parser.proofs.DeclarationsLists.{Closed, Ends, all_closed, sound_after}
 use Rattle.qs_parser.proofs.DeclarationsSound.{AreLengths, sound_lengths}
 
@@ -145,11 +145,11 @@ pub sound_head : (m : ℕ) (ts : List Lexeme) → Sound (IsHead m) [] ts (head m
 unfolding head
 sound_head m ts =
     Sound-if (starts marks.CloseParenthesis ts)
-    (λ _. Sound-mark marks.CloseParenthesis ts _ (λ c us. Sound-ok ([], c, refl, no_parameter, omega arith)))
+    (λ _. Sound-mark-next marks.CloseParenthesis ts _ (λ c us. Sound-ok ([], c, refl, no_parameter, omega arith)))
     (λ _. Sound-if (is_void_head ts)
     (λ e. let void = void_first ts e in
       Sound-after [] ts (Keyword void.0 keywords.Void ∷ []) (without_first ts) void.1 _
-      (Sound-behind (Sound-mark marks.CloseParenthesis (without_first ts) _ (λ c us. Sound-ok (Keyword void.0 keywords.Void ∷ [], c, refl, a_void_head void.0, omega arith)))))
+      (Sound-behind (Sound-mark-next marks.CloseParenthesis (without_first ts) _ (λ c us. Sound-ok (Keyword void.0 keywords.Void ∷ [], c, refl, a_void_head void.0, omega arith)))))
     (λ _. Sound-mono (λ x l r. some_read x l (all_closed marks.CloseParenthesis ReadsParameters (suc m) x l r)) (sound_parameters m (length ts) [] 0 ts)))
   where
     some_read : (x : List ParameterTree × ℕ) (l : List Lexeme) → Ends marks.CloseParenthesis ReadsParameters (suc m) x l → IsHead m x l

@@ -15,7 +15,7 @@ use Rattle.qs_parser.proofs.Sound.{Sound, Sound-ok, Sound-err, Sound-after, Soun
 use Rattle.qs_parser.proofs.SoundSteps.{Sound-if}
 use Rattle.qs_parser.proofs.TypesSound.{sound_type, StarsRead, stars_read}
 use Rattle.qs_parser.proofs.ExpressionsSound.{IsRead, sound_part}
-use Rattle.qs_parser.proofs.DeclarationsSteps.{Sound-behind, Sound-mark, Sound-mark-is, Sound-name, Sound-part, Sound-last}
+use Rattle.qs_parser.proofs.DeclarationsSteps.{Sound-behind, Sound-mark-next, Sound-mark-is, Sound-name-next, Sound-part, Sound-last}
 use Rattle.qs_parser.proofs.DeclarationsLists.{Closed, Ends, all_closed, closed_last, closed_further, sound_after}
 
 -- ---- lengths
@@ -35,9 +35,9 @@ sound_given : (m n : ℕ) (done : List ExprTree) (h : ℕ) (ts : List Lexeme) �
 unfolding given_lengths
 sound_given m zero done h ts = Sound-ok (none_given m done h)
 sound_given m (suc n) done h ts =
-    Sound-if (starts marks.OpenBracket ts) (λ _. Sound-mark marks.OpenBracket ts _
+    Sound-if (starts marks.OpenBracket ts) (λ _. Sound-mark-next marks.OpenBracket ts _
     (λ o us. Sound-part _ (sound_part m Conditional us)
-    (λ e front vs r. Sound-mark marks.CloseBracket vs _
+    (λ e front vs r. Sound-mark-next marks.CloseBracket vs _
     (λ c ws. Sound-mono (given_further m done h e o c front r) (sound_given m n (done ++ e.0 ∷ []) (max h e.1) ws)))))
     (λ _. Sound-ok (none_given m done h))
 
@@ -50,7 +50,7 @@ all_given m x l (es, k, p, q, r, low) = let same : x.1 ≡ k = omega arith in (r
 pub sound_lengths : (m : ℕ) (ts : List Lexeme) → Sound (AreLengths m) [] ts (lengths m ts)
 unfolding lengths
 sound_lengths m ts =
-    Sound-if (is_empty_brackets ts) (λ _. Sound-mark marks.OpenBracket ts _ (λ o us. Sound-mark marks.CloseBracket us _
+    Sound-if (is_empty_brackets ts) (λ _. Sound-mark-next marks.OpenBracket ts _ (λ o us. Sound-mark-next marks.CloseBracket us _
     (λ c vs. Sound-last _ (sound_given m (length vs) [] 0 vs) (λ x l r. (first_open o c (all_given m x l r).0, (all_given m x l r).1)))))
     (λ _. Sound-last _ (sound_given m (length ts) [] 0 ts) (λ x l r. (are_given (all_given m x l r).0, (all_given m x l r).1)))
 
@@ -60,7 +60,7 @@ abbrev pub IsDeclarator : ℕ → DeclaratorTree × ℕ → List Lexeme → Type
 IsDeclarator m x l = ReadsDeclarator x.1 l x.0 × (x.1 ≤ m)
 
 sound_named : (m n : ℕ) (front : List Lexeme) → ReadsStars front n → (ts : List Lexeme) → Sound (λ x l. IsDeclarator m x (front ++ l)) [] ts (named m n ts)
-sound_named m n front s ts = Sound-name ts _ (λ at x us. Sound-last _ (sound_lengths m us) (λ y l r. (a_declarator at x s r.0, r.1)))
+sound_named m n front s ts = Sound-name-next ts _ (λ at x us. Sound-last _ (sound_lengths m us) (λ y l r. (a_declarator at x s r.0, r.1)))
 
 pub sound_declarator : (m : ℕ) (ts : List Lexeme) → Sound (IsDeclarator m) [] ts (declarator m ts)
 unfolding declarator
@@ -98,9 +98,9 @@ module _ (n : ℕ) (one : Parse (InitialiserTree × ℕ)) (good : (ts : List Lex
       → Sound (λ y l. AreInitialisers n done h y (front ++ l)) [] ts (after_initialiser one others (done ++ i.0 ∷ []) (max h i.1) ts)
   sound_after_initialiser others all done h i front r ts =
       Sound-if (starts marks.CloseBrace ts)
-      (λ _. Sound-mark marks.CloseBrace ts _ (λ c us. Sound-ok (closed_last marks.CloseBrace OneInitialiser AllInitialisers last_initialiser further_initialiser n done h i.0 i.1 front c r.0 r.1)))
-      (λ _. Sound-mark marks.Comma ts _ (λ at us. Sound-if (starts marks.CloseBrace us)
-      (λ _. Sound-mark marks.CloseBrace us _ (λ c vs. Sound-ok (last_with_comma n done h i.0 i.1 front at c r.0 r.1)))
+      (λ _. Sound-mark-next marks.CloseBrace ts _ (λ c us. Sound-ok (closed_last marks.CloseBrace OneInitialiser AllInitialisers last_initialiser further_initialiser n done h i.0 i.1 front c r.0 r.1)))
+      (λ _. Sound-mark-next marks.Comma ts _ (λ at us. Sound-if (starts marks.CloseBrace us)
+      (λ _. Sound-mark-next marks.CloseBrace us _ (λ c vs. Sound-ok (last_with_comma n done h i.0 i.1 front at c r.0 r.1)))
       (λ _. Sound-mono (closed_further marks.CloseBrace OneInitialiser AllInitialisers last_initialiser further_initialiser n done h i.0 i.1 front at r.0 r.1) (all (done ++ i.0 ∷ []) (max h i.1) us))))
 
   sound_initialisers : (turns : ℕ) (done : List InitialiserTree) (h : ℕ) (ts : List Lexeme) → Sound (AreInitialisers n done h) [] ts (initialisers one turns done h ts)
@@ -138,7 +138,7 @@ set_read m d front (r, le) at i l (s, low) = (rw (add-one (max d.1 i.1)) (a_set_
 sound_initialised : (m : ℕ) (d : DeclaratorTree × ℕ) (front : List Lexeme) → IsDeclarator m d front → (ts : List Lexeme) → Sound (λ x l. IsVariable m x (front ++ l)) [] ts (initialised m d ts)
 sound_initialised m d front r ts =
     Sound-if (starts marks.Assign ts)
-    (λ _. Sound-if (m == 0) (λ _. Sound-err) (λ _. Sound-mark marks.Assign ts _ (λ at us. Sound-last _ (sound_initialiser m us) (set_read m d front r at))))
+    (λ _. Sound-if (m == 0) (λ _. Sound-err) (λ _. Sound-mark-next marks.Assign ts _ (λ at us. Sound-last _ (sound_initialiser m us) (set_read m d front r at))))
     (λ _. Sound-ok (unset_read m d front r))
 
 pub sound_variable : (m : ℕ) (ts : List Lexeme) → Sound (IsVariable m) [] ts (variable m ts)

@@ -23,9 +23,9 @@ module _ {A : Type 0} {S : A → List Lexeme → Type 0} where
   Sound-first {t} {ts} {r} s = Sound-after [] (t ∷ ts) (t ∷ []) ts refl r (Sound-behind s)
 
   -- a mark, and what follows
-  pub Sound-mark : (m : mark.Mark) (ts : List Lexeme) (f : Unit {0} → Parse A) → ((at : ℕ) (us : List Lexeme) → Sound (λ x l. S x (Mark at m ∷ l)) [] us (f tt us)) → Sound S [] ts (bind (expect m ts) f)
-  Sound-mark m [] f go = Sound-err
-  Sound-mark m (t ∷ ts) f go = by_case (is_mark m t) (λ e. mark_is m t e)
+  pub Sound-mark-next : (m : mark.Mark) (ts : List Lexeme) (f : Unit {0} → Parse A) → ((at : ℕ) (us : List Lexeme) → Sound (λ x l. S x (Mark at m ∷ l)) [] us (f tt us)) → Sound S [] ts (bind (expect m ts) f)
+  Sound-mark-next m [] f go = Sound-err
+  Sound-mark-next m (t ∷ ts) f go = by_case (is_mark m t) (λ e. mark_is m t e)
     where
       by_case : (b : Bool) → (b ≡ true → t ≡ Mark (number_of t) m) → Sound S [] (t ∷ ts) (bind (cond b (Ok (tt, ts)) (unexpected (t ∷ ts))) f)
       by_case true h = rw (h refl) (Sound-first (go (number_of t) ts))
@@ -52,13 +52,13 @@ module _ {A : Type 0} {S : A → List Lexeme → Type 0} where
       by_case false h = Sound-err
 
   -- a name, and what follows
-  pub Sound-name : (ts : List Lexeme) (f : ℕ × List ℕ → Parse A) → ((at : ℕ) (x : List ℕ) (us : List Lexeme) → Sound (λ y l. S y (Name at x ∷ l)) [] us (f (at, x) us)) → Sound S [] ts (bind (expect_name ts) f)
-  Sound-name [] f go = Sound-err
-  Sound-name (Name at x ∷ ts) f go = Sound-first (go at x ts)
-  Sound-name (Keyword at k ∷ ts) f go = Sound-err
-  Sound-name (Constant at n unsigned ∷ ts) f go = Sound-err
-  Sound-name (Text at bytes ∷ ts) f go = Sound-err
-  Sound-name (Mark at m ∷ ts) f go = Sound-err
+  pub Sound-name-next : (ts : List Lexeme) (f : ℕ × List ℕ → Parse A) → ((at : ℕ) (x : List ℕ) (us : List Lexeme) → Sound (λ y l. S y (Name at x ∷ l)) [] us (f (at, x) us)) → Sound S [] ts (bind (expect_name ts) f)
+  Sound-name-next [] f go = Sound-err
+  Sound-name-next (Name at x ∷ ts) f go = Sound-first (go at x ts)
+  Sound-name-next (Keyword at k ∷ ts) f go = Sound-err
+  Sound-name-next (Constant at n unsigned ∷ ts) f go = Sound-err
+  Sound-name-next (Text at bytes ∷ ts) f go = Sound-err
+  Sound-name-next (Mark at m ∷ ts) f go = Sound-err
 
 module _ {A C : Type 0} {R : A → List Lexeme → Type 0} {S : C → List Lexeme → Type 0} where
   -- what is read first, and what follows

@@ -19,3 +19,4 @@ pub mod DeclarationsMembersComplete
 pub mod DeclarationsParametersComplete
 pub mod StatementsComplete
 pub mod UnitsComplete
+pub mod UnitsExamples

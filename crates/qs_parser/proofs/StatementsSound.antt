@@ -21,7 +21,7 @@ use Rattle.qs_parser.proofs.Sound.{Sound, Sound-ok, Sound-err, Sound-after, Soun
 use Rattle.qs_parser.proofs.SoundSteps.{Sound-if}
 use Rattle.qs_parser.proofs.ExpressionsSound.{IsRead, sound_part}
 use Rattle.qs_parser.proofs.ExpressionsBegin.{place_more}
-use Rattle.qs_parser.proofs.DeclarationsSteps.{Sound-behind, Sound-first, Sound-mark, Sound-part, Sound-part-is, Sound-last}
+use Rattle.qs_parser.proofs.DeclarationsSteps.{Sound-behind, Sound-first, Sound-mark-next, Sound-part, Sound-part-is, Sound-last}
 use Rattle.qs_parser.proofs.DeclarationsLists.{Closed, Ends, all_closed}
 use Rattle.qs_parser.proofs.DeclarationsSound.{IsDeclaration, sound_declaration_within}
 
@@ -95,9 +95,9 @@ module _ {A : Type 0} {R : A → List Lexeme → Type 0} where
   pub Sound-keyword : (k : key.Keyword) (t : Lexeme) (ts : List Lexeme) {r : Result (A × List Lexeme) Stop} → is_keyword k t ≡ true → Sound (λ x l. R x (Keyword (number_of t) k ∷ l)) [] ts r → Sound R [] (t ∷ ts) r
   Sound-keyword k t ts e s = rw (keyword_is k t e) (Sound-first s)
 
-  Sound-while : (m : ℕ) (inner : Parse S) (ts : List Lexeme) (f : Unit {0} → Parse A) → ((w : ℕ) (us : List Lexeme) → Sound (λ x l. R x (Keyword w keywords.While ∷ l)) [] us (f tt us)) → Sound R [] ts (bind (expect_while m inner ts) f)
-  Sound-while m inner [] f go = Sound-err
-  Sound-while m inner (t ∷ ts) f go = by_case (is_keyword keywords.While t) (λ e. keyword_is keywords.While t e)
+  Sound-while-next : (m : ℕ) (inner : Parse S) (ts : List Lexeme) (f : Unit {0} → Parse A) → ((w : ℕ) (us : List Lexeme) → Sound (λ x l. R x (Keyword w keywords.While ∷ l)) [] us (f tt us)) → Sound R [] ts (bind (expect_while m inner ts) f)
+  Sound-while-next m inner [] f go = Sound-err
+  Sound-while-next m inner (t ∷ ts) f go = by_case (is_keyword keywords.While t) (λ e. keyword_is keywords.While t e)
     where
       by_case : (b : Bool) → (b ≡ true → t ≡ Keyword (number_of t) keywords.While) → Sound R [] (t ∷ ts) (bind (cond b (Ok (tt, ts)) (unexpected (t ∷ ts))) f)
       by_case true h = rw (h refl) (Sound-first (go (number_of t) ts))
@@ -110,15 +110,15 @@ IsOptional m k x l = (inside : List Lexeme) × (c : ℕ) × (l ≡ inside ++ Mar
 sound_optional : (m : ℕ) (k : mark.Mark) (ts : List Lexeme) → Sound (IsOptional m k) [] ts (optional m k ts)
 sound_optional m k ts =
     Sound-if (starts k ts)
-    (λ _. Sound-mark k ts _ (λ c us. Sound-ok ([], c, refl, nothing_there, omega arith)))
-    (λ _. Sound-part _ (sound_part m Expression ts) (λ e front us r. Sound-mark k us _ (λ c vs. Sound-ok (front, c, refl, something_there r.0, r.1))))
+    (λ _. Sound-mark-next k ts _ (λ c us. Sound-ok ([], c, refl, nothing_there, omega arith)))
+    (λ _. Sound-part _ (sound_part m Expression ts) (λ e front us r. Sound-mark-next k us _ (λ c vs. Sound-ok (front, c, refl, something_there r.0, r.1))))
 
 -- an expression in parentheses
 abbrev IsCondition : ℕ → E → List Lexeme → Type 0
 IsCondition m e l = (inside : List Lexeme) × (o : ℕ) × (c : ℕ) × (l ≡ Mark o marks.OpenParenthesis ∷ (inside ++ Mark c marks.CloseParenthesis ∷ [])) × Reads Expression e.1 inside e.0 × (e.1 ≤ m)
 
 sound_condition : (m : ℕ) (ts : List Lexeme) → Sound (IsCondition m) [] ts (condition m ts)
-sound_condition m ts = Sound-mark marks.OpenParenthesis ts _ (λ o us. Sound-part _ (sound_part m Expression us) (λ e front vs r. Sound-mark marks.CloseParenthesis vs _ (λ c ws. Sound-ok (front, o, c, refl, r.0, r.1))))
+sound_condition m ts = Sound-mark-next marks.OpenParenthesis ts _ (λ o us. Sound-part _ (sound_part m Expression us) (λ e front vs r. Sound-mark-next marks.CloseParenthesis vs _ (λ c ws. Sound-ok (front, o, c, refl, r.0, r.1))))
 
 abbrev IsStart : ℕ → StartTree × ℕ → List Lexeme → Type 0
 IsStart m x l = ReadsStart x.1 l x.0 × (x.1 ≤ m)
@@ -128,8 +128,8 @@ sound_start m ts =
     Sound-if (begins_type ts)
     (λ _. Sound-last _ (sound_declaration_within m ts) (λ d l r. (a_start_declaration r.0, r.1)))
     (λ _. Sound-if (starts marks.Semicolon ts)
-    (λ _. Sound-mark marks.Semicolon ts _ (λ s us. Sound-ok (no_start_at_all s, omega arith)))
-    (λ _. Sound-part _ (sound_part m Expression ts) (λ e front us r. Sound-mark marks.Semicolon us _ (λ s vs. Sound-ok (a_start_expression s r.0, r.1)))))
+    (λ _. Sound-mark-next marks.Semicolon ts _ (λ s us. Sound-ok (no_start_at_all s, omega arith)))
+    (λ _. Sound-part _ (sound_part m Expression ts) (λ e front us r. Sound-mark-next marks.Semicolon us _ (λ s vs. Sound-ok (a_start_expression s r.0, r.1)))))
 
 abbrev pub IsStatement : ℕ → S → List Lexeme → Type 0
 IsStatement n x l = ReadsStatement x.1 l x.0 × (x.1 ≤ n)
@@ -198,7 +198,7 @@ module _ (m : ℕ) (inner : Parse S) (takes : (ts : List Lexeme) → Takes (inne
   sound_items zero done h ts = Sound-err
   sound_items (suc n) done h ts =
       Sound-if (starts marks.CloseBrace ts)
-      (λ _. Sound-mark marks.CloseBrace ts _ (λ c us. Sound-ok (no_items m done h c)))
+      (λ _. Sound-mark-next marks.CloseBrace ts _ (λ c us. Sound-ok (no_items m done h c)))
       (λ _. Sound-part _ (sound_item ts) (λ s front us r. Sound-mono (further_item m done h s front r) (sound_items n (done ++ s.0 ∷ []) (max h s.1) us)))
 
   taken_there : (ts us : List Lexeme) (s : S) → inner ts ≡ Ok (s, us) → is_open s.0 ≡ true → NoElse us
@@ -223,18 +223,18 @@ module _ (m : ℕ) (inner : Parse S) (takes : (ts : List Lexeme) → Takes (inne
         (Sound-part _ (sound_condition m ts) (λ e c us r. Sound-last _ (sound us) (λ s ys q. while_read m (number_of t) e s c ys r q)))))
       (λ _. Sound-if (is_keyword keywords.Do t)
       (λ is. Sound-if (m == 0) (λ _. Sound-err) (λ _. Sound-keyword keywords.Do t ts is
-        (Sound-part _ (sound ts) (λ s xs us q. Sound-while m inner us _ (λ w vs. Sound-part _ (sound_condition m vs) (λ e c ws r. Sound-mark marks.Semicolon ws _ (λ n ys. Sound-ok (do_read m (number_of t) w n s e xs c q r))))))))
+        (Sound-part _ (sound ts) (λ s xs us q. Sound-while-next m inner us _ (λ w vs. Sound-part _ (sound_condition m vs) (λ e c ws r. Sound-mark-next marks.Semicolon ws _ (λ n ys. Sound-ok (do_read m (number_of t) w n s e xs c q r))))))))
       (λ _. Sound-if (is_keyword keywords.For t)
       (λ is. Sound-if (m == 0) (λ _. Sound-err) (λ _. Sound-keyword keywords.For t ts is
-        (Sound-mark marks.OpenParenthesis ts _ (λ o us. Sound-part _ (sound_start m us) (λ a ws vs r1. Sound-part _ (sound_optional m marks.Semicolon vs) (λ e xs ws' r2. Sound-part _ (sound_optional m marks.CloseParenthesis ws')
+        (Sound-mark-next marks.OpenParenthesis ts _ (λ o us. Sound-part _ (sound_start m us) (λ a ws vs r1. Sound-part _ (sound_optional m marks.Semicolon vs) (λ e xs ws' r2. Sound-part _ (sound_optional m marks.CloseParenthesis ws')
         (λ u ys xs' r3. Sound-last _ (sound xs') (λ s zs q. for_read m (number_of t) o a e u s ws xs ys zs r1 r2 r3 q))))))))
       (λ _. Sound-if (is_keyword keywords.Break t)
-      (λ is. Sound-keyword keywords.Break t ts is (Sound-mark marks.Semicolon ts _ (λ s us. Sound-ok (a_break (number_of t) s, omega arith))))
+      (λ is. Sound-keyword keywords.Break t ts is (Sound-mark-next marks.Semicolon ts _ (λ s us. Sound-ok (a_break (number_of t) s, omega arith))))
       (λ _. Sound-if (is_keyword keywords.Continue t)
-      (λ is. Sound-keyword keywords.Continue t ts is (Sound-mark marks.Semicolon ts _ (λ s us. Sound-ok (a_continue (number_of t) s, omega arith))))
+      (λ is. Sound-keyword keywords.Continue t ts is (Sound-mark-next marks.Semicolon ts _ (λ s us. Sound-ok (a_continue (number_of t) s, omega arith))))
       (λ _. Sound-if (is_keyword keywords.Return t)
       (λ is. Sound-keyword keywords.Return t ts is (Sound-last _ (sound_optional m marks.Semicolon ts) (λ e xs r. return_read m (number_of t) e xs r)))
-      (λ _. Sound-part-is _ (sound_part m Expression (t ∷ ts)) (λ e front us _ split r. Sound-mark marks.Semicolon us _ (λ s vs. Sound-ok (expression_read m (t ∷ ts) us e front split r s))))))))))
+      (λ _. Sound-part-is _ (sound_part m Expression (t ∷ ts)) (λ e front us _ split r. Sound-mark-next marks.Semicolon us _ (λ s vs. Sound-ok (expression_read m (t ∷ ts) us e front split r s))))))))))
 
   sound_statement_at : (ts : List Lexeme) → Sound (IsStatement (suc m)) [] ts (statement_at m inner ts)
   sound_statement_at [] = Sound-err

@@ -1,5 +1,5 @@
 -- What has a reading as a unit is read so, and has no other reading.
-use Rattle.std.proofs.Common.{◌≡◌, ℕ, zero, suc, ◌+◌, ◌<◌, ◌≤◌, max, List, [], ◌∷◌, ◌++◌, length, Result, Ok, Some, None, refl, sym, ap, subst, ◌∙◌, append_assoc, append-nil, add-one, length-append, Bool, true, false, true≢false, cond, arith}
+use Rattle.std.proofs.Common.{◌≡◌, ℕ, zero, suc, ◌+◌, ◌<◌, ◌≤◌, max, List, [], ◌∷◌, ◌++◌, length, Result, Ok, Err, Some, None, refl, sym, ap, subst, ◌∙◌, append_assoc, append-nil, add-one, length-append, Bool, true, false, true≢false, cond, arith}
 use Rattle.std.proofs.lemmas.Bool.{or_parts}
 use Rattle.qs_syntax.specs.declared.lexeme.Lexeme.{Lexeme}
 use Rattle.qs_syntax.specs.declared.lexeme.Lexeme.TheVariants.{Name, Keyword, Mark}
@@ -241,3 +241,7 @@ pub one_reading : (ts : List Lexeme) (ds es : List DeclTree) (h k : ℕ) → Rea
 one_reading ts ds es h k p q =
     let same : ◌≡◌ {A = List DeclTree × ℕ} (ds, h) (es, k) = same_answer (ds, h) (es, k) (unit (max h k) ts) (finds_unit (max h k) h ts ds p (omega arith)) (finds_unit (max h k) k ts es q (omega arith)) in
     (ap (λ (p : List DeclTree × ℕ). p.0) same, ap (λ (p : List DeclTree × ℕ). p.1) same)
+
+-- what is refused has no reading of at most 128 levels
+pub refuses_whole : (ts : List Lexeme) (stop : Stop) → unit 126 ts ≡ Err stop → (ds : List DeclTree) (h : ℕ) → ReadsUnit h ts ds → h ≤ 128 → ⊥
+refuses_whole ts stop e ds h r le = let found = finds_whole ts ds h r le in absurd cc

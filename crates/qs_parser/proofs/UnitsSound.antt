@@ -21,7 +21,7 @@ use Rattle.qs_parser.proofs.HeadsLaws.{keyword_is}
 use Rattle.qs_parser.proofs.Sound.{Outcome, Sound, Sound-ok, Sound-err, Sound-after, Sound-mono}
 use Rattle.qs_parser.proofs.SoundSteps.{Sound-if, Sound-ends}
 use Rattle.qs_parser.proofs.TypesSound.{Taken, taken_consts, sound_base, StarsRead, stars_read}
-use Rattle.qs_parser.proofs.DeclarationsSteps.{Sound-behind, Sound-mark, Sound-name, Sound-part, Sound-part-is, Sound-last}
+use Rattle.qs_parser.proofs.DeclarationsSteps.{Sound-behind, Sound-mark-next, Sound-name-next, Sound-part, Sound-part-is, Sound-last}
 use Rattle.qs_parser.proofs.DeclarationsLists.{Closed, Ends, all_closed}
 use Rattle.qs_parser.proofs.DeclarationsSound.{IsDeclared, sound_declared}
 use Rattle.qs_parser.proofs.DeclarationsMembers.{sound_groups}
@@ -76,11 +76,11 @@ struct_read k at n o name x l r s = go (all_closed marks.CloseBrace ReadsAllMemb
 
 sound_struct : (k at : ℕ) (ts : List Lexeme) → Sound (λ x l. IsExternal k x (Keyword at keywords.Struct ∷ l)) [] ts (struct_of k at ts)
 sound_struct k at ts =
-    Sound-name ts _ (λ n x us. Sound-mark marks.OpenBrace us _ (λ o vs. Sound-part _ (sound_groups k (length vs) [] 0 vs)
-    (λ ms l ws r. Sound-mark marks.Semicolon ws _ (λ s xs. Sound-ok (struct_read k at n o x ms l r s)))))
+    Sound-name-next ts _ (λ n x us. Sound-mark-next marks.OpenBrace us _ (λ o vs. Sound-part _ (sound_groups k (length vs) [] 0 vs)
+    (λ ms l ws r. Sound-mark-next marks.Semicolon ws _ (λ s xs. Sound-ok (struct_read k at n o x ms l r s)))))
 
 sound_forward : (k at : ℕ) (ts : List Lexeme) → Sound (λ x l. IsExternal k x (Keyword at keywords.Struct ∷ l)) [] ts (forward_of at ts)
-sound_forward k at ts = Sound-name ts _ (λ n x us. Sound-mark marks.Semicolon us _ (λ s vs. Sound-ok (a_forward at n s x, omega arith)))
+sound_forward k at ts = Sound-name-next ts _ (λ n x us. Sound-mark-next marks.Semicolon us _ (λ s vs. Sound-ok (a_forward at n s x, omega arith)))
 
 module _ (k start : ℕ) (b : Base) (front : List Lexeme) (t : ReadsOuterType front b) (same : start ≡ place front) where
   header_read : (m n o s : ℕ) (name : List ℕ) (ys : List Lexeme) → ReadsStars ys m → (ps : List ParameterTree × ℕ) (l : List Lexeme) → IsHead k ps l
@@ -103,11 +103,11 @@ module _ (k start : ℕ) (b : Base) (front : List Lexeme) (t : ReadsOuterType fr
       → Sound (λ x w. IsExternal k x (front ++ (ys ++ Name n name ∷ Mark o marks.OpenParenthesis ∷ (l ++ w)))) [] ts (body_of k start b m name ps ts)
   sound_body m n o name ys r ps l q ts =
       Sound-if (starts marks.Semicolon ts)
-      (λ _. Sound-mark marks.Semicolon ts _ (λ s us. Sound-ok (header_read m n o s name ys r ps l q)))
-      (λ _. Sound-mark marks.OpenBrace ts _ (λ i us. Sound-last _ (sound_items k (statement k) (λ vs. takes_statement k vs) (λ vs. sound_statement k vs) (length us) [] 0 us) (definition_read m n o i name ys r ps l q)))
+      (λ _. Sound-mark-next marks.Semicolon ts _ (λ s us. Sound-ok (header_read m n o s name ys r ps l q)))
+      (λ _. Sound-mark-next marks.OpenBrace ts _ (λ i us. Sound-last _ (sound_items k (statement k) (λ vs. takes_statement k vs) (λ vs. sound_statement k vs) (length us) [] 0 us) (definition_read m n o i name ys r ps l q)))
 
   sound_function : (m : ℕ) (ys : List Lexeme) → ReadsStars ys m → (ts : List Lexeme) → Sound (λ x l. IsExternal k x (front ++ (ys ++ l))) [] ts (function_of k start b m ts)
-  sound_function m ys r ts = Sound-name ts _ (λ n x us. Sound-mark marks.OpenParenthesis us _ (λ o vs. Sound-part (body_of k start b m x) (sound_head k vs) (λ ps l ws q. sound_body m n o x ys r ps l q ws)))
+  sound_function m ys r ts = Sound-name-next ts _ (λ n x us. Sound-mark-next marks.OpenParenthesis us _ (λ o vs. Sound-part (body_of k start b m x) (sound_head k vs) (λ ps l ws q. sound_body m n o x ys r ps l q ws)))
 
   sound_typed : (ts : List Lexeme) → Sound (λ x l. IsExternal k x (front ++ l)) [] ts (typed k start b ts)
   sound_typed ts =

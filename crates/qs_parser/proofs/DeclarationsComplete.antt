@@ -1,17 +1,17 @@
 -- What has a reading as a declarator, a variable or a declaration is read so, whatever follows that does not go on with it.
-use Rattle.std.proofs.Common.{◌≡◌, ℕ, zero, suc, ◌+◌, ◌<◌, ◌≤◌, max, List, [], ◌∷◌, ◌++◌, length, Result, Ok, Err, Some, None, refl, sym, ap, ◌∙◌, append_assoc, append-nil, add-one, length-append, Bool, true, false, true≢false, cond, arith, ◌==◌}
+use Rattle.std.proofs.Common.{◌≡◌, ℕ, zero, suc, ◌+◌, ◌<◌, ◌≤◌, max, List, [], ◌∷◌, ◌++◌, length, Result, Ok, refl, sym, ap, ◌∙◌, append_assoc, append-nil, add-one, length-append, Bool, true, false, true≢false, cond, arith, ◌==◌}
 use Rattle.std.proofs.lemmas.Bool.{false_from_ne_true, ne_eqb}
 use Rattle.qs_syntax.specs.declared.lexeme.Lexeme.{Lexeme}
 use Rattle.qs_syntax.specs.declared.lexeme.Lexeme.TheVariants.{Name, Mark}
 use Rattle.qs_syntax.specs.declared.tokens.Mark as mark
 use Rattle.qs_syntax.specs.declared.tokens.Mark.TheVariants as marks
-use Rattle.qs_syntax.specs.Trees.{ExprTree, LengthsTree, DeclaratorTree, InitialiserTree, value, list, Initialisers, no_initialisers, initialiser_and, initialisers_of, VariableTree, DeclarationTree}
-use Rattle.qs_syntax.specs.Reads.{Conditional, Assignment, place}
+use Rattle.qs_syntax.specs.Trees.{ExprTree, LengthsTree, DeclaratorTree, InitialiserTree, list, Initialisers, no_initialisers, initialiser_and, initialisers_of, VariableTree, DeclarationTree}
+use Rattle.qs_syntax.specs.Reads.{Conditional, Assignment}
 use Rattle.qs_syntax.specs.ReadsDeclarations.{ReadsGiven, no_length, a_length, ReadsLengths, are_given, first_open, ReadsDeclarator, a_declarator, ReadsInitialiser, a_value, a_list, ReadsInitialisers, a_last_initialiser, a_last_with_comma, an_initialiser, ReadsVariable, an_unset_variable, a_set_variable, ReadsVariables, a_last_variable, a_variable, ReadsDeclaration, a_declaration}
 use Rattle.qs_parser.specs.Heads.{starts, begins_type}
-use Rattle.qs_parser.specs.Parse.{Stop, begins_one, part}
+use Rattle.qs_parser.specs.Parse.{Stop, begins_one}
 use Rattle.qs_parser.specs.ParseDeclarations.{given_lengths, is_empty_brackets, lengths, declarator, initialisers, initialiser, variable, variables, declaration, declaration_within}
-use Rattle.qs_parser.specs.Stops.{strength_at, Stops}
+use Rattle.qs_parser.specs.Stops.{Stops}
 use Rattle.qs_parser.proofs.HeadsLaws.{starts_is, not_starts}
 use Rattle.qs_parser.proofs.TypesComplete.{goes_on_type, stars_go_on, finds_stars, finds_type, type_begins}
 use Rattle.qs_parser.proofs.ExpressionsBegin.{begins, high}
@@ -116,6 +116,7 @@ list_answer o h is rest = rw (items_back is, from_zero h, add-one h) refl
 
 mutual
   unfolding initialiser initialisers
+
   pub finds_initialiser : {h : ℕ} {ts : List Lexeme} {i : InitialiserTree} → ReadsInitialiser h ts i → (n : ℕ) → h ≤ n → (rest : List Lexeme) → Stops Assignment rest → initialiser n (ts ++ rest) ≡ Ok ((i, h), rest)
   finds_initialiser (a_value {h = h} {ts = ts} {e = e} r) zero le rest stop = let p = high r in absurd (omega arith)
   finds_initialiser (a_value {h = h} {ts = ts} {e = e} r) (suc m) le rest stop =

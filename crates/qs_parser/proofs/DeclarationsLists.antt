@@ -1,5 +1,5 @@
 -- Lists of the grammar with a mark at their end: what is done, and what is read behind it.
-use Rattle.std.proofs.Common.{◌≡◌, ℕ, ◌≤◌, max, List, [], ◌∷◌, ◌++◌, Result, Ok, refl, sym, ap, ◌∙◌, append_assoc, Bool, true, false, cond, if◌then◌else◌, arith}
+use Rattle.std.proofs.Common.{◌≡◌, ℕ, ◌≤◌, max, List, [], ◌∷◌, ◌++◌, Ok, refl, sym, ap, ◌∙◌, append_assoc, if◌then◌else◌, arith}
 use Rattle.qs_syntax.specs.declared.lexeme.Lexeme.{Lexeme}
 use Rattle.qs_syntax.specs.declared.lexeme.Lexeme.TheVariants.{Mark}
 use Rattle.qs_syntax.specs.declared.tokens.Mark as mark
@@ -30,9 +30,17 @@ module _ {X : Type 0} (closing : mark.Mark) (One : ℕ → List Lexeme → X →
 
   pub closed_further : (n : ℕ) (done : List X) (h : ℕ) (x : X) (k : ℕ) (front : List Lexeme) (at : ℕ) → One k front x → k ≤ n
       → (y : List X × ℕ) (l : List Lexeme) → Closed closing All n (done ++ x ∷ []) (max h k) y l → Closed closing All n done h y (front ++ Mark at marks.Comma ∷ l)
-  closed_further n done h x k front at r le y l (items, j, inside, c, p, q, e, s, low) =
-      (x ∷ items, max k j, front ++ Mark at marks.Comma ∷ inside, c, p ∙ append_assoc done (x ∷ []) items, omega arith,
-      ap (λ l. front ++ Mark at marks.Comma ∷ l) e ∙ sym (append_assoc front (Mark at marks.Comma ∷ inside) (Mark c closing ∷ [])), further k j front inside x items at r s, omega arith)
+  closed_further n done h x k front at r le y l (items, j, inside, c, p, q, e, s, low) = (
+    x ∷ items,
+    max k j,
+    front ++ Mark at marks.Comma ∷ inside,
+    c,
+    p ∙ append_assoc done (x ∷ []) items,
+    omega arith,
+    ap (λ l. front ++ Mark at marks.Comma ∷ l) e ∙ sym (append_assoc front (Mark at marks.Comma ∷ inside) (Mark c closing ∷ [])),
+    further k j front inside x items at r s,
+    omega arith,
+  )
 
   -- the mark at the end, or a comma and the others
   pub sound_after : (n : ℕ) (others : List X → ℕ → Parse (List X × ℕ)) → ((done : List X) (h : ℕ) (ts : List Lexeme) → Sound (Closed closing All n done h) [] ts (others done h ts))

@@ -55,9 +55,17 @@ last_group m done h g front c (r, le) = (g.0 ∷ [], g.1, front, c, refl, refl, 
 
 further_group : (m : ℕ) (done : List MembersTree) (h : ℕ) (g : MembersTree × ℕ) (front : List Lexeme) → AreMembers m g front
     → (y : List MembersTree × ℕ) (l : List Lexeme) → AreGroups m (done ++ g.0 ∷ []) (max h g.1) y l → AreGroups m done h y (front ++ l)
-further_group m done h g front (r, le) y l (items, k, inside, c, p, q, e, s, low) =
-    (g.0 ∷ items, max g.1 k, front ++ inside, c, p ∙ append_assoc done (g.0 ∷ []) items, omega arith,
-    ap (λ l. front ++ l) e ∙ sym (append_assoc front inside (Mark c marks.CloseBrace ∷ [])), a_further_group r s, omega arith)
+further_group m done h g front (r, le) y l (items, k, inside, c, p, q, e, s, low) = (
+  g.0 ∷ items,
+  max g.1 k,
+  front ++ inside,
+  c,
+  p ∙ append_assoc done (g.0 ∷ []) items,
+  omega arith,
+  ap (λ l. front ++ l) e ∙ sym (append_assoc front inside (Mark c marks.CloseBrace ∷ [])),
+  a_further_group r s,
+  omega arith,
+)
 
 pub sound_groups : (m n : ℕ) (done : List MembersTree) (h : ℕ) (ts : List Lexeme) → Sound (Closed marks.CloseBrace ReadsAllMembers (suc m) done h) [] ts (groups m n done h ts)
 unfolding groups

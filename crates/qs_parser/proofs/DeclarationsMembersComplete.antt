@@ -1,12 +1,11 @@
 -- What has a reading as members of a struct is read so.
-use Rattle.std.proofs.Common.{◌≡◌, ℕ, zero, suc, ◌+◌, ◌<◌, ◌≤◌, max, List, [], ◌∷◌, ◌++◌, length, Result, Ok, refl, sym, ap, ◌∙◌, append_assoc, add-one, length-append, Bool, true, false, arith}
+use Rattle.std.proofs.Common.{◌≡◌, ℕ, zero, suc, ◌<◌, ◌≤◌, max, List, [], ◌∷◌, ◌++◌, length, Ok, refl, ap, ◌∙◌, append_assoc, add-one, length-append, true, false, arith}
 use Rattle.qs_syntax.specs.declared.lexeme.Lexeme.{Lexeme}
 use Rattle.qs_syntax.specs.declared.lexeme.Lexeme.TheVariants.{Mark}
 use Rattle.qs_syntax.specs.declared.tokens.Mark.TheVariants as marks
 use Rattle.qs_syntax.specs.Trees.{DeclaratorTree, MembersTree}
 use Rattle.qs_syntax.specs.ReadsDeclarations.{ReadsDeclarators, a_last_member, a_member, ReadsMembers, a_group, ReadsAllMembers, a_last_group, a_further_group}
 use Rattle.qs_parser.specs.Heads.{begins_type}
-use Rattle.qs_parser.specs.Parse.{Stop}
 use Rattle.qs_parser.specs.ParseDeclarations.{declarators, members, groups}
 use Rattle.qs_parser.proofs.TypesComplete.{goes_on_type, finds_type, type_begins}
 use Rattle.qs_parser.proofs.DeclarationsComplete.{Items, one_more, from_zero, not_typed, finds_declarator, declarator_no_type}

@@ -1,20 +1,19 @@
 -- What is read as parameters of a function has that reading.
-use Rattle.std.proofs.Common.{◌≡◌, ◌⊎◌, inl, inr, ℕ, zero, suc, ◌+◌, ◌≤◌, max, List, [], ◌∷◌, ◌++◌, length, Result, Ok, Err, Some, None, refl, sym, ap, subst, ◌∙◌, append_assoc, add-one, Bool, true, false, true≢false, cond, arith, ◌&&◌}
+use Rattle.std.proofs.Common.{◌≡◌, ◌⊎◌, inl, inr, ℕ, zero, suc, ◌+◌, ◌≤◌, max, List, [], ◌∷◌, ◌++◌, length, Ok, Some, None, refl, sym, ap, ◌∙◌, append_assoc, add-one, Bool, true, false, true≢false, cond, arith, ◌&&◌}
 use Rattle.qs_syntax.specs.declared.lexeme.Lexeme.{Lexeme}
 use Rattle.qs_syntax.specs.declared.lexeme.Lexeme.TheVariants.{Name, Keyword, Constant, Text, Mark}
-use Rattle.qs_syntax.specs.declared.tokens.Keyword as key
 use Rattle.qs_syntax.specs.declared.tokens.Keyword.TheVariants as keywords
 use Rattle.qs_syntax.specs.declared.tokens.Mark.TheVariants as marks
 use Rattle.qs_syntax.specs.declared.tree.Base.{Base}
 use Rattle.qs_syntax.specs.Signs.{number_of}
 use Rattle.qs_syntax.specs.Trees.{LengthsTree, ParameterTree}
-use Rattle.qs_syntax.specs.ReadsTypes.{ReadsConsts, no_const, a_const, ReadsBase, a_void, an_int, a_char, an_unsigned, an_unsigned_int, an_unsigned_char, a_signed, a_signed_int, a_struct, ReadsType, a_type, ReadsStars}
+use Rattle.qs_syntax.specs.ReadsTypes.{no_const, a_const, ReadsBase, a_void, an_int, a_char, an_unsigned, an_unsigned_int, an_unsigned_char, a_signed, a_signed_int, a_struct, ReadsType, a_type, ReadsStars}
 use Rattle.qs_syntax.specs.Reads.{place}
 use Rattle.qs_syntax.specs.ReadsDeclarations.{ReadsParameter, a_named_parameter, an_unnamed_parameter, ReadsParameters, a_last_parameter, a_parameter, ReadsHead, no_parameter, a_void_head, some_parameters}
-use Rattle.qs_parser.specs.Heads.{is_keyword, starts, keyword_number}
-use Rattle.qs_parser.specs.Parse.{Stop, Parse, bind, type, stars, expect, unexpected}
-use Rattle.qs_parser.specs.ParseDeclarations.{lengths, with_name, is_void_alone, without_first, parameter, after_parameter, parameters, is_void_head, head}
-use Rattle.qs_parser.proofs.HeadsLaws.{keyword_is, keyword_number_tells}
+use Rattle.qs_parser.specs.Heads.{is_keyword, starts}
+use Rattle.qs_parser.specs.Parse.{bind, type, stars, unexpected}
+use Rattle.qs_parser.specs.ParseDeclarations.{with_name, is_void_alone, without_first, parameter, after_parameter, parameters, is_void_head, head}
+use Rattle.qs_parser.proofs.HeadsLaws.{keyword_is}
 use Rattle.qs_parser.proofs.Sound.{Sound, Sound-ok, Sound-err, Sound-after, Sound-mono}
 use Rattle.qs_parser.proofs.SoundSteps.{Sound-if}
 use Rattle.qs_parser.proofs.TypesSound.{sound_type, StarsRead, stars_read}
@@ -88,8 +87,8 @@ sound_parameter m ts =
     Sound-if (is_void_alone ts) (λ _. Sound-err)
     (λ _. Sound-part-is _ (sound_type ts)
     (λ b front us is split t. let first : StarsRead us (stars us) = stars_read us in
-      Sound-after [] us first.front (stars us).1 first.split _
-      (Sound-behind (sound_with_name m (place ts) b (stars us).0 front first.front t first.is (ap place split ∙ type_place t us) (stars us).1))))
+    Sound-after [] us first.front (stars us).1 first.split _
+    (Sound-behind (sound_with_name m (place ts) b (stars us).0 front first.front t first.is (ap place split ∙ type_place t us) (stars us).1))))
 
 abbrev OneParameter : ℕ → List Lexeme → ParameterTree → Type 0
 OneParameter h l p = ReadsParameter h l p
@@ -148,8 +147,8 @@ sound_head m ts =
     (λ _. Sound-mark-next marks.CloseParenthesis ts _ (λ c us. Sound-ok ([], c, refl, no_parameter, omega arith)))
     (λ _. Sound-if (is_void_head ts)
     (λ e. let void = void_first ts e in
-      Sound-after [] ts (Keyword void.0 keywords.Void ∷ []) (without_first ts) void.1 _
-      (Sound-behind (Sound-mark-next marks.CloseParenthesis (without_first ts) _ (λ c us. Sound-ok (Keyword void.0 keywords.Void ∷ [], c, refl, a_void_head void.0, omega arith)))))
+    Sound-after [] ts (Keyword void.0 keywords.Void ∷ []) (without_first ts) void.1 _
+    (Sound-behind (Sound-mark-next marks.CloseParenthesis (without_first ts) _ (λ c us. Sound-ok (Keyword void.0 keywords.Void ∷ [], c, refl, a_void_head void.0, omega arith)))))
     (λ _. Sound-mono (λ x l r. some_read x l (all_closed marks.CloseParenthesis ReadsParameters (suc m) x l r)) (sound_parameters m (length ts) [] 0 ts)))
   where
     some_read : (x : List ParameterTree × ℕ) (l : List Lexeme) → Ends marks.CloseParenthesis ReadsParameters (suc m) x l → IsHead m x l

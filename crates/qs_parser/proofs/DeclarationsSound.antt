@@ -1,16 +1,16 @@
 -- What is read as a declarator, a variable or a declaration has that reading.
-use Rattle.std.proofs.Common.{◌≡◌, ℕ, zero, suc, ◌+◌, ◌<◌, ◌≤◌, max, List, [], ◌∷◌, ◌++◌, length, Result, Ok, Err, Option, Some, None, refl, sym, ap, subst, ◌∙◌, append_assoc, append-nil, add-one, Bool, true, false, cond, arith, ◌==◌}
+use Rattle.std.proofs.Common.{◌≡◌, ℕ, zero, suc, ◌+◌, ◌≤◌, max, List, [], ◌∷◌, ◌++◌, length, Some, None, refl, sym, ap, ◌∙◌, append_assoc, append-nil, add-one, arith, ◌==◌}
 use Rattle.qs_syntax.specs.declared.lexeme.Lexeme.{Lexeme}
-use Rattle.qs_syntax.specs.declared.lexeme.Lexeme.TheVariants.{Name, Keyword, Constant, Text, Mark}
+use Rattle.qs_syntax.specs.declared.lexeme.Lexeme.TheVariants.{Mark}
 use Rattle.qs_syntax.specs.declared.tokens.Mark.TheVariants as marks
 use Rattle.qs_syntax.specs.declared.tree.Base.{Base}
-use Rattle.qs_syntax.specs.Trees.{ExprTree, LengthsTree, DeclaratorTree, InitialiserTree, value, list, Initialisers, no_initialisers, initialiser_and, initialisers_of, VariableTree, DeclarationTree}
+use Rattle.qs_syntax.specs.Trees.{ExprTree, LengthsTree, DeclaratorTree, InitialiserTree, list, initialisers_of, VariableTree, DeclarationTree}
 use Rattle.qs_syntax.specs.ReadsTypes.{ReadsType, ReadsStars}
-use Rattle.qs_syntax.specs.Reads.{Reads, Conditional, Assignment, place}
+use Rattle.qs_syntax.specs.Reads.{Conditional, Assignment, place}
 use Rattle.qs_syntax.specs.ReadsDeclarations.{ReadsGiven, no_length, a_length, ReadsLengths, are_given, first_open, ReadsDeclarator, a_declarator, ReadsInitialiser, a_value, a_list, ReadsInitialisers, a_last_initialiser, a_last_with_comma, an_initialiser, ReadsVariable, an_unset_variable, a_set_variable, ReadsVariables, a_last_variable, a_variable, ReadsDeclaration, a_declaration}
 use Rattle.qs_parser.specs.Heads.{starts}
-use Rattle.qs_parser.specs.Parse.{Stop, Parse, bind, E, stars, part}
-use Rattle.qs_parser.specs.ParseDeclarations.{given_lengths, is_empty_brackets, lengths, named, declarator, after_initialiser, initialisers, begins_initialiser, initialiser, initialised, variable, after_variable, variables, declared, declaration, declaration_within}
+use Rattle.qs_parser.specs.Parse.{Parse, E, stars}
+use Rattle.qs_parser.specs.ParseDeclarations.{given_lengths, is_empty_brackets, lengths, named, declarator, after_initialiser, initialisers, begins_initialiser, initialiser, initialised, variable, variables, declared, declaration, declaration_within}
 use Rattle.qs_parser.proofs.Sound.{Sound, Sound-ok, Sound-err, Sound-after, Sound-mono}
 use Rattle.qs_parser.proofs.SoundSteps.{Sound-if}
 use Rattle.qs_parser.proofs.TypesSound.{sound_type, StarsRead, stars_read}

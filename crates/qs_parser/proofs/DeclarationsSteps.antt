@@ -1,12 +1,12 @@
 -- How laws of the parser's answers are put together, where all that was read before is named in what is claimed.
-use Rattle.std.proofs.Common.{◌≡◌, ℕ, List, [], ◌∷◌, ◌++◌, length, Result, Ok, Err, refl, sym, ap, subst, ◌∙◌, append_assoc, append-nil, Bool, true, false, cond, true≢false}
+use Rattle.std.proofs.Common.{◌≡◌, ℕ, List, [], ◌∷◌, ◌++◌, Result, Ok, Err, refl, sym, ap, subst, Bool, true, false, cond, true≢false}
 use Rattle.qs_syntax.specs.declared.lexeme.Lexeme.{Lexeme}
 use Rattle.qs_syntax.specs.declared.lexeme.Lexeme.TheVariants.{Name, Keyword, Constant, Text, Mark}
 use Rattle.qs_syntax.specs.declared.tokens.Mark as mark
 use Rattle.qs_syntax.specs.Signs.{number_of}
 use Rattle.qs_parser.specs.Heads.{is_mark, starts}
 use Rattle.qs_parser.specs.Parse.{Stop, Parse, bind, unexpected, expect, expect_name}
-use Rattle.qs_parser.proofs.Sound.{Outcome, Sound, Sound-ok, Sound-err, Sound-after, Sound-bind}
+use Rattle.qs_parser.proofs.Sound.{Outcome, Sound, Sound-err, Sound-after, Sound-bind}
 use Rattle.qs_parser.proofs.HeadsLaws.{mark_is}
 
 module _ {A : Type 0} {S : A → List Lexeme → Type 0} where

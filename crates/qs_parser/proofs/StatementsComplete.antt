@@ -1,9 +1,8 @@
 -- What has a reading as a statement is read so, where no `else` follows that would belong to it.
-use Rattle.std.proofs.Common.{◌≡◌, ℕ, zero, suc, ◌+◌, ◌<◌, ◌≤◌, max, List, [], ◌∷◌, ◌++◌, length, Result, Ok, Option, Some, None, refl, sym, ap, ◌∙◌, append_assoc, add-one, length-append, Bool, true, false, true≢false, cond, arith}
-use Rattle.std.specs.Prelude.{◌==◌, ◌||◌}
+use Rattle.std.proofs.Common.{◌≡◌, ℕ, zero, suc, ◌+◌, ◌<◌, ◌≤◌, max, List, [], ◌∷◌, ◌++◌, length, Result, Ok, Option, refl, sym, ap, ◌∙◌, append_assoc, add-one, length-append, true, false, true≢false, arith}
 use Rattle.std.proofs.lemmas.Bool.{false_from_ne_true}
 use Rattle.qs_syntax.specs.declared.lexeme.Lexeme.{Lexeme}
-use Rattle.qs_syntax.specs.declared.lexeme.Lexeme.TheVariants.{Name, Keyword, Constant, Text, Mark}
+use Rattle.qs_syntax.specs.declared.lexeme.Lexeme.TheVariants.{Keyword, Mark}
 use Rattle.qs_syntax.specs.declared.tokens.Keyword as key
 use Rattle.qs_syntax.specs.declared.tokens.Keyword.TheVariants as keywords
 use Rattle.qs_syntax.specs.declared.tokens.Mark as mark
@@ -12,9 +11,9 @@ use Rattle.qs_syntax.specs.Trees.{ExprTree, DeclarationTree, StartTree, StmtTree
 use Rattle.qs_syntax.specs.Reads.{Reads, Expression, place}
 use Rattle.qs_syntax.specs.ReadsDeclarations.{ReadsDeclaration}
 use Rattle.qs_syntax.specs.ReadsStatements.{is_open, ReadsOptional, nothing_there, something_there, ReadsStart, a_start_declaration, a_start_expression, no_start_at_all, ReadsStatement, a_block, an_empty, an_expression, an_if, an_if_with_else, a_while, a_do, a_for, a_break, a_continue, a_return, ReadsItem, a_statement, a_declared, ReadsItems, no_item, an_item}
-use Rattle.qs_parser.specs.Heads.{is_mark, is_keyword, starts, starts_with, begins_type}
+use Rattle.qs_parser.specs.Heads.{starts, starts_with, begins_type}
 use Rattle.qs_parser.specs.Parse.{Stop, Parse, bind, expect, E, begins_one, part}
-use Rattle.qs_parser.specs.ParseStatements.{S, optional, condition, start_of, item, items, after_then, keyword_statement, statement_at, statement}
+use Rattle.qs_parser.specs.ParseStatements.{S, optional, condition, start_of, item, items, after_then, statement_at, statement}
 use Rattle.qs_parser.specs.Stops.{strength_at}
 use Rattle.qs_parser.proofs.HeadsLaws.{starts_with_is}
 use Rattle.qs_parser.proofs.ExpressionsBegin.{begins, begins_no_type, place_more, high}
@@ -61,9 +60,10 @@ record Begins (ts : List Lexeme) : Type 0 where
 
 expression_begins : {h : ℕ} {ts : List Lexeme} {e : ExprTree} → Reads Expression h ts e → (us : List Lexeme) → Begins (ts ++ us)
 expression_begins {h} {ts} r us = record {
-    no_type = begins_no_type r us;
-    no_else = not_begun_with keywords.Else (λ at us. refl) (ts ++ us) (begins r us);
-    no_end = not_begun marks.CloseBrace (λ at us. refl) (ts ++ us) (begins r us) }
+  no_type = begins_no_type r us;
+  no_else = not_begun_with keywords.Else (λ at us. refl) (ts ++ us) (begins r us);
+  no_end = not_begun marks.CloseBrace (λ at us. refl) (ts ++ us) (begins r us);
+}
 
 statement_begins : {h : ℕ} {ts : List Lexeme} {s : StmtTree} → ReadsStatement h ts s → (us : List Lexeme) → Begins (ts ++ us)
 statement_begins (a_block o c r) us = record { no_type = refl; no_else = refl; no_end = refl }

@@ -1,29 +1,27 @@
 -- What is read as a statement has that reading; an `else` is taken where it can be.
-use Rattle.std.proofs.Common.{◌≡◌, ℕ, zero, suc, ◌+◌, ◌≤◌, max, List, [], ◌∷◌, ◌++◌, length, Result, Ok, Err, Option, Some, None, refl, sym, ap, ◌∙◌, append_assoc, append-nil, add-one, Bool, true, false, true≢false, cond, if◌then◌else◌, arith, ◌==◌}
+use Rattle.std.proofs.Common.{◌≡◌, ℕ, zero, suc, ◌+◌, ◌≤◌, max, List, [], ◌∷◌, ◌++◌, length, Result, Ok, Err, Option, refl, sym, ap, ◌∙◌, append_assoc, append-nil, add-one, Bool, true, false, true≢false, cond, arith, ◌==◌}
 use Rattle.std.proofs.lemmas.Bool.{false_from_ne_true}
 use Rattle.qs_syntax.specs.declared.lexeme.Lexeme.{Lexeme}
-use Rattle.qs_syntax.specs.declared.lexeme.Lexeme.TheVariants.{Name, Keyword, Constant, Text, Mark}
+use Rattle.qs_syntax.specs.declared.lexeme.Lexeme.TheVariants.{Keyword, Mark}
 use Rattle.qs_syntax.specs.declared.tokens.Keyword as key
 use Rattle.qs_syntax.specs.declared.tokens.Keyword.TheVariants as keywords
 use Rattle.qs_syntax.specs.declared.tokens.Mark as mark
 use Rattle.qs_syntax.specs.declared.tokens.Mark.TheVariants as marks
 use Rattle.qs_syntax.specs.Signs.{number_of}
-use Rattle.qs_syntax.specs.Trees.{ExprTree, StartTree, no_start, start_expression, start_declaration, StmtTree, empty, expression, block, branch, while_loop, do_loop, for_loop, break, continue, return, stmts_of, no_else, else_by}
-use Rattle.qs_syntax.specs.Trees as trees
-use Rattle.qs_syntax.specs.Reads.{Reads, Form, Expression, place}
+use Rattle.qs_syntax.specs.Trees.{ExprTree, StartTree, StmtTree, expression, block, branch, while_loop, do_loop, for_loop, break, continue, return, stmts_of, no_else, else_by}
+use Rattle.qs_syntax.specs.Reads.{Reads, Expression, place}
 use Rattle.qs_syntax.specs.ReadsStatements.{is_open, ReadsOptional, nothing_there, something_there, ReadsStart, a_start_declaration, a_start_expression, no_start_at_all, ReadsStatement, a_block, an_empty, an_expression, an_if, an_if_with_else, a_while, a_do, a_for, a_break, a_continue, a_return, ReadsItem, a_statement, a_declared, ReadsItems, no_item, an_item}
 use Rattle.qs_parser.specs.Heads.{is_mark, is_keyword, starts, starts_with, begins_type}
 use Rattle.qs_parser.specs.Parse.{Stop, Parse, bind, unexpected, expect, E, part}
-use Rattle.qs_parser.specs.ParseDeclarations.{declaration_within}
-use Rattle.qs_parser.specs.ParseStatements.{S, optional, condition, start_of, begins_statement, item, items, in_block, after_then, after_if, after_while, expect_while, after_do, after_for, after_return, keyword_statement, statement_at, statement}
+use Rattle.qs_parser.specs.ParseStatements.{S, optional, condition, start_of, begins_statement, item, items, after_then, expect_while, keyword_statement, statement_at, statement}
 use Rattle.qs_parser.proofs.HeadsLaws.{keyword_is, mark_is}
-use Rattle.qs_parser.proofs.Sound.{Sound, Sound-ok, Sound-err, Sound-after, Sound-mono}
+use Rattle.qs_parser.proofs.Sound.{Sound, Sound-ok, Sound-err, Sound-mono}
 use Rattle.qs_parser.proofs.SoundSteps.{Sound-if}
 use Rattle.qs_parser.proofs.ExpressionsSound.{IsRead, sound_part}
 use Rattle.qs_parser.proofs.ExpressionsBegin.{place_more}
-use Rattle.qs_parser.proofs.DeclarationsSteps.{Sound-behind, Sound-first, Sound-mark-next, Sound-part, Sound-part-is, Sound-last}
+use Rattle.qs_parser.proofs.DeclarationsSteps.{Sound-first, Sound-mark-next, Sound-part, Sound-part-is, Sound-last}
 use Rattle.qs_parser.proofs.DeclarationsLists.{Closed, Ends, all_closed}
-use Rattle.qs_parser.proofs.DeclarationsSound.{IsDeclaration, sound_declaration_within}
+use Rattle.qs_parser.proofs.DeclarationsSound.{sound_declaration_within}
 
 -- ---- an `else` is taken where it can be
 
@@ -71,7 +69,7 @@ module _ (m : ℕ) (inner : Parse S) (takes : (ts : List Lexeme) → Takes (inne
       (λ _. takes_if (m == 0) _ _ (λ _. tt) (λ _. takes_bind (inner ts) _ (λ s us. takes_bind (expect_while m inner us) _ (λ _ vs. takes_bind (condition m vs) _ (λ e ws. takes_closed (expect marks.Semicolon ws) (λ _. (do_loop 0 (number_of t) s.0 e.0, max s.1 e.1 + 1)) (λ _. refl))))))
       (λ _. takes_if (is_keyword keywords.For t) _ _
       (λ _. takes_if (m == 0) _ _ (λ _. tt) (λ _. takes_bind (expect marks.OpenParenthesis ts) _ (λ _ us. takes_bind (start_of m us) _ (λ a vs. takes_bind (optional m marks.Semicolon vs) _ (λ e ws. takes_bind (optional m marks.CloseParenthesis ws) _
-        (λ u xs. takes_last (inner xs) (λ s. (for_loop 0 (number_of t) a.0 e.0 u.0 s.0, max a.1 (max e.1 (max u.1 s.1)) + 1)) (λ s. refl) (takes xs)))))))
+      (λ u xs. takes_last (inner xs) (λ s. (for_loop 0 (number_of t) a.0 e.0 u.0 s.0, max a.1 (max e.1 (max u.1 s.1)) + 1)) (λ s. refl) (takes xs)))))))
       (λ _. takes_if (is_keyword keywords.Break t) _ _ (λ _. takes_closed (expect marks.Semicolon ts) (λ _. (break 0 (number_of t), 1)) (λ _. refl))
       (λ _. takes_if (is_keyword keywords.Continue t) _ _ (λ _. takes_closed (expect marks.Semicolon ts) (λ _. (continue 0 (number_of t), 1)) (λ _. refl))
       (λ _. takes_if (is_keyword keywords.Return t) _ _ (λ _. takes_closed (optional m marks.Semicolon ts) (λ e. (return 0 (number_of t) e.0, e.1 + 1)) (λ e. refl))
@@ -149,9 +147,17 @@ no_items : (m : ℕ) (done : List StmtTree) (h c : ℕ) → AreItems m done h (d
 no_items m done h c = ([], 0, [], c, sym (append-nil done), omega arith, refl, no_item, omega arith)
 
 further_item : (m : ℕ) (done : List StmtTree) (h : ℕ) (s : S) (front : List Lexeme) → IsItem m s front → (y : List StmtTree × ℕ) (l : List Lexeme) → AreItems m (done ++ s.0 ∷ []) (max h s.1) y l → AreItems m done h y (front ++ l)
-further_item m done h s front (r, le) y l (ss, k, inside, c, p, q, e, i, low) =
-    (s.0 ∷ ss, max s.1 k, front ++ inside, c, p ∙ append_assoc done (s.0 ∷ []) ss, omega arith,
-    ap (λ l. front ++ l) e ∙ sym (append_assoc front inside (Mark c marks.CloseBrace ∷ [])), an_item r i, omega arith)
+further_item m done h s front (r, le) y l (ss, k, inside, c, p, q, e, i, low) = (
+  s.0 ∷ ss,
+  max s.1 k,
+  front ++ inside,
+  c,
+  p ∙ append_assoc done (s.0 ∷ []) ss,
+  omega arith,
+  ap (λ l. front ++ l) e ∙ sym (append_assoc front inside (Mark c marks.CloseBrace ∷ [])),
+  an_item r i,
+  omega arith,
+)
 
 block_read : (m o : ℕ) (x : List StmtTree × ℕ) (l : List Lexeme) → AreItems m [] 0 x l → IsStatement (suc m) (block (stmts_of x.0), x.1 + 1) (Mark o marks.OpenBrace ∷ l)
 block_read m o x l r = go (all_closed marks.CloseBrace AllItems m x l r)
@@ -177,9 +183,11 @@ do_read m at w n s e xs c (q, low) (inside, o, p, is, r, le) =
 
 for_read : (m at o : ℕ) (a : StartTree × ℕ) (e u : Option ExprTree × ℕ) (s : S) (ws xs ys zs : List Lexeme) → IsStart m a ws → IsOptional m marks.Semicolon e xs → IsOptional m marks.CloseParenthesis u ys → IsStatement m s zs
     → IsStatement (suc m) (for_loop 0 at a.0 e.0 u.0 s.0, max a.1 (max e.1 (max u.1 s.1)) + 1) (Keyword at keywords.For ∷ Mark o marks.OpenParenthesis ∷ (ws ++ (xs ++ (ys ++ zs))))
-for_read m at o a e u s ws xs ys zs (start, l1) (first, n, d1, r1, l2) (second, c, d2, r2, l3) (q, l4) =
-    (rw (d1, d2, append_assoc second (Mark c marks.CloseParenthesis ∷ []) zs, append_assoc first (Mark n marks.Semicolon ∷ []) (second ++ Mark c marks.CloseParenthesis ∷ zs), add-one (max a.1 (max e.1 (max u.1 s.1))))
-    (a_for at o n c start r1 r2 q), omega arith)
+for_read m at o a e u s ws xs ys zs (start, l1) (first, n, d1, r1, l2) (second, c, d2, r2, l3) (q, l4) = (
+  rw (d1, d2, append_assoc second (Mark c marks.CloseParenthesis ∷ []) zs, append_assoc first (Mark n marks.Semicolon ∷ []) (second ++ Mark c marks.CloseParenthesis ∷ zs), add-one (max a.1 (max e.1 (max u.1 s.1))))
+      (a_for at o n c start r1 r2 q),
+  omega arith,
+)
 
 return_read : (m at : ℕ) (e : Option ExprTree × ℕ) (xs : List Lexeme) → IsOptional m marks.Semicolon e xs → IsStatement (suc m) (return 0 at e.0, e.1 + 1) (Keyword at keywords.Return ∷ xs)
 return_read m at e xs (inside, s, d, r, le) = (rw (d, add-one e.1) (a_return at s r), omega arith)
@@ -217,17 +225,17 @@ module _ (m : ℕ) (inner : Parse S) (takes : (ts : List Lexeme) → Takes (inne
   sound_keyword t ts =
       Sound-if (is_keyword keywords.If t)
       (λ is. Sound-if (m == 0) (λ _. Sound-err) (λ _. Sound-keyword keywords.If t ts is
-        (Sound-part _ (sound_condition m ts) (λ e c us r. Sound-part-is _ (sound us) (λ s ys vs read _ q. sound_after_then (number_of t) e s c ys r q vs (taken_there us vs s read))))))
+      (Sound-part _ (sound_condition m ts) (λ e c us r. Sound-part-is _ (sound us) (λ s ys vs read _ q. sound_after_then (number_of t) e s c ys r q vs (taken_there us vs s read))))))
       (λ _. Sound-if (is_keyword keywords.While t)
       (λ is. Sound-if (m == 0) (λ _. Sound-err) (λ _. Sound-keyword keywords.While t ts is
-        (Sound-part _ (sound_condition m ts) (λ e c us r. Sound-last _ (sound us) (λ s ys q. while_read m (number_of t) e s c ys r q)))))
+      (Sound-part _ (sound_condition m ts) (λ e c us r. Sound-last _ (sound us) (λ s ys q. while_read m (number_of t) e s c ys r q)))))
       (λ _. Sound-if (is_keyword keywords.Do t)
       (λ is. Sound-if (m == 0) (λ _. Sound-err) (λ _. Sound-keyword keywords.Do t ts is
-        (Sound-part _ (sound ts) (λ s xs us q. Sound-while-next m inner us _ (λ w vs. Sound-part _ (sound_condition m vs) (λ e c ws r. Sound-mark-next marks.Semicolon ws _ (λ n ys. Sound-ok (do_read m (number_of t) w n s e xs c q r))))))))
+      (Sound-part _ (sound ts) (λ s xs us q. Sound-while-next m inner us _ (λ w vs. Sound-part _ (sound_condition m vs) (λ e c ws r. Sound-mark-next marks.Semicolon ws _ (λ n ys. Sound-ok (do_read m (number_of t) w n s e xs c q r))))))))
       (λ _. Sound-if (is_keyword keywords.For t)
       (λ is. Sound-if (m == 0) (λ _. Sound-err) (λ _. Sound-keyword keywords.For t ts is
-        (Sound-mark-next marks.OpenParenthesis ts _ (λ o us. Sound-part _ (sound_start m us) (λ a ws vs r1. Sound-part _ (sound_optional m marks.Semicolon vs) (λ e xs ws' r2. Sound-part _ (sound_optional m marks.CloseParenthesis ws')
-        (λ u ys xs' r3. Sound-last _ (sound xs') (λ s zs q. for_read m (number_of t) o a e u s ws xs ys zs r1 r2 r3 q))))))))
+      (Sound-mark-next marks.OpenParenthesis ts _ (λ o us. Sound-part _ (sound_start m us) (λ a ws vs r1. Sound-part _ (sound_optional m marks.Semicolon vs) (λ e xs ws' r2. Sound-part _ (sound_optional m marks.CloseParenthesis ws')
+      (λ u ys xs' r3. Sound-last _ (sound xs') (λ s zs q. for_read m (number_of t) o a e u s ws xs ys zs r1 r2 r3 q))))))))
       (λ _. Sound-if (is_keyword keywords.Break t)
       (λ is. Sound-keyword keywords.Break t ts is (Sound-mark-next marks.Semicolon ts _ (λ s us. Sound-ok (a_break (number_of t) s, omega arith))))
       (λ _. Sound-if (is_keyword keywords.Continue t)

@@ -1,5 +1,5 @@
 -- What has a reading as a unit is read so, and has no other reading.
-use Rattle.std.proofs.Common.{◌≡◌, ℕ, zero, suc, ◌+◌, ◌<◌, ◌≤◌, max, List, [], ◌∷◌, ◌++◌, length, Result, Ok, Err, Some, None, refl, sym, ap, subst, ◌∙◌, append_assoc, append-nil, add-one, length-append, Bool, true, false, true≢false, cond, arith}
+use Rattle.std.proofs.Common.{◌≡◌, ℕ, zero, suc, ◌+◌, ◌<◌, ◌≤◌, max, List, [], ◌∷◌, ◌++◌, length, Result, Ok, Err, Some, None, refl, sym, ap, ◌∙◌, append_assoc, append-nil, add-one, length-append, false, arith}
 use Rattle.std.proofs.lemmas.Bool.{or_parts}
 use Rattle.qs_syntax.specs.declared.lexeme.Lexeme.{Lexeme}
 use Rattle.qs_syntax.specs.declared.lexeme.Lexeme.TheVariants.{Name, Keyword, Mark}
@@ -11,11 +11,11 @@ use Rattle.qs_syntax.specs.Trees.{LengthsTree, DeclaratorTree, MembersTree, Para
 use Rattle.qs_syntax.specs.Trees as trees
 use Rattle.qs_syntax.specs.ReadsTypes.{ReadsConsts, no_const, a_const, ReadsPrefixes, no_prefix, a_const_prefix, a_static_prefix, ReadsBase, a_void, an_int, a_char, an_unsigned, an_unsigned_int, an_unsigned_char, a_signed, a_signed_int, a_struct, ReadsOuterType, an_outer_type, ReadsStars, no_star, a_star}
 use Rattle.qs_syntax.specs.Reads.{place}
-use Rattle.qs_syntax.specs.ReadsDeclarations.{ReadsGiven, no_length, a_length, ReadsLengths, are_given, first_open, ReadsDeclarator, a_declarator, ReadsVariable, an_unset_variable, a_set_variable, ReadsVariables, a_last_variable, a_variable, ReadsOuterDeclaration, an_outer_declaration, ReadsAllMembers, ReadsHead}
+use Rattle.qs_syntax.specs.ReadsDeclarations.{no_length, a_length, ReadsLengths, are_given, first_open, ReadsDeclarator, a_declarator, ReadsVariable, an_unset_variable, a_set_variable, ReadsVariables, a_last_variable, a_variable, an_outer_declaration, ReadsAllMembers, ReadsHead}
 use Rattle.qs_syntax.specs.ReadsStatements.{ReadsItems}
 use Rattle.qs_syntax.specs.ReadsUnits.{ReadsExternal, a_struct_with_members, a_forward, a_header, a_definition, some_variables, ReadsUnit, a_last_external, an_external}
-use Rattle.qs_parser.specs.Heads.{is_keyword, starts, starts_with}
-use Rattle.qs_parser.specs.Parse.{Stop, Parse, bind, base, skip_consts, stars}
+use Rattle.qs_parser.specs.Heads.{starts, starts_with}
+use Rattle.qs_parser.specs.Parse.{Stop, bind, base, skip_consts, stars}
 use Rattle.qs_parser.specs.ParseDeclarations.{skip_prefixes, outer_type, groups, head}
 use Rattle.qs_parser.specs.ParseStatements.{is_named, body_of, typed, external, is_empty, externals, unit}
 use Rattle.qs_parser.proofs.TypesComplete.{goes_on_base, goes_on_type, finds_consts, finds_base, finds_stars, stars_go_on}
@@ -112,9 +112,10 @@ record Declares (ts : List Lexeme) : Type 0 where
 
 declarator_declares : {h : ℕ} {ts : List Lexeme} {d : DeclaratorTree} → ReadsDeclarator h ts d → (rest : List Lexeme) → starts marks.OpenParenthesis rest ≡ false → Declares (ts ++ rest)
 declarator_declares (a_declarator {xs = xs} {ys = ys} at x s r) rest e = rw (append_assoc xs (Name at x ∷ ys) rest) (record {
-    no_function = rw (finds_stars s (Name at x ∷ (ys ++ rest)) refl) (lengths_no_parenthesis r rest e);
-    no_brace = stars_start marks.OpenBrace refl s at x (ys ++ rest);
-    no_semicolon = stars_start marks.Semicolon refl s at x (ys ++ rest) })
+  no_function = rw (finds_stars s (Name at x ∷ (ys ++ rest)) refl) (lengths_no_parenthesis r rest e);
+  no_brace = stars_start marks.OpenBrace refl s at x (ys ++ rest);
+  no_semicolon = stars_start marks.Semicolon refl s at x (ys ++ rest);
+})
 
 variable_declares : {h : ℕ} {ts : List Lexeme} {v : VariableTree} → ReadsVariable h ts v → (rest : List Lexeme) → starts marks.OpenParenthesis rest ≡ false → Declares (ts ++ rest)
 variable_declares (an_unset_variable r) rest e = declarator_declares r rest e

@@ -6,7 +6,7 @@ use Rattle.qs_syntax.specs.declared.tokens.Keyword.TheVariants as keywords
 use Rattle.qs_syntax.specs.declared.tokens.Mark.TheVariants as marks
 use Rattle.qs_syntax.specs.declared.tree.Base.TheVariants as bases
 use Rattle.qs_syntax.specs.Trees.{ExprTree, expr, int, name, LengthsTree, value, list, no_initialisers, initialiser_and, StmtTree, empty, branch, for_loop, break, start_declaration, no_else, else_by, no_stmts, stmt_and, DeclTree, structure, forward, function, variables, ParameterTree}
-use Rattle.qs_parser.specs.Parse.{Stop, Unexpected, Deep, texts_from, type, stars, type_name, arguments, primary, suffixes, unary_of_all, operations, climb, commas, expression, part}
+use Rattle.qs_parser.specs.Parse.{Stop, Unexpected, Deep, type, stars, primary, suffixes, unary_of_all, operations, climb, commas, expression, part}
 use Rattle.qs_parser.specs.ParseDeclarations.{outer_type, given_lengths, lengths, declarator, initialisers, initialiser, variable, variables as variables_from, declaration, declaration_within, declarators, members, groups, parameter, parameters, head}
 use Rattle.qs_parser.specs.ParseStatements.{S, items, statement, external, externals, unit}
 

@@ -11,12 +11,12 @@ use Rattle.qs_syntax.specs.Trees.{MembersTree, ParameterTree, DeclarationTree, S
 use Rattle.qs_syntax.specs.Trees as trees
 use Rattle.qs_syntax.specs.ReadsTypes.{ReadsPrefixes, no_prefix, a_const_prefix, a_static_prefix, ReadsOuterType, an_outer_type, ReadsStars}
 use Rattle.qs_syntax.specs.Reads.{place}
-use Rattle.qs_syntax.specs.ReadsDeclarations.{ReadsAllMembers, ReadsHead, ReadsVariables, ReadsOuterDeclaration, an_outer_declaration}
+use Rattle.qs_syntax.specs.ReadsDeclarations.{ReadsAllMembers, an_outer_declaration}
 use Rattle.qs_syntax.specs.ReadsUnits.{ReadsExternal, a_struct_with_members, a_forward, a_header, a_definition, some_variables, ReadsUnit, a_last_external, an_external}
 use Rattle.qs_parser.specs.Heads.{is_keyword, starts}
-use Rattle.qs_parser.specs.Parse.{Stop, Parse, bind, base, skip_consts, stars}
-use Rattle.qs_parser.specs.ParseDeclarations.{skip_prefixes, outer_type, groups, head, declared}
-use Rattle.qs_parser.specs.ParseStatements.{statement, items, is_named, struct_of, forward_of, body_of, function_of, typed, external, is_empty, externals, unit}
+use Rattle.qs_parser.specs.Parse.{Stop, Parse, bind, skip_consts, stars}
+use Rattle.qs_parser.specs.ParseDeclarations.{skip_prefixes, outer_type}
+use Rattle.qs_parser.specs.ParseStatements.{statement, is_named, struct_of, forward_of, body_of, function_of, typed, external, is_empty, externals, unit}
 use Rattle.qs_parser.proofs.HeadsLaws.{keyword_is}
 use Rattle.qs_parser.proofs.Sound.{Outcome, Sound, Sound-ok, Sound-err, Sound-after, Sound-mono}
 use Rattle.qs_parser.proofs.SoundSteps.{Sound-if, Sound-ends}
@@ -54,7 +54,7 @@ sound_outer_type ts =
     Sound-after [] ts before.front (skip_prefixes ts) before.split _
     (Sound-behind (Sound-part _ (sound_base (skip_prefixes ts))
     (λ b front us r. let behind : Taken _ us (skip_consts us) = taken_consts us in
-      Sound-ends [] us (skip_consts us) b behind.front behind.split (an_outer_type before.is r behind.is))))
+    Sound-ends [] us (skip_consts us) b behind.front behind.split (an_outer_type before.is r behind.is))))
 
 pub outer_place : {l : List Lexeme} {b : Base} → ReadsOuterType l b → (us : List Lexeme) → place (l ++ us) ≡ place l
 outer_place (an_outer_type {zs = zs} no_prefix b c) us = first_place b zs us

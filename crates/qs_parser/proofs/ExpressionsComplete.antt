@@ -19,7 +19,7 @@ use Rattle.qs_syntax.specs.Signs.{mark_of_unary, mark_of_binary, weakness, mark_
 use Rattle.qs_syntax.specs.ReadsTypes.{ReadsTypeName}
 use Rattle.qs_syntax.specs.Reads.{Form, Postfix, Unary, Level, Conditional, Assignment, Expression, place, at_first, ReadsTexts, no_text, a_further_text, Reads, ReadsArguments, a_name, an_empty_call, a_call, a_constant, a_text, in_parentheses, an_index, a_member, an_increment_after, a_decrement_after, a_postfix, an_increment, a_decrement, an_operator, a_size_of_type, a_size_of_value, a_cast, an_operand, stronger, an_operation, a_plain_level, a_choice, a_plain_conditional, an_assignment, a_plain_assignment, a_comma, a_last_argument, an_argument}
 use Rattle.qs_parser.specs.Heads.{is_mark, starts, begins_type, binary_of, assign_of, access_of, sign_at}
-use Rattle.qs_parser.specs.Stops.{strength_at, Stops}
+use Rattle.qs_parser.specs.Stops.{strength_at, weakness_of, Stops}
 use Rattle.qs_parser.specs.Parse as parse
 use Rattle.qs_parser.specs.Parse.{Stop, Parse, bind, E, begins_one, begins_cast, texts_from, part, expression}
 use Rattle.qs_parser.proofs.HeadsLaws.{mark_is, binary_mark, binary_strength, assign_mark, assign_strength, not_starts, binary_at_strength, assign_at_strength, access_at_strength}
@@ -595,3 +595,11 @@ mutual
 
 pub finds : (n : ℕ) (form : Form) (h : ℕ) (f : List Lexeme) (t : ExprTree) → Reads form h f t → h ≤ n → (rest : List Lexeme) → Stops form rest → part n form (f ++ rest) ≡ Ok ((t, h), rest)
 finds n form h f t r le rest stop = part_finds form h f t (claim r) (high r) n le rest stop
+
+-- tokens have one reading as a form
+pub one_expression : (form : Form) {h k : ℕ} {f : List Lexeme} {t u : ExprTree} → weakness_of form < 20 → Reads form h f t → Reads form k f u → (t ≡ u) × (h ≡ k)
+one_expression form {h} {k} {f} {t} {u} lt r s =
+    let first : part (max h k) form (f ++ []) ≡ found t h [] = finds (max h k) form h f t r (omega arith) [] lt in
+    let second : part (max h k) form (f ++ []) ≡ found u k [] = finds (max h k) form k f u s (omega arith) [] lt in
+    let same : ◌≡◌ {A = E × List Lexeme} ((t, h), []) ((u, k), []) = cc in
+    (ap (λ (p : E × List Lexeme). p.0.0) same, ap (λ (p : E × List Lexeme). p.0.1) same)

@@ -51,7 +51,7 @@ consts_go_on (a_const at r) rest e = refl
 outer_spelled : (xs ys zs rest : List Lexeme) → (xs ++ (ys ++ zs)) ++ rest ≡ xs ++ (ys ++ (zs ++ rest))
 outer_spelled xs ys zs rest = append_assoc xs (ys ++ zs) rest ∙ ap (λ l. xs ++ l) (append_assoc ys zs rest)
 
-finds_outer_type : {f : List Lexeme} {b : Base} → ReadsOuterType f b → (rest : List Lexeme) → goes_on_type rest ≡ false → outer_type (f ++ rest) ≡ Ok (b, rest)
+pub finds_outer_type : {f : List Lexeme} {b : Base} → ReadsOuterType f b → (rest : List Lexeme) → goes_on_type rest ≡ false → outer_type (f ++ rest) ≡ Ok (b, rest)
 unfolding outer_type
 finds_outer_type (an_outer_type {xs = xs} {ys = ys} {zs = zs} {base = b} p r d) rest e =
     let parts = or_parts (starts_with keywords.Const rest) (goes_on_base rest) e in

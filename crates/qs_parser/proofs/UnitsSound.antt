@@ -44,10 +44,10 @@ taken_prefixes (t ∷ ts) =
     (λ e. record { front = t ∷ further.front; split = ap (λ l. t ∷ l) further.split; is = subst (λ u. ReadsPrefixes (u ∷ further.front)) (sym (keyword_is keywords.Static t e)) (a_static_prefix (number_of t) further.is) })
     (λ _. record { front = []; split = refl; is = no_prefix }))
 
-abbrev IsOuterType : Base → List Lexeme → Type 0
+abbrev pub IsOuterType : Base → List Lexeme → Type 0
 IsOuterType b l = ReadsOuterType l b
 
-sound_outer_type : (ts : List Lexeme) → Sound IsOuterType [] ts (outer_type ts)
+pub sound_outer_type : (ts : List Lexeme) → Sound IsOuterType [] ts (outer_type ts)
 unfolding outer_type
 sound_outer_type ts =
     let before : Taken ReadsPrefixes ts (skip_prefixes ts) = taken_prefixes ts in
@@ -63,7 +63,7 @@ outer_place (an_outer_type (a_static_prefix at r) b c) us = refl
 
 -- ---- externals
 
-abbrev IsExternal : ℕ → DeclTree × ℕ → List Lexeme → Type 0
+abbrev pub IsExternal : ℕ → DeclTree × ℕ → List Lexeme → Type 0
 IsExternal k x l = ReadsExternal x.1 l x.0 × (x.1 ≤ suc (suc k))
 
 struct_read : (k at n o : ℕ) (name : List ℕ) (x : List MembersTree × ℕ) (l : List Lexeme) → Closed marks.CloseBrace ReadsAllMembers (suc k) [] 0 x l → (s : ℕ)
@@ -116,7 +116,7 @@ module _ (k start : ℕ) (b : Base) (front : List Lexeme) (t : ReadsOuterType fr
       (λ _. Sound-after [] ts first.front (stars ts).1 first.split _ (Sound-behind (sound_function (stars ts).0 first.front first.is (stars ts).1)))
       (λ _. Sound-last _ (sound_declared (k + 1) b ts) variables_read)
 
-sound_external : (k : ℕ) (ts : List Lexeme) → Sound (IsExternal k) [] ts (external k ts)
+pub sound_external : (k : ℕ) (ts : List Lexeme) → Sound (IsExternal k) [] ts (external k ts)
 unfolding external
 sound_external k [] = Sound-err
 sound_external k (t ∷ ts) =
@@ -146,7 +146,7 @@ sound_externals k (suc n) done h ts =
     Sound-part _ (sound_external k ts)
     (λ d front us r. Sound-if (is_empty us) (λ _. Sound-ok (last_external k done h d front r)) (λ _. Sound-mono (further_external k done h d front r) (sound_externals k n (done ++ d.0 ∷ []) (max h d.1) us)))
 
-abbrev IsUnit : ℕ → List DeclTree × ℕ → List Lexeme → Type 0
+abbrev pub IsUnit : ℕ → List DeclTree × ℕ → List Lexeme → Type 0
 IsUnit k x l = ReadsUnit x.1 l x.0 × (x.1 ≤ suc (suc k))
 
 unit_read : (k : ℕ) (x : List DeclTree × ℕ) (l : List Lexeme) → AreExternals k [] 0 x l → IsUnit k x l

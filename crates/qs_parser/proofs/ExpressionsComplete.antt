@@ -215,7 +215,7 @@ for_argument {h} {k} {xs} {ys} {e} {es} at r s claim others m le zero done i c r
     absurd (omega (arith, length-append (xs ++ Mark at marks.Comma ∷ ys) (Mark c marks.CloseParenthesis ∷ rest)))
 for_argument {h} {k} {xs} {ys} {e} {es} at r s claim others m le (suc n) done i c rest enough =
     let short : length (ys ++ Mark c marks.CloseParenthesis ∷ rest) ≤ n =
-        omega (arith, length-append (xs ++ Mark at marks.Comma ∷ ys) (Mark c marks.CloseParenthesis ∷ rest), length-append xs (Mark at marks.Comma ∷ ys), length-append ys (Mark c marks.CloseParenthesis ∷ rest)) in
+    omega (arith, length-append (xs ++ Mark at marks.Comma ∷ ys) (Mark c marks.CloseParenthesis ∷ rest), length-append xs (Mark at marks.Comma ∷ ys), length-append ys (Mark c marks.CloseParenthesis ∷ rest)) in
     rw (append_assoc xs (Mark at marks.Comma ∷ ys) (Mark c marks.CloseParenthesis ∷ rest), part_finds Assignment h xs e claim (high r) m (omega arith) (Mark at marks.Comma ∷ (ys ++ Mark c marks.CloseParenthesis ∷ rest)) (omega arith))
     (others m (omega arith) n (done ++ e ∷ []) (max i h) c rest short ∙ joined (append_assoc done (e ∷ []) (list_of es)) (omega arith))
   where
@@ -228,7 +228,7 @@ unfolding parse.primary
 for_call {h} {ts} {es} at o c f r claim m le rest stop =
     let no_end : starts marks.CloseParenthesis (ts ++ Mark c marks.CloseParenthesis ∷ rest) ≡ false = arguments_no_parenthesis r (Mark c marks.CloseParenthesis ∷ rest) in
     let inner : parse.arguments m (part m) (length (ts ++ Mark c marks.CloseParenthesis ∷ rest)) [] 0 (ts ++ Mark c marks.CloseParenthesis ∷ rest) ≡ Ok ((list_of es, max 0 h), rest) =
-        claim m (omega arith) (length (ts ++ Mark c marks.CloseParenthesis ∷ rest)) [] 0 c rest (omega arith) in
+    claim m (omega arith) (length (ts ++ Mark c marks.CloseParenthesis ∷ rest)) [] 0 c rest (omega arith) in
     from_primary (suc h) (Name at f ∷ Mark o marks.OpenParenthesis ∷ (ts ++ Mark c marks.CloseParenthesis ∷ [])) (expr 0 at (call f es)) m rest
     (rw (append_assoc ts (Mark c marks.CloseParenthesis ∷ []) rest, no_end, inner, exprs_list es) (later (expr 0 at (call f es)) (max 0 h + 1) (suc h) rest (omega arith))) refl
 
@@ -247,7 +247,7 @@ for_suffix : (h k : ℕ) (xs more : List Lexeme) (a : ExprTree) (shape : ShapeTr
 for_suffix h k xs more a shape m t ts rest r claim le stop spelled b e short =
     let g = claim m (omega arith) (t ∷ ts) stop in
     let turn : Goes rest (λ n. parse.suffixes m (part m) g.turns (place xs) (a, h) (t ∷ ts) ≡ parse.suffixes m (part m) n (place xs) (at_first xs shape, k) rest) =
-        suffix_turn m g.turns (place xs) (a, h) (at_first xs shape, k) t ts rest b le e g.enough short in
+    suffix_turn m g.turns (place xs) (a, h) (at_first xs shape, k) t ts rest b le e g.enough short in
     Goes-map
     (λ n d. ap (parse.postfix m (part m)) spelled ∙ g.is ∙ d ∙ ap (λ s. parse.suffixes m (part m) n s (at_first xs shape, k) rest) (sym (place_more r more))) turn
 
@@ -434,16 +434,21 @@ level_suc m j l = bind_assoc (parse.cast_or_unary m (part m) l) (parse.climb m (
 
 for_stronger : {j h : ℕ} {ts : List Lexeme} {e : ExprTree} → Reads (Level j) h ts e → Claim (Level j) h ts e → Claim (Level (suc j)) h ts e
 for_stronger {j} {h} {ts} {e} r claim m le rest stop = record {
-    turns = length rest; enough = omega arith;
-    is = level_suc m j (ts ++ rest) ∙ ap (λ q. bind q (λ b us. parse.operations m (part m) (length us) j (place (ts ++ rest)) b us)) (level_found j h ts e claim m le rest stop)
-        ∙ ap (λ s. parse.operations m (part m) (length rest) j s (e, h) rest) (place_more r rest) }
+  turns = length rest;
+  enough = omega arith;
+  is = level_suc m j (ts ++ rest) ∙ ap (λ q. bind q (λ b us. parse.operations m (part m) (length us) j (place (ts ++ rest)) b us)) (level_found j h ts e claim m le rest stop)
+      ∙ ap (λ s. parse.operations m (part m) (length rest) j s (e, h) rest) (place_more r rest);
+}
 
 operation_turn : (m n j start : ℕ) (a b : ExprTree) (h k : ℕ) (sign : BinarySign) (at : ℕ) (ts rest : List Lexeme) → weakness sign ≡ suc j → h ≤ m → part m (Level j) ts ≡ found b k rest → length (Mark at (mark_of_binary sign) ∷ ts) ≤ n → length rest ≤ length ts
     → Goes rest (λ i. parse.operations m (part m) n j start (a, h) (Mark at (mark_of_binary sign) ∷ ts) ≡ parse.operations m (part m) i j start (expr 0 start (binary sign a b), max h k + 1) rest)
 unfolding parse.operations
 operation_turn m zero j start a b h k sign at ts rest w le e enough short = absurd (omega arith)
 operation_turn m (suc n) j start a b h k sign at ts rest w le e enough short = record {
-    turns = n; enough = omega arith; is = rw (binary_mark sign, eq-eqb (weakness sign) (j + 1) (omega arith), le-leb h m le, e) refl }
+  turns = n;
+  enough = omega arith;
+  is = rw (binary_mark sign, eq-eqb (weakness sign) (j + 1) (omega arith), le-leb h m le, e) refl;
+}
 
 for_operation : {j h k : ℕ} {xs ys : List Lexeme} {a b : ExprTree} (sign : BinarySign) (at : ℕ) → weakness sign ≡ suc j → Reads (Level (suc j)) h xs a → Reads (Level j) k ys b → Claim (Level (suc j)) h xs a → Claim (Level j) k ys b
     → Claim (Level (suc j)) (suc (max h k)) (xs ++ Mark at (mark_of_binary sign) ∷ ys) (at_first xs (binary sign a b))
@@ -452,10 +457,10 @@ for_operation {j} {h} {k} {xs} {ys} {a} {b} sign at w r s left right m le rest s
     let g = left m (omega arith) (Mark at (mark_of_binary sign) ∷ (ys ++ rest)) (omega arith) in
     let inner : part m (Level j) (ys ++ rest) ≡ found b k rest = part_finds (Level j) k ys b right (high s) m (omega arith) rest (omega arith) in
     let turn : Goes rest (λ i. parse.operations m (part m) g.turns j (place xs) (a, h) (Mark at (mark_of_binary sign) ∷ (ys ++ rest)) ≡ parse.operations m (part m) i j (place xs) (at_first xs (binary sign a b), max h k + 1) rest) =
-        operation_turn m g.turns j (place xs) a b h k sign at (ys ++ rest) rest w (omega arith) inner g.enough (omega (arith, length-append ys rest)) in
+    operation_turn m g.turns j (place xs) a b h k sign at (ys ++ rest) rest w (omega arith) inner g.enough (omega (arith, length-append ys rest)) in
     Goes-map
     (λ n d. ap (expression m (part m) (Level (suc j))) (append_assoc xs (Mark at (mark_of_binary sign) ∷ ys) rest) ∙ g.is ∙ d
-        ∙ same_turn (sym (place_more r (Mark at (mark_of_binary sign) ∷ ys))) (omega arith) n) turn
+    ∙ same_turn (sym (place_more r (Mark at (mark_of_binary sign) ∷ ys))) (omega arith) n) turn
   where
     same_turn : {s t p q : ℕ} → s ≡ t → p ≡ q → (n : ℕ) → parse.operations m (part m) n j s (at_first xs (binary sign a b), p) rest ≡ parse.operations m (part m) n j t (at_first xs (binary sign a b), q) rest
     same_turn e d n = cc
@@ -476,7 +481,7 @@ for_choice : {h k l : ℕ} {xs ys zs : List Lexeme} {a b c : ExprTree} (q s : �
 for_choice {h} {k} {l} {xs} {ys} {zs} {a} {b} {c} q s ra rb rc first second third m le rest stop =
     let low : h ≤ m = omega arith in
     let condition : expression m (part m) (Level 10) (xs ++ Mark q marks.Question ∷ (ys ++ Mark s marks.Colon ∷ (zs ++ rest))) ≡ found a h (Mark q marks.Question ∷ (ys ++ Mark s marks.Colon ∷ (zs ++ rest))) =
-        level_found 10 h xs a first m (omega arith) (Mark q marks.Question ∷ (ys ++ Mark s marks.Colon ∷ (zs ++ rest))) (omega arith) in
+    level_found 10 h xs a first m (omega arith) (Mark q marks.Question ∷ (ys ++ Mark s marks.Colon ∷ (zs ++ rest))) (omega arith) in
     let inner : part m Expression (ys ++ Mark s marks.Colon ∷ (zs ++ rest)) ≡ found b k (Mark s marks.Colon ∷ (zs ++ rest)) = part_finds Expression k ys b second (high rb) m (omega arith) (Mark s marks.Colon ∷ (zs ++ rest)) (omega arith) in
     let last : part m Conditional (zs ++ rest) ≡ found c l rest = part_finds Conditional l zs c third (high rc) m (omega arith) rest stop in
     ap (expression m (part m) Conditional) (spelled xs ys zs rest (Mark q marks.Question) (Mark s marks.Colon))
@@ -528,8 +533,10 @@ for_assignment {h} {k} {xs} {ys} {a} {b} sign at r s left right m le rest stop =
 for_plain_assignment : {h : ℕ} {ts : List Lexeme} {e : ExprTree} → Reads Assignment h ts e → Claim Assignment h ts e → Claim Expression h ts e
 unfolding expression
 for_plain_assignment {h} {ts} {e} r claim m le rest stop = record {
-    turns = length rest; enough = omega arith;
-    is = ap (λ q. bind q (λ a us. parse.commas m (part m) (length us) (place (ts ++ rest)) a us)) (claim m le rest stop) ∙ ap (λ s. parse.commas m (part m) (length rest) s (e, h) rest) (place_more r rest) }
+  turns = length rest;
+  enough = omega arith;
+  is = ap (λ q. bind q (λ a us. parse.commas m (part m) (length us) (place (ts ++ rest)) a us)) (claim m le rest stop) ∙ ap (λ s. parse.commas m (part m) (length rest) s (e, h) rest) (place_more r rest);
+}
 
 comma_turn : (m n start : ℕ) (a b : ExprTree) (h k : ℕ) (at : ℕ) (ts rest : List Lexeme) → h ≤ m → part m Assignment ts ≡ found b k rest → length (Mark at marks.Comma ∷ ts) ≤ n → length rest ≤ length ts
     → Goes rest (λ i. parse.commas m (part m) n start (a, h) (Mark at marks.Comma ∷ ts) ≡ parse.commas m (part m) i start (expr 0 start (comma a b), max h k + 1) rest)
@@ -543,10 +550,10 @@ for_comma {h} {k} {xs} {ys} {a} {b} at r s left right m le rest stop =
     let g = left m (omega arith) (Mark at marks.Comma ∷ (ys ++ rest)) (omega arith) in
     let inner : part m Assignment (ys ++ rest) ≡ found b k rest = part_finds Assignment k ys b right (high s) m (omega arith) rest stop in
     let turn : Goes rest (λ i. parse.commas m (part m) g.turns (place xs) (a, h) (Mark at marks.Comma ∷ (ys ++ rest)) ≡ parse.commas m (part m) i (place xs) (at_first xs (comma a b), max h k + 1) rest) =
-        comma_turn m g.turns (place xs) a b h k at (ys ++ rest) rest (omega arith) inner g.enough (omega (arith, length-append ys rest)) in
+    comma_turn m g.turns (place xs) a b h k at (ys ++ rest) rest (omega arith) inner g.enough (omega (arith, length-append ys rest)) in
     Goes-map
     (λ n d. ap (expression m (part m) Expression) (append_assoc xs (Mark at marks.Comma ∷ ys) rest) ∙ g.is ∙ d
-        ∙ same_turn (sym (place_more r (Mark at marks.Comma ∷ ys))) (omega arith) n) turn
+    ∙ same_turn (sym (place_more r (Mark at marks.Comma ∷ ys))) (omega arith) n) turn
   where
     same_turn : {s t p q : ℕ} → s ≡ t → p ≡ q → (n : ℕ) → parse.commas m (part m) n s (at_first xs (comma a b), p) rest ≡ parse.commas m (part m) n t (at_first xs (comma a b), q) rest
     same_turn e d n = cc

@@ -1,10 +1,10 @@
 -- What an answer of the parser takes off the front of its tokens.
-use Rattle.std.proofs.Common.{◌≡◌, ℕ, List, [], ◌∷◌, ◌++◌, length, Result, Ok, Err, refl, sym, ap, subst, ◌∙◌, append_assoc, append-nil, Bool, true, false, cond}
+use Rattle.std.proofs.Common.{◌≡◌, List, [], ◌∷◌, ◌++◌, Result, Ok, Err, refl, sym, ap, subst, ◌∙◌, append_assoc, append-nil}
 use Rattle.qs_syntax.specs.declared.lexeme.Lexeme.{Lexeme}
-use Rattle.qs_parser.specs.Parse.{Stop, Unexpected, Deep, Parse, bind}
+use Rattle.qs_parser.specs.Parse.{Stop, Parse, bind}
 
 -- behind the tokens `done`: R of these and of what was taken
-abbrev Outcome : {A : Type 0} → (A → List Lexeme → Type 0) → List Lexeme → List Lexeme → Result (A × List Lexeme) Stop → Type 0
+abbrev pub Outcome : {A : Type 0} → (A → List Lexeme → Type 0) → List Lexeme → List Lexeme → Result (A × List Lexeme) Stop → Type 0
 Outcome R done ts (Ok x) = (front : List Lexeme) × (ts ≡ front ++ x.1) × R x.0 (done ++ front)
 Outcome R done ts (Err e) = Unit {0}
 

@@ -1,6 +1,6 @@
 -- The parser of expressions and types as functions on lists of tokens. An error says how many tokens are left where it stands, its own
 -- among them.
-use Rattle.std.specs.Prelude.{◌≡◌, ℕ, zero, suc, ◌+◌, max, List, [], ◌∷◌, ◌++◌, length, Result, Ok, Err, Option, Some, None, Bool, true, false, nat_le, ◌==◌, ◌&&◌, ◌||◌, if◌then◌else◌, is_some}
+use Rattle.std.specs.Prelude.{ℕ, zero, suc, ◌+◌, max, List, [], ◌∷◌, ◌++◌, length, Result, Ok, Err, Option, Some, None, Bool, true, false, nat_le, ◌==◌, ◌&&◌, ◌||◌, if◌then◌else◌, not, is_some}
 use Rattle.qs_syntax.specs.declared.lexeme.Lexeme.{Lexeme}
 use Rattle.qs_syntax.specs.declared.lexeme.Lexeme.TheVariants.{Name, Keyword, Constant, Text, Mark}
 use Rattle.qs_syntax.specs.declared.tokens.Keyword.TheVariants as keywords
@@ -18,7 +18,7 @@ use Rattle.qs_syntax.specs.declared.tree.Access.{Access}
 use Rattle.qs_syntax.specs.Trees.{ExprTree, expr, int, text, name, unary, step, cast, size_type, size_expr, binary, assign, choice, comma, index, member, call, exprs_of}
 use Rattle.qs_syntax.specs.Signs.{weakness}
 use Rattle.qs_syntax.specs.Reads.{Form, Postfix, Unary, Level, Conditional, Assignment, Expression, place}
-use Rattle.qs_parser.specs.Heads.{is_mark, is_keyword, starts, starts_with, unary_of, binary_of, assign_of, access_of, sign_at, begins_type}
+use Rattle.qs_parser.specs.Heads.{is_mark, is_keyword, starts, unary_of, binary_of, assign_of, access_of, sign_at, begins_type}
 
 pub data Stop : Type 0 where
   Unexpected : ℕ → Stop
@@ -220,10 +220,7 @@ module _ (m : ℕ) (part : Form → Parse E) where
   unary_of_all [] = unexpected []
   unary_of_all (Name at x ∷ ts) = postfix (Name at x ∷ ts)
   unary_of_all (Keyword at k ∷ ts) =
-      if is_keyword keywords.Sizeof (Keyword at k) then (if m == 0 && not_type ts then deep (Keyword at k ∷ ts) else size_of at ts) else unexpected (Keyword at k ∷ ts)
-    where
-      not_type : List Lexeme → Bool
-      not_type us = if begins_cast us then false else true
+      if is_keyword keywords.Sizeof (Keyword at k) then (if m == 0 && not (begins_cast ts) then deep (Keyword at k ∷ ts) else size_of at ts) else unexpected (Keyword at k ∷ ts)
   unary_of_all (Constant at n unsigned ∷ ts) = postfix (Constant at n unsigned ∷ ts)
   unary_of_all (Text at bytes ∷ ts) = postfix (Text at bytes ∷ ts)
   unary_of_all (Mark at k ∷ ts) =

@@ -1,6 +1,6 @@
 -- The parser of declarations as functions on lists of tokens. Where `m` levels are left for parts, what a function gives is at most
 -- m + 1 high if it is a node, and else as high as its highest part. The first number of a list bounds its turns.
-use Rattle.std.specs.Prelude.{ℕ, zero, suc, ◌+◌, max, List, [], ◌∷◌, ◌++◌, length, Result, Ok, Err, Option, Some, None, Bool, true, false, ◌==◌, ◌&&◌, not, if◌then◌else◌}
+use Rattle.std.specs.Prelude.{ℕ, zero, suc, ◌+◌, max, List, [], ◌∷◌, ◌++◌, length, Result, Ok, Some, None, Bool, true, false, ◌&&◌, if◌then◌else◌}
 use Rattle.qs_syntax.specs.declared.lexeme.Lexeme.{Lexeme}
 use Rattle.qs_syntax.specs.declared.lexeme.Lexeme.TheVariants.{Name, Keyword, Constant, Text, Mark}
 use Rattle.qs_syntax.specs.declared.tokens.Keyword.TheVariants as keywords
@@ -8,7 +8,7 @@ use Rattle.qs_syntax.specs.declared.tokens.Mark.TheVariants as marks
 use Rattle.qs_syntax.specs.declared.tree.Base.{Base}
 use Rattle.qs_syntax.specs.Trees.{ExprTree, LengthsTree, DeclaratorTree, InitialiserTree, value, list, initialisers_of, VariableTree, DeclarationTree, ParameterTree, MembersTree}
 use Rattle.qs_syntax.specs.Reads.{Conditional, Assignment, place}
-use Rattle.qs_parser.specs.Heads.{is_keyword, is_mark, starts, begins_type}
+use Rattle.qs_parser.specs.Heads.{is_keyword, is_mark, starts}
 use Rattle.qs_parser.specs.Parse.{Stop, Parse, bind, unexpected, deep, deeper, expect, expect_name, skip_consts, base, type, stars, begins_one, part}
 
 -- { "const" | "static" }
@@ -122,8 +122,8 @@ unfoldable pub groups : (m : ℕ) → ℕ → List MembersTree → ℕ → Parse
 groups m zero done h ts = unexpected ts
 groups m (suc n) done h ts =
     bind (members m ts) (λ g us.
-      if starts marks.CloseBrace us then bind (expect marks.CloseBrace us) (λ _ vs. Ok ((done ++ g.0 ∷ [], max h g.1), vs))
-      else groups m n (done ++ g.0 ∷ []) (max h g.1) us)
+    if starts marks.CloseBrace us then bind (expect marks.CloseBrace us) (λ _ vs. Ok ((done ++ g.0 ∷ [], max h g.1), vs))
+    else groups m n (done ++ g.0 ∷ []) (max h g.1) us)
 
 -- behind the stars of a parameter that begins at `start`
 abbrev pub with_name : (m : ℕ) → (start : ℕ) → Base → ℕ → Parse (ParameterTree × ℕ)

@@ -1,5 +1,5 @@
 -- The parser of statements and units as functions on lists of tokens.
-use Rattle.std.specs.Prelude.{ℕ, zero, suc, ◌+◌, max, List, [], ◌∷◌, ◌++◌, length, Result, Ok, Err, Option, Some, None, Bool, true, false, ◌==◌, ◌&&◌, ◌||◌, if◌then◌else◌}
+use Rattle.std.specs.Prelude.{ℕ, zero, suc, ◌+◌, max, List, [], ◌∷◌, ◌++◌, length, Ok, Option, Some, None, Bool, true, false, ◌==◌, ◌&&◌, ◌||◌, if◌then◌else◌}
 use Rattle.qs_syntax.specs.declared.lexeme.Lexeme.{Lexeme}
 use Rattle.qs_syntax.specs.declared.lexeme.Lexeme.TheVariants.{Name, Keyword, Constant, Text, Mark}
 use Rattle.qs_syntax.specs.declared.tokens.Keyword.TheVariants as keywords
@@ -10,8 +10,8 @@ use Rattle.qs_syntax.specs.Trees.{ExprTree, DeclarationTree, ParameterTree, Star
 use Rattle.qs_syntax.specs.Trees as trees
 use Rattle.qs_syntax.specs.Reads.{Expression, place}
 use Rattle.qs_parser.specs.Heads.{is_keyword, is_mark, starts, starts_with, begins_type}
-use Rattle.qs_parser.specs.Parse.{Stop, Parse, bind, E, unexpected, deep, deeper, expect, expect_name, stars, begins_one, part}
-use Rattle.qs_parser.specs.ParseDeclarations.{outer_type, lengths, initialised, after_variable, variables, declaration_within, declared, groups, head}
+use Rattle.qs_parser.specs.Parse.{Parse, bind, E, unexpected, deep, expect, expect_name, stars, begins_one, part}
+use Rattle.qs_parser.specs.ParseDeclarations.{outer_type, declaration_within, declared, groups, head}
 
 -- a statement or declaration, and how high it is
 abbrev pub S : Type 0
@@ -125,7 +125,7 @@ is_named k (Mark at l ∷ ts) = false
 abbrev pub struct_of : (k : ℕ) → (at : ℕ) → Parse (DeclTree × ℕ)
 struct_of k at ts =
     bind (expect_name ts) (λ x us. bind (expect marks.OpenBrace us) (λ _ vs. bind (groups k (length vs) [] 0 vs) (λ ms ws. bind (expect marks.Semicolon ws) (λ _ xs.
-      Ok ((structure (record { id = 0; token = at; name = x.1; members = ms.0 }), ms.1 + 1), xs)))))
+    Ok ((structure (record { id = 0; token = at; name = x.1; members = ms.0 }), ms.1 + 1), xs)))))
 
 abbrev pub forward_of : (at : ℕ) → Parse (DeclTree × ℕ)
 forward_of at ts = bind (expect_name ts) (λ x us. bind (expect marks.Semicolon us) (λ _ vs. Ok ((forward (record { id = 0; token = at; name = x.1 }), 1), vs)))
@@ -136,7 +136,7 @@ body_of k start b n x ps ts =
     if starts marks.Semicolon ts
     then bind (expect marks.Semicolon ts) (λ _ us. Ok ((function (record { id = 0; token = start; base = b; stars = n; name = x; parameters = ps.0; body = None }), ps.1 + 1), us))
     else bind (expect marks.OpenBrace ts) (λ _ us. bind (items k (statement k) (length us) [] 0 us) (λ ss vs.
-      Ok ((function (record { id = 0; token = start; base = b; stars = n; name = x; parameters = ps.0; body = Some (stmts_of ss.0) }), max ps.1 (ss.1 + 1) + 1), vs)))
+    Ok ((function (record { id = 0; token = start; base = b; stars = n; name = x; parameters = ps.0; body = Some (stmts_of ss.0) }), max ps.1 (ss.1 + 1) + 1), vs)))
 
 -- behind the stars of a header
 abbrev pub function_of : (k : ℕ) → (start : ℕ) → Base → ℕ → Parse (DeclTree × ℕ)

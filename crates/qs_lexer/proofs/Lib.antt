@@ -10,4 +10,6 @@ pub mod Only
 pub mod Steps
 pub mod Firsts
 pub mod Spelled
+pub mod Values
+pub mod Seen
 pub mod Examples

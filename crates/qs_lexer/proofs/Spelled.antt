@@ -102,20 +102,20 @@ record Facts (rest : List ℕ) (n : ℕ) (kind : TokenKind) : Type 0 where
   name : kind ≡ kinds.Name → is_name (take n rest) ≡ true
   literal : kind ≡ kinds.Text → IsTextLiteral (take n rest)
 
-abbrev IsPiece : Piece → ℕ → TokenKind → Type 0
+abbrev pub IsPiece : Piece → ℕ → TokenKind → Type 0
 IsPiece pieces.End n kind = ⊥
 IsPiece (pieces.White m still) n kind = ⊥
 IsPiece (pieces.Token m other) n kind = (m ≡ n) × (other ≡ kind)
 IsPiece (pieces.Fault fault) n kind = ⊥
 
-is_piece : (x : Piece) (n : ℕ) (kind : TokenKind) → pieces.Token n kind ≡ x → IsPiece x n kind
+pub is_piece : (x : Piece) (n : ℕ) (kind : TokenKind) → pieces.Token n kind ≡ x → IsPiece x n kind
 is_piece x n kind e = let P : Piece → Type 0 = λ y. IsPiece y n kind in subst P e (refl, refl)
 
-record IsOk (k : ℕ) (r : Result TokenKind FaultKind) (n : ℕ) (kind : TokenKind) : Type 0 where
-  same : k ≡ n
-  is : r ≡ Ok kind
+pub record IsOk (k : ℕ) (r : Result TokenKind FaultKind) (n : ℕ) (kind : TokenKind) : Type 0 where
+  pub same : k ≡ n
+  pub is : r ≡ Ok kind
 
-is_ok : (k : ℕ) (r : Result TokenKind FaultKind) (n : ℕ) (kind : TokenKind) → IsPiece (token_or_fault k r) n kind → IsOk k r n kind
+pub is_ok : (k : ℕ) (r : Result TokenKind FaultKind) (n : ℕ) (kind : TokenKind) → IsPiece (token_or_fault k r) n kind → IsOk k r n kind
 is_ok k (Ok other) n kind h = record { same = h.0; is = ap Ok h.1 }
 is_ok k (Err fault) n kind h = absurd h
 
@@ -202,7 +202,7 @@ token_class fresh Character p n kind h = refl
 token_class fresh Text p n kind h = refl
 token_class fresh Other p n kind h = refl
 
-absent_no_token : (c : Class) (n : ℕ) (kind : TokenKind) → IsPiece (piece_without c) n kind → ⊥
+pub absent_no_token : (c : Class) (n : ℕ) (kind : TokenKind) → IsPiece (piece_without c) n kind → ⊥
 absent_no_token End n kind h = h
 absent_no_token Space n kind h = h
 absent_no_token LineComment n kind h = h

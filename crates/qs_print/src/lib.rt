@@ -1,0 +1,2 @@
+//! Prints a unit as a text (C11 6.4 to 6.9).
+#![tactic(auto)]

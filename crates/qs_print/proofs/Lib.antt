@@ -1,0 +1,3 @@
+pub mod LexedWords
+pub mod LexedMarks
+pub mod LexedNumbers

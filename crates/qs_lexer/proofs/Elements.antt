@@ -27,7 +27,7 @@ drop_less : (n b : ℕ) (bs : List ℕ) → 1 ≤ n → drop (n - 1) bs ≡ drop
 drop_less zero b bs h = absurd (omega arith)
 drop_less (suc n) b bs h = let e : suc n - 1 ≡ n = omega arith in rw e refl
 
-first_and_others : (bytes : List ℕ) → 0 < length bytes → elements_behind 0 bytes ≡ first_element bytes ∷ elements_behind 0 (drop (element_length bytes) bytes)
+pub first_and_others : (bytes : List ℕ) → 0 < length bytes → elements_behind 0 bytes ≡ first_element bytes ∷ elements_behind 0 (drop (element_length bytes) bytes)
 first_and_others [] h = absurd (omega arith)
 first_and_others (b ∷ bs) h =
     ap (λ es. first_element (b ∷ bs) ∷ es)

@@ -1,7 +1,7 @@
 -- A constant in decimal with a gap behind it.
 use Rattle.std.proofs.Common.{◌≡◌, ℕ, ◌+◌, ◌-◌, ◌*◌, ◌/◌, ◌%◌, ◌^◌, ◌<◌, ◌≤◌, zero, suc, Bool, true, false, cond, not, ◌&&◌, ◌||◌, List, [], ◌∷◌, ◌++◌, Result, Ok, Err, length, take, get_or, slice_index, refl, ap, sym, ◌∙◌, arith, nat_lt, ◌==◌}
 use Rattle.std.proofs.Math.Seq.{take-append_seam, get_or-append_seam}
-use Rattle.std.proofs.lemmas.List.{length-append}
+use Rattle.std.proofs.lemmas.List.{append-nil, append_assoc, length-append}
 use Rattle.std.proofs.lemmas.Fmt.{decimal_by_steps, first_decimal}
 use Rattle.std.proofs.lemmas.Bool.Decides.{nat_tests}
 use Rattle.std.specs.Fmt.{decimal}
@@ -35,9 +35,6 @@ without_last xs x =
     let l : length (xs ++ x ∷ []) ≡ length xs + 1 = length-append xs (x ∷ []) in
     let m : length (xs ++ x ∷ []) - 1 ≡ length xs = omega arith in
     rw m (take-append_seam xs (x ∷ []))
-
-is_suffix : (x : ℕ) → Bool
-is_suffix x = x == 117 || x == 85
 
 -- ---- the digits of a number
 
@@ -125,11 +122,106 @@ typed_back n unsigned h k = by unsigned (nat_lt n (2 ^ 31)) (nat_lt n (2 ^ 32)) 
     by false true fit e h = refl
     by false false fit e h = cc
 
-plain_number : (n : ℕ) (ds : List ℕ) (unsigned : Bool) → list_all is_digit ds ≡ true → value_of 10 ds ≡ n → 0 < length ds → starts_with 48 ds ≡ false → n < 2 ^ 32 → (unsigned || nat_lt n (2 ^ 31)) ≡ true
-    → number_without_suffix ds unsigned ≡ Ok (kinds.Number n unsigned)
-plain_number n ds unsigned all value some nonzero h k =
-    by (is_hexadecimal ds) (starts_with 48 ds) (nat_lt 0 (length ds)) (are_digits 10 ds) (no_hexadecimal ds all) nonzero (grind (arith, nat_tests)) (all_below 10 ds all (omega arith))
-  where
-    by : (x o s d : Bool) → x ≡ false → o ≡ false → s ≡ true → d ≡ true → number_without_suffix ds unsigned ≡ Ok (kinds.Number n unsigned)
-    by x o s d p q r t = ?
+-- what these digits are in this base
+abbrev judged : ℕ → List ℕ → Bool → Result TokenKind FaultKind
+judged base ds unsigned = cond (nat_lt 0 (length ds) && are_digits base ds) (typed base unsigned (value_of base ds)) (Err faults.BadLiteral)
 
+when_true : (b : Bool) (x y : Result TokenKind FaultKind) → b ≡ true → cond b x y ≡ x
+when_true true x y h = refl
+when_true false x y h = cc
+
+plain_number : (n : ℕ) (ds : List ℕ) (unsigned : Bool) → Digits n ds → starts_with 48 ds ≡ false → n < 2 ^ 32 → (unsigned || nat_lt n (2 ^ 31)) ≡ true → number_without_suffix ds unsigned ≡ Ok (kinds.Number n unsigned)
+plain_number n ds unsigned d nonzero h k =
+    let x : is_hexadecimal ds ≡ false = no_hexadecimal ds d.all in
+    let base : base_of ds ≡ 10 = rw (x, nonzero) refl in
+    let digits : digits_of ds ≡ ds = rw x refl in
+    let some : nat_lt 0 (length ds) ≡ true = let l : 0 < length ds = d.some in grind (arith, nat_tests) in
+    let good : (nat_lt 0 (length ds) && are_digits 10 ds) ≡ true = and_true (nat_lt 0 (length ds)) (are_digits 10 ds) some (all_below 10 ds d.all (omega arith)) in
+    ap (λ b. judged b (digits_of ds) unsigned) base ∙ ap (λ xs. judged 10 xs unsigned) digits
+    ∙ when_true (nat_lt 0 (length ds) && are_digits 10 ds) (typed 10 unsigned (value_of 10 ds)) (Err faults.BadLiteral) good
+    ∙ ap (typed 10 unsigned) d.value ∙ typed_back n unsigned h k
+
+zero_number : (ds : List ℕ) (unsigned : Bool) → ds ≡ 48 ∷ [] → number_without_suffix ds unsigned ≡ Ok (kinds.Number 0 unsigned)
+zero_number ds unsigned h = ap (λ xs. number_without_suffix xs unsigned) h
+
+no_zero_first : (ds : List ℕ) → 48 < get_or ds 0 0 → starts_with 48 ds ≡ false
+no_zero_first [] h = refl
+no_zero_first (x ∷ xs) h = grind (arith, nat_tests)
+
+number_back : (n : ℕ) (unsigned : Bool) → n < 2 ^ 32 → (unsigned || nat_lt n (2 ^ 31)) ≡ true → number_without_suffix (decimal n) unsigned ≡ Ok (kinds.Number n unsigned)
+number_back zero unsigned h k = zero_number (decimal 0) unsigned ((digits_of_number 0 (omega arith)).zeros refl)
+number_back (suc m) unsigned h k =
+    plain_number (suc m) (decimal (suc m)) unsigned (digits_of_number (suc m) (omega arith)) (no_zero_first (decimal (suc m)) (first_decimal (suc m) (omega arith) (omega arith))) h k
+
+-- ---- with its suffix
+
+with_suffix : (literal ds : List ℕ) (unsigned : Bool) → has_suffix literal ≡ unsigned → without_suffix literal ≡ ds → number_of literal ≡ number_without_suffix ds unsigned
+with_suffix literal ds unsigned h e = ap (λ xs. number_without_suffix xs (has_suffix literal)) e ∙ ap (number_without_suffix ds) h
+
+when_suffix : (b c : Bool) (xs ys : List ℕ) → b ≡ c → cond b xs ys ≡ cond c xs ys
+when_suffix b c xs ys h = ap (λ x. cond x xs ys) h
+
+suffixed : (n : ℕ) (ds : List ℕ) (unsigned : Bool) → Digits n ds → number_of (ds ++ suffix unsigned) ≡ number_without_suffix ds unsigned
+suffixed n ds true d =
+    let h : has_suffix (ds ++ 117 ∷ []) ≡ true = rw (last_byte ds 117) refl in
+    with_suffix (ds ++ 117 ∷ []) ds true h (when_suffix (has_suffix (ds ++ 117 ∷ [])) true (take (length (ds ++ 117 ∷ []) - 1) (ds ++ 117 ∷ [])) (ds ++ 117 ∷ []) h ∙ without_last ds 117)
+suffixed n ds false d =
+    ap number_of (append-nil ds) ∙ with_suffix ds ds false d.plain (when_suffix (has_suffix ds) false (take (length ds - 1) ds) ds d.plain)
+
+-- ---- they are a front
+
+digit_number : (x : ℕ) → is_digit x ≡ true → is_number_byte x ≡ true
+digit_number x h = grind (arith, nat_tests)
+
+number_bytes : (ds : List ℕ) → list_all is_digit ds ≡ true → list_all is_number_byte ds ≡ true
+number_bytes [] h = refl
+number_bytes (x ∷ xs) h =
+    let b : (is_digit x ≡ true) × (list_all is_digit xs ≡ true) = both (is_digit x) (list_all is_digit xs) h in
+    and_true (is_number_byte x) (list_all is_number_byte xs) (digit_number x b.0) (number_bytes xs b.1)
+
+literal_bytes : (ds : List ℕ) (unsigned : Bool) → list_all is_digit ds ≡ true → list_all is_number_byte (ds ++ suffix unsigned) ≡ true
+literal_bytes ds true h = all_append is_number_byte ds 117 (number_bytes ds h) refl
+literal_bytes ds false h = ap (list_all is_number_byte) (append-nil ds) ∙ number_bytes ds h
+
+gap_no_number : (gap : ℕ) → is_gap gap ≡ true → is_number_byte gap ≡ false
+gap_no_number gap h = grind (arith, nat_tests)
+
+number_starts : (ds rest : List ℕ) → 0 < length ds → list_all is_digit ds ≡ true → starts is_digit (ds ++ rest) ≡ true
+number_starts [] rest l h = absurd (omega arith)
+number_starts (x ∷ xs) rest l h = (both (is_digit x) (list_all is_digit xs) h).0
+
+digit_no_space : (a : ℕ) → is_digit a ≡ true → is_space a ≡ false
+digit_no_space a h = grind (arith, nat_tests)
+
+digit_no : (a x : ℕ) → is_digit a ≡ true → x < 48 → (a == x) ≡ false
+digit_no a x h l = grind (arith, nat_tests)
+
+digit_no_letter : (a : ℕ) → is_digit a ≡ true → is_letter a ≡ false
+digit_no_letter a h = grind (arith, nat_tests)
+
+number_class : (fresh : Bool) (rest : List ℕ) → starts is_digit rest ≡ true → class_of fresh rest ≡ Number
+number_class fresh [] h = cc
+number_class fresh (a ∷ others) h =
+    past (is_space a) Space _ Number (digit_no_space a h)
+    (past (a == 47 && starts_with 47 others) LineComment _ Number (left_false (a == 47) (starts_with 47 others) (digit_no a 47 h (omega arith)))
+    (past (a == 47 && starts_with 42 others) BlockComment _ Number (left_false (a == 47) (starts_with 42 others) (digit_no a 47 h (omega arith)))
+    (past (fresh && a == 35) LineMarker _ Number (and_false fresh (a == 35) (digit_no a 35 h (omega arith)))
+    (past (is_letter a) Word _ Number (digit_no_letter a h)
+    (found (is_digit a) Number _ h)))))
+
+-- a literal of these bytes, whatever it is
+literal_next : (fresh : Bool) (literal : List ℕ) (kind : TokenKind) (gap : ℕ) (rest : List ℕ) → starts is_digit (literal ++ gap ∷ rest) ≡ true → list_all is_number_byte literal ≡ true → number_of literal ≡ Ok kind → is_gap gap ≡ true
+    → Next fresh (literal ++ gap ∷ rest) (pieces.Token (length literal) kind)
+literal_next fresh literal kind gap rest s b e g =
+    let taken : take (length literal) (literal ++ gap ∷ rest) ≡ literal = take-append_seam literal (gap ∷ rest) in
+    let is : pieces.Token (length literal) kind ≡ token_or_fault (length literal) (number_of (take (length literal) (literal ++ gap ∷ rest))) =
+        sym (ap (token_or_fault (length literal)) (ap number_of taken ∙ e)) in
+    next_is fresh (literal ++ gap ∷ rest) Number (class_of fresh (literal ++ gap ∷ rest)) (pieces.Token (length literal) kind) refl (number_class fresh (literal ++ gap ∷ rest) s)
+    (number_stands fresh (literal ++ gap ∷ rest) (length literal) (pieces.Token (length literal) kind) s (sym (prefix_word is_number_byte literal gap rest b (gap_no_number gap g))) is)
+
+pub constant_next : (fresh : Bool) (n : ℕ) (unsigned : Bool) (gap : ℕ) (rest : List ℕ) → n < 2 ^ 32 → (unsigned || nat_lt n (2 ^ 31)) ≡ true → is_gap gap ≡ true
+    → Next fresh ((decimal n ++ suffix unsigned) ++ gap ∷ rest) (pieces.Token (length (decimal n ++ suffix unsigned)) (kinds.Number n unsigned))
+constant_next fresh n unsigned gap rest h k g =
+    let d : Digits n (decimal n) = digits_of_number n (omega arith) in
+    let s : starts is_digit ((decimal n ++ suffix unsigned) ++ gap ∷ rest) ≡ true = ap (starts is_digit) (append_assoc (decimal n) (suffix unsigned) (gap ∷ rest)) ∙ number_starts (decimal n) (suffix unsigned ++ gap ∷ rest) d.some d.all in
+    literal_next fresh (decimal n ++ suffix unsigned) (kinds.Number n unsigned) gap rest s (literal_bytes (decimal n) unsigned d.all) (suffixed n (decimal n) unsigned d ∙ number_back n unsigned h k) g

@@ -1,3 +1,5 @@
 pub mod LexedWords
 pub mod LexedMarks
 pub mod LexedNumbers
+pub mod LexedTexts
+pub mod LexedJoined

@@ -78,6 +78,10 @@ abbrev pub after_signed : Parse Base
 after_signed [] = Ok (bases.Int, [])
 after_signed (t ∷ ts) = if is_keyword keywords.Int t then Ok (bases.Int, ts) else Ok (bases.Int, t ∷ ts)
 
+-- behind `struct`
+abbrev pub tagged : Parse Base
+tagged ts = bind (expect_name ts) (λ x us. Ok (bases.Struct x.1, us))
+
 abbrev pub base : Parse Base
 base [] = unexpected []
 base (t ∷ ts) =
@@ -86,7 +90,7 @@ base (t ∷ ts) =
     else if is_keyword keywords.Char t then Ok (bases.Char, ts)
     else if is_keyword keywords.Unsigned t then after_unsigned ts
     else if is_keyword keywords.Signed t then after_signed ts
-    else if is_keyword keywords.Struct t then bind (expect_name ts) (λ x us. Ok (bases.Struct x.1, us))
+    else if is_keyword keywords.Struct t then tagged ts
     else unexpected (t ∷ ts)
 
 -- { "const" } base { "const" }

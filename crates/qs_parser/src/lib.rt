@@ -1,2 +1,7 @@
 //! The parser: from tokens to trees.
 #![tactic(auto)]
+
+mod fault;
+mod heads;
+mod nodes;
+mod types;

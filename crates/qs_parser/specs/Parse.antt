@@ -1,6 +1,6 @@
 -- The parser of expressions and types as functions on lists of tokens. An error says how many tokens are left where it stands, its own
 -- among them.
-use Rattle.std.specs.Prelude.{◌≡◌, ℕ, zero, suc, ◌+◌, max, List, [], ◌∷◌, ◌++◌, length, Result, Ok, Err, Option, Some, None, Bool, true, false, nat_le, ◌==◌, ◌&&◌, ◌||◌, if◌then◌else◌, is_some}
+use Rattle.std.specs.Prelude.{◌≡◌, ℕ, zero, suc, ◌+◌, max, List, [], ◌∷◌, ◌++◌, length, Result, Ok, Err, Option, Some, None, Bool, true, false, nat_le, ◌==◌, ◌&&◌, ◌||◌, if◌then◌else◌, not, is_some}
 use Rattle.qs_syntax.specs.declared.lexeme.Lexeme.{Lexeme}
 use Rattle.qs_syntax.specs.declared.lexeme.Lexeme.TheVariants.{Name, Keyword, Constant, Text, Mark}
 use Rattle.qs_syntax.specs.declared.tokens.Keyword.TheVariants as keywords
@@ -125,6 +125,15 @@ abbrev pub begins_cast : List Lexeme → Bool
 begins_cast [] = false
 begins_cast (t ∷ ts) = is_mark marks.OpenParenthesis t && begins_type ts
 
+-- what goes on with an operand
+abbrev pub starts_suffix : List Lexeme → Bool
+starts_suffix ts = starts marks.OpenBracket ts || (is_some (sign_at access_of ts) || (starts marks.Increment ts || starts marks.Decrement ts))
+
+-- the operator, where it is of level j + 1
+abbrev pub sign_of_level : ℕ → Option BinarySign → Option BinarySign
+sign_of_level j None = None
+sign_of_level j (Some sign) = if weakness sign == j + 1 then Some sign else None
+
 -- the texts that follow, joined to those before
 unfoldable pub texts_from : List ℕ → List Lexeme → List ℕ × List Lexeme
 texts_from done [] = (done, [])
@@ -185,7 +194,7 @@ module _ (m : ℕ) (part : Form → Parse E) where
   access_at start a (Some access) ts = member_of start a access ts
 
   abbrev pub begins_suffix : List Lexeme → Bool
-  begins_suffix ts = starts marks.OpenBracket ts || (is_some (sign_at access_of ts) || (starts marks.Increment ts || starts marks.Decrement ts))
+  begins_suffix ts = starts_suffix ts
 
   -- what the first token does with an operand, where it begins a suffix
   abbrev pub suffix : (start : ℕ) → E → Parse E
@@ -224,10 +233,7 @@ module _ (m : ℕ) (part : Form → Parse E) where
   unary_of_all [] = unexpected []
   unary_of_all (Name at x ∷ ts) = postfix (Name at x ∷ ts)
   unary_of_all (Keyword at k ∷ ts) =
-      if is_keyword keywords.Sizeof (Keyword at k) then (if m == 0 && not_type ts then deep (Keyword at k ∷ ts) else size_of at ts) else unexpected (Keyword at k ∷ ts)
-    where
-      not_type : List Lexeme → Bool
-      not_type us = if begins_cast us then false else true
+      if is_keyword keywords.Sizeof (Keyword at k) then (if m == 0 && not (begins_cast ts) then deep (Keyword at k ∷ ts) else size_of at ts) else unexpected (Keyword at k ∷ ts)
   unary_of_all (Constant at n unsigned ∷ ts) = postfix (Constant at n unsigned ∷ ts)
   unary_of_all (Text at bytes ∷ ts) = postfix (Text at bytes ∷ ts)
   unary_of_all (Mark at k ∷ ts) =
@@ -244,8 +250,7 @@ module _ (m : ℕ) (part : Form → Parse E) where
 
   -- the operator of level j + 1 that stands first
   abbrev pub of_level : ℕ → Option BinarySign → Option BinarySign
-  of_level j None = None
-  of_level j (Some sign) = if weakness sign == j + 1 then Some sign else None
+  of_level j sign = sign_of_level j sign
 
   -- behind an operator, and what follows its right operand
   abbrev pub operation : ℕ → (start : ℕ) → E → BinarySign → (E → Parse E) → Parse E

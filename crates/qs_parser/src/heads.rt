@@ -1,8 +1,9 @@
 // What tokens begin with.
-ghost use Rattle.std.specs.Prelude.{◌≡◌};
+ghost use Rattle.std.specs.Prelude.{◌≡◌, ◌+◌};
 ghost use Rattle.qs_syntax.specs.Reads.{place};
+ghost use Rattle.qs_syntax.specs.Signs.{weakness};
 ghost use Rattle.qs_parser.specs.Heads.{is_mark, is_keyword, starts, starts_with, unary_of, binary_of, assign_of, access_of, sign_at, begins_type};
-ghost use Rattle.qs_parser.specs.Parse.{expect, expect_name};
+ghost use Rattle.qs_parser.specs.Parse.{expect, expect_name, begins_one, begins_cast, starts_suffix, sign_of_level};
 ghost use Rattle.qs_parser.specs.View.{Gives, rest_of, name_of};
 
 use crate::fault::Halt;
@@ -155,6 +156,27 @@ fn assign_of(mark: Mark) -> Option<AssignSign>
     }
 }
 
+/// How weakly an operator between two operands binds, from 1 for `* / %` to 10 for `||`.
+fn weakness(sign: BinarySign) -> u32
+    ensures { result ≡ weakness sign }
+{
+    match sign {
+        BinarySign::Multiply | BinarySign::Divide | BinarySign::Remainder => 1,
+        BinarySign::Add | BinarySign::Subtract => 2,
+        BinarySign::ShiftLeft | BinarySign::ShiftRight => 3,
+        BinarySign::Less
+        | BinarySign::LessEqual
+        | BinarySign::Greater
+        | BinarySign::GreaterEqual => 4,
+        BinarySign::Equal | BinarySign::NotEqual => 5,
+        BinarySign::BitAnd => 6,
+        BinarySign::BitXor => 7,
+        BinarySign::BitOr => 8,
+        BinarySign::And => 9,
+        BinarySign::Or => 10,
+    }
+}
+
 /// How a member is reached by the mark (C11 6.5.2.3), if at all.
 fn access_of(mark: Mark) -> Option<Access>
     ensures { result ≡ access_of mark }
@@ -193,6 +215,53 @@ pub fn access_at(tokens: &[Lexeme]) -> Option<Access>
     match tokens {
         [Lexeme::Mark(_, mark), ..] => access_of(*mark),
         _ => None,
+    }
+}
+
+/// The operator between two operands of the level behind this one that stands first, if one does.
+pub fn level_sign_at(level: u8, tokens: &[Lexeme]) -> Option<BinarySign>
+    ensures { result ≡ sign_of_level level (sign_at binary_of tokens.now) }
+{
+    match binary_at(tokens) {
+        Some(sign) if weakness(sign) == u32::from(level) + 1 => Some(sign),
+        _ => None,
+    }
+}
+
+/// Whether an expression begins here.
+pub fn begins_one(tokens: &[Lexeme]) -> bool
+    ensures { result ≡ begins_one tokens.now }
+{
+    match tokens {
+        [] => false,
+        [Lexeme::Keyword(..), ..] => starts_with(Keyword::Sizeof, tokens),
+        [Lexeme::Mark(_, mark), ..] => {
+            unary_of(*mark).is_some()
+                || starts(Mark::OpenParenthesis, tokens)
+                || starts(Mark::Increment, tokens)
+                || starts(Mark::Decrement, tokens)
+        }
+        _ => true,
+    }
+}
+
+/// Whether a suffix stands first (C11 6.5.2).
+pub fn starts_suffix(tokens: &[Lexeme]) -> bool
+    ensures { result ≡ starts_suffix tokens.now }
+{
+    starts(Mark::OpenBracket, tokens)
+        || access_at(tokens).is_some()
+        || starts(Mark::Increment, tokens)
+        || starts(Mark::Decrement, tokens)
+}
+
+/// Whether a parenthesis stands before a type.
+pub fn begins_cast(tokens: &[Lexeme]) -> bool
+    ensures { result ≡ begins_cast tokens.now }
+{
+    match tokens {
+        [] => false,
+        [first, rest @ ..] => is_mark(Mark::OpenParenthesis, first) && begins_type(rest),
     }
 }
 

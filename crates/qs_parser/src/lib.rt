@@ -5,3 +5,4 @@ mod fault;
 mod heads;
 mod nodes;
 mod types;
+mod expressions;

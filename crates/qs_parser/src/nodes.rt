@@ -1,11 +1,57 @@
 // Nodes of expressions, not yet numbered.
 ghost use Rattle.std.specs.Prelude.{◌≡◌, IfOk, map};
-ghost use Rattle.qs_syntax.specs.Trees.{expr, unary, step, cast, size_expr, binary, assign, choice, comma, index, member, call, exprs_of};
+ghost use Rattle.qs_syntax.specs.Trees.{expr, int, text, name, size_type, unary, step, cast, size_expr, binary, assign, choice, comma, index, member, call, exprs_of};
 ghost use Rattle.qs_syntax.specs.TreeOf.{expr_tree};
 
 use qs_base::Name;
-use qs_syntax::{Access, AssignSign, BinarySign, Expr, Shape, StepSign, TypeName, UnarySign};
+use qs_syntax::{
+    Access, AssignSign, BinarySign, Expr, Shape, StepSign, Text, TypeName, UnarySign,
+};
 use std::alloc::{AllocError, Global};
+
+/// A number or character.
+pub fn int(token: u32, value: u32, is_unsigned: bool) -> Expr
+    ensures { expr_tree result ≡ expr 0 token (int value is_unsigned) }
+{
+    Expr {
+        id: 0,
+        token,
+        shape: Shape::Int(value, is_unsigned),
+    }
+}
+
+/// A string literal.
+pub fn text(token: u32, bytes: Text) -> Expr
+    ensures { expr_tree result ≡ expr 0 token (text bytes) }
+{
+    Expr {
+        id: 0,
+        token,
+        shape: Shape::Text(bytes),
+    }
+}
+
+/// The name of a variable.
+pub fn name(token: u32, bytes: Name) -> Expr
+    ensures { expr_tree result ≡ expr 0 token (name bytes) }
+{
+    Expr {
+        id: 0,
+        token,
+        shape: Shape::Name(bytes),
+    }
+}
+
+/// `sizeof` of a type.
+pub fn size_type(token: u32, of: TypeName) -> Expr
+    ensures { expr_tree result ≡ expr 0 token (size_type of) }
+{
+    Expr {
+        id: 0,
+        token,
+        shape: Shape::SizeType(of),
+    }
+}
 
 /// A unary operator and its operand.
 pub fn unary(alloc: Global, token: u32, sign: UnarySign, part: Expr) -> Result<Expr, AllocError>

@@ -1,6 +1,7 @@
 // Types (C11 6.7.2, 6.7.3, 6.7.6, 6.7.7).
 ghost use Rattle.std.specs.Prelude.{◌≡◌, Ok};
 ghost use Rattle.qs_parser.specs.Parse.{skip_consts, after_unsigned, after_signed, tagged, base, type, stars_from, stars, type_name};
+ghost use Rattle.qs_parser.specs.ParseDeclarations.{skip_prefixes, outer_type};
 ghost use Rattle.qs_parser.specs.View.{Gives, base_of, stars_of, type_name_of};
 
 use crate::fault::Halt;
@@ -83,6 +84,29 @@ pub fn type_of(alloc: Global, tokens: &[Lexeme]) -> Result<(Base, &[Lexeme]), Ha
     ensures { Gives base_of result (type tokens.now) }
 {
     let (base, rest) = base(alloc, skip_consts(tokens))?;
+    Ok((base, skip_consts(rest)))
+}
+
+/// What stands behind any number of `const` and `static`.
+fn skip_prefixes(tokens: &[Lexeme]) -> &[Lexeme]
+    ensures { result.now ≡ skip_prefixes tokens.now }
+{
+    let mut rest = tokens;
+    while let [first, after @ ..] = rest {
+        if !is_keyword(Keyword::Const, first) && !is_keyword(Keyword::Static, first) {
+            return rest;
+        }
+        rest = after;
+    }
+    rest
+}
+
+/// A type without stars at file scope, with `const` on both sides and `static` before it (C11 6.7.1).
+#[tactic(auto, unfolding(crate::specs::ParseDeclarations::outer_type))]
+pub fn outer_type(alloc: Global, tokens: &[Lexeme]) -> Result<(Base, &[Lexeme]), Halt>
+    ensures { Gives base_of result (outer_type tokens.now) }
+{
+    let (base, rest) = base(alloc, skip_prefixes(tokens))?;
     Ok((base, skip_consts(rest)))
 }
 

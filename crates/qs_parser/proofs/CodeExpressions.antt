@@ -1,5 +1,5 @@
 -- Turns of the loops that read expressions.
-use Rattle.std.proofs.Common.{◌≡◌, ℕ, zero, suc, ◌+◌, ◌-◌, ◌<◌, ◌≤◌, Bool, true, false, cond, List, [], ◌∷◌, ◌++◌, length, Result, Ok, Err, Option, Some, None, refl, sym, ap, subst, ◌∙◌, arith}
+use Rattle.std.proofs.Common.{◌≡◌, ℕ, zero, suc, ◌+◌, ◌-◌, ◌<◌, ◌≤◌, Bool, true, false, cond, List, [], ◌∷◌, ◌++◌, length, map, Result, Ok, Err, Option, Some, None, refl, sym, ap, subst, ◌∙◌, arith}
 use Rattle.std.specs.Prelude.{max}
 use Rattle.qs_syntax.specs.declared.lexeme.Lexeme.{Lexeme}
 use Rattle.qs_syntax.specs.declared.tokens.Mark.TheVariants as marks
@@ -8,12 +8,12 @@ use Rattle.qs_syntax.specs.Reads.{Form, Assignment}
 use Rattle.qs_parser.specs.Heads.{starts, sign_at, binary_of}
 use Rattle.qs_parser.specs.Parse.{Parse, Stop, Unexpected, Deep, bind, E, unexpected, above, expect, begins_one, starts_suffix, sign_of_level, after_argument, arguments, suffix, suffixes, operation_at, operations, commas, expression, part}
 
-part_more : (n : ℕ) (form : Form) (ts : List Lexeme) → 0 < n → part n form ts ≡ expression (n - 1) (part (n - 1)) form ts
+pub part_more : (n : ℕ) (form : Form) (ts : List Lexeme) → 0 < n → part n form ts ≡ expression (n - 1) (part (n - 1)) form ts
 unfolding part
 part_more zero form ts h = absurd (omega arith)
 part_more (suc n) form ts h = let e : n ≡ suc n - 1 = omega arith in ap (λ (k : ℕ). expression k (part k) form ts) e
 
-part_none : (n : ℕ) (form : Form) (ts : List Lexeme) → n ≡ 0 → part n form ts ≡ cond (begins_one ts) (Err (Deep (length ts))) (Err (Unexpected (length ts)))
+pub part_none : (n : ℕ) (form : Form) (ts : List Lexeme) → n ≡ 0 → part n form ts ≡ cond (begins_one ts) (Err (Deep (length ts))) (Err (Unexpected (length ts)))
 unfolding part
 part_none zero form ts e = refl
 part_none (suc n) form ts e = absurd (omega arith)
@@ -61,7 +61,12 @@ module _ (m : ℕ) (p : Form → Parse E) where
   unfolding commas
   commas_end n i start a ts le = let e : n - i ≡ 0 = omega arith in ap (λ k. commas m p k start a ts) e
 
-pub ruleset argument_steps = (arguments_more, arguments_end)
+-- an item more, each as its tree
+pub map_more : {X Y : Type 0} (f : X → Y) (items : List X) (item : X) → map f (items ++ item ∷ []) ≡ map f items ++ f item ∷ []
+map_more f [] item = refl
+map_more f (x ∷ items) item = ap (λ l. f x ∷ l) (map_more f items item)
+
+pub ruleset argument_steps = (arguments_more, arguments_end, map_more)
 pub ruleset suffix_steps = (suffixes_more, suffixes_end)
 pub ruleset operation_steps = (operations_more, operations_end)
 pub ruleset comma_steps = (commas_more, commas_end)

@@ -1,3 +1,5 @@
 pub mod Sound
 pub mod CodeTypes
 pub mod CodeExpressions
+pub mod CodeDeclarations
+pub mod CodeStatements

@@ -63,6 +63,16 @@ module _ (m : ℕ) (inner : Parse S) where
       else_behind [] = unexpected []
       else_behind (u ∷ us) = bind (inner us) (λ t vs. Ok ((branch 0 at e.0 s.0 (else_by t.0), max e.1 (max s.1 t.1) + 1), vs))
 
+  -- `else` and what follows it, if it stands here
+  abbrev pub otherwise : Parse (Option StmtTree × ℕ)
+  otherwise ts =
+      if starts_with keywords.Else ts then else_here ts
+      else Ok ((None, 0), ts)
+    where
+      else_here : Parse (Option StmtTree × ℕ)
+      else_here [] = unexpected []
+      else_here (u ∷ us) = bind (inner us) (λ t vs. Ok ((Some t.0, t.1), vs))
+
   abbrev pub after_if : (at : ℕ) → Parse S
   after_if at ts = bind (condition m ts) (λ e us. bind (inner us) (after_then at e))
 

@@ -1,7 +1,7 @@
 // Nodes of statements, not yet numbered.
-ghost use Rattle.std.specs.Prelude.{◌≡◌, IfOk};
+ghost use Rattle.std.specs.Prelude.{◌≡◌, IfOk, option_map};
 ghost use Rattle.qs_syntax.specs.Trees as trees;
-ghost use Rattle.qs_syntax.specs.Trees.{stmts_of, no_else, else_by};
+ghost use Rattle.qs_syntax.specs.Trees.{stmts_of, no_else, else_by, else_of};
 ghost use Rattle.qs_syntax.specs.TreeOf.{expr_tree, option_tree, start_tree, stmt_tree};
 ghost use Rattle.qs_parser.specs.View.{listed};
 
@@ -30,7 +30,12 @@ pub fn block(items: Vec<Stmt>) -> Stmt
 }
 
 /// `if` without `else`.
-pub fn branch(alloc: Global, token: u32, condition: Expr, first: Stmt) -> Result<Stmt, AllocError>
+fn branch_alone(
+    alloc: Global,
+    token: u32,
+    condition: Expr,
+    first: Stmt,
+) -> Result<Stmt, AllocError>
     ensures { IfOk result (λ s. stmt_tree s ≡ trees.branch 0 token (expr_tree condition) (stmt_tree first) no_else) }
 {
     let first = Box::new(alloc, first)?;
@@ -38,7 +43,7 @@ pub fn branch(alloc: Global, token: u32, condition: Expr, first: Stmt) -> Result
 }
 
 /// `if` with `else`.
-pub fn branch_else(
+fn branch_else(
     alloc: Global,
     token: u32,
     condition: Expr,
@@ -55,6 +60,22 @@ pub fn branch_else(
         first,
         Some(second),
     ))
+}
+
+/// `if`, with what follows `else`.
+pub fn branch(
+    alloc: Global,
+    token: u32,
+    condition: Expr,
+    first: Stmt,
+    second: Option<Stmt>,
+) -> Result<Stmt, AllocError>
+    ensures { IfOk result (λ s. stmt_tree s ≡ trees.branch 0 token (expr_tree condition) (stmt_tree first) (else_of (option_map stmt_tree second))) }
+{
+    match second {
+        None => branch_alone(alloc, token, condition, first),
+        Some(second) => branch_else(alloc, token, condition, first, second),
+    }
 }
 
 /// `while`.

@@ -1,11 +1,11 @@
 // Statements (C11 6.8). In all functions at most `room` levels are left for the parts of a node, and each
 // answers what is read, how high it is, and what stands behind it. `at` is the place of a first token.
-ghost use Rattle.std.specs.Prelude.{◌≡◌, ◌+◌, ◌≤◌, ◌||◌, length, [], ◌∷◌, IfOk};
+ghost use Rattle.std.specs.Prelude.{◌≡◌, ◌+◌, ◌≤◌, ◌||◌, length, [], ◌∷◌, IfOk, option_map};
 ghost use Rattle.qs_syntax.specs.declared.tokens.Keyword.TheVariants as keywords;
 ghost use Rattle.qs_syntax.specs.Signs.{number_of};
 ghost use Rattle.qs_parser.specs.Heads.{is_keyword};
 ghost use Rattle.qs_syntax.specs.TreeOf.{expr_tree, option_tree, start_tree, stmt_tree};
-ghost use Rattle.qs_parser.specs.ParseStatements.{optional, condition, start_of, begins_statement, item, items, in_block, after_then, after_if, after_while, expect_while, after_do, after_for, after_return, running, plain_statement, keyword_statement, statement_at, statement};
+ghost use Rattle.qs_parser.specs.ParseStatements.{optional, condition, start_of, begins_statement, item, items, in_block, otherwise, after_if, after_while, expect_while, after_do, after_for, after_return, running, plain_statement, keyword_statement, statement_at, statement};
 ghost use Rattle.qs_parser.specs.View.{Gives, read_as, listed, rest_of};
 
 use crate::declarations::declaration_within;
@@ -221,37 +221,29 @@ fn in_block(alloc: Global, room: u8, tokens: &[Lexeme]) -> Result<(Stmt, u32, &[
     Ok((nodes::block(items), height + 1, rest))
 }
 
-/// What stands behind the first statement of an `if`: `else` and a second, or nothing.
+/// `else` and what follows it, if it stands here.
 #[cycle(statement)]
-fn after_then(
+fn otherwise(
     alloc: Global,
     room: u8,
-    at: u32,
-    condition: (Expr, u32),
-    first: (Stmt, u32),
     tokens: &[Lexeme],
-) -> Result<(Stmt, u32, &[Lexeme]), Halt>
-    requires low { condition.1 ≤ room × first.1 ≤ room }
-    ensures gives { Gives (read_as stmt_tree) result (after_then room (statement room) at (expr_tree condition.0, condition.1) (stmt_tree first.0, first.1) tokens.now) }
-    ensures low { IfOk result (λ x. x.1 ≤ room + 1) }
+) -> Result<(Option<Stmt>, u32, &[Lexeme]), Halt>
+    ensures gives { Gives (read_as (option_map stmt_tree)) result (otherwise room (statement room) tokens.now) }
+    ensures low { IfOk result (λ x. x.1 ≤ room) }
 {
-    let (condition, condition_height) = condition;
-    let (first, first_height) = first;
-    let height = condition_height.max(first_height);
     if !starts_with(Keyword::Else, tokens) {
-        let node = nodes::branch(alloc, at, condition, first)?;
-        return Ok((node, height + 1, tokens));
+        return Ok((None, 0, tokens));
     }
     let [_, rest @ ..] = tokens else {
         return Err(Halt::Unexpected(0));
     };
-    let (second, high, rest) = statement(alloc, room, rest)?;
-    let node = nodes::branch_else(alloc, at, condition, first, second)?;
-    Ok((node, height.max(high) + 1, rest))
+    let (second, height, rest) = statement(alloc, room, rest)?;
+    Ok((Some(second), height, rest))
 }
 
 /// `if`, behind its keyword (C11 6.8.4.1).
 #[cycle(statement)]
+#[tactic(auto, using(crate::proofs::CodeStatements::after_if_is))]
 fn after_if(
     alloc: Global,
     room: u8,
@@ -263,8 +255,10 @@ fn after_if(
 {
     let (condition, condition_height, rest) = condition(alloc, room, tokens)?;
     let (first, first_height, rest) = statement(alloc, room, rest)?;
-    let condition = (condition, condition_height);
-    after_then(alloc, room, at, condition, (first, first_height), rest)
+    let (second, second_height, rest) = otherwise(alloc, room, rest)?;
+    let height = condition_height.max(first_height.max(second_height));
+    let node = nodes::branch(alloc, at, condition, first, second)?;
+    Ok((node, height + 1, rest))
 }
 
 /// `while`, behind its keyword (C11 6.8.5.1).

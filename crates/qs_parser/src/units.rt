@@ -67,6 +67,7 @@ fn forward_of(
 }
 
 /// What a function begins with, up to the parenthesis behind its parameters.
+#[derive(Drop)]
 struct Header {
     token: u32,
     base: Base,

@@ -15,8 +15,8 @@ decreases-items l = 64 * l.room + 2
 abbrev pub decreases-in_block : goal.decreases-in_block
 decreases-in_block l = 64 * l.room + 3
 
-abbrev pub decreases-after_then : goal.decreases-after_then
-decreases-after_then l = 64 * l.room + 1
+abbrev pub decreases-otherwise : goal.decreases-otherwise
+decreases-otherwise l = 64 * l.room + 1
 
 abbrev pub decreases-after_if : goal.decreases-after_if
 decreases-after_if l = 64 * l.room + 2

@@ -18,7 +18,7 @@ no_turns n i h = omega arith
 
 pub given_more : (m n i : ℕ) (done : List ExprTree) (h : ℕ) (ts : List Lexeme) → i < n
     → given_lengths m (n - i) done h ts
-      ≡ cond (starts marks.OpenBracket ts) (bind (expect marks.OpenBracket ts) (λ _ us. bind (part m Conditional us) (λ e vs. bind (expect marks.CloseBracket vs) (λ _ ws. given_lengths m (n - (i + 1)) (done ++ e.0 ∷ []) (max h e.1) ws)))) (Ok ((done, h), ts))
+    ≡ cond (starts marks.OpenBracket ts) (bind (expect marks.OpenBracket ts) (λ _ us. bind (part m Conditional us) (λ e vs. bind (expect marks.CloseBracket vs) (λ _ ws. given_lengths m (n - (i + 1)) (done ++ e.0 ∷ []) (max h e.1) ws)))) (Ok ((done, h), ts))
 unfolding given_lengths
 given_more m n i done h ts lt = ap (λ k. given_lengths m k done h ts) (left_turns n i lt)
 
@@ -94,7 +94,7 @@ declarators_end m n i done h ts le = ap (λ k. declarators m k done h ts) (no_tu
 
 pub groups_more : (m n i : ℕ) (done : List MembersTree) (h : ℕ) (ts : List Lexeme) → i < n
     → groups m (n - i) done h ts
-      ≡ bind (members m ts) (λ g us. cond (starts marks.CloseBrace us) (bind (expect marks.CloseBrace us) (λ _ vs. Ok ((done ++ g.0 ∷ [], max h g.1), vs))) (groups m (n - (i + 1)) (done ++ g.0 ∷ []) (max h g.1) us))
+    ≡ bind (members m ts) (λ g us. cond (starts marks.CloseBrace us) (bind (expect marks.CloseBrace us) (λ _ vs. Ok ((done ++ g.0 ∷ [], max h g.1), vs))) (groups m (n - (i + 1)) (done ++ g.0 ∷ []) (max h g.1) us))
 unfolding groups
 groups_more m n i done h ts lt = ap (λ k. groups m k done h ts) (left_turns n i lt)
 
@@ -112,10 +112,17 @@ unfolding parameters
 parameters_end m n i done h ts le = ap (λ k. parameters m k done h ts) (no_turns n i le)
 
 pub ruleset length_steps = (given_more, given_end, map_more)
+
 pub ruleset initialiser_steps = (initialisers_more, initialisers_end, map_more)
+
 pub ruleset initialiser_cases = (initialiser_none, initialiser_value, initialiser_deep, initialiser_list)
+
 pub ruleset variable_steps = (variables_more, variables_end, map_more)
+
 pub ruleset declaration_cases = (within_none, within_more)
+
 pub ruleset declarator_steps = (declarators_more, declarators_end, map_more)
+
 pub ruleset group_steps = (groups_more, groups_end, map_more)
+
 pub ruleset parameter_steps = (parameters_more, parameters_end, map_more)

@@ -53,7 +53,7 @@ module _ (m : ℕ) (p : Form → Parse E) where
 
   pub commas_more : (n i start : ℕ) (a : E) (ts : List Lexeme) → i < n
       → commas m p (n - i) start a ts
-        ≡ cond (starts marks.Comma ts) (above m a.1 (λ us. bind (expect marks.Comma us) (λ _ vs. bind (p Assignment vs) (λ b ws. commas m p (n - (i + 1)) start (expr 0 start (comma a.0 b.0), max a.1 b.1 + 1) ws))) ts) (Ok (a, ts))
+      ≡ cond (starts marks.Comma ts) (above m a.1 (λ us. bind (expect marks.Comma us) (λ _ vs. bind (p Assignment vs) (λ b ws. commas m p (n - (i + 1)) start (expr 0 start (comma a.0 b.0), max a.1 b.1 + 1) ws))) ts) (Ok (a, ts))
   unfolding commas
   commas_more n i start a ts lt = ap (λ k. commas m p k start a ts) (left_turns n i lt)
 
@@ -67,6 +67,9 @@ map_more f [] item = refl
 map_more f (x ∷ items) item = ap (λ l. f x ∷ l) (map_more f items item)
 
 pub ruleset argument_steps = (arguments_more, arguments_end, map_more)
+
 pub ruleset suffix_steps = (suffixes_more, suffixes_end)
+
 pub ruleset operation_steps = (operations_more, operations_end)
+
 pub ruleset comma_steps = (commas_more, commas_end)

@@ -28,7 +28,7 @@ statement_more (suc n) ts h = let e : n ≡ suc n - 1 = omega arith in ap (λ (k
 
 pub items_more : (m : ℕ) (inner : Parse S) (n i : ℕ) (done : List StmtTree) (h : ℕ) (ts : List Lexeme) → i < n
     → items m inner (n - i) done h ts
-      ≡ cond (starts marks.CloseBrace ts) (bind (expect marks.CloseBrace ts) (λ _ us. Ok ((done, h), us))) (bind (item m inner ts) (λ s us. items m inner (n - (i + 1)) (done ++ s.0 ∷ []) (max h s.1) us))
+    ≡ cond (starts marks.CloseBrace ts) (bind (expect marks.CloseBrace ts) (λ _ us. Ok ((done, h), us))) (bind (item m inner ts) (λ s us. items m inner (n - (i + 1)) (done ++ s.0 ∷ []) (max h s.1) us))
 unfolding items
 items_more m inner n i done h ts lt = ap (λ k. items m inner k done h ts) (left_turns n i lt)
 
@@ -52,7 +52,7 @@ then_is m inner at e s (u ∷ us) = by_case (starts_with keywords.Else (u ∷ us
   where
     by_answer : (r : Result (S × List Lexeme) Stop)
         → bind r (λ t vs. Ok ((branch 0 at e.0 s.0 (else_by t.0), max e.1 (max s.1 t.1) + 1), vs))
-          ≡ bind (bind r (λ t vs. Ok ((Some t.0, t.1), vs))) (λ t vs. Ok ((branch 0 at e.0 s.0 (else_of t.0), max e.1 (max s.1 t.1) + 1), vs))
+        ≡ bind (bind r (λ t vs. Ok ((Some t.0, t.1), vs))) (λ t vs. Ok ((branch 0 at e.0 s.0 (else_of t.0), max e.1 (max s.1 t.1) + 1), vs))
     by_answer (Ok x) = refl
     by_answer (Err x) = refl
 
@@ -72,10 +72,12 @@ after_if_is m inner at ts = by_condition (condition m ts)
 
     by_condition : (r : Result (E × List Lexeme) Stop)
         → bind r (λ e us. bind (inner us) (after_then m inner at e))
-          ≡ bind r (λ e us. bind (inner us) (λ s vs. bind (otherwise m inner vs) (λ t ws. Ok ((branch 0 at e.0 s.0 (else_of t.0), max e.1 (max s.1 t.1) + 1), ws))))
+        ≡ bind r (λ e us. bind (inner us) (λ s vs. bind (otherwise m inner vs) (λ t ws. Ok ((branch 0 at e.0 s.0 (else_of t.0), max e.1 (max s.1 t.1) + 1), ws))))
     by_condition (Ok x) = by_first x.0 (inner x.1)
     by_condition (Err x) = refl
 
 pub ruleset statement_cases = (statement_none, statement_more)
+
 pub ruleset item_steps = (items_more, items_end, map_more)
+
 pub ruleset external_steps = (externals_more, externals_end, map_more)

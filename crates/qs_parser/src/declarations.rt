@@ -1,14 +1,17 @@
 // Declarations (C11 6.7). In all functions at most `room` levels are left for the parts of a node, and each
 // answers what is read, how high its highest node is, and what stands behind it.
 ghost use Rattle.std.specs.Prelude.{◌≡◌, ◌+◌, ◌≤◌, length, [], IfOk};
+ghost use Rattle.qs_syntax.specs.Trees as trees;
+ghost use Rattle.qs_syntax.specs.Trees.{initialisers_of};
 ghost use Rattle.qs_syntax.specs.TreeOf.{expr_tree, lengths_tree, declarator_tree, initialiser_tree, variable_tree, declaration_tree, members_tree, parameter_tree};
-ghost use Rattle.qs_parser.specs.ParseDeclarations.{given_lengths, is_empty_brackets, lengths, named, declarator, initialisers, begins_initialiser, initialiser, initialised, variable, variables, declared, declaration, declaration_within, declarators, members, groups, with_name, is_void_alone, without_first, parameter, parameters, is_void_head, head};
+ghost use Rattle.qs_parser.specs.ParseDeclarations.{given_lengths, is_empty_brackets, lengths_of, lengths, named, declarator, initialisers, begins_initialiser, initialiser, initialised, variable, variables, declared, declaration, declaration_within, declarators, members, groups, bracketed, with_name, is_void_alone, without_first, parameter, parameters, is_void_head, head};
 ghost use Rattle.qs_parser.specs.View.{Gives, read_as, listed};
 
 use crate::expressions::{Form, part};
 use crate::fault::Halt;
 use crate::heads::{begins_one, expect, expect_name, is_keyword, is_mark, place, starts};
 use crate::types::{stars, type_of};
+use qs_base::Name;
 use qs_syntax::{
     Base, Declaration, Declarator, Expr, Initialiser, InitialiserList, Keyword, Lengths, Lexeme,
     Mark, Members, Parameter, Variable,
@@ -54,20 +57,32 @@ fn is_empty_brackets(tokens: &[Lexeme]) -> bool
     }
 }
 
+/// The lengths of a declarator, behind first brackets that are empty where `is_open` says so.
+fn lengths_of(
+    alloc: Global,
+    room: u8,
+    is_open: bool,
+    tokens: &[Lexeme],
+) -> Result<(Lengths, u32, &[Lexeme]), Halt>
+    ensures gives { Gives (read_as lengths_tree) result (lengths_of is_open (given_lengths room (length tokens.now) [] 0 tokens.now)) }
+    ensures low { IfOk result (λ x. x.1 ≤ room) }
+{
+    let (given, height, rest) = given_lengths(alloc, room, tokens)?;
+    Ok((Lengths { is_open, given }, height, rest))
+}
+
 /// The brackets behind a name (C11 6.7.6.2).
 #[tactic(auto, unfolding(crate::specs::ParseDeclarations::lengths))]
 fn lengths(alloc: Global, room: u8, tokens: &[Lexeme]) -> Result<(Lengths, u32, &[Lexeme]), Halt>
     ensures gives { Gives (read_as lengths_tree) result (lengths room tokens.now) }
     ensures low { IfOk result (λ x. x.1 ≤ room) }
 {
-    if is_empty_brackets(tokens) {
-        let rest = expect(Mark::OpenBracket, tokens)?;
-        let rest = expect(Mark::CloseBracket, rest)?;
-        let (given, height, rest) = given_lengths(alloc, room, rest)?;
-        return Ok((Lengths { is_open: true, given }, height, rest));
+    if !is_empty_brackets(tokens) {
+        return lengths_of(alloc, room, false, tokens);
     }
-    let (given, height, rest) = given_lengths(alloc, room, tokens)?;
-    Ok((Lengths { is_open: false, given }, height, rest))
+    let rest = expect(Mark::OpenBracket, tokens)?;
+    let rest = expect(Mark::CloseBracket, rest)?;
+    lengths_of(alloc, room, true, rest)
 }
 
 /// A declarator, behind its stars.
@@ -359,6 +374,31 @@ pub fn groups(
     Err(Halt::Unexpected(rest.len()))
 }
 
+/// A parameter, behind its name.
+fn bracketed(
+    alloc: Global,
+    room: u8,
+    token: u32,
+    base: Base,
+    stars: u32,
+    name: Option<Name>,
+    tokens: &[Lexeme],
+) -> Result<(Parameter, u32, &[Lexeme]), Halt>
+    ensures gives { Gives (read_as parameter_tree) result (bracketed room token base stars name tokens.now) }
+    ensures low { IfOk result (λ x. x.1 ≤ room + 1) }
+{
+    let (lengths, height, rest) = lengths(alloc, room, tokens)?;
+    let parameter = Parameter {
+        id: 0,
+        token,
+        base,
+        stars,
+        name,
+        lengths,
+    };
+    Ok((parameter, height + 1, rest))
+}
+
 /// A parameter, behind its stars. `start` is the place of its first token.
 fn with_name(
     alloc: Global,
@@ -371,20 +411,13 @@ fn with_name(
     ensures gives { Gives (read_as parameter_tree) result (with_name room start base stars tokens.now) }
     ensures low { IfOk result (λ x. x.1 ≤ room + 1) }
 {
-    let (token, name, rest) = match tokens {
-        [Lexeme::Name(at, name), rest @ ..] => (*at, Some(name.copy(alloc)?), rest),
-        _ => (start, None, tokens),
-    };
-    let (lengths, height, rest) = lengths(alloc, room, rest)?;
-    let parameter = Parameter {
-        id: 0,
-        token,
-        base,
-        stars,
-        name,
-        lengths,
-    };
-    Ok((parameter, height + 1, rest))
+    match tokens {
+        [Lexeme::Name(at, name), rest @ ..] => {
+            let name = Some(name.copy(alloc)?);
+            bracketed(alloc, room, *at, base, stars, name, rest)
+        }
+        _ => bracketed(alloc, room, start, base, stars, None, tokens),
+    }
 }
 
 /// Whether `void` stands here with a comma or a parenthesis behind it.

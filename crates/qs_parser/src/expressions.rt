@@ -10,15 +10,13 @@ ghost use Rattle.qs_parser.specs.View.{Gives, read_as, listed, texts_of, form_of
 
 use crate::fault::Halt;
 use crate::heads::{
-    access_at, assign_at, begins_cast, begins_one, expect, expect_name, is_mark,
-    level_sign_at, place, starts, starts_suffix, starts_with, unary_of,
+    access_at, assign_at, begins_cast, begins_one, expect, expect_name, is_mark, level_sign_at,
+    place, starts, starts_suffix, starts_with, unary_of,
 };
 use crate::nodes;
 use crate::types::type_name;
 use qs_base::Name;
-use qs_syntax::{
-    Access, AssignSign, Expr, Keyword, Lexeme, Mark, StepSign, Text, UnarySign,
-};
+use qs_syntax::{Access, AssignSign, Expr, Keyword, Lexeme, Mark, StepSign, Text, UnarySign};
 use std::alloc::Global;
 
 /// What an expression is read as.
@@ -234,7 +232,11 @@ fn index_of(
 {
     let (at, high, rest) = part(alloc, room, Form::Expression, tokens)?;
     let rest = expect(Mark::CloseBracket, rest)?;
-    Ok((nodes::index(alloc, start, left, at)?, height.max(high) + 1, rest))
+    Ok((
+        nodes::index(alloc, start, left, at)?,
+        height.max(high) + 1,
+        rest,
+    ))
 }
 
 /// A member, behind `.` or `->`.
@@ -252,7 +254,11 @@ fn member_of(
     ensures low { IfOk result (λ x. x.1 ≤ room + 1) }
 {
     let (_at, name, rest) = expect_name(alloc, tokens)?;
-    Ok((nodes::member(alloc, start, access, left, name)?, height + 1, rest))
+    Ok((
+        nodes::member(alloc, start, access, left, name)?,
+        height + 1,
+        rest,
+    ))
 }
 
 /// What the first token does with an operand, where it begins a suffix.
@@ -463,11 +469,7 @@ fn cast_of(
 
 /// A cast or a unary expression (C11 6.5.4).
 #[cycle(parser)]
-fn cast_or_unary(
-    alloc: Global,
-    room: u8,
-    tokens: &[Lexeme],
-) -> Result<(Expr, u32, &[Lexeme]), Halt>
+fn cast_or_unary(alloc: Global, room: u8, tokens: &[Lexeme]) -> Result<(Expr, u32, &[Lexeme]), Halt>
     ensures gives { Gives (read_as expr_tree) result (cast_or_unary room (part room) tokens.now) }
     ensures low { IfOk result (λ x. x.1 ≤ room + 1) }
 {

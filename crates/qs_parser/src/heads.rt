@@ -164,10 +164,8 @@ fn weakness(sign: BinarySign) -> u32
         BinarySign::Multiply | BinarySign::Divide | BinarySign::Remainder => 1,
         BinarySign::Add | BinarySign::Subtract => 2,
         BinarySign::ShiftLeft | BinarySign::ShiftRight => 3,
-        BinarySign::Less
-        | BinarySign::LessEqual
-        | BinarySign::Greater
-        | BinarySign::GreaterEqual => 4,
+        BinarySign::Less | BinarySign::LessEqual | BinarySign::Greater | BinarySign::GreaterEqual =>
+            4,
         BinarySign::Equal | BinarySign::NotEqual => 5,
         BinarySign::BitAnd => 6,
         BinarySign::BitXor => 7,

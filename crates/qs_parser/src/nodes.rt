@@ -4,9 +4,7 @@ ghost use Rattle.qs_syntax.specs.Trees.{expr, int, text, name, size_type, unary,
 ghost use Rattle.qs_syntax.specs.TreeOf.{expr_tree};
 
 use qs_base::Name;
-use qs_syntax::{
-    Access, AssignSign, BinarySign, Expr, Shape, StepSign, Text, TypeName, UnarySign,
-};
+use qs_syntax::{Access, AssignSign, BinarySign, Expr, Shape, StepSign, Text, TypeName, UnarySign};
 use std::alloc::{AllocError, Global};
 
 /// A number or character.

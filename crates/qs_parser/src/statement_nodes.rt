@@ -30,12 +30,7 @@ pub fn block(items: Vec<Stmt>) -> Stmt
 }
 
 /// `if` without `else`.
-fn branch_alone(
-    alloc: Global,
-    token: u32,
-    condition: Expr,
-    first: Stmt,
-) -> Result<Stmt, AllocError>
+fn branch_alone(alloc: Global, token: u32, condition: Expr, first: Stmt) -> Result<Stmt, AllocError>
     ensures { IfOk result (λ s. stmt_tree s ≡ trees.branch 0 token (expr_tree condition) (stmt_tree first) no_else) }
 {
     let first = Box::new(alloc, first)?;
@@ -54,12 +49,7 @@ fn branch_else(
 {
     let first = Box::new(alloc, first)?;
     let second = Box::new(alloc, second)?;
-    Ok(Stmt::If(
-        Node { id: 0, token },
-        condition,
-        first,
-        Some(second),
-    ))
+    Ok(Stmt::If(Node { id: 0, token }, condition, first, Some(second)))
 }
 
 /// `if`, with what follows `else`.
@@ -111,13 +101,7 @@ pub fn for_loop(
     ensures { IfOk result (λ s. stmt_tree s ≡ trees.for_loop 0 token (start_tree start) (option_tree condition) (option_tree step) (stmt_tree body)) }
 {
     let body = Box::new(alloc, body)?;
-    Ok(Stmt::For(
-        Node { id: 0, token },
-        start,
-        condition,
-        step,
-        body,
-    ))
+    Ok(Stmt::For(Node { id: 0, token }, start, condition, step, body))
 }
 
 /// `break`.

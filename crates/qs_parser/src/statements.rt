@@ -11,7 +11,9 @@ ghost use Rattle.qs_parser.specs.View.{Gives, read_as, listed, rest_of};
 use crate::declarations::declaration_within;
 use crate::expressions::{Form, part};
 use crate::fault::Halt;
-use crate::heads::{begins_one, begins_type, expect, is_keyword, is_mark, place, starts, starts_with};
+use crate::heads::{
+    begins_one, begins_type, expect, is_keyword, is_mark, place, starts, starts_with,
+};
 use crate::statement_nodes as nodes;
 use qs_syntax::{Expr, Keyword, Lexeme, Mark, Start, Stmt};
 use std::alloc::Global;
@@ -115,7 +117,11 @@ fn running(alloc: Global, room: u8, tokens: &[Lexeme]) -> Result<(Stmt, u32, &[L
 {
     let (expression, height, rest) = part(alloc, room, Form::Expression, tokens)?;
     let rest = expect(Mark::Semicolon, rest)?;
-    Ok((nodes::expression(place(tokens), expression), height + 1, rest))
+    Ok((
+        nodes::expression(place(tokens), expression),
+        height + 1,
+        rest,
+    ))
 }
 
 /// A statement that has no statement as a part. The tokens are the first and the rest.
@@ -352,11 +358,7 @@ fn keyword_statement<'a>(
 
 /// A statement (C11 6.8) with at most `room` levels for its parts.
 #[cycle(statement)]
-fn statement_at(
-    alloc: Global,
-    room: u8,
-    tokens: &[Lexeme],
-) -> Result<(Stmt, u32, &[Lexeme]), Halt>
+fn statement_at(alloc: Global, room: u8, tokens: &[Lexeme]) -> Result<(Stmt, u32, &[Lexeme]), Halt>
     ensures gives { Gives (read_as stmt_tree) result (statement_at room (statement room) tokens.now) }
     ensures low { IfOk result (λ x. x.1 ≤ room + 1) }
 {

@@ -20,3 +20,9 @@ pub mod DeclarationsParametersComplete
 pub mod StatementsComplete
 pub mod UnitsComplete
 pub mod UnitsExamples
+pub mod CodeTypes
+pub mod CodeExpressions
+pub mod CodeDeclarations
+pub mod CodeStatements
+pub mod Counted
+pub mod Top

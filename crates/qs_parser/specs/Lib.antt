@@ -3,3 +3,4 @@ pub mod Parse
 pub mod ParseDeclarations
 pub mod ParseStatements
 pub mod Stops
+pub mod View

@@ -78,6 +78,10 @@ abbrev pub after_signed : Parse Base
 after_signed [] = Ok (bases.Int, [])
 after_signed (t ∷ ts) = if is_keyword keywords.Int t then Ok (bases.Int, ts) else Ok (bases.Int, t ∷ ts)
 
+-- behind `struct`
+abbrev pub tagged : Parse Base
+tagged ts = bind (expect_name ts) (λ x us. Ok (bases.Struct x.1, us))
+
 abbrev pub base : Parse Base
 base [] = unexpected []
 base (t ∷ ts) =
@@ -86,7 +90,7 @@ base (t ∷ ts) =
     else if is_keyword keywords.Char t then Ok (bases.Char, ts)
     else if is_keyword keywords.Unsigned t then after_unsigned ts
     else if is_keyword keywords.Signed t then after_signed ts
-    else if is_keyword keywords.Struct t then bind (expect_name ts) (λ x us. Ok (bases.Struct x.1, us))
+    else if is_keyword keywords.Struct t then tagged ts
     else unexpected (t ∷ ts)
 
 -- { "const" } base { "const" }
@@ -120,6 +124,15 @@ begins_one (Mark at m ∷ ts) = is_some (unary_of m) || (is_mark marks.OpenParen
 abbrev pub begins_cast : List Lexeme → Bool
 begins_cast [] = false
 begins_cast (t ∷ ts) = is_mark marks.OpenParenthesis t && begins_type ts
+
+-- what goes on with an operand
+abbrev pub starts_suffix : List Lexeme → Bool
+starts_suffix ts = starts marks.OpenBracket ts || (is_some (sign_at access_of ts) || (starts marks.Increment ts || starts marks.Decrement ts))
+
+-- the operator, where it is of level j + 1
+abbrev pub sign_of_level : ℕ → Option BinarySign → Option BinarySign
+sign_of_level j None = None
+sign_of_level j (Some sign) = if weakness sign == j + 1 then Some sign else None
 
 -- the texts that follow, joined to those before
 unfoldable pub texts_from : List ℕ → List Lexeme → List ℕ × List Lexeme
@@ -181,7 +194,7 @@ module _ (m : ℕ) (part : Form → Parse E) where
   access_at start a (Some access) ts = member_of start a access ts
 
   abbrev pub begins_suffix : List Lexeme → Bool
-  begins_suffix ts = starts marks.OpenBracket ts || (is_some (sign_at access_of ts) || (starts marks.Increment ts || starts marks.Decrement ts))
+  begins_suffix ts = starts_suffix ts
 
   -- what the first token does with an operand, where it begins a suffix
   abbrev pub suffix : (start : ℕ) → E → Parse E
@@ -237,8 +250,7 @@ module _ (m : ℕ) (part : Form → Parse E) where
 
   -- the operator of level j + 1 that stands first
   abbrev pub of_level : ℕ → Option BinarySign → Option BinarySign
-  of_level j None = None
-  of_level j (Some sign) = if weakness sign == j + 1 then Some sign else None
+  of_level j sign = sign_of_level j sign
 
   -- behind an operator, and what follows its right operand
   abbrev pub operation : ℕ → (start : ℕ) → E → BinarySign → (E → Parse E) → Parse E

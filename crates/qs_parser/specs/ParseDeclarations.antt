@@ -125,6 +125,10 @@ groups m (suc n) done h ts =
     if starts marks.CloseBrace us then bind (expect marks.CloseBrace us) (λ _ vs. Ok ((done ++ g.0 ∷ [], max h g.1), vs))
     else groups m n (done ++ g.0 ∷ []) (max h g.1) us)
 
+-- behind the name of a parameter that stands at `token`
+abbrev pub bracketed : (m : ℕ) → (token : ℕ) → Base → ℕ → Option (List ℕ) → Parse (ParameterTree × ℕ)
+bracketed m token b n x ts = bind (lengths m ts) (λ l us. Ok ((record { id = 0; token = token; base = b; stars = n; name = x; lengths = l.0 }, l.1 + 1), us))
+
 -- behind the stars of a parameter that begins at `start`
 abbrev pub with_name : (m : ℕ) → (start : ℕ) → Base → ℕ → Parse (ParameterTree × ℕ)
 with_name m start b n [] = bind (lengths m []) (λ l us. Ok ((record { id = 0; token = start; base = b; stars = n; name = None; lengths = l.0 }, l.1 + 1), us))

@@ -63,6 +63,16 @@ module _ (m : ℕ) (inner : Parse S) where
       else_behind [] = unexpected []
       else_behind (u ∷ us) = bind (inner us) (λ t vs. Ok ((branch 0 at e.0 s.0 (else_by t.0), max e.1 (max s.1 t.1) + 1), vs))
 
+  -- `else` and what follows it, if it stands here
+  abbrev pub otherwise : Parse (Option StmtTree × ℕ)
+  otherwise ts =
+      if starts_with keywords.Else ts then else_here ts
+      else Ok ((None, 0), ts)
+    where
+      else_here : Parse (Option StmtTree × ℕ)
+      else_here [] = unexpected []
+      else_here (u ∷ us) = bind (inner us) (λ t vs. Ok ((Some t.0, t.1), vs))
+
   abbrev pub after_if : (at : ℕ) → Parse S
   after_if at ts = bind (condition m ts) (λ e us. bind (inner us) (after_then at e))
 
@@ -84,19 +94,25 @@ module _ (m : ℕ) (inner : Parse S) where
   abbrev pub after_return : (at : ℕ) → Parse S
   after_return at ts = bind (optional m marks.Semicolon ts) (λ e us. Ok ((return 0 at e.0, e.1 + 1), us))
 
+  -- an expression and the semicolon behind it
+  abbrev pub running : Parse S
+  running ts = bind (part m Expression ts) (λ e us. bind (expect marks.Semicolon us) (λ _ vs. Ok ((expression 0 (place ts) e.0, e.1 + 1), vs)))
+
+  -- a statement that has no statement as a part
+  abbrev pub plain_statement : (at : ℕ) → (first : Lexeme) → Parse S
+  plain_statement at t ts =
+      if is_keyword keywords.Break t then bind (expect marks.Semicolon ts) (λ _ us. Ok ((break 0 at, 1), us))
+      else if is_keyword keywords.Continue t then bind (expect marks.Semicolon ts) (λ _ us. Ok ((continue 0 at, 1), us))
+      else if is_keyword keywords.Return t then after_return at ts
+      else running (t ∷ ts)
+
   abbrev pub keyword_statement : (at : ℕ) → (first : Lexeme) → Parse S
   keyword_statement at t ts =
       if is_keyword keywords.If t then (if m == 0 then deep (t ∷ ts) else after_if at ts)
       else if is_keyword keywords.While t then (if m == 0 then deep (t ∷ ts) else after_while at ts)
       else if is_keyword keywords.Do t then (if m == 0 then deep (t ∷ ts) else after_do at ts)
       else if is_keyword keywords.For t then (if m == 0 then deep (t ∷ ts) else after_for at ts)
-      else if is_keyword keywords.Break t then bind (expect marks.Semicolon ts) (λ _ us. Ok ((break 0 at, 1), us))
-      else if is_keyword keywords.Continue t then bind (expect marks.Semicolon ts) (λ _ us. Ok ((continue 0 at, 1), us))
-      else if is_keyword keywords.Return t then after_return at ts
-      else running (t ∷ ts)
-    where
-      running : Parse S
-      running us = bind (part m Expression us) (λ e vs. bind (expect marks.Semicolon vs) (λ _ ws. Ok ((expression 0 (place us) e.0, e.1 + 1), ws)))
+      else plain_statement at t ts
 
   abbrev pub statement_at : Parse S
   statement_at [] = unexpected []
@@ -167,4 +183,4 @@ externals k (suc n) done h ts = bind (external k ts) (λ d us. if is_empty us th
 
 -- what is at most k + 2 high
 unfoldable pub unit : (k : ℕ) → Parse (List DeclTree × ℕ)
-unit k ts = externals k (length ts + 1) [] 0 ts
+unit k ts = externals k (length ts) [] 0 ts

@@ -3,3 +3,4 @@ pub mod CodeTypes
 pub mod CodeExpressions
 pub mod CodeDeclarations
 pub mod CodeStatements
+pub mod CodeOperations

@@ -70,6 +70,4 @@ pub ruleset argument_steps = (arguments_more, arguments_end, map_more)
 
 pub ruleset suffix_steps = (suffixes_more, suffixes_end)
 
-pub ruleset operation_steps = (operations_more, operations_end)
-
 pub ruleset comma_steps = (commas_more, commas_end)

@@ -26,3 +26,4 @@ pub mod CodeDeclarations
 pub mod CodeStatements
 pub mod Counted
 pub mod Top
+pub mod CodeOperations

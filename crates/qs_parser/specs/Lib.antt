@@ -5,3 +5,4 @@ pub mod ParseStatements
 pub mod Stops
 pub mod View
 pub mod Answers
+pub mod Operands

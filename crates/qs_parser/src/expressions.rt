@@ -6,6 +6,7 @@ ghost use Rattle.qs_syntax.specs.declared.lexeme.Lexeme.TheVariants as lexemes;
 ghost use Rattle.qs_syntax.specs.TreeOf.{expr_tree};
 ghost use Rattle.qs_syntax.specs.Reads.{Assignment};
 ghost use Rattle.qs_parser.specs.Parse.{texts_from, arguments, call_of, after_name, in_parentheses, primary, index_of, member_of, access_at, suffix, suffixes, postfix, step_of, operator_of, size_of, operator_at, unary_of_all, cast_of, cast_or_unary, operations, climb, after_or, after_operand, assignment_of, after_unary, assignment, commas, expression, part};
+ghost use Rattle.qs_parser.specs.Operands.{right_operand};
 ghost use Rattle.qs_parser.specs.View.{Gives, read_as, listed, texts_of, form_of};
 
 use crate::fault::Halt;
@@ -483,9 +484,26 @@ fn cast_or_unary(alloc: Global, room: u8, tokens: &[Lexeme]) -> Result<(Expr, u3
     cast_of(alloc, room, place(tokens), rest)
 }
 
+/// The right operand of the operator that is the first token.
+#[cycle(parser)]
+fn right_operand(
+    alloc: Global,
+    room: u8,
+    level: u8,
+    tokens: &[Lexeme],
+) -> Result<(Expr, u32, &[Lexeme]), Halt>
+    ensures gives { Gives (read_as expr_tree) result (right_operand (part room) level tokens.now) }
+    ensures low { IfOk result (λ x. x.1 ≤ room) }
+{
+    match tokens {
+        [] => Err(Halt::Unexpected(0)),
+        [_, rest @ ..] => part(alloc, room, Form::Level(level), rest),
+    }
+}
+
 /// The operators of the level behind this one, and their right operands.
 #[cycle(parser)]
-#[tactic(auto, using(crate::proofs::CodeExpressions::operation_steps))]
+#[tactic(auto, using(crate::proofs::CodeOperations::operation_steps))]
 fn operations(
     alloc: Global,
     room: u8,
@@ -509,10 +527,7 @@ fn operations(
         if height > u32::from(room) {
             return Err(Halt::TooDeep(rest.len()));
         }
-        let [_, behind @ ..] = rest else {
-            return Err(Halt::Unexpected(0));
-        };
-        let (right, high, after) = part(alloc, room, Form::Level(level), behind)?;
+        let (right, high, after) = right_operand(alloc, room, level, rest)?;
         left = nodes::binary(alloc, start, sign, left, right)?;
         height = height.max(high) + 1;
         rest = after;

@@ -57,11 +57,14 @@ decreases-cast_of l = 1024 * l.room + 1
 abbrev pub decreases-cast_or_unary : goal.decreases-cast_or_unary
 decreases-cast_or_unary l = 1024 * l.room + 8
 
+abbrev pub decreases-right_operand : goal.decreases-right_operand
+decreases-right_operand l = 1024 * l.room + 1
+
 abbrev pub decreases-operations : goal.decreases-operations
-decreases-operations l = 1024 * l.room + 1
+decreases-operations l = 1024 * l.room + 2
 
 abbrev pub decreases-climb : goal.decreases-climb
-decreases-climb l = 1024 * l.room + 2 + l.level
+decreases-climb l = 1024 * l.room + 3 + l.level
 
 abbrev pub decreases-after_or : goal.decreases-after_or
 decreases-after_or l = 1024 * l.room + 1

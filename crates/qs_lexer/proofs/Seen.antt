@@ -1,20 +1,20 @@
 -- The lexemes of a text.
-use Rattle.std.proofs.Common.{◌≡◌, ℕ, ◌+◌, ◌<◌, ◌≤◌, zero, suc, Bool, true, false, ◌&&◌, List, [], ◌∷◌, ◌++◌, length, drop, get_or, All, refl, ap, sym, ◌∙◌, arith, add-one, drop-cons, Fits, w8}
+use Rattle.std.proofs.Common.{◌≡◌, ℕ, ◌+◌, ◌-◌, ◌<◌, ◌≤◌, zero, suc, Bool, true, false, ◌&&◌, List, [], ◌∷◌, ◌++◌, length, drop, get_or, All, refl, ap, sym, ◌∙◌, arith, add-one, drop-cons, Fits, w8}
 use Rattle.std.proofs.lemmas.Bool.Decides.{nat_tests}
 use Rattle.std.specs.List.{list_all}
 use Rattle.std.proofs.lemmas.List.{append_assoc, append-nil, drop_all}
 use Rattle.std.proofs.lemmas.List.Elements.{All-head, All-tail}
 use Rattle.qs_base.specs.Names.{is_name}
 use Rattle.qs_lexer.specs.Laws.{InOrder, IsTokenOf, spelling}
-use Rattle.qs_lexer.specs.Lexemes.{is_byte, lexeme, lexeme_of, lexemes}
+use Rattle.qs_lexer.specs.Lexemes.{lexeme, lexeme_of, lexemes}
 use Rattle.qs_lexer.specs.Tokens.{Tokens}
-use Rattle.qs_syntax.specs.Units.{is_lexeme}
+use Rattle.qs_syntax.specs.Units.{is_byte, is_lexeme}
 use Rattle.qs_syntax.specs.declared.lexeme.Lexeme.{Lexeme}
 use Rattle.qs_syntax.specs.declared.tokens.Token.{Token}
 use Rattle.qs_syntax.specs.declared.tokens.TokenKind.{TokenKind}
 use Rattle.qs_syntax.specs.declared.tokens.TokenKind.TheVariants as kinds
 use Rattle.qs_lexer.proofs.Spelled.{in_order, tokens_of}
-use Rattle.qs_lexer.proofs.Values.{all_valued, is_valued, read_valued}
+use Rattle.qs_lexer.proofs.Values.{all_valued, bytes_drop, bytes_take, is_valued, read_valued, text_low}
 
 -- ---- how many there are
 
@@ -64,23 +64,23 @@ second_true : (b c : Bool) → (b && c) ≡ true → c ≡ true
 second_true true c h = h
 second_true false c h = cc
 
-seen : (at : ℕ) (bytes : List ℕ) (kind : TokenKind) → (kind ≡ kinds.Name → is_name bytes ≡ true) → is_valued kind ≡ true → is_lexeme (lexeme_of at bytes kind) ≡ true
-seen at bytes kinds.Name n v = n refl
-seen at bytes (kinds.Keyword keyword) n v = refl
-seen at bytes (kinds.Number value unsigned) n v = v
-seen at bytes (kinds.Character value) n v = v
-seen at bytes kinds.Text n v = refl
-seen at bytes (kinds.Mark mark) n v = refl
+seen : (at : ℕ) (bytes : List ℕ) (kind : TokenKind) → (kind ≡ kinds.Name → is_name bytes ≡ true) → is_valued kind ≡ true → list_all is_byte bytes ≡ true → is_lexeme (lexeme_of at bytes kind) ≡ true
+seen at bytes kinds.Name n v b = n refl
+seen at bytes (kinds.Keyword keyword) n v b = refl
+seen at bytes (kinds.Number value unsigned) n v b = v
+seen at bytes (kinds.Character value) n v b = v
+seen at bytes kinds.Text n v b = text_low bytes b
+seen at bytes (kinds.Mark mark) n v b = refl
 
-all_seen : (text : List ℕ) (at : ℕ) (tokens : List Token) → All (IsTokenOf text) tokens → all_valued tokens ≡ true → list_all is_lexeme (lexemes text at tokens) ≡ true
-all_seen text at [] a v = refl
-all_seen text at (t ∷ ts) a v =
+all_seen : (text : List ℕ) (at : ℕ) (tokens : List Token) → list_all is_byte text ≡ true → All (IsTokenOf text) tokens → all_valued tokens ≡ true → list_all is_lexeme (lexemes text at tokens) ≡ true
+all_seen text at [] b a v = refl
+all_seen text at (t ∷ ts) b a v =
     and_true (is_lexeme (lexeme text at t)) (list_all is_lexeme (lexemes text (at + 1) ts))
-    (seen at (spelling text t) t.kind (All-head (IsTokenOf text) t ts a).name (first_true (is_valued t.kind) (all_valued ts) v))
-    (all_seen text (at + 1) ts (All-tail (IsTokenOf text) t ts a) (second_true (is_valued t.kind) (all_valued ts) v))
+    (seen at (spelling text t) t.kind (All-head (IsTokenOf text) t ts a).name (first_true (is_valued t.kind) (all_valued ts) v) (bytes_take (t.end - t.start) (drop t.start text) (bytes_drop t.start text b)))
+    (all_seen text (at + 1) ts b (All-tail (IsTokenOf text) t ts a) (second_true (is_valued t.kind) (all_valued ts) v))
 
 pub are_lexemes : (text : List ℕ) (tokens : List Token) → Tokens text tokens → list_all is_byte text ≡ true → list_all is_lexeme (lexemes text 0 tokens) ≡ true
-are_lexemes text tokens t b = all_seen text 0 tokens (tokens_of text tokens t) (read_valued text tokens t.fresh (length text) b t.reads)
+are_lexemes text tokens t b = all_seen text 0 tokens b (tokens_of text tokens t) (read_valued text tokens t.fresh (length text) b t.reads)
 
 -- the bytes of a slice
 fits_byte : (n : ℕ) → Fits w8 n → is_byte n ≡ true

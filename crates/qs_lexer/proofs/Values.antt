@@ -3,8 +3,7 @@ use Rattle.std.proofs.Common.{◌≡◌, ℕ, ◌-◌, ◌^◌, inl, inr, zero, 
 use Rattle.std.proofs.lemmas.Bool.Decides.{nat_tests}
 use Rattle.std.specs.List.{list_all, list_any}
 use Rattle.qs_lexer.specs.Bytes.{starts_with}
-use Rattle.qs_lexer.specs.Lexemes.{is_byte}
-use Rattle.qs_lexer.specs.Literals.{character_of, character_of_elements, character_with, element_length, elements_behind, elements_of, escape, first_element, hexadecimal_count, is_bad, is_wide, hexadecimal_escape, inside, octal_count, octal_escape, simple, simple_escape, simple_escapes, text_of, valued}
+use Rattle.qs_lexer.specs.Literals.{byte_values, character_of, character_of_elements, character_with, element_length, elements, elements_behind, elements_of, escape, first_element, hexadecimal_count, is_bad, is_wide, hexadecimal_escape, inside, octal_count, octal_escape, simple, simple_escape, simple_escapes, text_of, valued}
 use Rattle.qs_lexer.specs.Numbers.{are_digits, base_of, digits_of, has_suffix, number_of, number_without_suffix, typed, value_of, without_suffix}
 use Rattle.qs_lexer.specs.Pieces.{Next, class_of, piece_of, piece_without, token_or_fault}
 use Rattle.qs_lexer.specs.Tables.{look_up}
@@ -17,6 +16,7 @@ use Rattle.qs_lexer.specs.declared.literals.Element.TheVariants as item
 use Rattle.qs_lexer.specs.declared.pieces.Class.{Class}
 use Rattle.qs_lexer.specs.declared.pieces.Class.TheVariants.{End, Space, LineComment, BlockComment, LineMarker, Word, Number, Character, Text, Other}
 use Rattle.qs_lexer.specs.declared.pieces.Piece.TheVariants as pieces
+use Rattle.qs_syntax.specs.Units.{is_byte}
 use Rattle.qs_syntax.specs.declared.tokens.Keyword.{Keyword}
 use Rattle.qs_syntax.specs.declared.tokens.Mark.{Mark}
 use Rattle.qs_syntax.specs.declared.tokens.Token.{Token}
@@ -28,7 +28,7 @@ use Rattle.qs_lexer.proofs.Spelled.{IsPiece, is_piece, is_ok, absent_no_token}
 abbrev pub is_valued : TokenKind → Bool
 is_valued kinds.Name = true
 is_valued (kinds.Keyword keyword) = true
-is_valued (kinds.Number value unsigned) = unsigned || nat_lt value (2 ^ 31)
+is_valued (kinds.Number value unsigned) = nat_lt value (cond unsigned (2 ^ 32) (2 ^ 31))
 is_valued (kinds.Character value) = nat_lt value (2 ^ 31)
 is_valued kinds.Text = true
 is_valued (kinds.Mark mark) = true
@@ -39,9 +39,13 @@ GivesValued (Err fault) = Unit {0}
 
 -- ---- numbers
 
-or_second : (b c : Bool) → c ≡ true → (b || c) ≡ true
-or_second true c h = refl
-or_second false c h = h
+and_first : (b c : Bool) → (b && c) ≡ true → b ≡ true
+and_first true c h = refl
+and_first false c h = cc
+
+int_fits : (value : ℕ) (unsigned : Bool) → nat_lt value (2 ^ 31) ≡ true → nat_lt value (cond unsigned (2 ^ 32) (2 ^ 31)) ≡ true
+int_fits value true h = grind (arith, nat_tests)
+int_fits value false h = h
 
 valued_if : (b : Bool) (x y : Result TokenKind FaultKind) → (b ≡ true → GivesValued x) → GivesValued y → GivesValued (cond b x y)
 valued_if true x y p q = p refl
@@ -50,8 +54,8 @@ valued_if false x y p q = q
 typed_valued : (base : ℕ) (suffix : Bool) (value : ℕ) → GivesValued (typed base suffix value)
 typed_valued base suffix value =
     let wider : Result TokenKind FaultKind = cond (nat_lt value (2 ^ 32) && (suffix || not (base == 10))) (Ok (kinds.Number value true)) (Err faults.WideLiteral) in
-    valued_if (nat_lt value (2 ^ 31)) (Ok (kinds.Number value suffix)) wider (λ h. or_second suffix (nat_lt value (2 ^ 31)) h)
-    (valued_if (nat_lt value (2 ^ 32) && (suffix || not (base == 10))) (Ok (kinds.Number value true)) (Err faults.WideLiteral) (λ h. refl) tt)
+    valued_if (nat_lt value (2 ^ 31)) (Ok (kinds.Number value suffix)) wider (int_fits value suffix)
+    (valued_if (nat_lt value (2 ^ 32) && (suffix || not (base == 10))) (Ok (kinds.Number value true)) (Err faults.WideLiteral) (and_first (nat_lt value (2 ^ 32)) (suffix || not (base == 10))) tt)
 
 without_valued : (literal : List ℕ) (suffix : Bool) → GivesValued (number_without_suffix literal suffix)
 without_valued literal suffix =
@@ -137,6 +141,25 @@ bytes_drop (suc n) (byte ∷ bytes) h = bytes_drop n bytes (both (is_byte byte) 
 
 character_valued : (literal : List ℕ) → list_all is_byte literal ≡ true → GivesValued (character_of literal)
 character_valued literal h = body_valued (inside literal) (bytes_drop 1 (take (length literal - 1) literal) (bytes_take (length literal - 1) literal h))
+
+-- ---- texts: their elements are bytes
+
+elements_low : (taken : ℕ) (bytes : List ℕ) → list_all is_byte bytes ≡ true → list_all is_low (elements_behind taken bytes) ≡ true
+elements_low taken [] h = refl
+elements_low zero (byte ∷ bytes) h =
+    rw (first_low (byte ∷ bytes) h) (elements_low (element_length (byte ∷ bytes) - 1) bytes (both (is_byte byte) (list_all is_byte bytes) h).1)
+elements_low (suc taken) (byte ∷ bytes) h = elements_low taken bytes (both (is_byte byte) (list_all is_byte bytes) h).1
+
+values_low : (list : List Element) → list_all is_low list ≡ true → list_all is_byte (byte_values list) ≡ true
+values_low [] h = refl
+values_low (item.Byte value ∷ others) h =
+    let b : (is_byte value ≡ true) × (list_all is_low others ≡ true) = both (is_byte value) (list_all is_low others) h in
+    rw (b.0) (values_low others b.1)
+values_low (item.Wide ∷ others) h = values_low others h
+values_low (item.Bad ∷ others) h = values_low others h
+
+pub text_low : (literal : List ℕ) → list_all is_byte literal ≡ true → list_all is_byte (elements literal) ≡ true
+text_low literal h = values_low (elements_of literal) (elements_low 0 (inside literal) (bytes_drop 1 (take (length literal - 1) literal) (bytes_take (length literal - 1) literal h)))
 
 -- ---- the other classes
 

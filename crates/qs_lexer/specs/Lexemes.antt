@@ -1,5 +1,5 @@
 -- The tokens of a text as the grammar sees them.
-use Rattle.std.specs.Prelude.{ℕ, ◌+◌, Bool, false, List, [], ◌∷◌, nat_lt}
+use Rattle.std.specs.Prelude.{ℕ, ◌+◌, false, List, [], ◌∷◌}
 use Rattle.qs_lexer.specs.Laws.{spelling}
 use Rattle.qs_lexer.specs.Literals.{elements}
 use Rattle.qs_syntax.specs.declared.lexeme.Lexeme.{Lexeme}
@@ -24,7 +24,3 @@ lexeme text at token = lexeme_of at (spelling text token) token.kind
 abbrev pub lexemes : List ℕ → ℕ → List Token → List Lexeme
 lexemes text at [] = []
 lexemes text at (token ∷ tokens) = lexeme text at token ∷ lexemes text (at + 1) tokens
-
--- a byte is below 256
-abbrev pub is_byte : ℕ → Bool
-is_byte value = nat_lt value 256

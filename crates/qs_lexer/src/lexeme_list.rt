@@ -1,10 +1,10 @@
 // The tokens of a text as the grammar sees them.
 ghost use Rattle.std.specs.Prelude.{◌≡◌, ◌≤◌, true, ℕ, List, IfOk, length};
 ghost use Rattle.std.specs.List.{list_all};
-ghost use Rattle.qs_lexer.specs.Lexemes.{is_byte, lexeme, lexeme_of, lexemes};
+ghost use Rattle.qs_lexer.specs.Lexemes.{lexeme, lexeme_of, lexemes};
 ghost use Rattle.qs_lexer.specs.Literals.{elements};
 ghost use Rattle.qs_lexer.specs.Tokens.{Tokens};
-ghost use Rattle.qs_syntax.specs.Units.{is_lexeme};
+ghost use Rattle.qs_syntax.specs.Units.{is_byte, is_lexeme};
 ghost use Rattle.qs_syntax.specs.declared.tokens.Token.{Token};
 
 use crate::literals::text_bytes;
@@ -59,8 +59,8 @@ pub fn lexemes(alloc: Global, text: &[u8], tokens: &[Token]) -> Result<Vec<Lexem
     Ok(list)
 }
 
-/// There are as many lexemes as tokens, and no more than bytes; each name is none of the keywords, and
-/// each constant is a value of its type.
+/// There are as many lexemes as tokens, and no more than bytes; each name is none of the keywords, each
+/// constant is a value of its type, and each text consists of bytes.
 pub fn each_lexeme()
     ensures as_many { (text : List ℕ) (at : ℕ) (tokens : List Token) → length (lexemes text at tokens) ≡ length tokens }
     ensures at_most { (text : List ℕ) (tokens : List Token) → Tokens text tokens → length tokens ≤ length text }

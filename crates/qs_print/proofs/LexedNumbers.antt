@@ -1,15 +1,15 @@
 -- A constant in decimal with a gap behind it.
-use Rattle.std.proofs.Common.{◌≡◌, ℕ, ◌+◌, ◌-◌, ◌*◌, ◌/◌, ◌%◌, ◌^◌, ◌<◌, ◌≤◌, zero, suc, Bool, true, false, cond, not, ◌&&◌, ◌||◌, List, [], ◌∷◌, ◌++◌, Result, Ok, Err, length, take, get_or, slice_index, refl, ap, sym, ◌∙◌, arith, nat_lt, ◌==◌}
+use Rattle.std.proofs.Common.{◌≡◌, ℕ, ◌+◌, ◌-◌, ◌*◌, ◌/◌, ◌%◌, ◌^◌, ◌<◌, ◌≤◌, zero, suc, Bool, true, false, cond, ◌&&◌, ◌||◌, List, [], ◌∷◌, ◌++◌, Result, Ok, Err, length, take, get_or, slice_index, refl, ap, sym, ◌∙◌, arith, nat_lt, ◌==◌}
 use Rattle.std.proofs.Math.Seq.{take-append_seam, get_or-append_seam}
 use Rattle.std.proofs.lemmas.List.{append-nil, append_assoc, length-append}
 use Rattle.std.proofs.lemmas.Fmt.{decimal_by_steps, first_decimal}
 use Rattle.std.proofs.lemmas.Bool.Decides.{nat_tests}
 use Rattle.std.specs.Fmt.{decimal}
-use Rattle.std.specs.List.{list_all, prefix_len}
-use Rattle.qs_base.specs.Names.{is_digit, is_letter, is_word_byte}
+use Rattle.std.specs.List.{list_all}
+use Rattle.qs_base.specs.Names.{is_digit, is_letter}
 use Rattle.qs_lexer.specs.Bytes.{is_number_byte, is_space, starts, starts_with}
 use Rattle.qs_lexer.specs.Numbers.{are_digits, base_of, digit_value, digits_of, has_suffix, is_hexadecimal, number_of, number_without_suffix, typed, value_from, value_of, without_suffix}
-use Rattle.qs_lexer.specs.Pieces.{Next, class_of, class_with, token_or_fault}
+use Rattle.qs_lexer.specs.Pieces.{Next, class_of, token_or_fault}
 use Rattle.qs_lexer.specs.declared.fault.FaultKind.{FaultKind}
 use Rattle.qs_lexer.specs.declared.fault.FaultKind.TheVariants as faults
 use Rattle.qs_lexer.specs.declared.pieces.Class.TheVariants.{Space, LineComment, BlockComment, LineMarker, Word, Number}
@@ -112,26 +112,32 @@ all_below base (x ∷ xs) h l =
     let b : (is_digit x ≡ true) × (list_all is_digit xs ≡ true) = both (is_digit x) (list_all is_digit xs) h in
     and_true (nat_lt (digit_value x) base) (are_digits base xs) (digit_below base x b.0 l) (all_below base xs b.1 l)
 
+when_true : (b : Bool) (x y : Result TokenKind FaultKind) → b ≡ true → cond b x y ≡ x
+when_true true x y h = refl
+when_true false x y h = cc
+
 -- the type and the value of a decimal number
-typed_back : (n : ℕ) (unsigned : Bool) → n < 2 ^ 32 → (unsigned || nat_lt n (2 ^ 31)) ≡ true → typed 10 unsigned n ≡ Ok (kinds.Number n unsigned)
-typed_back n unsigned h k = by unsigned (nat_lt n (2 ^ 31)) (nat_lt n (2 ^ 32)) (grind (arith, nat_tests)) k
+abbrev is_value : ℕ → Bool → Bool
+is_value n unsigned = nat_lt n (cond unsigned (2 ^ 32) (2 ^ 31))
+
+typed_back : (n : ℕ) (unsigned : Bool) → is_value n unsigned ≡ true → typed 10 unsigned n ≡ Ok (kinds.Number n unsigned)
+typed_back n true h = by (nat_lt n (2 ^ 31)) (nat_lt n (2 ^ 32)) h
   where
-    by : (u low fit : Bool) → fit ≡ true → (u || low) ≡ true → cond low (Ok (kinds.Number n u)) (cond (fit && (u || not (10 == 10))) (Ok (kinds.Number n true)) (Err faults.WideLiteral)) ≡ Ok (kinds.Number n u)
-    by true true fit e h = refl
-    by true false fit e h = rw e refl
-    by false true fit e h = refl
-    by false false fit e h = cc
+    by : (low fit : Bool) → fit ≡ true → cond low (Ok (kinds.Number n true)) (cond (fit && true) (Ok (kinds.Number n true)) (Err faults.WideLiteral)) ≡ Ok (kinds.Number n true)
+    by true fit e = refl
+    by false fit e = rw e refl
+typed_back n false h = when_true (nat_lt n (2 ^ 31)) (Ok (kinds.Number n false)) (cond (nat_lt n (2 ^ 32) && false) (Ok (kinds.Number n true)) (Err faults.WideLiteral)) h
+
+pub value_low : (n : ℕ) (unsigned : Bool) → is_value n unsigned ≡ true → n < 2 ^ 32
+value_low n true h = grind (arith, nat_tests)
+value_low n false h = grind (arith, nat_tests)
 
 -- what these digits are in this base
 abbrev judged : ℕ → List ℕ → Bool → Result TokenKind FaultKind
 judged base ds unsigned = cond (nat_lt 0 (length ds) && are_digits base ds) (typed base unsigned (value_of base ds)) (Err faults.BadLiteral)
 
-when_true : (b : Bool) (x y : Result TokenKind FaultKind) → b ≡ true → cond b x y ≡ x
-when_true true x y h = refl
-when_true false x y h = cc
-
-plain_number : (n : ℕ) (ds : List ℕ) (unsigned : Bool) → Digits n ds → starts_with 48 ds ≡ false → n < 2 ^ 32 → (unsigned || nat_lt n (2 ^ 31)) ≡ true → number_without_suffix ds unsigned ≡ Ok (kinds.Number n unsigned)
-plain_number n ds unsigned d nonzero h k =
+plain_number : (n : ℕ) (ds : List ℕ) (unsigned : Bool) → Digits n ds → starts_with 48 ds ≡ false → is_value n unsigned ≡ true → number_without_suffix ds unsigned ≡ Ok (kinds.Number n unsigned)
+plain_number n ds unsigned d nonzero h =
     let x : is_hexadecimal ds ≡ false = no_hexadecimal ds d.all in
     let base : base_of ds ≡ 10 = rw (x, nonzero) refl in
     let digits : digits_of ds ≡ ds = rw x refl in
@@ -139,7 +145,7 @@ plain_number n ds unsigned d nonzero h k =
     let good : (nat_lt 0 (length ds) && are_digits 10 ds) ≡ true = and_true (nat_lt 0 (length ds)) (are_digits 10 ds) some (all_below 10 ds d.all (omega arith)) in
     ap (λ b. judged b (digits_of ds) unsigned) base ∙ ap (λ xs. judged 10 xs unsigned) digits
     ∙ when_true (nat_lt 0 (length ds) && are_digits 10 ds) (typed 10 unsigned (value_of 10 ds)) (Err faults.BadLiteral) good
-    ∙ ap (typed 10 unsigned) d.value ∙ typed_back n unsigned h k
+    ∙ ap (typed 10 unsigned) d.value ∙ typed_back n unsigned h
 
 zero_number : (ds : List ℕ) (unsigned : Bool) → ds ≡ 48 ∷ [] → number_without_suffix ds unsigned ≡ Ok (kinds.Number 0 unsigned)
 zero_number ds unsigned h = ap (λ xs. number_without_suffix xs unsigned) h
@@ -148,10 +154,11 @@ no_zero_first : (ds : List ℕ) → 48 < get_or ds 0 0 → starts_with 48 ds ≡
 no_zero_first [] h = refl
 no_zero_first (x ∷ xs) h = grind (arith, nat_tests)
 
-number_back : (n : ℕ) (unsigned : Bool) → n < 2 ^ 32 → (unsigned || nat_lt n (2 ^ 31)) ≡ true → number_without_suffix (decimal n) unsigned ≡ Ok (kinds.Number n unsigned)
-number_back zero unsigned h k = zero_number (decimal 0) unsigned ((digits_of_number 0 (omega arith)).zeros refl)
-number_back (suc m) unsigned h k =
-    plain_number (suc m) (decimal (suc m)) unsigned (digits_of_number (suc m) (omega arith)) (no_zero_first (decimal (suc m)) (first_decimal (suc m) (omega arith) (omega arith))) h k
+number_back : (n : ℕ) (unsigned : Bool) → is_value n unsigned ≡ true → number_without_suffix (decimal n) unsigned ≡ Ok (kinds.Number n unsigned)
+number_back zero unsigned h = zero_number (decimal 0) unsigned ((digits_of_number 0 (omega arith)).zeros refl)
+number_back (suc m) unsigned h =
+    let l : suc m < 2 ^ 32 = value_low (suc m) unsigned h in
+    plain_number (suc m) (decimal (suc m)) unsigned (digits_of_number (suc m) (omega arith)) (no_zero_first (decimal (suc m)) (first_decimal (suc m) (omega arith) (omega arith))) h
 
 -- ---- with its suffix
 
@@ -215,13 +222,14 @@ literal_next : (fresh : Bool) (literal : List ℕ) (kind : TokenKind) (gap : ℕ
 literal_next fresh literal kind gap rest s b e g =
     let taken : take (length literal) (literal ++ gap ∷ rest) ≡ literal = take-append_seam literal (gap ∷ rest) in
     let is : pieces.Token (length literal) kind ≡ token_or_fault (length literal) (number_of (take (length literal) (literal ++ gap ∷ rest))) =
-        sym (ap (token_or_fault (length literal)) (ap number_of taken ∙ e)) in
+    sym (ap (token_or_fault (length literal)) (ap number_of taken ∙ e)) in
     next_is fresh (literal ++ gap ∷ rest) Number (class_of fresh (literal ++ gap ∷ rest)) (pieces.Token (length literal) kind) refl (number_class fresh (literal ++ gap ∷ rest) s)
     (number_stands fresh (literal ++ gap ∷ rest) (length literal) (pieces.Token (length literal) kind) s (sym (prefix_word is_number_byte literal gap rest b (gap_no_number gap g))) is)
 
-pub constant_next : (fresh : Bool) (n : ℕ) (unsigned : Bool) (gap : ℕ) (rest : List ℕ) → n < 2 ^ 32 → (unsigned || nat_lt n (2 ^ 31)) ≡ true → is_gap gap ≡ true
+pub constant_next : (fresh : Bool) (n : ℕ) (unsigned : Bool) (gap : ℕ) (rest : List ℕ) → is_value n unsigned ≡ true → is_gap gap ≡ true
     → Next fresh ((decimal n ++ suffix unsigned) ++ gap ∷ rest) (pieces.Token (length (decimal n ++ suffix unsigned)) (kinds.Number n unsigned))
-constant_next fresh n unsigned gap rest h k g =
+constant_next fresh n unsigned gap rest h g =
+    let l : n < 2 ^ 32 = value_low n unsigned h in
     let d : Digits n (decimal n) = digits_of_number n (omega arith) in
     let s : starts is_digit ((decimal n ++ suffix unsigned) ++ gap ∷ rest) ≡ true = ap (starts is_digit) (append_assoc (decimal n) (suffix unsigned) (gap ∷ rest)) ∙ number_starts (decimal n) (suffix unsigned ++ gap ∷ rest) d.some d.all in
-    literal_next fresh (decimal n ++ suffix unsigned) (kinds.Number n unsigned) gap rest s (literal_bytes (decimal n) unsigned d.all) (suffixed n (decimal n) unsigned d ∙ number_back n unsigned h k) g
+    literal_next fresh (decimal n ++ suffix unsigned) (kinds.Number n unsigned) gap rest s (literal_bytes (decimal n) unsigned d.all) (suffixed n (decimal n) unsigned d ∙ number_back n unsigned h) g

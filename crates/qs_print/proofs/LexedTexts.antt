@@ -1,27 +1,25 @@
 -- A text as one literal, each of its bytes in octal, with a gap behind it.
-use Rattle.std.proofs.Common.{◌≡◌, ℕ, ◌+◌, ◌-◌, ◌*◌, ◌/◌, ◌%◌, ◌^◌, ◌<◌, ◌≤◌, zero, suc, Bool, true, false, cond, not, ◌&&◌, ◌||◌, List, [], ◌∷◌, ◌++◌, Option, Some, None, Result, Ok, Err, length, take, drop, refl, ap, sym, ◌∙◌, arith, nat_lt, ◌==◌, flat_map}
+use Rattle.std.proofs.Common.{◌≡◌, ℕ, ◌+◌, ◌-◌, ◌*◌, ◌/◌, ◌%◌, ◌<◌, suc, Bool, true, false, cond, List, [], ◌∷◌, ◌++◌, Some, Ok, length, take, drop, refl, ap, sym, ◌∙◌, arith, nat_lt, ◌==◌, flat_map}
 use Rattle.std.proofs.Math.Seq.{take-append_seam}
-use Rattle.std.proofs.lemmas.List.{append-nil, append_assoc, length-append}
+use Rattle.std.proofs.lemmas.List.{append_assoc, length-append}
 use Rattle.std.proofs.lemmas.List.Concat.{flat_map-cons}
 use Rattle.std.proofs.lemmas.Bool.Decides.{nat_tests}
-use Rattle.std.specs.List.{list_all, list_any, prefix_len}
-use Rattle.qs_lexer.specs.Bytes.{starts_with}
-use Rattle.qs_lexer.specs.Ends.{Turn, Goes, Ends, Fails, end_of, later, quote_turn}
-use Rattle.qs_lexer.specs.Lexemes.{is_byte}
-use Rattle.qs_lexer.specs.Literals.{byte_values, element_length, elements, elements_behind, elements_of, escape, escape_length, first_element, inside, is_bad, is_wide, octal_count, octal_escape, text_of, text_with, valued}
+use Rattle.std.specs.List.{list_all, list_any}
+use Rattle.qs_lexer.specs.Ends.{Goes, Ends, Fails, end_of, quote_turn}
+use Rattle.qs_lexer.specs.Literals.{byte_values, element_length, elements, elements_behind, elements_of, first_element, inside, is_bad, is_wide, octal_count, octal_escape, text_of, text_with, valued}
 use Rattle.qs_lexer.specs.Numbers.{digit_value, value_of}
 use Rattle.qs_lexer.specs.Pieces.{Next, class_of, token_or_fault}
-use Rattle.qs_lexer.specs.declared.fault.FaultKind.TheVariants as faults
 use Rattle.qs_lexer.specs.declared.literals.Element.{Element}
 use Rattle.qs_lexer.specs.declared.literals.Element.TheVariants as item
 use Rattle.qs_lexer.specs.declared.pieces.Class.TheVariants.{Text}
 use Rattle.qs_lexer.specs.declared.pieces.Piece.TheVariants as pieces
+use Rattle.qs_syntax.specs.Units.{is_byte}
 use Rattle.qs_syntax.specs.declared.tokens.TokenKind.TheVariants as kinds
 use Rattle.qs_lexer.proofs.Begins.{next_is}
 use Rattle.qs_lexer.proofs.Elements.{first_and_others}
 use Rattle.qs_lexer.proofs.Formed.{text_ends}
 use Rattle.qs_print.specs.Spelling.{octal}
-use Rattle.qs_print.proofs.LexedWords.{both, is_gap}
+use Rattle.qs_print.proofs.LexedWords.{both}
 
 -- ---- the bytes of a text in octal
 
@@ -186,9 +184,9 @@ text_next fresh bytes gap rest h =
     let l : length (octals bytes ++ 34 ∷ []) ≡ length (octals bytes) + 1 = length-append (octals bytes) (34 ∷ []) in
     let n : length (octals bytes) + 1 + 1 ≡ length (quoted bytes) = omega arith in
     let ends : end_of (quote_turn 34) false (drop 1 whole) ≡ Some (length (octals bytes) + 1) =
-        ap (end_of (quote_turn 34) false) (append_assoc (octals bytes) (34 ∷ []) (gap ∷ rest)) ∙ end_octals bytes (gap ∷ rest) h in
+    ap (end_of (quote_turn 34) false) (append_assoc (octals bytes) (34 ∷ []) (gap ∷ rest)) ∙ end_octals bytes (gap ∷ rest) h in
     let taken : take (length (octals bytes) + 1 + 1) whole ≡ quoted bytes = ap (λ k. take k whole) n ∙ take-append_seam (quoted bytes) (gap ∷ rest) in
     let is : pieces.Token (length (quoted bytes)) kinds.Text ≡ token_or_fault (length (octals bytes) + 1 + 1) (text_of (take (length (octals bytes) + 1 + 1) whole)) =
-        sym (ap (λ xs. token_or_fault (length (octals bytes) + 1 + 1) (text_of xs)) taken ∙ ap (token_or_fault (length (octals bytes) + 1 + 1)) (text_kind bytes h) ∙ ap (λ k. pieces.Token k kinds.Text) n) in
+    sym (ap (λ xs. token_or_fault (length (octals bytes) + 1 + 1) (text_of xs)) taken ∙ ap (token_or_fault (length (octals bytes) + 1 + 1)) (text_kind bytes h) ∙ ap (λ k. pieces.Token k kinds.Text) n) in
     next_is fresh whole Text (class_of fresh whole) (pieces.Token (length (quoted bytes)) kinds.Text) refl (text_class fresh (octals bytes ++ 34 ∷ [] ++ gap ∷ rest))
     (text_ends fresh whole (length (octals bytes) + 1) (pieces.Token (length (quoted bytes)) kinds.Text) refl ends is)

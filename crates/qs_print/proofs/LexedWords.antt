@@ -1,14 +1,14 @@
 -- A word with a gap behind it: the longest front of its class, and no other class begins so.
-use Rattle.std.proofs.Common.{◌≡◌, ℕ, ◌+◌, ◌<◌, ◌≤◌, zero, suc, Bool, true, false, cond, not, ◌&&◌, ◌||◌, List, [], ◌∷◌, ◌++◌, Option, Some, None, is_some, Result, Ok, Err, length, take, refl, ap, sym, ◌∙◌, arith, ◌==◌}
+use Rattle.std.proofs.Common.{◌≡◌, ℕ, ◌<◌, Bool, true, false, cond, not, ◌&&◌, ◌||◌, List, [], ◌∷◌, ◌++◌, Option, Some, None, is_some, Ok, length, take, refl, ap, sym, ◌∙◌, arith, ◌==◌}
 use Rattle.std.proofs.Math.Seq.{take-append_seam}
 use Rattle.std.proofs.lemmas.Bool.Decides.{nat_tests}
 use Rattle.std.specs.List.{list_all, prefix_len}
-use Rattle.qs_base.specs.Names.{is_digit, is_keyword, is_letter, is_name, is_word, is_word_byte}
+use Rattle.qs_base.specs.Names.{is_keyword, is_letter, is_name, is_word, is_word_byte}
 use Rattle.qs_lexer.specs.Bytes.{is_space, starts, starts_with}
 use Rattle.qs_lexer.specs.Pieces.{Next, class_of, class_with, token_or_fault}
 use Rattle.qs_lexer.specs.Words.{keyword_of, word_of, word_with}
 use Rattle.qs_lexer.specs.declared.pieces.Class.{Class}
-use Rattle.qs_lexer.specs.declared.pieces.Class.TheVariants.{Space, LineComment, BlockComment, LineMarker, Word, Number, Character, Text, Other}
+use Rattle.qs_lexer.specs.declared.pieces.Class.TheVariants.{Space, LineComment, BlockComment, LineMarker, Word}
 use Rattle.qs_lexer.specs.declared.pieces.Piece.TheVariants as pieces
 use Rattle.qs_syntax.specs.declared.tokens.Keyword.{Keyword}
 use Rattle.qs_syntax.specs.declared.tokens.Keyword.TheVariants as keywords
@@ -95,7 +95,7 @@ pub word_next : (fresh : Bool) (word : List ℕ) (kind : TokenKind) (gap : ℕ) 
 word_next fresh word kind gap rest w e g =
     let taken : take (length word) (word ++ gap ∷ rest) ≡ word = take-append_seam word (gap ∷ rest) in
     let is : pieces.Token (length word) kind ≡ token_or_fault (length word) (word_of (take (length word) (word ++ gap ∷ rest))) =
-        sym (ap (token_or_fault (length word)) (ap word_of taken ∙ e)) in
+    sym (ap (token_or_fault (length word)) (ap word_of taken ∙ e)) in
     next_is fresh (word ++ gap ∷ rest) Word (class_of fresh (word ++ gap ∷ rest)) (pieces.Token (length word) kind) refl (word_class fresh word (gap ∷ rest) w)
     (word_stands fresh (word ++ gap ∷ rest) (length word) (pieces.Token (length word) kind) (word_starts word (gap ∷ rest) w)
     (sym (prefix_word is_word_byte word gap rest (word_bytes word w) (gap_no_word gap g))) is)

@@ -3,3 +3,4 @@ pub mod LexedMarks
 pub mod LexedNumbers
 pub mod LexedTexts
 pub mod LexedJoined
+pub mod LexedExamples

@@ -1,20 +1,11 @@
 -- The lexemes of a text that lexemes are printed as.
-use Rattle.std.specs.Prelude.{◌≡◌, ℕ, ◌+◌, ◌^◌, nat_lt, Bool, true, List, [], ◌∷◌}
-use Rattle.std.specs.List.{list_all}
-use Rattle.qs_lexer.specs.Lexemes.{is_byte, lexemes}
+use Rattle.std.specs.Prelude.{◌≡◌, ℕ, ◌+◌, List, [], ◌∷◌}
+use Rattle.qs_lexer.specs.Lexemes.{lexemes}
 use Rattle.qs_lexer.specs.Tokens.{Tokens}
 use Rattle.qs_print.specs.Spelling.{joined}
 use Rattle.qs_syntax.specs.declared.lexeme.Lexeme.{Lexeme}
 use Rattle.qs_syntax.specs.declared.lexeme.Lexeme.TheVariants.{Name, Keyword, Constant, Text, Mark}
 use Rattle.qs_syntax.specs.declared.tokens.Token.{Token}
-
--- a constant has at most 32 bits, and a text consists of bytes
-abbrev pub fits : Lexeme → Bool
-fits (Name at x) = true
-fits (Keyword at keyword) = true
-fits (Constant at value unsigned) = nat_lt value (2 ^ 32)
-fits (Text at bytes) = list_all is_byte bytes
-fits (Mark at mark) = true
 
 -- the same token under this number
 abbrev pub numbered : ℕ → Lexeme → Lexeme

@@ -1,5 +1,5 @@
 -- What a unit is: trees that some tokens are read as, with their nodes numbered.
-use Rattle.std.specs.Prelude.{◌≡◌, ℕ, ◌≤◌, ◌^◌, nat_lt, Bool, true, ◌||◌, List}
+use Rattle.std.specs.Prelude.{◌≡◌, ℕ, ◌≤◌, ◌^◌, nat_lt, Bool, true, if◌then◌else◌, List}
 use Rattle.std.specs.List.{list_all}
 use Rattle.qs_base.specs.Names.{is_name}
 use Rattle.qs_syntax.specs.declared.lexeme.Lexeme.{Lexeme}
@@ -12,12 +12,15 @@ use Rattle.qs_syntax.specs.Numbering.{numbered_unit}
 abbrev pub height_limit : ℕ
 height_limit = 128
 
--- a name is none of the keywords (6.4.2.1), and a constant is a value of its type (6.4.4.1)
+abbrev pub is_byte : ℕ → Bool
+is_byte value = nat_lt value 256
+
+-- a name is none of the keywords (6.4.2.1), a constant is a value of its type (6.4.4.1), and a text consists of bytes (6.4.5)
 abbrev pub is_lexeme : Lexeme → Bool
 is_lexeme (Name at x) = is_name x
 is_lexeme (Keyword at k) = true
-is_lexeme (Constant at n unsigned) = unsigned || nat_lt n (2 ^ 31)
-is_lexeme (Text at bytes) = true
+is_lexeme (Constant at n unsigned) = nat_lt n (if unsigned then 2 ^ 32 else 2 ^ 31)
+is_lexeme (Text at bytes) = list_all is_byte bytes
 is_lexeme (Mark at m) = true
 
 -- these trees, numbered, are the reading of some tokens, which is not too high

@@ -1,5 +1,5 @@
 -- Numbering keeps the count of the nodes, and what is numbered again is as if it were numbered once.
-use Rattle.std.proofs.Common.{◌≡◌, ℕ, ◌+◌, List, [], ◌∷◌, Option, Some, None, refl, ap, sym, ◌∙◌, arith}
+use Rattle.std.proofs.Common.{◌≡◌, ℕ, ◌+◌, List, [], ◌∷◌, Option, Some, None, refl, ap}
 use Rattle.qs_syntax.specs.Trees.{ExprTree, expr, ShapeTree, int, text, name, unary, step, cast, size_type, size_expr, binary, assign, choice, comma, index, member, call, Exprs, no_exprs, expr_and, LengthsTree, DeclaratorTree, InitialiserTree, value, list, Initialisers, no_initialisers, initialiser_and, VariableTree, DeclarationTree, ParameterTree, MembersTree, StartTree, no_start, start_expression, start_declaration, StmtTree, empty, expression, declaration, block, branch, while_loop, do_loop, for_loop, break, continue, return, Stmts, no_stmts, stmt_and, Else, no_else, else_by, StructTree, FunctionTree, DeclTree, structure, forward, function, variables}
 use Rattle.qs_syntax.specs.Numbering.{all_nodes, all_numbered, option_nodes, option_numbered, expr_nodes, shape_nodes, exprs_nodes, numbered_expr, numbered_shape, numbered_exprs, lengths_nodes, numbered_lengths, declarator_nodes, numbered_declarator, initialiser_nodes, initialisers_nodes, numbered_initialiser, numbered_initialisers, variable_nodes, numbered_variable, declaration_nodes, numbered_declaration, parameter_nodes, numbered_parameter, members_nodes, numbered_members, start_nodes, numbered_start, stmt_nodes, stmts_nodes, else_nodes, numbered_stmt, numbered_stmts, numbered_else, struct_nodes, numbered_struct, function_nodes, numbered_function, decl_nodes, numbered_decl, unit_nodes, numbered_unit}
 

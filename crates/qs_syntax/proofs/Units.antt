@@ -1,5 +1,5 @@
 -- What is read stays read where it is numbered again.
-use Rattle.std.proofs.Common.{◌≡◌, List, sym, ap, ◌∙◌}
+use Rattle.std.proofs.Common.{List, ap, ◌∙◌}
 use Rattle.std.proofs.Math.Logic.{∥∥₁_elim}
 use Rattle.qs_syntax.specs.Trees.{DeclTree}
 use Rattle.qs_syntax.specs.Numbering.{numbered_unit}

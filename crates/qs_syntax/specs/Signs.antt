@@ -1,13 +1,11 @@
 -- Which marks are which signs, and how weakly they bind (C11 6.5.2 to 6.5.16).
-use Rattle.std.specs.Prelude.{ℕ, Option, Some, None}
+use Rattle.std.specs.Prelude.{ℕ}
 use Rattle.qs_syntax.specs.declared.lexeme.Lexeme.{Lexeme}
 use Rattle.qs_syntax.specs.declared.lexeme.Lexeme.TheVariants as lexemes
 use Rattle.qs_syntax.specs.declared.tokens.Mark.{Mark}
 use Rattle.qs_syntax.specs.declared.tokens.Mark.TheVariants as marks
 use Rattle.qs_syntax.specs.declared.tree.UnarySign.{UnarySign}
 use Rattle.qs_syntax.specs.declared.tree.UnarySign.TheVariants as unaries
-use Rattle.qs_syntax.specs.declared.tree.StepSign.{StepSign}
-use Rattle.qs_syntax.specs.declared.tree.StepSign.TheVariants as steps
 use Rattle.qs_syntax.specs.declared.tree.BinarySign.{BinarySign}
 use Rattle.qs_syntax.specs.declared.tree.BinarySign.TheVariants as binaries
 use Rattle.qs_syntax.specs.declared.tree.AssignSign.{AssignSign}

@@ -1,7 +1,7 @@
 -- The trees that the program's values stand for.
-use Rattle.std.specs.Prelude.{ℕ, List, [], ◌∷◌, Option, Some, None, map, option_map, Box}
+use Rattle.std.specs.Prelude.{List, Option, Some, None, map, option_map, Box}
 use Rattle.std.specs.declared.alloc.Global.{Global}
-use Rattle.qs_syntax.specs.Trees.{ExprTree, expr, ShapeTree, int, text, name, unary, step, cast, size_type, size_expr, binary, assign, choice, comma, index, member, call, Exprs, exprs_of, LengthsTree, DeclaratorTree, InitialiserTree, value, list, Initialisers, initialisers_of, VariableTree, DeclarationTree, ParameterTree, MembersTree, StartTree, no_start, start_expression, start_declaration, StmtTree, empty, expression, declaration, block, branch, while_loop, do_loop, for_loop, break, continue, return, Stmts, stmts_of, Else, else_of, StructTree, ForwardTree, FunctionTree, DeclTree, structure, forward, function, variables, UnitTree}
+use Rattle.qs_syntax.specs.Trees.{ExprTree, expr, ShapeTree, int, text, name, unary, step, cast, size_type, size_expr, binary, assign, choice, comma, index, member, call, Exprs, exprs_of, LengthsTree, DeclaratorTree, InitialiserTree, value, list, Initialisers, initialisers_of, VariableTree, DeclarationTree, ParameterTree, MembersTree, StartTree, no_start, start_expression, start_declaration, StmtTree, empty, expression, declaration, block, branch, while_loop, do_loop, for_loop, break, continue, return, Stmts, stmts_of, Else, else_of, StructTree, ForwardTree, FunctionTree, DeclTree, structure, forward, function, variables}
 use Rattle.qs_syntax.specs.declared.tree.Expr.{Expr, Expr-F, fold-Expr}
 use Rattle.qs_syntax.specs.declared.tree.Shape.{Shape, Shape-F, fold-Shape}
 use Rattle.qs_syntax.specs.declared.tree.Lengths.{Lengths}

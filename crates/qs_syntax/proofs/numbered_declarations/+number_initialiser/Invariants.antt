@@ -1,4 +1,4 @@
-use Rattle.std.proofs.Common.{◌≡◌, ◌+◌, ◌++◌, map, take, drop}
+use Rattle.std.proofs.Common.{◌≡◌, ◌+◌, ◌++◌, map, drop}
 use Rattle.qs_syntax.specs.TreeOf.{initialiser_tree, initialisers_tree}
 use Rattle.qs_syntax.specs.Numbering.{initialiser_nodes, initialisers_nodes, numbered_initialiser, all_numbered}
 use Rattle.qs_syntax.proofs.numbered_declarations.+number_initialiser.Given as goal

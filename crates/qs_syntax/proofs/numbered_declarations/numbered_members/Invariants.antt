@@ -1,4 +1,4 @@
-use Rattle.std.proofs.Common.{◌≡◌, ◌+◌, ◌++◌, map, take, drop}
+use Rattle.std.proofs.Common.{◌≡◌, ◌+◌, ◌++◌, map, drop}
 use Rattle.qs_syntax.specs.TreeOf.{declarator_tree}
 use Rattle.qs_syntax.specs.Numbering.{declarator_nodes, numbered_declarator, all_nodes, all_numbered}
 use Rattle.qs_syntax.proofs.numbered_declarations.numbered_members.Given as goal

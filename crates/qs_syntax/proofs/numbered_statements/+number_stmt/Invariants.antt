@@ -1,4 +1,4 @@
-use Rattle.std.proofs.Common.{◌≡◌, ◌+◌, ◌++◌, map, take, drop}
+use Rattle.std.proofs.Common.{◌≡◌, ◌+◌, ◌++◌, map, drop}
 use Rattle.qs_syntax.specs.TreeOf.{stmt_tree, stmts_tree}
 use Rattle.qs_syntax.specs.Numbering.{stmt_nodes, stmts_nodes, numbered_stmt, all_numbered}
 use Rattle.qs_syntax.proofs.numbered_statements.+number_stmt.Given as goal

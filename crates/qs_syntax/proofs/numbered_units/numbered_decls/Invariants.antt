@@ -1,4 +1,4 @@
-use Rattle.std.proofs.Common.{◌≡◌, ◌+◌, ◌++◌, map, take, drop}
+use Rattle.std.proofs.Common.{◌≡◌, ◌+◌, ◌++◌, map, drop}
 use Rattle.qs_syntax.specs.TreeOf.{decl_tree}
 use Rattle.qs_syntax.specs.Numbering.{decl_nodes, numbered_decl, all_nodes, all_numbered}
 use Rattle.qs_syntax.proofs.numbered_units.numbered_decls.Given as goal

@@ -1,4 +1,4 @@
-use Rattle.std.proofs.Common.{◌≡◌, ◌+◌, ◌++◌, map, take, drop}
+use Rattle.std.proofs.Common.{◌≡◌, ◌+◌, ◌++◌, map, drop}
 use Rattle.qs_syntax.specs.TreeOf.{parameter_tree}
 use Rattle.qs_syntax.specs.Numbering.{parameter_nodes, numbered_parameter, all_nodes, all_numbered}
 use Rattle.qs_syntax.proofs.numbered_units.numbered_parameters.Given as goal

@@ -1,4 +1,4 @@
-use Rattle.std.proofs.Common.{◌≡◌, ◌+◌, ◌++◌, map, take, drop}
+use Rattle.std.proofs.Common.{◌≡◌, ◌+◌, ◌++◌, map, drop}
 use Rattle.qs_syntax.specs.TreeOf.{members_tree}
 use Rattle.qs_syntax.specs.Numbering.{members_nodes, numbered_members, all_nodes, all_numbered}
 use Rattle.qs_syntax.proofs.numbered_units.numbered_struct.Given as goal

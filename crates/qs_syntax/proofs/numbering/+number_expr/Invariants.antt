@@ -1,4 +1,4 @@
-use Rattle.std.proofs.Common.{◌≡◌, ◌+◌, ◌++◌, map, take, drop}
+use Rattle.std.proofs.Common.{◌≡◌, ◌+◌, ◌++◌, map, drop}
 use Rattle.qs_syntax.specs.TreeOf.{expr_tree, exprs_tree}
 use Rattle.qs_syntax.specs.Numbering.{expr_nodes, exprs_nodes, numbered_expr, all_numbered}
 use Rattle.qs_syntax.proofs.numbering.+number_expr.Given as goal

@@ -1,4 +1,4 @@
-use Rattle.std.proofs.Common.{◌≡◌, ◌<◌, map, arith}
+use Rattle.std.proofs.Common.{map}
 use Rattle.qs_syntax.specs.TreeOf.{decl_tree}
 use Rattle.qs_syntax.proofs.Units.{is_read_again}
 use Rattle.qs_syntax.proofs.unit.Unit.copy.Goals as goal

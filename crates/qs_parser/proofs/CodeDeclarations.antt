@@ -1,6 +1,7 @@
 -- Turns of the loops that read declarations.
 use Rattle.std.proofs.Common.{◌≡◌, ℕ, zero, suc, ◌+◌, ◌-◌, ◌<◌, ◌≤◌, Bool, true, false, cond, List, [], ◌∷◌, ◌++◌, length, Result, Ok, Err, refl, sym, ap, ◌∙◌, arith}
 use Rattle.std.specs.Prelude.{max}
+use Rattle.std.proofs.lemmas.Bool.{ne_eqb}
 use Rattle.qs_syntax.specs.declared.lexeme.Lexeme.{Lexeme}
 use Rattle.qs_syntax.specs.declared.tokens.Mark.TheVariants as marks
 use Rattle.qs_syntax.specs.Trees.{ExprTree, InitialiserTree, value, list, initialisers_of, VariableTree, DeclaratorTree, MembersTree, ParameterTree}
@@ -54,6 +55,9 @@ initialiser_deep (suc (suc n)) ts h e = absurd (omega arith)
 abbrev list_with : Parse (InitialiserTree × ℕ) → Parse (InitialiserTree × ℕ)
 list_with inner ts = bind (expect marks.OpenBrace ts) (λ _ vs. bind (initialisers inner (length vs) [] 0 vs) (λ is ws. Ok ((list 0 (place ts) (initialisers_of is.0), is.1 + 1), ws)))
 
+deeper_more : (m : ℕ) (q : Parse (InitialiserTree × ℕ)) (ts : List Lexeme) → 0 < m → deeper m q ts ≡ q ts
+deeper_more m q ts h = ap (λ b. cond b (deep ts) (q ts)) (ne_eqb m 0 (λ e. omega arith))
+
 initialiser_braced : (n : ℕ) (ts : List Lexeme) → starts marks.OpenBrace ts ≡ true → initialiser (suc n) ts ≡ deeper n (list_with (initialiser n)) ts
 unfolding initialiser
 initialiser_braced n ts e = rw e refl
@@ -62,7 +66,7 @@ pub initialiser_list : (n : ℕ) (ts : List Lexeme) → 1 < n → starts marks.O
     → initialiser n ts ≡ bind (expect marks.OpenBrace ts) (λ _ vs. bind (initialisers (initialiser (n - 1)) (length vs) [] 0 vs) (λ is ws. Ok ((list 0 (place ts) (initialisers_of is.0), is.1 + 1), ws)))
 initialiser_list zero ts h e = absurd (omega arith)
 initialiser_list (suc zero) ts h e = absurd (omega arith)
-initialiser_list (suc (suc n)) ts h e = let q : suc n ≡ suc (suc n) - 1 = omega arith in initialiser_braced (suc n) ts e ∙ ap (λ (k : ℕ). list_with (initialiser k) ts) q
+initialiser_list (suc (suc n)) ts h e = let q : suc n ≡ suc (suc n) - 1 = omega arith in initialiser_braced (suc n) ts e ∙ deeper_more (suc n) (list_with (initialiser (suc n))) ts (omega arith) ∙ ap (λ (k : ℕ). list_with (initialiser k) ts) q
 
 pub variables_more : (m n i : ℕ) (done : List VariableTree) (h : ℕ) (ts : List Lexeme) → i < n
     → variables m (n - i) done h ts ≡ bind (variable m ts) (λ v us. after_variable (variables m (n - (i + 1))) (done ++ v.0 ∷ []) (max h v.1) us)

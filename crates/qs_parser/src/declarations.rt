@@ -179,7 +179,7 @@ fn initialiser(
     }
     if !starts(Mark::OpenBrace, tokens) {
         let (value, height, rest) = part(alloc, room, Form::Assignment, tokens)?;
-        return Ok((Initialiser::Value(value), height, rest));
+        return Ok((expression(value), height, rest));
     }
     if room == 1 {
         return Err(Halt::TooDeep(tokens.len()));
@@ -187,6 +187,13 @@ fn initialiser(
     let rest = expect(Mark::OpenBrace, tokens)?;
     let (items, height, rest) = initialisers(alloc, room - 1, rest)?;
     Ok((list(place(tokens), items), height + 1, rest))
+}
+
+/// An initialiser that is an expression.
+fn expression(value: Expr) -> Initialiser
+    ensures { initialiser_tree result ≡ trees.value (expr_tree value) }
+{
+    Initialiser::Value(value)
 }
 
 /// A list of initialisers.

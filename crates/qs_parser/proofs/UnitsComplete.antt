@@ -228,7 +228,7 @@ finds_externals (an_external {h = h} {k = i} {xs = xs} {ys = ys} {d = d} {ds = d
 
 pub finds_unit : (k h : ℕ) (ts : List Lexeme) (ds : List DeclTree) → ReadsUnit h ts ds → h ≤ suc (suc k) → unit k ts ≡ Ok ((ds, h), [])
 unfolding unit
-finds_unit k h ts ds r le = finds_externals r k (length ts + 1) le (omega arith) [] 0 ∙ ap (λ (j : ℕ). Items ds j []) (from_zero h)
+finds_unit k h ts ds r le = finds_externals r k (length ts) le (omega arith) [] 0 ∙ ap (λ (j : ℕ). Items ds j []) (from_zero h)
 
 -- what has a reading of at most 128 levels is read so
 pub finds_whole : (ts : List Lexeme) (ds : List DeclTree) (h : ℕ) → ReadsUnit h ts ds → h ≤ 128 → unit 126 ts ≡ Ok ((ds, h), [])

@@ -154,7 +154,7 @@ unit_read k x l (ds, j, p, q, r, low) = let same : x.1 ≡ j = omega arith in (r
 
 pub sound_unit : (k : ℕ) (ts : List Lexeme) → Sound (IsUnit k) [] ts (unit k ts)
 unfolding unit
-sound_unit k ts = Sound-mono (unit_read k) (sound_externals k (length ts + 1) [] 0 ts)
+sound_unit k ts = Sound-mono (unit_read k) (sound_externals k (length ts) [] 0 ts)
 
 -- nothing is left behind a unit
 abbrev LeavesNothing : {A : Type 0} → Result (A × List Lexeme) Stop → Type 0
@@ -176,7 +176,7 @@ externals_leave_nothing k (suc n) done h ts = leaves_bind (external k ts) _ (λ 
 
 pub unit_leaves_nothing : (k : ℕ) (ts : List Lexeme) (x : List DeclTree × ℕ) (rest : List Lexeme) → unit k ts ≡ Ok (x, rest) → rest ≡ []
 unfolding unit
-unit_leaves_nothing k ts x rest e = rw e at (externals_leave_nothing k (length ts + 1) [] 0 ts)
+unit_leaves_nothing k ts x rest e = rw e at (externals_leave_nothing k (length ts) [] 0 ts)
 
 -- what is read as a whole unit, with 128 levels, has that reading
 pub reads_whole : (ts : List Lexeme) (ds : List DeclTree) (h : ℕ) → unit 126 ts ≡ Ok ((ds, h), []) → ReadsUnit h ts ds × (h ≤ 128)

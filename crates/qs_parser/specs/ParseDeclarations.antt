@@ -1,6 +1,6 @@
 -- The parser of declarations as functions on lists of tokens. Where `m` levels are left for parts, what a function gives is at most
 -- m + 1 high if it is a node, and else as high as its highest part. The first number of a list bounds its turns.
-use Rattle.std.specs.Prelude.{ℕ, zero, suc, ◌+◌, max, List, [], ◌∷◌, ◌++◌, length, Result, Ok, Some, None, Bool, true, false, ◌&&◌, if◌then◌else◌}
+use Rattle.std.specs.Prelude.{ℕ, zero, suc, ◌+◌, max, List, [], ◌∷◌, ◌++◌, length, Result, Ok, Some, None, Bool, true, false, ◌&&◌, if◌then◌else◌, Option}
 use Rattle.qs_syntax.specs.declared.lexeme.Lexeme.{Lexeme}
 use Rattle.qs_syntax.specs.declared.lexeme.Lexeme.TheVariants.{Name, Keyword, Constant, Text, Mark}
 use Rattle.qs_syntax.specs.declared.tokens.Keyword.TheVariants as keywords

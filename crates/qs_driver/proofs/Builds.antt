@@ -8,12 +8,11 @@ use Rattle.qs_compile.specs.FirstForm.{Program, IsFirstForm}
 use Rattle.qs_compile.specs.Built.{IsBuiltFromMain, LowersStackFirst, AgreesFrom}
 use Rattle.qs_driver.specs.Files.{WasRead}
 use Rattle.qs_driver.specs.Due.{refusal}
-use Rattle.qs_driver.specs.Build.{HoldsProgram, IsImageOf, build_names, built, missing, unreadable, too_long, other_form, unwritable, no_memory, source_limit}
-use Rattle.qs_driver.specs.Results.{Builds, NotRead, due_of_build}
+use Rattle.qs_driver.specs.Build.{HoldsProgram, IsImageOf, build_names, built, missing, unreadable, too_long, wrong, unwritable, no_memory, source_limit}
+use Rattle.qs_driver.specs.Results.{Builds, NotRead, Refuses, due_of_build}
 use Rattle.qs_driver.specs.Results as results
 use Rattle.qs_driver.specs.declared.status.Status.{Status}
-use Rattle.qs_driver.specs.declared.status.Status.TheVariants.{Source, StoreFailed}
-use Rattle.qs_driver.specs.declared.status.SourceFault.TheVariants.{NotFirstForm}
+use Rattle.qs_driver.specs.declared.status.Status.TheVariants.{StoreFailed}
 use Rattle.qs_driver.specs.declared.status.FileKind.TheVariants as kinds
 
 holds_program : {v w : StoreView} {source text : List ℕ} {p : Program} → WasRead v w source source_limit text → IsFirstForm text p → IsTrue v.told → HoldsProgram (v.files source) p
@@ -26,8 +25,10 @@ not_read {source = source} out differ (results.unreadable f e) = unreadable diff
 not_read {source = source} out differ (results.too_long l e) = too_long differ l (ap (refusal (build_names source out)) e)
 not_read {source = source} out differ (results.no_memory u e) = no_memory u (ap (refusal (build_names source out)) e)
 
-pub another_form : {v w : StoreView} {source text : List ℕ} (out : List ℕ) → source ≢ out → WasRead v w source source_limit text → ((p : Program) → IsFirstForm text p → ⊥) → Builds source out v w (Err (Source NotFirstForm))
-another_form {text = text} out differ read none = other_form differ read.untouched (λ told. record { content = text; holds = read.holds told; no_form = none }) refl
+pub another_form : {v w : StoreView} {source text : List ℕ} {status : Status} (out : List ℕ) → source ≢ out → WasRead v w source source_limit text → ((p : Program) → IsFirstForm text p → ⊥) → Refuses text status → Builds source out v w (Err status)
+another_form {source = source} {text = text} out differ read none (results.wrong fault is e) =
+    wrong fault differ read.untouched (λ told. record { content = text; holds = read.holds told; no_form = none; has = is }) (ap (refusal (build_names source out)) e)
+another_form {source = source} out differ read none (results.no_memory_for_it e) = no_memory read.untouched (ap (refusal (build_names source out)) e)
 
 -- a store that kept its files, and then made one
 keeps_then_holds : {v u w : StoreView} {name bytes : List ℕ} {m : ℕ} → Keeps v u → HoldsBytes u w name bytes m → HoldsBytes v w name bytes m

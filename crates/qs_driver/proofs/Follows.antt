@@ -4,19 +4,21 @@ use Rattle.qs_ports.specs.StoreView.{StoreView}
 use Rattle.qs_ports.specs.Causes.{Rose}
 use Rattle.qs_driver.specs.Due.{Due}
 use Rattle.qs_driver.specs.Files.{IsTooLong}
-use Rattle.qs_driver.specs.Build.{IsDueToBuild, HoldsNoProgram, source_limit}
+use Rattle.qs_driver.specs.Build.{IsDueToBuild, HoldsOther, source_limit}
 use Rattle.qs_driver.specs.Build as build
+use Rattle.qs_driver.specs.Source.{HasLexFault, IsNoUnit, IsUnit, IsWrong}
 use Rattle.qs_driver.specs.Run.{RunWords, IsDueToRun, IsDueAt}
 use Rattle.qs_driver.specs.Run as run
 use Rattle.qs_driver.specs.Tool.{Call, Task, ToBuild, ToRun, Nothing, task, Answers, IsDueTo, IsDueToNothing, usage, OneSinkFailed}
 use Rattle.qs_driver.specs.Promises.{NoneFailed, Accepts, EndsAs, outcome, RefusesExactly, Refuses, ShowsFailures}
 use Rattle.qs_driver.specs.declared.status.Status.{Status}
 use Rattle.qs_driver.specs.declared.status.Status.TheVariants.{Done, Source, Words, Missing, StoreFailed, SinkFailed, NoMemory}
-use Rattle.qs_driver.specs.declared.status.SourceFault.TheVariants.{TooLong, NotFirstForm}
+use Rattle.qs_driver.specs.declared.status.SourceFault.{SourceFault}
+use Rattle.qs_driver.specs.declared.status.SourceFault.TheVariants.{TooLong, Lex, Syntax, NotFirstForm}
 use Rattle.qs_driver.specs.declared.status.WordsFault.TheVariants.{Usage, SameName}
 use Rattle.qs_driver.specs.declared.status.FileKind.{FileKind}
 use Rattle.qs_driver.specs.declared.status.FileKind.TheVariants as kinds
-use Rattle.qs_driver.proofs.BuildEnds.{BuildEnds, done, same, absent, long, other, lacks, build_ends, good_is_done, same_is_refused, absent_is_refused, long_is_refused, bad_is_refused}
+use Rattle.qs_driver.proofs.BuildEnds.{BuildEnds, done, same, absent, long, other, lacks, build_ends, good_is_done, same_is_refused, absent_is_refused, long_is_refused, other_is_refused, leads_lexical, leads_syntactic, leads_other_form, told_lexical, told_syntactic, told_other_form, never_long, IsSyntaxFault}
 use Rattle.qs_driver.proofs.RunEnds.{IsOfRun, status_of_run, good_is_run}
 use Rattle.qs_driver.proofs.RunStatuses.{told_status}
 
@@ -58,7 +60,7 @@ not_usage v source out status (done d t e) f = cc
 not_usage v source out status (same s e) f = cc
 not_usage v source out status (absent d a e) f = cc
 not_usage v source out status (long d l e) f = cc
-not_usage v source out status (other d o e) f = cc
+not_usage v source out status (other fault d o e) f = cc
 not_usage v source out status (lacks e) f = cc
 
 only_same : (v : StoreView) (source out : List ℕ) (status : Status) → BuildEnds v source out status → status ≡ Words SameName → source ≡ out
@@ -66,7 +68,7 @@ only_same v source out status (done d t e) f = absurd (cc)
 only_same v source out status (same s e) f = s
 only_same v source out status (absent d a e) f = absurd (cc)
 only_same v source out status (long d l e) f = absurd (cc)
-only_same v source out status (other d o e) f = absurd (cc)
+only_same v source out status (other fault d o e) f = absurd (cc)
 only_same v source out status (lacks e) f = absurd (cc)
 
 only_absent : (v : StoreView) (source out : List ℕ) (status : Status) → IsTrue v.told → BuildEnds v source out status → status ≡ Missing kinds.Source → (source ≢ out) × (v.files source ≡ None)
@@ -74,7 +76,7 @@ only_absent v source out status told (done d t e) f = absurd (cc)
 only_absent v source out status told (same s e) f = absurd (cc)
 only_absent v source out status told (absent d a e) f = (d, a told)
 only_absent v source out status told (long d l e) f = absurd (cc)
-only_absent v source out status told (other d o e) f = absurd (cc)
+only_absent v source out status told (other fault d o e) f = absurd (cc)
 only_absent v source out status told (lacks e) f = absurd (cc)
 
 only_long : (v : StoreView) (source out : List ℕ) (status : Status) → IsTrue v.told → BuildEnds v source out status → status ≡ Source (TooLong kinds.Source) → (source ≢ out) × IsTooLong (v.files source) source_limit
@@ -82,16 +84,23 @@ only_long v source out status told (done d t e) f = absurd (cc)
 only_long v source out status told (same s e) f = absurd (cc)
 only_long v source out status told (absent d a e) f = absurd (cc)
 only_long v source out status told (long d l e) f = (d, l told)
-only_long v source out status told (other d o e) f = absurd (cc)
+only_long v source out status told (other fault d o e) f = let w = o told in let long_fault : fault ≡ TooLong kinds.Source = cc in absurd (never_long w.content fault long_fault w.has)
 only_long v source out status told (lacks e) f = absurd (cc)
 
-only_bad : (v : StoreView) (source out : List ℕ) (status : Status) → IsTrue v.told → BuildEnds v source out status → status ≡ Source NotFirstForm → (source ≢ out) × HoldsNoProgram (v.files source)
-only_bad v source out status told (done d t e) f = absurd (cc)
-only_bad v source out status told (same s e) f = absurd (cc)
-only_bad v source out status told (absent d a e) f = absurd (cc)
-only_bad v source out status told (long d l e) f = absurd (cc)
-only_bad v source out status told (other d o e) f = (d, o told)
-only_bad v source out status told (lacks e) f = absurd (cc)
+-- a text of this property, where the fault that is answered tells it
+module _ (Property : List ℕ → Type 0) (fitting : SourceFault → Type 0) (tells : (text : List ℕ) (fault : SourceFault) → fitting fault → IsWrong text fault → Property text) where
+  only_other : (v : StoreView) (source out : List ℕ) (status : Status) → IsTrue v.told → BuildEnds v source out status → (wanted : SourceFault) → fitting wanted → status ≡ Source wanted → (TooLong kinds.Source ≡ wanted → ⊥)
+      → (source ≢ out) × HoldsOther (v.files source) Property
+  only_other v source out status told (done d t e) wanted fits f short = absurd (cc)
+  only_other v source out status told (same s e) wanted fits f short = absurd (cc)
+  only_other v source out status told (absent d a e) wanted fits f short = absurd (cc)
+  only_other v source out status told (long d l e) wanted fits f short = let same : ◌≡◌ {A = Status} (Source (TooLong kinds.Source)) (Source wanted) = sym e ∙ f in absurd (short cc)
+  only_other v source out status told (other fault d o e) wanted fits f short =
+      let both : ◌≡◌ {A = Status} (Source fault) (Source wanted) = sym e ∙ f in
+      let same : fault ≡ wanted = cc in
+      let w = o told in
+      (d, record { content = w.content; holds = w.holds; no_form = w.no_form; has = tells w.content fault (subst fitting (sym same) fits) w.has })
+  only_other v source out status told (lacks e) wanted fits f short = absurd (cc)
 
 -- ---- a refusal that only `build` has
 
@@ -142,11 +151,27 @@ exactly c due n m d = record {
         record { source = b.source; out = b.out; build = record { asked = b.asked; differ = p.0 }; long = p.1 },
     λ x. long_is_refused c.store x.source x.out due.status m x.build.differ told x.long (build_end c x.source x.out due x.build.asked n.store d),
   );
+  lexical = λ told kind pos. (
+    λ s. let b = of_build c (task c) due refl n.store d (λ r. subst IsOfRun s r) (λ u. let x = sym s ∙ u in cc) in
+        let p = only_other (λ text. HasLexFault text kind pos) (λ fault. fault ≡ Lex kind pos) (told_lexical kind pos) c.store b.source b.out due.status told b.ends (Lex kind pos) refl s (λ x. cc) in
+        record { source = b.source; out = b.out; build = record { asked = b.asked; differ = p.0 }; text = p.1 },
+    λ x. let r = other_is_refused (λ text. HasLexFault text kind pos) (λ fault. fault ≡ Lex kind pos) (leads_lexical kind pos) c.store x.source x.out due.status m x.build.differ told x.text (build_end c x.source x.out due x.build.asked n.store d) in
+        r.2 ∙ ap Source r.1,
+  );
+  syntactic = λ told. (
+    λ s. let b = of_build c (task c) due refl n.store d (λ r. subst IsOfRun s.2 r) (λ u. let x = sym s.2 ∙ u in cc) in
+        let p = only_other IsNoUnit IsSyntaxFault told_syntactic c.store b.source b.out due.status told b.ends (Syntax s.0 s.1) (record { kind = s.0; pos = s.1; is = refl }) s.2 (λ x. cc) in
+        record { source = b.source; out = b.out; build = record { asked = b.asked; differ = p.0 }; text = p.1 },
+    λ x. let r = other_is_refused IsNoUnit IsSyntaxFault leads_syntactic c.store x.source x.out due.status m x.build.differ told x.text (build_end c x.source x.out due x.build.asked n.store d) in
+        let f = r.1 in
+        (f.kind, f.pos, r.2 ∙ ap Source f.is),
+  );
   not_first_form = λ told. (
     λ s. let b = of_build c (task c) due refl n.store d (λ r. subst IsOfRun s r) (λ u. let x = sym s ∙ u in cc) in
-        let p = only_bad c.store b.source b.out due.status told b.ends s in
+        let p = only_other IsUnit (λ fault. fault ≡ NotFirstForm) told_other_form c.store b.source b.out due.status told b.ends NotFirstForm refl s (λ x. cc) in
         record { source = b.source; out = b.out; build = record { asked = b.asked; differ = p.0 }; text = p.1 },
-    λ x. bad_is_refused c.store x.source x.out due.status m x.build.differ told x.text (build_end c x.source x.out due x.build.asked n.store d),
+    λ x. let r = other_is_refused IsUnit (λ fault. fault ≡ NotFirstForm) leads_other_form c.store x.source x.out due.status m x.build.differ told x.text (build_end c x.source x.out due x.build.asked n.store d) in
+        r.2 ∙ ap Source r.1,
   );
   run = λ told r e. told_status c.store c.store_after r due n.store told m (due_to c (task c) (ToRun r) due e d);
 }
@@ -176,7 +201,7 @@ build_shows v w source out due (build.same_name e u d) r = absurd (not_risen _ _
 build_shows v w source out due (build.missing ne m d) r = absurd (not_risen _ _ m.missed.faults r)
 build_shows v w source out due (build.unreadable ne f d) r = inl (kinds.Source, ap (λ x. x.status) d)
 build_shows v w source out due (build.too_long ne l d) r = absurd (not_risen _ _ l.untouched.counts.faults r)
-build_shows v w source out due (build.other_form ne u f d) r = absurd (not_risen _ _ u.counts.faults r)
+build_shows v w source out due (build.wrong fault ne u f d) r = absurd (not_risen _ _ u.counts.faults r)
 build_shows v w source out due (build.unwritable ne f d) r = inl (kinds.Output, ap (λ x. x.status) d)
 build_shows v w source out due (build.no_memory u d) r = absurd (not_risen _ _ u.counts.faults r)
 

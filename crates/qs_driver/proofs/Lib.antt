@@ -5,6 +5,7 @@ pub mod Passing
 pub mod Preparing
 pub mod Writings
 pub mod Runs
+pub mod Sources
 pub mod BuildEnds
 pub mod RunEnds
 pub mod RunStatuses

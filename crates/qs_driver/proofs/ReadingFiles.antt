@@ -18,6 +18,7 @@ told_after k t = (k.tells t (omega arith)).0
 pub was_read : {v w : StoreView} {name bytes : List ℕ} {limit : ℕ} → IsWhole v w name limit bytes → length bytes ≤ limit → WasRead v w name limit bytes
 was_read {v} {w} {name} {bytes} {limit} whole h = record {
   untouched = record { keeps = whole.keeps; counts = whole.counts };
+  within = h;
   holds = λ t.
       let c = whole.content (told_after whole.keeps t) in
       let same = short_content limit c.content bytes c.read h in

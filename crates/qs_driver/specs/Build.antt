@@ -10,7 +10,9 @@ use Rattle.qs_driver.specs.Files.{IsUntouched, Holds, IsMissing, CouldNotRead, W
 use Rattle.qs_driver.specs.Lines.{cost_lines}
 use Rattle.qs_driver.specs.Due.{Due, IsRefusal}
 use Rattle.qs_driver.specs.declared.status.Status.TheVariants.{Done, Source, Words, Missing, StoreFailed, NoMemory}
-use Rattle.qs_driver.specs.declared.status.SourceFault.TheVariants.{TooLong, NotFirstForm}
+use Rattle.qs_driver.specs.Source.{IsWrong}
+use Rattle.qs_driver.specs.declared.status.SourceFault.{SourceFault}
+use Rattle.qs_driver.specs.declared.status.SourceFault.TheVariants.{TooLong}
 use Rattle.qs_driver.specs.declared.status.WordsFault.TheVariants.{SameName}
 use Rattle.qs_driver.specs.declared.status.FileKind.TheVariants as kinds
 
@@ -27,11 +29,16 @@ pub record HoldsProgram (file : Option (List ℕ)) (program : Program) : Type 0 
   pub holds : Holds file source_limit content
   pub form : IsFirstForm content program
 
--- the file is there, and its text is no program of the first form
-pub record HoldsNoProgram (file : Option (List ℕ)) : Type 0 where
+-- the file is there, and its text is no program of the first form and has this property
+pub record HoldsOther (file : Option (List ℕ)) (Property : List ℕ → Type 0) : Type 0 where
   pub content : List ℕ
   pub holds : Holds file source_limit content
   pub no_form : (program : Program) → IsFirstForm content program → ⊥
+  pub has : Property content
+
+-- the file is there, its text is no program of the first form, and this is wrong with it
+abbrev pub HoldsWrong : Option (List ℕ) → SourceFault → Type 0
+HoldsWrong file fault = HoldsOther file (λ text. IsWrong text fault)
 
 -- the bytes are those of an image that was built from the program and does what the program does
 pub record IsImageOf (program : Program) (image : Image) (bytes : List ℕ) : Type 0 where
@@ -70,8 +77,8 @@ pub data IsDueToBuild (source out : List ℕ) (before after : StoreView) (due : 
   missing : source ≢ out → IsMissing before after source → IsRefusal (build_names source out) (Missing kinds.Source) due → IsDueToBuild source out before after due
   unreadable : source ≢ out → CouldNotRead before after → IsRefusal (build_names source out) (StoreFailed kinds.Source) due → IsDueToBuild source out before after due
   too_long : source ≢ out → WasTooLong before after source source_limit → IsRefusal (build_names source out) (Source (TooLong kinds.Source)) due → IsDueToBuild source out before after due
-  -- the source is no program of the first form
-  other_form : source ≢ out → IsUntouched before after → (IsTrue before.told → HoldsNoProgram (before.files source)) → IsRefusal (build_names source out) (Source NotFirstForm) due → IsDueToBuild source out before after due
+  -- the source is no program of the first form, and something is wrong with it
+  wrong : (fault : SourceFault) → source ≢ out → IsUntouched before after → (IsTrue before.told → HoldsWrong (before.files source) fault) → IsRefusal (build_names source out) (Source fault) due → IsDueToBuild source out before after due
   unwritable : source ≢ out → CouldNotWrite source out before after → IsRefusal (build_names source out) (StoreFailed kinds.Output) due → IsDueToBuild source out before after due
   -- no memory was found, before anything was written
   no_memory : IsUntouched before after → IsRefusal (build_names source out) NoMemory due → IsDueToBuild source out before after due

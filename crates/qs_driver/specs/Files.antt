@@ -37,4 +37,5 @@ pub record WasTooLong (before after : StoreView) (name : List ℕ) (limit : ℕ)
 -- the file was read: these are its bytes, and no file changed
 pub record WasRead (before after : StoreView) (name : List ℕ) (limit : ℕ) (content : List ℕ) : Type 0 where
   pub untouched : IsUntouched before after
+  pub within : length content ≤ limit
   pub holds : IsTrue before.told → Holds (before.files name) limit content

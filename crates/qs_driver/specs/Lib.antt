@@ -5,6 +5,7 @@ pub mod Due
 pub mod Files
 pub mod Build
 pub mod Run
+pub mod Source
 pub mod Results
 pub mod RunResults
 pub mod Tool

@@ -2,6 +2,9 @@
 use Rattle.std.specs.Prelude.{ℕ, List, [], ◌∷◌, ◌++◌, codes, decimal, flat_map}
 use Rattle.std.specs.Int.{w32, to_be_bytes}
 use Rattle.hex.specs.Hex.{encode_lower}
+use Rattle.qs_base.specs.declared.places.Pos.{Pos}
+use Rattle.qs_lexer.specs.declared.fault.FaultKind.{FaultKind}
+use Rattle.qs_lexer.specs.declared.fault.FaultKind.TheVariants as lexical
 use Rattle.qs_image.specs.Image.{FunctionRecord}
 use Rattle.qs_image.specs.declared.fault.ImageFault.{ImageFault}
 use Rattle.qs_image.specs.declared.fault.ImageFault.TheVariants as fault
@@ -10,7 +13,9 @@ use Rattle.qs_machine.specs.declared.answers.Cause.TheVariants as cause
 use Rattle.qs_driver.specs.Names.{Names, file_name}
 use Rattle.qs_driver.specs.declared.status.Status.{Status}
 use Rattle.qs_driver.specs.declared.status.Status.TheVariants.{Done, Source, Words, Missing, StoreFailed, Image, Trapped, StepLimit, StackTooLarge, SinkFailed, NoMemory}
-use Rattle.qs_driver.specs.declared.status.SourceFault.TheVariants.{TooLong, NotFirstForm}
+use Rattle.qs_driver.specs.declared.status.SourceFault.TheVariants.{TooLong, Lex, Syntax, NotFirstForm}
+use Rattle.qs_driver.specs.declared.status.SyntaxKind.{SyntaxKind}
+use Rattle.qs_driver.specs.declared.status.SyntaxKind.TheVariants as syntax
 use Rattle.qs_driver.specs.declared.status.WordsFault.TheVariants.{Usage, SameName, ArgCount, ArgRange}
 
 -- a line in two parts, ended by a line feed
@@ -51,10 +56,31 @@ cause_text cause.StoreOutside = codes "store"
 cause_text cause.UnknownCall = codes "call"
 cause_text cause.Breakpoint = codes "break"
 
+-- what is wrong with the bytes of a source
+abbrev pub lex_text : FaultKind → List ℕ
+lex_text lexical.BadByte = codes "bad byte"
+lex_text lexical.OpenComment = codes "open comment"
+lex_text lexical.BadLiteral = codes "bad literal"
+lex_text lexical.WideLiteral = codes "wide literal"
+lex_text lexical.Directive = codes "directive"
+lex_text lexical.OpenText = codes "open text"
+
+-- what is wrong with the tokens of a source
+abbrev pub syntax_text : SyntaxKind → List ℕ
+syntax_text syntax.UnexpectedToken = codes "unexpected token"
+syntax_text syntax.UnexpectedEnd = codes "unexpected end"
+syntax_text syntax.TooDeep = codes "too deep"
+
+-- `NAME:L:C: TEXT`
+abbrev pub place_line : List ℕ → Pos → List ℕ → List ℕ
+place_line name pos text = name ++ (codes ":" ++ (decimal pos.line ++ (codes ":" ++ (decimal pos.column ++ line (codes ": ") text))))
+
 -- the one line that tells a fault
 abbrev pub fault_line : Names → Status → List ℕ
 fault_line names Done = []
 fault_line names (Source (TooLong kind)) = line (codes "too long: ") (file_name names kind)
+fault_line names (Source (Lex kind pos)) = place_line names.source pos (lex_text kind)
+fault_line names (Source (Syntax kind pos)) = place_line names.source pos (syntax_text kind)
 fault_line names (Source NotFirstForm) = line names.source (codes ": not in the first form")
 fault_line names (Words Usage) = line (codes "usage: qsc COMMAND FILE OPTIONS") []
 fault_line names (Words SameName) = line (codes "same name: ") names.output

@@ -1,19 +1,23 @@
 -- What is promised of every call of the tool.
 use Rattle.std.specs.Prelude.{◌≡◌, ◌≢◌, ◌⊎◌, ◌↔◌, ℕ, ◌<◌, List, [], IsTrue, Option, Some, None}
 use Rattle.qs_ports.specs.Causes.{Rose}
+use Rattle.qs_base.specs.declared.places.Pos.{Pos}
+use Rattle.qs_lexer.specs.declared.fault.FaultKind.{FaultKind}
 use Rattle.qs_image.specs.Image.{Image}
 use Rattle.qs_machine.specs.declared.answers.Cause.{Cause}
 use Rattle.qs_machine.specs.Standing.{cause_of}
 use Rattle.qs_machine.specs.Run.{Outcome, Exited, Trapped as HasTrapped, Going, machine}
 use Rattle.qs_compile.specs.FirstForm.{Program}
 use Rattle.qs_driver.specs.Files.{Holds, IsTooLong}
-use Rattle.qs_driver.specs.Build.{HoldsProgram, HoldsNoProgram, source_limit}
+use Rattle.qs_driver.specs.Build.{HoldsProgram, HoldsOther, source_limit}
+use Rattle.qs_driver.specs.Source.{HasLexFault, IsNoUnit, IsUnit}
 use Rattle.qs_driver.specs.Run.{RunWords, HoldsImage, CanRun, words_of, input_limit}
 use Rattle.qs_driver.specs.RunStatus.{run_status}
 use Rattle.qs_driver.specs.Tool.{Call, Answers, ToBuild, ToRun, Nothing, task}
 use Rattle.qs_driver.specs.declared.status.Status.{Status}
 use Rattle.qs_driver.specs.declared.status.Status.TheVariants.{Done, Source, Words, Missing, StoreFailed, Trapped, StepLimit, SinkFailed, NoMemory}
-use Rattle.qs_driver.specs.declared.status.SourceFault.TheVariants.{TooLong, NotFirstForm}
+use Rattle.qs_driver.specs.declared.status.SourceFault.TheVariants.{TooLong, Lex, Syntax, NotFirstForm}
+use Rattle.qs_driver.specs.declared.status.SyntaxKind.{SyntaxKind}
 use Rattle.qs_driver.specs.declared.status.WordsFault.TheVariants.{Usage, SameName}
 use Rattle.qs_driver.specs.declared.status.FileKind.{FileKind}
 use Rattle.qs_driver.specs.declared.status.FileKind.TheVariants as kinds
@@ -87,12 +91,16 @@ pub record HasLongSource (c : Call) : Type 0 where
   pub build : IsBuild c source out
   pub long : IsTooLong (c.store.files source) source_limit
 
--- `build`, and the source has no first form
-pub record HasBadSource (c : Call) : Type 0 where
+-- `build`, and the source is no program of the first form and has this property
+pub record HasOtherSource (c : Call) (Property : List ℕ → Type 0) : Type 0 where
   pub source : List ℕ
   pub out : List ℕ
   pub build : IsBuild c source out
-  pub text : HoldsNoProgram (c.store.files source)
+  pub text : HoldsOther (c.store.files source) Property
+
+-- some syntax fault is answered
+abbrev pub IsSyntax : Status → Type 0
+IsSyntax result = (kind : SyntaxKind) × (pos : Pos) × (result ≡ Source (Syntax kind pos))
 
 abbrev pub NamesOneFileTwice : Call → Type 0
 NamesOneFileTwice c = (name : List ℕ) × (task c ≡ ToBuild name name)
@@ -104,7 +112,9 @@ pub record RefusesExactly (c : Call) (result : Status) : Type 0 where
   pub same_name : (result ≡ Words SameName) ↔ NamesOneFileTwice c
   pub missing : IsTrue c.store.told → (result ≡ Missing kinds.Source) ↔ LacksSource c
   pub too_long : IsTrue c.store.told → (result ≡ Source (TooLong kinds.Source)) ↔ HasLongSource c
-  pub not_first_form : IsTrue c.store.told → (result ≡ Source NotFirstForm) ↔ HasBadSource c
+  pub lexical : IsTrue c.store.told → (kind : FaultKind) (pos : Pos) → (result ≡ Source (Lex kind pos)) ↔ HasOtherSource c (λ text. HasLexFault text kind pos)
+  pub syntactic : IsTrue c.store.told → IsSyntax result ↔ HasOtherSource c IsNoUnit
+  pub not_first_form : IsTrue c.store.told → (result ≡ Source NotFirstForm) ↔ HasOtherSource c IsUnit
   pub run : IsTrue c.store.told → (r : RunWords) → task c ≡ ToRun r → result ≡ run_status c.store.files r
 
 abbrev pub Refuses : Call → Status → Type 0

@@ -12,6 +12,8 @@ use Rattle.qs_driver.specs.Due.{Due, refusal}
 use Rattle.qs_driver.specs.Build.{IsDueToBuild, build_names}
 use Rattle.qs_driver.specs.declared.status.Status.{Status}
 use Rattle.qs_driver.specs.declared.status.Status.TheVariants.{Done, Source, Missing, StoreFailed, SinkFailed, NoMemory}
+use Rattle.qs_driver.specs.Source.{IsWrong}
+use Rattle.qs_driver.specs.declared.status.SourceFault.{SourceFault}
 use Rattle.qs_driver.specs.declared.status.SourceFault.TheVariants.{TooLong}
 use Rattle.qs_driver.specs.declared.status.FileKind.{FileKind}
 
@@ -26,6 +28,11 @@ pub data NotRead (before after : StoreView) (name : List ℕ) (kind : FileKind) 
 abbrev pub ReadsFile : StoreView → StoreView → List ℕ → FileKind → ℕ → Result (Vec ℕ Global) Status → Type 0
 ReadsFile before after name kind limit (Ok content) = WasRead before after name limit content.items
 ReadsFile before after name kind limit (Err status) = NotRead before after name kind limit status
+
+-- the status of a text that isn't of the first form
+pub data Refuses (text : List ℕ) (status : Status) : Type 0 where
+  wrong : (fault : SourceFault) → IsWrong text fault → status ≡ Source fault → Refuses text status
+  no_memory_for_it : status ≡ NoMemory → Refuses text status
 
 -- what is due after the work of `build`
 abbrev pub due_of_build : Names → Result Image Status → Due

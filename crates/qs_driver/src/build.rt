@@ -1,8 +1,10 @@
 // `build`: from the source in the store to the image in the store.
-ghost use Rattle.qs_driver.specs.Results.{Builds};
+ghost use Rattle.std.specs.Prelude.{◌≤◌, length};
+ghost use Rattle.qs_driver.specs.Results.{Builds, Refuses};
 
 use crate::files::read_file;
-use crate::{FileKind, SourceFault, Status, WordsFault};
+use crate::source::fault_of;
+use crate::{FileKind, Status, WordsFault};
 use qs_compile::{compile, first_form};
 use qs_image::{Image, write};
 use qs_ports::{Store, write_whole};
@@ -10,6 +12,17 @@ use std::alloc::Global;
 
 // The longest source, in bytes.
 const SOURCE_LIMIT: usize = 1_048_576;
+
+// The status at which a text is refused that isn't of the first form.
+fn refusal(alloc: Global, text: &[u8]) -> Status
+    requires limit { length text.now ≤ 1048576 }
+    ensures { Refuses text.now result }
+{
+    match fault_of(alloc, text) {
+        Ok(fault) => Status::Source(fault),
+        Err(_) => Status::NoMemory,
+    }
+}
 
 /// Writes the image of the source into the out file, and gives it back.
 pub fn build<S: Store>(
@@ -33,7 +46,7 @@ pub fn build<S: Store>(
     };
     let program = match found {
         Some(program) => program,
-        None => return Err(Status::Source(SourceFault::NotFirstForm)),
+        None => return Err(refusal(alloc, &text)),
     };
     let image = match compile(alloc, &program) {
         Ok(image) => image,

@@ -1,15 +1,17 @@
 // The line of each fault. Nothing here takes memory.
 ghost use Rattle.std.specs.Prelude.{◌≡◌, ◌++◌, [], ◌∷◌, codes, decimal};
 ghost use Rattle.qs_ports.specs.SinkView.{PutsAll};
-ghost use Rattle.qs_driver.specs.Lines.{line, fault_line, cause_text, image_text};
+ghost use Rattle.qs_driver.specs.Lines.{line, fault_line, cause_text, image_text, lex_text, syntax_text, place_line};
 ghost use Rattle.qs_driver.specs.Names.{names_in, no_names};
 
 use crate::names::{FileNames, file_name};
 use crate::report::{put_line, put_number, put_parts};
-use crate::{SourceFault, Status, WordsFault};
+use crate::{SourceFault, Status, SyntaxKind, WordsFault};
 use hex::encode_to_slice;
 use itoa::Buffer;
+use qs_base::Pos;
 use qs_image::ImageFault;
+use qs_lexer::FaultKind;
 use qs_machine::Cause;
 use qs_ports::{Sink, SinkFault};
 
@@ -66,6 +68,68 @@ fn put_words_fault<K: Sink>(
     }
 }
 
+fn lex_word(kind: FaultKind) -> &'static str
+    ensures { result.now ≡ lex_text kind }
+{
+    match kind {
+        FaultKind::BadByte => "bad byte",
+        FaultKind::OpenComment => "open comment",
+        FaultKind::BadLiteral => "bad literal",
+        FaultKind::WideLiteral => "wide literal",
+        FaultKind::Directive => "directive",
+        FaultKind::OpenText => "open text",
+    }
+}
+
+fn syntax_word(kind: SyntaxKind) -> &'static str
+    ensures { result.now ≡ syntax_text kind }
+{
+    match kind {
+        SyntaxKind::UnexpectedToken => "unexpected token",
+        SyntaxKind::UnexpectedEnd => "unexpected end",
+        SyntaxKind::TooDeep => "too deep",
+    }
+}
+
+fn put_place_line<K: Sink>(
+    log: &mut K,
+    name: &str,
+    number: &str,
+    column: &str,
+    word: &str,
+) -> Result<(), SinkFault>
+    ensures { PutsAll (K.view log.old) (K.view log.new) (name.now ++ (codes ":" ++ (number.now ++ (codes ":" ++ (column.now ++ line (codes ": ") word.now))))) result }
+{
+    put_parts(
+        log,
+        &[
+            name.as_bytes(),
+            b":",
+            number.as_bytes(),
+            b":",
+            column.as_bytes(),
+            b": ",
+            word.as_bytes(),
+            b"\n",
+        ],
+    )
+}
+
+// Puts the line of a fault at a place of a file.
+fn put_place<K: Sink>(log: &mut K, name: &str, pos: Pos, word: &str) -> Result<(), SinkFault>
+    ensures { PutsAll (K.view log.old) (K.view log.new) (place_line name.now pos word.now) result }
+{
+    let mut first = Buffer::new();
+    let mut second = Buffer::new();
+    put_place_line(
+        log,
+        name,
+        first.format(pos.line),
+        second.format(pos.column),
+        word,
+    )
+}
+
 fn put_source_fault<K: Sink>(
     log: &mut K,
     names: &FileNames<'_>,
@@ -75,6 +139,8 @@ fn put_source_fault<K: Sink>(
 {
     match fault {
         SourceFault::TooLong(kind) => put_line(log, "too long: ", file_name(names, kind)),
+        SourceFault::Lex(kind, pos) => put_place(log, names.source, pos, lex_word(kind)),
+        SourceFault::Syntax(kind, pos) => put_place(log, names.source, pos, syntax_word(kind)),
         SourceFault::NotFirstForm => put_line(log, names.source, ": not in the first form"),
     }
 }

@@ -8,8 +8,9 @@ mod files;
 mod names;
 mod report;
 mod run;
+mod source;
 mod status;
 mod tool;
 
-pub use status::{FileKind, SourceFault, Status, WordsFault};
+pub use status::{FileKind, SourceFault, Status, SyntaxKind, WordsFault};
 pub use tool::run_tool;

@@ -23,6 +23,7 @@ pub mod UnitsExamples
 pub mod CodeTypes
 pub mod CodeExpressions
 pub mod CodeDeclarations
+pub mod CodeBranches
 pub mod CodeStatements
 pub mod Counted
 pub mod Top

@@ -30,6 +30,7 @@ pub fn block(items: Vec<Stmt>) -> Stmt
 }
 
 /// `if` without `else`.
+#[tactic(auto, using(crate::proofs::CodeBranches::tree_alone))]
 fn branch_alone(alloc: Global, token: u32, condition: Expr, first: Stmt) -> Result<Stmt, AllocError>
     ensures { IfOk result (λ s. stmt_tree s ≡ trees.branch 0 token (expr_tree condition) (stmt_tree first) no_else) }
 {
@@ -38,6 +39,7 @@ fn branch_alone(alloc: Global, token: u32, condition: Expr, first: Stmt) -> Resu
 }
 
 /// `if` with `else`.
+#[tactic(auto, using(crate::proofs::CodeBranches::tree_else))]
 fn branch_else(
     alloc: Global,
     token: u32,

@@ -1,5 +1,7 @@
 // The tool over real files and streams.
-use qs_driver::{FileKind, Status, WordsFault, run_tool};
+use qs_base::Pos;
+use qs_driver::{FileKind, SourceFault, Status, WordsFault, run_tool};
+use qs_lexer::FaultKind;
 use qs_ports::{DirStore, StdSink};
 use std::alloc::{AllocError, Global};
 use std::test::Fail;
@@ -33,7 +35,10 @@ fn real_files_and_streams(rt: HostRuntime) -> Result<(), Fail> {
         (
             out.as_str(),
             source.as_str(),
-            Status::Source(qs_driver::SourceFault::NotFirstForm),
+            Status::Source(SourceFault::Lex(
+                FaultKind::BadByte,
+                Pos { line: 1, column: 5 },
+            )),
         ),
         (
             "/tmp/qsc_test_no_such_file.c",

@@ -1,7 +1,7 @@
 // What whole calls do: statuses, lines and files.
 use crate::devices::{Devices, Ran, call};
 use qs_base::NoMemory;
-use qs_driver::{FileKind, SourceFault, Status, WordsFault};
+use qs_driver::{FileKind, Status, WordsFault};
 use qs_ports::StoreCall;
 use std::alloc::Global;
 use std::process::Abort;
@@ -92,22 +92,33 @@ fn files_are_refused(rt: HostRuntime) -> Result<(), NoMemory> {
     Ok(())
 }
 
+// Sources and the line that each is refused with.
+const REFUSED: [(&str, &str); 12] = [
+    ("int main(void){return 256;}", "a.c: not in the first form\n"),
+    (
+        "static const int k = 3;int main() { return k; }",
+        "a.c: not in the first form\n",
+    ),
+    ("", "a.c:1:1: unexpected end\n"),
+    ("int main(void){\n", "a.c:2:1: unexpected end\n"),
+    ("int main(void){return 7;}x", "a.c:1:26: unexpected token\n"),
+    ("int f(int a,void);", "a.c:1:17: unexpected token\n"),
+    ("#include <stdio.h>\nint x;", "a.c:1:1: directive\n"),
+    ("int x = 2147483648;", "a.c:1:9: wide literal\n"),
+    ("int x = 08;", "a.c:1:9: bad literal\n"),
+    ("/* a", "a.c:1:1: open comment\n"),
+    ("int @", "a.c:1:5: bad byte\n"),
+    ("int\nx='a\n';", "a.c:2:3: open text\n"),
+];
+
 #[test]
 fn sources_are_refused(rt: HostRuntime) -> Result<(), NoMemory> {
-    for source in [
-        "int main(void){return 256;}",
-        "",
-        "int main(void){return 7;}x",
-    ] {
+    for (source, line) in REFUSED {
         let ran = call(rt.alloc(), BUILD, &Devices::good(source.as_bytes()))?;
-        let line = "a.c: not in the first form\n";
-        expect_refusal(
-            &rt,
-            &ran,
-            Status::Source(SourceFault::NotFirstForm),
-            1,
-            line,
-        );
+        assert_eq!(rt; ran.log.written(), line.as_bytes());
+        assert_eq!(rt; ran.out.written(), b"".as_slice());
+        assert_eq!(rt; ran.status.code(), 1);
+        assert_eq!(rt; ran.store.file("a.img"), None);
     }
     Ok(())
 }

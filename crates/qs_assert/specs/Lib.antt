@@ -1,0 +1,5 @@
+pub mod Codes
+pub mod Listing
+pub mod Reading
+pub mod Trees
+pub mod Values

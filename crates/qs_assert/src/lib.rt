@@ -1,0 +1,12 @@
+//! Terms, conditions and assertions of derivations: their trees, substitution, and their values.
+#![tactic(auto)]
+
+mod define;
+mod node;
+mod tree;
+mod variable;
+
+pub use define::{Amount, Define};
+pub use node::{AssertionNode, CondNode, Node, TermNode};
+pub use tree::{Assertion, Cond, Term};
+pub use variable::{NumberType, Var, VarKind};

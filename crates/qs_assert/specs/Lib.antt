@@ -2,6 +2,7 @@ pub mod Bounds
 pub mod Codes
 pub mod Listing
 pub mod Reading
+pub mod Replacing
 pub mod Sameness
 pub mod Substitution
 pub mod Trees

@@ -1,13 +1,17 @@
 //! Terms, conditions and assertions of derivations: their trees, substitution, and their values.
 #![tactic(auto)]
 
+mod amounts;
 mod assertions;
 mod conditions;
 mod define;
 mod listing;
 mod node;
+mod numbers;
+mod stack;
 mod substitution;
 mod terms;
+mod total;
 mod tree;
 mod variable;
 

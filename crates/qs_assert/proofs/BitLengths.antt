@@ -17,13 +17,13 @@ pub record IsLeast (k n m : ℕ) : Type 0 where
 
 stopped : (steps k n m : ℕ) → IsLeast k n m → n < 2 ^ k → k ≡ m
 stopped steps k n m l h = elim (cases_lt k m) [
-  inl below ↦ let p : 2 ^ k ≤ n = l.least k below in absurd (omega arith)
+  | inl below ↦ let p : 2 ^ k ≤ n = l.least k below in absurd (omega arith)
   | inr past ↦ let f = l.from in omega arith
 ]
 
 goes_on : (k n m : ℕ) → IsLeast k n m → 2 ^ k ≤ n → IsLeast (suc k) n m
 goes_on k n m l h = elim (cases_lt k m) [
-  inl below ↦ record { from = omega arith; above = l.above; least = l.least }
+  | inl below ↦ record { from = omega arith; above = l.above; least = l.least }
   | inr past ↦ let e : k ≡ m = let f = l.from in omega arith in let a : n < 2 ^ k = rw e l.above in absurd (omega arith)
 ]
 

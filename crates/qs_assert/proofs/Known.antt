@@ -15,7 +15,7 @@ known_narrow z h = ap (λ (b : Bool). if b then None else Some z) (lt-leb _ _ h)
 
 pub none_is_wide : (z : ℤ) → None ≡ known z → 2 ^ 127 ≤ unsigned_abs z
 none_is_wide z e = elim (cases_lt (unsigned_abs z) (2 ^ 127)) [
-  inl narrow ↦ let f = known_narrow z narrow in absurd (cc)
+  | inl narrow ↦ let f = known_narrow z narrow in absurd (cc)
   | inr wide ↦ wide
 ]
 

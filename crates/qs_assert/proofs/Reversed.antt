@@ -15,12 +15,12 @@ back_length xs n h = length-reverse (drop (length xs - n) xs) ∙ (length-drop (
 -- the front of a stack is taken off at the list's end
 pub cut_off : {A : Type 0} (xs : List A) (n : ℕ) → reverse (take (length xs - n) xs) ≡ drop n (reverse xs)
 cut_off xs n = elim (cases_lt (length xs) n) [
-  inl h ↦
-    let none : length xs - n ≡ 0 = omega arith in
-    let short : length (reverse xs) ≤ n = omega (arith, length-reverse xs) in
-    ap (λ k. reverse (take k xs)) none ∙ sym (drop_of_length-le (reverse xs) short)
+  | inl h ↦
+      let none : length xs - n ≡ 0 = omega arith in
+      let short : length (reverse xs) ≤ n = omega (arith, length-reverse xs) in
+      ap (λ k. reverse (take k xs)) none ∙ sym (drop_of_length-le (reverse xs) short)
   | inr h ↦
-    sym (ap (drop n) (parted xs (length xs - n)) ∙ (ap (λ m. drop m (reverse (drop (length xs - n) xs) ++ reverse (take (length xs - n) xs))) (sym (back_length xs n h)) ∙ drop-append_seam (reverse (drop (length xs - n) xs)) (reverse (take (length xs - n) xs))))
+      sym (ap (drop n) (parted xs (length xs - n)) ∙ (ap (λ m. drop m (reverse (drop (length xs - n) xs) ++ reverse (take (length xs - n) xs))) (sym (back_length xs n h)) ∙ drop-append_seam (reverse (drop (length xs - n) xs)) (reverse (take (length xs - n) xs))))
 ]
 
 -- one item more

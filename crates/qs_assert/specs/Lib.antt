@@ -1,5 +1,7 @@
 pub mod Bounds
 pub mod Codes
+pub mod Comparing
+pub mod Evaluations
 pub mod Joining
 pub mod Listing
 pub mod Reading

@@ -155,3 +155,13 @@ pub fn joined(joining: Joining, parts: &[Amount]) -> Amount
     }
     if wide { Amount::Wide } else { whole }
 }
+
+/// The first amount where the condition holds, else the second.
+pub fn chosen(test: Option<bool>, first: Amount, second: Amount) -> Amount
+    ensures { result ≡ stacks.chosen test first second }
+{
+    match test {
+        Some(holds) => { if holds { first } else { second } }
+        None => Amount::Wide,
+    }
+}

@@ -5,6 +5,7 @@ mod amounts;
 mod assertions;
 mod conditions;
 mod define;
+mod evaluation;
 mod listing;
 mod node;
 mod numbers;
@@ -13,6 +14,7 @@ mod substitution;
 mod terms;
 mod total;
 mod tree;
+mod truths;
 mod variable;
 
 pub use define::{Amount, Define};

@@ -94,11 +94,7 @@ pub fn wrapped_signed(a: Option<i128>) -> Option<i128>
 fn bit_length(z: i128) -> u32
     ensures { result ≡ values.bit_length z }
 {
-    if z <= 0 {
-        0
-    } else {
-        128 - z.leading_zeros()
-    }
+    if z <= 0 { 0 } else { 128 - z.leading_zeros() }
 }
 
 /// The least k such that the number is less than 2^k.

@@ -49,7 +49,11 @@ impl Total {
     pub fn known(self) -> Option<i128>
         ensures { result ≡ stacks.known (total_value self) }
     {
-        if self.carry == 0 { known(self.low) } else { None }
+        if self.carry == 0 {
+            known(self.low)
+        } else {
+            None
+        }
     }
 }
 

@@ -7,5 +7,5 @@ use Rattle.qs_assert.proofs.amounts.joined.Given as goal
 abbrev pub invariant-loop-part : goal.invariant-loop-part
 invariant-loop-part l = record {
   whole : l.whole ≡ amount_known (joined_amounts (operation l.joining) (start l.joining) (reverse (take l.part-index l.parts)));
-  wide : l.wide ≡ some_amount_wide (reverse (take l.part-index l.parts))
+  wide : l.wide ≡ some_amount_wide (reverse (take l.part-index l.parts));
 }

@@ -7,5 +7,5 @@ use Rattle.qs_assert.proofs.numbers.product.Given as goal
 abbrev pub invariant-loop-part : goal.invariant-loop-part
 invariant-loop-part l = record {
   value : l.product ≡ known (joined ◌*ℤ◌ (pos 1) (reverse (take l.part-index l.parts)));
-  wide : l.wide ≡ some_none (reverse (take l.part-index l.parts))
+  wide : l.wide ≡ some_none (reverse (take l.part-index l.parts));
 }

@@ -10,5 +10,5 @@ invariant-loop-part l = record {
   value : total_value l.total ≡ joined ◌+ℤ◌ (pos 0) (reverse (take l.part-index l.parts));
   wide : l.wide ≡ some_none (reverse (take l.part-index l.parts));
   below : l.total.carry ≤ℤ pos l.part-index;
-  above : negsuc l.part-index ≤ℤ l.total.carry
+  above : negsuc l.part-index ≤ℤ l.total.carry;
 }

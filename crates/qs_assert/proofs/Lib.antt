@@ -1,5 +1,6 @@
 pub mod Agreement
 pub mod BitLengths
+pub mod Evaluated
 pub mod Kept
 pub mod Known
 pub mod Replaced

@@ -7,7 +7,8 @@ use Rattle.qs_assert.specs.declared.evaluation.Known.{Known}
 use Rattle.qs_assert.specs.Bounds.{same_name, argument}
 use Rattle.qs_assert.specs.declared.amounts.Joining.{Joining}
 use Rattle.qs_assert.specs.Joining.{operation, start}
-use Rattle.qs_assert.specs.Stacks.{Stacks, Meaning, joined_known, chosen, first_test, first_amount, none_or_first, natural_amount, others}
+use Rattle.qs_assert.specs.Stacks.{Stacks, Meaning, joined_known, chosen, first_test, first_amount, none_or_first, natural_amount}
+use Rattle.qs_assert.specs.Reading.{others}
 
 -- the stacks of an evaluation, the front being the end
 abbrev pub seen : Evaluation → Stacks

@@ -14,16 +14,13 @@ use Rattle.qs_assert.specs.declared.node.Node.{Node}
 use Rattle.qs_assert.specs.declared.node.Node.TheVariants.{Term, Condition, Assertion}
 use Rattle.qs_assert.specs.declared.define.Amount.{Amount}
 use Rattle.qs_assert.specs.declared.define.Amount.TheVariants.{Finite, Infinite, Wide}
+use Rattle.qs_assert.specs.Reading.{others}
 use Rattle.qs_assert.specs.Values.{Extended, finite, infinite, plus, greater, times, quotient, wrapped_unsigned, wrapped_signed, bit_length, natural_part}
 use Rattle.qs_assert.specs.Bounds.{is_wide, is_wide_value, amount_of, argument, same_name}
 
 abbrev pub first_or : {A : Type 0} → A → List A → A
 first_or otherwise [] = otherwise
 first_or otherwise (x ∷ xs) = x
-
-abbrev pub others : {A : Type 0} → List A → List A
-others [] = []
-others (x ∷ xs) = xs
 
 -- Numbers
 

@@ -1,6 +1,7 @@
 // A stack in a Vec, its front being the Vec's end.
 ghost use Rattle.std.specs.Prelude.{◌≡◌, ◌∷◌, IfOk, reverse, take, drop};
-ghost use Rattle.qs_assert.specs.Stacks.{first_or, others};
+ghost use Rattle.qs_assert.specs.Reading.{others};
+ghost use Rattle.qs_assert.specs.Stacks.{first_or};
 
 use qs_base::NoMemory;
 

@@ -5,3 +5,4 @@ pub mod Kept
 pub mod Known
 pub mod Replaced
 pub mod Reversed
+pub mod Tabled

@@ -9,6 +9,7 @@ pub mod Replacing
 pub mod Sameness
 pub mod Stacks
 pub mod Substitution
+pub mod Tables
 pub mod Totals
 pub mod Trees
 pub mod Values

@@ -45,7 +45,7 @@ fn argument(args: &[i64], kind: VarKind) -> i64
     }
 }
 
-fn cost(costs: &[u32], at: u32) -> u32
+pub fn cost(costs: &[u32], at: u32) -> u32
     ensures { result ≡ slice_index_or costs.now at 0 }
 {
     let at = at as usize;

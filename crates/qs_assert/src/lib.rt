@@ -3,6 +3,7 @@
 
 mod amounts;
 mod assertions;
+mod bound;
 mod conditions;
 mod define;
 mod evaluation;
@@ -17,6 +18,7 @@ mod tree;
 mod truths;
 mod variable;
 
+pub use bound::{bound_of, value_at};
 pub use define::{Amount, Define};
 pub use node::{AssertionNode, CondNode, Node, TermNode};
 pub use substitution::substitute;

@@ -5,4 +5,5 @@ pub mod Kept
 pub mod Known
 pub mod Replaced
 pub mod Reversed
+pub mod Same
 pub mod Tabled

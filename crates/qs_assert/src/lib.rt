@@ -10,6 +10,7 @@ mod evaluation;
 mod listing;
 mod node;
 mod numbers;
+mod sameness;
 mod stack;
 mod substitution;
 mod terms;

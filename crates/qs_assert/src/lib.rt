@@ -25,3 +25,6 @@ pub use node::{AssertionNode, CondNode, Node, TermNode};
 pub use substitution::substitute;
 pub use tree::{Assertion, Cond, Term};
 pub use variable::{NumberType, Var, VarKind};
+
+#[cfg(test)]
+mod tests;

@@ -1,11 +1,11 @@
 -- The value after a substitution is the value in the state where the variable has the term's value.
-use Rattle.std.proofs.Common.{◌≡◌, refl, ap, ◌∙◌, true, false}
-use Rattle.std.specs.Prelude.{ℤ, pos, Bool, if◌then◌else◌, ◌+ℤ◌, ◌-ℤ◌, ◌*ℤ◌, ◌&&◌, ◌||◌, int_le, int_lt}
+use Rattle.std.proofs.Common.{◌≡◌, refl, ap, true, false}
+use Rattle.std.specs.Prelude.{pos, Bool, if◌then◌else◌, ◌+ℤ◌, ◌-ℤ◌, ◌*ℤ◌, ◌&&◌, ◌||◌, int_le, int_lt}
 use Rattle.std.specs.Prelude.{not as flip}
 use Rattle.std.specs.Ordering.{int_eq}
 use Rattle.qs_assert.specs.declared.variable.Var.{Var}
 use Rattle.qs_assert.specs.Trees.{TermTree, number, variable, add, sub, mul, div, wrapu, wraps, bits, TermTrees, no_terms, term_and, CondTree, le, lt, eq, ne, not, and, or, CondTrees, no_conds, cond_and, AssertionTree, natural, infinity, cost, num, total, greatest, product, guard, choose, named, AssertionTrees, no_assertions, assertion_and}
-use Rattle.qs_assert.specs.Values.{State, term_value, sum_of_terms, product_of_terms, quotient, wrapped_unsigned, wrapped_signed, bit_length, holds, all_hold, some_holds, Extended, finite, infinite, value, sum_of, greatest_of, product_of, plus, greater, times, natural_part}
+use Rattle.qs_assert.specs.Values.{State, term_value, sum_of_terms, product_of_terms, quotient, wrapped_unsigned, wrapped_signed, bit_length, holds, all_hold, some_holds, finite, infinite, value, sum_of, greatest_of, product_of, plus, greater, times, natural_part}
 use Rattle.qs_assert.specs.Substitution.{in_term, in_terms, in_cond, in_conds, in_assertion, in_assertions, same_variable, with_value}
 
 -- the state in which x has the value of u

@@ -1,5 +1,5 @@
 -- The least exponent with a power above a number.
-use Rattle.std.proofs.Common.{◌≡◌, ◌≤◌, ◌<◌, ℕ, zero, suc, ◌+◌, ◌-◌, ◌*◌, ◌^◌, ap, ◌∙◌, sym, refl, arith, Bool, true, false, pos, negsuc, ℤ, inl, inr}
+use Rattle.std.proofs.Common.{◌≡◌, ◌≤◌, ◌<◌, ℕ, zero, suc, ◌+◌, ◌-◌, ◌*◌, ◌^◌, ◌∙◌, sym, refl, arith, Bool, true, false, pos, negsuc, ℤ, inl, inr}
 use Rattle.std.specs.Prelude.{ltb, int_le}
 use Rattle.std.specs.Int.{w128, leading_zeros}
 use mir.Val.{SFits, of_z}

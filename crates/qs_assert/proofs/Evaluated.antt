@@ -1,10 +1,9 @@
 -- What the steps over the nodes of a list give: the values of its trees.
-use Rattle.std.proofs.Common.{◌≡◌, ℕ, ℤ, pos, refl, ap, ◌∙◌, sym, Bool, true, false, List, [], ◌∷◌, map, take, drop, Option, Some, None}
+use Rattle.std.proofs.Common.{◌≡◌, ℕ, ℤ, pos, refl, ap, ◌∙◌, Bool, true, false, List, [], ◌∷◌, map, take, Option, Some, None}
 use Rattle.std.specs.Prelude.{if◌then◌else◌, ◌+ℤ◌, ◌-ℤ◌, ◌*ℤ◌, ◌&&◌, ◌||◌, int_le, int_lt}
 use Rattle.std.specs.Prelude.{not as flip}
 use Rattle.std.specs.Ordering.{int_eq}
 use Rattle.std.proofs.lemmas.List.{take-map, drop-map}
-use Rattle.qs_assert.specs.declared.variable.Var.{Var}
 use Rattle.qs_assert.specs.declared.node.TermNode.{TermNode}
 use Rattle.qs_assert.specs.declared.node.TermNode.TheVariants.{Number, Variable, Add, Sub, Mul, Div, WrapUnsigned, WrapSigned, Bits}
 use Rattle.qs_assert.specs.declared.node.CondNode.{CondNode}
@@ -14,8 +13,8 @@ use Rattle.qs_assert.specs.declared.node.AssertionNode.TheVariants.{Natural, Inf
 use Rattle.qs_assert.specs.declared.node.Node.{Node}
 use Rattle.qs_assert.specs.declared.node.Node.TheVariants.{Term, Condition, Assertion}
 use Rattle.qs_assert.specs.declared.define.Amount.{Amount}
-use Rattle.qs_assert.specs.declared.define.Amount.TheVariants.{Finite, Infinite, Wide}
-use Rattle.qs_assert.specs.Trees.{TermTree, number, variable, add, sub, mul, div, wrapu, wraps, bits, TermTrees, CondTree, le, lt, eq, ne, not, and, or, CondTrees, AssertionTree, natural, infinity, cost, num, total, greatest, product, guard, choose, named, AssertionTrees, no_assertions, assertion_and, terms_of, conds_of, assertions_of}
+use Rattle.qs_assert.specs.declared.define.Amount.TheVariants.{Infinite, Wide}
+use Rattle.qs_assert.specs.Trees.{TermTree, add, mul, CondTree, and, or, AssertionTree, total, greatest, product, guard, choose, named, terms_of, conds_of, assertions_of}
 use Rattle.qs_assert.specs.Listing.{assertion_nodes}
 use Rattle.qs_assert.specs.Reading.{first_term, first_cond, first_assertion, others, plant_term, plant_cond, plant_assertion, plant_node, plant_nodes, Forest, no_trees, assertion_read}
 use Rattle.qs_assert.specs.Values.{State, term_value, sum_of_terms, product_of_terms, quotient, wrapped_unsigned, wrapped_signed, bit_length, holds, all_hold, some_holds, Extended, finite, infinite, value, sum_of, greatest_of, product_of, plus, greater, times, natural_part}

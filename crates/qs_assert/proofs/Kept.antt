@@ -1,5 +1,5 @@
 -- A list of the nodes of a tree is that tree.
-use Rattle.std.proofs.Common.{◌≡◌, List, [], ◌∷◌, ◌++◌, length, ap, ◌∙◌, sym, append_assoc}
+use Rattle.std.proofs.Common.{◌≡◌, List, ◌∷◌, ◌++◌, length, ap, ◌∙◌, sym, append_assoc}
 use Rattle.qs_assert.specs.declared.node.TermNode.{TermNode}
 use Rattle.qs_assert.specs.declared.node.TermNode.TheVariants.{Add, Mul}
 use Rattle.qs_assert.specs.declared.node.CondNode.TheVariants.{And, Or}

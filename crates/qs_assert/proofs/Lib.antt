@@ -1,3 +1,4 @@
+mod Examples
 pub mod Agreement
 pub mod BitLengths
 pub mod Evaluated

@@ -5,17 +5,15 @@ use Rattle.std.proofs.Math.ListN.{drop_of_length-le}
 use Rattle.std.proofs.lemmas.List.{map-append}
 use Rattle.qs_assert.specs.declared.variable.Var.{Var}
 use Rattle.qs_assert.specs.declared.node.TermNode.{TermNode}
-use Rattle.qs_assert.specs.declared.node.TermNode.TheVariants.{Number, Variable, Add, Sub, Mul, Div, WrapUnsigned, WrapSigned, Bits}
-use Rattle.qs_assert.specs.declared.node.CondNode.{CondNode}
+use Rattle.qs_assert.specs.declared.node.TermNode.TheVariants.{Variable, Add, Sub, Mul, Div, WrapUnsigned, WrapSigned, Bits}
 use Rattle.qs_assert.specs.declared.node.CondNode.TheVariants.{Le, Lt, Eq, Ne, Not, And, Or}
-use Rattle.qs_assert.specs.declared.node.AssertionNode.{AssertionNode}
-use Rattle.qs_assert.specs.declared.node.AssertionNode.TheVariants.{Natural, Infinity, Cost, Num, Total, Greatest, Product, Guard, If, Named}
+use Rattle.qs_assert.specs.declared.node.AssertionNode.TheVariants.{Num, Total, Greatest, Product, Guard, If}
 use Rattle.qs_assert.specs.declared.node.Node.{Node}
 use Rattle.qs_assert.specs.declared.node.Node.TheVariants.{Term, Condition, Assertion}
 use Rattle.qs_assert.specs.Trees.{TermTree, number, variable, add, sub, mul, div, wrapu, wraps, bits, TermTrees, no_terms, term_and, CondTree, le, lt, eq, ne, not, and, or, CondTrees, no_conds, cond_and, AssertionTree, natural, infinity, cost, num, total, greatest, product, guard, choose, named, AssertionTrees, no_assertions, assertion_and, term_list, cond_list, assertion_list}
-use Rattle.qs_assert.specs.Listing.{term_nodes, terms_nodes, inner_term, cond_nodes, conds_nodes, assertion_nodes, assertions_nodes}
+use Rattle.qs_assert.specs.Listing.{terms_nodes, inner_term, cond_nodes, conds_nodes, assertion_nodes, assertions_nodes}
 use Rattle.qs_assert.specs.Substitution.{in_term, in_terms, in_cond, in_conds, in_assertion, in_assertions, same_variable}
-use Rattle.qs_assert.specs.Replacing.{replacement, term_replacement}
+use Rattle.qs_assert.specs.Replacing.{replacement}
 
 abbrev pub replaced : Var → TermTree → List Node → List Node
 replaced x u [] = []

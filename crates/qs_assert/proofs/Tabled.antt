@@ -1,19 +1,18 @@
 -- The table of the definitions has their amounts.
-use Rattle.std.proofs.Common.{◌≡◌, ℕ, ℤ, pos, refl, ap, ◌∙◌, sym, Bool, true, false, List, [], ◌∷◌, ◌++◌, Option, Some, None}
+use Rattle.std.proofs.Common.{◌≡◌, ℕ, ℤ, refl, ap, ◌∙◌, sym, Bool, true, false, List, [], ◌∷◌, ◌++◌, Option, Some, None}
 use Rattle.std.specs.Prelude.{if◌then◌else◌, ◌&&◌, slice_index_or}
-use Rattle.qs_assert.specs.declared.variable.Var.{Var}
 use Rattle.qs_assert.specs.declared.define.Define.{Define}
 use Rattle.qs_assert.specs.declared.define.Amount.{Amount}
-use Rattle.qs_assert.specs.declared.define.Amount.TheVariants.{Finite, Infinite, Wide}
+use Rattle.qs_assert.specs.declared.define.Amount.TheVariants.{Infinite, Wide}
 use Rattle.qs_assert.specs.declared.evaluation.Known.{Known}
-use Rattle.qs_assert.specs.Trees.{AssertionTree, named, total, cost, assertion_and, no_assertions}
+use Rattle.qs_assert.specs.Trees.{AssertionTree, cost}
 use Rattle.qs_assert.specs.Listing.{assertion_nodes}
-use Rattle.qs_assert.specs.Values.{State, Extended, finite, infinite, value, or_infinite, plus}
-use Rattle.qs_assert.specs.Bounds.{Setting, wide, amount_of, amount_in, argument, same_name, is_defined, with_definition, with_definitions, at_entry, amount_at, bound_at}
-use Rattle.qs_assert.specs.Stacks.{Stacks, Meaning, steps, first_amount, joined_known, amount_known}
-use Rattle.qs_assert.specs.Evaluations.{found, meaning}
+use Rattle.qs_assert.specs.Values.{Extended, finite, value, or_infinite, plus}
+use Rattle.qs_assert.specs.Bounds.{Setting, wide, amount_of, amount_in, argument, same_name, with_definition, with_definitions, at_entry, amount_at, bound_at}
+use Rattle.qs_assert.specs.Stacks.{steps, first_amount, joined_known, amount_known}
+use Rattle.qs_assert.specs.Evaluations.{found}
 use Rattle.qs_assert.specs.Tables.{reckoned, tabled}
-use Rattle.qs_assert.proofs.Evaluated.{Named_by, meaning_in, evaluated, total_is}
+use Rattle.qs_assert.proofs.Evaluated.{Named_by, evaluated, total_is}
 
 abbrev given : Option Extended → Bool
 given (Some v) = true

@@ -1,6 +1,6 @@
 -- How the values of the nodes of a list come one from the other, the list being read from its end: each
 -- node takes the values of its parts from the front of a stack. A value is None or Wide where a part is wide.
-use Rattle.std.specs.Prelude.{ℕ, ◌+◌, ◌*◌, ◌==◌, max, ℤ, pos, ◌+ℤ◌, ◌-ℤ◌, ◌*ℤ◌, Bool, true, false, if◌then◌else◌, ◌&&◌, ◌||◌, int_le, int_lt, List, [], ◌∷◌, Option, Some, None, take, drop, slice_index_or}
+use Rattle.std.specs.Prelude.{ℕ, ℤ, pos, ◌+ℤ◌, ◌-ℤ◌, ◌*ℤ◌, Bool, true, false, if◌then◌else◌, ◌&&◌, ◌||◌, int_le, int_lt, List, [], ◌∷◌, Option, Some, None, take, drop}
 use Rattle.std.specs.Prelude.{not as flip}
 use Rattle.std.specs.Ordering.{int_eq}
 use Rattle.qs_assert.specs.declared.variable.Var.{Var}
@@ -16,7 +16,7 @@ use Rattle.qs_assert.specs.declared.define.Amount.{Amount}
 use Rattle.qs_assert.specs.declared.define.Amount.TheVariants.{Finite, Infinite, Wide}
 use Rattle.qs_assert.specs.Reading.{others}
 use Rattle.qs_assert.specs.Values.{Extended, finite, infinite, plus, greater, times, quotient, wrapped_unsigned, wrapped_signed, bit_length, natural_part}
-use Rattle.qs_assert.specs.Bounds.{is_wide, is_wide_value, amount_of, argument, same_name}
+use Rattle.qs_assert.specs.Bounds.{is_wide, is_wide_value, amount_of}
 
 abbrev pub first_or : {A : Type 0} → A → List A → A
 first_or otherwise [] = otherwise

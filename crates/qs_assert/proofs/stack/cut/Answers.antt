@@ -1,4 +1,4 @@
-use Rattle.std.proofs.Common.{ap, ◌∙◌, length, ◌-◌, List}
+use Rattle.std.proofs.Common.{ap, length}
 use Rattle.qs_assert.proofs.Reversed.{cut_at}
 use Rattle.qs_assert.proofs.stack.cut.Goals as goal
 

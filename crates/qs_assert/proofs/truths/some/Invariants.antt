@@ -1,4 +1,4 @@
-use Rattle.std.proofs.Common.{◌≡◌, take, reverse, true, false}
+use Rattle.std.proofs.Common.{◌≡◌, take, reverse, false}
 use Rattle.std.specs.Prelude.{◌||◌}
 use Rattle.qs_assert.specs.Stacks.{joined, some_none}
 use Rattle.qs_assert.proofs.truths.some.Given as goal

@@ -35,10 +35,7 @@ fn real_files_and_streams(rt: HostRuntime) -> Result<(), Fail> {
         (
             out.as_str(),
             source.as_str(),
-            Status::Source(SourceFault::Lex(
-                FaultKind::BadByte,
-                Pos { line: 1, column: 5 },
-            )),
+            Status::Source(SourceFault::Lex(FaultKind::BadByte, Pos { line: 1, column: 5 })),
         ),
         (
             "/tmp/qsc_test_no_such_file.c",

@@ -1,0 +1,4 @@
+pub mod Nodes
+pub mod Polynomials
+pub mod Codes
+pub mod Orders

@@ -1,0 +1,9 @@
+//! Exact polynomials with whole coefficients over atoms: variables, costs of functions, and num,
+//! div, wrapu, wraps and bits of a polynomial.
+#![tactic(auto)]
+
+mod code;
+mod node;
+mod variable;
+
+pub use variable::{NumberType, Var, VarKind};

@@ -10,7 +10,7 @@ use Rattle.qs_poly.specs.declared.node.Node.TheVariants.{Variable, Cost, Num, Di
 abbrev mutual
   pub code : AtomTree → List Node
   code (variable x) = Variable x ∷ []
-  code (cost f) = Cost f ∷ []
+  code (cost f) = Cost (record { 0 = f }) ∷ []
   code (num p) = Num ∷ polynomial_code p
   code (div p k) = Div k ∷ polynomial_code p
   code (wrapu p) = Wrapu ∷ polynomial_code p
@@ -56,7 +56,7 @@ read_term c (polynomial_on p r) = bottom
 
 abbrev pub read_node : Node → Read → Read
 read_node (Variable x) r = read_atom (variable x) r
-read_node (Cost f) r = read_atom (cost f) r
+read_node (Cost f) r = read_atom (cost f.0) r
 read_node Num r = read_head num r
 read_node (Div k) r = read_head (λ p. div p k) r
 read_node Wrapu r = read_head wrapu r

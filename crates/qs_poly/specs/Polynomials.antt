@@ -1,12 +1,12 @@
--- Polynomials with whole coefficients over atoms, as plain data. An atom may hold polynomials.
+-- Polynomials with whole coefficients over atoms, as plain data. An atom may hold polynomials. A
+-- function goes by its number.
 use Rattle.std.specs.Prelude.{ℕ, ℤ}
-use Rattle.qs_base.specs.declared.function.FnId.{FnId}
 use Rattle.qs_poly.specs.declared.variable.Var.{Var}
 
 mutual
   pub data AtomTree : Type 0 where
     variable : Var → AtomTree
-    cost : FnId → AtomTree
+    cost : ℕ → AtomTree
     num : Polynomial → AtomTree
     div : Polynomial → ℕ → AtomTree
     wrapu wraps bits : Polynomial → AtomTree

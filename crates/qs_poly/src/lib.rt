@@ -3,7 +3,9 @@
 #![tactic(auto)]
 
 mod code;
+mod fault;
 mod node;
 mod variable;
 
+pub use fault::PolyFault;
 pub use variable::{NumberType, Var, VarKind};

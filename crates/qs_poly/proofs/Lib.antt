@@ -1,3 +1,5 @@
 pub mod Ring
 pub mod Order
 pub mod Coefficients
+pub mod Steps
+pub mod Bounds

@@ -3,5 +3,7 @@ pub mod Polynomials
 pub mod Codes
 pub mod Orders
 pub mod Operations
+pub mod Views
+pub mod Terms
 pub mod Limits
 pub mod Canonical

@@ -4,7 +4,9 @@
 
 mod code;
 mod fault;
+mod monomial;
 mod node;
+mod terms;
 mod variable;
 
 pub use fault::PolyFault;

@@ -1,0 +1,104 @@
+// Lists of terms, sorted by their monomials.
+ghost use Rattle.std.specs.Prelude.{◌≡◌, ◌≢◌, ◌≤◌, ◌<◌, ◌^◌, ℤ, pos, ◌+ℤ◌, length, take, drop, IfOk, OnOk, MatchResult, unsigned_abs};
+ghost use Rattle.std.specs.Bool.{MatchBool};
+ghost use Rattle.qs_poly.specs.Operations.{plus_unless_zero, insert_term, sum, multiple, add_term_product, add_product};
+ghost use Rattle.qs_poly.specs.Polynomials.{nothing};
+ghost use Rattle.qs_poly.specs.Terms.{sum_of, terms_before, join_first, AllAtMost};
+
+use crate::monomial::Monomial;
+use qs_base::NoMemory;
+use std::alloc::Global;
+use std::cmp::Ordering;
+
+/// A coefficient times a monomial.
+#[derive(Drop, Debug)]
+pub struct Term {
+    pub coefficient: i128,
+    pub monomial: Monomial,
+}
+
+impl Term {
+    pub fn copy(&self, alloc: Global) -> Result<Term, NoMemory>
+        ensures { IfOk result (λ t. t ≡ self.now) }
+    {
+        Ok(Term {
+            coefficient: self.coefficient,
+            monomial: self.monomial.copy(alloc)?,
+        })
+    }
+}
+
+pub fn copy_terms(alloc: Global, from: &[Term]) -> Result<Vec<Term>, NoMemory>
+    ensures { IfOk result (λ to. to.items ≡ from.now) }
+{
+    let mut to = Vec::new(alloc);
+    for term in from {
+        to.push(term.copy(alloc)?)?;
+    }
+    Ok(to)
+}
+
+/// Where a monomial stands, or else where it goes.
+fn place_of(terms: &[Term], monomial: &Monomial) -> Result<usize, usize>
+    ensures within { MatchResult result (λ i. i < length terms.now) (λ i. i ≤ length terms.now) }
+    ensures place { (c : ℤ) → MatchResult result
+        (λ i. insert_term c monomial.now (sum_of terms.now) ≡ terms_before (take i terms.now) (join_first c (drop i terms.now)))
+        (λ i. insert_term c monomial.now (sum_of terms.now) ≡ terms_before (take i terms.now) (plus_unless_zero c monomial.now (sum_of (drop i terms.now)))) }
+{
+    for (i, term) in terms.iter().enumerate() {
+        match monomial.cmp(&term.monomial) {
+            Ordering::Greater => {}
+            Ordering::Equal => return Ok(i),
+            Ordering::Less => return Err(i),
+        }
+    }
+    Err(terms.len())
+}
+
+fn is_zero(x: i128) -> bool
+    ensures { MatchBool result (x ≡ pos 0) (x ≢ pos 0) }
+{
+    x == 0
+}
+
+/// Adds to the coefficient of a term, which goes where that makes 0.
+fn join(terms: &mut Vec<Term>, i: usize, coefficient: i128)
+    requires within { i < length terms.old.items }
+    requires small { unsigned_abs coefficient ≤ 2 ^ 125 }
+    requires all_small { AllAtMost (2 ^ 125) (sum_of terms.old.items) }
+    ensures { sum_of terms.new.items ≡ terms_before (take i terms.old.items) (join_first coefficient (drop i terms.old.items)) }
+{
+    let sum = coefficient + terms[i].coefficient;
+    if is_zero(sum) {
+        terms.remove(i);
+    } else {
+        terms[i].coefficient = sum;
+    }
+}
+
+/// Adds a coefficient times a monomial.
+pub fn insert_term(terms: &mut Vec<Term>, coefficient: i128, monomial: Monomial) -> Result<(), NoMemory>
+    requires small { unsigned_abs coefficient ≤ 2 ^ 125 }
+    requires all_small { AllAtMost (2 ^ 125) (sum_of terms.old.items) }
+    ensures { OnOk result (sum_of terms.new.items ≡ insert_term coefficient monomial (sum_of terms.old.items)) }
+{
+    match place_of(terms, &monomial) {
+        Ok(i) => {
+            join(terms, i, coefficient);
+            Ok(())
+        }
+        Err(i) => {
+            if is_zero(coefficient) {
+                return Ok(());
+            }
+            terms.insert(
+                i,
+                Term {
+                    coefficient,
+                    monomial,
+                },
+            )?;
+            Ok(())
+        }
+    }
+}

@@ -3,3 +3,4 @@ pub mod Order
 pub mod Coefficients
 pub mod Steps
 pub mod Bounds
+pub mod Limited

@@ -1,6 +1,6 @@
 -- One step of a search for a place, and what stands there afterwards.
 use Rattle.std.proofs.Common.{◌≡◌, ◌≢◌, ◌≤◌, ◌<◌, ◌+◌, ◌++◌, ℕ, zero, suc, List, [], ◌∷◌, take, drop, length, get_or, refl, sym, ap, ◌∙◌, arith, add-one}
-use Rattle.std.specs.Prelude.{ℤ, pos, negsuc, ◌+ℤ◌, slice_set}
+use Rattle.std.specs.Prelude.{ℤ, pos, negsuc, ◌+ℤ◌, ◌*ℤ◌, slice_set}
 use mir.Val.{SFits, to_z, of_z}
 use Rattle.std.specs.Int.{w128}
 use Rattle.std.proofs.lemmas.Int.{to_z-of_z}
@@ -67,10 +67,6 @@ sum_insert xs i a = go (take i xs) (drop i xs)
     go [] zs = refl
     go (y ∷ ys) zs = ap (λ p. plus y.coefficient y.monomial p) (go ys zs)
 
-pub sum_append : (ys zs : List Term) → sum_of (ys ++ zs) ≡ terms_before ys (sum_of zs)
-sum_append [] zs = refl
-sum_append (y ∷ ys) zs = ap (λ p. plus y.coefficient y.monomial p) (sum_append ys zs)
-
 all_of_it : (xs : List Term) (i : ℕ) → terms_before (take i xs) (sum_of (drop i xs)) ≡ sum_of xs
 all_of_it [] zero = refl
 all_of_it [] (suc i) = refl
@@ -107,6 +103,63 @@ changed xs ys i c d lt e h k = ap sum_of k ∙ go xs i lt e
     go [] i lt e = absurd (omega arith)
     go (x ∷ xs) zero lt e = sym (unless_not (c +ℤ d.coefficient) d.monomial (sum_of xs) h) ∙ ap (λ (y : Term). plus_unless_zero (c +ℤ y.coefficient) y.monomial (sum_of xs)) e
     go (x ∷ xs) (suc i) lt e = ap (λ p. plus x.coefficient x.monomial p) (go xs i (omega arith) e)
+
+-- a term put at the end
+pub pushed : (xs ys : List Term) (a : Term) (p : Polynomial) → a.coefficient ≢ pos 0 → ys ≡ xs ++ a ∷ [] → terms_before ys p ≡ terms_before xs (plus_unless_zero a.coefficient a.monomial p)
+pushed xs ys a p h e = ap (λ zs. terms_before zs p) e ∙ go xs
+  where
+    go : (zs : List Term) → terms_before (zs ++ a ∷ []) p ≡ terms_before zs (plus_unless_zero a.coefficient a.monomial p)
+    go [] = sym (unless_not a.coefficient a.monomial p h)
+    go (z ∷ zs) = ap (λ q. plus z.coefficient z.monomial q) (go zs)
+
+pub not_pushed : (xs : List Term) (c : ℤ) (m : Monomial) (p : Polynomial) → c ≡ pos 0 → terms_before xs p ≡ terms_before xs (plus_unless_zero c m p)
+not_pushed xs c m p h = ap (λ z. terms_before xs (plus_unless_zero z m p)) (sym h)
+
+pub none_after : (xs : List Term) → terms_before xs nothing ≡ sum_of xs
+none_after [] = refl
+none_after (x ∷ xs) = ap (λ p. plus x.coefficient x.monomial p) (none_after xs)
+
+pub nothing_left : (xs : List Term) (i : ℕ) → length xs ≤ i → drop i xs ≡ []
+nothing_left [] zero h = refl
+nothing_left [] (suc i) h = refl
+nothing_left (x ∷ xs) zero h = absurd (omega arith)
+nothing_left (x ∷ xs) (suc i) h = nothing_left xs i (omega arith)
+
+-- ---- one step of a sum, a multiple or a product
+
+sum_step : (xs : List Term) (i : ℕ) (d : Term) (q : Polynomial) → i < length xs → d ≡ get_or xs i d → sum (sum_of (drop i xs)) q ≡ sum (sum_of (drop (suc i) xs)) (insert_term d.coefficient d.monomial q)
+sum_step [] i d q lt e = absurd (omega arith)
+sum_step (x ∷ xs) zero d q lt e = ap (λ (y : Term). sum (sum_of xs) (insert_term y.coefficient y.monomial q)) (sym e)
+sum_step (x ∷ xs) (suc i) d q lt e = sum_step xs i d q (omega arith) e
+
+pub term_added : (xs : List Term) (i : ℕ) (d : Term) (q : Polynomial) → i < length xs → d ≡ get_or xs i d → sum (sum_of (drop i xs)) q ≡ sum (sum_of (drop (i + 1) xs)) (insert_term d.coefficient d.monomial q)
+term_added xs i d q lt e = rw add-one (sum_step xs i d q lt e)
+
+multiple_step : (k : ℤ) (xs : List Term) (i : ℕ) (d : Term) → i < length xs → d ≡ get_or xs i d → multiple k (sum_of (drop i xs)) ≡ plus_unless_zero (k *ℤ d.coefficient) d.monomial (multiple k (sum_of (drop (suc i) xs)))
+multiple_step k [] i d lt e = absurd (omega arith)
+multiple_step k (x ∷ xs) zero d lt e = ap (λ (y : Term). plus_unless_zero (k *ℤ y.coefficient) y.monomial (multiple k (sum_of xs))) (sym e)
+multiple_step k (x ∷ xs) (suc i) d lt e = multiple_step k xs i d (omega arith) e
+
+pub term_scaled : (k : ℤ) (xs : List Term) (i : ℕ) (d : Term) → i < length xs → d ≡ get_or xs i d → multiple k (sum_of (drop i xs)) ≡ plus_unless_zero (k *ℤ d.coefficient) d.monomial (multiple k (sum_of (drop (i + 1) xs)))
+term_scaled k xs i d lt e = rw add-one (multiple_step k xs i d lt e)
+
+term_product_step : (c : ℤ) (m : Monomial) (xs : List Term) (i : ℕ) (d : Term) (q : Polynomial) → i < length xs → d ≡ get_or xs i d → add_term_product c m (sum_of (drop i xs)) q ≡ add_term_product c m (sum_of (drop (suc i) xs)) (insert_term (c *ℤ d.coefficient) (monomial_product m d.monomial) q)
+term_product_step c m [] i d q lt e = absurd (omega arith)
+term_product_step c m (x ∷ xs) zero d q lt e = ap (λ (y : Term). add_term_product c m (sum_of xs) (insert_term (c *ℤ y.coefficient) (monomial_product m y.monomial) q)) (sym e)
+term_product_step c m (x ∷ xs) (suc i) d q lt e = term_product_step c m xs i d q (omega arith) e
+
+pub term_multiplied : (c : ℤ) (m : Monomial) (xs : List Term) (i : ℕ) (d : Term) (q : Polynomial) → i < length xs → d ≡ get_or xs i d → add_term_product c m (sum_of (drop i xs)) q ≡ add_term_product c m (sum_of (drop (i + 1) xs)) (insert_term (c *ℤ d.coefficient) (monomial_product m d.monomial) q)
+term_multiplied c m xs i d q lt e = rw add-one (term_product_step c m xs i d q lt e)
+
+product_terms_step : (xs : List Term) (i : ℕ) (d : Term) (p q : Polynomial) → i < length xs → d ≡ get_or xs i d → add_product (sum_of (drop i xs)) p q ≡ add_product (sum_of (drop (suc i) xs)) p (add_term_product d.coefficient d.monomial p q)
+product_terms_step [] i d p q lt e = absurd (omega arith)
+product_terms_step (x ∷ xs) zero d p q lt e = ap (λ (y : Term). add_product (sum_of xs) p (add_term_product y.coefficient y.monomial p q)) (sym e)
+product_terms_step (x ∷ xs) (suc i) d p q lt e = product_terms_step xs i d p q (omega arith) e
+
+pub product_added : (xs : List Term) (i : ℕ) (d : Term) (p q : Polynomial) → i < length xs → d ≡ get_or xs i d → add_product (sum_of (drop i xs)) p q ≡ add_product (sum_of (drop (i + 1) xs)) p (add_term_product d.coefficient d.monomial p q)
+product_added xs i d p q lt e = rw add-one (product_terms_step xs i d p q lt e)
+
+-- ---- numbers and items as the code has them
 
 -- a sum as the code computes it
 pub computed_sum : (a b : ℤ) → SFits w128 a → SFits w128 b → SFits w128 (a +ℤ b) → to_z w128 (of_z w128 (to_z w128 (of_z w128 a) +ℤ to_z w128 (of_z w128 b))) ≡ a +ℤ b

@@ -1,6 +1,7 @@
 -- The limits of polynomials: coefficients from -2^56 to 2^56, at most 64 terms, and degree at most 4.
 use Rattle.std.specs.Prelude.{◌≡◌, ℕ, ◌+◌, ◌^◌, ℤ, Bool, true, ◌&&◌, nat_le, if◌then◌else◌, unsigned_abs, Result, Ok, Err}
 use Rattle.qs_poly.specs.Polynomials.{Monomial, one, times, Polynomial, nothing, plus}
+use Rattle.qs_poly.specs.Canonical.{IsCanonical}
 use Rattle.qs_poly.specs.declared.fault.PolyFault.{PolyFault}
 use Rattle.qs_poly.specs.declared.fault.PolyFault.TheVariants.{NoMemory, Wide, ManyTerms, HighDegree}
 
@@ -42,7 +43,9 @@ Gives (Err Wide) q = within q ≡ Err Wide
 Gives (Err ManyTerms) q = within q ≡ Err ManyTerms
 Gives (Err HighDegree) q = within q ≡ Err HighDegree
 
-pub record IsWithin (p : Polynomial) : Type 0 where
+-- what is true of each polynomial that the operations answer
+pub record IsPolynomial (p : Polynomial) : Type 0 where
+  pub canonical : IsCanonical p
   pub narrow : all_narrow p ≡ true
   pub few_terms : has_few_terms p ≡ true
   pub low : all_low p ≡ true

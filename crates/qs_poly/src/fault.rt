@@ -21,18 +21,33 @@ pub enum PolyFault {
 }
 
 impl From<NoMemory> for PolyFault {
+    ghost use Rattle.std.specs.Prelude.{◌≡◌};
+    ghost use Rattle.qs_poly.specs.declared.fault.PolyFault.TheVariants.{NoMemory};
+
+    ghost from_gives = { λ _ fault. fault ≡ NoMemory };
+
     fn from(_fault: NoMemory) -> PolyFault {
         PolyFault::NoMemory
     }
 }
 
 impl From<AllocError> for PolyFault {
+    ghost use Rattle.std.specs.Prelude.{◌≡◌};
+    ghost use Rattle.qs_poly.specs.declared.fault.PolyFault.TheVariants.{NoMemory};
+
+    ghost from_gives = { λ _ fault. fault ≡ NoMemory };
+
     fn from(_fault: AllocError) -> PolyFault {
         PolyFault::NoMemory
     }
 }
 
 impl<T: Drop> From<AllocFailed<T>> for PolyFault {
+    ghost use Rattle.std.specs.Prelude.{◌≡◌};
+    ghost use Rattle.qs_poly.specs.declared.fault.PolyFault.TheVariants.{NoMemory};
+
+    ghost from_gives = { λ _ fault. fault ≡ NoMemory };
+
     fn from(_fault: AllocFailed<T>) -> PolyFault {
         PolyFault::NoMemory
     }

@@ -6,8 +6,11 @@ mod code;
 mod fault;
 mod monomial;
 mod node;
+mod poly;
+mod sums;
 mod terms;
 mod variable;
 
 pub use fault::PolyFault;
+pub use poly::Poly;
 pub use variable::{NumberType, Var, VarKind};

@@ -1,8 +1,8 @@
 // Lists of terms, sorted by their monomials.
-ghost use Rattle.std.specs.Prelude.{◌≡◌, ◌≢◌, ◌≤◌, ◌<◌, ◌^◌, ℤ, pos, ◌+ℤ◌, length, take, drop, IfOk, OnOk, MatchResult, unsigned_abs};
+ghost use Rattle.std.specs.Prelude.{◌≡◌, ◌≢◌, ◌≤◌, ◌<◌, ◌^◌, ℤ, pos, ◌+ℤ◌, ◌*ℤ◌, length, take, drop, IfOk, OnOk, MatchResult, unsigned_abs};
 ghost use Rattle.std.specs.Bool.{MatchBool};
-ghost use Rattle.qs_poly.specs.Operations.{plus_unless_zero, insert_term, sum, multiple, add_term_product, add_product};
-ghost use Rattle.qs_poly.specs.Polynomials.{nothing};
+ghost use Rattle.qs_poly.specs.Operations.{plus_unless_zero, insert_term, monomial_product};
+ghost use Rattle.qs_poly.specs.Polynomials.{Polynomial};
 ghost use Rattle.qs_poly.specs.Terms.{sum_of, terms_before, join_first, AllAtMost};
 
 use crate::monomial::Monomial;
@@ -17,6 +17,15 @@ pub struct Term {
     pub monomial: Monomial,
 }
 
+/// A product of coefficients.
+fn times(a: i128, b: i128) -> i128
+    requires a_small { unsigned_abs a ≤ 2 ^ 63 }
+    requires b_small { unsigned_abs b ≤ 2 ^ 56 }
+    ensures { result ≡ a *ℤ b }
+{
+    a * b
+}
+
 impl Term {
     pub fn copy(&self, alloc: Global) -> Result<Term, NoMemory>
         ensures { IfOk result (λ t. t ≡ self.now) }
@@ -24,6 +33,29 @@ impl Term {
         Ok(Term {
             coefficient: self.coefficient,
             monomial: self.monomial.copy(alloc)?,
+        })
+    }
+
+    /// k times the term.
+    pub fn scale(&self, alloc: Global, k: i64) -> Result<Term, NoMemory>
+        requires narrow { unsigned_abs self.now.coefficient ≤ 2 ^ 56 }
+        ensures { IfOk result (λ t. t ≡ record { coefficient = k *ℤ self.now.coefficient; monomial = self.now.monomial }) }
+    {
+        Ok(Term {
+            coefficient: times(i128::from(k), self.coefficient),
+            monomial: self.monomial.copy(alloc)?,
+        })
+    }
+
+    /// The product of two terms.
+    pub fn multiply(&self, alloc: Global, other: &Term) -> Result<Term, NoMemory>
+        requires narrow { unsigned_abs self.now.coefficient ≤ 2 ^ 56 }
+        requires narrow_other { unsigned_abs other.now.coefficient ≤ 2 ^ 56 }
+        ensures { IfOk result (λ t. t ≡ record { coefficient = self.now.coefficient *ℤ other.now.coefficient; monomial = monomial_product self.now.monomial other.now.monomial }) }
+    {
+        Ok(Term {
+            coefficient: times(self.coefficient, other.coefficient),
+            monomial: self.monomial.multiply(alloc, &other.monomial)?,
         })
     }
 }
@@ -76,29 +108,34 @@ fn join(terms: &mut Vec<Term>, i: usize, coefficient: i128)
     }
 }
 
-/// Adds a coefficient times a monomial.
-pub fn insert_term(terms: &mut Vec<Term>, coefficient: i128, monomial: Monomial) -> Result<(), NoMemory>
-    requires small { unsigned_abs coefficient ≤ 2 ^ 125 }
+/// Adds a term.
+pub fn insert_term(terms: &mut Vec<Term>, term: Term) -> Result<(), NoMemory>
+    requires small { unsigned_abs term.coefficient ≤ 2 ^ 125 }
     requires all_small { AllAtMost (2 ^ 125) (sum_of terms.old.items) }
-    ensures { OnOk result (sum_of terms.new.items ≡ insert_term coefficient monomial (sum_of terms.old.items)) }
+    ensures { OnOk result (sum_of terms.new.items ≡ insert_term term.coefficient term.monomial (sum_of terms.old.items)) }
 {
-    match place_of(terms, &monomial) {
+    match place_of(terms, &term.monomial) {
         Ok(i) => {
-            join(terms, i, coefficient);
+            join(terms, i, term.coefficient);
             Ok(())
         }
         Err(i) => {
-            if is_zero(coefficient) {
+            if is_zero(term.coefficient) {
                 return Ok(());
             }
-            terms.insert(
-                i,
-                Term {
-                    coefficient,
-                    monomial,
-                },
-            )?;
+            terms.insert(i, term)?;
             Ok(())
         }
     }
+}
+
+/// Puts a term at the end, unless its coefficient is 0.
+pub fn push_unless_zero(terms: &mut Vec<Term>, term: Term) -> Result<(), NoMemory>
+    ensures { OnOk result ((p : Polynomial) → terms_before terms.new.items p ≡ terms_before terms.old.items (plus_unless_zero term.coefficient term.monomial p)) }
+{
+    if is_zero(term.coefficient) {
+        return Ok(());
+    }
+    terms.push(term)?;
+    Ok(())
 }

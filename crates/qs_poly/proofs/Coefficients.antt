@@ -9,7 +9,7 @@ use Rattle.std.proofs.lemmas.Int.{ints}
 use Rattle.std.proofs.lemmas.Cmp.{upto}
 use Rattle.qs_poly.specs.Polynomials.{AtomTree, variable, cost, num, div, wrapu, wraps, bits, Monomial, one, times, Polynomial, nothing, plus}
 use Rattle.qs_poly.specs.Orders.{atom_cmp, monomial_cmp, atom_cmp_total, monomial_cmp_total}
-use Rattle.qs_poly.specs.Operations.{by_order, insert_atom, monomial_product, plus_unless_zero, insert_term, sum, multiple, add_term_product, add_product, product, number, atom}
+use Rattle.qs_poly.specs.Operations.{by_order, insert_atom, monomial_product, plus_unless_zero, insert_term, sum, multiple, add_term_product, add_product, product, number, single}
 use Rattle.qs_poly.specs.Canonical.{where_same, coefficient, term_product_coefficient, product_coefficient, NotBefore, IsBefore, IsCanonicalAtom, IsCanonicalMonomial, IsCanonical}
 use Rattle.qs_poly.proofs.Ring.{mul_add, add_mul}
 use Rattle.qs_poly.proofs.Order.{monomial_equal, monomial_less, monomial_itself, atom_not_after}
@@ -224,5 +224,5 @@ product_canonical p q x y = add_product_canonical p q nothing x y tt
 pub number_canonical : (k : ℤ) → IsCanonical (number k)
 number_canonical k = unless_canonical k one nothing tt tt tt
 
-pub atom_canonical : (a : AtomTree) → IsCanonicalAtom a → IsCanonical (atom a)
-atom_canonical a c = ((λ e. cc), (c, tt, tt), tt, tt)
+pub single_canonical : (a : AtomTree) → IsCanonicalAtom a → IsCanonical (single a)
+single_canonical a c = ((λ e. cc), (c, tt, tt), tt, tt)

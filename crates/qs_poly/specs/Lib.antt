@@ -7,3 +7,4 @@ pub mod Views
 pub mod Terms
 pub mod Limits
 pub mod Canonical
+pub mod Atoms

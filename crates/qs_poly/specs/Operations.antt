@@ -59,5 +59,5 @@ product p q = add_product p q nothing
 abbrev pub number : ℤ → Polynomial
 number k = plus_unless_zero k one nothing
 
-abbrev pub atom : AtomTree → Polynomial
-atom a = plus (pos 1) (times a one) nothing
+abbrev pub single : AtomTree → Polynomial
+single a = plus (pos 1) (times a one) nothing

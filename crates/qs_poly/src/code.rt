@@ -4,6 +4,7 @@ ghost use Rattle.std.proofs.Common.{rules};
 ghost use Rattle.std.specs.Cmp.{partial_order_from_own_ties};
 ghost use Rattle.std.specs.Cmp.Rules.{comparing};
 ghost use Rattle.std.specs.Ordering.{as_partial_cmp, eq_by_cmp};
+ghost use Rattle.qs_poly.specs.Codes.{atom_of, code, IsCode};
 ghost use Rattle.qs_poly.specs.Orders.{atom_cmp, atom_cmp_total};
 
 use crate::node::Node;
@@ -34,6 +35,21 @@ impl Model for AtomCode {
 }
 
 impl AtomCode {
+    /// The atom with this code.
+    pub fn new(nodes: Vec<Node>) -> AtomCode
+        requires { IsCode nodes.items }
+        ensures { result ≡ atom_of nodes.items }
+    {
+        AtomCode { nodes }
+    }
+
+    /// The code.
+    pub fn nodes(&self) -> &[Node]
+        ensures { result.now ≡ code self.now }
+    {
+        &self.nodes
+    }
+
     pub fn copy(&self, alloc: Global) -> Result<AtomCode, NoMemory>
         ensures { IfOk result (λ a. a ≡ self.now) }
     {

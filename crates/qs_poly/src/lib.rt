@@ -2,6 +2,7 @@
 //! div, wrapu, wraps and bits of a polynomial.
 #![tactic(auto)]
 
+mod atom;
 mod code;
 mod fault;
 mod monomial;
@@ -11,6 +12,7 @@ mod sums;
 mod terms;
 mod variable;
 
+pub use atom::Atom;
 pub use fault::PolyFault;
 pub use poly::Poly;
 pub use variable::{NumberType, Var, VarKind};

@@ -1,17 +1,17 @@
 // Polynomials, and the operations on them.
-ghost use Rattle.std.specs.Prelude.{◌≡◌, ◌==◌, ◌≤◌, true, length, IfOk, unsigned_abs, nat_le, ℕ, ℤ};
-ghost use Rattle.std.proofs.Common.{rules};
-ghost use Rattle.std.specs.Cmp.Lexicographic.{pointwise};
-ghost use Rattle.qs_poly.specs.Polynomials.{Polynomial};
-ghost use Rattle.qs_poly.specs.Canonical.{IsCanonical};
-ghost use Rattle.qs_poly.specs.Operations.{number, sum, multiple, product};
+ghost use Rattle.std.specs.Prelude.{◌≡◌, IfOk};
+ghost use Rattle.std.specs.Cmp.{partial_equiv_from_equiv};
+ghost use Rattle.qs_poly.specs.Canonical.{IsCanonical, IsCanonicalAtom};
+ghost use Rattle.qs_poly.specs.Operations.{number, single, sum, multiple, product};
 ghost use Rattle.qs_poly.specs.Limits.{is_narrow, all_narrow, count_terms, has_few_terms, is_low, all_low, Gives, IsPolynomial};
-ghost use Rattle.qs_poly.specs.Terms.{sum_of};
+ghost use Rattle.qs_poly.specs.Terms.{polynomial_eq, polynomial_eq_equivalence, sum_of, terms};
 
+use crate::code::AtomCode;
 use crate::fault::PolyFault;
 use crate::monomial::Monomial;
 use crate::sums::{add_terms, multiply_terms, scale_terms};
 use crate::terms::{Term, copy_terms, insert_term};
+use qs_base::NoMemory;
 use std::alloc::Global;
 use std::marker::Model;
 
@@ -133,6 +133,37 @@ impl Poly {
         limited(multiply_terms(alloc, &self.terms, &b.terms)?)
     }
 
+    /// The polynomial of one atom.
+    pub(crate) fn single(alloc: Global, atom: AtomCode) -> Result<Poly, NoMemory>
+        requires canonical { IsCanonicalAtom atom }
+        ensures { IfOk result (λ p. p ≡ single atom) }
+    {
+        let mut terms = Vec::new(alloc);
+        terms.push(Term {
+            coefficient: 1,
+            monomial: Monomial::single(alloc, atom)?,
+        })?;
+        Ok(Poly { terms })
+    }
+
+    /// The terms in order.
+    #[tactic(auto, using(crate::specs::Terms::terms_of_sum))]
+    pub(crate) fn terms(&self) -> &[Term]
+        ensures terms { result.now ≡ terms self.now }
+        ensures polynomial { IsPolynomial self.now }
+    {
+        &self.terms
+    }
+
+    /// A polynomial that is equal.
+    pub fn copy(&self, alloc: Global) -> Result<Poly, NoMemory>
+        ensures { IfOk result (λ p. p ≡ self.now) }
+    {
+        Ok(Poly {
+            terms: copy_terms(alloc, &self.terms)?,
+        })
+    }
+
     /// The count of terms.
     #[tactic(auto, using(crate::proofs::Steps::count_is))]
     pub fn count(&self) -> usize
@@ -141,4 +172,19 @@ impl Poly {
     {
         self.terms.len()
     }
+}
+
+impl PartialEq for Poly {
+    ghost eq = { polynomial_eq };
+
+    ghost laws = { partial_equiv_from_equiv polynomial_eq_equivalence };
+
+    #[tactic(auto, using(crate::specs::Terms::terms_of_sum))]
+    fn eq(&self, other: &Poly) -> bool {
+        self.terms == other.terms
+    }
+}
+
+impl Eq for Poly {
+    ghost laws = { polynomial_eq_equivalence };
 }

@@ -36,6 +36,14 @@ impl Term {
         })
     }
 
+    /// The coefficient.
+    pub fn narrow_coefficient(&self) -> i64
+        requires narrow { unsigned_abs self.now.coefficient ≤ 2 ^ 56 }
+        ensures { result ≡ self.now.coefficient }
+    {
+        self.coefficient as i64
+    }
+
     /// k times the term.
     pub fn scale(&self, alloc: Global, k: i64) -> Result<Term, NoMemory>
         requires narrow { unsigned_abs self.now.coefficient ≤ 2 ^ 56 }
@@ -58,6 +66,25 @@ impl Term {
             monomial: self.monomial.multiply(alloc, &other.monomial)?,
         })
     }
+}
+
+impl PartialEq for Term {
+    ghost use Rattle.std.specs.Cmp.{partial_equiv_from_equiv};
+    ghost use Rattle.qs_poly.specs.Terms.{term_eq, term_eq_equivalence};
+
+    ghost eq = { term_eq };
+
+    ghost laws = { partial_equiv_from_equiv term_eq_equivalence };
+
+    fn eq(&self, other: &Term) -> bool {
+        self.coefficient == other.coefficient && self.monomial == other.monomial
+    }
+}
+
+impl Eq for Term {
+    ghost use Rattle.qs_poly.specs.Terms.{term_eq_equivalence};
+
+    ghost laws = { term_eq_equivalence };
 }
 
 pub fn copy_terms(alloc: Global, from: &[Term]) -> Result<Vec<Term>, NoMemory>

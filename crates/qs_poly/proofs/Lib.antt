@@ -4,3 +4,4 @@ pub mod Coefficients
 pub mod Steps
 pub mod Bounds
 pub mod Limited
+pub mod CodeSteps

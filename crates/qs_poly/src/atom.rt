@@ -58,7 +58,7 @@ fn push_polynomial(nodes: &mut Vec<Node>, poly: &Poly) -> Result<(), NoMemory>
 /// The code of a polynomial after a head.
 fn headed(alloc: Global, head: Node, poly: &Poly) -> Result<Vec<Node>, NoMemory>
     ensures code { IfOk result (λ nodes. nodes.items ≡ head ∷ polynomial_code poly.now) }
-    ensures canonical { IsCanonical poly.now }
+    ensures canonical { OnOk result (IsCanonical poly.now) }
 {
     let mut nodes = Vec::new(alloc);
     nodes.push(head)?;

@@ -1,0 +1,8 @@
+use Rattle.qs_assert.specs.Trees as trees
+use Rattle.qs_assert.proofs.tree.Term.wrapu.Goals as goal
+
+pub from_nodes-requires : goal.from_nodes-requires
+from_nodes-requires c = (trees.wrapu c.args.t.now, c.in_ok-nodes.ensures)
+
+pub returns : goal.returns
+returns c = c.from_nodes.ensures (trees.wrapu c.args.t.now) c.in_ok-nodes.ensures

@@ -1,0 +1,9 @@
+pub mod Bounds
+pub mod Codes
+pub mod Listing
+pub mod Reading
+pub mod Replacing
+pub mod Sameness
+pub mod Substitution
+pub mod Trees
+pub mod Values

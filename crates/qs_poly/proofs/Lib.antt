@@ -5,3 +5,5 @@ pub mod Steps
 pub mod Bounds
 pub mod Limited
 pub mod CodeSteps
+pub mod ValueLaws
+pub mod Equality

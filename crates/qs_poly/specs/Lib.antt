@@ -8,3 +8,4 @@ pub mod Terms
 pub mod Limits
 pub mod Canonical
 pub mod Atoms
+pub mod Values

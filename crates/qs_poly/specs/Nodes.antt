@@ -4,11 +4,11 @@ use Rattle.std.specs.Ordering.{nat_cmp, int_cmp, on, then_cmp}
 use Rattle.std.specs.declared.cmp.Ordering.{Ordering}
 use Rattle.std.specs.Coded.{Coded, code_by, coded×, coded_ℕ, coded_ℤ}
 use Rattle.qs_base.specs.declared.function.FnId.{FnId}
-use Rattle.qs_poly.specs.declared.variable.NumberType.{NumberType}
-use Rattle.qs_poly.specs.declared.variable.NumberType.TheVariants.{Int, Unsigned, Char}
-use Rattle.qs_poly.specs.declared.variable.Var.{Var}
-use Rattle.qs_poly.specs.declared.variable.VarKind.{VarKind}
-use Rattle.qs_poly.specs.declared.variable.VarKind.TheVariants.{Plain, Temporary, Old, Returned}
+use Rattle.qs_assert.specs.declared.variable.NumberType.{NumberType}
+use Rattle.qs_assert.specs.declared.variable.NumberType.TheVariants.{Int, Unsigned, Char}
+use Rattle.qs_assert.specs.declared.variable.Var.{Var}
+use Rattle.qs_assert.specs.declared.variable.VarKind.{VarKind}
+use Rattle.qs_assert.specs.declared.variable.VarKind.TheVariants.{Plain, Temporary, Old, Returned}
 use Rattle.qs_poly.specs.declared.node.Node.{Node}
 use Rattle.qs_poly.specs.declared.node.Node.TheVariants.{Variable, Cost, Num, Div, Wrapu, Wraps, Bits, Coefficient, EndOfTerm, EndOfPoly}
 

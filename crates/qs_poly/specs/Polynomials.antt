@@ -1,7 +1,7 @@
 -- Polynomials with whole coefficients over atoms, as plain data. An atom may hold polynomials. A
 -- function goes by its number.
 use Rattle.std.specs.Prelude.{ℕ, ℤ}
-use Rattle.qs_poly.specs.declared.variable.Var.{Var}
+use Rattle.qs_assert.specs.declared.variable.Var.{Var}
 
 mutual
   pub data AtomTree : Type 0 where

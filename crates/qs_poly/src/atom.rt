@@ -9,7 +9,7 @@ use crate::code::AtomCode;
 use crate::monomial::Monomial;
 use crate::node::Node;
 use crate::poly::Poly;
-use crate::variable::Var;
+use qs_assert::Var;
 use qs_base::{FnId, NoMemory};
 use std::alloc::Global;
 

@@ -10,9 +10,7 @@ mod node;
 mod poly;
 mod sums;
 mod terms;
-mod variable;
 
 pub use atom::Atom;
 pub use fault::PolyFault;
 pub use poly::Poly;
-pub use variable::{NumberType, Var, VarKind};

@@ -6,7 +6,7 @@ ghost use Rattle.std.specs.Cmp.Rules.{comparing};
 ghost use Rattle.std.specs.Ordering.{as_partial_cmp, eq_by_cmp};
 ghost use Rattle.qs_poly.specs.Nodes.{node_cmp, node_number, node_rank, kind_rank, kind_number, type_rank};
 
-use crate::variable::{NumberType, Var, VarKind};
+use qs_assert::{NumberType, Var, VarKind};
 use qs_base::FnId;
 use std::cmp::Ordering;
 

@@ -14,3 +14,6 @@ mod terms;
 pub use atom::Atom;
 pub use fault::PolyFault;
 pub use poly::Poly;
+
+#[cfg(test)]
+mod tests;

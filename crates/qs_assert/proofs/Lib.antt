@@ -1,3 +1,9 @@
 pub mod Agreement
+pub mod BitLengths
+pub mod Evaluated
 pub mod Kept
+pub mod Known
 pub mod Replaced
+pub mod Reversed
+pub mod Same
+pub mod Tabled

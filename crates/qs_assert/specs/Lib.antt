@@ -1,9 +1,15 @@
 pub mod Bounds
 pub mod Codes
+pub mod Comparing
+pub mod Evaluations
+pub mod Joining
 pub mod Listing
 pub mod Reading
 pub mod Replacing
 pub mod Sameness
+pub mod Stacks
 pub mod Substitution
+pub mod Tables
+pub mod Totals
 pub mod Trees
 pub mod Values

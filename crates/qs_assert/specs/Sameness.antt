@@ -1,59 +1,71 @@
--- The test whether two trees are the same.
-use Rattle.std.specs.Prelude.{◌==◌, ◌&&◌, Bool, true, false}
+-- The test whether two trees are the same: whether their nodes are.
+use Rattle.std.specs.Prelude.{◌==◌, ◌&&◌, Bool, true, false, List, [], ◌∷◌}
 use Rattle.std.specs.Ordering.{int_eq}
-use Rattle.qs_assert.specs.Trees.{TermTree, number, variable, add, sub, mul, div, wrapu, wraps, bits, TermTrees, no_terms, term_and, CondTree, le, lt, eq, ne, not, and, or, CondTrees, no_conds, cond_and, AssertionTree, natural, infinity, cost, num, total, greatest, product, guard, choose, named, AssertionTrees, no_assertions, assertion_and}
+use Rattle.qs_assert.specs.declared.node.TermNode.{TermNode}
+use Rattle.qs_assert.specs.declared.node.TermNode.TheVariants.{Number, Variable, Add, Sub, Mul, Div, WrapUnsigned, WrapSigned, Bits}
+use Rattle.qs_assert.specs.declared.node.CondNode.{CondNode}
+use Rattle.qs_assert.specs.declared.node.CondNode.TheVariants.{Le, Lt, Eq, Ne, Not, And, Or}
+use Rattle.qs_assert.specs.declared.node.AssertionNode.{AssertionNode}
+use Rattle.qs_assert.specs.declared.node.AssertionNode.TheVariants.{Natural, Infinity, Cost, Num, Total, Greatest, Product, Guard, If, Named}
+use Rattle.qs_assert.specs.declared.node.Node.{Node}
+use Rattle.qs_assert.specs.declared.node.Node.TheVariants.{Term, Condition, Assertion}
+use Rattle.qs_assert.specs.Trees.{TermTree, CondTree, AssertionTree}
+use Rattle.qs_assert.specs.Listing.{term_nodes, cond_nodes, assertion_nodes}
 use Rattle.qs_assert.specs.Substitution.{same_variable}
 use Rattle.qs_assert.specs.Bounds.{same_name}
 
-abbrev mutual
-  pub same_term : TermTree → TermTree → Bool
-  same_term (number k) (number m) = int_eq k m
-  same_term (variable x) (variable y) = same_variable x y
-  same_term (add ts) (add us) = same_terms ts us
-  same_term (sub t u) (sub v w) = same_term t v && same_term u w
-  same_term (mul ts) (mul us) = same_terms ts us
-  same_term (div t k) (div u m) = same_term t u && (k == m)
-  same_term (wrapu t) (wrapu u) = same_term t u
-  same_term (wraps t) (wraps u) = same_term t u
-  same_term (bits t) (bits u) = same_term t u
-  same_term _ _ = false
+abbrev pub same_term_node : TermNode → TermNode → Bool
+same_term_node (Number k) (Number m) = int_eq k m
+same_term_node (Variable x) (Variable y) = same_variable x y
+same_term_node (Add n) (Add m) = n == m
+same_term_node Sub Sub = true
+same_term_node (Mul n) (Mul m) = n == m
+same_term_node (Div k) (Div m) = k == m
+same_term_node WrapUnsigned WrapUnsigned = true
+same_term_node WrapSigned WrapSigned = true
+same_term_node Bits Bits = true
+same_term_node _ _ = false
 
-  pub same_terms : TermTrees → TermTrees → Bool
-  same_terms no_terms no_terms = true
-  same_terms (term_and t ts) (term_and u us) = same_term t u && same_terms ts us
-  same_terms _ _ = false
+abbrev pub same_cond_node : CondNode → CondNode → Bool
+same_cond_node Le Le = true
+same_cond_node Lt Lt = true
+same_cond_node Eq Eq = true
+same_cond_node Ne Ne = true
+same_cond_node Not Not = true
+same_cond_node (And n) (And m) = n == m
+same_cond_node (Or n) (Or m) = n == m
+same_cond_node _ _ = false
 
-abbrev mutual
-  pub same_cond : CondTree → CondTree → Bool
-  same_cond (le t u) (le v w) = same_term t v && same_term u w
-  same_cond (lt t u) (lt v w) = same_term t v && same_term u w
-  same_cond (eq t u) (eq v w) = same_term t v && same_term u w
-  same_cond (ne t u) (ne v w) = same_term t v && same_term u w
-  same_cond (not c) (not d) = same_cond c d
-  same_cond (and cs) (and ds) = same_conds cs ds
-  same_cond (or cs) (or ds) = same_conds cs ds
-  same_cond _ _ = false
+abbrev pub same_assertion_node : AssertionNode → AssertionNode → Bool
+same_assertion_node (Natural n) (Natural m) = n == m
+same_assertion_node Infinity Infinity = true
+same_assertion_node (Cost f) (Cost g) = f.0 == g.0
+same_assertion_node Num Num = true
+same_assertion_node (Total n) (Total m) = n == m
+same_assertion_node (Greatest n) (Greatest m) = n == m
+same_assertion_node (Product n) (Product m) = n == m
+same_assertion_node Guard Guard = true
+same_assertion_node If If = true
+same_assertion_node (Named n) (Named m) = same_name n m
+same_assertion_node _ _ = false
 
-  pub same_conds : CondTrees → CondTrees → Bool
-  same_conds no_conds no_conds = true
-  same_conds (cond_and c cs) (cond_and d ds) = same_cond c d && same_conds cs ds
-  same_conds _ _ = false
+abbrev pub same_node : Node → Node → Bool
+same_node (Term a) (Term b) = same_term_node a b
+same_node (Condition a) (Condition b) = same_cond_node a b
+same_node (Assertion a) (Assertion b) = same_assertion_node a b
+same_node _ _ = false
 
-abbrev mutual
-  pub same_assertion : AssertionTree → AssertionTree → Bool
-  same_assertion (natural n) (natural m) = n == m
-  same_assertion infinity infinity = true
-  same_assertion (cost f) (cost g) = f == g
-  same_assertion (num t) (num u) = same_term t u
-  same_assertion (total parts) (total others) = same_assertions parts others
-  same_assertion (greatest parts) (greatest others) = same_assertions parts others
-  same_assertion (product parts) (product others) = same_assertions parts others
-  same_assertion (guard c a) (guard d b) = same_cond c d && same_assertion a b
-  same_assertion (choose c a b) (choose d v w) = same_cond c d && (same_assertion a v && same_assertion b w)
-  same_assertion (named n) (named m) = same_name n m
-  same_assertion _ _ = false
+abbrev pub all_same : {A : Type 0} → (A → A → Bool) → List A → List A → Bool
+all_same test [] [] = true
+all_same test (x ∷ xs) (y ∷ ys) = test x y && all_same test xs ys
+all_same test [] (y ∷ ys) = false
+all_same test (x ∷ xs) [] = false
 
-  pub same_assertions : AssertionTrees → AssertionTrees → Bool
-  same_assertions no_assertions no_assertions = true
-  same_assertions (assertion_and a parts) (assertion_and b others) = same_assertion a b && same_assertions parts others
-  same_assertions _ _ = false
+abbrev pub same_term : TermTree → TermTree → Bool
+same_term t u = all_same same_term_node (term_nodes t) (term_nodes u)
+
+abbrev pub same_cond : CondTree → CondTree → Bool
+same_cond c d = all_same same_node (cond_nodes c) (cond_nodes d)
+
+abbrev pub same_assertion : AssertionTree → AssertionTree → Bool
+same_assertion a b = all_same same_node (assertion_nodes a) (assertion_nodes b)

@@ -24,10 +24,11 @@ wrapped_unsigned z = int_rem_euclid z (pos (2 ^ 32))
 
 -- z modulo 2^32, from -2^31 to 2^31 - 1
 abbrev pub wrapped_signed : ℤ → ℤ
-wrapped_signed z = int_rem_euclid (z +ℤ pos (2 ^ 31)) (pos (2 ^ 32)) -ℤ pos (2 ^ 31)
+wrapped_signed z =
+    let low = wrapped_unsigned z in if int_lt low (pos (2 ^ 31)) then low else low -ℤ pos (2 ^ 32)
 
 -- the first number from k on, or the one so many steps on, to which as exponent 2 has a power above n
-pub least_power : ℕ → ℕ → ℕ → ℕ
+unfoldable pub least_power : ℕ → ℕ → ℕ → ℕ
 least_power zero k n = k
 least_power (suc steps) k n = elim (ltb n (2 ^ k)) [ true ↦ k | false ↦ least_power steps (suc k) n ]
 

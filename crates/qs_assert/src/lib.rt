@@ -1,16 +1,25 @@
 //! Terms, conditions and assertions of derivations: their trees, substitution, and their values.
 #![tactic(auto)]
 
+mod amounts;
 mod assertions;
+mod bound;
 mod conditions;
 mod define;
+mod evaluation;
 mod listing;
 mod node;
+mod numbers;
+mod sameness;
+mod stack;
 mod substitution;
 mod terms;
+mod total;
 mod tree;
+mod truths;
 mod variable;
 
+pub use bound::{bound_of, value_at};
 pub use define::{Amount, Define};
 pub use node::{AssertionNode, CondNode, Node, TermNode};
 pub use substitution::substitute;

@@ -1,0 +1,14 @@
+-- How the parts of a node are joined.
+use Rattle.qs_assert.specs.declared.amounts.Joining.{Joining}
+use Rattle.qs_assert.specs.declared.amounts.Joining.TheVariants.{Sum, Greatest, Product}
+use Rattle.qs_assert.specs.Values.{Extended, finite, plus, greater, times}
+
+abbrev pub operation : Joining → Extended → Extended → Extended
+operation Sum = plus
+operation Greatest = greater
+operation Product = times
+
+abbrev pub start : Joining → Extended
+start Sum = finite 0
+start Greatest = finite 0
+start Product = finite 1

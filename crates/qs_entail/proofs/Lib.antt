@@ -7,3 +7,4 @@ pub mod Numbers
 pub mod FactsHold
 pub mod Definitions
 pub mod Sound
+pub mod Examples

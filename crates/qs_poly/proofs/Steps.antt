@@ -36,14 +36,6 @@ product_insert xs i a = go (take i xs) (drop i xs)
     go [] zs = refl
     go (y ∷ ys) zs = ap (λ m. times y m) (go ys zs)
 
-product_step : (xs : List AtomTree) (i : ℕ) (d : AtomTree) (m : Monomial) → i < length xs → d ≡ get_or xs i d → monomial_product (product_of (drop i xs)) m ≡ monomial_product (product_of (drop (suc i) xs)) (insert_atom d m)
-product_step [] i d m lt e = absurd (omega arith)
-product_step (x ∷ xs) zero d m lt e = ap (λ y. monomial_product (product_of xs) (insert_atom y m)) (sym e)
-product_step (x ∷ xs) (suc i) d m lt e = product_step xs i d m (omega arith) e
-
-pub atom_multiplied : (xs : List AtomTree) (i : ℕ) (d : AtomTree) (m : Monomial) → i < length xs → d ≡ get_or xs i d → monomial_product (product_of (drop i xs)) m ≡ monomial_product (product_of (drop (i + 1) xs)) (insert_atom d m)
-atom_multiplied xs i d m lt e = rw add-one (product_step xs i d m lt e)
-
 -- ---- terms
 
 pub count_is : (xs : List Term) → count_terms (sum_of xs) ≡ length xs

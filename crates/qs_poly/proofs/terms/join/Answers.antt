@@ -32,4 +32,4 @@ returns-else-is_zero c =
     let g : SFits w128 (c.args.coefficient +ℤ d.coefficient) = sum_fits (2 ^ 125) (2 ^ 125) c.args.coefficient d.coefficient c.requires.small h (omega arith) in
     let k = computed_sum c.args.coefficient d.coefficient c.ranges.coefficient f g in
     changed c.args.terms.now.items _ c.args.i c.args.coefficient d c.requires.within c.index.ensures (λ z. c.if-is_zero.ensures (k ∙ z))
-      (set_same c.args.terms.now.items c.args.i _ _ c.index_mut.result.now d k (same_item c.args.terms.now.items c.args.i c.index_mut.result.now d c.requires.within c.index_mut.ensures.value c.index.ensures))
+    (set_same c.args.terms.now.items c.args.i _ _ c.index_mut.result.now d k (same_item c.args.terms.now.items c.args.i c.index_mut.result.now d c.requires.within c.index_mut.ensures.value c.index.ensures))

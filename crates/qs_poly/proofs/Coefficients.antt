@@ -1,17 +1,17 @@
 -- The operations have the coefficients that they should, and keep the canonical form; canonical
 -- polynomials with equal coefficients are equal.
-use Rattle.std.proofs.Common.{◌≡◌, ◌≢◌, ℕ, zero, suc, refl, sym, ap, ◌∙◌, arith, false}
+use Rattle.std.proofs.Common.{◌≡◌, zero, suc, refl, sym, ap, ◌∙◌, arith, false}
 use Rattle.std.specs.Prelude.{ℤ, pos, negsuc, ◌+ℤ◌, ◌*ℤ◌}
 use Rattle.std.specs.declared.cmp.Ordering.{Ordering}
 use Rattle.std.specs.declared.cmp.Ordering.TheVariants.{Less, Equal, Greater}
 use Rattle.std.specs.Ordering.{is_gt}
 use Rattle.std.proofs.lemmas.Int.{ints}
 use Rattle.std.proofs.lemmas.Cmp.{upto}
-use Rattle.qs_poly.specs.Polynomials.{AtomTree, variable, cost, num, div, wrapu, wraps, bits, Monomial, one, times, Polynomial, nothing, plus}
+use Rattle.qs_poly.specs.Polynomials.{AtomTree, Monomial, one, times, Polynomial, nothing, plus}
 use Rattle.qs_poly.specs.Orders.{atom_cmp, monomial_cmp, atom_cmp_total, monomial_cmp_total}
 use Rattle.qs_poly.specs.Operations.{by_order, insert_atom, monomial_product, plus_unless_zero, insert_term, sum, multiple, add_term_product, add_product, product, number, single}
 use Rattle.qs_poly.specs.Canonical.{where_same, coefficient, term_product_coefficient, product_coefficient, NotBefore, IsBefore, IsCanonicalAtom, IsCanonicalMonomial, IsCanonical}
-use Rattle.qs_poly.proofs.Ring.{mul_add, add_mul}
+use Rattle.qs_poly.proofs.Ring.{add_mul}
 use Rattle.qs_poly.proofs.Order.{monomial_equal, monomial_less, monomial_itself, atom_not_after}
 
 -- ---- one of three, by an order

@@ -5,9 +5,9 @@ use mir.Val.{SFits, to_z, of_z}
 use Rattle.std.specs.Int.{w128}
 use Rattle.std.proofs.lemmas.Int.{to_z-of_z}
 use Rattle.std.specs.List.{insert, remove}
-use Rattle.std.specs.declared.cmp.Ordering.TheVariants.{Less, Equal, Greater}
+use Rattle.std.specs.declared.cmp.Ordering.TheVariants.{Greater}
 use Rattle.qs_poly.specs.declared.terms.Term.{Term}
-use Rattle.qs_poly.specs.Polynomials.{AtomTree, Monomial, one, times, Polynomial, nothing, plus}
+use Rattle.qs_poly.specs.Polynomials.{AtomTree, Monomial, times, Polynomial, nothing, plus}
 use Rattle.qs_poly.specs.Orders.{atom_cmp, monomial_cmp}
 use Rattle.qs_poly.specs.Limits.{degree, count_terms}
 use Rattle.qs_poly.specs.Operations.{by_order, insert_atom, monomial_product, insert_term, plus_unless_zero, sum, multiple, add_term_product, add_product}

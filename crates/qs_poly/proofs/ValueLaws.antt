@@ -1,13 +1,12 @@
 -- The values of sums, multiples and products.
-use Rattle.std.proofs.Common.{◌≡◌, ℕ, zero, suc, refl, sym, ap, ◌∙◌, arith}
+use Rattle.std.proofs.Common.{◌≡◌, zero, suc, refl, sym, ap, ◌∙◌, arith}
 use Rattle.std.specs.Prelude.{ℤ, pos, negsuc, ◌+ℤ◌, ◌*ℤ◌}
-use Rattle.std.specs.declared.cmp.Ordering.TheVariants.{Less, Equal, Greater}
 use Rattle.std.proofs.lemmas.Int.{ints}
 use Rattle.std.proofs.Math.IntN.{*ℤ_comm, zero-*ℤ}
 use Rattle.qs_assert.specs.Values.{State}
 use Rattle.qs_poly.specs.Polynomials.{AtomTree, Monomial, one, times, Polynomial, nothing, plus}
 use Rattle.qs_poly.specs.Orders.{atom_cmp, monomial_cmp}
-use Rattle.qs_poly.specs.Operations.{by_order, plus_unless_zero, insert_atom, monomial_product, insert_term, sum, multiple, add_term_product, add_product, product, number, single}
+use Rattle.qs_poly.specs.Operations.{plus_unless_zero, insert_atom, monomial_product, insert_term, sum, multiple, add_term_product, add_product, product, number, single}
 use Rattle.qs_poly.specs.Values.{atom_value, monomial_value, polynomial_value}
 use Rattle.qs_poly.proofs.Ring.{mul_add, mul_assoc, add_mul, mul_swap, mul_pairs}
 use Rattle.qs_poly.proofs.Order.{monomial_equal}

@@ -1,4 +1,4 @@
-use Rattle.std.proofs.Common.{◌≡◌, ◌≤◌, ◌+◌, ◌*◌, ◌^◌, ◌∙◌, sym, ap, subst, drop, length, arith}
+use Rattle.std.proofs.Common.{◌≡◌, ◌+◌, ◌*◌, ◌^◌, ◌∙◌, sym, ap, subst, drop, arith}
 use Rattle.std.specs.Prelude.{unsigned_abs}
 use Rattle.qs_poly.specs.Operations.{sum, insert_term}
 use Rattle.qs_poly.specs.declared.terms.Term.{Term}

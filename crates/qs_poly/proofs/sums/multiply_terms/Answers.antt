@@ -1,4 +1,4 @@
-use Rattle.std.proofs.Common.{◌≡◌, ◌≤◌, ◌<◌, ◌+◌, ◌*◌, ◌^◌, ◌∙◌, sym, ap, subst, drop, length, arith}
+use Rattle.std.proofs.Common.{◌≡◌, ◌+◌, ◌*◌, ◌^◌, ◌∙◌, sym, ap, subst, drop, length, arith}
 use Rattle.qs_poly.specs.Operations.{add_product, add_term_product}
 use Rattle.qs_poly.specs.Terms.{sum_of, AllAtMost}
 use Rattle.qs_poly.proofs.Bounds.{item_at_most, at_most_more, term_product_at_most}

@@ -1,8 +1,8 @@
-use Rattle.std.proofs.Common.{rules, ◌≡◌, ◌≤◌, ◌^◌, ◌∙◌, sym, ap, subst, arith}
-use Rattle.std.specs.Prelude.{ℤ, ◌+ℤ◌, unsigned_abs, FitsSigned}
+use Rattle.std.proofs.Common.{rules, ◌^◌, ◌∙◌, sym, arith}
+use Rattle.std.specs.Prelude.{◌+ℤ◌, FitsSigned}
 use Rattle.std.specs.Int.{w128}
 use Rattle.std.proofs.lemmas.Int.{to_z-of_z}
-use mir.Val.{SFits, to_z, of_z}
+use mir.Val.{SFits}
 use Rattle.qs_poly.proofs.Bounds.{item_at_most, sum_fits}
 use Rattle.qs_poly.proofs.Steps.{removed, changed, computed_sum, same_item, set_same}
 use Rattle.qs_poly.proofs.terms.join.Goals as goal

@@ -1,5 +1,5 @@
 -- Coefficients stay small.
-use Rattle.std.proofs.Common.{◌≡◌, ◌≤◌, ◌<◌, ◌+◌, ◌*◌, ◌^◌, ℕ, zero, suc, List, [], ◌∷◌, drop, get_or, length, refl, sym, ap, ◌∙◌, subst, arith, add-one}
+use Rattle.std.proofs.Common.{◌≡◌, ◌≤◌, ◌<◌, ◌+◌, ◌*◌, ◌^◌, ℕ, zero, suc, List, [], ◌∷◌, get_or, length, sym, subst, arith}
 use Rattle.std.specs.Prelude.{ℤ, pos, negsuc, ◌+ℤ◌, ◌*ℤ◌, unsigned_abs, FitsSigned}
 use Rattle.std.proofs.Math.Nat.{mul-le-mul_left, mul-le-mul_right}
 use Rattle.std.specs.Int.{w128}
@@ -33,9 +33,9 @@ pub insert_at_most : (b e : ℕ) (c : ℤ) (m : Monomial) (p : Polynomial) → u
 insert_at_most b e c m nothing h x = unless_at_most (b + e) c m nothing (omega arith) tt
 insert_at_most b e c m (plus d n p) h x =
     by_order_all (monomial_cmp m n) _ _ _ (AllAtMost (b + e))
-      (unless_at_most (b + e) c m (plus d n p) (omega arith) (let y = x.0 in omega arith, at_most_more b (b + e) p (omega arith) x.1))
-      (unless_at_most (b + e) (c +ℤ d) n p (let y = x.0 in let s = sum_at_most c d in omega arith) (at_most_more b (b + e) p (omega arith) x.1))
-      (let y = x.0 in omega arith, insert_at_most b e c m p h x.1)
+    (unless_at_most (b + e) c m (plus d n p) (omega arith) (let y = x.0 in omega arith, at_most_more b (b + e) p (omega arith) x.1))
+    (unless_at_most (b + e) (c +ℤ d) n p (let y = x.0 in let s = sum_at_most c d in omega arith) (at_most_more b (b + e) p (omega arith) x.1))
+    (let y = x.0 in omega arith, insert_at_most b e c m p h x.1)
 
 pub item_at_most : (b : ℕ) (xs : List Term) (i : ℕ) (d : Term) → i < length xs → d ≡ get_or xs i d → AllAtMost b (sum_of xs) → unsigned_abs d.coefficient ≤ b
 item_at_most b [] i d lt e x = absurd (omega arith)

@@ -1,6 +1,5 @@
 -- One step of writing a code.
-use Rattle.std.proofs.Common.{◌≡◌, ◌≤◌, ◌<◌, ◌+◌, ◌++◌, ℕ, zero, suc, List, [], ◌∷◌, drop, length, get_or, refl, sym, ap, ◌∙◌, arith, add-one}
-use Rattle.qs_poly.specs.declared.node.Node.{Node}
+use Rattle.std.proofs.Common.{◌≡◌, ◌≤◌, ◌<◌, ◌+◌, ◌++◌, ℕ, zero, suc, List, [], ◌∷◌, drop, length, get_or, refl, sym, ap, arith, add-one}
 use Rattle.qs_poly.specs.declared.node.Node.TheVariants.{Coefficient, EndOfTerm, EndOfPoly}
 use Rattle.qs_poly.specs.declared.terms.Term.{Term}
 use Rattle.qs_poly.specs.Polynomials.{AtomTree}

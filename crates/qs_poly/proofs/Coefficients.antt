@@ -1,17 +1,17 @@
 -- The operations have the coefficients that they should, and keep the canonical form; canonical
 -- polynomials with equal coefficients are equal.
-use Rattle.std.proofs.Common.{◌≡◌, ◌≢◌, ℕ, zero, suc, refl, sym, ap, ◌∙◌, arith, false}
+use Rattle.std.proofs.Common.{◌≡◌, zero, suc, refl, sym, ap, ◌∙◌, arith, false}
 use Rattle.std.specs.Prelude.{ℤ, pos, negsuc, ◌+ℤ◌, ◌*ℤ◌}
 use Rattle.std.specs.declared.cmp.Ordering.{Ordering}
 use Rattle.std.specs.declared.cmp.Ordering.TheVariants.{Less, Equal, Greater}
 use Rattle.std.specs.Ordering.{is_gt}
 use Rattle.std.proofs.lemmas.Int.{ints}
 use Rattle.std.proofs.lemmas.Cmp.{upto}
-use Rattle.qs_poly.specs.Polynomials.{AtomTree, variable, cost, num, div, wrapu, wraps, bits, Monomial, one, times, Polynomial, nothing, plus}
+use Rattle.qs_poly.specs.Polynomials.{AtomTree, Monomial, one, times, Polynomial, nothing, plus}
 use Rattle.qs_poly.specs.Orders.{atom_cmp, monomial_cmp, atom_cmp_total, monomial_cmp_total}
 use Rattle.qs_poly.specs.Operations.{by_order, insert_atom, monomial_product, plus_unless_zero, insert_term, sum, multiple, add_term_product, add_product, product, number, single}
 use Rattle.qs_poly.specs.Canonical.{where_same, coefficient, term_product_coefficient, product_coefficient, NotBefore, IsBefore, IsCanonicalAtom, IsCanonicalMonomial, IsCanonical}
-use Rattle.qs_poly.proofs.Ring.{mul_add, add_mul}
+use Rattle.qs_poly.proofs.Ring.{add_mul}
 use Rattle.qs_poly.proofs.Order.{monomial_equal, monomial_less, monomial_itself, atom_not_after}
 
 -- ---- one of three, by an order
@@ -62,9 +62,9 @@ unique_at Equal c d m n p q x y h e next =
     let i = monomial_equal m n e in
     let j : c ≡ d = sym (own_coefficient c m p x.2) ∙ h m x.1 ∙ ap (λ k. coefficient (plus d n q) k) i ∙ own_coefficient d n q y.2 in
     let r = next (λ k s.
-      let a = h k s in
-      let b : where_same k m c ≡ where_same k n d = ap (λ z. where_same k z c) i ∙ ap (λ z. where_same k n z) j in
-      tail (where_same k m c) (where_same k n d) (coefficient p k) (coefficient q k) a b) in
+    let a = h k s in
+    let b : where_same k m c ≡ where_same k n d = ap (λ z. where_same k z c) i ∙ ap (λ z. where_same k n z) j in
+    tail (where_same k m c) (where_same k n d) (coefficient p k) (coefficient q k) a b) in
     ap (λ z. plus z m p) j ∙ ap (λ z. plus d z p) i ∙ ap (λ z. plus d n z) r
   where
     tail : (a b x y : ℤ) → a +ℤ x ≡ b +ℤ y → a ≡ b → x ≡ y
@@ -98,14 +98,14 @@ pub insert_coefficient : (c : ℤ) (m : Monomial) (p : Polynomial) (k : Monomial
 insert_coefficient c m nothing k = unless_coefficient c m nothing k
 insert_coefficient c m (plus d n p) k =
     order_by (monomial_cmp m n) _ _ _ (λ q. coefficient q k) _
-      (λ _. unless_coefficient c m (plus d n p) k)
-      (λ e.
-        let s = monomial_equal m n e in
-        let t = unless_coefficient (c +ℤ d) n p k in
-        let u = both_where (monomial_cmp k n) c d in
-        let v = ap (λ x. where_same k x c) s in
-        omega (arith, ints, t, u, v))
-      (λ _. let h = insert_coefficient c m p k in omega (arith, ints, h))
+    (λ _. unless_coefficient c m (plus d n p) k)
+    (λ e.
+    let s = monomial_equal m n e in
+    let t = unless_coefficient (c +ℤ d) n p k in
+    let u = both_where (monomial_cmp k n) c d in
+    let v = ap (λ x. where_same k x c) s in
+    omega (arith, ints, t, u, v))
+    (λ _. let h = insert_coefficient c m p k in omega (arith, ints, h))
 
 -- the sum's coefficients are the sums of the coefficients
 pub sum_coefficient : (p q : Polynomial) (k : Monomial) → coefficient (sum p q) k ≡ coefficient p k +ℤ coefficient q k
@@ -165,9 +165,9 @@ pub insert_atom_canonical : (a : AtomTree) (m : Monomial) → IsCanonicalAtom a 
 insert_atom_canonical a one c x = (c, tt, tt)
 insert_atom_canonical a (times b m) c x =
     ordered (atom_cmp a b) _ _ _ IsCanonicalMonomial
-      (λ e. let l = not_greater a b Less refl e in (c, (l, not_before_from a b m l x.1), x))
-      (λ e. let l = not_greater a b Equal refl e in (c, (l, not_before_from a b m l x.1), x))
-      (λ e. (x.0, not_before_insert b a m (atom_not_after a b e) x.1, insert_atom_canonical a m c x.2))
+    (λ e. let l = not_greater a b Less refl e in (c, (l, not_before_from a b m l x.1), x))
+    (λ e. let l = not_greater a b Equal refl e in (c, (l, not_before_from a b m l x.1), x))
+    (λ e. (x.0, not_before_insert b a m (atom_not_after a b e) x.1, insert_atom_canonical a m c x.2))
 
 pub monomial_product_canonical : (m n : Monomial) → IsCanonicalMonomial m → IsCanonicalMonomial n → IsCanonicalMonomial (monomial_product m n)
 monomial_product_canonical one n x y = y
@@ -192,9 +192,9 @@ pub insert_canonical : (c : ℤ) (m : Monomial) (p : Polynomial) → IsCanonical
 insert_canonical c m nothing s x = unless_canonical c m nothing s tt tt
 insert_canonical c m (plus d n p) s x =
     ordered (monomial_cmp m n) _ _ _ IsCanonical
-      (λ e. unless_canonical c m (plus d n p) s (e, before_before m n p e x.2) x)
-      (λ _. unless_canonical (c +ℤ d) n p x.1 x.2 x.3)
-      (λ e. (x.0, x.1, before_insert n c m p (monomial_less m n e) x.2, insert_canonical c m p s x.3))
+    (λ e. unless_canonical c m (plus d n p) s (e, before_before m n p e x.2) x)
+    (λ _. unless_canonical (c +ℤ d) n p x.1 x.2 x.3)
+    (λ e. (x.0, x.1, before_insert n c m p (monomial_less m n e) x.2, insert_canonical c m p s x.3))
 
 pub sum_canonical : (p q : Polynomial) → IsCanonical p → IsCanonical q → IsCanonical (sum p q)
 sum_canonical nothing q x y = y
@@ -212,7 +212,7 @@ term_product_canonical : (c : ℤ) (m : Monomial) (q so_far : Polynomial) → Is
 term_product_canonical c m nothing so_far s x y = y
 term_product_canonical c m (plus d n q) so_far s x y =
     term_product_canonical c m q (insert_term (c *ℤ d) (monomial_product m n) so_far) s x.3
-      (insert_canonical (c *ℤ d) (monomial_product m n) so_far (monomial_product_canonical m n s x.1) y)
+    (insert_canonical (c *ℤ d) (monomial_product m n) so_far (monomial_product_canonical m n s x.1) y)
 
 add_product_canonical : (p q so_far : Polynomial) → IsCanonical p → IsCanonical q → IsCanonical so_far → IsCanonical (add_product p q so_far)
 add_product_canonical nothing q so_far x y z = z

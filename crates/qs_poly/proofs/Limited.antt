@@ -1,5 +1,5 @@
 -- What the limits say of a polynomial's terms.
-use Rattle.std.proofs.Common.{◌≡◌, ◌≤◌, ◌^◌, ℕ, Bool, true, false, List, [], ◌∷◌, length, refl, ap, ◌∙◌, arith}
+use Rattle.std.proofs.Common.{◌≡◌, ◌≤◌, ◌^◌, ℕ, Bool, true, false, List, length, refl, arith}
 use Rattle.std.specs.Prelude.{◌&&◌, nat_le, unsigned_abs}
 use Rattle.qs_poly.specs.Polynomials.{Polynomial, nothing, plus}
 use Rattle.qs_poly.specs.Limits.{is_narrow, all_narrow, count_terms, has_few_terms}

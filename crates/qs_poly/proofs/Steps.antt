@@ -5,9 +5,9 @@ use mir.Val.{SFits, to_z, of_z}
 use Rattle.std.specs.Int.{w128}
 use Rattle.std.proofs.lemmas.Int.{to_z-of_z}
 use Rattle.std.specs.List.{insert, remove}
-use Rattle.std.specs.declared.cmp.Ordering.TheVariants.{Less, Equal, Greater}
+use Rattle.std.specs.declared.cmp.Ordering.TheVariants.{Greater}
 use Rattle.qs_poly.specs.declared.terms.Term.{Term}
-use Rattle.qs_poly.specs.Polynomials.{AtomTree, Monomial, one, times, Polynomial, nothing, plus}
+use Rattle.qs_poly.specs.Polynomials.{AtomTree, Monomial, times, Polynomial, nothing, plus}
 use Rattle.qs_poly.specs.Orders.{atom_cmp, monomial_cmp}
 use Rattle.qs_poly.specs.Limits.{degree, count_terms}
 use Rattle.qs_poly.specs.Operations.{by_order, insert_atom, monomial_product, insert_term, plus_unless_zero, sum, multiple, add_term_product, add_product}
@@ -35,14 +35,6 @@ product_insert xs i a = go (take i xs) (drop i xs)
     go : (ys zs : List AtomTree) → product_of (ys ++ a ∷ zs) ≡ atoms_before ys (times a (product_of zs))
     go [] zs = refl
     go (y ∷ ys) zs = ap (λ m. times y m) (go ys zs)
-
-product_step : (xs : List AtomTree) (i : ℕ) (d : AtomTree) (m : Monomial) → i < length xs → d ≡ get_or xs i d → monomial_product (product_of (drop i xs)) m ≡ monomial_product (product_of (drop (suc i) xs)) (insert_atom d m)
-product_step [] i d m lt e = absurd (omega arith)
-product_step (x ∷ xs) zero d m lt e = ap (λ y. monomial_product (product_of xs) (insert_atom y m)) (sym e)
-product_step (x ∷ xs) (suc i) d m lt e = product_step xs i d m (omega arith) e
-
-pub atom_multiplied : (xs : List AtomTree) (i : ℕ) (d : AtomTree) (m : Monomial) → i < length xs → d ≡ get_or xs i d → monomial_product (product_of (drop i xs)) m ≡ monomial_product (product_of (drop (i + 1) xs)) (insert_atom d m)
-atom_multiplied xs i d m lt e = rw add-one (product_step xs i d m lt e)
 
 -- ---- terms
 

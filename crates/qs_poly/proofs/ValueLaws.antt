@@ -1,13 +1,12 @@
 -- The values of sums, multiples and products.
-use Rattle.std.proofs.Common.{◌≡◌, ℕ, zero, suc, refl, sym, ap, ◌∙◌, arith}
+use Rattle.std.proofs.Common.{◌≡◌, zero, suc, refl, sym, ap, ◌∙◌, arith}
 use Rattle.std.specs.Prelude.{ℤ, pos, negsuc, ◌+ℤ◌, ◌*ℤ◌}
-use Rattle.std.specs.declared.cmp.Ordering.TheVariants.{Less, Equal, Greater}
 use Rattle.std.proofs.lemmas.Int.{ints}
 use Rattle.std.proofs.Math.IntN.{*ℤ_comm, zero-*ℤ}
 use Rattle.qs_assert.specs.Values.{State}
 use Rattle.qs_poly.specs.Polynomials.{AtomTree, Monomial, one, times, Polynomial, nothing, plus}
 use Rattle.qs_poly.specs.Orders.{atom_cmp, monomial_cmp}
-use Rattle.qs_poly.specs.Operations.{by_order, plus_unless_zero, insert_atom, monomial_product, insert_term, sum, multiple, add_term_product, add_product, product, number, single}
+use Rattle.qs_poly.specs.Operations.{plus_unless_zero, insert_atom, monomial_product, insert_term, sum, multiple, add_term_product, add_product, product, number, single}
 use Rattle.qs_poly.specs.Values.{atom_value, monomial_value, polynomial_value}
 use Rattle.qs_poly.proofs.Ring.{mul_add, mul_assoc, add_mul, mul_swap, mul_pairs}
 use Rattle.qs_poly.proofs.Order.{monomial_equal}
@@ -22,7 +21,7 @@ insert_atom_value : (a : AtomTree) (m : Monomial) (s : State) → monomial_value
 insert_atom_value a one s = refl
 insert_atom_value a (times b m) s =
     order_by (atom_cmp a b) _ _ _ (λ n. monomial_value n s) _ (λ _. refl) (λ _. refl)
-      (λ _. ap (λ x. atom_value b s *ℤ x) (insert_atom_value a m s) ∙ mul_swap (atom_value b s) (atom_value a s) (monomial_value m s))
+    (λ _. ap (λ x. atom_value b s *ℤ x) (insert_atom_value a m s) ∙ mul_swap (atom_value b s) (atom_value a s) (monomial_value m s))
 
 pub monomial_product_value : (m n : Monomial) (s : State) → monomial_value (monomial_product m n) s ≡ monomial_value m s *ℤ monomial_value n s
 monomial_product_value one n s = omega (arith, ints)
@@ -36,14 +35,14 @@ insert_term_value : (c : ℤ) (m : Monomial) (p : Polynomial) (s : State) → po
 insert_term_value c m nothing s = unless_value c m nothing s
 insert_term_value c m (plus d n p) s =
     order_by (monomial_cmp m n) _ _ _ (λ q. polynomial_value q s) _
-      (λ _. unless_value c m (plus d n p) s)
-      (λ e.
-        let i = monomial_equal m n e in
-        let k = ap (λ x. c *ℤ monomial_value x s) i in
-        let t = unless_value (c +ℤ d) n p s in
-        let u = mul_add c d (monomial_value n s) in
-        omega (arith, ints, k, t, u))
-      (λ _. let h = insert_term_value c m p s in omega (arith, ints, h))
+    (λ _. unless_value c m (plus d n p) s)
+    (λ e.
+    let i = monomial_equal m n e in
+    let k = ap (λ x. c *ℤ monomial_value x s) i in
+    let t = unless_value (c +ℤ d) n p s in
+    let u = mul_add c d (monomial_value n s) in
+    omega (arith, ints, k, t, u))
+    (λ _. let h = insert_term_value c m p s in omega (arith, ints, h))
 
 pub sum_value : (p q : Polynomial) (s : State) → polynomial_value (sum p q) s ≡ polynomial_value p s +ℤ polynomial_value q s
 sum_value nothing q s = omega (arith, ints)

@@ -1,7 +1,6 @@
 -- What a polynomial is: the coefficient of each monomial. Canonical polynomials with the same
 -- coefficients are equal.
 use Rattle.std.specs.Prelude.{◌≡◌, ◌≢◌, ℤ, pos, ◌+ℤ◌, ◌*ℤ◌, false}
-use Rattle.std.specs.declared.cmp.Ordering.{Ordering}
 use Rattle.std.specs.declared.cmp.Ordering.TheVariants.{Less}
 use Rattle.std.specs.Ordering.{is_gt}
 use Rattle.qs_poly.specs.Polynomials.{AtomTree, variable, cost, num, div, wrapu, wraps, bits, Monomial, one, times, Polynomial, nothing, plus}

@@ -1,5 +1,5 @@
 -- The code of an atom: its parts in prefix order, in one list without levels. It can be read back.
-use Rattle.std.specs.Prelude.{ℕ, ℤ, List, [], ◌∷◌, ◌++◌, ◌≡◌, refl}
+use Rattle.std.specs.Prelude.{ℤ, List, [], ◌∷◌, ◌++◌, ◌≡◌, refl}
 use Rattle.std.proofs.Common.{◌∙◌, sym, ap}
 use Rattle.std.specs.Coded.{Coded, code_by, coded_list}
 use Rattle.qs_poly.specs.Nodes.{coded_node}

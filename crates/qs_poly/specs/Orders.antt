@@ -1,7 +1,7 @@
 -- The order of atoms and of monomials: that of their codes, and of their lists of atoms.
 use Rattle.std.specs.Prelude.{List, [], ◌∷◌}
 use Rattle.std.specs.declared.cmp.Ordering.{Ordering}
-use Rattle.std.specs.Ordering.{on, nat_cmp, int_cmp}
+use Rattle.std.specs.Ordering.{on}
 use Rattle.std.specs.Cmp.{IsTotalOrder}
 use Rattle.std.proofs.lemmas.Cmp.{nat_cmp_total, int_cmp_total, on_total, then_total, lists_total}
 use Rattle.std.specs.Cmp.Lexicographic.{slice_cmp}

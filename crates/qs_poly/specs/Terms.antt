@@ -6,7 +6,7 @@ use Rattle.std.specs.Cmp.{IsEquivalence}
 use Rattle.std.specs.Cmp.Lexicographic.{pointwise}
 use Rattle.std.proofs.lemmas.Cmp.{eq_by_cmp_equiv, int_eq_equiv, on_equiv, and_equiv, lists_equiv}
 use Rattle.qs_poly.specs.Orders.{monomial_cmp, monomial_cmp_total}
-use Rattle.qs_poly.specs.Polynomials.{AtomTree, Monomial, one, times, Polynomial, nothing, plus}
+use Rattle.qs_poly.specs.Polynomials.{AtomTree, Monomial, times, Polynomial, nothing, plus}
 use Rattle.qs_poly.specs.Operations.{plus_unless_zero}
 use Rattle.qs_poly.specs.declared.terms.Term.{Term}
 

@@ -76,7 +76,7 @@ impl Eq for AtomCode {
 impl PartialOrd for AtomCode {
     ghost partial_cmp = { as_partial_cmp atom_cmp };
 
-    ghost laws = { partial_order_from_own_ties (Prim.search (comparing, atom_cmp_total, rules)) (Prim.search (comparing, atom_cmp_total, rules)) };
+    ghost laws = { partial_order_from_own_ties (Prim.search (comparing, atom_cmp_total, rules)) (Prim.search (comparing, rules)) };
 
     fn partial_cmp(&self, other: &AtomCode) -> Option<Ordering> {
         Some(self.cmp(other))
@@ -88,9 +88,9 @@ impl Ord for AtomCode {
 
     ghost total = { Prim.search (comparing, atom_cmp_total, rules) };
 
-    ghost matches_partial_cmp = { Prim.search (comparing, atom_cmp_total, rules) };
+    ghost matches_partial_cmp = { Prim.search (comparing, rules) };
 
-    ghost matches_eq = { Prim.search (comparing, atom_cmp_total, rules) };
+    ghost matches_eq = { Prim.search (comparing, rules) };
 
     fn cmp(&self, other: &AtomCode) -> Ordering {
         self.nodes.as_slice().cmp(other.nodes.as_slice())

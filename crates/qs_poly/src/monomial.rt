@@ -67,7 +67,11 @@ fn copy_atoms(alloc: Global, from: &[AtomCode]) -> Result<Vec<AtomCode>, NoMemor
     Ok(to)
 }
 
-fn multiply_atoms(alloc: Global, from: &[AtomCode], product: &mut Vec<AtomCode>) -> Result<(), NoMemory>
+fn multiply_atoms(
+    alloc: Global,
+    from: &[AtomCode],
+    product: &mut Vec<AtomCode>,
+) -> Result<(), NoMemory>
     ensures { OnOk result (product_of product.new.items ≡ monomial_product (product_of from.now) (product_of product.old.items)) }
 {
     for atom in from {

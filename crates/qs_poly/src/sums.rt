@@ -33,7 +33,12 @@ pub fn scale_terms(alloc: Global, terms: &[Term], k: i64) -> Result<Vec<Term>, N
 }
 
 /// Adds a term times terms.
-fn add_term_product(alloc: Global, term: &Term, others: &[Term], so_far: &mut Vec<Term>) -> Result<(), NoMemory>
+fn add_term_product(
+    alloc: Global,
+    term: &Term,
+    others: &[Term],
+    so_far: &mut Vec<Term>,
+) -> Result<(), NoMemory>
     requires narrow_term { unsigned_abs term.now.coefficient ≤ 2 ^ 56 }
     requires few { length others.now ≤ 64 }
     requires narrow { AllAtMost (2 ^ 56) (sum_of others.now) }

@@ -1,5 +1,4 @@
-use Rattle.std.proofs.Common.{◌≡◌, ◌++◌, ◌+◌, ◌∷◌, [], ◌∙◌, sym, ap, drop, append_assoc, arith}
-use Rattle.qs_poly.specs.declared.node.Node.TheVariants.{EndOfTerm}
+use Rattle.std.proofs.Common.{◌++◌, ◌+◌, ◌∙◌, sym, ap, drop, append_assoc, arith}
 use Rattle.qs_poly.specs.Codes.{code, monomial_code}
 use Rattle.qs_poly.specs.Views.{product_of, product_of_atoms}
 use Rattle.qs_poly.proofs.CodeSteps.{atom_coded, monomial_ends}

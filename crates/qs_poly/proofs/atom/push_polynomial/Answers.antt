@@ -1,11 +1,10 @@
-use Rattle.std.proofs.Common.{rules, ◌≡◌, ◌≤◌, ◌^◌, ◌++◌, ◌+◌, ◌∷◌, [], List, ◌∙◌, sym, ap, subst, drop, append_assoc, arith}
+use Rattle.std.proofs.Common.{rules, ◌≡◌, ◌^◌, ◌++◌, ◌+◌, ◌∷◌, [], List, ◌∙◌, sym, ap, subst, drop, append_assoc, arith}
 use Rattle.std.specs.Int.{w64}
 use Rattle.std.proofs.lemmas.Int.{to_z-of_z}
 use mir.Val.{SFits}
 use Rattle.qs_poly.specs.declared.node.Node.{Node}
-use Rattle.qs_poly.specs.declared.node.Node.TheVariants.{Coefficient, EndOfPoly}
+use Rattle.qs_poly.specs.declared.node.Node.TheVariants.{Coefficient}
 use Rattle.qs_poly.specs.Codes.{monomial_code, polynomial_code}
-use Rattle.qs_poly.specs.Limits.{IsPolynomial}
 use Rattle.qs_poly.specs.Terms.{sum_of, sum_of_terms, AllAtMost}
 use Rattle.qs_poly.proofs.Bounds.{item_at_most}
 use Rattle.qs_poly.proofs.CodeSteps.{term_coded, polynomial_ends}

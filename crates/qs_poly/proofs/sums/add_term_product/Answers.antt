@@ -1,4 +1,4 @@
-use Rattle.std.proofs.Common.{◌≡◌, ◌≤◌, ◌+◌, ◌*◌, ◌^◌, ◌∙◌, sym, ap, subst, drop, length, arith}
+use Rattle.std.proofs.Common.{◌≡◌, ◌+◌, ◌*◌, ◌^◌, ◌∙◌, sym, ap, subst, drop, arith}
 use Rattle.std.specs.Prelude.{◌*ℤ◌, unsigned_abs}
 use Rattle.qs_poly.specs.Operations.{add_term_product, insert_term, monomial_product}
 use Rattle.qs_poly.specs.declared.terms.Term.{Term}
@@ -38,7 +38,7 @@ loop-other-preserved c =
     record {
       same = c.loop-other.invariant.same ∙ term_multiplied k m c.args.others.now i d old c.loop-other-test.true c.other-item.is ∙ ap (λ q. add_term_product k m (sum_of (drop (i + 1) c.args.others.now)) q) (sym e);
       small =
-        let b = insert_at_most (2 ^ 124 + i * 2 ^ 112) (2 ^ 112) (k *ℤ d.coefficient) (monomial_product m d.monomial) old b c.loop-other.invariant.small in
-        let n : 2 ^ 124 + i * 2 ^ 112 + 2 ^ 112 ≡ 2 ^ 124 + (i + 1) * 2 ^ 112 = omega arith in
-        subst (λ k. AllAtMost k (sum_of c.insert_term.new.terms.items)) n (subst (λ p. AllAtMost (2 ^ 124 + i * 2 ^ 112 + 2 ^ 112) p) (sym e) b);
+          let b = insert_at_most (2 ^ 124 + i * 2 ^ 112) (2 ^ 112) (k *ℤ d.coefficient) (monomial_product m d.monomial) old b c.loop-other.invariant.small in
+          let n : 2 ^ 124 + i * 2 ^ 112 + 2 ^ 112 ≡ 2 ^ 124 + (i + 1) * 2 ^ 112 = omega arith in
+          subst (λ k. AllAtMost k (sum_of c.insert_term.new.terms.items)) n (subst (λ p. AllAtMost (2 ^ 124 + i * 2 ^ 112 + 2 ^ 112) p) (sym e) b);
     }

@@ -1,4 +1,4 @@
-use Rattle.std.proofs.Common.{◌≡◌, ◌≤◌, ◌+◌, ◌*◌, ◌^◌, ◌∙◌, sym, ap, subst, drop, length, arith}
+use Rattle.std.proofs.Common.{◌≡◌, ◌+◌, ◌*◌, ◌^◌, ◌∙◌, sym, ap, subst, drop, arith}
 use Rattle.std.specs.Prelude.{unsigned_abs}
 use Rattle.qs_poly.specs.Operations.{sum, insert_term}
 use Rattle.qs_poly.specs.declared.terms.Term.{Term}
@@ -28,7 +28,7 @@ loop-term-preserved c =
     record {
       same = c.loop-term.invariant.same ∙ term_added c.args.terms.now i d old c.loop-term-test.true c.term-item.is ∙ ap (λ q. sum (sum_of (drop (i + 1) c.args.terms.now)) q) (sym e);
       small =
-        let b = insert_at_most ((i + 1) * 2 ^ 56) (2 ^ 56) d.coefficient d.monomial old narrow c.loop-term.invariant.small in
-        let n : (i + 1) * 2 ^ 56 + 2 ^ 56 ≡ (i + 1 + 1) * 2 ^ 56 = omega arith in
-        subst (λ k. AllAtMost k (sum_of c.insert_term.new.terms.items)) n (subst (λ p. AllAtMost ((i + 1) * 2 ^ 56 + 2 ^ 56) p) (sym e) b);
+          let b = insert_at_most ((i + 1) * 2 ^ 56) (2 ^ 56) d.coefficient d.monomial old narrow c.loop-term.invariant.small in
+          let n : (i + 1) * 2 ^ 56 + 2 ^ 56 ≡ (i + 1 + 1) * 2 ^ 56 = omega arith in
+          subst (λ k. AllAtMost k (sum_of c.insert_term.new.terms.items)) n (subst (λ p. AllAtMost ((i + 1) * 2 ^ 56 + 2 ^ 56) p) (sym e) b);
     }

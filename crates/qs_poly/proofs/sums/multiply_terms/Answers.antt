@@ -1,4 +1,4 @@
-use Rattle.std.proofs.Common.{◌≡◌, ◌≤◌, ◌<◌, ◌+◌, ◌*◌, ◌^◌, ◌∙◌, sym, ap, subst, drop, length, arith}
+use Rattle.std.proofs.Common.{◌≡◌, ◌+◌, ◌*◌, ◌^◌, ◌∙◌, sym, ap, subst, drop, length, arith}
 use Rattle.qs_poly.specs.Operations.{add_product, add_term_product}
 use Rattle.qs_poly.specs.Terms.{sum_of, AllAtMost}
 use Rattle.qs_poly.proofs.Bounds.{item_at_most, at_most_more, term_product_at_most}
@@ -26,7 +26,7 @@ loop-term-preserved c =
     record {
       same = c.loop-term.invariant.same ∙ product_added c.args.terms.now i d (sum_of c.args.others.now) old c.loop-term-test.true c.term-item.is ∙ ap (λ q. add_product (sum_of (drop (i + 1) c.args.terms.now)) (sum_of c.args.others.now) q) (sym e);
       small =
-        let b = term_product_at_most (i * 2 ^ 118) d.coefficient d.monomial c.args.others.now old narrow c.requires.narrow_others c.loop-term.invariant.small in
-        let b' = subst (λ p. AllAtMost (i * 2 ^ 118 + length c.args.others.now * 2 ^ 112) p) (sym e) b in
-        at_most_more (i * 2 ^ 118 + length c.args.others.now * 2 ^ 112) ((i + 1) * 2 ^ 118) (sum_of c.add_term_product.new.so_far.items) (omega arith) b';
+          let b = term_product_at_most (i * 2 ^ 118) d.coefficient d.monomial c.args.others.now old narrow c.requires.narrow_others c.loop-term.invariant.small in
+          let b' = subst (λ p. AllAtMost (i * 2 ^ 118 + length c.args.others.now * 2 ^ 112) p) (sym e) b in
+          at_most_more (i * 2 ^ 118 + length c.args.others.now * 2 ^ 112) ((i + 1) * 2 ^ 118) (sum_of c.add_term_product.new.so_far.items) (omega arith) b';
     }

@@ -1,8 +1,8 @@
-use Rattle.std.proofs.Common.{rules, ◌≡◌, ◌≤◌, ◌^◌, ◌∙◌, sym, ap, subst, arith}
-use Rattle.std.specs.Prelude.{ℤ, ◌+ℤ◌, unsigned_abs, FitsSigned}
+use Rattle.std.proofs.Common.{rules, ◌^◌, ◌∙◌, sym, arith}
+use Rattle.std.specs.Prelude.{◌+ℤ◌, FitsSigned}
 use Rattle.std.specs.Int.{w128}
 use Rattle.std.proofs.lemmas.Int.{to_z-of_z}
-use mir.Val.{SFits, to_z, of_z}
+use mir.Val.{SFits}
 use Rattle.qs_poly.proofs.Bounds.{item_at_most, sum_fits}
 use Rattle.qs_poly.proofs.Steps.{removed, changed, computed_sum, same_item, set_same}
 use Rattle.qs_poly.proofs.terms.join.Goals as goal
@@ -32,4 +32,4 @@ returns-else-is_zero c =
     let g : SFits w128 (c.args.coefficient +ℤ d.coefficient) = sum_fits (2 ^ 125) (2 ^ 125) c.args.coefficient d.coefficient c.requires.small h (omega arith) in
     let k = computed_sum c.args.coefficient d.coefficient c.ranges.coefficient f g in
     changed c.args.terms.now.items _ c.args.i c.args.coefficient d c.requires.within c.index.ensures (λ z. c.if-is_zero.ensures (k ∙ z))
-      (set_same c.args.terms.now.items c.args.i _ _ c.index_mut.result.now d k (same_item c.args.terms.now.items c.args.i c.index_mut.result.now d c.requires.within c.index_mut.ensures.value c.index.ensures))
+    (set_same c.args.terms.now.items c.args.i _ _ c.index_mut.result.now d k (same_item c.args.terms.now.items c.args.i c.index_mut.result.now d c.requires.within c.index_mut.ensures.value c.index.ensures))

@@ -1,6 +1,5 @@
-use Rattle.std.proofs.Common.{◌≡◌, ◌≤◌, ◌^◌, ◌∙◌, sym, ap, subst, length, List}
+use Rattle.std.proofs.Common.{◌≤◌, ◌^◌, sym, subst, length, List}
 use Rattle.qs_poly.specs.Canonical.{IsCanonical}
-use Rattle.qs_poly.specs.Operations.{product}
 use Rattle.qs_poly.specs.declared.terms.Term.{Term}
 use Rattle.qs_poly.specs.Terms.{sum_of, AllAtMost}
 use Rattle.qs_poly.proofs.Coefficients.{product_canonical}

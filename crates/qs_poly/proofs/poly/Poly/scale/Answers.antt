@@ -1,6 +1,5 @@
-use Rattle.std.proofs.Common.{◌≡◌, ◌^◌, ◌∙◌, sym, ap, subst}
+use Rattle.std.proofs.Common.{◌^◌, sym, subst}
 use Rattle.qs_poly.specs.Canonical.{IsCanonical}
-use Rattle.qs_poly.specs.Operations.{multiple}
 use Rattle.qs_poly.specs.Terms.{sum_of, AllAtMost}
 use Rattle.qs_poly.proofs.Coefficients.{multiple_canonical}
 use Rattle.qs_poly.proofs.Limited.{narrow_at_most}

@@ -7,3 +7,4 @@ pub mod Limited
 pub mod CodeSteps
 pub mod ValueLaws
 pub mod Equality
+pub mod Examples

@@ -1,5 +1,5 @@
 -- The order of natural numbers with infinity.
-use Rattle.std.proofs.Common.{◌≡◌, ℕ, arith}
+use Rattle.std.proofs.Common.{arith}
 use Rattle.qs_assert.specs.Values.{Extended, finite, infinite, plus, greater}
 use Rattle.qs_entail.specs.Meaning.{AtLeast}
 

@@ -1,15 +1,14 @@
 -- Plain assertions are polynomials, and combinations of polynomials that are at least 0 are at least 0.
-use Rattle.std.proofs.Common.{◌≡◌, ℕ, zero, suc, ◌+◌, ◌*◌, ◌<◌, length, refl, sym, ap, ◌∙◌, arith, true, false}
-use Rattle.std.specs.Prelude.{ℤ, pos, negsuc, ◌+ℤ◌, ◌-ℤ◌, ◌*ℤ◌, ◌≤ℤ◌, List, [], ◌∷◌, All, slice_index_or, Result, Ok, Err}
+use Rattle.std.proofs.Common.{◌≡◌, ℕ, zero, suc, ◌+◌, ◌*◌, refl, sym, ap, ◌∙◌, arith, true}
+use Rattle.std.specs.Prelude.{ℤ, pos, negsuc, ◌-ℤ◌, ◌*ℤ◌, ◌≤ℤ◌, List, [], ◌∷◌, All, slice_index_or, Result, Ok, Err}
 use Rattle.std.proofs.lemmas.Int.{ints}
-use Rattle.std.proofs.Math.IntN.{*ℤ_comm, pos-*ℤ-pos}
-use Rattle.qs_assert.specs.Trees.{TermTree, AssertionTree, natural, infinity, cost, num, total, greatest, product, guard, choose, named, AssertionTrees, no_assertions, assertion_and}
-use Rattle.qs_assert.specs.Values.{State, natural_part, term_value, Extended, finite, infinite, value, sum_of, product_of, plus as with, times}
+use Rattle.qs_assert.specs.Trees.{AssertionTree, natural, cost, num, total, product, AssertionTrees, no_assertions, assertion_and}
+use Rattle.qs_assert.specs.Values.{State, natural_part, term_value, Extended, finite, value, sum_of, product_of, plus as with, times}
 use Rattle.qs_poly.specs.Polynomials as poly
 use Rattle.qs_poly.specs.Polynomials.{Polynomial, nothing}
 use Rattle.qs_poly.specs.Operations.{sum, multiple, single}
 use Rattle.qs_poly.specs.Operations as operation
-use Rattle.qs_poly.specs.Values.{atom_value, polynomial_value}
+use Rattle.qs_poly.specs.Values.{polynomial_value}
 use Rattle.qs_poly.proofs.Ring.{mul_assoc, mul_not_negative}
 use Rattle.qs_poly.proofs.ValueLaws.{number_value, single_value}
 use Rattle.qs_entail.specs.Certificates.{Item, once, twice}
@@ -165,6 +164,7 @@ two_not_negative v w l z s h e =
     first_of_two : Result Two Failure → Polynomial
     first_of_two (Ok t) = t.first
     first_of_two (Err failure) = nothing
+
     second_of_two : Result Two Failure → Polynomial
     second_of_two (Ok t) = t.second
     second_of_two (Err failure) = nothing

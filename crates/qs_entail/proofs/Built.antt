@@ -1,5 +1,5 @@
 -- The polynomials that are built have the values of their terms.
-use Rattle.std.proofs.Common.{◌≡◌, ℕ, zero, suc, refl, sym, ap, ◌∙◌, arith, true, false}
+use Rattle.std.proofs.Common.{◌≡◌, refl, sym, ap, ◌∙◌, arith, true, false}
 use Rattle.std.specs.Prelude.{ℤ, pos, negsuc, ◌+ℤ◌, ◌-ℤ◌, ◌*ℤ◌, Bool, ◌&&◌, if◌then◌else◌, Result, Ok, Err}
 use Rattle.std.proofs.lemmas.Int.{ints}
 use Rattle.std.proofs.Math.IntN.{*ℤ_comm}
@@ -9,13 +9,13 @@ use Rattle.qs_poly.specs.Polynomials as poly
 use Rattle.qs_poly.specs.Polynomials.{AtomTree, Polynomial, nothing}
 use Rattle.qs_poly.specs.Operations.{sum, multiple, product, single}
 use Rattle.qs_poly.specs.Operations as operation
-use Rattle.qs_poly.specs.Limits.{within, all_narrow, has_few_terms, all_low}
+use Rattle.qs_poly.specs.Limits.{all_narrow, has_few_terms, all_low}
 use Rattle.qs_poly.specs.Values.{atom_value, polynomial_value}
 use Rattle.qs_poly.specs.declared.fault.PolyFault.{PolyFault}
 use Rattle.qs_poly.specs.declared.fault.PolyFault.TheVariants.{Wide, ManyTerms, HighDegree}
 use Rattle.qs_poly.proofs.Ring.{mul_assoc}
 use Rattle.qs_poly.proofs.ValueLaws.{sum_value, multiple_value, product_value, number_value, single_value}
-use Rattle.qs_entail.specs.Building.{Failure, breaks, passes, bind, require, limits, limited, minus, difference, term_polynomial, sum_onto, product_onto}
+use Rattle.qs_entail.specs.Building.{Failure, bind, require, limits, limited, minus, difference, term_polynomial, sum_onto, product_onto}
 
 times_one : (z : ℤ) → z *ℤ pos 1 ≡ z
 times_one z = omega (arith, ints)

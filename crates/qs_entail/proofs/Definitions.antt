@@ -1,13 +1,12 @@
 -- Where definitions are in order, each name has the value of the body of its first definition.
 use Rattle.std.proofs.Common.{◌≡◌, ℕ, List, [], ◌∷◌, refl, sym, ap, ◌∙◌, subst, true, false}
-use Rattle.std.specs.Prelude.{ℤ, pos, ◌+ℤ◌, ◌-ℤ◌, ◌*ℤ◌, Bool, ◌&&◌, ◌||◌, if◌then◌else◌, int_le, int_lt, Option, Some, None, Result, Ok, Err}
+use Rattle.std.specs.Prelude.{pos, ◌+ℤ◌, ◌-ℤ◌, ◌*ℤ◌, Bool, ◌&&◌, ◌||◌, if◌then◌else◌, int_le, int_lt, Option, Some, None, Ok}
 use Rattle.std.specs.Prelude.{not as flip}
 use Rattle.std.specs.Ordering.{int_eq}
 use Rattle.qs_assert.specs.declared.define.Define.{Define}
-use Rattle.qs_assert.specs.Bounds.{Setting, same_name, is_defined, with_definition, with_definitions}
+use Rattle.qs_assert.specs.Bounds.{Setting, same_name, with_definition, with_definitions}
 use Rattle.qs_assert.specs.Trees.{TermTree, number, variable, add, sub, mul, div, wrapu, wraps, bits, TermTrees, no_terms, term_and, CondTree, le, lt, eq, ne, not, and, or, CondTrees, no_conds, cond_and, AssertionTree, natural, infinity, cost, num, total, greatest, product, guard, choose, named, AssertionTrees, no_assertions, assertion_and}
 use Rattle.qs_assert.specs.Values.{State, wrapped_unsigned, wrapped_signed, bit_length, quotient, natural_part, term_value, sum_of_terms, product_of_terms, holds, all_hold, some_holds, Extended, finite, infinite, or_infinite, value, sum_of, greatest_of, product_of, plus, greater, times}
-use Rattle.qs_entail.specs.Building.{Failure}
 use Rattle.qs_entail.specs.Faults.{definition}
 use Rattle.qs_entail.specs.Meaning.{names_known, all_names_known, in_order, IsInOrder, defined_by, InRange}
 use Rattle.qs_entail.proofs.Built.{both}
@@ -133,6 +132,7 @@ given (d ∷ ds) g known o k n body h none =
   where
     final : State
     final = (with_definitions ds (with_definition d g)).state
+
     by : (t : Bool) → same_name n d.name ≡ t → names_known d.body known ≡ true → (if t then Ok d.body else definition ds n) ≡ Ok body → (definition ds n ≡ Ok body → (with_definition d g).state.names n ≡ None → or_infinite ((with_definitions ds (with_definition d g)).state.names n) ≡ value body (with_definitions ds (with_definition d g)).state) → or_infinite ((with_definitions ds (with_definition d g)).state.names n) ≡ value body (with_definitions ds (with_definition d g)).state
     by true t kn h next =
         let here : (with_definition d g).state.names n ≡ Some (value d.body g.state) = undefined_takes d g n none ∙ ap (λ b. if b then Some (value d.body g.state) else None) t in
@@ -141,7 +141,7 @@ given (d ∷ ds) g known o k n body h none =
         let same : d.body ≡ body = made d.body body h in
         ap or_infinite stays
         ∙ value_agrees d.body known g.state g.state.names after kn
-            (λ m sm. let x = k m sm in ap or_infinite x.1 ∙ sym (ap or_infinite (kept ds (with_definition d g) m x.0 (defined_stays d g m x.0 x.1))))
+        (λ m sm. let x = k m sm in ap or_infinite x.1 ∙ sym (ap or_infinite (kept ds (with_definition d g) m x.0 (defined_stays d g m x.0 x.1))))
         ∙ ap (λ s. value d.body s) (sym (only_names ds (with_definition d g)))
         ∙ ap (λ a. value a (with_definitions ds (with_definition d g)).state) same
     by false t kn h next = next h (undefined_takes d g n none ∙ ap (λ b. if b then Some (value d.body g.state) else None) t)

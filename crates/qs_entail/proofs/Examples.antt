@@ -1,10 +1,10 @@
 -- Small certificates and their verdicts, without hypotheses and definitions.
 use Rattle.std.proofs.Common.{◌≡◌, refl}
-use Rattle.std.specs.Prelude.{ℤ, pos, negsuc, List, [], ◌∷◌, Option, Some, None}
-use Rattle.qs_assert.specs.Trees.{AssertionTree, natural, cost, product, AssertionTrees, no_assertions, assertion_and}
+use Rattle.std.specs.Prelude.{pos, [], ◌∷◌, Some, None}
+use Rattle.qs_assert.specs.Trees.{AssertionTree, natural, cost, product, no_assertions, assertion_and}
 use Rattle.qs_poly.specs.declared.fault.PolyFault.TheVariants.{HighDegree}
-use Rattle.qs_entail.specs.Certificates.{Item, once, twice, CertTree, same, arithmetic, fact, cost_range}
-use Rattle.qs_entail.specs.Faults.{Fault, step, limit}
+use Rattle.qs_entail.specs.Certificates.{once, same, arithmetic, fact, cost_range}
+use Rattle.qs_entail.specs.Faults.{step, limit}
 use Rattle.qs_entail.specs.Verdicts.{verdict}
 
 -- 5 is at least 3, since 5 - 3 is 2 * 1

@@ -1,29 +1,29 @@
 -- The polynomials that a fact adds are at least 0.
-use Rattle.std.proofs.Common.{◌≡◌, ℕ, zero, suc, ◌≤◌, refl, sym, ap, ◌∙◌, subst, arith, true, false}
-use Rattle.std.specs.Prelude.{ℤ, pos, negsuc, ◌+ℤ◌, ◌-ℤ◌, ◌*ℤ◌, ◌≤ℤ◌, Bool, ◌&&◌, ◌||◌, nat_le, List, [], ◌∷◌, All, Result, Ok, Err}
+use Rattle.std.proofs.Common.{◌≡◌, ℕ, zero, suc, ◌≤◌, refl, ap, ◌∙◌, subst, arith, true, false}
+use Rattle.std.specs.Prelude.{ℤ, pos, negsuc, ◌+ℤ◌, ◌-ℤ◌, ◌*ℤ◌, ◌≤ℤ◌, Bool, ◌&&◌, ◌||◌, nat_le, List, [], ◌∷◌, All, Result, Ok}
 use Rattle.std.specs.Prelude.{not as flip}
 use Rattle.std.specs.Ordering.{int_eq}
 use Rattle.std.proofs.lemmas.Int.{ints}
 use Rattle.std.proofs.lemmas.List.Elements.{All-head, All-tail}
 use Rattle.qs_assert.specs.declared.variable.Var.{Var}
 use Rattle.qs_assert.specs.Trees.{TermTree, CondTree, le, lt, eq, ne, not, and, or}
-use Rattle.qs_assert.specs.Values.{State, term_value, holds, wrapped_unsigned, wrapped_signed, quotient, bit_length}
+use Rattle.qs_assert.specs.Values.{State, term_value, holds, bit_length}
 use Rattle.qs_poly.specs.Polynomials as poly
 use Rattle.qs_poly.specs.Polynomials.{Polynomial, nothing}
 use Rattle.qs_poly.specs.Operations.{sum, multiple, number, single}
 use Rattle.qs_poly.specs.Terms.{polynomial_eq}
-use Rattle.qs_poly.specs.Values.{atom_value, polynomial_value}
+use Rattle.qs_poly.specs.Values.{polynomial_value}
 use Rattle.qs_poly.proofs.Equality.{polynomial_equal}
 use Rattle.qs_poly.proofs.ValueLaws.{sum_value, multiple_value, number_value, single_value}
 use Rattle.qs_entail.specs.Certificates.{Item, FactTree, range, cost_range, apart, num_is, num_bounds, wrapu_is, wraps_is, wrapu_bounds, wraps_bounds, quotient_bounds, bits_bound, bits_half, bits_rise}
-use Rattle.qs_entail.specs.Building.{Failure, bind, require, limited, minus, difference, term_polynomial, are_inside, combination, two_combinations, Two}
+use Rattle.qs_entail.specs.Building.{Failure, bind, limited, minus, difference, term_polynomial, are_inside, combination, two_combinations}
 use Rattle.qs_entail.specs.Pushing.{Known}
 use Rattle.qs_entail.specs.Facts.{least, greatest_of_type, Sides, equal_sides, different_sides, condition_at, condition, added}
 use Rattle.qs_entail.specs.Meaning.{InRange}
 use Rattle.qs_entail.proofs.Built.{both, bind_ok, require_ok, limited_value, minus_value, difference_value, limited_sum_value, limited_multiple_value, term_polynomial_value}
-use Rattle.qs_entail.proofs.Assertions.{IsNotNegative, AllNotNegative, combination_not_negative, two_not_negative}
+use Rattle.qs_entail.proofs.Assertions.{AllNotNegative, combination_not_negative, two_not_negative}
 use Rattle.qs_entail.proofs.Pushed.{Holds, made}
-use Rattle.qs_entail.proofs.Numbers.{natural_part_same, natural_part_above, unsigned_same, unsigned_least, unsigned_greatest, signed_same, signed_least, signed_greatest, IsQuotient, quotient_is, length_halves, length_rises}
+use Rattle.qs_entail.proofs.Numbers.{natural_part_same, natural_part_above, unsigned_same, unsigned_least, unsigned_greatest, signed_same, signed_least, signed_greatest, quotient_is, length_halves, length_rises}
 
 -- ---- equal polynomials
 
@@ -154,9 +154,9 @@ apart_holds i w k ps s e h =
     let is_more = v ∙ ap (λ w. w -ℤ polynomial_value u.0 s) x ∙ ap (λ w. left -ℤ w) y in
     let is_less = v' ∙ ap (λ w. w -ℤ polynomial_value t.0 s) y ∙ ap (λ w. right -ℤ w) x in
     let more : pos 1 ≤ℤ polynomial_value z.0 s =
-      either (polynomial_eq z.0 a.0) (polynomial_eq z.0 b.0) (pos 1 ≤ℤ polynomial_value z.0 s) q.0
-        (λ same. not_zero left right (polynomial_value z.0 s) apart (same_value z.0 a.0 s same ∙ is_more) n)
-        (λ same. not_zero_turned left right (polynomial_value z.0 s) apart (same_value z.0 b.0 s same ∙ is_less) n) in
+    either (polynomial_eq z.0 a.0) (polynomial_eq z.0 b.0) (pos 1 ≤ℤ polynomial_value z.0 s) q.0
+    (λ same. not_zero left right (polynomial_value z.0 s) apart (same_value z.0 a.0 s same ∙ is_more) n)
+    (λ same. not_zero_turned left right (polynomial_value z.0 s) apart (same_value z.0 b.0 s same ∙ is_less) n) in
     let o = limited_sum_value z.0 (number (negsuc 0)) m.0 s m.1.0 in
     one m.0 ps s q.1 (one_less (polynomial_value m.0 s) (polynomial_value z.0 s) (polynomial_value (number (negsuc 0)) s) o (number_value (negsuc 0) s) more)
 
@@ -217,11 +217,11 @@ wrapu_bounds_hold t k ps s e =
 wraps_bounds_hold : (t : TermTree) (k : Known) (ps : List Polynomial) (s : State) → added (wraps_bounds t) k ≡ Ok ps → AllNotNegative s ps
 wraps_bounds_hold t k ps s e =
     let p =
-      bind_ok (term_polynomial t)
-        (λ p. bind (limited (sum (single (poly.wraps p)) (number (pos 2147483648)))) (λ a. bind (difference (number (pos 2147483647)) (single (poly.wraps p))) (λ b. Ok (a ∷ b ∷ []))))
-        ps e in
+    bind_ok (term_polynomial t)
+    (λ p. bind (limited (sum (single (poly.wraps p)) (number (pos 2147483648)))) (λ a. bind (difference (number (pos 2147483647)) (single (poly.wraps p))) (λ b. Ok (a ∷ b ∷ []))))
+    ps e in
     let a =
-      bind_ok (limited (sum (single (poly.wraps p.0)) (number (pos 2147483648)))) (λ a. bind (difference (number (pos 2147483647)) (single (poly.wraps p.0))) (λ b. Ok (a ∷ b ∷ []))) ps p.1.1 in
+    bind_ok (limited (sum (single (poly.wraps p.0)) (number (pos 2147483648)))) (λ a. bind (difference (number (pos 2147483647)) (single (poly.wraps p.0))) (λ b. Ok (a ∷ b ∷ []))) ps p.1.1 in
     let b = bind_ok (difference (number (pos 2147483647)) (single (poly.wraps p.0))) (λ b. Ok (a.0 ∷ b ∷ [])) ps a.1.1 in
     let x = limited_sum_value (single (poly.wraps p.0)) (number (pos 2147483648)) a.0 s a.1.0 in
     let y = difference_value (number (pos 2147483647)) (single (poly.wraps p.0)) b.0 s b.1.0 in

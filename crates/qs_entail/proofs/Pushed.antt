@@ -1,6 +1,6 @@
 -- What is pushed holds where its condition holds.
-use Rattle.std.proofs.Common.{◌≡◌, ℕ, zero, suc, refl, sym, ap, ◌∙◌, subst, arith, true, false}
-use Rattle.std.specs.Prelude.{ℤ, pos, negsuc, ◌+ℤ◌, ◌-ℤ◌, ◌≤ℤ◌, ◌<ℤ◌, Bool, ◌&&◌, ◌||◌, List, [], ◌∷◌, ◌++◌, All, Result, Ok, Err, int_le, int_lt}
+use Rattle.std.proofs.Common.{◌≡◌, refl, sym, ap, subst, arith, true, false}
+use Rattle.std.specs.Prelude.{ℤ, negsuc, ◌≤ℤ◌, ◌<ℤ◌, Bool, ◌||◌, List, [], ◌∷◌, ◌++◌, All, Result, Ok, int_le, int_lt}
 use Rattle.std.specs.Prelude.{not as flip}
 use Rattle.std.specs.Ordering.{int_eq}
 use Rattle.std.proofs.lemmas.Int.{ints}
@@ -8,9 +8,8 @@ use Rattle.std.proofs.lemmas.List.Elements.{All-push, All-head, All-tail}
 use Rattle.std.proofs.Common.{append_assoc}
 use Rattle.qs_assert.specs.Trees.{TermTree, CondTree, le, lt, eq, ne, not, and, or, CondTrees, no_conds, cond_and}
 use Rattle.qs_assert.specs.Values.{State, term_value, holds, all_hold, some_holds}
-use Rattle.qs_poly.specs.Polynomials.{Polynomial, nothing}
+use Rattle.qs_poly.specs.Polynomials.{Polynomial}
 use Rattle.qs_poly.specs.Operations.{sum, number}
-use Rattle.qs_poly.specs.Values.{polynomial_value}
 use Rattle.qs_poly.proofs.ValueLaws.{number_value}
 use Rattle.qs_entail.specs.Building.{Failure, bind, limited, minus, difference, term_polynomial}
 use Rattle.qs_entail.specs.Pushing.{Known, with_condition, with_polynomials, push_le, push_lt, push_eq, push, push_not, push_all, push_nots, push_list}
@@ -110,7 +109,7 @@ push_eq_holds t u k k' s e h o =
     let i = eq_true (term_value t s) (term_value u s) h in
     let z = made (with_polynomials (c.0 ∷ f.0 ∷ []) (with_condition (eq t u) k)) k' f.1.1 in
     subst (λ k. Holds k s) z
-      (more_polynomials (c.0 ∷ f.0 ∷ []) (with_condition (eq t u) k) s (more_condition (eq t u) k s o h) (omega (arith, ints, x, y, v, i), (omega (arith, ints, x, y, w, i), tt)))
+    (more_polynomials (c.0 ∷ f.0 ∷ []) (with_condition (eq t u) k) s (more_condition (eq t u) k s o h) (omega (arith, ints, x, y, v, i), (omega (arith, ints, x, y, w, i), tt)))
 
 kept : (c : CondTree) (k k' : Known) (s : State) → (let r : Result Known Failure = Ok (with_condition c k) in r) ≡ Ok k' → holds c s ≡ true → Holds k s → Holds k' s
 kept c k k' s e h o = subst (λ k. Holds k s) (made (with_condition c k) k' e) (more_condition c k s o h)

@@ -1,10 +1,10 @@
 -- Branches of conditionals and bodies of names have the values of what they replace.
 use Rattle.std.proofs.Common.{◌≡◌, ℕ, List, [], ◌∷◌, refl, sym, ap, ◌∙◌, true, false, arith}
-use Rattle.std.specs.Prelude.{Bool, if◌then◌else◌, ◌==◌, Option, Some, None}
+use Rattle.std.specs.Prelude.{Bool, if◌then◌else◌, ◌==◌}
 use Rattle.qs_assert.specs.Bounds.{same_name}
 use Rattle.qs_assert.specs.Sameness.{same_cond}
 use Rattle.qs_assert.specs.Trees.{CondTree, AssertionTree, natural, infinity, cost, num, total, greatest, product, guard, choose, named, AssertionTrees, no_assertions, assertion_and}
-use Rattle.qs_assert.specs.Values.{State, Extended, finite, infinite, holds, or_infinite, value, sum_of, greatest_of, product_of, plus, greater, times}
+use Rattle.qs_assert.specs.Values.{State, infinite, holds, or_infinite, value, sum_of, greatest_of, product_of, plus, greater, times}
 use Rattle.qs_assert.proofs.Same.{cond_same}
 use Rattle.qs_entail.proofs.Built.{both}
 use Rattle.qs_entail.specs.Faults.{branch, branches, unfolded, all_unfolded}

@@ -1,13 +1,13 @@
 -- A certificate without a fault shows what it says.
 use Rattle.std.proofs.Common.{◌≡◌, ℕ, zero, suc, ◌≤◌, refl, sym, ap, ◌∙◌, subst, arith, true, false}
-use Rattle.std.specs.Prelude.{ℤ, pos, negsuc, ◌≤ℤ◌, Bool, if◌then◌else◌, ◌&&◌, ◌==◌, List, [], ◌∷◌, All, Option, Some, None, Result, Ok, Err}
+use Rattle.std.specs.Prelude.{ℤ, pos, negsuc, ◌≤ℤ◌, Bool, if◌then◌else◌, ◌&&◌, ◌==◌, List, [], Option, Some, None, Result, Ok, Err}
 use Rattle.std.specs.Prelude.{not as flip}
 use Rattle.std.proofs.lemmas.Int.{ints}
 use Rattle.std.proofs.lemmas.List.Elements.{All-nil, All-cons}
 use Rattle.qs_assert.specs.declared.define.Define.{Define}
 use Rattle.qs_assert.specs.Sameness.{same_assertion}
-use Rattle.qs_assert.specs.Trees.{CondTree, not, AssertionTree, natural, infinity, cost, num, total, greatest, product, guard, choose, named, AssertionTrees, no_assertions, assertion_and}
-use Rattle.qs_assert.specs.Values.{State, Extended, finite, infinite, holds, or_infinite, value, sum_of, greatest_of, plus, greater}
+use Rattle.qs_assert.specs.Trees.{not, AssertionTree, natural, infinity, total, greatest, guard, AssertionTrees, no_assertions, assertion_and}
+use Rattle.qs_assert.specs.Values.{State, Extended, finite, infinite, holds, or_infinite, value, sum_of, greatest_of, greater}
 use Rattle.qs_assert.proofs.Same.{assertion_same}
 use Rattle.qs_poly.specs.Operations.{number}
 use Rattle.qs_poly.specs.Terms.{polynomial_eq}
@@ -17,9 +17,9 @@ use Rattle.qs_entail.specs.Certificates.{Item, CertTree, same, via, pick, all, p
 use Rattle.qs_entail.specs.Building.{Failure, bind, require, difference, are_inside, combination, is_plain, assertion_polynomial}
 use Rattle.qs_entail.specs.Pushing.{Known, at_first, with_polynomials, push, push_list}
 use Rattle.qs_entail.specs.Facts.{added}
-use Rattle.qs_entail.specs.Faults.{Fault, step, limit, at_root, below, node, part, both, done, member, member_at, members_of, summands_of, Guarded, guarded_of, count, count_certs, branch, unfolded, definition, contradiction, arithmetic_holds, fault, faults_all, faults_parts}
-use Rattle.qs_entail.specs.Verdicts.{stands, outline_list, rule_of, verdict}
-use Rattle.qs_entail.specs.Meaning.{AtLeast, InRange, IsInOrder, defined_by, Above, IsSound}
+use Rattle.qs_entail.specs.Faults.{Fault, step, node, part, both, done, member, member_at, members_of, summands_of, Guarded, guarded_of, count, count_certs, branch, unfolded, definition, contradiction, arithmetic_holds, fault, faults_all, faults_parts}
+use Rattle.qs_entail.specs.Verdicts.{stands, outline_list, rule_of}
+use Rattle.qs_entail.specs.Meaning.{AtLeast, InRange, defined_by, IsSound}
 use Rattle.qs_entail.proofs.Built.{bind_ok, require_ok, difference_value}
 use Rattle.qs_entail.proofs.Built.{both as both_true}
 use Rattle.qs_entail.proofs.Assertions.{IsNotNegative, combination_not_negative, assertion_polynomial_value}
@@ -141,7 +141,7 @@ mutual
       let a = node_none 3 (bind (members_of p) (λ members. member_at members i)) (λ a. part 0 (fault c ds k a q)) e in
       let b = bind_ok (members_of p) (λ members. member_at members i) a.0 a.1.0 in
       subst (λ x. AtLeast (value x s) (value q s)) (sym (is_greatest p b.0 b.1.0))
-        (at_least_through (greatest_of b.0 s) (value a.0 s) (value q s) (picked_at_most b.0 i a.0 s b.1.1) (sound c ds k a.0 q (part_none 0 _ a.1.1) s r f h))
+      (at_least_through (greatest_of b.0 s) (value a.0 s) (value q s) (picked_at_most b.0 i a.0 s b.1.1) (sound c ds k a.0 q (part_none 0 _ a.1.1) s r f h))
   sound (all cs) ds k p q e s r f h =
       let a = node_none 4 (bind (members_of q) (λ members. require (count_certs cs == count members) (Ok members))) (λ members. faults_all cs 0 ds k p members) e in
       let b = bind_ok (members_of q) (λ members. require (count_certs cs == count members) (Ok members)) a.0 a.1.0 in
@@ -161,29 +161,29 @@ mutual
       let m = same_count (count_certs cs) (count u.0) g.0 ∙ ap count i in
       let n = same_count (count_certs cs) (count v.0) l.0 ∙ ap count j in
       subst (λ x. AtLeast (value x s) (value q s)) (sym (is_total p u.0 u.1.0 ∙ ap total i))
-        (subst (λ x. AtLeast (sum_of a.0 s) (value x s)) (sym (is_total q v.0 v.1.0 ∙ ap total j)) (sound_parts cs 0 ds k a.0 b.0 m n b.1.1 s r f h))
+      (subst (λ x. AtLeast (sum_of a.0 s) (value x s)) (sym (is_total q v.0 v.1.0 ∙ ap total j)) (sound_parts cs 0 ds k a.0 b.0 m n b.1.1 s r f h))
   sound (assume c) ds k p q e s r f h =
       let a = node_none 6 (guarded_of p) (λ g. node 6 (push g.condition k) (λ k'. part 0 (fault c ds k' g.body q))) e in
       let g = a.0 in
       let b = node_none 6 (push g.condition k) (λ k'. part 0 (fault c ds k' g.body q)) a.1.1 in
       subst (λ x. AtLeast (value x s) (value q s)) (sym (is_guard p g a.1.0))
-        (guarded (holds g.condition s) (value g.body s) (value q s) (λ t. sound c ds b.0 g.body q (part_none 0 _ b.1.1) s r f (push_holds g.condition k b.0 s b.1.0 t h)))
+      (guarded (holds g.condition s) (value g.body s) (value q s) (λ t. sound c ds b.0 g.body q (part_none 0 _ b.1.1) s r f (push_holds g.condition k b.0 s b.1.0 t h)))
   sound (drop c d) ds k p q e s r f h =
       let a = node_none 7 (guarded_of q) (λ g. node 7 (push (not g.condition) k) (λ k'. both (part 0 (fault c ds k' (natural 0) infinity)) (part 1 (fault d ds k p g.body)))) e in
       let g = a.0 in
       let b = node_none 7 (push (not g.condition) k) (λ k'. both (part 0 (fault c ds k' (natural 0) infinity)) (part 1 (fault d ds k p g.body))) a.1.1 in
       let v = both_none (part 0 (fault c ds b.0 (natural 0) infinity)) (part 1 (fault d ds k p g.body)) b.1.1 in
       subst (λ x. AtLeast (value p s) (value x s)) (sym (is_guard q g a.1.0))
-        (unguarded (holds g.condition s) (value p s) (value g.body s)
-          (λ t. sound c ds b.0 (natural 0) infinity (part_none 0 _ v.0) s r f (push_holds (not g.condition) k b.0 s b.1.0 (ap flip t) h))
-          (sound d ds k p g.body (part_none 1 _ v.1) s r f h))
+      (unguarded (holds g.condition s) (value p s) (value g.body s)
+      (λ t. sound c ds b.0 (natural 0) infinity (part_none 0 _ v.0) s r f (push_holds (not g.condition) k b.0 s b.1.0 (ap flip t) h))
+      (sound d ds k p g.body (part_none 1 _ v.1) s r f h))
   sound (split b c d) ds k p q e s r f h =
       let x = node_none 8 (push b k) (λ k'. node 8 (push (not b) k) (λ k''. both (part 0 (fault c ds k' (branch b true p) (branch b true q))) (part 1 (fault d ds k'' (branch b false p) (branch b false q))))) e in
       let y = node_none 8 (push (not b) k) (λ k''. both (part 0 (fault c ds x.0 (branch b true p) (branch b true q))) (part 1 (fault d ds k'' (branch b false p) (branch b false q)))) x.1.1 in
       let v = both_none (part 0 (fault c ds x.0 (branch b true p) (branch b true q))) (part 1 (fault d ds y.0 (branch b false p) (branch b false q))) y.1.1 in
       by_cases (holds b s) (AtLeast (value p s) (value q s))
-        (λ t. moved (branch_value b true p s t) (branch_value b true q s t) (sound c ds x.0 (branch b true p) (branch b true q) (part_none 0 _ v.0) s r f (push_holds b k x.0 s x.1.0 t h)))
-        (λ t. moved (branch_value b false p s t) (branch_value b false q s t) (sound d ds y.0 (branch b false p) (branch b false q) (part_none 1 _ v.1) s r f (push_holds (not b) k y.0 s y.1.0 (ap flip t) h)))
+      (λ t. moved (branch_value b true p s t) (branch_value b true q s t) (sound c ds x.0 (branch b true p) (branch b true q) (part_none 0 _ v.0) s r f (push_holds b k x.0 s x.1.0 t h)))
+      (λ t. moved (branch_value b false p s t) (branch_value b false q s t) (sound d ds y.0 (branch b false p) (branch b false q) (part_none 1 _ v.1) s r f (push_holds (not b) k y.0 s y.1.0 (ap flip t) h)))
   sound (contradict w) ds k p q e s r f h =
       let a = node_none 9 (contradiction w k) (λ _. None) e in
       absurd (contradicts w k s a.1.0 h)
@@ -224,5 +224,5 @@ certificates_are_sound hypotheses ds p q c o e s r h =
     let l = number_value (pos 1) t in
     let one : pos 0 ≤ℤ polynomial_value (number (pos 1)) t = omega (arith, ints, l) in
     sound c ds b.0 p q b.1.1 t (still_in_range ds s r) (names_given ds s o)
-      (push_list_holds hypotheses at_first b.0 t b.1.0 h
-        (record { conditions = All-nil (λ c. holds c t ≡ true); polynomials = All-cons (IsNotNegative t) (number (pos 1)) [] one (All-nil (IsNotNegative t)) }))
+    (push_list_holds hypotheses at_first b.0 t b.1.0 h
+    (record { conditions = All-nil (λ c. holds c t ≡ true); polynomials = All-cons (IsNotNegative t) (number (pos 1)) [] one (All-nil (IsNotNegative t)) }))

@@ -1,5 +1,5 @@
 -- The polynomials of terms and assertions, built from their parts from left to right under the limits.
-use Rattle.std.specs.Prelude.{ℕ, ℤ, pos, negsuc, Bool, true, false, ◌&&◌, nat_lt, List, [], ◌∷◌, length, slice_index_or, Result, Ok, Err}
+use Rattle.std.specs.Prelude.{ℤ, pos, negsuc, Bool, true, false, ◌&&◌, nat_lt, List, [], ◌∷◌, length, slice_index_or, Result, Ok, Err}
 use Rattle.qs_assert.specs.Trees.{TermTree, number, variable, add, sub, mul, div, wrapu, wraps, bits, TermTrees, no_terms, term_and, AssertionTree, natural, infinity, cost, num, total, greatest, product, guard, choose, named, AssertionTrees, no_assertions, assertion_and}
 use Rattle.qs_poly.specs.Polynomials as poly
 use Rattle.qs_poly.specs.Polynomials.{Polynomial, nothing}

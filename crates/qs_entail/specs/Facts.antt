@@ -1,15 +1,14 @@
 -- The polynomials that each fact adds, where its side condition holds.
-use Rattle.std.specs.Prelude.{ℕ, zero, suc, ◌^◌, ◌-◌, ℤ, pos, negsuc, ◌-ℤ◌, Bool, true, false, ◌&&◌, ◌||◌, nat_le, List, [], ◌∷◌, Result, Ok, Err}
+use Rattle.std.specs.Prelude.{ℕ, zero, suc, ◌^◌, ◌-◌, ℤ, pos, negsuc, ◌-ℤ◌, ◌&&◌, ◌||◌, nat_le, List, [], ◌∷◌, Result, Ok, Err}
 use Rattle.qs_assert.specs.declared.variable.NumberType.{NumberType}
 use Rattle.qs_assert.specs.declared.variable.NumberType.TheVariants.{Int, Unsigned, Char}
-use Rattle.qs_assert.specs.declared.variable.Var.{Var}
 use Rattle.qs_assert.specs.Trees.{TermTree, CondTree, le, lt, eq, ne, not, and, or}
 use Rattle.qs_poly.specs.Polynomials as poly
 use Rattle.qs_poly.specs.Polynomials.{Polynomial}
 use Rattle.qs_poly.specs.Operations.{sum, multiple, number, single}
 use Rattle.qs_poly.specs.Terms.{polynomial_eq}
-use Rattle.qs_entail.specs.Certificates.{Item, FactTree, range, cost_range, apart, num_is, num_bounds, wrapu_is, wraps_is, wrapu_bounds, wraps_bounds, quotient_bounds, bits_bound, bits_half, bits_rise}
-use Rattle.qs_entail.specs.Building.{Failure, breaks, passes, bind, require, limited, minus, difference, term_polynomial, are_inside, combination, two_combinations, Two}
+use Rattle.qs_entail.specs.Certificates.{FactTree, range, cost_range, apart, num_is, num_bounds, wrapu_is, wraps_is, wrapu_bounds, wraps_bounds, quotient_bounds, bits_bound, bits_half, bits_rise}
+use Rattle.qs_entail.specs.Building.{Failure, breaks, bind, require, limited, minus, difference, term_polynomial, are_inside, combination, two_combinations}
 use Rattle.qs_entail.specs.Pushing.{Known}
 
 -- the least and the greatest number of a type (C11 6.2.5 and 6.2.6.2)

@@ -1,6 +1,6 @@
 -- The first fault of a certificate: the first node that fails, a node before its parts. At a node the
 -- conditions without polynomials come first, then the limits, then the equalities of polynomials.
-use Rattle.std.specs.Prelude.{ℕ, zero, suc, ◌+◌, ℤ, pos, negsuc, Bool, true, false, if◌then◌else◌, ◌&&◌, ◌==◌, List, [], ◌∷◌, Option, Some, None, Result, Ok, Err}
+use Rattle.std.specs.Prelude.{ℕ, zero, suc, ℤ, pos, negsuc, Bool, true, false, if◌then◌else◌, ◌&&◌, ◌==◌, List, [], ◌∷◌, Option, Some, None, Result, Ok, Err}
 use Rattle.qs_assert.specs.declared.define.Define.{Define}
 use Rattle.qs_assert.specs.Bounds.{same_name}
 use Rattle.qs_assert.specs.Sameness.{same_cond, same_assertion}

@@ -1,7 +1,7 @@
 -- What is known at a node of a certificate, and what a condition adds to it.
-use Rattle.std.specs.Prelude.{ℕ, ℤ, pos, negsuc, List, [], ◌∷◌, ◌++◌, Result, Ok, Err}
+use Rattle.std.specs.Prelude.{pos, negsuc, List, [], ◌∷◌, ◌++◌, Result, Ok}
 use Rattle.qs_assert.specs.Trees.{TermTree, CondTree, le, lt, eq, ne, not, and, or, CondTrees, no_conds, cond_and}
-use Rattle.qs_poly.specs.Polynomials.{Polynomial, nothing}
+use Rattle.qs_poly.specs.Polynomials.{Polynomial}
 use Rattle.qs_poly.specs.Operations.{sum, number}
 use Rattle.qs_entail.specs.Building.{Failure, bind, limited, minus, difference, term_polynomial}
 

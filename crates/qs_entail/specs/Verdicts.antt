@@ -1,6 +1,6 @@
 -- The first fault of a certificate under hypotheses. What they push belongs to the root, so the root's
 -- conditions without polynomials come before the limits of what they push.
-use Rattle.std.specs.Prelude.{ℕ, ◌+◌, ℤ, pos, negsuc, Bool, true, false, if◌then◌else◌, ◌&&◌, nat_lt, nat_le, ◌==◌, List, [], ◌∷◌, ◌++◌, Option, Some, None, Result, Ok, Err}
+use Rattle.std.specs.Prelude.{ℕ, ◌+◌, ℤ, pos, negsuc, Bool, true, false, if◌then◌else◌, ◌&&◌, nat_lt, nat_le, ◌==◌, List, [], ◌∷◌, ◌++◌, Option, Some, Result, Ok, Err}
 use Rattle.qs_assert.specs.declared.define.Define.{Define}
 use Rattle.qs_assert.specs.Sameness.{same_assertion}
 use Rattle.qs_assert.specs.Trees.{CondTree, le, lt, eq, ne, not, and, or, CondTrees, no_conds, cond_and, AssertionTree}

@@ -7,5 +7,4 @@ ghost use Rattle.qs_entail.specs.Meaning.{IsSound};
 /// state.
 pub fn certificates_are_sound()
     ensures { IsSound }
-{
-}
+{}

@@ -2,7 +2,6 @@
 use Rattle.std.proofs.Common.{◌≡◌, refl}
 use Rattle.std.specs.Prelude.{ℤ, pos, negsuc, Err}
 use Rattle.qs_assert.specs.declared.variable.NumberType.TheVariants.{Int}
-use Rattle.qs_assert.specs.declared.variable.Var.{Var}
 use Rattle.qs_assert.specs.declared.variable.VarKind.TheVariants.{Plain}
 use Rattle.qs_poly.specs.Polynomials.{AtomTree, variable, one, times, Polynomial, nothing, plus}
 use Rattle.qs_poly.specs.Operations.{number, single, sum, multiple, product}

@@ -1,0 +1,10 @@
+pub mod Built
+pub mod Assertions
+pub mod Pushed
+pub mod Amounts
+pub mod Replaced
+pub mod Numbers
+pub mod FactsHold
+pub mod Definitions
+pub mod Sound
+pub mod Examples

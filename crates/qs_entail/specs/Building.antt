@@ -1,0 +1,147 @@
+-- The polynomials of terms and assertions, built from their parts from left to right under the limits.
+use Rattle.std.specs.Prelude.{ℤ, pos, negsuc, Bool, true, false, ◌&&◌, nat_lt, List, [], ◌∷◌, length, slice_index_or, Result, Ok, Err}
+use Rattle.qs_assert.specs.Trees.{TermTree, number, variable, add, sub, mul, div, wrapu, wraps, bits, TermTrees, no_terms, term_and, AssertionTree, natural, infinity, cost, num, total, greatest, product, guard, choose, named, AssertionTrees, no_assertions, assertion_and}
+use Rattle.qs_poly.specs.Polynomials as poly
+use Rattle.qs_poly.specs.Polynomials.{Polynomial, nothing}
+use Rattle.qs_poly.specs.Operations.{sum, multiple, single}
+use Rattle.qs_poly.specs.Operations as operation
+use Rattle.qs_poly.specs.Limits.{within}
+use Rattle.qs_poly.specs.declared.fault.PolyFault.{PolyFault}
+use Rattle.qs_entail.specs.Certificates.{Item, once, twice}
+
+-- ---- what fails at a node: its rule's side condition, or a limit
+
+pub data Failure : Type 0 where
+  breaks : Failure
+  passes : PolyFault → Failure
+
+abbrev pub Attempt : Type 0 → Type 0
+Attempt A = Result A Failure
+
+abbrev pub bind : {A B : Type 0} → Result A Failure → (A → Result B Failure) → Result B Failure
+bind (Ok a) f = f a
+bind (Err failure) f = Err failure
+
+abbrev pub require : {A : Type 0} → Bool → Result A Failure → Result A Failure
+require true r = r
+require false r = Err breaks
+
+abbrev pub limits : Result Polynomial PolyFault → Result Polynomial Failure
+limits (Ok p) = Ok p
+limits (Err fault) = Err (passes fault)
+
+-- a true result, where it passes no limit
+abbrev pub limited : Polynomial → Result Polynomial Failure
+limited p = limits (within p)
+
+abbrev pub minus : Polynomial → Polynomial → Polynomial
+minus p q = sum p (multiple (negsuc 0) q)
+
+abbrev pub difference : Polynomial → Polynomial → Result Polynomial Failure
+difference p q = limited (minus p q)
+
+-- ---- terms
+
+abbrev mutual
+  pub term_polynomial : TermTree → Result Polynomial Failure
+  term_polynomial (number k) = limited (operation.number k)
+  term_polynomial (variable x) = Ok (single (poly.variable x))
+  term_polynomial (add ts) = sum_onto ts nothing
+  term_polynomial (sub t u) = bind (term_polynomial t) (λ p. bind (term_polynomial u) (λ q. difference p q))
+  term_polynomial (mul ts) = product_onto ts (operation.number (pos 1))
+  term_polynomial (div t k) = bind (term_polynomial t) (λ p. Ok (single (poly.div p k)))
+  term_polynomial (wrapu t) = bind (term_polynomial t) (λ p. Ok (single (poly.wrapu p)))
+  term_polynomial (wraps t) = bind (term_polynomial t) (λ p. Ok (single (poly.wraps p)))
+  term_polynomial (bits t) = bind (term_polynomial t) (λ p. Ok (single (poly.bits p)))
+
+  pub sum_onto : TermTrees → Polynomial → Result Polynomial Failure
+  sum_onto no_terms p = Ok p
+  sum_onto (term_and t ts) p = bind (term_polynomial t) (λ q. bind (limited (sum p q)) (λ r. sum_onto ts r))
+
+  pub product_onto : TermTrees → Polynomial → Result Polynomial Failure
+  product_onto no_terms p = Ok p
+  product_onto (term_and t ts) p = bind (term_polynomial t) (λ q. bind (limited (operation.product p q)) (λ r. product_onto ts r))
+
+-- ---- assertions
+
+-- only numbers, cost, num, sums and products
+abbrev mutual
+  pub is_plain : AssertionTree → Bool
+  is_plain (natural n) = true
+  is_plain infinity = false
+  is_plain (cost f) = true
+  is_plain (num t) = true
+  is_plain (total parts) = all_plain parts
+  is_plain (greatest parts) = false
+  is_plain (product parts) = all_plain parts
+  is_plain (guard c a) = false
+  is_plain (choose c a b) = false
+  is_plain (named n) = false
+
+  pub all_plain : AssertionTrees → Bool
+  all_plain no_assertions = true
+  all_plain (assertion_and a parts) = is_plain a && all_plain parts
+
+-- of an assertion that is plain
+abbrev mutual
+  pub assertion_polynomial : AssertionTree → Result Polynomial Failure
+  assertion_polynomial (natural n) = limited (operation.number (pos n))
+  assertion_polynomial infinity = Err breaks
+  assertion_polynomial (cost f) = Ok (single (poly.cost f))
+  assertion_polynomial (num t) = bind (term_polynomial t) (λ p. Ok (single (poly.num p)))
+  assertion_polynomial (total parts) = total_onto parts nothing
+  assertion_polynomial (greatest parts) = Err breaks
+  assertion_polynomial (product parts) = factors_onto parts (operation.number (pos 1))
+  assertion_polynomial (guard c a) = Err breaks
+  assertion_polynomial (choose c a b) = Err breaks
+  assertion_polynomial (named n) = Err breaks
+
+  pub total_onto : AssertionTrees → Polynomial → Result Polynomial Failure
+  total_onto no_assertions p = Ok p
+  total_onto (assertion_and a parts) p = bind (assertion_polynomial a) (λ q. bind (limited (sum p q)) (λ r. total_onto parts r))
+
+  pub factors_onto : AssertionTrees → Polynomial → Result Polynomial Failure
+  factors_onto no_assertions p = Ok p
+  factors_onto (assertion_and a parts) p = bind (assertion_polynomial a) (λ q. bind (limited (operation.product p q)) (λ r. factors_onto parts r))
+
+-- ---- combinations
+
+abbrev pub is_inside : List Polynomial → ℤ → Bool
+is_inside l (pos i) = nat_lt i (length l)
+is_inside l (negsuc i) = false
+
+abbrev pub at : List Polynomial → ℤ → Polynomial
+at l (pos i) = slice_index_or l i nothing
+at l (negsuc i) = nothing
+
+-- the numbers of all items are in the list
+abbrev pub are_inside : List Item → List Polynomial → Bool
+are_inside [] l = true
+are_inside (once k i ∷ items) l = is_inside l i && are_inside items l
+are_inside (twice k i j ∷ items) l = (is_inside l i && is_inside l j) && are_inside items l
+
+abbrev pub item_polynomial : Item → List Polynomial → Result Polynomial Failure
+item_polynomial (once k i) l = limited (multiple (pos k) (at l i))
+item_polynomial (twice k i j) l = bind (limited (operation.product (at l i) (at l j))) (λ r. limited (multiple (pos k) r))
+
+abbrev pub item_polynomials : List Item → List Polynomial → Result (List Polynomial) Failure
+item_polynomials [] l = Ok []
+item_polynomials (item ∷ items) l = bind (item_polynomial item l) (λ p. bind (item_polynomials items l) (λ ps. Ok (p ∷ ps)))
+
+-- the sums from left to right
+abbrev pub sum_all : Polynomial → List Polynomial → Result Polynomial Failure
+sum_all p [] = Ok p
+sum_all p (q ∷ qs) = bind (limited (sum p q)) (λ r. sum_all r qs)
+
+-- all items, and then the sums
+abbrev pub combination : List Item → List Polynomial → Result Polynomial Failure
+combination items l = bind (item_polynomials items l) (λ ps. sum_all nothing ps)
+
+pub record Two : Type 0 where
+  pub first : Polynomial
+  pub second : Polynomial
+
+-- all items of both, and then the sums of both
+abbrev pub two_combinations : List Item → List Item → List Polynomial → Result Two Failure
+two_combinations v w l =
+    bind (item_polynomials v l) (λ ps. bind (item_polynomials w l) (λ qs. bind (sum_all nothing ps) (λ p. bind (sum_all nothing qs) (λ q. Ok (record { first = p; second = q })))))

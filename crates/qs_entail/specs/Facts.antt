@@ -1,0 +1,133 @@
+-- The polynomials that each fact adds, where its side condition holds.
+use Rattle.std.specs.Prelude.{ℕ, zero, suc, ◌^◌, ◌-◌, ℤ, pos, negsuc, ◌-ℤ◌, ◌&&◌, ◌||◌, nat_le, List, [], ◌∷◌, Result, Ok, Err}
+use Rattle.qs_assert.specs.declared.variable.NumberType.{NumberType}
+use Rattle.qs_assert.specs.declared.variable.NumberType.TheVariants.{Int, Unsigned, Char}
+use Rattle.qs_assert.specs.Trees.{TermTree, CondTree, le, lt, eq, ne, not, and, or}
+use Rattle.qs_poly.specs.Polynomials as poly
+use Rattle.qs_poly.specs.Polynomials.{Polynomial}
+use Rattle.qs_poly.specs.Operations.{sum, multiple, number, single}
+use Rattle.qs_poly.specs.Terms.{polynomial_eq}
+use Rattle.qs_entail.specs.Certificates.{FactTree, range, cost_range, apart, num_is, num_bounds, wrapu_is, wraps_is, wrapu_bounds, wraps_bounds, quotient_bounds, bits_bound, bits_half, bits_rise}
+use Rattle.qs_entail.specs.Building.{Failure, breaks, bind, require, limited, minus, difference, term_polynomial, are_inside, combination, two_combinations}
+use Rattle.qs_entail.specs.Pushing.{Known}
+
+-- the least and the greatest number of a type (C11 6.2.5 and 6.2.6.2)
+abbrev pub least : NumberType → ℤ
+least Int = negsuc (2 ^ 31 - 1)
+least Unsigned = pos 0
+least Char = pos 0
+
+abbrev pub greatest_of_type : NumberType → ℤ
+greatest_of_type Int = pos (2 ^ 31 - 1)
+greatest_of_type Unsigned = pos (2 ^ 32 - 1)
+greatest_of_type Char = pos 255
+
+-- the terms of which a condition says that they differ
+pub record Sides : Type 0 where
+  pub left : TermTree
+  pub right : TermTree
+
+abbrev pub equal_sides : CondTree → Result Sides Failure
+equal_sides (eq t u) = Ok (record { left = t; right = u })
+equal_sides (le t u) = Err breaks
+equal_sides (lt t u) = Err breaks
+equal_sides (ne t u) = Err breaks
+equal_sides (not c) = Err breaks
+equal_sides (and cs) = Err breaks
+equal_sides (or cs) = Err breaks
+
+abbrev pub different_sides : CondTree → Result Sides Failure
+different_sides (ne t u) = Ok (record { left = t; right = u })
+different_sides (not c) = equal_sides c
+different_sides (le t u) = Err breaks
+different_sides (lt t u) = Err breaks
+different_sides (eq t u) = Err breaks
+different_sides (and cs) = Err breaks
+different_sides (or cs) = Err breaks
+
+abbrev pub condition_at : List CondTree → ℕ → Result CondTree Failure
+condition_at [] i = Err breaks
+condition_at (c ∷ cs) zero = Ok c
+condition_at (c ∷ cs) (suc i) = condition_at cs i
+
+abbrev pub condition : List CondTree → ℤ → Result CondTree Failure
+condition cs (pos i) = condition_at cs i
+condition cs (negsuc i) = Err breaks
+
+abbrev pub added : FactTree → Known → Result (List Polynomial) Failure
+added (range x) k =
+    bind (difference (single (poly.variable x)) (number (least x.number))) (λ a.
+    bind (difference (number (greatest_of_type x.number)) (single (poly.variable x))) (λ b.
+    Ok (a ∷ b ∷ [])))
+added (cost_range f) k = Ok (single (poly.cost f) ∷ [])
+added (apart i w) k =
+    bind (condition k.conditions i) (λ c.
+    bind (different_sides c) (λ sides.
+    require (are_inside w k.polynomials) (
+    bind (term_polynomial sides.left) (λ t.
+    bind (term_polynomial sides.right) (λ u.
+    bind (combination w k.polynomials) (λ z.
+    bind (difference t u) (λ more.
+    bind (difference u t) (λ less.
+    bind (limited (sum z (number (negsuc 0)))) (λ r.
+    require (polynomial_eq z more || polynomial_eq z less) (Ok (r ∷ [])))))))))))
+added (num_is t w) k =
+    require (are_inside w k.polynomials) (
+    bind (term_polynomial t) (λ p.
+    bind (combination w k.polynomials) (λ z.
+    bind (difference (single (poly.num p)) p) (λ a.
+    bind (difference p (single (poly.num p))) (λ b.
+    require (polynomial_eq z p) (Ok (a ∷ b ∷ [])))))))
+added (num_bounds t) k =
+    bind (term_polynomial t) (λ p.
+    bind (difference (single (poly.num p)) p) (λ a.
+    Ok (single (poly.num p) ∷ a ∷ [])))
+added (wrapu_is t v w) k =
+    require (are_inside v k.polynomials && are_inside w k.polynomials) (
+    bind (term_polynomial t) (λ p.
+    bind (difference (number (pos 4294967295)) p) (λ room.
+    bind (two_combinations v w k.polynomials) (λ z.
+    bind (difference (single (poly.wrapu p)) p) (λ a.
+    bind (difference p (single (poly.wrapu p))) (λ b.
+    require (polynomial_eq z.first p && polynomial_eq z.second room) (Ok (a ∷ b ∷ []))))))))
+added (wraps_is t v w) k =
+    require (are_inside v k.polynomials && are_inside w k.polynomials) (
+    bind (term_polynomial t) (λ p.
+    bind (limited (sum p (number (pos 2147483648)))) (λ above.
+    bind (difference (number (pos 2147483647)) p) (λ room.
+    bind (two_combinations v w k.polynomials) (λ z.
+    bind (difference (single (poly.wraps p)) p) (λ a.
+    bind (difference p (single (poly.wraps p))) (λ b.
+    require (polynomial_eq z.first above && polynomial_eq z.second room) (Ok (a ∷ b ∷ [])))))))))
+added (wrapu_bounds t) k =
+    bind (term_polynomial t) (λ p.
+    bind (difference (number (pos 4294967295)) (single (poly.wrapu p))) (λ a.
+    Ok (single (poly.wrapu p) ∷ a ∷ [])))
+added (wraps_bounds t) k =
+    bind (term_polynomial t) (λ p.
+    bind (limited (sum (single (poly.wraps p)) (number (pos 2147483648)))) (λ a.
+    bind (difference (number (pos 2147483647)) (single (poly.wraps p))) (λ b.
+    Ok (a ∷ b ∷ []))))
+added (quotient_bounds t n) k =
+    require (nat_le 1 n) (
+    bind (term_polynomial t) (λ p.
+    bind (limited (minus p (multiple (pos n) (single (poly.div p n))))) (λ a.
+    bind (limited (minus (sum (multiple (pos n) (single (poly.div p n))) (number (pos n -ℤ pos 1))) p)) (λ b.
+    Ok (a ∷ b ∷ [])))))
+added (bits_bound t) k = bind (term_polynomial t) (λ p. Ok (single (poly.bits p) ∷ []))
+added (bits_half t w) k =
+    require (are_inside w k.polynomials) (
+    bind (term_polynomial t) (λ p.
+    bind (difference p (number (pos 1))) (λ side.
+    bind (combination w k.polynomials) (λ z.
+    bind (limited (minus (minus (single (poly.bits p)) (number (pos 1))) (single (poly.bits (single (poly.div p 2)))))) (λ a.
+    bind (limited (multiple (negsuc 0) a)) (λ b.
+    require (polynomial_eq z side) (Ok (a ∷ b ∷ []))))))))
+added (bits_rise t u w) k =
+    require (are_inside w k.polynomials) (
+    bind (term_polynomial t) (λ p.
+    bind (term_polynomial u) (λ q.
+    bind (difference q p) (λ side.
+    bind (combination w k.polynomials) (λ z.
+    bind (difference (single (poly.bits q)) (single (poly.bits p))) (λ a.
+    require (polynomial_eq z side) (Ok (a ∷ []))))))))

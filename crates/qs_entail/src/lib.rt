@@ -1,0 +1,10 @@
+//! Certificates that one assertion is at least another, and the checker that decides whether one is valid.
+#![tactic(auto)]
+
+ghost use Rattle.qs_entail.specs.Meaning.{IsSound};
+
+/// A certificate without a fault shows that under the hypotheses P is at least Q, for all costs and in each
+/// state.
+pub fn certificates_are_sound()
+    ensures { IsSound }
+{}

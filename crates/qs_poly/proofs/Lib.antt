@@ -1,0 +1,10 @@
+pub mod Ring
+pub mod Order
+pub mod Coefficients
+pub mod Steps
+pub mod Bounds
+pub mod Limited
+pub mod CodeSteps
+pub mod ValueLaws
+pub mod Equality
+pub mod Examples

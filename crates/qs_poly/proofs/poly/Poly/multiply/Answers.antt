@@ -1,0 +1,24 @@
+use Rattle.std.proofs.Common.{◌≤◌, ◌^◌, sym, subst, length, List}
+use Rattle.qs_poly.specs.Canonical.{IsCanonical}
+use Rattle.qs_poly.specs.declared.terms.Term.{Term}
+use Rattle.qs_poly.specs.Terms.{sum_of, AllAtMost}
+use Rattle.qs_poly.proofs.Coefficients.{product_canonical}
+use Rattle.qs_poly.proofs.Limited.{narrow_at_most, few_at_most}
+use Rattle.qs_poly.proofs.poly.Poly.multiply.Goals as goal
+
+pub multiply_terms-requires : goal.multiply_terms-requires
+multiply_terms-requires c =
+    let v = c.deref.ensures.value in
+    let w = c.deref-2.ensures.value in
+    record {
+      few_terms = subst (λ (xs : List Term). length xs ≤ 64) (sym v) (few_at_most c.self.inside.terms.items c.self.invariant.few_terms);
+      few_others = subst (λ (xs : List Term). length xs ≤ 64) (sym w) (few_at_most c.b.inside.terms.items c.b.invariant.few_terms);
+      narrow_terms = subst (λ xs. AllAtMost (2 ^ 56) (sum_of xs)) (sym v) (narrow_at_most (sum_of c.self.inside.terms.items) c.self.invariant.narrow);
+      narrow_others = subst (λ xs. AllAtMost (2 ^ 56) (sum_of xs)) (sym w) (narrow_at_most (sum_of c.b.inside.terms.items) c.b.invariant.narrow);
+    }
+
+pub limited-requires : goal.limited-requires
+limited-requires c =
+    let x = subst (λ xs. IsCanonical (sum_of xs)) (sym c.deref.ensures.value) c.self.invariant.canonical in
+    let y = subst (λ xs. IsCanonical (sum_of xs)) (sym c.deref-2.ensures.value) c.b.invariant.canonical in
+    record { canonical = subst IsCanonical (sym c.in_ok-multiply_terms.ensures) (product_canonical (sum_of c.deref.result.now) (sum_of c.deref-2.result.now) x y) }

@@ -1,0 +1,11 @@
+pub mod Nodes
+pub mod Polynomials
+pub mod Codes
+pub mod Orders
+pub mod Operations
+pub mod Views
+pub mod Terms
+pub mod Limits
+pub mod Canonical
+pub mod Atoms
+pub mod Values

@@ -1,4 +1,5 @@
-//! Certificates that one assertion is at least another, and the checker that decides whether one is valid.
+//! Certificates that one assertion is at least another: which are valid, and that these are sound. The
+//! checker itself is not there yet.
 #![tactic(auto)]
 
 ghost use Rattle.qs_entail.specs.Meaning.{IsSound};

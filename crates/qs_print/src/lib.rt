@@ -1,0 +1,16 @@
+//! Prints a unit as a text (C11 6.4 to 6.9).
+#![tactic(auto)]
+
+mod declarations;
+mod expressions;
+mod lexed;
+mod literals;
+mod signs;
+mod spelling;
+mod statements;
+mod types;
+mod units;
+mod words;
+
+pub use lexed::lexed_back;
+pub use units::print;

@@ -1,0 +1,110 @@
+// The spellings of keywords and marks.
+ghost use Rattle.std.specs.Prelude.{◌≡◌};
+ghost use Rattle.qs_print.specs.Spelling.{keyword_spelling, mark_spelling};
+
+use qs_syntax::{Keyword, Mark};
+
+/// How a keyword is spelled (C11 6.4.1).
+pub fn keyword_spelling(keyword: Keyword) -> &'static [u8]
+    ensures { result.now ≡ keyword_spelling keyword }
+{
+    match keyword {
+        Keyword::Auto => b"auto",
+        Keyword::Break => b"break",
+        Keyword::Case => b"case",
+        Keyword::Char => b"char",
+        Keyword::Const => b"const",
+        Keyword::Continue => b"continue",
+        Keyword::Default => b"default",
+        Keyword::Do => b"do",
+        Keyword::Double => b"double",
+        Keyword::Else => b"else",
+        Keyword::Enum => b"enum",
+        Keyword::Extern => b"extern",
+        Keyword::Float => b"float",
+        Keyword::For => b"for",
+        Keyword::Goto => b"goto",
+        Keyword::If => b"if",
+        Keyword::Inline => b"inline",
+        Keyword::Int => b"int",
+        Keyword::Long => b"long",
+        Keyword::Register => b"register",
+        Keyword::Restrict => b"restrict",
+        Keyword::Return => b"return",
+        Keyword::Short => b"short",
+        Keyword::Signed => b"signed",
+        Keyword::Sizeof => b"sizeof",
+        Keyword::Static => b"static",
+        Keyword::Struct => b"struct",
+        Keyword::Switch => b"switch",
+        Keyword::Typedef => b"typedef",
+        Keyword::Union => b"union",
+        Keyword::Unsigned => b"unsigned",
+        Keyword::Void => b"void",
+        Keyword::Volatile => b"volatile",
+        Keyword::While => b"while",
+        Keyword::Alignas => b"_Alignas",
+        Keyword::Alignof => b"_Alignof",
+        Keyword::Atomic => b"_Atomic",
+        Keyword::Bool => b"_Bool",
+        Keyword::Complex => b"_Complex",
+        Keyword::Generic => b"_Generic",
+        Keyword::Imaginary => b"_Imaginary",
+        Keyword::Noreturn => b"_Noreturn",
+        Keyword::StaticAssert => b"_Static_assert",
+        Keyword::ThreadLocal => b"_Thread_local",
+    }
+}
+
+/// How a mark is spelled (C11 6.4.6).
+pub fn mark_spelling(mark: Mark) -> &'static [u8]
+    ensures { result.now ≡ mark_spelling mark }
+{
+    match mark {
+        Mark::OpenBracket => b"[",
+        Mark::CloseBracket => b"]",
+        Mark::OpenParenthesis => b"(",
+        Mark::CloseParenthesis => b")",
+        Mark::OpenBrace => b"{",
+        Mark::CloseBrace => b"}",
+        Mark::Dot => b".",
+        Mark::Arrow => b"->",
+        Mark::Increment => b"++",
+        Mark::Decrement => b"--",
+        Mark::Ampersand => b"&",
+        Mark::Star => b"*",
+        Mark::Plus => b"+",
+        Mark::Minus => b"-",
+        Mark::Tilde => b"~",
+        Mark::Exclamation => b"!",
+        Mark::Slash => b"/",
+        Mark::Percent => b"%",
+        Mark::ShiftLeft => b"<<",
+        Mark::ShiftRight => b">>",
+        Mark::Less => b"<",
+        Mark::Greater => b">",
+        Mark::LessEqual => b"<=",
+        Mark::GreaterEqual => b">=",
+        Mark::Equal => b"==",
+        Mark::NotEqual => b"!=",
+        Mark::Caret => b"^",
+        Mark::Bar => b"|",
+        Mark::AndAnd => b"&&",
+        Mark::OrOr => b"||",
+        Mark::Question => b"?",
+        Mark::Colon => b":",
+        Mark::Semicolon => b";",
+        Mark::Assign => b"=",
+        Mark::MultiplyAssign => b"*=",
+        Mark::DivideAssign => b"/=",
+        Mark::RemainderAssign => b"%=",
+        Mark::AddAssign => b"+=",
+        Mark::SubtractAssign => b"-=",
+        Mark::ShiftLeftAssign => b"<<=",
+        Mark::ShiftRightAssign => b">>=",
+        Mark::AndAssign => b"&=",
+        Mark::XorAssign => b"^=",
+        Mark::OrAssign => b"|=",
+        Mark::Comma => b",",
+    }
+}

@@ -1,0 +1,139 @@
+// Writes statements (C11 6.8).
+ghost use Rattle.std.specs.Prelude.{[], ◌∷◌, ◌++◌, OnOk, flat_map, map};
+ghost use Rattle.qs_print.specs.Printed.{in_parentheses, printed_else, printed_optional, printed_start, printed_stmt};
+ghost use Rattle.qs_print.specs.Spaced.{Writes};
+ghost use Rattle.qs_syntax.specs.TreeOf.{else_tree, expr_tree, option_tree, start_tree, stmt_tree, stmts_tree};
+ghost use Rattle.qs_syntax.specs.Trees.{block};
+ghost use Rattle.qs_syntax.specs.declared.lexeme.Lexeme.TheVariants as lexemes;
+ghost use Rattle.qs_syntax.specs.declared.tokens.Mark.TheVariants as marks;
+
+use crate::declarations::put_declaration;
+use crate::expressions::{put_expr, put_in_parentheses};
+use crate::words::{put_keyword, put_mark};
+use qs_base::NoMemory;
+use qs_syntax::{Expr, Keyword, Mark, Start, Stmt};
+
+fn put_optional(out: &mut Vec<u8>, e: &Option<Expr>) -> Result<(), NoMemory>
+    ensures { OnOk result (Writes out.old.items (printed_optional (option_tree e.now)) out.new.items) }
+{
+    match e {
+        None => Ok(()),
+        Some(e) => put_expr(out, e),
+    }
+}
+
+fn put_start(out: &mut Vec<u8>, start: &Start) -> Result<(), NoMemory>
+    ensures { OnOk result (Writes out.old.items (printed_start (start_tree start.now)) out.new.items) }
+{
+    match start {
+        Start::Nothing => put_mark(out, Mark::Semicolon),
+        Start::Expression(e) => {
+            put_expr(out, e)?;
+            put_mark(out, Mark::Semicolon)
+        }
+        Start::Declaration(d) => put_declaration(out, d),
+    }
+}
+
+/// Writes what stands between `for` and its body.
+fn put_for_head(
+    out: &mut Vec<u8>,
+    start: &Start,
+    e: &Option<Expr>,
+    u: &Option<Expr>,
+) -> Result<(), NoMemory>
+    ensures { OnOk result (Writes out.old.items (in_parentheses (printed_start (start_tree start.now) ++ (printed_optional (option_tree e.now) ++ lexemes.Mark 0 marks.Semicolon ∷ printed_optional (option_tree u.now)))) out.new.items) }
+{
+    put_mark(out, Mark::OpenParenthesis)?;
+    put_start(out, start)?;
+    put_optional(out, e)?;
+    put_mark(out, Mark::Semicolon)?;
+    put_optional(out, u)?;
+    put_mark(out, Mark::CloseParenthesis)
+}
+
+fn put_jump(out: &mut Vec<u8>, keyword: Keyword) -> Result<(), NoMemory>
+    ensures { OnOk result (Writes out.old.items (lexemes.Keyword 0 keyword ∷ lexemes.Mark 0 marks.Semicolon ∷ []) out.new.items) }
+{
+    put_keyword(out, keyword)?;
+    put_mark(out, Mark::Semicolon)
+}
+
+/// Writes a statement or a declaration of a block.
+#[cycle(put_stmt)]
+pub fn put_stmt(out: &mut Vec<u8>, s: &Stmt) -> Result<(), NoMemory>
+    ensures { OnOk result (Writes out.old.items (printed_stmt (stmt_tree s.now)) out.new.items) }
+{
+    match s {
+        Stmt::Empty(_) => put_mark(out, Mark::Semicolon),
+        Stmt::Expression(_, e) => {
+            put_expr(out, e)?;
+            put_mark(out, Mark::Semicolon)
+        }
+        Stmt::Declaration(d) => put_declaration(out, d),
+        Stmt::Block(items) => put_block(out, items),
+        Stmt::If(_, e, s, other) => {
+            put_keyword(out, Keyword::If)?;
+            put_in_parentheses(out, e)?;
+            put_stmt(out, s)?;
+            put_else(out, other)
+        }
+        Stmt::While(_, e, s) => {
+            put_keyword(out, Keyword::While)?;
+            put_in_parentheses(out, e)?;
+            put_stmt(out, s)
+        }
+        Stmt::Do(_, s, e) => {
+            put_keyword(out, Keyword::Do)?;
+            put_stmt(out, s)?;
+            put_keyword(out, Keyword::While)?;
+            put_in_parentheses(out, e)?;
+            put_mark(out, Mark::Semicolon)
+        }
+        Stmt::For(_, start, e, u, s) => {
+            put_keyword(out, Keyword::For)?;
+            put_for_head(out, start, e, u)?;
+            put_stmt(out, s)
+        }
+        Stmt::Break(_) => put_jump(out, Keyword::Break),
+        Stmt::Continue(_) => put_jump(out, Keyword::Continue),
+        Stmt::Return(_, e) => {
+            put_keyword(out, Keyword::Return)?;
+            put_optional(out, e)?;
+            put_mark(out, Mark::Semicolon)
+        }
+    }
+}
+
+#[cycle(put_stmt)]
+fn put_else(out: &mut Vec<u8>, other: &Option<Box<Stmt>>) -> Result<(), NoMemory>
+    ensures { OnOk result (Writes out.old.items (printed_else (else_tree other.now)) out.new.items) }
+{
+    match other {
+        None => Ok(()),
+        Some(s) => {
+            put_keyword(out, Keyword::Else)?;
+            put_stmt(out, s)
+        }
+    }
+}
+
+/// Writes a block with its braces.
+#[cycle(put_stmt)]
+pub fn put_block(out: &mut Vec<u8>, items: &[Stmt]) -> Result<(), NoMemory>
+    ensures { OnOk result (Writes out.old.items (printed_stmt (block (stmts_tree items.now))) out.new.items) }
+{
+    put_mark(out, Mark::OpenBrace)?;
+    put_stmts(out, items)?;
+    put_mark(out, Mark::CloseBrace)
+}
+
+#[cycle(put_stmt)]
+fn put_stmts(out: &mut Vec<u8>, items: &[Stmt]) -> Result<(), NoMemory>
+    ensures { OnOk result (Writes out.old.items (flat_map printed_stmt (map stmt_tree items.now)) out.new.items) }
+{
+    for s in items {
+        put_stmt(out, s)?;
+    }
+    Ok(())
+}

@@ -1,0 +1,97 @@
+// Writes whole units (C11 6.9).
+ghost use Rattle.std.specs.Prelude.{◌≡◌, IfOk, OnOk, flat_map, map, option_map};
+ghost use Rattle.qs_print.specs.Printed.{printed_body, printed_decl, printed_forward, printed_function, printed_members, printed_struct, printed_unit};
+ghost use Rattle.qs_print.specs.ReadsBack.{ReadsBack};
+ghost use Rattle.qs_print.specs.Spaced.{Writes};
+ghost use Rattle.qs_print.specs.Spelling.{joined};
+ghost use Rattle.qs_syntax.specs.TreeOf.{decl_tree, forward_tree, function_tree, members_tree, stmts_tree, struct_tree};
+
+use crate::declarations::{put_declaration, put_members, put_parameters};
+use crate::statements::put_block;
+use crate::types::{put_base, put_stars};
+use crate::words::{put_keyword, put_mark, put_name};
+use qs_base::NoMemory;
+use qs_syntax::{Decl, Forward, Function, Keyword, Mark, Members, Stmt, Struct, Unit};
+use std::alloc::Global;
+
+fn put_all_members(out: &mut Vec<u8>, members: &[Members]) -> Result<(), NoMemory>
+    ensures { OnOk result (Writes out.old.items (flat_map printed_members (map members_tree members.now)) out.new.items) }
+{
+    for m in members {
+        put_members(out, m)?;
+    }
+    Ok(())
+}
+
+fn put_struct(out: &mut Vec<u8>, s: &Struct) -> Result<(), NoMemory>
+    ensures { OnOk result (Writes out.old.items (printed_struct (struct_tree s.now)) out.new.items) }
+{
+    put_keyword(out, Keyword::Struct)?;
+    put_name(out, &s.name)?;
+    put_mark(out, Mark::OpenBrace)?;
+    put_all_members(out, &s.members)?;
+    put_mark(out, Mark::CloseBrace)?;
+    put_mark(out, Mark::Semicolon)
+}
+
+fn put_forward(out: &mut Vec<u8>, f: &Forward) -> Result<(), NoMemory>
+    ensures { OnOk result (Writes out.old.items (printed_forward (forward_tree f.now)) out.new.items) }
+{
+    put_keyword(out, Keyword::Struct)?;
+    put_name(out, &f.name)?;
+    put_mark(out, Mark::Semicolon)
+}
+
+fn put_body(out: &mut Vec<u8>, body: &Option<Vec<Stmt>>) -> Result<(), NoMemory>
+    ensures { OnOk result (Writes out.old.items (printed_body (option_map (λ b. stmts_tree b.items) body.now)) out.new.items) }
+{
+    match body {
+        None => put_mark(out, Mark::Semicolon),
+        Some(items) => put_block(out, items),
+    }
+}
+
+fn put_function(out: &mut Vec<u8>, f: &Function) -> Result<(), NoMemory>
+    ensures { OnOk result (Writes out.old.items (printed_function (function_tree f.now)) out.new.items) }
+{
+    put_base(out, &f.base)?;
+    put_stars(out, f.stars)?;
+    put_name(out, &f.name)?;
+    put_mark(out, Mark::OpenParenthesis)?;
+    put_parameters(out, &f.parameters)?;
+    put_mark(out, Mark::CloseParenthesis)?;
+    put_body(out, &f.body)
+}
+
+fn put_decl(out: &mut Vec<u8>, d: &Decl) -> Result<(), NoMemory>
+    ensures { OnOk result (Writes out.old.items (printed_decl (decl_tree d.now)) out.new.items) }
+{
+    match d {
+        Decl::Struct(s) => put_struct(out, s),
+        Decl::Forward(f) => put_forward(out, f),
+        Decl::Function(f) => put_function(out, f),
+        Decl::Variable(d) => put_declaration(out, d),
+    }
+}
+
+fn put_unit(out: &mut Vec<u8>, declarations: &[Decl]) -> Result<(), NoMemory>
+    ensures { OnOk result (Writes out.old.items (printed_unit (map decl_tree declarations.now)) out.new.items) }
+{
+    for d in declarations {
+        put_decl(out, d)?;
+    }
+    Ok(())
+}
+
+/// The text of a unit: its tokens with single blanks between, parentheses only where the grammar needs
+/// them, ended by 0x0A. An error says that memory was wanting.
+pub fn print(alloc: Global, unit: &Unit) -> Result<Vec<u8>, NoMemory>
+    ensures reads_back { IfOk result (λ text. ∥ ReadsBack text.items (map decl_tree unit.now.declarations.items) ∥₁) }
+    ensures text { IfOk result (λ text. text.items ≡ joined (printed_unit (map decl_tree unit.now.declarations.items))) }
+{
+    let mut out = Vec::new(alloc);
+    put_unit(&mut out, unit.declarations())?;
+    let _blank = out.pop();
+    out.push(b'\n')?;
+    Ok(out)
+}

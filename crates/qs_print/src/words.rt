@@ -1,0 +1,48 @@
+// Writes single lexemes, each with a blank behind it.
+ghost use Rattle.std.specs.Prelude.{◌≡◌, ◌++◌, [], ◌∷◌, OnOk};
+ghost use Rattle.qs_print.specs.Printed.{comma_unless};
+ghost use Rattle.qs_print.specs.Spaced.{Writes};
+ghost use Rattle.qs_syntax.specs.declared.lexeme.Lexeme.TheVariants as lexemes;
+
+use crate::spelling::{keyword_spelling, mark_spelling};
+use qs_base::{Name, NoMemory};
+use qs_syntax::{Keyword, Mark};
+
+fn put_word(out: &mut Vec<u8>, spelling: &[u8]) -> Result<(), NoMemory>
+    ensures { OnOk result (out.new.items ≡ out.old.items ++ (spelling.now ++ 32 ∷ [])) }
+{
+    out.extend_from_slice(spelling)?;
+    out.push(b' ')?;
+    Ok(())
+}
+
+/// Writes a keyword.
+pub fn put_keyword(out: &mut Vec<u8>, keyword: Keyword) -> Result<(), NoMemory>
+    ensures { OnOk result (Writes out.old.items (lexemes.Keyword 0 keyword ∷ []) out.new.items) }
+{
+    put_word(out, keyword_spelling(keyword))
+}
+
+/// Writes a mark.
+pub fn put_mark(out: &mut Vec<u8>, mark: Mark) -> Result<(), NoMemory>
+    ensures { OnOk result (Writes out.old.items (lexemes.Mark 0 mark ∷ []) out.new.items) }
+{
+    put_word(out, mark_spelling(mark))
+}
+
+/// Writes a name.
+pub fn put_name(out: &mut Vec<u8>, name: &Name) -> Result<(), NoMemory>
+    ensures { OnOk result (Writes out.old.items (lexemes.Name 0 name.now ∷ []) out.new.items) }
+{
+    put_word(out, name.bytes())
+}
+
+/// Writes the comma before what isn't the first.
+pub fn put_comma_unless(out: &mut Vec<u8>, is_first: bool) -> Result<(), NoMemory>
+    ensures { OnOk result (Writes out.old.items (comma_unless is_first) out.new.items) }
+{
+    if is_first {
+        return Ok(());
+    }
+    put_mark(out, Mark::Comma)
+}

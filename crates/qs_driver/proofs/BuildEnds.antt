@@ -4,10 +4,13 @@ use Rattle.qs_ports.specs.StoreView.{StoreView}
 use Rattle.qs_ports.specs.Causes.{Rose}
 use Rattle.qs_compile.specs.FirstForm.{Program, IsFirstForm}
 use Rattle.qs_base.specs.declared.places.Pos.{Pos}
+use Rattle.qs_syntax.specs.declared.tokens.Token.{Token}
+use Rattle.qs_lexer.specs.Lexemes.{lexemes}
 use Rattle.qs_lexer.specs.declared.fault.FaultKind.{FaultKind}
-use Rattle.qs_lexer.proofs.Only.{one_place, one_kind}
+use Rattle.qs_lexer.proofs.Only.{one_list, one_place, one_kind}
 use Rattle.qs_lexer.proofs.Only.{not_both as never}
-use Rattle.qs_driver.specs.Source.{IsPlaceOf, HasLexFault, HasTokens, IsWrong, lexical, other_form}
+use Rattle.qs_parser.specs.Answers.{HasNoReading}
+use Rattle.qs_driver.specs.Source.{IsPlaceOf, HasLexFault, IsNoUnit, IsUnit, IsWrong, lexical, syntactic, other_form}
 use Rattle.qs_driver.specs.Due.{Due}
 use Rattle.qs_driver.specs.Files.{Holds, IsTooLong}
 use Rattle.qs_driver.specs.Build.{IsDueToBuild, HoldsProgram, HoldsOther, HoldsWrong, source_limit}
@@ -15,7 +18,8 @@ use Rattle.qs_driver.specs.Build as build
 use Rattle.qs_driver.specs.declared.status.Status.{Status}
 use Rattle.qs_driver.specs.declared.status.Status.TheVariants.{Done, Source, Words, Missing, NoMemory}
 use Rattle.qs_driver.specs.declared.status.SourceFault.{SourceFault}
-use Rattle.qs_driver.specs.declared.status.SourceFault.TheVariants.{TooLong, Lex, NotFirstForm}
+use Rattle.qs_driver.specs.declared.status.SourceFault.TheVariants.{TooLong, Lex, Syntax, NotFirstForm}
+use Rattle.qs_driver.specs.declared.status.SyntaxKind.{SyntaxKind}
 use Rattle.qs_driver.specs.declared.status.WordsFault.TheVariants.{SameName}
 use Rattle.qs_driver.specs.declared.status.FileKind.TheVariants as kinds
 
@@ -126,10 +130,28 @@ leads_lexical kind pos text fault f (lexical k p g e) =
     let same_kind : k ≡ kind = one_kind text k kind g.at f.at g.fault f.fault in
     let same_at : p ≡ pos = same_place text g.at f.at p pos (one_place text k kind g.at f.at g.fault f.fault) g.place f.place in
     cc
+leads_lexical kind pos text fault f (syntactic k p u e) = absurd (never text u.tokens kind f.at u.are_tokens f.fault)
 leads_lexical kind pos text fault f (other_form u e) = absurd (never text u.tokens kind f.at u.are_tokens f.fault)
 
-pub leads_other_form : (text : List ℕ) (fault : SourceFault) → HasTokens text → IsWrong text fault → fault ≡ NotFirstForm
+no_unit : (text : List ℕ) → IsNoUnit text → IsUnit text → ⊥
+no_unit text n u =
+    let same : u.tokens ≡ n.tokens = one_list text u.tokens n.tokens u.are_tokens n.are_tokens in
+    let none : HasNoReading (lexemes text 0 u.tokens) = subst (λ (ts : List Token). HasNoReading (lexemes text 0 ts)) (sym same) n.none in
+    none u.reads.height u.reads.unnumbered u.reads.reads u.reads.low
+
+pub record IsSyntaxFault (fault : SourceFault) : Type 0 where
+  pub kind : SyntaxKind
+  pub pos : Pos
+  pub is : fault ≡ Syntax kind pos
+
+pub leads_syntactic : (text : List ℕ) (fault : SourceFault) → IsNoUnit text → IsWrong text fault → IsSyntaxFault fault
+leads_syntactic text fault n (lexical k p g e) = absurd (never text n.tokens k g.at n.are_tokens g.fault)
+leads_syntactic text fault n (syntactic k p u e) = record { kind = k; pos = p; is = e }
+leads_syntactic text fault n (other_form u e) = absurd (no_unit text n u)
+
+pub leads_other_form : (text : List ℕ) (fault : SourceFault) → IsUnit text → IsWrong text fault → fault ≡ NotFirstForm
 leads_other_form text fault u (lexical k p g e) = absurd (never text u.tokens k g.at u.are_tokens g.fault)
+leads_other_form text fault u (syntactic k p n e) = absurd (no_unit text n u)
 leads_other_form text fault u (other_form w e) = e
 
 -- ---- what a fault tells of the text
@@ -140,12 +162,20 @@ told_lexical kind pos text fault f (lexical k p g e) =
     let same_kind : k ≡ kind = cc in
     let same_at : p ≡ pos = cc in
     subst (λ (x : FaultKind). HasLexFault text x pos) same_kind (subst (λ (x : Pos). HasLexFault text k x) same_at g)
+told_lexical kind pos text fault f (syntactic k p u e) = absurd cc
 told_lexical kind pos text fault f (other_form u e) = absurd cc
 
-pub told_other_form : (text : List ℕ) (fault : SourceFault) → fault ≡ NotFirstForm → IsWrong text fault → HasTokens text
+pub told_syntactic : (text : List ℕ) (fault : SourceFault) → IsSyntaxFault fault → IsWrong text fault → IsNoUnit text
+told_syntactic text fault f (lexical k p g e) = let is = f.is in absurd cc
+told_syntactic text fault f (syntactic k p u e) = u
+told_syntactic text fault f (other_form u e) = let is = f.is in absurd cc
+
+pub told_other_form : (text : List ℕ) (fault : SourceFault) → fault ≡ NotFirstForm → IsWrong text fault → IsUnit text
 told_other_form text fault f (lexical k p g e) = absurd cc
+told_other_form text fault f (syntactic k p u e) = absurd cc
 told_other_form text fault f (other_form u e) = u
 
 pub never_long : (text : List ℕ) (fault : SourceFault) → fault ≡ TooLong kinds.Source → IsWrong text fault → ⊥
 never_long text fault f (lexical k p g e) = cc
+never_long text fault f (syntactic k p u e) = cc
 never_long text fault f (other_form u e) = cc

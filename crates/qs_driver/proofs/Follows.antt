@@ -6,7 +6,7 @@ use Rattle.qs_driver.specs.Due.{Due}
 use Rattle.qs_driver.specs.Files.{IsTooLong}
 use Rattle.qs_driver.specs.Build.{IsDueToBuild, HoldsOther, source_limit}
 use Rattle.qs_driver.specs.Build as build
-use Rattle.qs_driver.specs.Source.{HasLexFault, HasTokens, IsWrong}
+use Rattle.qs_driver.specs.Source.{HasLexFault, IsNoUnit, IsUnit, IsWrong}
 use Rattle.qs_driver.specs.Run.{RunWords, IsDueToRun, IsDueAt}
 use Rattle.qs_driver.specs.Run as run
 use Rattle.qs_driver.specs.Tool.{Call, Task, ToBuild, ToRun, Nothing, task, Answers, IsDueTo, IsDueToNothing, usage, OneSinkFailed}
@@ -14,11 +14,11 @@ use Rattle.qs_driver.specs.Promises.{NoneFailed, Accepts, EndsAs, outcome, Refus
 use Rattle.qs_driver.specs.declared.status.Status.{Status}
 use Rattle.qs_driver.specs.declared.status.Status.TheVariants.{Done, Source, Words, Missing, StoreFailed, SinkFailed, NoMemory}
 use Rattle.qs_driver.specs.declared.status.SourceFault.{SourceFault}
-use Rattle.qs_driver.specs.declared.status.SourceFault.TheVariants.{TooLong, Lex, NotFirstForm}
+use Rattle.qs_driver.specs.declared.status.SourceFault.TheVariants.{TooLong, Lex, Syntax, NotFirstForm}
 use Rattle.qs_driver.specs.declared.status.WordsFault.TheVariants.{Usage, SameName}
 use Rattle.qs_driver.specs.declared.status.FileKind.{FileKind}
 use Rattle.qs_driver.specs.declared.status.FileKind.TheVariants as kinds
-use Rattle.qs_driver.proofs.BuildEnds.{BuildEnds, done, same, absent, long, other, lacks, build_ends, good_is_done, same_is_refused, absent_is_refused, long_is_refused, other_is_refused, leads_lexical, leads_other_form, told_lexical, told_other_form, never_long}
+use Rattle.qs_driver.proofs.BuildEnds.{BuildEnds, done, same, absent, long, other, lacks, build_ends, good_is_done, same_is_refused, absent_is_refused, long_is_refused, other_is_refused, leads_lexical, leads_syntactic, leads_other_form, told_lexical, told_syntactic, told_other_form, never_long, IsSyntaxFault}
 use Rattle.qs_driver.proofs.RunEnds.{IsOfRun, status_of_run, good_is_run}
 use Rattle.qs_driver.proofs.RunStatuses.{told_status}
 
@@ -158,11 +158,19 @@ exactly c due n m d = record {
     λ x. let r = other_is_refused (λ text. HasLexFault text kind pos) (λ fault. fault ≡ Lex kind pos) (leads_lexical kind pos) c.store x.source x.out due.status m x.build.differ told x.text (build_end c x.source x.out due x.build.asked n.store d) in
         r.2 ∙ ap Source r.1,
   );
+  syntactic = λ told. (
+    λ s. let b = of_build c (task c) due refl n.store d (λ r. subst IsOfRun s.2 r) (λ u. let x = sym s.2 ∙ u in cc) in
+        let p = only_other IsNoUnit IsSyntaxFault told_syntactic c.store b.source b.out due.status told b.ends (Syntax s.0 s.1) (record { kind = s.0; pos = s.1; is = refl }) s.2 (λ x. cc) in
+        record { source = b.source; out = b.out; build = record { asked = b.asked; differ = p.0 }; text = p.1 },
+    λ x. let r = other_is_refused IsNoUnit IsSyntaxFault leads_syntactic c.store x.source x.out due.status m x.build.differ told x.text (build_end c x.source x.out due x.build.asked n.store d) in
+        let f = r.1 in
+        (f.kind, f.pos, r.2 ∙ ap Source f.is),
+  );
   not_first_form = λ told. (
     λ s. let b = of_build c (task c) due refl n.store d (λ r. subst IsOfRun s r) (λ u. let x = sym s ∙ u in cc) in
-        let p = only_other HasTokens (λ fault. fault ≡ NotFirstForm) told_other_form c.store b.source b.out due.status told b.ends NotFirstForm refl s (λ x. cc) in
+        let p = only_other IsUnit (λ fault. fault ≡ NotFirstForm) told_other_form c.store b.source b.out due.status told b.ends NotFirstForm refl s (λ x. cc) in
         record { source = b.source; out = b.out; build = record { asked = b.asked; differ = p.0 }; text = p.1 },
-    λ x. let r = other_is_refused HasTokens (λ fault. fault ≡ NotFirstForm) leads_other_form c.store x.source x.out due.status m x.build.differ told x.text (build_end c x.source x.out due x.build.asked n.store d) in
+    λ x. let r = other_is_refused IsUnit (λ fault. fault ≡ NotFirstForm) leads_other_form c.store x.source x.out due.status m x.build.differ told x.text (build_end c x.source x.out due x.build.asked n.store d) in
         r.2 ∙ ap Source r.1,
   );
   run = λ told r e. told_status c.store c.store_after r due n.store told m (due_to c (task c) (ToRun r) due e d);

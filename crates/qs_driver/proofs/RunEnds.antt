@@ -13,7 +13,7 @@ use Rattle.qs_driver.specs.Tool.{Call}
 use Rattle.qs_driver.specs.Promises.{IsGoodRun, EndsAs, HasInput, outcome}
 use Rattle.qs_driver.specs.declared.status.Status.{Status}
 use Rattle.qs_driver.specs.declared.status.Status.TheVariants.{Done, Source, Words, Missing, StoreFailed, Image as NotAnImage, Trapped, StepLimit, StackTooLarge, SinkFailed, NoMemory}
-use Rattle.qs_driver.specs.declared.status.SourceFault.TheVariants.{TooLong, Lex, NotFirstForm}
+use Rattle.qs_driver.specs.declared.status.SourceFault.TheVariants.{TooLong, Lex, Syntax, NotFirstForm}
 use Rattle.qs_driver.specs.declared.status.WordsFault.TheVariants.{Usage, SameName, ArgCount, ArgRange}
 use Rattle.qs_driver.specs.declared.status.FileKind.TheVariants as kinds
 use Rattle.qs_driver.proofs.BuildEnds.{not_absent, one_content, not_long}
@@ -27,6 +27,7 @@ IsOfRun (Source (TooLong kinds.Image)) = Unit {0}
 IsOfRun (Source (TooLong kinds.Input)) = Unit {0}
 IsOfRun (Source (TooLong kinds.Output)) = Unit {0}
 IsOfRun (Source (Lex kind pos)) = ⊥
+IsOfRun (Source (Syntax kind pos)) = ⊥
 IsOfRun (Source NotFirstForm) = ⊥
 IsOfRun (Words Usage) = ⊥
 IsOfRun (Words SameName) = ⊥

@@ -13,7 +13,9 @@ use Rattle.qs_machine.specs.declared.answers.Cause.TheVariants as cause
 use Rattle.qs_driver.specs.Names.{Names, file_name}
 use Rattle.qs_driver.specs.declared.status.Status.{Status}
 use Rattle.qs_driver.specs.declared.status.Status.TheVariants.{Done, Source, Words, Missing, StoreFailed, Image, Trapped, StepLimit, StackTooLarge, SinkFailed, NoMemory}
-use Rattle.qs_driver.specs.declared.status.SourceFault.TheVariants.{TooLong, Lex, NotFirstForm}
+use Rattle.qs_driver.specs.declared.status.SourceFault.TheVariants.{TooLong, Lex, Syntax, NotFirstForm}
+use Rattle.qs_driver.specs.declared.status.SyntaxKind.{SyntaxKind}
+use Rattle.qs_driver.specs.declared.status.SyntaxKind.TheVariants as syntax
 use Rattle.qs_driver.specs.declared.status.WordsFault.TheVariants.{Usage, SameName, ArgCount, ArgRange}
 
 -- a line in two parts, ended by a line feed
@@ -63,6 +65,12 @@ lex_text lexical.WideLiteral = codes "wide literal"
 lex_text lexical.Directive = codes "directive"
 lex_text lexical.OpenText = codes "open text"
 
+-- what is wrong with the tokens of a source
+abbrev pub syntax_text : SyntaxKind → List ℕ
+syntax_text syntax.UnexpectedToken = codes "unexpected token"
+syntax_text syntax.UnexpectedEnd = codes "unexpected end"
+syntax_text syntax.TooDeep = codes "too deep"
+
 -- `NAME:L:C: TEXT`
 abbrev pub place_line : List ℕ → Pos → List ℕ → List ℕ
 place_line name pos text = name ++ (codes ":" ++ (decimal pos.line ++ (codes ":" ++ (decimal pos.column ++ line (codes ": ") text))))
@@ -72,6 +80,7 @@ abbrev pub fault_line : Names → Status → List ℕ
 fault_line names Done = []
 fault_line names (Source (TooLong kind)) = line (codes "too long: ") (file_name names kind)
 fault_line names (Source (Lex kind pos)) = place_line names.source pos (lex_text kind)
+fault_line names (Source (Syntax kind pos)) = place_line names.source pos (syntax_text kind)
 fault_line names (Source NotFirstForm) = line names.source (codes ": not in the first form")
 fault_line names (Words Usage) = line (codes "usage: qsc COMMAND FILE OPTIONS") []
 fault_line names (Words SameName) = line (codes "same name: ") names.output

@@ -10,13 +10,14 @@ use Rattle.qs_machine.specs.Run.{Outcome, Exited, Trapped as HasTrapped, Going, 
 use Rattle.qs_compile.specs.FirstForm.{Program}
 use Rattle.qs_driver.specs.Files.{Holds, IsTooLong}
 use Rattle.qs_driver.specs.Build.{HoldsProgram, HoldsOther, source_limit}
-use Rattle.qs_driver.specs.Source.{HasLexFault, HasTokens}
+use Rattle.qs_driver.specs.Source.{HasLexFault, IsNoUnit, IsUnit}
 use Rattle.qs_driver.specs.Run.{RunWords, HoldsImage, CanRun, words_of, input_limit}
 use Rattle.qs_driver.specs.RunStatus.{run_status}
 use Rattle.qs_driver.specs.Tool.{Call, Answers, ToBuild, ToRun, Nothing, task}
 use Rattle.qs_driver.specs.declared.status.Status.{Status}
 use Rattle.qs_driver.specs.declared.status.Status.TheVariants.{Done, Source, Words, Missing, StoreFailed, Trapped, StepLimit, SinkFailed, NoMemory}
-use Rattle.qs_driver.specs.declared.status.SourceFault.TheVariants.{TooLong, Lex, NotFirstForm}
+use Rattle.qs_driver.specs.declared.status.SourceFault.TheVariants.{TooLong, Lex, Syntax, NotFirstForm}
+use Rattle.qs_driver.specs.declared.status.SyntaxKind.{SyntaxKind}
 use Rattle.qs_driver.specs.declared.status.WordsFault.TheVariants.{Usage, SameName}
 use Rattle.qs_driver.specs.declared.status.FileKind.{FileKind}
 use Rattle.qs_driver.specs.declared.status.FileKind.TheVariants as kinds
@@ -97,6 +98,10 @@ pub record HasOtherSource (c : Call) (Property : List ℕ → Type 0) : Type 0 w
   pub build : IsBuild c source out
   pub text : HoldsOther (c.store.files source) Property
 
+-- some syntax fault is answered
+abbrev pub IsSyntax : Status → Type 0
+IsSyntax result = (kind : SyntaxKind) × (pos : Pos) × (result ≡ Source (Syntax kind pos))
+
 abbrev pub NamesOneFileTwice : Call → Type 0
 NamesOneFileTwice c = (name : List ℕ) × (task c ≡ ToBuild name name)
 
@@ -108,7 +113,8 @@ pub record RefusesExactly (c : Call) (result : Status) : Type 0 where
   pub missing : IsTrue c.store.told → (result ≡ Missing kinds.Source) ↔ LacksSource c
   pub too_long : IsTrue c.store.told → (result ≡ Source (TooLong kinds.Source)) ↔ HasLongSource c
   pub lexical : IsTrue c.store.told → (kind : FaultKind) (pos : Pos) → (result ≡ Source (Lex kind pos)) ↔ HasOtherSource c (λ text. HasLexFault text kind pos)
-  pub not_first_form : IsTrue c.store.told → (result ≡ Source NotFirstForm) ↔ HasOtherSource c HasTokens
+  pub syntactic : IsTrue c.store.told → IsSyntax result ↔ HasOtherSource c IsNoUnit
+  pub not_first_form : IsTrue c.store.told → (result ≡ Source NotFirstForm) ↔ HasOtherSource c IsUnit
   pub run : IsTrue c.store.told → (r : RunWords) → task c ≡ ToRun r → result ≡ run_status c.store.files r
 
 abbrev pub Refuses : Call → Status → Type 0

@@ -1,12 +1,12 @@
 // The line of each fault. Nothing here takes memory.
 ghost use Rattle.std.specs.Prelude.{◌≡◌, ◌++◌, [], ◌∷◌, codes, decimal};
 ghost use Rattle.qs_ports.specs.SinkView.{PutsAll};
-ghost use Rattle.qs_driver.specs.Lines.{line, fault_line, cause_text, image_text, lex_text, place_line};
+ghost use Rattle.qs_driver.specs.Lines.{line, fault_line, cause_text, image_text, lex_text, syntax_text, place_line};
 ghost use Rattle.qs_driver.specs.Names.{names_in, no_names};
 
 use crate::names::{FileNames, file_name};
 use crate::report::{put_line, put_number, put_parts};
-use crate::{SourceFault, Status, WordsFault};
+use crate::{SourceFault, Status, SyntaxKind, WordsFault};
 use hex::encode_to_slice;
 use itoa::Buffer;
 use qs_base::Pos;
@@ -81,6 +81,16 @@ fn lex_word(kind: FaultKind) -> &'static str
     }
 }
 
+fn syntax_word(kind: SyntaxKind) -> &'static str
+    ensures { result.now ≡ syntax_text kind }
+{
+    match kind {
+        SyntaxKind::UnexpectedToken => "unexpected token",
+        SyntaxKind::UnexpectedEnd => "unexpected end",
+        SyntaxKind::TooDeep => "too deep",
+    }
+}
+
 fn put_place_line<K: Sink>(
     log: &mut K,
     name: &str,
@@ -130,6 +140,7 @@ fn put_source_fault<K: Sink>(
     match fault {
         SourceFault::TooLong(kind) => put_line(log, "too long: ", file_name(names, kind)),
         SourceFault::Lex(kind, pos) => put_place(log, names.source, pos, lex_word(kind)),
+        SourceFault::Syntax(kind, pos) => put_place(log, names.source, pos, syntax_word(kind)),
         SourceFault::NotFirstForm => put_line(log, names.source, ": not in the first form"),
     }
 }

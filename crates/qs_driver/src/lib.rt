@@ -12,5 +12,5 @@ mod source;
 mod status;
 mod tool;
 
-pub use status::{FileKind, SourceFault, Status, WordsFault};
+pub use status::{FileKind, SourceFault, Status, SyntaxKind, WordsFault};
 pub use tool::run_tool;

@@ -4,9 +4,11 @@ ghost use Rattle.qs_base.specs.Positions.{column_at, line_at};
 ghost use Rattle.qs_lexer.specs.Results.{SaysFault};
 ghost use Rattle.qs_driver.specs.Source.{IsLexical, IsPlaceOf, IsWrong};
 
-use crate::SourceFault;
+use crate::{SourceFault, SyntaxKind};
 use qs_base::{NoMemory, Pos, position};
 use qs_lexer::{FaultKind, LexFault, tokens};
+use qs_parser::{SyntaxFault, unit};
+use qs_syntax::Token;
 use std::alloc::Global;
 
 /// The place of the byte `at`, or of the end where the text has no such byte.
@@ -41,14 +43,45 @@ fn lex_fault(text: &[u8], fault: LexFault) -> Result<SourceFault, NoMemory>
     }
 }
 
-/// What is wrong with a text that isn't of the first form: its first lexical fault, else that its form is
-/// another.
+/// The place of the token with this number, or of the end where there is none.
+fn token_place(text: &[u8], tokens: &[Token], number: u32) -> Pos
+    requires { length text.now < 2 ^ 31 }
+{
+    match tokens.get(number as usize) {
+        Some(token) => place(text, token.start as usize),
+        None => place(text, text.len()),
+    }
+}
+
+/// Why the parser can't go on at the token with this number.
+fn unexpected(tokens: &[Token], number: u32) -> SyntaxKind {
+    if (number as usize) < tokens.len() {
+        SyntaxKind::UnexpectedToken
+    } else {
+        SyntaxKind::UnexpectedEnd
+    }
+}
+
+/// What is wrong with a text that isn't of the first form: its first lexical fault, else where it is no
+/// unit, else that its form is another.
 pub fn fault_of(alloc: Global, text: &[u8]) -> Result<SourceFault, NoMemory>
     requires limit { length text.now ≤ 1048576 }
     ensures { IfOk result (λ fault. IsWrong text.now fault) }
 {
-    match tokens(alloc, text) {
-        Ok(_tokens) => Ok(SourceFault::NotFirstForm),
-        Err(fault) => lex_fault(text, fault),
+    let tokens = match tokens(alloc, text) {
+        Ok(tokens) => tokens,
+        Err(fault) => return lex_fault(text, fault),
+    };
+    match unit(alloc, text, &tokens) {
+        Ok(_unit) => Ok(SourceFault::NotFirstForm),
+        Err(SyntaxFault::NoMemory) => Err(NoMemory),
+        Err(SyntaxFault::Unexpected(number)) => Ok(SourceFault::Syntax(
+            unexpected(&tokens, number),
+            token_place(text, &tokens, number),
+        )),
+        Err(SyntaxFault::TooDeep(number)) => Ok(SourceFault::Syntax(
+            SyntaxKind::TooDeep,
+            token_place(text, &tokens, number),
+        )),
     }
 }

@@ -18,6 +18,17 @@ pub enum FileKind {
     Output,
 }
 
+/// Where the tokens of a source stop to be a unit.
+#[derive(Clone, Copy, Debug, PartialEq, Eq)]
+pub enum SyntaxKind {
+    /// At a token that can't stand there.
+    UnexpectedToken,
+    /// At the end, where more must follow.
+    UnexpectedEnd,
+    /// At a token with which every reading is higher than 128.
+    TooDeep,
+}
+
 /// What is wrong with a source, or with the length of any file.
 #[derive(Clone, Copy, Debug, PartialEq, Eq, Error)]
 pub enum SourceFault {
@@ -27,6 +38,9 @@ pub enum SourceFault {
     /// It has a lexical fault of this kind, at this line and column.
     #[error("lexical fault")]
     Lex(FaultKind, Pos),
+    /// Its tokens are no unit, or one that is too high.
+    #[error("syntax fault")]
+    Syntax(SyntaxKind, Pos),
     /// It isn't `int main(void){`, pieces `putchar(K);`, `return K;}`.
     #[error("not in the first form")]
     NotFirstForm,

@@ -1,20 +1,20 @@
 -- The polynomials that are built have the values of their terms.
 use Rattle.std.proofs.Common.{◌≡◌, refl, sym, ap, ◌∙◌, arith, true, false}
-use Rattle.std.specs.Prelude.{ℤ, pos, negsuc, ◌+ℤ◌, ◌-ℤ◌, ◌*ℤ◌, Bool, ◌&&◌, if◌then◌else◌, Result, Ok, Err}
+use Rattle.std.specs.Prelude.{ℕ, ℤ, pos, negsuc, ◌+ℤ◌, ◌-ℤ◌, ◌*ℤ◌, Bool, ◌&&◌, if◌then◌else◌, Result, Ok, Err}
 use Rattle.std.proofs.lemmas.Int.{ints}
 use Rattle.std.proofs.Math.IntN.{*ℤ_comm}
 use Rattle.qs_assert.specs.Trees.{TermTree, number, variable, add, sub, mul, div, wrapu, wraps, bits, TermTrees, no_terms, term_and}
 use Rattle.qs_assert.specs.Values.{State, wrapped_unsigned, wrapped_signed, bit_length, quotient, term_value, sum_of_terms, product_of_terms}
 use Rattle.qs_poly.specs.Polynomials as poly
 use Rattle.qs_poly.specs.Polynomials.{AtomTree, Polynomial, nothing}
-use Rattle.qs_poly.specs.Operations.{sum, multiple, product, single}
+use Rattle.qs_poly.specs.Operations.{sum, multiple, lessened, product, single}
 use Rattle.qs_poly.specs.Operations as operation
 use Rattle.qs_poly.specs.Limits.{all_narrow, has_few_terms, all_low}
 use Rattle.qs_poly.specs.Values.{atom_value, polynomial_value}
 use Rattle.qs_poly.specs.declared.fault.PolyFault.{PolyFault}
 use Rattle.qs_poly.specs.declared.fault.PolyFault.TheVariants.{Wide, ManyTerms, HighDegree}
 use Rattle.qs_poly.proofs.Ring.{mul_assoc}
-use Rattle.qs_poly.proofs.ValueLaws.{sum_value, multiple_value, product_value, number_value, single_value}
+use Rattle.qs_poly.proofs.ValueLaws.{sum_value, multiple_value, lessened_value, product_value, number_value, single_value}
 use Rattle.qs_entail.specs.Building.{Failure, bind, require, limits, limited, minus, difference, term_polynomial, sum_onto, product_onto}
 
 times_one : (z : ℤ) → z *ℤ pos 1 ≡ z
@@ -57,6 +57,9 @@ minus_value p q s =
 
 pub difference_value : (p q r : Polynomial) (s : State) → difference p q ≡ Ok r → polynomial_value r s ≡ polynomial_value p s -ℤ polynomial_value q s
 difference_value p q r s h = limited_value (minus p q) r s h ∙ minus_value p q s
+
+pub limited_lessened_value : (p : Polynomial) (k : ℕ) (q : Polynomial) (c : ℕ) (r : Polynomial) (s : State) → limited (lessened p k q c) ≡ Ok r → polynomial_value r s ≡ (polynomial_value p s -ℤ pos k *ℤ polynomial_value q s) -ℤ pos c
+limited_lessened_value p k q c r s h = limited_value (lessened p k q c) r s h ∙ lessened_value p k q c s
 
 pub limited_sum_value : (p q r : Polynomial) (s : State) → limited (sum p q) ≡ Ok r → polynomial_value r s ≡ polynomial_value p s +ℤ polynomial_value q s
 limited_sum_value p q r s h = limited_value (sum p q) r s h ∙ sum_value p q s

@@ -1,5 +1,5 @@
 -- The polynomials that a fact adds are at least 0.
-use Rattle.std.proofs.Common.{◌≡◌, ℕ, zero, suc, ◌≤◌, refl, ap, ◌∙◌, subst, arith, true, false}
+use Rattle.std.proofs.Common.{◌≡◌, ℕ, zero, suc, ◌≤◌, ◌-◌, refl, ap, ◌∙◌, subst, arith, true, false}
 use Rattle.std.specs.Prelude.{ℤ, pos, negsuc, ◌+ℤ◌, ◌-ℤ◌, ◌*ℤ◌, ◌≤ℤ◌, Bool, ◌&&◌, ◌||◌, nat_le, List, [], ◌∷◌, All, Result, Ok}
 use Rattle.std.specs.Prelude.{not as flip}
 use Rattle.std.specs.Ordering.{int_eq}
@@ -10,17 +10,17 @@ use Rattle.qs_assert.specs.Trees.{TermTree, CondTree, le, lt, eq, ne, not, and, 
 use Rattle.qs_assert.specs.Values.{State, term_value, holds, bit_length}
 use Rattle.qs_poly.specs.Polynomials as poly
 use Rattle.qs_poly.specs.Polynomials.{Polynomial, nothing}
-use Rattle.qs_poly.specs.Operations.{sum, multiple, number, single}
+use Rattle.qs_poly.specs.Operations.{sum, multiple, number, lessened, single}
 use Rattle.qs_poly.specs.Terms.{polynomial_eq}
 use Rattle.qs_poly.specs.Values.{polynomial_value}
 use Rattle.qs_poly.proofs.Equality.{polynomial_equal}
-use Rattle.qs_poly.proofs.ValueLaws.{sum_value, multiple_value, number_value, single_value}
+use Rattle.qs_poly.proofs.ValueLaws.{lessened_value, number_value, single_value}
 use Rattle.qs_entail.specs.Certificates.{Item, FactTree, range, cost_range, apart, num_is, num_bounds, wrapu_is, wraps_is, wrapu_bounds, wraps_bounds, quotient_bounds, bits_bound, bits_half, bits_rise}
-use Rattle.qs_entail.specs.Building.{Failure, bind, limited, minus, difference, term_polynomial, are_inside, combination, two_combinations}
+use Rattle.qs_entail.specs.Building.{Failure, bind, limited, difference, term_polynomial, are_inside, combination, two_combinations}
 use Rattle.qs_entail.specs.Pushing.{Known}
 use Rattle.qs_entail.specs.Facts.{least, greatest_of_type, Sides, equal_sides, different_sides, condition_at, condition, added}
 use Rattle.qs_entail.specs.Meaning.{InRange}
-use Rattle.qs_entail.proofs.Built.{both, bind_ok, require_ok, limited_value, minus_value, difference_value, limited_sum_value, limited_multiple_value, term_polynomial_value}
+use Rattle.qs_entail.proofs.Built.{both, bind_ok, require_ok, difference_value, limited_lessened_value, limited_sum_value, limited_multiple_value, term_polynomial_value}
 use Rattle.qs_entail.proofs.Assertions.{AllNotNegative, combination_not_negative, two_not_negative}
 use Rattle.qs_entail.proofs.Pushed.{Holds, made}
 use Rattle.qs_entail.proofs.Numbers.{natural_part_same, natural_part_above, unsigned_same, unsigned_least, unsigned_greatest, signed_same, signed_least, signed_greatest, quotient_is, length_halves, length_rises}
@@ -240,19 +240,18 @@ quotient_holds t n k ps s e =
     let r = require_ok (nat_le 1 n) _ ps e in
     let p = bind_ok (term_polynomial t) _ ps r.1 in
     let d = single (poly.div p.0 n) in
-    let a = bind_ok (limited (minus p.0 (multiple (pos n) d))) _ ps p.1.1 in
-    let b = bind_ok (limited (minus (sum (multiple (pos n) d) (number (pos n -ℤ pos 1))) p.0)) _ ps a.1.1 in
+    let a = bind_ok (limited (lessened p.0 n d 0)) _ ps p.1.1 in
+    let b = bind_ok (limited (multiple (negsuc 0) (lessened p.0 n d (n - 1)))) _ ps a.1.1 in
     let z = polynomial_value p.0 s in
     let q = quotient_is z n (at_least_one n r.0) in
     let v = ap (λ x. pos n *ℤ x) (single_value (poly.div p.0 n) s) in
-    let m = multiple_value (pos n) d s in
-    let x = limited_value (minus p.0 (multiple (pos n) d)) a.0 s a.1.0 ∙ minus_value p.0 (multiple (pos n) d) s in
-    let y = limited_value (minus (sum (multiple (pos n) d) (number (pos n -ℤ pos 1))) p.0) b.0 s b.1.0 ∙ minus_value (sum (multiple (pos n) d) (number (pos n -ℤ pos 1))) p.0 s in
-    let c = sum_value (multiple (pos n) d) (number (pos n -ℤ pos 1)) s in
-    let l = number_value (pos n -ℤ pos 1) s in
+    let x = limited_lessened_value p.0 n d 0 a.0 s a.1.0 in
+    let y = limited_multiple_value (negsuc 0) (lessened p.0 n d (n - 1)) b.0 s b.1.0 in
+    let c = lessened_value p.0 n d (n - 1) s in
+    let l = at_least_one n r.0 in
     let f = q.at_least in
     let g = q.less in
-    two a.0 b.0 ps s b.1.1 (omega (arith, ints, x, m, v, f)) (omega (arith, ints, y, c, l, m, v, g))
+    two a.0 b.0 ps s b.1.1 (omega (arith, ints, x, v, f)) (omega (arith, ints, y, c, l, v, g))
 
 bits_hold : (t : TermTree) (k : Known) (ps : List Polynomial) (s : State) → added (bits_bound t) k ≡ Ok ps → AllNotNegative s ps
 bits_hold t k ps s e =
@@ -268,7 +267,7 @@ half_holds t w k ps s e h =
     let z = bind_ok (combination w k.polynomials) _ ps side.1.1 in
     let halved = single (poly.div p.0 2) in
     let whole = single (poly.bits p.0) in
-    let a = bind_ok (limited (minus (minus whole (number (pos 1))) (single (poly.bits halved)))) _ ps z.1.1 in
+    let a = bind_ok (limited (lessened whole 1 (single (poly.bits halved)) 1)) _ ps z.1.1 in
     let b = bind_ok (limited (multiple (negsuc 0) a.0)) _ ps a.1.1 in
     let q = require_ok (polynomial_eq z.0 side.0) _ ps b.1.1 in
     let n = combination_not_negative w k.polynomials z.0 s h.polynomials z.1.0 in
@@ -276,13 +275,11 @@ half_holds t w k ps s e h =
     let d = difference_value p.0 (number (pos 1)) side.0 s side.1.0 in
     let l = number_value (pos 1) s in
     let u = length_halves (polynomial_value p.0 s) (omega (arith, ints, n, f, d, l)) in
-    let x = limited_value (minus (minus whole (number (pos 1))) (single (poly.bits halved))) a.0 s a.1.0 in
-    let y = minus_value (minus whole (number (pos 1))) (single (poly.bits halved)) s in
-    let y' = minus_value whole (number (pos 1)) s in
+    let x = limited_lessened_value whole 1 (single (poly.bits halved)) 1 a.0 s a.1.0 in
     let v = single_value (poly.bits p.0) s in
     let v' = single_value (poly.bits halved) s ∙ ap (λ c. pos (bit_length c)) (single_value (poly.div p.0 2) s) in
     let m = limited_multiple_value (negsuc 0) a.0 b.0 s b.1.0 in
-    let zero_value : polynomial_value a.0 s ≡ pos 0 = omega (arith, ints, u, x, y, y', v, v', l) in
+    let zero_value : polynomial_value a.0 s ≡ pos 0 = omega (arith, ints, u, x, v, v') in
     two a.0 b.0 ps s q.1 (omega (arith, ints, zero_value)) (omega (arith, ints, m, zero_value))
 
 rise_holds : (t u : TermTree) (w : List Item) (k : Known) (ps : List Polynomial) (s : State) → added (bits_rise t u w) k ≡ Ok ps → Holds k s → AllNotNegative s ps
@@ -290,9 +287,9 @@ rise_holds t u w k ps s e h =
     let r = require_ok (are_inside w k.polynomials) _ ps e in
     let p = bind_ok (term_polynomial t) _ ps r.1 in
     let o = bind_ok (term_polynomial u) _ ps p.1.1 in
-    let side = bind_ok (difference o.0 p.0) _ ps o.1.1 in
-    let z = bind_ok (combination w k.polynomials) _ ps side.1.1 in
-    let a = bind_ok (difference (single (poly.bits o.0)) (single (poly.bits p.0))) _ ps z.1.1 in
+    let z = bind_ok (combination w k.polynomials) _ ps o.1.1 in
+    let side = bind_ok (difference o.0 p.0) _ ps z.1.1 in
+    let a = bind_ok (difference (single (poly.bits o.0)) (single (poly.bits p.0))) _ ps side.1.1 in
     let q = require_ok (polynomial_eq z.0 side.0) _ ps a.1.1 in
     let n = combination_not_negative w k.polynomials z.0 s h.polynomials z.1.0 in
     let f = same_value z.0 side.0 s q.0 in

@@ -7,4 +7,5 @@ pub mod Numbers
 pub mod FactsHold
 pub mod Definitions
 pub mod Sound
+pub mod Standing
 pub mod Examples

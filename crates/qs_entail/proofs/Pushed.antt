@@ -1,6 +1,6 @@
 -- What is pushed holds where its condition holds.
 use Rattle.std.proofs.Common.{◌≡◌, refl, sym, ap, subst, arith, true, false}
-use Rattle.std.specs.Prelude.{ℤ, negsuc, ◌≤ℤ◌, ◌<ℤ◌, Bool, ◌||◌, List, [], ◌∷◌, ◌++◌, All, Result, Ok, int_le, int_lt}
+use Rattle.std.specs.Prelude.{ℤ, ◌≤ℤ◌, ◌<ℤ◌, Bool, ◌||◌, List, [], ◌∷◌, ◌++◌, All, Result, Ok, int_le, int_lt}
 use Rattle.std.specs.Prelude.{not as flip}
 use Rattle.std.specs.Ordering.{int_eq}
 use Rattle.std.proofs.lemmas.Int.{ints}
@@ -9,11 +9,10 @@ use Rattle.std.proofs.Common.{append_assoc}
 use Rattle.qs_assert.specs.Trees.{TermTree, CondTree, le, lt, eq, ne, not, and, or, CondTrees, no_conds, cond_and}
 use Rattle.qs_assert.specs.Values.{State, term_value, holds, all_hold, some_holds}
 use Rattle.qs_poly.specs.Polynomials.{Polynomial}
-use Rattle.qs_poly.specs.Operations.{sum, number}
-use Rattle.qs_poly.proofs.ValueLaws.{number_value}
-use Rattle.qs_entail.specs.Building.{Failure, bind, limited, minus, difference, term_polynomial}
+use Rattle.qs_poly.specs.Operations.{lessened}
+use Rattle.qs_entail.specs.Building.{Failure, bind, limited, difference, term_polynomial}
 use Rattle.qs_entail.specs.Pushing.{Known, with_condition, with_polynomials, push_le, push_lt, push_eq, push, push_not, push_all, push_nots, push_list}
-use Rattle.qs_entail.proofs.Built.{both, bind_ok, minus_value, difference_value, limited_sum_value, term_polynomial_value}
+use Rattle.qs_entail.proofs.Built.{both, bind_ok, difference_value, limited_lessened_value, term_polynomial_value}
 use Rattle.qs_entail.proofs.Assertions.{IsNotNegative, AllNotNegative}
 
 -- what is known holds in a state
@@ -84,17 +83,15 @@ push_le_holds t u k k' s e h o =
 
 push_lt_holds : (t u : TermTree) (k k' : Known) (s : State) → push_lt t u k ≡ Ok k' → holds (lt t u) s ≡ true → Holds k s → Holds k' s
 push_lt_holds t u k k' s e h o =
-    let a = bind_ok (term_polynomial t) (λ p. bind (term_polynomial u) (λ q. bind (limited (sum (minus q p) (number (negsuc 0)))) (λ d. Ok (with_polynomials (d ∷ []) (with_condition (lt t u) k))))) k' e in
-    let b = bind_ok (term_polynomial u) (λ q. bind (limited (sum (minus q a.0) (number (negsuc 0)))) (λ d. Ok (with_polynomials (d ∷ []) (with_condition (lt t u) k)))) k' a.1.1 in
-    let c = bind_ok (limited (sum (minus b.0 a.0) (number (negsuc 0)))) (λ d. Ok (with_polynomials (d ∷ []) (with_condition (lt t u) k))) k' b.1.1 in
+    let a = bind_ok (term_polynomial t) (λ p. bind (term_polynomial u) (λ q. bind (limited (lessened q 1 p 1)) (λ d. Ok (with_polynomials (d ∷ []) (with_condition (lt t u) k))))) k' e in
+    let b = bind_ok (term_polynomial u) (λ q. bind (limited (lessened q 1 a.0 1)) (λ d. Ok (with_polynomials (d ∷ []) (with_condition (lt t u) k)))) k' a.1.1 in
+    let c = bind_ok (limited (lessened b.0 1 a.0 1)) (λ d. Ok (with_polynomials (d ∷ []) (with_condition (lt t u) k))) k' b.1.1 in
     let x = term_polynomial_value t a.0 s a.1.0 in
     let y = term_polynomial_value u b.0 s b.1.0 in
-    let v = limited_sum_value (minus b.0 a.0) (number (negsuc 0)) c.0 s c.1.0 in
-    let m = minus_value b.0 a.0 s in
-    let n = number_value (negsuc 0) s in
+    let v = limited_lessened_value b.0 1 a.0 1 c.0 s c.1.0 in
     let i = lt_true (term_value t s) (term_value u s) h in
     let z = made (with_polynomials (c.0 ∷ []) (with_condition (lt t u) k)) k' c.1.1 in
-    subst (λ k. Holds k s) z (more_polynomials (c.0 ∷ []) (with_condition (lt t u) k) s (more_condition (lt t u) k s o h) (omega (arith, ints, x, y, v, m, n, i), tt))
+    subst (λ k. Holds k s) z (more_polynomials (c.0 ∷ []) (with_condition (lt t u) k) s (more_condition (lt t u) k s o h) (omega (arith, ints, x, y, v, i), tt))
 
 push_eq_holds : (t u : TermTree) (k k' : Known) (s : State) → push_eq t u k ≡ Ok k' → holds (eq t u) s ≡ true → Holds k s → Holds k' s
 push_eq_holds t u k k' s e h o =

@@ -1,14 +1,14 @@
 -- The polynomials that each fact adds, where its side condition holds.
-use Rattle.std.specs.Prelude.{ℕ, zero, suc, ◌^◌, ◌-◌, ℤ, pos, negsuc, ◌-ℤ◌, ◌&&◌, ◌||◌, nat_le, List, [], ◌∷◌, Result, Ok, Err}
+use Rattle.std.specs.Prelude.{ℕ, zero, suc, ◌^◌, ◌-◌, ℤ, pos, negsuc, ◌&&◌, ◌||◌, nat_le, List, [], ◌∷◌, Result, Ok, Err}
 use Rattle.qs_assert.specs.declared.variable.NumberType.{NumberType}
 use Rattle.qs_assert.specs.declared.variable.NumberType.TheVariants.{Int, Unsigned, Char}
 use Rattle.qs_assert.specs.Trees.{TermTree, CondTree, le, lt, eq, ne, not, and, or}
 use Rattle.qs_poly.specs.Polynomials as poly
 use Rattle.qs_poly.specs.Polynomials.{Polynomial}
-use Rattle.qs_poly.specs.Operations.{sum, multiple, number, single}
+use Rattle.qs_poly.specs.Operations.{sum, multiple, number, lessened, single}
 use Rattle.qs_poly.specs.Terms.{polynomial_eq}
 use Rattle.qs_entail.specs.Certificates.{FactTree, range, cost_range, apart, num_is, num_bounds, wrapu_is, wraps_is, wrapu_bounds, wraps_bounds, quotient_bounds, bits_bound, bits_half, bits_rise}
-use Rattle.qs_entail.specs.Building.{Failure, breaks, bind, require, limited, minus, difference, term_polynomial, are_inside, combination, two_combinations}
+use Rattle.qs_entail.specs.Building.{Failure, breaks, bind, require, limited, difference, term_polynomial, are_inside, combination, two_combinations}
 use Rattle.qs_entail.specs.Pushing.{Known}
 
 -- the least and the greatest number of a type (C11 6.2.5 and 6.2.6.2)
@@ -22,7 +22,7 @@ greatest_of_type Int = pos (2 ^ 31 - 1)
 greatest_of_type Unsigned = pos (2 ^ 32 - 1)
 greatest_of_type Char = pos 255
 
--- the terms of which a condition says that they differ
+-- the two terms of a condition that says whether they are equal
 pub record Sides : Type 0 where
   pub left : TermTree
   pub right : TermTree
@@ -111,8 +111,8 @@ added (wraps_bounds t) k =
 added (quotient_bounds t n) k =
     require (nat_le 1 n) (
     bind (term_polynomial t) (λ p.
-    bind (limited (minus p (multiple (pos n) (single (poly.div p n))))) (λ a.
-    bind (limited (minus (sum (multiple (pos n) (single (poly.div p n))) (number (pos n -ℤ pos 1))) p)) (λ b.
+    bind (limited (lessened p n (single (poly.div p n)) 0)) (λ a.
+    bind (limited (multiple (negsuc 0) (lessened p n (single (poly.div p n)) (n - 1)))) (λ b.
     Ok (a ∷ b ∷ [])))))
 added (bits_bound t) k = bind (term_polynomial t) (λ p. Ok (single (poly.bits p) ∷ []))
 added (bits_half t w) k =
@@ -120,14 +120,14 @@ added (bits_half t w) k =
     bind (term_polynomial t) (λ p.
     bind (difference p (number (pos 1))) (λ side.
     bind (combination w k.polynomials) (λ z.
-    bind (limited (minus (minus (single (poly.bits p)) (number (pos 1))) (single (poly.bits (single (poly.div p 2)))))) (λ a.
+    bind (limited (lessened (single (poly.bits p)) 1 (single (poly.bits (single (poly.div p 2)))) 1)) (λ a.
     bind (limited (multiple (negsuc 0) a)) (λ b.
     require (polynomial_eq z side) (Ok (a ∷ b ∷ []))))))))
 added (bits_rise t u w) k =
     require (are_inside w k.polynomials) (
     bind (term_polynomial t) (λ p.
     bind (term_polynomial u) (λ q.
-    bind (difference q p) (λ side.
     bind (combination w k.polynomials) (λ z.
+    bind (difference q p) (λ more.
     bind (difference (single (poly.bits q)) (single (poly.bits p))) (λ a.
-    require (polynomial_eq z side) (Ok (a ∷ []))))))))
+    require (polynomial_eq z more) (Ok (a ∷ []))))))))

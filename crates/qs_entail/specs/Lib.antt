@@ -1,7 +1,10 @@
 pub mod Certificates
 pub mod Building
+pub mod Answers
+pub mod View
 pub mod Pushing
 pub mod Facts
 pub mod Faults
 pub mod Verdicts
 pub mod Meaning
+pub mod Laws

@@ -1,9 +1,9 @@
 -- What is known at a node of a certificate, and what a condition adds to it.
-use Rattle.std.specs.Prelude.{pos, negsuc, List, [], ◌∷◌, ◌++◌, Result, Ok}
+use Rattle.std.specs.Prelude.{pos, List, [], ◌∷◌, ◌++◌, Result, Ok}
 use Rattle.qs_assert.specs.Trees.{TermTree, CondTree, le, lt, eq, ne, not, and, or, CondTrees, no_conds, cond_and}
 use Rattle.qs_poly.specs.Polynomials.{Polynomial}
-use Rattle.qs_poly.specs.Operations.{sum, number}
-use Rattle.qs_entail.specs.Building.{Failure, bind, limited, minus, difference, term_polynomial}
+use Rattle.qs_poly.specs.Operations.{number, lessened}
+use Rattle.qs_entail.specs.Building.{Failure, bind, limited, difference, term_polynomial}
 
 -- the conditions that hold, and the polynomials that are at least 0, each in the order of pushing
 pub record Known : Type 0 where
@@ -27,7 +27,7 @@ push_le t u k = bind (term_polynomial t) (λ p. bind (term_polynomial u) (λ q. 
 -- `(lt t u)`: u - t - 1
 abbrev pub push_lt : TermTree → TermTree → Known → Result Known Failure
 push_lt t u k =
-    bind (term_polynomial t) (λ p. bind (term_polynomial u) (λ q. bind (limited (sum (minus q p) (number (negsuc 0)))) (λ d. Ok (with_polynomials (d ∷ []) (with_condition (lt t u) k)))))
+    bind (term_polynomial t) (λ p. bind (term_polynomial u) (λ q. bind (limited (lessened q 1 p 1)) (λ d. Ok (with_polynomials (d ∷ []) (with_condition (lt t u) k)))))
 
 -- `(eq t u)`: u - t, then t - u
 abbrev pub push_eq : TermTree → TermTree → Known → Result Known Failure

@@ -4,7 +4,7 @@ use Rattle.qs_lexer.specs.Bytes.{starts_with}
 use Rattle.qs_lexer.specs.Words.{mark_of}
 use Rattle.qs_syntax.specs.declared.tokens.Mark.{Mark}
 
--- the first two bytes
+-- the first two bytes are these
 pub record Opens (first second : ℕ) (bytes : List ℕ) : Type 0 where
   pub one : starts_with first bytes ≡ true
   pub two : starts_with second (drop 1 bytes) ≡ true

@@ -31,7 +31,7 @@ has_suffix literal = slice_index literal (length literal - 1) == 117 || slice_in
 abbrev pub without_suffix : List ℕ → List ℕ
 without_suffix literal = if has_suffix literal then take (length literal - 1) literal else literal
 
--- behind `0x` or `0X`
+-- it begins with `0x` or `0X`
 abbrev pub is_hexadecimal : List ℕ → Bool
 is_hexadecimal [] = false
 is_hexadecimal (byte ∷ bytes) = byte == 48 && (starts_with 120 bytes || starts_with 88 bytes)

@@ -8,7 +8,7 @@ use Rattle.std.specs.declared.cmp.Ordering.{Ordering}
 use Rattle.std.specs.declared.cmp.Ordering.TheVariants.{Less, Equal, Greater}
 use Rattle.qs_poly.specs.Polynomials.{Monomial, Polynomial, nothing, plus}
 use Rattle.qs_poly.specs.Orders.{monomial_cmp}
-use Rattle.qs_poly.specs.Operations.{by_order, plus_unless_zero, insert_term, monomial_product, add_term_product}
+use Rattle.qs_poly.specs.Operations.{by_order, plus_unless_zero, insert_term, sum, multiple, monomial_product, add_term_product}
 use Rattle.qs_poly.specs.declared.terms.Term.{Term}
 use Rattle.qs_poly.specs.Terms.{sum_of, AllAtMost}
 
@@ -37,6 +37,12 @@ insert_at_most b e c m (plus d n p) h x =
     (unless_at_most (b + e) (c +ℤ d) n p (let y = x.0 in let s = sum_at_most c d in omega arith) (at_most_more b (b + e) p (omega arith) x.1))
     (let y = x.0 in omega arith, insert_at_most b e c m p h x.1)
 
+pub sum_terms_at_most : (b e : ℕ) (xs : List Term) (p : Polynomial) → AllAtMost e (sum_of xs) → AllAtMost b p → AllAtMost (b + length xs * e) (sum (sum_of xs) p)
+sum_terms_at_most b e [] p x y = at_most_more b (b + length {A = Term} [] * e) p (omega arith) y
+sum_terms_at_most b e (t ∷ ts) p x y =
+    let z = sum_terms_at_most (b + e) e ts (insert_term t.coefficient t.monomial p) x.1 (insert_at_most b e t.coefficient t.monomial p x.0 y) in
+    at_most_more (b + e + length ts * e) (b + length (t ∷ ts) * e) _ (omega arith) z
+
 pub item_at_most : (b : ℕ) (xs : List Term) (i : ℕ) (d : Term) → i < length xs → d ≡ get_or xs i d → AllAtMost b (sum_of xs) → unsigned_abs d.coefficient ≤ b
 item_at_most b [] i d lt e x = absurd (omega arith)
 item_at_most b (y ∷ ys) zero d lt e x = subst (λ (t : Term). unsigned_abs t.coefficient ≤ b) (sym e) x.0
@@ -54,8 +60,12 @@ product_at_most m n a b h k =
     let y : m * unsigned_abs b ≤ m * n = mul-le-mul_left m k in
     omega arith
 
-pub product_fits : (a b : ℤ) → unsigned_abs a ≤ 2 ^ 63 → unsigned_abs b ≤ 2 ^ 56 → FitsSigned w128 (a *ℤ b)
-product_fits a b h k = let e = product_at_most (2 ^ 63) (2 ^ 56) a b h k in fits_signed_from_abs w128 (a *ℤ b) (omega arith)
+pub multiple_at_most : (m n : ℕ) (k : ℤ) (p : Polynomial) → unsigned_abs k ≤ m → AllAtMost n p → AllAtMost (m * n) (multiple k p)
+multiple_at_most m n k nothing h x = tt
+multiple_at_most m n k (plus c d p) h x = unless_at_most (m * n) (k *ℤ c) d (multiple k p) (product_at_most m n k c h x.0) (multiple_at_most m n k p h x.1)
+
+pub product_fits : (a b : ℤ) → unsigned_abs a ≤ 2 ^ 64 → unsigned_abs b ≤ 2 ^ 56 → FitsSigned w128 (a *ℤ b)
+product_fits a b h k = let e = product_at_most (2 ^ 64) (2 ^ 56) a b h k in fits_signed_from_abs w128 (a *ℤ b) (omega arith)
 
 pub term_product_at_most : (b : ℕ) (c : ℤ) (m : Monomial) (xs : List Term) (p : Polynomial) → unsigned_abs c ≤ 2 ^ 56 → AllAtMost (2 ^ 56) (sum_of xs) → AllAtMost b p → AllAtMost (b + length xs * 2 ^ 112) (add_term_product c m (sum_of xs) p)
 term_product_at_most b c m [] p h x y = at_most_more b (b + length {A = Term} [] * 2 ^ 112) p (omega arith) y

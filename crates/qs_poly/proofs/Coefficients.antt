@@ -1,7 +1,7 @@
 -- The operations have the coefficients that they should, and keep the canonical form; canonical
 -- polynomials with equal coefficients are equal.
 use Rattle.std.proofs.Common.{◌≡◌, zero, suc, refl, sym, ap, ◌∙◌, arith, false}
-use Rattle.std.specs.Prelude.{ℤ, pos, negsuc, ◌+ℤ◌, ◌*ℤ◌}
+use Rattle.std.specs.Prelude.{ℕ, ℤ, pos, negsuc, ◌+ℤ◌, ◌-ℤ◌, ◌*ℤ◌}
 use Rattle.std.specs.declared.cmp.Ordering.{Ordering}
 use Rattle.std.specs.declared.cmp.Ordering.TheVariants.{Less, Equal, Greater}
 use Rattle.std.specs.Ordering.{is_gt}
@@ -9,7 +9,7 @@ use Rattle.std.proofs.lemmas.Int.{ints}
 use Rattle.std.proofs.lemmas.Cmp.{upto}
 use Rattle.qs_poly.specs.Polynomials.{AtomTree, Monomial, one, times, Polynomial, nothing, plus}
 use Rattle.qs_poly.specs.Orders.{atom_cmp, monomial_cmp, atom_cmp_total, monomial_cmp_total}
-use Rattle.qs_poly.specs.Operations.{by_order, insert_atom, monomial_product, plus_unless_zero, insert_term, sum, multiple, add_term_product, add_product, product, number, single}
+use Rattle.qs_poly.specs.Operations.{by_order, insert_atom, monomial_product, plus_unless_zero, insert_term, sum, multiple, add_term_product, add_product, product, number, lessened, single}
 use Rattle.qs_poly.specs.Canonical.{where_same, coefficient, term_product_coefficient, product_coefficient, NotBefore, IsBefore, IsCanonicalAtom, IsCanonicalMonomial, IsCanonical}
 use Rattle.qs_poly.proofs.Ring.{add_mul}
 use Rattle.qs_poly.proofs.Order.{monomial_equal, monomial_less, monomial_itself, atom_not_after}
@@ -223,6 +223,19 @@ product_canonical p q x y = add_product_canonical p q nothing x y tt
 
 pub number_canonical : (k : ℤ) → IsCanonical (number k)
 number_canonical k = unless_canonical k one nothing tt tt tt
+
+-- a number added to a polynomial is its first term or joins it
+pub number_inserted : (k : ℤ) (p : Polynomial) → IsCanonical p → insert_term k one p ≡ sum p (number k)
+number_inserted k p x =
+    unique (insert_term k one p) (sum p (number k)) (insert_canonical k one p tt x) (sum_canonical p (number k) x (number_canonical k)) (λ m _.
+    let a = insert_coefficient k one p m in
+    let b = sum_coefficient p (number k) m in
+    let c = unless_coefficient k one nothing m in
+    omega (arith, ints, a, b, c))
+
+pub lessened_canonical : (p : Polynomial) (k : ℕ) (q : Polynomial) (c : ℕ) → IsCanonical p → IsCanonical q → IsCanonical (lessened p k q c)
+lessened_canonical p k q c x y =
+    sum_canonical (sum p (multiple (pos 0 -ℤ pos k) q)) (number (pos 0 -ℤ pos c)) (sum_canonical p (multiple (pos 0 -ℤ pos k) q) x (multiple_canonical (pos 0 -ℤ pos k) q y)) (number_canonical (pos 0 -ℤ pos c))
 
 pub single_canonical : (a : AtomTree) → IsCanonicalAtom a → IsCanonical (single a)
 single_canonical a c = ((λ e. cc), (c, tt, tt), tt, tt)

@@ -5,6 +5,7 @@ pub mod Steps
 pub mod Bounds
 pub mod Limited
 pub mod CodeSteps
+pub mod Lessened
 pub mod ValueLaws
 pub mod Equality
 pub mod Examples

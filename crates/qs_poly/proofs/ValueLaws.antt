@@ -1,12 +1,12 @@
 -- The values of sums, multiples and products.
 use Rattle.std.proofs.Common.{◌≡◌, zero, suc, refl, sym, ap, ◌∙◌, arith}
-use Rattle.std.specs.Prelude.{ℤ, pos, negsuc, ◌+ℤ◌, ◌*ℤ◌}
+use Rattle.std.specs.Prelude.{ℕ, ℤ, pos, negsuc, ◌+ℤ◌, ◌-ℤ◌, ◌*ℤ◌}
 use Rattle.std.proofs.lemmas.Int.{ints}
 use Rattle.std.proofs.Math.IntN.{*ℤ_comm, zero-*ℤ}
 use Rattle.qs_assert.specs.Values.{State}
 use Rattle.qs_poly.specs.Polynomials.{AtomTree, Monomial, one, times, Polynomial, nothing, plus}
 use Rattle.qs_poly.specs.Orders.{atom_cmp, monomial_cmp}
-use Rattle.qs_poly.specs.Operations.{plus_unless_zero, insert_atom, monomial_product, insert_term, sum, multiple, add_term_product, add_product, product, number, single}
+use Rattle.qs_poly.specs.Operations.{plus_unless_zero, insert_atom, monomial_product, insert_term, sum, multiple, add_term_product, add_product, product, number, lessened, single}
 use Rattle.qs_poly.specs.Values.{atom_value, monomial_value, polynomial_value}
 use Rattle.qs_poly.proofs.Ring.{mul_add, mul_assoc, add_mul, mul_swap, mul_pairs}
 use Rattle.qs_poly.proofs.Order.{monomial_equal}
@@ -87,6 +87,18 @@ pub number_value : (k : ℤ) (s : State) → polynomial_value (number k) s ≡ k
 number_value (pos zero) s = refl
 number_value (pos (suc n)) s = omega (arith, ints)
 number_value (negsuc n) s = omega (arith, ints)
+
+-- what is left of p's value
+pub lessened_value : (p : Polynomial) (k : ℕ) (q : Polynomial) (c : ℕ) (s : State) → polynomial_value (lessened p k q c) s ≡ (polynomial_value p s -ℤ pos k *ℤ polynomial_value q s) -ℤ pos c
+lessened_value p k q c s =
+    let a = sum_value (sum p (multiple (pos 0 -ℤ pos k) q)) (number (pos 0 -ℤ pos c)) s in
+    let b = sum_value p (multiple (pos 0 -ℤ pos k) q) s in
+    let m = multiple_value (pos 0 -ℤ pos k) q s in
+    let n = number_value (pos 0 -ℤ pos c) s in
+    let none : pos k +ℤ (pos 0 -ℤ pos k) ≡ pos 0 = omega (arith, ints) in
+    let d = mul_add (pos k) (pos 0 -ℤ pos k) (polynomial_value q s) in
+    let e = ap (λ z. z *ℤ polynomial_value q s) none ∙ zero-*ℤ (polynomial_value q s) in
+    omega (arith, ints, a, b, m, n, d, e)
 
 pub single_value : (a : AtomTree) (s : State) → polynomial_value (single a) s ≡ atom_value a s
 single_value a s =

@@ -9,3 +9,4 @@ pub mod Limits
 pub mod Canonical
 pub mod Atoms
 pub mod Values
+pub mod Laws

@@ -1,6 +1,6 @@
 -- The sum, the multiples and the product of polynomials in canonical form. Terms and atoms are put
 -- into their places one after the other.
-use Rattle.std.specs.Prelude.{zero, suc, ℤ, pos, negsuc, ◌+ℤ◌, ◌*ℤ◌}
+use Rattle.std.specs.Prelude.{ℕ, zero, suc, ℤ, pos, negsuc, ◌+ℤ◌, ◌-ℤ◌, ◌*ℤ◌}
 use Rattle.std.specs.declared.cmp.Ordering.{Ordering}
 use Rattle.std.specs.declared.cmp.Ordering.TheVariants.{Less, Equal, Greater}
 use Rattle.qs_poly.specs.Polynomials.{AtomTree, Monomial, one, times, Polynomial, nothing, plus}
@@ -58,6 +58,10 @@ product p q = add_product p q nothing
 
 abbrev pub number : ℤ → Polynomial
 number k = plus_unless_zero k one nothing
+
+-- p, less k times q, less c
+abbrev pub lessened : Polynomial → ℕ → Polynomial → ℕ → Polynomial
+lessened p k q c = sum (sum p (multiple (pos 0 -ℤ pos k) q)) (number (pos 0 -ℤ pos c))
 
 abbrev pub single : AtomTree → Polynomial
 single a = plus (pos 1) (times a one) nothing

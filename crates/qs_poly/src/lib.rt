@@ -5,6 +5,7 @@
 mod atom;
 mod code;
 mod fault;
+mod laws;
 mod monomial;
 mod node;
 mod poly;
@@ -13,6 +14,7 @@ mod terms;
 
 pub use atom::Atom;
 pub use fault::PolyFault;
+pub use laws::polynomials_are_exact;
 pub use poly::Poly;
 
 #[cfg(test)]

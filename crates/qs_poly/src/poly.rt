@@ -2,14 +2,14 @@
 ghost use Rattle.std.specs.Prelude.{◌≡◌, IfOk};
 ghost use Rattle.std.specs.Cmp.{partial_equiv_from_equiv};
 ghost use Rattle.qs_poly.specs.Canonical.{IsCanonical, IsCanonicalAtom};
-ghost use Rattle.qs_poly.specs.Operations.{number, single, sum, multiple, product};
+ghost use Rattle.qs_poly.specs.Operations.{number, single, sum, multiple, lessened, product};
 ghost use Rattle.qs_poly.specs.Limits.{is_narrow, all_narrow, count_terms, has_few_terms, is_low, all_low, Gives, IsPolynomial};
 ghost use Rattle.qs_poly.specs.Terms.{polynomial_eq, polynomial_eq_equivalence, sum_of, terms};
 
 use crate::code::AtomCode;
 use crate::fault::PolyFault;
 use crate::monomial::Monomial;
-use crate::sums::{add_terms, multiply_terms, scale_terms};
+use crate::sums::{add_terms, less_terms, multiply_terms, scale_terms};
 use crate::terms::{Term, copy_terms, insert_term};
 use qs_base::NoMemory;
 use std::alloc::Global;
@@ -123,7 +123,14 @@ impl Poly {
     pub fn scale(&self, alloc: Global, k: i64) -> Result<Poly, PolyFault>
         ensures { Gives result (multiple k self.now) }
     {
-        limited(scale_terms(alloc, &self.terms, k)?)
+        limited(scale_terms(alloc, &self.terms, i128::from(k))?)
+    }
+
+    /// The polynomial, less k times b, less c.
+    pub fn less(&self, alloc: Global, k: u64, b: &Poly, c: u64) -> Result<Poly, PolyFault>
+        ensures { Gives result (lessened self.now k b.now c) }
+    {
+        limited(less_terms(alloc, &self.terms, k, &b.terms, c)?)
     }
 
     /// The product.

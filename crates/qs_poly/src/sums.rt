@@ -1,8 +1,10 @@
 // Sums, multiples and products of lists of terms, before any limit is asked.
-ghost use Rattle.std.specs.Prelude.{◌≡◌, ◌≤◌, ◌^◌, ℤ, length, IfOk, OnOk, unsigned_abs};
-ghost use Rattle.qs_poly.specs.Operations.{plus_unless_zero, sum, multiple, product, add_term_product, add_product};
+ghost use Rattle.std.specs.Prelude.{◌≡◌, ◌≤◌, ◌^◌, ℤ, pos, ◌-ℤ◌, length, IfOk, OnOk, unsigned_abs};
+ghost use Rattle.qs_poly.specs.Canonical.{IsCanonical};
+ghost use Rattle.qs_poly.specs.Operations.{plus_unless_zero, sum, multiple, lessened, product, add_term_product, add_product};
 ghost use Rattle.qs_poly.specs.Terms.{sum_of, AllAtMost};
 
+use crate::monomial::Monomial;
 use crate::terms::{Term, insert_term, push_unless_zero};
 use qs_base::NoMemory;
 use std::alloc::Global;
@@ -11,7 +13,7 @@ use std::alloc::Global;
 pub fn add_terms(alloc: Global, terms: &[Term], so_far: &mut Vec<Term>) -> Result<(), NoMemory>
     requires few { length terms.now ≤ 64 }
     requires narrow { AllAtMost (2 ^ 56) (sum_of terms.now) }
-    requires narrow_so_far { AllAtMost (2 ^ 56) (sum_of so_far.old.items) }
+    requires small { AllAtMost (2 ^ 120) (sum_of so_far.old.items) }
     ensures { OnOk result (sum_of so_far.new.items ≡ sum (sum_of terms.now) (sum_of so_far.old.items)) }
 {
     for term in terms {
@@ -21,7 +23,8 @@ pub fn add_terms(alloc: Global, terms: &[Term], so_far: &mut Vec<Term>) -> Resul
 }
 
 /// The terms k times.
-pub fn scale_terms(alloc: Global, terms: &[Term], k: i64) -> Result<Vec<Term>, NoMemory>
+pub fn scale_terms(alloc: Global, terms: &[Term], k: i128) -> Result<Vec<Term>, NoMemory>
+    requires small { unsigned_abs k ≤ 2 ^ 64 }
     requires narrow { AllAtMost (2 ^ 56) (sum_of terms.now) }
     ensures { IfOk result (λ v. sum_of v.items ≡ multiple k (sum_of terms.now)) }
 {
@@ -30,6 +33,37 @@ pub fn scale_terms(alloc: Global, terms: &[Term], k: i64) -> Result<Vec<Term>, N
         push_unless_zero(&mut multiples, term.scale(alloc, k)?)?;
     }
     Ok(multiples)
+}
+
+fn negative(n: u64) -> i128
+    ensures { result ≡ pos 0 -ℤ pos n }
+{
+    -i128::from(n)
+}
+
+/// The terms, less k times others, less c.
+pub fn less_terms(
+    alloc: Global,
+    terms: &[Term],
+    k: u64,
+    others: &[Term],
+    c: u64,
+) -> Result<Vec<Term>, NoMemory>
+    requires few { length terms.now ≤ 64 }
+    requires narrow_terms { AllAtMost (2 ^ 56) (sum_of terms.now) }
+    requires narrow_others { AllAtMost (2 ^ 56) (sum_of others.now) }
+    requires canonical_terms { IsCanonical (sum_of terms.now) }
+    requires canonical_others { IsCanonical (sum_of others.now) }
+    ensures { IfOk result (λ v. sum_of v.items ≡ lessened (sum_of terms.now) k (sum_of others.now) c) }
+{
+    let mut so_far = scale_terms(alloc, others, negative(k))?;
+    add_terms(alloc, terms, &mut so_far)?;
+    let number = Term {
+        coefficient: negative(c),
+        monomial: Monomial::one(alloc),
+    };
+    insert_term(&mut so_far, number)?;
+    Ok(so_far)
 }
 
 /// Adds a term times terms.

@@ -19,7 +19,7 @@ pub struct Term {
 
 /// A product of coefficients.
 fn times(a: i128, b: i128) -> i128
-    requires a_small { unsigned_abs a ≤ 2 ^ 63 }
+    requires a_small { unsigned_abs a ≤ 2 ^ 64 }
     requires b_small { unsigned_abs b ≤ 2 ^ 56 }
     ensures { result ≡ a *ℤ b }
 {
@@ -45,12 +45,13 @@ impl Term {
     }
 
     /// k times the term.
-    pub fn scale(&self, alloc: Global, k: i64) -> Result<Term, NoMemory>
+    pub fn scale(&self, alloc: Global, k: i128) -> Result<Term, NoMemory>
+        requires small { unsigned_abs k ≤ 2 ^ 64 }
         requires narrow { unsigned_abs self.now.coefficient ≤ 2 ^ 56 }
         ensures { IfOk result (λ t. t ≡ record { coefficient = k *ℤ self.now.coefficient; monomial = self.now.monomial }) }
     {
         Ok(Term {
-            coefficient: times(i128::from(k), self.coefficient),
+            coefficient: times(k, self.coefficient),
             monomial: self.monomial.copy(alloc)?,
         })
     }

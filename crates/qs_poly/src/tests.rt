@@ -88,6 +88,31 @@ fn a_multiple_is_exact(rt: HostRuntime) -> Result<(), Fail> {
 }
 
 #[test]
+fn less_is_exact(rt: HostRuntime) -> Result<(), Fail> {
+    // 5 * x - 1, less 2 * (x - 3), less 4 is 3 * x + 1
+    let alloc = rt.alloc();
+    let five = x(alloc)?
+        .scale(alloc, 5)?
+        .add(alloc, &Poly::number(alloc, -1)?)?;
+    let left = five.less(alloc, 2, &x_plus(alloc, -3)?, 4)?;
+    let expected = x(alloc)?
+        .scale(alloc, 3)?
+        .add(alloc, &Poly::number(alloc, 1)?)?;
+    assert!(rt; left == expected);
+    let most = x(alloc)?.scale(alloc, MOST)?;
+    assert_eq!(rt; x(alloc)?.less(alloc, 1, &most, 0)?.count(), 1);
+    assert_eq!(rt;
+        x(alloc)?.less(alloc, 2, &most, 0).err(),
+        Some(PolyFault::Wide)
+    );
+    assert_eq!(rt;
+        most.less(alloc, u64::MAX, &most, 0).err(),
+        Some(PolyFault::Wide)
+    );
+    Ok(())
+}
+
+#[test]
 fn terms_of_zero_go(rt: HostRuntime) -> Result<(), Fail> {
     let alloc = rt.alloc();
     let x = x(alloc)?;

@@ -5,6 +5,7 @@ ghost use Rattle.qs_print.specs.ReadsBack.{ReadsBack};
 ghost use Rattle.qs_print.specs.Spaced.{Writes};
 ghost use Rattle.qs_print.specs.Spelling.{joined};
 ghost use Rattle.qs_syntax.specs.TreeOf.{decl_tree, forward_tree, function_tree, members_tree, stmts_tree, struct_tree};
+ghost use Rattle.qs_syntax.specs.UnitTrees.{unit_tree};
 
 use crate::declarations::{put_declaration, put_members, put_parameters};
 use crate::statements::put_block;
@@ -86,8 +87,8 @@ fn put_unit(out: &mut Vec<u8>, declarations: &[Decl]) -> Result<(), NoMemory>
 /// The text of a unit: its tokens with single blanks between, parentheses only where the grammar needs
 /// them, ended by 0x0A. An error says that memory was wanting.
 pub fn print(alloc: Global, unit: &Unit) -> Result<Vec<u8>, NoMemory>
-    ensures reads_back { IfOk result (λ text. ∥ ReadsBack text.items (map decl_tree unit.now.declarations.items) ∥₁) }
-    ensures text { IfOk result (λ text. text.items ≡ joined (printed_unit (map decl_tree unit.now.declarations.items))) }
+    ensures reads_back { IfOk result (λ text. ∥ ReadsBack text.items (unit_tree unit.now) ∥₁) }
+    ensures text { IfOk result (λ text. text.items ≡ joined (printed_unit (unit_tree unit.now))) }
 {
     let mut out = Vec::new(alloc);
     put_unit(&mut out, unit.declarations())?;

@@ -8,3 +8,5 @@ pub mod ReadsStatements
 pub mod ReadsUnits
 pub mod Numbering
 pub mod Units
+pub mod UnitTrees
+pub mod Sameness

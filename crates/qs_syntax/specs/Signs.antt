@@ -83,7 +83,7 @@ abbrev pub mark_of_access : Access → Mark
 mark_of_access accesses.Dot = marks.Dot
 mark_of_access accesses.Arrow = marks.Arrow
 
--- the number of the first token
+-- the number of a token
 abbrev pub number_of : Lexeme → ℕ
 number_of (lexemes.Name at x) = at
 number_of (lexemes.Keyword at k) = at

@@ -43,7 +43,7 @@ exprs_of (e ∷ es) = expr_and e (exprs_of es)
 
 -- ---- declarations (6.7)
 
--- the lengths in brackets, but for first ones that are empty
+-- whether the first brackets are empty, and the lengths in the others
 pub record LengthsTree : Type 0 where
   pub is_open : Bool
   pub given : List ExprTree

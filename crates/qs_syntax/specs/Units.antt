@@ -23,7 +23,7 @@ is_lexeme (Constant at n unsigned) = nat_lt n (if unsigned then 2 ^ 32 else 2 ^ 
 is_lexeme (Text at bytes) = list_all is_byte bytes
 is_lexeme (Mark at m) = true
 
--- these trees, numbered, are the reading of some tokens, which is not too high
+-- these trees are a reading of some tokens, not too high, with its nodes numbered
 pub record Reading (ds : List DeclTree) : Type 0 where
   pub tokens : List Lexeme
   pub height : ℕ
@@ -36,3 +36,7 @@ pub record Reading (ds : List DeclTree) : Type 0 where
 -- there is such a reading
 abbrev pub IsRead : List DeclTree → Type 0
 IsRead ds = ∥ Reading ds ∥₁
+
+-- the nodes are numbered
+abbrev pub IsNumbered : List DeclTree → Type 0
+IsNumbered ds = ∥ numbered_unit ds ≡ ds ∥₁

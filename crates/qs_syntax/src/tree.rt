@@ -1,5 +1,8 @@
 // Trees of the language (C11 6.5 to 6.9).
-ghost use Rattle.std.specs.Prelude.{◌≡◌, IfOk};
+ghost use Rattle.std.specs.Prelude.{◌≡◌, ◌==◌, IfOk};
+ghost use Rattle.std.proofs.Common.{rules};
+ghost use Rattle.std.specs.Cmp.Rules.{comparing};
+ghost use Rattle.std.specs.Cmp.Lexicographic.{pointwise};
 
 use qs_base::{Name, NoMemory};
 use std::alloc::Global;
@@ -42,6 +45,20 @@ impl Text {
     {
         &self.bytes
     }
+}
+
+impl PartialEq for Text {
+    ghost eq = { pointwise ◌==◌ };
+
+    ghost laws = { Prim.search (comparing, rules) };
+
+    fn eq(&self, other: &Text) -> bool {
+        self.bytes == other.bytes
+    }
+}
+
+impl Eq for Text {
+    ghost laws = { Prim.search (comparing, rules) };
 }
 
 /// The sign of a unary operator (C11 6.5.3).

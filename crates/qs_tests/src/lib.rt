@@ -11,3 +11,5 @@ mod names;
 mod rows;
 #[cfg(test)]
 mod runs;
+#[cfg(test)]
+mod sources;

@@ -93,21 +93,25 @@ fn files_are_refused(rt: HostRuntime) -> Result<(), NoMemory> {
 }
 
 // Sources and the line that each is refused with.
-const REFUSED: [(&str, &str); 11] = [
+const REFUSED: [(&str, &str); 12] = [
     (
         "int main(void){return 256;}",
         "a.c: not in the first form\n",
     ),
-    ("", "a.c: not in the first form\n"),
-    ("int main(void){return 7;}x", "a.c: not in the first form\n"),
-    ("# 1 \"a.c\"\nint x;", "a.c: not in the first form\n"),
+    (
+        "static const int k = 3;int main() { return k; }",
+        "a.c: not in the first form\n",
+    ),
+    ("", "a.c:1:1: unexpected end\n"),
+    ("int main(void){\n", "a.c:2:1: unexpected end\n"),
+    ("int main(void){return 7;}x", "a.c:1:26: unexpected token\n"),
+    ("int f(int a,void);", "a.c:1:17: unexpected token\n"),
     ("#include <stdio.h>\nint x;", "a.c:1:1: directive\n"),
     ("int x = 2147483648;", "a.c:1:9: wide literal\n"),
     ("int x = 08;", "a.c:1:9: bad literal\n"),
     ("/* a", "a.c:1:1: open comment\n"),
     ("int @", "a.c:1:5: bad byte\n"),
     ("int\nx='a\n';", "a.c:2:3: open text\n"),
-    ("int x;\n\tint y = '\\400';", "a.c:2:10: wide literal\n"),
 ];
 
 #[test]

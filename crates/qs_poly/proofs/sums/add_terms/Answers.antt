@@ -15,7 +15,7 @@ insert_term-requires c =
     let e = ap (λ (t : Term). unsigned_abs t.coefficient) c.in_ok-copy.ensures in
     record {
       small = omega arith;
-      all_small = at_most_more ((c.loop-term.term-index + 1) * 2 ^ 56) (2 ^ 125) (sum_of c.loop-term.so_far.items) (omega arith) c.loop-term.invariant.small;
+      all_small = at_most_more (2 ^ 120 + c.loop-term.term-index * 2 ^ 56) (2 ^ 125) (sum_of c.loop-term.so_far.items) (omega arith) c.loop-term.invariant.small;
     }
 
 pub loop-term-preserved : goal.loop-term-preserved
@@ -28,7 +28,7 @@ loop-term-preserved c =
     record {
       same = c.loop-term.invariant.same ∙ term_added c.args.terms.now i d old c.loop-term-test.true c.term-item.is ∙ ap (λ q. sum (sum_of (drop (i + 1) c.args.terms.now)) q) (sym e);
       small =
-          let b = insert_at_most ((i + 1) * 2 ^ 56) (2 ^ 56) d.coefficient d.monomial old narrow c.loop-term.invariant.small in
-          let n : (i + 1) * 2 ^ 56 + 2 ^ 56 ≡ (i + 1 + 1) * 2 ^ 56 = omega arith in
-          subst (λ k. AllAtMost k (sum_of c.insert_term.new.terms.items)) n (subst (λ p. AllAtMost ((i + 1) * 2 ^ 56 + 2 ^ 56) p) (sym e) b);
+          let b = insert_at_most (2 ^ 120 + i * 2 ^ 56) (2 ^ 56) d.coefficient d.monomial old narrow c.loop-term.invariant.small in
+          let n : 2 ^ 120 + i * 2 ^ 56 + 2 ^ 56 ≡ 2 ^ 120 + (i + 1) * 2 ^ 56 = omega arith in
+          subst (λ k. AllAtMost k (sum_of c.insert_term.new.terms.items)) n (subst (λ p. AllAtMost (2 ^ 120 + i * 2 ^ 56 + 2 ^ 56) p) (sym e) b);
     }

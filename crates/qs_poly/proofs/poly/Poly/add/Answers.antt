@@ -1,7 +1,8 @@
-use Rattle.std.proofs.Common.{◌≡◌, ◌≤◌, ◌^◌, ◌∙◌, sym, subst, length, List}
+use Rattle.std.proofs.Common.{◌≡◌, ◌≤◌, ◌^◌, ◌∙◌, sym, subst, length, List, arith}
 use Rattle.qs_poly.specs.Canonical.{IsCanonical}
 use Rattle.qs_poly.specs.declared.terms.Term.{Term}
 use Rattle.qs_poly.specs.Terms.{sum_of, AllAtMost}
+use Rattle.qs_poly.proofs.Bounds.{at_most_more}
 use Rattle.qs_poly.proofs.Coefficients.{sum_canonical}
 use Rattle.qs_poly.proofs.Limited.{narrow_at_most, few_at_most}
 use Rattle.qs_poly.proofs.poly.Poly.add.Goals as goal
@@ -14,7 +15,7 @@ add_terms-requires c =
     record {
       few = subst (λ (xs : List Term). length xs ≤ 64) (sym v) few;
       narrow = subst (λ xs. AllAtMost (2 ^ 56) (sum_of xs)) (sym v) (narrow_at_most (sum_of c.self.inside.terms.items) c.self.invariant.narrow);
-      narrow_so_far = subst (λ xs. AllAtMost (2 ^ 56) (sum_of xs)) (sym b) (narrow_at_most (sum_of c.b.inside.terms.items) c.b.invariant.narrow);
+      small = subst (λ xs. AllAtMost (2 ^ 120) (sum_of xs)) (sym b) (at_most_more (2 ^ 56) (2 ^ 120) (sum_of c.b.inside.terms.items) (omega arith) (narrow_at_most (sum_of c.b.inside.terms.items) c.b.invariant.narrow));
     }
 
 pub limited-requires : goal.limited-requires

@@ -1,4 +1,5 @@
-use Rattle.std.proofs.Common.{◌^◌, sym, subst}
+use Rattle.std.proofs.Common.{◌^◌, sym, subst, arith}
+use Rattle.std.proofs.lemmas.Int.{ints}
 use Rattle.qs_poly.specs.Canonical.{IsCanonical}
 use Rattle.qs_poly.specs.Terms.{sum_of, AllAtMost}
 use Rattle.qs_poly.proofs.Coefficients.{multiple_canonical}
@@ -7,6 +8,7 @@ use Rattle.qs_poly.proofs.poly.Poly.scale.Goals as goal
 
 pub scale_terms-requires : goal.scale_terms-requires
 scale_terms-requires c = record {
+  small = let r = c.ranges.k in omega (arith, ints);
   narrow = subst (λ xs. AllAtMost (2 ^ 56) (sum_of xs)) (sym c.deref.ensures.value) (narrow_at_most (sum_of c.self.inside.terms.items) c.self.invariant.narrow);
 }
 

@@ -1,7 +1,9 @@
-use Rattle.std.proofs.Common.{map}
-use Rattle.qs_syntax.specs.TreeOf.{decl_tree}
-use Rattle.qs_syntax.proofs.Units.{is_read_again}
+use Rattle.qs_syntax.specs.UnitTrees.{unit_tree}
+use Rattle.qs_syntax.proofs.Units.{is_read_again, unit_as_numbered}
 use Rattle.qs_syntax.proofs.unit.Unit.copy.Goals as goal
 
 pub numbered-requires-clause-read : goal.numbered-requires-clause-read
-numbered-requires-clause-read c = rw c.deref.ensures.value (is_read_again (map decl_tree c.args.self.now.declarations.items) c.args.self.now.is_read)
+numbered-requires-clause-read c = rw c.deref.ensures.value (is_read_again (unit_tree c.args.self.now) c.args.self.now.is_read)
+
+pub returns : goal.returns
+returns c = rw (c.deref.ensures.value, unit_as_numbered c.args.self.now) at c.numbered.ensures

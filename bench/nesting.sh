@@ -1,0 +1,50 @@
+#!/usr/bin/env bash
+# Sources that nest far past the limit, on 4 MiB of native stack: bench/nesting.sh [PROGRAM] (by default ./qsc).
+# Prints a line for each; ends with 1 where a call doesn't end with status 1 and one line.
+set -u
+top=$(cd "$(dirname "$(readlink -f "${BASH_SOURCE[0]}")")/.." && pwd)
+program=$(readlink -f "${1:-$top/qsc}")
+folder=$(mktemp -d)
+trap 'rm -rf "$folder"' EXIT
+cd "$folder" || exit 1
+"$program" build none.c --out a.img 2>/dev/null
+ulimit -s 4096
+
+# so many times this piece of a piece
+copies() { yes "$2" | head -n "$1" | tr -d '\n'; }
+
+wrong=0
+# `build` on: what stands before, what begins a level, how many levels, what is inside, what ends a level, what stands behind
+try() {
+  { printf '%s' "$1" && copies "$3" "$2" && printf '%s' "$4" && copies "$3" "$5" && printf '%s' "$6"; } >a.c
+  "$program" build a.c --out a.img >out 2>line
+  local status=$?
+  printf '%-14s %6d levels  status %d  %s\n' "$2" "$3" $status "$(cut -c1-60 line)"
+  { [ $status = 1 ] && [ "$(wc -l <line)" = 1 ]; } || wrong=1
+}
+
+for levels in 100 128 1000 100000; do
+  try 'int x=' '(' $levels 1 ')' ';'
+  try 'int x=' '(' $levels '' '' ''
+  try 'int x=' '!' $levels 1 '' ';'
+  try 'int x=' '(int)' $levels 1 '' ';'
+  try 'int x=' 'sizeof ' $levels 1 '' ';'
+  try 'int x=' '1?1:' $levels 1 '' ';'
+  try 'int x=1' '+1' $levels '' '' ';'
+  try 'int x=' '{' $levels 1 '}' ';'
+  try 'int x=a' '[a' $levels '' ']' ';'
+  try 'void f(int a){' 'a=' $levels a '' ';}'
+  try 'void f(int a){' 'f(' $levels a ')' ';}'
+  try 'void f(void)' '{' $levels '' '}' ''
+  try 'void f(void)' '{' $levels '' '' ''
+  try 'void f(void){' 'if(1)' $levels ';' '' '}'
+  try 'void f(void){' 'if(1);else ' $((levels < 90000 ? levels : 90000)) ';' '' '}'
+  try 'void f(void){' 'while(1)' $levels ';' '' '}'
+  try 'void f(void){' 'for(;;)' $levels ';' '' '}'
+  try 'void f(void){' 'do ' $((levels < 80000 ? levels : 80000)) ';' 'while(1);' '}'
+  try 'int ' '*' $levels x '' ';'
+done
+try 'int ' 'a,' 10000 b '' ';'
+try 'int a' '[1]' 10000 '' '' ';'
+try 'void f(' 'int,' 10000 int '' ');'
+exit $wrong

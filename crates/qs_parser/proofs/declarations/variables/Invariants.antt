@@ -1,0 +1,10 @@
+use Rattle.std.proofs.Common.{◌≡◌, ◌≤◌, length, map, ◌+◌, ◌-◌, []}
+use Rattle.qs_syntax.specs.TreeOf.{variable_tree}
+use Rattle.qs_parser.specs.ParseDeclarations.{variables}
+use Rattle.qs_parser.proofs.declarations.variables.Given as goal
+
+abbrev pub invariant-loop : goal.invariant-loop
+invariant-loop l = record {
+  same : variables l.room (length l.fn.tokens - l.counter) (map variable_tree l.variables.items) l.height l.rest ≡ variables l.room (length l.fn.tokens) [] 0 l.fn.tokens;
+  low : l.height ≤ l.room + 1;
+}

@@ -1,0 +1,5 @@
+use Rattle.qs_parser.proofs.UnitsComplete.{one_reading}
+use Rattle.qs_parser.proofs.parse.one_reading.Goals as goal
+
+pub returns : goal.returns
+returns c = one_reading

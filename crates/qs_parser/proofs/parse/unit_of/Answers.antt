@@ -1,0 +1,21 @@
+use Rattle.std.proofs.Common.{map}
+use Rattle.qs_syntax.specs.TreeOf.{decl_tree}
+use Rattle.qs_parser.specs.Parse.{Unexpected, Deep}
+use Rattle.qs_parser.proofs.Top.{is_read, are_few, reads_as, no_reading}
+use Rattle.qs_parser.proofs.parse.unit_of.Goals as goal
+
+pub numbered-requires-clause-read : goal.numbered-requires-clause-read
+numbered-requires-clause-read c = rw c.deref.ensures.value (is_read c.args.tokens.now (map decl_tree c.in-Ok.unnumbered.items) c.in-Ok._height c.requires.tokens c.in-Ok.ensures.gives)
+
+pub numbered-requires-clause-few : goal.numbered-requires-clause-few
+numbered-requires-clause-few c = rw c.deref.ensures.value (are_few c.args.tokens.now (map decl_tree c.in-Ok.unnumbered.items) c.in-Ok._height c.requires.few c.in-Ok.ensures.gives)
+
+pub returns-in_ok-numbered-in-Ok : goal.returns-in_ok-numbered-in-Ok
+returns-in_ok-numbered-in-Ok c =
+    reads_as c.args.tokens.now (map decl_tree c.in-Ok.unnumbered.items) (map decl_tree c.in_ok-numbered-in-Ok.field-0.declarations.items) c.in-Ok._height c.in-Ok.ensures.gives (rw c.deref.ensures.value at c.in_ok-numbered-in-Ok.ensures)
+
+pub returns-in-Err-Unexpected : goal.returns-in-Err-Unexpected
+returns-in-Err-Unexpected c = record { none = no_reading c.args.tokens.now (Unexpected c.in-Err-Unexpected.left) (rw c.in-Err-Unexpected.field-0-is at c.in-Err-Unexpected.ensures.gives); within = c.number_of.ensures }
+
+pub returns-in-Err-TooDeep : goal.returns-in-Err-TooDeep
+returns-in-Err-TooDeep c = record { none = no_reading c.args.tokens.now (Deep c.in-Err-TooDeep.left) (rw c.in-Err-TooDeep.field-0-is at c.in-Err-TooDeep.ensures.gives); within = c.number_of-in-Err-TooDeep.ensures }

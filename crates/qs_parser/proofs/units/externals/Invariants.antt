@@ -1,0 +1,10 @@
+use Rattle.std.proofs.Common.{◌≡◌, ◌≤◌, length, map, ◌+◌, ◌-◌, []}
+use Rattle.qs_syntax.specs.TreeOf.{decl_tree}
+use Rattle.qs_parser.specs.ParseStatements.{externals}
+use Rattle.qs_parser.proofs.units.externals.Given as goal
+
+abbrev pub invariant-loop : goal.invariant-loop
+invariant-loop l = record {
+  same : externals l.room (length l.fn.tokens - l.counter) (map decl_tree l.found.items) l.height l.rest ≡ externals l.room (length l.fn.tokens) [] 0 l.fn.tokens;
+  low : l.height ≤ l.room + 2;
+}

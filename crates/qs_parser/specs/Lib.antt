@@ -1,0 +1,8 @@
+pub mod Heads
+pub mod Parse
+pub mod ParseDeclarations
+pub mod ParseStatements
+pub mod Stops
+pub mod View
+pub mod Answers
+pub mod Operands

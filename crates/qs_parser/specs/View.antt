@@ -1,0 +1,76 @@
+-- What the code's values stand for.
+use Rattle.std.specs.Prelude.{◌≡◌, ℕ, List, [], Option, Result, Ok, Err, map}
+use Rattle.std.specs.Borrow.{Bor}
+use Rattle.std.specs.declared.alloc.Global.{Global}
+use Rattle.std.specs.declared.vec.Vec.{Vec}
+use Rattle.qs_syntax.specs.declared.lexeme.Lexeme.{Lexeme}
+use Rattle.qs_syntax.specs.declared.tree.Base.{Base}
+use Rattle.qs_syntax.specs.declared.tree.Decl.{Decl}
+use Rattle.qs_syntax.specs.declared.tree.TypeName.{TypeName}
+use Rattle.qs_syntax.specs.Trees.{ParameterTree, Stmts, DeclTree, function}
+use Rattle.qs_syntax.specs.TreeOf.{parameter_tree, decl_tree}
+use Rattle.qs_syntax.specs.Reads as reads
+use Rattle.qs_parser.specs.declared.expressions.Form as forms
+use Rattle.qs_parser.specs.declared.expressions.Form.TheVariants as variants
+use Rattle.qs_parser.specs.declared.fault.Halt.{Halt}
+use Rattle.qs_parser.specs.declared.fault.Halt.TheVariants as halts
+use Rattle.qs_parser.specs.declared.units.Header.{Header}
+use Rattle.qs_parser.specs.Parse.{Stop, Unexpected, Deep}
+
+-- What a function answers, seen by `view`, is what the function on lists gives, unless memory runs out.
+abbrev pub Fails : {Y : Type 0} → Halt → Result Y Stop → Type 0
+Fails halts.NoMemory given = Unit {0}
+Fails (halts.Unexpected left) given = given ≡ Err (Unexpected left)
+Fails (halts.TooDeep left) given = given ≡ Err (Deep left)
+
+abbrev pub Gives : {X Y : Type 0} → (X → Y) → Result X Halt → Result Y Stop → Type 0
+Gives view (Ok x) given = given ≡ Ok (view x)
+Gives view (Err e) given = Fails e given
+
+abbrev pub rest_of : Bor (List Lexeme) → Unit {0} × List Lexeme
+rest_of rest = (tt, rest.now)
+
+abbrev pub name_of : ℕ × List ℕ × Bor (List Lexeme) → (ℕ × List ℕ) × List Lexeme
+name_of x = ((x.0, x.1), x.2.now)
+
+abbrev pub base_of : Base × Bor (List Lexeme) → Base × List Lexeme
+base_of x = (x.0, x.1.now)
+
+abbrev pub stars_of : ℕ × Bor (List Lexeme) → ℕ × List Lexeme
+stars_of x = (x.0, x.1.now)
+
+abbrev pub type_name_of : TypeName × Bor (List Lexeme) → TypeName × List Lexeme
+type_name_of x = (x.0, x.1.now)
+
+-- what is read, how high it is, and what stands behind it
+abbrev pub read_as : {X Y : Type 0} → (X → Y) → X × ℕ × Bor (List Lexeme) → (Y × ℕ) × List Lexeme
+read_as view x = ((view x.0, x.1), x.2.now)
+
+-- each item of a vector
+abbrev pub listed : {X Y : Type 0} → (X → Y) → Vec X Global → List Y
+listed view items = map view items.items
+
+-- joined texts, and what stands behind them
+abbrev pub texts_of : List ℕ × Bor (List Lexeme) → List ℕ × List Lexeme
+texts_of x = (x.0, x.1.now)
+
+-- what an expression is read as
+abbrev pub form_of : forms.Form → reads.Form
+form_of variants.Postfix = reads.Postfix
+form_of variants.Unary = reads.Unary
+form_of (variants.Level j) = reads.Level j
+form_of variants.Conditional = reads.Conditional
+form_of variants.Assignment = reads.Assignment
+form_of variants.Expression = reads.Expression
+
+-- the parameters of a header
+abbrev pub parameters_of : Header → List ParameterTree
+parameters_of h = listed parameter_tree h.parameters
+
+-- a function of this header with this body
+abbrev pub function_with : Header → Option Stmts → DeclTree
+function_with h body = function (record { id = 0; token = h.token; base = h.base; stars = h.stars; name = h.name; parameters = parameters_of h; body = body })
+
+-- all that is read, and how high it is, with nothing left
+abbrev pub unit_of : Vec Decl Global × ℕ → (List DeclTree × ℕ) × List Lexeme
+unit_of x = ((listed decl_tree x.0, x.1), [])

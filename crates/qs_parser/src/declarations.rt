@@ -1,0 +1,528 @@
+// Declarations (C11 6.7). In all functions at most `room` levels are left for the parts of a node, and each
+// answers what is read, how high its highest node is, and what stands behind it.
+ghost use Rattle.std.specs.Prelude.{◌≡◌, ◌+◌, ◌≤◌, length, [], IfOk};
+ghost use Rattle.qs_syntax.specs.Trees as trees;
+ghost use Rattle.qs_syntax.specs.Trees.{initialisers_of};
+ghost use Rattle.qs_syntax.specs.TreeOf.{expr_tree, lengths_tree, declarator_tree, initialiser_tree, variable_tree, declaration_tree, members_tree, parameter_tree};
+ghost use Rattle.qs_parser.specs.ParseDeclarations.{given_lengths, is_empty_brackets, lengths_of, lengths, named, declarator, initialisers, begins_initialiser, initialiser, initialised, variable, variables, declared, declaration, declaration_within, declarators, members, groups, bracketed, with_name, is_void_alone, without_first, parameter, parameters, is_void_head, head};
+ghost use Rattle.qs_parser.specs.View.{Gives, read_as, listed};
+
+use crate::expressions::{Form, part};
+use crate::fault::Halt;
+use crate::heads::{begins_one, expect, expect_name, is_keyword, is_mark, place, starts};
+use crate::types::{stars, type_of};
+use qs_base::Name;
+use qs_syntax::{
+    Base, Declaration, Declarator, Expr, Initialiser, InitialiserList, Keyword, Lengths, Lexeme,
+    Mark, Members, Parameter, Variable,
+};
+use std::alloc::Global;
+
+/// The lengths in brackets, none of them empty (C11 6.7.6.2).
+#[tactic(auto, using(crate::proofs::CodeDeclarations::length_steps))]
+fn given_lengths(
+    alloc: Global,
+    room: u8,
+    tokens: &[Lexeme],
+) -> Result<(Vec<Expr>, u32, &[Lexeme]), Halt>
+    ensures gives { Gives (read_as (listed expr_tree)) result (given_lengths room (length tokens.now) [] 0 tokens.now) }
+    ensures low { IfOk result (λ x. x.1 ≤ room) }
+{
+    let mut given = Vec::new(alloc);
+    let mut height: u32 = 0;
+    let mut rest = tokens;
+    for _ in 0..tokens.len() {
+        if !starts(Mark::OpenBracket, rest) {
+            return Ok((given, height, rest));
+        }
+        let behind = expect(Mark::OpenBracket, rest)?;
+        let (item, high, after) = part(alloc, room, Form::Conditional, behind)?;
+        let after = expect(Mark::CloseBracket, after)?;
+        given.push(item)?;
+        height = height.max(high);
+        rest = after;
+    }
+    Ok((given, height, rest))
+}
+
+/// Whether empty brackets stand first.
+fn is_empty_brackets(tokens: &[Lexeme]) -> bool
+    ensures { result ≡ is_empty_brackets tokens.now }
+{
+    match tokens {
+        [] => false,
+        [first, rest @ ..] => {
+            is_mark(Mark::OpenBracket, first) && starts(Mark::CloseBracket, rest)
+        }
+    }
+}
+
+/// The lengths of a declarator, behind first brackets that are empty where `is_open` says so.
+fn lengths_of(
+    alloc: Global,
+    room: u8,
+    is_open: bool,
+    tokens: &[Lexeme],
+) -> Result<(Lengths, u32, &[Lexeme]), Halt>
+    ensures gives { Gives (read_as lengths_tree) result (lengths_of is_open (given_lengths room (length tokens.now) [] 0 tokens.now)) }
+    ensures low { IfOk result (λ x. x.1 ≤ room) }
+{
+    let (given, height, rest) = given_lengths(alloc, room, tokens)?;
+    Ok((Lengths { is_open, given }, height, rest))
+}
+
+/// The brackets behind a name (C11 6.7.6.2).
+#[tactic(auto, unfolding(crate::specs::ParseDeclarations::lengths))]
+fn lengths(alloc: Global, room: u8, tokens: &[Lexeme]) -> Result<(Lengths, u32, &[Lexeme]), Halt>
+    ensures gives { Gives (read_as lengths_tree) result (lengths room tokens.now) }
+    ensures low { IfOk result (λ x. x.1 ≤ room) }
+{
+    if !is_empty_brackets(tokens) {
+        return lengths_of(alloc, room, false, tokens);
+    }
+    let rest = expect(Mark::OpenBracket, tokens)?;
+    let rest = expect(Mark::CloseBracket, rest)?;
+    lengths_of(alloc, room, true, rest)
+}
+
+/// A declarator, behind its stars.
+fn named(
+    alloc: Global,
+    room: u8,
+    stars: u32,
+    tokens: &[Lexeme],
+) -> Result<(Declarator, u32, &[Lexeme]), Halt>
+    ensures gives { Gives (read_as declarator_tree) result (named room stars tokens.now) }
+    ensures low { IfOk result (λ x. x.1 ≤ room) }
+{
+    let (token, name, rest) = expect_name(alloc, tokens)?;
+    let (lengths, height, rest) = lengths(alloc, room, rest)?;
+    let declarator = Declarator {
+        id: 0,
+        token,
+        stars,
+        name,
+        lengths,
+    };
+    Ok((declarator, height, rest))
+}
+
+/// A name with the stars before it and the brackets behind it (C11 6.7.6).
+#[tactic(auto, unfolding(crate::specs::ParseDeclarations::declarator))]
+fn declarator(
+    alloc: Global,
+    room: u8,
+    tokens: &[Lexeme],
+) -> Result<(Declarator, u32, &[Lexeme]), Halt>
+    ensures gives { Gives (read_as declarator_tree) result (declarator room tokens.now) }
+    ensures low { IfOk result (λ x. x.1 ≤ room) }
+{
+    let (stars, rest) = stars(tokens)?;
+    named(alloc, room, stars, rest)
+}
+
+/// The initialisers of a list, and the brace behind them (C11 6.7.9).
+#[cycle(initialiser)]
+#[tactic(auto, using(crate::proofs::CodeDeclarations::initialiser_steps))]
+fn initialisers(
+    alloc: Global,
+    room: u8,
+    tokens: &[Lexeme],
+) -> Result<(Vec<Initialiser>, u32, &[Lexeme]), Halt>
+    ensures gives { Gives (read_as (listed initialiser_tree)) result (initialisers (initialiser room) (length tokens.now) [] 0 tokens.now) }
+    ensures low { IfOk result (λ x. x.1 ≤ room) }
+{
+    let mut items = Vec::new(alloc);
+    let mut height: u32 = 0;
+    let mut rest = tokens;
+    for _ in 0..tokens.len() {
+        let (item, high, after) = initialiser(alloc, room, rest)?;
+        items.push(item)?;
+        height = height.max(high);
+        if starts(Mark::CloseBrace, after) {
+            let behind = expect(Mark::CloseBrace, after)?;
+            return Ok((items, height, behind));
+        }
+        let behind = expect(Mark::Comma, after)?;
+        if starts(Mark::CloseBrace, behind) {
+            let behind = expect(Mark::CloseBrace, behind)?;
+            return Ok((items, height, behind));
+        }
+        rest = behind;
+    }
+    Err(Halt::Unexpected(rest.len()))
+}
+
+/// Whether an initialiser begins here.
+fn begins_initialiser(tokens: &[Lexeme]) -> bool
+    ensures { result ≡ begins_initialiser tokens.now }
+{
+    starts(Mark::OpenBrace, tokens) || begins_one(tokens)
+}
+
+/// An initialiser that is at most `room` high (C11 6.7.9).
+#[cycle(initialiser)]
+#[tactic(auto, using(crate::proofs::CodeDeclarations::initialiser_cases))]
+fn initialiser(
+    alloc: Global,
+    room: u8,
+    tokens: &[Lexeme],
+) -> Result<(Initialiser, u32, &[Lexeme]), Halt>
+    ensures gives { Gives (read_as initialiser_tree) result (initialiser room tokens.now) }
+    ensures low { IfOk result (λ x. x.1 ≤ room) }
+{
+    if room == 0 {
+        if begins_initialiser(tokens) {
+            return Err(Halt::TooDeep(tokens.len()));
+        }
+        return Err(Halt::Unexpected(tokens.len()));
+    }
+    if !starts(Mark::OpenBrace, tokens) {
+        let (value, height, rest) = part(alloc, room, Form::Assignment, tokens)?;
+        return Ok((expression(value), height, rest));
+    }
+    if room == 1 {
+        return Err(Halt::TooDeep(tokens.len()));
+    }
+    let rest = expect(Mark::OpenBrace, tokens)?;
+    let (items, height, rest) = initialisers(alloc, room - 1, rest)?;
+    Ok((list(place(tokens), items), height + 1, rest))
+}
+
+/// An initialiser that is an expression.
+fn expression(value: Expr) -> Initialiser
+    ensures { initialiser_tree result ≡ trees.value (expr_tree value) }
+{
+    Initialiser::Value(value)
+}
+
+/// A list of initialisers.
+fn list(token: u32, items: Vec<Initialiser>) -> Initialiser
+    ensures { initialiser_tree result ≡ trees.list 0 token (initialisers_of (listed initialiser_tree items)) }
+{
+    Initialiser::List(InitialiserList {
+        id: 0,
+        token,
+        items,
+    })
+}
+
+/// A variable, behind its declarator.
+fn initialised(
+    alloc: Global,
+    room: u8,
+    declarator: Declarator,
+    height: u32,
+    tokens: &[Lexeme],
+) -> Result<(Variable, u32, &[Lexeme]), Halt>
+    requires low { height ≤ room }
+    ensures gives { Gives (read_as variable_tree) result (initialised room (declarator_tree declarator, height) tokens.now) }
+    ensures low { IfOk result (λ x. x.1 ≤ room + 1) }
+{
+    if !starts(Mark::Assign, tokens) {
+        let variable = Variable {
+            declarator,
+            initialiser: None,
+        };
+        return Ok((variable, height + 1, tokens));
+    }
+    if room == 0 {
+        return Err(Halt::TooDeep(tokens.len()));
+    }
+    let rest = expect(Mark::Assign, tokens)?;
+    let (initialiser, high, rest) = initialiser(alloc, room, rest)?;
+    let variable = Variable {
+        declarator,
+        initialiser: Some(initialiser),
+    };
+    Ok((variable, height.max(high) + 1, rest))
+}
+
+/// A variable with its initialiser (C11 6.7).
+#[tactic(auto, unfolding(crate::specs::ParseDeclarations::variable))]
+fn variable(alloc: Global, room: u8, tokens: &[Lexeme]) -> Result<(Variable, u32, &[Lexeme]), Halt>
+    ensures gives { Gives (read_as variable_tree) result (variable room tokens.now) }
+    ensures low { IfOk result (λ x. x.1 ≤ room + 1) }
+{
+    let (declarator, height, rest) = declarator(alloc, room, tokens)?;
+    initialised(alloc, room, declarator, height, rest)
+}
+
+/// Variables that are declared together, and the semicolon behind them.
+#[tactic(auto, using(crate::proofs::CodeDeclarations::variable_steps))]
+fn variables(
+    alloc: Global,
+    room: u8,
+    tokens: &[Lexeme],
+) -> Result<(Vec<Variable>, u32, &[Lexeme]), Halt>
+    ensures gives { Gives (read_as (listed variable_tree)) result (variables room (length tokens.now) [] 0 tokens.now) }
+    ensures low { IfOk result (λ x. x.1 ≤ room + 1) }
+{
+    let mut variables = Vec::new(alloc);
+    let mut height: u32 = 0;
+    let mut rest = tokens;
+    for _ in 0..tokens.len() {
+        let (item, high, after) = variable(alloc, room, rest)?;
+        variables.push(item)?;
+        height = height.max(high);
+        if starts(Mark::Semicolon, after) {
+            let behind = expect(Mark::Semicolon, after)?;
+            return Ok((variables, height, behind));
+        }
+        rest = expect(Mark::Comma, after)?;
+    }
+    Err(Halt::Unexpected(rest.len()))
+}
+
+/// A declaration, behind its type.
+pub fn declared(
+    alloc: Global,
+    room: u8,
+    base: Base,
+    tokens: &[Lexeme],
+) -> Result<(Declaration, u32, &[Lexeme]), Halt>
+    ensures gives { Gives (read_as declaration_tree) result (declared room base tokens.now) }
+    ensures low { IfOk result (λ x. x.1 ≤ room + 1) }
+{
+    let (variables, height, rest) = variables(alloc, room, tokens)?;
+    Ok((Declaration { base, variables }, height, rest))
+}
+
+/// A declaration (C11 6.7).
+#[tactic(auto, unfolding(crate::specs::ParseDeclarations::declaration))]
+fn declaration(
+    alloc: Global,
+    room: u8,
+    tokens: &[Lexeme],
+) -> Result<(Declaration, u32, &[Lexeme]), Halt>
+    ensures gives { Gives (read_as declaration_tree) result (declaration room tokens.now) }
+    ensures low { IfOk result (λ x. x.1 ≤ room + 1) }
+{
+    let (base, rest) = type_of(alloc, tokens)?;
+    declared(alloc, room, base, rest)
+}
+
+/// A declaration that is at most `room` high.
+#[tactic(auto, using(crate::proofs::CodeDeclarations::declaration_cases))]
+pub fn declaration_within(
+    alloc: Global,
+    room: u8,
+    tokens: &[Lexeme],
+) -> Result<(Declaration, u32, &[Lexeme]), Halt>
+    ensures gives { Gives (read_as declaration_tree) result (declaration_within room tokens.now) }
+    ensures low { IfOk result (λ x. x.1 ≤ room) }
+{
+    if room == 0 {
+        return Err(Halt::TooDeep(tokens.len()));
+    }
+    declaration(alloc, room - 1, tokens)
+}
+
+/// Members that are declared together, and the semicolon behind them (C11 6.7.2.1).
+#[tactic(auto, using(crate::proofs::CodeDeclarations::declarator_steps))]
+fn declarators(
+    alloc: Global,
+    room: u8,
+    tokens: &[Lexeme],
+) -> Result<(Vec<Declarator>, u32, &[Lexeme]), Halt>
+    ensures gives { Gives (read_as (listed declarator_tree)) result (declarators room (length tokens.now) [] 0 tokens.now) }
+    ensures low { IfOk result (λ x. x.1 ≤ room + 1) }
+{
+    let mut declarators = Vec::new(alloc);
+    let mut height: u32 = 0;
+    let mut rest = tokens;
+    for _ in 0..tokens.len() {
+        let (item, high, after) = declarator(alloc, room, rest)?;
+        declarators.push(item)?;
+        height = height.max(high + 1);
+        if starts(Mark::Semicolon, after) {
+            let behind = expect(Mark::Semicolon, after)?;
+            return Ok((declarators, height, behind));
+        }
+        rest = expect(Mark::Comma, after)?;
+    }
+    Err(Halt::Unexpected(rest.len()))
+}
+
+/// A group of members with their type (C11 6.7.2.1).
+#[tactic(auto, unfolding(crate::specs::ParseDeclarations::members))]
+fn members(alloc: Global, room: u8, tokens: &[Lexeme]) -> Result<(Members, u32, &[Lexeme]), Halt>
+    ensures gives { Gives (read_as members_tree) result (members room tokens.now) }
+    ensures low { IfOk result (λ x. x.1 ≤ room + 1) }
+{
+    let (base, rest) = type_of(alloc, tokens)?;
+    let (declarators, height, rest) = declarators(alloc, room, rest)?;
+    Ok((Members { base, declarators }, height, rest))
+}
+
+/// The groups of a struct's members, and the brace behind them (C11 6.7.2.1).
+#[tactic(auto, using(crate::proofs::CodeDeclarations::group_steps))]
+pub fn groups(
+    alloc: Global,
+    room: u8,
+    tokens: &[Lexeme],
+) -> Result<(Vec<Members>, u32, &[Lexeme]), Halt>
+    ensures gives { Gives (read_as (listed members_tree)) result (groups room (length tokens.now) [] 0 tokens.now) }
+    ensures low { IfOk result (λ x. x.1 ≤ room + 1) }
+{
+    let mut groups = Vec::new(alloc);
+    let mut height: u32 = 0;
+    let mut rest = tokens;
+    for _ in 0..tokens.len() {
+        let (group, high, after) = members(alloc, room, rest)?;
+        groups.push(group)?;
+        height = height.max(high);
+        if starts(Mark::CloseBrace, after) {
+            let behind = expect(Mark::CloseBrace, after)?;
+            return Ok((groups, height, behind));
+        }
+        rest = after;
+    }
+    Err(Halt::Unexpected(rest.len()))
+}
+
+/// A parameter, behind its name.
+fn bracketed(
+    alloc: Global,
+    room: u8,
+    token: u32,
+    base: Base,
+    stars: u32,
+    name: Option<Name>,
+    tokens: &[Lexeme],
+) -> Result<(Parameter, u32, &[Lexeme]), Halt>
+    ensures gives { Gives (read_as parameter_tree) result (bracketed room token base stars name tokens.now) }
+    ensures low { IfOk result (λ x. x.1 ≤ room + 1) }
+{
+    let (lengths, height, rest) = lengths(alloc, room, tokens)?;
+    let parameter = Parameter {
+        id: 0,
+        token,
+        base,
+        stars,
+        name,
+        lengths,
+    };
+    Ok((parameter, height + 1, rest))
+}
+
+/// A parameter, behind its stars. `start` is the place of its first token.
+fn with_name(
+    alloc: Global,
+    room: u8,
+    start: u32,
+    base: Base,
+    stars: u32,
+    tokens: &[Lexeme],
+) -> Result<(Parameter, u32, &[Lexeme]), Halt>
+    ensures gives { Gives (read_as parameter_tree) result (with_name room start base stars tokens.now) }
+    ensures low { IfOk result (λ x. x.1 ≤ room + 1) }
+{
+    match tokens {
+        [Lexeme::Name(at, name), rest @ ..] => {
+            let name = Some(name.copy(alloc)?);
+            bracketed(alloc, room, *at, base, stars, name, rest)
+        }
+        _ => bracketed(alloc, room, start, base, stars, None, tokens),
+    }
+}
+
+/// Whether `void` stands here with a comma or a parenthesis behind it.
+fn is_void_alone(tokens: &[Lexeme]) -> bool
+    ensures { result ≡ is_void_alone tokens.now }
+{
+    match tokens {
+        [] => false,
+        [first, rest @ ..] => {
+            is_keyword(Keyword::Void, first)
+                && (starts(Mark::Comma, rest) || starts(Mark::CloseParenthesis, rest))
+        }
+    }
+}
+
+/// What stands behind the first token.
+fn without_first(tokens: &[Lexeme]) -> &[Lexeme]
+    ensures { result.now ≡ without_first tokens.now }
+{
+    match tokens {
+        [] => tokens,
+        [_, rest @ ..] => rest,
+    }
+}
+
+/// A parameter (C11 6.7.6.3).
+#[tactic(auto, unfolding(crate::specs::ParseDeclarations::parameter))]
+fn parameter(
+    alloc: Global,
+    room: u8,
+    tokens: &[Lexeme],
+) -> Result<(Parameter, u32, &[Lexeme]), Halt>
+    ensures gives { Gives (read_as parameter_tree) result (parameter room tokens.now) }
+    ensures low { IfOk result (λ x. x.1 ≤ room + 1) }
+{
+    if is_void_alone(tokens) {
+        return Err(Halt::Unexpected(without_first(tokens).len()));
+    }
+    let (base, rest) = type_of(alloc, tokens)?;
+    let (stars, rest) = stars(rest)?;
+    with_name(alloc, room, place(tokens), base, stars, rest)
+}
+
+/// The parameters of a header, and the parenthesis behind them.
+#[tactic(auto, using(crate::proofs::CodeDeclarations::parameter_steps))]
+fn parameters(
+    alloc: Global,
+    room: u8,
+    tokens: &[Lexeme],
+) -> Result<(Vec<Parameter>, u32, &[Lexeme]), Halt>
+    ensures gives { Gives (read_as (listed parameter_tree)) result (parameters room (length tokens.now) [] 0 tokens.now) }
+    ensures low { IfOk result (λ x. x.1 ≤ room + 1) }
+{
+    let mut parameters = Vec::new(alloc);
+    let mut height: u32 = 0;
+    let mut rest = tokens;
+    for _ in 0..tokens.len() {
+        let (item, high, after) = parameter(alloc, room, rest)?;
+        parameters.push(item)?;
+        height = height.max(high);
+        if starts(Mark::CloseParenthesis, after) {
+            let behind = expect(Mark::CloseParenthesis, after)?;
+            return Ok((parameters, height, behind));
+        }
+        rest = expect(Mark::Comma, after)?;
+    }
+    Err(Halt::Unexpected(rest.len()))
+}
+
+/// Whether `void` and a parenthesis stand here.
+fn is_void_head(tokens: &[Lexeme]) -> bool
+    ensures { result ≡ is_void_head tokens.now }
+{
+    match tokens {
+        [] => false,
+        [first, rest @ ..] => {
+            is_keyword(Keyword::Void, first) && starts(Mark::CloseParenthesis, rest)
+        }
+    }
+}
+
+/// The parameters of a header and the parenthesis at their end, behind the first (C11 6.7.6.3).
+#[tactic(auto, unfolding(crate::specs::ParseDeclarations::head))]
+pub fn head(
+    alloc: Global,
+    room: u8,
+    tokens: &[Lexeme],
+) -> Result<(Vec<Parameter>, u32, &[Lexeme]), Halt>
+    ensures gives { Gives (read_as (listed parameter_tree)) result (head room tokens.now) }
+    ensures low { IfOk result (λ x. x.1 ≤ room + 1) }
+{
+    if starts(Mark::CloseParenthesis, tokens) {
+        let rest = expect(Mark::CloseParenthesis, tokens)?;
+        return Ok((Vec::new(alloc), 0, rest));
+    }
+    if is_void_head(tokens) {
+        let rest = expect(Mark::CloseParenthesis, without_first(tokens))?;
+        return Ok((Vec::new(alloc), 0, rest));
+    }
+    parameters(alloc, room, tokens)
+}

@@ -1,0 +1,699 @@
+// Expressions (C11 6.5). In all functions at most `room` levels are left for the parts of what is read,
+// and each answers the expression, how high its reading is, and what stands behind it. An operand that was
+// read before comes with its height, and `start` is the place of its first token.
+ghost use Rattle.std.specs.Prelude.{◌≡◌, ◌+◌, ◌≤◌, length, [], ◌∷◌, Ok, IfOk};
+ghost use Rattle.qs_syntax.specs.declared.lexeme.Lexeme.TheVariants as lexemes;
+ghost use Rattle.qs_syntax.specs.TreeOf.{expr_tree};
+ghost use Rattle.qs_syntax.specs.Reads.{Assignment};
+ghost use Rattle.qs_parser.specs.Parse.{texts_from, arguments, call_of, after_name, in_parentheses, primary, index_of, member_of, access_at, suffix, suffixes, postfix, step_of, operator_of, size_of, operator_at, unary_of_all, cast_of, cast_or_unary, operations, climb, after_or, after_operand, assignment_of, after_unary, assignment, commas, expression, part};
+ghost use Rattle.qs_parser.specs.Operands.{right_operand};
+ghost use Rattle.qs_parser.specs.View.{Gives, read_as, listed, texts_of, form_of};
+
+use crate::fault::Halt;
+use crate::heads::{
+    access_at, assign_at, begins_cast, begins_one, expect, expect_name, is_mark, level_sign_at,
+    place, starts, starts_suffix, starts_with, unary_of,
+};
+use crate::nodes;
+use crate::types::type_name;
+use qs_base::Name;
+use qs_syntax::{Access, AssignSign, Expr, Keyword, Lexeme, Mark, StepSign, Text, UnarySign};
+use std::alloc::Global;
+
+/// What an expression is read as.
+#[derive(Clone, Copy, Debug)]
+pub enum Form {
+    /// An operand with suffixes (C11 6.5.2).
+    Postfix,
+    /// A unary expression (C11 6.5.3).
+    Unary,
+    /// Operators of the levels up to this between casts: 0 for a cast, 1 for `* / %`, up to 10 for `||`
+    /// (C11 6.5.4 to 6.5.14).
+    Level(u8),
+    /// A conditional expression (C11 6.5.15).
+    Conditional,
+    /// An assignment expression (C11 6.5.16).
+    Assignment,
+    /// An expression (C11 6.5.17).
+    Expression,
+}
+
+/// The texts that stand side by side, the first given, joined.
+#[tactic(auto, unfolding(crate::specs::Parse::texts_from))]
+fn texts_from<'a>(
+    alloc: Global,
+    first: &Text,
+    tokens: &'a [Lexeme],
+) -> Result<(Text, &'a [Lexeme]), Halt>
+    ensures { Gives texts_of result (Ok (texts_from first.now tokens.now)) }
+{
+    let mut bytes = Vec::from_slice(alloc, first.bytes())?;
+    let mut rest = tokens;
+    while let [Lexeme::Text(_, more), after @ ..] = rest {
+        bytes.extend_from_slice(more.bytes())?;
+        rest = after;
+    }
+    Ok((Text::new(bytes), rest))
+}
+
+/// What is at most `room` high.
+#[cycle(parser)]
+#[tactic(auto, using(crate::proofs::CodeExpressions::part_steps))]
+pub fn part(
+    alloc: Global,
+    room: u8,
+    form: Form,
+    tokens: &[Lexeme],
+) -> Result<(Expr, u32, &[Lexeme]), Halt>
+    ensures gives { Gives (read_as expr_tree) result (part room (form_of form) tokens.now) }
+    ensures low { IfOk result (λ x. x.1 ≤ room) }
+{
+    if room == 0 {
+        if begins_one(tokens) {
+            return Err(Halt::TooDeep(tokens.len()));
+        }
+        return Err(Halt::Unexpected(tokens.len()));
+    }
+    expression(alloc, room - 1, form, tokens)
+}
+
+/// An expression of this form.
+#[cycle(parser)]
+#[tactic(auto, unfolding(crate::specs::Parse::expression))]
+fn expression(
+    alloc: Global,
+    room: u8,
+    form: Form,
+    tokens: &[Lexeme],
+) -> Result<(Expr, u32, &[Lexeme]), Halt>
+    ensures gives { Gives (read_as expr_tree) result (expression room (part room) (form_of form) tokens.now) }
+    ensures low { IfOk result (λ x. x.1 ≤ room + 1) }
+{
+    match form {
+        Form::Postfix => postfix(alloc, room, tokens),
+        Form::Unary => unary(alloc, room, tokens),
+        Form::Level(level) => {
+            let (left, height, rest) = cast_or_unary(alloc, room, tokens)?;
+            climb(alloc, room, level, place(tokens), left, height, rest)
+        }
+        Form::Conditional => {
+            let (left, height, rest) = cast_or_unary(alloc, room, tokens)?;
+            after_operand(alloc, room, place(tokens), left, height, rest)
+        }
+        Form::Assignment => assignment(alloc, room, tokens),
+        Form::Expression => {
+            let (left, height, rest) = assignment(alloc, room, tokens)?;
+            commas(alloc, room, place(tokens), left, height, rest)
+        }
+    }
+}
+
+/// The arguments of a call, and the parenthesis behind them.
+#[cycle(parser)]
+#[tactic(auto, using(crate::proofs::CodeExpressions::argument_steps))]
+fn arguments(
+    alloc: Global,
+    room: u8,
+    tokens: &[Lexeme],
+) -> Result<(Vec<Expr>, u32, &[Lexeme]), Halt>
+    ensures gives { Gives (read_as (listed expr_tree)) result (arguments room (part room) (length tokens.now) [] 0 tokens.now) }
+    ensures low { IfOk result (λ x. x.1 ≤ room) }
+{
+    let mut items = Vec::new(alloc);
+    let mut height: u32 = 0;
+    let mut rest = tokens;
+    for _ in 0..tokens.len() {
+        let (item, high, after) = part(alloc, room, Form::Assignment, rest)?;
+        items.push(item)?;
+        height = height.max(high);
+        if starts(Mark::CloseParenthesis, after) {
+            let behind = expect(Mark::CloseParenthesis, after)?;
+            return Ok((items, height, behind));
+        }
+        rest = expect(Mark::Comma, after)?;
+    }
+    Err(Halt::Unexpected(rest.len()))
+}
+
+/// A call, behind its opening parenthesis.
+#[cycle(parser)]
+fn call_of(
+    alloc: Global,
+    room: u8,
+    at: u32,
+    name: Name,
+    tokens: &[Lexeme],
+) -> Result<(Expr, u32, &[Lexeme]), Halt>
+    ensures gives { Gives (read_as expr_tree) result (call_of room (part room) at name tokens.now) }
+    ensures low { IfOk result (λ x. x.1 ≤ room + 1) }
+{
+    if starts(Mark::CloseParenthesis, tokens) {
+        let rest = expect(Mark::CloseParenthesis, tokens)?;
+        return Ok((nodes::call(at, name, Vec::new(alloc)), 1, rest));
+    }
+    let (items, height, rest) = arguments(alloc, room, tokens)?;
+    Ok((nodes::call(at, name, items), height + 1, rest))
+}
+
+/// What a name begins: a call, or the name alone.
+#[cycle(parser)]
+fn after_name(
+    alloc: Global,
+    room: u8,
+    at: u32,
+    name: Name,
+    tokens: &[Lexeme],
+) -> Result<(Expr, u32, &[Lexeme]), Halt>
+    ensures gives { Gives (read_as expr_tree) result (after_name room (part room) at name tokens.now) }
+    ensures low { IfOk result (λ x. x.1 ≤ room + 1) }
+{
+    if starts(Mark::OpenParenthesis, tokens) {
+        let rest = expect(Mark::OpenParenthesis, tokens)?;
+        return call_of(alloc, room, at, name, rest);
+    }
+    Ok((nodes::name(at, name), 1, tokens))
+}
+
+/// An expression in parentheses, behind the first.
+#[cycle(parser)]
+fn in_parentheses(
+    alloc: Global,
+    room: u8,
+    tokens: &[Lexeme],
+) -> Result<(Expr, u32, &[Lexeme]), Halt>
+    ensures gives { Gives (read_as expr_tree) result (in_parentheses room (part room) tokens.now) }
+    ensures low { IfOk result (λ x. x.1 ≤ room + 1) }
+{
+    let (inner, height, rest) = part(alloc, room, Form::Expression, tokens)?;
+    let rest = expect(Mark::CloseParenthesis, rest)?;
+    Ok((inner, height + 1, rest))
+}
+
+/// An operand without suffixes (C11 6.5.1), or a call.
+#[cycle(parser)]
+#[tactic(auto, unfolding(crate::specs::Parse::primary))]
+fn primary(alloc: Global, room: u8, tokens: &[Lexeme]) -> Result<(Expr, u32, &[Lexeme]), Halt>
+    ensures gives { Gives (read_as expr_tree) result (primary room (part room) tokens.now) }
+    ensures low { IfOk result (λ x. x.1 ≤ room + 1) }
+{
+    match tokens {
+        [Lexeme::Name(at, name), rest @ ..] => {
+            after_name(alloc, room, *at, name.copy(alloc)?, rest)
+        }
+        [Lexeme::Constant(at, value, is_unsigned), rest @ ..] => {
+            Ok((nodes::int(*at, *value, *is_unsigned), 1, rest))
+        }
+        [Lexeme::Text(at, first), rest @ ..] => {
+            let (text, rest) = texts_from(alloc, first, rest)?;
+            Ok((nodes::text(*at, text), 1, rest))
+        }
+        [Lexeme::Mark(..), rest @ ..] if starts(Mark::OpenParenthesis, tokens) => {
+            if room == 0 {
+                return Err(Halt::TooDeep(tokens.len()));
+            }
+            in_parentheses(alloc, room, rest)
+        }
+        _ => Err(Halt::Unexpected(tokens.len())),
+    }
+}
+
+/// An element of an array, behind `[`.
+#[cycle(parser)]
+fn index_of(
+    alloc: Global,
+    room: u8,
+    start: u32,
+    left: Expr,
+    height: u32,
+    tokens: &[Lexeme],
+) -> Result<(Expr, u32, &[Lexeme]), Halt>
+    requires low { height ≤ room }
+    ensures gives { Gives (read_as expr_tree) result (index_of room (part room) start (expr_tree left, height) tokens.now) }
+    ensures low { IfOk result (λ x. x.1 ≤ room + 1) }
+{
+    let (at, high, rest) = part(alloc, room, Form::Expression, tokens)?;
+    let rest = expect(Mark::CloseBracket, rest)?;
+    Ok((
+        nodes::index(alloc, start, left, at)?,
+        height.max(high) + 1,
+        rest,
+    ))
+}
+
+/// A member, behind `.` or `->`.
+fn member_of(
+    alloc: Global,
+    room: u8,
+    start: u32,
+    left: Expr,
+    height: u32,
+    access: Access,
+    tokens: &[Lexeme],
+) -> Result<(Expr, u32, &[Lexeme]), Halt>
+    requires low { height ≤ room }
+    ensures gives { Gives (read_as expr_tree) result (member_of room (part room) start (expr_tree left, height) access tokens.now) }
+    ensures low { IfOk result (λ x. x.1 ≤ room + 1) }
+{
+    let (_at, name, rest) = expect_name(alloc, tokens)?;
+    Ok((
+        nodes::member(alloc, start, access, left, name)?,
+        height + 1,
+        rest,
+    ))
+}
+
+/// What the first token does with an operand, where it begins a suffix.
+#[cycle(parser)]
+fn suffix(
+    alloc: Global,
+    room: u8,
+    start: u32,
+    left: Expr,
+    height: u32,
+    tokens: &[Lexeme],
+) -> Result<(Expr, u32, &[Lexeme]), Halt>
+    requires low { height ≤ room }
+    ensures gives { Gives (read_as expr_tree) result (suffix room (part room) start (expr_tree left, height) tokens.now) }
+    ensures low { IfOk result (λ x. x.1 ≤ room + 1) }
+{
+    let [first, rest @ ..] = tokens else {
+        return Err(Halt::Unexpected(0));
+    };
+    if is_mark(Mark::OpenBracket, first) {
+        return index_of(alloc, room, start, left, height, rest);
+    }
+    if is_mark(Mark::Increment, first) {
+        let node = nodes::step(alloc, start, StepSign::IncrementAfter, left)?;
+        return Ok((node, height + 1, rest));
+    }
+    if is_mark(Mark::Decrement, first) {
+        let node = nodes::step(alloc, start, StepSign::DecrementAfter, left)?;
+        return Ok((node, height + 1, rest));
+    }
+    match access_at(tokens) {
+        None => Err(Halt::Unexpected(rest.len())),
+        Some(access) => member_of(alloc, room, start, left, height, access, rest),
+    }
+}
+
+/// An operand and the suffixes behind it (C11 6.5.2).
+#[cycle(parser)]
+#[tactic(auto, using(crate::proofs::CodeExpressions::suffix_steps))]
+fn suffixes(
+    alloc: Global,
+    room: u8,
+    start: u32,
+    left: Expr,
+    height: u32,
+    tokens: &[Lexeme],
+) -> Result<(Expr, u32, &[Lexeme]), Halt>
+    requires low { height ≤ room + 1 }
+    ensures gives { Gives (read_as expr_tree) result (suffixes room (part room) (length tokens.now) start (expr_tree left, height) tokens.now) }
+    ensures low { IfOk result (λ x. x.1 ≤ room + 1) }
+{
+    let mut left = left;
+    let mut height = height;
+    let mut rest = tokens;
+    for _ in 0..tokens.len() {
+        if !starts_suffix(rest) {
+            return Ok((left, height, rest));
+        }
+        if height > u32::from(room) {
+            return Err(Halt::TooDeep(rest.len()));
+        }
+        let (node, high, after) = suffix(alloc, room, start, left, height, rest)?;
+        left = node;
+        height = high;
+        rest = after;
+    }
+    Ok((left, height, rest))
+}
+
+/// An operand with its suffixes (C11 6.5.2).
+#[cycle(parser)]
+fn postfix(alloc: Global, room: u8, tokens: &[Lexeme]) -> Result<(Expr, u32, &[Lexeme]), Halt>
+    ensures gives { Gives (read_as expr_tree) result (postfix room (part room) tokens.now) }
+    ensures low { IfOk result (λ x. x.1 ≤ room + 1) }
+{
+    let (operand, height, rest) = primary(alloc, room, tokens)?;
+    suffixes(alloc, room, place(tokens), operand, height, rest)
+}
+
+/// A step by one, behind its sign (C11 6.5.3.1).
+#[cycle(parser)]
+fn step_of(
+    alloc: Global,
+    room: u8,
+    at: u32,
+    sign: StepSign,
+    tokens: &[Lexeme],
+) -> Result<(Expr, u32, &[Lexeme]), Halt>
+    ensures gives { Gives (read_as expr_tree) result (step_of room (part room) at sign tokens.now) }
+    ensures low { IfOk result (λ x. x.1 ≤ room + 1) }
+{
+    let (operand, height, rest) = part(alloc, room, Form::Unary, tokens)?;
+    Ok((nodes::step(alloc, at, sign, operand)?, height + 1, rest))
+}
+
+/// A unary operator, behind its sign (C11 6.5.3.2, 6.5.3.3).
+#[cycle(parser)]
+fn operator_of(
+    alloc: Global,
+    room: u8,
+    at: u32,
+    sign: UnarySign,
+    tokens: &[Lexeme],
+) -> Result<(Expr, u32, &[Lexeme]), Halt>
+    ensures gives { Gives (read_as expr_tree) result (operator_of room (part room) at sign tokens.now) }
+    ensures low { IfOk result (λ x. x.1 ≤ room + 1) }
+{
+    let (operand, height, rest) = part(alloc, room, Form::Level(0), tokens)?;
+    Ok((nodes::unary(alloc, at, sign, operand)?, height + 1, rest))
+}
+
+/// The operand of `sizeof`: a type in parentheses, or an expression (C11 6.5.3.4).
+#[cycle(parser)]
+fn size_of(
+    alloc: Global,
+    room: u8,
+    at: u32,
+    tokens: &[Lexeme],
+) -> Result<(Expr, u32, &[Lexeme]), Halt>
+    ensures gives { Gives (read_as expr_tree) result (size_of room (part room) at tokens.now) }
+    ensures low { IfOk result (λ x. x.1 ≤ room + 1) }
+{
+    if begins_cast(tokens) {
+        let rest = expect(Mark::OpenParenthesis, tokens)?;
+        let (name, rest) = type_name(alloc, rest)?;
+        let rest = expect(Mark::CloseParenthesis, rest)?;
+        return Ok((nodes::size_type(at, name), 1, rest));
+    }
+    let (operand, height, rest) = part(alloc, room, Form::Unary, tokens)?;
+    Ok((nodes::size_expr(alloc, at, operand)?, height + 1, rest))
+}
+
+/// A unary expression whose first token is a mark.
+#[cycle(parser)]
+#[tactic(auto, unfolding(crate::specs::Parse::unary_of_all))]
+fn marked<'a>(
+    alloc: Global,
+    room: u8,
+    at: u32,
+    mark: Mark,
+    tokens: &'a [Lexeme],
+    rest: &'a [Lexeme],
+) -> Result<(Expr, u32, &'a [Lexeme]), Halt>
+    requires first { tokens.now ≡ lexemes.Mark at mark ∷ rest.now }
+    ensures gives { Gives (read_as expr_tree) result (unary_of_all room (part room) tokens.now) }
+    ensures low { IfOk result (λ x. x.1 ≤ room + 1) }
+{
+    let is_increment = starts(Mark::Increment, tokens);
+    let is_decrement = starts(Mark::Decrement, tokens);
+    let sign = unary_of(mark);
+    if !is_increment && !is_decrement && sign.is_none() {
+        return postfix(alloc, room, tokens);
+    }
+    if room == 0 {
+        return Err(Halt::TooDeep(tokens.len()));
+    }
+    if is_increment {
+        return step_of(alloc, room, at, StepSign::IncrementBefore, rest);
+    }
+    if is_decrement {
+        return step_of(alloc, room, at, StepSign::DecrementBefore, rest);
+    }
+    match sign {
+        Some(sign) => operator_of(alloc, room, at, sign, rest),
+        None => postfix(alloc, room, tokens),
+    }
+}
+
+/// A unary expression (C11 6.5.3).
+#[cycle(parser)]
+#[tactic(auto, unfolding(crate::specs::Parse::unary_of_all))]
+fn unary(alloc: Global, room: u8, tokens: &[Lexeme]) -> Result<(Expr, u32, &[Lexeme]), Halt>
+    ensures gives { Gives (read_as expr_tree) result (unary_of_all room (part room) tokens.now) }
+    ensures low { IfOk result (λ x. x.1 ≤ room + 1) }
+{
+    match tokens {
+        [] => Err(Halt::Unexpected(0)),
+        [Lexeme::Keyword(at, _), rest @ ..] => {
+            if !starts_with(Keyword::Sizeof, tokens) {
+                return Err(Halt::Unexpected(tokens.len()));
+            }
+            if room == 0 && !begins_cast(rest) {
+                return Err(Halt::TooDeep(tokens.len()));
+            }
+            size_of(alloc, room, *at, rest)
+        }
+        [Lexeme::Mark(at, mark), rest @ ..] => marked(alloc, room, *at, *mark, tokens, rest),
+        _ => postfix(alloc, room, tokens),
+    }
+}
+
+/// A cast, behind its opening parenthesis (C11 6.5.4).
+#[cycle(parser)]
+fn cast_of(
+    alloc: Global,
+    room: u8,
+    at: u32,
+    tokens: &[Lexeme],
+) -> Result<(Expr, u32, &[Lexeme]), Halt>
+    ensures gives { Gives (read_as expr_tree) result (cast_of room (part room) at tokens.now) }
+    ensures low { IfOk result (λ x. x.1 ≤ room + 1) }
+{
+    let (to, rest) = type_name(alloc, tokens)?;
+    let rest = expect(Mark::CloseParenthesis, rest)?;
+    let (operand, height, rest) = part(alloc, room, Form::Level(0), rest)?;
+    Ok((nodes::cast(alloc, at, to, operand)?, height + 1, rest))
+}
+
+/// A cast or a unary expression (C11 6.5.4).
+#[cycle(parser)]
+fn cast_or_unary(alloc: Global, room: u8, tokens: &[Lexeme]) -> Result<(Expr, u32, &[Lexeme]), Halt>
+    ensures gives { Gives (read_as expr_tree) result (cast_or_unary room (part room) tokens.now) }
+    ensures low { IfOk result (λ x. x.1 ≤ room + 1) }
+{
+    if !begins_cast(tokens) {
+        return unary(alloc, room, tokens);
+    }
+    if room == 0 {
+        return Err(Halt::TooDeep(tokens.len()));
+    }
+    let rest = expect(Mark::OpenParenthesis, tokens)?;
+    cast_of(alloc, room, place(tokens), rest)
+}
+
+/// The right operand of the operator that is the first token.
+#[cycle(parser)]
+fn right_operand(
+    alloc: Global,
+    room: u8,
+    level: u8,
+    tokens: &[Lexeme],
+) -> Result<(Expr, u32, &[Lexeme]), Halt>
+    ensures gives { Gives (read_as expr_tree) result (right_operand (part room) level tokens.now) }
+    ensures low { IfOk result (λ x. x.1 ≤ room) }
+{
+    match tokens {
+        [] => Err(Halt::Unexpected(0)),
+        [_, rest @ ..] => part(alloc, room, Form::Level(level), rest),
+    }
+}
+
+/// The operators of the level behind this one, and their right operands.
+#[cycle(parser)]
+#[tactic(auto, using(crate::proofs::CodeOperations::operation_steps))]
+fn operations(
+    alloc: Global,
+    room: u8,
+    level: u8,
+    start: u32,
+    left: Expr,
+    height: u32,
+    tokens: &[Lexeme],
+) -> Result<(Expr, u32, &[Lexeme]), Halt>
+    requires low { height ≤ room + 1 }
+    ensures gives { Gives (read_as expr_tree) result (operations room (part room) (length tokens.now) level start (expr_tree left, height) tokens.now) }
+    ensures low { IfOk result (λ x. x.1 ≤ room + 1) }
+{
+    let mut left = left;
+    let mut height = height;
+    let mut rest = tokens;
+    for _ in 0..tokens.len() {
+        let Some(sign) = level_sign_at(level, rest) else {
+            return Ok((left, height, rest));
+        };
+        if height > u32::from(room) {
+            return Err(Halt::TooDeep(rest.len()));
+        }
+        let (right, high, after) = right_operand(alloc, room, level, rest)?;
+        left = nodes::binary(alloc, start, sign, left, right)?;
+        height = height.max(high) + 1;
+        rest = after;
+    }
+    Ok((left, height, rest))
+}
+
+/// The operators of the levels up to this, behind an operand.
+#[cycle(parser)]
+#[tactic(auto, unfolding(crate::specs::Parse::climb))]
+fn climb(
+    alloc: Global,
+    room: u8,
+    level: u8,
+    start: u32,
+    left: Expr,
+    height: u32,
+    tokens: &[Lexeme],
+) -> Result<(Expr, u32, &[Lexeme]), Halt>
+    requires low { height ≤ room + 1 }
+    ensures gives { Gives (read_as expr_tree) result (climb room (part room) level start (expr_tree left, height) tokens.now) }
+    ensures low { IfOk result (λ x. x.1 ≤ room + 1) }
+{
+    if level == 0 {
+        return Ok((left, height, tokens));
+    }
+    let (left, height, rest) = climb(alloc, room, level - 1, start, left, height, tokens)?;
+    operations(alloc, room, level - 1, start, left, height, rest)
+}
+
+/// What stands behind a condition: a choice, or nothing (C11 6.5.15).
+#[cycle(parser)]
+fn after_or(
+    alloc: Global,
+    room: u8,
+    start: u32,
+    condition: Expr,
+    height: u32,
+    tokens: &[Lexeme],
+) -> Result<(Expr, u32, &[Lexeme]), Halt>
+    requires low { height ≤ room + 1 }
+    ensures gives { Gives (read_as expr_tree) result (after_or room (part room) start (expr_tree condition, height) tokens.now) }
+    ensures low { IfOk result (λ x. x.1 ≤ room + 1) }
+{
+    if !starts(Mark::Question, tokens) {
+        return Ok((condition, height, tokens));
+    }
+    if height > u32::from(room) {
+        return Err(Halt::TooDeep(tokens.len()));
+    }
+    let rest = expect(Mark::Question, tokens)?;
+    let (yes, yes_high, rest) = part(alloc, room, Form::Expression, rest)?;
+    let rest = expect(Mark::Colon, rest)?;
+    let (no, no_high, rest) = part(alloc, room, Form::Conditional, rest)?;
+    let node = nodes::choice(alloc, start, condition, yes, no)?;
+    Ok((node, height.max(yes_high.max(no_high)) + 1, rest))
+}
+
+/// What stands behind an operand that is no left side of an assignment.
+#[cycle(parser)]
+fn after_operand(
+    alloc: Global,
+    room: u8,
+    start: u32,
+    left: Expr,
+    height: u32,
+    tokens: &[Lexeme],
+) -> Result<(Expr, u32, &[Lexeme]), Halt>
+    requires low { height ≤ room + 1 }
+    ensures gives { Gives (read_as expr_tree) result (after_operand room (part room) start (expr_tree left, height) tokens.now) }
+    ensures low { IfOk result (λ x. x.1 ≤ room + 1) }
+{
+    let (left, height, rest) = climb(alloc, room, 10, start, left, height, tokens)?;
+    after_or(alloc, room, start, left, height, rest)
+}
+
+/// What stands behind an operand: this assignment and its right side, or operators.
+#[cycle(parser)]
+fn assignment_of(
+    alloc: Global,
+    room: u8,
+    start: u32,
+    left: Expr,
+    height: u32,
+    sign: Option<AssignSign>,
+    tokens: &[Lexeme],
+) -> Result<(Expr, u32, &[Lexeme]), Halt>
+    requires low { height ≤ room + 1 }
+    ensures gives { Gives (read_as expr_tree) result (assignment_of room (part room) start (expr_tree left, height) sign tokens.now) }
+    ensures low { IfOk result (λ x. x.1 ≤ room + 1) }
+{
+    let Some(sign) = sign else {
+        return after_operand(alloc, room, start, left, height, tokens);
+    };
+    let [_, rest @ ..] = tokens else {
+        return Ok((left, height, tokens));
+    };
+    if height > u32::from(room) {
+        return Err(Halt::TooDeep(tokens.len()));
+    }
+    let (right, high, rest) = part(alloc, room, Form::Assignment, rest)?;
+    let node = nodes::assign(alloc, start, sign, left, right)?;
+    Ok((node, height.max(high) + 1, rest))
+}
+
+/// What stands behind an operand that may be the left side of an assignment.
+#[cycle(parser)]
+fn after_unary(
+    alloc: Global,
+    room: u8,
+    start: u32,
+    left: Expr,
+    height: u32,
+    tokens: &[Lexeme],
+) -> Result<(Expr, u32, &[Lexeme]), Halt>
+    requires low { height ≤ room + 1 }
+    ensures gives { Gives (read_as expr_tree) result (after_unary room (part room) start (expr_tree left, height) tokens.now) }
+    ensures low { IfOk result (λ x. x.1 ≤ room + 1) }
+{
+    assignment_of(alloc, room, start, left, height, assign_at(tokens), tokens)
+}
+
+/// An assignment expression (C11 6.5.16).
+#[cycle(parser)]
+fn assignment(alloc: Global, room: u8, tokens: &[Lexeme]) -> Result<(Expr, u32, &[Lexeme]), Halt>
+    ensures gives { Gives (read_as expr_tree) result (assignment room (part room) tokens.now) }
+    ensures low { IfOk result (λ x. x.1 ≤ room + 1) }
+{
+    if begins_cast(tokens) {
+        let (left, height, rest) = cast_or_unary(alloc, room, tokens)?;
+        return after_operand(alloc, room, place(tokens), left, height, rest);
+    }
+    let (left, height, rest) = unary(alloc, room, tokens)?;
+    after_unary(alloc, room, place(tokens), left, height, rest)
+}
+
+/// The operands behind commas (C11 6.5.17).
+#[cycle(parser)]
+#[tactic(auto, using(crate::proofs::CodeExpressions::comma_steps))]
+fn commas(
+    alloc: Global,
+    room: u8,
+    start: u32,
+    left: Expr,
+    height: u32,
+    tokens: &[Lexeme],
+) -> Result<(Expr, u32, &[Lexeme]), Halt>
+    requires low { height ≤ room + 1 }
+    ensures gives { Gives (read_as expr_tree) result (commas room (part room) (length tokens.now) start (expr_tree left, height) tokens.now) }
+    ensures low { IfOk result (λ x. x.1 ≤ room + 1) }
+{
+    let mut left = left;
+    let mut height = height;
+    let mut rest = tokens;
+    for _ in 0..tokens.len() {
+        if !starts(Mark::Comma, rest) {
+            return Ok((left, height, rest));
+        }
+        if height > u32::from(room) {
+            return Err(Halt::TooDeep(rest.len()));
+        }
+        let behind = expect(Mark::Comma, rest)?;
+        let (right, high, after) = part(alloc, room, Form::Assignment, behind)?;
+        left = nodes::comma(alloc, start, left, right)?;
+        height = height.max(high) + 1;
+        rest = after;
+    }
+    Ok((left, height, rest))
+}

@@ -1,0 +1,18 @@
+//! The parser (C11 6.5 to 6.9): the unit that tokens are read as, or that they have no reading of height
+//! at most 128.
+#![tactic(auto)]
+
+mod declarations;
+mod expressions;
+mod fault;
+mod heads;
+mod nodes;
+mod parse;
+mod statement_nodes;
+mod statements;
+mod syntax_fault;
+mod types;
+mod units;
+
+pub use parse::{one_reading, unit};
+pub use syntax_fault::SyntaxFault;

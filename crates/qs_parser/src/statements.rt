@@ -1,0 +1,377 @@
+// Statements (C11 6.8). In all functions at most `room` levels are left for the parts of a node, and each
+// answers what is read, how high it is, and what stands behind it. `at` is the place of a first token.
+ghost use Rattle.std.specs.Prelude.{◌≡◌, ◌+◌, ◌≤◌, ◌||◌, length, [], ◌∷◌, IfOk, option_map};
+ghost use Rattle.qs_syntax.specs.declared.tokens.Keyword.TheVariants as keywords;
+ghost use Rattle.qs_syntax.specs.Signs.{number_of};
+ghost use Rattle.qs_parser.specs.Heads.{is_keyword};
+ghost use Rattle.qs_syntax.specs.TreeOf.{expr_tree, option_tree, start_tree, stmt_tree};
+ghost use Rattle.qs_parser.specs.ParseStatements.{optional, condition, start_of, begins_statement, item, items, in_block, otherwise, after_if, after_while, expect_while, after_do, after_for, after_return, running, plain_statement, keyword_statement, statement_at, statement};
+ghost use Rattle.qs_parser.specs.View.{Gives, read_as, listed, rest_of};
+
+use crate::declarations::declaration_within;
+use crate::expressions::{Form, part};
+use crate::fault::Halt;
+use crate::heads::{
+    begins_one, begins_type, expect, is_keyword, is_mark, place, starts, starts_with,
+};
+use crate::statement_nodes as nodes;
+use qs_syntax::{Expr, Keyword, Lexeme, Mark, Start, Stmt};
+use std::alloc::Global;
+
+/// An expression, if there is one, and the mark behind it.
+fn optional(
+    alloc: Global,
+    room: u8,
+    mark: Mark,
+    tokens: &[Lexeme],
+) -> Result<(Option<Expr>, u32, &[Lexeme]), Halt>
+    ensures gives { Gives (read_as option_tree) result (optional room mark tokens.now) }
+    ensures low { IfOk result (λ x. x.1 ≤ room) }
+{
+    if starts(mark, tokens) {
+        return Ok((None, 0, expect(mark, tokens)?));
+    }
+    let (expression, height, rest) = part(alloc, room, Form::Expression, tokens)?;
+    let rest = expect(mark, rest)?;
+    Ok((Some(expression), height, rest))
+}
+
+/// An expression in parentheses.
+fn condition(alloc: Global, room: u8, tokens: &[Lexeme]) -> Result<(Expr, u32, &[Lexeme]), Halt>
+    ensures gives { Gives (read_as expr_tree) result (condition room tokens.now) }
+    ensures low { IfOk result (λ x. x.1 ≤ room) }
+{
+    let rest = expect(Mark::OpenParenthesis, tokens)?;
+    let (expression, height, rest) = part(alloc, room, Form::Expression, rest)?;
+    let rest = expect(Mark::CloseParenthesis, rest)?;
+    Ok((expression, height, rest))
+}
+
+/// What a `for` begins with, and the semicolon behind it (C11 6.8.5.3).
+fn start_of(alloc: Global, room: u8, tokens: &[Lexeme]) -> Result<(Start, u32, &[Lexeme]), Halt>
+    ensures gives { Gives (read_as start_tree) result (start_of room tokens.now) }
+    ensures low { IfOk result (λ x. x.1 ≤ room) }
+{
+    if begins_type(tokens) {
+        let (declaration, height, rest) = declaration_within(alloc, room, tokens)?;
+        return Ok((Start::Declaration(declaration), height, rest));
+    }
+    if starts(Mark::Semicolon, tokens) {
+        return Ok((Start::Nothing, 0, expect(Mark::Semicolon, tokens)?));
+    }
+    let (expression, height, rest) = part(alloc, room, Form::Expression, tokens)?;
+    let rest = expect(Mark::Semicolon, rest)?;
+    Ok((Start::Expression(expression), height, rest))
+}
+
+/// Whether a statement begins here.
+fn begins_statement(tokens: &[Lexeme]) -> bool
+    ensures { result ≡ begins_statement tokens.now }
+{
+    begins_one(tokens)
+        || starts(Mark::OpenBrace, tokens)
+        || starts(Mark::Semicolon, tokens)
+        || starts_with(Keyword::If, tokens)
+        || starts_with(Keyword::While, tokens)
+        || starts_with(Keyword::Do, tokens)
+        || starts_with(Keyword::For, tokens)
+        || starts_with(Keyword::Break, tokens)
+        || starts_with(Keyword::Continue, tokens)
+        || starts_with(Keyword::Return, tokens)
+}
+
+/// What stands behind `while`.
+fn expect_while(tokens: &[Lexeme]) -> Result<&[Lexeme], Halt>
+    ensures { Gives rest_of result (expect_while 0 (statement 0) tokens.now) }
+{
+    match tokens {
+        [] => Err(Halt::Unexpected(0)),
+        [first, rest @ ..] => {
+            if is_keyword(Keyword::While, first) {
+                Ok(rest)
+            } else {
+                Err(Halt::Unexpected(tokens.len()))
+            }
+        }
+    }
+}
+
+/// `return`, behind its keyword (C11 6.8.6.4).
+fn after_return(
+    alloc: Global,
+    room: u8,
+    at: u32,
+    tokens: &[Lexeme],
+) -> Result<(Stmt, u32, &[Lexeme]), Halt>
+    ensures gives { Gives (read_as stmt_tree) result (after_return room (statement room) at tokens.now) }
+    ensures low { IfOk result (λ x. x.1 ≤ room + 1) }
+{
+    let (value, height, rest) = optional(alloc, room, Mark::Semicolon, tokens)?;
+    Ok((nodes::returned(at, value), height + 1, rest))
+}
+
+/// An expression and the semicolon behind it (C11 6.8.3).
+fn running(alloc: Global, room: u8, tokens: &[Lexeme]) -> Result<(Stmt, u32, &[Lexeme]), Halt>
+    ensures gives { Gives (read_as stmt_tree) result (running room (statement room) tokens.now) }
+    ensures low { IfOk result (λ x. x.1 ≤ room + 1) }
+{
+    let (expression, height, rest) = part(alloc, room, Form::Expression, tokens)?;
+    let rest = expect(Mark::Semicolon, rest)?;
+    Ok((
+        nodes::expression(place(tokens), expression),
+        height + 1,
+        rest,
+    ))
+}
+
+/// A statement that has no statement as a part. The tokens are the first and the rest.
+fn plain_statement<'a>(
+    alloc: Global,
+    room: u8,
+    first: &Lexeme,
+    rest: &'a [Lexeme],
+    tokens: &'a [Lexeme],
+) -> Result<(Stmt, u32, &'a [Lexeme]), Halt>
+    requires all { tokens.now ≡ first.now ∷ rest.now }
+    ensures gives { Gives (read_as stmt_tree) result (plain_statement room (statement room) (number_of first.now) first.now rest.now) }
+    ensures low { IfOk result (λ x. x.1 ≤ room + 1) }
+{
+    let at = place(tokens);
+    if is_keyword(Keyword::Break, first) {
+        let rest = expect(Mark::Semicolon, rest)?;
+        return Ok((nodes::broken(at), 1, rest));
+    }
+    if is_keyword(Keyword::Continue, first) {
+        let rest = expect(Mark::Semicolon, rest)?;
+        return Ok((nodes::continued(at), 1, rest));
+    }
+    if is_keyword(Keyword::Return, first) {
+        return after_return(alloc, room, at, rest);
+    }
+    running(alloc, room, tokens)
+}
+
+/// Whether a statement that begins with this token has a statement as a part.
+fn is_nesting(first: &Lexeme) -> bool
+    ensures { result ≡ (is_keyword keywords.If first.now || (is_keyword keywords.While first.now || (is_keyword keywords.Do first.now || is_keyword keywords.For first.now))) }
+{
+    is_keyword(Keyword::If, first)
+        || is_keyword(Keyword::While, first)
+        || is_keyword(Keyword::Do, first)
+        || is_keyword(Keyword::For, first)
+}
+
+/// A statement that is at most `room` high.
+#[cycle(statement)]
+#[tactic(auto, using(crate::proofs::CodeStatements::statement_cases))]
+fn statement(alloc: Global, room: u8, tokens: &[Lexeme]) -> Result<(Stmt, u32, &[Lexeme]), Halt>
+    ensures gives { Gives (read_as stmt_tree) result (statement room tokens.now) }
+    ensures low { IfOk result (λ x. x.1 ≤ room) }
+{
+    if room == 0 {
+        if begins_statement(tokens) {
+            return Err(Halt::TooDeep(tokens.len()));
+        }
+        return Err(Halt::Unexpected(tokens.len()));
+    }
+    statement_at(alloc, room - 1, tokens)
+}
+
+/// A statement or a declaration of a block (C11 6.8.2).
+#[cycle(statement)]
+fn item(alloc: Global, room: u8, tokens: &[Lexeme]) -> Result<(Stmt, u32, &[Lexeme]), Halt>
+    ensures gives { Gives (read_as stmt_tree) result (item room (statement room) tokens.now) }
+    ensures low { IfOk result (λ x. x.1 ≤ room) }
+{
+    if begins_type(tokens) {
+        let (declaration, height, rest) = declaration_within(alloc, room, tokens)?;
+        return Ok((Stmt::Declaration(declaration), height, rest));
+    }
+    statement(alloc, room, tokens)
+}
+
+/// The items of a block, and the brace behind them.
+#[cycle(statement)]
+#[tactic(auto, using(crate::proofs::CodeStatements::item_steps))]
+pub fn items(
+    alloc: Global,
+    room: u8,
+    tokens: &[Lexeme],
+) -> Result<(Vec<Stmt>, u32, &[Lexeme]), Halt>
+    ensures gives { Gives (read_as (listed stmt_tree)) result (items room (statement room) (length tokens.now) [] 0 tokens.now) }
+    ensures low { IfOk result (λ x. x.1 ≤ room) }
+{
+    let mut items = Vec::new(alloc);
+    let mut height: u32 = 0;
+    let mut rest = tokens;
+    for _ in 0..tokens.len() {
+        if starts(Mark::CloseBrace, rest) {
+            let behind = expect(Mark::CloseBrace, rest)?;
+            return Ok((items, height, behind));
+        }
+        let (found, high, after) = item(alloc, room, rest)?;
+        items.push(found)?;
+        height = height.max(high);
+        rest = after;
+    }
+    Err(Halt::Unexpected(rest.len()))
+}
+
+/// A block, behind its brace (C11 6.8.2).
+#[cycle(statement)]
+fn in_block(alloc: Global, room: u8, tokens: &[Lexeme]) -> Result<(Stmt, u32, &[Lexeme]), Halt>
+    ensures gives { Gives (read_as stmt_tree) result (in_block room (statement room) tokens.now) }
+    ensures low { IfOk result (λ x. x.1 ≤ room + 1) }
+{
+    let (items, height, rest) = items(alloc, room, tokens)?;
+    Ok((nodes::block(items), height + 1, rest))
+}
+
+/// `else` and what follows it, if it stands here.
+#[cycle(statement)]
+fn otherwise(
+    alloc: Global,
+    room: u8,
+    tokens: &[Lexeme],
+) -> Result<(Option<Stmt>, u32, &[Lexeme]), Halt>
+    ensures gives { Gives (read_as (option_map stmt_tree)) result (otherwise room (statement room) tokens.now) }
+    ensures low { IfOk result (λ x. x.1 ≤ room) }
+{
+    if !starts_with(Keyword::Else, tokens) {
+        return Ok((None, 0, tokens));
+    }
+    let [_, rest @ ..] = tokens else {
+        return Err(Halt::Unexpected(0));
+    };
+    let (second, height, rest) = statement(alloc, room, rest)?;
+    Ok((Some(second), height, rest))
+}
+
+/// `if`, behind its keyword (C11 6.8.4.1).
+#[cycle(statement)]
+fn after_if(
+    alloc: Global,
+    room: u8,
+    at: u32,
+    tokens: &[Lexeme],
+) -> Result<(Stmt, u32, &[Lexeme]), Halt>
+    ensures gives { Gives (read_as stmt_tree) result (after_if room (statement room) at tokens.now) }
+    ensures low { IfOk result (λ x. x.1 ≤ room + 1) }
+{
+    let (condition, condition_height, rest) = condition(alloc, room, tokens)?;
+    let (first, first_height, rest) = statement(alloc, room, rest)?;
+    let (second, second_height, rest) = match otherwise(alloc, room, rest) {
+        Ok(read) => read,
+        Err(halt) => return Err(halt),
+    };
+    let height = condition_height.max(first_height.max(second_height));
+    let node = nodes::branch(alloc, at, condition, first, second)?;
+    Ok((node, height + 1, rest))
+}
+
+/// `while`, behind its keyword (C11 6.8.5.1).
+#[cycle(statement)]
+fn after_while(
+    alloc: Global,
+    room: u8,
+    at: u32,
+    tokens: &[Lexeme],
+) -> Result<(Stmt, u32, &[Lexeme]), Halt>
+    ensures gives { Gives (read_as stmt_tree) result (after_while room (statement room) at tokens.now) }
+    ensures low { IfOk result (λ x. x.1 ≤ room + 1) }
+{
+    let (condition, height, rest) = condition(alloc, room, tokens)?;
+    let (body, high, rest) = statement(alloc, room, rest)?;
+    let node = nodes::while_loop(alloc, at, condition, body)?;
+    Ok((node, height.max(high) + 1, rest))
+}
+
+/// `do`, behind its keyword (C11 6.8.5.2).
+#[cycle(statement)]
+fn after_do(
+    alloc: Global,
+    room: u8,
+    at: u32,
+    tokens: &[Lexeme],
+) -> Result<(Stmt, u32, &[Lexeme]), Halt>
+    ensures gives { Gives (read_as stmt_tree) result (after_do room (statement room) at tokens.now) }
+    ensures low { IfOk result (λ x. x.1 ≤ room + 1) }
+{
+    let (body, height, rest) = statement(alloc, room, tokens)?;
+    let rest = expect_while(rest)?;
+    let (condition, high, rest) = condition(alloc, room, rest)?;
+    let rest = expect(Mark::Semicolon, rest)?;
+    let node = nodes::do_loop(alloc, at, body, condition)?;
+    Ok((node, height.max(high) + 1, rest))
+}
+
+/// `for`, behind its keyword (C11 6.8.5.3).
+#[cycle(statement)]
+fn after_for(
+    alloc: Global,
+    room: u8,
+    at: u32,
+    tokens: &[Lexeme],
+) -> Result<(Stmt, u32, &[Lexeme]), Halt>
+    ensures gives { Gives (read_as stmt_tree) result (after_for room (statement room) at tokens.now) }
+    ensures low { IfOk result (λ x. x.1 ≤ room + 1) }
+{
+    let rest = expect(Mark::OpenParenthesis, tokens)?;
+    let (start, start_height, rest) = start_of(alloc, room, rest)?;
+    let (condition, condition_height, rest) = optional(alloc, room, Mark::Semicolon, rest)?;
+    let (step, step_height, rest) = optional(alloc, room, Mark::CloseParenthesis, rest)?;
+    let (body, body_height, rest) = statement(alloc, room, rest)?;
+    let height = start_height.max(condition_height.max(step_height.max(body_height)));
+    let node = nodes::for_loop(alloc, at, start, condition, step, body)?;
+    Ok((node, height + 1, rest))
+}
+
+/// A statement that begins with a word, or an expression. The tokens are the first and the rest.
+#[cycle(statement)]
+fn keyword_statement<'a>(
+    alloc: Global,
+    room: u8,
+    first: &Lexeme,
+    rest: &'a [Lexeme],
+    tokens: &'a [Lexeme],
+) -> Result<(Stmt, u32, &'a [Lexeme]), Halt>
+    requires all { tokens.now ≡ first.now ∷ rest.now }
+    ensures gives { Gives (read_as stmt_tree) result (keyword_statement room (statement room) (number_of first.now) first.now rest.now) }
+    ensures low { IfOk result (λ x. x.1 ≤ room + 1) }
+{
+    let at = place(tokens);
+    if room == 0 && is_nesting(first) {
+        return Err(Halt::TooDeep(tokens.len()));
+    }
+    if is_keyword(Keyword::If, first) {
+        return after_if(alloc, room, at, rest);
+    }
+    if is_keyword(Keyword::While, first) {
+        return after_while(alloc, room, at, rest);
+    }
+    if is_keyword(Keyword::Do, first) {
+        return after_do(alloc, room, at, rest);
+    }
+    if is_keyword(Keyword::For, first) {
+        return after_for(alloc, room, at, rest);
+    }
+    plain_statement(alloc, room, first, rest, tokens)
+}
+
+/// A statement (C11 6.8) with at most `room` levels for its parts.
+#[cycle(statement)]
+fn statement_at(alloc: Global, room: u8, tokens: &[Lexeme]) -> Result<(Stmt, u32, &[Lexeme]), Halt>
+    ensures gives { Gives (read_as stmt_tree) result (statement_at room (statement room) tokens.now) }
+    ensures low { IfOk result (λ x. x.1 ≤ room + 1) }
+{
+    let [first, rest @ ..] = tokens else {
+        return Err(Halt::Unexpected(0));
+    };
+    if is_mark(Mark::Semicolon, first) {
+        return Ok((nodes::empty(place(tokens)), 1, rest));
+    }
+    if is_mark(Mark::OpenBrace, first) {
+        return in_block(alloc, room, rest);
+    }
+    keyword_statement(alloc, room, first, rest, tokens)
+}

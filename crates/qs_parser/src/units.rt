@@ -1,0 +1,220 @@
+// What stands at file scope (C11 6.9). What is read is at most `room + 2` high.
+ghost use Rattle.std.specs.Prelude.{◌≡◌, ◌+◌, ◌<◌, ◌≤◌, length, [], IfOk, option_map};
+ghost use Rattle.qs_syntax.specs.TreeOf.{decl_tree, stmts_tree};
+ghost use Rattle.qs_parser.specs.ParseStatements.{is_named, struct_of, forward_of, body_of, function_of, typed, external, is_empty, externals, unit};
+ghost use Rattle.qs_parser.specs.View.{Gives, read_as, listed, parameters_of, function_with, unit_of};
+
+use crate::declarations::{declared, groups, head};
+use crate::fault::Halt;
+use crate::heads::{expect, expect_name, is_keyword, place, starts};
+use crate::statements::items;
+use crate::types::{outer_type, stars};
+use qs_base::Name;
+use qs_syntax::{Base, Decl, Forward, Function, Keyword, Lexeme, Mark, Parameter, Stmt, Struct};
+use std::alloc::Global;
+
+/// The height to which the parts of a function's body are read: with it the unit is at most 128 high.
+const ROOM: u8 = 126;
+
+/// Whether a name with this mark behind it stands here.
+fn is_named(mark: Mark, tokens: &[Lexeme]) -> bool
+    ensures { result ≡ is_named mark tokens.now }
+{
+    match tokens {
+        [Lexeme::Name(..), rest @ ..] => starts(mark, rest),
+        _ => false,
+    }
+}
+
+/// A struct with its members, behind `struct` (C11 6.7.2.1).
+fn struct_of(
+    alloc: Global,
+    room: u8,
+    token: u32,
+    tokens: &[Lexeme],
+) -> Result<(Decl, u32, &[Lexeme]), Halt>
+    ensures gives { Gives (read_as decl_tree) result (struct_of room token tokens.now) }
+    ensures low { IfOk result (λ x. x.1 ≤ room + 2) }
+{
+    let (_at, name, rest) = expect_name(alloc, tokens)?;
+    let rest = expect(Mark::OpenBrace, rest)?;
+    let (members, height, rest) = groups(alloc, room, rest)?;
+    let rest = expect(Mark::Semicolon, rest)?;
+    let found = Struct {
+        id: 0,
+        token,
+        name,
+        members,
+    };
+    Ok((Decl::Struct(found), height + 1, rest))
+}
+
+/// A struct without members, behind `struct` (C11 6.7.2.3).
+fn forward_of(alloc: Global, token: u32, tokens: &[Lexeme]) -> Result<(Decl, u32, &[Lexeme]), Halt>
+    ensures gives { Gives (read_as decl_tree) result (forward_of token tokens.now) }
+    ensures low { IfOk result (λ x. x.1 ≤ 1) }
+{
+    let (_at, name, rest) = expect_name(alloc, tokens)?;
+    let rest = expect(Mark::Semicolon, rest)?;
+    let found = Forward { id: 0, token, name };
+    Ok((Decl::Forward(found), 1, rest))
+}
+
+/// What a function begins with, up to the parenthesis behind its parameters.
+#[derive(Drop)]
+struct Header {
+    token: u32,
+    base: Base,
+    stars: u32,
+    name: Name,
+    parameters: Vec<Parameter>,
+}
+
+/// A function of this header, with or without a body.
+fn function(header: Header, body: Option<Vec<Stmt>>) -> Decl
+    ensures { decl_tree result ≡ function_with header (option_map (λ items. stmts_tree items.items) body) }
+{
+    Decl::Function(Function {
+        id: 0,
+        token: header.token,
+        base: header.base,
+        stars: header.stars,
+        name: header.name,
+        parameters: header.parameters,
+        body,
+    })
+}
+
+/// What stands behind a header's parameters: a semicolon or a body (C11 6.7.6.3, 6.9.1).
+#[tactic(auto, unfolding(crate::specs::ParseStatements::body_of))]
+fn body_of(
+    alloc: Global,
+    room: u8,
+    header: Header,
+    height: u32,
+    tokens: &[Lexeme],
+) -> Result<(Decl, u32, &[Lexeme]), Halt>
+    requires low { height ≤ room + 1 }
+    ensures gives { Gives (read_as decl_tree) result (body_of room header.token header.base header.stars header.name (parameters_of header, height) tokens.now) }
+    ensures low { IfOk result (λ x. x.1 ≤ room + 2) }
+{
+    if starts(Mark::Semicolon, tokens) {
+        let rest = expect(Mark::Semicolon, tokens)?;
+        return Ok((function(header, None), height + 1, rest));
+    }
+    let rest = expect(Mark::OpenBrace, tokens)?;
+    let (body, high, rest) = items(alloc, room, rest)?;
+    Ok((function(header, Some(body)), height.max(high + 1) + 1, rest))
+}
+
+/// A function, behind the stars of its header.
+fn function_of(
+    alloc: Global,
+    room: u8,
+    token: u32,
+    base: Base,
+    stars: u32,
+    tokens: &[Lexeme],
+) -> Result<(Decl, u32, &[Lexeme]), Halt>
+    ensures gives { Gives (read_as decl_tree) result (function_of room token base stars tokens.now) }
+    ensures low { IfOk result (λ x. x.1 ≤ room + 2) }
+{
+    let (_at, name, rest) = expect_name(alloc, tokens)?;
+    let rest = expect(Mark::OpenParenthesis, rest)?;
+    let (parameters, height, rest) = head(alloc, room, rest)?;
+    let header = Header {
+        token,
+        base,
+        stars,
+        name,
+        parameters,
+    };
+    body_of(alloc, room, header, height, rest)
+}
+
+/// What stands behind a type: a function or variables. `start` is the place of the first token.
+fn typed(
+    alloc: Global,
+    room: u8,
+    start: u32,
+    base: Base,
+    tokens: &[Lexeme],
+) -> Result<(Decl, u32, &[Lexeme]), Halt>
+    requires fits { room < 255 }
+    ensures gives { Gives (read_as decl_tree) result (typed room start base tokens.now) }
+    ensures low { IfOk result (λ x. x.1 ≤ room + 2) }
+{
+    let (stars, rest) = stars(tokens)?;
+    if is_named(Mark::OpenParenthesis, rest) {
+        return function_of(alloc, room, start, base, stars, rest);
+    }
+    let (variables, height, rest) = declared(alloc, room + 1, base, tokens)?;
+    Ok((Decl::Variable(variables), height, rest))
+}
+
+/// A struct, a function or variables (C11 6.9).
+#[tactic(auto, unfolding(crate::specs::ParseStatements::external))]
+fn external(alloc: Global, room: u8, tokens: &[Lexeme]) -> Result<(Decl, u32, &[Lexeme]), Halt>
+    requires fits { room < 255 }
+    ensures gives { Gives (read_as decl_tree) result (external room tokens.now) }
+    ensures low { IfOk result (λ x. x.1 ≤ room + 2) }
+{
+    let [first, rest @ ..] = tokens else {
+        return Err(Halt::Unexpected(0));
+    };
+    let start = place(tokens);
+    if is_keyword(Keyword::Struct, first) && is_named(Mark::OpenBrace, rest) {
+        return struct_of(alloc, room, start, rest);
+    }
+    if is_keyword(Keyword::Struct, first) && is_named(Mark::Semicolon, rest) {
+        return forward_of(alloc, start, rest);
+    }
+    let (base, rest) = outer_type(alloc, tokens)?;
+    typed(alloc, room, start, base, rest)
+}
+
+/// Whether no token is left.
+fn is_empty(tokens: &[Lexeme]) -> bool
+    ensures { result ≡ is_empty tokens.now }
+{
+    match tokens {
+        [] => true,
+        [_, ..] => false,
+    }
+}
+
+/// All that stands at file scope, up to the end.
+#[tactic(auto, using(crate::proofs::CodeStatements::external_steps))]
+fn externals(
+    alloc: Global,
+    room: u8,
+    tokens: &[Lexeme],
+) -> Result<(Vec<Decl>, u32, &[Lexeme]), Halt>
+    requires fits { room < 255 }
+    ensures gives { Gives (read_as (listed decl_tree)) result (externals room (length tokens.now) [] 0 tokens.now) }
+    ensures low { IfOk result (λ x. (x.1 ≤ room + 2) × (x.2.now ≡ [])) }
+{
+    let mut found = Vec::new(alloc);
+    let mut height: u32 = 0;
+    let mut rest = tokens;
+    for _ in 0..tokens.len() {
+        let (item, high, after) = external(alloc, room, rest)?;
+        found.push(item)?;
+        height = height.max(high);
+        if is_empty(after) {
+            return Ok((found, height, after));
+        }
+        rest = after;
+    }
+    Err(Halt::Unexpected(rest.len()))
+}
+
+/// All of the tokens as a unit (C11 6.9) that is at most 128 high, not yet numbered, and how high it is.
+#[tactic(auto, unfolding(crate::specs::ParseStatements::unit))]
+pub fn read_unit(alloc: Global, tokens: &[Lexeme]) -> Result<(Vec<Decl>, u32), Halt>
+    ensures gives { Gives unit_of result (unit 126 tokens.now) }
+    ensures low { IfOk result (λ x. x.1 ≤ 128) }
+{
+    let (found, height, _rest) = externals(alloc, ROOM, tokens)?;
+    Ok((found, height))
+}

@@ -1,0 +1,223 @@
+-- The tests whether two trees are the same, with the numbers and the tokens of their nodes.
+use Rattle.std.specs.Prelude.{ℕ, ◌==◌, Bool, true, false, ◌&&◌, List, Option}
+use Rattle.std.specs.Option.{option_eq}
+use Rattle.std.specs.Bool.{beq}
+use Rattle.std.specs.Cmp.Lexicographic.{pointwise}
+use Rattle.qs_syntax.specs.declared.tree.UnarySign.{UnarySign}
+use Rattle.qs_syntax.specs.declared.tree.UnarySign.TheVariants as unaries
+use Rattle.qs_syntax.specs.declared.tree.StepSign.{StepSign}
+use Rattle.qs_syntax.specs.declared.tree.StepSign.TheVariants as steps
+use Rattle.qs_syntax.specs.declared.tree.BinarySign.{BinarySign}
+use Rattle.qs_syntax.specs.declared.tree.BinarySign.TheVariants as binaries
+use Rattle.qs_syntax.specs.declared.tree.AssignSign.{AssignSign}
+use Rattle.qs_syntax.specs.declared.tree.AssignSign.TheVariants as assigns
+use Rattle.qs_syntax.specs.declared.tree.Access.{Access}
+use Rattle.qs_syntax.specs.declared.tree.Access.TheVariants as accesses
+use Rattle.qs_syntax.specs.declared.tree.Base.{Base}
+use Rattle.qs_syntax.specs.declared.tree.Base.TheVariants as bases
+use Rattle.qs_syntax.specs.declared.tree.TypeName.{TypeName}
+use Rattle.qs_syntax.specs.Trees.{ExprTree, expr, ShapeTree, int, text, name, unary, step, cast, size_type, size_expr, binary, assign, choice, comma, index, member, call, Exprs, no_exprs, expr_and, exprs_of, LengthsTree, DeclaratorTree, InitialiserTree, value, list, Initialisers, no_initialisers, initialiser_and, VariableTree, DeclarationTree, ParameterTree, MembersTree, StartTree, no_start, start_expression, start_declaration, StmtTree, empty, expression, declaration, block, branch, while_loop, do_loop, for_loop, break, continue, return, Stmts, no_stmts, stmt_and, Else, no_else, else_by, StructTree, ForwardTree, FunctionTree, DeclTree, structure, forward, function, variables, UnitTree}
+
+-- ---- signs and names of types
+
+-- signs have different numbers
+abbrev pub unary_number : UnarySign → ℕ
+unary_number unaries.Address = 0
+unary_number unaries.Indirect = 1
+unary_number unaries.Plus = 2
+unary_number unaries.Minus = 3
+unary_number unaries.Complement = 4
+unary_number unaries.Not = 5
+
+abbrev pub step_number : StepSign → ℕ
+step_number steps.IncrementBefore = 0
+step_number steps.DecrementBefore = 1
+step_number steps.IncrementAfter = 2
+step_number steps.DecrementAfter = 3
+
+abbrev pub binary_number : BinarySign → ℕ
+binary_number binaries.Multiply = 0
+binary_number binaries.Divide = 1
+binary_number binaries.Remainder = 2
+binary_number binaries.Add = 3
+binary_number binaries.Subtract = 4
+binary_number binaries.ShiftLeft = 5
+binary_number binaries.ShiftRight = 6
+binary_number binaries.Less = 7
+binary_number binaries.LessEqual = 8
+binary_number binaries.Greater = 9
+binary_number binaries.GreaterEqual = 10
+binary_number binaries.Equal = 11
+binary_number binaries.NotEqual = 12
+binary_number binaries.BitAnd = 13
+binary_number binaries.BitXor = 14
+binary_number binaries.BitOr = 15
+binary_number binaries.And = 16
+binary_number binaries.Or = 17
+
+abbrev pub assign_number : AssignSign → ℕ
+assign_number assigns.Plain = 0
+assign_number assigns.Multiply = 1
+assign_number assigns.Divide = 2
+assign_number assigns.Remainder = 3
+assign_number assigns.Add = 4
+assign_number assigns.Subtract = 5
+assign_number assigns.ShiftLeft = 6
+assign_number assigns.ShiftRight = 7
+assign_number assigns.BitAnd = 8
+assign_number assigns.BitXor = 9
+assign_number assigns.BitOr = 10
+
+abbrev pub access_number : Access → ℕ
+access_number accesses.Dot = 0
+access_number accesses.Arrow = 1
+
+abbrev pub same_unary : UnarySign → UnarySign → Bool
+same_unary a b = unary_number a == unary_number b
+
+abbrev pub same_step : StepSign → StepSign → Bool
+same_step a b = step_number a == step_number b
+
+abbrev pub same_binary : BinarySign → BinarySign → Bool
+same_binary a b = binary_number a == binary_number b
+
+abbrev pub same_assign : AssignSign → AssignSign → Bool
+same_assign a b = assign_number a == assign_number b
+
+abbrev pub same_access : Access → Access → Bool
+same_access a b = access_number a == access_number b
+
+abbrev pub same_bytes : List ℕ → List ℕ → Bool
+same_bytes = pointwise ◌==◌
+
+abbrev pub same_base : Base → Base → Bool
+same_base bases.Void bases.Void = true
+same_base bases.Int bases.Int = true
+same_base bases.Unsigned bases.Unsigned = true
+same_base bases.Char bases.Char = true
+same_base (bases.Struct x) (bases.Struct y) = same_bytes x y
+same_base _ _ = false
+
+abbrev pub same_type : TypeName → TypeName → Bool
+same_type a b = same_base a.base b.base && (a.stars == b.stars)
+
+-- ---- expressions
+
+-- the same number and the same token
+abbrev pub same_node : (id token other_id other_token : ℕ) → Bool
+same_node i t j u = (i == j) && (t == u)
+
+abbrev mutual
+  pub same_expr : ExprTree → ExprTree → Bool
+  same_expr (expr i t s) (expr j u r) = same_node i t j u && same_shape s r
+
+  pub same_shape : ShapeTree → ShapeTree → Bool
+  same_shape (int n u) (int m v) = (n == m) && beq u v
+  same_shape (text xs) (text ys) = same_bytes xs ys
+  same_shape (name x) (name y) = same_bytes x y
+  same_shape (unary s a) (unary r b) = same_unary s r && same_expr a b
+  same_shape (step s a) (step r b) = same_step s r && same_expr a b
+  same_shape (cast t a) (cast u b) = same_type t u && same_expr a b
+  same_shape (size_type t) (size_type u) = same_type t u
+  same_shape (size_expr a) (size_expr b) = same_expr a b
+  same_shape (binary s a b) (binary r c d) = same_binary s r && (same_expr a c && same_expr b d)
+  same_shape (assign s a b) (assign r c d) = same_assign s r && (same_expr a c && same_expr b d)
+  same_shape (choice a b c) (choice d e f) = same_expr a d && (same_expr b e && same_expr c f)
+  same_shape (comma a b) (comma c d) = same_expr a c && same_expr b d
+  same_shape (index a b) (index c d) = same_expr a c && same_expr b d
+  same_shape (member s a x) (member r b y) = same_access s r && (same_expr a b && same_bytes x y)
+  same_shape (call f es) (call g fs) = same_bytes f g && same_exprs es fs
+  same_shape _ _ = false
+
+  pub same_exprs : Exprs → Exprs → Bool
+  same_exprs no_exprs no_exprs = true
+  same_exprs (expr_and e es) (expr_and f fs) = same_expr e f && same_exprs es fs
+  same_exprs _ _ = false
+
+-- ---- declarations
+
+abbrev pub same_lengths : LengthsTree → LengthsTree → Bool
+same_lengths a b = beq a.is_open b.is_open && same_exprs (exprs_of a.given) (exprs_of b.given)
+
+abbrev pub same_declarator : DeclaratorTree → DeclaratorTree → Bool
+same_declarator a b = same_node a.id a.token b.id b.token && ((a.stars == b.stars) && (same_bytes a.name b.name && same_lengths a.lengths b.lengths))
+
+abbrev mutual
+  pub same_initialiser : InitialiserTree → InitialiserTree → Bool
+  same_initialiser (value a) (value b) = same_expr a b
+  same_initialiser (list i t is) (list j u js) = same_node i t j u && same_initialisers is js
+  same_initialiser _ _ = false
+
+  pub same_initialisers : Initialisers → Initialisers → Bool
+  same_initialisers no_initialisers no_initialisers = true
+  same_initialisers (initialiser_and a is) (initialiser_and b js) = same_initialiser a b && same_initialisers is js
+  same_initialisers _ _ = false
+
+abbrev pub same_variable : VariableTree → VariableTree → Bool
+same_variable a b = same_declarator a.declarator b.declarator && option_eq same_initialiser a.initialiser b.initialiser
+
+abbrev pub same_declaration : DeclarationTree → DeclarationTree → Bool
+same_declaration a b = same_base a.base b.base && pointwise same_variable a.variables b.variables
+
+abbrev pub same_parameter : ParameterTree → ParameterTree → Bool
+same_parameter a b = same_node a.id a.token b.id b.token && (same_base a.base b.base && ((a.stars == b.stars) && (option_eq same_bytes a.name b.name && same_lengths a.lengths b.lengths)))
+
+abbrev pub same_members : MembersTree → MembersTree → Bool
+same_members a b = same_base a.base b.base && pointwise same_declarator a.declarators b.declarators
+
+-- ---- statements
+
+abbrev pub same_start : StartTree → StartTree → Bool
+same_start no_start no_start = true
+same_start (start_expression a) (start_expression b) = same_expr a b
+same_start (start_declaration a) (start_declaration b) = same_declaration a b
+same_start _ _ = false
+
+abbrev pub same_option : Option ExprTree → Option ExprTree → Bool
+same_option = option_eq same_expr
+
+abbrev mutual
+  pub same_stmt : StmtTree → StmtTree → Bool
+  same_stmt (empty i t) (empty j u) = same_node i t j u
+  same_stmt (expression i t e) (expression j u f) = same_node i t j u && same_expr e f
+  same_stmt (declaration d) (declaration e) = same_declaration d e
+  same_stmt (block ss) (block ps) = same_stmts ss ps
+  same_stmt (branch i t e s r) (branch j u f p q) = same_node i t j u && (same_expr e f && (same_stmt s p && same_else r q))
+  same_stmt (while_loop i t e s) (while_loop j u f p) = same_node i t j u && (same_expr e f && same_stmt s p)
+  same_stmt (do_loop i t s e) (do_loop j u p f) = same_node i t j u && (same_stmt s p && same_expr e f)
+  same_stmt (for_loop i t a e n s) (for_loop j u b f m p) = same_node i t j u && (same_start a b && (same_option e f && (same_option n m && same_stmt s p)))
+  same_stmt (break i t) (break j u) = same_node i t j u
+  same_stmt (continue i t) (continue j u) = same_node i t j u
+  same_stmt (return i t e) (return j u f) = same_node i t j u && same_option e f
+  same_stmt _ _ = false
+
+  pub same_stmts : Stmts → Stmts → Bool
+  same_stmts no_stmts no_stmts = true
+  same_stmts (stmt_and s ss) (stmt_and p ps) = same_stmt s p && same_stmts ss ps
+  same_stmts _ _ = false
+
+  pub same_else : Else → Else → Bool
+  same_else no_else no_else = true
+  same_else (else_by s) (else_by p) = same_stmt s p
+  same_else _ _ = false
+
+-- ---- what stands at file scope
+
+abbrev pub same_struct : StructTree → StructTree → Bool
+same_struct a b = same_node a.id a.token b.id b.token && (same_bytes a.name b.name && pointwise same_members a.members b.members)
+
+abbrev pub same_forward : ForwardTree → ForwardTree → Bool
+same_forward a b = same_node a.id a.token b.id b.token && same_bytes a.name b.name
+
+abbrev pub same_function : FunctionTree → FunctionTree → Bool
+same_function a b = same_node a.id a.token b.id b.token && (same_base a.base b.base && ((a.stars == b.stars) && (same_bytes a.name b.name && (pointwise same_parameter a.parameters b.parameters && option_eq same_stmts a.body b.body))))
+
+abbrev pub same_decl : DeclTree → DeclTree → Bool
+same_decl (structure a) (structure b) = same_struct a b
+same_decl (forward a) (forward b) = same_forward a b
+same_decl (function a) (function b) = same_function a b
+same_decl (variables a) (variables b) = same_declaration a b
+same_decl _ _ = false
+
+abbrev pub same_unit : UnitTree → UnitTree → Bool
+same_unit = pointwise same_decl

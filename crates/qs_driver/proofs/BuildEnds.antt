@@ -4,12 +4,9 @@ use Rattle.qs_ports.specs.StoreView.{StoreView}
 use Rattle.qs_ports.specs.Causes.{Rose}
 use Rattle.qs_compile.specs.FirstForm.{Program, IsFirstForm}
 use Rattle.qs_base.specs.declared.places.Pos.{Pos}
-use Rattle.qs_syntax.specs.declared.tokens.Token.{Token}
-use Rattle.qs_lexer.specs.Lexemes.{lexemes}
 use Rattle.qs_lexer.specs.declared.fault.FaultKind.{FaultKind}
-use Rattle.qs_lexer.proofs.Only.{one_list, one_place, one_kind}
+use Rattle.qs_lexer.proofs.Only.{one_place, one_kind}
 use Rattle.qs_lexer.proofs.Only.{not_both as never}
-use Rattle.qs_parser.specs.Answers.{HasNoReading}
 use Rattle.qs_driver.specs.Source.{IsPlaceOf, HasLexFault, IsNoUnit, IsUnit, IsWrong, lexical, syntactic, other_form}
 use Rattle.qs_driver.specs.Due.{Due}
 use Rattle.qs_driver.specs.Files.{Holds, IsTooLong}
@@ -22,6 +19,7 @@ use Rattle.qs_driver.specs.declared.status.SourceFault.TheVariants.{TooLong, Lex
 use Rattle.qs_driver.specs.declared.status.SyntaxKind.{SyntaxKind}
 use Rattle.qs_driver.specs.declared.status.WordsFault.TheVariants.{SameName}
 use Rattle.qs_driver.specs.declared.status.FileKind.TheVariants as kinds
+use Rattle.qs_driver.proofs.Sources.{no_unit}
 
 -- ---- a file is in one state
 
@@ -132,12 +130,6 @@ leads_lexical kind pos text fault f (lexical k p g e) =
     cc
 leads_lexical kind pos text fault f (syntactic k p u e) = absurd (never text u.tokens kind f.at u.are_tokens f.fault)
 leads_lexical kind pos text fault f (other_form u e) = absurd (never text u.tokens kind f.at u.are_tokens f.fault)
-
-no_unit : (text : List ℕ) → IsNoUnit text → IsUnit text → ⊥
-no_unit text n u =
-    let same : u.tokens ≡ n.tokens = one_list text u.tokens n.tokens u.are_tokens n.are_tokens in
-    let none : HasNoReading (lexemes text 0 u.tokens) = subst (λ (ts : List Token). HasNoReading (lexemes text 0 ts)) (sym same) n.none in
-    none u.reads.height u.reads.unnumbered u.reads.reads u.reads.low
 
 pub record IsSyntaxFault (fault : SourceFault) : Type 0 where
   pub kind : SyntaxKind

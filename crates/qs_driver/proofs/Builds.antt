@@ -25,10 +25,11 @@ not_read {source = source} out differ (results.unreadable f e) = unreadable diff
 not_read {source = source} out differ (results.too_long l e) = too_long differ l (ap (refusal (build_names source out)) e)
 not_read {source = source} out differ (results.no_memory u e) = no_memory u (ap (refusal (build_names source out)) e)
 
-pub another_form : {v w : StoreView} {source text : List ℕ} {status : Status} (out : List ℕ) → source ≢ out → WasRead v w source source_limit text → ((p : Program) → IsFirstForm text p → ⊥) → Refuses text status → Builds source out v w (Err status)
-another_form {source = source} {text = text} out differ read none (results.wrong fault is e) =
-    wrong fault differ read.untouched (λ told. record { content = text; holds = read.holds told; no_form = none; has = is }) (ap (refusal (build_names source out)) e)
-another_form {source = source} out differ read none (results.no_memory_for_it e) = no_memory read.untouched (ap (refusal (build_names source out)) e)
+-- the source isn't of the first form, or no memory was found for it
+pub refused : {v w : StoreView} {source text : List ℕ} {status : Status} (out : List ℕ) → source ≢ out → WasRead v w source source_limit text → Refuses text status → Builds source out v w (Err status)
+refused {source = source} {text = text} out differ read (results.wrong fault amiss e) =
+    wrong fault differ read.untouched (λ told. record { content = text; holds = read.holds told; no_form = amiss.no_form; has = amiss.has }) (ap (refusal (build_names source out)) e)
+refused {source = source} out differ read (results.no_memory_for_it e) = no_memory read.untouched (ap (refusal (build_names source out)) e)
 
 -- a store that kept its files, and then made one
 keeps_then_holds : {v u w : StoreView} {name bytes : List ℕ} {m : ℕ} → Keeps v u → HoldsBytes u w name bytes m → HoldsBytes v w name bytes m

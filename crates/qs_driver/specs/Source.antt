@@ -1,4 +1,4 @@
--- Why a source is refused that isn't of the first form: it has a lexical fault, or it is no unit, or it is a unit of another form.
+-- Why a source is refused: it has a lexical fault, or it is no unit, or it is a unit of another form than the first.
 use Rattle.std.specs.Prelude.{◌≡◌, ℕ, ◌≤◌, List, Option}
 use Rattle.qs_base.specs.Positions.{line_at, column_at}
 use Rattle.qs_base.specs.declared.places.Pos.{Pos}

@@ -1,11 +1,11 @@
 // `build`: from the source in the store to the image in the store.
 ghost use Rattle.std.specs.Prelude.{◌≤◌, length};
-ghost use Rattle.qs_driver.specs.Results.{Builds, Refuses};
+ghost use Rattle.qs_driver.specs.Results.{Builds, ReadsProgram};
 
 use crate::files::read_file;
-use crate::source::fault_of;
-use crate::{FileKind, Status, WordsFault};
-use qs_compile::{compile, first_form};
+use crate::source::reading_fault;
+use crate::{FileKind, SourceFault, Status, WordsFault};
+use qs_compile::{FirstForm, compile, first_form};
 use qs_image::{Image, write};
 use qs_ports::{Store, write_whole};
 use std::alloc::Global;
@@ -13,14 +13,20 @@ use std::alloc::Global;
 // The longest source, in bytes.
 const SOURCE_LIMIT: usize = 1_048_576;
 
-// The status at which a text is refused that isn't of the first form.
-fn refusal(alloc: Global, text: &[u8]) -> Status
+// The program of a text. A text is lexed and parsed before its form is looked at.
+fn read_program(alloc: Global, text: &[u8]) -> Result<FirstForm, Status>
     requires limit { length text.now ≤ 1048576 }
-    ensures { Refuses text.now result }
+    ensures { ReadsProgram text.now result }
 {
-    match fault_of(alloc, text) {
-        Ok(fault) => Status::Source(fault),
-        Err(_) => Status::NoMemory,
+    match reading_fault(alloc, text) {
+        Ok(None) => {}
+        Ok(Some(fault)) => return Err(Status::Source(fault)),
+        Err(_) => return Err(Status::NoMemory),
+    }
+    match first_form(alloc, text) {
+        Ok(Some(program)) => Ok(program),
+        Ok(None) => Err(Status::Source(SourceFault::NotFirstForm)),
+        Err(_) => Err(Status::NoMemory),
     }
 }
 
@@ -40,13 +46,9 @@ pub fn build<S: Store>(
         Ok(text) => text,
         Err(status) => return Err(status),
     };
-    let found = match first_form(alloc, &text) {
-        Ok(found) => found,
-        Err(_) => return Err(Status::NoMemory),
-    };
-    let program = match found {
-        Some(program) => program,
-        None => return Err(refusal(alloc, &text)),
+    let program = match read_program(alloc, &text) {
+        Ok(program) => program,
+        Err(status) => return Err(status),
     };
     let image = match compile(alloc, &program) {
         Ok(image) => image,

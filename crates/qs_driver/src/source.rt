@@ -1,8 +1,9 @@
-// What is wrong with a source that isn't of the first form.
+// What is wrong with a source before its form is looked at.
 ghost use Rattle.std.specs.Prelude.{◌≡◌, ◌≤◌, ◌<◌, ◌^◌, length, IfOk};
 ghost use Rattle.qs_base.specs.Positions.{column_at, line_at};
 ghost use Rattle.qs_lexer.specs.Results.{SaysFault};
-ghost use Rattle.qs_driver.specs.Source.{IsLexical, IsPlaceOf, IsWrong};
+ghost use Rattle.qs_driver.specs.Results.{IsAmiss, Reads};
+ghost use Rattle.qs_driver.specs.Source.{IsLexical, IsPlaceOf};
 
 use crate::{SourceFault, SyntaxKind};
 use qs_base::{NoMemory, Pos, position};
@@ -30,7 +31,7 @@ fn lexical(text: &[u8], kind: FaultKind, at: u32) -> SourceFault
 fn lex_fault(text: &[u8], fault: LexFault) -> Result<SourceFault, NoMemory>
     requires short { length text.now < 2 ^ 31 }
     requires says { SaysFault text.now fault }
-    ensures { IfOk result (λ fault. IsWrong text.now fault) }
+    ensures { IfOk result (λ fault. IsAmiss text.now fault) }
 {
     match fault {
         LexFault::NoMemory => Err(NoMemory),
@@ -62,26 +63,26 @@ fn unexpected(tokens: &[Token], number: u32) -> SyntaxKind {
     }
 }
 
-/// What is wrong with a text that isn't of the first form: its first lexical fault, else where it is no
-/// unit, else that its form is another.
-pub fn fault_of(alloc: Global, text: &[u8]) -> Result<SourceFault, NoMemory>
+/// What is wrong with a text before its form is looked at: its first lexical fault, else where it is no
+/// unit.
+pub fn reading_fault(alloc: Global, text: &[u8]) -> Result<Option<SourceFault>, NoMemory>
     requires limit { length text.now ≤ 1048576 }
-    ensures { IfOk result (λ fault. IsWrong text.now fault) }
+    ensures { IfOk result (λ fault. Reads text.now fault) }
 {
     let tokens = match tokens(alloc, text) {
         Ok(tokens) => tokens,
-        Err(fault) => return lex_fault(text, fault),
+        Err(fault) => return Ok(Some(lex_fault(text, fault)?)),
     };
     match unit(alloc, text, &tokens) {
-        Ok(_unit) => Ok(SourceFault::NotFirstForm),
+        Ok(_unit) => Ok(None),
         Err(SyntaxFault::NoMemory) => Err(NoMemory),
-        Err(SyntaxFault::Unexpected(number)) => Ok(SourceFault::Syntax(
+        Err(SyntaxFault::Unexpected(number)) => Ok(Some(SourceFault::Syntax(
             unexpected(&tokens, number),
             token_place(text, &tokens, number),
-        )),
-        Err(SyntaxFault::TooDeep(number)) => Ok(SourceFault::Syntax(
+        ))),
+        Err(SyntaxFault::TooDeep(number)) => Ok(Some(SourceFault::Syntax(
             SyntaxKind::TooDeep,
             token_place(text, &tokens, number),
-        )),
+        ))),
     }
 }

@@ -1,6 +1,5 @@
-use Rattle.std.proofs.Common.{rules}
 use Rattle.qs_driver.proofs.Sources.{is_syntactic}
-use Rattle.qs_driver.proofs.source.fault_of.Goals as goal
+use Rattle.qs_driver.proofs.source.reading_fault.Goals as goal
 
 pub returns-in-Err-Unexpected : goal.returns-in-Err-Unexpected
 returns-in-Err-Unexpected c = is_syntactic _ _ _ _ _ c.in-Ok.ensures.says (rw (c.in-Err-Unexpected.field-0-is, c.deref.ensures.value) at c.in-Err-Unexpected.ensures)

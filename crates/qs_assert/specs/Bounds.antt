@@ -1,5 +1,5 @@
--- What an assertion amounts to at given arguments: a number, infinity, or Wide where a number on the way
--- is too wide.
+-- What an assertion amounts to at given arguments: a number, infinity, or Wide where a part that is evaluated
+-- is finite and too wide.
 use Rattle.std.specs.Prelude.{ℕ, ◌^◌, ◌==◌, ℤ, pos, unsigned_abs, Bool, true, false, if◌then◌else◌, ◌&&◌, ◌||◌, leb, List, [], ◌∷◌, Some, None, slice_index_or}
 use Rattle.std.specs.Cmp.Lexicographic.{pointwise}
 use Rattle.qs_assert.specs.declared.variable.VarKind.{VarKind}

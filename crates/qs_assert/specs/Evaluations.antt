@@ -1,14 +1,11 @@
 -- The state of an evaluation.
-use Rattle.std.specs.Prelude.{ℕ, ℤ, List, [], ◌∷◌, take, drop, reverse, if◌then◌else◌, slice_index_or}
+use Rattle.std.specs.Prelude.{ℕ, ℤ, List, [], ◌∷◌, reverse, if◌then◌else◌, slice_index_or}
 use Rattle.qs_assert.specs.declared.define.Amount.{Amount}
 use Rattle.qs_assert.specs.declared.define.Amount.TheVariants.{Infinite}
 use Rattle.qs_assert.specs.declared.evaluation.Evaluation.{Evaluation}
 use Rattle.qs_assert.specs.declared.evaluation.Known.{Known}
 use Rattle.qs_assert.specs.Bounds.{same_name, argument}
-use Rattle.qs_assert.specs.declared.amounts.Joining.{Joining}
-use Rattle.qs_assert.specs.Joining.{operation, start}
-use Rattle.qs_assert.specs.Stacks.{Stacks, Meaning, joined_known, chosen, first_test, first_amount, none_or_first, natural_amount}
-use Rattle.qs_assert.specs.Reading.{others}
+use Rattle.qs_assert.specs.Stacks.{Stacks, Meaning}
 
 -- the stacks of an evaluation, the front being the end
 abbrev pub seen : Evaluation → Stacks
@@ -26,21 +23,3 @@ meaning args costs known = record {
   costs = λ f. slice_index_or costs f 0;
   names = found known;
 }
-
-abbrev pub joined_step : Joining → ℕ → Stacks → Stacks
-joined_step j n s = record s { amounts = joined_known (operation j) (start j) (take n s.amounts) ∷ drop n s.amounts }
-
-abbrev pub guard_step : Stacks → Stacks
-guard_step s = record s {
-  tests = others s.tests;
-  amounts = chosen (first_test s.tests) (first_amount s.amounts) Infinite ∷ others s.amounts;
-}
-
-abbrev pub choose_step : Stacks → Stacks
-choose_step s = record s {
-  tests = others s.tests;
-  amounts = chosen (first_test s.tests) (first_amount s.amounts) (first_amount (others s.amounts)) ∷ others (others s.amounts);
-}
-
-abbrev pub num_step : Stacks → Stacks
-num_step s = record s { numbers = others s.numbers; amounts = natural_amount (none_or_first s.numbers) ∷ s.amounts }

@@ -159,28 +159,35 @@ pub record Meaning : Type 0 where
   pub costs : ℕ → ℕ
   pub names : List ℕ → Amount
 
+abbrev pub num_step : Stacks → Stacks
+num_step s = record s { numbers = others s.numbers; amounts = natural_amount (none_or_first s.numbers) ∷ s.amounts }
+
+-- the first n amounts are joined to one
+abbrev pub joined_step : (Extended → Extended → Extended) → Extended → ℕ → Stacks → Stacks
+joined_step f z n s = record s { amounts = joined_known f z (take n s.amounts) ∷ drop n s.amounts }
+
+abbrev pub guard_step : Stacks → Stacks
+guard_step s = record s {
+  tests = others s.tests;
+  amounts = chosen (first_test s.tests) (first_amount s.amounts) Infinite ∷ others s.amounts;
+}
+
+abbrev pub choose_step : Stacks → Stacks
+choose_step s = record s {
+  tests = others s.tests;
+  amounts = chosen (first_test s.tests) (first_amount s.amounts) (first_amount (others s.amounts)) ∷ others (others s.amounts);
+}
+
 abbrev pub step_assertion : Meaning → AssertionNode → Stacks → Stacks
 step_assertion m (Natural n) s = record s { amounts = amount_known (finite n) ∷ s.amounts }
 step_assertion m Infinity s = record s { amounts = Infinite ∷ s.amounts }
 step_assertion m (Cost f) s = record s { amounts = amount_known (finite (m.costs f.0)) ∷ s.amounts }
-step_assertion m Num s = record s {
-  numbers = others s.numbers;
-  amounts = natural_amount (none_or_first s.numbers) ∷ s.amounts;
-}
-step_assertion m (Total n) s =
-    record s { amounts = joined_known plus (finite 0) (take n s.amounts) ∷ drop n s.amounts }
-step_assertion m (Greatest n) s =
-    record s { amounts = joined_known greater (finite 0) (take n s.amounts) ∷ drop n s.amounts }
-step_assertion m (Product n) s =
-    record s { amounts = joined_known times (finite 1) (take n s.amounts) ∷ drop n s.amounts }
-step_assertion m Guard s = record s {
-  tests = others s.tests;
-  amounts = chosen (first_test s.tests) (first_amount s.amounts) Infinite ∷ others s.amounts;
-}
-step_assertion m If s = record s {
-  tests = others s.tests;
-  amounts = chosen (first_test s.tests) (first_amount s.amounts) (first_amount (others s.amounts)) ∷ others (others s.amounts);
-}
+step_assertion m Num s = num_step s
+step_assertion m (Total n) s = joined_step plus (finite 0) n s
+step_assertion m (Greatest n) s = joined_step greater (finite 0) n s
+step_assertion m (Product n) s = joined_step times (finite 1) n s
+step_assertion m Guard s = guard_step s
+step_assertion m If s = choose_step s
 step_assertion m (Named n) s = record s { amounts = m.names n ∷ s.amounts }
 
 abbrev pub step_node : Meaning → Node → Stacks → Stacks

@@ -27,7 +27,7 @@ abbrev pub wrapped_signed : ℤ → ℤ
 wrapped_signed z =
     let low = wrapped_unsigned z in if int_lt low (pos (2 ^ 31)) then low else low -ℤ pos (2 ^ 32)
 
--- the first number from k on, or the one so many steps on, to which as exponent 2 has a power above n
+-- the first k' from k on with n < 2^k', or k + steps where that comes first
 unfoldable pub least_power : ℕ → ℕ → ℕ → ℕ
 least_power zero k n = k
 least_power (suc steps) k n = elim (ltb n (2 ^ k)) [ true ↦ k | false ↦ least_power steps (suc k) n ]
@@ -37,7 +37,7 @@ unfoldable pub bit_length : ℤ → ℕ
 bit_length (pos n) = least_power n 0 n
 bit_length (negsuc n) = 0
 
--- z divided by k, rounded down
+-- z divided by k, rounded down, for k of at least 1
 abbrev pub quotient : ℤ → ℕ → ℤ
 quotient z k = int_div_euclid z (pos k)
 

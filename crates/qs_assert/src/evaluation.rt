@@ -2,7 +2,9 @@
 ghost use Rattle.std.specs.Prelude.{◌≡◌, ◌∷◌, List, ℤ, IfOk, reverse, take, drop, slice_index_or, pos};
 ghost use Rattle.qs_assert.specs.Bounds as bounds;
 ghost use Rattle.qs_assert.specs.Stacks as stacks;
-ghost use Rattle.qs_assert.specs.Evaluations.{seen, found, meaning, joined_step, guard_step, choose_step, num_step};
+ghost use Rattle.qs_assert.specs.Evaluations.{seen, found, meaning};
+ghost use Rattle.qs_assert.specs.Joining.{operation, start};
+ghost use Rattle.qs_assert.specs.Stacks.{joined_step, guard_step, choose_step, num_step};
 ghost use Rattle.qs_assert.specs.Comparing.{relation_of};
 
 use crate::amounts::Joining;
@@ -150,7 +152,7 @@ impl Evaluation {
     }
 
     fn join(&mut self, joining: Joining, count: usize) -> Result<(), NoMemory>
-        ensures { IfOk result (λ _. seen self.new ≡ joined_step joining count (seen self.old)) }
+        ensures { IfOk result (λ _. seen self.new ≡ joined_step (operation joining) (start joining) count (seen self.old)) }
     {
         let amount = amounts::joined(joining, front(&self.amounts, count));
         cut(&mut self.amounts, count);

@@ -1,6 +1,6 @@
 -- The polynomials that are built have the values of their terms.
 use Rattle.std.proofs.Common.{◌≡◌, refl, sym, ap, ◌∙◌, arith, true, false}
-use Rattle.std.specs.Prelude.{ℕ, ℤ, pos, negsuc, ◌+ℤ◌, ◌-ℤ◌, ◌*ℤ◌, Bool, ◌&&◌, if◌then◌else◌, Result, Ok, Err}
+use Rattle.std.specs.Prelude.{ℕ, ℤ, pos, ◌+ℤ◌, ◌-ℤ◌, ◌*ℤ◌, Bool, ◌&&◌, if◌then◌else◌, Result, Ok, Err}
 use Rattle.std.proofs.lemmas.Int.{ints}
 use Rattle.std.proofs.Math.IntN.{*ℤ_comm}
 use Rattle.qs_assert.specs.Trees.{TermTree, number, variable, add, sub, mul, div, wrapu, wraps, bits, TermTrees, no_terms, term_and}
@@ -15,7 +15,7 @@ use Rattle.qs_poly.specs.declared.fault.PolyFault.{PolyFault}
 use Rattle.qs_poly.specs.declared.fault.PolyFault.TheVariants.{Wide, ManyTerms, HighDegree}
 use Rattle.qs_poly.proofs.Ring.{mul_assoc}
 use Rattle.qs_poly.proofs.ValueLaws.{sum_value, multiple_value, lessened_value, product_value, number_value, single_value}
-use Rattle.qs_entail.specs.Building.{Failure, bind, require, limits, limited, minus, difference, term_polynomial, sum_onto, product_onto}
+use Rattle.qs_entail.specs.Building.{Failure, bind, require, limits, limited, difference, term_polynomial, sum_onto, product_onto}
 
 times_one : (z : ℤ) → z *ℤ pos 1 ≡ z
 times_one z = omega (arith, ints)
@@ -49,17 +49,11 @@ limited_ok p r h = tested p r (all_narrow p) (has_few_terms p) (all_low p) h
 pub limited_value : (p r : Polynomial) (s : State) → limited p ≡ Ok r → polynomial_value r s ≡ polynomial_value p s
 limited_value p r s h = sym (ap (λ x. polynomial_value x s) (limited_ok p r h))
 
-pub minus_value : (p q : Polynomial) (s : State) → polynomial_value (minus p q) s ≡ polynomial_value p s -ℤ polynomial_value q s
-minus_value p q s =
-    let a = sum_value p (multiple (negsuc 0) q) s in
-    let b = multiple_value (negsuc 0) q s in
-    omega (arith, ints, a, b)
-
-pub difference_value : (p q r : Polynomial) (s : State) → difference p q ≡ Ok r → polynomial_value r s ≡ polynomial_value p s -ℤ polynomial_value q s
-difference_value p q r s h = limited_value (minus p q) r s h ∙ minus_value p q s
-
 pub limited_lessened_value : (p : Polynomial) (k : ℕ) (q : Polynomial) (c : ℕ) (r : Polynomial) (s : State) → limited (lessened p k q c) ≡ Ok r → polynomial_value r s ≡ (polynomial_value p s -ℤ pos k *ℤ polynomial_value q s) -ℤ pos c
 limited_lessened_value p k q c r s h = limited_value (lessened p k q c) r s h ∙ lessened_value p k q c s
+
+pub difference_value : (p q r : Polynomial) (s : State) → difference p q ≡ Ok r → polynomial_value r s ≡ polynomial_value p s -ℤ polynomial_value q s
+difference_value p q r s h = let v = limited_lessened_value p 1 q 0 r s h in omega (arith, ints, v)
 
 pub limited_sum_value : (p q r : Polynomial) (s : State) → limited (sum p q) ≡ Ok r → polynomial_value r s ≡ polynomial_value p s +ℤ polynomial_value q s
 limited_sum_value p q r s h = limited_value (sum p q) r s h ∙ sum_value p q s

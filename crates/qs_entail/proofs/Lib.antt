@@ -1,4 +1,16 @@
+pub mod Wholes
+pub mod Outlined
+pub mod Waiting
+pub mod Fronted
+pub mod Flattened
+pub mod Branched
+pub mod Placed
+pub mod Parted
 pub mod Built
+pub mod Stacked
+pub mod TreeSteps
+pub mod PlainNodes
+pub mod Counted
 pub mod Assertions
 pub mod Pushed
 pub mod Amounts
@@ -7,5 +19,9 @@ pub mod Numbers
 pub mod FactsHold
 pub mod Definitions
 pub mod Sound
-pub mod Standing
+pub mod OneVerdict
 pub mod Examples
+pub mod Walks
+pub mod Each
+pub mod Small
+pub mod Stands

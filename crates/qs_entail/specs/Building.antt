@@ -3,7 +3,7 @@ use Rattle.std.specs.Prelude.{ℤ, pos, negsuc, Bool, true, false, ◌&&◌, nat
 use Rattle.qs_assert.specs.Trees.{TermTree, number, variable, add, sub, mul, div, wrapu, wraps, bits, TermTrees, no_terms, term_and, AssertionTree, natural, infinity, cost, num, total, greatest, product, guard, choose, named, AssertionTrees, no_assertions, assertion_and}
 use Rattle.qs_poly.specs.Polynomials as poly
 use Rattle.qs_poly.specs.Polynomials.{Polynomial, nothing}
-use Rattle.qs_poly.specs.Operations.{sum, multiple, single}
+use Rattle.qs_poly.specs.Operations.{sum, multiple, lessened, single}
 use Rattle.qs_poly.specs.Operations as operation
 use Rattle.qs_poly.specs.Limits.{within}
 use Rattle.qs_poly.specs.declared.fault.PolyFault.{PolyFault}
@@ -34,11 +34,9 @@ limits (Err fault) = Err (passes fault)
 abbrev pub limited : Polynomial → Result Polynomial Failure
 limited p = limits (within p)
 
-abbrev pub minus : Polynomial → Polynomial → Polynomial
-minus p q = sum p (multiple (negsuc 0) q)
-
+-- p less q
 abbrev pub difference : Polynomial → Polynomial → Result Polynomial Failure
-difference p q = limited (minus p q)
+difference p q = limited (lessened p 1 q 0)
 
 -- ---- terms
 

@@ -14,6 +14,22 @@ pub enum Limit {
     Degree,
 }
 
+impl Limit {
+    ghost use Rattle.std.specs.Prelude.{◌≡◌};
+    ghost use Rattle.qs_entail.specs.Said.{limit_number};
+
+    /// The number of the limit, from 1 to 3.
+    pub fn number(self) -> u32
+        ensures { result ≡ limit_number self }
+    {
+        match self {
+            Limit::Coefficient => 1,
+            Limit::Terms => 2,
+            Limit::Degree => 3,
+        }
+    }
+}
+
 /// Why a step gives nothing.
 #[derive(Clone, Copy, Debug, PartialEq, Eq)]
 pub enum Stop {

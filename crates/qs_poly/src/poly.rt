@@ -1,5 +1,5 @@
 // Polynomials, and the operations on them.
-ghost use Rattle.std.specs.Prelude.{◌≡◌, IfOk};
+ghost use Rattle.std.specs.Prelude.{◌≡◌, pos, IfOk};
 ghost use Rattle.std.specs.Cmp.{partial_equiv_from_equiv};
 ghost use Rattle.qs_poly.specs.Canonical.{IsCanonical, IsCanonicalAtom};
 ghost use Rattle.qs_poly.specs.Operations.{number, single, sum, multiple, lessened, product};
@@ -110,6 +110,19 @@ impl Poly {
         limited(terms)
     }
 
+    /// The natural number n. `Wide` where it is above 2^56.
+    pub fn natural(alloc: Global, n: u64) -> Result<Poly, PolyFault>
+        ensures { Gives result (number (pos n)) }
+    {
+        let mut terms = Vec::new(alloc);
+        let term = Term {
+            coefficient: i128::from(n),
+            monomial: Monomial::one(alloc),
+        };
+        insert_term(&mut terms, term)?;
+        limited(terms)
+    }
+
     /// The sum.
     pub fn add(&self, alloc: Global, b: &Poly) -> Result<Poly, PolyFault>
         ensures { Gives result (sum self.now b.now) }
@@ -124,6 +137,13 @@ impl Poly {
         ensures { Gives result (multiple k self.now) }
     {
         limited(scale_terms(alloc, &self.terms, i128::from(k))?)
+    }
+
+    /// The polynomial n times.
+    pub fn times(&self, alloc: Global, n: u64) -> Result<Poly, PolyFault>
+        ensures { Gives result (multiple (pos n) self.now) }
+    {
+        limited(scale_terms(alloc, &self.terms, i128::from(n))?)
     }
 
     /// The polynomial, less k times b, less c.

@@ -113,6 +113,20 @@ fn less_is_exact(rt: HostRuntime) -> Result<(), Fail> {
 }
 
 #[test]
+fn natural_numbers_are_exact(rt: HostRuntime) -> Result<(), Fail> {
+    let alloc = rt.alloc();
+    let most = MOST as u64;
+    assert!(rt; Poly::natural(alloc, most)? == Poly::number(alloc, MOST)?);
+    for n in [most + 1, u64::MAX] {
+        assert_eq!(rt; Poly::natural(alloc, n).err(), Some(PolyFault::Wide));
+        assert_eq!(rt; x(alloc)?.times(alloc, n).err(), Some(PolyFault::Wide));
+    }
+    assert!(rt; x(alloc)?.times(alloc, most)? == x(alloc)?.scale(alloc, MOST)?);
+    assert_eq!(rt; Poly::natural(alloc, 0)?.times(alloc, u64::MAX)?.count(), 0);
+    Ok(())
+}
+
+#[test]
 fn terms_of_zero_go(rt: HostRuntime) -> Result<(), Fail> {
     let alloc = rt.alloc();
     let x = x(alloc)?;

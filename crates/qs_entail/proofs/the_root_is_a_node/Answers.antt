@@ -1,4 +1,4 @@
-use Rattle.qs_entail.proofs.Standing.{one_fault}
+use Rattle.qs_entail.proofs.OneVerdict.{one_fault}
 use Rattle.qs_entail.proofs.the_root_is_a_node.Goals as goal
 
 pub returns : goal.returns

@@ -1,0 +1,134 @@
+-- The trees at the front of a list of nodes, each node before those of its parts.
+use Rattle.std.specs.Prelude.{ℕ, zero, suc, ◌+◌, Bool, true, false, if◌then◌else◌, List, [], ◌∷◌}
+use Rattle.qs_assert.specs.declared.node.TermNode.{TermNode}
+use Rattle.qs_assert.specs.declared.node.TermNode.TheVariants.{Number, Variable, Add, Sub, Mul, Div, WrapUnsigned, WrapSigned, Bits}
+use Rattle.qs_assert.specs.declared.node.CondNode.{CondNode}
+use Rattle.qs_assert.specs.declared.node.CondNode.TheVariants.{Le, Lt, Eq, Ne, Not, And, Or}
+use Rattle.qs_assert.specs.declared.node.AssertionNode.{AssertionNode}
+use Rattle.qs_assert.specs.declared.node.AssertionNode.TheVariants.{Natural, Infinity, Cost, Num, Total, Greatest, Product, Guard, If, Named}
+use Rattle.qs_assert.specs.declared.node.Node.{Node}
+use Rattle.qs_assert.specs.declared.node.Node.TheVariants.{Term, Condition, Assertion}
+use Rattle.qs_assert.specs.Sameness.{same_node}
+use Rattle.qs_assert.specs.Trees.{AssertionTree}
+use Rattle.qs_assert.specs.Reading.{plant_nodes, no_trees}
+
+-- ---- how many parts follow a node
+
+abbrev pub term_arity : TermNode → ℕ
+term_arity (Number k) = 0
+term_arity (Variable x) = 0
+term_arity (Add n) = n
+term_arity Sub = 2
+term_arity (Mul n) = n
+term_arity (Div k) = 1
+term_arity WrapUnsigned = 1
+term_arity WrapSigned = 1
+term_arity Bits = 1
+
+abbrev pub cond_arity : CondNode → ℕ
+cond_arity Le = 2
+cond_arity Lt = 2
+cond_arity Eq = 2
+cond_arity Ne = 2
+cond_arity Not = 1
+cond_arity (And n) = n
+cond_arity (Or n) = n
+
+abbrev pub assertion_arity : AssertionNode → ℕ
+assertion_arity (Natural n) = 0
+assertion_arity Infinity = 0
+assertion_arity (Cost f) = 0
+assertion_arity Num = 1
+assertion_arity (Total n) = n
+assertion_arity (Greatest n) = n
+assertion_arity (Product n) = n
+assertion_arity Guard = 2
+assertion_arity If = 3
+assertion_arity (Named n) = 0
+
+abbrev pub arity : Node → ℕ
+arity (Term node) = term_arity node
+arity (Condition node) = cond_arity node
+arity (Assertion node) = assertion_arity node
+
+-- how many parts follow the first node
+abbrev pub head_arity : List Node → ℕ
+head_arity [] = 0
+head_arity (node ∷ nodes) = arity node
+
+-- ---- trees
+
+-- how many nodes the first n trees have
+abbrev pub front_length : List Node → ℕ → ℕ
+front_length [] n = 0
+front_length (node ∷ nodes) zero = 0
+front_length (node ∷ nodes) (suc n) = suc (front_length nodes (n + arity node))
+
+-- the nodes of terms among these
+abbrev pub term_heads : List Node → List TermNode
+term_heads [] = []
+term_heads (Term node ∷ nodes) = node ∷ term_heads nodes
+term_heads (Condition node ∷ nodes) = term_heads nodes
+term_heads (Assertion node ∷ nodes) = term_heads nodes
+
+-- the node is the first
+abbrev pub begins : List Node → Node → Bool
+begins [] node = false
+begins (head ∷ nodes) node = same_node head node
+
+-- the head is that of a greatest assertion
+abbrev pub is_greatest : List Node → Bool
+is_greatest [] = false
+is_greatest (Assertion (Greatest n) ∷ nodes) = true
+is_greatest (_ ∷ nodes) = false
+
+-- the head is that of a sum of assertions
+abbrev pub is_total : List Node → Bool
+is_total [] = false
+is_total (Assertion (Total n) ∷ nodes) = true
+is_total (_ ∷ nodes) = false
+
+-- the assertions that these nodes have
+abbrev pub assertions_in : List Node → List AssertionTree
+assertions_in nodes = (plant_nodes nodes no_trees).assertions
+
+-- ---- the first assertion: its head with a term or condition, and then parts that are assertions
+
+-- a term or a condition follows the head
+abbrev pub has_inner : AssertionNode → Bool
+has_inner (Natural n) = false
+has_inner Infinity = false
+has_inner (Cost f) = false
+has_inner Num = true
+has_inner (Total n) = false
+has_inner (Greatest n) = false
+has_inner (Product n) = false
+has_inner Guard = true
+has_inner If = true
+has_inner (Named n) = false
+
+abbrev pub parts_after : AssertionNode → ℕ
+parts_after (Natural n) = 0
+parts_after Infinity = 0
+parts_after (Cost f) = 0
+parts_after Num = 0
+parts_after (Total n) = n
+parts_after (Greatest n) = n
+parts_after (Product n) = n
+parts_after Guard = 1
+parts_after If = 2
+parts_after (Named n) = 0
+
+-- the length of the head with its term or condition
+abbrev pub own_length : List Node → ℕ
+own_length [] = 0
+own_length (Term node ∷ nodes) = 1
+own_length (Condition node ∷ nodes) = 1
+own_length (Assertion node ∷ nodes) = if has_inner node then suc (front_length nodes 1) else 1
+
+-- how many parts are assertions
+abbrev pub part_count : List Node → ℕ
+part_count [] = 0
+part_count (Term node ∷ nodes) = 0
+part_count (Condition node ∷ nodes) = 0
+part_count (Assertion node ∷ nodes) = parts_after node

@@ -1,0 +1,21 @@
+-- What the parts of assertions and conditions are.
+use Rattle.qs_entail.specs.declared.parts.Guarded as code_guarded
+use Rattle.qs_entail.specs.declared.parts.Sides as code_sides
+use Rattle.qs_entail.specs.declared.pushing.Pair as code_pair
+use Rattle.qs_entail.specs.declared.outlining.Outline as code_outline
+use Rattle.qs_entail.specs.Building.{Two}
+use Rattle.qs_entail.specs.Faults.{Guarded}
+use Rattle.qs_entail.specs.Facts.{Sides}
+use Rattle.qs_entail.specs.Verdicts.{Outline}
+
+abbrev pub guarded_view : code_guarded.Guarded → Guarded
+guarded_view g = record { condition = g.condition; body = g.body }
+
+abbrev pub sides_view : code_sides.Sides → Sides
+sides_view sides = record { left = sides.left; right = sides.right }
+
+abbrev pub pair_view : code_pair.Pair → Two
+pair_view pair = record { first = pair.left; second = pair.right }
+
+abbrev pub outline_view : code_outline.Outline → Outline
+outline_view o = record { conditions = o.conditions.items; count = o.count }

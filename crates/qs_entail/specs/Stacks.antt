@@ -1,0 +1,133 @@
+-- How the polynomials of the nodes of a list come one from the other, the list being read from its end: each
+-- node takes the attempts of its parts from the front of a stack.
+use Rattle.std.specs.Prelude.{ℕ, zero, suc, pos, List, [], ◌∷◌, map, reverse, drop, Result, Ok, Err}
+use Rattle.qs_assert.specs.declared.node.TermNode.{TermNode}
+use Rattle.qs_assert.specs.declared.node.TermNode.TheVariants.{Number, Variable, Add, Sub, Mul, Div, WrapUnsigned, WrapSigned, Bits}
+use Rattle.qs_assert.specs.declared.node.CondNode.{CondNode}
+use Rattle.qs_assert.specs.declared.node.CondNode.TheVariants.{Le, Lt, Eq, Ne, Not, And, Or}
+use Rattle.qs_assert.specs.declared.node.AssertionNode.{AssertionNode}
+use Rattle.qs_assert.specs.declared.node.AssertionNode.TheVariants.{Natural, Infinity, Cost, Num, Total, Greatest, Product, Guard, If, Named}
+use Rattle.qs_assert.specs.declared.node.Node.{Node}
+use Rattle.qs_assert.specs.declared.node.Node.TheVariants.{Term, Condition, Assertion}
+use Rattle.qs_assert.specs.Reading.{others}
+use Rattle.qs_poly.specs.Polynomials.{AtomTree, Polynomial, variable, cost, num, div, wrapu, wraps, bits}
+use Rattle.qs_poly.specs.Operations.{sum, product, lessened, number, single}
+use Rattle.qs_entail.specs.declared.building.Building.{Building}
+use Rattle.qs_entail.specs.declared.stack.Built.{Built}
+use Rattle.qs_entail.specs.declared.stack.Built.TheVariants.{Made, Broken, Past}
+use Rattle.qs_entail.specs.declared.stack.Head.{Head}
+use Rattle.qs_entail.specs.declared.stack.Head.TheVariants as heads
+use Rattle.qs_entail.specs.declared.operation.Operation.{Operation}
+use Rattle.qs_entail.specs.declared.operation.Operation.TheVariants as operations
+use Rattle.qs_entail.specs.Building.{Failure, breaks, passes, bind, limited}
+use Rattle.qs_entail.specs.Answers.{fault_of}
+
+-- ---- what the code has
+
+abbrev pub attempt_of : Built → Result Polynomial Failure
+attempt_of (Made p) = Ok p
+attempt_of Broken = Err breaks
+attempt_of (Past limit) = Err (passes (fault_of limit))
+
+-- the attempts of a stack, the front being the end
+abbrev pub seen : List Built → List (Result Polynomial Failure)
+seen items = map attempt_of (reverse items)
+
+abbrev pub operated : Operation → Polynomial → Polynomial → Polynomial
+operated operations.Sum p q = sum p q
+operated operations.Difference p q = lessened p 1 q 0
+operated operations.Product p q = product p q
+
+abbrev pub atom_on : Head → Polynomial → AtomTree
+atom_on heads.Num p = num p
+atom_on (heads.Div k) p = div p k
+atom_on heads.Wrapu p = wrapu p
+atom_on heads.Wraps p = wraps p
+atom_on heads.Bits p = bits p
+
+-- ---- terms
+
+-- the first attempt; a list of the nodes of a tree never lacks one
+abbrev pub first : List (Result Polynomial Failure) → Result Polynomial Failure
+first [] = Err breaks
+first (x ∷ xs) = x
+
+abbrev pub on_one : Head → Result Polynomial Failure → Result Polynomial Failure
+on_one head a = bind a (λ p. Ok (single (atom_on head p)))
+
+abbrev pub on_both : Operation → Result Polynomial Failure → Result Polynomial Failure → Result Polynomial Failure
+on_both operation a b = bind a (λ p. bind b (λ q. limited (operated operation p q)))
+
+-- the first n attempts joined to one, from left to right
+abbrev pub joined : Operation → ℕ → List (Result Polynomial Failure) → Result Polynomial Failure → Result Polynomial Failure
+joined operation zero xs so_far = so_far
+joined operation (suc n) xs so_far = joined operation n (others xs) (on_both operation so_far (first xs))
+
+abbrev pub sum_first : ℕ → List (Result Polynomial Failure) → Result Polynomial Failure
+sum_first n xs = joined operations.Sum n xs (limited (number (pos 0)))
+
+abbrev pub product_first : ℕ → List (Result Polynomial Failure) → Result Polynomial Failure
+product_first n xs = joined operations.Product n xs (limited (number (pos 1)))
+
+abbrev pub step_term : TermNode → List (Result Polynomial Failure) → List (Result Polynomial Failure)
+step_term (Number k) xs = limited (number k) ∷ xs
+step_term (Variable x) xs = Ok (single (variable x)) ∷ xs
+step_term (Add n) xs = sum_first n xs ∷ drop n xs
+step_term Sub xs = on_both operations.Difference (first xs) (first (others xs)) ∷ others (others xs)
+step_term (Mul n) xs = product_first n xs ∷ drop n xs
+step_term (Div k) xs = on_one (heads.Div k) (first xs) ∷ others xs
+step_term WrapUnsigned xs = on_one heads.Wrapu (first xs) ∷ others xs
+step_term WrapSigned xs = on_one heads.Wraps (first xs) ∷ others xs
+step_term Bits xs = on_one heads.Bits (first xs) ∷ others xs
+
+abbrev pub term_steps : List TermNode → List (Result Polynomial Failure) → List (Result Polynomial Failure)
+term_steps [] xs = xs
+term_steps (node ∷ nodes) xs = step_term node (term_steps nodes xs)
+
+-- ---- assertions
+
+pub record Stacks : Type 0 where
+  pub terms : List (Result Polynomial Failure)
+  pub assertions : List (Result Polynomial Failure)
+
+abbrev pub no_attempts : Stacks
+no_attempts = record { terms = []; assertions = [] }
+
+-- the stacks of a building
+abbrev pub both_seen : Building → Stacks
+both_seen b = record { terms = seen b.terms.items; assertions = seen b.assertions.items }
+
+-- a condition has no polynomial, but takes those of its terms
+abbrev pub step_cond : CondNode → Stacks → Stacks
+step_cond Le s = record s { terms = others (others s.terms) }
+step_cond Lt s = record s { terms = others (others s.terms) }
+step_cond Eq s = record s { terms = others (others s.terms) }
+step_cond Ne s = record s { terms = others (others s.terms) }
+step_cond Not s = s
+step_cond (And n) s = s
+step_cond (Or n) s = s
+
+-- there is none in place of the first n
+abbrev pub none_first : ℕ → Stacks → Stacks
+none_first n s = record s { assertions = Err breaks ∷ drop n s.assertions }
+
+abbrev pub step_assertion : AssertionNode → Stacks → Stacks
+step_assertion (Natural n) s = record s { assertions = limited (number (pos n)) ∷ s.assertions }
+step_assertion Infinity s = none_first 0 s
+step_assertion (Cost f) s = record s { assertions = Ok (single (cost f.0)) ∷ s.assertions }
+step_assertion Num s = record { terms = others s.terms; assertions = on_one heads.Num (first s.terms) ∷ s.assertions }
+step_assertion (Total n) s = record s { assertions = sum_first n s.assertions ∷ drop n s.assertions }
+step_assertion (Greatest n) s = none_first n s
+step_assertion (Product n) s = record s { assertions = product_first n s.assertions ∷ drop n s.assertions }
+step_assertion Guard s = none_first 1 s
+step_assertion If s = none_first 2 s
+step_assertion (Named n) s = none_first 0 s
+
+abbrev pub step_node : Node → Stacks → Stacks
+step_node (Term node) s = record s { terms = step_term node s.terms }
+step_node (Condition node) s = step_cond node s
+step_node (Assertion node) s = step_assertion node s
+
+abbrev pub node_steps : List Node → Stacks → Stacks
+node_steps [] s = s
+node_steps (node ∷ nodes) s = step_node node (node_steps nodes s)

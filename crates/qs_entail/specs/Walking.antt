@@ -1,0 +1,76 @@
+-- What the walk over a certificate answers at a node.
+use Rattle.std.specs.Prelude.{◌≡◌, ◌==◌, ℕ, Bool, true, false, List, ◌++◌, take, Option, Some, None, Result, Ok, Err}
+use Rattle.qs_entail.specs.declared.fault.Rule.{Rule}
+use Rattle.qs_entail.specs.declared.stop.Stop.{Stop}
+use Rattle.qs_entail.specs.declared.stop.Stop.TheVariants.{NoMemory, Breaks, Passes}
+use Rattle.qs_entail.specs.declared.failed.Failed.{Failed}
+use Rattle.qs_entail.specs.declared.failed.Failed.TheVariants as failures
+use Rattle.qs_entail.specs.declared.walk.Mark.{Mark}
+use Rattle.qs_entail.specs.declared.walk.Walk.{Walk}
+use Rattle.qs_entail.specs.declared.rules.Both.{Both}
+use Rattle.qs_entail.specs.Answers.{fault_of}
+use Rattle.qs_assert.specs.Trees.{AssertionTree, AssertionTrees}
+use Rattle.qs_entail.specs.Building.{Failure, bind, require}
+use Rattle.qs_entail.specs.Faults.{Fault, step, limit, summands_of, unfolded, count}
+use Rattle.qs_entail.specs.Pushing.{Known}
+use Rattle.qs_entail.specs.Said.{rule_number}
+use Rattle.qs_entail.specs.View.{known_view}
+
+-- the path from the root, and what is known there
+pub record Place : Type 0 where
+  pub path : List ℕ
+  pub known : Known
+
+abbrev pub place : Walk → Place
+place walk = record { path = walk.path.items; known = known_view walk.known }
+
+-- what was known at a mark
+abbrev pub cut : Mark → Place → Place
+cut mark w = record { path = w.path; known = record { conditions = take mark.conditions w.known.conditions; polynomials = take mark.polynomials w.known.polynomials } }
+
+-- a step of this rule that gives nothing
+abbrev pub failure_of : Rule → Stop → Failed
+failure_of rule NoMemory = failures.NoMemory
+failure_of rule Breaks = failures.Step rule
+failure_of rule (Passes l) = failures.Limit l
+
+abbrev pub settled : Rule → Result (Unit {0}) Stop → Result (Unit {0}) Failed
+settled rule (Ok u) = Ok u
+settled rule (Err stop) = Err (failure_of rule stop)
+
+-- The answer is the verdict: without a fault the walk is again where it was, else its path goes on to the
+-- fault's place. Want of memory says nothing.
+abbrev pub Says : Place → Place → Result (Unit {0}) Failed → Option Fault → Type 0
+Says old new (Ok u) None = new ≡ old
+Says old new (Ok u) (Some f) = ⊥
+Says old new (Err failures.NoMemory) verdict = Unit {0}
+Says old new (Err (failures.Step rule)) None = ⊥
+Says old new (Err (failures.Step rule)) (Some (step path n)) = (rule_number rule ≡ n) × (new.path ≡ old.path ++ path)
+Says old new (Err (failures.Step rule)) (Some (limit path fault)) = ⊥
+Says old new (Err (failures.Limit l)) None = ⊥
+Says old new (Err (failures.Limit l)) (Some (step path n)) = ⊥
+Says old new (Err (failures.Limit l)) (Some (limit path fault)) = (fault_of l ≡ fault) × (new.path ≡ old.path ++ path)
+
+-- the summands of a sum that has so many
+abbrev pub counted_summands : ℕ → AssertionTree → Result AssertionTrees Failure
+counted_summands n a = bind (summands_of a) (λ summands. require (n == count summands) (Ok summands))
+
+-- two assertions, each name n replaced by a body
+pub record Pair : Type 0 where
+  pub left : AssertionTree
+  pub right : AssertionTree
+
+abbrev pub both_view : Both → Pair
+both_view both = record { left = both.left; right = both.right }
+
+abbrev pub unfolded_both : List ℕ → AssertionTree → AssertionTree → AssertionTree → Pair
+unfolded_both n body p q = record { left = unfolded n body p; right = unfolded n body q }
+
+-- the part with the first branches, and the one with the second
+abbrev pub branch_number : Bool → ℕ
+branch_number true = 0
+branch_number false = 1
+
+abbrev pub not_of : Bool → Bool
+not_of true = false
+not_of false = true

@@ -1,0 +1,299 @@
+// The polynomials that facts add.
+ghost use Rattle.std.specs.Prelude.{◌≡◌, ◌≤◌, [], ◌∷◌, ◌||◌, Ok, negsuc, pos};
+ghost use Rattle.qs_poly.specs.Operations.{sum, number};
+ghost use Rattle.qs_poly.specs.Terms.{polynomial_eq};
+ghost use Rattle.qs_entail.specs.Answers.{Follows, FollowsAs};
+ghost use Rattle.qs_entail.specs.Building as building;
+ghost use Rattle.qs_entail.specs.Building.{bind, require, limited};
+ghost use Rattle.qs_entail.specs.Certificates as cert;
+ghost use Rattle.qs_entail.specs.Facts as facts;
+ghost use Rattle.qs_entail.specs.Facts.{added};
+ghost use Rattle.qs_entail.specs.Pushing as pushing;
+ghost use Rattle.qs_entail.specs.View.{fact_tree, items_view, known_view};
+
+use crate::Item;
+use crate::building::{atom_of, difference, term_polynomial};
+use crate::certificate::Fact;
+use crate::combination::{are_inside, combination, two_combinations};
+use crate::known::Known;
+use crate::parts::{Sides, different_sides};
+use crate::stop::Stop;
+use crate::sums::{
+    bits_of, div_of, greatest, least, less, less_negated, negation, num_of, one, small, sum, two,
+    wraps_of, wrapu_of,
+};
+use qs_assert::{Cond, Term, Var};
+use qs_base::FnId;
+use qs_poly::{Atom, Poly};
+use std::alloc::Global;
+
+/// The polynomials p less q, and q less p.
+fn both_ways(alloc: Global, p: &Poly, q: &Poly) -> Result<Vec<Poly>, Stop>
+    ensures { FollowsAs (λ v. v.items) result (bind (building.difference p.now q.now) (λ a. bind (building.difference q.now p.now) (λ b. Ok (a ∷ b ∷ [])))) }
+{
+    let above = difference(alloc, p, q)?;
+    let below = difference(alloc, q, p)?;
+    two(alloc, above, below)
+}
+
+fn range(alloc: Global, x: Var) -> Result<Vec<Poly>, Stop>
+    ensures { (k : pushing.Known) → FollowsAs (λ v. v.items) result (added (cert.range x) k) }
+{
+    let variable = atom_of(alloc, &Atom::Variable(x))?;
+    let first = small(alloc, least(x.number))?;
+    let last = small(alloc, greatest(x.number))?;
+    let above = difference(alloc, &variable, &first)?;
+    let below = difference(alloc, &last, &variable)?;
+    two(alloc, above, below)
+}
+
+fn cost_range(alloc: Global, f: FnId) -> Result<Vec<Poly>, Stop>
+    ensures { (k : pushing.Known) → FollowsAs (λ v. v.items) result (added (cert.cost_range f.0) k) }
+{
+    let cost = atom_of(alloc, &Atom::Cost(f))?;
+    one(alloc, cost)
+}
+
+#[tactic(auto, using(crate::proofs::Each::condition_in, crate::proofs::Each::condition_out))]
+pub fn condition(conditions: &[Cond], i: i64) -> Result<&Cond, Stop>
+    ensures { FollowsAs (λ c. c.now) result (facts.condition conditions.now i) }
+{
+    if i < 0 {
+        return Err(Stop::Breaks);
+    }
+    let i = i as usize;
+    if i < conditions.len() {
+        Ok(&conditions[i])
+    } else {
+        Err(Stop::Breaks)
+    }
+}
+
+/// The items less 1, where they are a difference of the sides.
+fn apart_by(alloc: Global, sides: &Sides, items: &[Item], known: &Known) -> Result<Vec<Poly>, Stop>
+    ensures { FollowsAs (λ v. v.items) result (
+        bind (building.term_polynomial sides.now.left) (λ t.
+        bind (building.term_polynomial sides.now.right) (λ u.
+        bind (building.combination (items_view items.now) known.now.polynomials.items) (λ z.
+        bind (building.difference t u) (λ more.
+        bind (building.difference u t) (λ less.
+        bind (limited (sum z (number (negsuc 0)))) (λ r.
+        require (polynomial_eq z more || polynomial_eq z less) (Ok (r ∷ []))))))))) }
+{
+    let left = term_polynomial(alloc, &sides.left)?;
+    let right = term_polynomial(alloc, &sides.right)?;
+    let total = combination(alloc, items, &known.polynomials)?;
+    let more = difference(alloc, &left, &right)?;
+    let less = difference(alloc, &right, &left)?;
+    let minus_one = small(alloc, -1)?;
+    let rest = sum(alloc, &total, &minus_one)?;
+    if total == more || total == less {
+        one(alloc, rest)
+    } else {
+        Err(Stop::Breaks)
+    }
+}
+
+fn apart(alloc: Global, i: i64, items: &[Item], known: &Known) -> Result<Vec<Poly>, Stop>
+    ensures { FollowsAs (λ v. v.items) result (added (cert.apart i (items_view items.now)) (known_view known.now)) }
+{
+    let condition = condition(&known.conditions, i)?;
+    let sides = different_sides(alloc, condition)?;
+    if !are_inside(items, known.polynomials.len()) {
+        return Err(Stop::Breaks);
+    }
+    apart_by(alloc, &sides, items, known)
+}
+
+fn num_is(alloc: Global, t: &Term, items: &[Item], known: &Known) -> Result<Vec<Poly>, Stop>
+    ensures { FollowsAs (λ v. v.items) result (added (cert.num_is t.now (items_view items.now)) (known_view known.now)) }
+{
+    if !are_inside(items, known.polynomials.len()) {
+        return Err(Stop::Breaks);
+    }
+    let p = term_polynomial(alloc, t)?;
+    let total = combination(alloc, items, &known.polynomials)?;
+    let num = num_of(alloc, &p)?;
+    let pair = both_ways(alloc, &num, &p)?;
+    if total == p {
+        Ok(pair)
+    } else {
+        Err(Stop::Breaks)
+    }
+}
+
+fn num_bounds(alloc: Global, t: &Term) -> Result<Vec<Poly>, Stop>
+    ensures { (k : pushing.Known) → FollowsAs (λ v. v.items) result (added (cert.num_bounds t.now) k) }
+{
+    let p = term_polynomial(alloc, t)?;
+    let num = num_of(alloc, &p)?;
+    let above = difference(alloc, &num, &p)?;
+    two(alloc, num, above)
+}
+
+fn wrapu_is(
+    alloc: Global,
+    t: &Term,
+    first: &[Item],
+    second: &[Item],
+    known: &Known,
+) -> Result<Vec<Poly>, Stop>
+    ensures { FollowsAs (λ v. v.items) result (added (cert.wrapu_is t.now (items_view first.now) (items_view second.now)) (known_view known.now)) }
+{
+    let count = known.polynomials.len();
+    if !are_inside(first, count) || !are_inside(second, count) {
+        return Err(Stop::Breaks);
+    }
+    let p = term_polynomial(alloc, t)?;
+    let last = small(alloc, 4_294_967_295)?;
+    let room = difference(alloc, &last, &p)?;
+    let totals = two_combinations(alloc, first, second, &known.polynomials)?;
+    let wrapped = wrapu_of(alloc, &p)?;
+    let pair = both_ways(alloc, &wrapped, &p)?;
+    if totals.first == p && totals.second == room {
+        Ok(pair)
+    } else {
+        Err(Stop::Breaks)
+    }
+}
+
+fn wraps_is(
+    alloc: Global,
+    t: &Term,
+    first: &[Item],
+    second: &[Item],
+    known: &Known,
+) -> Result<Vec<Poly>, Stop>
+    ensures { FollowsAs (λ v. v.items) result (added (cert.wraps_is t.now (items_view first.now) (items_view second.now)) (known_view known.now)) }
+{
+    let count = known.polynomials.len();
+    if !are_inside(first, count) || !are_inside(second, count) {
+        return Err(Stop::Breaks);
+    }
+    let p = term_polynomial(alloc, t)?;
+    let offset = small(alloc, 2_147_483_648)?;
+    let above = sum(alloc, &p, &offset)?;
+    let last = small(alloc, 2_147_483_647)?;
+    let room = difference(alloc, &last, &p)?;
+    let totals = two_combinations(alloc, first, second, &known.polynomials)?;
+    let wrapped = wraps_of(alloc, &p)?;
+    let pair = both_ways(alloc, &wrapped, &p)?;
+    if totals.first == above && totals.second == room {
+        Ok(pair)
+    } else {
+        Err(Stop::Breaks)
+    }
+}
+
+fn wrapu_bounds(alloc: Global, t: &Term) -> Result<Vec<Poly>, Stop>
+    ensures { (k : pushing.Known) → FollowsAs (λ v. v.items) result (added (cert.wrapu_bounds t.now) k) }
+{
+    let p = term_polynomial(alloc, t)?;
+    let wrapped = wrapu_of(alloc, &p)?;
+    let last = small(alloc, 4_294_967_295)?;
+    let room = difference(alloc, &last, &wrapped)?;
+    two(alloc, wrapped, room)
+}
+
+fn wraps_bounds(alloc: Global, t: &Term) -> Result<Vec<Poly>, Stop>
+    ensures { (k : pushing.Known) → FollowsAs (λ v. v.items) result (added (cert.wraps_bounds t.now) k) }
+{
+    let p = term_polynomial(alloc, t)?;
+    let wrapped = wraps_of(alloc, &p)?;
+    let offset = small(alloc, 2_147_483_648)?;
+    let above = sum(alloc, &wrapped, &offset)?;
+    let last = small(alloc, 2_147_483_647)?;
+    let room = difference(alloc, &last, &wrapped)?;
+    two(alloc, above, room)
+}
+
+#[tactic(auto, using(qs_poly::proofs::Coefficients::lessened_canonical))]
+fn quotient_bounds(alloc: Global, t: &Term, n: u64) -> Result<Vec<Poly>, Stop>
+    ensures { (k : pushing.Known) → FollowsAs (λ v. v.items) result (added (cert.quotient_bounds t.now n) k) }
+{
+    if n < 1 {
+        return Err(Stop::Breaks);
+    }
+    let p = term_polynomial(alloc, t)?;
+    let quotient = div_of(alloc, &p, n)?;
+    let rest = less(alloc, &p, n, &quotient, 0)?;
+    let room = less_negated(alloc, &p, n, &quotient, n - 1)?;
+    two(alloc, rest, room)
+}
+
+fn bits_bound(alloc: Global, t: &Term) -> Result<Vec<Poly>, Stop>
+    ensures { (k : pushing.Known) → FollowsAs (λ v. v.items) result (added (cert.bits_bound t.now) k) }
+{
+    let p = term_polynomial(alloc, t)?;
+    let bits = bits_of(alloc, &p)?;
+    one(alloc, bits)
+}
+
+fn bits_half(alloc: Global, t: &Term, items: &[Item], known: &Known) -> Result<Vec<Poly>, Stop>
+    ensures { FollowsAs (λ v. v.items) result (added (cert.bits_half t.now (items_view items.now)) (known_view known.now)) }
+{
+    if !are_inside(items, known.polynomials.len()) {
+        return Err(Stop::Breaks);
+    }
+    let p = term_polynomial(alloc, t)?;
+    let unit = small(alloc, 1)?;
+    let side = difference(alloc, &p, &unit)?;
+    let total = combination(alloc, items, &known.polynomials)?;
+    let bits = bits_of(alloc, &p)?;
+    let half = div_of(alloc, &p, 2)?;
+    let half_bits = bits_of(alloc, &half)?;
+    let above = less(alloc, &bits, 1, &half_bits, 1)?;
+    let below = negation(alloc, &above)?;
+    if total == side {
+        two(alloc, above, below)
+    } else {
+        Err(Stop::Breaks)
+    }
+}
+
+fn bits_rise(
+    alloc: Global,
+    t: &Term,
+    u: &Term,
+    items: &[Item],
+    known: &Known,
+) -> Result<Vec<Poly>, Stop>
+    ensures { FollowsAs (λ v. v.items) result (added (cert.bits_rise t.now u.now (items_view items.now)) (known_view known.now)) }
+{
+    if !are_inside(items, known.polynomials.len()) {
+        return Err(Stop::Breaks);
+    }
+    let p = term_polynomial(alloc, t)?;
+    let q = term_polynomial(alloc, u)?;
+    let total = combination(alloc, items, &known.polynomials)?;
+    let more = difference(alloc, &q, &p)?;
+    let lower = bits_of(alloc, &p)?;
+    let upper = bits_of(alloc, &q)?;
+    let rise = difference(alloc, &upper, &lower)?;
+    if total == more {
+        one(alloc, rise)
+    } else {
+        Err(Stop::Breaks)
+    }
+}
+
+/// The polynomials that a fact adds.
+pub fn added(alloc: Global, fact: &Fact, known: &Known) -> Result<Vec<Poly>, Stop>
+    ensures { FollowsAs (λ v. v.items) result (added (fact_tree fact.now) (known_view known.now)) }
+{
+    match fact {
+        Fact::Range(x) => range(alloc, *x),
+        Fact::CostRange(f) => cost_range(alloc, *f),
+        Fact::Apart(i, items) => apart(alloc, *i, items, known),
+        Fact::NumIs(t, items) => num_is(alloc, t, items, known),
+        Fact::NumBounds(t) => num_bounds(alloc, t),
+        Fact::WrapUnsignedIs(t, first, second) => wrapu_is(alloc, t, first, second, known),
+        Fact::WrapSignedIs(t, first, second) => wraps_is(alloc, t, first, second, known),
+        Fact::WrapUnsignedBounds(t) => wrapu_bounds(alloc, t),
+        Fact::WrapSignedBounds(t) => wraps_bounds(alloc, t),
+        Fact::QuotientBounds(t, n) => quotient_bounds(alloc, t, *n),
+        Fact::BitsBound(t) => bits_bound(alloc, t),
+        Fact::BitsHalf(t, items) => bits_half(alloc, t, items, known),
+        Fact::BitsRise(t, u, items) => bits_rise(alloc, t, u, items, known),
+    }
+}

@@ -1,0 +1,38 @@
+// Why the walk over a certificate stops.
+ghost use Rattle.std.specs.Prelude.{◌≡◌};
+ghost use Rattle.qs_entail.specs.Walking.{failure_of, settled};
+
+use crate::fault::Rule;
+use crate::stop::{Limit, Stop};
+
+/// Why the walk stops; its path tells where.
+#[derive(Clone, Copy, Debug, PartialEq, Eq)]
+pub enum Failed {
+    /// No memory was found.
+    NoMemory,
+    /// The side condition of this rule fails.
+    Step(Rule),
+    /// A polynomial passes this limit.
+    Limit(Limit),
+}
+
+/// A step of this rule gave nothing.
+pub fn failure(rule: Rule, stop: Stop) -> Failed
+    ensures { result ≡ failure_of rule stop }
+{
+    match stop {
+        Stop::NoMemory => Failed::NoMemory,
+        Stop::Breaks => Failed::Step(rule),
+        Stop::Passes(limit) => Failed::Limit(limit),
+    }
+}
+
+/// The answer of a node without parts.
+pub fn settle(rule: Rule, outcome: Result<(), Stop>) -> Result<(), Failed>
+    ensures { result ≡ settled rule outcome }
+{
+    match outcome {
+        Ok(()) => Ok(()),
+        Err(stop) => Err(failure(rule, stop)),
+    }
+}

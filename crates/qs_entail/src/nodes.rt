@@ -1,0 +1,400 @@
+// The walk over a certificate, a node before its parts. On a fault its path leads to the node.
+ghost use Rattle.std.specs.Prelude.{◌≡◌, length, true, false};
+ghost use Rattle.qs_assert.specs.Trees.{natural, infinity, not, assertions_of};
+ghost use Rattle.qs_entail.specs.Certificates.{pick, all, parts, assume, by_definition};
+ghost use Rattle.qs_entail.specs.Certificates as cert;
+ghost use Rattle.qs_entail.specs.Faults.{fault, faults_all, faults_parts, node, part, branch, guarded_of};
+ghost use Rattle.qs_entail.specs.Pushing.{push};
+ghost use Rattle.qs_entail.specs.Extending.{pushed};
+ghost use Rattle.qs_entail.specs.View.{cert_tree, certs_tree, fact_tree, known_view};
+ghost use Rattle.qs_entail.specs.Walking.{place, cut, Says, counted_summands, not_of, branch_number};
+
+use crate::branches::branch;
+use crate::certificate::{Certificate, Fact};
+use crate::failed::{Failed, failure, settle};
+use crate::fault::Rule;
+use crate::parts::{Guarded, guarded_of};
+use crate::rules::{
+    both_unfolded, counted_members, counted_summands, ends, part_number, picked, same,
+};
+use crate::walk::{Mark, Walk};
+use qs_assert::{Assertion, Cond, Define};
+use qs_base::{Name, NoMemory};
+
+impl Walk {
+    /// Checks a part, which is number i of its node.
+    #[cycle(check)]
+    fn check_part(
+        &mut self,
+        defines: &[Define],
+        i: usize,
+        certificate: &Certificate,
+        p: &Assertion,
+        q: &Assertion,
+    ) -> Result<(), Failed>
+        ensures { Says (place self.old) (place self.new) result (part i (fault (cert_tree certificate.now) defines.now (known_view self.old.known) p.now q.now)) }
+    {
+        match self.enter(i) {
+            Ok(()) => match self.check(defines, certificate, p, q) {
+                Ok(()) => {
+                    self.leave();
+                    Ok(())
+                }
+                Err(e) => Err(e),
+            },
+            Err(e) => Err(e),
+        }
+    }
+
+    /// Checks a part, and forgets what was pushed since the mark.
+    #[cycle(check)]
+    fn check_until(
+        &mut self,
+        mark: Mark,
+        defines: &[Define],
+        i: usize,
+        certificate: &Certificate,
+        p: &Assertion,
+        q: &Assertion,
+    ) -> Result<(), Failed>
+        ensures { Says (cut mark (place self.old)) (place self.new) result (part i (fault (cert_tree certificate.now) defines.now (known_view self.old.known) p.now q.now)) }
+    {
+        match self.check_part(defines, i, certificate, p, q) {
+            Ok(()) => {
+                self.back(mark);
+                Ok(())
+            }
+            Err(e) => Err(e),
+        }
+    }
+
+    /// Checks that a certificate shows that P is at least Q. On a fault the path leads to its node.
+    #[cycle(check)]
+    pub fn check(
+        &mut self,
+        defines: &[Define],
+        certificate: &Certificate,
+        p: &Assertion,
+        q: &Assertion,
+    ) -> Result<(), Failed>
+        ensures { Says (place self.old) (place self.new) result (fault (cert_tree certificate.now) defines.now (known_view self.old.known) p.now q.now) }
+    {
+        match certificate {
+            Certificate::Same => settle(Rule::Same, same(p, q)),
+            Certificate::Via(r, c, d) => match self.check_part(defines, 0, c, p, r) {
+                Ok(()) => self.check_part(defines, 1, d, r, q),
+                Err(e) => Err(e),
+            },
+            Certificate::Pick(i, c) => self.check_pick(defines, *i, c, p, q),
+            Certificate::All(parts) => self.check_all(defines, parts, p, q),
+            Certificate::Parts(parts) => self.check_parts(defines, parts, p, q),
+            Certificate::Assume(c) => self.check_assume(defines, c, p, q),
+            Certificate::DropGuard(c, d) => {
+                self.check_contradiction(defines, c, q)?;
+                self.check_body(defines, d, p, q)
+            }
+            Certificate::Split(b, c, d) => {
+                self.check_first(defines, b, c, p, q)?;
+                self.check_second(defines, b, d, p, q)
+            }
+            Certificate::Contradict(items) => self.contradicts(items),
+            Certificate::Arithmetic(items) => self.is_difference(items, p, q),
+            Certificate::ByDefinition(name, c) => self.check_definition(defines, name, c, p, q),
+            Certificate::Fact(fact, c) => self.check_fact(defines, fact, c, p, q),
+        }
+    }
+
+    #[cycle(check)]
+    fn check_pick(
+        &mut self,
+        defines: &[Define],
+        i: i64,
+        certificate: &Certificate,
+        p: &Assertion,
+        q: &Assertion,
+    ) -> Result<(), Failed>
+        ensures { Says (place self.old) (place self.new) result (fault (pick i (cert_tree certificate.now)) defines.now (known_view self.old.known) p.now q.now) }
+    {
+        match picked(self.alloc, p, i) {
+            Ok(member) => self.check_part(defines, 0, certificate, &member, q),
+            Err(stop) => Err(failure(Rule::Pick, stop)),
+        }
+    }
+
+    #[cycle(check)]
+    fn check_all(
+        &mut self,
+        defines: &[Define],
+        certificates: &[Certificate],
+        p: &Assertion,
+        q: &Assertion,
+    ) -> Result<(), Failed>
+        ensures { Says (place self.old) (place self.new) result (fault (all (certs_tree certificates.now)) defines.now (known_view self.old.known) p.now q.now) }
+    {
+        match counted_members(self.alloc, certificates.len(), q) {
+            Ok(members) => self.check_each(defines, certificates, p, &members),
+            Err(stop) => Err(failure(Rule::All, stop)),
+        }
+    }
+
+    #[cycle(check)]
+    fn check_each(
+        &mut self,
+        defines: &[Define],
+        certificates: &[Certificate],
+        p: &Assertion,
+        members: &[Assertion],
+    ) -> Result<(), Failed>
+        requires { length certificates.now ≡ length members.now }
+        ensures { Says (place self.old) (place self.new) result (faults_all (certs_tree certificates.now) 0 defines.now (known_view self.old.known) p.now (assertions_of members.now)) }
+    {
+        for (i, certificate) in certificates.iter().enumerate() {
+            match self.check_part(defines, i, certificate, p, &members[i]) {
+                Ok(()) => {}
+                Err(e) => return Err(e),
+            }
+        }
+        Ok(())
+    }
+
+    #[cycle(check)]
+    fn check_parts(
+        &mut self,
+        defines: &[Define],
+        certificates: &[Certificate],
+        p: &Assertion,
+        q: &Assertion,
+    ) -> Result<(), Failed>
+        ensures { Says (place self.old) (place self.new) result (fault (parts (certs_tree certificates.now)) defines.now (known_view self.old.known) p.now q.now) }
+    {
+        match counted_summands(self.alloc, certificates.len(), p) {
+            Ok(left) => self.check_right(defines, certificates, &left, q),
+            Err(stop) => Err(failure(Rule::Parts, stop)),
+        }
+    }
+
+    #[cycle(check)]
+    fn check_right(
+        &mut self,
+        defines: &[Define],
+        certificates: &[Certificate],
+        left: &[Assertion],
+        q: &Assertion,
+    ) -> Result<(), Failed>
+        requires { length certificates.now ≡ length left.now }
+        ensures { Says (place self.old) (place self.new) result (node 5 (counted_summands (length certificates.now) q.now) (λ right. faults_parts (certs_tree certificates.now) 0 defines.now (known_view self.old.known) (assertions_of left.now) right)) }
+    {
+        match counted_summands(self.alloc, certificates.len(), q) {
+            Ok(right) => self.check_pairs(defines, certificates, left, &right),
+            Err(stop) => Err(failure(Rule::Parts, stop)),
+        }
+    }
+
+    #[cycle(check)]
+    fn check_pairs(
+        &mut self,
+        defines: &[Define],
+        certificates: &[Certificate],
+        left: &[Assertion],
+        right: &[Assertion],
+    ) -> Result<(), Failed>
+        requires left { length certificates.now ≡ length left.now }
+        requires right { length certificates.now ≡ length right.now }
+        ensures { Says (place self.old) (place self.new) result (faults_parts (certs_tree certificates.now) 0 defines.now (known_view self.old.known) (assertions_of left.now) (assertions_of right.now)) }
+    {
+        for (i, certificate) in certificates.iter().enumerate() {
+            match self.check_part(defines, i, certificate, &left[i], &right[i]) {
+                Ok(()) => {}
+                Err(e) => return Err(e),
+            }
+        }
+        Ok(())
+    }
+
+    #[cycle(check)]
+    fn check_assume(
+        &mut self,
+        defines: &[Define],
+        certificate: &Certificate,
+        p: &Assertion,
+        q: &Assertion,
+    ) -> Result<(), Failed>
+        ensures { Says (place self.old) (place self.new) result (fault (assume (cert_tree certificate.now)) defines.now (known_view self.old.known) p.now q.now) }
+    {
+        match guarded_of(self.alloc, p) {
+            Ok(guarded) => self.check_guarded(defines, certificate, &guarded, q),
+            Err(stop) => Err(failure(Rule::Assume, stop)),
+        }
+    }
+
+    #[cycle(check)]
+    fn check_guarded(
+        &mut self,
+        defines: &[Define],
+        certificate: &Certificate,
+        guarded: &Guarded,
+        q: &Assertion,
+    ) -> Result<(), Failed>
+        ensures { Says (place self.old) (place self.new) result (node 6 (push guarded.now.condition (known_view self.old.known)) (λ known. part 0 (fault (cert_tree certificate.now) defines.now known guarded.now.body q.now))) }
+    {
+        match self.push(&guarded.condition, false) {
+            Ok(mark) => self.check_until(mark, defines, 0, certificate, &guarded.body, q),
+            Err(stop) => Err(failure(Rule::Assume, stop)),
+        }
+    }
+
+    /// Checks that the condition of a guard holds, since 0 would else be at least infinity.
+    #[cycle(check)]
+    fn check_contradiction(
+        &mut self,
+        defines: &[Define],
+        certificate: &Certificate,
+        q: &Assertion,
+    ) -> Result<(), Failed>
+        ensures { Says (place self.old) (place self.new) result (node 7 (guarded_of q.now) (λ g. node 7 (push (not g.condition) (known_view self.old.known)) (λ known. part 0 (fault (cert_tree certificate.now) defines.now known (natural 0) infinity)))) }
+    {
+        match guarded_of(self.alloc, q) {
+            Ok(guarded) => self.check_unguarded(defines, certificate, &guarded.condition),
+            Err(stop) => Err(failure(Rule::DropGuard, stop)),
+        }
+    }
+
+    #[cycle(check)]
+    fn check_unguarded(
+        &mut self,
+        defines: &[Define],
+        certificate: &Certificate,
+        condition: &Cond,
+    ) -> Result<(), Failed>
+        ensures { Says (place self.old) (place self.new) result (node 7 (push (not condition.now) (known_view self.old.known)) (λ known. part 0 (fault (cert_tree certificate.now) defines.now known (natural 0) infinity))) }
+    {
+        let (zero, infinity) = match ends(self.alloc) {
+            Ok(pair) => pair,
+            Err(NoMemory) => return Err(Failed::NoMemory),
+        };
+        match self.push(condition, true) {
+            Ok(mark) => self.check_until(mark, defines, 0, certificate, &zero, &infinity),
+            Err(stop) => Err(failure(Rule::DropGuard, stop)),
+        }
+    }
+
+    /// Checks a part for the body of a guard.
+    #[cycle(check)]
+    fn check_body(
+        &mut self,
+        defines: &[Define],
+        certificate: &Certificate,
+        p: &Assertion,
+        q: &Assertion,
+    ) -> Result<(), Failed>
+        ensures { Says (place self.old) (place self.new) result (node 7 (guarded_of q.now) (λ g. part 1 (fault (cert_tree certificate.now) defines.now (known_view self.old.known) p.now g.body))) }
+    {
+        match guarded_of(self.alloc, q) {
+            Ok(guarded) => self.check_part(defines, 1, certificate, p, &guarded.body),
+            Err(stop) => Err(failure(Rule::DropGuard, stop)),
+        }
+    }
+
+    /// Checks the part in which the condition holds, after it was pushed and its negation.
+    #[cycle(check)]
+    fn check_first(
+        &mut self,
+        defines: &[Define],
+        condition: &Cond,
+        certificate: &Certificate,
+        p: &Assertion,
+        q: &Assertion,
+    ) -> Result<(), Failed>
+        ensures { Says (place self.old) (place self.new) result (node 8 (push condition.now (known_view self.old.known)) (λ known. node 8 (push (not condition.now) (known_view self.old.known)) (λ _. part 0 (fault (cert_tree certificate.now) defines.now known (branch condition.now true p.now) (branch condition.now true q.now))))) }
+    {
+        match self.tries_both(condition) {
+            Ok(()) => self.check_branch(defines, condition, true, certificate, p, q),
+            Err(stop) => Err(failure(Rule::Split, stop)),
+        }
+    }
+
+    /// Checks the part in which the condition does not hold.
+    #[cycle(check)]
+    fn check_second(
+        &mut self,
+        defines: &[Define],
+        condition: &Cond,
+        certificate: &Certificate,
+        p: &Assertion,
+        q: &Assertion,
+    ) -> Result<(), Failed>
+        ensures { Says (place self.old) (place self.new) result (node 8 (push (not condition.now) (known_view self.old.known)) (λ known. part 1 (fault (cert_tree certificate.now) defines.now known (branch condition.now false p.now) (branch condition.now false q.now)))) }
+    {
+        self.check_branch(defines, condition, false, certificate, p, q)
+    }
+
+    /// Checks the part of the first branches or of the second, with the condition or its negation.
+    #[cycle(check)]
+    fn check_branch(
+        &mut self,
+        defines: &[Define],
+        condition: &Cond,
+        first: bool,
+        certificate: &Certificate,
+        p: &Assertion,
+        q: &Assertion,
+    ) -> Result<(), Failed>
+        ensures { Says (place self.old) (place self.new) result (node 8 (pushed (not_of first) condition.now (known_view self.old.known)) (λ known. part (branch_number first) (fault (cert_tree certificate.now) defines.now known (branch condition.now first p.now) (branch condition.now first q.now)))) }
+    {
+        let left = match branch(self.alloc, condition, first, p) {
+            Ok(left) => left,
+            Err(NoMemory) => return Err(Failed::NoMemory),
+        };
+        let right = match branch(self.alloc, condition, first, q) {
+            Ok(right) => right,
+            Err(NoMemory) => return Err(Failed::NoMemory),
+        };
+        match self.push(condition, !first) {
+            Ok(mark) => {
+                self.check_until(
+                    mark,
+                    defines,
+                    part_number(first),
+                    certificate,
+                    &left,
+                    &right,
+                )
+            }
+            Err(stop) => Err(failure(Rule::Split, stop)),
+        }
+    }
+
+    #[cycle(check)]
+    fn check_definition(
+        &mut self,
+        defines: &[Define],
+        name: &Name,
+        certificate: &Certificate,
+        p: &Assertion,
+        q: &Assertion,
+    ) -> Result<(), Failed>
+        ensures { Says (place self.old) (place self.new) result (fault (by_definition name.now (cert_tree certificate.now)) defines.now (known_view self.old.known) p.now q.now) }
+    {
+        match both_unfolded(self.alloc, defines, name, p, q) {
+            Ok(both) => self.check_part(defines, 0, certificate, &both.left, &both.right),
+            Err(stop) => Err(failure(Rule::ByDefinition, stop)),
+        }
+    }
+
+    #[cycle(check)]
+    fn check_fact(
+        &mut self,
+        defines: &[Define],
+        fact: &Fact,
+        certificate: &Certificate,
+        p: &Assertion,
+        q: &Assertion,
+    ) -> Result<(), Failed>
+        ensures { Says (place self.old) (place self.new) result (fault (cert.fact (fact_tree fact.now) (cert_tree certificate.now)) defines.now (known_view self.old.known) p.now q.now) }
+    {
+        match self.add(fact) {
+            Ok(mark) => self.check_until(mark, defines, 0, certificate, p, q),
+            Err(stop) => Err(failure(Rule::Fact, stop)),
+        }
+    }
+}

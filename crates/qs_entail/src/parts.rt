@@ -1,0 +1,139 @@
+// The parts of assertions and conditions.
+ghost use Rattle.std.specs.Prelude.{◌≡◌, ◌++◌, IfOk};
+ghost use Rattle.qs_assert.specs.Trees.{AssertionTrees, TermTree, assertions_of};
+ghost use Rattle.qs_assert.specs.Listing.{inner_term, assertions_nodes};
+ghost use Rattle.qs_entail.specs.Answers.{FollowsAs};
+ghost use Rattle.qs_entail.specs.Facts as facts;
+ghost use Rattle.qs_entail.specs.Faults as faults;
+ghost use Rattle.qs_entail.specs.Parts.{guarded_view, sides_view};
+ghost use Rattle.qs_entail.specs.Fronts as fronts;
+ghost use Rattle.qs_entail.specs.Fronts.{assertions_in};
+
+use crate::Stop;
+use crate::fronts::{assertion, begins, cond, parts, split_tree, term};
+use qs_assert::{Assertion, AssertionNode, Cond, CondNode, Node, Term};
+use qs_base::NoMemory;
+use std::alloc::Global;
+
+/// The parts of a guard.
+#[derive(Debug, Drop)]
+pub struct Guarded {
+    /// What has to hold.
+    pub condition: Cond,
+    /// The assertion.
+    pub body: Assertion,
+}
+
+/// Two terms of which a condition says that they differ.
+#[derive(Debug, Drop)]
+pub struct Sides {
+    /// The first.
+    pub left: Term,
+    /// The second.
+    pub right: Term,
+}
+
+fn is_greatest(nodes: &[Node]) -> bool
+    ensures { result ≡ fronts.is_greatest nodes.now }
+{
+    match nodes.first() {
+        Some(Node::Assertion(AssertionNode::Greatest(_))) => true,
+        _ => false,
+    }
+}
+
+fn is_total(nodes: &[Node]) -> bool
+    ensures { result ≡ fronts.is_total nodes.now }
+{
+    match nodes.first() {
+        Some(Node::Assertion(AssertionNode::Total(_))) => true,
+        _ => false,
+    }
+}
+
+fn assertions(alloc: Global, nodes: &[Node]) -> Result<Vec<Assertion>, NoMemory>
+    requires { (trees : AssertionTrees) × (nodes.now ≡ assertions_nodes trees) }
+    ensures { IfOk result (λ list. list.items ≡ assertions_in nodes.now) }
+{
+    let mut list = Vec::new(alloc);
+    let mut rest = nodes;
+    while !rest.is_empty() {
+        let (first, others) = split_tree(rest);
+        let part = assertion(alloc, first)?;
+        list.push(part)?;
+        rest = others;
+    }
+    Ok(list)
+}
+
+/// The members of which an assertion is the greatest; it breaks where it is none.
+pub fn members(alloc: Global, a: &Assertion) -> Result<Vec<Assertion>, Stop>
+    ensures { FollowsAs (λ list. assertions_of list.items) result (faults.members_of a.now) }
+{
+    let nodes = a.nodes();
+    if !is_greatest(nodes) {
+        return Err(Stop::Breaks);
+    }
+    let list = assertions(alloc, parts(nodes))?;
+    Ok(list)
+}
+
+/// The summands of an assertion; it breaks where it is no sum.
+pub fn summands(alloc: Global, a: &Assertion) -> Result<Vec<Assertion>, Stop>
+    ensures { FollowsAs (λ list. assertions_of list.items) result (faults.summands_of a.now) }
+{
+    let nodes = a.nodes();
+    if !is_total(nodes) {
+        return Err(Stop::Breaks);
+    }
+    let list = assertions(alloc, parts(nodes))?;
+    Ok(list)
+}
+
+/// The condition and the assertion of a guard; it breaks where the assertion is none.
+pub fn guarded_of(alloc: Global, a: &Assertion) -> Result<Guarded, Stop>
+    ensures { FollowsAs guarded_view result (faults.guarded_of a.now) }
+{
+    let nodes = a.nodes();
+    if !begins(nodes, &Node::Assertion(AssertionNode::Guard)) {
+        return Err(Stop::Breaks);
+    }
+    let (first, others) = split_tree(parts(nodes));
+    let condition = cond(alloc, first)?;
+    match assertion(alloc, others) {
+        Ok(body) => Ok(Guarded { condition, body }),
+        Err(fault) => Err(Stop::from(fault)),
+    }
+}
+
+/// The two terms that have these nodes.
+pub fn both_sides(alloc: Global, nodes: &[Node]) -> Result<Sides, NoMemory>
+    requires { (t : TermTree) × ((u : TermTree) × (nodes.now ≡ inner_term t ++ inner_term u)) }
+    ensures { IfOk result (λ sides. (t u : TermTree) → nodes.now ≡ inner_term t ++ inner_term u → (sides.left ≡ t) × (sides.right ≡ u)) }
+{
+    let (first, others) = split_tree(nodes);
+    let left = term(alloc, first)?;
+    match term(alloc, others) {
+        Ok(right) => Ok(Sides { left, right }),
+        Err(fault) => Err(fault),
+    }
+}
+
+/// The terms of which a condition says that they differ; it breaks where it says no such thing.
+pub fn different_sides(alloc: Global, c: &Cond) -> Result<Sides, Stop>
+    ensures { FollowsAs sides_view result (facts.different_sides c.now) }
+{
+    let nodes = c.nodes();
+    let inner = parts(nodes);
+    if begins(nodes, &Node::Condition(CondNode::Ne)) {
+        let sides = both_sides(alloc, inner)?;
+        return Ok(sides);
+    }
+    if begins(nodes, &Node::Condition(CondNode::Not))
+        && begins(inner, &Node::Condition(CondNode::Eq))
+    {
+        let sides = both_sides(alloc, parts(inner))?;
+        return Ok(sides);
+    }
+    Err(Stop::Breaks)
+}

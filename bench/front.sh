@@ -3,12 +3,7 @@
 # Prints a line for each shape of source and each size. Ends with 1 where a comment of 1,048,576 bytes, a C text of that
 # size or a unit of 10,000 nodes takes more than half a second.
 set -u
-top=$(cd "$(dirname "$(readlink -f "${BASH_SOURCE[0]}")")/.." && pwd)
-program=$(readlink -f "${1:-$top/qsc}")
-folder=$(mktemp -d)
-trap 'rm -rf "$folder"' EXIT
-cd "$folder" || exit 1
-"$program" build none.c --out a.img 2>/dev/null
+source "$(dirname "$(readlink -f "${BASH_SOURCE[0]}")")/program.sh"
 
 # as many copies of a piece as come to at most so many bytes
 pieces() { yes "$2" 2>/dev/null | head -n "$(($1 / ${#2}))" | tr -d '\n'; }

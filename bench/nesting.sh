@@ -2,12 +2,7 @@
 # Sources that nest far past the limit, on 4 MiB of native stack: bench/nesting.sh [PROGRAM] (by default ./qsc).
 # Prints a line for each; ends with 1 where a call doesn't end with status 1 and one line.
 set -u
-top=$(cd "$(dirname "$(readlink -f "${BASH_SOURCE[0]}")")/.." && pwd)
-program=$(readlink -f "${1:-$top/qsc}")
-folder=$(mktemp -d)
-trap 'rm -rf "$folder"' EXIT
-cd "$folder" || exit 1
-"$program" build none.c --out a.img 2>/dev/null
+source "$(dirname "$(readlink -f "${BASH_SOURCE[0]}")")/program.sh"
 ulimit -s 4096
 
 # so many times this piece of a piece

@@ -2,10 +2,10 @@
 use Rattle.std.proofs.Common.{◌≡◌, ◌⊎◌, inl, inr, ℕ, suc, ◌+◌, ◌<◌, ◌≤◌, max, false, true, List, [], ◌∷◌, ◌++◌, All, Some, codes, decimal, refl, ap, sym, ◌∙◌, subst, arith}
 use Rattle.std.proofs.lemmas.List.{append_assoc, append-nil}
 use Rattle.std.proofs.lemmas.List.Elements.{All-head, All-tail}
-use Rattle.qs_syntax.specs.declared.lexeme.Lexeme.{Lexeme}
-use Rattle.qs_syntax.specs.declared.lexeme.Lexeme.TheVariants.{Name, Keyword, Constant, Mark}
+use Rattle.qs_syntax.specs.declared.terminal.Terminal.{Terminal}
+use Rattle.qs_syntax.specs.declared.terminal.Terminal.TheVariants.{Name, Keyword, Constant, Punctuator}
 use Rattle.qs_syntax.specs.declared.tokens.Keyword.TheVariants as keywords
-use Rattle.qs_syntax.specs.declared.tokens.Mark.TheVariants as marks
+use Rattle.qs_syntax.specs.declared.tokens.Punctuator.TheVariants as punctuators
 use Rattle.qs_syntax.specs.Trees.{ExprTree, expr, int, call, no_exprs, expr_and, Stmts, no_stmts, stmt_and, expression, return, DeclTree}
 use Rattle.qs_syntax.specs.Numbering.{numbered_unit}
 use Rattle.qs_syntax.specs.Reads.{Postfix, Assignment, Expression, Reads, a_constant, a_call, a_postfix, an_operand, stronger, a_plain_level, a_plain_conditional, a_plain_assignment, a_last_argument}
@@ -20,17 +20,17 @@ use Rattle.qs_driver.proofs.FormLexed.{int_then, main_then, void_then, putchar_t
 
 -- ---- what stands in the block
 
-as_assignment : {h : ℕ} {ts : List Lexeme} {e : ExprTree} → Reads Postfix h ts e → Reads Assignment h ts e
+as_assignment : {h : ℕ} {ts : List Terminal} {e : ExprTree} → Reads Postfix h ts e → Reads Assignment h ts e
 as_assignment r = a_plain_conditional (a_plain_level (stronger (stronger (stronger (stronger (stronger (stronger (stronger (stronger (stronger (stronger (an_operand (a_postfix r)))))))))))))
 
-as_expression : {h : ℕ} {ts : List Lexeme} {e : ExprTree} → Reads Postfix h ts e → Reads Expression h ts e
+as_expression : {h : ℕ} {ts : List Terminal} {e : ExprTree} → Reads Postfix h ts e → Reads Expression h ts e
 as_expression r = a_plain_assignment (as_assignment r)
 
 -- these bytes are the items of a block, its end, and nothing more
 record Items (rest : List ℕ) (number : ℕ) : Type 0 where
-  ls : List Lexeme
+  ls : List Terminal
   end : ℕ
-  lexes : LexesAs false rest number (ls ++ Mark end marks.CloseBrace ∷ [])
+  lexes : LexesAs false rest number (ls ++ Punctuator end punctuators.CloseBrace ∷ [])
   height : ℕ
   low : height ≤ 3
   trees : Stmts
@@ -38,7 +38,7 @@ record Items (rest : List ℕ) (number : ℕ) : Type 0 where
 
 returns : (status : ℕ) (tail : List ℕ) (number : ℕ) → status < 256 → ((n : ℕ) → LexesAs false tail n []) → Items (codes "return " ++ (decimal status ++ (codes ";}" ++ tail))) number
 returns status tail number h ends = record {
-  ls = Keyword number keywords.Return ∷ Constant (number + 1) status false ∷ Mark (number + 1 + 1) marks.Semicolon ∷ [];
+  ls = Keyword number keywords.Return ∷ Constant (number + 1) status false ∷ Punctuator (number + 1 + 1) punctuators.Semicolon ∷ [];
   end = number + 1 + 1 + 1;
   lexes = return_then (blank_then (number_then status 59 h refl (semicolon_then (block_end_then (ends (number + 1 + 1 + 1 + 1))))));
   height = 2;
@@ -52,7 +52,7 @@ max_low k h = grind arith
 
 puts : (byte : ℕ) (rest : List ℕ) (number : ℕ) → byte < 256 → Items rest (number + 1 + 1 + 1 + 1 + 1) → Items (codes "putchar(" ++ (decimal byte ++ (codes ");" ++ rest))) number
 puts byte rest number h others = record {
-  ls = Name number (codes "putchar") ∷ Mark (number + 1) marks.OpenParenthesis ∷ Constant (number + 1 + 1) byte false ∷ Mark (number + 1 + 1 + 1) marks.CloseParenthesis ∷ Mark (number + 1 + 1 + 1 + 1) marks.Semicolon ∷ others.ls;
+  ls = Name number (codes "putchar") ∷ Punctuator (number + 1) punctuators.OpenParenthesis ∷ Constant (number + 1 + 1) byte false ∷ Punctuator (number + 1 + 1 + 1) punctuators.CloseParenthesis ∷ Punctuator (number + 1 + 1 + 1 + 1) punctuators.Semicolon ∷ others.ls;
   end = others.end;
   lexes = putchar_then (open_then (number_then byte 41 h refl (close_then (semicolon_then others.lexes))));
   height = max 3 others.height;
@@ -75,14 +75,14 @@ items (byte ∷ bytes) status tail number h l ends =
 
 -- ---- the unit
 
-unit_of : (text : List ℕ) (ls : List Lexeme) (ds : List DeclTree) (height : ℕ) → Lexed text ls → ReadsUnit height ls ds → height ≤ 128 → IsUnit text
+unit_of : (text : List ℕ) (ls : List Terminal) (ds : List DeclTree) (height : ℕ) → Lexed text ls → ReadsUnit height ls ds → height ≤ 128 → IsUnit text
 unit_of text ls ds height l r low =
-    let P : List Lexeme → Type 0 = λ ts. ReadsUnit height ts ds in
+    let P : List Terminal → Type 0 = λ ts. ReadsUnit height ts ds in
     record { tokens = l.tokens; are_tokens = l.are_tokens; trees = numbered_unit ds; reads = record { height = height; unnumbered = ds; reads = subst P (sym l.seen) r; low = low; are_numbered = refl } }
 
 block : (rest : List ℕ) → Items rest 6 → IsUnit (codes "int main(void){" ++ rest)
 block rest i =
-    let ls : List Lexeme = Keyword 0 keywords.Int ∷ Name 1 (codes "main") ∷ Mark 2 marks.OpenParenthesis ∷ Keyword 3 keywords.Void ∷ Mark 4 marks.CloseParenthesis ∷ Mark 5 marks.OpenBrace ∷ (i.ls ++ Mark i.end marks.CloseBrace ∷ []) in
+    let ls : List Terminal = Keyword 0 keywords.Int ∷ Name 1 (codes "main") ∷ Punctuator 2 punctuators.OpenParenthesis ∷ Keyword 3 keywords.Void ∷ Punctuator 4 punctuators.CloseParenthesis ∷ Punctuator 5 punctuators.OpenBrace ∷ (i.ls ++ Punctuator i.end punctuators.CloseBrace ∷ []) in
     unit_of (codes "int main(void){" ++ rest) ls _ _ (lexed (codes "int main(void){" ++ rest) ls (int_then (blank_then (main_then (open_then (void_then (close_then (block_then i.lexes))))))))
     (a_last_external (a_definition 1 2 4 5 i.end (codes "main") (an_outer_type no_prefix (an_int 0) no_const) no_star (a_void_head 3) i.reads)) (low i.height i.low)
   where

@@ -5,7 +5,7 @@ use Rattle.std.proofs.lemmas.List.{append-nil, append_assoc, drop-drop, length-a
 use Rattle.std.proofs.lemmas.Bool.{cond-true}
 use Rattle.qs_lexer.specs.Bytes.{is_space}
 use Rattle.qs_lexer.specs.Laws as laws
-use Rattle.qs_lexer.specs.Lexemes.{lexeme_of, lexemes}
+use Rattle.qs_lexer.specs.Terminals.{terminal_of, terminals}
 use Rattle.qs_lexer.specs.Pieces.{Next, class_of, still_fresh}
 use Rattle.qs_lexer.specs.Tokens.{ReadsTo, Tokens, start, white_space, token, token_at}
 use Rattle.qs_lexer.specs.declared.pieces.Class.TheVariants.{Space}
@@ -13,7 +13,7 @@ use Rattle.qs_lexer.specs.declared.pieces.Piece.{Piece}
 use Rattle.qs_lexer.specs.declared.pieces.Piece.TheVariants as pieces
 use Rattle.qs_lexer.proofs.Begins.{next_is}
 use Rattle.qs_lexer.proofs.Whites.{space_stands}
-use Rattle.qs_syntax.specs.declared.lexeme.Lexeme.{Lexeme}
+use Rattle.qs_syntax.specs.declared.terminal.Terminal.{Terminal}
 use Rattle.qs_syntax.specs.declared.tokens.Token.{Token}
 use Rattle.qs_syntax.specs.declared.tokens.TokenKind.{TokenKind}
 
@@ -22,14 +22,14 @@ record Left (text : List ℕ) (at : ℕ) (rest : List ℕ) : Type 0 where
   is : drop at text ≡ rest
   whole : at + length rest ≡ length text
 
--- behind these tokens the text has others, which are these lexemes, the first of which has this number
-record Goes (text : List ℕ) (done : List Token) (number : ℕ) (ls : List Lexeme) : Type 0 where
+-- behind these tokens the text has others, which are these terminals, the first of which has this number
+record Goes (text : List ℕ) (done : List Token) (number : ℕ) (ls : List Terminal) : Type 0 where
   more : List Token
   are_tokens : Tokens text (done ++ more)
-  seen : lexemes text number more ≡ ls
+  seen : terminals text number more ≡ ls
 
--- where a text has these bytes left, they are these lexemes
-pub record LexesAs (fresh : Bool) (rest : List ℕ) (number : ℕ) (ls : List Lexeme) : Type 0 where
+-- where a text has these bytes left, they are these terminals
+pub record LexesAs (fresh : Bool) (rest : List ℕ) (number : ℕ) (ls : List Terminal) : Type 0 where
   goes : (text : List ℕ) (done : List Token) (at : ℕ) → ReadsTo text done fresh at → Left text at rest → Goes text done number ls
 
 passed : (text word rest : List ℕ) (at : ℕ) → Left text at (word ++ rest) → Left text (at + length word) rest
@@ -54,7 +54,7 @@ nothing_left fresh number = record { goes = λ text done at r l. record { more =
 
 -- ---- a blank or a line feed
 
-pub white_then : (fresh still : Bool) (a : ℕ) {rest : List ℕ} {number : ℕ} {ls : List Lexeme} → is_space a ≡ true → still ≡ still_fresh fresh (a ∷ []) → LexesAs still rest number ls → LexesAs fresh (a ∷ rest) number ls
+pub white_then : (fresh still : Bool) (a : ℕ) {rest : List ℕ} {number : ℕ} {ls : List Terminal} → is_space a ≡ true → still ≡ still_fresh fresh (a ∷ []) → LexesAs still rest number ls → LexesAs fresh (a ∷ rest) number ls
 white_then fresh still a {rest} h s on = record {
   goes = λ text done at r l.
       on.goes text done (at + 1) (white_space 1 still r (there fresh text (a ∷ rest) at (pieces.White 1 still) l next)) (passed text (a ∷ []) rest at l);
@@ -73,8 +73,8 @@ spelled text word rest at kind l =
     let n : at + length word - at ≡ length word = omega arith in
     ap (λ k. take k (drop at text)) n ∙ ap (take (length word)) l.is ∙ take-append_seam word rest
 
-pub token_then : (fresh : Bool) (word : List ℕ) (kind : TokenKind) {rest : List ℕ} {number : ℕ} {ls : List Lexeme} → Next fresh (word ++ rest) (pieces.Token (length word) kind) → LexesAs false rest (number + 1) ls
-    → LexesAs fresh (word ++ rest) number (lexeme_of number word kind ∷ ls)
+pub token_then : (fresh : Bool) (word : List ℕ) (kind : TokenKind) {rest : List ℕ} {number : ℕ} {ls : List Terminal} → Next fresh (word ++ rest) (pieces.Token (length word) kind) → LexesAs false rest (number + 1) ls
+    → LexesAs fresh (word ++ rest) number (terminal_of number word kind ∷ ls)
 token_then fresh word kind {rest} {number} {ls} next on = record {
   goes = λ text done at r l.
       let t : Token = token_at at (length word) kind in
@@ -84,18 +84,18 @@ token_then fresh word kind {rest} {number} {ls} next on = record {
       record {
         more = t ∷ g.more;
         are_tokens = subst P (append_assoc done (t ∷ []) g.more) g.are_tokens;
-        seen = ap (λ bytes. lexeme_of number bytes kind ∷ lexemes text (number + 1) g.more) (spelled text word rest at kind l) ∙ ap (λ xs. lexeme_of number word kind ∷ xs) g.seen;
+        seen = ap (λ bytes. terminal_of number bytes kind ∷ terminals text (number + 1) g.more) (spelled text word rest at kind l) ∙ ap (λ xs. terminal_of number word kind ∷ xs) g.seen;
       };
 }
 
 -- ---- a whole text
 
-pub record Lexed (text : List ℕ) (ls : List Lexeme) : Type 0 where
+pub record Lexed (text : List ℕ) (ls : List Terminal) : Type 0 where
   pub tokens : List Token
   pub are_tokens : Tokens text tokens
-  pub seen : lexemes text 0 tokens ≡ ls
+  pub seen : terminals text 0 tokens ≡ ls
 
-pub lexed : (text : List ℕ) (ls : List Lexeme) → LexesAs true text 0 ls → Lexed text ls
+pub lexed : (text : List ℕ) (ls : List Terminal) → LexesAs true text 0 ls → Lexed text ls
 lexed text ls h =
     let g : Goes text [] 0 ls = h.goes text [] 0 start (record { is = refl; whole = omega arith }) in
     record { tokens = g.more; are_tokens = g.are_tokens; seen = g.seen }

@@ -2,7 +2,7 @@
 use Rattle.std.proofs.Common.{◌≡◌, ℕ, List, refl, subst, sym}
 use Rattle.qs_base.specs.declared.places.Pos.{Pos}
 use Rattle.qs_syntax.specs.declared.tokens.Token.{Token}
-use Rattle.qs_lexer.specs.Lexemes.{lexemes}
+use Rattle.qs_lexer.specs.Terminals.{terminals}
 use Rattle.qs_lexer.specs.Tokens.{Tokens, LexFaultAt}
 use Rattle.qs_lexer.specs.declared.fault.FaultKind.{FaultKind}
 use Rattle.qs_lexer.proofs.Only.{not_both, one_list}
@@ -19,7 +19,7 @@ use Rattle.qs_driver.proofs.FormUnits.{first_form_is_unit}
 pub no_unit : (text : List ℕ) → IsNoUnit text → IsUnit text → ⊥
 no_unit text n u =
     let same : u.tokens ≡ n.tokens = one_list text u.tokens n.tokens u.are_tokens n.are_tokens in
-    let none : HasNoReading (lexemes text 0 u.tokens) = subst (λ (ts : List Token). HasNoReading (lexemes text 0 ts)) (sym same) n.none in
+    let none : HasNoReading (terminals text 0 u.tokens) = subst (λ (ts : List Token). HasNoReading (terminals text 0 ts)) (sym same) n.none in
     none u.reads.height u.reads.unnumbered u.reads.reads u.reads.low
 
 pub is_lexical : (text : List ℕ) (kind : FaultKind) (at : ℕ) (fault : SourceFault) → LexFaultAt text kind at → IsLexical text kind at fault → IsAmiss text fault
@@ -28,7 +28,7 @@ is_lexical text kind at fault f l = record {
   no_form = λ p form. let u : IsUnit text = first_form_is_unit text p form in not_both text u.tokens kind at u.are_tokens f;
 }
 
-pub is_syntactic : (text : List ℕ) (tokens : List Token) (number : ℕ) (kind : SyntaxKind) (pos : Pos) → Tokens text tokens → IsRefused (lexemes text 0 tokens) number → IsAmiss text (Syntax kind pos)
+pub is_syntactic : (text : List ℕ) (tokens : List Token) (number : ℕ) (kind : SyntaxKind) (pos : Pos) → Tokens text tokens → IsRefused (terminals text 0 tokens) number → IsAmiss text (Syntax kind pos)
 is_syntactic text tokens number kind pos t r =
     let n : IsNoUnit text = record { tokens = tokens; are_tokens = t; none = r.none } in
     record { has = syntactic kind pos n refl; no_form = λ p form. no_unit text n (first_form_is_unit text p form) }

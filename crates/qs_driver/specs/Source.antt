@@ -5,7 +5,7 @@ use Rattle.qs_base.specs.declared.places.Pos.{Pos}
 use Rattle.qs_syntax.specs.declared.tokens.Token.{Token}
 use Rattle.qs_syntax.specs.Trees.{DeclTree}
 use Rattle.qs_lexer.specs.Tokens.{Tokens, LexFaultAt}
-use Rattle.qs_lexer.specs.Lexemes.{lexemes}
+use Rattle.qs_lexer.specs.Terminals.{terminals}
 use Rattle.qs_lexer.specs.declared.fault.FaultKind.{FaultKind}
 use Rattle.qs_parser.specs.Answers.{ReadsAs, HasNoReading}
 use Rattle.qs_driver.specs.declared.status.SourceFault.{SourceFault}
@@ -33,14 +33,14 @@ pub record IsLexical (text : List ℕ) (kind : FaultKind) (at : ℕ) (fault : So
 pub record IsNoUnit (text : List ℕ) : Type 0 where
   pub tokens : List Token
   pub are_tokens : Tokens text tokens
-  pub none : HasNoReading (lexemes text 0 tokens)
+  pub none : HasNoReading (terminals text 0 tokens)
 
 -- the text has tokens, and they are read as a unit
 pub record IsUnit (text : List ℕ) : Type 0 where
   pub tokens : List Token
   pub are_tokens : Tokens text tokens
   pub trees : List DeclTree
-  pub reads : ReadsAs (lexemes text 0 tokens) trees
+  pub reads : ReadsAs (terminals text 0 tokens) trees
 
 -- what is wrong with a text that isn't of the first form
 pub data IsWrong (text : List ℕ) (fault : SourceFault) : Type 0 where

@@ -3,11 +3,11 @@ use Rattle.std.proofs.Common.{◌≡◌, true, false, [], ◌∷◌, Some, None,
 use Rattle.qs_lexer.specs.Literals.{character_of, elements, simple_escape, text_of}
 use Rattle.qs_lexer.specs.Numbers.{number_of}
 use Rattle.qs_lexer.specs.Pieces.{class_of, is_block_comment, is_line_marker, is_quoted}
-use Rattle.qs_lexer.specs.Words.{keyword_of, mark_of, word_of}
+use Rattle.qs_lexer.specs.Words.{keyword_of, punctuator_of, word_of}
 use Rattle.qs_lexer.specs.declared.fault.FaultKind.TheVariants as faults
 use Rattle.qs_lexer.specs.declared.pieces.Class.TheVariants as class
 use Rattle.qs_syntax.specs.declared.tokens.Keyword.TheVariants as keyword
-use Rattle.qs_syntax.specs.declared.tokens.Mark.TheVariants as mark
+use Rattle.qs_syntax.specs.declared.tokens.Punctuator.TheVariants as punctuator
 use Rattle.qs_syntax.specs.declared.tokens.TokenKind.TheVariants as kinds
 
 -- ---- numbers
@@ -33,7 +33,7 @@ octal_8 = refl
 without_digits : number_of (codes "0x") ≡ Err faults.BadLiteral
 without_digits = refl
 
--- ---- words and marks
+-- ---- words and punctuators
 
 a_keyword : word_of (codes "_Bool") ≡ Ok (kinds.Keyword keyword.Bool)
 unfolding keyword_of
@@ -43,13 +43,13 @@ a_name : word_of (codes "ints") ≡ Ok kinds.Name
 unfolding keyword_of
 a_name = refl
 
-a_mark : mark_of (codes ">>=") ≡ Some mark.ShiftRightAssign
-unfolding mark_of
-a_mark = refl
+a_punctuator : punctuator_of (codes ">>=") ≡ Some punctuator.ShiftRightAssign
+unfolding punctuator_of
+a_punctuator = refl
 
-no_mark : mark_of (codes "=>") ≡ None
-unfolding mark_of
-no_mark = refl
+no_punctuator : punctuator_of (codes "=>") ≡ None
+unfolding punctuator_of
+no_punctuator = refl
 
 -- ---- literals
 

@@ -3,21 +3,21 @@ use Rattle.std.proofs.Common.{◌≡◌, ℕ, ◌<◌, zero, suc, Bool, true, fa
 use Rattle.std.proofs.lemmas.Bool.Decides.{nat_tests}
 use Rattle.qs_base.specs.Names.{is_digit, is_letter, is_word}
 use Rattle.qs_lexer.specs.Bytes.{is_space, starts, starts_with}
-use Rattle.qs_lexer.specs.Pieces.{Longest, class_of, has_form, is_mark, is_number, is_quoted, is_token}
+use Rattle.qs_lexer.specs.Pieces.{Longest, class_of, has_form, is_punctuator, is_number, is_quoted, is_token}
 use Rattle.qs_lexer.specs.Tables.{look_up}
-use Rattle.qs_lexer.specs.Words.{mark_of, mark_table}
+use Rattle.qs_lexer.specs.Words.{punctuator_of, punctuator_table}
 use Rattle.qs_lexer.specs.declared.pieces.Class.{Class}
 use Rattle.qs_lexer.specs.declared.pieces.Class.TheVariants.{End, Space, LineComment, BlockComment, LineMarker, Word, Number, Character, Text, Other}
 use Rattle.qs_lexer.proofs.Fronts.{longest_same}
 
--- ---- marks begin with no letter, digit or quote
+-- ---- punctuators begin with no letter, digit or quote
 
-abbrev begins_no_mark : ℕ → Bool
-begins_no_mark byte = is_letter byte || is_digit byte || byte == 39 || byte == 34
+abbrev begins_no_punctuator : ℕ → Bool
+begins_no_punctuator byte = is_letter byte || is_digit byte || byte == 39 || byte == 34
 
 abbrev keys_begin : {A : Type 0} → List (List ℕ × A) → Bool
 keys_begin [] = true
-keys_begin (entry ∷ entries) = starts (λ byte. not (begins_no_mark byte)) entry.0 && keys_begin entries
+keys_begin (entry ∷ entries) = starts (λ byte. not (begins_no_punctuator byte)) entry.0 && keys_begin entries
 
 differs : (f : ℕ → Bool) (x y : ℕ) → f x ≡ false → f y ≡ true → (x == y) ≡ false
 differs f x y h k = by (x == y) refl
@@ -42,23 +42,23 @@ not_false : (b : Bool) → not b ≡ true → b ≡ false
 not_false true h = cc
 not_false false h = refl
 
-no_key : (spelling : List ℕ) (a : ℕ) (xs : List ℕ) → starts (λ byte. not (begins_no_mark byte)) spelling ≡ true → begins_no_mark a ≡ true → bytes_eq spelling (a ∷ xs) ≡ false
+no_key : (spelling : List ℕ) (a : ℕ) (xs : List ℕ) → starts (λ byte. not (begins_no_punctuator byte)) spelling ≡ true → begins_no_punctuator a ≡ true → bytes_eq spelling (a ∷ xs) ≡ false
 no_key [] a xs s h = cc
-no_key (first ∷ others) a xs s h = left_false (first == a) (bytes_eq others xs) (differs begins_no_mark first a (not_false (begins_no_mark first) s) h)
+no_key (first ∷ others) a xs s h = left_false (first == a) (bytes_eq others xs) (differs begins_no_punctuator first a (not_false (begins_no_punctuator first) s) h)
 
-not_in_table : {A : Type 0} (table : List (List ℕ × A)) (a : ℕ) (xs : List ℕ) → keys_begin table ≡ true → begins_no_mark a ≡ true → look_up table (a ∷ xs) ≡ None
+not_in_table : {A : Type 0} (table : List (List ℕ × A)) (a : ℕ) (xs : List ℕ) → keys_begin table ≡ true → begins_no_punctuator a ≡ true → look_up table (a ∷ xs) ≡ None
 not_in_table [] a xs keys h = refl
 not_in_table (entry ∷ entries) a xs keys h =
-    let f : starts (λ byte. not (begins_no_mark byte)) entry.0 ≡ true = first_true (starts (λ byte. not (begins_no_mark byte)) entry.0) (keys_begin entries) keys in
-    let g : keys_begin entries ≡ true = second_true (starts (λ byte. not (begins_no_mark byte)) entry.0) (keys_begin entries) keys in
+    let f : starts (λ byte. not (begins_no_punctuator byte)) entry.0 ≡ true = first_true (starts (λ byte. not (begins_no_punctuator byte)) entry.0) (keys_begin entries) keys in
+    let g : keys_begin entries ≡ true = second_true (starts (λ byte. not (begins_no_punctuator byte)) entry.0) (keys_begin entries) keys in
     rw (no_key entry.0 a xs f h) (not_in_table entries a xs g h)
 
-mark_begins : keys_begin mark_table ≡ true
-mark_begins = refl
+punctuator_begins : keys_begin punctuator_table ≡ true
+punctuator_begins = refl
 
-no_mark : (a : ℕ) (xs : List ℕ) → begins_no_mark a ≡ true → is_mark (a ∷ xs) ≡ false
-unfolding mark_of
-no_mark a xs h = ap is_some (not_in_table mark_table a xs mark_begins h)
+no_punctuator : (a : ℕ) (xs : List ℕ) → begins_no_punctuator a ≡ true → is_punctuator (a ∷ xs) ≡ false
+unfolding punctuator_of
+no_punctuator a xs h = ap is_some (not_in_table punctuator_table a xs punctuator_begins h)
 
 -- ---- of five tests all but one fail
 
@@ -145,19 +145,19 @@ form_cons Space a xs h = absurd h
 form_cons LineComment a xs h = absurd h
 form_cons BlockComment a xs h = absurd h
 form_cons LineMarker a xs h = absurd h
-form_cons Word a xs h = sym (only_first (is_word (a ∷ xs)) (is_number (a ∷ xs)) (is_quoted 39 (a ∷ xs)) (is_quoted 34 (a ∷ xs)) (is_mark (a ∷ xs))
+form_cons Word a xs h = sym (only_first (is_word (a ∷ xs)) (is_number (a ∷ xs)) (is_quoted 39 (a ∷ xs)) (is_quoted 34 (a ∷ xs)) (is_punctuator (a ∷ xs))
     (left_false (is_digit a) _ (letter_no_digit a h)) (left_false (a == 39) _ (letter_no a 39 h (omega arith))) (left_false (a == 34) _ (letter_no a 34 h (omega arith)))
-    (no_mark a xs (or_1 (is_letter a) (is_digit a) (a == 39) (a == 34) h)))
-form_cons Number a xs h = sym (only_second (is_word (a ∷ xs)) (is_number (a ∷ xs)) (is_quoted 39 (a ∷ xs)) (is_quoted 34 (a ∷ xs)) (is_mark (a ∷ xs))
+    (no_punctuator a xs (or_1 (is_letter a) (is_digit a) (a == 39) (a == 34) h)))
+form_cons Number a xs h = sym (only_second (is_word (a ∷ xs)) (is_number (a ∷ xs)) (is_quoted 39 (a ∷ xs)) (is_quoted 34 (a ∷ xs)) (is_punctuator (a ∷ xs))
     (left_false (is_letter a) _ (digit_no_letter a h)) (left_false (a == 39) _ (digit_no a 39 h (omega arith))) (left_false (a == 34) _ (digit_no a 34 h (omega arith)))
-    (no_mark a xs (or_2 (is_letter a) (is_digit a) (a == 39) (a == 34) h)))
-form_cons Character a xs h = sym (only_third (is_word (a ∷ xs)) (is_number (a ∷ xs)) (is_quoted 39 (a ∷ xs)) (is_quoted 34 (a ∷ xs)) (is_mark (a ∷ xs))
+    (no_punctuator a xs (or_2 (is_letter a) (is_digit a) (a == 39) (a == 34) h)))
+form_cons Character a xs h = sym (only_third (is_word (a ∷ xs)) (is_number (a ∷ xs)) (is_quoted 39 (a ∷ xs)) (is_quoted 34 (a ∷ xs)) (is_punctuator (a ∷ xs))
     (left_false (is_letter a) _ (byte_no_letter a 39 h (omega arith))) (left_false (is_digit a) _ (byte_no_digit a 39 h (omega arith))) (left_false (a == 34) _ (byte_no_less a 39 34 h (omega arith)))
-    (no_mark a xs (or_3 (is_letter a) (is_digit a) (a == 39) (a == 34) h)))
-form_cons Text a xs h = sym (only_fourth (is_word (a ∷ xs)) (is_number (a ∷ xs)) (is_quoted 39 (a ∷ xs)) (is_quoted 34 (a ∷ xs)) (is_mark (a ∷ xs))
+    (no_punctuator a xs (or_3 (is_letter a) (is_digit a) (a == 39) (a == 34) h)))
+form_cons Text a xs h = sym (only_fourth (is_word (a ∷ xs)) (is_number (a ∷ xs)) (is_quoted 39 (a ∷ xs)) (is_quoted 34 (a ∷ xs)) (is_punctuator (a ∷ xs))
     (left_false (is_letter a) _ (byte_no_letter a 34 h (omega arith))) (left_false (is_digit a) _ (byte_no_digit a 34 h (omega arith))) (left_false (a == 39) _ (byte_no_byte a 34 39 h (omega arith)))
-    (no_mark a xs (or_4 (is_letter a) (is_digit a) (a == 39) (a == 34) h)))
-form_cons Other a xs h = sym (only_fifth (is_word (a ∷ xs)) (is_number (a ∷ xs)) (is_quoted 39 (a ∷ xs)) (is_quoted 34 (a ∷ xs)) (is_mark (a ∷ xs))
+    (no_punctuator a xs (or_4 (is_letter a) (is_digit a) (a == 39) (a == 34) h)))
+form_cons Other a xs h = sym (only_fifth (is_word (a ∷ xs)) (is_number (a ∷ xs)) (is_quoted 39 (a ∷ xs)) (is_quoted 34 (a ∷ xs)) (is_punctuator (a ∷ xs))
     (left_false (is_letter a) _ h.0) (left_false (is_digit a) _ h.1) (left_false (a == 39) _ h.2) (left_false (a == 34) _ h.3))
 
 -- ---- which first bytes a class of tokens has
@@ -205,9 +205,9 @@ class_firsts fresh a bs h =
     from_digit a p (is_digit a) refl _ h (λ q h.
     from_quote a p q (a == 39) refl h))))))
 
-no_empty_mark : is_mark [] ≡ false
-unfolding mark_of
-no_empty_mark = refl
+no_empty_punctuator : is_punctuator [] ≡ false
+unfolding punctuator_of
+no_empty_punctuator = refl
 
 empty_token : (c : Class) → is_token_class c ≡ true → has_form c [] ≡ is_token []
 empty_token End h = cc
@@ -215,10 +215,10 @@ empty_token Space h = cc
 empty_token LineComment h = cc
 empty_token BlockComment h = cc
 empty_token LineMarker h = cc
-empty_token Word h = sym no_empty_mark
-empty_token Number h = sym no_empty_mark
-empty_token Character h = sym no_empty_mark
-empty_token Text h = sym no_empty_mark
+empty_token Word h = sym no_empty_punctuator
+empty_token Number h = sym no_empty_punctuator
+empty_token Character h = sym no_empty_punctuator
+empty_token Text h = sym no_empty_punctuator
 empty_token Other h = refl
 
 -- the longest front of the class is the longest of all tokens

@@ -1,4 +1,4 @@
--- What the code finds stands there: words, numbers, literals and marks.
+-- What the code finds stands there: words, numbers, literals and punctuators.
 use Rattle.std.proofs.Common.{◌≡◌, ℕ, ◌+◌, ◌<◌, ◌≤◌, inl, inr, zero, suc, Bool, true, false, cond, ◌||◌, List, [], ◌∷◌, Some, None, is_some, length, take, drop, refl, ap, sym, ◌∙◌, arith, nat_le, ◌==◌}
 use Rattle.std.proofs.lemmas.List.{length-take-le}
 use Rattle.std.proofs.lemmas.Bool.Decides.{nat_tests}
@@ -7,15 +7,15 @@ use Rattle.std.proofs.lemmas.List.Sums.{prefix_len-le-length}
 use Rattle.qs_base.specs.Names.{is_digit, is_letter, is_word, is_word_byte}
 use Rattle.qs_lexer.specs.Bytes.{first_then, is_number_byte, starts, starts_with}
 use Rattle.qs_lexer.specs.Ends.{closes, end_of, quote_turn}
-use Rattle.qs_lexer.specs.Heads.{mark_front}
+use Rattle.qs_lexer.specs.Heads.{punctuator_front}
 use Rattle.qs_lexer.specs.Literals.{character_of, text_of}
 use Rattle.qs_lexer.specs.Numbers.{number_of}
 use Rattle.qs_lexer.specs.Pieces.{Longest, NoFront, Stands, has_form, is_quoted, piece_without, token_or_fault}
-use Rattle.qs_lexer.specs.Words.{mark_of, mark_table, mark_with, word_of}
+use Rattle.qs_lexer.specs.Words.{punctuator_of, punctuator_table, punctuator_with, word_of}
 use Rattle.qs_lexer.specs.declared.pieces.Class.TheVariants.{Word, Number, Character, Text, Other}
 use Rattle.qs_lexer.specs.declared.pieces.Piece.{Piece}
 use Rattle.qs_lexer.specs.declared.pieces.Piece.TheVariants as pieces
-use Rattle.qs_syntax.specs.declared.tokens.Mark.{Mark}
+use Rattle.qs_syntax.specs.declared.tokens.Punctuator.{Punctuator}
 use Rattle.qs_syntax.specs.declared.tokens.TokenKind.TheVariants as kinds
 use Rattle.qs_lexer.proofs.Fronts.{list_all_take, closes_take, end_within, longest_of_le, longest_of_at, longest_same}
 use Rattle.qs_lexer.proofs.Tables.{KeysUpTo, key, no_key, look_up_long}
@@ -95,58 +95,58 @@ text_ends fresh rest n piece h e s =
 pub text_open : (fresh : Bool) (rest : List ℕ) (piece : Piece) → end_of (quote_turn 34) false (drop 1 rest) ≡ None → piece ≡ piece_without Text → Stands fresh Text rest piece
 text_open fresh rest piece e s = inr (record { none = not_quoted 34 rest e; is = s })
 
--- ---- marks have three bytes at most
+-- ---- punctuators have three bytes at most
 
-mark_keys : KeysUpTo 3 mark_table
-mark_keys = search (arith, key, no_key)
+punctuator_keys : KeysUpTo 3 punctuator_table
+punctuator_keys = search (arith, key, no_key)
 
-no_long_mark : (rest : List ℕ) (m : ℕ) → 3 < m → m ≤ length rest → is_some (mark_of (take m rest)) ≡ false
-unfolding mark_of
-no_long_mark rest m h w =
+no_long_punctuator : (rest : List ℕ) (m : ℕ) → 3 < m → m ≤ length rest → is_some (punctuator_of (take m rest)) ≡ false
+unfolding punctuator_of
+no_long_punctuator rest m h w =
     let l : length (take m rest) ≡ m = length-take-le m rest w in
-    ap is_some (look_up_long 3 mark_table (take m rest) mark_keys (omega arith))
+    ap is_some (look_up_long 3 punctuator_table (take m rest) punctuator_keys (omega arith))
 
-mark_stands : (fresh : Bool) (rest : List ℕ) (n : ℕ) (mark : Mark) (piece : Piece) → n ≤ length rest → mark_of (take n rest) ≡ Some mark → ((m : ℕ) → n < m → m ≤ 3 → m ≤ length rest → mark_of (take m rest) ≡ None)
-    → piece ≡ pieces.Token n (kinds.Mark mark) → Stands fresh Other rest piece
-mark_stands fresh rest n mark piece w e none s =
+punctuator_stands : (fresh : Bool) (rest : List ℕ) (n : ℕ) (punctuator : Punctuator) (piece : Piece) → n ≤ length rest → punctuator_of (take n rest) ≡ Some punctuator → ((m : ℕ) → n < m → m ≤ 3 → m ≤ length rest → punctuator_of (take m rest) ≡ None)
+    → piece ≡ pieces.Token n (kinds.Punctuator punctuator) → Stands fresh Other rest piece
+punctuator_stands fresh rest n punctuator piece w e none s =
     inl (record {
       n = n;
       longest = record { within = w; has = ap is_some e; no_longer = λ m l b. longer m l b (nat_le m 3) refl };
-      is = s ∙ sym (ap (token_or_fault (length (take n rest))) (ap mark_with e) ∙ ap (λ k. pieces.Token k (kinds.Mark mark)) (length-take-le n rest w));
+      is = s ∙ sym (ap (token_or_fault (length (take n rest))) (ap punctuator_with e) ∙ ap (λ k. pieces.Token k (kinds.Punctuator punctuator)) (length-take-le n rest w));
     })
   where
-    longer : (m : ℕ) → n < m → m ≤ length rest → (b : Bool) → nat_le m 3 ≡ b → is_some (mark_of (take m rest)) ≡ false
+    longer : (m : ℕ) → n < m → m ≤ length rest → (b : Bool) → nat_le m 3 ≡ b → is_some (punctuator_of (take m rest)) ≡ false
     longer m l b true h = ap is_some (none m l (grind (arith, nat_tests)) b)
-    longer m l b false h = no_long_mark rest m (grind (arith, nat_tests)) b
+    longer m l b false h = no_long_punctuator rest m (grind (arith, nat_tests)) b
 
-no_empty_mark : mark_of [] ≡ None
-unfolding mark_of
-no_empty_mark = refl
+no_empty_punctuator : punctuator_of [] ≡ None
+unfolding punctuator_of
+no_empty_punctuator = refl
 
-mark_none : (fresh : Bool) (rest : List ℕ) (piece : Piece) → ((m : ℕ) → 0 < m → m ≤ 3 → m ≤ length rest → mark_of (take m rest) ≡ None) → piece ≡ piece_without Other → Stands fresh Other rest piece
-mark_none fresh rest piece none s = inr (record { none = λ m b. each m b (nat_le m 3) refl; is = s })
+punctuator_none : (fresh : Bool) (rest : List ℕ) (piece : Piece) → ((m : ℕ) → 0 < m → m ≤ 3 → m ≤ length rest → punctuator_of (take m rest) ≡ None) → piece ≡ piece_without Other → Stands fresh Other rest piece
+punctuator_none fresh rest piece none s = inr (record { none = λ m b. each m b (nat_le m 3) refl; is = s })
   where
-    each : (m : ℕ) → m ≤ length rest → (b : Bool) → nat_le m 3 ≡ b → is_some (mark_of (take m rest)) ≡ false
-    each zero b x h = ap is_some no_empty_mark
+    each : (m : ℕ) → m ≤ length rest → (b : Bool) → nat_le m 3 ≡ b → is_some (punctuator_of (take m rest)) ≡ false
+    each zero b x h = ap is_some no_empty_punctuator
     each (suc m) b true h = ap is_some (none (suc m) (omega arith) (grind (arith, nat_tests)) b)
-    each (suc m) b false h = no_long_mark rest (suc m) (grind (arith, nat_tests)) b
+    each (suc m) b false h = no_long_punctuator rest (suc m) (grind (arith, nat_tests)) b
 
 -- what the three tries say
-front_none : (n : ℕ) (rest : List ℕ) → mark_front n rest ≡ None → n ≤ length rest → mark_of (take n rest) ≡ None
+front_none : (n : ℕ) (rest : List ℕ) → punctuator_front n rest ≡ None → n ≤ length rest → punctuator_of (take n rest) ≡ None
 front_none n rest h w = by (nat_le n (length rest)) (grind (arith, nat_tests)) h
   where
-    by : (b : Bool) → b ≡ true → cond b (mark_of (take n rest)) None ≡ None → mark_of (take n rest) ≡ None
+    by : (b : Bool) → b ≡ true → cond b (punctuator_of (take n rest)) None ≡ None → punctuator_of (take n rest) ≡ None
     by true e h = h
     by false e h = cc
 
-record IsMarkFront (n : ℕ) (rest : List ℕ) (mark : Mark) : Type 0 where
+record IsPunctuatorFront (n : ℕ) (rest : List ℕ) (punctuator : Punctuator) : Type 0 where
   within : n ≤ length rest
-  is : mark_of (take n rest) ≡ Some mark
+  is : punctuator_of (take n rest) ≡ Some punctuator
 
-front_some : (n : ℕ) (rest : List ℕ) (mark : Mark) → mark_front n rest ≡ Some mark → IsMarkFront n rest mark
-front_some n rest mark h = by (nat_le n (length rest)) refl h
+front_some : (n : ℕ) (rest : List ℕ) (punctuator : Punctuator) → punctuator_front n rest ≡ Some punctuator → IsPunctuatorFront n rest punctuator
+front_some n rest punctuator h = by (nat_le n (length rest)) refl h
   where
-    by : (b : Bool) → nat_le n (length rest) ≡ b → cond b (mark_of (take n rest)) None ≡ Some mark → IsMarkFront n rest mark
+    by : (b : Bool) → nat_le n (length rest) ≡ b → cond b (punctuator_of (take n rest)) None ≡ Some punctuator → IsPunctuatorFront n rest punctuator
     by true e h = record { within = grind (arith, nat_tests); is = h }
     by false e h = cc
 
@@ -157,18 +157,18 @@ three P a b c (suc (suc zero)) l w = b
 three P a b c (suc (suc (suc zero))) l w = c
 three P a b c (suc (suc (suc (suc m)))) l w = absurd (omega arith)
 
-pub mark_3 : (fresh : Bool) (rest : List ℕ) (mark : Mark) (piece : Piece) → mark_front 3 rest ≡ Some mark → piece ≡ pieces.Token 3 (kinds.Mark mark) → Stands fresh Other rest piece
-mark_3 fresh rest mark piece h s = let f : IsMarkFront 3 rest mark = front_some 3 rest mark h in mark_stands fresh rest 3 mark piece f.within f.is (λ m l w b. absurd (omega arith)) s
+pub punctuator_3 : (fresh : Bool) (rest : List ℕ) (punctuator : Punctuator) (piece : Piece) → punctuator_front 3 rest ≡ Some punctuator → piece ≡ pieces.Token 3 (kinds.Punctuator punctuator) → Stands fresh Other rest piece
+punctuator_3 fresh rest punctuator piece h s = let f : IsPunctuatorFront 3 rest punctuator = front_some 3 rest punctuator h in punctuator_stands fresh rest 3 punctuator piece f.within f.is (λ m l w b. absurd (omega arith)) s
 
-pub mark_2 : (fresh : Bool) (rest : List ℕ) (mark : Mark) (piece : Piece) → mark_front 3 rest ≡ None → mark_front 2 rest ≡ Some mark → piece ≡ pieces.Token 2 (kinds.Mark mark) → Stands fresh Other rest piece
-mark_2 fresh rest mark piece g h s =
-    let f : IsMarkFront 2 rest mark = front_some 2 rest mark h in
-    mark_stands fresh rest 2 mark piece f.within f.is (λ m l w. three (λ m. 2 < m → m ≤ length rest → mark_of (take m rest) ≡ None) (λ l b. absurd (omega arith)) (λ l b. absurd (omega arith)) (λ l b. front_none 3 rest g b) m (omega arith) w l) s
+pub punctuator_2 : (fresh : Bool) (rest : List ℕ) (punctuator : Punctuator) (piece : Piece) → punctuator_front 3 rest ≡ None → punctuator_front 2 rest ≡ Some punctuator → piece ≡ pieces.Token 2 (kinds.Punctuator punctuator) → Stands fresh Other rest piece
+punctuator_2 fresh rest punctuator piece g h s =
+    let f : IsPunctuatorFront 2 rest punctuator = front_some 2 rest punctuator h in
+    punctuator_stands fresh rest 2 punctuator piece f.within f.is (λ m l w. three (λ m. 2 < m → m ≤ length rest → punctuator_of (take m rest) ≡ None) (λ l b. absurd (omega arith)) (λ l b. absurd (omega arith)) (λ l b. front_none 3 rest g b) m (omega arith) w l) s
 
-pub mark_1 : (fresh : Bool) (rest : List ℕ) (mark : Mark) (piece : Piece) → mark_front 3 rest ≡ None → mark_front 2 rest ≡ None → mark_front 1 rest ≡ Some mark → piece ≡ pieces.Token 1 (kinds.Mark mark) → Stands fresh Other rest piece
-mark_1 fresh rest mark piece g i h s =
-    let f : IsMarkFront 1 rest mark = front_some 1 rest mark h in
-    mark_stands fresh rest 1 mark piece f.within f.is (λ m l w. three (λ m. 1 < m → m ≤ length rest → mark_of (take m rest) ≡ None) (λ l b. absurd (omega arith)) (λ l b. front_none 2 rest i b) (λ l b. front_none 3 rest g b) m (omega arith) w l) s
+pub punctuator_1 : (fresh : Bool) (rest : List ℕ) (punctuator : Punctuator) (piece : Piece) → punctuator_front 3 rest ≡ None → punctuator_front 2 rest ≡ None → punctuator_front 1 rest ≡ Some punctuator → piece ≡ pieces.Token 1 (kinds.Punctuator punctuator) → Stands fresh Other rest piece
+punctuator_1 fresh rest punctuator piece g i h s =
+    let f : IsPunctuatorFront 1 rest punctuator = front_some 1 rest punctuator h in
+    punctuator_stands fresh rest 1 punctuator piece f.within f.is (λ m l w. three (λ m. 1 < m → m ≤ length rest → punctuator_of (take m rest) ≡ None) (λ l b. absurd (omega arith)) (λ l b. front_none 2 rest i b) (λ l b. front_none 3 rest g b) m (omega arith) w l) s
 
-pub mark_0 : (fresh : Bool) (rest : List ℕ) (piece : Piece) → mark_front 3 rest ≡ None → mark_front 2 rest ≡ None → mark_front 1 rest ≡ None → piece ≡ piece_without Other → Stands fresh Other rest piece
-mark_0 fresh rest piece g i h s = mark_none fresh rest piece (three (λ m. m ≤ length rest → mark_of (take m rest) ≡ None) (λ b. front_none 1 rest h b) (λ b. front_none 2 rest i b) (λ b. front_none 3 rest g b)) s
+pub punctuator_0 : (fresh : Bool) (rest : List ℕ) (piece : Piece) → punctuator_front 3 rest ≡ None → punctuator_front 2 rest ≡ None → punctuator_front 1 rest ≡ None → piece ≡ piece_without Other → Stands fresh Other rest piece
+punctuator_0 fresh rest piece g i h s = punctuator_none fresh rest piece (three (λ m. m ≤ length rest → punctuator_of (take m rest) ≡ None) (λ b. front_none 1 rest h b) (λ b. front_none 2 rest i b) (λ b. front_none 3 rest g b)) s

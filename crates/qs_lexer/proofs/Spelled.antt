@@ -10,7 +10,7 @@ use Rattle.qs_lexer.specs.Numbers.{are_digits, base_of, digits_of, has_suffix, n
 use Rattle.qs_lexer.specs.Pieces.{Longest, Next, class_of, has_form, is_token, piece_of, piece_without, token_or_fault}
 use Rattle.qs_lexer.specs.Tables.{look_up}
 use Rattle.qs_lexer.specs.Tokens.{ReadsTo, start, white_space, token, token_at, Tokens}
-use Rattle.qs_lexer.specs.Words.{keyword_of, keyword_table, mark_of, mark_with, word_of, word_with}
+use Rattle.qs_lexer.specs.Words.{keyword_of, keyword_table, punctuator_of, punctuator_with, word_of, word_with}
 use Rattle.qs_lexer.specs.declared.fault.FaultKind.{FaultKind}
 use Rattle.qs_lexer.specs.declared.fault.FaultKind.TheVariants as faults
 use Rattle.qs_lexer.specs.declared.literals.Element.{Element}
@@ -20,7 +20,7 @@ use Rattle.qs_lexer.specs.declared.pieces.Class.TheVariants.{End, Space, LineCom
 use Rattle.qs_lexer.specs.declared.pieces.Piece.{Piece}
 use Rattle.qs_lexer.specs.declared.pieces.Piece.TheVariants as pieces
 use Rattle.qs_syntax.specs.declared.tokens.Keyword.{Keyword}
-use Rattle.qs_syntax.specs.declared.tokens.Mark.{Mark}
+use Rattle.qs_syntax.specs.declared.tokens.Punctuator.{Punctuator}
 use Rattle.qs_syntax.specs.declared.tokens.Token.{Token}
 use Rattle.qs_syntax.specs.declared.tokens.TokenKind.{TokenKind}
 use Rattle.qs_syntax.specs.declared.tokens.TokenKind.TheVariants as kinds
@@ -60,7 +60,7 @@ IsOther (kinds.Keyword k) = true
 IsOther (kinds.Number v u) = true
 IsOther (kinds.Character v) = true
 IsOther kinds.Text = false
-IsOther (kinds.Mark m) = true
+IsOther (kinds.Punctuator m) = true
 
 abbrev GivesOther : Result TokenKind FaultKind → Type 0
 GivesOther (Ok kind) = IsOther kind ≡ true
@@ -91,9 +91,9 @@ character_other (item.Wide ∷ []) = tt
 character_other (item.Bad ∷ []) = tt
 character_other (first ∷ second ∷ others) = tt
 
-mark_other : (o : Option Mark) → GivesOther (mark_with o)
-mark_other None = tt
-mark_other (Some mark) = refl
+punctuator_other : (o : Option Punctuator) → GivesOther (punctuator_with o)
+punctuator_other None = tt
+punctuator_other (Some punctuator) = refl
 
 -- ---- what a token's bytes are, n of them first in the rest
 
@@ -176,7 +176,7 @@ right fresh Text p n kind f h =
       name = λ e. absurd (text_no_name (list_any is_bad (elements_of p)) (list_any is_wide (elements_of p)) kind _ _ ok.is e);
       literal = λ e. record { quoted = f; valid = ok.is ∙ ap Ok e };
     }
-right fresh Other p n kind f h = other_right p (length p) n kind (mark_with (mark_of p)) (mark_other (mark_of p)) h
+right fresh Other p n kind f h = other_right p (length p) n kind (punctuator_with (punctuator_of p)) (punctuator_other (punctuator_of p)) h
 
 token_length : (fresh : Bool) (c : Class) (p : List ℕ) (n : ℕ) (kind : TokenKind) → IsPiece (piece_of fresh c p) n kind → length p ≡ n
 token_length fresh End p n kind h = absurd h
@@ -188,7 +188,7 @@ token_length fresh Word p n kind h = (is_ok (length p) (word_of p) n kind h).sam
 token_length fresh Number p n kind h = (is_ok (length p) (number_of p) n kind h).same
 token_length fresh Character p n kind h = (is_ok (length p) (character_of p) n kind h).same
 token_length fresh Text p n kind h = (is_ok (length p) (text_of p) n kind h).same
-token_length fresh Other p n kind h = (is_ok (length p) (mark_with (mark_of p)) n kind h).same
+token_length fresh Other p n kind h = (is_ok (length p) (punctuator_with (punctuator_of p)) n kind h).same
 
 token_class : (fresh : Bool) (c : Class) (p : List ℕ) (n : ℕ) (kind : TokenKind) → IsPiece (piece_of fresh c p) n kind → is_token_class c ≡ true
 token_class fresh End p n kind h = absurd h

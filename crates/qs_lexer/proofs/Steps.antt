@@ -3,10 +3,10 @@ use Rattle.std.proofs.Common.{◌≡◌, ℕ, ◌+◌, ◌-◌, ◌≤◌, inl, 
 use Rattle.std.proofs.lemmas.List.{length-take-le, length-drop}
 use Rattle.qs_lexer.specs.Literals.{character_of, text_of}
 use Rattle.qs_lexer.specs.Numbers.{number_of}
-use Rattle.qs_lexer.specs.Pieces.{Stands, Next, class_of, has_form, piece_of, piece_without, token_or_fault, is_mark}
+use Rattle.qs_lexer.specs.Pieces.{Stands, Next, class_of, has_form, piece_of, piece_without, token_or_fault, is_punctuator}
 use Rattle.qs_lexer.specs.Results.{SaysFault, fault_at}
 use Rattle.qs_lexer.specs.Tokens.{ReadsTo, start, white_space, token, token_at, Tokens, LexFaultAt}
-use Rattle.qs_lexer.specs.Words.{mark_of, mark_with, word_of}
+use Rattle.qs_lexer.specs.Words.{punctuator_of, punctuator_with, word_of}
 use Rattle.qs_lexer.specs.declared.fault.FaultKind.{FaultKind}
 use Rattle.qs_lexer.specs.declared.fault.FaultKind.TheVariants as kinds
 use Rattle.qs_lexer.specs.declared.fault.LexFault.{LexFault}
@@ -39,11 +39,11 @@ piece_is fresh Word p = token_is (length p) (word_of p)
 piece_is fresh Number p = token_is (length p) (number_of p)
 piece_is fresh Character p = token_is (length p) (character_of p)
 piece_is fresh Text p = token_is (length p) (text_of p)
-piece_is fresh Other p = token_is (length p) (mark_with (mark_of p))
+piece_is fresh Other p = token_is (length p) (punctuator_with (punctuator_of p))
 
-no_empty_mark : is_mark [] ≡ false
-unfolding mark_of
-no_empty_mark = refl
+no_empty_punctuator : is_punctuator [] ≡ false
+unfolding punctuator_of
+no_empty_punctuator = refl
 
 pub form_empty : (c : Class) → has_form c [] ≡ false
 form_empty End = refl
@@ -55,7 +55,7 @@ form_empty Word = refl
 form_empty Number = refl
 form_empty Character = refl
 form_empty Text = refl
-form_empty Other = no_empty_mark
+form_empty Other = no_empty_punctuator
 
 -- how a piece moves on, where k bytes are left
 abbrev pub Moves : ℕ → Piece → Type 0
@@ -95,7 +95,7 @@ no_end fresh Word p h = token_goes (length p) (word_of p)
 no_end fresh Number p h = token_goes (length p) (number_of p)
 no_end fresh Character p h = token_goes (length p) (character_of p)
 no_end fresh Text p h = token_goes (length p) (text_of p)
-no_end fresh Other p h = token_goes (length p) (mark_with (mark_of p))
+no_end fresh Other p h = token_goes (length p) (punctuator_with (punctuator_of p))
 
 absent_moves : (c : Class) (rest : List ℕ) → Begun c rest → Moves (length rest) (piece_without c)
 absent_moves End rest b = b

@@ -8,7 +8,7 @@ use Rattle.qs_lexer.specs.Numbers.{are_digits, base_of, digits_of, has_suffix, n
 use Rattle.qs_lexer.specs.Pieces.{Next, class_of, piece_of, piece_without, token_or_fault}
 use Rattle.qs_lexer.specs.Tables.{look_up}
 use Rattle.qs_lexer.specs.Tokens.{ReadsTo, start, white_space, token, token_at}
-use Rattle.qs_lexer.specs.Words.{keyword_of, mark_of, mark_with, word_of, word_with}
+use Rattle.qs_lexer.specs.Words.{keyword_of, punctuator_of, punctuator_with, word_of, word_with}
 use Rattle.qs_lexer.specs.declared.fault.FaultKind.{FaultKind}
 use Rattle.qs_lexer.specs.declared.fault.FaultKind.TheVariants as faults
 use Rattle.qs_lexer.specs.declared.literals.Element.{Element}
@@ -18,7 +18,7 @@ use Rattle.qs_lexer.specs.declared.pieces.Class.TheVariants.{End, Space, LineCom
 use Rattle.qs_lexer.specs.declared.pieces.Piece.TheVariants as pieces
 use Rattle.qs_syntax.specs.Units.{is_byte}
 use Rattle.qs_syntax.specs.declared.tokens.Keyword.{Keyword}
-use Rattle.qs_syntax.specs.declared.tokens.Mark.{Mark}
+use Rattle.qs_syntax.specs.declared.tokens.Punctuator.{Punctuator}
 use Rattle.qs_syntax.specs.declared.tokens.Token.{Token}
 use Rattle.qs_syntax.specs.declared.tokens.TokenKind.{TokenKind}
 use Rattle.qs_syntax.specs.declared.tokens.TokenKind.TheVariants as kinds
@@ -31,7 +31,7 @@ is_valued (kinds.Keyword keyword) = true
 is_valued (kinds.Number value unsigned) = nat_lt value (cond unsigned (2 ^ 32) (2 ^ 31))
 is_valued (kinds.Character value) = nat_lt value (2 ^ 31)
 is_valued kinds.Text = true
-is_valued (kinds.Mark mark) = true
+is_valued (kinds.Punctuator punctuator) = true
 
 abbrev GivesValued : Result TokenKind FaultKind → Type 0
 GivesValued (Ok kind) = is_valued kind ≡ true
@@ -172,9 +172,9 @@ text_valued true y = tt
 text_valued false true = tt
 text_valued false false = refl
 
-mark_valued : (o : Option Mark) → GivesValued (mark_with o)
-mark_valued None = tt
-mark_valued (Some mark) = refl
+punctuator_valued : (o : Option Punctuator) → GivesValued (punctuator_with o)
+punctuator_valued None = tt
+punctuator_valued (Some punctuator) = refl
 
 -- ---- each token of a text
 
@@ -195,7 +195,7 @@ class_valued fresh Word p n kind b h = from_result (length p) n kind (word_of p)
 class_valued fresh Number p n kind b h = from_result (length p) n kind (number_of p) (number_valued p) h
 class_valued fresh Character p n kind b h = from_result (length p) n kind (character_of p) (character_valued p b) h
 class_valued fresh Text p n kind b h = from_result (length p) n kind (text_of p) (text_valued (list_any is_bad (elements_of p)) (list_any is_wide (elements_of p))) h
-class_valued fresh Other p n kind b h = from_result (length p) n kind (mark_with (mark_of p)) (mark_valued (mark_of p)) h
+class_valued fresh Other p n kind b h = from_result (length p) n kind (punctuator_with (punctuator_of p)) (punctuator_valued (punctuator_of p)) h
 
 next_valued : (fresh : Bool) (rest : List ℕ) (n : ℕ) (kind : TokenKind) → list_all is_byte rest ≡ true → Next fresh rest (pieces.Token n kind) → is_valued kind ≡ true
 next_valued fresh rest n kind b (inl a) =

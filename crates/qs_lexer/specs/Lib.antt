@@ -9,4 +9,4 @@ pub mod Tokens
 pub mod Results
 pub mod Heads
 pub mod Laws
-pub mod Lexemes
+pub mod Terminals

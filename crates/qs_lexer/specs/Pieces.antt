@@ -6,7 +6,7 @@ use Rattle.qs_lexer.specs.Bytes.{blanks_then_digit, first_then, is_blank, is_emp
 use Rattle.qs_lexer.specs.Ends.{closes, comment_turn, quote_turn}
 use Rattle.qs_lexer.specs.Literals.{character_of, text_of}
 use Rattle.qs_lexer.specs.Numbers.{number_of}
-use Rattle.qs_lexer.specs.Words.{mark_of, mark_with, word_of}
+use Rattle.qs_lexer.specs.Words.{punctuator_of, punctuator_with, word_of}
 use Rattle.qs_lexer.specs.declared.fault.FaultKind.{FaultKind}
 use Rattle.qs_lexer.specs.declared.fault.FaultKind.TheVariants as faults
 use Rattle.qs_lexer.specs.declared.pieces.Class.{Class}
@@ -58,8 +58,8 @@ is_number bytes = first_then is_digit is_number_byte bytes
 abbrev pub is_quoted : ℕ → List ℕ → Bool
 is_quoted quote bytes = starts_with quote bytes && closes (quote_turn quote) false (drop 1 bytes)
 
-abbrev pub is_mark : List ℕ → Bool
-is_mark bytes = is_some (mark_of bytes)
+abbrev pub is_punctuator : List ℕ → Bool
+is_punctuator bytes = is_some (punctuator_of bytes)
 
 abbrev pub has_form : Class → List ℕ → Bool
 has_form End bytes = false
@@ -71,11 +71,11 @@ has_form Word bytes = is_word bytes
 has_form Number bytes = is_number bytes
 has_form Character bytes = is_quoted 39 bytes
 has_form Text bytes = is_quoted 34 bytes
-has_form Other bytes = is_mark bytes
+has_form Other bytes = is_punctuator bytes
 
 -- the bytes of a token, whatever its class
 abbrev pub is_token : List ℕ → Bool
-is_token bytes = is_word bytes || is_number bytes || is_quoted 39 bytes || is_quoted 34 bytes || is_mark bytes
+is_token bytes = is_word bytes || is_number bytes || is_quoted 39 bytes || is_quoted 34 bytes || is_punctuator bytes
 
 -- ---- what the bytes of a form are
 
@@ -97,7 +97,7 @@ piece_of fresh Word bytes = token_or_fault (length bytes) (word_of bytes)
 piece_of fresh Number bytes = token_or_fault (length bytes) (number_of bytes)
 piece_of fresh Character bytes = token_or_fault (length bytes) (character_of bytes)
 piece_of fresh Text bytes = token_or_fault (length bytes) (text_of bytes)
-piece_of fresh Other bytes = token_or_fault (length bytes) (mark_with (mark_of bytes))
+piece_of fresh Other bytes = token_or_fault (length bytes) (punctuator_with (punctuator_of bytes))
 
 -- what stands there where no first bytes have the form; a space, a word and a number always have theirs
 abbrev pub piece_without : Class → Piece

@@ -1,12 +1,12 @@
--- Keywords (C11 6.4.1), names (C11 6.4.2.1) and marks (C11 6.4.6).
+-- Keywords (C11 6.4.1), names (C11 6.4.2.1) and punctuators (C11 6.4.6).
 use Rattle.std.specs.Prelude.{ℕ, List, [], ◌∷◌, codes, Option, Some, None, Result, Ok, Err}
 use Rattle.qs_lexer.specs.Tables.{look_up}
 use Rattle.qs_lexer.specs.declared.fault.FaultKind.{FaultKind}
 use Rattle.qs_lexer.specs.declared.fault.FaultKind.TheVariants as faults
 use Rattle.qs_syntax.specs.declared.tokens.Keyword.{Keyword}
 use Rattle.qs_syntax.specs.declared.tokens.Keyword.TheVariants as keyword
-use Rattle.qs_syntax.specs.declared.tokens.Mark.{Mark}
-use Rattle.qs_syntax.specs.declared.tokens.Mark.TheVariants as mark
+use Rattle.qs_syntax.specs.declared.tokens.Punctuator.{Punctuator}
+use Rattle.qs_syntax.specs.declared.tokens.Punctuator.TheVariants as punctuator
 use Rattle.qs_syntax.specs.declared.tokens.TokenKind.{TokenKind}
 use Rattle.qs_syntax.specs.declared.tokens.TokenKind.TheVariants as kinds
 
@@ -69,58 +69,58 @@ word_with (Some keyword) = kinds.Keyword keyword
 abbrev pub word_of : List ℕ → Result TokenKind FaultKind
 word_of word = Ok (word_with (keyword_of word))
 
-abbrev pub mark_table : List (List ℕ × Mark)
-mark_table =
-    (codes "[", mark.OpenBracket)
-    ∷ (codes "]", mark.CloseBracket)
-    ∷ (codes "(", mark.OpenParenthesis)
-    ∷ (codes ")", mark.CloseParenthesis)
-    ∷ (codes "{", mark.OpenBrace)
-    ∷ (codes "}", mark.CloseBrace)
-    ∷ (codes ".", mark.Dot)
-    ∷ (codes "->", mark.Arrow)
-    ∷ (codes "++", mark.Increment)
-    ∷ (codes "--", mark.Decrement)
-    ∷ (codes "&", mark.Ampersand)
-    ∷ (codes "*", mark.Star)
-    ∷ (codes "+", mark.Plus)
-    ∷ (codes "-", mark.Minus)
-    ∷ (codes "~", mark.Tilde)
-    ∷ (codes "!", mark.Exclamation)
-    ∷ (codes "/", mark.Slash)
-    ∷ (codes "%", mark.Percent)
-    ∷ (codes "<<", mark.ShiftLeft)
-    ∷ (codes ">>", mark.ShiftRight)
-    ∷ (codes "<", mark.Less)
-    ∷ (codes ">", mark.Greater)
-    ∷ (codes "<=", mark.LessEqual)
-    ∷ (codes ">=", mark.GreaterEqual)
-    ∷ (codes "==", mark.Equal)
-    ∷ (codes "!=", mark.NotEqual)
-    ∷ (codes "^", mark.Caret)
-    ∷ (codes "|", mark.Bar)
-    ∷ (codes "&&", mark.AndAnd)
-    ∷ (codes "||", mark.OrOr)
-    ∷ (codes "?", mark.Question)
-    ∷ (codes ":", mark.Colon)
-    ∷ (codes ";", mark.Semicolon)
-    ∷ (codes "=", mark.Assign)
-    ∷ (codes "*=", mark.MultiplyAssign)
-    ∷ (codes "/=", mark.DivideAssign)
-    ∷ (codes "%=", mark.RemainderAssign)
-    ∷ (codes "+=", mark.AddAssign)
-    ∷ (codes "-=", mark.SubtractAssign)
-    ∷ (codes "<<=", mark.ShiftLeftAssign)
-    ∷ (codes ">>=", mark.ShiftRightAssign)
-    ∷ (codes "&=", mark.AndAssign)
-    ∷ (codes "^=", mark.XorAssign)
-    ∷ (codes "|=", mark.OrAssign)
-    ∷ (codes ",", mark.Comma)
+abbrev pub punctuator_table : List (List ℕ × Punctuator)
+punctuator_table =
+    (codes "[", punctuator.OpenBracket)
+    ∷ (codes "]", punctuator.CloseBracket)
+    ∷ (codes "(", punctuator.OpenParenthesis)
+    ∷ (codes ")", punctuator.CloseParenthesis)
+    ∷ (codes "{", punctuator.OpenBrace)
+    ∷ (codes "}", punctuator.CloseBrace)
+    ∷ (codes ".", punctuator.Dot)
+    ∷ (codes "->", punctuator.Arrow)
+    ∷ (codes "++", punctuator.Increment)
+    ∷ (codes "--", punctuator.Decrement)
+    ∷ (codes "&", punctuator.Ampersand)
+    ∷ (codes "*", punctuator.Star)
+    ∷ (codes "+", punctuator.Plus)
+    ∷ (codes "-", punctuator.Minus)
+    ∷ (codes "~", punctuator.Tilde)
+    ∷ (codes "!", punctuator.Exclamation)
+    ∷ (codes "/", punctuator.Slash)
+    ∷ (codes "%", punctuator.Percent)
+    ∷ (codes "<<", punctuator.ShiftLeft)
+    ∷ (codes ">>", punctuator.ShiftRight)
+    ∷ (codes "<", punctuator.Less)
+    ∷ (codes ">", punctuator.Greater)
+    ∷ (codes "<=", punctuator.LessEqual)
+    ∷ (codes ">=", punctuator.GreaterEqual)
+    ∷ (codes "==", punctuator.Equal)
+    ∷ (codes "!=", punctuator.NotEqual)
+    ∷ (codes "^", punctuator.Caret)
+    ∷ (codes "|", punctuator.Bar)
+    ∷ (codes "&&", punctuator.AndAnd)
+    ∷ (codes "||", punctuator.OrOr)
+    ∷ (codes "?", punctuator.Question)
+    ∷ (codes ":", punctuator.Colon)
+    ∷ (codes ";", punctuator.Semicolon)
+    ∷ (codes "=", punctuator.Assign)
+    ∷ (codes "*=", punctuator.MultiplyAssign)
+    ∷ (codes "/=", punctuator.DivideAssign)
+    ∷ (codes "%=", punctuator.RemainderAssign)
+    ∷ (codes "+=", punctuator.AddAssign)
+    ∷ (codes "-=", punctuator.SubtractAssign)
+    ∷ (codes "<<=", punctuator.ShiftLeftAssign)
+    ∷ (codes ">>=", punctuator.ShiftRightAssign)
+    ∷ (codes "&=", punctuator.AndAssign)
+    ∷ (codes "^=", punctuator.XorAssign)
+    ∷ (codes "|=", punctuator.OrAssign)
+    ∷ (codes ",", punctuator.Comma)
     ∷ []
 
-unfoldable pub mark_of : List ℕ → Option Mark
-mark_of spelling = look_up mark_table spelling
+unfoldable pub punctuator_of : List ℕ → Option Punctuator
+punctuator_of spelling = look_up punctuator_table spelling
 
-abbrev pub mark_with : Option Mark → Result TokenKind FaultKind
-mark_with None = Err faults.BadByte
-mark_with (Some mark) = Ok (kinds.Mark mark)
+abbrev pub punctuator_with : Option Punctuator → Result TokenKind FaultKind
+punctuator_with None = Err faults.BadByte
+punctuator_with (Some punctuator) = Ok (kinds.Punctuator punctuator)

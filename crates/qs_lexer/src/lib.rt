@@ -4,7 +4,7 @@
 mod bytes;
 mod fault;
 mod laws;
-mod lexeme_list;
+mod terminal_list;
 mod literals;
 mod numbers;
 mod pieces;
@@ -14,7 +14,7 @@ mod words;
 
 pub use fault::{FaultKind, LexFault};
 pub use laws::{each_token, one_reading};
-pub use lexeme_list::{each_lexeme, lexemes};
+pub use terminal_list::{each_terminal, terminals};
 pub use literals::text_bytes;
 pub use reading::tokens;
 

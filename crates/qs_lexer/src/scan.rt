@@ -2,7 +2,7 @@
 ghost use Rattle.std.specs.Prelude.{◌≡◌, ◌<◌, ◌^◌, Bool, [], ◌∷◌, true, length};
 ghost use Rattle.qs_base.specs.Names.{is_digit, is_letter};
 ghost use Rattle.qs_lexer.specs.Bytes.{is_space, starts, starts_with};
-ghost use Rattle.qs_lexer.specs.Heads.{Opens, mark_front};
+ghost use Rattle.qs_lexer.specs.Heads.{Opens, punctuator_front};
 ghost use Rattle.qs_lexer.specs.Pieces.{Next, Stands, still_fresh, token_or_fault};
 ghost use Rattle.qs_lexer.specs.declared.pieces.Class.TheVariants as class;
 
@@ -14,8 +14,8 @@ use crate::fault::FaultKind;
 use crate::literals::{character_of, text_of};
 use crate::numbers::number_of;
 use crate::pieces::{Class, Piece};
-use crate::words::{mark_of, word_of};
-use qs_syntax::{Mark, TokenKind};
+use crate::words::{punctuator_of, word_of};
+use qs_syntax::{Punctuator, TokenKind};
 
 fn token_or_fault(n: usize, kind: Result<TokenKind, FaultKind>) -> Piece
     ensures { result ≡ token_or_fault n kind }
@@ -116,26 +116,26 @@ fn text(rest: &[u8]) -> Piece
     }
 }
 
-/// The mark of the first `n` bytes.
-fn mark_front(n: usize, rest: &[u8]) -> Option<Mark>
-    ensures { result ≡ mark_front n rest.now }
+/// The punctuator of the first `n` bytes.
+fn punctuator_front(n: usize, rest: &[u8]) -> Option<Punctuator>
+    ensures { result ≡ punctuator_front n rest.now }
 {
     if n <= rest.len() {
-        mark_of(&rest[..n])
+        punctuator_of(&rest[..n])
     } else {
         None
     }
 }
 
-fn mark(rest: &[u8]) -> Piece
+fn punctuator(rest: &[u8]) -> Piece
     ensures { (fresh : Bool) → Stands fresh class.Other rest.now result }
 {
-    match mark_front(3, rest) {
-        Some(mark) => Piece::Token(3, TokenKind::Mark(mark)),
-        None => match mark_front(2, rest) {
-            Some(mark) => Piece::Token(2, TokenKind::Mark(mark)),
-            None => match mark_front(1, rest) {
-                Some(mark) => Piece::Token(1, TokenKind::Mark(mark)),
+    match punctuator_front(3, rest) {
+        Some(punctuator) => Piece::Token(3, TokenKind::Punctuator(punctuator)),
+        None => match punctuator_front(2, rest) {
+            Some(punctuator) => Piece::Token(2, TokenKind::Punctuator(punctuator)),
+            None => match punctuator_front(1, rest) {
+                Some(punctuator) => Piece::Token(1, TokenKind::Punctuator(punctuator)),
                 None => Piece::Fault(FaultKind::BadByte),
             },
         },
@@ -157,6 +157,6 @@ pub fn next(fresh: bool, rest: &[u8]) -> Piece
         Class::Number => number(rest),
         Class::Character => character(rest),
         Class::Text => text(rest),
-        Class::Other => mark(rest),
+        Class::Other => punctuator(rest),
     }
 }

@@ -1,6 +1,6 @@
 // Texts with their tokens or their first fault, and the bytes of texts.
 use super::*;
-use qs_syntax::{Keyword, Mark, Token, TokenKind};
+use qs_syntax::{Keyword, Punctuator, Token, TokenKind};
 use std::alloc::Global;
 use std::test::*;
 
@@ -42,23 +42,23 @@ fn texts_with_tokens(rt: HostRuntime) -> Result<(), Fail> {
             &[
                 (TokenKind::Keyword(Keyword::Int), 0, 3),
                 (TokenKind::Name, 4, 7),
-                (TokenKind::Mark(Mark::Assign), 8, 9),
+                (TokenKind::Punctuator(Punctuator::Assign), 8, 9),
                 (TokenKind::Number(2147483647, false), 10, 20),
-                (TokenKind::Mark(Mark::Semicolon), 20, 21),
+                (TokenKind::Punctuator(Punctuator::Semicolon), 20, 21),
             ],
         ),
         (
             b"0x2e+1",
             &[
                 (TokenKind::Number(0x2e, false), 0, 4),
-                (TokenKind::Mark(Mark::Plus), 4, 5),
+                (TokenKind::Punctuator(Punctuator::Plus), 4, 5),
                 (NUMBER_1, 5, 6),
             ],
         ),
         (
             b".5",
             &[
-                (TokenKind::Mark(Mark::Dot), 0, 1),
+                (TokenKind::Punctuator(Punctuator::Dot), 0, 1),
                 (TokenKind::Number(5, false), 1, 2),
             ],
         ),
@@ -66,17 +66,17 @@ fn texts_with_tokens(rt: HostRuntime) -> Result<(), Fail> {
             b"a+++b",
             &[
                 (TokenKind::Name, 0, 1),
-                (TokenKind::Mark(Mark::Increment), 1, 3),
-                (TokenKind::Mark(Mark::Plus), 3, 4),
+                (TokenKind::Punctuator(Punctuator::Increment), 1, 3),
+                (TokenKind::Punctuator(Punctuator::Plus), 3, 4),
                 (TokenKind::Name, 4, 5),
             ],
         ),
         (
             b">>=->-",
             &[
-                (TokenKind::Mark(Mark::ShiftRightAssign), 0, 3),
-                (TokenKind::Mark(Mark::Arrow), 3, 5),
-                (TokenKind::Mark(Mark::Minus), 5, 6),
+                (TokenKind::Punctuator(Punctuator::ShiftRightAssign), 0, 3),
+                (TokenKind::Punctuator(Punctuator::Arrow), 3, 5),
+                (TokenKind::Punctuator(Punctuator::Minus), 5, 6),
             ],
         ),
         (
@@ -84,7 +84,7 @@ fn texts_with_tokens(rt: HostRuntime) -> Result<(), Fail> {
             &[
                 (NUMBER_1, 0, 1),
                 (NUMBER_1, 10, 11),
-                (TokenKind::Mark(Mark::DivideAssign), 15, 17),
+                (TokenKind::Punctuator(Punctuator::DivideAssign), 15, 17),
             ],
         ),
         (

@@ -1,10 +1,10 @@
-// Keywords, names and marks.
+// Keywords, names and punctuators.
 ghost use Rattle.std.specs.Prelude.{◌≡◌};
 ghost use Rattle.qs_lexer.specs.Tables.{look_up, entries_of};
-ghost use Rattle.qs_lexer.specs.Words.{keyword_of, mark_of, word_of};
+ghost use Rattle.qs_lexer.specs.Words.{keyword_of, punctuator_of, word_of};
 
 use crate::fault::FaultKind;
-use qs_syntax::{Keyword, Mark, TokenKind};
+use qs_syntax::{Keyword, Punctuator, TokenKind};
 
 /// The keywords (C11 6.4.1).
 const KEYWORDS: [(&[u8], Keyword); 44] = [
@@ -54,53 +54,53 @@ const KEYWORDS: [(&[u8], Keyword); 44] = [
     (b"_Thread_local", Keyword::ThreadLocal),
 ];
 
-/// The marks (C11 6.4.6).
-const MARKS: [(&[u8], Mark); 45] = [
-    (b"[", Mark::OpenBracket),
-    (b"]", Mark::CloseBracket),
-    (b"(", Mark::OpenParenthesis),
-    (b")", Mark::CloseParenthesis),
-    (b"{", Mark::OpenBrace),
-    (b"}", Mark::CloseBrace),
-    (b".", Mark::Dot),
-    (b"->", Mark::Arrow),
-    (b"++", Mark::Increment),
-    (b"--", Mark::Decrement),
-    (b"&", Mark::Ampersand),
-    (b"*", Mark::Star),
-    (b"+", Mark::Plus),
-    (b"-", Mark::Minus),
-    (b"~", Mark::Tilde),
-    (b"!", Mark::Exclamation),
-    (b"/", Mark::Slash),
-    (b"%", Mark::Percent),
-    (b"<<", Mark::ShiftLeft),
-    (b">>", Mark::ShiftRight),
-    (b"<", Mark::Less),
-    (b">", Mark::Greater),
-    (b"<=", Mark::LessEqual),
-    (b">=", Mark::GreaterEqual),
-    (b"==", Mark::Equal),
-    (b"!=", Mark::NotEqual),
-    (b"^", Mark::Caret),
-    (b"|", Mark::Bar),
-    (b"&&", Mark::AndAnd),
-    (b"||", Mark::OrOr),
-    (b"?", Mark::Question),
-    (b":", Mark::Colon),
-    (b";", Mark::Semicolon),
-    (b"=", Mark::Assign),
-    (b"*=", Mark::MultiplyAssign),
-    (b"/=", Mark::DivideAssign),
-    (b"%=", Mark::RemainderAssign),
-    (b"+=", Mark::AddAssign),
-    (b"-=", Mark::SubtractAssign),
-    (b"<<=", Mark::ShiftLeftAssign),
-    (b">>=", Mark::ShiftRightAssign),
-    (b"&=", Mark::AndAssign),
-    (b"^=", Mark::XorAssign),
-    (b"|=", Mark::OrAssign),
-    (b",", Mark::Comma),
+/// The punctuators (C11 6.4.6).
+const PUNCTUATORS: [(&[u8], Punctuator); 45] = [
+    (b"[", Punctuator::OpenBracket),
+    (b"]", Punctuator::CloseBracket),
+    (b"(", Punctuator::OpenParenthesis),
+    (b")", Punctuator::CloseParenthesis),
+    (b"{", Punctuator::OpenBrace),
+    (b"}", Punctuator::CloseBrace),
+    (b".", Punctuator::Dot),
+    (b"->", Punctuator::Arrow),
+    (b"++", Punctuator::Increment),
+    (b"--", Punctuator::Decrement),
+    (b"&", Punctuator::Ampersand),
+    (b"*", Punctuator::Star),
+    (b"+", Punctuator::Plus),
+    (b"-", Punctuator::Minus),
+    (b"~", Punctuator::Tilde),
+    (b"!", Punctuator::Exclamation),
+    (b"/", Punctuator::Slash),
+    (b"%", Punctuator::Percent),
+    (b"<<", Punctuator::ShiftLeft),
+    (b">>", Punctuator::ShiftRight),
+    (b"<", Punctuator::Less),
+    (b">", Punctuator::Greater),
+    (b"<=", Punctuator::LessEqual),
+    (b">=", Punctuator::GreaterEqual),
+    (b"==", Punctuator::Equal),
+    (b"!=", Punctuator::NotEqual),
+    (b"^", Punctuator::Caret),
+    (b"|", Punctuator::Bar),
+    (b"&&", Punctuator::AndAnd),
+    (b"||", Punctuator::OrOr),
+    (b"?", Punctuator::Question),
+    (b":", Punctuator::Colon),
+    (b";", Punctuator::Semicolon),
+    (b"=", Punctuator::Assign),
+    (b"*=", Punctuator::MultiplyAssign),
+    (b"/=", Punctuator::DivideAssign),
+    (b"%=", Punctuator::RemainderAssign),
+    (b"+=", Punctuator::AddAssign),
+    (b"-=", Punctuator::SubtractAssign),
+    (b"<<=", Punctuator::ShiftLeftAssign),
+    (b">>=", Punctuator::ShiftRightAssign),
+    (b"&=", Punctuator::AndAssign),
+    (b"^=", Punctuator::XorAssign),
+    (b"|=", Punctuator::OrAssign),
+    (b",", Punctuator::Comma),
 ];
 
 /// What the table's first entry with this spelling is.
@@ -132,10 +132,10 @@ pub fn word_of(word: &[u8]) -> Result<TokenKind, FaultKind>
     }
 }
 
-/// The mark with this spelling.
-#[tactic(auto, unfolding(crate::specs::Words::mark_of))]
-pub fn mark_of(spelling: &[u8]) -> Option<Mark>
-    ensures { result ≡ mark_of spelling.now }
+/// The punctuator with this spelling.
+#[tactic(auto, unfolding(crate::specs::Words::punctuator_of))]
+pub fn punctuator_of(spelling: &[u8]) -> Option<Punctuator>
+    ensures { result ≡ punctuator_of spelling.now }
 {
-    look_up(&MARKS, spelling)
+    look_up(&PUNCTUATORS, spelling)
 }

@@ -1,31 +1,31 @@
 -- Turns of the loop that reads operators between operands.
 use Rattle.std.proofs.Common.{◌≡◌, ℕ, ◌+◌, ◌-◌, ◌<◌, cond, List, [], ◌∷◌, Result, Ok, Option, Some, None, refl, ◌∙◌}
 use Rattle.std.specs.Prelude.{max, nat_le}
-use Rattle.qs_syntax.specs.declared.lexeme.Lexeme.{Lexeme}
-use Rattle.qs_syntax.specs.declared.tree.BinarySign.{BinarySign}
+use Rattle.qs_syntax.specs.declared.terminal.Terminal.{Terminal}
+use Rattle.qs_syntax.specs.declared.tree.BinaryOperator.{BinaryOperator}
 use Rattle.qs_syntax.specs.Trees.{expr, binary}
 use Rattle.qs_syntax.specs.Reads.{Form}
-use Rattle.qs_parser.specs.Heads.{sign_at, binary_of}
-use Rattle.qs_parser.specs.Parse.{Parse, Stop, bind, E, deep, sign_of_level, operation_at, operations}
+use Rattle.qs_parser.specs.Heads.{operator_at, binary_of}
+use Rattle.qs_parser.specs.Parse.{Parse, Stop, bind, E, deep, operator_of_level, operation_at, operations}
 use Rattle.qs_parser.specs.Operands.{right_operand}
 use Rattle.qs_parser.proofs.CodeExpressions.{operations_more, operations_end}
 
 -- what is read behind an operand, with or without an operator
-abbrev pub with_sign : ℕ → E → Option BinarySign → (BinarySign → Result (E × List Lexeme) Stop) → Parse E
-with_sign m a None others ts = Ok (a, ts)
-with_sign m a (Some sign) others ts = cond (nat_le a.1 m) (others sign) (deep ts)
+abbrev pub with_operator : ℕ → E → Option BinaryOperator → (BinaryOperator → Result (E × List Terminal) Stop) → Parse E
+with_operator m a None others ts = Ok (a, ts)
+with_operator m a (Some operator) others ts = cond (nat_le a.1 m) (others operator) (deep ts)
 
 module _ (m : ℕ) (p : Form → Parse E) where
-  by_sign : (j start : ℕ) (a : E) (o : Option BinarySign) (others : E → Parse E) (t : Lexeme) (ts : List Lexeme)
+  by_operator : (j start : ℕ) (a : E) (o : Option BinaryOperator) (others : E → Parse E) (t : Terminal) (ts : List Terminal)
       → operation_at m p j start a o others (t ∷ ts)
-      ≡ with_sign m a o (λ sign. bind (right_operand p j (t ∷ ts)) (λ b us. others (expr 0 start (binary sign a.0 b.0), max a.1 b.1 + 1) us)) (t ∷ ts)
-  by_sign j start a None others t ts = refl
-  by_sign j start a (Some sign) others t ts = refl
+      ≡ with_operator m a o (λ operator. bind (right_operand p j (t ∷ ts)) (λ b us. others (expr 0 start (binary operator a.0 b.0), max a.1 b.1 + 1) us)) (t ∷ ts)
+  by_operator j start a None others t ts = refl
+  by_operator j start a (Some operator) others t ts = refl
 
-  pub operations_turn : (n i j start : ℕ) (a : E) (ts : List Lexeme) → i < n
+  pub operations_turn : (n i j start : ℕ) (a : E) (ts : List Terminal) → i < n
       → operations m p (n - i) j start a ts
-      ≡ with_sign m a (sign_of_level j (sign_at binary_of ts)) (λ sign. bind (right_operand p j ts) (λ b us. operations m p (n - (i + 1)) j start (expr 0 start (binary sign a.0 b.0), max a.1 b.1 + 1) us)) ts
+      ≡ with_operator m a (operator_of_level j (operator_at binary_of ts)) (λ operator. bind (right_operand p j ts) (λ b us. operations m p (n - (i + 1)) j start (expr 0 start (binary operator a.0 b.0), max a.1 b.1 + 1) us)) ts
   operations_turn n i j start a [] lt = operations_more m p n i j start a [] lt
-  operations_turn n i j start a (t ∷ ts) lt = operations_more m p n i j start a (t ∷ ts) lt ∙ by_sign j start a (sign_of_level j (sign_at binary_of (t ∷ ts))) (operations m p (n - (i + 1)) j start) t ts
+  operations_turn n i j start a (t ∷ ts) lt = operations_more m p n i j start a (t ∷ ts) lt ∙ by_operator j start a (operator_of_level j (operator_at binary_of (t ∷ ts))) (operations m p (n - (i + 1)) j start) t ts
 
 pub ruleset operation_steps = (operations_turn, operations_end)

@@ -1,99 +1,99 @@
 -- How an expression begins, and that its reading has a height.
 use Rattle.std.proofs.Common.{◌≡◌, ℕ, ◌<◌, Bool, true, false, List, [], ◌∷◌, ◌++◌, refl, append_assoc, arith}
-use Rattle.qs_syntax.specs.declared.lexeme.Lexeme.{Lexeme}
-use Rattle.qs_syntax.specs.declared.lexeme.Lexeme.TheVariants.{Name, Keyword, Constant, Text, Mark}
-use Rattle.qs_syntax.specs.declared.tokens.Mark.TheVariants as marks
-use Rattle.qs_syntax.specs.declared.tree.UnarySign.{UnarySign}
-use Rattle.qs_syntax.specs.declared.tree.UnarySign.TheVariants as unaries
+use Rattle.qs_syntax.specs.declared.terminal.Terminal.{Terminal}
+use Rattle.qs_syntax.specs.declared.terminal.Terminal.TheVariants.{Name, Keyword, Constant, Text, Punctuator}
+use Rattle.qs_syntax.specs.declared.tokens.Punctuator.TheVariants as punctuators
+use Rattle.qs_syntax.specs.declared.tree.UnaryOperator.{UnaryOperator}
+use Rattle.qs_syntax.specs.declared.tree.UnaryOperator.TheVariants as unaries
 use Rattle.qs_syntax.specs.Trees.{ExprTree, Exprs}
-use Rattle.qs_syntax.specs.Signs.{mark_of_unary, mark_of_binary, mark_of_assign, mark_of_access}
+use Rattle.qs_syntax.specs.Operators.{punctuator_of_unary, punctuator_of_binary, punctuator_of_assign, punctuator_of_access}
 use Rattle.qs_syntax.specs.Reads.{Form, Postfix, Unary, Level, Conditional, Assignment, Expression, place, Reads, ReadsArguments, a_name, an_empty_call, a_call, a_constant, a_text, in_parentheses, an_index, a_member, an_increment_after, a_decrement_after, a_postfix, an_increment, a_decrement, an_operator, a_size_of_type, a_size_of_value, a_cast, an_operand, stronger, an_operation, a_plain_level, a_choice, a_plain_conditional, an_assignment, a_plain_assignment, a_comma, a_last_argument, an_argument}
 use Rattle.qs_parser.specs.Heads.{starts, begins_type}
 use Rattle.qs_parser.specs.Parse.{begins_one, begins_cast}
-use Rattle.qs_parser.proofs.HeadsLaws.{unary_mark}
+use Rattle.qs_parser.proofs.HeadsLaws.{unary_punctuator}
 
 -- ---- the first token
 
-pub begins : {form : Form} {h : ℕ} {ts : List Lexeme} {e : ExprTree} → Reads form h ts e → (us : List Lexeme) → begins_one (ts ++ us) ≡ true
+pub begins : {form : Form} {h : ℕ} {ts : List Terminal} {e : ExprTree} → Reads form h ts e → (us : List Terminal) → begins_one (ts ++ us) ≡ true
 begins (a_name at x) us = refl
 begins (an_empty_call at o c f) us = refl
 begins (a_call at o c f r) us = refl
 begins (a_constant at n unsigned) us = refl
 begins (a_text at first r) us = refl
 begins (in_parentheses o c r) us = refl
-begins (an_index {ys = ys} o c r s) us = rw append_assoc (begins r (Mark o marks.OpenBracket ∷ ((ys ++ Mark c marks.CloseBracket ∷ []) ++ us)))
-begins (a_member access d n x r) us = rw append_assoc (begins r (Mark d (mark_of_access access) ∷ Name n x ∷ us))
-begins (an_increment_after s r) us = rw append_assoc (begins r (Mark s marks.Increment ∷ us))
-begins (a_decrement_after s r) us = rw append_assoc (begins r (Mark s marks.Decrement ∷ us))
+begins (an_index {ys = ys} o c r s) us = rw append_assoc (begins r (Punctuator o punctuators.OpenBracket ∷ ((ys ++ Punctuator c punctuators.CloseBracket ∷ []) ++ us)))
+begins (a_member access d n x r) us = rw append_assoc (begins r (Punctuator d (punctuator_of_access access) ∷ Name n x ∷ us))
+begins (an_increment_after s r) us = rw append_assoc (begins r (Punctuator s punctuators.Increment ∷ us))
+begins (a_decrement_after s r) us = rw append_assoc (begins r (Punctuator s punctuators.Decrement ∷ us))
 begins (a_postfix r) us = begins r us
 begins (an_increment at r) us = refl
 begins (a_decrement at r) us = refl
-begins (an_operator sign at r) us = rw unary_mark refl
+begins (an_operator operator at r) us = rw unary_punctuator refl
 begins (a_size_of_type at o c r) us = refl
 begins (a_size_of_value at r) us = refl
 begins (a_cast at c t r) us = refl
 begins (an_operand r) us = begins r us
 begins (stronger r) us = begins r us
-begins (an_operation {ys = ys} sign at w r s) us = rw append_assoc (begins r (Mark at (mark_of_binary sign) ∷ (ys ++ us)))
+begins (an_operation {ys = ys} operator at w r s) us = rw append_assoc (begins r (Punctuator at (punctuator_of_binary operator) ∷ (ys ++ us)))
 begins (a_plain_level r) us = begins r us
-begins (a_choice {ys = ys} {zs = zs} q s a b c) us = rw append_assoc (begins a (Mark q marks.Question ∷ ((ys ++ Mark s marks.Colon ∷ zs) ++ us)))
+begins (a_choice {ys = ys} {zs = zs} q s a b c) us = rw append_assoc (begins a (Punctuator q punctuators.Question ∷ ((ys ++ Punctuator s punctuators.Colon ∷ zs) ++ us)))
 begins (a_plain_conditional r) us = begins r us
-begins (an_assignment {ys = ys} sign at r s) us = rw append_assoc (begins r (Mark at (mark_of_assign sign) ∷ (ys ++ us)))
+begins (an_assignment {ys = ys} operator at r s) us = rw append_assoc (begins r (Punctuator at (punctuator_of_assign operator) ∷ (ys ++ us)))
 begins (a_plain_assignment r) us = begins r us
-begins (a_comma {ys = ys} at r s) us = rw append_assoc (begins r (Mark at marks.Comma ∷ (ys ++ us)))
+begins (a_comma {ys = ys} at r s) us = rw append_assoc (begins r (Punctuator at punctuators.Comma ∷ (ys ++ us)))
 
-pub begins_no_type : {form : Form} {h : ℕ} {ts : List Lexeme} {e : ExprTree} → Reads form h ts e → (us : List Lexeme) → begins_type (ts ++ us) ≡ false
+pub begins_no_type : {form : Form} {h : ℕ} {ts : List Terminal} {e : ExprTree} → Reads form h ts e → (us : List Terminal) → begins_type (ts ++ us) ≡ false
 begins_no_type (a_name at x) us = refl
 begins_no_type (an_empty_call at o c f) us = refl
 begins_no_type (a_call at o c f r) us = refl
 begins_no_type (a_constant at n unsigned) us = refl
 begins_no_type (a_text at first r) us = refl
 begins_no_type (in_parentheses o c r) us = refl
-begins_no_type (an_index {ys = ys} o c r s) us = rw append_assoc (begins_no_type r (Mark o marks.OpenBracket ∷ ((ys ++ Mark c marks.CloseBracket ∷ []) ++ us)))
-begins_no_type (a_member access d n x r) us = rw append_assoc (begins_no_type r (Mark d (mark_of_access access) ∷ Name n x ∷ us))
-begins_no_type (an_increment_after s r) us = rw append_assoc (begins_no_type r (Mark s marks.Increment ∷ us))
-begins_no_type (a_decrement_after s r) us = rw append_assoc (begins_no_type r (Mark s marks.Decrement ∷ us))
+begins_no_type (an_index {ys = ys} o c r s) us = rw append_assoc (begins_no_type r (Punctuator o punctuators.OpenBracket ∷ ((ys ++ Punctuator c punctuators.CloseBracket ∷ []) ++ us)))
+begins_no_type (a_member access d n x r) us = rw append_assoc (begins_no_type r (Punctuator d (punctuator_of_access access) ∷ Name n x ∷ us))
+begins_no_type (an_increment_after s r) us = rw append_assoc (begins_no_type r (Punctuator s punctuators.Increment ∷ us))
+begins_no_type (a_decrement_after s r) us = rw append_assoc (begins_no_type r (Punctuator s punctuators.Decrement ∷ us))
 begins_no_type (a_postfix r) us = begins_no_type r us
 begins_no_type (an_increment at r) us = refl
 begins_no_type (a_decrement at r) us = refl
-begins_no_type (an_operator sign at r) us = refl
+begins_no_type (an_operator operator at r) us = refl
 begins_no_type (a_size_of_type at o c r) us = refl
 begins_no_type (a_size_of_value at r) us = refl
 begins_no_type (a_cast at c t r) us = refl
 begins_no_type (an_operand r) us = begins_no_type r us
 begins_no_type (stronger r) us = begins_no_type r us
-begins_no_type (an_operation {ys = ys} sign at w r s) us = rw append_assoc (begins_no_type r (Mark at (mark_of_binary sign) ∷ (ys ++ us)))
+begins_no_type (an_operation {ys = ys} operator at w r s) us = rw append_assoc (begins_no_type r (Punctuator at (punctuator_of_binary operator) ∷ (ys ++ us)))
 begins_no_type (a_plain_level r) us = begins_no_type r us
-begins_no_type (a_choice {ys = ys} {zs = zs} q s a b c) us = rw append_assoc (begins_no_type a (Mark q marks.Question ∷ ((ys ++ Mark s marks.Colon ∷ zs) ++ us)))
+begins_no_type (a_choice {ys = ys} {zs = zs} q s a b c) us = rw append_assoc (begins_no_type a (Punctuator q punctuators.Question ∷ ((ys ++ Punctuator s punctuators.Colon ∷ zs) ++ us)))
 begins_no_type (a_plain_conditional r) us = begins_no_type r us
-begins_no_type (an_assignment {ys = ys} sign at r s) us = rw append_assoc (begins_no_type r (Mark at (mark_of_assign sign) ∷ (ys ++ us)))
+begins_no_type (an_assignment {ys = ys} operator at r s) us = rw append_assoc (begins_no_type r (Punctuator at (punctuator_of_assign operator) ∷ (ys ++ us)))
 begins_no_type (a_plain_assignment r) us = begins_no_type r us
-begins_no_type (a_comma {ys = ys} at r s) us = rw append_assoc (begins_no_type r (Mark at marks.Comma ∷ (ys ++ us)))
+begins_no_type (a_comma {ys = ys} at r s) us = rw append_assoc (begins_no_type r (Punctuator at punctuators.Comma ∷ (ys ++ us)))
 
-pub arguments_begin : {h : ℕ} {ts : List Lexeme} {es : Exprs} → ReadsArguments h ts es → (us : List Lexeme) → begins_one (ts ++ us) ≡ true
+pub arguments_begin : {h : ℕ} {ts : List Terminal} {es : Exprs} → ReadsArguments h ts es → (us : List Terminal) → begins_one (ts ++ us) ≡ true
 arguments_begin (a_last_argument r) us = begins r us
-arguments_begin (an_argument {ys = ys} at r s) us = rw append_assoc (begins r (Mark at marks.Comma ∷ (ys ++ us)))
+arguments_begin (an_argument {ys = ys} at r s) us = rw append_assoc (begins r (Punctuator at punctuators.Comma ∷ (ys ++ us)))
 
-one_no_parenthesis : (ts : List Lexeme) → begins_one ts ≡ true → starts marks.CloseParenthesis ts ≡ false
+one_no_parenthesis : (ts : List Terminal) → begins_one ts ≡ true → starts punctuators.CloseParenthesis ts ≡ false
 one_no_parenthesis [] e = refl
 one_no_parenthesis (Name at x ∷ ts) e = refl
 one_no_parenthesis (Keyword at k ∷ ts) e = refl
 one_no_parenthesis (Constant at n unsigned ∷ ts) e = refl
 one_no_parenthesis (Text at bytes ∷ ts) e = refl
-one_no_parenthesis (Mark at marks.CloseParenthesis ∷ ts) e = absurd cc
-one_no_parenthesis (Mark at m ∷ ts) e = refl
+one_no_parenthesis (Punctuator at punctuators.CloseParenthesis ∷ ts) e = absurd cc
+one_no_parenthesis (Punctuator at m ∷ ts) e = refl
 
-pub arguments_no_parenthesis : {h : ℕ} {ts : List Lexeme} {es : Exprs} → ReadsArguments h ts es → (us : List Lexeme) → starts marks.CloseParenthesis (ts ++ us) ≡ false
+pub arguments_no_parenthesis : {h : ℕ} {ts : List Terminal} {es : Exprs} → ReadsArguments h ts es → (us : List Terminal) → starts punctuators.CloseParenthesis (ts ++ us) ≡ false
 arguments_no_parenthesis {ts = ts} r us = one_no_parenthesis (ts ++ us) (arguments_begin r us)
 
 -- ---- where it stands
 
-place_front : (ts us : List Lexeme) → begins_one (ts ++ []) ≡ true → place (ts ++ us) ≡ place ts
+place_front : (ts us : List Terminal) → begins_one (ts ++ []) ≡ true → place (ts ++ us) ≡ place ts
 place_front [] us e = absurd cc
 place_front (t ∷ ts) us e = refl
 
 -- more behind an expression changes nothing of its place
-pub place_more : {form : Form} {h : ℕ} {ts : List Lexeme} {e : ExprTree} → Reads form h ts e → (us : List Lexeme) → place (ts ++ us) ≡ place ts
+pub place_more : {form : Form} {h : ℕ} {ts : List Terminal} {e : ExprTree} → Reads form h ts e → (us : List Terminal) → place (ts ++ us) ≡ place ts
 place_more {ts = ts} r us = place_front ts us (begins r [])
 
 -- ---- operands of unary operators are no casts
@@ -106,7 +106,7 @@ is_unary Conditional = false
 is_unary Assignment = false
 is_unary Expression = false
 
-operator_no_cast : (sign : UnarySign) (at : ℕ) (ts : List Lexeme) → begins_cast (Mark at (mark_of_unary sign) ∷ ts) ≡ false
+operator_no_cast : (operator : UnaryOperator) (at : ℕ) (ts : List Terminal) → begins_cast (Punctuator at (punctuator_of_unary operator) ∷ ts) ≡ false
 operator_no_cast unaries.Address at ts = refl
 operator_no_cast unaries.Indirect at ts = refl
 operator_no_cast unaries.Plus at ts = refl
@@ -114,40 +114,40 @@ operator_no_cast unaries.Minus at ts = refl
 operator_no_cast unaries.Complement at ts = refl
 operator_no_cast unaries.Not at ts = refl
 
-no_cast_at : {form : Form} {h : ℕ} {ts : List Lexeme} {e : ExprTree} → Reads form h ts e → is_unary form ≡ true → (us : List Lexeme) → begins_cast (ts ++ us) ≡ false
+no_cast_at : {form : Form} {h : ℕ} {ts : List Terminal} {e : ExprTree} → Reads form h ts e → is_unary form ≡ true → (us : List Terminal) → begins_cast (ts ++ us) ≡ false
 no_cast_at (a_name at x) u us = refl
 no_cast_at (an_empty_call at o c f) u us = refl
 no_cast_at (a_call at o c f r) u us = refl
 no_cast_at (a_constant at n unsigned) u us = refl
 no_cast_at (a_text at first r) u us = refl
-no_cast_at (in_parentheses o c r) u us = rw append_assoc (begins_no_type r (Mark c marks.CloseParenthesis ∷ us))
-no_cast_at (an_index {ys = ys} o c r s) u us = rw append_assoc (no_cast_at r refl (Mark o marks.OpenBracket ∷ ((ys ++ Mark c marks.CloseBracket ∷ []) ++ us)))
-no_cast_at (a_member access d n x r) u us = rw append_assoc (no_cast_at r refl (Mark d (mark_of_access access) ∷ Name n x ∷ us))
-no_cast_at (an_increment_after s r) u us = rw append_assoc (no_cast_at r refl (Mark s marks.Increment ∷ us))
-no_cast_at (a_decrement_after s r) u us = rw append_assoc (no_cast_at r refl (Mark s marks.Decrement ∷ us))
+no_cast_at (in_parentheses o c r) u us = rw append_assoc (begins_no_type r (Punctuator c punctuators.CloseParenthesis ∷ us))
+no_cast_at (an_index {ys = ys} o c r s) u us = rw append_assoc (no_cast_at r refl (Punctuator o punctuators.OpenBracket ∷ ((ys ++ Punctuator c punctuators.CloseBracket ∷ []) ++ us)))
+no_cast_at (a_member access d n x r) u us = rw append_assoc (no_cast_at r refl (Punctuator d (punctuator_of_access access) ∷ Name n x ∷ us))
+no_cast_at (an_increment_after s r) u us = rw append_assoc (no_cast_at r refl (Punctuator s punctuators.Increment ∷ us))
+no_cast_at (a_decrement_after s r) u us = rw append_assoc (no_cast_at r refl (Punctuator s punctuators.Decrement ∷ us))
 no_cast_at (a_postfix r) u us = no_cast_at r refl us
 no_cast_at (an_increment at r) u us = refl
 no_cast_at (a_decrement at r) u us = refl
-no_cast_at (an_operator {ts = ts} sign at r) u us = operator_no_cast sign at (ts ++ us)
+no_cast_at (an_operator {ts = ts} operator at r) u us = operator_no_cast operator at (ts ++ us)
 no_cast_at (a_size_of_type at o c r) u us = refl
 no_cast_at (a_size_of_value at r) u us = refl
 no_cast_at (a_cast at c t r) u us = absurd cc
 no_cast_at (an_operand r) u us = absurd cc
 no_cast_at (stronger r) u us = absurd cc
-no_cast_at (an_operation sign at w r s) u us = absurd cc
+no_cast_at (an_operation operator at w r s) u us = absurd cc
 no_cast_at (a_plain_level r) u us = absurd cc
 no_cast_at (a_choice q s a b c) u us = absurd cc
 no_cast_at (a_plain_conditional r) u us = absurd cc
-no_cast_at (an_assignment sign at r s) u us = absurd cc
+no_cast_at (an_assignment operator at r s) u us = absurd cc
 no_cast_at (a_plain_assignment r) u us = absurd cc
 no_cast_at (a_comma at r s) u us = absurd cc
 
-pub no_cast : {h : ℕ} {ts : List Lexeme} {e : ExprTree} → Reads Unary h ts e → (us : List Lexeme) → begins_cast (ts ++ us) ≡ false
+pub no_cast : {h : ℕ} {ts : List Terminal} {e : ExprTree} → Reads Unary h ts e → (us : List Terminal) → begins_cast (ts ++ us) ≡ false
 no_cast r us = no_cast_at r refl us
 
 -- ---- heights
 
-pub high : {form : Form} {h : ℕ} {ts : List Lexeme} {e : ExprTree} → Reads form h ts e → 0 < h
+pub high : {form : Form} {h : ℕ} {ts : List Terminal} {e : ExprTree} → Reads form h ts e → 0 < h
 high (a_name at x) = omega arith
 high (an_empty_call at o c f) = omega arith
 high (a_call at o c f r) = omega arith
@@ -161,20 +161,20 @@ high (a_decrement_after s r) = omega arith
 high (a_postfix r) = high r
 high (an_increment at r) = omega arith
 high (a_decrement at r) = omega arith
-high (an_operator sign at r) = omega arith
+high (an_operator operator at r) = omega arith
 high (a_size_of_type at o c r) = omega arith
 high (a_size_of_value at r) = omega arith
 high (a_cast at c t r) = omega arith
 high (an_operand r) = high r
 high (stronger r) = high r
-high (an_operation sign at w r s) = omega arith
+high (an_operation operator at w r s) = omega arith
 high (a_plain_level r) = high r
 high (a_choice q s a b c) = omega arith
 high (a_plain_conditional r) = high r
-high (an_assignment sign at r s) = omega arith
+high (an_assignment operator at r s) = omega arith
 high (a_plain_assignment r) = high r
 high (a_comma at r s) = omega arith
 
-pub arguments_high : {h : ℕ} {ts : List Lexeme} {es : Exprs} → ReadsArguments h ts es → 0 < h
+pub arguments_high : {h : ℕ} {ts : List Terminal} {es : Exprs} → ReadsArguments h ts es → 0 < h
 arguments_high (a_last_argument r) = high r
 arguments_high (an_argument {h = h} at r s) = let one : 0 < h = high r in omega arith

@@ -2,54 +2,54 @@
 use Rattle.std.proofs.Common.{◌≡◌, ℕ, zero, suc, ◌+◌, ◌≤◌, Bool, true, false, cond, List, [], ◌∷◌, ◌++◌, length, Option, Some, None, Result, refl, sym, ap, subst, ◌∙◌, append_assoc, append-nil, arith}
 use Rattle.std.specs.Prelude.{max, ◌==◌, ◌&&◌, not}
 use Rattle.std.proofs.lemmas.Bool.{eqb-true}
-use Rattle.qs_syntax.specs.declared.lexeme.Lexeme.{Lexeme}
-use Rattle.qs_syntax.specs.declared.lexeme.Lexeme.TheVariants.{Name, Keyword, Constant, Text, Mark}
+use Rattle.qs_syntax.specs.declared.terminal.Terminal.{Terminal}
+use Rattle.qs_syntax.specs.declared.terminal.Terminal.TheVariants.{Name, Keyword, Constant, Text, Punctuator}
 use Rattle.qs_syntax.specs.declared.tokens.Keyword.TheVariants as keywords
-use Rattle.qs_syntax.specs.declared.tokens.Mark as mark
-use Rattle.qs_syntax.specs.declared.tokens.Mark.TheVariants as marks
-use Rattle.qs_syntax.specs.declared.tree.UnarySign.{UnarySign}
-use Rattle.qs_syntax.specs.declared.tree.BinarySign.{BinarySign}
-use Rattle.qs_syntax.specs.declared.tree.AssignSign.{AssignSign}
+use Rattle.qs_syntax.specs.declared.tokens.Punctuator as punctuator
+use Rattle.qs_syntax.specs.declared.tokens.Punctuator.TheVariants as punctuators
+use Rattle.qs_syntax.specs.declared.tree.UnaryOperator.{UnaryOperator}
+use Rattle.qs_syntax.specs.declared.tree.BinaryOperator.{BinaryOperator}
+use Rattle.qs_syntax.specs.declared.tree.AssignmentOperator.{AssignmentOperator}
 use Rattle.qs_syntax.specs.declared.tree.Access.{Access}
-use Rattle.qs_syntax.specs.declared.tree.StepSign.TheVariants as steps
+use Rattle.qs_syntax.specs.declared.tree.StepOperator.TheVariants as steps
 use Rattle.qs_syntax.specs.Trees.{ExprTree, expr, ShapeTree, text, step, binary, assign, choice, comma, index, member, Exprs, no_exprs, expr_and, exprs_of}
-use Rattle.qs_syntax.specs.Signs.{mark_of_unary, mark_of_binary, weakness, mark_of_assign, mark_of_access, number_of}
+use Rattle.qs_syntax.specs.Operators.{punctuator_of_unary, punctuator_of_binary, precedence, punctuator_of_assign, punctuator_of_access, number_of}
 use Rattle.qs_syntax.specs.Reads.{Form, Postfix, Unary, Level, Conditional, Assignment, Expression, place, at_first, ReadsTexts, no_text, a_further_text, Reads, ReadsArguments, a_name, an_empty_call, a_call, a_constant, a_text, in_parentheses, an_index, a_member, an_increment_after, a_decrement_after, a_postfix, an_increment, a_decrement, an_operator, a_size_of_type, a_size_of_value, a_cast, an_operand, stronger, an_operation, a_plain_level, a_choice, a_plain_conditional, an_assignment, a_plain_assignment, a_comma, a_last_argument, an_argument}
-use Rattle.qs_parser.specs.Heads.{is_mark, is_keyword, starts, unary_of, binary_of, assign_of, access_of, sign_at}
+use Rattle.qs_parser.specs.Heads.{is_punctuator, is_keyword, starts, unary_of, binary_of, assign_of, access_of, operator_at}
 use Rattle.qs_parser.specs.Parse as parse
 use Rattle.qs_parser.specs.Parse.{Stop, Parse, bind, E, begins_one, begins_cast, texts_from}
-use Rattle.qs_parser.proofs.HeadsLaws.{mark_is, keyword_is, unary_is, binary_is, assign_is, access_is, sign_is}
+use Rattle.qs_parser.proofs.HeadsLaws.{punctuator_is, keyword_is, unary_is, binary_is, assign_is, access_is, operator_is}
 use Rattle.qs_parser.proofs.Sound.{Sound, Sound-ok, Sound-err, Sound-token, Sound-mono, Sound-bind, Sound-then}
-use Rattle.qs_parser.proofs.SoundSteps.{Sound-if, Sound-above, Sound-ends, Sound-from, Sound-mark, sound_expect, sound_expect_name}
+use Rattle.qs_parser.proofs.SoundSteps.{Sound-if, Sound-above, Sound-ends, Sound-from, Sound-punctuator, sound_expect, sound_expect_name}
 use Rattle.qs_parser.proofs.TypesSound.{sound_type_name}
 use Rattle.qs_parser.proofs.ExpressionsBegin.{place_more}
 
-abbrev pub IsRead : ℕ → Form → E → List Lexeme → Type 0
+abbrev pub IsRead : ℕ → Form → E → List Terminal → Type 0
 IsRead n form x ts = Reads form x.1 ts x.0 × (x.1 ≤ n)
 
 -- the same, for what stands at the first of the tokens
-abbrev Begun : ℕ → Form → ℕ → E → List Lexeme → Type 0
+abbrev Begun : ℕ → Form → ℕ → E → List Terminal → Type 0
 Begun n form start x ts = Reads form x.1 ts x.0 × (x.1 ≤ n) × (start ≡ place ts)
 
-cast_read : {form : Form} {h k : ℕ} {ts us : List Lexeme} {e f : ExprTree} → h ≡ k → ts ≡ us → e ≡ f → Reads form h ts e → Reads form k us f
+cast_read : {form : Form} {h k : ℕ} {ts us : List Terminal} {e f : ExprTree} → h ≡ k → ts ≡ us → e ≡ f → Reads form h ts e → Reads form k us f
 cast_read {form} {h} {k} {ts} {us} {e} {f} p q s r = subst (λ n. Reads form n us f) p (subst (λ l. Reads form h l f) q (subst (Reads form h ts) s r))
 
-cast_arguments : {h k : ℕ} {ts us : List Lexeme} {es fs : Exprs} → h ≡ k → ts ≡ us → es ≡ fs → ReadsArguments h ts es → ReadsArguments k us fs
+cast_arguments : {h k : ℕ} {ts us : List Terminal} {es fs : Exprs} → h ≡ k → ts ≡ us → es ≡ fs → ReadsArguments h ts es → ReadsArguments k us fs
 cast_arguments {h} {k} {ts} {us} {es} {fs} p q s r = subst (λ n. ReadsArguments n us fs) p (subst (λ l. ReadsArguments h l fs) q (subst (ReadsArguments h ts) s r))
 
 -- ---- texts
 
-record TextsTaken (done : List ℕ) (ts : List Lexeme) (x : List ℕ × List Lexeme) : Type 0 where
-  front : List Lexeme
+record TextsTaken (done : List ℕ) (ts : List Terminal) (x : List ℕ × List Terminal) : Type 0 where
+  front : List Terminal
   bytes : List ℕ
   split : ts ≡ front ++ x.1
   are : ReadsTexts front bytes
   joined : x.0 ≡ done ++ bytes
 
-no_texts : (done : List ℕ) (ts : List Lexeme) → TextsTaken done ts (done, ts)
+no_texts : (done : List ℕ) (ts : List Terminal) → TextsTaken done ts (done, ts)
 no_texts done ts = record { front = []; bytes = []; split = refl; are = no_text; joined = sym (append-nil done) }
 
-texts_taken : (done : List ℕ) (ts : List Lexeme) → TextsTaken done ts (texts_from done ts)
+texts_taken : (done : List ℕ) (ts : List Terminal) → TextsTaken done ts (texts_from done ts)
 unfolding texts_from
 texts_taken done [] = no_texts done []
 texts_taken done (Name at x ∷ ts) = no_texts done (Name at x ∷ ts)
@@ -58,9 +58,9 @@ texts_taken done (Constant at n unsigned ∷ ts) = no_texts done (Constant at n 
 texts_taken done (Text at first ∷ ts) =
     let t : TextsTaken (done ++ first) ts (texts_from (done ++ first) ts) = texts_taken (done ++ first) ts in
     record { front = Text at first ∷ t.front; bytes = first ++ t.bytes; split = ap (λ l. Text at first ∷ l) t.split; are = a_further_text at first t.are; joined = t.joined ∙ append_assoc done first t.bytes }
-texts_taken done (Mark at m ∷ ts) = no_texts done (Mark at m ∷ ts)
+texts_taken done (Punctuator at m ∷ ts) = no_texts done (Punctuator at m ∷ ts)
 
-sound_after_text : (n at : ℕ) (first : List ℕ) (ts : List Lexeme) (m : ℕ) (part : Form → Parse E) → Sound (IsRead (n + 1) Postfix) (Text at first ∷ []) ts (parse.after_text m part at (texts_from first ts))
+sound_after_text : (n at : ℕ) (first : List ℕ) (ts : List Terminal) (m : ℕ) (part : Form → Parse E) → Sound (IsRead (n + 1) Postfix) (Text at first ∷ []) ts (parse.after_text m part at (texts_from first ts))
 sound_after_text n at first ts m part =
     let t : TextsTaken first ts (texts_from first ts) = texts_taken first ts in
     Sound-ends (Text at first ∷ []) ts (texts_from first ts).1 (expr 0 at (text (texts_from first ts).0), 1) t.front t.split
@@ -82,26 +82,26 @@ join_none [] = refl
 join_none (d ∷ ds) = ap (expr_and d) (join_none ds)
 
 -- arguments with a comma behind each
-record Joins (k : ℕ) (xs : List Lexeme) (ds : List ExprTree) : Type 0 where
-  goes : (h : ℕ) (ys : List Lexeme) (es : Exprs) → ReadsArguments h ys es → ReadsArguments (max k h) (xs ++ ys) (join ds es)
+record Joins (k : ℕ) (xs : List Terminal) (ds : List ExprTree) : Type 0 where
+  goes : (h : ℕ) (ys : List Terminal) (es : Exprs) → ReadsArguments h ys es → ReadsArguments (max k h) (xs ++ ys) (join ds es)
 
 joins_none : Joins 0 [] []
 joins_none = record { goes = λ h ys es r. cast_arguments (omega arith) refl refl r }
 
-joins_more : (k h c : ℕ) (xs ys : List Lexeme) (ds : List ExprTree) (e : ExprTree) → Joins k xs ds → Reads Assignment h ys e → Joins (max k h) ((xs ++ ys) ++ Mark c marks.Comma ∷ []) (ds ++ e ∷ [])
+joins_more : (k h c : ℕ) (xs ys : List Terminal) (ds : List ExprTree) (e : ExprTree) → Joins k xs ds → Reads Assignment h ys e → Joins (max k h) ((xs ++ ys) ++ Punctuator c punctuators.Comma ∷ []) (ds ++ e ∷ [])
 joins_more k h c xs ys ds e j r = record {
-  goes = λ i zs es s. cast_arguments {h = max k (max h i)} {k = max (max k h) i} (omega arith) (simp append_assoc) (join_end ds e es) (j.goes (max h i) (ys ++ Mark c marks.Comma ∷ zs) (expr_and e es) (an_argument c r s));
+  goes = λ i zs es s. cast_arguments {h = max k (max h i)} {k = max (max k h) i} (omega arith) (simp append_assoc) (join_end ds e es) (j.goes (max h i) (ys ++ Punctuator c punctuators.Comma ∷ zs) (expr_and e es) (an_argument c r s));
 }
 
 -- all arguments, and the parenthesis behind them
-record Closed (m : ℕ) (x : List ExprTree × ℕ) (ts : List Lexeme) : Type 0 where
+record Closed (m : ℕ) (x : List ExprTree × ℕ) (ts : List Terminal) : Type 0 where
   at : ℕ
-  inside : List Lexeme
-  split : ts ≡ inside ++ Mark at marks.CloseParenthesis ∷ []
+  inside : List Terminal
+  split : ts ≡ inside ++ Punctuator at punctuators.CloseParenthesis ∷ []
   are : ReadsArguments x.1 inside (exprs_of x.0)
   low : x.1 ≤ m
 
-closed : (m k h c : ℕ) (xs ys : List Lexeme) (ds : List ExprTree) (e : ExprTree) → Joins k xs ds → Reads Assignment h ys e → max k h ≤ m → Closed m (ds ++ e ∷ [], max k h) ((xs ++ ys) ++ Mark c marks.CloseParenthesis ∷ [])
+closed : (m k h c : ℕ) (xs ys : List Terminal) (ds : List ExprTree) (e : ExprTree) → Joins k xs ds → Reads Assignment h ys e → max k h ≤ m → Closed m (ds ++ e ∷ [], max k h) ((xs ++ ys) ++ Punctuator c punctuators.CloseParenthesis ∷ [])
 closed m k h c xs ys ds e j r le = record {
   at = c;
   inside = xs ++ ys;
@@ -110,93 +110,93 @@ closed m k h c xs ys ds e j r le = record {
   low = le;
 }
 
-module _ (m : ℕ) (p : Form → Parse E) (sound : (form : Form) (ts : List Lexeme) → Sound (IsRead m form) [] ts (p form ts)) where
-  sound_arguments : (n : ℕ) (ds : List ExprTree) (k : ℕ) (xs : List Lexeme) → Joins k xs ds → k ≤ m → (ts : List Lexeme) → Sound (Closed m) xs ts (parse.arguments m p n ds k ts)
+module _ (m : ℕ) (p : Form → Parse E) (sound : (form : Form) (ts : List Terminal) → Sound (IsRead m form) [] ts (p form ts)) where
+  sound_arguments : (n : ℕ) (ds : List ExprTree) (k : ℕ) (xs : List Terminal) → Joins k xs ds → k ≤ m → (ts : List Terminal) → Sound (Closed m) xs ts (parse.arguments m p n ds k ts)
   unfolding parse.arguments
   sound_arguments zero ds k xs j le ts = Sound-err
   sound_arguments (suc n) ds k xs j le ts =
       Sound-bind _ (sound Assignment ts)
       (λ e front us r. let low : max k e.1 ≤ m = omega (arith, r.1) in
-      Sound-if (starts marks.CloseParenthesis us)
-      (λ _. Sound-mark marks.CloseParenthesis _ (λ c vs. Sound-ok (closed m k e.1 c xs front ds e.0 j r.0 low)))
-      (λ _. Sound-mark marks.Comma _ (λ c vs. sound_arguments n (ds ++ e.0 ∷ []) (max k e.1) ((xs ++ front) ++ Mark c marks.Comma ∷ []) (joins_more k e.1 c xs front ds e.0 j r.0) low vs)))
+      Sound-if (starts punctuators.CloseParenthesis us)
+      (λ _. Sound-punctuator punctuators.CloseParenthesis _ (λ c vs. Sound-ok (closed m k e.1 c xs front ds e.0 j r.0 low)))
+      (λ _. Sound-punctuator punctuators.Comma _ (λ c vs. sound_arguments n (ds ++ e.0 ∷ []) (max k e.1) ((xs ++ front) ++ Punctuator c punctuators.Comma ∷ []) (joins_more k e.1 c xs front ds e.0 j r.0) low vs)))
 
-  sound_call : (at o : ℕ) (f : List ℕ) (ts : List Lexeme) → Sound (IsRead (m + 1) Postfix) (Name at f ∷ Mark o marks.OpenParenthesis ∷ []) ts (parse.call_of m p at f ts)
+  sound_call : (at o : ℕ) (f : List ℕ) (ts : List Terminal) → Sound (IsRead (m + 1) Postfix) (Name at f ∷ Punctuator o punctuators.OpenParenthesis ∷ []) ts (parse.call_of m p at f ts)
   sound_call at o f ts =
-      Sound-if (starts marks.CloseParenthesis ts)
-      (λ _. Sound-mark marks.CloseParenthesis _ (λ c us. Sound-ok (an_empty_call at o c f, omega arith)))
+      Sound-if (starts punctuators.CloseParenthesis ts)
+      (λ _. Sound-punctuator punctuators.CloseParenthesis _ (λ c us. Sound-ok (an_empty_call at o c f, omega arith)))
       (λ _. Sound-bind _ (sound_arguments (length ts) [] 0 [] joins_none (omega arith) ts)
-      (λ es front us c. Sound-ok (cast_read (omega arith) (ap (λ l. Name at f ∷ Mark o marks.OpenParenthesis ∷ l) (sym c.split)) refl (a_call at o c.at f c.are), let low : es.1 ≤ m = c.low in omega arith)))
+      (λ es front us c. Sound-ok (cast_read (omega arith) (ap (λ l. Name at f ∷ Punctuator o punctuators.OpenParenthesis ∷ l) (sym c.split)) refl (a_call at o c.at f c.are), let low : es.1 ≤ m = c.low in omega arith)))
 
-  sound_name : (at : ℕ) (x : List ℕ) (ts : List Lexeme) → Sound (IsRead (m + 1) Postfix) (Name at x ∷ []) ts (parse.after_name m p at x ts)
+  sound_name : (at : ℕ) (x : List ℕ) (ts : List Terminal) → Sound (IsRead (m + 1) Postfix) (Name at x ∷ []) ts (parse.after_name m p at x ts)
   sound_name at x ts =
-      Sound-if (starts marks.OpenParenthesis ts) (λ _. Sound-mark marks.OpenParenthesis _ (λ o us. sound_call at o x us)) (λ _. Sound-ok (a_name at x, omega arith))
+      Sound-if (starts punctuators.OpenParenthesis ts) (λ _. Sound-punctuator punctuators.OpenParenthesis _ (λ o us. sound_call at o x us)) (λ _. Sound-ok (a_name at x, omega arith))
 
-  sound_parentheses : (o : ℕ) (ts : List Lexeme) → Sound (IsRead (m + 1) Postfix) (Mark o marks.OpenParenthesis ∷ []) ts (parse.in_parentheses m p ts)
+  sound_parentheses : (o : ℕ) (ts : List Terminal) → Sound (IsRead (m + 1) Postfix) (Punctuator o punctuators.OpenParenthesis ∷ []) ts (parse.in_parentheses m p ts)
   sound_parentheses o ts =
       Sound-bind _ (sound Expression ts)
-      (λ e front us r. Sound-mark marks.CloseParenthesis _ (λ c vs. Sound-ok (cast_read (omega arith) refl refl (in_parentheses o c r.0), let low : e.1 ≤ m = r.1 in omega arith)))
+      (λ e front us r. Sound-punctuator punctuators.CloseParenthesis _ (λ c vs. Sound-ok (cast_read (omega arith) refl refl (in_parentheses o c r.0), let low : e.1 ≤ m = r.1 in omega arith)))
 
-  -- with the mark that was looked at before what goes on
-  mark_first : {A : Type 0} {R : A → List Lexeme → Type 0} (k : mark.Mark) (at : ℕ) (n : mark.Mark) (ts : List Lexeme) (r : Result (A × List Lexeme) Stop) → Sound R (Mark at k ∷ []) ts r → is_mark k (Mark at n) ≡ true → Sound R [] (Mark at n ∷ ts) r
-  mark_first {R = R} k at n ts r s e = Sound-token (subst (λ u. Sound R (u ∷ []) ts r) (sym (mark_is k (Mark at n) e)) s)
+  -- with the punctuator that was looked at before what goes on
+  punctuator_first : {A : Type 0} {R : A → List Terminal → Type 0} (k : punctuator.Punctuator) (at : ℕ) (n : punctuator.Punctuator) (ts : List Terminal) (r : Result (A × List Terminal) Stop) → Sound R (Punctuator at k ∷ []) ts r → is_punctuator k (Punctuator at n) ≡ true → Sound R [] (Punctuator at n ∷ ts) r
+  punctuator_first {R = R} k at n ts r s e = Sound-token (subst (λ u. Sound R (u ∷ []) ts r) (sym (punctuator_is k (Punctuator at n) e)) s)
 
-  sound_primary : (ts : List Lexeme) → Sound (IsRead (m + 1) Postfix) [] ts (parse.primary m p ts)
+  sound_primary : (ts : List Terminal) → Sound (IsRead (m + 1) Postfix) [] ts (parse.primary m p ts)
   unfolding parse.primary
   sound_primary [] = Sound-err
   sound_primary (Name at x ∷ ts) = Sound-token (sound_name at x ts)
   sound_primary (Keyword at k ∷ ts) = Sound-err
   sound_primary (Constant at n unsigned ∷ ts) = Sound-token (Sound-ok (a_constant at n unsigned, omega arith))
   sound_primary (Text at bytes ∷ ts) = Sound-token (sound_after_text m at bytes ts m p)
-  sound_primary (Mark at k ∷ ts) =
-      Sound-if (is_mark marks.OpenParenthesis (Mark at k))
-      (λ e. Sound-if (m == 0) (λ _. Sound-err) (λ _. mark_first marks.OpenParenthesis at k ts _ (sound_parentheses at ts) e)) (λ _. Sound-err)
+  sound_primary (Punctuator at k ∷ ts) =
+      Sound-if (is_punctuator punctuators.OpenParenthesis (Punctuator at k))
+      (λ e. Sound-if (m == 0) (λ _. Sound-err) (λ _. punctuator_first punctuators.OpenParenthesis at k ts _ (sound_parentheses at ts) e)) (λ _. Sound-err)
 
   -- ---- suffixes
 
   -- a node on the left part with more behind it
-  built : {part : Form} (form : Form) (start h k : ℕ) (xs more us : List Lexeme) (a : ExprTree) (shape : ShapeTree) → Reads part h xs a → start ≡ place xs
+  built : {part : Form} (form : Form) (start h k : ℕ) (xs more us : List Terminal) (a : ExprTree) (shape : ShapeTree) → Reads part h xs a → start ≡ place xs
       → (r : Reads form (suc k) (xs ++ more) (at_first xs shape)) → xs ++ more ≡ us → k ≤ m → Begun (m + 1) form start (expr 0 start shape, k + 1) us
   built form start h k xs more us a shape left s r e le =
       (cast_read (omega arith) e (ap (λ n. expr 0 n shape) (sym s)) r, omega arith, s ∙ sym (place_more left more) ∙ ap place e)
 
-  sound_index : (start o : ℕ) (a : E) (done : List Lexeme) → Begun (m + 1) Postfix start a done → a.1 ≤ m → (ts : List Lexeme) → Sound (Begun (m + 1) Postfix start) (done ++ Mark o marks.OpenBracket ∷ []) ts (parse.index_of m p start a ts)
+  sound_index : (start o : ℕ) (a : E) (done : List Terminal) → Begun (m + 1) Postfix start a done → a.1 ≤ m → (ts : List Terminal) → Sound (Begun (m + 1) Postfix start) (done ++ Punctuator o punctuators.OpenBracket ∷ []) ts (parse.index_of m p start a ts)
   sound_index start o a done r le ts =
       Sound-bind _ (sound Expression ts)
-      (λ b front us q. Sound-mark marks.CloseBracket _ (λ c vs. Sound-ok
+      (λ b front us q. Sound-punctuator punctuators.CloseBracket _ (λ c vs. Sound-ok
       (let low : max a.1 b.1 ≤ m = omega (arith, q.1) in
-      built Postfix start a.1 (max a.1 b.1) done (Mark o marks.OpenBracket ∷ (front ++ Mark c marks.CloseBracket ∷ [])) _ a.0 (index a.0 b.0) r.0 r.2 (an_index o c r.0 q.0) (simp append_assoc) low)))
+      built Postfix start a.1 (max a.1 b.1) done (Punctuator o punctuators.OpenBracket ∷ (front ++ Punctuator c punctuators.CloseBracket ∷ [])) _ a.0 (index a.0 b.0) r.0 r.2 (an_index o c r.0 q.0) (simp append_assoc) low)))
 
-  sound_member : (start d : ℕ) (a : E) (access : Access) (done : List Lexeme) → Begun (m + 1) Postfix start a done → a.1 ≤ m → (ts : List Lexeme)
-      → Sound (Begun (m + 1) Postfix start) (done ++ Mark d (mark_of_access access) ∷ []) ts (parse.member_of m p start a access ts)
+  sound_member : (start d : ℕ) (a : E) (access : Access) (done : List Terminal) → Begun (m + 1) Postfix start a done → a.1 ≤ m → (ts : List Terminal)
+      → Sound (Begun (m + 1) Postfix start) (done ++ Punctuator d (punctuator_of_access access) ∷ []) ts (parse.member_of m p start a access ts)
   sound_member start d a access done r le ts =
       Sound-bind _ (sound_expect_name ts)
-      (λ x front us is. Sound-ok (built Postfix start a.1 a.1 done (Mark d (mark_of_access access) ∷ Name x.0 x.1 ∷ []) _ a.0 (member access a.0 x.1) r.0 r.2 (a_member access d x.0 x.1 r.0) (rw is (simp append_assoc)) le))
+      (λ x front us is. Sound-ok (built Postfix start a.1 a.1 done (Punctuator d (punctuator_of_access access) ∷ Name x.0 x.1 ∷ []) _ a.0 (member access a.0 x.1) r.0 r.2 (a_member access d x.0 x.1 r.0) (rw is (simp append_assoc)) le))
 
-  sound_access : (start : ℕ) (a : E) (done : List Lexeme) → Begun (m + 1) Postfix start a done → a.1 ≤ m → (t : Lexeme) (ts : List Lexeme) (o : Option Access) → sign_at access_of (t ∷ ts) ≡ o
+  sound_access : (start : ℕ) (a : E) (done : List Terminal) → Begun (m + 1) Postfix start a done → a.1 ≤ m → (t : Terminal) (ts : List Terminal) (o : Option Access) → operator_at access_of (t ∷ ts) ≡ o
       → Sound (Begun (m + 1) Postfix start) done (t ∷ ts) (parse.access_at m p start a o ts)
   sound_access start a done r le t ts None e = Sound-err
   sound_access start a done r le t ts (Some access) e =
-      let is = sign_is access_of mark_of_access access_is (t ∷ ts) access e in
-      Sound-token (subst (λ u. Sound (Begun (m + 1) Postfix start) (done ++ u ∷ []) ts (parse.member_of m p start a access ts)) (first_same t (Mark is.0 (mark_of_access access)) ts is.1 is.2) (sound_member start is.0 a access done r le ts))
+      let is = operator_is access_of punctuator_of_access access_is (t ∷ ts) access e in
+      Sound-token (subst (λ u. Sound (Begun (m + 1) Postfix start) (done ++ u ∷ []) ts (parse.member_of m p start a access ts)) (first_same t (Punctuator is.0 (punctuator_of_access access)) ts is.1 is.2) (sound_member start is.0 a access done r le ts))
     where
-      first_same : (t u : Lexeme) (ts us : List Lexeme) → t ∷ ts ≡ u ∷ us → u ≡ t
+      first_same : (t u : Terminal) (ts us : List Terminal) → t ∷ ts ≡ u ∷ us → u ≡ t
       first_same t u ts us e = cc
 
-  sound_suffix : (start : ℕ) (a : E) (done : List Lexeme) → Begun (m + 1) Postfix start a done → a.1 ≤ m → (ts : List Lexeme) → Sound (Begun (m + 1) Postfix start) done ts (parse.suffix m p start a ts)
+  sound_suffix : (start : ℕ) (a : E) (done : List Terminal) → Begun (m + 1) Postfix start a done → a.1 ≤ m → (ts : List Terminal) → Sound (Begun (m + 1) Postfix start) done ts (parse.suffix m p start a ts)
   sound_suffix start a done r le [] = Sound-err
   sound_suffix start a done r le (t ∷ ts) =
-      Sound-if (is_mark marks.OpenBracket t) (λ e. behind_mark marks.OpenBracket _ e (sound_index start (number_of t) a done r le ts))
-      (λ _. Sound-if (is_mark marks.Increment t)
-      (λ e. behind_mark marks.Increment _ e (Sound-ok (built Postfix start a.1 a.1 done (Mark (number_of t) marks.Increment ∷ []) _ a.0 (step steps.IncrementAfter a.0) r.0 r.2 (an_increment_after (number_of t) r.0) refl le)))
-      (λ _. Sound-if (is_mark marks.Decrement t)
-      (λ e. behind_mark marks.Decrement _ e (Sound-ok (built Postfix start a.1 a.1 done (Mark (number_of t) marks.Decrement ∷ []) _ a.0 (step steps.DecrementAfter a.0) r.0 r.2 (a_decrement_after (number_of t) r.0) refl le)))
-      (λ _. sound_access start a done r le t ts (sign_at access_of (t ∷ ts)) refl)))
+      Sound-if (is_punctuator punctuators.OpenBracket t) (λ e. behind_punctuator punctuators.OpenBracket _ e (sound_index start (number_of t) a done r le ts))
+      (λ _. Sound-if (is_punctuator punctuators.Increment t)
+      (λ e. behind_punctuator punctuators.Increment _ e (Sound-ok (built Postfix start a.1 a.1 done (Punctuator (number_of t) punctuators.Increment ∷ []) _ a.0 (step steps.IncrementAfter a.0) r.0 r.2 (an_increment_after (number_of t) r.0) refl le)))
+      (λ _. Sound-if (is_punctuator punctuators.Decrement t)
+      (λ e. behind_punctuator punctuators.Decrement _ e (Sound-ok (built Postfix start a.1 a.1 done (Punctuator (number_of t) punctuators.Decrement ∷ []) _ a.0 (step steps.DecrementAfter a.0) r.0 r.2 (a_decrement_after (number_of t) r.0) refl le)))
+      (λ _. sound_access start a done r le t ts (operator_at access_of (t ∷ ts)) refl)))
     where
-      behind_mark : (k : mark.Mark) (q : Result (E × List Lexeme) Stop) → is_mark k t ≡ true → Sound (Begun (m + 1) Postfix start) (done ++ Mark (number_of t) k ∷ []) ts q → Sound (Begun (m + 1) Postfix start) done (t ∷ ts) q
-      behind_mark k q e s = Sound-token (subst (λ u. Sound (Begun (m + 1) Postfix start) (done ++ u ∷ []) ts q) (sym (mark_is k t e)) s)
+      behind_punctuator : (k : punctuator.Punctuator) (q : Result (E × List Terminal) Stop) → is_punctuator k t ≡ true → Sound (Begun (m + 1) Postfix start) (done ++ Punctuator (number_of t) k ∷ []) ts q → Sound (Begun (m + 1) Postfix start) done (t ∷ ts) q
+      behind_punctuator k q e s = Sound-token (subst (λ u. Sound (Begun (m + 1) Postfix start) (done ++ u ∷ []) ts q) (sym (punctuator_is k t e)) s)
 
-  sound_suffixes : (n start : ℕ) (a : E) (done : List Lexeme) → Begun (m + 1) Postfix start a done → (ts : List Lexeme) → Sound (Begun (m + 1) Postfix start) done ts (parse.suffixes m p n start a ts)
+  sound_suffixes : (n start : ℕ) (a : E) (done : List Terminal) → Begun (m + 1) Postfix start a done → (ts : List Terminal) → Sound (Begun (m + 1) Postfix start) done ts (parse.suffixes m p n start a ts)
   unfolding parse.suffixes
   sound_suffixes zero start a done r ts = Sound-ok r
   sound_suffixes (suc n) start a done r ts =
@@ -204,39 +204,39 @@ module _ (m : ℕ) (p : Form → Parse E) (sound : (form : Form) (ts : List Lexe
       (λ _. Sound-above m a.1 Sound-err (λ le. Sound-then (parse.suffixes m p n start) (sound_suffix start a done r le ts) (λ b done us q. sound_suffixes n start b done q us))) (λ _. Sound-ok r)
 
   -- what is read first stands where all the tokens begin
-  starting : (form : Form) (ts front us : List Lexeme) (a : E) → ts ≡ front ++ us → IsRead (m + 1) form a front → Begun (m + 1) form (place ts) a front
+  starting : (form : Form) (ts front us : List Terminal) (a : E) → ts ≡ front ++ us → IsRead (m + 1) form a front → Begun (m + 1) form (place ts) a front
   starting form ts front us a e r = (r.0, r.1, ap place e ∙ place_more r.0 us)
 
-  sound_postfix : (ts : List Lexeme) → Sound (IsRead (m + 1) Postfix) [] ts (parse.postfix m p ts)
+  sound_postfix : (ts : List Terminal) → Sound (IsRead (m + 1) Postfix) [] ts (parse.postfix m p ts)
   sound_postfix ts = Sound-from _ (sound_primary ts) (λ a front us e r. Sound-mono (λ x l q. (q.0, q.1)) (sound_suffixes (length us) (place ts) a front (starting Postfix ts front us a e r) us))
 
   -- ---- unary operators
 
-  as_unary : (x : E) (l : List Lexeme) → IsRead (m + 1) Postfix x l → IsRead (m + 1) Unary x l
+  as_unary : (x : E) (l : List Terminal) → IsRead (m + 1) Postfix x l → IsRead (m + 1) Unary x l
   as_unary x l r = (a_postfix r.0, r.1)
 
-  sound_operator : (sign : UnarySign) (at : ℕ) (ts : List Lexeme) → Sound (IsRead (m + 1) Unary) (Mark at (mark_of_unary sign) ∷ []) ts (parse.operator_of m p at sign ts)
-  sound_operator sign at ts = Sound-bind _ (sound (Level 0) ts) (λ e front us r. Sound-ok (cast_read (omega arith) refl refl (an_operator sign at r.0), let low : e.1 ≤ m = r.1 in omega arith))
+  sound_operator : (operator : UnaryOperator) (at : ℕ) (ts : List Terminal) → Sound (IsRead (m + 1) Unary) (Punctuator at (punctuator_of_unary operator) ∷ []) ts (parse.operator_of m p at operator ts)
+  sound_operator operator at ts = Sound-bind _ (sound (Level 0) ts) (λ e front us r. Sound-ok (cast_read (omega arith) refl refl (an_operator operator at r.0), let low : e.1 ≤ m = r.1 in omega arith))
 
-  sound_increment : (at : ℕ) (ts : List Lexeme) → Sound (IsRead (m + 1) Unary) (Mark at marks.Increment ∷ []) ts (parse.step_of m p at steps.IncrementBefore ts)
+  sound_increment : (at : ℕ) (ts : List Terminal) → Sound (IsRead (m + 1) Unary) (Punctuator at punctuators.Increment ∷ []) ts (parse.step_of m p at steps.IncrementBefore ts)
   sound_increment at ts = Sound-bind _ (sound Unary ts) (λ e front us r. Sound-ok (cast_read (omega arith) refl refl (an_increment at r.0), let low : e.1 ≤ m = r.1 in omega arith))
 
-  sound_decrement : (at : ℕ) (ts : List Lexeme) → Sound (IsRead (m + 1) Unary) (Mark at marks.Decrement ∷ []) ts (parse.step_of m p at steps.DecrementBefore ts)
+  sound_decrement : (at : ℕ) (ts : List Terminal) → Sound (IsRead (m + 1) Unary) (Punctuator at punctuators.Decrement ∷ []) ts (parse.step_of m p at steps.DecrementBefore ts)
   sound_decrement at ts = Sound-bind _ (sound Unary ts) (λ e front us r. Sound-ok (cast_read (omega arith) refl refl (a_decrement at r.0), let low : e.1 ≤ m = r.1 in omega arith))
 
-  sound_size : (at : ℕ) (ts : List Lexeme) → Sound (IsRead (m + 1) Unary) (Keyword at keywords.Sizeof ∷ []) ts (parse.size_of m p at ts)
+  sound_size : (at : ℕ) (ts : List Terminal) → Sound (IsRead (m + 1) Unary) (Keyword at keywords.Sizeof ∷ []) ts (parse.size_of m p at ts)
   sound_size at ts =
       Sound-if (begins_cast ts)
-      (λ _. Sound-mark marks.OpenParenthesis _ (λ o us. Sound-bind _ (sound_type_name us)
-      (λ t front vs r. Sound-mark marks.CloseParenthesis _ (λ c ws. Sound-ok (cast_read refl refl refl (a_size_of_type at o c r), omega arith)))))
+      (λ _. Sound-punctuator punctuators.OpenParenthesis _ (λ o us. Sound-bind _ (sound_type_name us)
+      (λ t front vs r. Sound-punctuator punctuators.CloseParenthesis _ (λ c ws. Sound-ok (cast_read refl refl refl (a_size_of_type at o c r), omega arith)))))
       (λ _. Sound-bind _ (sound Unary ts) (λ e front us r. Sound-ok (cast_read (omega arith) refl refl (a_size_of_value at r.0), let low : e.1 ≤ m = r.1 in omega arith)))
 
-  sound_operator_at : (at : ℕ) (k : mark.Mark) (ts : List Lexeme) (o : Option UnarySign) → unary_of k ≡ o → Sound (IsRead (m + 1) Unary) [] (Mark at k ∷ ts) (parse.operator_at m p at o k ts)
-  sound_operator_at at k ts None e = Sound-mono as_unary (sound_postfix (Mark at k ∷ ts))
-  sound_operator_at at k ts (Some sign) e =
-      Sound-if (m == 0) (λ _. Sound-err) (λ _. Sound-token (subst (λ n. Sound (IsRead (m + 1) Unary) (Mark at n ∷ []) ts (parse.operator_of m p at sign ts)) (sym (unary_is k sign e)) (sound_operator sign at ts)))
+  sound_operator_at : (at : ℕ) (k : punctuator.Punctuator) (ts : List Terminal) (o : Option UnaryOperator) → unary_of k ≡ o → Sound (IsRead (m + 1) Unary) [] (Punctuator at k ∷ ts) (parse.unary_operator_at m p at o k ts)
+  sound_operator_at at k ts None e = Sound-mono as_unary (sound_postfix (Punctuator at k ∷ ts))
+  sound_operator_at at k ts (Some operator) e =
+      Sound-if (m == 0) (λ _. Sound-err) (λ _. Sound-token (subst (λ n. Sound (IsRead (m + 1) Unary) (Punctuator at n ∷ []) ts (parse.operator_of m p at operator ts)) (sym (unary_is k operator e)) (sound_operator operator at ts)))
 
-  sound_unary : (ts : List Lexeme) → Sound (IsRead (m + 1) Unary) [] ts (parse.unary_of_all m p ts)
+  sound_unary : (ts : List Terminal) → Sound (IsRead (m + 1) Unary) [] ts (parse.unary_of_all m p ts)
   unfolding parse.unary_of_all
   sound_unary [] = Sound-err
   sound_unary (Name at x ∷ ts) = Sound-mono as_unary (sound_postfix (Name at x ∷ ts))
@@ -246,59 +246,59 @@ module _ (m : ℕ) (p : Form → Parse E) (sound : (form : Form) (ts : List Lexe
       (λ _. Sound-token (subst (λ u. Sound (IsRead (m + 1) Unary) (u ∷ []) ts (parse.size_of m p at ts)) (sym (keyword_is keywords.Sizeof (Keyword at k) e)) (sound_size at ts)))) (λ _. Sound-err)
   sound_unary (Constant at n unsigned ∷ ts) = Sound-mono as_unary (sound_postfix (Constant at n unsigned ∷ ts))
   sound_unary (Text at bytes ∷ ts) = Sound-mono as_unary (sound_postfix (Text at bytes ∷ ts))
-  sound_unary (Mark at k ∷ ts) =
-      Sound-if (is_mark marks.Increment (Mark at k)) (λ e. Sound-if (m == 0) (λ _. Sound-err) (λ _. mark_first marks.Increment at k ts _ (sound_increment at ts) e))
-      (λ _. Sound-if (is_mark marks.Decrement (Mark at k)) (λ e. Sound-if (m == 0) (λ _. Sound-err) (λ _. mark_first marks.Decrement at k ts _ (sound_decrement at ts) e))
+  sound_unary (Punctuator at k ∷ ts) =
+      Sound-if (is_punctuator punctuators.Increment (Punctuator at k)) (λ e. Sound-if (m == 0) (λ _. Sound-err) (λ _. punctuator_first punctuators.Increment at k ts _ (sound_increment at ts) e))
+      (λ _. Sound-if (is_punctuator punctuators.Decrement (Punctuator at k)) (λ e. Sound-if (m == 0) (λ _. Sound-err) (λ _. punctuator_first punctuators.Decrement at k ts _ (sound_decrement at ts) e))
       (λ _. sound_operator_at at k ts (unary_of k) refl))
 
-  sound_cast : (at : ℕ) (ts : List Lexeme) → Sound (IsRead (m + 1) (Level 0)) (Mark at marks.OpenParenthesis ∷ []) ts (parse.cast_of m p at ts)
+  sound_cast : (at : ℕ) (ts : List Terminal) → Sound (IsRead (m + 1) (Level 0)) (Punctuator at punctuators.OpenParenthesis ∷ []) ts (parse.cast_of m p at ts)
   sound_cast at ts =
       Sound-bind _ (sound_type_name ts)
-      (λ t front us r. Sound-mark marks.CloseParenthesis _ (λ c vs. Sound-bind _ (sound (Level 0) vs)
-      (λ e more ws q. Sound-ok (cast_read (omega arith) (ap (λ l. Mark at marks.OpenParenthesis ∷ l) (sym (append_assoc front (Mark c marks.CloseParenthesis ∷ []) more))) refl (a_cast at c r q.0), let low : e.1 ≤ m = q.1 in omega arith))))
+      (λ t front us r. Sound-punctuator punctuators.CloseParenthesis _ (λ c vs. Sound-bind _ (sound (Level 0) vs)
+      (λ e more ws q. Sound-ok (cast_read (omega arith) (ap (λ l. Punctuator at punctuators.OpenParenthesis ∷ l) (sym (append_assoc front (Punctuator c punctuators.CloseParenthesis ∷ []) more))) refl (a_cast at c r q.0), let low : e.1 ≤ m = q.1 in omega arith))))
 
-  sound_cast_or_unary : (ts : List Lexeme) → Sound (IsRead (m + 1) (Level 0)) [] ts (parse.cast_or_unary m p ts)
+  sound_cast_or_unary : (ts : List Terminal) → Sound (IsRead (m + 1) (Level 0)) [] ts (parse.cast_or_unary m p ts)
   sound_cast_or_unary ts =
       Sound-if (begins_cast ts)
       (λ _. Sound-if (m == 0) (λ _. Sound-err)
-      (λ _. Sound-from _ (sound_expect marks.OpenParenthesis ts)
-      (λ x front us e is. rw is.1 (subst (λ n. Sound (IsRead (m + 1) (Level 0)) (Mark is.0 marks.OpenParenthesis ∷ []) us (parse.cast_of m p n us)) (sym (ap place (e ∙ ap (λ l. l ++ us) is.1))) (sound_cast is.0 us)))))
+      (λ _. Sound-from _ (sound_expect punctuators.OpenParenthesis ts)
+      (λ x front us e is. rw is.1 (subst (λ n. Sound (IsRead (m + 1) (Level 0)) (Punctuator is.0 punctuators.OpenParenthesis ∷ []) us (parse.cast_of m p n us)) (sym (ap place (e ∙ ap (λ l. l ++ us) is.1))) (sound_cast is.0 us)))))
       (λ _. Sound-mono (λ x l r. (an_operand r.0, r.1)) (sound_unary ts))
 
   -- ---- operators between operands
 
-  of_level_is : (j : ℕ) (o : Option BinarySign) (sign : BinarySign) → parse.of_level m p j o ≡ Some sign → (o ≡ Some sign) × (weakness sign ≡ suc j)
-  of_level_is j None sign e = absurd cc
-  of_level_is j (Some s) sign e = by_case (weakness s == j + 1) refl e
+  of_level_is : (j : ℕ) (o : Option BinaryOperator) (operator : BinaryOperator) → parse.of_level m p j o ≡ Some operator → (o ≡ Some operator) × (precedence operator ≡ suc j)
+  of_level_is j None operator e = absurd cc
+  of_level_is j (Some s) operator e = by_case (precedence s == j + 1) refl e
     where
-      by_case : (b : Bool) → (weakness s == j + 1) ≡ b → cond b (Some s) None ≡ Some sign → (◌≡◌ {A = Option BinarySign} (Some s) (Some sign)) × (weakness sign ≡ suc j)
-      by_case true w e = let same : s ≡ sign = cc in (e, let tells : weakness s ≡ j + 1 = eqb-true (weakness s) (j + 1) w in ap weakness (sym same) ∙ tells ∙ omega arith)
+      by_case : (b : Bool) → (precedence s == j + 1) ≡ b → cond b (Some s) None ≡ Some operator → (◌≡◌ {A = Option BinaryOperator} (Some s) (Some operator)) × (precedence operator ≡ suc j)
+      by_case true w e = let same : s ≡ operator = cc in (e, let tells : precedence s ≡ j + 1 = eqb-true (precedence s) (j + 1) w in ap precedence (sym same) ∙ tells ∙ omega arith)
       by_case false w e = absurd cc
 
-  sound_operation_at : (j start : ℕ) (a : E) (done : List Lexeme) → Begun (m + 1) (Level (suc j)) start a done → (ts : List Lexeme) (others : E → Parse E)
-      → ((b : E) (done us : List Lexeme) → Begun (m + 1) (Level (suc j)) start b done → Sound (Begun (m + 1) (Level (suc j)) start) done us (others b us))
-      → (o : Option BinarySign) → parse.of_level m p j (sign_at binary_of ts) ≡ o → Sound (Begun (m + 1) (Level (suc j)) start) done ts (parse.operation_at m p j start a o others ts)
+  sound_operation_at : (j start : ℕ) (a : E) (done : List Terminal) → Begun (m + 1) (Level (suc j)) start a done → (ts : List Terminal) (others : E → Parse E)
+      → ((b : E) (done us : List Terminal) → Begun (m + 1) (Level (suc j)) start b done → Sound (Begun (m + 1) (Level (suc j)) start) done us (others b us))
+      → (o : Option BinaryOperator) → parse.of_level m p j (operator_at binary_of ts) ≡ o → Sound (Begun (m + 1) (Level (suc j)) start) done ts (parse.operation_at m p j start a o others ts)
   sound_operation_at j start a done r ts others again None e = Sound-ok r
-  sound_operation_at j start a done r [] others again (Some sign) e = Sound-above m a.1 Sound-err (λ le. Sound-err)
-  sound_operation_at j start a done r (t ∷ ts) others again (Some sign) e =
-      let level = of_level_is j (sign_at binary_of (t ∷ ts)) sign e in
-      let is = sign_is binary_of mark_of_binary binary_is (t ∷ ts) sign level.0 in
+  sound_operation_at j start a done r [] others again (Some operator) e = Sound-above m a.1 Sound-err (λ le. Sound-err)
+  sound_operation_at j start a done r (t ∷ ts) others again (Some operator) e =
+      let level = of_level_is j (operator_at binary_of (t ∷ ts)) operator e in
+      let is = operator_is binary_of punctuator_of_binary binary_is (t ∷ ts) operator level.0 in
       Sound-above m a.1 Sound-err
       (λ le. Sound-token (Sound-bind _ (sound (Level j) ts)
-      (λ b front us q. again (expr 0 start (binary sign a.0 b.0), max a.1 b.1 + 1) ((done ++ t ∷ []) ++ front) us
+      (λ b front us q. again (expr 0 start (binary operator a.0 b.0), max a.1 b.1 + 1) ((done ++ t ∷ []) ++ front) us
       (let low : max a.1 b.1 ≤ m = omega (arith, q.1) in
-      built (Level (suc j)) start a.1 (max a.1 b.1) done (Mark is.0 (mark_of_binary sign) ∷ front) _ a.0 (binary sign a.0 b.0) r.0 r.2 (an_operation sign is.0 level.1 r.0 q.0)
-      (sym (append_assoc done (t ∷ []) front ∙ ap (λ u. done ++ u ∷ front) (token_is t (Mark is.0 (mark_of_binary sign)) ts is.1 is.2))) low))))
+      built (Level (suc j)) start a.1 (max a.1 b.1) done (Punctuator is.0 (punctuator_of_binary operator) ∷ front) _ a.0 (binary operator a.0 b.0) r.0 r.2 (an_operation operator is.0 level.1 r.0 q.0)
+      (sym (append_assoc done (t ∷ []) front ∙ ap (λ u. done ++ u ∷ front) (token_is t (Punctuator is.0 (punctuator_of_binary operator)) ts is.1 is.2))) low))))
     where
-      token_is : (t u : Lexeme) (ts us : List Lexeme) → t ∷ ts ≡ u ∷ us → t ≡ u
+      token_is : (t u : Terminal) (ts us : List Terminal) → t ∷ ts ≡ u ∷ us → t ≡ u
       token_is t u ts us e = cc
 
-  sound_operations : (n j start : ℕ) (a : E) (done : List Lexeme) → Begun (m + 1) (Level (suc j)) start a done → (ts : List Lexeme) → Sound (Begun (m + 1) (Level (suc j)) start) done ts (parse.operations m p n j start a ts)
+  sound_operations : (n j start : ℕ) (a : E) (done : List Terminal) → Begun (m + 1) (Level (suc j)) start a done → (ts : List Terminal) → Sound (Begun (m + 1) (Level (suc j)) start) done ts (parse.operations m p n j start a ts)
   unfolding parse.operations
   sound_operations zero j start a done r ts = Sound-ok r
-  sound_operations (suc n) j start a done r ts = sound_operation_at j start a done r ts (parse.operations m p n j start) (λ b done us q. sound_operations n j start b done q us) (parse.of_level m p j (sign_at binary_of ts)) refl
+  sound_operations (suc n) j start a done r ts = sound_operation_at j start a done r ts (parse.operations m p n j start) (λ b done us q. sound_operations n j start b done q us) (parse.of_level m p j (operator_at binary_of ts)) refl
 
-  sound_climb : (j start : ℕ) (a : E) (done : List Lexeme) → Begun (m + 1) (Level 0) start a done → (ts : List Lexeme) → Sound (Begun (m + 1) (Level j) start) done ts (parse.climb m p j start a ts)
+  sound_climb : (j start : ℕ) (a : E) (done : List Terminal) → Begun (m + 1) (Level 0) start a done → (ts : List Terminal) → Sound (Begun (m + 1) (Level j) start) done ts (parse.climb m p j start a ts)
   unfolding parse.climb
   sound_climb zero start a done r ts = Sound-ok r
   sound_climb (suc j) start a done r ts =
@@ -306,60 +306,60 @@ module _ (m : ℕ) (p : Form → Parse E) (sound : (form : Form) (ts : List Lexe
 
   -- ---- choice, assignment, comma
 
-  sound_after_or : (start : ℕ) (a : E) (done : List Lexeme) → Begun (m + 1) (Level 10) start a done → (ts : List Lexeme) → Sound (Begun (m + 1) Conditional start) done ts (parse.after_or m p start a ts)
+  sound_after_or : (start : ℕ) (a : E) (done : List Terminal) → Begun (m + 1) (Level 10) start a done → (ts : List Terminal) → Sound (Begun (m + 1) Conditional start) done ts (parse.after_or m p start a ts)
   sound_after_or start a done r ts =
-      Sound-if (starts marks.Question ts)
+      Sound-if (starts punctuators.Question ts)
       (λ _. Sound-above m a.1 Sound-err
-      (λ le. Sound-mark marks.Question _ (λ o us. Sound-bind _ (sound Expression us)
-      (λ b front vs q. Sound-mark marks.Colon _ (λ c ws. Sound-bind _ (sound Conditional ws)
+      (λ le. Sound-punctuator punctuators.Question _ (λ o us. Sound-bind _ (sound Expression us)
+      (λ b front vs q. Sound-punctuator punctuators.Colon _ (λ c ws. Sound-bind _ (sound Conditional ws)
       (λ d more xs s. Sound-ok
       (let low : max a.1 (max b.1 d.1) ≤ m = omega (arith, q.1, s.1) in
-      built Conditional start a.1 (max a.1 (max b.1 d.1)) done (Mark o marks.Question ∷ (front ++ Mark c marks.Colon ∷ more)) _ a.0 (choice a.0 b.0 d.0) r.0 r.2 (a_choice o c r.0 q.0 s.0) (simp append_assoc) low)))))))
+      built Conditional start a.1 (max a.1 (max b.1 d.1)) done (Punctuator o punctuators.Question ∷ (front ++ Punctuator c punctuators.Colon ∷ more)) _ a.0 (choice a.0 b.0 d.0) r.0 r.2 (a_choice o c r.0 q.0 s.0) (simp append_assoc) low)))))))
       (λ _. Sound-ok (a_plain_level r.0, r.1, r.2))
 
-  sound_after_operand : (start : ℕ) (a : E) (done : List Lexeme) → Begun (m + 1) (Level 0) start a done → (ts : List Lexeme) → Sound (Begun (m + 1) Conditional start) done ts (parse.after_operand m p start a ts)
+  sound_after_operand : (start : ℕ) (a : E) (done : List Terminal) → Begun (m + 1) (Level 0) start a done → (ts : List Terminal) → Sound (Begun (m + 1) Conditional start) done ts (parse.after_operand m p start a ts)
   sound_after_operand start a done r ts = Sound-then (parse.after_or m p start) (sound_climb 10 start a done r ts) (λ b done us q. sound_after_or start b done q us)
 
-  plain_conditional : (start : ℕ) (x : E) (l : List Lexeme) → Begun (m + 1) Conditional start x l → Begun (m + 1) Assignment start x l
+  plain_conditional : (start : ℕ) (x : E) (l : List Terminal) → Begun (m + 1) Conditional start x l → Begun (m + 1) Assignment start x l
   plain_conditional start x l r = (a_plain_conditional r.0, r.1, r.2)
 
-  sound_assignment_of : (start : ℕ) (a : E) (done : List Lexeme) → Begun (m + 1) Unary start a done → (ts : List Lexeme) (o : Option AssignSign) → sign_at assign_of ts ≡ o
+  sound_assignment_of : (start : ℕ) (a : E) (done : List Terminal) → Begun (m + 1) Unary start a done → (ts : List Terminal) (o : Option AssignmentOperator) → operator_at assign_of ts ≡ o
       → Sound (Begun (m + 1) Assignment start) done ts (parse.assignment_of m p start a o ts)
   sound_assignment_of start a done r ts None e = Sound-mono (plain_conditional start) (sound_after_operand start a done (an_operand r.0, r.1, r.2) ts)
-  sound_assignment_of start a done r [] (Some sign) e = absurd cc
-  sound_assignment_of start a done r (t ∷ ts) (Some sign) e =
-      let is = sign_is assign_of mark_of_assign assign_is (t ∷ ts) sign e in
+  sound_assignment_of start a done r [] (Some operator) e = absurd cc
+  sound_assignment_of start a done r (t ∷ ts) (Some operator) e =
+      let is = operator_is assign_of punctuator_of_assign assign_is (t ∷ ts) operator e in
       Sound-above m a.1 Sound-err
       (λ le. Sound-token (Sound-bind _ (sound Assignment ts)
       (λ b front us q. Sound-ok
       (let low : max a.1 b.1 ≤ m = omega (arith, q.1) in
-      built Assignment start a.1 (max a.1 b.1) done (Mark is.0 (mark_of_assign sign) ∷ front) _ a.0 (assign sign a.0 b.0) r.0 r.2 (an_assignment sign is.0 r.0 q.0)
-      (sym (append_assoc done (t ∷ []) front ∙ ap (λ u. done ++ u ∷ front) (first_is t (Mark is.0 (mark_of_assign sign)) ts is.1 is.2))) low))))
+      built Assignment start a.1 (max a.1 b.1) done (Punctuator is.0 (punctuator_of_assign operator) ∷ front) _ a.0 (assign operator a.0 b.0) r.0 r.2 (an_assignment operator is.0 r.0 q.0)
+      (sym (append_assoc done (t ∷ []) front ∙ ap (λ u. done ++ u ∷ front) (first_is t (Punctuator is.0 (punctuator_of_assign operator)) ts is.1 is.2))) low))))
     where
-      first_is : (t u : Lexeme) (ts us : List Lexeme) → t ∷ ts ≡ u ∷ us → t ≡ u
+      first_is : (t u : Terminal) (ts us : List Terminal) → t ∷ ts ≡ u ∷ us → t ≡ u
       first_is t u ts us e = cc
 
-  sound_assignment : (ts : List Lexeme) → Sound (IsRead (m + 1) Assignment) [] ts (parse.assignment m p ts)
+  sound_assignment : (ts : List Terminal) → Sound (IsRead (m + 1) Assignment) [] ts (parse.assignment m p ts)
   sound_assignment ts =
       Sound-if (begins_cast ts)
       (λ _. Sound-from _ (sound_cast_or_unary ts)
       (λ a front us e r. Sound-mono (λ x l q. (a_plain_conditional q.0, q.1)) (sound_after_operand (place ts) a front (starting (Level 0) ts front us a e r) us)))
       (λ _. Sound-from _ (sound_unary ts)
-      (λ a front us e r. Sound-mono (λ x l q. (q.0, q.1)) (sound_assignment_of (place ts) a front (starting Unary ts front us a e r) us (sign_at assign_of us) refl)))
+      (λ a front us e r. Sound-mono (λ x l q. (q.0, q.1)) (sound_assignment_of (place ts) a front (starting Unary ts front us a e r) us (operator_at assign_of us) refl)))
 
-  sound_commas : (n start : ℕ) (a : E) (done : List Lexeme) → Begun (m + 1) Expression start a done → (ts : List Lexeme) → Sound (Begun (m + 1) Expression start) done ts (parse.commas m p n start a ts)
+  sound_commas : (n start : ℕ) (a : E) (done : List Terminal) → Begun (m + 1) Expression start a done → (ts : List Terminal) → Sound (Begun (m + 1) Expression start) done ts (parse.commas m p n start a ts)
   unfolding parse.commas
   sound_commas zero start a done r ts = Sound-ok r
   sound_commas (suc n) start a done r ts =
-      Sound-if (starts marks.Comma ts)
+      Sound-if (starts punctuators.Comma ts)
       (λ _. Sound-above m a.1 Sound-err
-      (λ le. Sound-mark marks.Comma _ (λ c us. Sound-bind _ (sound Assignment us)
-      (λ b front vs q. sound_commas n start (expr 0 start (comma a.0 b.0), max a.1 b.1 + 1) ((done ++ Mark c marks.Comma ∷ []) ++ front)
+      (λ le. Sound-punctuator punctuators.Comma _ (λ c us. Sound-bind _ (sound Assignment us)
+      (λ b front vs q. sound_commas n start (expr 0 start (comma a.0 b.0), max a.1 b.1 + 1) ((done ++ Punctuator c punctuators.Comma ∷ []) ++ front)
       (let low : max a.1 b.1 ≤ m = omega (arith, q.1) in
-      built Expression start a.1 (max a.1 b.1) done (Mark c marks.Comma ∷ front) _ a.0 (comma a.0 b.0) r.0 r.2 (a_comma c r.0 q.0) (simp append_assoc) low) vs))))
+      built Expression start a.1 (max a.1 b.1) done (Punctuator c punctuators.Comma ∷ front) _ a.0 (comma a.0 b.0) r.0 r.2 (a_comma c r.0 q.0) (simp append_assoc) low) vs))))
       (λ _. Sound-ok r)
 
-  sound_expression : (form : Form) (ts : List Lexeme) → Sound (IsRead (m + 1) form) [] ts (parse.expression m p form ts)
+  sound_expression : (form : Form) (ts : List Terminal) → Sound (IsRead (m + 1) form) [] ts (parse.expression m p form ts)
   unfolding parse.expression
   sound_expression Postfix ts = sound_postfix ts
   sound_expression Unary ts = sound_unary ts
@@ -370,7 +370,7 @@ module _ (m : ℕ) (p : Form → Parse E) (sound : (form : Form) (ts : List Lexe
       Sound-from _ (sound_assignment ts)
       (λ a front us e r. Sound-mono (λ x l q. (q.0, q.1)) (sound_commas (length us) (place ts) a front (starting Expression ts front us a e (a_plain_assignment r.0, r.1)) us))
 
-pub sound_part : (n : ℕ) (form : Form) (ts : List Lexeme) → Sound (IsRead n form) [] ts (parse.part n form ts)
+pub sound_part : (n : ℕ) (form : Form) (ts : List Terminal) → Sound (IsRead n form) [] ts (parse.part n form ts)
 unfolding parse.part
 sound_part zero form ts = Sound-if (begins_one ts) (λ _. Sound-err) (λ _. Sound-err)
 sound_part (suc n) form ts = Sound-mono (λ x l r. (r.0, let low : x.1 ≤ n + 1 = r.1 in omega arith)) (sound_expression n (parse.part n) (λ form ts. sound_part n form ts) form ts)

@@ -1,67 +1,67 @@
 -- What a list of tokens begins with.
 use Rattle.std.specs.Prelude.{ℕ, Bool, false, ◌==◌, ◌||◌, List, [], ◌∷◌, Option, Some, None}
-use Rattle.qs_syntax.specs.declared.lexeme.Lexeme.{Lexeme}
-use Rattle.qs_syntax.specs.declared.lexeme.Lexeme.TheVariants.{Name, Keyword, Constant, Text, Mark}
+use Rattle.qs_syntax.specs.declared.terminal.Terminal.{Terminal}
+use Rattle.qs_syntax.specs.declared.terminal.Terminal.TheVariants.{Name, Keyword, Constant, Text, Punctuator}
 use Rattle.qs_syntax.specs.declared.tokens.Keyword as key
 use Rattle.qs_syntax.specs.declared.tokens.Keyword.TheVariants as keywords
-use Rattle.qs_syntax.specs.declared.tokens.Mark as mark
-use Rattle.qs_syntax.specs.declared.tokens.Mark.TheVariants as marks
-use Rattle.qs_syntax.specs.declared.tree.UnarySign.{UnarySign}
-use Rattle.qs_syntax.specs.declared.tree.UnarySign.TheVariants as unaries
-use Rattle.qs_syntax.specs.declared.tree.BinarySign.{BinarySign}
-use Rattle.qs_syntax.specs.declared.tree.BinarySign.TheVariants as binaries
-use Rattle.qs_syntax.specs.declared.tree.AssignSign.{AssignSign}
-use Rattle.qs_syntax.specs.declared.tree.AssignSign.TheVariants as assigns
+use Rattle.qs_syntax.specs.declared.tokens.Punctuator as punctuator
+use Rattle.qs_syntax.specs.declared.tokens.Punctuator.TheVariants as punctuators
+use Rattle.qs_syntax.specs.declared.tree.UnaryOperator.{UnaryOperator}
+use Rattle.qs_syntax.specs.declared.tree.UnaryOperator.TheVariants as unaries
+use Rattle.qs_syntax.specs.declared.tree.BinaryOperator.{BinaryOperator}
+use Rattle.qs_syntax.specs.declared.tree.BinaryOperator.TheVariants as binaries
+use Rattle.qs_syntax.specs.declared.tree.AssignmentOperator.{AssignmentOperator}
+use Rattle.qs_syntax.specs.declared.tree.AssignmentOperator.TheVariants as assigns
 use Rattle.qs_syntax.specs.declared.tree.Access.{Access}
 use Rattle.qs_syntax.specs.declared.tree.Access.TheVariants as accesses
 
--- marks by numbers, to compare them
-abbrev pub mark_number : mark.Mark → ℕ
-mark_number marks.OpenBracket = 0
-mark_number marks.CloseBracket = 1
-mark_number marks.OpenParenthesis = 2
-mark_number marks.CloseParenthesis = 3
-mark_number marks.OpenBrace = 4
-mark_number marks.CloseBrace = 5
-mark_number marks.Dot = 6
-mark_number marks.Arrow = 7
-mark_number marks.Increment = 8
-mark_number marks.Decrement = 9
-mark_number marks.Ampersand = 10
-mark_number marks.Star = 11
-mark_number marks.Plus = 12
-mark_number marks.Minus = 13
-mark_number marks.Tilde = 14
-mark_number marks.Exclamation = 15
-mark_number marks.Slash = 16
-mark_number marks.Percent = 17
-mark_number marks.ShiftLeft = 18
-mark_number marks.ShiftRight = 19
-mark_number marks.Less = 20
-mark_number marks.Greater = 21
-mark_number marks.LessEqual = 22
-mark_number marks.GreaterEqual = 23
-mark_number marks.Equal = 24
-mark_number marks.NotEqual = 25
-mark_number marks.Caret = 26
-mark_number marks.Bar = 27
-mark_number marks.AndAnd = 28
-mark_number marks.OrOr = 29
-mark_number marks.Question = 30
-mark_number marks.Colon = 31
-mark_number marks.Semicolon = 32
-mark_number marks.Assign = 33
-mark_number marks.MultiplyAssign = 34
-mark_number marks.DivideAssign = 35
-mark_number marks.RemainderAssign = 36
-mark_number marks.AddAssign = 37
-mark_number marks.SubtractAssign = 38
-mark_number marks.ShiftLeftAssign = 39
-mark_number marks.ShiftRightAssign = 40
-mark_number marks.AndAssign = 41
-mark_number marks.XorAssign = 42
-mark_number marks.OrAssign = 43
-mark_number marks.Comma = 44
+-- punctuators by numbers, to compare them
+abbrev pub punctuator_number : punctuator.Punctuator → ℕ
+punctuator_number punctuators.OpenBracket = 0
+punctuator_number punctuators.CloseBracket = 1
+punctuator_number punctuators.OpenParenthesis = 2
+punctuator_number punctuators.CloseParenthesis = 3
+punctuator_number punctuators.OpenBrace = 4
+punctuator_number punctuators.CloseBrace = 5
+punctuator_number punctuators.Dot = 6
+punctuator_number punctuators.Arrow = 7
+punctuator_number punctuators.Increment = 8
+punctuator_number punctuators.Decrement = 9
+punctuator_number punctuators.Ampersand = 10
+punctuator_number punctuators.Star = 11
+punctuator_number punctuators.Plus = 12
+punctuator_number punctuators.Minus = 13
+punctuator_number punctuators.Tilde = 14
+punctuator_number punctuators.Exclamation = 15
+punctuator_number punctuators.Slash = 16
+punctuator_number punctuators.Percent = 17
+punctuator_number punctuators.ShiftLeft = 18
+punctuator_number punctuators.ShiftRight = 19
+punctuator_number punctuators.Less = 20
+punctuator_number punctuators.Greater = 21
+punctuator_number punctuators.LessEqual = 22
+punctuator_number punctuators.GreaterEqual = 23
+punctuator_number punctuators.Equal = 24
+punctuator_number punctuators.NotEqual = 25
+punctuator_number punctuators.Caret = 26
+punctuator_number punctuators.Bar = 27
+punctuator_number punctuators.AndAnd = 28
+punctuator_number punctuators.OrOr = 29
+punctuator_number punctuators.Question = 30
+punctuator_number punctuators.Colon = 31
+punctuator_number punctuators.Semicolon = 32
+punctuator_number punctuators.Assign = 33
+punctuator_number punctuators.MultiplyAssign = 34
+punctuator_number punctuators.DivideAssign = 35
+punctuator_number punctuators.RemainderAssign = 36
+punctuator_number punctuators.AddAssign = 37
+punctuator_number punctuators.SubtractAssign = 38
+punctuator_number punctuators.ShiftLeftAssign = 39
+punctuator_number punctuators.ShiftRightAssign = 40
+punctuator_number punctuators.AndAssign = 41
+punctuator_number punctuators.XorAssign = 42
+punctuator_number punctuators.OrAssign = 43
+punctuator_number punctuators.Comma = 44
 
 -- keywords by numbers, to compare them
 abbrev pub keyword_number : key.Keyword → ℕ
@@ -110,89 +110,89 @@ keyword_number keywords.Noreturn = 41
 keyword_number keywords.StaticAssert = 42
 keyword_number keywords.ThreadLocal = 43
 
-abbrev pub is_mark : mark.Mark → Lexeme → Bool
-is_mark m (Name at x) = false
-is_mark m (Keyword at k) = false
-is_mark m (Constant at n unsigned) = false
-is_mark m (Text at bytes) = false
-is_mark m (Mark at n) = mark_number n == mark_number m
+abbrev pub is_punctuator : punctuator.Punctuator → Terminal → Bool
+is_punctuator m (Name at x) = false
+is_punctuator m (Keyword at k) = false
+is_punctuator m (Constant at n unsigned) = false
+is_punctuator m (Text at bytes) = false
+is_punctuator m (Punctuator at n) = punctuator_number n == punctuator_number m
 
-abbrev pub is_keyword : key.Keyword → Lexeme → Bool
+abbrev pub is_keyword : key.Keyword → Terminal → Bool
 is_keyword k (Name at x) = false
 is_keyword k (Keyword at l) = keyword_number l == keyword_number k
 is_keyword k (Constant at n unsigned) = false
 is_keyword k (Text at bytes) = false
-is_keyword k (Mark at m) = false
+is_keyword k (Punctuator at m) = false
 
--- the first token is this mark
-abbrev pub starts : mark.Mark → List Lexeme → Bool
+-- the first token is this punctuator
+abbrev pub starts : punctuator.Punctuator → List Terminal → Bool
 starts m [] = false
-starts m (t ∷ ts) = is_mark m t
+starts m (t ∷ ts) = is_punctuator m t
 
 -- the first token is this keyword
-abbrev pub starts_with : key.Keyword → List Lexeme → Bool
+abbrev pub starts_with : key.Keyword → List Terminal → Bool
 starts_with k [] = false
 starts_with k (t ∷ ts) = is_keyword k t
 
--- which sign a mark is, if it is one
-abbrev pub unary_of : mark.Mark → Option UnarySign
-unary_of marks.Ampersand = Some unaries.Address
-unary_of marks.Star = Some unaries.Indirect
-unary_of marks.Plus = Some unaries.Plus
-unary_of marks.Minus = Some unaries.Minus
-unary_of marks.Tilde = Some unaries.Complement
-unary_of marks.Exclamation = Some unaries.Not
+-- which operator a punctuator is, if it is one
+abbrev pub unary_of : punctuator.Punctuator → Option UnaryOperator
+unary_of punctuators.Ampersand = Some unaries.Address
+unary_of punctuators.Star = Some unaries.Indirect
+unary_of punctuators.Plus = Some unaries.Plus
+unary_of punctuators.Minus = Some unaries.Minus
+unary_of punctuators.Tilde = Some unaries.Complement
+unary_of punctuators.Exclamation = Some unaries.Not
 unary_of m = None
 
-abbrev pub binary_of : mark.Mark → Option BinarySign
-binary_of marks.Star = Some binaries.Multiply
-binary_of marks.Slash = Some binaries.Divide
-binary_of marks.Percent = Some binaries.Remainder
-binary_of marks.Plus = Some binaries.Add
-binary_of marks.Minus = Some binaries.Subtract
-binary_of marks.ShiftLeft = Some binaries.ShiftLeft
-binary_of marks.ShiftRight = Some binaries.ShiftRight
-binary_of marks.Less = Some binaries.Less
-binary_of marks.LessEqual = Some binaries.LessEqual
-binary_of marks.Greater = Some binaries.Greater
-binary_of marks.GreaterEqual = Some binaries.GreaterEqual
-binary_of marks.Equal = Some binaries.Equal
-binary_of marks.NotEqual = Some binaries.NotEqual
-binary_of marks.Ampersand = Some binaries.BitAnd
-binary_of marks.Caret = Some binaries.BitXor
-binary_of marks.Bar = Some binaries.BitOr
-binary_of marks.AndAnd = Some binaries.And
-binary_of marks.OrOr = Some binaries.Or
+abbrev pub binary_of : punctuator.Punctuator → Option BinaryOperator
+binary_of punctuators.Star = Some binaries.Multiply
+binary_of punctuators.Slash = Some binaries.Divide
+binary_of punctuators.Percent = Some binaries.Remainder
+binary_of punctuators.Plus = Some binaries.Add
+binary_of punctuators.Minus = Some binaries.Subtract
+binary_of punctuators.ShiftLeft = Some binaries.ShiftLeft
+binary_of punctuators.ShiftRight = Some binaries.ShiftRight
+binary_of punctuators.Less = Some binaries.Less
+binary_of punctuators.LessEqual = Some binaries.LessEqual
+binary_of punctuators.Greater = Some binaries.Greater
+binary_of punctuators.GreaterEqual = Some binaries.GreaterEqual
+binary_of punctuators.Equal = Some binaries.Equal
+binary_of punctuators.NotEqual = Some binaries.NotEqual
+binary_of punctuators.Ampersand = Some binaries.BitAnd
+binary_of punctuators.Caret = Some binaries.BitXor
+binary_of punctuators.Bar = Some binaries.BitOr
+binary_of punctuators.AndAnd = Some binaries.And
+binary_of punctuators.OrOr = Some binaries.Or
 binary_of m = None
 
-abbrev pub assign_of : mark.Mark → Option AssignSign
-assign_of marks.Assign = Some assigns.Plain
-assign_of marks.MultiplyAssign = Some assigns.Multiply
-assign_of marks.DivideAssign = Some assigns.Divide
-assign_of marks.RemainderAssign = Some assigns.Remainder
-assign_of marks.AddAssign = Some assigns.Add
-assign_of marks.SubtractAssign = Some assigns.Subtract
-assign_of marks.ShiftLeftAssign = Some assigns.ShiftLeft
-assign_of marks.ShiftRightAssign = Some assigns.ShiftRight
-assign_of marks.AndAssign = Some assigns.BitAnd
-assign_of marks.XorAssign = Some assigns.BitXor
-assign_of marks.OrAssign = Some assigns.BitOr
+abbrev pub assign_of : punctuator.Punctuator → Option AssignmentOperator
+assign_of punctuators.Assign = Some assigns.Plain
+assign_of punctuators.MultiplyAssign = Some assigns.Multiply
+assign_of punctuators.DivideAssign = Some assigns.Divide
+assign_of punctuators.RemainderAssign = Some assigns.Remainder
+assign_of punctuators.AddAssign = Some assigns.Add
+assign_of punctuators.SubtractAssign = Some assigns.Subtract
+assign_of punctuators.ShiftLeftAssign = Some assigns.ShiftLeft
+assign_of punctuators.ShiftRightAssign = Some assigns.ShiftRight
+assign_of punctuators.AndAssign = Some assigns.BitAnd
+assign_of punctuators.XorAssign = Some assigns.BitXor
+assign_of punctuators.OrAssign = Some assigns.BitOr
 assign_of m = None
 
-abbrev pub access_of : mark.Mark → Option Access
-access_of marks.Dot = Some accesses.Dot
-access_of marks.Arrow = Some accesses.Arrow
+abbrev pub access_of : punctuator.Punctuator → Option Access
+access_of punctuators.Dot = Some accesses.Dot
+access_of punctuators.Arrow = Some accesses.Arrow
 access_of m = None
 
--- what the first token is as a mark, by one of the tables above
-abbrev pub sign_at : {A : Type 0} → (mark.Mark → Option A) → List Lexeme → Option A
-sign_at of [] = None
-sign_at of (Name at x ∷ ts) = None
-sign_at of (Keyword at k ∷ ts) = None
-sign_at of (Constant at n unsigned ∷ ts) = None
-sign_at of (Text at bytes ∷ ts) = None
-sign_at of (Mark at m ∷ ts) = of m
+-- what the first token is as a punctuator, by one of the tables above
+abbrev pub operator_at : {A : Type 0} → (punctuator.Punctuator → Option A) → List Terminal → Option A
+operator_at of [] = None
+operator_at of (Name at x ∷ ts) = None
+operator_at of (Keyword at k ∷ ts) = None
+operator_at of (Constant at n unsigned ∷ ts) = None
+operator_at of (Text at bytes ∷ ts) = None
+operator_at of (Punctuator at m ∷ ts) = of m
 
 -- keywords that begin a type without `static`: const void int char unsigned signed struct
-abbrev pub begins_type : List Lexeme → Bool
+abbrev pub begins_type : List Terminal → Bool
 begins_type ts = starts_with keywords.Const ts || (starts_with keywords.Void ts || (starts_with keywords.Int ts || (starts_with keywords.Char ts || (starts_with keywords.Unsigned ts || (starts_with keywords.Signed ts || starts_with keywords.Struct ts)))))

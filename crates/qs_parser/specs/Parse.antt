@@ -1,33 +1,33 @@
 -- The parser of expressions and types as functions on lists of tokens. An error says how many tokens are left where it stands, its own
 -- among them.
 use Rattle.std.specs.Prelude.{ℕ, zero, suc, ◌+◌, max, List, [], ◌∷◌, ◌++◌, length, Result, Ok, Err, Option, Some, None, Bool, true, false, nat_le, ◌==◌, ◌&&◌, ◌||◌, if◌then◌else◌, not, is_some}
-use Rattle.qs_syntax.specs.declared.lexeme.Lexeme.{Lexeme}
-use Rattle.qs_syntax.specs.declared.lexeme.Lexeme.TheVariants.{Name, Keyword, Constant, Text, Mark}
+use Rattle.qs_syntax.specs.declared.terminal.Terminal.{Terminal}
+use Rattle.qs_syntax.specs.declared.terminal.Terminal.TheVariants.{Name, Keyword, Constant, Text, Punctuator}
 use Rattle.qs_syntax.specs.declared.tokens.Keyword.TheVariants as keywords
-use Rattle.qs_syntax.specs.declared.tokens.Mark as mark
-use Rattle.qs_syntax.specs.declared.tokens.Mark.TheVariants as marks
+use Rattle.qs_syntax.specs.declared.tokens.Punctuator as punctuator
+use Rattle.qs_syntax.specs.declared.tokens.Punctuator.TheVariants as punctuators
 use Rattle.qs_syntax.specs.declared.tree.Base.{Base}
 use Rattle.qs_syntax.specs.declared.tree.Base.TheVariants as bases
 use Rattle.qs_syntax.specs.declared.tree.TypeName.{TypeName}
-use Rattle.qs_syntax.specs.declared.tree.UnarySign.{UnarySign}
-use Rattle.qs_syntax.specs.declared.tree.StepSign.{StepSign}
-use Rattle.qs_syntax.specs.declared.tree.StepSign.TheVariants as steps
-use Rattle.qs_syntax.specs.declared.tree.BinarySign.{BinarySign}
-use Rattle.qs_syntax.specs.declared.tree.AssignSign.{AssignSign}
+use Rattle.qs_syntax.specs.declared.tree.UnaryOperator.{UnaryOperator}
+use Rattle.qs_syntax.specs.declared.tree.StepOperator.{StepOperator}
+use Rattle.qs_syntax.specs.declared.tree.StepOperator.TheVariants as steps
+use Rattle.qs_syntax.specs.declared.tree.BinaryOperator.{BinaryOperator}
+use Rattle.qs_syntax.specs.declared.tree.AssignmentOperator.{AssignmentOperator}
 use Rattle.qs_syntax.specs.declared.tree.Access.{Access}
 use Rattle.qs_syntax.specs.Trees.{ExprTree, expr, int, text, name, unary, step, cast, size_type, size_expr, binary, assign, choice, comma, index, member, call, exprs_of}
-use Rattle.qs_syntax.specs.Signs.{weakness}
+use Rattle.qs_syntax.specs.Operators.{precedence}
 use Rattle.qs_syntax.specs.Reads.{Form, Postfix, Unary, Level, Conditional, Assignment, Expression, place}
-use Rattle.qs_parser.specs.Heads.{is_mark, is_keyword, starts, unary_of, binary_of, assign_of, access_of, sign_at, begins_type}
+use Rattle.qs_parser.specs.Heads.{is_punctuator, is_keyword, starts, unary_of, binary_of, assign_of, access_of, operator_at, begins_type}
 
 pub data Stop : Type 0 where
   Unexpected : ℕ → Stop
   Deep : ℕ → Stop
 
 abbrev pub Parse : Type 0 → Type 0
-Parse A = List Lexeme → Result (A × List Lexeme) Stop
+Parse A = List Terminal → Result (A × List Terminal) Stop
 
-abbrev pub bind : {A B : Type 0} → Result (A × List Lexeme) Stop → (A → Parse B) → Result (B × List Lexeme) Stop
+abbrev pub bind : {A B : Type 0} → Result (A × List Terminal) Stop → (A → Parse B) → Result (B × List Terminal) Stop
 bind (Ok x) f = f x.0 x.1
 bind (Err e) f = Err e
 
@@ -49,9 +49,9 @@ deeper m p ts = if m == 0 then deep ts else p ts
 abbrev pub above : {A : Type 0} → ℕ → ℕ → Parse A → Parse A
 above m h p ts = if nat_le h m then p ts else deep ts
 
-abbrev pub expect : mark.Mark → Parse (Unit {0})
+abbrev pub expect : punctuator.Punctuator → Parse (Unit {0})
 expect m [] = unexpected []
-expect m (t ∷ ts) = if is_mark m t then Ok (tt, ts) else unexpected (t ∷ ts)
+expect m (t ∷ ts) = if is_punctuator m t then Ok (tt, ts) else unexpected (t ∷ ts)
 
 -- the number of a name's token, and its bytes
 abbrev pub expect_name : Parse (ℕ × List ℕ)
@@ -60,11 +60,11 @@ expect_name (Name at x ∷ ts) = Ok ((at, x), ts)
 expect_name (Keyword at k ∷ ts) = unexpected (Keyword at k ∷ ts)
 expect_name (Constant at n unsigned ∷ ts) = unexpected (Constant at n unsigned ∷ ts)
 expect_name (Text at bytes ∷ ts) = unexpected (Text at bytes ∷ ts)
-expect_name (Mark at m ∷ ts) = unexpected (Mark at m ∷ ts)
+expect_name (Punctuator at m ∷ ts) = unexpected (Punctuator at m ∷ ts)
 
 -- ---- types
 
-abbrev pub skip_consts : List Lexeme → List Lexeme
+abbrev pub skip_consts : List Terminal → List Terminal
 skip_consts [] = []
 skip_consts (t ∷ ts) = if is_keyword keywords.Const t then skip_consts ts else t ∷ ts
 
@@ -98,13 +98,13 @@ unfoldable pub type : Parse Base
 type ts = bind (base (skip_consts ts)) (λ b us. Ok (b, skip_consts us))
 
 -- behind a star: further stars and `const`
-abbrev pub stars_from : ℕ → List Lexeme → ℕ × List Lexeme
+abbrev pub stars_from : ℕ → List Terminal → ℕ × List Terminal
 stars_from n [] = (n, [])
-stars_from n (t ∷ ts) = if is_mark marks.Star t then stars_from (n + 1) ts else if is_keyword keywords.Const t then stars_from n ts else (n, t ∷ ts)
+stars_from n (t ∷ ts) = if is_punctuator punctuators.Star t then stars_from (n + 1) ts else if is_keyword keywords.Const t then stars_from n ts else (n, t ∷ ts)
 
 -- { "*" { "const" } }
-unfoldable pub stars : List Lexeme → ℕ × List Lexeme
-stars ts = if starts marks.Star ts then stars_from 0 ts else (0, ts)
+unfoldable pub stars : List Terminal → ℕ × List Terminal
+stars ts = if starts punctuators.Star ts then stars_from 0 ts else (0, ts)
 
 unfoldable pub type_name : Parse TypeName
 type_name ts = bind (type ts) (λ b us. Ok (record { base = b; stars = (stars us).0 }, (stars us).1))
@@ -112,44 +112,44 @@ type_name ts = bind (type ts) (λ b us. Ok (record { base = b; stars = (stars us
 -- ---- expressions
 
 -- which tokens begin an expression
-abbrev pub begins_one : List Lexeme → Bool
+abbrev pub begins_one : List Terminal → Bool
 begins_one [] = false
 begins_one (Name at x ∷ ts) = true
 begins_one (Keyword at k ∷ ts) = is_keyword keywords.Sizeof (Keyword at k)
 begins_one (Constant at n unsigned ∷ ts) = true
 begins_one (Text at bytes ∷ ts) = true
-begins_one (Mark at m ∷ ts) = is_some (unary_of m) || (is_mark marks.OpenParenthesis (Mark at m) || (is_mark marks.Increment (Mark at m) || is_mark marks.Decrement (Mark at m)))
+begins_one (Punctuator at m ∷ ts) = is_some (unary_of m) || (is_punctuator punctuators.OpenParenthesis (Punctuator at m) || (is_punctuator punctuators.Increment (Punctuator at m) || is_punctuator punctuators.Decrement (Punctuator at m)))
 
 -- a parenthesis before a type
-abbrev pub begins_cast : List Lexeme → Bool
+abbrev pub begins_cast : List Terminal → Bool
 begins_cast [] = false
-begins_cast (t ∷ ts) = is_mark marks.OpenParenthesis t && begins_type ts
+begins_cast (t ∷ ts) = is_punctuator punctuators.OpenParenthesis t && begins_type ts
 
 -- what goes on with an operand
-abbrev pub starts_suffix : List Lexeme → Bool
-starts_suffix ts = starts marks.OpenBracket ts || (is_some (sign_at access_of ts) || (starts marks.Increment ts || starts marks.Decrement ts))
+abbrev pub starts_suffix : List Terminal → Bool
+starts_suffix ts = starts punctuators.OpenBracket ts || (is_some (operator_at access_of ts) || (starts punctuators.Increment ts || starts punctuators.Decrement ts))
 
 -- the operator, where it is of level j + 1
-abbrev pub sign_of_level : ℕ → Option BinarySign → Option BinarySign
-sign_of_level j None = None
-sign_of_level j (Some sign) = if weakness sign == j + 1 then Some sign else None
+abbrev pub operator_of_level : ℕ → Option BinaryOperator → Option BinaryOperator
+operator_of_level j None = None
+operator_of_level j (Some operator) = if precedence operator == j + 1 then Some operator else None
 
 -- the texts that follow, joined to those before
-unfoldable pub texts_from : List ℕ → List Lexeme → List ℕ × List Lexeme
+unfoldable pub texts_from : List ℕ → List Terminal → List ℕ × List Terminal
 texts_from done [] = (done, [])
 texts_from done (Name at x ∷ ts) = (done, Name at x ∷ ts)
 texts_from done (Keyword at k ∷ ts) = (done, Keyword at k ∷ ts)
 texts_from done (Constant at n unsigned ∷ ts) = (done, Constant at n unsigned ∷ ts)
 texts_from done (Text at bytes ∷ ts) = texts_from (done ++ bytes) ts
-texts_from done (Mark at m ∷ ts) = (done, Mark at m ∷ ts)
+texts_from done (Punctuator at m ∷ ts) = (done, Punctuator at m ∷ ts)
 
 -- In the following `m` levels are left for parts, and `part` reads what is at most so high.
 module _ (m : ℕ) (part : Form → Parse E) where
   -- behind an argument: the parenthesis at the end, or a comma and the others
   abbrev pub after_argument : (List ExprTree → ℕ → Parse (List ExprTree × ℕ)) → List ExprTree → ℕ → Parse (List ExprTree × ℕ)
   after_argument others es h ts =
-      if starts marks.CloseParenthesis ts then bind (expect marks.CloseParenthesis ts) (λ _ us. Ok ((es, h), us))
-      else bind (expect marks.Comma ts) (λ _ us. others es h us)
+      if starts punctuators.CloseParenthesis ts then bind (expect punctuators.CloseParenthesis ts) (λ _ us. Ok ((es, h), us))
+      else bind (expect punctuators.Comma ts) (λ _ us. others es h us)
 
   -- Arguments behind these, and the parenthesis at their end. The first number bounds the turns.
   unfoldable pub arguments : ℕ → List ExprTree → ℕ → Parse (List ExprTree × ℕ)
@@ -158,20 +158,20 @@ module _ (m : ℕ) (part : Form → Parse E) where
 
   abbrev pub call_of : (at : ℕ) → List ℕ → Parse E
   call_of at f ts =
-      if starts marks.CloseParenthesis ts then bind (expect marks.CloseParenthesis ts) (λ _ us. Ok ((expr 0 at (call f (exprs_of [])), 1), us))
+      if starts punctuators.CloseParenthesis ts then bind (expect punctuators.CloseParenthesis ts) (λ _ us. Ok ((expr 0 at (call f (exprs_of [])), 1), us))
       else bind (arguments (length ts) [] 0 ts) (λ es us. Ok ((expr 0 at (call f (exprs_of es.0)), es.1 + 1), us))
 
   abbrev pub after_name : (at : ℕ) → List ℕ → Parse E
   after_name at x ts =
-      if starts marks.OpenParenthesis ts then bind (expect marks.OpenParenthesis ts) (λ _ us. call_of at x us)
+      if starts punctuators.OpenParenthesis ts then bind (expect punctuators.OpenParenthesis ts) (λ _ us. call_of at x us)
       else Ok ((expr 0 at (name x), 1), ts)
 
-  abbrev pub after_text : (at : ℕ) → List ℕ × List Lexeme → Result (E × List Lexeme) Stop
+  abbrev pub after_text : (at : ℕ) → List ℕ × List Terminal → Result (E × List Terminal) Stop
   after_text at x = Ok ((expr 0 at (text x.0), 1), x.1)
 
   -- behind a parenthesis that begins no cast
   abbrev pub in_parentheses : Parse E
-  in_parentheses ts = bind (part Expression ts) (λ e us. bind (expect marks.CloseParenthesis us) (λ _ vs. Ok ((e.0, e.1 + 1), vs)))
+  in_parentheses ts = bind (part Expression ts) (λ e us. bind (expect punctuators.CloseParenthesis us) (λ _ vs. Ok ((e.0, e.1 + 1), vs)))
 
   unfoldable pub primary : Parse E
   primary [] = unexpected []
@@ -179,11 +179,11 @@ module _ (m : ℕ) (part : Form → Parse E) where
   primary (Keyword at k ∷ ts) = unexpected (Keyword at k ∷ ts)
   primary (Constant at n unsigned ∷ ts) = Ok ((expr 0 at (int n unsigned), 1), ts)
   primary (Text at bytes ∷ ts) = after_text at (texts_from bytes ts)
-  primary (Mark at k ∷ ts) = if is_mark marks.OpenParenthesis (Mark at k) then (if m == 0 then deep (Mark at k ∷ ts) else in_parentheses ts) else unexpected (Mark at k ∷ ts)
+  primary (Punctuator at k ∷ ts) = if is_punctuator punctuators.OpenParenthesis (Punctuator at k) then (if m == 0 then deep (Punctuator at k ∷ ts) else in_parentheses ts) else unexpected (Punctuator at k ∷ ts)
 
   -- behind `[`
   abbrev pub index_of : (start : ℕ) → E → Parse E
-  index_of start a ts = bind (part Expression ts) (λ b us. bind (expect marks.CloseBracket us) (λ _ vs. Ok ((expr 0 start (index a.0 b.0), max a.1 b.1 + 1), vs)))
+  index_of start a ts = bind (part Expression ts) (λ b us. bind (expect punctuators.CloseBracket us) (λ _ vs. Ok ((expr 0 start (index a.0 b.0), max a.1 b.1 + 1), vs)))
 
   -- behind `.` or `->`
   abbrev pub member_of : (start : ℕ) → E → Access → Parse E
@@ -193,17 +193,17 @@ module _ (m : ℕ) (part : Form → Parse E) where
   access_at start a None ts = unexpected ts
   access_at start a (Some access) ts = member_of start a access ts
 
-  abbrev pub begins_suffix : List Lexeme → Bool
+  abbrev pub begins_suffix : List Terminal → Bool
   begins_suffix ts = starts_suffix ts
 
   -- what the first token does with an operand, where it begins a suffix
   abbrev pub suffix : (start : ℕ) → E → Parse E
   suffix start a [] = unexpected []
   suffix start a (t ∷ ts) =
-      if is_mark marks.OpenBracket t then index_of start a ts
-      else if is_mark marks.Increment t then Ok ((expr 0 start (step steps.IncrementAfter a.0), a.1 + 1), ts)
-      else if is_mark marks.Decrement t then Ok ((expr 0 start (step steps.DecrementAfter a.0), a.1 + 1), ts)
-      else access_at start a (sign_at access_of (t ∷ ts)) ts
+      if is_punctuator punctuators.OpenBracket t then index_of start a ts
+      else if is_punctuator punctuators.Increment t then Ok ((expr 0 start (step steps.IncrementAfter a.0), a.1 + 1), ts)
+      else if is_punctuator punctuators.Decrement t then Ok ((expr 0 start (step steps.DecrementAfter a.0), a.1 + 1), ts)
+      else access_at start a (operator_at access_of (t ∷ ts)) ts
 
   -- The suffixes behind an operand that begins at `start`. The first number bounds the turns.
   unfoldable pub suffixes : ℕ → (start : ℕ) → E → Parse E
@@ -213,21 +213,21 @@ module _ (m : ℕ) (part : Form → Parse E) where
   abbrev pub postfix : Parse E
   postfix ts = bind (primary ts) (λ a us. suffixes (length us) (place ts) a us)
 
-  abbrev pub step_of : (at : ℕ) → StepSign → Parse E
-  step_of at sign ts = bind (part Unary ts) (λ e us. Ok ((expr 0 at (step sign e.0), e.1 + 1), us))
+  abbrev pub step_of : (at : ℕ) → StepOperator → Parse E
+  step_of at operator ts = bind (part Unary ts) (λ e us. Ok ((expr 0 at (step operator e.0), e.1 + 1), us))
 
-  abbrev pub operator_of : (at : ℕ) → UnarySign → Parse E
-  operator_of at sign ts = bind (part (Level 0) ts) (λ e us. Ok ((expr 0 at (unary sign e.0), e.1 + 1), us))
+  abbrev pub operator_of : (at : ℕ) → UnaryOperator → Parse E
+  operator_of at operator ts = bind (part (Level 0) ts) (λ e us. Ok ((expr 0 at (unary operator e.0), e.1 + 1), us))
 
   -- behind `sizeof`
   abbrev pub size_of : (at : ℕ) → Parse E
   size_of at ts =
-      if begins_cast ts then bind (expect marks.OpenParenthesis ts) (λ _ us. bind (type_name us) (λ t vs. bind (expect marks.CloseParenthesis vs) (λ _ ws. Ok ((expr 0 at (size_type t), 1), ws))))
+      if begins_cast ts then bind (expect punctuators.OpenParenthesis ts) (λ _ us. bind (type_name us) (λ t vs. bind (expect punctuators.CloseParenthesis vs) (λ _ ws. Ok ((expr 0 at (size_type t), 1), ws))))
       else bind (part Unary ts) (λ e us. Ok ((expr 0 at (size_expr e.0), e.1 + 1), us))
 
-  abbrev pub operator_at : (at : ℕ) → Option UnarySign → mark.Mark → Parse E
-  operator_at at (Some sign) k ts = if m == 0 then deep (Mark at k ∷ ts) else operator_of at sign ts
-  operator_at at None k ts = postfix (Mark at k ∷ ts)
+  abbrev pub unary_operator_at : (at : ℕ) → Option UnaryOperator → punctuator.Punctuator → Parse E
+  unary_operator_at at (Some operator) k ts = if m == 0 then deep (Punctuator at k ∷ ts) else operator_of at operator ts
+  unary_operator_at at None k ts = postfix (Punctuator at k ∷ ts)
 
   unfoldable pub unary_of_all : Parse E
   unary_of_all [] = unexpected []
@@ -236,35 +236,35 @@ module _ (m : ℕ) (part : Form → Parse E) where
       if is_keyword keywords.Sizeof (Keyword at k) then (if m == 0 && not (begins_cast ts) then deep (Keyword at k ∷ ts) else size_of at ts) else unexpected (Keyword at k ∷ ts)
   unary_of_all (Constant at n unsigned ∷ ts) = postfix (Constant at n unsigned ∷ ts)
   unary_of_all (Text at bytes ∷ ts) = postfix (Text at bytes ∷ ts)
-  unary_of_all (Mark at k ∷ ts) =
-      if is_mark marks.Increment (Mark at k) then (if m == 0 then deep (Mark at k ∷ ts) else step_of at steps.IncrementBefore ts)
-      else if is_mark marks.Decrement (Mark at k) then (if m == 0 then deep (Mark at k ∷ ts) else step_of at steps.DecrementBefore ts)
-      else operator_at at (unary_of k) k ts
+  unary_of_all (Punctuator at k ∷ ts) =
+      if is_punctuator punctuators.Increment (Punctuator at k) then (if m == 0 then deep (Punctuator at k ∷ ts) else step_of at steps.IncrementBefore ts)
+      else if is_punctuator punctuators.Decrement (Punctuator at k) then (if m == 0 then deep (Punctuator at k ∷ ts) else step_of at steps.DecrementBefore ts)
+      else unary_operator_at at (unary_of k) k ts
 
   -- behind the parenthesis of a cast
   abbrev pub cast_of : (at : ℕ) → Parse E
-  cast_of at ts = bind (type_name ts) (λ t us. bind (expect marks.CloseParenthesis us) (λ _ vs. bind (part (Level 0) vs) (λ e ws. Ok ((expr 0 at (cast t e.0), e.1 + 1), ws))))
+  cast_of at ts = bind (type_name ts) (λ t us. bind (expect punctuators.CloseParenthesis us) (λ _ vs. bind (part (Level 0) vs) (λ e ws. Ok ((expr 0 at (cast t e.0), e.1 + 1), ws))))
 
   abbrev pub cast_or_unary : Parse E
-  cast_or_unary ts = if begins_cast ts then deeper m (λ us. bind (expect marks.OpenParenthesis us) (λ _ vs. cast_of (place ts) vs)) ts else unary_of_all ts
+  cast_or_unary ts = if begins_cast ts then deeper m (λ us. bind (expect punctuators.OpenParenthesis us) (λ _ vs. cast_of (place ts) vs)) ts else unary_of_all ts
 
   -- the operator of level j + 1 that stands first
-  abbrev pub of_level : ℕ → Option BinarySign → Option BinarySign
-  of_level j sign = sign_of_level j sign
+  abbrev pub of_level : ℕ → Option BinaryOperator → Option BinaryOperator
+  of_level j operator = operator_of_level j operator
 
   -- behind an operator, and what follows its right operand
-  abbrev pub operation : ℕ → (start : ℕ) → E → BinarySign → (E → Parse E) → Parse E
-  operation j start a sign others [] = unexpected []
-  operation j start a sign others (t ∷ ts) = bind (part (Level j) ts) (λ b us. others (expr 0 start (binary sign a.0 b.0), max a.1 b.1 + 1) us)
+  abbrev pub operation : ℕ → (start : ℕ) → E → BinaryOperator → (E → Parse E) → Parse E
+  operation j start an operator others [] = unexpected []
+  operation j start an operator others (t ∷ ts) = bind (part (Level j) ts) (λ b us. others (expr 0 start (binary operator a.0 b.0), max a.1 b.1 + 1) us)
 
-  abbrev pub operation_at : ℕ → (start : ℕ) → E → Option BinarySign → (E → Parse E) → Parse E
+  abbrev pub operation_at : ℕ → (start : ℕ) → E → Option BinaryOperator → (E → Parse E) → Parse E
   operation_at j start a None others ts = Ok (a, ts)
-  operation_at j start a (Some sign) others ts = above m a.1 (operation j start a sign others) ts
+  operation_at j start a (Some operator) others ts = above m a.1 (operation j start an operator others) ts
 
   -- The operators of level j + 1, and their right operands. The first number bounds the turns.
   unfoldable pub operations : ℕ → ℕ → (start : ℕ) → E → Parse E
   operations zero j start a ts = Ok (a, ts)
-  operations (suc n) j start a ts = operation_at j start a (of_level j (sign_at binary_of ts)) (operations n j start) ts
+  operations (suc n) j start a ts = operation_at j start a (of_level j (operator_at binary_of ts)) (operations n j start) ts
 
   -- the operators of the levels up to j, behind an operand
   unfoldable pub climb : ℕ → (start : ℕ) → E → Parse E
@@ -274,22 +274,22 @@ module _ (m : ℕ) (part : Form → Parse E) where
   -- behind what may be a condition
   abbrev pub after_or : (start : ℕ) → E → Parse E
   after_or start a ts =
-      if starts marks.Question ts
-      then above m a.1 (λ us. bind (expect marks.Question us) (λ _ vs. bind (part Expression vs) (λ b ws. bind (expect marks.Colon ws) (λ _ xs. bind (part Conditional xs) (λ c ys. Ok ((expr 0 start (choice a.0 b.0 c.0), max a.1 (max b.1 c.1) + 1), ys)))))) ts
+      if starts punctuators.Question ts
+      then above m a.1 (λ us. bind (expect punctuators.Question us) (λ _ vs. bind (part Expression vs) (λ b ws. bind (expect punctuators.Colon ws) (λ _ xs. bind (part Conditional xs) (λ c ys. Ok ((expr 0 start (choice a.0 b.0 c.0), max a.1 (max b.1 c.1) + 1), ys)))))) ts
       else Ok (a, ts)
 
   -- behind an operand that is no left side of an assignment
   abbrev pub after_operand : (start : ℕ) → E → Parse E
   after_operand start a ts = bind (climb 10 start a ts) (after_or start)
 
-  abbrev pub assignment_of : (start : ℕ) → E → Option AssignSign → Parse E
+  abbrev pub assignment_of : (start : ℕ) → E → Option AssignmentOperator → Parse E
   assignment_of start a None ts = after_operand start a ts
-  assignment_of start a (Some sign) [] = Ok (a, [])
-  assignment_of start a (Some sign) (t ∷ ts) = above m a.1 (λ _. bind (part Assignment ts) (λ b us. Ok ((expr 0 start (assign sign a.0 b.0), max a.1 b.1 + 1), us))) (t ∷ ts)
+  assignment_of start a (Some operator) [] = Ok (a, [])
+  assignment_of start a (Some operator) (t ∷ ts) = above m a.1 (λ _. bind (part Assignment ts) (λ b us. Ok ((expr 0 start (assign operator a.0 b.0), max a.1 b.1 + 1), us))) (t ∷ ts)
 
   -- behind what may be the left side of an assignment
   abbrev pub after_unary : (start : ℕ) → E → Parse E
-  after_unary start a ts = assignment_of start a (sign_at assign_of ts) ts
+  after_unary start a ts = assignment_of start a (operator_at assign_of ts) ts
 
   abbrev pub assignment : Parse E
   assignment ts = if begins_cast ts then bind (cast_or_unary ts) (after_operand (place ts)) else bind (unary_of_all ts) (after_unary (place ts))
@@ -298,8 +298,8 @@ module _ (m : ℕ) (part : Form → Parse E) where
   unfoldable pub commas : ℕ → (start : ℕ) → E → Parse E
   commas zero start a ts = Ok (a, ts)
   commas (suc n) start a ts =
-      if starts marks.Comma ts
-      then above m a.1 (λ us. bind (expect marks.Comma us) (λ _ vs. bind (part Assignment vs) (λ b ws. commas n start (expr 0 start (comma a.0 b.0), max a.1 b.1 + 1) ws))) ts
+      if starts punctuators.Comma ts
+      then above m a.1 (λ us. bind (expect punctuators.Comma us) (λ _ vs. bind (part Assignment vs) (λ b ws. commas n start (expr 0 start (comma a.0 b.0), max a.1 b.1 + 1) ws))) ts
       else Ok (a, ts)
 
   -- what is at most m + 1 high

@@ -1,15 +1,15 @@
 -- The parser of statements and units as functions on lists of tokens.
 use Rattle.std.specs.Prelude.{ℕ, zero, suc, ◌+◌, max, List, [], ◌∷◌, ◌++◌, length, Ok, Option, Some, None, Bool, true, false, ◌==◌, ◌&&◌, ◌||◌, if◌then◌else◌}
-use Rattle.qs_syntax.specs.declared.lexeme.Lexeme.{Lexeme}
-use Rattle.qs_syntax.specs.declared.lexeme.Lexeme.TheVariants.{Name, Keyword, Constant, Text, Mark}
+use Rattle.qs_syntax.specs.declared.terminal.Terminal.{Terminal}
+use Rattle.qs_syntax.specs.declared.terminal.Terminal.TheVariants.{Name, Keyword, Constant, Text, Punctuator}
 use Rattle.qs_syntax.specs.declared.tokens.Keyword.TheVariants as keywords
-use Rattle.qs_syntax.specs.declared.tokens.Mark as mark
-use Rattle.qs_syntax.specs.declared.tokens.Mark.TheVariants as marks
+use Rattle.qs_syntax.specs.declared.tokens.Punctuator as punctuator
+use Rattle.qs_syntax.specs.declared.tokens.Punctuator.TheVariants as punctuators
 use Rattle.qs_syntax.specs.declared.tree.Base.{Base}
 use Rattle.qs_syntax.specs.Trees.{ExprTree, DeclarationTree, ParameterTree, StartTree, no_start, start_expression, start_declaration, StmtTree, empty, expression, block, branch, while_loop, do_loop, for_loop, break, continue, return, stmts_of, no_else, else_by, DeclTree, structure, forward, function}
 use Rattle.qs_syntax.specs.Trees as trees
 use Rattle.qs_syntax.specs.Reads.{Expression, place}
-use Rattle.qs_parser.specs.Heads.{is_keyword, is_mark, starts, starts_with, begins_type}
+use Rattle.qs_parser.specs.Heads.{is_keyword, is_punctuator, starts, starts_with, begins_type}
 use Rattle.qs_parser.specs.Parse.{Parse, bind, E, unexpected, deep, expect, expect_name, stars, begins_one, part}
 use Rattle.qs_parser.specs.ParseDeclarations.{outer_type, declaration_within, declared, groups, head}
 
@@ -17,26 +17,26 @@ use Rattle.qs_parser.specs.ParseDeclarations.{outer_type, declaration_within, de
 abbrev pub S : Type 0
 S = StmtTree × ℕ
 
--- [ expression ] before this mark, which is read too
-abbrev pub optional : (m : ℕ) → mark.Mark → Parse (Option ExprTree × ℕ)
+-- [ expression ] before this punctuator, which is read too
+abbrev pub optional : (m : ℕ) → punctuator.Punctuator → Parse (Option ExprTree × ℕ)
 optional m k ts =
     if starts k ts then bind (expect k ts) (λ _ us. Ok ((None, 0), us))
     else bind (part m Expression ts) (λ e us. bind (expect k us) (λ _ vs. Ok ((Some e.0, e.1), vs)))
 
 -- an expression in parentheses
 abbrev pub condition : (m : ℕ) → Parse E
-condition m ts = bind (expect marks.OpenParenthesis ts) (λ _ us. bind (part m Expression us) (λ e vs. bind (expect marks.CloseParenthesis vs) (λ _ ws. Ok (e, ws))))
+condition m ts = bind (expect punctuators.OpenParenthesis ts) (λ _ us. bind (part m Expression us) (λ e vs. bind (expect punctuators.CloseParenthesis vs) (λ _ ws. Ok (e, ws))))
 
 -- what a `for` begins with
 abbrev pub start_of : (m : ℕ) → Parse (StartTree × ℕ)
 start_of m ts =
     if begins_type ts then bind (declaration_within m ts) (λ d us. Ok ((start_declaration d.0, d.1), us))
-    else if starts marks.Semicolon ts then bind (expect marks.Semicolon ts) (λ _ us. Ok ((no_start, 0), us))
-    else bind (part m Expression ts) (λ e us. bind (expect marks.Semicolon us) (λ _ vs. Ok ((start_expression e.0, e.1), vs)))
+    else if starts punctuators.Semicolon ts then bind (expect punctuators.Semicolon ts) (λ _ us. Ok ((no_start, 0), us))
+    else bind (part m Expression ts) (λ e us. bind (expect punctuators.Semicolon us) (λ _ vs. Ok ((start_expression e.0, e.1), vs)))
 
-abbrev pub begins_statement : List Lexeme → Bool
+abbrev pub begins_statement : List Terminal → Bool
 begins_statement ts =
-    begins_one ts || (starts marks.OpenBrace ts || (starts marks.Semicolon ts || (starts_with keywords.If ts || (starts_with keywords.While ts || (starts_with keywords.Do ts || (starts_with keywords.For ts || (starts_with keywords.Break ts || (starts_with keywords.Continue ts || starts_with keywords.Return ts))))))))
+    begins_one ts || (starts punctuators.OpenBrace ts || (starts punctuators.Semicolon ts || (starts_with keywords.If ts || (starts_with keywords.While ts || (starts_with keywords.Do ts || (starts_with keywords.For ts || (starts_with keywords.Break ts || (starts_with keywords.Continue ts || starts_with keywords.Return ts))))))))
 
 -- Where `m` levels are left for parts, and `inner` reads a statement of at most so many.
 module _ (m : ℕ) (inner : Parse S) where
@@ -47,7 +47,7 @@ module _ (m : ℕ) (inner : Parse S) where
   unfoldable pub items : ℕ → List StmtTree → ℕ → Parse (List StmtTree × ℕ)
   items zero done h ts = unexpected ts
   items (suc n) done h ts =
-      if starts marks.CloseBrace ts then bind (expect marks.CloseBrace ts) (λ _ us. Ok ((done, h), us))
+      if starts punctuators.CloseBrace ts then bind (expect punctuators.CloseBrace ts) (λ _ us. Ok ((done, h), us))
       else bind (item ts) (λ s us. items n (done ++ s.0 ∷ []) (max h s.1) us)
 
   -- behind the brace
@@ -84,29 +84,29 @@ module _ (m : ℕ) (inner : Parse S) where
   expect_while (t ∷ ts) = if is_keyword keywords.While t then Ok (tt, ts) else unexpected (t ∷ ts)
 
   abbrev pub after_do : (at : ℕ) → Parse S
-  after_do at ts = bind (inner ts) (λ s us. bind (expect_while us) (λ _ vs. bind (condition m vs) (λ e ws. bind (expect marks.Semicolon ws) (λ _ xs. Ok ((do_loop 0 at s.0 e.0, max s.1 e.1 + 1), xs)))))
+  after_do at ts = bind (inner ts) (λ s us. bind (expect_while us) (λ _ vs. bind (condition m vs) (λ e ws. bind (expect punctuators.Semicolon ws) (λ _ xs. Ok ((do_loop 0 at s.0 e.0, max s.1 e.1 + 1), xs)))))
 
   abbrev pub after_for : (at : ℕ) → Parse S
   after_for at ts =
-      bind (expect marks.OpenParenthesis ts) (λ _ us. bind (start_of m us) (λ a vs. bind (optional m marks.Semicolon vs) (λ e ws. bind (optional m marks.CloseParenthesis ws) (λ u xs. bind (inner xs)
+      bind (expect punctuators.OpenParenthesis ts) (λ _ us. bind (start_of m us) (λ a vs. bind (optional m punctuators.Semicolon vs) (λ e ws. bind (optional m punctuators.CloseParenthesis ws) (λ u xs. bind (inner xs)
       (λ s ys. Ok ((for_loop 0 at a.0 e.0 u.0 s.0, max a.1 (max e.1 (max u.1 s.1)) + 1), ys))))))
 
   abbrev pub after_return : (at : ℕ) → Parse S
-  after_return at ts = bind (optional m marks.Semicolon ts) (λ e us. Ok ((return 0 at e.0, e.1 + 1), us))
+  after_return at ts = bind (optional m punctuators.Semicolon ts) (λ e us. Ok ((return 0 at e.0, e.1 + 1), us))
 
   -- an expression and the semicolon behind it
   abbrev pub running : Parse S
-  running ts = bind (part m Expression ts) (λ e us. bind (expect marks.Semicolon us) (λ _ vs. Ok ((expression 0 (place ts) e.0, e.1 + 1), vs)))
+  running ts = bind (part m Expression ts) (λ e us. bind (expect punctuators.Semicolon us) (λ _ vs. Ok ((expression 0 (place ts) e.0, e.1 + 1), vs)))
 
   -- a statement that has no statement as a part
-  abbrev pub plain_statement : (at : ℕ) → (first : Lexeme) → Parse S
+  abbrev pub plain_statement : (at : ℕ) → (first : Terminal) → Parse S
   plain_statement at t ts =
-      if is_keyword keywords.Break t then bind (expect marks.Semicolon ts) (λ _ us. Ok ((break 0 at, 1), us))
-      else if is_keyword keywords.Continue t then bind (expect marks.Semicolon ts) (λ _ us. Ok ((continue 0 at, 1), us))
+      if is_keyword keywords.Break t then bind (expect punctuators.Semicolon ts) (λ _ us. Ok ((break 0 at, 1), us))
+      else if is_keyword keywords.Continue t then bind (expect punctuators.Semicolon ts) (λ _ us. Ok ((continue 0 at, 1), us))
       else if is_keyword keywords.Return t then after_return at ts
       else running (t ∷ ts)
 
-  abbrev pub keyword_statement : (at : ℕ) → (first : Lexeme) → Parse S
+  abbrev pub keyword_statement : (at : ℕ) → (first : Terminal) → Parse S
   keyword_statement at t ts =
       if is_keyword keywords.If t then (if m == 0 then deep (t ∷ ts) else after_if at ts)
       else if is_keyword keywords.While t then (if m == 0 then deep (t ∷ ts) else after_while at ts)
@@ -117,8 +117,8 @@ module _ (m : ℕ) (inner : Parse S) where
   abbrev pub statement_at : Parse S
   statement_at [] = unexpected []
   statement_at (t ∷ ts) =
-      if is_mark marks.Semicolon t then Ok ((empty 0 (place (t ∷ ts)), 1), ts)
-      else if is_mark marks.OpenBrace t then in_block ts
+      if is_punctuator punctuators.Semicolon t then Ok ((empty 0 (place (t ∷ ts)), 1), ts)
+      else if is_punctuator punctuators.OpenBrace t then in_block ts
       else keyword_statement (place (t ∷ ts)) t ts
 
 -- what is at most n high
@@ -128,51 +128,51 @@ statement (suc m) ts = statement_at m (statement m) ts
 
 -- ---- at file scope, where what is given is at most k + 2 high
 
--- a name and this mark
-abbrev pub is_named : mark.Mark → List Lexeme → Bool
+-- a name and this punctuator
+abbrev pub is_named : punctuator.Punctuator → List Terminal → Bool
 is_named k [] = false
 is_named k (Name at x ∷ ts) = starts k ts
 is_named k (Keyword at l ∷ ts) = false
 is_named k (Constant at n unsigned ∷ ts) = false
 is_named k (Text at bytes ∷ ts) = false
-is_named k (Mark at l ∷ ts) = false
+is_named k (Punctuator at l ∷ ts) = false
 
 -- behind `struct`
 abbrev pub struct_of : (k : ℕ) → (at : ℕ) → Parse (DeclTree × ℕ)
 struct_of k at ts =
-    bind (expect_name ts) (λ x us. bind (expect marks.OpenBrace us) (λ _ vs. bind (groups k (length vs) [] 0 vs) (λ ms ws. bind (expect marks.Semicolon ws) (λ _ xs.
+    bind (expect_name ts) (λ x us. bind (expect punctuators.OpenBrace us) (λ _ vs. bind (groups k (length vs) [] 0 vs) (λ ms ws. bind (expect punctuators.Semicolon ws) (λ _ xs.
     Ok ((structure (record { id = 0; token = at; name = x.1; members = ms.0 }), ms.1 + 1), xs)))))
 
 abbrev pub forward_of : (at : ℕ) → Parse (DeclTree × ℕ)
-forward_of at ts = bind (expect_name ts) (λ x us. bind (expect marks.Semicolon us) (λ _ vs. Ok ((forward (record { id = 0; token = at; name = x.1 }), 1), vs)))
+forward_of at ts = bind (expect_name ts) (λ x us. bind (expect punctuators.Semicolon us) (λ _ vs. Ok ((forward (record { id = 0; token = at; name = x.1 }), 1), vs)))
 
 -- behind a header's parameters: the semicolon or the body
 abbrev pub body_of : (k : ℕ) → (start : ℕ) → Base → ℕ → List ℕ → List ParameterTree × ℕ → Parse (DeclTree × ℕ)
 body_of k start b n x ps ts =
-    if starts marks.Semicolon ts
-    then bind (expect marks.Semicolon ts) (λ _ us. Ok ((function (record { id = 0; token = start; base = b; stars = n; name = x; parameters = ps.0; body = None }), ps.1 + 1), us))
-    else bind (expect marks.OpenBrace ts) (λ _ us. bind (items k (statement k) (length us) [] 0 us) (λ ss vs.
+    if starts punctuators.Semicolon ts
+    then bind (expect punctuators.Semicolon ts) (λ _ us. Ok ((function (record { id = 0; token = start; base = b; stars = n; name = x; parameters = ps.0; body = None }), ps.1 + 1), us))
+    else bind (expect punctuators.OpenBrace ts) (λ _ us. bind (items k (statement k) (length us) [] 0 us) (λ ss vs.
     Ok ((function (record { id = 0; token = start; base = b; stars = n; name = x; parameters = ps.0; body = Some (stmts_of ss.0) }), max ps.1 (ss.1 + 1) + 1), vs)))
 
 -- behind the stars of a header
 abbrev pub function_of : (k : ℕ) → (start : ℕ) → Base → ℕ → Parse (DeclTree × ℕ)
 function_of k start b n ts =
-    bind (expect_name ts) (λ x us. bind (expect marks.OpenParenthesis us) (λ _ vs. bind (head k vs) (body_of k start b n x.1)))
+    bind (expect_name ts) (λ x us. bind (expect punctuators.OpenParenthesis us) (λ _ vs. bind (head k vs) (body_of k start b n x.1)))
 
 -- behind a type
 abbrev pub typed : (k : ℕ) → (start : ℕ) → Base → Parse (DeclTree × ℕ)
 typed k start b ts =
-    if is_named marks.OpenParenthesis (stars ts).1 then function_of k start b (stars ts).0 (stars ts).1
+    if is_named punctuators.OpenParenthesis (stars ts).1 then function_of k start b (stars ts).0 (stars ts).1
     else bind (declared (k + 1) b ts) (λ d us. Ok ((trees.variables d.0, d.1), us))
 
 unfoldable pub external : (k : ℕ) → Parse (DeclTree × ℕ)
 external k [] = unexpected []
 external k (t ∷ ts) =
-    if is_keyword keywords.Struct t && is_named marks.OpenBrace ts then struct_of k (place (t ∷ ts)) ts
-    else if is_keyword keywords.Struct t && is_named marks.Semicolon ts then forward_of (place (t ∷ ts)) ts
+    if is_keyword keywords.Struct t && is_named punctuators.OpenBrace ts then struct_of k (place (t ∷ ts)) ts
+    else if is_keyword keywords.Struct t && is_named punctuators.Semicolon ts then forward_of (place (t ∷ ts)) ts
     else bind (outer_type (t ∷ ts)) (typed k (place (t ∷ ts)))
 
-abbrev pub is_empty : List Lexeme → Bool
+abbrev pub is_empty : List Terminal → Bool
 is_empty [] = true
 is_empty (u ∷ us) = false
 

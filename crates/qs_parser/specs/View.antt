@@ -3,7 +3,7 @@ use Rattle.std.specs.Prelude.{◌≡◌, ℕ, List, [], Option, Result, Ok, Err,
 use Rattle.std.specs.Borrow.{Bor}
 use Rattle.std.specs.declared.alloc.Global.{Global}
 use Rattle.std.specs.declared.vec.Vec.{Vec}
-use Rattle.qs_syntax.specs.declared.lexeme.Lexeme.{Lexeme}
+use Rattle.qs_syntax.specs.declared.terminal.Terminal.{Terminal}
 use Rattle.qs_syntax.specs.declared.tree.Base.{Base}
 use Rattle.qs_syntax.specs.declared.tree.Decl.{Decl}
 use Rattle.qs_syntax.specs.declared.tree.TypeName.{TypeName}
@@ -27,23 +27,23 @@ abbrev pub Gives : {X Y : Type 0} → (X → Y) → Result X Halt → Result Y S
 Gives view (Ok x) given = given ≡ Ok (view x)
 Gives view (Err e) given = Fails e given
 
-abbrev pub rest_of : Bor (List Lexeme) → Unit {0} × List Lexeme
+abbrev pub rest_of : Bor (List Terminal) → Unit {0} × List Terminal
 rest_of rest = (tt, rest.now)
 
-abbrev pub name_of : ℕ × List ℕ × Bor (List Lexeme) → (ℕ × List ℕ) × List Lexeme
+abbrev pub name_of : ℕ × List ℕ × Bor (List Terminal) → (ℕ × List ℕ) × List Terminal
 name_of x = ((x.0, x.1), x.2.now)
 
-abbrev pub base_of : Base × Bor (List Lexeme) → Base × List Lexeme
+abbrev pub base_of : Base × Bor (List Terminal) → Base × List Terminal
 base_of x = (x.0, x.1.now)
 
-abbrev pub stars_of : ℕ × Bor (List Lexeme) → ℕ × List Lexeme
+abbrev pub stars_of : ℕ × Bor (List Terminal) → ℕ × List Terminal
 stars_of x = (x.0, x.1.now)
 
-abbrev pub type_name_of : TypeName × Bor (List Lexeme) → TypeName × List Lexeme
+abbrev pub type_name_of : TypeName × Bor (List Terminal) → TypeName × List Terminal
 type_name_of x = (x.0, x.1.now)
 
 -- what is read, how high it is, and what stands behind it
-abbrev pub read_as : {X Y : Type 0} → (X → Y) → X × ℕ × Bor (List Lexeme) → (Y × ℕ) × List Lexeme
+abbrev pub read_as : {X Y : Type 0} → (X → Y) → X × ℕ × Bor (List Terminal) → (Y × ℕ) × List Terminal
 read_as view x = ((view x.0, x.1), x.2.now)
 
 -- each item of a vector
@@ -51,7 +51,7 @@ abbrev pub listed : {X Y : Type 0} → (X → Y) → Vec X Global → List Y
 listed view items = map view items.items
 
 -- joined texts, and what stands behind them
-abbrev pub texts_of : List ℕ × Bor (List Lexeme) → List ℕ × List Lexeme
+abbrev pub texts_of : List ℕ × Bor (List Terminal) → List ℕ × List Terminal
 texts_of x = (x.0, x.1.now)
 
 -- what an expression is read as
@@ -72,5 +72,5 @@ abbrev pub function_with : Header → Option Stmts → DeclTree
 function_with h body = function (record { id = 0; token = h.token; base = h.base; stars = h.stars; name = h.name; parameters = parameters_of h; body = body })
 
 -- all that is read, and how high it is, with nothing left
-abbrev pub unit_of : Vec Decl Global × ℕ → (List DeclTree × ℕ) × List Lexeme
+abbrev pub unit_of : Vec Decl Global × ℕ → (List DeclTree × ℕ) × List Terminal
 unit_of x = ((listed decl_tree x.0, x.1), [])

@@ -9,12 +9,12 @@ ghost use Rattle.qs_parser.specs.View.{Gives, read_as, listed};
 
 use crate::expressions::{Form, part};
 use crate::fault::Halt;
-use crate::heads::{begins_one, expect, expect_name, is_keyword, is_mark, place, starts};
+use crate::heads::{begins_one, expect, expect_name, is_keyword, is_punctuator, place, starts};
 use crate::types::{stars, type_of};
 use qs_base::Name;
 use qs_syntax::{
-    Base, Declaration, Declarator, Expr, Initialiser, InitialiserList, Keyword, Lengths, Lexeme,
-    Mark, Members, Parameter, Variable,
+    Base, Declaration, Declarator, Expr, Initialiser, InitialiserList, Keyword, Lengths, Terminal,
+    Punctuator, Members, Parameter, Variable,
 };
 use std::alloc::Global;
 
@@ -23,8 +23,8 @@ use std::alloc::Global;
 fn given_lengths(
     alloc: Global,
     room: u8,
-    tokens: &[Lexeme],
-) -> Result<(Vec<Expr>, u32, &[Lexeme]), Halt>
+    tokens: &[Terminal],
+) -> Result<(Vec<Expr>, u32, &[Terminal]), Halt>
     ensures gives { Gives (read_as (listed expr_tree)) result (given_lengths room (length tokens.now) [] 0 tokens.now) }
     ensures low { IfOk result (λ x. x.1 ≤ room) }
 {
@@ -32,12 +32,12 @@ fn given_lengths(
     let mut height: u32 = 0;
     let mut rest = tokens;
     for _ in 0..tokens.len() {
-        if !starts(Mark::OpenBracket, rest) {
+        if !starts(Punctuator::OpenBracket, rest) {
             return Ok((given, height, rest));
         }
-        let behind = expect(Mark::OpenBracket, rest)?;
+        let behind = expect(Punctuator::OpenBracket, rest)?;
         let (item, high, after) = part(alloc, room, Form::Conditional, behind)?;
-        let after = expect(Mark::CloseBracket, after)?;
+        let after = expect(Punctuator::CloseBracket, after)?;
         given.push(item)?;
         height = height.max(high);
         rest = after;
@@ -46,13 +46,13 @@ fn given_lengths(
 }
 
 /// Whether empty brackets stand first.
-fn is_empty_brackets(tokens: &[Lexeme]) -> bool
+fn is_empty_brackets(tokens: &[Terminal]) -> bool
     ensures { result ≡ is_empty_brackets tokens.now }
 {
     match tokens {
         [] => false,
         [first, rest @ ..] => {
-            is_mark(Mark::OpenBracket, first) && starts(Mark::CloseBracket, rest)
+            is_punctuator(Punctuator::OpenBracket, first) && starts(Punctuator::CloseBracket, rest)
         }
     }
 }
@@ -62,8 +62,8 @@ fn lengths_of(
     alloc: Global,
     room: u8,
     is_open: bool,
-    tokens: &[Lexeme],
-) -> Result<(Lengths, u32, &[Lexeme]), Halt>
+    tokens: &[Terminal],
+) -> Result<(Lengths, u32, &[Terminal]), Halt>
     ensures gives { Gives (read_as lengths_tree) result (lengths_of is_open (given_lengths room (length tokens.now) [] 0 tokens.now)) }
     ensures low { IfOk result (λ x. x.1 ≤ room) }
 {
@@ -73,15 +73,15 @@ fn lengths_of(
 
 /// The brackets behind a name (C11 6.7.6.2).
 #[tactic(auto, unfolding(crate::specs::ParseDeclarations::lengths))]
-fn lengths(alloc: Global, room: u8, tokens: &[Lexeme]) -> Result<(Lengths, u32, &[Lexeme]), Halt>
+fn lengths(alloc: Global, room: u8, tokens: &[Terminal]) -> Result<(Lengths, u32, &[Terminal]), Halt>
     ensures gives { Gives (read_as lengths_tree) result (lengths room tokens.now) }
     ensures low { IfOk result (λ x. x.1 ≤ room) }
 {
     if !is_empty_brackets(tokens) {
         return lengths_of(alloc, room, false, tokens);
     }
-    let rest = expect(Mark::OpenBracket, tokens)?;
-    let rest = expect(Mark::CloseBracket, rest)?;
+    let rest = expect(Punctuator::OpenBracket, tokens)?;
+    let rest = expect(Punctuator::CloseBracket, rest)?;
     lengths_of(alloc, room, true, rest)
 }
 
@@ -90,8 +90,8 @@ fn named(
     alloc: Global,
     room: u8,
     stars: u32,
-    tokens: &[Lexeme],
-) -> Result<(Declarator, u32, &[Lexeme]), Halt>
+    tokens: &[Terminal],
+) -> Result<(Declarator, u32, &[Terminal]), Halt>
     ensures gives { Gives (read_as declarator_tree) result (named room stars tokens.now) }
     ensures low { IfOk result (λ x. x.1 ≤ room) }
 {
@@ -112,8 +112,8 @@ fn named(
 fn declarator(
     alloc: Global,
     room: u8,
-    tokens: &[Lexeme],
-) -> Result<(Declarator, u32, &[Lexeme]), Halt>
+    tokens: &[Terminal],
+) -> Result<(Declarator, u32, &[Terminal]), Halt>
     ensures gives { Gives (read_as declarator_tree) result (declarator room tokens.now) }
     ensures low { IfOk result (λ x. x.1 ≤ room) }
 {
@@ -127,8 +127,8 @@ fn declarator(
 fn initialisers(
     alloc: Global,
     room: u8,
-    tokens: &[Lexeme],
-) -> Result<(Vec<Initialiser>, u32, &[Lexeme]), Halt>
+    tokens: &[Terminal],
+) -> Result<(Vec<Initialiser>, u32, &[Terminal]), Halt>
     ensures gives { Gives (read_as (listed initialiser_tree)) result (initialisers (initialiser room) (length tokens.now) [] 0 tokens.now) }
     ensures low { IfOk result (λ x. x.1 ≤ room) }
 {
@@ -139,13 +139,13 @@ fn initialisers(
         let (item, high, after) = initialiser(alloc, room, rest)?;
         items.push(item)?;
         height = height.max(high);
-        if starts(Mark::CloseBrace, after) {
-            let behind = expect(Mark::CloseBrace, after)?;
+        if starts(Punctuator::CloseBrace, after) {
+            let behind = expect(Punctuator::CloseBrace, after)?;
             return Ok((items, height, behind));
         }
-        let behind = expect(Mark::Comma, after)?;
-        if starts(Mark::CloseBrace, behind) {
-            let behind = expect(Mark::CloseBrace, behind)?;
+        let behind = expect(Punctuator::Comma, after)?;
+        if starts(Punctuator::CloseBrace, behind) {
+            let behind = expect(Punctuator::CloseBrace, behind)?;
             return Ok((items, height, behind));
         }
         rest = behind;
@@ -154,10 +154,10 @@ fn initialisers(
 }
 
 /// Whether an initialiser begins here.
-fn begins_initialiser(tokens: &[Lexeme]) -> bool
+fn begins_initialiser(tokens: &[Terminal]) -> bool
     ensures { result ≡ begins_initialiser tokens.now }
 {
-    starts(Mark::OpenBrace, tokens) || begins_one(tokens)
+    starts(Punctuator::OpenBrace, tokens) || begins_one(tokens)
 }
 
 /// An initialiser that is at most `room` high (C11 6.7.9).
@@ -166,8 +166,8 @@ fn begins_initialiser(tokens: &[Lexeme]) -> bool
 fn initialiser(
     alloc: Global,
     room: u8,
-    tokens: &[Lexeme],
-) -> Result<(Initialiser, u32, &[Lexeme]), Halt>
+    tokens: &[Terminal],
+) -> Result<(Initialiser, u32, &[Terminal]), Halt>
     ensures gives { Gives (read_as initialiser_tree) result (initialiser room tokens.now) }
     ensures low { IfOk result (λ x. x.1 ≤ room) }
 {
@@ -177,14 +177,14 @@ fn initialiser(
         }
         return Err(Halt::Unexpected(tokens.len()));
     }
-    if !starts(Mark::OpenBrace, tokens) {
+    if !starts(Punctuator::OpenBrace, tokens) {
         let (value, height, rest) = part(alloc, room, Form::Assignment, tokens)?;
         return Ok((expression(value), height, rest));
     }
     if room == 1 {
         return Err(Halt::TooDeep(tokens.len()));
     }
-    let rest = expect(Mark::OpenBrace, tokens)?;
+    let rest = expect(Punctuator::OpenBrace, tokens)?;
     let (items, height, rest) = initialisers(alloc, room - 1, rest)?;
     Ok((list(place(tokens), items), height + 1, rest))
 }
@@ -213,13 +213,13 @@ fn initialised(
     room: u8,
     declarator: Declarator,
     height: u32,
-    tokens: &[Lexeme],
-) -> Result<(Variable, u32, &[Lexeme]), Halt>
+    tokens: &[Terminal],
+) -> Result<(Variable, u32, &[Terminal]), Halt>
     requires low { height ≤ room }
     ensures gives { Gives (read_as variable_tree) result (initialised room (declarator_tree declarator, height) tokens.now) }
     ensures low { IfOk result (λ x. x.1 ≤ room + 1) }
 {
-    if !starts(Mark::Assign, tokens) {
+    if !starts(Punctuator::Assign, tokens) {
         let variable = Variable {
             declarator,
             initialiser: None,
@@ -229,7 +229,7 @@ fn initialised(
     if room == 0 {
         return Err(Halt::TooDeep(tokens.len()));
     }
-    let rest = expect(Mark::Assign, tokens)?;
+    let rest = expect(Punctuator::Assign, tokens)?;
     let (initialiser, high, rest) = initialiser(alloc, room, rest)?;
     let variable = Variable {
         declarator,
@@ -240,7 +240,7 @@ fn initialised(
 
 /// A variable with its initialiser (C11 6.7).
 #[tactic(auto, unfolding(crate::specs::ParseDeclarations::variable))]
-fn variable(alloc: Global, room: u8, tokens: &[Lexeme]) -> Result<(Variable, u32, &[Lexeme]), Halt>
+fn variable(alloc: Global, room: u8, tokens: &[Terminal]) -> Result<(Variable, u32, &[Terminal]), Halt>
     ensures gives { Gives (read_as variable_tree) result (variable room tokens.now) }
     ensures low { IfOk result (λ x. x.1 ≤ room + 1) }
 {
@@ -253,8 +253,8 @@ fn variable(alloc: Global, room: u8, tokens: &[Lexeme]) -> Result<(Variable, u32
 fn variables(
     alloc: Global,
     room: u8,
-    tokens: &[Lexeme],
-) -> Result<(Vec<Variable>, u32, &[Lexeme]), Halt>
+    tokens: &[Terminal],
+) -> Result<(Vec<Variable>, u32, &[Terminal]), Halt>
     ensures gives { Gives (read_as (listed variable_tree)) result (variables room (length tokens.now) [] 0 tokens.now) }
     ensures low { IfOk result (λ x. x.1 ≤ room + 1) }
 {
@@ -265,11 +265,11 @@ fn variables(
         let (item, high, after) = variable(alloc, room, rest)?;
         variables.push(item)?;
         height = height.max(high);
-        if starts(Mark::Semicolon, after) {
-            let behind = expect(Mark::Semicolon, after)?;
+        if starts(Punctuator::Semicolon, after) {
+            let behind = expect(Punctuator::Semicolon, after)?;
             return Ok((variables, height, behind));
         }
-        rest = expect(Mark::Comma, after)?;
+        rest = expect(Punctuator::Comma, after)?;
     }
     Err(Halt::Unexpected(rest.len()))
 }
@@ -279,8 +279,8 @@ pub fn declared(
     alloc: Global,
     room: u8,
     base: Base,
-    tokens: &[Lexeme],
-) -> Result<(Declaration, u32, &[Lexeme]), Halt>
+    tokens: &[Terminal],
+) -> Result<(Declaration, u32, &[Terminal]), Halt>
     ensures gives { Gives (read_as declaration_tree) result (declared room base tokens.now) }
     ensures low { IfOk result (λ x. x.1 ≤ room + 1) }
 {
@@ -293,8 +293,8 @@ pub fn declared(
 fn declaration(
     alloc: Global,
     room: u8,
-    tokens: &[Lexeme],
-) -> Result<(Declaration, u32, &[Lexeme]), Halt>
+    tokens: &[Terminal],
+) -> Result<(Declaration, u32, &[Terminal]), Halt>
     ensures gives { Gives (read_as declaration_tree) result (declaration room tokens.now) }
     ensures low { IfOk result (λ x. x.1 ≤ room + 1) }
 {
@@ -307,8 +307,8 @@ fn declaration(
 pub fn declaration_within(
     alloc: Global,
     room: u8,
-    tokens: &[Lexeme],
-) -> Result<(Declaration, u32, &[Lexeme]), Halt>
+    tokens: &[Terminal],
+) -> Result<(Declaration, u32, &[Terminal]), Halt>
     ensures gives { Gives (read_as declaration_tree) result (declaration_within room tokens.now) }
     ensures low { IfOk result (λ x. x.1 ≤ room) }
 {
@@ -323,8 +323,8 @@ pub fn declaration_within(
 fn declarators(
     alloc: Global,
     room: u8,
-    tokens: &[Lexeme],
-) -> Result<(Vec<Declarator>, u32, &[Lexeme]), Halt>
+    tokens: &[Terminal],
+) -> Result<(Vec<Declarator>, u32, &[Terminal]), Halt>
     ensures gives { Gives (read_as (listed declarator_tree)) result (declarators room (length tokens.now) [] 0 tokens.now) }
     ensures low { IfOk result (λ x. x.1 ≤ room + 1) }
 {
@@ -335,18 +335,18 @@ fn declarators(
         let (item, high, after) = declarator(alloc, room, rest)?;
         declarators.push(item)?;
         height = height.max(high + 1);
-        if starts(Mark::Semicolon, after) {
-            let behind = expect(Mark::Semicolon, after)?;
+        if starts(Punctuator::Semicolon, after) {
+            let behind = expect(Punctuator::Semicolon, after)?;
             return Ok((declarators, height, behind));
         }
-        rest = expect(Mark::Comma, after)?;
+        rest = expect(Punctuator::Comma, after)?;
     }
     Err(Halt::Unexpected(rest.len()))
 }
 
 /// A group of members with their type (C11 6.7.2.1).
 #[tactic(auto, unfolding(crate::specs::ParseDeclarations::members))]
-fn members(alloc: Global, room: u8, tokens: &[Lexeme]) -> Result<(Members, u32, &[Lexeme]), Halt>
+fn members(alloc: Global, room: u8, tokens: &[Terminal]) -> Result<(Members, u32, &[Terminal]), Halt>
     ensures gives { Gives (read_as members_tree) result (members room tokens.now) }
     ensures low { IfOk result (λ x. x.1 ≤ room + 1) }
 {
@@ -360,8 +360,8 @@ fn members(alloc: Global, room: u8, tokens: &[Lexeme]) -> Result<(Members, u32, 
 pub fn groups(
     alloc: Global,
     room: u8,
-    tokens: &[Lexeme],
-) -> Result<(Vec<Members>, u32, &[Lexeme]), Halt>
+    tokens: &[Terminal],
+) -> Result<(Vec<Members>, u32, &[Terminal]), Halt>
     ensures gives { Gives (read_as (listed members_tree)) result (groups room (length tokens.now) [] 0 tokens.now) }
     ensures low { IfOk result (λ x. x.1 ≤ room + 1) }
 {
@@ -372,8 +372,8 @@ pub fn groups(
         let (group, high, after) = members(alloc, room, rest)?;
         groups.push(group)?;
         height = height.max(high);
-        if starts(Mark::CloseBrace, after) {
-            let behind = expect(Mark::CloseBrace, after)?;
+        if starts(Punctuator::CloseBrace, after) {
+            let behind = expect(Punctuator::CloseBrace, after)?;
             return Ok((groups, height, behind));
         }
         rest = after;
@@ -389,8 +389,8 @@ fn bracketed(
     base: Base,
     stars: u32,
     name: Option<Name>,
-    tokens: &[Lexeme],
-) -> Result<(Parameter, u32, &[Lexeme]), Halt>
+    tokens: &[Terminal],
+) -> Result<(Parameter, u32, &[Terminal]), Halt>
     ensures gives { Gives (read_as parameter_tree) result (bracketed room token base stars name tokens.now) }
     ensures low { IfOk result (λ x. x.1 ≤ room + 1) }
 {
@@ -413,13 +413,13 @@ fn with_name(
     start: u32,
     base: Base,
     stars: u32,
-    tokens: &[Lexeme],
-) -> Result<(Parameter, u32, &[Lexeme]), Halt>
+    tokens: &[Terminal],
+) -> Result<(Parameter, u32, &[Terminal]), Halt>
     ensures gives { Gives (read_as parameter_tree) result (with_name room start base stars tokens.now) }
     ensures low { IfOk result (λ x. x.1 ≤ room + 1) }
 {
     match tokens {
-        [Lexeme::Name(at, name), rest @ ..] => {
+        [Terminal::Name(at, name), rest @ ..] => {
             let name = Some(name.copy(alloc)?);
             bracketed(alloc, room, *at, base, stars, name, rest)
         }
@@ -428,20 +428,20 @@ fn with_name(
 }
 
 /// Whether `void` stands here with a comma or a parenthesis behind it.
-fn is_void_alone(tokens: &[Lexeme]) -> bool
+fn is_void_alone(tokens: &[Terminal]) -> bool
     ensures { result ≡ is_void_alone tokens.now }
 {
     match tokens {
         [] => false,
         [first, rest @ ..] => {
             is_keyword(Keyword::Void, first)
-                && (starts(Mark::Comma, rest) || starts(Mark::CloseParenthesis, rest))
+                && (starts(Punctuator::Comma, rest) || starts(Punctuator::CloseParenthesis, rest))
         }
     }
 }
 
 /// What stands behind the first token.
-fn without_first(tokens: &[Lexeme]) -> &[Lexeme]
+fn without_first(tokens: &[Terminal]) -> &[Terminal]
     ensures { result.now ≡ without_first tokens.now }
 {
     match tokens {
@@ -455,8 +455,8 @@ fn without_first(tokens: &[Lexeme]) -> &[Lexeme]
 fn parameter(
     alloc: Global,
     room: u8,
-    tokens: &[Lexeme],
-) -> Result<(Parameter, u32, &[Lexeme]), Halt>
+    tokens: &[Terminal],
+) -> Result<(Parameter, u32, &[Terminal]), Halt>
     ensures gives { Gives (read_as parameter_tree) result (parameter room tokens.now) }
     ensures low { IfOk result (λ x. x.1 ≤ room + 1) }
 {
@@ -473,8 +473,8 @@ fn parameter(
 fn parameters(
     alloc: Global,
     room: u8,
-    tokens: &[Lexeme],
-) -> Result<(Vec<Parameter>, u32, &[Lexeme]), Halt>
+    tokens: &[Terminal],
+) -> Result<(Vec<Parameter>, u32, &[Terminal]), Halt>
     ensures gives { Gives (read_as (listed parameter_tree)) result (parameters room (length tokens.now) [] 0 tokens.now) }
     ensures low { IfOk result (λ x. x.1 ≤ room + 1) }
 {
@@ -485,23 +485,23 @@ fn parameters(
         let (item, high, after) = parameter(alloc, room, rest)?;
         parameters.push(item)?;
         height = height.max(high);
-        if starts(Mark::CloseParenthesis, after) {
-            let behind = expect(Mark::CloseParenthesis, after)?;
+        if starts(Punctuator::CloseParenthesis, after) {
+            let behind = expect(Punctuator::CloseParenthesis, after)?;
             return Ok((parameters, height, behind));
         }
-        rest = expect(Mark::Comma, after)?;
+        rest = expect(Punctuator::Comma, after)?;
     }
     Err(Halt::Unexpected(rest.len()))
 }
 
 /// Whether `void` and a parenthesis stand here.
-fn is_void_head(tokens: &[Lexeme]) -> bool
+fn is_void_head(tokens: &[Terminal]) -> bool
     ensures { result ≡ is_void_head tokens.now }
 {
     match tokens {
         [] => false,
         [first, rest @ ..] => {
-            is_keyword(Keyword::Void, first) && starts(Mark::CloseParenthesis, rest)
+            is_keyword(Keyword::Void, first) && starts(Punctuator::CloseParenthesis, rest)
         }
     }
 }
@@ -511,17 +511,17 @@ fn is_void_head(tokens: &[Lexeme]) -> bool
 pub fn head(
     alloc: Global,
     room: u8,
-    tokens: &[Lexeme],
-) -> Result<(Vec<Parameter>, u32, &[Lexeme]), Halt>
+    tokens: &[Terminal],
+) -> Result<(Vec<Parameter>, u32, &[Terminal]), Halt>
     ensures gives { Gives (read_as (listed parameter_tree)) result (head room tokens.now) }
     ensures low { IfOk result (λ x. x.1 ≤ room + 1) }
 {
-    if starts(Mark::CloseParenthesis, tokens) {
-        let rest = expect(Mark::CloseParenthesis, tokens)?;
+    if starts(Punctuator::CloseParenthesis, tokens) {
+        let rest = expect(Punctuator::CloseParenthesis, tokens)?;
         return Ok((Vec::new(alloc), 0, rest));
     }
     if is_void_head(tokens) {
-        let rest = expect(Mark::CloseParenthesis, without_first(tokens))?;
+        let rest = expect(Punctuator::CloseParenthesis, without_first(tokens))?;
         return Ok((Vec::new(alloc), 0, rest));
     }
     parameters(alloc, room, tokens)

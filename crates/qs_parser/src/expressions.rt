@@ -2,22 +2,22 @@
 // and each answers the expression, how high its reading is, and what stands behind it. An operand that was
 // read before comes with its height, and `start` is the place of its first token.
 ghost use Rattle.std.specs.Prelude.{◌≡◌, ◌+◌, ◌≤◌, length, [], ◌∷◌, Ok, IfOk};
-ghost use Rattle.qs_syntax.specs.declared.lexeme.Lexeme.TheVariants as lexemes;
+ghost use Rattle.qs_syntax.specs.declared.terminal.Terminal.TheVariants as terminals;
 ghost use Rattle.qs_syntax.specs.TreeOf.{expr_tree};
 ghost use Rattle.qs_syntax.specs.Reads.{Assignment};
-ghost use Rattle.qs_parser.specs.Parse.{texts_from, arguments, call_of, after_name, in_parentheses, primary, index_of, member_of, access_at, suffix, suffixes, postfix, step_of, operator_of, size_of, operator_at, unary_of_all, cast_of, cast_or_unary, operations, climb, after_or, after_operand, assignment_of, after_unary, assignment, commas, expression, part};
+ghost use Rattle.qs_parser.specs.Parse.{texts_from, arguments, call_of, after_name, in_parentheses, primary, index_of, member_of, access_at, suffix, suffixes, postfix, step_of, operator_of, size_of, unary_operator_at, unary_of_all, cast_of, cast_or_unary, operations, climb, after_or, after_operand, assignment_of, after_unary, assignment, commas, expression, part};
 ghost use Rattle.qs_parser.specs.Operands.{right_operand};
 ghost use Rattle.qs_parser.specs.View.{Gives, read_as, listed, texts_of, form_of};
 
 use crate::fault::Halt;
 use crate::heads::{
-    access_at, assign_at, begins_cast, begins_one, expect, expect_name, is_mark, level_sign_at,
+    access_at, assign_at, begins_cast, begins_one, expect, expect_name, is_punctuator, level_operator_at,
     place, starts, starts_suffix, starts_with, unary_of,
 };
 use crate::nodes;
 use crate::types::type_name;
 use qs_base::Name;
-use qs_syntax::{Access, AssignSign, Expr, Keyword, Lexeme, Mark, StepSign, Text, UnarySign};
+use qs_syntax::{Access, AssignmentOperator, Expr, Keyword, Terminal, Punctuator, StepOperator, Text, UnaryOperator};
 use std::alloc::Global;
 
 /// What an expression is read as.
@@ -43,13 +43,13 @@ pub enum Form {
 fn texts_from<'a>(
     alloc: Global,
     first: &Text,
-    tokens: &'a [Lexeme],
-) -> Result<(Text, &'a [Lexeme]), Halt>
+    tokens: &'a [Terminal],
+) -> Result<(Text, &'a [Terminal]), Halt>
     ensures { Gives texts_of result (Ok (texts_from first.now tokens.now)) }
 {
     let mut bytes = Vec::from_slice(alloc, first.bytes())?;
     let mut rest = tokens;
-    while let [Lexeme::Text(_, more), after @ ..] = rest {
+    while let [Terminal::Text(_, more), after @ ..] = rest {
         bytes.extend_from_slice(more.bytes())?;
         rest = after;
     }
@@ -63,8 +63,8 @@ pub fn part(
     alloc: Global,
     room: u8,
     form: Form,
-    tokens: &[Lexeme],
-) -> Result<(Expr, u32, &[Lexeme]), Halt>
+    tokens: &[Terminal],
+) -> Result<(Expr, u32, &[Terminal]), Halt>
     ensures gives { Gives (read_as expr_tree) result (part room (form_of form) tokens.now) }
     ensures low { IfOk result (λ x. x.1 ≤ room) }
 {
@@ -84,8 +84,8 @@ fn expression(
     alloc: Global,
     room: u8,
     form: Form,
-    tokens: &[Lexeme],
-) -> Result<(Expr, u32, &[Lexeme]), Halt>
+    tokens: &[Terminal],
+) -> Result<(Expr, u32, &[Terminal]), Halt>
     ensures gives { Gives (read_as expr_tree) result (expression room (part room) (form_of form) tokens.now) }
     ensures low { IfOk result (λ x. x.1 ≤ room + 1) }
 {
@@ -114,8 +114,8 @@ fn expression(
 fn arguments(
     alloc: Global,
     room: u8,
-    tokens: &[Lexeme],
-) -> Result<(Vec<Expr>, u32, &[Lexeme]), Halt>
+    tokens: &[Terminal],
+) -> Result<(Vec<Expr>, u32, &[Terminal]), Halt>
     ensures gives { Gives (read_as (listed expr_tree)) result (arguments room (part room) (length tokens.now) [] 0 tokens.now) }
     ensures low { IfOk result (λ x. x.1 ≤ room) }
 {
@@ -126,11 +126,11 @@ fn arguments(
         let (item, high, after) = part(alloc, room, Form::Assignment, rest)?;
         items.push(item)?;
         height = height.max(high);
-        if starts(Mark::CloseParenthesis, after) {
-            let behind = expect(Mark::CloseParenthesis, after)?;
+        if starts(Punctuator::CloseParenthesis, after) {
+            let behind = expect(Punctuator::CloseParenthesis, after)?;
             return Ok((items, height, behind));
         }
-        rest = expect(Mark::Comma, after)?;
+        rest = expect(Punctuator::Comma, after)?;
     }
     Err(Halt::Unexpected(rest.len()))
 }
@@ -142,13 +142,13 @@ fn call_of(
     room: u8,
     at: u32,
     name: Name,
-    tokens: &[Lexeme],
-) -> Result<(Expr, u32, &[Lexeme]), Halt>
+    tokens: &[Terminal],
+) -> Result<(Expr, u32, &[Terminal]), Halt>
     ensures gives { Gives (read_as expr_tree) result (call_of room (part room) at name tokens.now) }
     ensures low { IfOk result (λ x. x.1 ≤ room + 1) }
 {
-    if starts(Mark::CloseParenthesis, tokens) {
-        let rest = expect(Mark::CloseParenthesis, tokens)?;
+    if starts(Punctuator::CloseParenthesis, tokens) {
+        let rest = expect(Punctuator::CloseParenthesis, tokens)?;
         return Ok((nodes::call(at, name, Vec::new(alloc)), 1, rest));
     }
     let (items, height, rest) = arguments(alloc, room, tokens)?;
@@ -162,13 +162,13 @@ fn after_name(
     room: u8,
     at: u32,
     name: Name,
-    tokens: &[Lexeme],
-) -> Result<(Expr, u32, &[Lexeme]), Halt>
+    tokens: &[Terminal],
+) -> Result<(Expr, u32, &[Terminal]), Halt>
     ensures gives { Gives (read_as expr_tree) result (after_name room (part room) at name tokens.now) }
     ensures low { IfOk result (λ x. x.1 ≤ room + 1) }
 {
-    if starts(Mark::OpenParenthesis, tokens) {
-        let rest = expect(Mark::OpenParenthesis, tokens)?;
+    if starts(Punctuator::OpenParenthesis, tokens) {
+        let rest = expect(Punctuator::OpenParenthesis, tokens)?;
         return call_of(alloc, room, at, name, rest);
     }
     Ok((nodes::name(at, name), 1, tokens))
@@ -179,35 +179,35 @@ fn after_name(
 fn in_parentheses(
     alloc: Global,
     room: u8,
-    tokens: &[Lexeme],
-) -> Result<(Expr, u32, &[Lexeme]), Halt>
+    tokens: &[Terminal],
+) -> Result<(Expr, u32, &[Terminal]), Halt>
     ensures gives { Gives (read_as expr_tree) result (in_parentheses room (part room) tokens.now) }
     ensures low { IfOk result (λ x. x.1 ≤ room + 1) }
 {
     let (inner, height, rest) = part(alloc, room, Form::Expression, tokens)?;
-    let rest = expect(Mark::CloseParenthesis, rest)?;
+    let rest = expect(Punctuator::CloseParenthesis, rest)?;
     Ok((inner, height + 1, rest))
 }
 
 /// An operand without suffixes (C11 6.5.1), or a call.
 #[cycle(parser)]
 #[tactic(auto, unfolding(crate::specs::Parse::primary))]
-fn primary(alloc: Global, room: u8, tokens: &[Lexeme]) -> Result<(Expr, u32, &[Lexeme]), Halt>
+fn primary(alloc: Global, room: u8, tokens: &[Terminal]) -> Result<(Expr, u32, &[Terminal]), Halt>
     ensures gives { Gives (read_as expr_tree) result (primary room (part room) tokens.now) }
     ensures low { IfOk result (λ x. x.1 ≤ room + 1) }
 {
     match tokens {
-        [Lexeme::Name(at, name), rest @ ..] => {
+        [Terminal::Name(at, name), rest @ ..] => {
             after_name(alloc, room, *at, name.copy(alloc)?, rest)
         }
-        [Lexeme::Constant(at, value, is_unsigned), rest @ ..] => {
+        [Terminal::Constant(at, value, is_unsigned), rest @ ..] => {
             Ok((nodes::int(*at, *value, *is_unsigned), 1, rest))
         }
-        [Lexeme::Text(at, first), rest @ ..] => {
+        [Terminal::Text(at, first), rest @ ..] => {
             let (text, rest) = texts_from(alloc, first, rest)?;
             Ok((nodes::text(*at, text), 1, rest))
         }
-        [Lexeme::Mark(..), rest @ ..] if starts(Mark::OpenParenthesis, tokens) => {
+        [Terminal::Punctuator(..), rest @ ..] if starts(Punctuator::OpenParenthesis, tokens) => {
             if room == 0 {
                 return Err(Halt::TooDeep(tokens.len()));
             }
@@ -225,14 +225,14 @@ fn index_of(
     start: u32,
     left: Expr,
     height: u32,
-    tokens: &[Lexeme],
-) -> Result<(Expr, u32, &[Lexeme]), Halt>
+    tokens: &[Terminal],
+) -> Result<(Expr, u32, &[Terminal]), Halt>
     requires low { height ≤ room }
     ensures gives { Gives (read_as expr_tree) result (index_of room (part room) start (expr_tree left, height) tokens.now) }
     ensures low { IfOk result (λ x. x.1 ≤ room + 1) }
 {
     let (at, high, rest) = part(alloc, room, Form::Expression, tokens)?;
-    let rest = expect(Mark::CloseBracket, rest)?;
+    let rest = expect(Punctuator::CloseBracket, rest)?;
     Ok((
         nodes::index(alloc, start, left, at)?,
         height.max(high) + 1,
@@ -248,8 +248,8 @@ fn member_of(
     left: Expr,
     height: u32,
     access: Access,
-    tokens: &[Lexeme],
-) -> Result<(Expr, u32, &[Lexeme]), Halt>
+    tokens: &[Terminal],
+) -> Result<(Expr, u32, &[Terminal]), Halt>
     requires low { height ≤ room }
     ensures gives { Gives (read_as expr_tree) result (member_of room (part room) start (expr_tree left, height) access tokens.now) }
     ensures low { IfOk result (λ x. x.1 ≤ room + 1) }
@@ -270,8 +270,8 @@ fn suffix(
     start: u32,
     left: Expr,
     height: u32,
-    tokens: &[Lexeme],
-) -> Result<(Expr, u32, &[Lexeme]), Halt>
+    tokens: &[Terminal],
+) -> Result<(Expr, u32, &[Terminal]), Halt>
     requires low { height ≤ room }
     ensures gives { Gives (read_as expr_tree) result (suffix room (part room) start (expr_tree left, height) tokens.now) }
     ensures low { IfOk result (λ x. x.1 ≤ room + 1) }
@@ -279,15 +279,15 @@ fn suffix(
     let [first, rest @ ..] = tokens else {
         return Err(Halt::Unexpected(0));
     };
-    if is_mark(Mark::OpenBracket, first) {
+    if is_punctuator(Punctuator::OpenBracket, first) {
         return index_of(alloc, room, start, left, height, rest);
     }
-    if is_mark(Mark::Increment, first) {
-        let node = nodes::step(alloc, start, StepSign::IncrementAfter, left)?;
+    if is_punctuator(Punctuator::Increment, first) {
+        let node = nodes::step(alloc, start, StepOperator::IncrementAfter, left)?;
         return Ok((node, height + 1, rest));
     }
-    if is_mark(Mark::Decrement, first) {
-        let node = nodes::step(alloc, start, StepSign::DecrementAfter, left)?;
+    if is_punctuator(Punctuator::Decrement, first) {
+        let node = nodes::step(alloc, start, StepOperator::DecrementAfter, left)?;
         return Ok((node, height + 1, rest));
     }
     match access_at(tokens) {
@@ -305,8 +305,8 @@ fn suffixes(
     start: u32,
     left: Expr,
     height: u32,
-    tokens: &[Lexeme],
-) -> Result<(Expr, u32, &[Lexeme]), Halt>
+    tokens: &[Terminal],
+) -> Result<(Expr, u32, &[Terminal]), Halt>
     requires low { height ≤ room + 1 }
     ensures gives { Gives (read_as expr_tree) result (suffixes room (part room) (length tokens.now) start (expr_tree left, height) tokens.now) }
     ensures low { IfOk result (λ x. x.1 ≤ room + 1) }
@@ -331,7 +331,7 @@ fn suffixes(
 
 /// An operand with its suffixes (C11 6.5.2).
 #[cycle(parser)]
-fn postfix(alloc: Global, room: u8, tokens: &[Lexeme]) -> Result<(Expr, u32, &[Lexeme]), Halt>
+fn postfix(alloc: Global, room: u8, tokens: &[Terminal]) -> Result<(Expr, u32, &[Terminal]), Halt>
     ensures gives { Gives (read_as expr_tree) result (postfix room (part room) tokens.now) }
     ensures low { IfOk result (λ x. x.1 ≤ room + 1) }
 {
@@ -339,36 +339,36 @@ fn postfix(alloc: Global, room: u8, tokens: &[Lexeme]) -> Result<(Expr, u32, &[L
     suffixes(alloc, room, place(tokens), operand, height, rest)
 }
 
-/// A step by one, behind its sign (C11 6.5.3.1).
+/// A step by one, behind its operator (C11 6.5.3.1).
 #[cycle(parser)]
 fn step_of(
     alloc: Global,
     room: u8,
     at: u32,
-    sign: StepSign,
-    tokens: &[Lexeme],
-) -> Result<(Expr, u32, &[Lexeme]), Halt>
-    ensures gives { Gives (read_as expr_tree) result (step_of room (part room) at sign tokens.now) }
+    operator: StepOperator,
+    tokens: &[Terminal],
+) -> Result<(Expr, u32, &[Terminal]), Halt>
+    ensures gives { Gives (read_as expr_tree) result (step_of room (part room) at operator tokens.now) }
     ensures low { IfOk result (λ x. x.1 ≤ room + 1) }
 {
     let (operand, height, rest) = part(alloc, room, Form::Unary, tokens)?;
-    Ok((nodes::step(alloc, at, sign, operand)?, height + 1, rest))
+    Ok((nodes::step(alloc, at, operator, operand)?, height + 1, rest))
 }
 
-/// A unary operator, behind its sign (C11 6.5.3.2, 6.5.3.3).
+/// An operand, behind its unary operator (C11 6.5.3.2, 6.5.3.3).
 #[cycle(parser)]
 fn operator_of(
     alloc: Global,
     room: u8,
     at: u32,
-    sign: UnarySign,
-    tokens: &[Lexeme],
-) -> Result<(Expr, u32, &[Lexeme]), Halt>
-    ensures gives { Gives (read_as expr_tree) result (operator_of room (part room) at sign tokens.now) }
+    operator: UnaryOperator,
+    tokens: &[Terminal],
+) -> Result<(Expr, u32, &[Terminal]), Halt>
+    ensures gives { Gives (read_as expr_tree) result (operator_of room (part room) at operator tokens.now) }
     ensures low { IfOk result (λ x. x.1 ≤ room + 1) }
 {
     let (operand, height, rest) = part(alloc, room, Form::Level(0), tokens)?;
-    Ok((nodes::unary(alloc, at, sign, operand)?, height + 1, rest))
+    Ok((nodes::unary(alloc, at, operator, operand)?, height + 1, rest))
 }
 
 /// The operand of `sizeof`: a type in parentheses, or an expression (C11 6.5.3.4).
@@ -377,53 +377,53 @@ fn size_of(
     alloc: Global,
     room: u8,
     at: u32,
-    tokens: &[Lexeme],
-) -> Result<(Expr, u32, &[Lexeme]), Halt>
+    tokens: &[Terminal],
+) -> Result<(Expr, u32, &[Terminal]), Halt>
     ensures gives { Gives (read_as expr_tree) result (size_of room (part room) at tokens.now) }
     ensures low { IfOk result (λ x. x.1 ≤ room + 1) }
 {
     if begins_cast(tokens) {
-        let rest = expect(Mark::OpenParenthesis, tokens)?;
+        let rest = expect(Punctuator::OpenParenthesis, tokens)?;
         let (name, rest) = type_name(alloc, rest)?;
-        let rest = expect(Mark::CloseParenthesis, rest)?;
+        let rest = expect(Punctuator::CloseParenthesis, rest)?;
         return Ok((nodes::size_type(at, name), 1, rest));
     }
     let (operand, height, rest) = part(alloc, room, Form::Unary, tokens)?;
     Ok((nodes::size_expr(alloc, at, operand)?, height + 1, rest))
 }
 
-/// A unary expression whose first token is a mark.
+/// A unary expression whose first token is a punctuator.
 #[cycle(parser)]
 #[tactic(auto, unfolding(crate::specs::Parse::unary_of_all))]
 fn marked<'a>(
     alloc: Global,
     room: u8,
     at: u32,
-    mark: Mark,
-    tokens: &'a [Lexeme],
-    rest: &'a [Lexeme],
-) -> Result<(Expr, u32, &'a [Lexeme]), Halt>
-    requires first { tokens.now ≡ lexemes.Mark at mark ∷ rest.now }
+    punctuator: Punctuator,
+    tokens: &'a [Terminal],
+    rest: &'a [Terminal],
+) -> Result<(Expr, u32, &'a [Terminal]), Halt>
+    requires first { tokens.now ≡ terminals.Punctuator at punctuator ∷ rest.now }
     ensures gives { Gives (read_as expr_tree) result (unary_of_all room (part room) tokens.now) }
     ensures low { IfOk result (λ x. x.1 ≤ room + 1) }
 {
-    let is_increment = starts(Mark::Increment, tokens);
-    let is_decrement = starts(Mark::Decrement, tokens);
-    let sign = unary_of(mark);
-    if !is_increment && !is_decrement && sign.is_none() {
+    let is_increment = starts(Punctuator::Increment, tokens);
+    let is_decrement = starts(Punctuator::Decrement, tokens);
+    let operator = unary_of(punctuator);
+    if !is_increment && !is_decrement && operator.is_none() {
         return postfix(alloc, room, tokens);
     }
     if room == 0 {
         return Err(Halt::TooDeep(tokens.len()));
     }
     if is_increment {
-        return step_of(alloc, room, at, StepSign::IncrementBefore, rest);
+        return step_of(alloc, room, at, StepOperator::IncrementBefore, rest);
     }
     if is_decrement {
-        return step_of(alloc, room, at, StepSign::DecrementBefore, rest);
+        return step_of(alloc, room, at, StepOperator::DecrementBefore, rest);
     }
-    match sign {
-        Some(sign) => operator_of(alloc, room, at, sign, rest),
+    match operator {
+        Some(operator) => operator_of(alloc, room, at, operator, rest),
         None => postfix(alloc, room, tokens),
     }
 }
@@ -431,13 +431,13 @@ fn marked<'a>(
 /// A unary expression (C11 6.5.3).
 #[cycle(parser)]
 #[tactic(auto, unfolding(crate::specs::Parse::unary_of_all))]
-fn unary(alloc: Global, room: u8, tokens: &[Lexeme]) -> Result<(Expr, u32, &[Lexeme]), Halt>
+fn unary(alloc: Global, room: u8, tokens: &[Terminal]) -> Result<(Expr, u32, &[Terminal]), Halt>
     ensures gives { Gives (read_as expr_tree) result (unary_of_all room (part room) tokens.now) }
     ensures low { IfOk result (λ x. x.1 ≤ room + 1) }
 {
     match tokens {
         [] => Err(Halt::Unexpected(0)),
-        [Lexeme::Keyword(at, _), rest @ ..] => {
+        [Terminal::Keyword(at, _), rest @ ..] => {
             if !starts_with(Keyword::Sizeof, tokens) {
                 return Err(Halt::Unexpected(tokens.len()));
             }
@@ -446,7 +446,7 @@ fn unary(alloc: Global, room: u8, tokens: &[Lexeme]) -> Result<(Expr, u32, &[Lex
             }
             size_of(alloc, room, *at, rest)
         }
-        [Lexeme::Mark(at, mark), rest @ ..] => marked(alloc, room, *at, *mark, tokens, rest),
+        [Terminal::Punctuator(at, punctuator), rest @ ..] => marked(alloc, room, *at, *punctuator, tokens, rest),
         _ => postfix(alloc, room, tokens),
     }
 }
@@ -457,20 +457,20 @@ fn cast_of(
     alloc: Global,
     room: u8,
     at: u32,
-    tokens: &[Lexeme],
-) -> Result<(Expr, u32, &[Lexeme]), Halt>
+    tokens: &[Terminal],
+) -> Result<(Expr, u32, &[Terminal]), Halt>
     ensures gives { Gives (read_as expr_tree) result (cast_of room (part room) at tokens.now) }
     ensures low { IfOk result (λ x. x.1 ≤ room + 1) }
 {
     let (to, rest) = type_name(alloc, tokens)?;
-    let rest = expect(Mark::CloseParenthesis, rest)?;
+    let rest = expect(Punctuator::CloseParenthesis, rest)?;
     let (operand, height, rest) = part(alloc, room, Form::Level(0), rest)?;
     Ok((nodes::cast(alloc, at, to, operand)?, height + 1, rest))
 }
 
 /// A cast or a unary expression (C11 6.5.4).
 #[cycle(parser)]
-fn cast_or_unary(alloc: Global, room: u8, tokens: &[Lexeme]) -> Result<(Expr, u32, &[Lexeme]), Halt>
+fn cast_or_unary(alloc: Global, room: u8, tokens: &[Terminal]) -> Result<(Expr, u32, &[Terminal]), Halt>
     ensures gives { Gives (read_as expr_tree) result (cast_or_unary room (part room) tokens.now) }
     ensures low { IfOk result (λ x. x.1 ≤ room + 1) }
 {
@@ -480,7 +480,7 @@ fn cast_or_unary(alloc: Global, room: u8, tokens: &[Lexeme]) -> Result<(Expr, u3
     if room == 0 {
         return Err(Halt::TooDeep(tokens.len()));
     }
-    let rest = expect(Mark::OpenParenthesis, tokens)?;
+    let rest = expect(Punctuator::OpenParenthesis, tokens)?;
     cast_of(alloc, room, place(tokens), rest)
 }
 
@@ -490,8 +490,8 @@ fn right_operand(
     alloc: Global,
     room: u8,
     level: u8,
-    tokens: &[Lexeme],
-) -> Result<(Expr, u32, &[Lexeme]), Halt>
+    tokens: &[Terminal],
+) -> Result<(Expr, u32, &[Terminal]), Halt>
     ensures gives { Gives (read_as expr_tree) result (right_operand (part room) level tokens.now) }
     ensures low { IfOk result (λ x. x.1 ≤ room) }
 {
@@ -511,8 +511,8 @@ fn operations(
     start: u32,
     left: Expr,
     height: u32,
-    tokens: &[Lexeme],
-) -> Result<(Expr, u32, &[Lexeme]), Halt>
+    tokens: &[Terminal],
+) -> Result<(Expr, u32, &[Terminal]), Halt>
     requires low { height ≤ room + 1 }
     ensures gives { Gives (read_as expr_tree) result (operations room (part room) (length tokens.now) level start (expr_tree left, height) tokens.now) }
     ensures low { IfOk result (λ x. x.1 ≤ room + 1) }
@@ -521,14 +521,14 @@ fn operations(
     let mut height = height;
     let mut rest = tokens;
     for _ in 0..tokens.len() {
-        let Some(sign) = level_sign_at(level, rest) else {
+        let Some(operator) = level_operator_at(level, rest) else {
             return Ok((left, height, rest));
         };
         if height > u32::from(room) {
             return Err(Halt::TooDeep(rest.len()));
         }
         let (right, high, after) = right_operand(alloc, room, level, rest)?;
-        left = nodes::binary(alloc, start, sign, left, right)?;
+        left = nodes::binary(alloc, start, operator, left, right)?;
         height = height.max(high) + 1;
         rest = after;
     }
@@ -545,8 +545,8 @@ fn climb(
     start: u32,
     left: Expr,
     height: u32,
-    tokens: &[Lexeme],
-) -> Result<(Expr, u32, &[Lexeme]), Halt>
+    tokens: &[Terminal],
+) -> Result<(Expr, u32, &[Terminal]), Halt>
     requires low { height ≤ room + 1 }
     ensures gives { Gives (read_as expr_tree) result (climb room (part room) level start (expr_tree left, height) tokens.now) }
     ensures low { IfOk result (λ x. x.1 ≤ room + 1) }
@@ -566,21 +566,21 @@ fn after_or(
     start: u32,
     condition: Expr,
     height: u32,
-    tokens: &[Lexeme],
-) -> Result<(Expr, u32, &[Lexeme]), Halt>
+    tokens: &[Terminal],
+) -> Result<(Expr, u32, &[Terminal]), Halt>
     requires low { height ≤ room + 1 }
     ensures gives { Gives (read_as expr_tree) result (after_or room (part room) start (expr_tree condition, height) tokens.now) }
     ensures low { IfOk result (λ x. x.1 ≤ room + 1) }
 {
-    if !starts(Mark::Question, tokens) {
+    if !starts(Punctuator::Question, tokens) {
         return Ok((condition, height, tokens));
     }
     if height > u32::from(room) {
         return Err(Halt::TooDeep(tokens.len()));
     }
-    let rest = expect(Mark::Question, tokens)?;
+    let rest = expect(Punctuator::Question, tokens)?;
     let (yes, yes_high, rest) = part(alloc, room, Form::Expression, rest)?;
-    let rest = expect(Mark::Colon, rest)?;
+    let rest = expect(Punctuator::Colon, rest)?;
     let (no, no_high, rest) = part(alloc, room, Form::Conditional, rest)?;
     let node = nodes::choice(alloc, start, condition, yes, no)?;
     Ok((node, height.max(yes_high.max(no_high)) + 1, rest))
@@ -594,8 +594,8 @@ fn after_operand(
     start: u32,
     left: Expr,
     height: u32,
-    tokens: &[Lexeme],
-) -> Result<(Expr, u32, &[Lexeme]), Halt>
+    tokens: &[Terminal],
+) -> Result<(Expr, u32, &[Terminal]), Halt>
     requires low { height ≤ room + 1 }
     ensures gives { Gives (read_as expr_tree) result (after_operand room (part room) start (expr_tree left, height) tokens.now) }
     ensures low { IfOk result (λ x. x.1 ≤ room + 1) }
@@ -612,14 +612,14 @@ fn assignment_of(
     start: u32,
     left: Expr,
     height: u32,
-    sign: Option<AssignSign>,
-    tokens: &[Lexeme],
-) -> Result<(Expr, u32, &[Lexeme]), Halt>
+    operator: Option<AssignmentOperator>,
+    tokens: &[Terminal],
+) -> Result<(Expr, u32, &[Terminal]), Halt>
     requires low { height ≤ room + 1 }
-    ensures gives { Gives (read_as expr_tree) result (assignment_of room (part room) start (expr_tree left, height) sign tokens.now) }
+    ensures gives { Gives (read_as expr_tree) result (assignment_of room (part room) start (expr_tree left, height) operator tokens.now) }
     ensures low { IfOk result (λ x. x.1 ≤ room + 1) }
 {
-    let Some(sign) = sign else {
+    let Some(operator) = operator else {
         return after_operand(alloc, room, start, left, height, tokens);
     };
     let [_, rest @ ..] = tokens else {
@@ -629,7 +629,7 @@ fn assignment_of(
         return Err(Halt::TooDeep(tokens.len()));
     }
     let (right, high, rest) = part(alloc, room, Form::Assignment, rest)?;
-    let node = nodes::assign(alloc, start, sign, left, right)?;
+    let node = nodes::assign(alloc, start, operator, left, right)?;
     Ok((node, height.max(high) + 1, rest))
 }
 
@@ -641,8 +641,8 @@ fn after_unary(
     start: u32,
     left: Expr,
     height: u32,
-    tokens: &[Lexeme],
-) -> Result<(Expr, u32, &[Lexeme]), Halt>
+    tokens: &[Terminal],
+) -> Result<(Expr, u32, &[Terminal]), Halt>
     requires low { height ≤ room + 1 }
     ensures gives { Gives (read_as expr_tree) result (after_unary room (part room) start (expr_tree left, height) tokens.now) }
     ensures low { IfOk result (λ x. x.1 ≤ room + 1) }
@@ -652,7 +652,7 @@ fn after_unary(
 
 /// An assignment expression (C11 6.5.16).
 #[cycle(parser)]
-fn assignment(alloc: Global, room: u8, tokens: &[Lexeme]) -> Result<(Expr, u32, &[Lexeme]), Halt>
+fn assignment(alloc: Global, room: u8, tokens: &[Terminal]) -> Result<(Expr, u32, &[Terminal]), Halt>
     ensures gives { Gives (read_as expr_tree) result (assignment room (part room) tokens.now) }
     ensures low { IfOk result (λ x. x.1 ≤ room + 1) }
 {
@@ -673,8 +673,8 @@ fn commas(
     start: u32,
     left: Expr,
     height: u32,
-    tokens: &[Lexeme],
-) -> Result<(Expr, u32, &[Lexeme]), Halt>
+    tokens: &[Terminal],
+) -> Result<(Expr, u32, &[Terminal]), Halt>
     requires low { height ≤ room + 1 }
     ensures gives { Gives (read_as expr_tree) result (commas room (part room) (length tokens.now) start (expr_tree left, height) tokens.now) }
     ensures low { IfOk result (λ x. x.1 ≤ room + 1) }
@@ -683,13 +683,13 @@ fn commas(
     let mut height = height;
     let mut rest = tokens;
     for _ in 0..tokens.len() {
-        if !starts(Mark::Comma, rest) {
+        if !starts(Punctuator::Comma, rest) {
             return Ok((left, height, rest));
         }
         if height > u32::from(room) {
             return Err(Halt::TooDeep(rest.len()));
         }
-        let behind = expect(Mark::Comma, rest)?;
+        let behind = expect(Punctuator::Comma, rest)?;
         let (right, high, after) = part(alloc, room, Form::Assignment, behind)?;
         left = nodes::comma(alloc, start, left, right)?;
         height = height.max(high) + 1;

@@ -4,7 +4,7 @@ ghost use Rattle.qs_syntax.specs.Trees.{expr, int, text, name, size_type, unary,
 ghost use Rattle.qs_syntax.specs.TreeOf.{expr_tree};
 
 use qs_base::Name;
-use qs_syntax::{Access, AssignSign, BinarySign, Expr, Shape, StepSign, Text, TypeName, UnarySign};
+use qs_syntax::{Access, AssignmentOperator, BinaryOperator, Expr, Shape, StepOperator, Text, TypeName, UnaryOperator};
 use std::alloc::{AllocError, Global};
 
 /// A number or character.
@@ -52,26 +52,26 @@ pub fn size_type(token: u32, of: TypeName) -> Expr
 }
 
 /// A unary operator and its operand.
-pub fn unary(alloc: Global, token: u32, sign: UnarySign, part: Expr) -> Result<Expr, AllocError>
-    ensures { IfOk result (λ e. expr_tree e ≡ expr 0 token (unary sign (expr_tree part))) }
+pub fn unary(alloc: Global, token: u32, operator: UnaryOperator, part: Expr) -> Result<Expr, AllocError>
+    ensures { IfOk result (λ e. expr_tree e ≡ expr 0 token (unary operator (expr_tree part))) }
 {
     let part = Box::new(alloc, part)?;
     Ok(Expr {
         id: 0,
         token,
-        shape: Shape::Unary(sign, part),
+        shape: Shape::Unary(operator, part),
     })
 }
 
 /// A step by one and its operand.
-pub fn step(alloc: Global, token: u32, sign: StepSign, part: Expr) -> Result<Expr, AllocError>
-    ensures { IfOk result (λ e. expr_tree e ≡ expr 0 token (step sign (expr_tree part))) }
+pub fn step(alloc: Global, token: u32, operator: StepOperator, part: Expr) -> Result<Expr, AllocError>
+    ensures { IfOk result (λ e. expr_tree e ≡ expr 0 token (step operator (expr_tree part))) }
 {
     let part = Box::new(alloc, part)?;
     Ok(Expr {
         id: 0,
         token,
-        shape: Shape::Step(sign, part),
+        shape: Shape::Step(operator, part),
     })
 }
 
@@ -103,18 +103,18 @@ pub fn size_expr(alloc: Global, token: u32, part: Expr) -> Result<Expr, AllocErr
 pub fn binary(
     alloc: Global,
     token: u32,
-    sign: BinarySign,
+    operator: BinaryOperator,
     left: Expr,
     right: Expr,
 ) -> Result<Expr, AllocError>
-    ensures { IfOk result (λ e. expr_tree e ≡ expr 0 token (binary sign (expr_tree left) (expr_tree right))) }
+    ensures { IfOk result (λ e. expr_tree e ≡ expr 0 token (binary operator (expr_tree left) (expr_tree right))) }
 {
     let left = Box::new(alloc, left)?;
     let right = Box::new(alloc, right)?;
     Ok(Expr {
         id: 0,
         token,
-        shape: Shape::Binary(sign, left, right),
+        shape: Shape::Binary(operator, left, right),
     })
 }
 
@@ -122,18 +122,18 @@ pub fn binary(
 pub fn assign(
     alloc: Global,
     token: u32,
-    sign: AssignSign,
+    operator: AssignmentOperator,
     left: Expr,
     right: Expr,
 ) -> Result<Expr, AllocError>
-    ensures { IfOk result (λ e. expr_tree e ≡ expr 0 token (assign sign (expr_tree left) (expr_tree right))) }
+    ensures { IfOk result (λ e. expr_tree e ≡ expr 0 token (assign operator (expr_tree left) (expr_tree right))) }
 {
     let left = Box::new(alloc, left)?;
     let right = Box::new(alloc, right)?;
     Ok(Expr {
         id: 0,
         token,
-        shape: Shape::Assign(sign, left, right),
+        shape: Shape::Assign(operator, left, right),
     })
 }
 

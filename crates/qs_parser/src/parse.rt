@@ -1,32 +1,32 @@
 // From tokens to a unit.
 ghost use Rattle.std.specs.Prelude.{◌≡◌, ◌≤◌, ◌<◌, ◌^◌, ℕ, List, true, length};
 ghost use Rattle.std.specs.List.{list_all};
-ghost use Rattle.qs_syntax.specs.Units.{is_lexeme};
+ghost use Rattle.qs_syntax.specs.Units.{is_terminal};
 ghost use Rattle.qs_syntax.specs.Trees.{DeclTree};
 ghost use Rattle.qs_syntax.specs.ReadsUnits.{ReadsUnit};
-ghost use Rattle.qs_syntax.specs.declared.lexeme.Lexeme.{Lexeme};
+ghost use Rattle.qs_syntax.specs.declared.terminal.Terminal.{Terminal};
 ghost use Rattle.qs_lexer.specs.Tokens.{Tokens};
-ghost use Rattle.qs_lexer.specs.Lexemes.{lexemes};
+ghost use Rattle.qs_lexer.specs.Terminals.{terminals};
 ghost use Rattle.qs_parser.specs.Answers.{Answers};
 
 use crate::fault::Halt;
 use crate::syntax_fault::SyntaxFault;
 use crate::units::read_unit;
-use qs_lexer::lexemes;
-use qs_syntax::{Lexeme, Token, Unit, numbered};
+use qs_lexer::terminals;
+use qs_syntax::{Terminal, Token, Unit, numbered};
 use std::alloc::Global;
 
 /// The number of the token at which this many are left of these.
-fn number_of(tokens: &[Lexeme], left: usize) -> u32
+fn number_of(tokens: &[Terminal], left: usize) -> u32
     requires { length tokens.now < 2 ^ 32 }
     ensures { result ≤ length tokens.now }
 {
     tokens.len().saturating_sub(left) as u32
 }
 
-/// The unit that these lexemes are read as.
-fn unit_of(alloc: Global, tokens: &[Lexeme]) -> Result<Unit, SyntaxFault>
-    requires tokens { list_all is_lexeme tokens.now ≡ true }
+/// The unit that these terminals are read as.
+fn unit_of(alloc: Global, tokens: &[Terminal]) -> Result<Unit, SyntaxFault>
+    requires tokens { list_all is_terminal tokens.now ≡ true }
     requires few { length tokens.now < 2 ^ 32 }
     ensures { Answers tokens.now result }
 {
@@ -43,13 +43,13 @@ fn unit_of(alloc: Global, tokens: &[Lexeme]) -> Result<Unit, SyntaxFault>
 pub fn unit(alloc: Global, text: &[u8], tokens: &[Token]) -> Result<Unit, SyntaxFault>
     requires tokens { Tokens text.now tokens.now }
     requires limit { length text.now ≤ 1048576 }
-    ensures { Answers (lexemes text.now 0 tokens.now) result }
+    ensures { Answers (terminals text.now 0 tokens.now) result }
 {
-    let seen = lexemes(alloc, text, tokens)?;
+    let seen = terminals(alloc, text, tokens)?;
     unit_of(alloc, &seen)
 }
 
 /// Tokens have at most one reading as a unit: a law, for what its clause says.
 pub fn one_reading()
-    ensures { (tokens : List Lexeme) (ds es : List DeclTree) (h k : ℕ) → ReadsUnit h tokens ds → ReadsUnit k tokens es → (ds ≡ es) × (h ≡ k) }
+    ensures { (tokens : List Terminal) (ds es : List DeclTree) (h k : ℕ) → ReadsUnit h tokens ds → ReadsUnit k tokens es → (ds ≡ es) × (h ≡ k) }
 {}

@@ -2,7 +2,7 @@
 // answers what is read, how high it is, and what stands behind it. `at` is the place of a first token.
 ghost use Rattle.std.specs.Prelude.{◌≡◌, ◌+◌, ◌≤◌, ◌||◌, length, [], ◌∷◌, IfOk, option_map};
 ghost use Rattle.qs_syntax.specs.declared.tokens.Keyword.TheVariants as keywords;
-ghost use Rattle.qs_syntax.specs.Signs.{number_of};
+ghost use Rattle.qs_syntax.specs.Operators.{number_of};
 ghost use Rattle.qs_parser.specs.Heads.{is_keyword};
 ghost use Rattle.qs_syntax.specs.TreeOf.{expr_tree, option_tree, start_tree, stmt_tree};
 ghost use Rattle.qs_parser.specs.ParseStatements.{optional, condition, start_of, begins_statement, item, items, in_block, otherwise, after_if, after_while, expect_while, after_do, after_for, after_return, running, plain_statement, keyword_statement, statement_at, statement};
@@ -12,43 +12,43 @@ use crate::declarations::declaration_within;
 use crate::expressions::{Form, part};
 use crate::fault::Halt;
 use crate::heads::{
-    begins_one, begins_type, expect, is_keyword, is_mark, place, starts, starts_with,
+    begins_one, begins_type, expect, is_keyword, is_punctuator, place, starts, starts_with,
 };
 use crate::statement_nodes as nodes;
-use qs_syntax::{Expr, Keyword, Lexeme, Mark, Start, Stmt};
+use qs_syntax::{Expr, Keyword, Terminal, Punctuator, Start, Stmt};
 use std::alloc::Global;
 
-/// An expression, if there is one, and the mark behind it.
+/// An expression, if there is one, and the punctuator behind it.
 fn optional(
     alloc: Global,
     room: u8,
-    mark: Mark,
-    tokens: &[Lexeme],
-) -> Result<(Option<Expr>, u32, &[Lexeme]), Halt>
-    ensures gives { Gives (read_as option_tree) result (optional room mark tokens.now) }
+    punctuator: Punctuator,
+    tokens: &[Terminal],
+) -> Result<(Option<Expr>, u32, &[Terminal]), Halt>
+    ensures gives { Gives (read_as option_tree) result (optional room punctuator tokens.now) }
     ensures low { IfOk result (λ x. x.1 ≤ room) }
 {
-    if starts(mark, tokens) {
-        return Ok((None, 0, expect(mark, tokens)?));
+    if starts(punctuator, tokens) {
+        return Ok((None, 0, expect(punctuator, tokens)?));
     }
     let (expression, height, rest) = part(alloc, room, Form::Expression, tokens)?;
-    let rest = expect(mark, rest)?;
+    let rest = expect(punctuator, rest)?;
     Ok((Some(expression), height, rest))
 }
 
 /// An expression in parentheses.
-fn condition(alloc: Global, room: u8, tokens: &[Lexeme]) -> Result<(Expr, u32, &[Lexeme]), Halt>
+fn condition(alloc: Global, room: u8, tokens: &[Terminal]) -> Result<(Expr, u32, &[Terminal]), Halt>
     ensures gives { Gives (read_as expr_tree) result (condition room tokens.now) }
     ensures low { IfOk result (λ x. x.1 ≤ room) }
 {
-    let rest = expect(Mark::OpenParenthesis, tokens)?;
+    let rest = expect(Punctuator::OpenParenthesis, tokens)?;
     let (expression, height, rest) = part(alloc, room, Form::Expression, rest)?;
-    let rest = expect(Mark::CloseParenthesis, rest)?;
+    let rest = expect(Punctuator::CloseParenthesis, rest)?;
     Ok((expression, height, rest))
 }
 
 /// What a `for` begins with, and the semicolon behind it (C11 6.8.5.3).
-fn start_of(alloc: Global, room: u8, tokens: &[Lexeme]) -> Result<(Start, u32, &[Lexeme]), Halt>
+fn start_of(alloc: Global, room: u8, tokens: &[Terminal]) -> Result<(Start, u32, &[Terminal]), Halt>
     ensures gives { Gives (read_as start_tree) result (start_of room tokens.now) }
     ensures low { IfOk result (λ x. x.1 ≤ room) }
 {
@@ -56,21 +56,21 @@ fn start_of(alloc: Global, room: u8, tokens: &[Lexeme]) -> Result<(Start, u32, &
         let (declaration, height, rest) = declaration_within(alloc, room, tokens)?;
         return Ok((Start::Declaration(declaration), height, rest));
     }
-    if starts(Mark::Semicolon, tokens) {
-        return Ok((Start::Nothing, 0, expect(Mark::Semicolon, tokens)?));
+    if starts(Punctuator::Semicolon, tokens) {
+        return Ok((Start::Nothing, 0, expect(Punctuator::Semicolon, tokens)?));
     }
     let (expression, height, rest) = part(alloc, room, Form::Expression, tokens)?;
-    let rest = expect(Mark::Semicolon, rest)?;
+    let rest = expect(Punctuator::Semicolon, rest)?;
     Ok((Start::Expression(expression), height, rest))
 }
 
 /// Whether a statement begins here.
-fn begins_statement(tokens: &[Lexeme]) -> bool
+fn begins_statement(tokens: &[Terminal]) -> bool
     ensures { result ≡ begins_statement tokens.now }
 {
     begins_one(tokens)
-        || starts(Mark::OpenBrace, tokens)
-        || starts(Mark::Semicolon, tokens)
+        || starts(Punctuator::OpenBrace, tokens)
+        || starts(Punctuator::Semicolon, tokens)
         || starts_with(Keyword::If, tokens)
         || starts_with(Keyword::While, tokens)
         || starts_with(Keyword::Do, tokens)
@@ -81,7 +81,7 @@ fn begins_statement(tokens: &[Lexeme]) -> bool
 }
 
 /// What stands behind `while`.
-fn expect_while(tokens: &[Lexeme]) -> Result<&[Lexeme], Halt>
+fn expect_while(tokens: &[Terminal]) -> Result<&[Terminal], Halt>
     ensures { Gives rest_of result (expect_while 0 (statement 0) tokens.now) }
 {
     match tokens {
@@ -101,22 +101,22 @@ fn after_return(
     alloc: Global,
     room: u8,
     at: u32,
-    tokens: &[Lexeme],
-) -> Result<(Stmt, u32, &[Lexeme]), Halt>
+    tokens: &[Terminal],
+) -> Result<(Stmt, u32, &[Terminal]), Halt>
     ensures gives { Gives (read_as stmt_tree) result (after_return room (statement room) at tokens.now) }
     ensures low { IfOk result (λ x. x.1 ≤ room + 1) }
 {
-    let (value, height, rest) = optional(alloc, room, Mark::Semicolon, tokens)?;
+    let (value, height, rest) = optional(alloc, room, Punctuator::Semicolon, tokens)?;
     Ok((nodes::returned(at, value), height + 1, rest))
 }
 
 /// An expression and the semicolon behind it (C11 6.8.3).
-fn running(alloc: Global, room: u8, tokens: &[Lexeme]) -> Result<(Stmt, u32, &[Lexeme]), Halt>
+fn running(alloc: Global, room: u8, tokens: &[Terminal]) -> Result<(Stmt, u32, &[Terminal]), Halt>
     ensures gives { Gives (read_as stmt_tree) result (running room (statement room) tokens.now) }
     ensures low { IfOk result (λ x. x.1 ≤ room + 1) }
 {
     let (expression, height, rest) = part(alloc, room, Form::Expression, tokens)?;
-    let rest = expect(Mark::Semicolon, rest)?;
+    let rest = expect(Punctuator::Semicolon, rest)?;
     Ok((
         nodes::expression(place(tokens), expression),
         height + 1,
@@ -128,21 +128,21 @@ fn running(alloc: Global, room: u8, tokens: &[Lexeme]) -> Result<(Stmt, u32, &[L
 fn plain_statement<'a>(
     alloc: Global,
     room: u8,
-    first: &Lexeme,
-    rest: &'a [Lexeme],
-    tokens: &'a [Lexeme],
-) -> Result<(Stmt, u32, &'a [Lexeme]), Halt>
+    first: &Terminal,
+    rest: &'a [Terminal],
+    tokens: &'a [Terminal],
+) -> Result<(Stmt, u32, &'a [Terminal]), Halt>
     requires all { tokens.now ≡ first.now ∷ rest.now }
     ensures gives { Gives (read_as stmt_tree) result (plain_statement room (statement room) (number_of first.now) first.now rest.now) }
     ensures low { IfOk result (λ x. x.1 ≤ room + 1) }
 {
     let at = place(tokens);
     if is_keyword(Keyword::Break, first) {
-        let rest = expect(Mark::Semicolon, rest)?;
+        let rest = expect(Punctuator::Semicolon, rest)?;
         return Ok((nodes::broken(at), 1, rest));
     }
     if is_keyword(Keyword::Continue, first) {
-        let rest = expect(Mark::Semicolon, rest)?;
+        let rest = expect(Punctuator::Semicolon, rest)?;
         return Ok((nodes::continued(at), 1, rest));
     }
     if is_keyword(Keyword::Return, first) {
@@ -152,7 +152,7 @@ fn plain_statement<'a>(
 }
 
 /// Whether a statement that begins with this token has a statement as a part.
-fn is_nesting(first: &Lexeme) -> bool
+fn is_nesting(first: &Terminal) -> bool
     ensures { result ≡ (is_keyword keywords.If first.now || (is_keyword keywords.While first.now || (is_keyword keywords.Do first.now || is_keyword keywords.For first.now))) }
 {
     is_keyword(Keyword::If, first)
@@ -164,7 +164,7 @@ fn is_nesting(first: &Lexeme) -> bool
 /// A statement that is at most `room` high.
 #[cycle(statement)]
 #[tactic(auto, using(crate::proofs::CodeStatements::statement_cases))]
-fn statement(alloc: Global, room: u8, tokens: &[Lexeme]) -> Result<(Stmt, u32, &[Lexeme]), Halt>
+fn statement(alloc: Global, room: u8, tokens: &[Terminal]) -> Result<(Stmt, u32, &[Terminal]), Halt>
     ensures gives { Gives (read_as stmt_tree) result (statement room tokens.now) }
     ensures low { IfOk result (λ x. x.1 ≤ room) }
 {
@@ -179,7 +179,7 @@ fn statement(alloc: Global, room: u8, tokens: &[Lexeme]) -> Result<(Stmt, u32, &
 
 /// A statement or a declaration of a block (C11 6.8.2).
 #[cycle(statement)]
-fn item(alloc: Global, room: u8, tokens: &[Lexeme]) -> Result<(Stmt, u32, &[Lexeme]), Halt>
+fn item(alloc: Global, room: u8, tokens: &[Terminal]) -> Result<(Stmt, u32, &[Terminal]), Halt>
     ensures gives { Gives (read_as stmt_tree) result (item room (statement room) tokens.now) }
     ensures low { IfOk result (λ x. x.1 ≤ room) }
 {
@@ -196,8 +196,8 @@ fn item(alloc: Global, room: u8, tokens: &[Lexeme]) -> Result<(Stmt, u32, &[Lexe
 pub fn items(
     alloc: Global,
     room: u8,
-    tokens: &[Lexeme],
-) -> Result<(Vec<Stmt>, u32, &[Lexeme]), Halt>
+    tokens: &[Terminal],
+) -> Result<(Vec<Stmt>, u32, &[Terminal]), Halt>
     ensures gives { Gives (read_as (listed stmt_tree)) result (items room (statement room) (length tokens.now) [] 0 tokens.now) }
     ensures low { IfOk result (λ x. x.1 ≤ room) }
 {
@@ -205,8 +205,8 @@ pub fn items(
     let mut height: u32 = 0;
     let mut rest = tokens;
     for _ in 0..tokens.len() {
-        if starts(Mark::CloseBrace, rest) {
-            let behind = expect(Mark::CloseBrace, rest)?;
+        if starts(Punctuator::CloseBrace, rest) {
+            let behind = expect(Punctuator::CloseBrace, rest)?;
             return Ok((items, height, behind));
         }
         let (found, high, after) = item(alloc, room, rest)?;
@@ -219,7 +219,7 @@ pub fn items(
 
 /// A block, behind its brace (C11 6.8.2).
 #[cycle(statement)]
-fn in_block(alloc: Global, room: u8, tokens: &[Lexeme]) -> Result<(Stmt, u32, &[Lexeme]), Halt>
+fn in_block(alloc: Global, room: u8, tokens: &[Terminal]) -> Result<(Stmt, u32, &[Terminal]), Halt>
     ensures gives { Gives (read_as stmt_tree) result (in_block room (statement room) tokens.now) }
     ensures low { IfOk result (λ x. x.1 ≤ room + 1) }
 {
@@ -232,8 +232,8 @@ fn in_block(alloc: Global, room: u8, tokens: &[Lexeme]) -> Result<(Stmt, u32, &[
 fn otherwise(
     alloc: Global,
     room: u8,
-    tokens: &[Lexeme],
-) -> Result<(Option<Stmt>, u32, &[Lexeme]), Halt>
+    tokens: &[Terminal],
+) -> Result<(Option<Stmt>, u32, &[Terminal]), Halt>
     ensures gives { Gives (read_as (option_map stmt_tree)) result (otherwise room (statement room) tokens.now) }
     ensures low { IfOk result (λ x. x.1 ≤ room) }
 {
@@ -253,8 +253,8 @@ fn after_if(
     alloc: Global,
     room: u8,
     at: u32,
-    tokens: &[Lexeme],
-) -> Result<(Stmt, u32, &[Lexeme]), Halt>
+    tokens: &[Terminal],
+) -> Result<(Stmt, u32, &[Terminal]), Halt>
     ensures gives { Gives (read_as stmt_tree) result (after_if room (statement room) at tokens.now) }
     ensures low { IfOk result (λ x. x.1 ≤ room + 1) }
 {
@@ -275,8 +275,8 @@ fn after_while(
     alloc: Global,
     room: u8,
     at: u32,
-    tokens: &[Lexeme],
-) -> Result<(Stmt, u32, &[Lexeme]), Halt>
+    tokens: &[Terminal],
+) -> Result<(Stmt, u32, &[Terminal]), Halt>
     ensures gives { Gives (read_as stmt_tree) result (after_while room (statement room) at tokens.now) }
     ensures low { IfOk result (λ x. x.1 ≤ room + 1) }
 {
@@ -292,15 +292,15 @@ fn after_do(
     alloc: Global,
     room: u8,
     at: u32,
-    tokens: &[Lexeme],
-) -> Result<(Stmt, u32, &[Lexeme]), Halt>
+    tokens: &[Terminal],
+) -> Result<(Stmt, u32, &[Terminal]), Halt>
     ensures gives { Gives (read_as stmt_tree) result (after_do room (statement room) at tokens.now) }
     ensures low { IfOk result (λ x. x.1 ≤ room + 1) }
 {
     let (body, height, rest) = statement(alloc, room, tokens)?;
     let rest = expect_while(rest)?;
     let (condition, high, rest) = condition(alloc, room, rest)?;
-    let rest = expect(Mark::Semicolon, rest)?;
+    let rest = expect(Punctuator::Semicolon, rest)?;
     let node = nodes::do_loop(alloc, at, body, condition)?;
     Ok((node, height.max(high) + 1, rest))
 }
@@ -311,15 +311,15 @@ fn after_for(
     alloc: Global,
     room: u8,
     at: u32,
-    tokens: &[Lexeme],
-) -> Result<(Stmt, u32, &[Lexeme]), Halt>
+    tokens: &[Terminal],
+) -> Result<(Stmt, u32, &[Terminal]), Halt>
     ensures gives { Gives (read_as stmt_tree) result (after_for room (statement room) at tokens.now) }
     ensures low { IfOk result (λ x. x.1 ≤ room + 1) }
 {
-    let rest = expect(Mark::OpenParenthesis, tokens)?;
+    let rest = expect(Punctuator::OpenParenthesis, tokens)?;
     let (start, start_height, rest) = start_of(alloc, room, rest)?;
-    let (condition, condition_height, rest) = optional(alloc, room, Mark::Semicolon, rest)?;
-    let (step, step_height, rest) = optional(alloc, room, Mark::CloseParenthesis, rest)?;
+    let (condition, condition_height, rest) = optional(alloc, room, Punctuator::Semicolon, rest)?;
+    let (step, step_height, rest) = optional(alloc, room, Punctuator::CloseParenthesis, rest)?;
     let (body, body_height, rest) = statement(alloc, room, rest)?;
     let height = start_height.max(condition_height.max(step_height.max(body_height)));
     let node = nodes::for_loop(alloc, at, start, condition, step, body)?;
@@ -331,10 +331,10 @@ fn after_for(
 fn keyword_statement<'a>(
     alloc: Global,
     room: u8,
-    first: &Lexeme,
-    rest: &'a [Lexeme],
-    tokens: &'a [Lexeme],
-) -> Result<(Stmt, u32, &'a [Lexeme]), Halt>
+    first: &Terminal,
+    rest: &'a [Terminal],
+    tokens: &'a [Terminal],
+) -> Result<(Stmt, u32, &'a [Terminal]), Halt>
     requires all { tokens.now ≡ first.now ∷ rest.now }
     ensures gives { Gives (read_as stmt_tree) result (keyword_statement room (statement room) (number_of first.now) first.now rest.now) }
     ensures low { IfOk result (λ x. x.1 ≤ room + 1) }
@@ -360,17 +360,17 @@ fn keyword_statement<'a>(
 
 /// A statement (C11 6.8) with at most `room` levels for its parts.
 #[cycle(statement)]
-fn statement_at(alloc: Global, room: u8, tokens: &[Lexeme]) -> Result<(Stmt, u32, &[Lexeme]), Halt>
+fn statement_at(alloc: Global, room: u8, tokens: &[Terminal]) -> Result<(Stmt, u32, &[Terminal]), Halt>
     ensures gives { Gives (read_as stmt_tree) result (statement_at room (statement room) tokens.now) }
     ensures low { IfOk result (λ x. x.1 ≤ room + 1) }
 {
     let [first, rest @ ..] = tokens else {
         return Err(Halt::Unexpected(0));
     };
-    if is_mark(Mark::Semicolon, first) {
+    if is_punctuator(Punctuator::Semicolon, first) {
         return Ok((nodes::empty(place(tokens)), 1, rest));
     }
-    if is_mark(Mark::OpenBrace, first) {
+    if is_punctuator(Punctuator::OpenBrace, first) {
         return in_block(alloc, room, rest);
     }
     keyword_statement(alloc, room, first, rest, tokens)

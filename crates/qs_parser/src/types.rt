@@ -5,12 +5,12 @@ ghost use Rattle.qs_parser.specs.ParseDeclarations.{skip_prefixes, outer_type};
 ghost use Rattle.qs_parser.specs.View.{Gives, base_of, stars_of, type_name_of};
 
 use crate::fault::Halt;
-use crate::heads::{expect_name, is_keyword, is_mark, starts};
-use qs_syntax::{Base, Keyword, Lexeme, Mark, TypeName};
+use crate::heads::{expect_name, is_keyword, is_punctuator, starts};
+use qs_syntax::{Base, Keyword, Terminal, Punctuator, TypeName};
 use std::alloc::Global;
 
 /// What stands behind any number of `const`.
-pub fn skip_consts(tokens: &[Lexeme]) -> &[Lexeme]
+pub fn skip_consts(tokens: &[Terminal]) -> &[Terminal]
     ensures { result.now ≡ skip_consts tokens.now }
 {
     let mut rest = tokens;
@@ -24,7 +24,7 @@ pub fn skip_consts(tokens: &[Lexeme]) -> &[Lexeme]
 }
 
 /// The type that `unsigned` begins.
-fn after_unsigned(tokens: &[Lexeme]) -> Result<(Base, &[Lexeme]), Halt>
+fn after_unsigned(tokens: &[Terminal]) -> Result<(Base, &[Terminal]), Halt>
     ensures { Gives base_of result (after_unsigned tokens.now) }
 {
     match tokens {
@@ -35,7 +35,7 @@ fn after_unsigned(tokens: &[Lexeme]) -> Result<(Base, &[Lexeme]), Halt>
 }
 
 /// The type that `signed` begins.
-fn after_signed(tokens: &[Lexeme]) -> Result<(Base, &[Lexeme]), Halt>
+fn after_signed(tokens: &[Terminal]) -> Result<(Base, &[Terminal]), Halt>
     ensures { Gives base_of result (after_signed tokens.now) }
 {
     match tokens {
@@ -45,7 +45,7 @@ fn after_signed(tokens: &[Lexeme]) -> Result<(Base, &[Lexeme]), Halt>
 }
 
 /// The tag of a struct, behind `struct`.
-fn tagged(alloc: Global, tokens: &[Lexeme]) -> Result<(Base, &[Lexeme]), Halt>
+fn tagged(alloc: Global, tokens: &[Terminal]) -> Result<(Base, &[Terminal]), Halt>
     ensures { Gives base_of result (tagged tokens.now) }
 {
     let (_at, name, rest) = expect_name(alloc, tokens)?;
@@ -53,7 +53,7 @@ fn tagged(alloc: Global, tokens: &[Lexeme]) -> Result<(Base, &[Lexeme]), Halt>
 }
 
 /// What a type begins with, without `const` (C11 6.7.2).
-pub fn base(alloc: Global, tokens: &[Lexeme]) -> Result<(Base, &[Lexeme]), Halt>
+pub fn base(alloc: Global, tokens: &[Terminal]) -> Result<(Base, &[Terminal]), Halt>
     ensures { Gives base_of result (base tokens.now) }
 {
     match tokens {
@@ -80,7 +80,7 @@ pub fn base(alloc: Global, tokens: &[Lexeme]) -> Result<(Base, &[Lexeme]), Halt>
 
 /// A type without stars, with `const` on both sides (C11 6.7.2, 6.7.3).
 #[tactic(auto, using(crate::proofs::CodeTypes::type_is))]
-pub fn type_of(alloc: Global, tokens: &[Lexeme]) -> Result<(Base, &[Lexeme]), Halt>
+pub fn type_of(alloc: Global, tokens: &[Terminal]) -> Result<(Base, &[Terminal]), Halt>
     ensures { Gives base_of result (type tokens.now) }
 {
     let (base, rest) = base(alloc, skip_consts(tokens))?;
@@ -88,7 +88,7 @@ pub fn type_of(alloc: Global, tokens: &[Lexeme]) -> Result<(Base, &[Lexeme]), Ha
 }
 
 /// What stands behind any number of `const` and `static`.
-fn skip_prefixes(tokens: &[Lexeme]) -> &[Lexeme]
+fn skip_prefixes(tokens: &[Terminal]) -> &[Terminal]
     ensures { result.now ≡ skip_prefixes tokens.now }
 {
     let mut rest = tokens;
@@ -103,7 +103,7 @@ fn skip_prefixes(tokens: &[Lexeme]) -> &[Lexeme]
 
 /// A type without stars at file scope, with `const` on both sides and `static` before it (C11 6.7.1).
 #[tactic(auto, unfolding(crate::specs::ParseDeclarations::outer_type))]
-pub fn outer_type(alloc: Global, tokens: &[Lexeme]) -> Result<(Base, &[Lexeme]), Halt>
+pub fn outer_type(alloc: Global, tokens: &[Terminal]) -> Result<(Base, &[Terminal]), Halt>
     ensures { Gives base_of result (outer_type tokens.now) }
 {
     let (base, rest) = base(alloc, skip_prefixes(tokens))?;
@@ -112,13 +112,13 @@ pub fn outer_type(alloc: Global, tokens: &[Lexeme]) -> Result<(Base, &[Lexeme]),
 
 /// The count of stars behind one, and what stands behind them and each `const` among them. A count that
 /// fits no `u32` is `NoMemory`; no text that fits memory has it.
-fn stars_from(tokens: &[Lexeme]) -> Result<(u32, &[Lexeme]), Halt>
+fn stars_from(tokens: &[Terminal]) -> Result<(u32, &[Terminal]), Halt>
     ensures { Gives stars_of result (Ok (stars_from 0 tokens.now)) }
 {
     let mut count: u32 = 0;
     let mut rest = tokens;
     while let [first, after @ ..] = rest {
-        if is_mark(Mark::Star, first) {
+        if is_punctuator(Punctuator::Star, first) {
             count = count.checked_add(1).ok_or(Halt::NoMemory)?;
         } else if !is_keyword(Keyword::Const, first) {
             return Ok((count, rest));
@@ -130,10 +130,10 @@ fn stars_from(tokens: &[Lexeme]) -> Result<(u32, &[Lexeme]), Halt>
 
 /// The count of the stars, each with any number of `const` behind it (C11 6.7.6.1), and what follows.
 #[tactic(auto, unfolding(crate::specs::Parse::stars))]
-pub fn stars(tokens: &[Lexeme]) -> Result<(u32, &[Lexeme]), Halt>
+pub fn stars(tokens: &[Terminal]) -> Result<(u32, &[Terminal]), Halt>
     ensures { Gives stars_of result (Ok (stars tokens.now)) }
 {
-    if starts(Mark::Star, tokens) {
+    if starts(Punctuator::Star, tokens) {
         stars_from(tokens)
     } else {
         Ok((0, tokens))
@@ -142,7 +142,7 @@ pub fn stars(tokens: &[Lexeme]) -> Result<(u32, &[Lexeme]), Halt>
 
 /// The name of a type (C11 6.7.7).
 #[tactic(auto, unfolding(crate::specs::Parse::type_name))]
-pub fn type_name(alloc: Global, tokens: &[Lexeme]) -> Result<(TypeName, &[Lexeme]), Halt>
+pub fn type_name(alloc: Global, tokens: &[Terminal]) -> Result<(TypeName, &[Terminal]), Halt>
     ensures { Gives type_name_of result (type_name tokens.now) }
 {
     let (base, rest) = type_of(alloc, tokens)?;

@@ -10,18 +10,18 @@ use crate::heads::{expect, expect_name, is_keyword, place, starts};
 use crate::statements::items;
 use crate::types::{outer_type, stars};
 use qs_base::Name;
-use qs_syntax::{Base, Decl, Forward, Function, Keyword, Lexeme, Mark, Parameter, Stmt, Struct};
+use qs_syntax::{Base, Decl, Forward, Function, Keyword, Terminal, Punctuator, Parameter, Stmt, Struct};
 use std::alloc::Global;
 
 /// The height to which the parts of a function's body are read: with it the unit is at most 128 high.
 const ROOM: u8 = 126;
 
-/// Whether a name with this mark behind it stands here.
-fn is_named(mark: Mark, tokens: &[Lexeme]) -> bool
-    ensures { result ≡ is_named mark tokens.now }
+/// Whether a name with this punctuator behind it stands here.
+fn is_named(punctuator: Punctuator, tokens: &[Terminal]) -> bool
+    ensures { result ≡ is_named punctuator tokens.now }
 {
     match tokens {
-        [Lexeme::Name(..), rest @ ..] => starts(mark, rest),
+        [Terminal::Name(..), rest @ ..] => starts(punctuator, rest),
         _ => false,
     }
 }
@@ -31,15 +31,15 @@ fn struct_of(
     alloc: Global,
     room: u8,
     token: u32,
-    tokens: &[Lexeme],
-) -> Result<(Decl, u32, &[Lexeme]), Halt>
+    tokens: &[Terminal],
+) -> Result<(Decl, u32, &[Terminal]), Halt>
     ensures gives { Gives (read_as decl_tree) result (struct_of room token tokens.now) }
     ensures low { IfOk result (λ x. x.1 ≤ room + 2) }
 {
     let (_at, name, rest) = expect_name(alloc, tokens)?;
-    let rest = expect(Mark::OpenBrace, rest)?;
+    let rest = expect(Punctuator::OpenBrace, rest)?;
     let (members, height, rest) = groups(alloc, room, rest)?;
-    let rest = expect(Mark::Semicolon, rest)?;
+    let rest = expect(Punctuator::Semicolon, rest)?;
     let found = Struct {
         id: 0,
         token,
@@ -50,12 +50,12 @@ fn struct_of(
 }
 
 /// A struct without members, behind `struct` (C11 6.7.2.3).
-fn forward_of(alloc: Global, token: u32, tokens: &[Lexeme]) -> Result<(Decl, u32, &[Lexeme]), Halt>
+fn forward_of(alloc: Global, token: u32, tokens: &[Terminal]) -> Result<(Decl, u32, &[Terminal]), Halt>
     ensures gives { Gives (read_as decl_tree) result (forward_of token tokens.now) }
     ensures low { IfOk result (λ x. x.1 ≤ 1) }
 {
     let (_at, name, rest) = expect_name(alloc, tokens)?;
-    let rest = expect(Mark::Semicolon, rest)?;
+    let rest = expect(Punctuator::Semicolon, rest)?;
     let found = Forward { id: 0, token, name };
     Ok((Decl::Forward(found), 1, rest))
 }
@@ -92,17 +92,17 @@ fn body_of(
     room: u8,
     header: Header,
     height: u32,
-    tokens: &[Lexeme],
-) -> Result<(Decl, u32, &[Lexeme]), Halt>
+    tokens: &[Terminal],
+) -> Result<(Decl, u32, &[Terminal]), Halt>
     requires low { height ≤ room + 1 }
     ensures gives { Gives (read_as decl_tree) result (body_of room header.token header.base header.stars header.name (parameters_of header, height) tokens.now) }
     ensures low { IfOk result (λ x. x.1 ≤ room + 2) }
 {
-    if starts(Mark::Semicolon, tokens) {
-        let rest = expect(Mark::Semicolon, tokens)?;
+    if starts(Punctuator::Semicolon, tokens) {
+        let rest = expect(Punctuator::Semicolon, tokens)?;
         return Ok((function(header, None), height + 1, rest));
     }
-    let rest = expect(Mark::OpenBrace, tokens)?;
+    let rest = expect(Punctuator::OpenBrace, tokens)?;
     let (body, high, rest) = items(alloc, room, rest)?;
     Ok((function(header, Some(body)), height.max(high + 1) + 1, rest))
 }
@@ -114,13 +114,13 @@ fn function_of(
     token: u32,
     base: Base,
     stars: u32,
-    tokens: &[Lexeme],
-) -> Result<(Decl, u32, &[Lexeme]), Halt>
+    tokens: &[Terminal],
+) -> Result<(Decl, u32, &[Terminal]), Halt>
     ensures gives { Gives (read_as decl_tree) result (function_of room token base stars tokens.now) }
     ensures low { IfOk result (λ x. x.1 ≤ room + 2) }
 {
     let (_at, name, rest) = expect_name(alloc, tokens)?;
-    let rest = expect(Mark::OpenParenthesis, rest)?;
+    let rest = expect(Punctuator::OpenParenthesis, rest)?;
     let (parameters, height, rest) = head(alloc, room, rest)?;
     let header = Header {
         token,
@@ -138,14 +138,14 @@ fn typed(
     room: u8,
     start: u32,
     base: Base,
-    tokens: &[Lexeme],
-) -> Result<(Decl, u32, &[Lexeme]), Halt>
+    tokens: &[Terminal],
+) -> Result<(Decl, u32, &[Terminal]), Halt>
     requires fits { room < 255 }
     ensures gives { Gives (read_as decl_tree) result (typed room start base tokens.now) }
     ensures low { IfOk result (λ x. x.1 ≤ room + 2) }
 {
     let (stars, rest) = stars(tokens)?;
-    if is_named(Mark::OpenParenthesis, rest) {
+    if is_named(Punctuator::OpenParenthesis, rest) {
         return function_of(alloc, room, start, base, stars, rest);
     }
     let (variables, height, rest) = declared(alloc, room + 1, base, tokens)?;
@@ -154,7 +154,7 @@ fn typed(
 
 /// A struct, a function or variables (C11 6.9).
 #[tactic(auto, unfolding(crate::specs::ParseStatements::external))]
-fn external(alloc: Global, room: u8, tokens: &[Lexeme]) -> Result<(Decl, u32, &[Lexeme]), Halt>
+fn external(alloc: Global, room: u8, tokens: &[Terminal]) -> Result<(Decl, u32, &[Terminal]), Halt>
     requires fits { room < 255 }
     ensures gives { Gives (read_as decl_tree) result (external room tokens.now) }
     ensures low { IfOk result (λ x. x.1 ≤ room + 2) }
@@ -163,10 +163,10 @@ fn external(alloc: Global, room: u8, tokens: &[Lexeme]) -> Result<(Decl, u32, &[
         return Err(Halt::Unexpected(0));
     };
     let start = place(tokens);
-    if is_keyword(Keyword::Struct, first) && is_named(Mark::OpenBrace, rest) {
+    if is_keyword(Keyword::Struct, first) && is_named(Punctuator::OpenBrace, rest) {
         return struct_of(alloc, room, start, rest);
     }
-    if is_keyword(Keyword::Struct, first) && is_named(Mark::Semicolon, rest) {
+    if is_keyword(Keyword::Struct, first) && is_named(Punctuator::Semicolon, rest) {
         return forward_of(alloc, start, rest);
     }
     let (base, rest) = outer_type(alloc, tokens)?;
@@ -174,7 +174,7 @@ fn external(alloc: Global, room: u8, tokens: &[Lexeme]) -> Result<(Decl, u32, &[
 }
 
 /// Whether no token is left.
-fn is_empty(tokens: &[Lexeme]) -> bool
+fn is_empty(tokens: &[Terminal]) -> bool
     ensures { result ≡ is_empty tokens.now }
 {
     match tokens {
@@ -188,8 +188,8 @@ fn is_empty(tokens: &[Lexeme]) -> bool
 fn externals(
     alloc: Global,
     room: u8,
-    tokens: &[Lexeme],
-) -> Result<(Vec<Decl>, u32, &[Lexeme]), Halt>
+    tokens: &[Terminal],
+) -> Result<(Vec<Decl>, u32, &[Terminal]), Halt>
     requires fits { room < 255 }
     ensures gives { Gives (read_as (listed decl_tree)) result (externals room (length tokens.now) [] 0 tokens.now) }
     ensures low { IfOk result (λ x. (x.1 ≤ room + 2) × (x.2.now ≡ [])) }
@@ -211,7 +211,7 @@ fn externals(
 
 /// All of the tokens as a unit (C11 6.9) that is at most 128 high, not yet numbered, and how high it is.
 #[tactic(auto, unfolding(crate::specs::ParseStatements::unit))]
-pub fn read_unit(alloc: Global, tokens: &[Lexeme]) -> Result<(Vec<Decl>, u32), Halt>
+pub fn read_unit(alloc: Global, tokens: &[Terminal]) -> Result<(Vec<Decl>, u32), Halt>
     ensures gives { Gives unit_of result (unit 126 tokens.now) }
     ensures low { IfOk result (λ x. x.1 ≤ 128) }
 {

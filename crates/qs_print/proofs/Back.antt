@@ -12,7 +12,7 @@ use Rattle.qs_print.specs.Spelling.{joined}
 use Rattle.qs_print.specs.WithoutTokens.{without_tokens}
 use Rattle.qs_print.proofs.LexedJoined.{lexed_back}
 use Rattle.qs_print.proofs.PlainNumbered as numbering
-use Rattle.qs_print.proofs.PrintedLexemesOfUnits.{printed_are_lexemes}
+use Rattle.qs_print.proofs.PrintedTerminalsOfUnits.{printed_are_terminals}
 use Rattle.qs_print.proofs.PrintedPlain as printing
 use Rattle.qs_print.proofs.Rereading.{Again}
 use Rattle.qs_print.proofs.RereadUnits.{unit_law}
@@ -23,7 +23,7 @@ printed_numbered ds = sym (printing.unit_same (numbered_unit ds)) ∙ ap printed
 reading_back : (text : List ℕ) (ds : List DeclTree) → text ≡ joined (printed_unit ds) → Reading ds → ReadsBack text ds
 reading_back text ds e r =
     let us : List DeclTree = r.unnumbered in
-    let lexed : LexedBack (printed_unit us) = lexed_back (printed_unit us) (printed_are_lexemes r.reads r.are_tokens) in
+    let lexed : LexedBack (printed_unit us) = lexed_back (printed_unit us) (printed_are_terminals r.reads r.are_tokens) in
     let again : Again ReadsUnit without_tokens r.height (renumbered 0 (printed_unit us)) us = (unit_law r.reads).from 0 in
     let printed : text ≡ joined (printed_unit us) = e ∙ ap (λ xs. joined (printed_unit xs)) r.are_numbered ∙ ap joined (printed_numbered us) in
     rw printed (record {

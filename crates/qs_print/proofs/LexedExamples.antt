@@ -3,11 +3,11 @@ use Rattle.std.proofs.Common.{◌≡◌, true, false, [], ◌∷◌, ◌++◌, c
 use Rattle.std.specs.Fmt.{digits}
 use Rattle.qs_print.specs.Lexed.{renumbered}
 use Rattle.qs_print.specs.Spelling.{joined, spelling}
-use Rattle.qs_syntax.specs.declared.lexeme.Lexeme.TheVariants.{Name, Keyword, Constant, Text, Mark}
+use Rattle.qs_syntax.specs.declared.terminal.Terminal.TheVariants.{Name, Keyword, Constant, Text, Punctuator}
 use Rattle.qs_syntax.specs.declared.tokens.Keyword.TheVariants as keywords
-use Rattle.qs_syntax.specs.declared.tokens.Mark.TheVariants as marks
+use Rattle.qs_syntax.specs.declared.tokens.Punctuator.TheVariants as punctuators
 
-a_declaration : joined (Keyword 0 keywords.Int ∷ Name 0 (codes "x") ∷ Mark 0 marks.Assign ∷ Constant 0 10 false ∷ Mark 0 marks.Semicolon ∷ []) ≡ codes "int x = 10 ;" ++ 10 ∷ []
+a_declaration : joined (Keyword 0 keywords.Int ∷ Name 0 (codes "x") ∷ Punctuator 0 punctuators.Assign ∷ Constant 0 10 false ∷ Punctuator 0 punctuators.Semicolon ∷ []) ≡ codes "int x = 10 ;" ++ 10 ∷ []
 unfolding digits
 a_declaration = refl
 
@@ -22,5 +22,5 @@ largest_unsigned = refl
 a_text : spelling (Text 0 (7 ∷ 34 ∷ 255 ∷ [])) ≡ 34 ∷ 92 ∷ 48 ∷ 48 ∷ 55 ∷ 92 ∷ 48 ∷ 52 ∷ 50 ∷ 92 ∷ 51 ∷ 55 ∷ 55 ∷ 34 ∷ []
 a_text = refl
 
-counted : renumbered 0 (Mark 0 marks.Plus ∷ Name 0 (codes "x") ∷ []) ≡ Mark 0 marks.Plus ∷ Name 1 (codes "x") ∷ []
+counted : renumbered 0 (Punctuator 0 punctuators.Plus ∷ Name 0 (codes "x") ∷ []) ≡ Punctuator 0 punctuators.Plus ∷ Name 1 (codes "x") ∷ []
 counted = refl

@@ -1,10 +1,10 @@
 pub mod LexedWords
-pub mod LexedMarks
+pub mod LexedPunctuators
 pub mod LexedNumbers
 pub mod LexedTexts
 pub mod LexedJoined
-pub mod PrintedLexemes
-pub mod PrintedLexemesOfUnits
+pub mod PrintedTerminals
+pub mod PrintedTerminalsOfUnits
 pub mod LexedExamples
 pub mod Spaces
 pub mod Rereading

@@ -22,13 +22,13 @@ mutual
   shape_same n (int v unsigned) = refl
   shape_same n (text bytes) = refl
   shape_same n (name x) = refl
-  shape_same n (unary sign a) = ap (unary sign) (expr_same n a)
-  shape_same n (step sign a) = ap (step sign) (expr_same n a)
+  shape_same n (unary operator a) = ap (unary operator) (expr_same n a)
+  shape_same n (step operator a) = ap (step operator) (expr_same n a)
   shape_same n (cast type a) = ap (cast type) (expr_same n a)
   shape_same n (size_type type) = refl
   shape_same n (size_expr a) = ap size_expr (expr_same n a)
-  shape_same n (binary sign a b) = rw (expr_same n a, expr_same (n + expr_nodes a) b) refl
-  shape_same n (assign sign a b) = rw (expr_same n a, expr_same (n + expr_nodes a) b) refl
+  shape_same n (binary operator a b) = rw (expr_same n a, expr_same (n + expr_nodes a) b) refl
+  shape_same n (assign operator a b) = rw (expr_same n a, expr_same (n + expr_nodes a) b) refl
   shape_same n (choice a b c) = rw (expr_same n a, expr_same (n + expr_nodes a) b, expr_same (n + expr_nodes a + expr_nodes b) c) refl
   shape_same n (comma a b) = rw (expr_same n a, expr_same (n + expr_nodes a) b) refl
   shape_same n (index a b) = rw (expr_same n a, expr_same (n + expr_nodes a) b) refl

@@ -4,9 +4,9 @@ use Rattle.std.specs.Prelude.{option_map}
 use Rattle.qs_syntax.specs.Trees.{ExprTree, expr, ShapeTree, int, text, name, unary, step, cast, size_type, size_expr, binary, assign, choice, comma, index, member, call, Exprs, no_exprs, expr_and, LengthsTree, DeclaratorTree, InitialiserTree, value, list, Initialisers, no_initialisers, initialiser_and, VariableTree, DeclarationTree, ParameterTree, MembersTree, StartTree, no_start, start_expression, start_declaration, StmtTree, empty, expression, declaration, block, branch, while_loop, do_loop, for_loop, break, continue, return, Stmts, no_stmts, stmt_and, Else, no_else, else_by, StructTree, FunctionTree, DeclTree, structure, forward, function, variables}
 use Rattle.qs_print.specs.Printed.{behind_commas, further_arguments, further_initialisers, is_without_brackets, level, printed_arguments, printed_body, printed_decl, printed_declaration, printed_declarator, printed_else, printed_expr, printed_function, printed_initialiser, printed_initialisers, printed_length, printed_lengths, printed_members, printed_optional, printed_parameter, printed_parameters, printed_part, printed_setting, printed_shape, printed_start, printed_stmt, printed_stmts, printed_struct, printed_unit, printed_variable, shape_level, with_commas}
 use Rattle.qs_print.specs.WithoutTokens.{plain_decl, plain_declaration, plain_declarator, plain_else, plain_expr, plain_exprs, plain_function, plain_initialiser, plain_initialisers, plain_lengths, plain_members, plain_parameter, plain_shape, plain_start, plain_stmt, plain_stmts, plain_struct, plain_variable, without_tokens}
-use Rattle.qs_syntax.specs.declared.lexeme.Lexeme.{Lexeme}
+use Rattle.qs_syntax.specs.declared.terminal.Terminal.{Terminal}
 
-module _ {A : Type 0} (printed : A → List Lexeme) (plain : A → A) (same : (x : A) → printed (plain x) ≡ printed x) where
+module _ {A : Type 0} (printed : A → List Terminal) (plain : A → A) (same : (x : A) → printed (plain x) ≡ printed x) where
   row_same : (xs : List A) → flat_map printed (map plain xs) ≡ flat_map printed xs
   row_same [] = refl
   row_same (x ∷ xs) = rw (same x, row_same xs) refl
@@ -25,13 +25,13 @@ shape_level_same : (s : ShapeTree) → shape_level (plain_shape s) ≡ shape_lev
 shape_level_same (int n unsigned) = refl
 shape_level_same (text bytes) = refl
 shape_level_same (name x) = refl
-shape_level_same (unary sign a) = refl
-shape_level_same (step sign a) = refl
+shape_level_same (unary operator a) = refl
+shape_level_same (step operator a) = refl
 shape_level_same (cast type a) = refl
 shape_level_same (size_type type) = refl
 shape_level_same (size_expr a) = refl
-shape_level_same (binary sign a b) = refl
-shape_level_same (assign sign a b) = refl
+shape_level_same (binary operator a b) = refl
+shape_level_same (assign operator a b) = refl
 shape_level_same (choice a b c) = refl
 shape_level_same (comma a b) = refl
 shape_level_same (index a b) = refl
@@ -52,13 +52,13 @@ mutual
   shape_same (int n unsigned) = refl
   shape_same (text bytes) = refl
   shape_same (name x) = refl
-  shape_same (unary sign a) = rw (part_with _ a (expr_same a)) refl
-  shape_same (step sign a) = rw (part_with _ a (expr_same a)) refl
+  shape_same (unary operator a) = rw (part_with _ a (expr_same a)) refl
+  shape_same (step operator a) = rw (part_with _ a (expr_same a)) refl
   shape_same (cast type a) = rw (part_with _ a (expr_same a)) refl
   shape_same (size_type type) = refl
   shape_same (size_expr a) = rw (part_with _ a (expr_same a)) refl
-  shape_same (binary sign a b) = rw (level_same a, expr_same a, level_same b, expr_same b) refl
-  shape_same (assign sign a b) = rw (level_same a, expr_same a, level_same b, expr_same b) refl
+  shape_same (binary operator a b) = rw (level_same a, expr_same a, level_same b, expr_same b) refl
+  shape_same (assign operator a b) = rw (level_same a, expr_same a, level_same b, expr_same b) refl
   shape_same (choice a b c) = rw (level_same a, expr_same a, expr_same b, level_same c, expr_same c) refl
   shape_same (comma a b) = rw (expr_same a, level_same b, expr_same b) refl
   shape_same (index a b) = rw (level_same a, expr_same a, expr_same b) refl

@@ -1,10 +1,10 @@
--- The printed lexemes of declarations that were read are read as them again, no higher.
+-- The printed terminals of declarations that were read are read as them again, no higher.
 use Rattle.std.proofs.Common.{◌≡◌, ◌⊎◌, inl, inr, ℕ, zero, suc, ◌+◌, Bool, true, false, ◌&&◌, List, [], ◌∷◌, ◌++◌, length, map, flat_map, Some, None, refl, ap, subst, append-nil, arith}
 use Rattle.std.specs.Prelude.{max, ◌==◌}
-use Rattle.qs_syntax.specs.declared.lexeme.Lexeme.{Lexeme}
-use Rattle.qs_syntax.specs.declared.lexeme.Lexeme.TheVariants.{Name, Keyword, Mark}
+use Rattle.qs_syntax.specs.declared.terminal.Terminal.{Terminal}
+use Rattle.qs_syntax.specs.declared.terminal.Terminal.TheVariants.{Name, Keyword, Punctuator}
 use Rattle.qs_syntax.specs.declared.tokens.Keyword.TheVariants as keywords
-use Rattle.qs_syntax.specs.declared.tokens.Mark.TheVariants as marks
+use Rattle.qs_syntax.specs.declared.tokens.Punctuator.TheVariants as punctuators
 use Rattle.qs_syntax.specs.declared.tree.Base.{Base}
 use Rattle.qs_syntax.specs.declared.tree.Base.TheVariants as bases
 use Rattle.qs_syntax.specs.ReadsTypes.{no_const, a_const, ReadsType, a_type}
@@ -19,18 +19,18 @@ use Rattle.qs_print.proofs.RereadExpressions.{at_part, law, part}
 
 -- ---- lengths
 
-given_law : {h : ℕ} {ts : List Lexeme} {es : List ExprTree} → ReadsGiven h ts es → Reread ReadsGiven (map plain_expr) h (flat_map printed_length es) es
+given_law : {h : ℕ} {ts : List Terminal} {es : List ExprTree} → ReadsGiven h ts es → Reread ReadsGiven (map plain_expr) h (flat_map printed_length es) es
 given_law no_length = record { from = λ n. record { height = 0; tree = []; reads = no_length; low = omega arith; same = refl } }
 given_law (a_length {h = h} {k = k} {e = e} {es = es} o c r s) = record {
   from = λ n.
       let i : ℕ = n + 1 + length (printed_part 13 e) in
       let p : at_part 13 h (n + 1) e = (part 13 h e (law r tt)).from (n + 1) in
       let q : Again ReadsGiven (map plain_expr) k (renumbered (i + 1) (flat_map printed_length es)) es = (given_law s).from (i + 1) in
-      rw (closing (n + 1) marks.CloseBracket (printed_part 13 e) (flat_map printed_length es))
+      rw (closing (n + 1) punctuators.CloseBracket (printed_part 13 e) (flat_map printed_length es))
       (record { height = max p.height q.height; tree = p.tree ∷ q.tree; reads = a_length n i p.reads q.reads; low = omega arith; same = rw (p.same, q.same) refl });
 }
 
-pub lengths_law : {h : ℕ} {ts : List Lexeme} {l : LengthsTree} → ReadsLengths h ts l → Reread ReadsLengths plain_lengths h (printed_lengths l) l
+pub lengths_law : {h : ℕ} {ts : List Terminal} {l : LengthsTree} → ReadsLengths h ts l → Reread ReadsLengths plain_lengths h (printed_lengths l) l
 lengths_law (are_given {h = h} {es = es} r) = record {
   from = λ n.
       let q : Again ReadsGiven (map plain_expr) h (renumbered n (flat_map printed_length es)) es = (given_law r).from n in
@@ -47,7 +47,7 @@ at_lengths h n l = Again ReadsLengths plain_lengths h (renumbered n (printed_len
 
 -- ---- declarators
 
-pub declarator_law : {h : ℕ} {ts : List Lexeme} {d : DeclaratorTree} → ReadsDeclarator h ts d → Reread ReadsDeclarator plain_declarator h (printed_declarator d) d
+pub declarator_law : {h : ℕ} {ts : List Terminal} {d : DeclaratorTree} → ReadsDeclarator h ts d → Reread ReadsDeclarator plain_declarator h (printed_declarator d) d
 declarator_law (a_declarator {h = h} {n = count} {lengths = l} at x s r) = record {
   from = λ n.
       let m : ℕ = n + length (printed_stars count) in
@@ -71,13 +71,13 @@ last_initialiser : (h n : ℕ) (i : InitialiserTree) → at_initialiser h n i �
 last_initialiser h n i p =
     rw (append-nil (printed_initialiser i)) (record { height = p.height; tree = initialiser_and p.tree no_initialisers; reads = a_last_initialiser p.reads; low = p.low; same = rw p.same refl })
 
-some_initialisers : {h : ℕ} {ts : List Lexeme} {is : Initialisers} → ReadsInitialisers h ts is → is ≡ no_initialisers → ⊥
+some_initialisers : {h : ℕ} {ts : List Terminal} {is : Initialisers} → ReadsInitialisers h ts is → is ≡ no_initialisers → ⊥
 some_initialisers (a_last_initialiser r) e = cc
 some_initialisers (a_last_with_comma at r) e = cc
 some_initialisers (an_initialiser at r s) e = cc
 
 mutual
-  pub initialiser_law : {h : ℕ} {ts : List Lexeme} {i : InitialiserTree} → ReadsInitialiser h ts i → Reread ReadsInitialiser plain_initialiser h (printed_initialiser i) i
+  pub initialiser_law : {h : ℕ} {ts : List Terminal} {i : InitialiserTree} → ReadsInitialiser h ts i → Reread ReadsInitialiser plain_initialiser h (printed_initialiser i) i
   initialiser_law (a_value {h = h} {e = e} r) = record {
     from = λ n.
         let p : at_part 14 h n e = (part 14 h e (law r tt)).from n in
@@ -86,11 +86,11 @@ mutual
   initialiser_law (a_list {h = h} {is = is} o c r) = record {
     from = λ n.
         let p : at_initialisers h (n + 1) is = (initialisers_law r).from (n + 1) in
-        rw (renumbered_append (n + 1) (printed_initialisers is) (Mark 0 marks.CloseBrace ∷ []))
+        rw (renumbered_append (n + 1) (printed_initialisers is) (Punctuator 0 punctuators.CloseBrace ∷ []))
         (record { height = suc p.height; tree = list 0 n p.tree; reads = a_list n (n + 1 + length (printed_initialisers is)) p.reads; low = omega arith; same = ap (list 0 0) p.same });
   }
 
-  initialisers_law : {h : ℕ} {ts : List Lexeme} {is : Initialisers} → ReadsInitialisers h ts is → Reread ReadsInitialisers plain_initialisers h (printed_initialisers is) is
+  initialisers_law : {h : ℕ} {ts : List Terminal} {is : Initialisers} → ReadsInitialisers h ts is → Reread ReadsInitialisers plain_initialisers h (printed_initialisers is) is
   initialisers_law (a_last_initialiser {h = h} {i = i} r) = record { from = λ n. last_initialiser h n i ((initialiser_law r).from n) }
   initialisers_law (a_last_with_comma {h = h} {i = i} at r) = record { from = λ n. last_initialiser h n i ((initialiser_law r).from n) }
   initialisers_law (an_initialiser {is = no_initialisers} at r s) = absurd (some_initialisers s refl)
@@ -105,7 +105,7 @@ mutual
 
 -- ---- variables
 
-pub variable_law : {h : ℕ} {ts : List Lexeme} {v : VariableTree} → ReadsVariable h ts v → Reread ReadsVariable plain_variable h (printed_variable v) v
+pub variable_law : {h : ℕ} {ts : List Terminal} {v : VariableTree} → ReadsVariable h ts v → Reread ReadsVariable plain_variable h (printed_variable v) v
 variable_law (an_unset_variable {h = h} {d = d} r) = record {
   from = λ n.
       let p : at_declarator h n d = (declarator_law r).from n in
@@ -116,7 +116,7 @@ variable_law (a_set_variable {h = h} {k = k} {d = d} {i = i} at r s) = record {
       let m : ℕ = n + length (printed_declarator d) in
       let p : at_declarator h n d = (declarator_law r).from n in
       let q : at_initialiser k (m + 1) i = (initialiser_law s).from (m + 1) in
-      rw (renumbered_append n (printed_declarator d) (Mark 0 marks.Assign ∷ printed_initialiser i))
+      rw (renumbered_append n (printed_declarator d) (Punctuator 0 punctuators.Assign ∷ printed_initialiser i))
       (record { height = suc (max p.height q.height); tree = record { declarator = p.tree; initialiser = Some q.tree }; reads = a_set_variable m p.reads q.reads; low = omega arith; same = rw (p.same, q.same) refl });
 }
 
@@ -126,11 +126,11 @@ at_variable h n v = Again ReadsVariable plain_variable h (renumbered n (printed_
 abbrev at_variables : (h n : ℕ) (vs : List VariableTree) → Type 0
 at_variables h n vs = Again ReadsVariables (map plain_variable) h (renumbered n (with_commas printed_variable vs)) vs
 
-some_variables : {h : ℕ} {ts : List Lexeme} {vs : List VariableTree} → ReadsVariables h ts vs → vs ≡ [] → ⊥
+some_variables : {h : ℕ} {ts : List Terminal} {vs : List VariableTree} → ReadsVariables h ts vs → vs ≡ [] → ⊥
 some_variables (a_last_variable r) e = cc
 some_variables (a_variable at r s) e = cc
 
-pub variables_law : {h : ℕ} {ts : List Lexeme} {vs : List VariableTree} → ReadsVariables h ts vs → Reread ReadsVariables (map plain_variable) h (with_commas printed_variable vs) vs
+pub variables_law : {h : ℕ} {ts : List Terminal} {vs : List VariableTree} → ReadsVariables h ts vs → Reread ReadsVariables (map plain_variable) h (with_commas printed_variable vs) vs
 variables_law (a_last_variable {h = h} {v = v} r) = record {
   from = λ n.
       let p : at_variable h n v = (variable_law r).from n in
@@ -146,21 +146,21 @@ variables_law (a_variable {h = h} {k = k} {v = v} {vs = w ∷ ws} at r s) = reco
       (record { height = max p.height q.height; tree = p.tree ∷ q.tree; reads = a_variable m p.reads q.reads; low = omega arith; same = rw (p.same, q.same) refl });
 }
 
-pub declaration_law : {h : ℕ} {ts : List Lexeme} {d : DeclarationTree} → ReadsDeclaration h ts d → Reread ReadsDeclaration plain_declaration h (printed_declaration d) d
+pub declaration_law : {h : ℕ} {ts : List Terminal} {d : DeclarationTree} → ReadsDeclaration h ts d → Reread ReadsDeclaration plain_declaration h (printed_declaration d) d
 declaration_law (a_declaration {h = h} {base = base} {vs = vs} s t r) = record {
   from = λ n.
       let m : ℕ = n + length (printed_base base) in
       let q : at_variables h m vs = (variables_law r).from m in
-      rw (renumbered_append n (printed_base base) (with_commas printed_variable vs ++ Mark 0 marks.Semicolon ∷ []), renumbered_append m (with_commas printed_variable vs) (Mark 0 marks.Semicolon ∷ []))
+      rw (renumbered_append n (printed_base base) (with_commas printed_variable vs ++ Punctuator 0 punctuators.Semicolon ∷ []), renumbered_append m (with_commas printed_variable vs) (Punctuator 0 punctuators.Semicolon ∷ []))
       (record { height = q.height; tree = record { base = base; variables = q.tree }; reads = a_declaration (m + length (with_commas printed_variable vs)) (type_reads base n) q.reads; low = q.low; same = rw q.same refl });
 }
 
-pub outer_declaration_law : {h : ℕ} {ts : List Lexeme} {d : DeclarationTree} → ReadsOuterDeclaration h ts d → Reread ReadsOuterDeclaration plain_declaration h (printed_declaration d) d
+pub outer_declaration_law : {h : ℕ} {ts : List Terminal} {d : DeclarationTree} → ReadsOuterDeclaration h ts d → Reread ReadsOuterDeclaration plain_declaration h (printed_declaration d) d
 outer_declaration_law (an_outer_declaration {h = h} {base = base} {vs = vs} s t r) = record {
   from = λ n.
       let m : ℕ = n + length (printed_base base) in
       let q : at_variables h m vs = (variables_law r).from m in
-      rw (renumbered_append n (printed_base base) (with_commas printed_variable vs ++ Mark 0 marks.Semicolon ∷ []), renumbered_append m (with_commas printed_variable vs) (Mark 0 marks.Semicolon ∷ []))
+      rw (renumbered_append n (printed_base base) (with_commas printed_variable vs ++ Punctuator 0 punctuators.Semicolon ∷ []), renumbered_append m (with_commas printed_variable vs) (Punctuator 0 punctuators.Semicolon ∷ []))
       (record { height = q.height; tree = record { base = base; variables = q.tree }; reads = an_outer_declaration (m + length (with_commas printed_variable vs)) (outer_type_reads base n) q.reads; low = q.low; same = rw q.same refl });
 }
 
@@ -169,11 +169,11 @@ outer_declaration_law (an_outer_declaration {h = h} {base = base} {vs = vs} s t 
 abbrev at_declarators : (h n : ℕ) (ds : List DeclaratorTree) → Type 0
 at_declarators h n ds = Again ReadsDeclarators (map plain_declarator) h (renumbered n (with_commas printed_declarator ds)) ds
 
-some_declarators : {h : ℕ} {ts : List Lexeme} {ds : List DeclaratorTree} → ReadsDeclarators h ts ds → ds ≡ [] → ⊥
+some_declarators : {h : ℕ} {ts : List Terminal} {ds : List DeclaratorTree} → ReadsDeclarators h ts ds → ds ≡ [] → ⊥
 some_declarators (a_last_member r) e = cc
 some_declarators (a_member at r s) e = cc
 
-declarators_law : {h : ℕ} {ts : List Lexeme} {ds : List DeclaratorTree} → ReadsDeclarators h ts ds → Reread ReadsDeclarators (map plain_declarator) h (with_commas printed_declarator ds) ds
+declarators_law : {h : ℕ} {ts : List Terminal} {ds : List DeclaratorTree} → ReadsDeclarators h ts ds → Reread ReadsDeclarators (map plain_declarator) h (with_commas printed_declarator ds) ds
 declarators_law (a_last_member {h = h} {d = d} r) = record {
   from = λ n.
       let p : at_declarator h n d = (declarator_law r).from n in
@@ -189,16 +189,16 @@ declarators_law (a_member {h = h} {k = k} {d = d} {ds = e ∷ es} at r s) = reco
       (record { height = max (suc p.height) q.height; tree = p.tree ∷ q.tree; reads = a_member m p.reads q.reads; low = omega arith; same = rw (p.same, q.same) refl });
 }
 
-members_law : {h : ℕ} {ts : List Lexeme} {m : MembersTree} → ReadsMembers h ts m → Reread ReadsMembers plain_members h (printed_members m) m
+members_law : {h : ℕ} {ts : List Terminal} {m : MembersTree} → ReadsMembers h ts m → Reread ReadsMembers plain_members h (printed_members m) m
 members_law (a_group {h = h} {base = base} {ds = ds} s t r) = record {
   from = λ n.
       let m : ℕ = n + length (printed_base base) in
       let q : at_declarators h m ds = (declarators_law r).from m in
-      rw (renumbered_append n (printed_base base) (with_commas printed_declarator ds ++ Mark 0 marks.Semicolon ∷ []), renumbered_append m (with_commas printed_declarator ds) (Mark 0 marks.Semicolon ∷ []))
+      rw (renumbered_append n (printed_base base) (with_commas printed_declarator ds ++ Punctuator 0 punctuators.Semicolon ∷ []), renumbered_append m (with_commas printed_declarator ds) (Punctuator 0 punctuators.Semicolon ∷ []))
       (record { height = q.height; tree = record { base = base; declarators = q.tree }; reads = a_group (m + length (with_commas printed_declarator ds)) (type_reads base n) q.reads; low = q.low; same = rw q.same refl });
 }
 
-pub all_members_law : {h : ℕ} {ts : List Lexeme} {ms : List MembersTree} → ReadsAllMembers h ts ms → Reread ReadsAllMembers (map plain_members) h (flat_map printed_members ms) ms
+pub all_members_law : {h : ℕ} {ts : List Terminal} {ms : List MembersTree} → ReadsAllMembers h ts ms → Reread ReadsAllMembers (map plain_members) h (flat_map printed_members ms) ms
 all_members_law (a_last_group {h = h} {m = m} r) = record {
   from = λ n.
       let p : Again ReadsMembers plain_members h (renumbered n (printed_members m)) m = (members_law r).from n in
@@ -291,18 +291,18 @@ named h n at base count x l r =
     rw (named_alone (is_void base) (count == 0), renumbered_append n (printed_base base) (printed_stars count ++ Name 0 x ∷ printed_lengths l), renumbered_append i (printed_stars count) (Name 0 x ∷ printed_lengths l))
     (record { height = suc q.height; tree = record { id = 0; token = j; base = base; stars = count; name = Some x; lengths = q.tree }; reads = a_named_parameter j x (type_reads base n) (stars_read count i) q.reads; low = omega arith; same = rw q.same refl })
 
-parameter_law : {h : ℕ} {ts : List Lexeme} {p : ParameterTree} → ReadsParameter h ts p → Reread ReadsParameter plain_parameter h (printed_parameter p) p
+parameter_law : {h : ℕ} {ts : List Terminal} {p : ParameterTree} → ReadsParameter h ts p → Reread ReadsParameter plain_parameter h (printed_parameter p) p
 parameter_law (a_named_parameter {h = h} {n = count} {base = base} {lengths = l} at x t s r) = record { from = λ n. named h n at base count x l (lengths_law r) }
 parameter_law (an_unnamed_parameter {h = h} {n = count} {xs = xs} {base = base} {lengths = l} t s r f) = record { from = λ n. unnamed h n (place xs) base count l (lengths_law r) }
 
 abbrev at_parameters : (h n : ℕ) (ps : List ParameterTree) → Type 0
 at_parameters h n ps = Again ReadsParameters (map plain_parameter) h (renumbered n (with_commas printed_parameter ps)) ps
 
-some_there : {h : ℕ} {ts : List Lexeme} {ps : List ParameterTree} → ReadsParameters h ts ps → ps ≡ [] → ⊥
+some_there : {h : ℕ} {ts : List Terminal} {ps : List ParameterTree} → ReadsParameters h ts ps → ps ≡ [] → ⊥
 some_there (a_last_parameter r) e = cc
 some_there (a_parameter at r s) e = cc
 
-parameters_law : {h : ℕ} {ts : List Lexeme} {ps : List ParameterTree} → ReadsParameters h ts ps → Reread ReadsParameters (map plain_parameter) h (with_commas printed_parameter ps) ps
+parameters_law : {h : ℕ} {ts : List Terminal} {ps : List ParameterTree} → ReadsParameters h ts ps → Reread ReadsParameters (map plain_parameter) h (with_commas printed_parameter ps) ps
 parameters_law (a_last_parameter {h = h} {p = a} r) = record {
   from = λ n.
       let p : at_parameter h n a = (parameter_law r).from n in
@@ -318,7 +318,7 @@ parameters_law (a_parameter {h = h} {k = k} {p = a} {ps = b ∷ bs} at r s) = re
       (record { height = max p.height q.height; tree = p.tree ∷ q.tree; reads = a_parameter m p.reads q.reads; low = omega arith; same = rw (p.same, q.same) refl });
 }
 
-pub head_law : {h : ℕ} {ts : List Lexeme} {ps : List ParameterTree} → ReadsHead h ts ps → Reread ReadsHead (map plain_parameter) h (printed_parameters ps) ps
+pub head_law : {h : ℕ} {ts : List Terminal} {ps : List ParameterTree} → ReadsHead h ts ps → Reread ReadsHead (map plain_parameter) h (printed_parameters ps) ps
 head_law no_parameter = record { from = λ n. record { height = 0; tree = []; reads = a_void_head n; low = omega arith; same = refl } }
 head_law (a_void_head at) = record { from = λ n. record { height = 0; tree = []; reads = a_void_head n; low = omega arith; same = refl } }
 head_law (some_parameters {ps = []} r) = absurd (some_there r refl)

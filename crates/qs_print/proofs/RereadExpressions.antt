@@ -1,18 +1,18 @@
--- The printed lexemes of an expression that was read are read as that expression again, no higher.
+-- The printed terminals of an expression that was read are read as that expression again, no higher.
 use Rattle.std.proofs.Common.{◌≡◌, ℕ, zero, suc, ◌+◌, ◌-◌, ◌≤◌, Bool, true, false, List, [], ◌∷◌, ◌++◌, length, refl, sym, ap, subst, append-nil, arith}
 use Rattle.std.specs.Prelude.{max, nat_le}
 use Rattle.std.proofs.lemmas.Bool.{leb-true, le-leb}
-use Rattle.qs_syntax.specs.declared.lexeme.Lexeme.{Lexeme}
-use Rattle.qs_syntax.specs.declared.lexeme.Lexeme.TheVariants.{Name, Text, Mark}
-use Rattle.qs_syntax.specs.declared.tokens.Mark.TheVariants as marks
-use Rattle.qs_syntax.specs.declared.tree.UnarySign.{UnarySign}
-use Rattle.qs_syntax.specs.declared.tree.BinarySign.{BinarySign}
-use Rattle.qs_syntax.specs.declared.tree.BinarySign.TheVariants as binaries
-use Rattle.qs_syntax.specs.declared.tree.AssignSign.{AssignSign}
+use Rattle.qs_syntax.specs.declared.terminal.Terminal.{Terminal}
+use Rattle.qs_syntax.specs.declared.terminal.Terminal.TheVariants.{Name, Text, Punctuator}
+use Rattle.qs_syntax.specs.declared.tokens.Punctuator.TheVariants as punctuators
+use Rattle.qs_syntax.specs.declared.tree.UnaryOperator.{UnaryOperator}
+use Rattle.qs_syntax.specs.declared.tree.BinaryOperator.{BinaryOperator}
+use Rattle.qs_syntax.specs.declared.tree.BinaryOperator.TheVariants as binaries
+use Rattle.qs_syntax.specs.declared.tree.AssignmentOperator.{AssignmentOperator}
 use Rattle.qs_syntax.specs.declared.tree.Access.{Access}
-use Rattle.qs_syntax.specs.declared.tree.StepSign.TheVariants as steps
+use Rattle.qs_syntax.specs.declared.tree.StepOperator.TheVariants as steps
 use Rattle.qs_syntax.specs.declared.tree.TypeName.{TypeName}
-use Rattle.qs_syntax.specs.Signs.{mark_of_binary, weakness, mark_of_assign, mark_of_access}
+use Rattle.qs_syntax.specs.Operators.{punctuator_of_binary, precedence, punctuator_of_assign, punctuator_of_access}
 use Rattle.qs_syntax.specs.Trees.{ExprTree, expr, int, text, name, unary, step, cast, size_type, size_expr, binary, assign, choice, comma, index, member, call, Exprs, no_exprs, expr_and}
 use Rattle.qs_syntax.specs.Reads.{Form, Postfix, Unary, Level, Conditional, Assignment, Expression, at_first, no_text, Reads, a_name, an_empty_call, a_call, a_constant, a_text, in_parentheses, an_index, a_member, an_increment_after, a_decrement_after, a_postfix, an_increment, a_decrement, an_operator, a_size_of_type, a_size_of_value, a_cast, an_operand, stronger, an_operation, a_plain_level, a_choice, a_plain_conditional, an_assignment, a_plain_assignment, a_comma, ReadsArguments, a_last_argument, an_argument}
 use Rattle.qs_print.specs.Lexed.{renumbered}
@@ -70,7 +70,7 @@ level_form (suc (suc (suc (suc (suc (suc (suc (suc (suc zero))))))))) le = refl
 level_form (suc (suc (suc (suc (suc (suc (suc (suc (suc (suc zero)))))))))) le = refl
 level_form (suc (suc (suc (suc (suc (suc (suc (suc (suc (suc (suc j))))))))))) le = absurd (omega arith)
 
-up : (w : ℕ) {h : ℕ} {ts : List Lexeme} {e : ExprTree} → Reads (form_at w) h ts e → Reads (form_at (suc w)) h ts e
+up : (w : ℕ) {h : ℕ} {ts : List Terminal} {e : ExprTree} → Reads (form_at w) h ts e → Reads (form_at (suc w)) h ts e
 up zero r = a_postfix r
 up (suc zero) r = an_operand r
 up (suc (suc zero)) r = stronger r
@@ -88,36 +88,36 @@ up (suc (suc (suc (suc (suc (suc (suc (suc (suc (suc (suc (suc (suc zero))))))))
 up (suc (suc (suc (suc (suc (suc (suc (suc (suc (suc (suc (suc (suc (suc zero)))))))))))))) r = a_plain_assignment r
 up (suc (suc (suc (suc (suc (suc (suc (suc (suc (suc (suc (suc (suc (suc (suc w))))))))))))))) r = r
 
-raise : (v w : ℕ) {h : ℕ} {ts : List Lexeme} {e : ExprTree} → w ≤ v → Reads (form_at w) h ts e → Reads (form_at v) h ts e
+raise : (v w : ℕ) {h : ℕ} {ts : List Terminal} {e : ExprTree} → w ≤ v → Reads (form_at w) h ts e → Reads (form_at v) h ts e
 raise v w {h} {ts} {e} le r = subst (λ n. Reads (form_at n) h ts e) (omega arith) (add (v - w) r)
   where
     add : (n : ℕ) → Reads (form_at w) h ts e → Reads (form_at (n + w)) h ts e
     add zero r = subst (λ n. Reads (form_at n) h ts e) (omega arith) r
     add (suc n) r = let q : suc (n + w) ≡ suc n + w = omega arith in subst (λ n. Reads (form_at n) h ts e) q (up (n + w) (add n r))
 
-weakness_most : (sign : BinarySign) → weakness sign ≤ 10
-weakness_most binaries.Multiply = omega arith
-weakness_most binaries.Divide = omega arith
-weakness_most binaries.Remainder = omega arith
-weakness_most binaries.Add = omega arith
-weakness_most binaries.Subtract = omega arith
-weakness_most binaries.ShiftLeft = omega arith
-weakness_most binaries.ShiftRight = omega arith
-weakness_most binaries.Less = omega arith
-weakness_most binaries.LessEqual = omega arith
-weakness_most binaries.Greater = omega arith
-weakness_most binaries.GreaterEqual = omega arith
-weakness_most binaries.Equal = omega arith
-weakness_most binaries.NotEqual = omega arith
-weakness_most binaries.BitAnd = omega arith
-weakness_most binaries.BitXor = omega arith
-weakness_most binaries.BitOr = omega arith
-weakness_most binaries.And = omega arith
-weakness_most binaries.Or = omega arith
+precedence_most : (operator : BinaryOperator) → precedence operator ≤ 10
+precedence_most binaries.Multiply = omega arith
+precedence_most binaries.Divide = omega arith
+precedence_most binaries.Remainder = omega arith
+precedence_most binaries.Add = omega arith
+precedence_most binaries.Subtract = omega arith
+precedence_most binaries.ShiftLeft = omega arith
+precedence_most binaries.ShiftRight = omega arith
+precedence_most binaries.Less = omega arith
+precedence_most binaries.LessEqual = omega arith
+precedence_most binaries.Greater = omega arith
+precedence_most binaries.GreaterEqual = omega arith
+precedence_most binaries.Equal = omega arith
+precedence_most binaries.NotEqual = omega arith
+precedence_most binaries.BitAnd = omega arith
+precedence_most binaries.BitXor = omega arith
+precedence_most binaries.BitOr = omega arith
+precedence_most binaries.And = omega arith
+precedence_most binaries.Or = omega arith
 
 -- ---- the claim
 
-abbrev Readable : Form → ℕ → List Lexeme → ExprTree → Type 0
+abbrev Readable : Form → ℕ → List Terminal → ExprTree → Type 0
 Readable form h ls e = Reread (Reads form) plain_expr h ls e
 
 -- the height with parentheses, where they are needed
@@ -147,18 +147,18 @@ pub record Law (most h : ℕ) (e : ExprTree) : Type 0 where
   pub strong : level e ≤ 15
   pub fits : wrapped (nat_le (level e) most) own ≤ h
 
-raised : (v w h k : ℕ) (ls : List Lexeme) (e : ExprTree) → w ≤ v → h ≤ k → Readable (form_at w) h ls e → Readable (form_at v) k ls e
+raised : (v w h k : ℕ) (ls : List Terminal) (e : ExprTree) → w ≤ v → h ≤ k → Readable (form_at w) h ls e → Readable (form_at v) k ls e
 raised v w h k ls e le low r = record { from = λ n. let a : Again (Reads (form_at w)) plain_expr h (renumbered n ls) e = r.from n in record { height = a.height; tree = a.tree; reads = raise v w le a.reads; low = omega arith; same = a.same } }
 
 -- as an expression
 pub whole : (h : ℕ) (e : ExprTree) → Law 15 h e → Readable Expression h (printed_expr e) e
 whole h e l = raised 15 (level e) l.own h (printed_expr e) e l.strong (omega (arith, wrapped_least (nat_le (level e) 15) l.own, l.fits)) l.natural
 
-closed : (h : ℕ) (ls : List Lexeme) (e : ExprTree) → Readable Expression h ls e → Readable Postfix (suc h) (parentheses_unless false ls) e
+closed : (h : ℕ) (ls : List Terminal) (e : ExprTree) → Readable Expression h ls e → Readable Postfix (suc h) (parentheses_unless false ls) e
 closed h ls e r = record {
   from = λ n.
       let a : Again (Reads Expression) plain_expr h (renumbered (n + 1) ls) e = r.from (n + 1) in
-      rw (renumbered_append (n + 1) ls (Mark 0 marks.CloseParenthesis ∷ [])) (record { height = suc a.height; tree = a.tree; reads = in_parentheses n (n + 1 + length ls) a.reads; low = omega arith; same = a.same });
+      rw (renumbered_append (n + 1) ls (Punctuator 0 punctuators.CloseParenthesis ∷ [])) (record { height = suc a.height; tree = a.tree; reads = in_parentheses n (n + 1 + length ls) a.reads; low = omega arith; same = a.same });
 }
 
 -- in the form of a level
@@ -203,7 +203,7 @@ call_law h at f es r =
     exact 0 (suc h) (expr 0 at (call f es)) (omega arith) (omega arith) (record {
       from = λ n.
           let a : Again ReadsArguments plain_exprs h (renumbered (n + 1 + 1) (printed_arguments es)) es = r.from (n + 1 + 1) in
-          rw (renumbered_append (n + 1 + 1) (printed_arguments es) (Mark 0 marks.CloseParenthesis ∷ []))
+          rw (renumbered_append (n + 1 + 1) (printed_arguments es) (Punctuator 0 punctuators.CloseParenthesis ∷ []))
           (record { height = suc a.height; tree = expr 0 n (call f a.tree); reads = a_call n (n + 1) (n + 1 + 1 + length (printed_arguments es)) f a.reads; low = omega arith; same = ap (λ x. expr 0 0 (call f x)) a.same });
     })
 
@@ -218,7 +218,7 @@ index_law h k at a b la lb =
           let m : ℕ = n + length (printed_part 0 a) in
           let p : at_part 0 h n a = (part 0 h a la).from n in
           let q : at_whole k (m + 1) b = (whole k b lb).from (m + 1) in
-          rw (renumbered_append n (printed_part 0 a) (Mark 0 marks.OpenBracket ∷ (printed_expr b ++ Mark 0 marks.CloseBracket ∷ [])), renumbered_append (m + 1) (printed_expr b) (Mark 0 marks.CloseBracket ∷ []))
+          rw (renumbered_append n (printed_part 0 a) (Punctuator 0 punctuators.OpenBracket ∷ (printed_expr b ++ Punctuator 0 punctuators.CloseBracket ∷ [])), renumbered_append (m + 1) (printed_expr b) (Punctuator 0 punctuators.CloseBracket ∷ []))
           (record {
             height = suc (max p.height q.height);
             tree = at_first (renumbered n (printed_part 0 a)) (index p.tree q.tree);
@@ -234,7 +234,7 @@ member_law h at access a x la =
       from = λ n.
           let m : ℕ = n + length (printed_part 0 a) in
           let p : at_part 0 h n a = (part 0 h a la).from n in
-          rw (renumbered_append n (printed_part 0 a) (Mark 0 (mark_of_access access) ∷ Name 0 x ∷ []))
+          rw (renumbered_append n (printed_part 0 a) (Punctuator 0 (punctuator_of_access access) ∷ Name 0 x ∷ []))
           (record { height = suc p.height; tree = at_first (renumbered n (printed_part 0 a)) (member access p.tree x); reads = a_member access m (m + 1) x p.reads; low = omega arith; same = ap (λ b. expr 0 0 (member access b x)) p.same });
     })
 
@@ -243,7 +243,7 @@ increment_after_law h at a la =
     exact 0 (suc h) (expr 0 at (step steps.IncrementAfter a)) (omega arith) (omega arith) (record {
       from = λ n.
           let p : at_part 0 h n a = (part 0 h a la).from n in
-          rw (renumbered_append n (printed_part 0 a) (Mark 0 marks.Increment ∷ []))
+          rw (renumbered_append n (printed_part 0 a) (Punctuator 0 punctuators.Increment ∷ []))
           (record { height = suc p.height; tree = at_first (renumbered n (printed_part 0 a)) (step steps.IncrementAfter p.tree); reads = an_increment_after (n + length (printed_part 0 a)) p.reads; low = omega arith; same = ap (λ b. expr 0 0 (step steps.IncrementAfter b)) p.same });
     })
 
@@ -252,7 +252,7 @@ decrement_after_law h at a la =
     exact 0 (suc h) (expr 0 at (step steps.DecrementAfter a)) (omega arith) (omega arith) (record {
       from = λ n.
           let p : at_part 0 h n a = (part 0 h a la).from n in
-          rw (renumbered_append n (printed_part 0 a) (Mark 0 marks.Decrement ∷ []))
+          rw (renumbered_append n (printed_part 0 a) (Punctuator 0 punctuators.Decrement ∷ []))
           (record { height = suc p.height; tree = at_first (renumbered n (printed_part 0 a)) (step steps.DecrementAfter p.tree); reads = a_decrement_after (n + length (printed_part 0 a)) p.reads; low = omega arith; same = ap (λ b. expr 0 0 (step steps.DecrementAfter b)) p.same });
     })
 
@@ -272,12 +272,12 @@ decrement_law h at a la =
           record { height = suc p.height; tree = expr 0 n (step steps.DecrementBefore p.tree); reads = a_decrement n p.reads; low = omega arith; same = ap (λ b. expr 0 0 (step steps.DecrementBefore b)) p.same };
     })
 
-operator_law : (h at : ℕ) (sign : UnarySign) (a : ExprTree) → Law 2 h a → Law 1 (suc h) (expr 0 at (unary sign a))
-operator_law h at sign a la =
-    exact 1 (suc h) (expr 0 at (unary sign a)) (omega arith) (omega arith) (record {
+operator_law : (h at : ℕ) (operator : UnaryOperator) (a : ExprTree) → Law 2 h a → Law 1 (suc h) (expr 0 at (unary operator a))
+operator_law h at operator a la =
+    exact 1 (suc h) (expr 0 at (unary operator a)) (omega arith) (omega arith) (record {
       from = λ n.
           let p : at_part 2 h (n + 1) a = (part 2 h a la).from (n + 1) in
-          record { height = suc p.height; tree = expr 0 n (unary sign p.tree); reads = an_operator sign n p.reads; low = omega arith; same = ap (λ b. expr 0 0 (unary sign b)) p.same };
+          record { height = suc p.height; tree = expr 0 n (unary operator p.tree); reads = an_operator operator n p.reads; low = omega arith; same = ap (λ b. expr 0 0 (unary operator b)) p.same };
     })
 
 size_of_value_law : (h at : ℕ) (a : ExprTree) → Law 1 h a → Law 1 (suc h) (expr 0 at (size_expr a))
@@ -292,7 +292,7 @@ size_of_type_law : (at : ℕ) (type : TypeName) → Law 1 1 (expr 0 at (size_typ
 size_of_type_law at type =
     exact 1 1 (expr 0 at (size_type type)) (omega arith) (omega arith) (record {
       from = λ n.
-          rw (renumbered_append (n + 1 + 1) (printed_type_name type) (Mark 0 marks.CloseParenthesis ∷ []))
+          rw (renumbered_append (n + 1 + 1) (printed_type_name type) (Punctuator 0 punctuators.CloseParenthesis ∷ []))
           (record { height = 1; tree = expr 0 n (size_type type); reads = a_size_of_type n (n + 1) (n + 1 + 1 + length (printed_type_name type)) (type_name_reads type (n + 1 + 1)); low = omega arith; same = refl });
     })
 
@@ -306,40 +306,40 @@ cast_law h at type a la =
           (record { height = suc p.height; tree = expr 0 n (cast type p.tree); reads = a_cast n (n + 1 + length (printed_type_name type)) (type_name_reads type (n + 1)) p.reads; low = omega arith; same = ap (λ b. expr 0 0 (cast type b)) p.same });
     })
 
-operation_law : (j h k at : ℕ) (sign : BinarySign) (a b : ExprTree) → weakness sign ≡ suc j → Law (suc (suc (suc j))) h a → Law (suc (suc j)) k b → Law (suc (suc (suc j))) (suc (max h k)) (expr 0 at (binary sign a b))
-operation_law j h k at sign a b e la lb =
-    let most : weakness sign ≤ 10 = weakness_most sign in
-    let left : suc (suc (suc j)) ≡ weakness sign + 2 = omega arith in
-    let right : suc (suc j) ≡ weakness sign + 1 = omega arith in
-    let top : form_at (weakness sign + 2) ≡ Level (suc j) = subst (λ l. form_at l ≡ Level (suc j)) left (level_form (suc j) (omega arith)) in
-    let low : form_at (weakness sign + 1) ≡ Level j = subst (λ l. form_at l ≡ Level j) right (level_form j (omega arith)) in
-    let ka : Law (weakness sign + 2) h a = subst (λ l. Law l h a) left la in
-    let kb : Law (weakness sign + 1) k b = subst (λ l. Law l k b) right lb in
-    exact (suc (suc (suc j))) (suc (max h k)) (expr 0 at (binary sign a b)) (omega arith) (omega arith) (record {
+operation_law : (j h k at : ℕ) (operator : BinaryOperator) (a b : ExprTree) → precedence operator ≡ suc j → Law (suc (suc (suc j))) h a → Law (suc (suc j)) k b → Law (suc (suc (suc j))) (suc (max h k)) (expr 0 at (binary operator a b))
+operation_law j h k at operator a b e la lb =
+    let most : precedence operator ≤ 10 = precedence_most operator in
+    let left : suc (suc (suc j)) ≡ precedence operator + 2 = omega arith in
+    let right : suc (suc j) ≡ precedence operator + 1 = omega arith in
+    let top : form_at (precedence operator + 2) ≡ Level (suc j) = subst (λ l. form_at l ≡ Level (suc j)) left (level_form (suc j) (omega arith)) in
+    let low : form_at (precedence operator + 1) ≡ Level j = subst (λ l. form_at l ≡ Level j) right (level_form j (omega arith)) in
+    let ka : Law (precedence operator + 2) h a = subst (λ l. Law l h a) left la in
+    let kb : Law (precedence operator + 1) k b = subst (λ l. Law l k b) right lb in
+    exact (suc (suc (suc j))) (suc (max h k)) (expr 0 at (binary operator a b)) (omega arith) (omega arith) (record {
       from = λ n.
-          let m : ℕ = n + length (printed_part (weakness sign + 2) a) in
-          let p : at_part (weakness sign + 2) h n a = (part (weakness sign + 2) h a ka).from n in
-          let q : at_part (weakness sign + 1) k (m + 1) b = (part (weakness sign + 1) k b kb).from (m + 1) in
-          rw (renumbered_append n (printed_part (weakness sign + 2) a) (Mark 0 (mark_of_binary sign) ∷ printed_part (weakness sign + 1) b))
+          let m : ℕ = n + length (printed_part (precedence operator + 2) a) in
+          let p : at_part (precedence operator + 2) h n a = (part (precedence operator + 2) h a ka).from n in
+          let q : at_part (precedence operator + 1) k (m + 1) b = (part (precedence operator + 1) k b kb).from (m + 1) in
+          rw (renumbered_append n (printed_part (precedence operator + 2) a) (Punctuator 0 (punctuator_of_binary operator) ∷ printed_part (precedence operator + 1) b))
           (record {
             height = suc (max p.height q.height);
-            tree = at_first (renumbered n (printed_part (weakness sign + 2) a)) (binary sign p.tree q.tree);
-            reads = subst (λ f. Reads f (suc (max p.height q.height)) (renumbered n (printed_part (weakness sign + 2) a) ++ Mark m (mark_of_binary sign) ∷ renumbered (m + 1) (printed_part (weakness sign + 1) b)) (at_first (renumbered n (printed_part (weakness sign + 2) a)) (binary sign p.tree q.tree))) (sym top)
-                (an_operation sign m e (subst (λ f. Reads f p.height (renumbered n (printed_part (weakness sign + 2) a)) p.tree) top p.reads) (subst (λ f. Reads f q.height (renumbered (m + 1) (printed_part (weakness sign + 1) b)) q.tree) low q.reads));
+            tree = at_first (renumbered n (printed_part (precedence operator + 2) a)) (binary operator p.tree q.tree);
+            reads = subst (λ f. Reads f (suc (max p.height q.height)) (renumbered n (printed_part (precedence operator + 2) a) ++ Punctuator m (punctuator_of_binary operator) ∷ renumbered (m + 1) (printed_part (precedence operator + 1) b)) (at_first (renumbered n (printed_part (precedence operator + 2) a)) (binary operator p.tree q.tree))) (sym top)
+                (an_operation operator m e (subst (λ f. Reads f p.height (renumbered n (printed_part (precedence operator + 2) a)) p.tree) top p.reads) (subst (λ f. Reads f q.height (renumbered (m + 1) (printed_part (precedence operator + 1) b)) q.tree) low q.reads));
             low = omega arith;
             same = rw (p.same, q.same) refl;
           });
     })
 
-assignment_law : (h k at : ℕ) (sign : AssignSign) (a b : ExprTree) → Law 1 h a → Law 14 k b → Law 14 (suc (max h k)) (expr 0 at (assign sign a b))
-assignment_law h k at sign a b la lb =
-    exact 14 (suc (max h k)) (expr 0 at (assign sign a b)) (omega arith) (omega arith) (record {
+assignment_law : (h k at : ℕ) (operator : AssignmentOperator) (a b : ExprTree) → Law 1 h a → Law 14 k b → Law 14 (suc (max h k)) (expr 0 at (assign operator a b))
+assignment_law h k at operator a b la lb =
+    exact 14 (suc (max h k)) (expr 0 at (assign operator a b)) (omega arith) (omega arith) (record {
       from = λ n.
           let m : ℕ = n + length (printed_part 1 a) in
           let p : at_part 1 h n a = (part 1 h a la).from n in
           let q : at_part 14 k (m + 1) b = (part 14 k b lb).from (m + 1) in
-          rw (renumbered_append n (printed_part 1 a) (Mark 0 (mark_of_assign sign) ∷ printed_part 14 b))
-          (record { height = suc (max p.height q.height); tree = at_first (renumbered n (printed_part 1 a)) (assign sign p.tree q.tree); reads = an_assignment sign m p.reads q.reads; low = omega arith; same = rw (p.same, q.same) refl });
+          rw (renumbered_append n (printed_part 1 a) (Punctuator 0 (punctuator_of_assign operator) ∷ printed_part 14 b))
+          (record { height = suc (max p.height q.height); tree = at_first (renumbered n (printed_part 1 a)) (assign operator p.tree q.tree); reads = an_assignment operator m p.reads q.reads; low = omega arith; same = rw (p.same, q.same) refl });
     })
 
 comma_law : (h k at : ℕ) (a b : ExprTree) → Law 15 h a → Law 14 k b → Law 15 (suc (max h k)) (expr 0 at (comma a b))
@@ -349,7 +349,7 @@ comma_law h k at a b la lb =
           let m : ℕ = n + length (printed_expr a) in
           let p : at_whole h n a = (whole h a la).from n in
           let q : at_part 14 k (m + 1) b = (part 14 k b lb).from (m + 1) in
-          rw (renumbered_append n (printed_expr a) (Mark 0 marks.Comma ∷ printed_part 14 b))
+          rw (renumbered_append n (printed_expr a) (Punctuator 0 punctuators.Comma ∷ printed_part 14 b))
           (record { height = suc (max p.height q.height); tree = at_first (renumbered n (printed_expr a)) (comma p.tree q.tree); reads = a_comma m p.reads q.reads; low = omega arith; same = rw (p.same, q.same) refl });
     })
 
@@ -362,7 +362,7 @@ choice_law h k l at a b c la lb lc =
           let p : at_part 12 h n a = (part 12 h a la).from n in
           let q : at_whole k (m + 1) b = (whole k b lb).from (m + 1) in
           let r : at_part 13 l (i + 1) c = (part 13 l c lc).from (i + 1) in
-          rw (renumbered_append n (printed_part 12 a) (Mark 0 marks.Question ∷ (printed_expr b ++ Mark 0 marks.Colon ∷ printed_part 13 c)), renumbered_append (m + 1) (printed_expr b) (Mark 0 marks.Colon ∷ printed_part 13 c))
+          rw (renumbered_append n (printed_part 12 a) (Punctuator 0 punctuators.Question ∷ (printed_expr b ++ Punctuator 0 punctuators.Colon ∷ printed_part 13 c)), renumbered_append (m + 1) (printed_expr b) (Punctuator 0 punctuators.Colon ∷ printed_part 13 c))
           (record {
             height = suc (max p.height (max q.height r.height));
             tree = at_first (renumbered n (printed_part 12 a)) (choice p.tree q.tree r.tree);
@@ -394,12 +394,12 @@ further_law h k e d es l r = record {
 
 -- ---- all of them
 
-some : {h : ℕ} {ts : List Lexeme} {es : Exprs} → ReadsArguments h ts es → es ≡ no_exprs → ⊥
+some : {h : ℕ} {ts : List Terminal} {es : Exprs} → ReadsArguments h ts es → es ≡ no_exprs → ⊥
 some (a_last_argument r) e = cc
 some (an_argument at r s) e = cc
 
 mutual
-  pub law : {form : Form} {h : ℕ} {ts : List Lexeme} {e : ExprTree} → Reads form h ts e → IsForm form → Law (level_of form) h e
+  pub law : {form : Form} {h : ℕ} {ts : List Terminal} {e : ExprTree} → Reads form h ts e → IsForm form → Law (level_of form) h e
   law (a_name at x) ok = name_law at x
   law (an_empty_call at o c f) ok = empty_call_law at f
   law (a_call {h = h} {es = es} at o c f r) ok = call_law h at f es (arguments_law r)
@@ -413,21 +413,21 @@ mutual
   law (a_postfix {h = h} {e = e} r) ok = weaker 0 1 h e (omega arith) (law r tt)
   law (an_increment {h = h} {e = e} at r) ok = increment_law h at e (law r tt)
   law (a_decrement {h = h} {e = e} at r) ok = decrement_law h at e (law r tt)
-  law (an_operator {h = h} {e = e} sign at r) ok = operator_law h at sign e (law r (omega arith))
+  law (an_operator {h = h} {e = e} operator at r) ok = operator_law h at operator e (law r (omega arith))
   law (a_size_of_type {type = type} at o c r) ok = size_of_type_law at type
   law (a_size_of_value {h = h} {e = e} at r) ok = size_of_value_law h at e (law r tt)
   law (a_cast {h = h} {type = type} {e = e} at c t r) ok = cast_law h at type e (law r (omega arith))
   law (an_operand {h = h} {e = e} r) ok = weaker 1 2 h e (omega arith) (law r tt)
   law (stronger {j = j} {h = h} {e = e} r) ok = weaker (suc (suc j)) (suc (suc (suc j))) h e (omega arith) (law r (omega arith))
-  law (an_operation {j = j} {h = h} {k = k} {xs = xs} {a = a} {b = b} sign at w r s) ok = operation_law j h k _ sign a b w (law r ok) (law s (omega arith))
+  law (an_operation {j = j} {h = h} {k = k} {xs = xs} {a = a} {b = b} operator at w r s) ok = operation_law j h k _ operator a b w (law r ok) (law s (omega arith))
   law (a_plain_level {h = h} {e = e} r) ok = weaker 12 13 h e (omega arith) (law r (omega arith))
   law (a_choice {h = h} {k = k} {l = l} {xs = xs} {a = a} {b = b} {c = c} q s r t u) ok = choice_law h k l _ a b c (law r (omega arith)) (law t tt) (law u tt)
   law (a_plain_conditional {h = h} {e = e} r) ok = weaker 13 14 h e (omega arith) (law r tt)
-  law (an_assignment {h = h} {k = k} {xs = xs} {a = a} {b = b} sign at r s) ok = assignment_law h k _ sign a b (law r tt) (law s tt)
+  law (an_assignment {h = h} {k = k} {xs = xs} {a = a} {b = b} operator at r s) ok = assignment_law h k _ operator a b (law r tt) (law s tt)
   law (a_plain_assignment {h = h} {e = e} r) ok = weaker 14 15 h e (omega arith) (law r tt)
   law (a_comma {h = h} {k = k} {xs = xs} {a = a} {b = b} at r s) ok = comma_law h k _ a b (law r tt) (law s tt)
 
-  arguments_law : {h : ℕ} {ts : List Lexeme} {es : Exprs} → ReadsArguments h ts es → Reread ReadsArguments plain_exprs h (printed_arguments es) es
+  arguments_law : {h : ℕ} {ts : List Terminal} {es : Exprs} → ReadsArguments h ts es → Reread ReadsArguments plain_exprs h (printed_arguments es) es
   arguments_law (a_last_argument {h = h} {e = e} r) = last_law h e (law r tt)
   arguments_law (an_argument {h = h} {k = k} {e = e} {es = no_exprs} at r s) = absurd (some s refl)
   arguments_law (an_argument {h = h} {k = k} {e = e} {es = expr_and d es} at r s) = further_law h k e d es (law r tt) (arguments_law s)

@@ -1,10 +1,10 @@
--- The printed lexemes of statements that were read are read as them again, no higher.
+-- The printed terminals of statements that were read are read as them again, no higher.
 use Rattle.std.proofs.Common.{◌≡◌, ℕ, suc, ◌+◌, false, List, [], ◌∷◌, ◌++◌, length, Option, Some, None, refl, ap, sym, ◌∙◌, append-nil, append_assoc, arith}
 use Rattle.std.specs.Prelude.{max, option_map}
-use Rattle.qs_syntax.specs.declared.lexeme.Lexeme.{Lexeme}
-use Rattle.qs_syntax.specs.declared.lexeme.Lexeme.TheVariants.{Keyword, Mark}
+use Rattle.qs_syntax.specs.declared.terminal.Terminal.{Terminal}
+use Rattle.qs_syntax.specs.declared.terminal.Terminal.TheVariants.{Keyword, Punctuator}
 use Rattle.qs_syntax.specs.declared.tokens.Keyword.TheVariants as keywords
-use Rattle.qs_syntax.specs.declared.tokens.Mark.TheVariants as marks
+use Rattle.qs_syntax.specs.declared.tokens.Punctuator.TheVariants as punctuators
 use Rattle.qs_syntax.specs.Trees.{ExprTree, StartTree, no_start, start_expression, start_declaration, StmtTree, empty, expression, declaration, block, branch, while_loop, do_loop, for_loop, break, continue, return, Stmts, no_stmts, stmt_and, Else, no_else, else_by}
 use Rattle.qs_syntax.specs.Reads.{place}
 use Rattle.qs_syntax.specs.ReadsDeclarations.{ReadsDeclaration}
@@ -44,7 +44,7 @@ still_closed s t e f = sym (plain_is_open t) ∙ ap is_open e ∙ plain_is_open 
 abbrev at_optional : (h n : ℕ) (e : Option ExprTree) → Type 0
 at_optional h n e = Again ReadsOptional (option_map plain_expr) h (renumbered n (printed_optional e)) e
 
-optional_law : {h : ℕ} {ts : List Lexeme} {e : Option ExprTree} → ReadsOptional h ts e → Reread ReadsOptional (option_map plain_expr) h (printed_optional e) e
+optional_law : {h : ℕ} {ts : List Terminal} {e : Option ExprTree} → ReadsOptional h ts e → Reread ReadsOptional (option_map plain_expr) h (printed_optional e) e
 optional_law nothing_there = record { from = λ n. record { height = 0; tree = None; reads = nothing_there; low = omega arith; same = refl } }
 optional_law (something_there {h = h} {e = e} r) = record {
   from = λ n.
@@ -55,7 +55,7 @@ optional_law (something_there {h = h} {e = e} r) = record {
 abbrev at_start : (h n : ℕ) (a : StartTree) → Type 0
 at_start h n a = Again ReadsStart plain_start h (renumbered n (printed_start a)) a
 
-start_law : {h : ℕ} {ts : List Lexeme} {a : StartTree} → ReadsStart h ts a → Reread ReadsStart plain_start h (printed_start a) a
+start_law : {h : ℕ} {ts : List Terminal} {a : StartTree} → ReadsStart h ts a → Reread ReadsStart plain_start h (printed_start a) a
 start_law (a_start_declaration {h = h} {d = d} r) = record {
   from = λ n.
       let p : Again ReadsDeclaration plain_declaration h (renumbered n (printed_declaration d)) d = (declaration_law r).from n in
@@ -64,7 +64,7 @@ start_law (a_start_declaration {h = h} {d = d} r) = record {
 start_law (a_start_expression {h = h} {e = e} s r) = record {
   from = λ n.
       let p : at_whole h n e = (whole h e (law r tt)).from n in
-      rw (renumbered_append n (printed_expr e) (Mark 0 marks.Semicolon ∷ []))
+      rw (renumbered_append n (printed_expr e) (Punctuator 0 punctuators.Semicolon ∷ []))
       (record { height = p.height; tree = start_expression p.tree; reads = a_start_expression (n + length (printed_expr e)) p.reads; low = p.low; same = ap start_expression p.same });
 }
 start_law (no_start_at_all s) = record { from = λ n. record { height = 0; tree = no_start; reads = no_start_at_all n; low = omega arith; same = refl } }
@@ -78,18 +78,18 @@ at_items h n ss = Again ReadsItems plain_stmts h (renumbered n (printed_stmts ss
 -- ---- statements
 
 mutual
-  statement_law : {h : ℕ} {ts : List Lexeme} {s : StmtTree} → ReadsStatement h ts s → Reread ReadsStatement plain_stmt h (printed_stmt s) s
+  statement_law : {h : ℕ} {ts : List Terminal} {s : StmtTree} → ReadsStatement h ts s → Reread ReadsStatement plain_stmt h (printed_stmt s) s
   statement_law (a_block {h = h} {ss = ss} o c r) = record {
     from = λ n.
         let p : at_items h (n + 1) ss = (items_law r).from (n + 1) in
-        rw (renumbered_append (n + 1) (printed_stmts ss) (Mark 0 marks.CloseBrace ∷ []))
+        rw (renumbered_append (n + 1) (printed_stmts ss) (Punctuator 0 punctuators.CloseBrace ∷ []))
         (record { height = suc p.height; tree = block p.tree; reads = a_block n (n + 1 + length (printed_stmts ss)) p.reads; low = omega arith; same = ap block p.same });
   }
   statement_law (an_empty at) = record { from = λ n. record { height = 1; tree = empty 0 n; reads = an_empty n; low = omega arith; same = refl } }
   statement_law (an_expression {h = h} {e = e} s r) = record {
     from = λ n.
         let p : at_whole h n e = (whole h e (law r tt)).from n in
-        rw (renumbered_append n (printed_expr e) (Mark 0 marks.Semicolon ∷ []))
+        rw (renumbered_append n (printed_expr e) (Punctuator 0 punctuators.Semicolon ∷ []))
         (record { height = suc p.height; tree = expression 0 (place (renumbered n (printed_expr e))) p.tree; reads = an_expression (n + length (printed_expr e)) p.reads; low = omega arith; same = ap (expression 0 0) p.same });
   }
   statement_law (an_if {h = h} {k = k} {e = e} {s = s} at o c r t) = record {
@@ -129,12 +129,12 @@ mutual
         let m : ℕ = n + 1 + length (printed_stmt s) in
         let p : at_stmt h (n + 1) s = (statement_law r).from (n + 1) in
         let q : at_whole k (m + 1 + 1) e = (whole k e (law t tt)).from (m + 1 + 1) in
-        rw (renumbered_append (n + 1) (printed_stmt s) (Keyword 0 keywords.While ∷ (in_parentheses (printed_expr e) ++ Mark 0 marks.Semicolon ∷ [])), enclosed (m + 1) (printed_expr e) (Mark 0 marks.Semicolon ∷ []))
+        rw (renumbered_append (n + 1) (printed_stmt s) (Keyword 0 keywords.While ∷ (in_parentheses (printed_expr e) ++ Punctuator 0 punctuators.Semicolon ∷ [])), enclosed (m + 1) (printed_expr e) (Punctuator 0 punctuators.Semicolon ∷ []))
         (record { height = suc (max p.height q.height); tree = do_loop 0 n p.tree q.tree; reads = a_do n m (m + 1) (m + 1 + 1 + length (printed_expr e)) (behind (m + 1) (printed_expr e)) p.reads q.reads; low = omega arith; same = rw (p.same, q.same) refl });
   }
   statement_law (a_for {h = h} {i = i} {j = j} {k = k} {start = a} {e = e} {u = u} {s = s} at o z c r t v w) = record {
     from = λ n.
-        let head : List Lexeme = printed_start a ++ (printed_optional e ++ Mark 0 marks.Semicolon ∷ printed_optional u) in
+        let head : List Terminal = printed_start a ++ (printed_optional e ++ Punctuator 0 punctuators.Semicolon ∷ printed_optional u) in
         let x : ℕ = n + 1 + 1 + length (printed_start a) in
         let y : ℕ = x + length (printed_optional e) in
         let m : ℕ = behind (n + 1) head in
@@ -144,10 +144,10 @@ mutual
         let b : at_stmt k m s = (statement_law w).from m in
         rw (
           enclosed (n + 1) head (printed_stmt s),
-          renumbered_append (n + 1 + 1) (printed_start a) (printed_optional e ++ Mark 0 marks.Semicolon ∷ printed_optional u),
-          renumbered_append x (printed_optional e) (Mark 0 marks.Semicolon ∷ printed_optional u),
-          append_assoc (renumbered (n + 1 + 1) (printed_start a)) (renumbered x (printed_optional e) ++ Mark y marks.Semicolon ∷ renumbered (y + 1) (printed_optional u)) (Mark (n + 1 + 1 + length head) marks.CloseParenthesis ∷ renumbered m (printed_stmt s)),
-          append_assoc (renumbered x (printed_optional e)) (Mark y marks.Semicolon ∷ renumbered (y + 1) (printed_optional u)) (Mark (n + 1 + 1 + length head) marks.CloseParenthesis ∷ renumbered m (printed_stmt s)),
+          renumbered_append (n + 1 + 1) (printed_start a) (printed_optional e ++ Punctuator 0 punctuators.Semicolon ∷ printed_optional u),
+          renumbered_append x (printed_optional e) (Punctuator 0 punctuators.Semicolon ∷ printed_optional u),
+          append_assoc (renumbered (n + 1 + 1) (printed_start a)) (renumbered x (printed_optional e) ++ Punctuator y punctuators.Semicolon ∷ renumbered (y + 1) (printed_optional u)) (Punctuator (n + 1 + 1 + length head) punctuators.CloseParenthesis ∷ renumbered m (printed_stmt s)),
+          append_assoc (renumbered x (printed_optional e)) (Punctuator y punctuators.Semicolon ∷ renumbered (y + 1) (printed_optional u)) (Punctuator (n + 1 + 1 + length head) punctuators.CloseParenthesis ∷ renumbered m (printed_stmt s)),
         )
         (record {
           height = suc (max p.height (max q.height (max g.height b.height)));
@@ -162,11 +162,11 @@ mutual
   statement_law (a_return {h = h} {e = e} at s r) = record {
     from = λ n.
         let p : at_optional h (n + 1) e = (optional_law r).from (n + 1) in
-        rw (renumbered_append (n + 1) (printed_optional e) (Mark 0 marks.Semicolon ∷ []))
+        rw (renumbered_append (n + 1) (printed_optional e) (Punctuator 0 punctuators.Semicolon ∷ []))
         (record { height = suc p.height; tree = return 0 n p.tree; reads = a_return n (n + 1 + length (printed_optional e)) p.reads; low = omega arith; same = ap (return 0 0) p.same });
   }
 
-  item_law : {h : ℕ} {ts : List Lexeme} {s : StmtTree} → ReadsItem h ts s → Reread ReadsItem plain_stmt h (printed_stmt s) s
+  item_law : {h : ℕ} {ts : List Terminal} {s : StmtTree} → ReadsItem h ts s → Reread ReadsItem plain_stmt h (printed_stmt s) s
   item_law (a_statement {h = h} {s = s} r) = record {
     from = λ n.
         let p : at_stmt h n s = (statement_law r).from n in
@@ -178,7 +178,7 @@ mutual
         record { height = p.height; tree = declaration p.tree; reads = a_declared p.reads; low = p.low; same = ap declaration p.same };
   }
 
-  pub items_law : {h : ℕ} {ts : List Lexeme} {ss : Stmts} → ReadsItems h ts ss → Reread ReadsItems plain_stmts h (printed_stmts ss) ss
+  pub items_law : {h : ℕ} {ts : List Terminal} {ss : Stmts} → ReadsItems h ts ss → Reread ReadsItems plain_stmts h (printed_stmts ss) ss
   items_law no_item = record { from = λ n. record { height = 0; tree = no_stmts; reads = no_item; low = omega arith; same = refl } }
   items_law (an_item {h = h} {k = k} {s = s} {ss = ss} r t) = record {
     from = λ n.

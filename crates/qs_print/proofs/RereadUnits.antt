@@ -1,9 +1,9 @@
--- The printed lexemes of a unit that was read are read as that unit again, no higher.
+-- The printed terminals of a unit that was read are read as that unit again, no higher.
 use Rattle.std.proofs.Common.{ℕ, suc, ◌+◌, List, [], ◌∷◌, ◌++◌, length, map, flat_map, Some, None, refl, ap, append-nil, arith}
 use Rattle.std.specs.Prelude.{max}
-use Rattle.qs_syntax.specs.declared.lexeme.Lexeme.{Lexeme}
-use Rattle.qs_syntax.specs.declared.lexeme.Lexeme.TheVariants.{Name, Mark}
-use Rattle.qs_syntax.specs.declared.tokens.Mark.TheVariants as marks
+use Rattle.qs_syntax.specs.declared.terminal.Terminal.{Terminal}
+use Rattle.qs_syntax.specs.declared.terminal.Terminal.TheVariants.{Name, Punctuator}
+use Rattle.qs_syntax.specs.declared.tokens.Punctuator.TheVariants as punctuators
 use Rattle.qs_syntax.specs.Trees.{ParameterTree, Stmts, DeclTree, structure, forward, function, variables}
 use Rattle.qs_syntax.specs.Reads.{place}
 use Rattle.qs_syntax.specs.ReadsDeclarations.{ReadsAllMembers, ReadsHead, ReadsOuterDeclaration}
@@ -22,13 +22,13 @@ at_head h n ps = Again ReadsHead (map plain_parameter) h (renumbered n (printed_
 abbrev at_items : (h n : ℕ) (ss : Stmts) → Type 0
 at_items h n ss = Again ReadsItems plain_stmts h (renumbered n (printed_stmts ss)) ss
 
-external_law : {h : ℕ} {ts : List Lexeme} {d : DeclTree} → ReadsExternal h ts d → Reread ReadsExternal plain_decl h (printed_decl d) d
+external_law : {h : ℕ} {ts : List Terminal} {d : DeclTree} → ReadsExternal h ts d → Reread ReadsExternal plain_decl h (printed_decl d) d
 external_law (a_struct_with_members {h = h} {ms = ms} at m o c s x r) = record {
   from = λ n.
       let i : ℕ = n + 1 + 1 + 1 in
       let p : Again ReadsAllMembers (map plain_members) h (renumbered i (flat_map printed_members ms)) ms = (all_members_law r).from i in
       let j : ℕ = i + length (flat_map printed_members ms) in
-      rw (renumbered_append i (flat_map printed_members ms) (Mark 0 marks.CloseBrace ∷ Mark 0 marks.Semicolon ∷ []))
+      rw (renumbered_append i (flat_map printed_members ms) (Punctuator 0 punctuators.CloseBrace ∷ Punctuator 0 punctuators.Semicolon ∷ []))
       (record { height = suc p.height; tree = structure (record { id = 0; token = n; name = x; members = p.tree }); reads = a_struct_with_members n (n + 1) (n + 1 + 1) j (j + 1) x p.reads; low = omega arith; same = rw p.same refl });
 }
 external_law (a_forward at m s x) = record {
@@ -41,9 +41,9 @@ external_law (a_header {h = h} {m = count} {base = base} {ps = ps} m o c s x t v
       let j : ℕ = i + length (printed_stars count) in
       let p : at_head h (j + 1 + 1) ps = (head_law r).from (j + 1 + 1) in
       rw (
-        renumbered_append n (printed_base base) (printed_stars count ++ Name 0 x ∷ (in_parentheses (printed_parameters ps) ++ Mark 0 marks.Semicolon ∷ [])),
-        renumbered_append i (printed_stars count) (Name 0 x ∷ (in_parentheses (printed_parameters ps) ++ Mark 0 marks.Semicolon ∷ [])),
-        enclosed (j + 1) (printed_parameters ps) (Mark 0 marks.Semicolon ∷ []),
+        renumbered_append n (printed_base base) (printed_stars count ++ Name 0 x ∷ (in_parentheses (printed_parameters ps) ++ Punctuator 0 punctuators.Semicolon ∷ [])),
+        renumbered_append i (printed_stars count) (Name 0 x ∷ (in_parentheses (printed_parameters ps) ++ Punctuator 0 punctuators.Semicolon ∷ [])),
+        enclosed (j + 1) (printed_parameters ps) (Punctuator 0 punctuators.Semicolon ∷ []),
       )
       (record {
         height = suc p.height;
@@ -60,12 +60,12 @@ external_law (a_definition {h = h} {k = k} {m = count} {base = base} {ps = ps} {
       let l : ℕ = behind (j + 1) (printed_parameters ps) in
       let p : at_head h (j + 1 + 1) ps = (head_law r).from (j + 1 + 1) in
       let q : at_items k (l + 1) ss = (items_law w).from (l + 1) in
-      let body : List Lexeme = Mark 0 marks.OpenBrace ∷ (printed_stmts ss ++ Mark 0 marks.CloseBrace ∷ []) in
+      let body : List Terminal = Punctuator 0 punctuators.OpenBrace ∷ (printed_stmts ss ++ Punctuator 0 punctuators.CloseBrace ∷ []) in
       rw (
         renumbered_append n (printed_base base) (printed_stars count ++ Name 0 x ∷ (in_parentheses (printed_parameters ps) ++ body)),
         renumbered_append i (printed_stars count) (Name 0 x ∷ (in_parentheses (printed_parameters ps) ++ body)),
         enclosed (j + 1) (printed_parameters ps) body,
-        renumbered_append (l + 1) (printed_stmts ss) (Mark 0 marks.CloseBrace ∷ []),
+        renumbered_append (l + 1) (printed_stmts ss) (Punctuator 0 punctuators.CloseBrace ∷ []),
       )
       (record {
         height = suc (max p.height (suc q.height));
@@ -84,7 +84,7 @@ external_law (some_variables {h = h} {d = d} r) = record {
 abbrev at_external : (h n : ℕ) (d : DeclTree) → Type 0
 at_external h n d = Again ReadsExternal plain_decl h (renumbered n (printed_decl d)) d
 
-pub unit_law : {h : ℕ} {ts : List Lexeme} {ds : List DeclTree} → ReadsUnit h ts ds → Reread ReadsUnit without_tokens h (printed_unit ds) ds
+pub unit_law : {h : ℕ} {ts : List Terminal} {ds : List DeclTree} → ReadsUnit h ts ds → Reread ReadsUnit without_tokens h (printed_unit ds) ds
 unit_law (a_last_external {h = h} {d = d} r) = record {
   from = λ n.
       let p : at_external h n d = (external_law r).from n in

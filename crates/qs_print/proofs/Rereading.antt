@@ -1,9 +1,9 @@
--- What it is that printed lexemes read back, whatever their numbers; lists, types and stars.
+-- What it is that printed terminals read back, whatever their numbers; lists, types and stars.
 use Rattle.std.proofs.Common.{◌≡◌, ℕ, zero, suc, ◌+◌, ◌≤◌, List, [], ◌∷◌, ◌++◌, length, sym, ap, subst, ◌∙◌, append_assoc, append-nil, arith}
-use Rattle.qs_syntax.specs.declared.lexeme.Lexeme.{Lexeme}
-use Rattle.qs_syntax.specs.declared.lexeme.Lexeme.TheVariants as lexemes
-use Rattle.qs_syntax.specs.declared.tokens.Mark.{Mark}
-use Rattle.qs_syntax.specs.declared.tokens.Mark.TheVariants as marks
+use Rattle.qs_syntax.specs.declared.terminal.Terminal.{Terminal}
+use Rattle.qs_syntax.specs.declared.terminal.Terminal.TheVariants as terminals
+use Rattle.qs_syntax.specs.declared.tokens.Punctuator.{Punctuator}
+use Rattle.qs_syntax.specs.declared.tokens.Punctuator.TheVariants as punctuators
 use Rattle.qs_syntax.specs.declared.tree.Base.{Base}
 use Rattle.qs_syntax.specs.declared.tree.Base.TheVariants as bases
 use Rattle.qs_syntax.specs.declared.tree.TypeName.{TypeName}
@@ -11,8 +11,8 @@ use Rattle.qs_syntax.specs.ReadsTypes.{no_const, no_prefix, ReadsBase, a_void, a
 use Rattle.qs_print.specs.Lexed.{numbered, renumbered}
 use Rattle.qs_print.specs.Printed.{in_parentheses, printed_base, printed_stars, printed_type_name}
 
--- these lexemes are read, no higher than h, as what is the same as x but for the numbers of tokens
-pub record Again {T : Type 0} (R : ℕ → List Lexeme → T → Type 0) (plain : T → T) (h : ℕ) (us : List Lexeme) (x : T) : Type 0 where
+-- these terminals are read, no higher than h, as what is the same as x but for the numbers of tokens
+pub record Again {T : Type 0} (R : ℕ → List Terminal → T → Type 0) (plain : T → T) (h : ℕ) (us : List Terminal) (x : T) : Type 0 where
   pub height : ℕ
   pub tree : T
   pub reads : R height us tree
@@ -20,26 +20,26 @@ pub record Again {T : Type 0} (R : ℕ → List Lexeme → T → Type 0) (plain 
   pub same : plain tree ≡ plain x
 
 -- so are these, whatever number the first of them has
-pub record Reread {T : Type 0} (R : ℕ → List Lexeme → T → Type 0) (plain : T → T) (h : ℕ) (ls : List Lexeme) (x : T) : Type 0 where
+pub record Reread {T : Type 0} (R : ℕ → List Terminal → T → Type 0) (plain : T → T) (h : ℕ) (ls : List Terminal) (x : T) : Type 0 where
   pub from : (n : ℕ) → Again R plain h (renumbered n ls) x
 
-pub renumbered_append : (n : ℕ) (xs ys : List Lexeme) → renumbered n (xs ++ ys) ≡ renumbered n xs ++ renumbered (n + length xs) ys
+pub renumbered_append : (n : ℕ) (xs ys : List Terminal) → renumbered n (xs ++ ys) ≡ renumbered n xs ++ renumbered (n + length xs) ys
 renumbered_append n [] ys = ap (λ k. renumbered k ys) (omega arith)
 renumbered_append n (x ∷ xs) ys =
     let e : n + 1 + length xs ≡ n + suc (length xs) = omega arith in
     ap (λ ls. numbered n x ∷ ls) (renumbered_append (n + 1) xs ys ∙ ap (λ k. renumbered (n + 1) xs ++ renumbered k ys) e)
 
--- lexemes, a mark behind them, and the rest
-pub closing : (n : ℕ) (m : Mark) (ls rest : List Lexeme) → renumbered n ((ls ++ lexemes.Mark 0 m ∷ []) ++ rest) ≡ renumbered n ls ++ lexemes.Mark (n + length ls) m ∷ renumbered (n + length ls + 1) rest
-closing n m ls rest = ap (renumbered n) (append_assoc ls (lexemes.Mark 0 m ∷ []) rest) ∙ renumbered_append n ls (lexemes.Mark 0 m ∷ rest)
+-- terminals, a punctuator behind them, and the rest
+pub closing : (n : ℕ) (m : Punctuator) (ls rest : List Terminal) → renumbered n ((ls ++ terminals.Punctuator 0 m ∷ []) ++ rest) ≡ renumbered n ls ++ terminals.Punctuator (n + length ls) m ∷ renumbered (n + length ls + 1) rest
+closing n m ls rest = ap (renumbered n) (append_assoc ls (terminals.Punctuator 0 m ∷ []) rest) ∙ renumbered_append n ls (terminals.Punctuator 0 m ∷ rest)
 
--- the number behind parentheses around lexemes
-abbrev pub behind : ℕ → List Lexeme → ℕ
+-- the number behind parentheses around terminals
+abbrev pub behind : ℕ → List Terminal → ℕ
 behind n ls = n + 1 + length ls + 1
 
-pub enclosed : (n : ℕ) (ls rest : List Lexeme)
-    → renumbered n (in_parentheses ls ++ rest) ≡ lexemes.Mark n marks.OpenParenthesis ∷ (renumbered (n + 1) ls ++ lexemes.Mark (n + 1 + length ls) marks.CloseParenthesis ∷ renumbered (behind n ls) rest)
-enclosed n ls rest = ap (λ us. lexemes.Mark n marks.OpenParenthesis ∷ us) (closing (n + 1) marks.CloseParenthesis ls rest)
+pub enclosed : (n : ℕ) (ls rest : List Terminal)
+    → renumbered n (in_parentheses ls ++ rest) ≡ terminals.Punctuator n punctuators.OpenParenthesis ∷ (renumbered (n + 1) ls ++ terminals.Punctuator (n + 1 + length ls) punctuators.CloseParenthesis ∷ renumbered (behind n ls) rest)
+enclosed n ls rest = ap (λ us. terminals.Punctuator n punctuators.OpenParenthesis ∷ us) (closing (n + 1) punctuators.CloseParenthesis ls rest)
 
 -- ---- types
 

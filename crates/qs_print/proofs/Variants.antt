@@ -4,8 +4,8 @@ use Rattle.std.specs.Prelude.{Box, Option, None, Some}
 use Rattle.std.specs.declared.alloc.Global.{Global}
 use Rattle.std.specs.declared.vec.Vec.{Vec}
 use Rattle.qs_syntax.specs.declared.tree.Access.{Access}
-use Rattle.qs_syntax.specs.declared.tree.AssignSign.{AssignSign}
-use Rattle.qs_syntax.specs.declared.tree.BinarySign.{BinarySign}
+use Rattle.qs_syntax.specs.declared.tree.AssignmentOperator.{AssignmentOperator}
+use Rattle.qs_syntax.specs.declared.tree.BinaryOperator.{BinaryOperator}
 use Rattle.qs_syntax.specs.declared.tree.Expr.{Expr}
 use Rattle.qs_syntax.specs.declared.tree.Shape.{Shape-F, fold-roll-Shape}
 use Rattle.qs_syntax.specs.declared.tree.Shape.TheVariants as shapes
@@ -29,11 +29,11 @@ size_type_tree type = ap shape_tree (sym (shapes.rolls-SizeType type)) ∙ fold-
 pub size_expr_tree : (a : Box Expr Global) → shape_tree (shapes.SizeExpr a) ≡ size_expr (expr_tree a.value)
 size_expr_tree a = ap shape_tree (sym (shapes.rolls-SizeExpr a)) ∙ fold-roll-Shape ShapeTree ExprTree shape_step expr_step (Shape-F.SizeExpr a)
 
-pub binary_tree : (sign : BinarySign) (a : Box Expr Global) (b : Box Expr Global) → shape_tree (shapes.Binary sign a b) ≡ binary sign (expr_tree a.value) (expr_tree b.value)
-binary_tree sign a b = ap shape_tree (sym (shapes.rolls-Binary sign a b)) ∙ fold-roll-Shape ShapeTree ExprTree shape_step expr_step (Shape-F.Binary sign a b)
+pub binary_tree : (operator : BinaryOperator) (a : Box Expr Global) (b : Box Expr Global) → shape_tree (shapes.Binary operator a b) ≡ binary operator (expr_tree a.value) (expr_tree b.value)
+binary_tree operator a b = ap shape_tree (sym (shapes.rolls-Binary operator a b)) ∙ fold-roll-Shape ShapeTree ExprTree shape_step expr_step (Shape-F.Binary operator a b)
 
-pub assign_tree : (sign : AssignSign) (a : Box Expr Global) (b : Box Expr Global) → shape_tree (shapes.Assign sign a b) ≡ assign sign (expr_tree a.value) (expr_tree b.value)
-assign_tree sign a b = ap shape_tree (sym (shapes.rolls-Assign sign a b)) ∙ fold-roll-Shape ShapeTree ExprTree shape_step expr_step (Shape-F.Assign sign a b)
+pub assign_tree : (operator : AssignmentOperator) (a : Box Expr Global) (b : Box Expr Global) → shape_tree (shapes.Assign operator a b) ≡ assign operator (expr_tree a.value) (expr_tree b.value)
+assign_tree operator a b = ap shape_tree (sym (shapes.rolls-Assign operator a b)) ∙ fold-roll-Shape ShapeTree ExprTree shape_step expr_step (Shape-F.Assign operator a b)
 
 pub choice_tree : (a : Box Expr Global) (b : Box Expr Global) (c : Box Expr Global) → shape_tree (shapes.Cond a b c) ≡ choice (expr_tree a.value) (expr_tree b.value) (expr_tree c.value)
 choice_tree a b c = ap shape_tree (sym (shapes.rolls-Cond a b c)) ∙ fold-roll-Shape ShapeTree ExprTree shape_step expr_step (Shape-F.Cond a b c)

@@ -1,6 +1,6 @@
 -- What is printed is read as the same unit again.
 use Rattle.std.specs.Prelude.{◌≡◌, ℕ, ◌≤◌, List}
-use Rattle.qs_lexer.specs.Lexemes.{lexemes}
+use Rattle.qs_lexer.specs.Terminals.{terminals}
 use Rattle.qs_lexer.specs.Tokens.{Tokens}
 use Rattle.qs_print.specs.WithoutTokens.{without_tokens}
 use Rattle.qs_syntax.specs.declared.tokens.Token.{Token}
@@ -14,6 +14,6 @@ pub record ReadsBack (text : List ℕ) (ds : List DeclTree) : Type 0 where
   pub height : ℕ
   pub unit : List DeclTree
   pub are_tokens : Tokens text tokens
-  pub reads : ReadsUnit height (lexemes text 0 tokens) unit
+  pub reads : ReadsUnit height (terminals text 0 tokens) unit
   pub low : height ≤ height_limit
   pub same : without_tokens unit ≡ without_tokens ds

@@ -1,12 +1,12 @@
--- How lexemes are spelled (C11 6.4): a constant in decimal, with `u` where it is unsigned, and a text as one literal in which each byte is
+-- How terminals are spelled (C11 6.4): a constant in decimal, with `u` where it is unsigned, and a text as one literal in which each byte is
 -- a backslash and three octal digits.
 use Rattle.std.specs.Prelude.{ℕ, ◌+◌, ◌/◌, ◌%◌, Bool, true, false, List, [], ◌∷◌, ◌++◌, codes, decimal, flat_map}
-use Rattle.qs_syntax.specs.declared.lexeme.Lexeme.{Lexeme}
-use Rattle.qs_syntax.specs.declared.lexeme.Lexeme.TheVariants as lexemes
+use Rattle.qs_syntax.specs.declared.terminal.Terminal.{Terminal}
+use Rattle.qs_syntax.specs.declared.terminal.Terminal.TheVariants as terminals
 use Rattle.qs_syntax.specs.declared.tokens.Keyword.{Keyword}
 use Rattle.qs_syntax.specs.declared.tokens.Keyword.TheVariants as keywords
-use Rattle.qs_syntax.specs.declared.tokens.Mark.{Mark}
-use Rattle.qs_syntax.specs.declared.tokens.Mark.TheVariants as marks
+use Rattle.qs_syntax.specs.declared.tokens.Punctuator.{Punctuator}
+use Rattle.qs_syntax.specs.declared.tokens.Punctuator.TheVariants as punctuators
 
 -- 6.4.1
 abbrev pub keyword_spelling : Keyword → List ℕ
@@ -56,52 +56,52 @@ keyword_spelling keywords.StaticAssert = codes "_Static_assert"
 keyword_spelling keywords.ThreadLocal = codes "_Thread_local"
 
 -- 6.4.6
-abbrev pub mark_spelling : Mark → List ℕ
-mark_spelling marks.OpenBracket = codes "["
-mark_spelling marks.CloseBracket = codes "]"
-mark_spelling marks.OpenParenthesis = codes "("
-mark_spelling marks.CloseParenthesis = codes ")"
-mark_spelling marks.OpenBrace = codes "{"
-mark_spelling marks.CloseBrace = codes "}"
-mark_spelling marks.Dot = codes "."
-mark_spelling marks.Arrow = codes "->"
-mark_spelling marks.Increment = codes "++"
-mark_spelling marks.Decrement = codes "--"
-mark_spelling marks.Ampersand = codes "&"
-mark_spelling marks.Star = codes "*"
-mark_spelling marks.Plus = codes "+"
-mark_spelling marks.Minus = codes "-"
-mark_spelling marks.Tilde = codes "~"
-mark_spelling marks.Exclamation = codes "!"
-mark_spelling marks.Slash = codes "/"
-mark_spelling marks.Percent = codes "%"
-mark_spelling marks.ShiftLeft = codes "<<"
-mark_spelling marks.ShiftRight = codes ">>"
-mark_spelling marks.Less = codes "<"
-mark_spelling marks.Greater = codes ">"
-mark_spelling marks.LessEqual = codes "<="
-mark_spelling marks.GreaterEqual = codes ">="
-mark_spelling marks.Equal = codes "=="
-mark_spelling marks.NotEqual = codes "!="
-mark_spelling marks.Caret = codes "^"
-mark_spelling marks.Bar = codes "|"
-mark_spelling marks.AndAnd = codes "&&"
-mark_spelling marks.OrOr = codes "||"
-mark_spelling marks.Question = codes "?"
-mark_spelling marks.Colon = codes ":"
-mark_spelling marks.Semicolon = codes ";"
-mark_spelling marks.Assign = codes "="
-mark_spelling marks.MultiplyAssign = codes "*="
-mark_spelling marks.DivideAssign = codes "/="
-mark_spelling marks.RemainderAssign = codes "%="
-mark_spelling marks.AddAssign = codes "+="
-mark_spelling marks.SubtractAssign = codes "-="
-mark_spelling marks.ShiftLeftAssign = codes "<<="
-mark_spelling marks.ShiftRightAssign = codes ">>="
-mark_spelling marks.AndAssign = codes "&="
-mark_spelling marks.XorAssign = codes "^="
-mark_spelling marks.OrAssign = codes "|="
-mark_spelling marks.Comma = codes ","
+abbrev pub punctuator_spelling : Punctuator → List ℕ
+punctuator_spelling punctuators.OpenBracket = codes "["
+punctuator_spelling punctuators.CloseBracket = codes "]"
+punctuator_spelling punctuators.OpenParenthesis = codes "("
+punctuator_spelling punctuators.CloseParenthesis = codes ")"
+punctuator_spelling punctuators.OpenBrace = codes "{"
+punctuator_spelling punctuators.CloseBrace = codes "}"
+punctuator_spelling punctuators.Dot = codes "."
+punctuator_spelling punctuators.Arrow = codes "->"
+punctuator_spelling punctuators.Increment = codes "++"
+punctuator_spelling punctuators.Decrement = codes "--"
+punctuator_spelling punctuators.Ampersand = codes "&"
+punctuator_spelling punctuators.Star = codes "*"
+punctuator_spelling punctuators.Plus = codes "+"
+punctuator_spelling punctuators.Minus = codes "-"
+punctuator_spelling punctuators.Tilde = codes "~"
+punctuator_spelling punctuators.Exclamation = codes "!"
+punctuator_spelling punctuators.Slash = codes "/"
+punctuator_spelling punctuators.Percent = codes "%"
+punctuator_spelling punctuators.ShiftLeft = codes "<<"
+punctuator_spelling punctuators.ShiftRight = codes ">>"
+punctuator_spelling punctuators.Less = codes "<"
+punctuator_spelling punctuators.Greater = codes ">"
+punctuator_spelling punctuators.LessEqual = codes "<="
+punctuator_spelling punctuators.GreaterEqual = codes ">="
+punctuator_spelling punctuators.Equal = codes "=="
+punctuator_spelling punctuators.NotEqual = codes "!="
+punctuator_spelling punctuators.Caret = codes "^"
+punctuator_spelling punctuators.Bar = codes "|"
+punctuator_spelling punctuators.AndAnd = codes "&&"
+punctuator_spelling punctuators.OrOr = codes "||"
+punctuator_spelling punctuators.Question = codes "?"
+punctuator_spelling punctuators.Colon = codes ":"
+punctuator_spelling punctuators.Semicolon = codes ";"
+punctuator_spelling punctuators.Assign = codes "="
+punctuator_spelling punctuators.MultiplyAssign = codes "*="
+punctuator_spelling punctuators.DivideAssign = codes "/="
+punctuator_spelling punctuators.RemainderAssign = codes "%="
+punctuator_spelling punctuators.AddAssign = codes "+="
+punctuator_spelling punctuators.SubtractAssign = codes "-="
+punctuator_spelling punctuators.ShiftLeftAssign = codes "<<="
+punctuator_spelling punctuators.ShiftRightAssign = codes ">>="
+punctuator_spelling punctuators.AndAssign = codes "&="
+punctuator_spelling punctuators.XorAssign = codes "^="
+punctuator_spelling punctuators.OrAssign = codes "|="
+punctuator_spelling punctuators.Comma = codes ","
 
 -- 6.4.4.1
 abbrev pub suffix : Bool → List ℕ
@@ -112,15 +112,15 @@ suffix false = []
 abbrev pub octal : ℕ → List ℕ
 octal byte = 92 ∷ (48 + byte / 64) ∷ (48 + byte / 8 % 8) ∷ (48 + byte % 8) ∷ []
 
-abbrev pub spelling : Lexeme → List ℕ
-spelling (lexemes.Name at x) = x
-spelling (lexemes.Keyword at keyword) = keyword_spelling keyword
-spelling (lexemes.Constant at n unsigned) = decimal n ++ suffix unsigned
-spelling (lexemes.Text at bytes) = 34 ∷ (flat_map octal bytes ++ 34 ∷ [])
-spelling (lexemes.Mark at mark) = mark_spelling mark
+abbrev pub spelling : Terminal → List ℕ
+spelling (terminals.Name at x) = x
+spelling (terminals.Keyword at keyword) = keyword_spelling keyword
+spelling (terminals.Constant at n unsigned) = decimal n ++ suffix unsigned
+spelling (terminals.Text at bytes) = 34 ∷ (flat_map octal bytes ++ 34 ∷ [])
+spelling (terminals.Punctuator at punctuator) = punctuator_spelling punctuator
 
 -- single blanks between, ended by 0x0A
-abbrev pub joined : List Lexeme → List ℕ
+abbrev pub joined : List Terminal → List ℕ
 joined [] = 10 ∷ []
 joined (l ∷ []) = spelling l ++ 10 ∷ []
 joined (l ∷ k ∷ ls) = spelling l ++ 32 ∷ joined (k ∷ ls)

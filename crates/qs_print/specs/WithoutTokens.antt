@@ -10,13 +10,13 @@ abbrev mutual
   plain_shape (int n unsigned) = int n unsigned
   plain_shape (text bytes) = text bytes
   plain_shape (name x) = name x
-  plain_shape (unary sign a) = unary sign (plain_expr a)
-  plain_shape (step sign a) = step sign (plain_expr a)
+  plain_shape (unary operator a) = unary operator (plain_expr a)
+  plain_shape (step operator a) = step operator (plain_expr a)
   plain_shape (cast type a) = cast type (plain_expr a)
   plain_shape (size_type type) = size_type type
   plain_shape (size_expr a) = size_expr (plain_expr a)
-  plain_shape (binary sign a b) = binary sign (plain_expr a) (plain_expr b)
-  plain_shape (assign sign a b) = assign sign (plain_expr a) (plain_expr b)
+  plain_shape (binary operator a b) = binary operator (plain_expr a) (plain_expr b)
+  plain_shape (assign operator a b) = assign operator (plain_expr a) (plain_expr b)
   plain_shape (choice a b c) = choice (plain_expr a) (plain_expr b) (plain_expr c)
   plain_shape (comma a b) = comma (plain_expr a) (plain_expr b)
   plain_shape (index a b) = index (plain_expr a) (plain_expr b)

@@ -5,21 +5,21 @@ ghost use Rattle.qs_print.specs.Spaced.{Writes};
 ghost use Rattle.qs_syntax.specs.TreeOf.{declaration_tree, declarator_tree, expr_tree, initialiser_tree, lengths_tree, members_tree, parameter_tree, variable_tree};
 
 use crate::expressions::put_part;
-use crate::signs::{ASSIGNMENT, CONDITIONAL};
+use crate::operators::{ASSIGNMENT, CONDITIONAL};
 use crate::types::{put_base, put_stars};
-use crate::words::{put_comma_unless, put_keyword, put_mark, put_name};
+use crate::words::{put_comma_unless, put_keyword, put_punctuator, put_name};
 use qs_base::{Name, NoMemory};
 use qs_syntax::{
-    Base, Declaration, Declarator, Expr, Initialiser, Keyword, Lengths, Mark, Members, Parameter,
+    Base, Declaration, Declarator, Expr, Initialiser, Keyword, Lengths, Punctuator, Members, Parameter,
     Variable,
 };
 
 fn put_length(out: &mut Vec<u8>, e: &Expr) -> Result<(), NoMemory>
     ensures { OnOk result (Writes out.old.items (printed_length (expr_tree e.now)) out.new.items) }
 {
-    put_mark(out, Mark::OpenBracket)?;
+    put_punctuator(out, Punctuator::OpenBracket)?;
     put_part(out, CONDITIONAL, e)?;
-    put_mark(out, Mark::CloseBracket)
+    put_punctuator(out, Punctuator::CloseBracket)
 }
 
 fn put_given(out: &mut Vec<u8>, lengths: &[Expr]) -> Result<(), NoMemory>
@@ -37,8 +37,8 @@ fn put_open_brackets(out: &mut Vec<u8>, is_open: bool) -> Result<(), NoMemory>
     if !is_open {
         return Ok(());
     }
-    put_mark(out, Mark::OpenBracket)?;
-    put_mark(out, Mark::CloseBracket)
+    put_punctuator(out, Punctuator::OpenBracket)?;
+    put_punctuator(out, Punctuator::CloseBracket)
 }
 
 fn put_lengths(out: &mut Vec<u8>, lengths: &Lengths) -> Result<(), NoMemory>
@@ -63,9 +63,9 @@ fn put_initialiser(out: &mut Vec<u8>, i: &Initialiser) -> Result<(), NoMemory>
     match i {
         Initialiser::Value(e) => put_part(out, ASSIGNMENT, e),
         Initialiser::List(list) => {
-            put_mark(out, Mark::OpenBrace)?;
+            put_punctuator(out, Punctuator::OpenBrace)?;
             put_initialisers(out, &list.items)?;
-            put_mark(out, Mark::CloseBrace)
+            put_punctuator(out, Punctuator::CloseBrace)
         }
     }
 }
@@ -89,7 +89,7 @@ fn put_setting(out: &mut Vec<u8>, setting: &Option<Initialiser>) -> Result<(), N
     match setting {
         None => Ok(()),
         Some(i) => {
-            put_mark(out, Mark::Assign)?;
+            put_punctuator(out, Punctuator::Assign)?;
             put_initialiser(out, i)
         }
     }
@@ -120,7 +120,7 @@ pub fn put_declaration(out: &mut Vec<u8>, d: &Declaration) -> Result<(), NoMemor
 {
     put_base(out, &d.base)?;
     put_variables(out, &d.variables)?;
-    put_mark(out, Mark::Semicolon)
+    put_punctuator(out, Punctuator::Semicolon)
 }
 
 fn put_declarators(out: &mut Vec<u8>, declarators: &[Declarator]) -> Result<(), NoMemory>
@@ -141,7 +141,7 @@ pub fn put_members(out: &mut Vec<u8>, m: &Members) -> Result<(), NoMemory>
 {
     put_base(out, &m.base)?;
     put_declarators(out, &m.declarators)?;
-    put_mark(out, Mark::Semicolon)
+    put_punctuator(out, Punctuator::Semicolon)
 }
 
 /// Whether a parameter would be the token `void` alone.

@@ -5,22 +5,22 @@ ghost use Rattle.qs_print.specs.Spaced.{Writes};
 ghost use Rattle.qs_syntax.specs.TreeOf.{expr_tree, shape_tree};
 
 use crate::literals::{put_constant, put_text};
-use crate::signs::{
-    ASSIGNMENT, CAST, CONDITIONAL, OR, UNARY, level, mark_of_access, mark_of_assign,
-    mark_of_binary, mark_of_unary, weakness,
+use crate::operators::{
+    ASSIGNMENT, CAST, CONDITIONAL, OR, UNARY, level, punctuator_of_access, punctuator_of_assign,
+    punctuator_of_binary, punctuator_of_unary, precedence,
 };
 use crate::types::put_type_name;
-use crate::words::{put_comma_unless, put_keyword, put_mark, put_name};
+use crate::words::{put_comma_unless, put_keyword, put_punctuator, put_name};
 use qs_base::NoMemory;
-use qs_syntax::{Expr, Keyword, Mark, Shape, StepSign, TypeName};
+use qs_syntax::{Expr, Keyword, Punctuator, Shape, StepOperator, TypeName};
 
 /// Writes the name of a type in parentheses.
 fn put_type_in_parentheses(out: &mut Vec<u8>, name: &TypeName) -> Result<(), NoMemory>
     ensures { OnOk result (Writes out.old.items (in_parentheses (printed_type_name name.now)) out.new.items) }
 {
-    put_mark(out, Mark::OpenParenthesis)?;
+    put_punctuator(out, Punctuator::OpenParenthesis)?;
     put_type_name(out, name)?;
-    put_mark(out, Mark::CloseParenthesis)
+    put_punctuator(out, Punctuator::CloseParenthesis)
 }
 
 /// Writes an expression in parentheses.
@@ -28,9 +28,9 @@ fn put_type_in_parentheses(out: &mut Vec<u8>, name: &TypeName) -> Result<(), NoM
 pub fn put_in_parentheses(out: &mut Vec<u8>, e: &Expr) -> Result<(), NoMemory>
     ensures { OnOk result (Writes out.old.items (in_parentheses (printed_expr (expr_tree e.now))) out.new.items) }
 {
-    put_mark(out, Mark::OpenParenthesis)?;
+    put_punctuator(out, Punctuator::OpenParenthesis)?;
     put_expr(out, e)?;
-    put_mark(out, Mark::CloseParenthesis)
+    put_punctuator(out, Punctuator::CloseParenthesis)
 }
 
 /// Writes an expression where nothing may stand that binds more weakly than this level.
@@ -54,25 +54,25 @@ pub fn put_expr(out: &mut Vec<u8>, e: &Expr) -> Result<(), NoMemory>
 }
 
 #[cycle(put_expr)]
-fn put_step(out: &mut Vec<u8>, sign: StepSign, a: &Expr) -> Result<(), NoMemory>
-    ensures { OnOk result (Writes out.old.items (with_step sign (printed_part (step_level sign) (expr_tree a.now))) out.new.items) }
+fn put_step(out: &mut Vec<u8>, operator: StepOperator, a: &Expr) -> Result<(), NoMemory>
+    ensures { OnOk result (Writes out.old.items (with_step operator (printed_part (step_level operator) (expr_tree a.now))) out.new.items) }
 {
-    match sign {
-        StepSign::IncrementBefore => {
-            put_mark(out, Mark::Increment)?;
+    match operator {
+        StepOperator::IncrementBefore => {
+            put_punctuator(out, Punctuator::Increment)?;
             put_part(out, UNARY, a)
         }
-        StepSign::DecrementBefore => {
-            put_mark(out, Mark::Decrement)?;
+        StepOperator::DecrementBefore => {
+            put_punctuator(out, Punctuator::Decrement)?;
             put_part(out, UNARY, a)
         }
-        StepSign::IncrementAfter => {
+        StepOperator::IncrementAfter => {
             put_part(out, 0, a)?;
-            put_mark(out, Mark::Increment)
+            put_punctuator(out, Punctuator::Increment)
         }
-        StepSign::DecrementAfter => {
+        StepOperator::DecrementAfter => {
             put_part(out, 0, a)?;
-            put_mark(out, Mark::Decrement)
+            put_punctuator(out, Punctuator::Decrement)
         }
     }
 }
@@ -85,11 +85,11 @@ fn put_shape(out: &mut Vec<u8>, shape: &Shape) -> Result<(), NoMemory>
         Shape::Int(value, is_unsigned) => put_constant(out, *value, *is_unsigned),
         Shape::Text(text) => put_text(out, text),
         Shape::Name(name) => put_name(out, name),
-        Shape::Unary(sign, a) => {
-            put_mark(out, mark_of_unary(*sign))?;
+        Shape::Unary(operator, a) => {
+            put_punctuator(out, punctuator_of_unary(*operator))?;
             put_part(out, CAST, a)
         }
-        Shape::Step(sign, a) => put_step(out, *sign, a),
+        Shape::Step(operator, a) => put_step(out, *operator, a),
         Shape::Cast(type_name, a) => {
             put_type_in_parentheses(out, type_name)?;
             put_part(out, CAST, a)
@@ -102,45 +102,45 @@ fn put_shape(out: &mut Vec<u8>, shape: &Shape) -> Result<(), NoMemory>
             put_keyword(out, Keyword::Sizeof)?;
             put_part(out, UNARY, a)
         }
-        Shape::Binary(sign, a, b) => {
-            let own = weakness(*sign);
+        Shape::Binary(operator, a, b) => {
+            let own = precedence(*operator);
             put_part(out, own + 2, a)?;
-            put_mark(out, mark_of_binary(*sign))?;
+            put_punctuator(out, punctuator_of_binary(*operator))?;
             put_part(out, own + 1, b)
         }
-        Shape::Assign(sign, a, b) => {
+        Shape::Assign(operator, a, b) => {
             put_part(out, UNARY, a)?;
-            put_mark(out, mark_of_assign(*sign))?;
+            put_punctuator(out, punctuator_of_assign(*operator))?;
             put_part(out, ASSIGNMENT, b)
         }
         Shape::Cond(a, b, c) => {
             put_part(out, OR, a)?;
-            put_mark(out, Mark::Question)?;
+            put_punctuator(out, Punctuator::Question)?;
             put_expr(out, b)?;
-            put_mark(out, Mark::Colon)?;
+            put_punctuator(out, Punctuator::Colon)?;
             put_part(out, CONDITIONAL, c)
         }
         Shape::Comma(a, b) => {
             put_expr(out, a)?;
-            put_mark(out, Mark::Comma)?;
+            put_punctuator(out, Punctuator::Comma)?;
             put_part(out, ASSIGNMENT, b)
         }
         Shape::Index(a, b) => {
             put_part(out, 0, a)?;
-            put_mark(out, Mark::OpenBracket)?;
+            put_punctuator(out, Punctuator::OpenBracket)?;
             put_expr(out, b)?;
-            put_mark(out, Mark::CloseBracket)
+            put_punctuator(out, Punctuator::CloseBracket)
         }
         Shape::Member(access, a, name) => {
             put_part(out, 0, a)?;
-            put_mark(out, mark_of_access(*access))?;
+            put_punctuator(out, punctuator_of_access(*access))?;
             put_name(out, name)
         }
         Shape::Call(name, arguments) => {
             put_name(out, name)?;
-            put_mark(out, Mark::OpenParenthesis)?;
+            put_punctuator(out, Punctuator::OpenParenthesis)?;
             put_arguments(out, arguments)?;
-            put_mark(out, Mark::CloseParenthesis)
+            put_punctuator(out, Punctuator::CloseParenthesis)
         }
     }
 }

@@ -5,7 +5,7 @@ mod declarations;
 mod expressions;
 mod lexed;
 mod literals;
-mod signs;
+mod operators;
 mod spelling;
 mod statements;
 mod types;

@@ -1,8 +1,8 @@
-// The spellings of keywords and marks.
+// The spellings of keywords and punctuators.
 ghost use Rattle.std.specs.Prelude.{◌≡◌};
-ghost use Rattle.qs_print.specs.Spelling.{keyword_spelling, mark_spelling};
+ghost use Rattle.qs_print.specs.Spelling.{keyword_spelling, punctuator_spelling};
 
-use qs_syntax::{Keyword, Mark};
+use qs_syntax::{Keyword, Punctuator};
 
 /// How a keyword is spelled (C11 6.4.1).
 pub fn keyword_spelling(keyword: Keyword) -> &'static [u8]
@@ -56,55 +56,55 @@ pub fn keyword_spelling(keyword: Keyword) -> &'static [u8]
     }
 }
 
-/// How a mark is spelled (C11 6.4.6).
-pub fn mark_spelling(mark: Mark) -> &'static [u8]
-    ensures { result.now ≡ mark_spelling mark }
+/// How a punctuator is spelled (C11 6.4.6).
+pub fn punctuator_spelling(punctuator: Punctuator) -> &'static [u8]
+    ensures { result.now ≡ punctuator_spelling punctuator }
 {
-    match mark {
-        Mark::OpenBracket => b"[",
-        Mark::CloseBracket => b"]",
-        Mark::OpenParenthesis => b"(",
-        Mark::CloseParenthesis => b")",
-        Mark::OpenBrace => b"{",
-        Mark::CloseBrace => b"}",
-        Mark::Dot => b".",
-        Mark::Arrow => b"->",
-        Mark::Increment => b"++",
-        Mark::Decrement => b"--",
-        Mark::Ampersand => b"&",
-        Mark::Star => b"*",
-        Mark::Plus => b"+",
-        Mark::Minus => b"-",
-        Mark::Tilde => b"~",
-        Mark::Exclamation => b"!",
-        Mark::Slash => b"/",
-        Mark::Percent => b"%",
-        Mark::ShiftLeft => b"<<",
-        Mark::ShiftRight => b">>",
-        Mark::Less => b"<",
-        Mark::Greater => b">",
-        Mark::LessEqual => b"<=",
-        Mark::GreaterEqual => b">=",
-        Mark::Equal => b"==",
-        Mark::NotEqual => b"!=",
-        Mark::Caret => b"^",
-        Mark::Bar => b"|",
-        Mark::AndAnd => b"&&",
-        Mark::OrOr => b"||",
-        Mark::Question => b"?",
-        Mark::Colon => b":",
-        Mark::Semicolon => b";",
-        Mark::Assign => b"=",
-        Mark::MultiplyAssign => b"*=",
-        Mark::DivideAssign => b"/=",
-        Mark::RemainderAssign => b"%=",
-        Mark::AddAssign => b"+=",
-        Mark::SubtractAssign => b"-=",
-        Mark::ShiftLeftAssign => b"<<=",
-        Mark::ShiftRightAssign => b">>=",
-        Mark::AndAssign => b"&=",
-        Mark::XorAssign => b"^=",
-        Mark::OrAssign => b"|=",
-        Mark::Comma => b",",
+    match punctuator {
+        Punctuator::OpenBracket => b"[",
+        Punctuator::CloseBracket => b"]",
+        Punctuator::OpenParenthesis => b"(",
+        Punctuator::CloseParenthesis => b")",
+        Punctuator::OpenBrace => b"{",
+        Punctuator::CloseBrace => b"}",
+        Punctuator::Dot => b".",
+        Punctuator::Arrow => b"->",
+        Punctuator::Increment => b"++",
+        Punctuator::Decrement => b"--",
+        Punctuator::Ampersand => b"&",
+        Punctuator::Star => b"*",
+        Punctuator::Plus => b"+",
+        Punctuator::Minus => b"-",
+        Punctuator::Tilde => b"~",
+        Punctuator::Exclamation => b"!",
+        Punctuator::Slash => b"/",
+        Punctuator::Percent => b"%",
+        Punctuator::ShiftLeft => b"<<",
+        Punctuator::ShiftRight => b">>",
+        Punctuator::Less => b"<",
+        Punctuator::Greater => b">",
+        Punctuator::LessEqual => b"<=",
+        Punctuator::GreaterEqual => b">=",
+        Punctuator::Equal => b"==",
+        Punctuator::NotEqual => b"!=",
+        Punctuator::Caret => b"^",
+        Punctuator::Bar => b"|",
+        Punctuator::AndAnd => b"&&",
+        Punctuator::OrOr => b"||",
+        Punctuator::Question => b"?",
+        Punctuator::Colon => b":",
+        Punctuator::Semicolon => b";",
+        Punctuator::Assign => b"=",
+        Punctuator::MultiplyAssign => b"*=",
+        Punctuator::DivideAssign => b"/=",
+        Punctuator::RemainderAssign => b"%=",
+        Punctuator::AddAssign => b"+=",
+        Punctuator::SubtractAssign => b"-=",
+        Punctuator::ShiftLeftAssign => b"<<=",
+        Punctuator::ShiftRightAssign => b">>=",
+        Punctuator::AndAssign => b"&=",
+        Punctuator::XorAssign => b"^=",
+        Punctuator::OrAssign => b"|=",
+        Punctuator::Comma => b",",
     }
 }

@@ -4,14 +4,14 @@ ghost use Rattle.qs_print.specs.Printed.{in_parentheses, printed_else, printed_o
 ghost use Rattle.qs_print.specs.Spaced.{Writes};
 ghost use Rattle.qs_syntax.specs.TreeOf.{else_tree, expr_tree, option_tree, start_tree, stmt_tree, stmts_tree};
 ghost use Rattle.qs_syntax.specs.Trees.{block};
-ghost use Rattle.qs_syntax.specs.declared.lexeme.Lexeme.TheVariants as lexemes;
-ghost use Rattle.qs_syntax.specs.declared.tokens.Mark.TheVariants as marks;
+ghost use Rattle.qs_syntax.specs.declared.terminal.Terminal.TheVariants as terminals;
+ghost use Rattle.qs_syntax.specs.declared.tokens.Punctuator.TheVariants as punctuators;
 
 use crate::declarations::put_declaration;
 use crate::expressions::{put_expr, put_in_parentheses};
-use crate::words::{put_keyword, put_mark};
+use crate::words::{put_keyword, put_punctuator};
 use qs_base::NoMemory;
-use qs_syntax::{Expr, Keyword, Mark, Start, Stmt};
+use qs_syntax::{Expr, Keyword, Punctuator, Start, Stmt};
 
 fn put_optional(out: &mut Vec<u8>, e: &Option<Expr>) -> Result<(), NoMemory>
     ensures { OnOk result (Writes out.old.items (printed_optional (option_tree e.now)) out.new.items) }
@@ -26,10 +26,10 @@ fn put_start(out: &mut Vec<u8>, start: &Start) -> Result<(), NoMemory>
     ensures { OnOk result (Writes out.old.items (printed_start (start_tree start.now)) out.new.items) }
 {
     match start {
-        Start::Nothing => put_mark(out, Mark::Semicolon),
+        Start::Nothing => put_punctuator(out, Punctuator::Semicolon),
         Start::Expression(e) => {
             put_expr(out, e)?;
-            put_mark(out, Mark::Semicolon)
+            put_punctuator(out, Punctuator::Semicolon)
         }
         Start::Declaration(d) => put_declaration(out, d),
     }
@@ -42,21 +42,21 @@ fn put_for_head(
     e: &Option<Expr>,
     u: &Option<Expr>,
 ) -> Result<(), NoMemory>
-    ensures { OnOk result (Writes out.old.items (in_parentheses (printed_start (start_tree start.now) ++ (printed_optional (option_tree e.now) ++ lexemes.Mark 0 marks.Semicolon ∷ printed_optional (option_tree u.now)))) out.new.items) }
+    ensures { OnOk result (Writes out.old.items (in_parentheses (printed_start (start_tree start.now) ++ (printed_optional (option_tree e.now) ++ terminals.Punctuator 0 punctuators.Semicolon ∷ printed_optional (option_tree u.now)))) out.new.items) }
 {
-    put_mark(out, Mark::OpenParenthesis)?;
+    put_punctuator(out, Punctuator::OpenParenthesis)?;
     put_start(out, start)?;
     put_optional(out, e)?;
-    put_mark(out, Mark::Semicolon)?;
+    put_punctuator(out, Punctuator::Semicolon)?;
     put_optional(out, u)?;
-    put_mark(out, Mark::CloseParenthesis)
+    put_punctuator(out, Punctuator::CloseParenthesis)
 }
 
 fn put_jump(out: &mut Vec<u8>, keyword: Keyword) -> Result<(), NoMemory>
-    ensures { OnOk result (Writes out.old.items (lexemes.Keyword 0 keyword ∷ lexemes.Mark 0 marks.Semicolon ∷ []) out.new.items) }
+    ensures { OnOk result (Writes out.old.items (terminals.Keyword 0 keyword ∷ terminals.Punctuator 0 punctuators.Semicolon ∷ []) out.new.items) }
 {
     put_keyword(out, keyword)?;
-    put_mark(out, Mark::Semicolon)
+    put_punctuator(out, Punctuator::Semicolon)
 }
 
 /// Writes a statement or a declaration of a block.
@@ -65,10 +65,10 @@ pub fn put_stmt(out: &mut Vec<u8>, s: &Stmt) -> Result<(), NoMemory>
     ensures { OnOk result (Writes out.old.items (printed_stmt (stmt_tree s.now)) out.new.items) }
 {
     match s {
-        Stmt::Empty(_) => put_mark(out, Mark::Semicolon),
+        Stmt::Empty(_) => put_punctuator(out, Punctuator::Semicolon),
         Stmt::Expression(_, e) => {
             put_expr(out, e)?;
-            put_mark(out, Mark::Semicolon)
+            put_punctuator(out, Punctuator::Semicolon)
         }
         Stmt::Declaration(d) => put_declaration(out, d),
         Stmt::Block(items) => put_block(out, items),
@@ -88,7 +88,7 @@ pub fn put_stmt(out: &mut Vec<u8>, s: &Stmt) -> Result<(), NoMemory>
             put_stmt(out, s)?;
             put_keyword(out, Keyword::While)?;
             put_in_parentheses(out, e)?;
-            put_mark(out, Mark::Semicolon)
+            put_punctuator(out, Punctuator::Semicolon)
         }
         Stmt::For(_, start, e, u, s) => {
             put_keyword(out, Keyword::For)?;
@@ -100,7 +100,7 @@ pub fn put_stmt(out: &mut Vec<u8>, s: &Stmt) -> Result<(), NoMemory>
         Stmt::Return(_, e) => {
             put_keyword(out, Keyword::Return)?;
             put_optional(out, e)?;
-            put_mark(out, Mark::Semicolon)
+            put_punctuator(out, Punctuator::Semicolon)
         }
     }
 }
@@ -123,9 +123,9 @@ fn put_else(out: &mut Vec<u8>, other: &Option<Box<Stmt>>) -> Result<(), NoMemory
 pub fn put_block(out: &mut Vec<u8>, items: &[Stmt]) -> Result<(), NoMemory>
     ensures { OnOk result (Writes out.old.items (printed_stmt (block (stmts_tree items.now))) out.new.items) }
 {
-    put_mark(out, Mark::OpenBrace)?;
+    put_punctuator(out, Punctuator::OpenBrace)?;
     put_stmts(out, items)?;
-    put_mark(out, Mark::CloseBrace)
+    put_punctuator(out, Punctuator::CloseBrace)
 }
 
 #[cycle(put_stmt)]

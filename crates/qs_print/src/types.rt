@@ -3,9 +3,9 @@ ghost use Rattle.std.specs.Prelude.{◌≡◌, ◌++◌, OnOk};
 ghost use Rattle.qs_print.specs.Printed.{printed_base, printed_stars, printed_type_name};
 ghost use Rattle.qs_print.specs.Spaced.{Writes};
 
-use crate::words::{put_keyword, put_mark, put_name};
+use crate::words::{put_keyword, put_punctuator, put_name};
 use qs_base::NoMemory;
-use qs_syntax::{Base, Keyword, Mark, TypeName};
+use qs_syntax::{Base, Keyword, Punctuator, TypeName};
 
 /// Writes what a type begins with.
 pub fn put_base(out: &mut Vec<u8>, base: &Base) -> Result<(), NoMemory>
@@ -28,7 +28,7 @@ pub fn put_stars(out: &mut Vec<u8>, count: u32) -> Result<(), NoMemory>
     ensures { OnOk result (Writes out.old.items (printed_stars count) out.new.items) }
 {
     for _star in 0..count {
-        put_mark(out, Mark::Star)?;
+        put_punctuator(out, Punctuator::Star)?;
     }
     Ok(())
 }

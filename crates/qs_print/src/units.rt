@@ -10,9 +10,9 @@ ghost use Rattle.qs_syntax.specs.UnitTrees.{unit_tree};
 use crate::declarations::{put_declaration, put_members, put_parameters};
 use crate::statements::put_block;
 use crate::types::{put_base, put_stars};
-use crate::words::{put_keyword, put_mark, put_name};
+use crate::words::{put_keyword, put_punctuator, put_name};
 use qs_base::NoMemory;
-use qs_syntax::{Decl, Forward, Function, Keyword, Mark, Members, Stmt, Struct, Unit};
+use qs_syntax::{Decl, Forward, Function, Keyword, Punctuator, Members, Stmt, Struct, Unit};
 use std::alloc::Global;
 
 fn put_all_members(out: &mut Vec<u8>, members: &[Members]) -> Result<(), NoMemory>
@@ -29,10 +29,10 @@ fn put_struct(out: &mut Vec<u8>, s: &Struct) -> Result<(), NoMemory>
 {
     put_keyword(out, Keyword::Struct)?;
     put_name(out, &s.name)?;
-    put_mark(out, Mark::OpenBrace)?;
+    put_punctuator(out, Punctuator::OpenBrace)?;
     put_all_members(out, &s.members)?;
-    put_mark(out, Mark::CloseBrace)?;
-    put_mark(out, Mark::Semicolon)
+    put_punctuator(out, Punctuator::CloseBrace)?;
+    put_punctuator(out, Punctuator::Semicolon)
 }
 
 fn put_forward(out: &mut Vec<u8>, f: &Forward) -> Result<(), NoMemory>
@@ -40,14 +40,14 @@ fn put_forward(out: &mut Vec<u8>, f: &Forward) -> Result<(), NoMemory>
 {
     put_keyword(out, Keyword::Struct)?;
     put_name(out, &f.name)?;
-    put_mark(out, Mark::Semicolon)
+    put_punctuator(out, Punctuator::Semicolon)
 }
 
 fn put_body(out: &mut Vec<u8>, body: &Option<Vec<Stmt>>) -> Result<(), NoMemory>
     ensures { OnOk result (Writes out.old.items (printed_body (option_map (λ b. stmts_tree b.items) body.now)) out.new.items) }
 {
     match body {
-        None => put_mark(out, Mark::Semicolon),
+        None => put_punctuator(out, Punctuator::Semicolon),
         Some(items) => put_block(out, items),
     }
 }
@@ -58,9 +58,9 @@ fn put_function(out: &mut Vec<u8>, f: &Function) -> Result<(), NoMemory>
     put_base(out, &f.base)?;
     put_stars(out, f.stars)?;
     put_name(out, &f.name)?;
-    put_mark(out, Mark::OpenParenthesis)?;
+    put_punctuator(out, Punctuator::OpenParenthesis)?;
     put_parameters(out, &f.parameters)?;
-    put_mark(out, Mark::CloseParenthesis)?;
+    put_punctuator(out, Punctuator::CloseParenthesis)?;
     put_body(out, &f.body)
 }
 

@@ -1,12 +1,12 @@
-// Writes single lexemes, each with a blank behind it.
+// Writes single terminals, each with a blank behind it.
 ghost use Rattle.std.specs.Prelude.{◌≡◌, ◌++◌, [], ◌∷◌, OnOk};
 ghost use Rattle.qs_print.specs.Printed.{comma_unless};
 ghost use Rattle.qs_print.specs.Spaced.{Writes};
-ghost use Rattle.qs_syntax.specs.declared.lexeme.Lexeme.TheVariants as lexemes;
+ghost use Rattle.qs_syntax.specs.declared.terminal.Terminal.TheVariants as terminals;
 
-use crate::spelling::{keyword_spelling, mark_spelling};
+use crate::spelling::{keyword_spelling, punctuator_spelling};
 use qs_base::{Name, NoMemory};
-use qs_syntax::{Keyword, Mark};
+use qs_syntax::{Keyword, Punctuator};
 
 fn put_word(out: &mut Vec<u8>, spelling: &[u8]) -> Result<(), NoMemory>
     ensures { OnOk result (out.new.items ≡ out.old.items ++ (spelling.now ++ 32 ∷ [])) }
@@ -18,21 +18,21 @@ fn put_word(out: &mut Vec<u8>, spelling: &[u8]) -> Result<(), NoMemory>
 
 /// Writes a keyword.
 pub fn put_keyword(out: &mut Vec<u8>, keyword: Keyword) -> Result<(), NoMemory>
-    ensures { OnOk result (Writes out.old.items (lexemes.Keyword 0 keyword ∷ []) out.new.items) }
+    ensures { OnOk result (Writes out.old.items (terminals.Keyword 0 keyword ∷ []) out.new.items) }
 {
     put_word(out, keyword_spelling(keyword))
 }
 
-/// Writes a mark.
-pub fn put_mark(out: &mut Vec<u8>, mark: Mark) -> Result<(), NoMemory>
-    ensures { OnOk result (Writes out.old.items (lexemes.Mark 0 mark ∷ []) out.new.items) }
+/// Writes a punctuator.
+pub fn put_punctuator(out: &mut Vec<u8>, punctuator: Punctuator) -> Result<(), NoMemory>
+    ensures { OnOk result (Writes out.old.items (terminals.Punctuator 0 punctuator ∷ []) out.new.items) }
 {
-    put_word(out, mark_spelling(mark))
+    put_word(out, punctuator_spelling(punctuator))
 }
 
 /// Writes a name.
 pub fn put_name(out: &mut Vec<u8>, name: &Name) -> Result<(), NoMemory>
-    ensures { OnOk result (Writes out.old.items (lexemes.Name 0 name.now ∷ []) out.new.items) }
+    ensures { OnOk result (Writes out.old.items (terminals.Name 0 name.now ∷ []) out.new.items) }
 {
     put_word(out, name.bytes())
 }
@@ -44,5 +44,5 @@ pub fn put_comma_unless(out: &mut Vec<u8>, is_first: bool) -> Result<(), NoMemor
     if is_first {
         return Ok(());
     }
-    put_mark(out, Mark::Comma)
+    put_punctuator(out, Punctuator::Comma)
 }

@@ -2,6 +2,6 @@ pub mod Again
 pub mod NumberingLaws
 pub mod Units
 pub mod SameLoops
-pub mod SameSigns
+pub mod SameOperators
 pub mod Exact
 pub mod ExactUnits

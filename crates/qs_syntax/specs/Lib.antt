@@ -1,6 +1,6 @@
 pub mod Trees
 pub mod TreeOf
-pub mod Signs
+pub mod Operators
 pub mod ReadsTypes
 pub mod Reads
 pub mod ReadsDeclarations

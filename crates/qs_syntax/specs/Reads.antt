@@ -2,18 +2,18 @@
 -- tokens are an expression of that form, read as that tree, and how high the reading is: 1 without parts, and else 1 more than the
 -- highest part, where parentheses count too. The nodes are still without numbers (0), and each stands at its first token.
 use Rattle.std.specs.Prelude.{◌≡◌, ℕ, suc, max, Bool, List, [], ◌∷◌, ◌++◌}
-use Rattle.qs_syntax.specs.declared.lexeme.Lexeme.{Lexeme}
-use Rattle.qs_syntax.specs.declared.lexeme.Lexeme.TheVariants.{Name, Keyword, Constant, Text, Mark}
+use Rattle.qs_syntax.specs.declared.terminal.Terminal.{Terminal}
+use Rattle.qs_syntax.specs.declared.terminal.Terminal.TheVariants.{Name, Keyword, Constant, Text, Punctuator}
 use Rattle.qs_syntax.specs.declared.tokens.Keyword.TheVariants as keywords
-use Rattle.qs_syntax.specs.declared.tokens.Mark.TheVariants as marks
-use Rattle.qs_syntax.specs.declared.tree.UnarySign.{UnarySign}
-use Rattle.qs_syntax.specs.declared.tree.BinarySign.{BinarySign}
-use Rattle.qs_syntax.specs.declared.tree.AssignSign.{AssignSign}
+use Rattle.qs_syntax.specs.declared.tokens.Punctuator.TheVariants as punctuators
+use Rattle.qs_syntax.specs.declared.tree.UnaryOperator.{UnaryOperator}
+use Rattle.qs_syntax.specs.declared.tree.BinaryOperator.{BinaryOperator}
+use Rattle.qs_syntax.specs.declared.tree.AssignmentOperator.{AssignmentOperator}
 use Rattle.qs_syntax.specs.declared.tree.Access.{Access}
-use Rattle.qs_syntax.specs.declared.tree.StepSign.TheVariants as steps
+use Rattle.qs_syntax.specs.declared.tree.StepOperator.TheVariants as steps
 use Rattle.qs_syntax.specs.declared.tree.TypeName.{TypeName}
 use Rattle.qs_syntax.specs.Trees.{ExprTree, expr, ShapeTree, int, text, name, unary, step, cast, size_type, size_expr, binary, assign, choice, comma, index, member, call, Exprs, no_exprs, expr_and}
-use Rattle.qs_syntax.specs.Signs.{mark_of_unary, mark_of_binary, weakness, mark_of_assign, mark_of_access, number_of}
+use Rattle.qs_syntax.specs.Operators.{punctuator_of_unary, punctuator_of_binary, precedence, punctuator_of_assign, punctuator_of_access, number_of}
 use Rattle.qs_syntax.specs.ReadsTypes.{ReadsTypeName}
 
 -- what an expression is read as; Level 0 is `cast`, Level 1 to 10 are the operators from `* / %` to `||`
@@ -26,70 +26,70 @@ pub data Form : Type 0 where
   Expression : Form
 
 -- the number of the first token
-abbrev pub place : List Lexeme → ℕ
+abbrev pub place : List Terminal → ℕ
 place [] = 0
 place (t ∷ ts) = number_of t
 
 -- a node at the first of these tokens, without a number
-abbrev pub at_first : List Lexeme → ShapeTree → ExprTree
+abbrev pub at_first : List Terminal → ShapeTree → ExprTree
 at_first ts shape = expr 0 (place ts) shape
 
 -- { TEXT }, joined
-pub data ReadsTexts : List Lexeme → List ℕ → Type 0 where
+pub data ReadsTexts : List Terminal → List ℕ → Type 0 where
   no_text : ReadsTexts [] []
-  a_further_text : {ts : List Lexeme} {bytes : List ℕ} (at : ℕ) (first : List ℕ) → ReadsTexts ts bytes → ReadsTexts (Text at first ∷ ts) (first ++ bytes)
+  a_further_text : {ts : List Terminal} {bytes : List ℕ} (at : ℕ) (first : List ℕ) → ReadsTexts ts bytes → ReadsTexts (Text at first ∷ ts) (first ++ bytes)
 
 mutual
-  pub data Reads : Form → ℕ → List Lexeme → ExprTree → Type 0 where
+  pub data Reads : Form → ℕ → List Terminal → ExprTree → Type 0 where
     -- primary = NAME | NAME "(" [ assignment { "," assignment } ] ")" | NUMBER | CHARACTER | TEXT { TEXT } | "(" expression ")"
     a_name : (at : ℕ) (x : List ℕ) → Reads Postfix 1 (Name at x ∷ []) (expr 0 at (name x))
-    an_empty_call : (at o c : ℕ) (f : List ℕ) → Reads Postfix 1 (Name at f ∷ Mark o marks.OpenParenthesis ∷ Mark c marks.CloseParenthesis ∷ []) (expr 0 at (call f no_exprs))
-    a_call : {h : ℕ} {ts : List Lexeme} {es : Exprs} (at o c : ℕ) (f : List ℕ) → ReadsArguments h ts es
-        → Reads Postfix (suc h) (Name at f ∷ Mark o marks.OpenParenthesis ∷ (ts ++ Mark c marks.CloseParenthesis ∷ [])) (expr 0 at (call f es))
+    an_empty_call : (at o c : ℕ) (f : List ℕ) → Reads Postfix 1 (Name at f ∷ Punctuator o punctuators.OpenParenthesis ∷ Punctuator c punctuators.CloseParenthesis ∷ []) (expr 0 at (call f no_exprs))
+    a_call : {h : ℕ} {ts : List Terminal} {es : Exprs} (at o c : ℕ) (f : List ℕ) → ReadsArguments h ts es
+        → Reads Postfix (suc h) (Name at f ∷ Punctuator o punctuators.OpenParenthesis ∷ (ts ++ Punctuator c punctuators.CloseParenthesis ∷ [])) (expr 0 at (call f es))
     a_constant : (at n : ℕ) (unsigned : Bool) → Reads Postfix 1 (Constant at n unsigned ∷ []) (expr 0 at (int n unsigned))
-    a_text : {ts : List Lexeme} {bytes : List ℕ} (at : ℕ) (first : List ℕ) → ReadsTexts ts bytes → Reads Postfix 1 (Text at first ∷ ts) (expr 0 at (text (first ++ bytes)))
-    in_parentheses : {h : ℕ} {ts : List Lexeme} {e : ExprTree} (o c : ℕ) → Reads Expression h ts e
-        → Reads Postfix (suc h) (Mark o marks.OpenParenthesis ∷ (ts ++ Mark c marks.CloseParenthesis ∷ [])) e
+    a_text : {ts : List Terminal} {bytes : List ℕ} (at : ℕ) (first : List ℕ) → ReadsTexts ts bytes → Reads Postfix 1 (Text at first ∷ ts) (expr 0 at (text (first ++ bytes)))
+    in_parentheses : {h : ℕ} {ts : List Terminal} {e : ExprTree} (o c : ℕ) → Reads Expression h ts e
+        → Reads Postfix (suc h) (Punctuator o punctuators.OpenParenthesis ∷ (ts ++ Punctuator c punctuators.CloseParenthesis ∷ [])) e
     -- postfix = primary { "[" expression "]" | "." NAME | "->" NAME | "++" | "--" }
-    an_index : {h k : ℕ} {xs ys : List Lexeme} {a b : ExprTree} (o c : ℕ) → Reads Postfix h xs a → Reads Expression k ys b
-        → Reads Postfix (suc (max h k)) (xs ++ Mark o marks.OpenBracket ∷ (ys ++ Mark c marks.CloseBracket ∷ [])) (at_first xs (index a b))
-    a_member : {h : ℕ} {xs : List Lexeme} {a : ExprTree} (access : Access) (d n : ℕ) (x : List ℕ) → Reads Postfix h xs a
-        → Reads Postfix (suc h) (xs ++ Mark d (mark_of_access access) ∷ Name n x ∷ []) (at_first xs (member access a x))
-    an_increment_after : {h : ℕ} {xs : List Lexeme} {a : ExprTree} (s : ℕ) → Reads Postfix h xs a
-        → Reads Postfix (suc h) (xs ++ Mark s marks.Increment ∷ []) (at_first xs (step steps.IncrementAfter a))
-    a_decrement_after : {h : ℕ} {xs : List Lexeme} {a : ExprTree} (s : ℕ) → Reads Postfix h xs a
-        → Reads Postfix (suc h) (xs ++ Mark s marks.Decrement ∷ []) (at_first xs (step steps.DecrementAfter a))
+    an_index : {h k : ℕ} {xs ys : List Terminal} {a b : ExprTree} (o c : ℕ) → Reads Postfix h xs a → Reads Expression k ys b
+        → Reads Postfix (suc (max h k)) (xs ++ Punctuator o punctuators.OpenBracket ∷ (ys ++ Punctuator c punctuators.CloseBracket ∷ [])) (at_first xs (index a b))
+    a_member : {h : ℕ} {xs : List Terminal} {a : ExprTree} (access : Access) (d n : ℕ) (x : List ℕ) → Reads Postfix h xs a
+        → Reads Postfix (suc h) (xs ++ Punctuator d (punctuator_of_access access) ∷ Name n x ∷ []) (at_first xs (member access a x))
+    an_increment_after : {h : ℕ} {xs : List Terminal} {a : ExprTree} (s : ℕ) → Reads Postfix h xs a
+        → Reads Postfix (suc h) (xs ++ Punctuator s punctuators.Increment ∷ []) (at_first xs (step steps.IncrementAfter a))
+    a_decrement_after : {h : ℕ} {xs : List Terminal} {a : ExprTree} (s : ℕ) → Reads Postfix h xs a
+        → Reads Postfix (suc h) (xs ++ Punctuator s punctuators.Decrement ∷ []) (at_first xs (step steps.DecrementAfter a))
     -- unary = postfix | ( "++" | "--" ) unary | ( "&" | "*" | "+" | "-" | "~" | "!" ) cast | "sizeof" "(" typename ")" | "sizeof" unary
-    a_postfix : {h : ℕ} {ts : List Lexeme} {e : ExprTree} → Reads Postfix h ts e → Reads Unary h ts e
-    an_increment : {h : ℕ} {ts : List Lexeme} {e : ExprTree} (at : ℕ) → Reads Unary h ts e → Reads Unary (suc h) (Mark at marks.Increment ∷ ts) (expr 0 at (step steps.IncrementBefore e))
-    a_decrement : {h : ℕ} {ts : List Lexeme} {e : ExprTree} (at : ℕ) → Reads Unary h ts e → Reads Unary (suc h) (Mark at marks.Decrement ∷ ts) (expr 0 at (step steps.DecrementBefore e))
-    an_operator : {h : ℕ} {ts : List Lexeme} {e : ExprTree} (sign : UnarySign) (at : ℕ) → Reads (Level 0) h ts e → Reads Unary (suc h) (Mark at (mark_of_unary sign) ∷ ts) (expr 0 at (unary sign e))
-    a_size_of_type : {ts : List Lexeme} {type : TypeName} (at o c : ℕ) → ReadsTypeName ts type
-        → Reads Unary 1 (Keyword at keywords.Sizeof ∷ Mark o marks.OpenParenthesis ∷ (ts ++ Mark c marks.CloseParenthesis ∷ [])) (expr 0 at (size_type type))
-    a_size_of_value : {h : ℕ} {ts : List Lexeme} {e : ExprTree} (at : ℕ) → Reads Unary h ts e → Reads Unary (suc h) (Keyword at keywords.Sizeof ∷ ts) (expr 0 at (size_expr e))
+    a_postfix : {h : ℕ} {ts : List Terminal} {e : ExprTree} → Reads Postfix h ts e → Reads Unary h ts e
+    an_increment : {h : ℕ} {ts : List Terminal} {e : ExprTree} (at : ℕ) → Reads Unary h ts e → Reads Unary (suc h) (Punctuator at punctuators.Increment ∷ ts) (expr 0 at (step steps.IncrementBefore e))
+    a_decrement : {h : ℕ} {ts : List Terminal} {e : ExprTree} (at : ℕ) → Reads Unary h ts e → Reads Unary (suc h) (Punctuator at punctuators.Decrement ∷ ts) (expr 0 at (step steps.DecrementBefore e))
+    an_operator : {h : ℕ} {ts : List Terminal} {e : ExprTree} (operator : UnaryOperator) (at : ℕ) → Reads (Level 0) h ts e → Reads Unary (suc h) (Punctuator at (punctuator_of_unary operator) ∷ ts) (expr 0 at (unary operator e))
+    a_size_of_type : {ts : List Terminal} {type : TypeName} (at o c : ℕ) → ReadsTypeName ts type
+        → Reads Unary 1 (Keyword at keywords.Sizeof ∷ Punctuator o punctuators.OpenParenthesis ∷ (ts ++ Punctuator c punctuators.CloseParenthesis ∷ [])) (expr 0 at (size_type type))
+    a_size_of_value : {h : ℕ} {ts : List Terminal} {e : ExprTree} (at : ℕ) → Reads Unary h ts e → Reads Unary (suc h) (Keyword at keywords.Sizeof ∷ ts) (expr 0 at (size_expr e))
     -- cast = "(" typename ")" cast | unary
-    a_cast : {h : ℕ} {ts us : List Lexeme} {type : TypeName} {e : ExprTree} (at c : ℕ) → ReadsTypeName ts type → Reads (Level 0) h us e
-        → Reads (Level 0) (suc h) (Mark at marks.OpenParenthesis ∷ (ts ++ Mark c marks.CloseParenthesis ∷ us)) (expr 0 at (cast type e))
-    an_operand : {h : ℕ} {ts : List Lexeme} {e : ExprTree} → Reads Unary h ts e → Reads (Level 0) h ts e
+    a_cast : {h : ℕ} {ts us : List Terminal} {type : TypeName} {e : ExprTree} (at c : ℕ) → ReadsTypeName ts type → Reads (Level 0) h us e
+        → Reads (Level 0) (suc h) (Punctuator at punctuators.OpenParenthesis ∷ (ts ++ Punctuator c punctuators.CloseParenthesis ∷ us)) (expr 0 at (cast type e))
+    an_operand : {h : ℕ} {ts : List Terminal} {e : ExprTree} → Reads Unary h ts e → Reads (Level 0) h ts e
     -- ten levels of operators that group to the left
-    stronger : {j h : ℕ} {ts : List Lexeme} {e : ExprTree} → Reads (Level j) h ts e → Reads (Level (suc j)) h ts e
-    an_operation : {j h k : ℕ} {xs ys : List Lexeme} {a b : ExprTree} (sign : BinarySign) (at : ℕ) → weakness sign ≡ suc j → Reads (Level (suc j)) h xs a → Reads (Level j) k ys b
-        → Reads (Level (suc j)) (suc (max h k)) (xs ++ Mark at (mark_of_binary sign) ∷ ys) (at_first xs (binary sign a b))
+    stronger : {j h : ℕ} {ts : List Terminal} {e : ExprTree} → Reads (Level j) h ts e → Reads (Level (suc j)) h ts e
+    an_operation : {j h k : ℕ} {xs ys : List Terminal} {a b : ExprTree} (operator : BinaryOperator) (at : ℕ) → precedence operator ≡ suc j → Reads (Level (suc j)) h xs a → Reads (Level j) k ys b
+        → Reads (Level (suc j)) (suc (max h k)) (xs ++ Punctuator at (punctuator_of_binary operator) ∷ ys) (at_first xs (binary operator a b))
     -- conditional = or [ "?" expression ":" conditional ]
-    a_plain_level : {h : ℕ} {ts : List Lexeme} {e : ExprTree} → Reads (Level 10) h ts e → Reads Conditional h ts e
-    a_choice : {h k l : ℕ} {xs ys zs : List Lexeme} {a b c : ExprTree} (q s : ℕ) → Reads (Level 10) h xs a → Reads Expression k ys b → Reads Conditional l zs c
-        → Reads Conditional (suc (max h (max k l))) (xs ++ Mark q marks.Question ∷ (ys ++ Mark s marks.Colon ∷ zs)) (at_first xs (choice a b c))
+    a_plain_level : {h : ℕ} {ts : List Terminal} {e : ExprTree} → Reads (Level 10) h ts e → Reads Conditional h ts e
+    a_choice : {h k l : ℕ} {xs ys zs : List Terminal} {a b c : ExprTree} (q s : ℕ) → Reads (Level 10) h xs a → Reads Expression k ys b → Reads Conditional l zs c
+        → Reads Conditional (suc (max h (max k l))) (xs ++ Punctuator q punctuators.Question ∷ (ys ++ Punctuator s punctuators.Colon ∷ zs)) (at_first xs (choice a b c))
     -- assignment = conditional | unary asgop assignment
-    a_plain_conditional : {h : ℕ} {ts : List Lexeme} {e : ExprTree} → Reads Conditional h ts e → Reads Assignment h ts e
-    an_assignment : {h k : ℕ} {xs ys : List Lexeme} {a b : ExprTree} (sign : AssignSign) (at : ℕ) → Reads Unary h xs a → Reads Assignment k ys b
-        → Reads Assignment (suc (max h k)) (xs ++ Mark at (mark_of_assign sign) ∷ ys) (at_first xs (assign sign a b))
+    a_plain_conditional : {h : ℕ} {ts : List Terminal} {e : ExprTree} → Reads Conditional h ts e → Reads Assignment h ts e
+    an_assignment : {h k : ℕ} {xs ys : List Terminal} {a b : ExprTree} (operator : AssignmentOperator) (at : ℕ) → Reads Unary h xs a → Reads Assignment k ys b
+        → Reads Assignment (suc (max h k)) (xs ++ Punctuator at (punctuator_of_assign operator) ∷ ys) (at_first xs (assign operator a b))
     -- expression = assignment { "," assignment }
-    a_plain_assignment : {h : ℕ} {ts : List Lexeme} {e : ExprTree} → Reads Assignment h ts e → Reads Expression h ts e
-    a_comma : {h k : ℕ} {xs ys : List Lexeme} {a b : ExprTree} (at : ℕ) → Reads Expression h xs a → Reads Assignment k ys b
-        → Reads Expression (suc (max h k)) (xs ++ Mark at marks.Comma ∷ ys) (at_first xs (comma a b))
+    a_plain_assignment : {h : ℕ} {ts : List Terminal} {e : ExprTree} → Reads Assignment h ts e → Reads Expression h ts e
+    a_comma : {h k : ℕ} {xs ys : List Terminal} {a b : ExprTree} (at : ℕ) → Reads Expression h xs a → Reads Assignment k ys b
+        → Reads Expression (suc (max h k)) (xs ++ Punctuator at punctuators.Comma ∷ ys) (at_first xs (comma a b))
 
   -- assignment { "," assignment }; the height of the highest
-  pub data ReadsArguments : ℕ → List Lexeme → Exprs → Type 0 where
-    a_last_argument : {h : ℕ} {ts : List Lexeme} {e : ExprTree} → Reads Assignment h ts e → ReadsArguments h ts (expr_and e no_exprs)
-    an_argument : {h k : ℕ} {xs ys : List Lexeme} {e : ExprTree} {es : Exprs} (at : ℕ) → Reads Assignment h xs e → ReadsArguments k ys es
-        → ReadsArguments (max h k) (xs ++ Mark at marks.Comma ∷ ys) (expr_and e es)
+  pub data ReadsArguments : ℕ → List Terminal → Exprs → Type 0 where
+    a_last_argument : {h : ℕ} {ts : List Terminal} {e : ExprTree} → Reads Assignment h ts e → ReadsArguments h ts (expr_and e no_exprs)
+    an_argument : {h k : ℕ} {xs ys : List Terminal} {e : ExprTree} {es : Exprs} (at : ℕ) → Reads Assignment h xs e → ReadsArguments k ys es
+        → ReadsArguments (max h k) (xs ++ Punctuator at punctuators.Comma ∷ ys) (expr_and e es)

@@ -1,10 +1,10 @@
 -- How tokens are read as statements (C11 6.8): one constructor for each production. A block is 1 higher than its highest item; a
 -- declaration is no node, and as high as its highest variable.
 use Rattle.std.specs.Prelude.{◌≡◌, ℕ, suc, max, Bool, false, true, List, [], ◌∷◌, ◌++◌, Option, Some, None}
-use Rattle.qs_syntax.specs.declared.lexeme.Lexeme.{Lexeme}
-use Rattle.qs_syntax.specs.declared.lexeme.Lexeme.TheVariants.{Keyword, Mark}
+use Rattle.qs_syntax.specs.declared.terminal.Terminal.{Terminal}
+use Rattle.qs_syntax.specs.declared.terminal.Terminal.TheVariants.{Keyword, Punctuator}
 use Rattle.qs_syntax.specs.declared.tokens.Keyword.TheVariants as keywords
-use Rattle.qs_syntax.specs.declared.tokens.Mark.TheVariants as marks
+use Rattle.qs_syntax.specs.declared.tokens.Punctuator.TheVariants as punctuators
 use Rattle.qs_syntax.specs.Trees.{ExprTree, DeclarationTree, StartTree, no_start, start_expression, start_declaration, StmtTree, empty, expression, declaration, block, branch, while_loop, do_loop, for_loop, break, continue, return, Stmts, no_stmts, stmt_and, Else, no_else, else_by}
 use Rattle.qs_syntax.specs.Reads.{Reads, Expression, place}
 use Rattle.qs_syntax.specs.ReadsDeclarations.{ReadsDeclaration}
@@ -29,44 +29,44 @@ abbrev mutual
   is_open_end (else_by s) = is_open s
 
 -- [ expression ]
-pub data ReadsOptional : ℕ → List Lexeme → Option ExprTree → Type 0 where
+pub data ReadsOptional : ℕ → List Terminal → Option ExprTree → Type 0 where
   nothing_there : ReadsOptional 0 [] None
-  something_there : {h : ℕ} {ts : List Lexeme} {e : ExprTree} → Reads Expression h ts e → ReadsOptional h ts (Some e)
+  something_there : {h : ℕ} {ts : List Terminal} {e : ExprTree} → Reads Expression h ts e → ReadsOptional h ts (Some e)
 
 -- declaration | [ expression ] ";"
-pub data ReadsStart : ℕ → List Lexeme → StartTree → Type 0 where
-  a_start_declaration : {h : ℕ} {ts : List Lexeme} {d : DeclarationTree} → ReadsDeclaration h ts d → ReadsStart h ts (start_declaration d)
-  a_start_expression : {h : ℕ} {ts : List Lexeme} {e : ExprTree} (s : ℕ) → Reads Expression h ts e → ReadsStart h (ts ++ Mark s marks.Semicolon ∷ []) (start_expression e)
-  no_start_at_all : (s : ℕ) → ReadsStart 0 (Mark s marks.Semicolon ∷ []) no_start
+pub data ReadsStart : ℕ → List Terminal → StartTree → Type 0 where
+  a_start_declaration : {h : ℕ} {ts : List Terminal} {d : DeclarationTree} → ReadsDeclaration h ts d → ReadsStart h ts (start_declaration d)
+  a_start_expression : {h : ℕ} {ts : List Terminal} {e : ExprTree} (s : ℕ) → Reads Expression h ts e → ReadsStart h (ts ++ Punctuator s punctuators.Semicolon ∷ []) (start_expression e)
+  no_start_at_all : (s : ℕ) → ReadsStart 0 (Punctuator s punctuators.Semicolon ∷ []) no_start
 
 mutual
   -- statement
-  pub data ReadsStatement : ℕ → List Lexeme → StmtTree → Type 0 where
+  pub data ReadsStatement : ℕ → List Terminal → StmtTree → Type 0 where
     -- block = "{" { item } "}"
-    a_block : {h : ℕ} {ts : List Lexeme} {ss : Stmts} (o c : ℕ) → ReadsItems h ts ss → ReadsStatement (suc h) (Mark o marks.OpenBrace ∷ (ts ++ Mark c marks.CloseBrace ∷ [])) (block ss)
-    an_empty : (at : ℕ) → ReadsStatement 1 (Mark at marks.Semicolon ∷ []) (empty 0 at)
-    an_expression : {h : ℕ} {ts : List Lexeme} {e : ExprTree} (s : ℕ) → Reads Expression h ts e → ReadsStatement (suc h) (ts ++ Mark s marks.Semicolon ∷ []) (expression 0 (place ts) e)
-    an_if : {h k : ℕ} {xs ys : List Lexeme} {e : ExprTree} {s : StmtTree} (at o c : ℕ) → Reads Expression h xs e → ReadsStatement k ys s
-        → ReadsStatement (suc (max h k)) (Keyword at keywords.If ∷ Mark o marks.OpenParenthesis ∷ (xs ++ Mark c marks.CloseParenthesis ∷ ys)) (branch 0 at e s no_else)
+    a_block : {h : ℕ} {ts : List Terminal} {ss : Stmts} (o c : ℕ) → ReadsItems h ts ss → ReadsStatement (suc h) (Punctuator o punctuators.OpenBrace ∷ (ts ++ Punctuator c punctuators.CloseBrace ∷ [])) (block ss)
+    an_empty : (at : ℕ) → ReadsStatement 1 (Punctuator at punctuators.Semicolon ∷ []) (empty 0 at)
+    an_expression : {h : ℕ} {ts : List Terminal} {e : ExprTree} (s : ℕ) → Reads Expression h ts e → ReadsStatement (suc h) (ts ++ Punctuator s punctuators.Semicolon ∷ []) (expression 0 (place ts) e)
+    an_if : {h k : ℕ} {xs ys : List Terminal} {e : ExprTree} {s : StmtTree} (at o c : ℕ) → Reads Expression h xs e → ReadsStatement k ys s
+        → ReadsStatement (suc (max h k)) (Keyword at keywords.If ∷ Punctuator o punctuators.OpenParenthesis ∷ (xs ++ Punctuator c punctuators.CloseParenthesis ∷ ys)) (branch 0 at e s no_else)
     -- an `else` belongs to the nearest `if` that may take it
-    an_if_with_else : {h k l : ℕ} {xs ys zs : List Lexeme} {e : ExprTree} {s t : StmtTree} (at o c n : ℕ) → Reads Expression h xs e → ReadsStatement k ys s → is_open s ≡ false → ReadsStatement l zs t
-        → ReadsStatement (suc (max h (max k l))) (Keyword at keywords.If ∷ Mark o marks.OpenParenthesis ∷ (xs ++ Mark c marks.CloseParenthesis ∷ (ys ++ Keyword n keywords.Else ∷ zs))) (branch 0 at e s (else_by t))
-    a_while : {h k : ℕ} {xs ys : List Lexeme} {e : ExprTree} {s : StmtTree} (at o c : ℕ) → Reads Expression h xs e → ReadsStatement k ys s
-        → ReadsStatement (suc (max h k)) (Keyword at keywords.While ∷ Mark o marks.OpenParenthesis ∷ (xs ++ Mark c marks.CloseParenthesis ∷ ys)) (while_loop 0 at e s)
-    a_do : {h k : ℕ} {xs ys : List Lexeme} {s : StmtTree} {e : ExprTree} (at w o c n : ℕ) → ReadsStatement h xs s → Reads Expression k ys e
-        → ReadsStatement (suc (max h k)) (Keyword at keywords.Do ∷ (xs ++ Keyword w keywords.While ∷ Mark o marks.OpenParenthesis ∷ (ys ++ Mark c marks.CloseParenthesis ∷ Mark n marks.Semicolon ∷ []))) (do_loop 0 at s e)
-    a_for : {h i j k : ℕ} {ws xs ys zs : List Lexeme} {start : StartTree} {e u : Option ExprTree} {s : StmtTree} (at o n c : ℕ) → ReadsStart h ws start → ReadsOptional i xs e → ReadsOptional j ys u → ReadsStatement k zs s
-        → ReadsStatement (suc (max h (max i (max j k)))) (Keyword at keywords.For ∷ Mark o marks.OpenParenthesis ∷ (ws ++ (xs ++ Mark n marks.Semicolon ∷ (ys ++ Mark c marks.CloseParenthesis ∷ zs)))) (for_loop 0 at start e u s)
-    a_break : (at s : ℕ) → ReadsStatement 1 (Keyword at keywords.Break ∷ Mark s marks.Semicolon ∷ []) (break 0 at)
-    a_continue : (at s : ℕ) → ReadsStatement 1 (Keyword at keywords.Continue ∷ Mark s marks.Semicolon ∷ []) (continue 0 at)
-    a_return : {h : ℕ} {ts : List Lexeme} {e : Option ExprTree} (at s : ℕ) → ReadsOptional h ts e → ReadsStatement (suc h) (Keyword at keywords.Return ∷ (ts ++ Mark s marks.Semicolon ∷ [])) (return 0 at e)
+    an_if_with_else : {h k l : ℕ} {xs ys zs : List Terminal} {e : ExprTree} {s t : StmtTree} (at o c n : ℕ) → Reads Expression h xs e → ReadsStatement k ys s → is_open s ≡ false → ReadsStatement l zs t
+        → ReadsStatement (suc (max h (max k l))) (Keyword at keywords.If ∷ Punctuator o punctuators.OpenParenthesis ∷ (xs ++ Punctuator c punctuators.CloseParenthesis ∷ (ys ++ Keyword n keywords.Else ∷ zs))) (branch 0 at e s (else_by t))
+    a_while : {h k : ℕ} {xs ys : List Terminal} {e : ExprTree} {s : StmtTree} (at o c : ℕ) → Reads Expression h xs e → ReadsStatement k ys s
+        → ReadsStatement (suc (max h k)) (Keyword at keywords.While ∷ Punctuator o punctuators.OpenParenthesis ∷ (xs ++ Punctuator c punctuators.CloseParenthesis ∷ ys)) (while_loop 0 at e s)
+    a_do : {h k : ℕ} {xs ys : List Terminal} {s : StmtTree} {e : ExprTree} (at w o c n : ℕ) → ReadsStatement h xs s → Reads Expression k ys e
+        → ReadsStatement (suc (max h k)) (Keyword at keywords.Do ∷ (xs ++ Keyword w keywords.While ∷ Punctuator o punctuators.OpenParenthesis ∷ (ys ++ Punctuator c punctuators.CloseParenthesis ∷ Punctuator n punctuators.Semicolon ∷ []))) (do_loop 0 at s e)
+    a_for : {h i j k : ℕ} {ws xs ys zs : List Terminal} {start : StartTree} {e u : Option ExprTree} {s : StmtTree} (at o n c : ℕ) → ReadsStart h ws start → ReadsOptional i xs e → ReadsOptional j ys u → ReadsStatement k zs s
+        → ReadsStatement (suc (max h (max i (max j k)))) (Keyword at keywords.For ∷ Punctuator o punctuators.OpenParenthesis ∷ (ws ++ (xs ++ Punctuator n punctuators.Semicolon ∷ (ys ++ Punctuator c punctuators.CloseParenthesis ∷ zs)))) (for_loop 0 at start e u s)
+    a_break : (at s : ℕ) → ReadsStatement 1 (Keyword at keywords.Break ∷ Punctuator s punctuators.Semicolon ∷ []) (break 0 at)
+    a_continue : (at s : ℕ) → ReadsStatement 1 (Keyword at keywords.Continue ∷ Punctuator s punctuators.Semicolon ∷ []) (continue 0 at)
+    a_return : {h : ℕ} {ts : List Terminal} {e : Option ExprTree} (at s : ℕ) → ReadsOptional h ts e → ReadsStatement (suc h) (Keyword at keywords.Return ∷ (ts ++ Punctuator s punctuators.Semicolon ∷ [])) (return 0 at e)
 
   -- item = declaration | statement
-  pub data ReadsItem : ℕ → List Lexeme → StmtTree → Type 0 where
-    a_statement : {h : ℕ} {ts : List Lexeme} {s : StmtTree} → ReadsStatement h ts s → ReadsItem h ts s
-    a_declared : {h : ℕ} {ts : List Lexeme} {d : DeclarationTree} → ReadsDeclaration h ts d → ReadsItem h ts (declaration d)
+  pub data ReadsItem : ℕ → List Terminal → StmtTree → Type 0 where
+    a_statement : {h : ℕ} {ts : List Terminal} {s : StmtTree} → ReadsStatement h ts s → ReadsItem h ts s
+    a_declared : {h : ℕ} {ts : List Terminal} {d : DeclarationTree} → ReadsDeclaration h ts d → ReadsItem h ts (declaration d)
 
   -- { item }
-  pub data ReadsItems : ℕ → List Lexeme → Stmts → Type 0 where
+  pub data ReadsItems : ℕ → List Terminal → Stmts → Type 0 where
     no_item : ReadsItems 0 [] no_stmts
-    an_item : {h k : ℕ} {xs ys : List Lexeme} {s : StmtTree} {ss : Stmts} → ReadsItem h xs s → ReadsItems k ys ss → ReadsItems (max h k) (xs ++ ys) (stmt_and s ss)
+    an_item : {h k : ℕ} {xs ys : List Terminal} {s : StmtTree} {ss : Stmts} → ReadsItem h xs s → ReadsItems k ys ss → ReadsItems (max h k) (xs ++ ys) (stmt_and s ss)

@@ -1,26 +1,26 @@
 -- How tokens are read as types (C11 6.7.2, 6.7.3, 6.7.6, 6.7.7).
 use Rattle.std.specs.Prelude.{ℕ, suc, List, [], ◌∷◌, ◌++◌}
-use Rattle.qs_syntax.specs.declared.lexeme.Lexeme.{Lexeme}
-use Rattle.qs_syntax.specs.declared.lexeme.Lexeme.TheVariants.{Name, Keyword, Mark}
+use Rattle.qs_syntax.specs.declared.terminal.Terminal.{Terminal}
+use Rattle.qs_syntax.specs.declared.terminal.Terminal.TheVariants.{Name, Keyword, Punctuator}
 use Rattle.qs_syntax.specs.declared.tokens.Keyword.TheVariants as keywords
-use Rattle.qs_syntax.specs.declared.tokens.Mark.TheVariants as marks
+use Rattle.qs_syntax.specs.declared.tokens.Punctuator.TheVariants as punctuators
 use Rattle.qs_syntax.specs.declared.tree.Base.{Base}
 use Rattle.qs_syntax.specs.declared.tree.Base.TheVariants as bases
 use Rattle.qs_syntax.specs.declared.tree.TypeName.{TypeName}
 
 -- { "const" }
-pub data ReadsConsts : List Lexeme → Type 0 where
+pub data ReadsConsts : List Terminal → Type 0 where
   no_const : ReadsConsts []
-  a_const : {ts : List Lexeme} (at : ℕ) → ReadsConsts ts → ReadsConsts (Keyword at keywords.Const ∷ ts)
+  a_const : {ts : List Terminal} (at : ℕ) → ReadsConsts ts → ReadsConsts (Keyword at keywords.Const ∷ ts)
 
 -- { "const" | "static" }
-pub data ReadsPrefixes : List Lexeme → Type 0 where
+pub data ReadsPrefixes : List Terminal → Type 0 where
   no_prefix : ReadsPrefixes []
-  a_const_prefix : {ts : List Lexeme} (at : ℕ) → ReadsPrefixes ts → ReadsPrefixes (Keyword at keywords.Const ∷ ts)
-  a_static_prefix : {ts : List Lexeme} (at : ℕ) → ReadsPrefixes ts → ReadsPrefixes (Keyword at keywords.Static ∷ ts)
+  a_const_prefix : {ts : List Terminal} (at : ℕ) → ReadsPrefixes ts → ReadsPrefixes (Keyword at keywords.Const ∷ ts)
+  a_static_prefix : {ts : List Terminal} (at : ℕ) → ReadsPrefixes ts → ReadsPrefixes (Keyword at keywords.Static ∷ ts)
 
 -- base = "void" | "int" | "char" | "unsigned" [ "int" | "char" ] | "signed" [ "int" ] | "struct" NAME
-pub data ReadsBase : List Lexeme → Base → Type 0 where
+pub data ReadsBase : List Terminal → Base → Type 0 where
   a_void : (at : ℕ) → ReadsBase (Keyword at keywords.Void ∷ []) bases.Void
   an_int : (at : ℕ) → ReadsBase (Keyword at keywords.Int ∷ []) bases.Int
   a_char : (at : ℕ) → ReadsBase (Keyword at keywords.Char ∷ []) bases.Char
@@ -32,18 +32,18 @@ pub data ReadsBase : List Lexeme → Base → Type 0 where
   a_struct : (at bt : ℕ) (x : List ℕ) → ReadsBase (Keyword at keywords.Struct ∷ Name bt x ∷ []) (bases.Struct x)
 
 -- lspec = { "const" } base { "const" }
-pub data ReadsType : List Lexeme → Base → Type 0 where
-  a_type : {xs ys zs : List Lexeme} {base : Base} → ReadsConsts xs → ReadsBase ys base → ReadsConsts zs → ReadsType (xs ++ (ys ++ zs)) base
+pub data ReadsType : List Terminal → Base → Type 0 where
+  a_type : {xs ys zs : List Terminal} {base : Base} → ReadsConsts xs → ReadsBase ys base → ReadsConsts zs → ReadsType (xs ++ (ys ++ zs)) base
 
 -- spec = { "const" | "static" } base { "const" }
-pub data ReadsOuterType : List Lexeme → Base → Type 0 where
-  an_outer_type : {xs ys zs : List Lexeme} {base : Base} → ReadsPrefixes xs → ReadsBase ys base → ReadsConsts zs → ReadsOuterType (xs ++ (ys ++ zs)) base
+pub data ReadsOuterType : List Terminal → Base → Type 0 where
+  an_outer_type : {xs ys zs : List Terminal} {base : Base} → ReadsPrefixes xs → ReadsBase ys base → ReadsConsts zs → ReadsOuterType (xs ++ (ys ++ zs)) base
 
 -- stars = { "*" { "const" } }
-pub data ReadsStars : List Lexeme → ℕ → Type 0 where
+pub data ReadsStars : List Terminal → ℕ → Type 0 where
   no_star : ReadsStars [] 0
-  a_star : {xs ys : List Lexeme} {n : ℕ} (at : ℕ) → ReadsConsts xs → ReadsStars ys n → ReadsStars (Mark at marks.Star ∷ (xs ++ ys)) (suc n)
+  a_star : {xs ys : List Terminal} {n : ℕ} (at : ℕ) → ReadsConsts xs → ReadsStars ys n → ReadsStars (Punctuator at punctuators.Star ∷ (xs ++ ys)) (suc n)
 
 -- typename = lspec stars
-pub data ReadsTypeName : List Lexeme → TypeName → Type 0 where
-  a_type_name : {xs ys : List Lexeme} {base : Base} {n : ℕ} → ReadsType xs base → ReadsStars ys n → ReadsTypeName (xs ++ ys) (record { base = base; stars = n })
+pub data ReadsTypeName : List Terminal → TypeName → Type 0 where
+  a_type_name : {xs ys : List Terminal} {base : Base} {n : ℕ} → ReadsType xs base → ReadsStars ys n → ReadsTypeName (xs ++ ys) (record { base = base; stars = n })

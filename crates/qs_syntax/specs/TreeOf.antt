@@ -26,13 +26,13 @@ abbrev pub shape_step : Shape-F ShapeTree ExprTree → ShapeTree
 shape_step (Shape-F.Int n unsigned) = int n unsigned
 shape_step (Shape-F.Text bytes) = text bytes
 shape_step (Shape-F.Name x) = name x
-shape_step (Shape-F.Unary sign a) = unary sign a.value
-shape_step (Shape-F.Step sign a) = step sign a.value
+shape_step (Shape-F.Unary operator a) = unary operator a.value
+shape_step (Shape-F.Step operator a) = step operator a.value
 shape_step (Shape-F.Cast type a) = cast type a.value
 shape_step (Shape-F.SizeType type) = size_type type
 shape_step (Shape-F.SizeExpr a) = size_expr a.value
-shape_step (Shape-F.Binary sign a b) = binary sign a.value b.value
-shape_step (Shape-F.Assign sign a b) = assign sign a.value b.value
+shape_step (Shape-F.Binary operator a b) = binary operator a.value b.value
+shape_step (Shape-F.Assign operator a b) = assign operator a.value b.value
 shape_step (Shape-F.Cond a b c) = choice a.value b.value c.value
 shape_step (Shape-F.Comma a b) = comma a.value b.value
 shape_step (Shape-F.Index a b) = index a.value b.value

@@ -1,10 +1,10 @@
 -- The trees of the language as plain data, without addresses and capacities (C11 6.5 to 6.9). Each node has its number and the number
 -- of the token at which it stands.
 use Rattle.std.specs.Prelude.{ℕ, Bool, List, [], ◌∷◌, Option, Some, None}
-use Rattle.qs_syntax.specs.declared.tree.UnarySign.{UnarySign}
-use Rattle.qs_syntax.specs.declared.tree.StepSign.{StepSign}
-use Rattle.qs_syntax.specs.declared.tree.BinarySign.{BinarySign}
-use Rattle.qs_syntax.specs.declared.tree.AssignSign.{AssignSign}
+use Rattle.qs_syntax.specs.declared.tree.UnaryOperator.{UnaryOperator}
+use Rattle.qs_syntax.specs.declared.tree.StepOperator.{StepOperator}
+use Rattle.qs_syntax.specs.declared.tree.BinaryOperator.{BinaryOperator}
+use Rattle.qs_syntax.specs.declared.tree.AssignmentOperator.{AssignmentOperator}
 use Rattle.qs_syntax.specs.declared.tree.Access.{Access}
 use Rattle.qs_syntax.specs.declared.tree.Base.{Base}
 use Rattle.qs_syntax.specs.declared.tree.TypeName.{TypeName}
@@ -20,13 +20,13 @@ mutual
     int : ℕ → Bool → ShapeTree
     text : List ℕ → ShapeTree
     name : List ℕ → ShapeTree
-    unary : UnarySign → ExprTree → ShapeTree
-    step : StepSign → ExprTree → ShapeTree
+    unary : UnaryOperator → ExprTree → ShapeTree
+    step : StepOperator → ExprTree → ShapeTree
     cast : TypeName → ExprTree → ShapeTree
     size_type : TypeName → ShapeTree
     size_expr : ExprTree → ShapeTree
-    binary : BinarySign → ExprTree → ExprTree → ShapeTree
-    assign : AssignSign → ExprTree → ExprTree → ShapeTree
+    binary : BinaryOperator → ExprTree → ExprTree → ShapeTree
+    assign : AssignmentOperator → ExprTree → ExprTree → ShapeTree
     choice : ExprTree → ExprTree → ExprTree → ShapeTree
     comma : ExprTree → ExprTree → ShapeTree
     index : ExprTree → ExprTree → ShapeTree

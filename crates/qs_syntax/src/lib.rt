@@ -2,7 +2,7 @@
 #![tactic(auto)]
 
 mod copy;
-mod lexeme;
+mod terminal;
 mod numbered_declarations;
 mod numbered_statements;
 mod numbered_units;
@@ -16,11 +16,11 @@ mod tokens;
 mod tree;
 mod unit;
 
-pub use lexeme::Lexeme;
-pub use tokens::{Keyword, Mark, Token, TokenKind};
+pub use terminal::Terminal;
+pub use tokens::{Keyword, Punctuator, Token, TokenKind};
 pub use tree::{
-    Access, AssignSign, Base, BinarySign, Decl, Declaration, Declarator, Expr, Forward, Function,
-    Initialiser, InitialiserList, Lengths, Members, Node, Parameter, Shape, Start, StepSign, Stmt,
-    Struct, Text, TypeName, UnarySign, Variable,
+    Access, AssignmentOperator, Base, BinaryOperator, Decl, Declaration, Declarator, Expr, Forward, Function,
+    Initialiser, InitialiserList, Lengths, Members, Node, Parameter, Shape, Start, StepOperator, Stmt,
+    Struct, Text, TypeName, UnaryOperator, Variable,
 };
 pub use unit::{Unit, numbered};

@@ -44,21 +44,21 @@ fn numbered_shape(alloc: Global, shape: &Shape, next: &mut u32) -> Result<Shape,
         Shape::Int(value, is_unsigned) => Ok(Shape::Int(*value, *is_unsigned)),
         Shape::Text(text) => Ok(Shape::Text(text.copy(alloc)?)),
         Shape::Name(name) => Ok(Shape::Name(name.copy(alloc)?)),
-        Shape::Unary(sign, a) => Ok(Shape::Unary(*sign, boxed(alloc, a, next)?)),
-        Shape::Step(sign, a) => Ok(Shape::Step(*sign, boxed(alloc, a, next)?)),
+        Shape::Unary(operator, a) => Ok(Shape::Unary(*operator, boxed(alloc, a, next)?)),
+        Shape::Step(operator, a) => Ok(Shape::Step(*operator, boxed(alloc, a, next)?)),
         Shape::Cast(type_name, a) => Ok(Shape::Cast(
             type_name.copy(alloc)?,
             boxed(alloc, a, next)?,
         )),
         Shape::SizeType(type_name) => Ok(Shape::SizeType(type_name.copy(alloc)?)),
         Shape::SizeExpr(a) => Ok(Shape::SizeExpr(boxed(alloc, a, next)?)),
-        Shape::Binary(sign, a, b) => {
+        Shape::Binary(operator, a, b) => {
             let a = boxed(alloc, a, next)?;
-            Ok(Shape::Binary(*sign, a, boxed(alloc, b, next)?))
+            Ok(Shape::Binary(*operator, a, boxed(alloc, b, next)?))
         }
-        Shape::Assign(sign, a, b) => {
+        Shape::Assign(operator, a, b) => {
             let a = boxed(alloc, a, next)?;
-            Ok(Shape::Assign(*sign, a, boxed(alloc, b, next)?))
+            Ok(Shape::Assign(*operator, a, boxed(alloc, b, next)?))
         }
         Shape::Cond(a, b, c) => {
             let a = boxed(alloc, a, next)?;

@@ -4,28 +4,28 @@ ghost use Rattle.qs_syntax.specs.TreeOf.{expr_tree, shape_tree, exprs_tree};
 ghost use Rattle.qs_syntax.specs.Sameness.{same_unary, same_step, same_binary, same_assign, same_access, same_base, same_type, same_expr, same_shape, same_exprs};
 
 use crate::tree::{
-    Access, AssignSign, Base, BinarySign, Expr, Shape, StepSign, TypeName, UnarySign,
+    Access, AssignmentOperator, Base, BinaryOperator, Expr, Shape, StepOperator, TypeName, UnaryOperator,
 };
 
-fn same_unary(a: UnarySign, b: UnarySign) -> bool
+fn same_unary(a: UnaryOperator, b: UnaryOperator) -> bool
     ensures { result ≡ same_unary a b }
 {
     a == b
 }
 
-fn same_step(a: StepSign, b: StepSign) -> bool
+fn same_step(a: StepOperator, b: StepOperator) -> bool
     ensures { result ≡ same_step a b }
 {
     a == b
 }
 
-fn same_binary(a: BinarySign, b: BinarySign) -> bool
+fn same_binary(a: BinaryOperator, b: BinaryOperator) -> bool
     ensures { result ≡ same_binary a b }
 {
     a == b
 }
 
-fn same_assign(a: AssignSign, b: AssignSign) -> bool
+fn same_assign(a: AssignmentOperator, b: AssignmentOperator) -> bool
     ensures { result ≡ same_assign a b }
 {
     a == b

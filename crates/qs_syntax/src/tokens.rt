@@ -24,8 +24,8 @@ pub enum TokenKind {
     Character(u8),
     /// A text in double quotes (C11 6.4.5). Its bytes are those of the text, with their quotes and escapes.
     Text,
-    /// A mark (C11 6.4.6).
-    Mark(Mark),
+    /// A punctuator (C11 6.4.6).
+    Punctuator(Punctuator),
 }
 
 /// The keywords (C11 6.4.1), in the standard's order.
@@ -121,9 +121,9 @@ pub enum Keyword {
     ThreadLocal,
 }
 
-/// The marks (C11 6.4.6): all but `...`, `#`, `##` and the digraphs.
+/// The punctuators (C11 6.4.6): all but `...`, `#`, `##` and the digraphs.
 #[derive(Clone, Copy, PartialEq, Eq, Debug)]
-pub enum Mark {
+pub enum Punctuator {
     /// `[`
     OpenBracket,
     /// `]`

@@ -61,9 +61,9 @@ impl Eq for Text {
     ghost laws = { Prim.search (comparing, rules) };
 }
 
-/// The sign of a unary operator (C11 6.5.3).
+/// A unary operator (C11 6.5.3).
 #[derive(Clone, Copy, PartialEq, Eq, Debug)]
-pub enum UnarySign {
+pub enum UnaryOperator {
     /// `&`
     Address,
     /// `*`
@@ -78,9 +78,9 @@ pub enum UnarySign {
     Not,
 }
 
-/// The sign of a step by one, and where it stands (C11 6.5.2.4, 6.5.3.1).
+/// An operator that steps by one, and where it stands (C11 6.5.2.4, 6.5.3.1).
 #[derive(Clone, Copy, PartialEq, Eq, Debug)]
-pub enum StepSign {
+pub enum StepOperator {
     /// `++a`
     IncrementBefore,
     /// `--a`
@@ -91,9 +91,9 @@ pub enum StepSign {
     DecrementAfter,
 }
 
-/// The sign of an operator between two operands that groups to the left (C11 6.5.5 to 6.5.14).
+/// An operator between two operands that groups to the left (C11 6.5.5 to 6.5.14).
 #[derive(Clone, Copy, PartialEq, Eq, Debug)]
-pub enum BinarySign {
+pub enum BinaryOperator {
     /// `*`
     Multiply,
     /// `/`
@@ -132,9 +132,9 @@ pub enum BinarySign {
     Or,
 }
 
-/// The sign of an assignment (C11 6.5.16).
+/// An assignment operator (C11 6.5.16).
 #[derive(Clone, Copy, PartialEq, Eq, Debug)]
-pub enum AssignSign {
+pub enum AssignmentOperator {
     /// `=`
     Plain,
     /// `*=`
@@ -215,9 +215,9 @@ pub enum Shape {
     /// The name of a variable or parameter.
     Name(Name),
     /// A unary operator.
-    Unary(UnarySign, Box<Expr>),
+    Unary(UnaryOperator, Box<Expr>),
     /// A step by one.
-    Step(StepSign, Box<Expr>),
+    Step(StepOperator, Box<Expr>),
     /// A cast.
     Cast(TypeName, Box<Expr>),
     /// `sizeof` of a type.
@@ -225,9 +225,9 @@ pub enum Shape {
     /// `sizeof` of an expression.
     SizeExpr(Box<Expr>),
     /// An operator between two operands.
-    Binary(BinarySign, Box<Expr>, Box<Expr>),
+    Binary(BinaryOperator, Box<Expr>, Box<Expr>),
     /// An assignment.
-    Assign(AssignSign, Box<Expr>, Box<Expr>),
+    Assign(AssignmentOperator, Box<Expr>, Box<Expr>),
     /// `a ? b : c`
     Cond(Box<Expr>, Box<Expr>, Box<Expr>),
     /// `a, b`

@@ -13,4 +13,4 @@ put_initialisers-loop-i-preserved t c = record {
 }
 
 pub put_initialiser-returns-in_ok-put_initialisers-in-List : goal.put_initialiser-returns-in_ok-put_initialisers-in-List
-put_initialiser-returns-in_ok-put_initialisers-in-List t c = rw (c.in-List.is, list_of_tree, initialisers_list, ← c.deref.ensures.value) (last _ _ c.put_mark-in-List.result c.in_ok-put_mark-in-List.ensures (last _ _ c.put_mark-in-List.result c.in_ok-put_initialisers-in-List.ensures c.put_mark-in-List.ensures))
+put_initialiser-returns-in_ok-put_initialisers-in-List t c = rw (c.in-List.is, list_of_tree, initialisers_list, ← c.deref.ensures.value) (last _ _ c.put_punctuator-in-List.result c.in_ok-put_punctuator-in-List.ensures (last _ _ c.put_punctuator-in-List.result c.in_ok-put_initialisers-in-List.ensures c.put_punctuator-in-List.ensures))

@@ -2,4 +2,4 @@ use Rattle.qs_print.proofs.Spaces.{last}
 use Rattle.qs_print.proofs.declarations.put_length.Goals as goal
 
 pub returns : goal.returns
-returns c = last _ _ c.put_mark-2.result c.in_ok-put_mark.ensures (last _ _ c.put_mark-2.result c.in_ok-put_part.ensures c.put_mark-2.ensures)
+returns c = last _ _ c.put_punctuator-2.result c.in_ok-put_punctuator.ensures (last _ _ c.put_punctuator-2.result c.in_ok-put_part.ensures c.put_punctuator-2.ensures)

@@ -2,4 +2,4 @@ use Rattle.qs_print.proofs.Spaces.{last}
 use Rattle.qs_print.proofs.declarations.put_members.Goals as goal
 
 pub returns : goal.returns
-returns c = rw (← c.deref.ensures.value) (last _ _ c.put_mark.result c.in_ok-put_base.ensures (last _ _ c.put_mark.result c.in_ok-put_declarators.ensures c.put_mark.ensures))
+returns c = rw (← c.deref.ensures.value) (last _ _ c.put_punctuator.result c.in_ok-put_base.ensures (last _ _ c.put_punctuator.result c.in_ok-put_declarators.ensures c.put_punctuator.ensures))

@@ -1,5 +1,5 @@
 use Rattle.std.proofs.Common.{◌∙◌}
-use Rattle.qs_syntax.proofs.SameSigns.{access_tags}
+use Rattle.qs_syntax.proofs.SameOperators.{access_tags}
 use Rattle.qs_syntax.proofs.same_expressions.same_access.Goals as goal
 
 pub returns : goal.returns

@@ -1,5 +1,5 @@
 use Rattle.std.proofs.Common.{◌∙◌}
-use Rattle.qs_syntax.proofs.SameSigns.{assign_tags}
+use Rattle.qs_syntax.proofs.SameOperators.{assign_tags}
 use Rattle.qs_syntax.proofs.same_expressions.same_assign.Goals as goal
 
 pub returns : goal.returns

@@ -1,5 +1,5 @@
 use Rattle.std.proofs.Common.{◌∙◌}
-use Rattle.qs_syntax.proofs.SameSigns.{binary_tags}
+use Rattle.qs_syntax.proofs.SameOperators.{binary_tags}
 use Rattle.qs_syntax.proofs.same_expressions.same_binary.Goals as goal
 
 pub returns : goal.returns

@@ -1,5 +1,5 @@
 use Rattle.std.proofs.Common.{◌∙◌}
-use Rattle.qs_syntax.proofs.SameSigns.{step_tags}
+use Rattle.qs_syntax.proofs.SameOperators.{step_tags}
 use Rattle.qs_syntax.proofs.same_expressions.same_step.Goals as goal
 
 pub returns : goal.returns

@@ -1,5 +1,5 @@
 use Rattle.std.proofs.Common.{◌∙◌}
-use Rattle.qs_syntax.proofs.SameSigns.{unary_tags}
+use Rattle.qs_syntax.proofs.SameOperators.{unary_tags}
 use Rattle.qs_syntax.proofs.same_expressions.same_unary.Goals as goal
 
 pub returns : goal.returns

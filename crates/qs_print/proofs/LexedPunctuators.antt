@@ -1,4 +1,4 @@
--- A mark with a gap behind it.
+-- A punctuator with a gap behind it.
 use Rattle.std.proofs.Common.{◌≡◌, ℕ, ◌+◌, ◌<◌, ◌≤◌, inl, zero, suc, Bool, true, false, not, ◌&&◌, ◌||◌, List, [], ◌∷◌, ◌++◌, Some, None, is_some, length, take, refl, ap, sym, ◌∙◌, arith, bytes_eq, ◌==◌}
 use Rattle.std.proofs.Math.Seq.{take-append_seam}
 use Rattle.std.proofs.lemmas.List.{length-append, length-take-le}
@@ -8,25 +8,25 @@ use Rattle.qs_base.specs.Names.{is_digit, is_letter}
 use Rattle.qs_lexer.specs.Bytes.{is_space, starts_with}
 use Rattle.qs_lexer.specs.Pieces.{Next, Stands, class_of, class_with, token_or_fault}
 use Rattle.qs_lexer.specs.Tables.{look_up}
-use Rattle.qs_lexer.specs.Words.{mark_of, mark_table, mark_with}
+use Rattle.qs_lexer.specs.Words.{punctuator_of, punctuator_table, punctuator_with}
 use Rattle.qs_lexer.specs.declared.pieces.Class.TheVariants.{Space, LineComment, BlockComment, LineMarker, Word, Number, Character, Text, Other}
 use Rattle.qs_lexer.specs.declared.pieces.Piece.TheVariants as pieces
-use Rattle.qs_syntax.specs.declared.tokens.Mark.{Mark}
-use Rattle.qs_syntax.specs.declared.tokens.Mark.TheVariants as marks
+use Rattle.qs_syntax.specs.declared.tokens.Punctuator.{Punctuator}
+use Rattle.qs_syntax.specs.declared.tokens.Punctuator.TheVariants as punctuators
 use Rattle.qs_syntax.specs.declared.tokens.TokenKind.TheVariants as kinds
 use Rattle.qs_lexer.proofs.Begins.{next_is}
 use Rattle.qs_lexer.proofs.Conjunctions.{and_false}
-use Rattle.qs_print.specs.Spelling.{mark_spelling}
+use Rattle.qs_print.specs.Spelling.{punctuator_spelling}
 use Rattle.qs_print.proofs.LexedWords.{both, is_gap, left_false, not_true, past}
 
--- ---- no mark has a gap within
+-- ---- no punctuator has a gap within
 
 abbrev keys_have_none : {A : Type 0} → List (List ℕ × A) → Bool
 keys_have_none [] = true
 keys_have_none (entry ∷ entries) = not (list_any is_gap entry.0) && keys_have_none entries
 
-marks_have_none : keys_have_none mark_table ≡ true
-marks_have_none = refl
+punctuators_have_none : keys_have_none punctuator_table ≡ true
+punctuators_have_none = refl
 
 or_parts : (b c : Bool) → (b || c) ≡ false → (b ≡ false) × (c ≡ false)
 or_parts true c h = cc
@@ -57,9 +57,9 @@ not_in_table (entry ∷ entries) bytes k h =
     let b : (not (list_any is_gap entry.0) ≡ true) × (keys_have_none entries ≡ true) = both (not (list_any is_gap entry.0)) (keys_have_none entries) k in
     rw (other_bytes entry.0 bytes (not_true (list_any is_gap entry.0) b.0) h) (not_in_table entries bytes b.1 h)
 
-no_mark : (bytes : List ℕ) → list_any is_gap bytes ≡ true → mark_of bytes ≡ None
-unfolding mark_of
-no_mark bytes h = not_in_table mark_table bytes marks_have_none h
+no_punctuator : (bytes : List ℕ) → list_any is_gap bytes ≡ true → punctuator_of bytes ≡ None
+unfolding punctuator_of
+no_punctuator bytes h = not_in_table punctuator_table bytes punctuators_have_none h
 
 or_second : (b c : Bool) → c ≡ true → (b || c) ≡ true
 or_second true c h = refl
@@ -71,7 +71,7 @@ gap_within word gap rest zero g h = absurd (omega arith)
 gap_within [] gap rest (suc m) g h = rw g refl
 gap_within (x ∷ xs) gap rest (suc m) g h = or_second (is_gap x) (list_any is_gap (take m (xs ++ gap ∷ rest))) (gap_within xs gap rest m g (omega arith))
 
--- ---- the class of a mark
+-- ---- the class of a punctuator
 
 abbrev begins_other : ℕ → Bool
 begins_other a = is_space a || (a == 35 || (is_letter a || (is_digit a || (a == 39 || a == 34))))
@@ -118,126 +118,126 @@ no_comment true false true h = cc
 no_comment true false false h = (refl, refl)
 no_comment false y z h = (refl, refl)
 
-mark_class : (fresh : Bool) (word : List ℕ) (gap : ℕ) (rest : List ℕ) → is_plain word ≡ true → is_gap gap ≡ true → class_of fresh (word ++ gap ∷ rest) ≡ Other
-mark_class fresh [] gap rest h g = cc
-mark_class fresh (a ∷ []) gap rest h g =
+punctuator_class : (fresh : Bool) (word : List ℕ) (gap : ℕ) (rest : List ℕ) → is_plain word ≡ true → is_gap gap ≡ true → class_of fresh (word ++ gap ∷ rest) ≡ Other
+punctuator_class fresh [] gap rest h g = cc
+punctuator_class fresh (a ∷ []) gap rest h g =
     plain_class fresh a (gap ∷ rest) (plain a (not_true (begins_other a) h)) (and_false (a == 47) (gap == 47) (gap_no gap 47 g (omega arith))) (and_false (a == 47) (gap == 42) (gap_no gap 42 g (omega arith)))
-mark_class fresh (a ∷ b ∷ bytes) gap rest h g =
+punctuator_class fresh (a ∷ b ∷ bytes) gap rest h g =
     let p : (not (begins_other a) ≡ true) × (not (a == 47 && (b == 47 || b == 42)) ≡ true) = both (not (begins_other a)) (not (a == 47 && (b == 47 || b == 42))) h in
     let n : ((a == 47 && b == 47) ≡ false) × ((a == 47 && b == 42) ≡ false) = no_comment (a == 47) (b == 47) (b == 42) p.1 in
     plain_class fresh a (b ∷ (bytes ++ gap ∷ rest)) (plain a (not_true (begins_other a) p.0)) n.0 n.1
 
--- ---- the marks
+-- ---- the punctuators
 
-mark_plain : (mark : Mark) → is_plain (mark_spelling mark) ≡ true
-mark_plain marks.OpenBracket = refl
-mark_plain marks.CloseBracket = refl
-mark_plain marks.OpenParenthesis = refl
-mark_plain marks.CloseParenthesis = refl
-mark_plain marks.OpenBrace = refl
-mark_plain marks.CloseBrace = refl
-mark_plain marks.Dot = refl
-mark_plain marks.Arrow = refl
-mark_plain marks.Increment = refl
-mark_plain marks.Decrement = refl
-mark_plain marks.Ampersand = refl
-mark_plain marks.Star = refl
-mark_plain marks.Plus = refl
-mark_plain marks.Minus = refl
-mark_plain marks.Tilde = refl
-mark_plain marks.Exclamation = refl
-mark_plain marks.Slash = refl
-mark_plain marks.Percent = refl
-mark_plain marks.ShiftLeft = refl
-mark_plain marks.ShiftRight = refl
-mark_plain marks.Less = refl
-mark_plain marks.Greater = refl
-mark_plain marks.LessEqual = refl
-mark_plain marks.GreaterEqual = refl
-mark_plain marks.Equal = refl
-mark_plain marks.NotEqual = refl
-mark_plain marks.Caret = refl
-mark_plain marks.Bar = refl
-mark_plain marks.AndAnd = refl
-mark_plain marks.OrOr = refl
-mark_plain marks.Question = refl
-mark_plain marks.Colon = refl
-mark_plain marks.Semicolon = refl
-mark_plain marks.Assign = refl
-mark_plain marks.MultiplyAssign = refl
-mark_plain marks.DivideAssign = refl
-mark_plain marks.RemainderAssign = refl
-mark_plain marks.AddAssign = refl
-mark_plain marks.SubtractAssign = refl
-mark_plain marks.ShiftLeftAssign = refl
-mark_plain marks.ShiftRightAssign = refl
-mark_plain marks.AndAssign = refl
-mark_plain marks.XorAssign = refl
-mark_plain marks.OrAssign = refl
-mark_plain marks.Comma = refl
+punctuator_plain : (punctuator : Punctuator) → is_plain (punctuator_spelling punctuator) ≡ true
+punctuator_plain punctuators.OpenBracket = refl
+punctuator_plain punctuators.CloseBracket = refl
+punctuator_plain punctuators.OpenParenthesis = refl
+punctuator_plain punctuators.CloseParenthesis = refl
+punctuator_plain punctuators.OpenBrace = refl
+punctuator_plain punctuators.CloseBrace = refl
+punctuator_plain punctuators.Dot = refl
+punctuator_plain punctuators.Arrow = refl
+punctuator_plain punctuators.Increment = refl
+punctuator_plain punctuators.Decrement = refl
+punctuator_plain punctuators.Ampersand = refl
+punctuator_plain punctuators.Star = refl
+punctuator_plain punctuators.Plus = refl
+punctuator_plain punctuators.Minus = refl
+punctuator_plain punctuators.Tilde = refl
+punctuator_plain punctuators.Exclamation = refl
+punctuator_plain punctuators.Slash = refl
+punctuator_plain punctuators.Percent = refl
+punctuator_plain punctuators.ShiftLeft = refl
+punctuator_plain punctuators.ShiftRight = refl
+punctuator_plain punctuators.Less = refl
+punctuator_plain punctuators.Greater = refl
+punctuator_plain punctuators.LessEqual = refl
+punctuator_plain punctuators.GreaterEqual = refl
+punctuator_plain punctuators.Equal = refl
+punctuator_plain punctuators.NotEqual = refl
+punctuator_plain punctuators.Caret = refl
+punctuator_plain punctuators.Bar = refl
+punctuator_plain punctuators.AndAnd = refl
+punctuator_plain punctuators.OrOr = refl
+punctuator_plain punctuators.Question = refl
+punctuator_plain punctuators.Colon = refl
+punctuator_plain punctuators.Semicolon = refl
+punctuator_plain punctuators.Assign = refl
+punctuator_plain punctuators.MultiplyAssign = refl
+punctuator_plain punctuators.DivideAssign = refl
+punctuator_plain punctuators.RemainderAssign = refl
+punctuator_plain punctuators.AddAssign = refl
+punctuator_plain punctuators.SubtractAssign = refl
+punctuator_plain punctuators.ShiftLeftAssign = refl
+punctuator_plain punctuators.ShiftRightAssign = refl
+punctuator_plain punctuators.AndAssign = refl
+punctuator_plain punctuators.XorAssign = refl
+punctuator_plain punctuators.OrAssign = refl
+punctuator_plain punctuators.Comma = refl
 
-mark_back : (mark : Mark) → mark_of (mark_spelling mark) ≡ Some mark
-unfolding mark_of
-mark_back marks.OpenBracket = refl
-mark_back marks.CloseBracket = refl
-mark_back marks.OpenParenthesis = refl
-mark_back marks.CloseParenthesis = refl
-mark_back marks.OpenBrace = refl
-mark_back marks.CloseBrace = refl
-mark_back marks.Dot = refl
-mark_back marks.Arrow = refl
-mark_back marks.Increment = refl
-mark_back marks.Decrement = refl
-mark_back marks.Ampersand = refl
-mark_back marks.Star = refl
-mark_back marks.Plus = refl
-mark_back marks.Minus = refl
-mark_back marks.Tilde = refl
-mark_back marks.Exclamation = refl
-mark_back marks.Slash = refl
-mark_back marks.Percent = refl
-mark_back marks.ShiftLeft = refl
-mark_back marks.ShiftRight = refl
-mark_back marks.Less = refl
-mark_back marks.Greater = refl
-mark_back marks.LessEqual = refl
-mark_back marks.GreaterEqual = refl
-mark_back marks.Equal = refl
-mark_back marks.NotEqual = refl
-mark_back marks.Caret = refl
-mark_back marks.Bar = refl
-mark_back marks.AndAnd = refl
-mark_back marks.OrOr = refl
-mark_back marks.Question = refl
-mark_back marks.Colon = refl
-mark_back marks.Semicolon = refl
-mark_back marks.Assign = refl
-mark_back marks.MultiplyAssign = refl
-mark_back marks.DivideAssign = refl
-mark_back marks.RemainderAssign = refl
-mark_back marks.AddAssign = refl
-mark_back marks.SubtractAssign = refl
-mark_back marks.ShiftLeftAssign = refl
-mark_back marks.ShiftRightAssign = refl
-mark_back marks.AndAssign = refl
-mark_back marks.XorAssign = refl
-mark_back marks.OrAssign = refl
-mark_back marks.Comma = refl
+punctuator_back : (punctuator : Punctuator) → punctuator_of (punctuator_spelling punctuator) ≡ Some punctuator
+unfolding punctuator_of
+punctuator_back punctuators.OpenBracket = refl
+punctuator_back punctuators.CloseBracket = refl
+punctuator_back punctuators.OpenParenthesis = refl
+punctuator_back punctuators.CloseParenthesis = refl
+punctuator_back punctuators.OpenBrace = refl
+punctuator_back punctuators.CloseBrace = refl
+punctuator_back punctuators.Dot = refl
+punctuator_back punctuators.Arrow = refl
+punctuator_back punctuators.Increment = refl
+punctuator_back punctuators.Decrement = refl
+punctuator_back punctuators.Ampersand = refl
+punctuator_back punctuators.Star = refl
+punctuator_back punctuators.Plus = refl
+punctuator_back punctuators.Minus = refl
+punctuator_back punctuators.Tilde = refl
+punctuator_back punctuators.Exclamation = refl
+punctuator_back punctuators.Slash = refl
+punctuator_back punctuators.Percent = refl
+punctuator_back punctuators.ShiftLeft = refl
+punctuator_back punctuators.ShiftRight = refl
+punctuator_back punctuators.Less = refl
+punctuator_back punctuators.Greater = refl
+punctuator_back punctuators.LessEqual = refl
+punctuator_back punctuators.GreaterEqual = refl
+punctuator_back punctuators.Equal = refl
+punctuator_back punctuators.NotEqual = refl
+punctuator_back punctuators.Caret = refl
+punctuator_back punctuators.Bar = refl
+punctuator_back punctuators.AndAnd = refl
+punctuator_back punctuators.OrOr = refl
+punctuator_back punctuators.Question = refl
+punctuator_back punctuators.Colon = refl
+punctuator_back punctuators.Semicolon = refl
+punctuator_back punctuators.Assign = refl
+punctuator_back punctuators.MultiplyAssign = refl
+punctuator_back punctuators.DivideAssign = refl
+punctuator_back punctuators.RemainderAssign = refl
+punctuator_back punctuators.AddAssign = refl
+punctuator_back punctuators.SubtractAssign = refl
+punctuator_back punctuators.ShiftLeftAssign = refl
+punctuator_back punctuators.ShiftRightAssign = refl
+punctuator_back punctuators.AndAssign = refl
+punctuator_back punctuators.XorAssign = refl
+punctuator_back punctuators.OrAssign = refl
+punctuator_back punctuators.Comma = refl
 
-mark_stands : (fresh : Bool) (word : List ℕ) (mark : Mark) (gap : ℕ) (rest : List ℕ) → mark_of word ≡ Some mark → is_gap gap ≡ true → Stands fresh Other (word ++ gap ∷ rest) (pieces.Token (length word) (kinds.Mark mark))
-mark_stands fresh word mark gap rest e g =
+punctuator_stands : (fresh : Bool) (word : List ℕ) (punctuator : Punctuator) (gap : ℕ) (rest : List ℕ) → punctuator_of word ≡ Some punctuator → is_gap gap ≡ true → Stands fresh Other (word ++ gap ∷ rest) (pieces.Token (length word) (kinds.Punctuator punctuator))
+punctuator_stands fresh word punctuator gap rest e g =
     let taken : take (length word) (word ++ gap ∷ rest) ≡ word = take-append_seam word (gap ∷ rest) in
     let whole : length (word ++ gap ∷ rest) ≡ length word + suc (length rest) = length-append word (gap ∷ rest) in
     let within : length word ≤ length (word ++ gap ∷ rest) = omega arith in
-    let one : mark_of (take (length word) (word ++ gap ∷ rest)) ≡ Some mark = ap mark_of taken ∙ e in
+    let one : punctuator_of (take (length word) (word ++ gap ∷ rest)) ≡ Some punctuator = ap punctuator_of taken ∙ e in
     inl (record {
       n = length word;
-      longest = record { within = within; has = ap is_some one; no_longer = λ m more low. ap is_some (no_mark (take m (word ++ gap ∷ rest)) (gap_within word gap rest m g more)) };
-      is = sym (ap (token_or_fault (length (take (length word) (word ++ gap ∷ rest)))) (ap mark_with one) ∙ ap (λ k. pieces.Token k (kinds.Mark mark)) (length-take-le (length word) (word ++ gap ∷ rest) within));
+      longest = record { within = within; has = ap is_some one; no_longer = λ m more low. ap is_some (no_punctuator (take m (word ++ gap ∷ rest)) (gap_within word gap rest m g more)) };
+      is = sym (ap (token_or_fault (length (take (length word) (word ++ gap ∷ rest)))) (ap punctuator_with one) ∙ ap (λ k. pieces.Token k (kinds.Punctuator punctuator)) (length-take-le (length word) (word ++ gap ∷ rest) within));
     })
 
-pub mark_next : (fresh : Bool) (mark : Mark) (gap : ℕ) (rest : List ℕ) → is_gap gap ≡ true → Next fresh (mark_spelling mark ++ gap ∷ rest) (pieces.Token (length (mark_spelling mark)) (kinds.Mark mark))
-mark_next fresh mark gap rest g =
-    next_is fresh (mark_spelling mark ++ gap ∷ rest) Other (class_of fresh (mark_spelling mark ++ gap ∷ rest)) (pieces.Token (length (mark_spelling mark)) (kinds.Mark mark)) refl
-    (mark_class fresh (mark_spelling mark) gap rest (mark_plain mark) g)
-    (mark_stands fresh (mark_spelling mark) mark gap rest (mark_back mark) g)
+pub punctuator_next : (fresh : Bool) (punctuator : Punctuator) (gap : ℕ) (rest : List ℕ) → is_gap gap ≡ true → Next fresh (punctuator_spelling punctuator ++ gap ∷ rest) (pieces.Token (length (punctuator_spelling punctuator)) (kinds.Punctuator punctuator))
+punctuator_next fresh punctuator gap rest g =
+    next_is fresh (punctuator_spelling punctuator ++ gap ∷ rest) Other (class_of fresh (punctuator_spelling punctuator ++ gap ∷ rest)) (pieces.Token (length (punctuator_spelling punctuator)) (kinds.Punctuator punctuator)) refl
+    (punctuator_class fresh (punctuator_spelling punctuator) gap rest (punctuator_plain punctuator) g)
+    (punctuator_stands fresh (punctuator_spelling punctuator) punctuator gap rest (punctuator_back punctuator) g)

@@ -2,21 +2,21 @@ use Rattle.std.proofs.Common.{arith}
 use Rattle.qs_lexer.proofs.Seen.{ended, number_low, seen_items}
 use Rattle.qs_lexer.proofs.Spelled.{tokens_of}
 use Rattle.qs_syntax.specs.declared.tokens.TokenKind.TheVariants as kinds
-use Rattle.qs_lexer.proofs.lexeme_list.lexemes.Goals as goal
+use Rattle.qs_lexer.proofs.terminal_list.terminals.Goals as goal
 
-pub lexeme-requires-clause-numbered : goal.lexeme-requires-clause-numbered
-lexeme-requires-clause-numbered c = number_low c.args.text.now c.args.tokens.now c.requires.tokens_of c.loop-at.at _ c.loop-at-test.true
+pub terminal-requires-clause-numbered : goal.terminal-requires-clause-numbered
+terminal-requires-clause-numbered c = number_low c.args.text.now c.args.tokens.now c.requires.tokens_of c.loop-at.at _ c.loop-at-test.true
 
-pub lexeme-requires-clause-ordered : goal.lexeme-requires-clause-ordered
-lexeme-requires-clause-ordered c =
+pub terminal-requires-clause-ordered : goal.terminal-requires-clause-ordered
+terminal-requires-clause-ordered c =
     let t = tokens_of c.args.text.now c.args.tokens.now c.requires.tokens_of c.loop-at.at (record { kind = kinds.Name; start = 0; end = 0 }) c.loop-at-test.true in
     omega (arith, t.some)
 
-pub lexeme-requires-clause-within : goal.lexeme-requires-clause-within
-lexeme-requires-clause-within c =
+pub terminal-requires-clause-within : goal.terminal-requires-clause-within
+terminal-requires-clause-within c =
     (tokens_of c.args.text.now c.args.tokens.now c.requires.tokens_of c.loop-at.at (record { kind = kinds.Name; start = 0; end = 0 }) c.loop-at-test.true).within
 
-pub returns-clause-are_lexemes : goal.returns-clause-are_lexemes
-returns-clause-are_lexemes c =
+pub returns-clause-are_terminals : goal.returns-clause-are_terminals
+returns-clause-are_terminals c =
     seen_items c.args.text.now c.args.tokens.now c.loop-at.list.items c.requires.tokens_of c.type_inv.text
     (ended c.args.text.now c.args.tokens.now c.loop-at.list.items c.loop-at.at c.loop-at-test.false c.loop-at.invariant)

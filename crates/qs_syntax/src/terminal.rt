@@ -1,11 +1,11 @@
 // Tokens as the grammar sees them.
-use crate::tokens::{Keyword, Mark};
+use crate::tokens::{Keyword, Punctuator};
 use crate::tree::Text;
 use qs_base::Name;
 
 /// A token as the grammar sees it. The number of the token comes first.
 #[derive(Debug, Drop)]
-pub enum Lexeme {
+pub enum Terminal {
     /// A name.
     Name(u32, Name),
     /// A keyword.
@@ -14,6 +14,6 @@ pub enum Lexeme {
     Constant(u32, u32, bool),
     /// A string literal: the bytes that it stands for.
     Text(u32, Text),
-    /// A mark.
-    Mark(u32, Mark),
+    /// A punctuator.
+    Punctuator(u32, Punctuator),
 }

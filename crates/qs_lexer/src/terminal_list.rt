@@ -1,0 +1,68 @@
+// The tokens of a text as the grammar sees them.
+ghost use Rattle.std.specs.Prelude.{◌≡◌, ◌≤◌, true, ℕ, List, IfOk, length};
+ghost use Rattle.std.specs.List.{list_all};
+ghost use Rattle.qs_lexer.specs.Terminals.{terminal, terminal_of, terminals};
+ghost use Rattle.qs_lexer.specs.Literals.{elements};
+ghost use Rattle.qs_lexer.specs.Tokens.{Tokens};
+ghost use Rattle.qs_syntax.specs.Units.{is_byte, is_terminal};
+ghost use Rattle.qs_syntax.specs.declared.tokens.Token.{Token};
+
+use crate::literals::text_bytes;
+use qs_base::{Name, NoMemory};
+use qs_syntax::{Terminal, Text, Token, TokenKind};
+use std::alloc::Global;
+
+/// The text that a literal stands for.
+fn text_of(alloc: Global, literal: &[u8]) -> Result<Text, NoMemory>
+    ensures { IfOk result (λ text. text ≡ elements literal.now) }
+{
+    let mut bytes = Vec::new(alloc);
+    text_bytes(literal, &mut bytes)?;
+    Ok(Text::new(bytes))
+}
+
+fn terminal_of(alloc: Global, at: u32, bytes: &[u8], kind: TokenKind) -> Result<Terminal, NoMemory>
+    ensures { IfOk result (λ terminal. terminal ≡ terminal_of at bytes.now kind) }
+{
+    match kind {
+        TokenKind::Name => Ok(Terminal::Name(at, Name::new(alloc, bytes)?)),
+        TokenKind::Keyword(keyword) => Ok(Terminal::Keyword(at, keyword)),
+        TokenKind::Number(value, unsigned) => Ok(Terminal::Constant(at, value, unsigned)),
+        TokenKind::Character(value) => Ok(Terminal::Constant(at, value as u32, false)),
+        TokenKind::Text => Ok(Terminal::Text(at, text_of(alloc, bytes)?)),
+        TokenKind::Punctuator(punctuator) => Ok(Terminal::Punctuator(at, punctuator)),
+    }
+}
+
+fn terminal(alloc: Global, text: &[u8], at: usize, token: Token) -> Result<Terminal, NoMemory>
+    requires numbered { at ≤ token.start }
+    requires ordered { token.start ≤ token.end }
+    requires within { token.end ≤ length text.now }
+    ensures { IfOk result (λ l. l ≡ terminal text.now at token) }
+{
+    let (_, behind) = text.split_at(token.start as usize);
+    let (bytes, _) = behind.split_at((token.end - token.start) as usize);
+    terminal_of(alloc, at as u32, bytes, token.kind)
+}
+
+/// The tokens of a text as the grammar sees them, in order, with their numbers from 0. `tokens` are those
+/// that the lexer gives for the text.
+pub fn terminals(alloc: Global, text: &[u8], tokens: &[Token]) -> Result<Vec<Terminal>, NoMemory>
+    requires tokens_of { Tokens text.now tokens.now }
+    ensures terminals { IfOk result (λ list. list.items ≡ terminals text.now 0 tokens.now) }
+    ensures are_terminals { IfOk result (λ list. list_all is_terminal list.items ≡ true) }
+{
+    let mut list = Vec::new(alloc);
+    for (at, token) in tokens.iter().enumerate() {
+        list.push(terminal(alloc, text, at, *token)?)?;
+    }
+    Ok(list)
+}
+
+/// There are as many terminals as tokens, and no more than bytes; each name is none of the keywords, each
+/// constant is a value of its type, and each text consists of bytes.
+pub fn each_terminal()
+    ensures as_many { (text : List ℕ) (at : ℕ) (tokens : List Token) → length (terminals text at tokens) ≡ length tokens }
+    ensures at_most { (text : List ℕ) (tokens : List Token) → Tokens text tokens → length tokens ≤ length text }
+    ensures are_terminals { (text : List ℕ) (tokens : List Token) → Tokens text tokens → list_all is_byte text ≡ true → list_all is_terminal (terminals text 0 tokens) ≡ true }
+{}

@@ -1,0 +1,74 @@
+// What comes of a row.
+use crate::fault::TableFault;
+use crate::printing::printed;
+use crate::row::{Act, NamedFile, Row};
+use qs_base::NoMemory;
+use qs_driver::run_tool;
+use qs_ports::{MemSink, MemStore};
+use std::alloc::{AllocError, Global};
+
+// The room of a store or a sink for what is written, in bytes.
+const ROOM: usize = 1 << 20;
+
+/// What a row left: the number of the status, what the streams got, and the files.
+#[derive(Drop)]
+pub struct Ran {
+    pub status: u8,
+    pub out: Vec<u8>,
+    pub log: Vec<u8>,
+    pub store: MemStore,
+}
+
+fn pair_of(alloc: Global, file: &NamedFile) -> Result<(String, Vec<u8>), AllocError> {
+    let name = String::from_str(alloc, file.name.as_str())?;
+    Ok((name, Vec::from_slice(alloc, &file.bytes)?))
+}
+
+/// A store with the files of the row.
+pub fn store_of(alloc: Global, row: &Row) -> Result<MemStore, NoMemory> {
+    let mut files = Vec::new(alloc);
+    for file in &row.files {
+        files.push(pair_of(alloc, file)?)?;
+    }
+    let failing = Vec::from_slice(alloc, &row.store_fails)?;
+    MemStore::new(alloc, files, row.chunk.max(1), failing, ROOM)
+}
+
+fn sink_of(alloc: Global, row: &Row, fails: &[u64]) -> Result<MemSink, NoMemory> {
+    let failing = Vec::from_slice(alloc, fails)?;
+    MemSink::new(alloc, row.chunk.max(1), failing, ROOM)
+}
+
+// Calls the tool with the words of the row.
+fn call(alloc: Global, row: &Row, store: MemStore) -> Result<Ran, TableFault> {
+    let mut store = store;
+    let mut out = sink_of(alloc, row, &row.out_fails)?;
+    let mut log = sink_of(alloc, row, &row.log_fails)?;
+    let status = run_tool(alloc, &row.words, &mut store, &mut out, &mut log);
+    Ok(Ran {
+        status: status.code(),
+        out: Vec::from_slice(alloc, out.written())?,
+        log: Vec::from_slice(alloc, log.written())?,
+        store,
+    })
+}
+
+// The printed text of `a.c` as what `out` gets; the status is 1 where there is none.
+fn print(alloc: Global, store: MemStore) -> Result<Ran, TableFault> {
+    let text = printed(alloc, store.file("a.c").unwrap_or(b""))?;
+    let status = u8::from(text.is_none());
+    Ok(Ran {
+        status,
+        out: text.unwrap_or(Vec::new(alloc)),
+        log: Vec::new(alloc),
+        store,
+    })
+}
+
+/// Runs a row over the store.
+pub fn run(alloc: Global, row: &Row, store: MemStore) -> Result<Ran, TableFault> {
+    match row.act {
+        Act::Call => call(alloc, row, store),
+        Act::Print => print(alloc, store),
+    }
+}

@@ -27,6 +27,8 @@ pub enum Line<'a> {
     Words(&'a str),
     /// In place of a call, the unit of the source `a.c` is printed.
     Print,
+    /// In place of a call, what the words mean is printed.
+    Read,
     /// The most bytes that a call of a device moves.
     Chunk(usize),
     /// The call of the device with this number, from 0, fails.
@@ -106,6 +108,7 @@ fn given_of<'a>(word: &str, rest: &'a str) -> Option<Line<'a>> {
         "file" => Some(Line::File(rest)),
         "words" => Some(Line::Words(rest)),
         "print" => Some(Line::Print),
+        "read" => Some(Line::Read),
         "chunk" => Some(Line::Chunk(rest.parse::<usize>().ok()?)),
         "fails" => fails_of(rest),
         _ => wanted_of(word, rest),

@@ -12,6 +12,8 @@ pub enum Act {
     Call,
     /// The unit of the source `a.c`, printed.
     Print,
+    /// What the words mean, printed.
+    Read,
 }
 
 /// Where content is added.
@@ -135,6 +137,7 @@ impl Row {
             }
             Line::Words(text) => self.add_words(alloc, text)?,
             Line::Print => self.act = Act::Print,
+            Line::Read => self.act = Act::Read,
             Line::Chunk(chunk) => self.chunk = chunk.max(1),
             Line::Fails(device, call) => self.add_failure(device, call)?,
             Line::Status(status) => self.status = status,

@@ -3,6 +3,7 @@ use crate::fault::TableFault;
 use crate::printing::printed;
 use crate::row::{Act, NamedFile, Row};
 use qs_base::NoMemory;
+use qs_cli::{CliFault, read_words};
 use qs_driver::run_tool;
 use qs_ports::{MemSink, MemStore};
 use std::alloc::{AllocError, Global};
@@ -53,22 +54,35 @@ fn call(alloc: Global, row: &Row, store: MemStore) -> Result<Ran, TableFault> {
     })
 }
 
-// The printed text of `a.c` as what `out` gets; the status is 1 where there is none.
-fn print(alloc: Global, store: MemStore) -> Result<Ran, TableFault> {
-    let text = printed(alloc, store.file("a.c").unwrap_or(b""))?;
-    let status = u8::from(text.is_none());
-    Ok(Ran {
-        status,
+// What `out` gets in place of a call; the status is 1 where there is nothing to print.
+fn print_out(alloc: Global, text: Option<Vec<u8>>, store: MemStore) -> Ran {
+    Ran {
+        status: u8::from(text.is_none()),
         out: text.unwrap_or(Vec::new(alloc)),
         log: Vec::new(alloc),
         store,
-    })
+    }
+}
+
+// What the words of the row mean, where they mean a command.
+fn read(alloc: Global, row: &Row) -> Result<Option<Vec<u8>>, TableFault> {
+    match read_words(alloc, &row.words) {
+        Ok(command) => Ok(Some(format!(in alloc; "{command:?}\n")?.into_bytes())),
+        Err(CliFault::Usage) => Ok(None),
+        Err(CliFault::NoMemory) => Err(TableFault::NoMemory),
+    }
+}
+
+// The printed text of `a.c`, where it has a unit.
+fn print(alloc: Global, store: &MemStore) -> Result<Option<Vec<u8>>, TableFault> {
+    printed(alloc, store.file("a.c").unwrap_or(b""))
 }
 
 /// Runs a row over the store.
 pub fn run(alloc: Global, row: &Row, store: MemStore) -> Result<Ran, TableFault> {
     match row.act {
         Act::Call => call(alloc, row, store),
-        Act::Print => print(alloc, store),
+        Act::Print => Ok(print_out(alloc, print(alloc, &store)?, store)),
+        Act::Read => Ok(print_out(alloc, read(alloc, row)?, store)),
     }
 }

@@ -1,14 +1,13 @@
 // Bytes that are written as text.
 use crate::fault::TableFault;
-use hex::{FromHex, decode};
+use hex::{decode, decode_to_slice};
 use std::alloc::Global;
 
 // The byte that two hexadecimal digits stand for.
 fn byte_of(digits: &[u8]) -> Option<u8> {
-    match <[u8; 1] as FromHex>::from_hex(digits) {
-        Ok([byte]) => Some(byte),
-        Err(_fault) => None,
-    }
+    let mut bytes = [0];
+    decode_to_slice(digits, &mut bytes).ok()?;
+    Some(bytes[0])
 }
 
 // Adds what stands behind a tilde: a byte by two hexadecimal digits, and then text.

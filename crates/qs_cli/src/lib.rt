@@ -7,8 +7,6 @@ mod numbers;
 mod reading;
 mod spelling;
 mod table;
-#[cfg(test)]
-mod tests;
 mod values;
 
 pub use commands::{CliFault, Command};

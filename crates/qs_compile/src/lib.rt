@@ -10,5 +10,3 @@ pub use building::compile;
 pub use form::{FirstForm, MOST_OUTPUTS};
 pub use recognise::first_form;
 
-#[cfg(test)]
-mod tests;

@@ -16,5 +16,3 @@ pub use immediate::{BranchOffset, Immediate, JumpOffset, ShiftAmount, UpperImmed
 pub use instruction::{BranchKind, Instr, LoadKind, OpImmKind, OpKind, ShiftImmKind, StoreKind};
 pub use register::Register;
 
-#[cfg(test)]
-mod tests;

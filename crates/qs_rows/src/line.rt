@@ -29,6 +29,10 @@ pub enum Line<'a> {
     Print,
     /// In place of a call, what the words mean is printed.
     Read,
+    /// In place of a call, the tokens of the source `a.c` are printed.
+    Lex,
+    /// In place of a call, the instructions that the words are as hexadecimal numbers are printed.
+    Decode,
     /// The most bytes that a call of a device moves.
     Chunk(usize),
     /// The call of the device with this number, from 0, fails.
@@ -109,6 +113,8 @@ fn given_of<'a>(word: &str, rest: &'a str) -> Option<Line<'a>> {
         "words" => Some(Line::Words(rest)),
         "print" => Some(Line::Print),
         "read" => Some(Line::Read),
+        "lex" => Some(Line::Lex),
+        "decode" => Some(Line::Decode),
         "chunk" => Some(Line::Chunk(rest.parse::<usize>().ok()?)),
         "fails" => fails_of(rest),
         _ => wanted_of(word, rest),

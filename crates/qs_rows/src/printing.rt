@@ -1,11 +1,13 @@
-// The printed text of a source.
+// What crates below the tool answer, as text.
 use crate::fault::TableFault;
 use qs_base::NoMemory;
+use qs_cli::{CliFault, read_words};
+use qs_isa::{decode, encode};
 use qs_lexer::tokens;
 use qs_parser::unit;
 use qs_print::print;
-use qs_syntax::Unit;
-use std::alloc::Global;
+use qs_syntax::{Token, Unit};
+use std::alloc::{AllocError, Global};
 
 // The longest source, in bytes.
 const SOURCE_LIMIT: usize = 1_048_576;
@@ -32,7 +34,7 @@ fn text_of(alloc: Global, unit: &Unit) -> Result<Option<Vec<u8>>, NoMemory> {
 
 /// The text that the source is printed as, where its copy and the unit that the text reads back to are printed
 /// alike; None where they differ, or where the source has no unit.
-pub fn printed(alloc: Global, source: &[u8]) -> Result<Option<Vec<u8>>, TableFault> {
+pub fn printed_unit(alloc: Global, source: &[u8]) -> Result<Option<Vec<u8>>, TableFault> {
     let Some(unit) = read(alloc, source) else {
         return Ok(None);
     };
@@ -47,4 +49,62 @@ pub fn printed(alloc: Global, source: &[u8]) -> Result<Option<Vec<u8>>, TableFau
     } else {
         Ok(None)
     }
+}
+
+/// What the words mean, where they mean a command.
+pub fn printed_command(alloc: Global, words: &[String]) -> Result<Option<Vec<u8>>, TableFault> {
+    match read_words(alloc, words) {
+        Ok(command) => Ok(Some(format!(in alloc; "{command:?}\n")?.into_bytes())),
+        Err(CliFault::Usage) => Ok(None),
+        Err(CliFault::NoMemory) => Err(TableFault::NoMemory),
+    }
+}
+
+// A line for each token: what it is, its first byte and the byte behind its last.
+fn lines_of(alloc: Global, tokens: &[Token]) -> Result<String, AllocError> {
+    let mut text = String::new(alloc);
+    for token in tokens {
+        let (kind, start, end) = (token.kind, token.start, token.end);
+        let line = format!(in alloc; "{kind:?} {start} {end}\n")?;
+        text.push_str(line.as_str())?;
+    }
+    Ok(text)
+}
+
+/// The tokens of the source, or its first fault.
+pub fn printed_tokens(alloc: Global, source: &[u8]) -> Result<Option<Vec<u8>>, TableFault> {
+    if source.len() > SOURCE_LIMIT {
+        return Ok(None);
+    }
+    match tokens(alloc, source) {
+        Ok(tokens) => Ok(Some(lines_of(alloc, &tokens)?.into_bytes())),
+        Err(fault) => Ok(Some(format!(in alloc; "{fault:?}\n")?.into_bytes())),
+    }
+}
+
+// The instruction that a word is and the word of that instruction.
+fn line_of(alloc: Global, word: u32) -> Result<String, AllocError> {
+    match decode(word) {
+        Some(instruction) => {
+            let again = encode(&instruction);
+            format!(in alloc; "{instruction:?} {again:08x}\n")
+        }
+        None => format!(in alloc; "none\n"),
+    }
+}
+
+/// A line for each word, a hexadecimal number: the instruction that it is, and the word of that instruction.
+pub fn printed_instructions(
+    alloc: Global,
+    words: &[String],
+) -> Result<Option<Vec<u8>>, TableFault> {
+    let mut text = String::new(alloc);
+    for word in words {
+        let Ok(word) = u32::from_str_radix(word.as_str(), 16) else {
+            return Ok(None);
+        };
+        let line = line_of(alloc, word)?;
+        text.push_str(line.as_str())?;
+    }
+    Ok(Some(text.into_bytes()))
 }

@@ -14,6 +14,10 @@ pub enum Act {
     Print,
     /// What the words mean, printed.
     Read,
+    /// The tokens of the source `a.c`, printed.
+    Lex,
+    /// The instructions that the words are as hexadecimal numbers, printed.
+    Decode,
 }
 
 /// Where content is added.
@@ -138,6 +142,8 @@ impl Row {
             Line::Words(text) => self.add_words(alloc, text)?,
             Line::Print => self.act = Act::Print,
             Line::Read => self.act = Act::Read,
+            Line::Lex => self.act = Act::Lex,
+            Line::Decode => self.act = Act::Decode,
             Line::Chunk(chunk) => self.chunk = chunk.max(1),
             Line::Fails(device, call) => self.add_failure(device, call)?,
             Line::Status(status) => self.status = status,

@@ -1,9 +1,8 @@
 // What comes of a row.
 use crate::fault::TableFault;
-use crate::printing::printed;
+use crate::printing::{printed_command, printed_instructions, printed_tokens, printed_unit};
 use crate::row::{Act, NamedFile, Row};
 use qs_base::NoMemory;
-use qs_cli::{CliFault, read_words};
 use qs_driver::run_tool;
 use qs_ports::{MemSink, MemStore};
 use std::alloc::{AllocError, Global};
@@ -54,8 +53,8 @@ fn call(alloc: Global, row: &Row, store: MemStore) -> Result<Ran, TableFault> {
     })
 }
 
-// What `out` gets in place of a call; the status is 1 where there is nothing to print.
-fn print_out(alloc: Global, text: Option<Vec<u8>>, store: MemStore) -> Ran {
+// What is printed in place of a call: the status is 1 where there is nothing to print.
+fn print(alloc: Global, text: Option<Vec<u8>>, store: MemStore) -> Ran {
     Ran {
         status: u8::from(text.is_none()),
         out: text.unwrap_or(Vec::new(alloc)),
@@ -64,25 +63,23 @@ fn print_out(alloc: Global, text: Option<Vec<u8>>, store: MemStore) -> Ran {
     }
 }
 
-// What the words of the row mean, where they mean a command.
-fn read(alloc: Global, row: &Row) -> Result<Option<Vec<u8>>, TableFault> {
-    match read_words(alloc, &row.words) {
-        Ok(command) => Ok(Some(format!(in alloc; "{command:?}\n")?.into_bytes())),
-        Err(CliFault::Usage) => Ok(None),
-        Err(CliFault::NoMemory) => Err(TableFault::NoMemory),
+// The text that the act prints.
+fn text_of(alloc: Global, row: &Row, source: &[u8]) -> Result<Option<Vec<u8>>, TableFault> {
+    match row.act {
+        Act::Call => Ok(None),
+        Act::Print => printed_unit(alloc, source),
+        Act::Read => printed_command(alloc, &row.words),
+        Act::Lex => printed_tokens(alloc, source),
+        Act::Decode => printed_instructions(alloc, &row.words),
     }
-}
-
-// The printed text of `a.c`, where it has a unit.
-fn print(alloc: Global, store: &MemStore) -> Result<Option<Vec<u8>>, TableFault> {
-    printed(alloc, store.file("a.c").unwrap_or(b""))
 }
 
 /// Runs a row over the store.
 pub fn run(alloc: Global, row: &Row, store: MemStore) -> Result<Ran, TableFault> {
-    match row.act {
-        Act::Call => call(alloc, row, store),
-        Act::Print => Ok(print_out(alloc, print(alloc, &store)?, store)),
-        Act::Read => Ok(print_out(alloc, read(alloc, row)?, store)),
+    if row.act == Act::Call {
+        call(alloc, row, store)
+    } else {
+        let text = text_of(alloc, row, store.file("a.c").unwrap_or(b""))?;
+        Ok(print(alloc, text, store))
     }
 }

@@ -1,15 +1,7 @@
-//! Tests that cross crates: what whole calls of the tool do on stores and sinks in memory, and once on real files.
+//! Tests that cross crates and can't be rows of a table: the tool over real files and streams, and names.
 #![tactic(auto)]
 
-#[cfg(test)]
-mod devices;
 #[cfg(test)]
 mod files;
 #[cfg(test)]
 mod names;
-#[cfg(test)]
-mod rows;
-#[cfg(test)]
-mod runs;
-#[cfg(test)]
-mod sources;

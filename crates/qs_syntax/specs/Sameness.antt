@@ -3,16 +3,16 @@ use Rattle.std.specs.Prelude.{ℕ, ◌==◌, Bool, true, false, ◌&&◌, List, 
 use Rattle.std.specs.Option.{option_eq}
 use Rattle.std.specs.Bool.{beq}
 use Rattle.std.specs.Cmp.Lexicographic.{pointwise}
-use Rattle.qs_syntax.specs.declared.tree.UnaryOperator.{UnaryOperator}
-use Rattle.qs_syntax.specs.declared.tree.UnaryOperator.TheVariants as unaries
-use Rattle.qs_syntax.specs.declared.tree.StepOperator.{StepOperator}
-use Rattle.qs_syntax.specs.declared.tree.StepOperator.TheVariants as steps
-use Rattle.qs_syntax.specs.declared.tree.BinaryOperator.{BinaryOperator}
-use Rattle.qs_syntax.specs.declared.tree.BinaryOperator.TheVariants as binaries
-use Rattle.qs_syntax.specs.declared.tree.AssignmentOperator.{AssignmentOperator}
-use Rattle.qs_syntax.specs.declared.tree.AssignmentOperator.TheVariants as assigns
-use Rattle.qs_syntax.specs.declared.tree.Access.{Access}
-use Rattle.qs_syntax.specs.declared.tree.Access.TheVariants as accesses
+use Rattle.qs_syntax.specs.declared.operators.UnaryOperator.{UnaryOperator}
+use Rattle.qs_syntax.specs.declared.operators.UnaryOperator.TheVariants as unaries
+use Rattle.qs_syntax.specs.declared.operators.StepOperator.{StepOperator}
+use Rattle.qs_syntax.specs.declared.operators.StepOperator.TheVariants as steps
+use Rattle.qs_syntax.specs.declared.operators.BinaryOperator.{BinaryOperator}
+use Rattle.qs_syntax.specs.declared.operators.BinaryOperator.TheVariants as binaries
+use Rattle.qs_syntax.specs.declared.operators.AssignmentOperator.{AssignmentOperator}
+use Rattle.qs_syntax.specs.declared.operators.AssignmentOperator.TheVariants as assigns
+use Rattle.qs_syntax.specs.declared.operators.Access.{Access}
+use Rattle.qs_syntax.specs.declared.operators.Access.TheVariants as accesses
 use Rattle.qs_syntax.specs.declared.tree.Base.{Base}
 use Rattle.qs_syntax.specs.declared.tree.Base.TheVariants as bases
 use Rattle.qs_syntax.specs.declared.tree.TypeName.{TypeName}

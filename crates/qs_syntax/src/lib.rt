@@ -7,6 +7,7 @@ mod numbered_declarations;
 mod numbered_statements;
 mod numbered_units;
 mod numbering;
+mod operators;
 mod same;
 mod same_declarations;
 mod same_expressions;
@@ -16,11 +17,11 @@ mod tokens;
 mod tree;
 mod unit;
 
+pub use operators::{Access, AssignmentOperator, BinaryOperator, StepOperator, UnaryOperator};
 pub use terminal::Terminal;
 pub use tokens::{Keyword, Punctuator, Token, TokenKind};
 pub use tree::{
-    Access, AssignmentOperator, Base, BinaryOperator, Decl, Declaration, Declarator, Expr, Forward, Function,
-    Initialiser, InitialiserList, Lengths, Members, Node, Parameter, Shape, Start, StepOperator, Stmt,
-    Struct, Text, TypeName, UnaryOperator, Variable,
+    Base, Decl, Declaration, Declarator, Expr, Forward, Function, Initialiser, InitialiserList, Lengths,
+    Members, Node, Parameter, Shape, Start, Stmt, Struct, Text, TypeName, Variable,
 };
 pub use unit::{Unit, numbered};

@@ -6,7 +6,7 @@ use Rattle.std.proofs.lemmas.Bool.Decides.{nat_tests}
 use Rattle.std.specs.Cmp.{first_so, second_so}
 use Rattle.std.specs.Fmt.{digits}
 use Rattle.std.specs.List.{list_all, prefix_len}
-use Rattle.qs_base.specs.Names.{is_digit, is_letter}
+use Rattle.qs_base.specs.Bytes.{is_digit, is_letter}
 use Rattle.qs_lexer.specs.Bytes.{is_number_byte, is_space, starts}
 use Rattle.qs_lexer.specs.Heads.{punctuator_front}
 use Rattle.qs_lexer.specs.Numbers.{number_of}
@@ -19,9 +19,9 @@ use Rattle.qs_lexer.proofs.Begins.{next_is}
 use Rattle.qs_lexer.proofs.Formed.{punctuator_1, number_stands, word_stands}
 use Rattle.qs_syntax.specs.declared.terminal.Terminal.{Terminal}
 use Rattle.qs_syntax.specs.declared.terminal.Terminal.TheVariants.{Name, Keyword, Constant, Punctuator}
-use Rattle.qs_syntax.specs.declared.tokens.Keyword.TheVariants as keywords
-use Rattle.qs_syntax.specs.declared.tokens.Punctuator as punctuator
-use Rattle.qs_syntax.specs.declared.tokens.Punctuator.TheVariants as punctuators
+use Rattle.qs_base.specs.declared.keyword.Keyword.TheVariants as keywords
+use Rattle.qs_syntax.specs.declared.punctuator.Punctuator as punctuator
+use Rattle.qs_syntax.specs.declared.punctuator.Punctuator.TheVariants as punctuators
 use Rattle.qs_syntax.specs.declared.tokens.TokenKind.{TokenKind}
 use Rattle.qs_syntax.specs.declared.tokens.TokenKind.TheVariants as kinds
 use Rattle.qs_driver.proofs.LexedOn.{LexesAs, token_then, white_then}

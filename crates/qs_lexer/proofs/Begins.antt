@@ -1,6 +1,6 @@
 -- What the class says of the first bytes.
 use Rattle.std.proofs.Common.{◌≡◌, ℕ, Bool, true, false, cond, ◌&&◌, List, [], ◌∷◌, refl, ◌==◌, length, subst, sym, ◌∙◌}
-use Rattle.qs_base.specs.Names.{is_letter, is_digit}
+use Rattle.qs_base.specs.Bytes.{is_letter, is_digit}
 use Rattle.qs_lexer.specs.Bytes.{is_space, starts, starts_with}
 use Rattle.qs_lexer.specs.Heads.{Opens}
 use Rattle.qs_lexer.specs.Pieces.{class_of, Next, Stands}

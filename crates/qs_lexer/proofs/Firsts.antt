@@ -1,7 +1,8 @@
 -- The first byte decides which form a token can have.
 use Rattle.std.proofs.Common.{◌≡◌, ℕ, ◌<◌, zero, suc, Bool, true, false, cond, not, ◌&&◌, ◌||◌, List, [], ◌∷◌, None, is_some, take, refl, ap, sym, arith, bytes_eq, ◌==◌}
 use Rattle.std.proofs.lemmas.Bool.Decides.{nat_tests}
-use Rattle.qs_base.specs.Names.{is_digit, is_letter, is_word}
+use Rattle.qs_base.specs.Bytes.{is_digit, is_letter}
+use Rattle.qs_base.specs.Names.{is_word}
 use Rattle.qs_lexer.specs.Bytes.{is_space, starts, starts_with}
 use Rattle.qs_lexer.specs.Pieces.{Longest, class_of, has_form, is_punctuator, is_number, is_quoted, is_token}
 use Rattle.qs_lexer.specs.Tables.{look_up}

@@ -4,7 +4,8 @@ use Rattle.std.proofs.lemmas.List.{length-take-le}
 use Rattle.std.proofs.lemmas.Bool.Decides.{nat_tests}
 use Rattle.std.specs.List.{list_all, prefix_len}
 use Rattle.std.proofs.lemmas.List.Sums.{prefix_len-le-length}
-use Rattle.qs_base.specs.Names.{is_digit, is_letter, is_word, is_word_byte}
+use Rattle.qs_base.specs.Bytes.{is_digit, is_letter, is_word_byte}
+use Rattle.qs_base.specs.Names.{is_word}
 use Rattle.qs_lexer.specs.Bytes.{first_then, is_number_byte, starts, starts_with}
 use Rattle.qs_lexer.specs.Ends.{closes, end_of, quote_turn}
 use Rattle.qs_lexer.specs.Heads.{punctuator_front}
@@ -15,7 +16,7 @@ use Rattle.qs_lexer.specs.Words.{punctuator_of, punctuator_table, punctuator_wit
 use Rattle.qs_lexer.specs.declared.pieces.Class.TheVariants.{Word, Number, Character, Text, Other}
 use Rattle.qs_lexer.specs.declared.pieces.Piece.{Piece}
 use Rattle.qs_lexer.specs.declared.pieces.Piece.TheVariants as pieces
-use Rattle.qs_syntax.specs.declared.tokens.Punctuator.{Punctuator}
+use Rattle.qs_syntax.specs.declared.punctuator.Punctuator.{Punctuator}
 use Rattle.qs_syntax.specs.declared.tokens.TokenKind.TheVariants as kinds
 use Rattle.qs_lexer.proofs.Fronts.{list_all_take, closes_take, end_within, longest_of_le, longest_of_at, longest_same}
 use Rattle.qs_lexer.proofs.Tables.{KeysUpTo, key, no_key, look_up_long}

@@ -17,8 +17,8 @@ use Rattle.qs_lexer.specs.declared.pieces.Class.{Class}
 use Rattle.qs_lexer.specs.declared.pieces.Class.TheVariants.{End, Space, LineComment, BlockComment, LineMarker, Word, Number, Character, Text, Other}
 use Rattle.qs_lexer.specs.declared.pieces.Piece.TheVariants as pieces
 use Rattle.qs_syntax.specs.Units.{is_byte}
-use Rattle.qs_syntax.specs.declared.tokens.Keyword.{Keyword}
-use Rattle.qs_syntax.specs.declared.tokens.Punctuator.{Punctuator}
+use Rattle.qs_base.specs.declared.keyword.Keyword.{Keyword}
+use Rattle.qs_syntax.specs.declared.punctuator.Punctuator.{Punctuator}
 use Rattle.qs_syntax.specs.declared.tokens.Token.{Token}
 use Rattle.qs_syntax.specs.declared.tokens.TokenKind.{TokenKind}
 use Rattle.qs_syntax.specs.declared.tokens.TokenKind.TheVariants as kinds

@@ -3,10 +3,10 @@ use Rattle.std.specs.Prelude.{ℕ, List, [], ◌∷◌, codes, Option, Some, Non
 use Rattle.qs_lexer.specs.Tables.{look_up}
 use Rattle.qs_lexer.specs.declared.fault.FaultKind.{FaultKind}
 use Rattle.qs_lexer.specs.declared.fault.FaultKind.TheVariants as faults
-use Rattle.qs_syntax.specs.declared.tokens.Keyword.{Keyword}
-use Rattle.qs_syntax.specs.declared.tokens.Keyword.TheVariants as keyword
-use Rattle.qs_syntax.specs.declared.tokens.Punctuator.{Punctuator}
-use Rattle.qs_syntax.specs.declared.tokens.Punctuator.TheVariants as punctuator
+use Rattle.qs_base.specs.declared.keyword.Keyword.{Keyword}
+use Rattle.qs_base.specs.declared.keyword.Keyword.TheVariants as keyword
+use Rattle.qs_syntax.specs.declared.punctuator.Punctuator.{Punctuator}
+use Rattle.qs_syntax.specs.declared.punctuator.Punctuator.TheVariants as punctuator
 use Rattle.qs_syntax.specs.declared.tokens.TokenKind.{TokenKind}
 use Rattle.qs_syntax.specs.declared.tokens.TokenKind.TheVariants as kinds
 

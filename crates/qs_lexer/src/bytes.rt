@@ -1,7 +1,7 @@
 // Classes of bytes, and how far they go.
 ghost use Rattle.std.specs.Prelude.{◌≡◌, false};
 ghost use Rattle.std.specs.List.{prefix_len};
-ghost use Rattle.qs_base.specs.Names.{is_digit, is_letter, is_word_byte};
+ghost use Rattle.qs_base.specs.Bytes.{is_digit, is_letter, is_word_byte};
 ghost use Rattle.qs_lexer.specs.Bytes.{blanks_then_digit, digit_after_blanks, is_blank, is_in_line, is_number_byte, is_space, starts, starts_with};
 ghost use Rattle.qs_lexer.specs.Ends.{comment_turn, end_of, quote_turn};
 ghost use Rattle.qs_lexer.specs.Pieces.{class_of};

@@ -1,6 +1,6 @@
 // What stands first in the rest of a text, class by class.
 ghost use Rattle.std.specs.Prelude.{◌≡◌, ◌<◌, ◌^◌, Bool, [], ◌∷◌, true, length};
-ghost use Rattle.qs_base.specs.Names.{is_digit, is_letter};
+ghost use Rattle.qs_base.specs.Bytes.{is_digit, is_letter};
 ghost use Rattle.qs_lexer.specs.Bytes.{is_space, starts, starts_with};
 ghost use Rattle.qs_lexer.specs.Heads.{Opens, punctuator_front};
 ghost use Rattle.qs_lexer.specs.Pieces.{Next, Stands, still_fresh, token_or_fault};

@@ -1,0 +1,22 @@
+-- A punctuator and its spelling.
+use Rattle.std.proofs.Common.{◌≡◌, ℕ, Bool, true, List, Some, refl, bytes_eq}
+use Rattle.std.specs.List.{list_all}
+use Rattle.std.proofs.lemmas.Slice.Eq.{bytes_eq-Decides}
+use Rattle.qs_base.proofs.Variants.{every, finds, find_passes}
+use Rattle.qs_syntax.specs.Punctuators.{punctuator_of, punctuator_spelling, punctuators}
+use Rattle.qs_syntax.specs.contracts.punctuator.Punctuator.{the_type}
+use Rattle.qs_syntax.specs.declared.punctuator.Punctuator.{Punctuator}
+
+-- what holds of each punctuator of the list holds of every punctuator
+pub each_punctuator : (test : Punctuator → Bool) → list_all test punctuators ≡ true → (punctuator : Punctuator) → test punctuator ≡ true
+each_punctuator test h punctuator = every the_type tt punctuators refl test h punctuator
+
+-- a punctuator is what its spelling is
+pub punctuator_of-spelling : (punctuator : Punctuator) → punctuator_of (punctuator_spelling punctuator) ≡ Some punctuator
+unfolding punctuator_of
+punctuator_of-spelling punctuator = finds the_type tt punctuators refl (λ k x. bytes_eq (punctuator_spelling x) (punctuator_spelling k)) refl punctuator
+
+-- what bytes are has them as its spelling
+pub spelling-punctuator_of : (bytes : List ℕ) (punctuator : Punctuator) → punctuator_of bytes ≡ Some punctuator → punctuator_spelling punctuator ≡ bytes
+unfolding punctuator_of
+spelling-punctuator_of bytes punctuator e = (bytes_eq-Decides (punctuator_spelling punctuator) bytes).0 (find_passes (λ k. bytes_eq (punctuator_spelling k) bytes) punctuators punctuator e)

@@ -81,7 +81,11 @@ same_step = sameb step_type
 
 -- ---- operators between two operands (6.5.5 to 6.5.14)
 
--- the punctuator, and the precedence, from 1 (those that bind most strongly) for `* / %` to 10 for `||`
+-- the precedence of `||`
+abbrev pub weakest : ℕ
+weakest = 10
+
+-- the punctuator, and the precedence, from 1 (those that bind most strongly) for `* / %` to the weakest for `||`
 abbrev pub binary_row : BinaryOperator → Punctuator × ℕ
 binary_row binaries.Multiply = (punctuators.Star, 1)
 binary_row binaries.Divide = (punctuators.Slash, 1)
@@ -100,7 +104,7 @@ binary_row binaries.BitAnd = (punctuators.Ampersand, 6)
 binary_row binaries.BitXor = (punctuators.Caret, 7)
 binary_row binaries.BitOr = (punctuators.Bar, 8)
 binary_row binaries.And = (punctuators.AndAnd, 9)
-binary_row binaries.Or = (punctuators.OrOr, 10)
+binary_row binaries.Or = (punctuators.OrOr, weakest)
 
 abbrev pub binary_operators : List BinaryOperator
 binary_operators =

@@ -1,6 +1,6 @@
 // Operators (C11 6.5.2 to 6.5.16).
 ghost use Rattle.std.specs.Prelude.{◌≡◌, ◌≤◌};
-ghost use Rattle.qs_syntax.specs.Operators.{access_of, assign_of, binary_of, precedence, punctuator_of_access, punctuator_of_assign, punctuator_of_binary, punctuator_of_step, punctuator_of_unary, stands_before, step_of, unary_of};
+ghost use Rattle.qs_syntax.specs.Operators.{access_of, assign_of, binary_of, binary_row, precedence, punctuator_of_access, punctuator_of_assign, punctuator_of_binary, punctuator_of_step, punctuator_of_unary, stands_before, step_of, step_row, unary_of, weakest};
 
 use crate::punctuator::Punctuator;
 
@@ -77,26 +77,30 @@ const STEP_OPERATORS: [StepOperator; 4] = [
 ];
 
 impl StepOperator {
+    /// Its punctuator, and whether it stands before its operand.
+    fn row(self) -> (Punctuator, bool)
+        ensures { result ≡ step_row self }
+    {
+        match self {
+            StepOperator::IncrementBefore => (Punctuator::Increment, true),
+            StepOperator::DecrementBefore => (Punctuator::Decrement, true),
+            StepOperator::IncrementAfter => (Punctuator::Increment, false),
+            StepOperator::DecrementAfter => (Punctuator::Decrement, false),
+        }
+    }
+
     /// Its punctuator.
     pub fn punctuator(self) -> Punctuator
         ensures { result ≡ punctuator_of_step self }
     {
-        match self {
-            StepOperator::IncrementBefore => Punctuator::Increment,
-            StepOperator::DecrementBefore => Punctuator::Decrement,
-            StepOperator::IncrementAfter => Punctuator::Increment,
-            StepOperator::DecrementAfter => Punctuator::Decrement,
-        }
+        self.row().0
     }
 
     /// Whether it stands before its operand.
     pub fn stands_before(self) -> bool
         ensures { result ≡ stands_before self }
     {
-        match self {
-            StepOperator::IncrementBefore | StepOperator::DecrementBefore => true,
-            StepOperator::IncrementAfter | StepOperator::DecrementAfter => false,
-        }
+        self.row().1
     }
 
     /// The step that the punctuator is before an operand, or behind one, if any.
@@ -171,52 +175,46 @@ const BINARY_OPERATORS: [BinaryOperator; 18] = [
 ];
 
 impl BinaryOperator {
+    /// Its punctuator and its precedence.
+    fn row(self) -> (Punctuator, u32)
+        ensures is { result ≡ binary_row self }
+        ensures most { result.1 ≤ weakest }
+    {
+        match self {
+            BinaryOperator::Multiply => (Punctuator::Star, 1),
+            BinaryOperator::Divide => (Punctuator::Slash, 1),
+            BinaryOperator::Remainder => (Punctuator::Percent, 1),
+            BinaryOperator::Add => (Punctuator::Plus, 2),
+            BinaryOperator::Subtract => (Punctuator::Minus, 2),
+            BinaryOperator::ShiftLeft => (Punctuator::ShiftLeft, 3),
+            BinaryOperator::ShiftRight => (Punctuator::ShiftRight, 3),
+            BinaryOperator::Less => (Punctuator::Less, 4),
+            BinaryOperator::LessEqual => (Punctuator::LessEqual, 4),
+            BinaryOperator::Greater => (Punctuator::Greater, 4),
+            BinaryOperator::GreaterEqual => (Punctuator::GreaterEqual, 4),
+            BinaryOperator::Equal => (Punctuator::Equal, 5),
+            BinaryOperator::NotEqual => (Punctuator::NotEqual, 5),
+            BinaryOperator::BitAnd => (Punctuator::Ampersand, 6),
+            BinaryOperator::BitXor => (Punctuator::Caret, 7),
+            BinaryOperator::BitOr => (Punctuator::Bar, 8),
+            BinaryOperator::And => (Punctuator::AndAnd, 9),
+            BinaryOperator::Or => (Punctuator::OrOr, 10),
+        }
+    }
+
     /// Its punctuator.
     pub fn punctuator(self) -> Punctuator
         ensures { result ≡ punctuator_of_binary self }
     {
-        match self {
-            BinaryOperator::Multiply => Punctuator::Star,
-            BinaryOperator::Divide => Punctuator::Slash,
-            BinaryOperator::Remainder => Punctuator::Percent,
-            BinaryOperator::Add => Punctuator::Plus,
-            BinaryOperator::Subtract => Punctuator::Minus,
-            BinaryOperator::ShiftLeft => Punctuator::ShiftLeft,
-            BinaryOperator::ShiftRight => Punctuator::ShiftRight,
-            BinaryOperator::Less => Punctuator::Less,
-            BinaryOperator::LessEqual => Punctuator::LessEqual,
-            BinaryOperator::Greater => Punctuator::Greater,
-            BinaryOperator::GreaterEqual => Punctuator::GreaterEqual,
-            BinaryOperator::Equal => Punctuator::Equal,
-            BinaryOperator::NotEqual => Punctuator::NotEqual,
-            BinaryOperator::BitAnd => Punctuator::Ampersand,
-            BinaryOperator::BitXor => Punctuator::Caret,
-            BinaryOperator::BitOr => Punctuator::Bar,
-            BinaryOperator::And => Punctuator::AndAnd,
-            BinaryOperator::Or => Punctuator::OrOr,
-        }
+        self.row().0
     }
 
     /// How weakly it binds, from 1 for `* / %` to 10 for `||`.
     pub fn precedence(self) -> u32
         ensures is { result ≡ precedence self }
-        ensures most { result ≤ 10 }
+        ensures most { result ≤ weakest }
     {
-        match self {
-            BinaryOperator::Multiply | BinaryOperator::Divide | BinaryOperator::Remainder => 1,
-            BinaryOperator::Add | BinaryOperator::Subtract => 2,
-            BinaryOperator::ShiftLeft | BinaryOperator::ShiftRight => 3,
-            BinaryOperator::Less
-            | BinaryOperator::LessEqual
-            | BinaryOperator::Greater
-            | BinaryOperator::GreaterEqual => 4,
-            BinaryOperator::Equal | BinaryOperator::NotEqual => 5,
-            BinaryOperator::BitAnd => 6,
-            BinaryOperator::BitXor => 7,
-            BinaryOperator::BitOr => 8,
-            BinaryOperator::And => 9,
-            BinaryOperator::Or => 10,
-        }
+        self.row().1
     }
 
     /// The operator between two operands that the punctuator is, if any.

@@ -15,8 +15,8 @@ use Rattle.qs_lexer.specs.Words.{keyword_of, punctuator_of}
 use Rattle.qs_lexer.specs.declared.fault.FaultKind.{FaultKind}
 use Rattle.qs_lexer.specs.declared.pieces.Class.TheVariants.{Number, Other}
 use Rattle.qs_lexer.specs.declared.pieces.Piece.TheVariants as pieces
-use Rattle.qs_lexer.proofs.Begins.{next_is}
-use Rattle.qs_lexer.proofs.Formed.{punctuator_1, number_stands, word_stands}
+use Rattle.qs_lexer.proofs.PieceClasses.{next_is}
+use Rattle.qs_lexer.proofs.ScanTokens.{punctuator_1, number_stands, word_stands}
 use Rattle.qs_syntax.specs.declared.terminal.Terminal.{Terminal}
 use Rattle.qs_syntax.specs.declared.terminal.Terminal.TheVariants.{Name, Keyword, Constant, Punctuator}
 use Rattle.qs_base.specs.declared.keyword.Keyword.TheVariants as keywords

@@ -11,8 +11,8 @@ use Rattle.qs_lexer.specs.Tokens.{ReadsTo, Tokens, start, white_space, token, to
 use Rattle.qs_lexer.specs.declared.pieces.Class.TheVariants.{Space}
 use Rattle.qs_lexer.specs.declared.pieces.Piece.{Piece}
 use Rattle.qs_lexer.specs.declared.pieces.Piece.TheVariants as pieces
-use Rattle.qs_lexer.proofs.Begins.{next_is}
-use Rattle.qs_lexer.proofs.Whites.{space_stands}
+use Rattle.qs_lexer.proofs.PieceClasses.{next_is}
+use Rattle.qs_lexer.proofs.ScanWhiteSpace.{space_stands}
 use Rattle.qs_syntax.specs.declared.terminal.Terminal.{Terminal}
 use Rattle.qs_syntax.specs.declared.tokens.Token.{Token}
 use Rattle.qs_syntax.specs.declared.tokens.TokenKind.{TokenKind}

@@ -7,7 +7,8 @@ use Rattle.qs_lexer.specs.Bytes.{blanks_then_digit, first_then, is_blank, is_emp
 use Rattle.qs_lexer.specs.Ends.{closes, comment_turn, quote_turn}
 use Rattle.qs_lexer.specs.Literals.{character_of, text_of}
 use Rattle.qs_lexer.specs.Numbers.{number_of}
-use Rattle.qs_lexer.specs.Words.{punctuator_of, punctuator_with, word_of}
+use Rattle.qs_lexer.specs.Words.{punctuator_with, word_of}
+use Rattle.qs_syntax.specs.Punctuators.{punctuator_of}
 use Rattle.qs_lexer.specs.declared.fault.FaultKind.{FaultKind}
 use Rattle.qs_lexer.specs.declared.fault.FaultKind.TheVariants as faults
 use Rattle.qs_lexer.specs.declared.pieces.Class.{Class}

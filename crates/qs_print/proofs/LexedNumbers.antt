@@ -16,9 +16,9 @@ use Rattle.qs_lexer.specs.declared.pieces.Class.TheVariants.{Space, LineComment,
 use Rattle.qs_lexer.specs.declared.pieces.Piece.TheVariants as pieces
 use Rattle.qs_syntax.specs.declared.tokens.TokenKind.{TokenKind}
 use Rattle.qs_syntax.specs.declared.tokens.TokenKind.TheVariants as kinds
-use Rattle.qs_lexer.proofs.Begins.{next_is}
+use Rattle.qs_lexer.proofs.PieceClasses.{next_is}
 use Rattle.qs_lexer.proofs.Conjunctions.{and_false}
-use Rattle.qs_lexer.proofs.Formed.{number_stands}
+use Rattle.qs_lexer.proofs.ScanTokens.{number_stands}
 use Rattle.qs_print.specs.Spelling.{suffix}
 use Rattle.qs_print.proofs.LexedWords.{and_true, both, found, is_gap, left_false, past, prefix_word}
 

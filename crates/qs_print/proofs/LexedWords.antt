@@ -16,10 +16,10 @@ use Rattle.qs_base.specs.declared.keyword.Keyword.{Keyword}
 use Rattle.qs_base.specs.declared.keyword.Keyword.TheVariants as keywords
 use Rattle.qs_syntax.specs.declared.tokens.TokenKind.{TokenKind}
 use Rattle.qs_syntax.specs.declared.tokens.TokenKind.TheVariants as kinds
-use Rattle.qs_lexer.proofs.Begins.{next_is}
+use Rattle.qs_lexer.proofs.PieceClasses.{next_is}
 use Rattle.qs_lexer.proofs.Conjunctions.{and_false}
-use Rattle.qs_lexer.proofs.Formed.{word_stands}
-use Rattle.qs_lexer.proofs.Spelled.{keyword_agrees}
+use Rattle.qs_lexer.proofs.ScanTokens.{word_stands}
+use Rattle.qs_lexer.proofs.TokenLaws.{keyword_agrees}
 use Rattle.qs_print.specs.Spelling.{keyword_spelling}
 
 -- ---- tests

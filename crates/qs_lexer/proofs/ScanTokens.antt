@@ -8,18 +8,19 @@ use Rattle.qs_base.specs.Bytes.{is_digit, is_letter, is_word_byte}
 use Rattle.qs_base.specs.Names.{is_word}
 use Rattle.qs_lexer.specs.Bytes.{first_then, is_number_byte, starts, starts_with}
 use Rattle.qs_lexer.specs.Ends.{closes, end_of, quote_turn}
-use Rattle.qs_lexer.specs.Heads.{punctuator_front}
+use Rattle.qs_lexer.specs.Scan.{punctuator_front}
 use Rattle.qs_lexer.specs.Literals.{character_of, text_of}
 use Rattle.qs_lexer.specs.Numbers.{number_of}
 use Rattle.qs_lexer.specs.Pieces.{Longest, NoFront, Stands, has_form, is_quoted, piece_without, token_or_fault}
-use Rattle.qs_lexer.specs.Words.{punctuator_of, punctuator_table, punctuator_with, word_of}
+use Rattle.qs_lexer.specs.Words.{punctuator_with, word_of}
+use Rattle.qs_syntax.specs.Punctuators.{punctuator_of}
 use Rattle.qs_lexer.specs.declared.pieces.Class.TheVariants.{Word, Number, Character, Text, Other}
 use Rattle.qs_lexer.specs.declared.pieces.Piece.{Piece}
 use Rattle.qs_lexer.specs.declared.pieces.Piece.TheVariants as pieces
 use Rattle.qs_syntax.specs.declared.punctuator.Punctuator.{Punctuator}
 use Rattle.qs_syntax.specs.declared.tokens.TokenKind.TheVariants as kinds
 use Rattle.qs_lexer.proofs.Fronts.{list_all_take, closes_take, end_within, longest_of_le, longest_of_at, longest_same}
-use Rattle.qs_lexer.proofs.Tables.{KeysUpTo, key, no_key, look_up_long}
+use Rattle.qs_syntax.proofs.PunctuatorLaws.{no_punctuator}
 use Rattle.qs_lexer.proofs.Conjunctions.{and_true, and_false, cond_true, at_none, at_some}
 
 -- ---- words and numbers: a byte of the one class, and bytes of the other
@@ -98,14 +99,11 @@ text_open fresh rest piece e s = inr (record { none = not_quoted 34 rest e; is =
 
 -- ---- punctuators have three bytes at most
 
-punctuator_keys : KeysUpTo 3 punctuator_table
-punctuator_keys = search (arith, key, no_key)
-
 no_long_punctuator : (rest : List ℕ) (m : ℕ) → 3 < m → m ≤ length rest → is_some (punctuator_of (take m rest)) ≡ false
-unfolding punctuator_of
 no_long_punctuator rest m h w =
     let l : length (take m rest) ≡ m = length-take-le m rest w in
-    ap is_some (look_up_long 3 punctuator_table (take m rest) punctuator_keys (omega arith))
+    let long : nat_le (length (take m rest)) 3 ≡ false = grind (arith, nat_tests) in
+    ap is_some (no_punctuator (λ spelling. nat_le (length spelling) 3) refl (take m rest) long)
 
 punctuator_stands : (fresh : Bool) (rest : List ℕ) (n : ℕ) (punctuator : Punctuator) (piece : Piece) → n ≤ length rest → punctuator_of (take n rest) ≡ Some punctuator → ((m : ℕ) → n < m → m ≤ 3 → m ≤ length rest → punctuator_of (take m rest) ≡ None)
     → piece ≡ pieces.Token n (kinds.Punctuator punctuator) → Stands fresh Other rest piece

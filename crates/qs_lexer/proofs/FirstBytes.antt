@@ -1,65 +1,27 @@
 -- The first byte decides which form a token can have.
-use Rattle.std.proofs.Common.{◌≡◌, ℕ, ◌<◌, zero, suc, Bool, true, false, cond, not, ◌&&◌, ◌||◌, List, [], ◌∷◌, None, is_some, take, refl, ap, sym, arith, bytes_eq, ◌==◌}
+use Rattle.std.proofs.Common.{◌≡◌, ℕ, ◌<◌, zero, suc, Bool, true, false, cond, not, ◌&&◌, ◌||◌, List, [], ◌∷◌, is_some, take, refl, ap, sym, arith, ◌==◌}
 use Rattle.std.proofs.lemmas.Bool.Decides.{nat_tests}
 use Rattle.qs_base.specs.Bytes.{is_digit, is_letter}
 use Rattle.qs_base.specs.Names.{is_word}
 use Rattle.qs_lexer.specs.Bytes.{is_space, starts, starts_with}
 use Rattle.qs_lexer.specs.Pieces.{Longest, class_of, has_form, is_punctuator, is_number, is_quoted, is_token}
-use Rattle.qs_lexer.specs.Tables.{look_up}
-use Rattle.qs_lexer.specs.Words.{punctuator_of, punctuator_table}
+use Rattle.qs_syntax.specs.Punctuators.{punctuator_of}
 use Rattle.qs_lexer.specs.declared.pieces.Class.{Class}
 use Rattle.qs_lexer.specs.declared.pieces.Class.TheVariants.{End, Space, LineComment, BlockComment, LineMarker, Word, Number, Character, Text, Other}
 use Rattle.qs_lexer.proofs.Fronts.{longest_same}
+use Rattle.qs_syntax.proofs.PunctuatorLaws.{no_punctuator}
 
 -- ---- punctuators begin with no letter, digit or quote
 
 abbrev begins_no_punctuator : ℕ → Bool
 begins_no_punctuator byte = is_letter byte || is_digit byte || byte == 39 || byte == 34
 
-abbrev keys_begin : {A : Type 0} → List (List ℕ × A) → Bool
-keys_begin [] = true
-keys_begin (entry ∷ entries) = starts (λ byte. not (begins_no_punctuator byte)) entry.0 && keys_begin entries
-
-differs : (f : ℕ → Bool) (x y : ℕ) → f x ≡ false → f y ≡ true → (x == y) ≡ false
-differs f x y h k = by (x == y) refl
-  where
-    by : (b : Bool) → (x == y) ≡ b → b ≡ false
-    by false e = refl
-    by true e = let same : x ≡ y = grind (arith, nat_tests) in let clash : f x ≡ f y = ap f same in cc
-
 left_false : (b c : Bool) → b ≡ false → (b && c) ≡ false
 left_false true c h = cc
 left_false false c h = refl
 
-first_true : (b c : Bool) → (b && c) ≡ true → b ≡ true
-first_true true c h = refl
-first_true false c h = cc
-
-second_true : (b c : Bool) → (b && c) ≡ true → c ≡ true
-second_true true c h = h
-second_true false c h = cc
-
-not_false : (b : Bool) → not b ≡ true → b ≡ false
-not_false true h = cc
-not_false false h = refl
-
-no_key : (spelling : List ℕ) (a : ℕ) (xs : List ℕ) → starts (λ byte. not (begins_no_punctuator byte)) spelling ≡ true → begins_no_punctuator a ≡ true → bytes_eq spelling (a ∷ xs) ≡ false
-no_key [] a xs s h = cc
-no_key (first ∷ others) a xs s h = left_false (first == a) (bytes_eq others xs) (differs begins_no_punctuator first a (not_false (begins_no_punctuator first) s) h)
-
-not_in_table : {A : Type 0} (table : List (List ℕ × A)) (a : ℕ) (xs : List ℕ) → keys_begin table ≡ true → begins_no_punctuator a ≡ true → look_up table (a ∷ xs) ≡ None
-not_in_table [] a xs keys h = refl
-not_in_table (entry ∷ entries) a xs keys h =
-    let f : starts (λ byte. not (begins_no_punctuator byte)) entry.0 ≡ true = first_true (starts (λ byte. not (begins_no_punctuator byte)) entry.0) (keys_begin entries) keys in
-    let g : keys_begin entries ≡ true = second_true (starts (λ byte. not (begins_no_punctuator byte)) entry.0) (keys_begin entries) keys in
-    rw (no_key entry.0 a xs f h) (not_in_table entries a xs g h)
-
-punctuator_begins : keys_begin punctuator_table ≡ true
-punctuator_begins = refl
-
-no_punctuator : (a : ℕ) (xs : List ℕ) → begins_no_punctuator a ≡ true → is_punctuator (a ∷ xs) ≡ false
-unfolding punctuator_of
-no_punctuator a xs h = ap is_some (not_in_table punctuator_table a xs punctuator_begins h)
+no_punctuator_begins : (a : ℕ) (xs : List ℕ) → begins_no_punctuator a ≡ true → is_punctuator (a ∷ xs) ≡ false
+no_punctuator_begins a xs h = ap is_some (no_punctuator (starts (λ byte. not (begins_no_punctuator byte))) refl (a ∷ xs) (ap not h))
 
 -- ---- of five tests all but one fail
 
@@ -148,16 +110,16 @@ form_cons BlockComment a xs h = absurd h
 form_cons LineMarker a xs h = absurd h
 form_cons Word a xs h = sym (only_first (is_word (a ∷ xs)) (is_number (a ∷ xs)) (is_quoted 39 (a ∷ xs)) (is_quoted 34 (a ∷ xs)) (is_punctuator (a ∷ xs))
     (left_false (is_digit a) _ (letter_no_digit a h)) (left_false (a == 39) _ (letter_no a 39 h (omega arith))) (left_false (a == 34) _ (letter_no a 34 h (omega arith)))
-    (no_punctuator a xs (or_1 (is_letter a) (is_digit a) (a == 39) (a == 34) h)))
+    (no_punctuator_begins a xs (or_1 (is_letter a) (is_digit a) (a == 39) (a == 34) h)))
 form_cons Number a xs h = sym (only_second (is_word (a ∷ xs)) (is_number (a ∷ xs)) (is_quoted 39 (a ∷ xs)) (is_quoted 34 (a ∷ xs)) (is_punctuator (a ∷ xs))
     (left_false (is_letter a) _ (digit_no_letter a h)) (left_false (a == 39) _ (digit_no a 39 h (omega arith))) (left_false (a == 34) _ (digit_no a 34 h (omega arith)))
-    (no_punctuator a xs (or_2 (is_letter a) (is_digit a) (a == 39) (a == 34) h)))
+    (no_punctuator_begins a xs (or_2 (is_letter a) (is_digit a) (a == 39) (a == 34) h)))
 form_cons Character a xs h = sym (only_third (is_word (a ∷ xs)) (is_number (a ∷ xs)) (is_quoted 39 (a ∷ xs)) (is_quoted 34 (a ∷ xs)) (is_punctuator (a ∷ xs))
     (left_false (is_letter a) _ (byte_no_letter a 39 h (omega arith))) (left_false (is_digit a) _ (byte_no_digit a 39 h (omega arith))) (left_false (a == 34) _ (byte_no_less a 39 34 h (omega arith)))
-    (no_punctuator a xs (or_3 (is_letter a) (is_digit a) (a == 39) (a == 34) h)))
+    (no_punctuator_begins a xs (or_3 (is_letter a) (is_digit a) (a == 39) (a == 34) h)))
 form_cons Text a xs h = sym (only_fourth (is_word (a ∷ xs)) (is_number (a ∷ xs)) (is_quoted 39 (a ∷ xs)) (is_quoted 34 (a ∷ xs)) (is_punctuator (a ∷ xs))
     (left_false (is_letter a) _ (byte_no_letter a 34 h (omega arith))) (left_false (is_digit a) _ (byte_no_digit a 34 h (omega arith))) (left_false (a == 39) _ (byte_no_byte a 34 39 h (omega arith)))
-    (no_punctuator a xs (or_4 (is_letter a) (is_digit a) (a == 39) (a == 34) h)))
+    (no_punctuator_begins a xs (or_4 (is_letter a) (is_digit a) (a == 39) (a == 34) h)))
 form_cons Other a xs h = sym (only_fifth (is_word (a ∷ xs)) (is_number (a ∷ xs)) (is_quoted 39 (a ∷ xs)) (is_quoted 34 (a ∷ xs)) (is_punctuator (a ∷ xs))
     (left_false (is_letter a) _ h.0) (left_false (is_digit a) _ h.1) (left_false (a == 39) _ h.2) (left_false (a == 34) _ h.3))
 

@@ -1,8 +1,9 @@
 -- What the class says of the first bytes.
 use Rattle.std.proofs.Common.{◌≡◌, ℕ, Bool, true, false, cond, ◌&&◌, List, [], ◌∷◌, refl, ◌==◌, length, subst, sym, ◌∙◌}
+use Rattle.std.specs.Cmp.{first_so, second_so}
 use Rattle.qs_base.specs.Bytes.{is_letter, is_digit}
 use Rattle.qs_lexer.specs.Bytes.{is_space, starts, starts_with}
-use Rattle.qs_lexer.specs.Heads.{Opens}
+use Rattle.qs_lexer.specs.Scan.{Opens}
 use Rattle.qs_lexer.specs.Pieces.{class_of, Next, Stands}
 use Rattle.qs_lexer.specs.declared.pieces.Class.{Class}
 use Rattle.qs_lexer.specs.declared.pieces.Class.TheVariants.{End, Space, LineComment, BlockComment, LineMarker, Word, Number, Character, Text, Other}
@@ -24,16 +25,8 @@ chosen : (a : ℕ) (bs : List ℕ) (b : Bool) (x y : Class) → (b ≡ true → 
 chosen a bs true x y f g = f refl
 chosen a bs false x y f g = g
 
-first_true : (p q : Bool) → (p && q) ≡ true → p ≡ true
-first_true true q h = refl
-first_true false q h = cc
-
-second_true : (p q : Bool) → (p && q) ≡ true → q ≡ true
-second_true true q h = h
-second_true false q h = cc
-
 opened : (a x y : ℕ) (bs : List ℕ) → (a == x && starts_with y bs) ≡ true → Opens x y (a ∷ bs)
-opened a x y bs h = record { one = first_true (a == x) (starts_with y bs) h; two = second_true (a == x) (starts_with y bs) h }
+opened a x y bs h = record { one = first_so (a == x) (starts_with y bs) h; two = second_so (a == x) (starts_with y bs) h }
 
 pub class_begun : (fresh : Bool) (rest : List ℕ) → Begun (class_of fresh rest) rest
 class_begun fresh [] = refl
@@ -41,7 +34,7 @@ class_begun fresh (a ∷ bs) =
     chosen a bs (is_space a) Space _ (λ h. h)
     (chosen a bs (a == 47 && starts_with 47 bs) LineComment _ (λ h. opened a 47 47 bs h)
     (chosen a bs (a == 47 && starts_with 42 bs) BlockComment _ (λ h. opened a 47 42 bs h)
-    (chosen a bs (fresh && a == 35) LineMarker _ (λ h. second_true fresh (a == 35) h)
+    (chosen a bs (fresh && a == 35) LineMarker _ (λ h. second_so fresh (a == 35) h)
     (chosen a bs (is_letter a) Word _ (λ h. h)
     (chosen a bs (is_digit a) Number _ (λ h. h)
     (chosen a bs (a == 39) Character _ (λ h. h)

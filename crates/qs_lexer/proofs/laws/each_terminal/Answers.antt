@@ -1,5 +1,5 @@
-use Rattle.qs_lexer.proofs.Seen.{are_terminals, as_many, at_most}
-use Rattle.qs_lexer.proofs.terminal_list.each_terminal.Goals as goal
+use Rattle.qs_lexer.proofs.TerminalLaws.{are_terminals, as_many, at_most}
+use Rattle.qs_lexer.proofs.laws.each_terminal.Goals as goal
 
 pub returns-clause-as_many : goal.returns-clause-as_many
 returns-clause-as_many c = as_many

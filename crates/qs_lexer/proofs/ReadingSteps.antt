@@ -6,7 +6,8 @@ use Rattle.qs_lexer.specs.Numbers.{number_of}
 use Rattle.qs_lexer.specs.Pieces.{Stands, Next, class_of, has_form, piece_of, piece_without, token_or_fault, is_punctuator}
 use Rattle.qs_lexer.specs.Results.{SaysFault, fault_at}
 use Rattle.qs_lexer.specs.Tokens.{ReadsTo, start, white_space, token, token_at, Tokens, LexFaultAt}
-use Rattle.qs_lexer.specs.Words.{punctuator_of, punctuator_with, word_of}
+use Rattle.qs_lexer.specs.Words.{punctuator_with, word_of}
+use Rattle.qs_syntax.specs.Punctuators.{punctuator_of}
 use Rattle.qs_lexer.specs.declared.fault.FaultKind.{FaultKind}
 use Rattle.qs_lexer.specs.declared.fault.FaultKind.TheVariants as kinds
 use Rattle.qs_lexer.specs.declared.fault.LexFault.{LexFault}
@@ -16,7 +17,7 @@ use Rattle.qs_lexer.specs.declared.pieces.Piece.{Piece}
 use Rattle.qs_lexer.specs.declared.pieces.Piece.TheVariants as pieces
 use Rattle.qs_syntax.specs.declared.tokens.Token.{Token}
 use Rattle.qs_syntax.specs.declared.tokens.TokenKind.{TokenKind}
-use Rattle.qs_lexer.proofs.Begins.{Begun, class_begun}
+use Rattle.qs_lexer.proofs.PieceClasses.{Begun, class_begun}
 
 -- what goes on has k bytes
 abbrev IsOf : ℕ → Piece → Type 0

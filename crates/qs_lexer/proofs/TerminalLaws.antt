@@ -1,6 +1,7 @@
 -- The terminals of a text.
-use Rattle.std.proofs.Common.{◌≡◌, ℕ, ◌+◌, ◌-◌, ◌<◌, ◌≤◌, zero, suc, Bool, true, false, ◌&&◌, List, [], ◌∷◌, ◌++◌, length, drop, get_or, All, refl, ap, sym, ◌∙◌, arith, add-one, drop-cons, Fits, w8}
+use Rattle.std.proofs.Common.{◌≡◌, ℕ, ◌+◌, ◌-◌, ◌<◌, ◌≤◌, zero, suc, Bool, true, ◌&&◌, List, [], ◌∷◌, ◌++◌, length, drop, get_or, All, refl, ap, sym, ◌∙◌, arith, add-one, drop-cons, Fits, w8}
 use Rattle.std.proofs.lemmas.Bool.Decides.{nat_tests}
+use Rattle.std.specs.Cmp.{first_so, second_so}
 use Rattle.std.specs.List.{list_all}
 use Rattle.std.proofs.lemmas.List.{append_assoc, append-nil, drop_all}
 use Rattle.std.proofs.lemmas.List.Elements.{All-head, All-tail}
@@ -13,8 +14,8 @@ use Rattle.qs_syntax.specs.declared.terminal.Terminal.{Terminal}
 use Rattle.qs_syntax.specs.declared.tokens.Token.{Token}
 use Rattle.qs_syntax.specs.declared.tokens.TokenKind.{TokenKind}
 use Rattle.qs_syntax.specs.declared.tokens.TokenKind.TheVariants as kinds
-use Rattle.qs_lexer.proofs.Spelled.{in_order, tokens_of}
-use Rattle.qs_lexer.proofs.Values.{all_valued, bytes_drop, bytes_take, is_valued, read_valued, text_low}
+use Rattle.qs_lexer.proofs.TokenLaws.{in_order, tokens_of}
+use Rattle.qs_lexer.proofs.TerminalValues.{all_valued, bytes_drop, bytes_take, is_valued, read_valued, text_low}
 
 -- ---- how many there are
 
@@ -56,14 +57,6 @@ number_low text tokens t k d l =
 and_true : (b c : Bool) → b ≡ true → c ≡ true → (b && c) ≡ true
 and_true b c p q = rw (p, q) refl
 
-first_true : (b c : Bool) → (b && c) ≡ true → b ≡ true
-first_true true c h = refl
-first_true false c h = cc
-
-second_true : (b c : Bool) → (b && c) ≡ true → c ≡ true
-second_true true c h = h
-second_true false c h = cc
-
 seen : (at : ℕ) (bytes : List ℕ) (kind : TokenKind) → (kind ≡ kinds.Name → is_name bytes ≡ true) → is_valued kind ≡ true → list_all is_byte bytes ≡ true → is_terminal (terminal_of at bytes kind) ≡ true
 seen at bytes kinds.Name n v b = n refl
 seen at bytes (kinds.Keyword keyword) n v b = refl
@@ -76,8 +69,8 @@ all_seen : (text : List ℕ) (at : ℕ) (tokens : List Token) → list_all is_by
 all_seen text at [] b a v = refl
 all_seen text at (t ∷ ts) b a v =
     and_true (is_terminal (terminal text at t)) (list_all is_terminal (terminals text (at + 1) ts))
-    (seen at (spelling text t) t.kind (All-head (IsTokenOf text) t ts a).name (first_true (is_valued t.kind) (all_valued ts) v) (bytes_take (t.end - t.start) (drop t.start text) (bytes_drop t.start text b)))
-    (all_seen text (at + 1) ts b (All-tail (IsTokenOf text) t ts a) (second_true (is_valued t.kind) (all_valued ts) v))
+    (seen at (spelling text t) t.kind (All-head (IsTokenOf text) t ts a).name (first_so (is_valued t.kind) (all_valued ts) v) (bytes_take (t.end - t.start) (drop t.start text) (bytes_drop t.start text b)))
+    (all_seen text (at + 1) ts b (All-tail (IsTokenOf text) t ts a) (second_so (is_valued t.kind) (all_valued ts) v))
 
 pub are_terminals : (text : List ℕ) (tokens : List Token) → Tokens text tokens → list_all is_byte text ≡ true → list_all is_terminal (terminals text 0 tokens) ≡ true
 are_terminals text tokens t b = all_seen text 0 tokens b (tokens_of text tokens t) (read_valued text tokens t.fresh (length text) b t.reads)

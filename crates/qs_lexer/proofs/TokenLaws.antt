@@ -1,17 +1,18 @@
 -- What holds of each token of a text.
-use Rattle.std.proofs.Common.{◌≡◌, ℕ, ◌+◌, ◌-◌, ◌≤◌, inl, inr, zero, suc, Bool, true, false, cond, not, ◌&&◌, ◌||◌, List, [], ◌∷◌, ◌++◌, Option, Some, None, is_some, Result, Ok, Err, length, take, drop, All, refl, ap, sym, ◌∙◌, subst, arith, bytes_eq, nat_lt, ◌^◌, ◌==◌}
+use Rattle.std.proofs.Common.{◌≡◌, ℕ, ◌+◌, ◌-◌, ◌≤◌, inl, inr, zero, suc, Bool, true, false, cond, not, ◌&&◌, ◌||◌, List, [], ◌∷◌, ◌++◌, Option, Some, None, Result, Ok, Err, length, take, drop, All, refl, ap, sym, ◌∙◌, subst, arith, nat_lt, ◌^◌, ◌==◌}
 use Rattle.std.specs.List.{list_any}
 use Rattle.std.proofs.lemmas.List.{length-take-le, length-drop}
 use Rattle.std.proofs.lemmas.List.Elements.{All-append, All-nil}
-use Rattle.qs_base.specs.Keywords.{is_keyword, keywords}
+use Rattle.qs_base.specs.Keywords.{is_keyword}
 use Rattle.qs_base.specs.Names.{is_name, is_word}
 use Rattle.qs_lexer.specs.Laws.{InOrder, IsTextLiteral, IsTokenOf}
 use Rattle.qs_lexer.specs.Literals.{character_of, character_of_elements, elements_of, is_bad, is_wide, text_of}
 use Rattle.qs_lexer.specs.Numbers.{are_digits, base_of, digits_of, has_suffix, number_of, number_without_suffix, typed, value_of, without_suffix}
 use Rattle.qs_lexer.specs.Pieces.{Longest, Next, class_of, has_form, is_token, piece_of, piece_without, token_or_fault}
-use Rattle.qs_lexer.specs.Tables.{look_up}
 use Rattle.qs_lexer.specs.Tokens.{ReadsTo, start, white_space, token, token_at, Tokens}
-use Rattle.qs_lexer.specs.Words.{keyword_of, keyword_table, punctuator_of, punctuator_with, word_of, word_with}
+use Rattle.qs_base.specs.Keywords.{keyword_of}
+use Rattle.qs_lexer.specs.Words.{punctuator_with, word_of, word_with}
+use Rattle.qs_syntax.specs.Punctuators.{punctuator_of}
 use Rattle.qs_lexer.specs.declared.fault.FaultKind.{FaultKind}
 use Rattle.qs_lexer.specs.declared.fault.FaultKind.TheVariants as faults
 use Rattle.qs_lexer.specs.declared.literals.Element.{Element}
@@ -25,33 +26,12 @@ use Rattle.qs_syntax.specs.declared.punctuator.Punctuator.{Punctuator}
 use Rattle.qs_syntax.specs.declared.tokens.Token.{Token}
 use Rattle.qs_syntax.specs.declared.tokens.TokenKind.{TokenKind}
 use Rattle.qs_syntax.specs.declared.tokens.TokenKind.TheVariants as kinds
-use Rattle.qs_lexer.proofs.Firsts.{is_token_class, longest_token}
-use Rattle.qs_lexer.proofs.Steps.{next_moves}
-
--- ---- the keywords of both tables are the same
-
-abbrev keys : {A : Type 0} → List (List ℕ × A) → List (List ℕ)
-keys [] = []
-keys (entry ∷ entries) = entry.0 ∷ keys entries
-
-found : {A : Type 0} (table : List (List ℕ × A)) (word : List ℕ) → list_any (λ keyword. bytes_eq keyword word) (keys table) ≡ is_some (look_up table word)
-found [] word = refl
-found (entry ∷ entries) word = by (bytes_eq entry.0 word) (found entries word)
-  where
-    by : (b : Bool) → list_any (λ keyword. bytes_eq keyword word) (keys entries) ≡ is_some (look_up entries word) → (b || list_any (λ keyword. bytes_eq keyword word) (keys entries)) ≡ is_some (cond b (Some entry.1) (look_up entries word))
-    by true e = refl
-    by false e = e
-
-same_keywords : keywords ≡ keys keyword_table
-same_keywords = refl
-
-pub keyword_agrees : (word : List ℕ) → is_keyword word ≡ is_some (keyword_of word)
-unfolding is_keyword keyword_of
-keyword_agrees word = ap (list_any (λ keyword. bytes_eq keyword word)) same_keywords ∙ found keyword_table word
+use Rattle.qs_lexer.proofs.FirstBytes.{is_token_class, longest_token}
+use Rattle.qs_lexer.proofs.ReadingSteps.{next_moves}
 
 name_of : (word : List ℕ) → is_word word ≡ true → keyword_of word ≡ None → is_name word ≡ true
-unfolding is_name
-name_of word h k = let e : is_keyword word ≡ false = keyword_agrees word ∙ ap is_some k in rw (h, e) refl
+unfolding is_name is_keyword
+name_of word h k = rw (h, k) refl
 
 -- ---- what kinds the classes give
 

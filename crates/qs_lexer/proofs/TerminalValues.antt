@@ -1,14 +1,15 @@
 -- The value of each constant is one of its type.
-use Rattle.std.proofs.Common.{◌≡◌, ℕ, ◌-◌, ◌^◌, inl, inr, zero, suc, Bool, true, false, cond, not, ◌&&◌, ◌||◌, List, [], ◌∷◌, ◌++◌, Option, Some, None, Result, Ok, Err, length, take, drop, refl, ap, sym, ◌∙◌, arith, bytes_eq, nat_lt, ◌==◌}
+use Rattle.std.proofs.Common.{◌≡◌, ℕ, ◌-◌, ◌^◌, inl, inr, zero, suc, Bool, true, false, cond, not, ◌&&◌, ◌||◌, List, [], ◌∷◌, ◌++◌, Option, Some, None, option_map, Result, Ok, Err, length, take, drop, refl, ap, sym, ◌∙◌, arith, nat_lt, ◌==◌}
 use Rattle.std.proofs.lemmas.Bool.Decides.{nat_tests}
-use Rattle.std.specs.List.{list_all, list_any}
+use Rattle.std.specs.List.{find, list_all, list_any}
 use Rattle.qs_lexer.specs.Bytes.{starts_with}
-use Rattle.qs_lexer.specs.Literals.{byte_values, character_of, character_of_elements, character_with, element_length, elements, elements_behind, elements_of, escape, first_element, hexadecimal_count, is_bad, is_wide, hexadecimal_escape, inside, octal_count, octal_escape, simple, simple_escape, simple_escapes, text_of, valued}
+use Rattle.qs_lexer.specs.Literals.{byte_values, character_of, character_of_elements, character_with, element_length, elements, elements_behind, elements_of, escape, first_element, hexadecimal_count, is_bad, is_wide, hexadecimal_escape, inside, octal_count, octal_escape, simple, simple_escape, simple_escapes, simple_with, text_of, valued}
 use Rattle.qs_lexer.specs.Numbers.{are_digits, base_of, digits_of, has_suffix, number_of, number_without_suffix, typed, value_of, without_suffix}
 use Rattle.qs_lexer.specs.Pieces.{Next, class_of, piece_of, piece_without, token_or_fault}
-use Rattle.qs_lexer.specs.Tables.{look_up}
 use Rattle.qs_lexer.specs.Tokens.{ReadsTo, start, white_space, token, token_at}
-use Rattle.qs_lexer.specs.Words.{keyword_of, punctuator_of, punctuator_with, word_of, word_with}
+use Rattle.qs_base.specs.Keywords.{keyword_of}
+use Rattle.qs_lexer.specs.Words.{punctuator_with, word_of, word_with}
+use Rattle.qs_syntax.specs.Punctuators.{punctuator_of}
 use Rattle.qs_lexer.specs.declared.fault.FaultKind.{FaultKind}
 use Rattle.qs_lexer.specs.declared.fault.FaultKind.TheVariants as faults
 use Rattle.qs_lexer.specs.declared.literals.Element.{Element}
@@ -22,7 +23,7 @@ use Rattle.qs_syntax.specs.declared.punctuator.Punctuator.{Punctuator}
 use Rattle.qs_syntax.specs.declared.tokens.Token.{Token}
 use Rattle.qs_syntax.specs.declared.tokens.TokenKind.{TokenKind}
 use Rattle.qs_syntax.specs.declared.tokens.TokenKind.TheVariants as kinds
-use Rattle.qs_lexer.proofs.Spelled.{IsPiece, is_piece, is_ok, absent_no_token}
+use Rattle.qs_lexer.proofs.TokenLaws.{IsPiece, is_piece, is_ok, absent_no_token}
 
 -- the value of a constant is one of its type
 abbrev pub is_valued : TokenKind → Bool
@@ -79,36 +80,30 @@ low_if false x y p q = q
 valued_low : (value : ℕ) → is_low (valued value) ≡ true
 valued_low value = low_if (nat_lt value 256) (item.Byte value) item.Wide (λ h. h) refl
 
-abbrev are_low : List (List ℕ × ℕ) → Bool
-are_low [] = true
-are_low (entry ∷ entries) = is_byte entry.1 && are_low entries
-
 both : (b c : Bool) → (b && c) ≡ true → (b ≡ true) × (c ≡ true)
 both true c h = (refl, h)
 both false c h = cc
 
-looked_up_low : (table : List (List ℕ × ℕ)) (spelling : List ℕ) → are_low table ≡ true → is_low (simple (look_up table spelling)) ≡ true
-looked_up_low [] spelling h = refl
-looked_up_low (entry ∷ entries) spelling h =
-    let b : (is_byte entry.1 ≡ true) × (are_low entries ≡ true) = both (is_byte entry.1) (are_low entries) h in
-    by (bytes_eq entry.0 spelling) b.0 (looked_up_low entries spelling b.1)
+found_low : (rows : List (ℕ × ℕ)) (byte : ℕ) → list_all (λ row. is_byte row.1) rows ≡ true → is_low (simple_with (option_map (λ row. row.1) (find (λ row. row.0 == byte) rows))) ≡ true
+found_low [] byte h = refl
+found_low (row ∷ rows) byte h =
+    let b : (is_byte row.1 ≡ true) × (list_all (λ row. is_byte row.1) rows ≡ true) = both (is_byte row.1) (list_all (λ row. is_byte row.1) rows) h in
+    by (row.0 == byte) b.0 (found_low rows byte b.1)
   where
-    by : (x : Bool) → is_byte entry.1 ≡ true → is_low (simple (look_up entries spelling)) ≡ true → is_low (simple (cond x (Some entry.1) (look_up entries spelling))) ≡ true
+    by : (x : Bool) → is_byte row.1 ≡ true → is_low (simple_with (option_map (λ row. row.1) (find (λ row. row.0 == byte) rows))) ≡ true → is_low (simple_with (option_map (λ row. row.1) (cond x (Some row) (find (λ row. row.0 == byte) rows)))) ≡ true
     by true p q = p
     by false p q = q
 
-escapes_low : are_low simple_escapes ≡ true
-escapes_low = refl
-
-simple_low : (spelling : List ℕ) → is_low (simple (simple_escape spelling)) ≡ true
+simple_low : (bytes : List ℕ) → is_low (simple bytes) ≡ true
 unfolding simple_escape
-simple_low spelling = looked_up_low simple_escapes spelling escapes_low
+simple_low [] = refl
+simple_low (byte ∷ bytes) = found_low simple_escapes byte refl
 
 escape_low : (bytes : List ℕ) → is_low (escape bytes) ≡ true
 escape_low bytes =
-    low_if (starts_with 120 bytes) (hexadecimal_escape (drop 1 bytes)) (cond (nat_lt 0 (octal_count bytes)) (octal_escape bytes) (simple (simple_escape (take 1 bytes))))
+    low_if (starts_with 120 bytes) (hexadecimal_escape (drop 1 bytes)) (cond (nat_lt 0 (octal_count bytes)) (octal_escape bytes) (simple bytes))
     (λ h. low_if (nat_lt 0 (hexadecimal_count (drop 1 bytes))) (valued (value_of 16 (take (hexadecimal_count (drop 1 bytes)) (drop 1 bytes)))) item.Bad (λ h. valued_low (value_of 16 (take (hexadecimal_count (drop 1 bytes)) (drop 1 bytes)))) refl)
-    (low_if (nat_lt 0 (octal_count bytes)) (octal_escape bytes) (simple (simple_escape (take 1 bytes))) (λ h. valued_low (value_of 8 (take (octal_count bytes) bytes))) (simple_low (take 1 bytes)))
+    (low_if (nat_lt 0 (octal_count bytes)) (octal_escape bytes) (simple bytes) (λ h. valued_low (value_of 8 (take (octal_count bytes) bytes))) (simple_low bytes))
 
 first_low : (bytes : List ℕ) → list_all is_byte bytes ≡ true → is_low (first_element bytes) ≡ true
 first_low [] h = refl

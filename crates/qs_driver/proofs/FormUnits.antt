@@ -15,7 +15,7 @@ use Rattle.qs_syntax.specs.ReadsStatements.{something_there, an_expression, a_re
 use Rattle.qs_syntax.specs.ReadsUnits.{ReadsUnit, a_last_external, a_definition}
 use Rattle.qs_compile.specs.FirstForm.{Program, IsFirstForm, piece_text, pieces_text, return_text, program_text}
 use Rattle.qs_driver.specs.Source.{IsUnit}
-use Rattle.qs_driver.proofs.LexedOn.{LexesAs, Lexed, lexed, nothing_left}
+use Rattle.qs_lexer.proofs.RestOfText.{LexesAs, Lexed, lexed, nothing_left}
 use Rattle.qs_driver.proofs.FormLexed.{int_then, main_then, void_then, putchar_then, return_then, blank_then, line_feed_then, open_then, close_then, semicolon_then, block_then, block_end_then, number_then}
 
 -- ---- what stands in the block

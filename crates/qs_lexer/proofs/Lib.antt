@@ -11,4 +11,6 @@ pub mod FirstBytes
 pub mod TokenLaws
 pub mod TerminalValues
 pub mod TerminalLaws
+pub mod TokenEnds
+pub mod RestOfText
 pub mod Examples

@@ -8,7 +8,8 @@ use Rattle.qs_base.specs.Bytes.{is_digit, is_letter}
 use Rattle.qs_lexer.specs.Bytes.{is_space, starts_with}
 use Rattle.qs_lexer.specs.Pieces.{Next, Stands, class_of, class_with, token_or_fault}
 use Rattle.qs_lexer.specs.Tables.{look_up}
-use Rattle.qs_lexer.specs.Words.{punctuator_of, punctuator_table, punctuator_with}
+use Rattle.qs_lexer.specs.Words.{punctuator_table, punctuator_with}
+use Rattle.qs_syntax.specs.Punctuators.{punctuator_of}
 use Rattle.qs_lexer.specs.declared.pieces.Class.TheVariants.{Space, LineComment, BlockComment, LineMarker, Word, Number, Character, Text, Other}
 use Rattle.qs_lexer.specs.declared.pieces.Piece.TheVariants as pieces
 use Rattle.qs_syntax.specs.declared.punctuator.Punctuator.{Punctuator}

@@ -8,7 +8,8 @@ use Rattle.qs_base.specs.Keywords.{is_keyword}
 use Rattle.qs_base.specs.Names.{is_name, is_word}
 use Rattle.qs_lexer.specs.Bytes.{is_space, starts, starts_with}
 use Rattle.qs_lexer.specs.Pieces.{Next, class_of, class_with, token_or_fault}
-use Rattle.qs_lexer.specs.Words.{keyword_of, word_of, word_with}
+use Rattle.qs_base.specs.Keywords.{keyword_of}
+use Rattle.qs_lexer.specs.Words.{word_of, word_with}
 use Rattle.qs_lexer.specs.declared.pieces.Class.{Class}
 use Rattle.qs_lexer.specs.declared.pieces.Class.TheVariants.{Space, LineComment, BlockComment, LineMarker, Word}
 use Rattle.qs_lexer.specs.declared.pieces.Piece.TheVariants as pieces

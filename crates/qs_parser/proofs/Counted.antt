@@ -3,8 +3,8 @@ use Rattle.std.proofs.Common.{◌≡◌, ℕ, ◌+◌, ◌≤◌, List, [], ◌�
 use Rattle.std.specs.Prelude.{Option}
 use Rattle.qs_syntax.specs.declared.terminal.Terminal.{Terminal}
 use Rattle.qs_syntax.specs.declared.terminal.Terminal.TheVariants as terminals
-use Rattle.qs_syntax.specs.declared.tokens.Punctuator.TheVariants as punctuators
-use Rattle.qs_syntax.specs.declared.tokens.Keyword.TheVariants as keywords
+use Rattle.qs_syntax.specs.declared.punctuator.Punctuator.TheVariants as punctuators
+use Rattle.qs_base.specs.declared.keyword.Keyword.TheVariants as keywords
 use Rattle.qs_syntax.specs.Operators.{punctuator_of_access, punctuator_of_binary, punctuator_of_assign}
 use Rattle.qs_syntax.specs.Trees.{ExprTree, Exprs, LengthsTree, DeclaratorTree, InitialiserTree, Initialisers, VariableTree, DeclarationTree, MembersTree, ParameterTree, StartTree, StmtTree, Stmts, DeclTree}
 use Rattle.qs_syntax.specs.Numbering.{all_nodes, option_nodes, expr_nodes, exprs_nodes, lengths_nodes, declarator_nodes, initialiser_nodes, initialisers_nodes, variable_nodes, declaration_nodes, parameter_nodes, members_nodes, start_nodes, stmt_nodes, stmts_nodes, decl_nodes, unit_nodes}

@@ -2,6 +2,7 @@ pub mod Again
 pub mod NumberingLaws
 pub mod Units
 pub mod SameLoops
-pub mod SameOperators
+pub mod PunctuatorLaws
+pub mod OperatorLaws
 pub mod Exact
 pub mod ExactUnits

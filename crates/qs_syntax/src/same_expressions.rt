@@ -1,11 +1,11 @@
 // Whether expressions are the same.
 ghost use Rattle.std.specs.Prelude.{◌≡◌};
 ghost use Rattle.qs_syntax.specs.TreeOf.{expr_tree, shape_tree, exprs_tree};
-ghost use Rattle.qs_syntax.specs.Sameness.{same_unary, same_step, same_binary, same_assign, same_access, same_base, same_type, same_expr, same_shape, same_exprs};
+ghost use Rattle.qs_syntax.specs.Operators.{same_unary, same_step, same_binary, same_assign, same_access};
+ghost use Rattle.qs_syntax.specs.Sameness.{same_base, same_type, same_expr, same_shape, same_exprs};
 
-use crate::tree::{
-    Access, AssignmentOperator, Base, BinaryOperator, Expr, Shape, StepOperator, TypeName, UnaryOperator,
-};
+use crate::operators::{Access, AssignmentOperator, BinaryOperator, StepOperator, UnaryOperator};
+use crate::tree::{Base, Expr, Shape, TypeName};
 
 fn same_unary(a: UnaryOperator, b: UnaryOperator) -> bool
     ensures { result ≡ same_unary a b }

@@ -64,8 +64,8 @@ goes_on {u} {v} {w} t d n piece e le f (p, a, s) = record {
       rw (take_plus d n t) (appends_more f (subst P e a));
 }
 
--- a second text after a first
-cut_later : {u v w : SinkView} {a b : List ℕ} {k : ℕ} → Appends u v a → IsCut v w b k → IsCut u w (a ++ b) (length a + k)
+-- a text that is cut, after a first one
+pub cut_later : {u v w : SinkView} {a b : List ℕ} {k : ℕ} → Appends u v a → IsCut v w b k → IsCut u w (a ++ b) (length a + k)
 cut_later {u} {v} {w} {a} {b} {k} f c = record {
   failed = c.failed;
   once = simp (f.same_faults) at c.once;
@@ -86,7 +86,8 @@ pub then_puts : {u v : SinkView} {a : List ℕ} (w : SinkView) (b : List ℕ) (r
 then_puts w b (Ok t) f g = appends_more f g
 then_puts {u} {v} {a} w b (Err e) f (k, c) = (length a + k, cut_later f c)
 
-cut_sooner : {u v : SinkView} {a : List ℕ} (b : List ℕ) {k : ℕ} → IsCut u v a k → IsCut u v (a ++ b) k
+-- and with more behind it
+pub cut_sooner : {u v : SinkView} {a : List ℕ} (b : List ℕ) {k : ℕ} → IsCut u v a k → IsCut u v (a ++ b) k
 cut_sooner {u} {v} {a} b {k} c = record {
   failed = c.failed;
   once = c.once;

@@ -1,6 +1,6 @@
 // Files as a whole.
 ghost use Rattle.std.specs.Prelude.{◌<◌, ◌≤◌, ◌≡◌, ◌+◌, ◌^◌, IsSome};
-ghost use Rattle.qs_ports.specs.Whole.{ReadsWhole, ReadsMore, WritesWhole};
+ghost use Rattle.qs_ports.specs.Whole.{ReadsWhole, ReadsMore, TakesUpTo, WritesWhole};
 
 use crate::{Store, StoreFault};
 use qs_base::NoMemory;
@@ -81,8 +81,8 @@ fn read_more<S: Store>(store: &mut S, bytes: &mut Vec<u8>, most: usize) -> Resul
     Ok(count)
 }
 
-/// The bytes of a file, up to one past the limit, so that a file that is longer than the limit shows. `Missing` and
-/// `Failed` come only where the store counted them in this call.
+/// The bytes of a file, up to one past the limit, so that a file that is longer than the limit shows; no more are taken
+/// from it. `Missing` and `Failed` come only where the store counted them in this call.
 pub fn read_whole<S: Store>(
     alloc: Global,
     store: &mut S,
@@ -90,7 +90,8 @@ pub fn read_whole<S: Store>(
     limit: usize,
 ) -> Result<Vec<u8>, ReadFault>
     requires { limit + 1 < 2 ^ 64 }
-    ensures { ReadsWhole (S.view store.old) (S.view store.new) name.now limit result }
+    ensures reads { ReadsWhole (S.view store.old) (S.view store.new) name.now limit result }
+    ensures stops { TakesUpTo (S.view store.new) limit }
 {
     store.open(name)?;
     let mut bytes = Vec::new(alloc);

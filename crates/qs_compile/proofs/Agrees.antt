@@ -7,7 +7,7 @@ use Rattle.qs_events.specs.BoundedRun.{Ended, Undefined, Short, trace_of}
 use Rattle.qs_isa.specs.Table.{decode_of}
 use Rattle.qs_isa.proofs.RoundTrip.{decode-encode}
 use Rattle.qs_image.specs.Image.{Image}
-use Rattle.qs_machine.specs.Step.{Cause}
+use Rattle.qs_machine.specs.declared.answers.Cause.{Cause}
 use Rattle.qs_machine.specs.Run.{Outcome, Exited, Trapped, Going, machine, start}
 use Rattle.qs_machine.proofs.Reaches.{IsOnTheWay, going, done, Reaches}
 use Rattle.qs_compile.specs.Agree.{Agree, Begins, EndsWith, output_so_far}

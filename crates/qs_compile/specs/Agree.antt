@@ -2,7 +2,7 @@
 use Rattle.std.specs.Prelude.{◌≡◌, ◌⊎◌, ℕ, List, ◌++◌}
 use Rattle.qs_events.specs.Events.{Event, output_of}
 use Rattle.qs_events.specs.BoundedRun.{BoundedRun, Ended, Undefined, Short, trace_of}
-use Rattle.qs_machine.specs.Step.{Cause}
+use Rattle.qs_machine.specs.declared.answers.Cause.{Cause}
 use Rattle.qs_machine.specs.Run.{Outcome, Exited, Trapped, Going}
 
 -- the whole begins with this part

@@ -114,8 +114,6 @@ pub fn read(bytes: &[u8]) -> Result<ImageView<'_>, ImageFault>
     ensures accepts { (image : Image) → IsImage bytes.now image → IsOkAnd result (λ view. view ≡ image) }
     ensures fault { MatchResult result (λ _. first_fault bytes.now ≡ None) (λ fault. first_fault bytes.now ≡ Some fault) }
 {
-    match sections_of(bytes) {
-        Ok(sections) => Ok(ImageView { sections }),
-        Err(fault) => Err(fault),
-    }
+    let sections = sections_of(bytes)?;
+    Ok(ImageView { sections })
 }

@@ -1,11 +1,12 @@
 -- Which case of an instruction holds.
-use Rattle.std.proofs.Common.{◌≡◌, ℕ, zero, suc, ◌+◌, ◌*◌, ◌%◌, Bool, true, false, List, [], ◌∷◌, ◌++◌, length, Option, Some, None, eq-eqb, refl, ap, sym, ◌∙◌, cond, arith}
-use Rattle.std.specs.Prelude.{nat_eq, not, ◌||◌, if◌then◌else◌}
+use Rattle.std.proofs.Common.{◌≡◌, ℕ, ◌*◌, ◌%◌, Bool, true, false, List, [], ◌∷◌, length, eq-eqb, refl, ap, ◌∙◌, arith}
+use Rattle.std.specs.Prelude.{nat_eq}
 use Rattle.qs_isa.specs.declared.instruction.LoadKind.{LoadKind}
 use Rattle.qs_isa.specs.declared.instruction.StoreKind.{StoreKind}
-use Rattle.qs_image.specs.Image.{Image, word_bytes, words_bytes}
-use Rattle.qs_machine.specs.State.{State, code_start, data_start, is_inside, is_stack, can_read, can_write}
-use Rattle.qs_machine.specs.Step.{StepResult, Next, Traps, Cause, LoadOutside, StoreOutside, next_pc, write, write_and_go, jump, branch, go_to, load, load_width, loaded, store, store_width, stored}
+use Rattle.qs_image.specs.Image.{Image, words_bytes}
+use Rattle.qs_machine.specs.State.{State, can_read, can_write}
+use Rattle.qs_machine.specs.declared.answers.Cause.TheVariants.{LoadOutside, StoreOutside}
+use Rattle.qs_machine.specs.Step.{Next, Traps, next_pc, write, write_and_go, jump, branch, go_to, load, load_width, loaded, store, store_width, stored}
 use Rattle.qs_machine.specs.declared.machine.Machine.{Machine}
 use Rattle.qs_machine.specs.Hart.{can_read_in, can_write_in}
 use Rattle.qs_machine.specs.Standing.{IsLoaded}

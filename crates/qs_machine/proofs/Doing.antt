@@ -1,5 +1,5 @@
 -- What parts of a step do.
-use Rattle.std.proofs.Common.{◌≡◌, ℕ, ◌+◌, ◌≤◌, ◌^◌, List, [], ◌∷◌, ◌++◌, length, Option, Some, None, refl, ap, sym, ◌∙◌, Bool, true, false}
+use Rattle.std.proofs.Common.{◌≡◌, ℕ, ◌≤◌, ◌^◌, List, [], ◌∷◌, ◌++◌, length, Option, Some, None, refl, ap, sym, ◌∙◌}
 use Rattle.std.proofs.Props.{props}
 use Rattle.std.proofs.lemmas.List.{append-nil}
 use Rattle.std.specs.Option.{option_map}
@@ -11,10 +11,9 @@ use Rattle.qs_image.specs.Image.{Image}
 use Rattle.qs_machine.specs.declared.answers.StepResult.{StepResult as Answer}
 use Rattle.qs_machine.specs.declared.answers.StepResult.TheVariants.{Going, Put, Exited, Trapped}
 use Rattle.qs_machine.specs.declared.machine.Machine.{Machine}
-use Rattle.qs_machine.specs.declared.memory.Memory.{Memory}
 use Rattle.qs_machine.specs.State.{State}
-use Rattle.qs_machine.specs.Step.{StepResult, Next, Exits, Traps, act, act_on, fetch, step_on, step}
-use Rattle.qs_machine.specs.Standing.{IsLoaded, Stands, state_of, Did, GoesOn, Steps, ended, end_after}
+use Rattle.qs_machine.specs.Step.{Next, Exits, act, act_on, fetch, step_on, step}
+use Rattle.qs_machine.specs.Standing.{IsLoaded, Stands, state_of, Did, Steps, ended, end_after}
 
 -- a part that goes on does so from wherever the step began
 pub did_next : (l m n : Machine) (image : Image) (size : ℕ) (input output : List ℕ) (t : State) (a : Answer) → Did m n image size input (state_of m input output) (Next t) a → Did l n image size input (state_of l input output) (Next t) a

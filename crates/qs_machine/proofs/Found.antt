@@ -1,5 +1,5 @@
 -- What an answer says of the test behind it.
-use Rattle.std.proofs.Common.{◌≡◌, ℕ, Bool, true, false, Option, Some, None, refl}
+use Rattle.std.proofs.Common.{◌≡◌, ℕ, Bool, true, false, Some, None, refl}
 use Rattle.std.specs.Prelude.{if◌then◌else◌}
 
 pub record Found (test : Bool) (x y : ℕ) : Type 0 where

@@ -1,13 +1,12 @@
 -- Runs of a machine that was just loaded.
-use Rattle.std.proofs.Common.{◌≡◌, ℕ, List, [], ◌++◌, refl, sym, ◌∙◌, ap}
+use Rattle.std.proofs.Common.{ℕ, List, refl}
 use Rattle.qs_image.specs.Image.{Image}
-use Rattle.qs_ports.specs.SinkView.{SinkView, Appends, IsCut}
+use Rattle.qs_ports.specs.SinkView.{SinkView}
 use Rattle.qs_machine.specs.declared.answers.RunEnd.{RunEnd}
 use Rattle.qs_machine.specs.declared.answers.RunEnd.TheVariants as run_end
 use Rattle.qs_machine.specs.declared.machine.Machine.{Machine}
-use Rattle.qs_machine.specs.Run.{Outcome, start, machine}
-use Rattle.qs_machine.specs.Standing.{cause_of}
-use Rattle.qs_machine.specs.Running.{RunsTo, Shows, output_of}
+use Rattle.qs_machine.specs.Run.{start, machine}
+use Rattle.qs_machine.specs.Running.{RunsTo, Shows}
 
 -- its outcome is that of the definition
 pub shows_machine : (n : Machine) (image : Image) (size : ℕ) (args input : List ℕ) (steps : ℕ) (v w : SinkView) (r : RunEnd) → RunsTo n image size input (start image args input) steps v w r → Shows (machine image size args input steps) v w r

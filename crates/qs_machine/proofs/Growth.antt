@@ -1,5 +1,5 @@
 -- The output only grows.
-use Rattle.std.proofs.Common.{◌≡◌, ℕ, zero, suc, ◌+◌, ◌*◌, ◌/◌, ◌%◌, Bool, true, false, List, [], ◌∷◌, ◌++◌, Option, Some, None, refl, sym, ◌∙◌, ap, append_assoc}
+use Rattle.std.proofs.Common.{◌≡◌, ℕ, zero, suc, ◌*◌, ◌/◌, ◌%◌, Bool, true, false, List, [], ◌∷◌, ◌++◌, Option, Some, None, refl, sym, ◌∙◌, ap, append_assoc}
 use Rattle.std.specs.Prelude.{if◌then◌else◌, nat_eq, nat_lt, not, ◌&&◌, ◌||◌, ◌==◌}
 use Rattle.std.proofs.lemmas.List.{append-nil}
 use Rattle.qs_isa.specs.declared.instruction.Instr.{Instr}
@@ -10,8 +10,9 @@ use Rattle.qs_isa.specs.Table.{decode_of}
 use Rattle.qs_image.specs.Image.{Image}
 use Rattle.qs_base.specs.Words.{add}
 use Rattle.qs_machine.specs.State.{State, register, set_register, with_value, stack_base, stack_top, can_read, can_write}
-use Rattle.qs_machine.specs.Step.{StepResult, Next, Exits, Traps, Overflow, JumpMisaligned, LoadMisaligned, LoadOutside, StoreMisaligned, StoreOutside, UnknownCall, next_pc, write_and_go, write, jump, go_to, branch, is_taken, load, load_width, loaded, store, store_width, stored, op_imm_result, shift_result, op_result, take_byte, put_byte, environment_call, act, act_on, step_on, fetch, step}
-use Rattle.qs_machine.specs.Run.{Outcome, Going, run, outcome_after}
+use Rattle.qs_machine.specs.declared.answers.Cause.TheVariants.{Overflow, JumpMisaligned, LoadMisaligned, LoadOutside, StoreMisaligned, StoreOutside, UnknownCall}
+use Rattle.qs_machine.specs.Step.{StepResult, Next, Exits, Traps, next_pc, write_and_go, write, jump, go_to, branch, is_taken, load, load_width, loaded, store, store_width, stored, op_imm_result, shift_result, op_result, take_byte, put_byte, environment_call, act, act_on, step_on, fetch, step}
+use Rattle.qs_machine.specs.Run.{Outcome, run, outcome_after}
 use Rattle.qs_machine.specs.Running.{output_of}
 
 -- a list and what stands behind it

@@ -1,7 +1,7 @@
 -- The bytes of the regions, as a function of the address.
-use Rattle.std.proofs.Common.{◌≡◌, ◌≢◌, ℕ, zero, suc, ◌+◌, ◌-◌, ◌*◌, ◌/◌, ◌%◌, ◌^◌, ◌<◌, ◌≤◌, Bool, true, false, Option, Some, None, List, [], ◌∷◌, length, take, drop, slice_index, slice_set, refl, ap, sym, ◌∙◌, arith, eq-eqb, get_or-set_same, get_or-set_other, add-one}
-use Rattle.std.specs.Prelude.{nat_eq, nat_le, ◌&&◌, ◌||◌, ◌==◌, if◌then◌else◌}
-use Rattle.std.proofs.lemmas.Bool.{le-leb, ne_eqb}
+use Rattle.std.proofs.Common.{◌≡◌, ℕ, zero, suc, ◌+◌, ◌-◌, ◌/◌, ◌%◌, ◌^◌, ◌<◌, ◌≤◌, Bool, true, false, Some, None, List, length, take, drop, slice_index, slice_set, refl, ap, sym, ◌∙◌, arith}
+use Rattle.std.specs.Prelude.{nat_le, ◌||◌, ◌==◌, if◌then◌else◌}
+use Rattle.std.proofs.lemmas.Bool.{le-leb}
 use Rattle.std.proofs.lemmas.Bool.Decides.{nat_tests}
 use Rattle.std.proofs.lemmas.Grind.{common_steps}
 use Rattle.std.proofs.Math.Path.{fun_ext}
@@ -12,7 +12,7 @@ use Rattle.qs_isa.specs.declared.instruction.StoreKind.TheVariants.{Sb, Sh, Sw}
 use Rattle.qs_machine.specs.State.{with_value, is_inside, code_start, data_start, stack_top, stack_base, store_1, store_2, store_4}
 use Rattle.qs_machine.specs.Step.{stored, store_width}
 use Rattle.qs_machine.specs.declared.memory.Memory.{Memory}
-use Rattle.qs_machine.specs.Hart.{memory_of, can_read_in, can_write_in, nothing}
+use Rattle.qs_machine.specs.Hart.{memory_of, can_read_in, nothing}
 use Rattle.qs_machine.proofs.Found.{found}
 use Rattle.qs_machine.specs.Bytes.{byte_in, bytes_from, put_1, put_2, put_4, put_bytes}
 

@@ -1,18 +1,20 @@
 -- Runs, step by step.
-use Rattle.std.proofs.Common.{◌≡◌, ℕ, zero, suc, ◌+◌, ◌-◌, ◌<◌, ◌≤◌, List, [], ◌∷◌, ◌++◌, Some, Result, Ok, Err, Bool, true, false, refl, sym, ◌∙◌, ap, append_assoc, arith}
+use Rattle.std.proofs.Common.{◌≡◌, ℕ, suc, ◌+◌, ◌-◌, ◌<◌, List, [], ◌∷◌, ◌++◌, length, Result, Ok, Err, true, false, refl, sym, ◌∙◌, ap, subst, append_assoc, arith}
 use Rattle.std.specs.Result.{is_err}
-use Rattle.std.proofs.lemmas.List.{append-nil}
+use Rattle.std.specs.Prelude.{slice_index}
+use Rattle.std.proofs.lemmas.List.{append-nil, get_or_at}
+use Rattle.std.proofs.Math.Seq.{take-append_seam, take-append-add}
 use Rattle.qs_image.specs.Image.{Image}
 use Rattle.qs_ports.specs.declared.sink.SinkFault.{SinkFault}
 use Rattle.qs_ports.specs.SinkView.{SinkView, Appends, IsCut, PutsAll}
-use Rattle.qs_ports.proofs.Sinks.{appends_nothing, appends_more, then_puts, cut_before}
+use Rattle.qs_ports.proofs.Sinks.{appends_nothing, appends_more, cut_later, cut_sooner}
 use Rattle.qs_machine.specs.declared.answers.Cause.{Cause}
 use Rattle.qs_machine.specs.declared.answers.End.TheVariants as end
 use Rattle.qs_machine.specs.declared.machine.Machine.{Machine}
 use Rattle.qs_machine.specs.State.{State}
 use Rattle.qs_machine.specs.Step.{Exits, Traps, step}
 use Rattle.qs_machine.specs.Run.{Outcome, Exited, Trapped, Going, run}
-use Rattle.qs_machine.specs.Standing.{Stands, GoesOn, cause_of, end_of, ended}
+use Rattle.qs_machine.specs.Standing.{Stands, GoesOn, end_of, ended}
 use Rattle.qs_machine.specs.Running.{Reached, HasExited, HasTrapped, IsGoing, IsCutOff, output_of}
 use Rattle.qs_machine.proofs.Steps.{run_next, run_exits, run_traps}
 use Rattle.qs_machine.proofs.Growth.{IsFront, grows-run}
@@ -66,10 +68,10 @@ exits m n image size input s taken steps v w status h lt e is = record {
   end_is = ap end_of is;
 }
 
-pub traps : (m n : Machine) (image : Image) (size : ℕ) (input : List ℕ) (s : State) (taken steps : ℕ) (v w : SinkView) (cause : Cause) (pc : ℕ) (h : HasGone m image size input s taken v w) → taken < steps → step image size h.next ≡ Traps (cause_of cause) → pc ≡ h.next.pc → n ≡ ended m (end.Trapped cause pc) → HasTrapped n image size s steps v w cause pc
+pub traps : (m n : Machine) (image : Image) (size : ℕ) (input : List ℕ) (s : State) (taken steps : ℕ) (v w : SinkView) (cause : Cause) (pc : ℕ) (h : HasGone m image size input s taken v w) → taken < steps → step image size h.next ≡ Traps cause → pc ≡ h.next.pc → n ≡ ended m (end.Trapped cause pc) → HasTrapped n image size s steps v w cause pc
 traps m n image size input s taken steps v w cause pc h lt e at is = record {
   bytes = h.bytes;
-  run_is = from_here m image size input s h.next taken steps lt h.reached ∙ run_traps image size _ h.next (cause_of cause) e ∙ ap (λ (k : ℕ). Trapped (cause_of cause) k h.next.output) (sym at) ∙ ap (λ (l : List ℕ). Trapped (cause_of cause) pc l) h.puts;
+  run_is = from_here m image size input s h.next taken steps lt h.reached ∙ run_traps image size _ h.next cause e ∙ ap (λ (k : ℕ). Trapped cause k h.next.output) (sym at) ∙ ap (λ (l : List ℕ). Trapped cause pc l) h.puts;
   appended = h.appended;
   end_is = ap end_of is;
 }
@@ -85,25 +87,43 @@ stays n image size input s steps v w h = record {
   reached = h.reached;
 }
 
--- the sink failed at a byte
+-- the sink failed at a byte, which it did not take
+cut_at : (u v w : SinkView) (a rest : List ℕ) (byte : ℕ) (fault : SinkFault) → Appends u v a → PutsAll v w (byte ∷ []) (Err fault) → IsCut u w (a ++ byte ∷ rest) (length a)
+cut_at u v w a rest byte fault f (k, c) =
+    let none : length a + k ≡ length a = let l = c.within in omega arith in
+    let P : ℕ → Type 0 = λ k. IsCut u w (a ++ byte ∷ rest) k in
+    subst P none (cut_later f (cut_sooner rest c))
+
+three_parts : (before a rest : List ℕ) (byte : ℕ) → ((before ++ a) ++ byte ∷ []) ++ rest ≡ before ++ (a ++ byte ∷ rest)
+three_parts before a rest byte = append_assoc (before ++ a) (byte ∷ []) rest ∙ append_assoc before a (byte ∷ rest)
+
 pub cut_off : (m n : Machine) (image : Image) (size : ℕ) (input : List ℕ) (s : State) (taken steps : ℕ) (u v w : SinkView) (byte : ℕ) (fault : SinkFault) (h : HasGone m image size input s taken u v) → taken < steps → GoesOn n image size input h.next (byte ∷ []) → PutsAll v w (byte ∷ []) (Err fault) → IsCutOff n image size input s steps u w
 cut_off m n image size input s taken steps u v w byte fault h lt g p =
     let reached = reached_next m n image size input s h.next taken (byte ∷ []) h.reached g in
     let e : steps ≡ taken + 1 + (steps - taken - 1) = omega arith in
     let front : IsFront g.next.output (output_of (run image size (steps - taken - 1) g.next)) = grows-run image size (steps - taken - 1) g.next in
     let run_is : run image size steps s ≡ run image size (steps - taken - 1) g.next = ap (λ (k : ℕ). run image size k s) e ∙ reached.ahead (steps - taken - 1) in
-    let so_far = h.bytes ++ byte ∷ [] in
-    let puts : g.next.output ≡ s.output ++ so_far = g.puts ∙ ap (λ (l : List ℕ). l ++ byte ∷ []) h.puts ∙ append_assoc s.output h.bytes (byte ∷ []) in
-    let cut = cut_before u w so_far front.rest fault fault (then_puts w (byte ∷ []) (Err fault) h.appended p) in
+    let bytes = h.bytes ++ byte ∷ front.rest in
+    let byte_is : slice_index bytes (length h.bytes) ≡ byte = get_or_at h.bytes byte front.rest 0 (length h.bytes) refl in
+    let output_is : g.next.output ≡ (s.output ++ h.bytes) ++ byte ∷ [] = g.puts ∙ ap (λ (l : List ℕ). l ++ byte ∷ []) h.puts in
     record {
-      bytes = so_far ++ front.rest;
-      puts = ap (λ (o : Outcome). output_of o) run_is ∙ front.parts ∙ ap (λ (l : List ℕ). l ++ front.rest) puts ∙ append_assoc s.output so_far front.rest;
-      k = cut.0;
-      cut = cut.1;
-      taken = taken + 1;
-      within = omega arith;
-      next = g.next;
+      bytes = bytes;
+      puts = ap (λ (o : Outcome). output_of o) run_is ∙ front.parts ∙ ap (λ (l : List ℕ). l ++ front.rest) output_is ∙ three_parts s.output h.bytes front.rest byte;
+      k = length h.bytes;
+      cut = cut_at u v w h.bytes front.rest byte fault h.appended p;
+      before = taken;
+      within = lt;
+      last = h.next;
+      leads = h.reached.ahead;
+      taken_is = h.puts ∙ ap (λ (l : List ℕ). s.output ++ l) (sym (take-append_seam h.bytes (byte ∷ front.rest)));
+      put = record {
+        next = g.next;
+        step_is = g.step_is;
+        puts = g.puts ∙ ap (λ (b : ℕ). h.next.output ++ b ∷ []) (sym byte_is);
+        stands = g.stands;
+      };
       reached = reached;
+      output_is = output_is ∙ append_assoc s.output h.bytes (byte ∷ []) ∙ ap (λ (l : List ℕ). s.output ++ l) (sym (take-append-add h.bytes (byte ∷ front.rest) 1));
     }
 
 pub put_failed : (m n : Machine) (image : Image) (size : ℕ) (input : List ℕ) (s : State) (taken steps : ℕ) (u v w : SinkView) (byte : ℕ) (r : Result Unit SinkFault) (h : HasGone m image size input s taken u v) → taken < steps → GoesOn n image size input h.next (byte ∷ []) → is_err r ≡ true → PutsAll v w (byte ∷ []) r → IsCutOff n image size input s steps u w

@@ -9,7 +9,8 @@ use Rattle.qs_isa.specs.Encoding.{encode_of, IsInstr}
 use Rattle.qs_isa.proofs.RoundTrip.{decode-encode}
 use Rattle.qs_image.specs.Image.{Image}
 use Rattle.qs_machine.specs.State.{State, code_start}
-use Rattle.qs_machine.specs.Step.{StepResult, Next, Exits, Traps, Cause, act, act_on, fetch, step, step_on}
+use Rattle.qs_machine.specs.declared.answers.Cause.{Cause}
+use Rattle.qs_machine.specs.Step.{StepResult, Next, Exits, Traps, act, act_on, fetch, step, step_on}
 use Rattle.qs_machine.specs.Run.{Exited, Trapped, run, outcome_after}
 
 -- from instruction number k on, the code has these instructions

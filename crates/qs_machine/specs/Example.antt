@@ -3,8 +3,9 @@ use Rattle.std.specs.Prelude.{◌≡◌, ℕ, [], ◌∷◌, codes, refl}
 use Rattle.qs_isa.specs.declared.instruction.Instr.TheVariants.{OpImm, Ecall}
 use Rattle.qs_isa.specs.declared.instruction.OpImmKind.TheVariants.{Addi}
 use Rattle.qs_image.specs.Image.{Image}
+use Rattle.qs_machine.specs.declared.answers.Cause.TheVariants.{Overflow}
 use Rattle.qs_machine.specs.State.{register}
-use Rattle.qs_machine.specs.Step.{StepResult, Next, Traps, Overflow, Exits, act}
+use Rattle.qs_machine.specs.Step.{StepResult, Next, Traps, Exits, act}
 use Rattle.qs_machine.specs.Run.{start}
 
 abbrev image : Image

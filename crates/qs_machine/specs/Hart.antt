@@ -1,8 +1,8 @@
 -- The code's registers and memory, seen as the functions of a state.
-use Rattle.std.specs.Prelude.{ℕ, ◌+◌, ◌-◌, Bool, ◌||◌, ◌==◌, length, slice_index, if◌then◌else◌}
+use Rattle.std.specs.Prelude.{ℕ, ◌+◌, Bool, ◌||◌, ◌==◌, length, slice_index, if◌then◌else◌}
 use Rattle.qs_machine.specs.declared.registers.Registers.{Registers}
 use Rattle.qs_machine.specs.declared.memory.Memory.{Memory}
-use Rattle.qs_machine.specs.State.{with_value, code_start, data_start, stack_top, stack_base, is_inside, is_stack}
+use Rattle.qs_machine.specs.State.{with_value, code_start, data_start, stack_base, is_inside, is_stack}
 use Rattle.qs_machine.specs.Bytes.{byte_in}
 
 abbrev pub registers_of : Registers → ℕ → ℕ

@@ -2,7 +2,8 @@
 use Rattle.std.specs.Prelude.{ℕ, zero, suc, ◌-◌, ◌&&◌, ◌==◌, nat_le, nat_lt, min, List, [], slice_index, if◌then◌else◌}
 use Rattle.qs_image.specs.Image.{Image, words_bytes}
 use Rattle.qs_machine.specs.State.{State, code_start, data_start, stack_top, stack_pointer, is_code, is_data}
-use Rattle.qs_machine.specs.Step.{StepResult, Next, Exits, Traps, Cause, step}
+use Rattle.qs_machine.specs.declared.answers.Cause.{Cause}
+use Rattle.qs_machine.specs.Step.{StepResult, Next, Exits, Traps, step}
 
 -- At the start a0 to a7 (x10 to x17) hold the arguments, the stack pointer (x2) its top, and all other registers 0.
 abbrev pub start_registers : List ℕ → ℕ → ℕ

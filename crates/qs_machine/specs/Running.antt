@@ -1,5 +1,5 @@
 -- What a run of a machine does, and how it is loaded.
-use Rattle.std.specs.Prelude.{◌≡◌, ◌≢◌, ℕ, ◌+◌, ◌<◌, ◌≤◌, ◌^◌, List, ◌++◌, Option, Some}
+use Rattle.std.specs.Prelude.{◌≡◌, ◌≢◌, ℕ, ◌+◌, ◌<◌, ◌≤◌, ◌^◌, List, [], ◌∷◌, ◌++◌, take, slice_index, Some}
 use Rattle.qs_image.specs.Image.{Image}
 use Rattle.qs_ports.specs.SinkView.{SinkView, Appends, IsCut}
 use Rattle.qs_machine.specs.declared.answers.RunEnd.{RunEnd}
@@ -12,7 +12,7 @@ use Rattle.qs_machine.specs.declared.loading.LoadFault.{LoadFault}
 use Rattle.qs_machine.specs.declared.loading.LoadFault.TheVariants.{StackTooLarge, ArgCount, NoMemory}
 use Rattle.qs_machine.specs.State.{State}
 use Rattle.qs_machine.specs.Run.{Outcome, Exited, Trapped, Going, run}
-use Rattle.qs_machine.specs.Standing.{Stands, cause_of, end_of}
+use Rattle.qs_machine.specs.Standing.{Stands, GoesOn, end_of}
 
 -- the bytes on the output
 abbrev pub output_of : Outcome → List ℕ
@@ -20,10 +20,14 @@ output_of (Exited output status) = output
 output_of (Trapped cause pc output) = output
 output_of (Going output) = output
 
+-- So many steps lead from the state `s` to the state `next`, from which the run goes on.
+abbrev pub LeadTo : Image → ℕ → State → ℕ → State → Type 0
+LeadTo image size s steps next = (more : ℕ) → run image size (steps + more) s ≡ run image size more next
+
 -- After so many steps from the state `s` the machine stands at the state `next`, from which the run goes on.
 pub record Reached (n : Machine) (image : Image) (size : ℕ) (input : List ℕ) (s : State) (steps : ℕ) (next : State) : Type 0 where
   pub stands : Stands n image size input next
-  pub ahead : (more : ℕ) → run image size (steps + more) s ≡ run image size more next
+  pub ahead : LeadTo image size s steps next
 
 -- ---- How a run of at most so many steps ended, which began at the state `s`. The sink was `v` and is `w`.
 
@@ -37,7 +41,7 @@ pub record HasExited (n : Machine) (image : Image) (size : ℕ) (s : State) (ste
 -- A step trapped, and all that was put before was appended to the sink.
 pub record HasTrapped (n : Machine) (image : Image) (size : ℕ) (s : State) (steps : ℕ) (v w : SinkView) (cause : Cause) (pc : ℕ) : Type 0 where
   pub bytes : List ℕ
-  pub run_is : run image size steps s ≡ Trapped (cause_of cause) pc (s.output ++ bytes)
+  pub run_is : run image size steps s ≡ Trapped cause pc (s.output ++ bytes)
   pub appended : Appends v w bytes
   pub end_is : end_of n ≡ Some (end.Trapped cause pc)
 
@@ -49,17 +53,23 @@ pub record IsGoing (n : Machine) (image : Image) (size : ℕ) (input : List ℕ)
   pub next : State
   pub reached : Reached n image size input s steps next
 
--- The sink failed: it got the first k bytes of what the run puts, and the machine stands behind the step that put the byte
--- which the sink did not take.
+-- The sink failed: it took the first k bytes of what the run puts, and the last step that the machine took put the byte
+-- that comes next. The machine stands behind that step, and its output has the byte that the sink did not take.
 pub record IsCutOff (n : Machine) (image : Image) (size : ℕ) (input : List ℕ) (s : State) (steps : ℕ) (v w : SinkView) : Type 0 where
   pub bytes : List ℕ
   pub puts : output_of (run image size steps s) ≡ s.output ++ bytes
   pub k : ℕ
   pub cut : IsCut v w bytes k
-  pub taken : ℕ
-  pub within : taken ≤ steps
-  pub next : State
-  pub reached : Reached n image size input s taken next
+  -- the steps before the last one that was taken, and where they lead
+  pub before : ℕ
+  pub within : before < steps
+  pub last : State
+  pub leads : LeadTo image size s before last
+  pub taken_is : last.output ≡ s.output ++ take k bytes
+  -- the last step puts byte k
+  pub put : GoesOn n image size input last (slice_index bytes k ∷ [])
+  pub reached : Reached n image size input s (before + 1) put.next
+  pub output_is : put.next.output ≡ s.output ++ take (k + 1) bytes
 
 abbrev pub RunsTo : Machine → Image → ℕ → List ℕ → State → ℕ → SinkView → SinkView → RunEnd → Type 0
 RunsTo n image size input s steps v w (run_end.Exited status) = HasExited n image size s steps v w status
@@ -90,6 +100,6 @@ IsLoadFault stack parameters arguments NoMemory = MayLoad stack parameters argum
 -- What a run answered and put on the sink, by the outcome that the definition gives.
 abbrev pub Shows : Outcome → SinkView → SinkView → RunEnd → Type 0
 Shows outcome v w (run_end.Exited status) = (outcome ≡ Exited (output_of outcome) status) × Appends v w (output_of outcome)
-Shows outcome v w (run_end.Trapped cause pc) = (outcome ≡ Trapped (cause_of cause) pc (output_of outcome)) × Appends v w (output_of outcome)
+Shows outcome v w (run_end.Trapped cause pc) = (outcome ≡ Trapped cause pc (output_of outcome)) × Appends v w (output_of outcome)
 Shows outcome v w run_end.StepLimit = (outcome ≡ Going (output_of outcome)) × Appends v w (output_of outcome)
 Shows outcome v w run_end.SinkFailed = (k : ℕ) × IsCut v w (output_of outcome) k

@@ -2,28 +2,14 @@
 use Rattle.std.specs.Prelude.{◌≡◌, ℕ, List, [], ◌∷◌, ◌++◌, length, map, drop, Option, Some, None}
 use Rattle.qs_isa.specs.Table.{decode_of}
 use Rattle.qs_image.specs.Image.{Image, words_bytes}
-use Rattle.qs_machine.specs.declared.answers.Cause.{Cause as Named}
-use Rattle.qs_machine.specs.declared.answers.Cause.TheVariants as named
 use Rattle.qs_machine.specs.declared.answers.StepResult.{StepResult as Answer}
 use Rattle.qs_machine.specs.declared.answers.StepResult.TheVariants.{Going, Put, Exited, Trapped}
 use Rattle.qs_machine.specs.declared.answers.End.{End}
 use Rattle.qs_machine.specs.declared.answers.End.TheVariants as end
 use Rattle.qs_machine.specs.declared.machine.Machine.{Machine}
 use Rattle.qs_machine.specs.State.{State}
-use Rattle.qs_machine.specs.Step.{Cause, StepResult, Next, Exits, Traps, Overflow, IllegalInstruction, FetchOutside, JumpMisaligned, LoadMisaligned, LoadOutside, StoreMisaligned, StoreOutside, UnknownCall, Breakpoint, step}
+use Rattle.qs_machine.specs.Step.{StepResult, Next, Exits, Traps, step}
 use Rattle.qs_machine.specs.Hart.{registers_of, memory_of}
-
-abbrev pub cause_of : Named → Cause
-cause_of named.Overflow = Overflow
-cause_of named.IllegalInstruction = IllegalInstruction
-cause_of named.FetchOutside = FetchOutside
-cause_of named.JumpMisaligned = JumpMisaligned
-cause_of named.LoadMisaligned = LoadMisaligned
-cause_of named.LoadOutside = LoadOutside
-cause_of named.StoreMisaligned = StoreMisaligned
-cause_of named.StoreOutside = StoreOutside
-cause_of named.UnknownCall = UnknownCall
-cause_of named.Breakpoint = Breakpoint
 
 -- how many bytes of the input it has taken
 abbrev pub taken_of : Machine → ℕ
@@ -65,7 +51,7 @@ abbrev pub Did : Machine → Machine → Image → ℕ → List ℕ → State �
 Did m n image size input s r Going = (r ≡ Next (state_of n input s.output)) × IsLoaded n image size
 Did m n image size input s r (Put byte) = (r ≡ Next (state_of n input (s.output ++ byte ∷ []))) × IsLoaded n image size
 Did m n image size input s r (Exited status) = (r ≡ Exits status) × (n ≡ m)
-Did m n image size input s r (Trapped cause pc) = (r ≡ Traps (cause_of cause)) × (pc ≡ s.pc) × (n ≡ m)
+Did m n image size input s r (Trapped cause pc) = (r ≡ Traps cause) × (pc ≡ s.pc) × (n ≡ m)
 
 -- ---- what a step answers, and where the machine then stands
 
@@ -80,7 +66,7 @@ abbrev pub Steps : Machine → Machine → Image → ℕ → List ℕ → State 
 Steps m n image size input s Going = GoesOn n image size input s []
 Steps m n image size input s (Put byte) = GoesOn n image size input s (byte ∷ [])
 Steps m n image size input s (Exited status) = (step image size s ≡ Exits status) × (n ≡ ended m (end.Exited status))
-Steps m n image size input s (Trapped cause pc) = (step image size s ≡ Traps (cause_of cause)) × (pc ≡ s.pc) × (n ≡ ended m (end.Trapped cause pc))
+Steps m n image size input s (Trapped cause pc) = (step image size s ≡ Traps cause) × (pc ≡ s.pc) × (n ≡ ended m (end.Trapped cause pc))
 
 -- how a machine has ended after a step
 abbrev pub end_after : Answer → Option End

@@ -18,22 +18,11 @@ use Rattle.qs_isa.specs.declared.instruction.OpKind.{OpKind}
 use Rattle.qs_isa.specs.declared.instruction.OpKind.TheVariants.{Add, Sub, Sll, Slt, Sltu, Xor, Srl, Sra, Or, And, Mul, Mulh, Mulhsu, Mulhu, Div, Divu, Rem, Remu}
 use Rattle.qs_isa.specs.Table.{decode_of}
 use Rattle.qs_image.specs.Image.{Image}
+use Rattle.qs_machine.specs.declared.answers.Cause.{Cause}
+use Rattle.qs_machine.specs.declared.answers.Cause.TheVariants.{Overflow, IllegalInstruction, FetchOutside, JumpMisaligned, LoadMisaligned, LoadOutside, StoreMisaligned, StoreOutside, UnknownCall, Breakpoint}
 use Rattle.qs_machine.specs.State.{State, register, set_register, stack_base, stack_top, code_start, is_code, can_read, can_write, load_1, load_2, load_4, store_1, store_2, store_4}
 
--- Why a step isn't taken.
-pub data Cause : Type 0 where
-  -- x2 would leave the stack; its base and its top are inside
-  Overflow : Cause
-  IllegalInstruction : Cause
-  FetchOutside : Cause
-  JumpMisaligned : Cause
-  LoadMisaligned : Cause
-  LoadOutside : Cause
-  StoreMisaligned : Cause
-  StoreOutside : Cause
-  UnknownCall : Cause
-  Breakpoint : Cause
-
+-- A step gives the next state, or the program exits, or the step isn't taken, for a cause.
 pub data StepResult : Type 0 where
   Next : (s : State) → StepResult
   Exits : (status : ℕ) → StepResult

@@ -128,7 +128,7 @@ reads_refused v w old new b e =
       keeps = keeps_all v (after_read v (Err Failed)) refl refl refl;
       writing = refl;
       reading = refl;
-      answers = record { rose = omega arith; faults = omega arith; misses = omega arith };
+      answers = record { failed = record { rose = omega arith; faults = omega arith; misses = omega arith }; place = λ t. refl };
     })
 
 -- `create`

@@ -1,5 +1,5 @@
 -- One call of a sink after another.
-use Rattle.std.proofs.Common.{◌≡◌, ℕ, ◌+◌, ◌≤◌, List, [], ◌++◌, length, take, drop, ap, subst, refl, arith, false, append_assoc, length-append, length-drop, Result, Ok, Err, sym, ◌∙◌}
+use Rattle.std.proofs.Common.{◌≡◌, ℕ, ◌+◌, ◌<◌, ◌≤◌, List, [], ◌++◌, length, take, drop, ap, subst, refl, arith, false, append_assoc, length-append, length-drop, Result, Ok, Err, sym, ◌∙◌}
 use Rattle.std.proofs.lemmas.Grind.{common_steps}
 use Rattle.std.proofs.lemmas.List.{drop-take, take-append-drop, take-append-le}
 use Rattle.std.proofs.Math.Seq.{take-append-add}
@@ -39,19 +39,20 @@ appends_more {u} {v} {w} {a} {b} f g = record {
       (q.0, omega arith);
 }
 
-pub cut_after : {u v w : SinkView} {t : List ℕ} (d : ℕ) → d ≤ length t → Appends u v (take d t) → Refuses v w → IsCut u w t d
-cut_after {u} {v} {w} {t} d le f r = record {
+pub cut_after : {u v w : SinkView} {t : List ℕ} (d : ℕ) → d < length t → Appends u v (take d t) → Refuses v w → IsCut u w t d
+cut_after {u} {v} {w} {t} d lt f r = record {
   failed = r.failed;
   once = simp (f.same_faults) at r.once;
-  within = le;
+  within = lt;
   rose = simp (f.same_faults) at r.rose;
   later = let e = f.same_faults in let x = r.later in omega arith;
   was_told = λ x. f.was_told (r.was_told x);
   written = λ x. rw (r.written x) (f.written (r.was_told x));
   keeps = λ x h.
-      let p = f.keeps x (omega (arith, length-take_le d t le)) in
+      let e : length (take d t) ≡ d = length-take_le d t (omega arith) in
+      let p = f.keeps x (omega arith) in
       let q = r.keeps p.0 (omega arith) in
-      (q.0, omega (arith, length-take_le d t le));
+      (q.0, omega arith);
 }
 
 -- what one more call adds
@@ -63,8 +64,8 @@ goes_on {u} {v} {w} t d n piece e le f (p, a, s) = record {
       rw (take_plus d n t) (appends_more f (subst P e a));
 }
 
--- a second text after a first
-cut_later : {u v w : SinkView} {a b : List ℕ} {k : ℕ} → Appends u v a → IsCut v w b k → IsCut u w (a ++ b) (length a + k)
+-- a text that is cut, after a first one
+pub cut_later : {u v w : SinkView} {a b : List ℕ} {k : ℕ} → Appends u v a → IsCut v w b k → IsCut u w (a ++ b) (length a + k)
 cut_later {u} {v} {w} {a} {b} {k} f c = record {
   failed = c.failed;
   once = simp (f.same_faults) at c.once;
@@ -85,7 +86,8 @@ pub then_puts : {u v : SinkView} {a : List ℕ} (w : SinkView) (b : List ℕ) (r
 then_puts w b (Ok t) f g = appends_more f g
 then_puts {u} {v} {a} w b (Err e) f (k, c) = (length a + k, cut_later f c)
 
-cut_sooner : {u v : SinkView} {a : List ℕ} (b : List ℕ) {k : ℕ} → IsCut u v a k → IsCut u v (a ++ b) k
+-- and with more behind it
+pub cut_sooner : {u v : SinkView} {a : List ℕ} (b : List ℕ) {k : ℕ} → IsCut u v a k → IsCut u v (a ++ b) k
 cut_sooner {u} {v} {a} b {k} c = record {
   failed = c.failed;
   once = c.once;
@@ -93,7 +95,7 @@ cut_sooner {u} {v} {a} b {k} c = record {
   rose = c.rose;
   later = c.later;
   was_told = c.was_told;
-  written = λ x. c.written x ∙ ap (λ y. u.written ++ y) (sym (take-append-le k a b c.within));
+  written = λ x. c.written x ∙ ap (λ y. u.written ++ y) (sym (take-append-le k a b (let l = c.within in omega arith)));
   keeps = c.keeps;
 }
 

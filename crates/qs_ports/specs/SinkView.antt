@@ -48,12 +48,12 @@ abbrev pub Puts : SinkView → SinkView → List ℕ → Result ℕ SinkFault �
 Puts v w piece (Ok n) = IsProgress n piece × Appends v w (take n piece) × (w.failed ≡ false)
 Puts v w piece (Err e) = Refuses v w
 
--- The first k bytes of the text were appended, and then the sink failed: once, and in its last call, so that nothing was
--- put on it after that.
+-- The first k bytes of the text were appended, and then the sink failed, with some bytes still to be taken: once, and in
+-- its last call, so that nothing was put on it after that.
 pub record IsCut (v w : SinkView) (text : List ℕ) (k : ℕ) : Type 0 where
   pub failed : w.failed ≡ true
   pub once : w.faults ≡ one_more v.faults
-  pub within : k ≤ length text
+  pub within : k < length text
   pub rose : Rose v.faults w.faults
   pub later : v.faults ≤ w.faults
   pub was_told : IsTrue w.told → IsTrue v.told

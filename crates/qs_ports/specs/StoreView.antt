@@ -106,11 +106,16 @@ pub record IsRead (v w : StoreView) (n : ℕ) (old new : List ℕ) : Type 0 wher
   pub progress : IsTrue w.told → n ≡ 0 → 0 < length old → left_of v ≡ []
   pub at_end : IsTrue w.told → left_of v ≡ [] → n ≡ 0
 
+-- the call failed, and took nothing from the file
+pub record FailsToRead (v w : StoreView) : Type 0 where
+  pub failed : HasFailed v w
+  pub place : IsTrue w.told → w.place ≡ v.place
+
 -- `read` doesn't miss a file
 abbrev pub ReadAnswers : StoreView → StoreView → List ℕ → List ℕ → Result ℕ StoreFault → Type 0
 ReadAnswers v w old new (Ok n) = IsRead v w n old new
 ReadAnswers v w old new (Err Missing) = ⊥
-ReadAnswers v w old new (Err Failed) = HasFailed v w
+ReadAnswers v w old new (Err Failed) = FailsToRead v w
 
 -- `read` changes no file, and not which ones are open
 pub record Reads (v w : StoreView) (old new : List ℕ) (r : Result ℕ StoreFault) : Type 0 where

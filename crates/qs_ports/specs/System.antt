@@ -17,6 +17,10 @@ silent_sink faults failed = record { told = false; written = []; spare = 0; faul
 abbrev pub std_sink_of : {Writer : Type 0} → StdSink Writer → SinkView
 std_sink_of s = silent_sink s.faults s.failed
 
+-- the bytes that the writer holds, where they are known
+abbrev pub contents_of : {Writer : Type 0} → (Writer → Option (List ℕ)) → StdSink Writer → Option (List ℕ)
+contents_of contents s = contents s.writer
+
 -- the sink after `put`: it counts each failure
 abbrev pub after_silent_put : SinkView → Result ℕ SinkFault → SinkView
 after_silent_put v (Ok n) = record v { failed = false }
@@ -35,6 +39,19 @@ unnamed (Some file) = Some []
 -- the store of the system's files
 abbrev pub dir_store_of : {System File Dir : Type 0} → DirStore System File Dir → StoreView
 dir_store_of s = silent_store (unnamed s.reading) (unnamed s.writing) s.faults s.misses
+
+-- what is known of a file that may be open
+abbrev pub known_of : {File : Type 0} → (File → Option (List ℕ)) → Option File → Option (List ℕ)
+known_of known None = None
+known_of known (Some file) = known file
+
+-- the bytes that the file for reading has left, where they are known
+abbrev pub left_to_read : {System File Dir : Type 0} → (File → Option (List ℕ)) → DirStore System File Dir → Option (List ℕ)
+left_to_read remaining s = known_of remaining s.reading
+
+-- the bytes that the file for writing holds, where they are known
+abbrev pub written_so_far : {System File Dir : Type 0} → (File → Option (List ℕ)) → DirStore System File Dir → Option (List ℕ)
+written_so_far contents s = known_of contents s.writing
 
 -- the store after `open`: it counts each failure and each missing file, and has no file open for reading then
 abbrev pub after_silent_open : StoreView → Result Unit StoreFault → StoreView

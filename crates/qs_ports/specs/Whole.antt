@@ -19,12 +19,17 @@ pub record IsContent (file : Option (List ℕ)) (limit : ℕ) (bytes : List ℕ)
   pub there : file ≡ Some content
   pub read : bytes ≡ take (limit + 1) content
 
--- the file was read: no file changed, and nothing failed
+-- at most one byte past the limit was taken from the file that is open for reading
+abbrev pub TakesUpTo : StoreView → ℕ → Type 0
+TakesUpTo w limit = IsTrue w.told → IsSome w.reading → w.place ≤ limit + 1
+
+-- the file was read, and no more than these bytes were taken: no file changed, and nothing failed
 pub record IsWhole (v w : StoreView) (name : List ℕ) (limit : ℕ) (bytes : List ℕ) : Type 0 where
   pub keeps : Keeps v w
   pub counts : HasSameCounts v w
   pub content : IsTrue w.told → IsContent (v.files name) limit bytes
   pub len : length bytes ≤ limit + 1
+  pub place : IsTrue w.told → w.place ≡ length bytes
 
 -- the answer of `read_whole`; none of them changes a file
 abbrev pub ReadsWhole : StoreView → StoreView → List ℕ → ℕ → Result (Vec ℕ Global) ReadFault → Type 0
@@ -40,15 +45,20 @@ pub record IsMore (v w : StoreView) (old new : List ℕ) (most n : ℕ) : Type 0
   pub open_still : IsSome w.reading
   pub at_most : n ≤ most
   pub len : length new ≡ length old + n
+  pub place : IsTrue w.told → w.place ≡ v.place + n
   pub bytes : IsTrue w.told → new ++ left_of w ≡ old ++ left_of v
   pub at_end : IsTrue w.told → n ≡ 0 → left_of w ≡ []
+
+-- at most so many bytes were taken from the file
+abbrev pub TakesAtMost : StoreView → StoreView → ℕ → Type 0
+TakesAtMost v w most = IsTrue w.told → w.place ≤ v.place + most
 
 -- the answer of one call of `read` within `read_whole`
 abbrev pub ReadsMore : StoreView → StoreView → List ℕ → List ℕ → ℕ → Result ℕ ReadFault → Type 0
 ReadsMore v w old new most (Ok n) = IsMore v w old new most n
 ReadsMore v w old new most (Err Missing) = ⊥
-ReadsMore v w old new most (Err Failed) = Keeps v w × HasFailed v w
-ReadsMore v w old new most (Err NoMemory) = Keeps v w × HasSameCounts v w
+ReadsMore v w old new most (Err Failed) = Keeps v w × HasFailed v w × TakesAtMost v w 0
+ReadsMore v w old new most (Err NoMemory) = Keeps v w × HasSameCounts v w × TakesAtMost v w most
 
 -- how many bytes are moved where a file is made and filled
 abbrev pub moved_by : List ℕ → List ℕ → ℕ

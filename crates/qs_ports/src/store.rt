@@ -25,7 +25,7 @@ pub trait Store {
         ensures { Opens (view self.old) (view self.new) name.now result };
 
     /// Puts the next bytes of the file that is open for reading into the buffer, and answers how many: 0 into a buffer
-    /// that isn't empty exactly at the file's end or past it.
+    /// that isn't empty exactly at the file's end or past it. `Failed` takes none of them.
     fn read(&mut self, into: &mut [u8]) -> Result<usize, StoreFault>
         requires { IsSome (view self.old).reading }
         ensures { Reads (view self.old) (view self.new) into.old into.new result };

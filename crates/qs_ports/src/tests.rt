@@ -1,15 +1,17 @@
-// The stores and sinks in memory through their traits, listed failures, small rooms, and calls that were interrupted.
+// What no clause says: that memory is found for the stores and sinks in memory, and that a call that was interrupted is
+// tried again.
 use crate::{
-    CleanSink, CleanStore, MemSink, MemStore, ReadFault, Sink, StdSink, Store, StoreCall, put_all,
+    CleanSink, CleanStore, MemSink, MemStore, ReadFault, Sink, SinkFault, StdSink, Store, put_all,
     read_whole, write_whole,
 };
-use std::alloc::{AllocError, Global};
+use qs_base::NoMemory;
+use std::alloc::Global;
 use std::io::{self, ErrorKind, Write};
 use std::test::Fail;
 
 const TEXT: &[u8] = b"eleven byte";
 
-fn entry(alloc: Global, name: &str, bytes: &[u8]) -> Result<(String, Vec<u8>), AllocError> {
+fn entry(alloc: Global, name: &str, bytes: &[u8]) -> Result<(String, Vec<u8>), NoMemory> {
     Ok((
         String::from_str(alloc, name)?,
         Vec::from_slice(alloc, bytes)?,
@@ -17,7 +19,7 @@ fn entry(alloc: Global, name: &str, bytes: &[u8]) -> Result<(String, Vec<u8>), A
 }
 
 // The files `a` and `b`, of which `a` stands in the list twice.
-fn files(alloc: Global) -> Result<Vec<(String, Vec<u8>)>, AllocError> {
+fn files(alloc: Global) -> Result<Vec<(String, Vec<u8>)>, NoMemory> {
     let mut files = Vec::new(alloc);
     files.push(entry(alloc, "a", b"old")?)?;
     files.push(entry(alloc, "b", b"other")?)?;
@@ -25,27 +27,17 @@ fn files(alloc: Global) -> Result<Vec<(String, Vec<u8>)>, AllocError> {
     Ok(files)
 }
 
-// What became of a copy of `a` to `c`.
-#[derive(Clone, Copy, Debug, PartialEq, Eq)]
-enum Copied {
-    Whole,
-    NotRead(ReadFault),
-    NotWritten,
+// Copies `a` to `c`.
+fn copy<S: Store>(alloc: Global, store: &mut S) -> Result<(), Fail> {
+    let bytes = read_whole(alloc, store, "a", 100)?;
+    write_whole(store, "c", &bytes)?;
+    Ok(())
 }
 
-fn copy<S: Store>(alloc: Global, store: &mut S) -> Copied {
-    match read_whole(alloc, store, "a", 100) {
-        Err(fault) => Copied::NotRead(fault),
-        Ok(bytes) => match write_whole(store, "c", &bytes) {
-            Err(_) => Copied::NotWritten,
-            Ok(()) => Copied::Whole,
-        },
-    }
-}
-
-// Two texts, one after the other.
-fn put_two<K: Sink>(sink: &mut K) -> bool {
-    put_all(sink, b"eleven ").is_ok() && put_all(sink, b"byte").is_ok()
+// Puts two pieces, one after the other.
+fn put_two<K: Sink>(sink: &mut K) -> Result<(), SinkFault> {
+    put_all(sink, b"eleven ")?;
+    put_all(sink, b"byte")
 }
 
 #[test]
@@ -53,7 +45,7 @@ fn clean_forms_take_all(rt: HostRuntime) -> Result<(), Fail> {
     let alloc = rt.alloc();
     let mut store = CleanStore::new(alloc, files(alloc)?)?;
     store.reserve(TEXT.len() + 2)?;
-    assert_eq!(rt; copy(alloc, &mut store), Copied::Whole);
+    copy(alloc, &mut store)?;
     assert_eq!(rt; store.file("c"), Some(TEXT));
     assert_eq!(rt; store.file("b"), Some(b"other".as_slice()));
     assert_eq!(rt; store.file("d"), None);
@@ -61,87 +53,23 @@ fn clean_forms_take_all(rt: HostRuntime) -> Result<(), Fail> {
     assert_eq!(rt; absent.err(), Some(ReadFault::Missing));
     let mut sink = CleanSink::new(alloc)?;
     sink.reserve(TEXT.len())?;
-    assert!(rt; put_two(&mut sink));
+    put_two(&mut sink)?;
     assert_eq!(rt; sink.written(), TEXT);
-    Ok(())
-}
-
-#[test]
-fn a_file_is_read_to_one_byte_past_the_limit(rt: HostRuntime) -> Result<(), Fail> {
-    let alloc = rt.alloc();
-    let mut store = CleanStore::new(alloc, files(alloc)?)?;
-    for limit in [0, 5, 10, 11, 12] {
-        let bytes = read_whole(alloc, &mut store, "a", limit)?;
-        let want = &TEXT[..TEXT.len().min(limit + 1)];
-        assert_eq!(rt; bytes.as_slice(), want, "at {limit}");
-    }
-    Ok(())
-}
-
-// The failing call, the outcome of the copy with chunks of 4 bytes, and how many bytes `c` then holds, if it is there.
-const FAILURES: [(StoreCall, u64, Copied, Option<usize>); 13] = [
-    (StoreCall::Open, 0, Copied::NotRead(ReadFault::Failed), None),
-    (StoreCall::Open, 1, Copied::Whole, Some(11)),
-    (StoreCall::Read, 0, Copied::NotRead(ReadFault::Failed), None),
-    (StoreCall::Read, 2, Copied::NotRead(ReadFault::Failed), None),
-    (StoreCall::Read, 3, Copied::NotRead(ReadFault::Failed), None),
-    (StoreCall::Read, 4, Copied::Whole, Some(11)),
-    (StoreCall::Create, 0, Copied::NotWritten, None),
-    (StoreCall::Create, 1, Copied::Whole, Some(11)),
-    (StoreCall::Write, 0, Copied::NotWritten, Some(0)),
-    (StoreCall::Write, 1, Copied::NotWritten, Some(4)),
-    (StoreCall::Write, 2, Copied::NotWritten, Some(8)),
-    (StoreCall::Write, 3, Copied::Whole, Some(11)),
-    (StoreCall::Write, u64::MAX, Copied::Whole, Some(11)),
-];
-
-#[test]
-fn a_store_fails_at_the_listed_call(rt: HostRuntime) -> Result<(), Fail> {
-    let alloc = rt.alloc();
-    for (kind, number, outcome, left) in FAILURES {
-        let mut failing = Vec::new(alloc);
-        failing.push((kind, number))?;
-        let mut store = MemStore::new(alloc, files(alloc)?, 4, failing, 100)?;
-        assert_eq!(rt; copy(alloc, &mut store), outcome, "at {kind:?} {number}");
-        let held = store.file("c").map(|bytes| bytes.len());
-        assert_eq!(rt; held, left, "at {kind:?} {number}");
-    }
-    Ok(())
-}
-
-#[test]
-fn a_sink_fails_at_the_listed_calls(rt: HostRuntime) -> Result<(), Fail> {
-    let alloc = rt.alloc();
-    let mut failing = Vec::new(alloc);
-    failing.push(1)?;
-    failing.push(3)?;
-    let mut sink = MemSink::new(alloc, 5, failing, 100)?;
-    for (number, answer) in [Some(5), None, Some(5), None, Some(5)]
-        .into_iter()
-        .enumerate()
-    {
-        assert_eq!(rt; sink.put(b"seven b").ok(), answer, "at {number}");
-    }
-    assert_eq!(rt; sink.written(), b"sevensevenseven".as_slice());
     Ok(())
 }
 
 // A copy to `c` moves 13 bytes: those of `a`, the name's and one more.
 #[test]
-fn a_small_room_is_no_failure(rt: HostRuntime) -> Result<(), Fail> {
+fn forms_with_a_plan_take_all_that_has_room(rt: HostRuntime) -> Result<(), Fail> {
     let alloc = rt.alloc();
-    for room in [13, 12, 2, 1, 0] {
+    for (room, held) in [(13, Some(TEXT)), (12, None), (0, None)] {
         let mut store = MemStore::new(alloc, files(alloc)?, 4, Vec::new(alloc), room)?;
-        assert_eq!(rt; copy(alloc, &mut store), Copied::Whole, "at {room}");
-        assert!(rt; room < 13 || store.file("c") == Some(TEXT), "at {room}");
+        copy(alloc, &mut store)?;
+        assert!(rt; held.is_none() || store.file("c") == held, "at {room}");
         let mut sink = MemSink::new(alloc, 4, Vec::new(alloc), room)?;
-        assert!(rt; put_two(&mut sink), "at {room}");
-        assert!(rt; room < 11 || sink.written() == TEXT, "at {room}");
+        put_two(&mut sink)?;
+        assert!(rt; held.is_none() || sink.written() == TEXT, "at {room}");
     }
-    let mut store = CleanStore::new(alloc, files(alloc)?)?;
-    assert_eq!(rt; copy(alloc, &mut store), Copied::Whole);
-    let mut sink = CleanSink::new(alloc)?;
-    assert!(rt; put_two(&mut sink));
     Ok(())
 }
 
@@ -186,7 +114,11 @@ fn a_write_is_tried_again_and_a_write_of_nothing_fails(rt: HostRuntime) -> Resul
             waits: interruptions,
             most,
         });
-        assert_eq!(rt; put_two(&mut sink), answer, "at {interruptions} {most}");
+        assert_eq!(rt;
+            put_two(&mut sink).is_ok(),
+            answer,
+            "at {interruptions} {most}"
+        );
     }
     Ok(())
 }

@@ -1,10 +1,10 @@
 // Files as a whole.
-ghost use Rattle.std.specs.Prelude.{◌<◌, ◌≤◌, ◌≡◌, ◌+◌, ◌^◌, IsSome};
-ghost use Rattle.qs_ports.specs.Whole.{ReadsWhole, ReadsMore, WritesWhole};
+ghost use Rattle.std.specs.Prelude.{◌<◌, ◌≤◌, ◌≡◌, ◌+◌, ◌++◌, ◌^◌, IsSome, OnOk};
+ghost use Rattle.qs_ports.specs.Whole.{ReadsWhole, ReadsMore, TakesUpTo, WritesWhole};
 
 use crate::{Store, StoreFault};
 use qs_base::NoMemory;
-use std::alloc::{AllocError, Global};
+use std::alloc::Global;
 use thiserror::Error;
 
 /// Why a file wasn't read.
@@ -44,16 +44,6 @@ impl From<NoMemory> for ReadFault {
     }
 }
 
-impl From<AllocError> for ReadFault {
-    ghost use Rattle.qs_ports.specs.declared.whole.ReadFault.TheVariants.{NoMemory};
-
-    ghost from_gives = { λ _ read_fault. read_fault ≡ NoMemory };
-
-    fn from(_fault: AllocError) -> ReadFault {
-        ReadFault::NoMemory
-    }
-}
-
 /// A file wasn't made, or not filled, since the store failed.
 #[derive(Clone, Copy, Debug, PartialEq, Eq, Error)]
 #[error("the store failed")]
@@ -68,6 +58,13 @@ impl From<StoreFault> for WriteFault {
 // The most bytes that one call of `read` asks for.
 const CHUNK: usize = 4096;
 
+// Adds a piece to the bytes.
+fn add(bytes: &mut Vec<u8>, piece: &[u8]) -> Result<(), NoMemory>
+    ensures { OnOk result (bytes.new.items ≡ bytes.old.items ++ piece.now) }
+{
+    Ok(bytes.extend_from_slice(piece)?)
+}
+
 // Reads once, and adds what came to the bytes.
 fn read_more<S: Store>(store: &mut S, bytes: &mut Vec<u8>, most: usize) -> Result<usize, ReadFault>
     requires opened { IsSome (S.view store.old).reading }
@@ -77,12 +74,12 @@ fn read_more<S: Store>(store: &mut S, bytes: &mut Vec<u8>, most: usize) -> Resul
     let mut chunk = [0u8; CHUNK];
     let room = most.min(CHUNK);
     let count = store.read(&mut chunk[..room])?;
-    bytes.extend_from_slice(&chunk[..count])?;
+    add(bytes, &chunk[..count])?;
     Ok(count)
 }
 
-/// The bytes of a file, up to one past the limit, so that a file that is longer than the limit shows. `Missing` and
-/// `Failed` come only where the store counted them in this call.
+/// The bytes of a file, up to one past the limit, so that a file that is longer than the limit shows; no more are taken
+/// from it. `Missing` and `Failed` come only where the store counted them in this call.
 pub fn read_whole<S: Store>(
     alloc: Global,
     store: &mut S,
@@ -90,7 +87,8 @@ pub fn read_whole<S: Store>(
     limit: usize,
 ) -> Result<Vec<u8>, ReadFault>
     requires { limit + 1 < 2 ^ 64 }
-    ensures { ReadsWhole (S.view store.old) (S.view store.new) name.now limit result }
+    ensures reads { ReadsWhole (S.view store.old) (S.view store.new) name.now limit result }
+    ensures stops { TakesUpTo (S.view store.new) limit }
 {
     store.open(name)?;
     let mut bytes = Vec::new(alloc);

@@ -2,7 +2,7 @@
 ghost use Rattle.std.specs.Prelude.{◌≡◌, ◌↔◌};
 ghost use Rattle.std.specs.IoError.{error_kind};
 
-use crate::system::again::{read_again, write_again};
+use crate::system::again::{read_again, write_some};
 use crate::{Store, StoreFault};
 use std::fs::File;
 use std::io::{Error, ErrorKind};
@@ -39,14 +39,23 @@ impl<R: Files + Drop> DirStore<R> {
 
 impl<R: Files + Drop> Store for DirStore<R> {
     ghost use Rattle.std.specs.Prelude.{IsSome};
+    ghost use Rattle.std.specs.Io.KnownBytes.{ReadConsumes, WriteAppends};
     ghost use Rattle.qs_ports.specs.StoreView.{Opens, Reads, Creates, Writes};
-    ghost use Rattle.qs_ports.specs.System.{dir_store_of, after_silent_open, after_silent_create, after_silent_move};
+    ghost use Rattle.qs_ports.specs.System.{
+      dir_store_of,
+      left_to_read,
+      written_so_far,
+      after_silent_open,
+      after_silent_create,
+      after_silent_move,
+    };
 
     ghost view = { dir_store_of };
 
     fn open(&mut self, name: &str) -> Result<(), StoreFault>
         ensures opens { Opens (dir_store_of self.old) (dir_store_of self.new) name.now result }
         ensures changes { dir_store_of self.new ≡ after_silent_open (dir_store_of self.old) result }
+        ensures writing_stays { self.new.writing ≡ self.old.writing }
     {
         self.reading = None;
         match File::open(&self.system, name) {
@@ -71,19 +80,25 @@ impl<R: Files + Drop> Store for DirStore<R> {
         requires { IsSome (dir_store_of self.old).reading }
         ensures reads { Reads (dir_store_of self.old) (dir_store_of self.new) into.old into.new result }
         ensures changes { dir_store_of self.new ≡ after_silent_move (dir_store_of self.old) result }
+        ensures bytes { ReadConsumes (left_to_read R.File.remaining self.old) (left_to_read R.File.remaining self.new) result into.new }
+        ensures writing_stays { self.new.writing ≡ self.old.writing }
     {
-        if let Some(file) = &mut self.reading {
-            if let Ok(count) = read_again(file, into) {
-                return Ok(count);
+        let Some(file) = &mut self.reading else {
+            unreachable!();
+        };
+        match read_again(file, into) {
+            Ok(count) => Ok(count),
+            Err(_) => {
+                self.faults = self.faults.saturating_add(1);
+                Err(StoreFault::Failed)
             }
         }
-        self.faults = self.faults.saturating_add(1);
-        Err(StoreFault::Failed)
     }
 
     fn create(&mut self, name: &str) -> Result<(), StoreFault>
         ensures creates { Creates (dir_store_of self.old) (dir_store_of self.new) name.now result }
         ensures changes { dir_store_of self.new ≡ after_silent_create (dir_store_of self.old) result }
+        ensures reading_stays { self.new.reading ≡ self.old.reading }
     {
         self.writing = None;
         match File::create(&self.system, name) {
@@ -102,16 +117,19 @@ impl<R: Files + Drop> Store for DirStore<R> {
         requires { IsSome (dir_store_of self.old).writing }
         ensures writes { Writes (dir_store_of self.old) (dir_store_of self.new) piece.now result }
         ensures changes { dir_store_of self.new ≡ after_silent_move (dir_store_of self.old) result }
+        ensures bytes { WriteAppends (written_so_far R.File.contents self.old) (written_so_far R.File.contents self.new) result piece.now }
+        ensures reading_stays { self.new.reading ≡ self.old.reading }
     {
-        if let Some(file) = &mut self.writing {
-            if let Ok(count) = write_again(file, piece) {
-                if count > 0 || piece.is_empty() {
-                    return Ok(count);
-                }
+        let Some(file) = &mut self.writing else {
+            unreachable!();
+        };
+        match write_some(file, piece) {
+            Ok(count) => Ok(count),
+            Err(_) => {
+                self.faults = self.faults.saturating_add(1);
+                Err(StoreFault::Failed)
             }
         }
-        self.faults = self.faults.saturating_add(1);
-        Err(StoreFault::Failed)
     }
 }
 

@@ -1,9 +1,10 @@
 // A sink over a writer of the system.
-use crate::system::again::write_again;
+use crate::system::again::write_some;
 use crate::{Sink, SinkFault};
 use std::io::Write;
 
-/// A sink over any writer, such as standard output or standard error. It tells nothing of what was written. The writer
+/// A sink over any writer, such as standard output or standard error. It tells nothing of what was written, but
+/// what the writer is known to hold grows by exactly the bytes that `put` answers. The writer
 /// is to hand on its bytes at once: what a buffer loses when it is flushed isn't seen.
 #[derive(Drop)]
 pub struct StdSink<W: Write + Drop> {
@@ -14,11 +15,12 @@ pub struct StdSink<W: Write + Drop> {
 
 impl<W: Write + Drop> StdSink<W> {
     ghost use Rattle.std.specs.Prelude.{◌≡◌, false};
-    ghost use Rattle.qs_ports.specs.System.{silent_sink, std_sink_of};
+    ghost use Rattle.qs_ports.specs.System.{silent_sink, std_sink_of, contents_of};
 
     /// A sink over this writer, which hasn't failed.
     pub fn new(writer: W) -> StdSink<W>
-        ensures { std_sink_of result ≡ silent_sink 0 false }
+        ensures fresh { std_sink_of result ≡ silent_sink 0 false }
+        ensures writer { contents_of W.contents result ≡ W.contents writer }
     {
         StdSink {
             writer,
@@ -30,21 +32,23 @@ impl<W: Write + Drop> StdSink<W> {
 
 impl<W: Write + Drop> Sink for StdSink<W> {
     ghost use Rattle.std.specs.Prelude.{◌≡◌};
+    ghost use Rattle.std.specs.Io.KnownBytes.{WriteAppends};
     ghost use Rattle.qs_ports.specs.SinkView.{Puts};
-    ghost use Rattle.qs_ports.specs.System.{std_sink_of, after_silent_put};
+    ghost use Rattle.qs_ports.specs.System.{std_sink_of, contents_of, after_silent_put};
 
     ghost view = { std_sink_of };
 
     fn put(&mut self, piece: &[u8]) -> Result<usize, SinkFault>
         ensures puts { Puts (std_sink_of self.old) (std_sink_of self.new) piece.now result }
         ensures changes { std_sink_of self.new ≡ after_silent_put (std_sink_of self.old) result }
+        ensures bytes { WriteAppends (contents_of W.contents self.old) (contents_of W.contents self.new) result piece.now }
     {
-        match write_again(&mut self.writer, piece) {
-            Ok(count) if count > 0 || piece.is_empty() => {
+        match write_some(&mut self.writer, piece) {
+            Ok(count) => {
                 self.failed = false;
                 Ok(count)
             }
-            _ => {
+            Err(_) => {
                 self.failed = true;
                 self.faults = self.faults.saturating_add(1);
                 Err(SinkFault)

@@ -8,15 +8,15 @@ use Rattle.qs_image.proofs.reading.read.Goals as goal
 pub invariant_of-result : goal.invariant_of-result
 invariant_of-result c =
     let fits = IsBytes-from c.args.bytes.now (λ (i : ℕ). omega (arith, c.type_inv.bytes i)) in
-    subst IsWellFormed (sym c.in-Ok.ensures.1) (is_image c.args.bytes.now fits c.in-Ok.ensures.0).well_formed
+    subst IsWellFormed (sym c.in_ok-sections.ensures.1) (is_image c.args.bytes.now fits c.in_ok-sections.ensures.0).well_formed
 
-pub returns-in-Ok-clause-image : goal.returns-in-Ok-clause-image
-returns-in-Ok-clause-image c =
+pub returns-clause-image : goal.returns-clause-image
+returns-clause-image c =
     let fits = IsBytes-from c.args.bytes.now (λ (i : ℕ). omega (arith, c.type_inv.bytes i)) in
-    subst (IsImage c.args.bytes.now) (sym c.in-Ok.ensures.1) (is_image c.args.bytes.now fits c.in-Ok.ensures.0)
+    subst (IsImage c.args.bytes.now) (sym c.in_ok-sections.ensures.1) (is_image c.args.bytes.now fits c.in_ok-sections.ensures.0)
 
-pub returns-in-Ok-clause-accepts : goal.returns-in-Ok-clause-accepts
-returns-in-Ok-clause-accepts c = λ image is. c.in-Ok.ensures.1 ∙ (reads c.args.bytes.now image is).1
+pub returns-clause-accepts : goal.returns-clause-accepts
+returns-clause-accepts c = λ image is. c.in_ok-sections.ensures.1 ∙ (reads c.args.bytes.now image is).1
 
-pub returns-in-Err-clause-accepts : goal.returns-in-Err-clause-accepts
-returns-in-Err-clause-accepts c = λ image is. no_image c.args.bytes.now c.in-Err.fault image c.in-Err.ensures is
+pub returns-in_err-sections-clause-accepts : goal.returns-in_err-sections-clause-accepts
+returns-in_err-sections-clause-accepts c = λ image is. absurd (no_image c.args.bytes.now _ image c.in_err-sections.ensures is)

@@ -1,6 +1,4 @@
-use Rattle.std.proofs.Common.{◌≡◌, map, take}
-use Rattle.qs_isa.specs.Table.{decode_of}
-use Rattle.qs_image.specs.Image.{words_bytes}
+use Rattle.std.proofs.Common.{◌≡◌, take}
 use Rattle.qs_machine.proofs.loading.data_bytes.Given as goal
 
 abbrev pub invariant-loop-i : goal.invariant-loop-i

@@ -1,6 +1,5 @@
 use Rattle.std.proofs.Common.{◌≡◌, map, take}
 use Rattle.qs_isa.specs.Table.{decode_of}
-use Rattle.qs_image.specs.Image.{words_bytes}
 use Rattle.qs_machine.proofs.loading.instructions.Given as goal
 
 abbrev pub invariant-loop-i : goal.invariant-loop-i

@@ -1,7 +1,5 @@
-use Rattle.std.proofs.Common.{◌≡◌, ℕ, ◌*◌, ◌≤◌, length, arith, refl, rules, ap, ◌∙◌, sym, List}
-use Rattle.std.specs.Prelude.{replicate}
+use Rattle.std.proofs.Common.{◌≡◌, ℕ, ◌*◌, length, arith, refl, ap, ◌∙◌, List}
 use Rattle.std.proofs.lemmas.List.{length-replicate}
-use Rattle.qs_image.specs.Image.{words_bytes}
 use Rattle.qs_machine.proofs.Choices.{length-words_bytes}
 use Rattle.qs_machine.proofs.Starts.{memory}
 use Rattle.qs_machine.proofs.loading.load.Goals as goal

@@ -1,7 +1,6 @@
-use Rattle.std.proofs.Common.{arith, rules, ◌≡◌, ◌≤◌, ◌^◌, ◌<◌, ◌∙◌, ap, sym, ℕ, ℤ, negsuc, refl}
+use Rattle.std.proofs.Common.{arith, rules, ◌≡◌, ◌≤◌, ◌^◌, ◌<◌, ◌∙◌, ap, ℤ, negsuc}
 use Rattle.std.proofs.lemmas.Int.{ints, to_z-of_z, fits_signed_mul}
 use Rattle.std.specs.Prelude.{◌*ℤ◌, pos, unsigned_abs}
-use Rattle.std.specs.Int.{int_div_euclid}
 use Rattle.qs_base.specs.Words.{signed, upper}
 use Rattle.qs_base.proofs.WordLaws.{signed-cast}
 use Rattle.qs_machine.proofs.operations.mulh32.Goals as goal

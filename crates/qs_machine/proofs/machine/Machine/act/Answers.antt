@@ -1,4 +1,4 @@
-use Rattle.std.proofs.Common.{◌≡◌, ap, ◌∙◌}
+use Rattle.std.proofs.Common.{◌≡◌}
 use Rattle.qs_machine.specs.State.{register}
 use Rattle.qs_machine.specs.Standing.{state_of}
 use Rattle.qs_machine.proofs.machine.Machine.act.Goals as goal

@@ -1,4 +1,4 @@
-use Rattle.std.proofs.Common.{◌≡◌, true, false, rules, ap, sym, ◌∙◌, ◌%◌}
+use Rattle.std.proofs.Common.{◌≡◌, true, false, rules, sym, ◌∙◌, ◌%◌}
 use Rattle.qs_machine.specs.State.{can_read}
 use Rattle.qs_machine.specs.Step.{load_width}
 use Rattle.qs_machine.specs.Standing.{state_of}

@@ -1,5 +1,4 @@
-use Rattle.std.proofs.Common.{◌≡◌, ◌<◌, List, [], ◌∷◌, arith, rules, sym, ◌∙◌}
-use Rattle.std.specs.Result.{is_err}
+use Rattle.std.proofs.Common.{◌≡◌, ◌<◌, [], ◌∷◌, arith, rules, sym, ◌∙◌}
 use Rattle.qs_ports.proofs.Sinks.{appends_nothing}
 use Rattle.qs_machine.proofs.Runs.{exits, traps, stays, goes_further, put_failed, put_whole}
 use Rattle.qs_machine.proofs.machine.Machine.run.Goals as goal

@@ -1,8 +1,8 @@
-use Rattle.std.proofs.Common.{◌≡◌, ◌%◌, true, false, refl, rules, sym, ap, ◌∙◌}
-use Rattle.qs_machine.specs.State.{State, can_write}
-use Rattle.qs_machine.specs.Step.{Next, store_width, stored, store, go_to}
+use Rattle.std.proofs.Common.{◌≡◌, ◌%◌, true, false, refl, rules, sym, ◌∙◌}
+use Rattle.qs_machine.specs.State.{can_write}
+use Rattle.qs_machine.specs.Step.{store_width, stored}
 use Rattle.qs_machine.specs.Hart.{memory_of}
-use Rattle.qs_machine.specs.Standing.{IsLoaded, state_of}
+use Rattle.qs_machine.specs.Standing.{state_of}
 use Rattle.qs_machine.proofs.Choices.{store-written, store-outside, can_write-loaded}
 use Rattle.qs_machine.proofs.Doing.{did_next, same_machine}
 use Rattle.qs_machine.proofs.machine.Machine.store.Goals as goal

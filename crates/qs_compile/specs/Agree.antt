@@ -1,9 +1,19 @@
 -- The machine does what the source does.
-use Rattle.std.specs.Prelude.{◌≡◌, ◌⊎◌, ℕ, List, ◌++◌}
+use Rattle.std.specs.Prelude.{◌≡◌, ◌⊎◌, ℕ, ◌^◌, ◌≤◌, ℤ, List, ◌++◌, Option, Some}
+use Rattle.qs_image.specs.Image.{Image}
 use Rattle.qs_events.specs.Events.{Event, output_of}
 use Rattle.qs_events.specs.BoundedRun.{BoundedRun, Ended, Undefined, Short, trace_of}
 use Rattle.qs_machine.specs.declared.answers.Cause.{Cause}
-use Rattle.qs_machine.specs.Run.{Outcome, Exited, Trapped, Going}
+use Rattle.qs_machine.specs.Arguments.{AreArguments, words_of}
+use Rattle.qs_machine.specs.Run.{Outcome, Exited, Trapped, Going, machine}
+
+-- the runs of a source, for each list of arguments of main, each input and each bound
+abbrev pub Runs : Type 0
+Runs = List ℤ → List ℕ → ℕ → BoundedRun
+
+-- the bytes of stack that a source is certified to need, for each list of arguments of main, where there is such a number
+abbrev pub Bound : Type 0
+Bound = List ℤ → Option ℕ
 
 -- the whole begins with this part
 abbrev pub Begins : List ℕ → List ℕ → Type 0
@@ -37,3 +47,9 @@ pub record Agree (source : ℕ → BoundedRun) (machine : ℕ → Outcome) : Typ
   pub goes_on : (n : ℕ) (trace : List Event) → (source n ≡ Short trace) ⊎ (source n ≡ Undefined trace) → (m : ℕ) × Begins (output_so_far (machine m)) (output_of trace)
   -- while the machine goes on, its output is the source's so far, or the source is undefined
   pub goes_on_only : (m : ℕ) (output : List ℕ) → machine m ≡ Going output → Begins (output_of (trace_of (source m))) output ⊎ IsUndefinedWithin (source m) output
+
+-- Where the arguments are main's and their bound is this number, on each stack of at least so many bytes, up to 2^28, and on each input
+-- the image does what the source does.
+pub record AgreesFrom (bound : Bound) (runs : Runs) (image : Image) : Type 0 where
+  pub agree : (args : List ℤ) (input : List ℕ) (least size : ℕ) → AreArguments image args → bound args ≡ Some least
+      → least ≤ size → size ≤ 2 ^ 28 → Agree (runs args input) (machine image size (words_of args) input)

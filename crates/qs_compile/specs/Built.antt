@@ -1,11 +1,9 @@
 -- What is promised of a compiled image.
-use Rattle.std.specs.Prelude.{◌≡◌, ℕ, ◌-◌, ◌^◌, ◌≤◌, List, [], ◌∷◌, Some, codes, slice_index}
+use Rattle.std.specs.Prelude.{◌≡◌, ◌-◌, ◌^◌, [], ◌∷◌, Some, codes, slice_index}
 use Rattle.qs_isa.specs.Table.{decode_of}
 use Rattle.qs_image.specs.Image.{Image, FunctionRecord}
-use Rattle.qs_machine.specs.Run.{machine}
-use Rattle.qs_compile.specs.Agree.{Agree}
+use Rattle.qs_compile.specs.Agree.{Bound}
 use Rattle.qs_compile.specs.FirstCode.{addi}
-use Rattle.qs_compile.specs.FirstForm.{Program, run_of}
 
 -- main, which costs 16 bytes of stack
 abbrev pub main_record : FunctionRecord
@@ -23,6 +21,6 @@ pub record IsBuiltFromMain (image : Image) : Type 0 where
 pub record LowersStackFirst (image : Image) : Type 0 where
   pub first : decode_of (slice_index image.code 0) ≡ Some (addi 2 2 (2 ^ 32 - 16))
 
--- on each stack from so many bytes up to 2^28, and on each input, the image does what the program does
-pub record AgreesFrom (least : ℕ) (p : Program) (image : Image) : Type 0 where
-  pub agree : (size : ℕ) (input : List ℕ) → least ≤ size → size ≤ 2 ^ 28 → Agree (run_of p) (machine image size [] input)
+-- main costs 16 bytes and needs no more, whatever its arguments
+abbrev pub main_bound : Bound
+main_bound args = Some 16

@@ -1,7 +1,8 @@
 -- Programs of the first form: a main that puts some bytes and returns a number.
-use Rattle.std.specs.Prelude.{◌≡◌, ◌⊎◌, ℕ, zero, suc, ◌<◌, ◌≤◌, List, [], ◌∷◌, ◌++◌, length, map, All, codes, decimal}
+use Rattle.std.specs.Prelude.{◌≡◌, ◌⊎◌, ℕ, zero, suc, ◌<◌, ◌≤◌, ◌%◌, List, [], ◌∷◌, ◌++◌, length, All, codes, decimal, Some, unwrap_or}
 use Rattle.qs_events.specs.Events.{Calls, Returns, Puts}
-use Rattle.qs_events.specs.BoundedRun.{BoundedRun, Ended, Short}
+use Rattle.qs_events.specs.Runs.{Run, emit, ended, short, Left, bounded}
+use Rattle.qs_compile.specs.Agree.{Runs}
 use Rattle.qs_compile.specs.declared.form.FirstForm.{FirstForm}
 
 -- the bytes that it puts, in order, and the number that it returns
@@ -29,10 +30,23 @@ pub record IsFirstForm (text : List ℕ) (p : Program) : Type 0 where
   pub small : p.status < 256
   pub spelled : (text ≡ program_text p) ⊎ (text ≡ program_text p ++ 10 ∷ [])
 
--- What it does (C11 5.1.2.2.3, 7.21.7.8): main, the first function, is called, puts the bytes, and returns.
-abbrev pub run_of : Program → ℕ → BoundedRun
-run_of p zero = Short []
-run_of p (suc n) = Ended ((Calls 0 ∷ map Puts p.outputs) ++ (Returns 0 ∷ [])) p.status
+-- What it does (C11 5.1.2.2.3, 7.21.7.8): main, the first function, is called, puts the bytes, and returns. It takes no input, and has no
+-- memory.
+abbrev pub put_all : List ℕ → Run (Left ℕ (Unit {0})) → Run (Left ℕ (Unit {0}))
+put_all [] run = run
+put_all (byte ∷ bytes) run = emit (Puts byte) (put_all bytes run)
+
+abbrev pub source_run : Program → List ℕ → ℕ → Run (Left ℕ (Unit {0}))
+source_run p input zero = short
+source_run p input (suc n) = emit (Calls 0) (put_all p.outputs (emit (Returns 0) (ended (record { result = Some p.status; memory = tt; input = input }))))
+
+-- the low byte of what main returns, and 0 where it ends without (C11 5.1.2.2.3)
+abbrev pub status_of : {Memory : Type 0} → Left ℕ Memory → ℕ
+status_of left = unwrap_or left.result 0 % 256
+
+-- main has no parameters
+abbrev pub runs_of : Program → Runs
+runs_of p args input n = bounded status_of (source_run p input n)
 
 -- what contracts see of a program of the first form
 abbrev pub program_of : FirstForm → Program

@@ -1,7 +1,8 @@
 // The image of a program of the first form.
 ghost use Rattle.std.specs.Prelude.{◌≡◌, IfOk};
-ghost use Rattle.qs_compile.specs.FirstForm.{program_of};
-ghost use Rattle.qs_compile.specs.Built.{IsBuiltFromMain, LowersStackFirst, AgreesFrom, main_record};
+ghost use Rattle.qs_compile.specs.Agree.{AgreesFrom};
+ghost use Rattle.qs_compile.specs.FirstForm.{program_of, runs_of};
+ghost use Rattle.qs_compile.specs.Built.{IsBuiltFromMain, LowersStackFirst, main_bound, main_record};
 
 use crate::first_code::code_of;
 use crate::form::FirstForm;
@@ -30,7 +31,7 @@ fn main_record(alloc: Global) -> Result<FunctionRecord, NoMemory>
 pub fn compile(alloc: Global, program: &FirstForm) -> Result<Image, NoMemory>
     ensures built { IfOk result (λ image. IsBuiltFromMain image) }
     ensures lowers { IfOk result (λ image. LowersStackFirst image) }
-    ensures agrees { IfOk result (λ image. AgreesFrom 16 (program_of program.now) image) }
+    ensures agrees { IfOk result (λ image. AgreesFrom main_bound (runs_of (program_of program.now)) image) }
 {
     let code = code_of(alloc, program)?;
     let mut functions = Vec::new(alloc);

@@ -1,5 +1,5 @@
--- A run of a source within a bound n: each run of a loop makes at most n turns, and calls nest at most n deep.
-use Rattle.std.specs.Prelude.{ℕ, List}
+-- What agreement sees of a run within a bound: its events, how it ends, and the status.
+use Rattle.std.specs.Prelude.{ℕ, List, ◌∷◌}
 use Rattle.qs_events.specs.Events.{Event}
 
 pub data BoundedRun : Type 0 where
@@ -14,3 +14,9 @@ abbrev pub trace_of : BoundedRun → List Event
 trace_of (Ended trace status) = trace
 trace_of (Undefined trace) = trace
 trace_of (Short trace) = trace
+
+-- the run with this event before its own
+abbrev pub after : Event → BoundedRun → BoundedRun
+after event (Ended trace status) = Ended (event ∷ trace) status
+after event (Undefined trace) = Undefined (event ∷ trace)
+after event (Short trace) = Short (event ∷ trace)

@@ -1,2 +1,3 @@
 pub mod Events
 pub mod BoundedRun
+pub mod Runs

@@ -1,3 +1,4 @@
 pub mod Names
 pub mod Positions
+pub mod Results
 pub mod Words

@@ -2,4 +2,5 @@ pub mod Bytes
 pub mod Keywords
 pub mod Names
 pub mod Positions
+pub mod Results
 pub mod Words

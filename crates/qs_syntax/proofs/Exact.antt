@@ -8,7 +8,7 @@ use Rattle.std.proofs.lemmas.Bool.Decides.{Decides-eqb, Decides-and, Decides-lik
 use Rattle.qs_syntax.specs.declared.tree.Base.{Base}
 use Rattle.qs_syntax.specs.declared.tree.Base.TheVariants as bases
 use Rattle.qs_syntax.specs.declared.tree.TypeName.{TypeName}
-use Rattle.qs_syntax.specs.Trees.{ExprTree, expr, ShapeTree, int, text, name, unary, step, cast, size_type, size_expr, binary, assign, choice, comma, index, member, call, Exprs, no_exprs, expr_and, exprs_of, LengthsTree, DeclaratorTree, InitialiserTree, value, list, Initialisers, no_initialisers, initialiser_and, VariableTree, DeclarationTree, ParameterTree, MembersTree}
+use Rattle.qs_syntax.specs.Trees.{ExprTree, expr, ShapeTree, constant, text, name, unary, step, cast, sizeof_type, sizeof_expr, binary, assign, conditional, comma, subscript, member, call, Exprs, no_exprs, expr_and, exprs_of, LengthsTree, DeclaratorTree, InitialiserTree, value, list, Initialisers, no_initialisers, initialiser_and, VariableTree, DeclarationTree, ParameterTree, MembersTree}
 use Rattle.qs_syntax.specs.Sameness.{same_unary, same_step, same_binary, same_assign, same_access, same_bytes, same_base, same_type, same_node, same_expr, same_shape, same_exprs, same_lengths, same_declarator, same_initialiser, same_initialisers, same_variable, same_declaration, same_parameter, same_members}
 use Rattle.qs_syntax.proofs.SameOperators.{unary_operator_exact, step_operator_exact, binary_operator_exact, assign_operator_exact, access_operator_exact}
 
@@ -76,9 +76,9 @@ mutual
       λ k. expr (p.0.0 k) (p.0.1 k) (p.1 k)
 
   shape_equal : (a b : ShapeTree) → same_shape a b ≡ true → a ≡ b
-  shape_equal (int n u) (int m v) h =
+  shape_equal (constant n u) (constant m v) h =
       let p = both (n == m) (beq u v) (Decides-eqb n m).0 (booleans_Decides u v).0 h in
-      λ k. int (p.0 k) (p.1 k)
+      λ k. constant (p.0 k) (p.1 k)
   shape_equal (text x) (text y) h = ap text ((bytes_exact x y).0 h)
   shape_equal (name x) (name y) h = ap name ((bytes_exact x y).0 h)
   shape_equal (unary s a) (unary r b) h =
@@ -90,23 +90,23 @@ mutual
   shape_equal (cast t a) (cast u b) h =
       let p = both (same_type t u) (same_expr a b) (type_exact t u).0 (expr_equal a b) h in
       λ k. cast (p.0 k) (p.1 k)
-  shape_equal (size_type t) (size_type u) h = ap size_type ((type_exact t u).0 h)
-  shape_equal (size_expr a) (size_expr b) h = ap size_expr (expr_equal a b h)
+  shape_equal (sizeof_type t) (sizeof_type u) h = ap sizeof_type ((type_exact t u).0 h)
+  shape_equal (sizeof_expr a) (sizeof_expr b) h = ap sizeof_expr (expr_equal a b h)
   shape_equal (binary s a b) (binary r c d) h =
       let p = both (same_binary s r) (same_expr a c && same_expr b d) (binary_operator_exact s r).0 (both (same_expr a c) (same_expr b d) (expr_equal a c) (expr_equal b d)) h in
       λ k. binary (p.0 k) (p.1.0 k) (p.1.1 k)
   shape_equal (assign s a b) (assign r c d) h =
       let p = both (same_assign s r) (same_expr a c && same_expr b d) (assign_operator_exact s r).0 (both (same_expr a c) (same_expr b d) (expr_equal a c) (expr_equal b d)) h in
       λ k. assign (p.0 k) (p.1.0 k) (p.1.1 k)
-  shape_equal (choice a b c) (choice d e f) h =
+  shape_equal (conditional a b c) (conditional d e f) h =
       let p = both (same_expr a d) (same_expr b e && same_expr c f) (expr_equal a d) (both (same_expr b e) (same_expr c f) (expr_equal b e) (expr_equal c f)) h in
-      λ k. choice (p.0 k) (p.1.0 k) (p.1.1 k)
+      λ k. conditional (p.0 k) (p.1.0 k) (p.1.1 k)
   shape_equal (comma a b) (comma c d) h =
       let p = both (same_expr a c) (same_expr b d) (expr_equal a c) (expr_equal b d) h in
       λ k. comma (p.0 k) (p.1 k)
-  shape_equal (index a b) (index c d) h =
+  shape_equal (subscript a b) (subscript c d) h =
       let p = both (same_expr a c) (same_expr b d) (expr_equal a c) (expr_equal b d) h in
-      λ k. index (p.0 k) (p.1 k)
+      λ k. subscript (p.0 k) (p.1 k)
   shape_equal (member s a x) (member r b y) h =
       let p = both (same_access s r) (same_expr a b && same_bytes x y) (access_operator_exact s r).0 (both (same_expr a b) (same_bytes x y) (expr_equal a b) (bytes_exact x y).0) h in
       λ k. member (p.0 k) (p.1.0 k) (p.1.1 k)
@@ -127,19 +127,19 @@ mutual
   expr_self (expr i t s) = λ k. node_self i t k && shape_self s k
 
   shape_self : (a : ShapeTree) → same_shape a a ≡ true
-  shape_self (int n u) = λ k. (Decides-eqb n n).1 refl k && (booleans_Decides u u).1 refl k
+  shape_self (constant n u) = λ k. (Decides-eqb n n).1 refl k && (booleans_Decides u u).1 refl k
   shape_self (text x) = (bytes_exact x x).1 refl
   shape_self (name x) = (bytes_exact x x).1 refl
   shape_self (unary s a) = λ k. (unary_operator_exact s s).1 refl k && expr_self a k
   shape_self (step s a) = λ k. (step_operator_exact s s).1 refl k && expr_self a k
   shape_self (cast t a) = λ k. (type_exact t t).1 refl k && expr_self a k
-  shape_self (size_type t) = (type_exact t t).1 refl
-  shape_self (size_expr a) = expr_self a
+  shape_self (sizeof_type t) = (type_exact t t).1 refl
+  shape_self (sizeof_expr a) = expr_self a
   shape_self (binary s a b) = λ k. (binary_operator_exact s s).1 refl k && (expr_self a k && expr_self b k)
   shape_self (assign s a b) = λ k. (assign_operator_exact s s).1 refl k && (expr_self a k && expr_self b k)
-  shape_self (choice a b c) = λ k. expr_self a k && (expr_self b k && expr_self c k)
+  shape_self (conditional a b c) = λ k. expr_self a k && (expr_self b k && expr_self c k)
   shape_self (comma a b) = λ k. expr_self a k && expr_self b k
-  shape_self (index a b) = λ k. expr_self a k && expr_self b k
+  shape_self (subscript a b) = λ k. expr_self a k && expr_self b k
   shape_self (member s a x) = λ k. (access_operator_exact s s).1 refl k && (expr_self a k && (bytes_exact x x).1 refl k)
   shape_self (call f es) = λ k. (bytes_exact f f).1 refl k && exprs_self es k
 

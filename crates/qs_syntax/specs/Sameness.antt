@@ -16,7 +16,7 @@ use Rattle.qs_syntax.specs.declared.tree.Access.TheVariants as accesses
 use Rattle.qs_syntax.specs.declared.tree.Base.{Base}
 use Rattle.qs_syntax.specs.declared.tree.Base.TheVariants as bases
 use Rattle.qs_syntax.specs.declared.tree.TypeName.{TypeName}
-use Rattle.qs_syntax.specs.Trees.{ExprTree, expr, ShapeTree, int, text, name, unary, step, cast, size_type, size_expr, binary, assign, choice, comma, index, member, call, Exprs, no_exprs, expr_and, exprs_of, LengthsTree, DeclaratorTree, InitialiserTree, value, list, Initialisers, no_initialisers, initialiser_and, VariableTree, DeclarationTree, ParameterTree, MembersTree, StartTree, no_start, start_expression, start_declaration, StmtTree, empty, expression, declaration, block, branch, while_loop, do_loop, for_loop, break, continue, return, Stmts, no_stmts, stmt_and, Else, no_else, else_by, StructTree, ForwardTree, FunctionTree, DeclTree, structure, forward, function, variables, UnitTree}
+use Rattle.qs_syntax.specs.Trees.{ExprTree, expr, ShapeTree, constant, text, name, unary, step, cast, sizeof_type, sizeof_expr, binary, assign, conditional, comma, subscript, member, call, Exprs, no_exprs, expr_and, exprs_of, LengthsTree, DeclaratorTree, InitialiserTree, value, list, Initialisers, no_initialisers, initialiser_and, VariableTree, DeclarationTree, ParameterTree, MembersTree, StartTree, no_start, start_expression, start_declaration, StmtTree, empty, expression, declaration, block, branch, while_loop, do_loop, for_loop, break, continue, return, Stmts, no_stmts, stmt_and, Else, no_else, else_by, StructTree, ForwardTree, FunctionTree, DeclTree, structure, forward, function, variables, UnitTree}
 
 -- ---- operators and names of types
 
@@ -112,19 +112,19 @@ abbrev mutual
   same_expr (expr i t s) (expr j u r) = same_node i t j u && same_shape s r
 
   pub same_shape : ShapeTree → ShapeTree → Bool
-  same_shape (int n u) (int m v) = (n == m) && beq u v
+  same_shape (constant n u) (constant m v) = (n == m) && beq u v
   same_shape (text xs) (text ys) = same_bytes xs ys
   same_shape (name x) (name y) = same_bytes x y
   same_shape (unary s a) (unary r b) = same_unary s r && same_expr a b
   same_shape (step s a) (step r b) = same_step s r && same_expr a b
   same_shape (cast t a) (cast u b) = same_type t u && same_expr a b
-  same_shape (size_type t) (size_type u) = same_type t u
-  same_shape (size_expr a) (size_expr b) = same_expr a b
+  same_shape (sizeof_type t) (sizeof_type u) = same_type t u
+  same_shape (sizeof_expr a) (sizeof_expr b) = same_expr a b
   same_shape (binary s a b) (binary r c d) = same_binary s r && (same_expr a c && same_expr b d)
   same_shape (assign s a b) (assign r c d) = same_assign s r && (same_expr a c && same_expr b d)
-  same_shape (choice a b c) (choice d e f) = same_expr a d && (same_expr b e && same_expr c f)
+  same_shape (conditional a b c) (conditional d e f) = same_expr a d && (same_expr b e && same_expr c f)
   same_shape (comma a b) (comma c d) = same_expr a c && same_expr b d
-  same_shape (index a b) (index c d) = same_expr a c && same_expr b d
+  same_shape (subscript a b) (subscript c d) = same_expr a c && same_expr b d
   same_shape (member s a x) (member r b y) = same_access s r && (same_expr a b && same_bytes x y)
   same_shape (call f es) (call g fs) = same_bytes f g && same_exprs es fs
   same_shape _ _ = false

@@ -2,7 +2,7 @@
 use Rattle.std.proofs.Common.{◌≡◌, ℕ, ◌+◌, ◌-◌, ◌<◌, cond, List, [], ◌∷◌, Result, Ok, Option, Some, None, refl, ◌∙◌}
 use Rattle.std.specs.Prelude.{max, nat_le}
 use Rattle.qs_syntax.specs.declared.terminal.Terminal.{Terminal}
-use Rattle.qs_syntax.specs.declared.tree.BinaryOperator.{BinaryOperator}
+use Rattle.qs_syntax.specs.declared.operators.BinaryOperator.{BinaryOperator}
 use Rattle.qs_syntax.specs.Trees.{expr, binary}
 use Rattle.qs_syntax.specs.Reads.{Form}
 use Rattle.qs_parser.specs.Heads.{operator_at, binary_of}

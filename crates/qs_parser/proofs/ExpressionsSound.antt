@@ -7,11 +7,11 @@ use Rattle.qs_syntax.specs.declared.terminal.Terminal.TheVariants.{Name, Keyword
 use Rattle.qs_syntax.specs.declared.tokens.Keyword.TheVariants as keywords
 use Rattle.qs_syntax.specs.declared.tokens.Punctuator as punctuator
 use Rattle.qs_syntax.specs.declared.tokens.Punctuator.TheVariants as punctuators
-use Rattle.qs_syntax.specs.declared.tree.UnaryOperator.{UnaryOperator}
-use Rattle.qs_syntax.specs.declared.tree.BinaryOperator.{BinaryOperator}
-use Rattle.qs_syntax.specs.declared.tree.AssignmentOperator.{AssignmentOperator}
-use Rattle.qs_syntax.specs.declared.tree.Access.{Access}
-use Rattle.qs_syntax.specs.declared.tree.StepOperator.TheVariants as steps
+use Rattle.qs_syntax.specs.declared.operators.UnaryOperator.{UnaryOperator}
+use Rattle.qs_syntax.specs.declared.operators.BinaryOperator.{BinaryOperator}
+use Rattle.qs_syntax.specs.declared.operators.AssignmentOperator.{AssignmentOperator}
+use Rattle.qs_syntax.specs.declared.operators.Access.{Access}
+use Rattle.qs_syntax.specs.declared.operators.StepOperator.TheVariants as steps
 use Rattle.qs_syntax.specs.Trees.{ExprTree, expr, ShapeTree, text, step, binary, assign, choice, comma, index, member, Exprs, no_exprs, expr_and, exprs_of}
 use Rattle.qs_syntax.specs.Operators.{punctuator_of_unary, punctuator_of_binary, precedence, punctuator_of_assign, punctuator_of_access, number_of}
 use Rattle.qs_syntax.specs.Reads.{Form, Postfix, Unary, Level, Conditional, Assignment, Expression, place, at_first, ReadsTexts, no_text, a_further_text, Reads, ReadsArguments, a_name, an_empty_call, a_call, a_constant, a_text, in_parentheses, an_index, a_member, an_increment_after, a_decrement_after, a_postfix, an_increment, a_decrement, an_operator, a_size_of_type, a_size_of_value, a_cast, an_operand, stronger, an_operation, a_plain_level, a_choice, a_plain_conditional, an_assignment, a_plain_assignment, a_comma, a_last_argument, an_argument}

@@ -7,14 +7,14 @@ use Rattle.qs_syntax.specs.declared.tokens.Keyword as key
 use Rattle.qs_syntax.specs.declared.tokens.Keyword.TheVariants as keywords
 use Rattle.qs_syntax.specs.declared.tokens.Punctuator as punctuator
 use Rattle.qs_syntax.specs.declared.tokens.Punctuator.TheVariants as punctuators
-use Rattle.qs_syntax.specs.declared.tree.UnaryOperator.{UnaryOperator}
-use Rattle.qs_syntax.specs.declared.tree.UnaryOperator.TheVariants as unaries
-use Rattle.qs_syntax.specs.declared.tree.BinaryOperator.{BinaryOperator}
-use Rattle.qs_syntax.specs.declared.tree.BinaryOperator.TheVariants as binaries
-use Rattle.qs_syntax.specs.declared.tree.AssignmentOperator.{AssignmentOperator}
-use Rattle.qs_syntax.specs.declared.tree.AssignmentOperator.TheVariants as assigns
-use Rattle.qs_syntax.specs.declared.tree.Access.{Access}
-use Rattle.qs_syntax.specs.declared.tree.Access.TheVariants as accesses
+use Rattle.qs_syntax.specs.declared.operators.UnaryOperator.{UnaryOperator}
+use Rattle.qs_syntax.specs.declared.operators.UnaryOperator.TheVariants as unaries
+use Rattle.qs_syntax.specs.declared.operators.BinaryOperator.{BinaryOperator}
+use Rattle.qs_syntax.specs.declared.operators.BinaryOperator.TheVariants as binaries
+use Rattle.qs_syntax.specs.declared.operators.AssignmentOperator.{AssignmentOperator}
+use Rattle.qs_syntax.specs.declared.operators.AssignmentOperator.TheVariants as assigns
+use Rattle.qs_syntax.specs.declared.operators.Access.{Access}
+use Rattle.qs_syntax.specs.declared.operators.Access.TheVariants as accesses
 use Rattle.qs_syntax.specs.Operators.{punctuator_of_unary, punctuator_of_binary, precedence, punctuator_of_assign, punctuator_of_access, number_of}
 use Rattle.qs_parser.specs.Heads.{punctuator_number, keyword_number, is_punctuator, is_keyword, starts, starts_with, unary_of, binary_of, assign_of, access_of, operator_at}
 use Rattle.qs_parser.specs.Stops.{punctuator_strength, strength, strength_at}

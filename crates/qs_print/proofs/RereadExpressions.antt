@@ -5,12 +5,12 @@ use Rattle.std.proofs.lemmas.Bool.{leb-true, le-leb}
 use Rattle.qs_syntax.specs.declared.terminal.Terminal.{Terminal}
 use Rattle.qs_syntax.specs.declared.terminal.Terminal.TheVariants.{Name, Text, Punctuator}
 use Rattle.qs_syntax.specs.declared.tokens.Punctuator.TheVariants as punctuators
-use Rattle.qs_syntax.specs.declared.tree.UnaryOperator.{UnaryOperator}
-use Rattle.qs_syntax.specs.declared.tree.BinaryOperator.{BinaryOperator}
-use Rattle.qs_syntax.specs.declared.tree.BinaryOperator.TheVariants as binaries
-use Rattle.qs_syntax.specs.declared.tree.AssignmentOperator.{AssignmentOperator}
-use Rattle.qs_syntax.specs.declared.tree.Access.{Access}
-use Rattle.qs_syntax.specs.declared.tree.StepOperator.TheVariants as steps
+use Rattle.qs_syntax.specs.declared.operators.UnaryOperator.{UnaryOperator}
+use Rattle.qs_syntax.specs.declared.operators.BinaryOperator.{BinaryOperator}
+use Rattle.qs_syntax.specs.declared.operators.BinaryOperator.TheVariants as binaries
+use Rattle.qs_syntax.specs.declared.operators.AssignmentOperator.{AssignmentOperator}
+use Rattle.qs_syntax.specs.declared.operators.Access.{Access}
+use Rattle.qs_syntax.specs.declared.operators.StepOperator.TheVariants as steps
 use Rattle.qs_syntax.specs.declared.tree.TypeName.{TypeName}
 use Rattle.qs_syntax.specs.Operators.{punctuator_of_binary, precedence, punctuator_of_assign, punctuator_of_access}
 use Rattle.qs_syntax.specs.Trees.{ExprTree, expr, int, text, name, unary, step, cast, size_type, size_expr, binary, assign, choice, comma, index, member, call, Exprs, no_exprs, expr_and}

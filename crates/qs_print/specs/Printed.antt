@@ -8,8 +8,8 @@ use Rattle.qs_syntax.specs.declared.tokens.Punctuator.TheVariants as punctuators
 use Rattle.qs_syntax.specs.declared.tree.Base.{Base}
 use Rattle.qs_syntax.specs.declared.tree.Base.TheVariants as bases
 use Rattle.qs_syntax.specs.declared.tree.TypeName.{TypeName}
-use Rattle.qs_syntax.specs.declared.tree.StepOperator.{StepOperator}
-use Rattle.qs_syntax.specs.declared.tree.StepOperator.TheVariants as steps
+use Rattle.qs_syntax.specs.declared.operators.StepOperator.{StepOperator}
+use Rattle.qs_syntax.specs.declared.operators.StepOperator.TheVariants as steps
 use Rattle.qs_syntax.specs.Trees.{ExprTree, expr, ShapeTree, int, text, name, unary, step, cast, size_type, size_expr, binary, assign, choice, comma, index, member, call, Exprs, no_exprs, expr_and, LengthsTree, DeclaratorTree, InitialiserTree, value, list, Initialisers, no_initialisers, initialiser_and, VariableTree, DeclarationTree, ParameterTree, MembersTree, StartTree, no_start, start_expression, start_declaration, StmtTree, empty, expression, declaration, block, branch, while_loop, do_loop, for_loop, break, continue, return, Stmts, no_stmts, stmt_and, Else, no_else, else_by, StructTree, ForwardTree, FunctionTree, DeclTree, structure, forward, function, variables}
 use Rattle.qs_syntax.specs.Operators.{punctuator_of_unary, punctuator_of_binary, precedence, punctuator_of_assign, punctuator_of_access}
 

@@ -2,21 +2,21 @@
 use Rattle.std.proofs.Common.{◌≡◌, ◌==◌, refl, sym, ◌∙◌, Decides}
 use denote.Enum.Bare.{sameb, same_true, true_same}
 use denote.Enum.Declared.{tag_of}
-use Rattle.qs_syntax.specs.declared.tree.UnaryOperator.{UnaryOperator}
-use Rattle.qs_syntax.specs.declared.tree.UnaryOperator.TheVariants as unaries
-use Rattle.qs_syntax.specs.contracts.tree.UnaryOperator.{the_type as unary_type}
-use Rattle.qs_syntax.specs.declared.tree.StepOperator.{StepOperator}
-use Rattle.qs_syntax.specs.declared.tree.StepOperator.TheVariants as steps
-use Rattle.qs_syntax.specs.contracts.tree.StepOperator.{the_type as step_type}
-use Rattle.qs_syntax.specs.declared.tree.BinaryOperator.{BinaryOperator}
-use Rattle.qs_syntax.specs.declared.tree.BinaryOperator.TheVariants as binaries
-use Rattle.qs_syntax.specs.contracts.tree.BinaryOperator.{the_type as binary_type}
-use Rattle.qs_syntax.specs.declared.tree.AssignmentOperator.{AssignmentOperator}
-use Rattle.qs_syntax.specs.declared.tree.AssignmentOperator.TheVariants as assigns
-use Rattle.qs_syntax.specs.contracts.tree.AssignmentOperator.{the_type as assign_type}
-use Rattle.qs_syntax.specs.declared.tree.Access.{Access}
-use Rattle.qs_syntax.specs.declared.tree.Access.TheVariants as accesses
-use Rattle.qs_syntax.specs.contracts.tree.Access.{the_type as access_type}
+use Rattle.qs_syntax.specs.declared.operators.UnaryOperator.{UnaryOperator}
+use Rattle.qs_syntax.specs.declared.operators.UnaryOperator.TheVariants as unaries
+use Rattle.qs_syntax.specs.contracts.operators.UnaryOperator.{the_type as unary_type}
+use Rattle.qs_syntax.specs.declared.operators.StepOperator.{StepOperator}
+use Rattle.qs_syntax.specs.declared.operators.StepOperator.TheVariants as steps
+use Rattle.qs_syntax.specs.contracts.operators.StepOperator.{the_type as step_type}
+use Rattle.qs_syntax.specs.declared.operators.BinaryOperator.{BinaryOperator}
+use Rattle.qs_syntax.specs.declared.operators.BinaryOperator.TheVariants as binaries
+use Rattle.qs_syntax.specs.contracts.operators.BinaryOperator.{the_type as binary_type}
+use Rattle.qs_syntax.specs.declared.operators.AssignmentOperator.{AssignmentOperator}
+use Rattle.qs_syntax.specs.declared.operators.AssignmentOperator.TheVariants as assigns
+use Rattle.qs_syntax.specs.contracts.operators.AssignmentOperator.{the_type as assign_type}
+use Rattle.qs_syntax.specs.declared.operators.Access.{Access}
+use Rattle.qs_syntax.specs.declared.operators.Access.TheVariants as accesses
+use Rattle.qs_syntax.specs.contracts.operators.Access.{the_type as access_type}
 use Rattle.qs_syntax.specs.Sameness.{unary_number, step_number, binary_number, assign_number, access_number, same_unary, same_step, same_binary, same_assign, same_access}
 
 unary_tag : (a : UnaryOperator) → tag_of unary_type a ≡ unary_number a

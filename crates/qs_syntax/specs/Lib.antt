@@ -6,6 +6,7 @@ pub mod Reads
 pub mod ReadsDeclarations
 pub mod ReadsStatements
 pub mod ReadsUnits
+pub mod Nodes
 pub mod Numbering
 pub mod Units
 pub mod UnitTrees

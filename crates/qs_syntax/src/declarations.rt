@@ -3,11 +3,11 @@ ghost use Rattle.std.specs.Prelude.{◌≡◌, ◌+◌, ◌<◌, ◌^◌, ◌++�
 ghost use Rattle.std.specs.Option.{option_eq};
 ghost use Rattle.std.specs.Cmp.Lexicographic.{pointwise};
 ghost use Rattle.qs_syntax.specs.TreeOf.{lengths_tree, declarator_tree, initialiser_tree, list_tree, initialisers_tree, variable_tree, declaration_tree, parameter_tree, members_tree};
-ghost use Rattle.qs_syntax.specs.Nodes.{tokens_of, option_count, option_nodes, lengths_count, lengths_nodes, declarator_count, declarator_nodes, initialiser_count, initialiser_nodes, initialisers_count, initialisers_nodes, variable_count, variable_nodes, declaration_count, declaration_nodes, parameter_count, parameter_nodes, members_count, members_nodes};
-ghost use Rattle.qs_syntax.specs.Numbering.{numbered, relabel_option, relabel_lengths, relabel_declarator, relabel_initialiser, relabel_initialisers, relabel_variable, relabel_declaration, relabel_parameter, relabel_members};
+ghost use Rattle.qs_syntax.specs.Nodes.{tokens_of, all_count, all_nodes, option_count, option_nodes, lengths_count, lengths_nodes, declarator_count, declarator_nodes, initialiser_count, initialiser_nodes, initialisers_count, initialisers_nodes, variable_count, variable_nodes, declaration_count, declaration_nodes, parameter_count, parameter_nodes, members_count, members_nodes};
+ghost use Rattle.qs_syntax.specs.Numbering.{numbered, relabel_all, relabel_option, relabel_lengths, relabel_declarator, relabel_initialiser, relabel_initialisers, relabel_variable, relabel_declaration, relabel_parameter, relabel_members};
 ghost use Rattle.qs_syntax.specs.Sameness.{same_bytes, same_lengths, same_declarator, same_initialiser, same_initialisers, same_variable, same_declaration, same_parameter, same_members};
 
-use crate::expressions::{Expr, Shape, copy_expr, copy_exprs, number_expr, same_expr, same_exprs};
+use crate::expressions::{Expr, Shape, copy_expr, copy_exprs, number_expr, number_exprs, same_expr, same_exprs};
 use crate::nodes::{Node, number_node, same_node};
 use crate::types::{Base, TypeName, same_base, same_type};
 use qs_base::{Name, NoMemory};
@@ -332,18 +332,17 @@ pub fn copy_members(alloc: Global, from: &Members) -> Result<Members, NoMemory>
 
 // ---- the numbers of the nodes
 
+#[tactic(auto, using(crate::proofs::NodeLaws::tokens_of_both, std::proofs::lemmas::List::with_items_is))]
 fn number_lengths(lengths: &mut Lengths, tokens: &mut Vec<u32>) -> Result<(), NoMemory>
     requires { length tokens.old.items + lengths_count (lengths_tree lengths.old) < 2 ^ 32 }
     ensures tree { OnOk result (lengths_tree lengths.new ≡ relabel_lengths numbered (length tokens.old.items) (lengths_tree lengths.old)) }
     ensures end { OnOk result (length tokens.new.items ≡ length tokens.old.items + lengths_count (lengths_tree lengths.old)) }
     ensures tokens { OnOk result (tokens.new.items ≡ tokens.old.items ++ tokens_of (lengths_nodes (lengths_tree lengths.old))) }
 {
-    for e in lengths.given.iter_mut() {
-        number_expr(e, tokens)?;
-    }
-    Ok(())
+    number_exprs(&mut lengths.given, tokens)
 }
 
+#[tactic(auto, using(crate::proofs::NodeLaws::tokens_of_both, std::proofs::lemmas::List::with_items_is))]
 fn number_declarator(declarator: &mut Declarator, tokens: &mut Vec<u32>) -> Result<(), NoMemory>
     requires { length tokens.old.items + declarator_count (declarator_tree declarator.old) < 2 ^ 32 }
     ensures tree { OnOk result (declarator_tree declarator.new ≡ relabel_declarator numbered (length tokens.old.items) (declarator_tree declarator.old)) }
@@ -355,6 +354,7 @@ fn number_declarator(declarator: &mut Declarator, tokens: &mut Vec<u32>) -> Resu
 }
 
 #[cycle(number_initialiser)]
+#[tactic(auto, using(crate::proofs::NodeLaws::tokens_of_both, std::proofs::lemmas::List::with_items_is))]
 fn number_initialiser(item: &mut Initialiser, tokens: &mut Vec<u32>) -> Result<(), NoMemory>
     requires { length tokens.old.items + initialiser_count (initialiser_tree item.old) < 2 ^ 32 }
     ensures tree { OnOk result (initialiser_tree item.new ≡ relabel_initialiser numbered (length tokens.old.items) (initialiser_tree item.old)) }
@@ -366,12 +366,13 @@ fn number_initialiser(item: &mut Initialiser, tokens: &mut Vec<u32>) -> Result<(
         shape: Shape::Constant(0, false),
     };
     let from = mem::replace(item, Initialiser::Value(nothing));
-    *item = numbered_initialiser(from, tokens)?;
+    *item = number_parts(from, tokens)?;
     Ok(())
 }
 
 #[cycle(number_initialiser)]
-fn numbered_initialiser(from: Initialiser, tokens: &mut Vec<u32>) -> Result<Initialiser, NoMemory>
+#[tactic(auto, using(crate::proofs::NodeLaws::tokens_of_both, std::proofs::lemmas::List::with_items_is))]
+fn number_parts(from: Initialiser, tokens: &mut Vec<u32>) -> Result<Initialiser, NoMemory>
     requires { length tokens.old.items + initialiser_count (initialiser_tree from) < 2 ^ 32 }
     ensures tree { IfOk result (λ to. initialiser_tree to ≡ relabel_initialiser numbered (length tokens.old.items) (initialiser_tree from)) }
     ensures end { OnOk result (length tokens.new.items ≡ length tokens.old.items + initialiser_count (initialiser_tree from)) }
@@ -390,6 +391,7 @@ fn numbered_initialiser(from: Initialiser, tokens: &mut Vec<u32>) -> Result<Init
 }
 
 #[cycle(number_initialiser)]
+#[tactic(auto, using(crate::proofs::NodeLaws::tokens_of_both, std::proofs::lemmas::List::with_items_is))]
 fn number_list(list: &mut InitialiserList, tokens: &mut Vec<u32>) -> Result<(), NoMemory>
     requires { length tokens.old.items + initialiser_count (list_tree list.old) < 2 ^ 32 }
     ensures tree { OnOk result (list_tree list.new ≡ relabel_initialiser numbered (length tokens.old.items) (list_tree list.old)) }
@@ -401,6 +403,7 @@ fn number_list(list: &mut InitialiserList, tokens: &mut Vec<u32>) -> Result<(), 
 }
 
 #[cycle(number_initialiser)]
+#[tactic(auto, using(crate::proofs::NodeLaws::tokens_of_both, std::proofs::lemmas::List::with_items_is))]
 fn number_initialisers(items: &mut [Initialiser], tokens: &mut Vec<u32>) -> Result<(), NoMemory>
     requires { length tokens.old.items + initialisers_count (initialisers_tree items.old) < 2 ^ 32 }
     ensures tree { OnOk result (initialisers_tree items.new ≡ relabel_initialisers numbered (length tokens.old.items) (initialisers_tree items.old)) }
@@ -413,6 +416,7 @@ fn number_initialisers(items: &mut [Initialiser], tokens: &mut Vec<u32>) -> Resu
     Ok(())
 }
 
+#[tactic(auto, using(crate::proofs::NodeLaws::tokens_of_both, std::proofs::lemmas::List::with_items_is))]
 fn number_option(option: &mut Option<Initialiser>, tokens: &mut Vec<u32>) -> Result<(), NoMemory>
     requires { length tokens.old.items + option_count initialiser_count (option_map initialiser_tree option.old) < 2 ^ 32 }
     ensures tree { OnOk result (option_map initialiser_tree option.new ≡ relabel_option (relabel_initialiser numbered) (length tokens.old.items) (option_map initialiser_tree option.old)) }
@@ -425,6 +429,7 @@ fn number_option(option: &mut Option<Initialiser>, tokens: &mut Vec<u32>) -> Res
     }
 }
 
+#[tactic(auto, using(crate::proofs::NodeLaws::tokens_of_both, std::proofs::lemmas::List::with_items_is))]
 fn number_variable(variable: &mut Variable, tokens: &mut Vec<u32>) -> Result<(), NoMemory>
     requires { length tokens.old.items + variable_count (variable_tree variable.old) < 2 ^ 32 }
     ensures tree { OnOk result (variable_tree variable.new ≡ relabel_variable numbered (length tokens.old.items) (variable_tree variable.old)) }
@@ -435,18 +440,30 @@ fn number_variable(variable: &mut Variable, tokens: &mut Vec<u32>) -> Result<(),
     number_option(&mut variable.initialiser, tokens)
 }
 
+#[tactic(auto, using(crate::proofs::NodeLaws::tokens_of_both, std::proofs::lemmas::List::with_items_is))]
 pub fn number_declaration(declaration: &mut Declaration, tokens: &mut Vec<u32>) -> Result<(), NoMemory>
     requires { length tokens.old.items + declaration_count (declaration_tree declaration.old) < 2 ^ 32 }
     ensures tree { OnOk result (declaration_tree declaration.new ≡ relabel_declaration numbered (length tokens.old.items) (declaration_tree declaration.old)) }
     ensures end { OnOk result (length tokens.new.items ≡ length tokens.old.items + declaration_count (declaration_tree declaration.old)) }
     ensures tokens { OnOk result (tokens.new.items ≡ tokens.old.items ++ tokens_of (declaration_nodes (declaration_tree declaration.old))) }
 {
-    for variable in declaration.variables.iter_mut() {
+    number_variables(&mut declaration.variables, tokens)
+}
+
+#[tactic(auto, using(crate::proofs::NodeLaws::tokens_of_both, std::proofs::lemmas::List::with_items_is))]
+fn number_variables(variables: &mut [Variable], tokens: &mut Vec<u32>) -> Result<(), NoMemory>
+    requires { length tokens.old.items + all_count variable_count (map variable_tree variables.old) < 2 ^ 32 }
+    ensures tree { OnOk result (map variable_tree variables.new ≡ relabel_all numbered variable_count (relabel_variable numbered) (length tokens.old.items) (map variable_tree variables.old)) }
+    ensures end { OnOk result (length tokens.new.items ≡ length tokens.old.items + all_count variable_count (map variable_tree variables.old)) }
+    ensures tokens { OnOk result (tokens.new.items ≡ tokens.old.items ++ tokens_of (all_nodes variable_nodes (map variable_tree variables.old))) }
+{
+    for variable in variables.iter_mut() {
         number_variable(variable, tokens)?;
     }
     Ok(())
 }
 
+#[tactic(auto, using(crate::proofs::NodeLaws::tokens_of_both, std::proofs::lemmas::List::with_items_is))]
 pub fn number_parameter(parameter: &mut Parameter, tokens: &mut Vec<u32>) -> Result<(), NoMemory>
     requires { length tokens.old.items + parameter_count (parameter_tree parameter.old) < 2 ^ 32 }
     ensures tree { OnOk result (parameter_tree parameter.new ≡ relabel_parameter numbered (length tokens.old.items) (parameter_tree parameter.old)) }
@@ -457,13 +474,24 @@ pub fn number_parameter(parameter: &mut Parameter, tokens: &mut Vec<u32>) -> Res
     number_lengths(&mut parameter.lengths, tokens)
 }
 
+#[tactic(auto, using(crate::proofs::NodeLaws::tokens_of_both, std::proofs::lemmas::List::with_items_is))]
 pub fn number_members(members: &mut Members, tokens: &mut Vec<u32>) -> Result<(), NoMemory>
     requires { length tokens.old.items + members_count (members_tree members.old) < 2 ^ 32 }
     ensures tree { OnOk result (members_tree members.new ≡ relabel_members numbered (length tokens.old.items) (members_tree members.old)) }
     ensures end { OnOk result (length tokens.new.items ≡ length tokens.old.items + members_count (members_tree members.old)) }
     ensures tokens { OnOk result (tokens.new.items ≡ tokens.old.items ++ tokens_of (members_nodes (members_tree members.old))) }
 {
-    for declarator in members.declarators.iter_mut() {
+    number_declarators(&mut members.declarators, tokens)
+}
+
+#[tactic(auto, using(crate::proofs::NodeLaws::tokens_of_both, std::proofs::lemmas::List::with_items_is))]
+fn number_declarators(declarators: &mut [Declarator], tokens: &mut Vec<u32>) -> Result<(), NoMemory>
+    requires { length tokens.old.items + all_count declarator_count (map declarator_tree declarators.old) < 2 ^ 32 }
+    ensures tree { OnOk result (map declarator_tree declarators.new ≡ relabel_all numbered declarator_count (relabel_declarator numbered) (length tokens.old.items) (map declarator_tree declarators.old)) }
+    ensures end { OnOk result (length tokens.new.items ≡ length tokens.old.items + all_count declarator_count (map declarator_tree declarators.old)) }
+    ensures tokens { OnOk result (tokens.new.items ≡ tokens.old.items ++ tokens_of (all_nodes declarator_nodes (map declarator_tree declarators.old))) }
+{
+    for declarator in declarators.iter_mut() {
         number_declarator(declarator, tokens)?;
     }
     Ok(())

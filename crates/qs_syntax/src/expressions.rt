@@ -1,8 +1,8 @@
 // Expressions (C11 6.5): their trees, whether two are the same, copies, and the numbers of their nodes.
-ghost use Rattle.std.specs.Prelude.{◌≡◌, ◌+◌, ◌<◌, ◌^◌, ◌++◌, ◌↔◌, IfOk, IsTrue, OnOk, length};
+ghost use Rattle.std.specs.Prelude.{◌≡◌, ◌+◌, ◌<◌, ◌^◌, ◌++◌, ◌↔◌, IfOk, IsTrue, OnOk, length, map};
 ghost use Rattle.qs_syntax.specs.TreeOf.{expr_tree, exprs_tree, shape_tree};
-ghost use Rattle.qs_syntax.specs.Nodes.{tokens_of, expr_count, exprs_count, shape_count, expr_nodes, exprs_nodes, shape_nodes};
-ghost use Rattle.qs_syntax.specs.Numbering.{numbered, relabel_expr, relabel_exprs, relabel_shape};
+ghost use Rattle.qs_syntax.specs.Nodes.{tokens_of, all_count, all_nodes, expr_count, exprs_count, shape_count, expr_nodes, exprs_nodes, shape_nodes};
+ghost use Rattle.qs_syntax.specs.Numbering.{numbered, relabel_all, relabel_expr, relabel_exprs, relabel_shape};
 ghost use Rattle.qs_syntax.specs.Sameness.{same_unary, same_step, same_binary, same_assign, same_access, same_expr, same_shape, same_exprs};
 
 use crate::nodes::{Node, number_node, same_node};
@@ -268,6 +268,7 @@ pub fn copy_exprs(alloc: Global, from: &[Expr]) -> Result<Vec<Expr>, NoMemory>
 
 /// Numbers the nodes, where `tokens` has the token of each node before them; theirs are put behind.
 #[cycle(number_expr)]
+#[tactic(auto, using(crate::proofs::NodeLaws::tokens_of_both, std::proofs::lemmas::List::with_items_is))]
 pub fn number_expr(e: &mut Expr, tokens: &mut Vec<u32>) -> Result<(), NoMemory>
     requires { length tokens.old.items + expr_count (expr_tree e.old) < 2 ^ 32 }
     ensures tree { OnOk result (expr_tree e.new ≡ relabel_expr numbered (length tokens.old.items) (expr_tree e.old)) }
@@ -281,6 +282,20 @@ pub fn number_expr(e: &mut Expr, tokens: &mut Vec<u32>) -> Result<(), NoMemory>
 }
 
 #[cycle(number_expr)]
+#[tactic(auto, using(crate::proofs::NodeLaws::tokens_of_both, std::proofs::lemmas::List::with_items_is))]
+fn number_boxed(e: Box<Expr>, tokens: &mut Vec<u32>) -> Result<Box<Expr>, NoMemory>
+    requires { length tokens.old.items + expr_count (expr_tree e.value) < 2 ^ 32 }
+    ensures tree { IfOk result (λ to. expr_tree to.value ≡ relabel_expr numbered (length tokens.old.items) (expr_tree e.value)) }
+    ensures end { OnOk result (length tokens.new.items ≡ length tokens.old.items + expr_count (expr_tree e.value)) }
+    ensures tokens { OnOk result (tokens.new.items ≡ tokens.old.items ++ tokens_of (expr_nodes (expr_tree e.value))) }
+{
+    let mut e = e;
+    number_expr(&mut e, tokens)?;
+    Ok(e)
+}
+
+#[cycle(number_expr)]
+#[tactic(auto, using(crate::proofs::NodeLaws::tokens_of_both, std::proofs::lemmas::List::with_items_is))]
 fn number_shape(shape: Shape, tokens: &mut Vec<u32>) -> Result<Shape, NoMemory>
     requires { length tokens.old.items + shape_count (shape_tree shape) < 2 ^ 32 }
     ensures tree { IfOk result (λ to. shape_tree to ≡ relabel_shape numbered (length tokens.old.items) (shape_tree shape)) }
@@ -291,66 +306,67 @@ fn number_shape(shape: Shape, tokens: &mut Vec<u32>) -> Result<Shape, NoMemory>
         Shape::Constant(value, is_unsigned) => Ok(Shape::Constant(value, is_unsigned)),
         Shape::Text(text) => Ok(Shape::Text(text)),
         Shape::Name(name) => Ok(Shape::Name(name)),
-        Shape::Unary(operator, mut a) => {
-            number_expr(&mut a, tokens)?;
-            Ok(Shape::Unary(operator, a))
-        }
-        Shape::Step(operator, mut a) => {
-            number_expr(&mut a, tokens)?;
-            Ok(Shape::Step(operator, a))
-        }
-        Shape::Cast(type_name, mut a) => {
-            number_expr(&mut a, tokens)?;
-            Ok(Shape::Cast(type_name, a))
-        }
+        Shape::Unary(operator, a) => Ok(Shape::Unary(operator, number_boxed(a, tokens)?)),
+        Shape::Step(operator, a) => Ok(Shape::Step(operator, number_boxed(a, tokens)?)),
+        Shape::Cast(type_name, a) => Ok(Shape::Cast(type_name, number_boxed(a, tokens)?)),
         Shape::SizeofType(type_name) => Ok(Shape::SizeofType(type_name)),
-        Shape::SizeofExpr(mut a) => {
-            number_expr(&mut a, tokens)?;
-            Ok(Shape::SizeofExpr(a))
-        }
-        Shape::Binary { operator, mut left, mut right } => {
-            number_expr(&mut left, tokens)?;
-            number_expr(&mut right, tokens)?;
-            Ok(Shape::Binary { operator, left, right })
-        }
-        Shape::Assign { operator, mut left, mut right } => {
-            number_expr(&mut left, tokens)?;
-            number_expr(&mut right, tokens)?;
-            Ok(Shape::Assign { operator, left, right })
-        }
-        Shape::Conditional { mut condition, mut then, mut otherwise } => {
-            number_expr(&mut condition, tokens)?;
-            number_expr(&mut then, tokens)?;
-            number_expr(&mut otherwise, tokens)?;
-            Ok(Shape::Conditional { condition, then, otherwise })
-        }
-        Shape::Comma(mut a, mut b) => {
-            number_expr(&mut a, tokens)?;
-            number_expr(&mut b, tokens)?;
-            Ok(Shape::Comma(a, b))
-        }
-        Shape::Subscript(mut a, mut b) => {
-            number_expr(&mut a, tokens)?;
-            number_expr(&mut b, tokens)?;
-            Ok(Shape::Subscript(a, b))
-        }
-        Shape::Member { access, mut object, name } => {
-            number_expr(&mut object, tokens)?;
-            Ok(Shape::Member { access, object, name })
-        }
-        Shape::Call(name, mut arguments) => {
-            number_exprs(&mut arguments, tokens)?;
-            Ok(Shape::Call(name, arguments))
-        }
+        Shape::SizeofExpr(a) => Ok(Shape::SizeofExpr(number_boxed(a, tokens)?)),
+        Shape::Binary { operator, left, right } => Ok(Shape::Binary {
+            operator,
+            left: number_boxed(left, tokens)?,
+            right: number_boxed(right, tokens)?,
+        }),
+        Shape::Assign { operator, left, right } => Ok(Shape::Assign {
+            operator,
+            left: number_boxed(left, tokens)?,
+            right: number_boxed(right, tokens)?,
+        }),
+        Shape::Conditional { condition, then, otherwise } => Ok(Shape::Conditional {
+            condition: number_boxed(condition, tokens)?,
+            then: number_boxed(then, tokens)?,
+            otherwise: number_boxed(otherwise, tokens)?,
+        }),
+        Shape::Comma(a, b) => Ok(Shape::Comma(
+            number_boxed(a, tokens)?,
+            number_boxed(b, tokens)?,
+        )),
+        Shape::Subscript(a, b) => Ok(Shape::Subscript(
+            number_boxed(a, tokens)?,
+            number_boxed(b, tokens)?,
+        )),
+        Shape::Member { access, object, name } => Ok(Shape::Member {
+            access,
+            object: number_boxed(object, tokens)?,
+            name,
+        }),
+        Shape::Call(name, arguments) => Ok(Shape::Call(
+            name,
+            number_arguments(arguments, tokens)?,
+        )),
     }
 }
 
 #[cycle(number_expr)]
+#[tactic(auto, using(crate::proofs::NumberingLoops::exprs_count_of, crate::proofs::NumberingLoops::exprs_nodes_of, crate::proofs::NumberingLoops::exprs_of_relabelled, std::proofs::lemmas::List::with_items_is))]
+fn number_arguments(es: Vec<Expr>, tokens: &mut Vec<u32>) -> Result<Vec<Expr>, NoMemory>
+    requires { length tokens.old.items + exprs_count (exprs_tree es.items) < 2 ^ 32 }
+    ensures tree { IfOk result (λ to. exprs_tree to.items ≡ relabel_exprs numbered (length tokens.old.items) (exprs_tree es.items)) }
+    ensures end { OnOk result (length tokens.new.items ≡ length tokens.old.items + exprs_count (exprs_tree es.items)) }
+    ensures tokens { OnOk result (tokens.new.items ≡ tokens.old.items ++ tokens_of (exprs_nodes (exprs_tree es.items))) }
+{
+    let mut es = es;
+    number_exprs(&mut es, tokens)?;
+    Ok(es)
+}
+
+/// Numbers the nodes of all.
+#[cycle(number_expr)]
+#[tactic(auto, using(crate::proofs::NodeLaws::tokens_of_both, std::proofs::lemmas::List::with_items_is))]
 pub fn number_exprs(es: &mut [Expr], tokens: &mut Vec<u32>) -> Result<(), NoMemory>
-    requires { length tokens.old.items + exprs_count (exprs_tree es.old) < 2 ^ 32 }
-    ensures tree { OnOk result (exprs_tree es.new ≡ relabel_exprs numbered (length tokens.old.items) (exprs_tree es.old)) }
-    ensures end { OnOk result (length tokens.new.items ≡ length tokens.old.items + exprs_count (exprs_tree es.old)) }
-    ensures tokens { OnOk result (tokens.new.items ≡ tokens.old.items ++ tokens_of (exprs_nodes (exprs_tree es.old))) }
+    requires { length tokens.old.items + all_count expr_count (map expr_tree es.old) < 2 ^ 32 }
+    ensures tree { OnOk result (map expr_tree es.new ≡ relabel_all numbered expr_count (relabel_expr numbered) (length tokens.old.items) (map expr_tree es.old)) }
+    ensures end { OnOk result (length tokens.new.items ≡ length tokens.old.items + all_count expr_count (map expr_tree es.old)) }
+    ensures tokens { OnOk result (tokens.new.items ≡ tokens.old.items ++ tokens_of (all_nodes expr_nodes (map expr_tree es.old))) }
 {
     for e in es.iter_mut() {
         number_expr(e, tokens)?;

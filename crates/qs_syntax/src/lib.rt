@@ -1,26 +1,28 @@
 //! The words of the language: its tokens, and its trees.
 #![tactic(auto)]
 
-mod copy;
+mod declarations;
+mod expressions;
+mod nodes;
+mod operators;
+mod statements;
 mod terminal;
-mod numbered_declarations;
-mod numbered_statements;
-mod numbered_units;
-mod numbering;
-mod same;
-mod same_declarations;
-mod same_expressions;
-mod same_statements;
-mod same_units;
+mod text;
 mod tokens;
-mod tree;
+mod types;
 mod unit;
+mod units;
 
-pub use terminal::Terminal;
-pub use tokens::{Keyword, Punctuator, Token, TokenKind};
-pub use tree::{
-    Access, AssignmentOperator, Base, BinaryOperator, Decl, Declaration, Declarator, Expr, Forward, Function,
-    Initialiser, InitialiserList, Lengths, Members, Node, Parameter, Shape, Start, StepOperator, Stmt,
-    Struct, Text, TypeName, UnaryOperator, Variable,
+pub use declarations::{
+    Declaration, Declarator, Initialiser, InitialiserList, Lengths, Members, Parameter, Variable,
 };
+pub use expressions::{Expr, Shape};
+pub use nodes::Node;
+pub use operators::{Access, AssignmentOperator, BinaryOperator, StepOperator, UnaryOperator};
+pub use statements::{Start, Stmt};
+pub use terminal::Terminal;
+pub use text::Text;
+pub use tokens::{Keyword, Punctuator, Token, TokenKind};
+pub use types::{Base, TypeName};
 pub use unit::{Unit, numbered};
+pub use units::{Decl, Forward, Function, Struct};

@@ -1,4 +1,5 @@
-// The operators of the language (C11 6.5).
+// Operators (C11 6.5.2 to 6.5.16).
+
 /// A unary operator (C11 6.5.3).
 #[derive(Clone, Copy, PartialEq, Eq, Debug)]
 pub enum UnaryOperator {

@@ -269,6 +269,7 @@ pub fn copy_stmts(alloc: Global, from: &[Stmt]) -> Result<Vec<Stmt>, NoMemory>
 
 // ---- the numbers of the nodes
 
+#[tactic(auto, using(crate::proofs::NodeLaws::tokens_of_both, std::proofs::lemmas::List::with_items_is))]
 fn number_option(option: &mut Option<Expr>, tokens: &mut Vec<u32>) -> Result<(), NoMemory>
     requires { length tokens.old.items + option_count expr_count (option_tree option.old) < 2 ^ 32 }
     ensures tree { OnOk result (option_tree option.new ≡ relabel_option (relabel_expr numbered) (length tokens.old.items) (option_tree option.old)) }
@@ -281,6 +282,7 @@ fn number_option(option: &mut Option<Expr>, tokens: &mut Vec<u32>) -> Result<(),
     }
 }
 
+#[tactic(auto, using(crate::proofs::NodeLaws::tokens_of_both, std::proofs::lemmas::List::with_items_is))]
 fn number_start(start: &mut Start, tokens: &mut Vec<u32>) -> Result<(), NoMemory>
     requires { length tokens.old.items + start_count (start_tree start.old) < 2 ^ 32 }
     ensures tree { OnOk result (start_tree start.new ≡ relabel_start numbered (length tokens.old.items) (start_tree start.old)) }
@@ -295,6 +297,7 @@ fn number_start(start: &mut Start, tokens: &mut Vec<u32>) -> Result<(), NoMemory
 }
 
 #[cycle(number_stmt)]
+#[tactic(auto, using(crate::proofs::NodeLaws::tokens_of_both, std::proofs::lemmas::List::with_items_is))]
 fn number_stmt(s: &mut Stmt, tokens: &mut Vec<u32>) -> Result<(), NoMemory>
     requires { length tokens.old.items + stmt_count (stmt_tree s.old) < 2 ^ 32 }
     ensures tree { OnOk result (stmt_tree s.new ≡ relabel_stmt numbered (length tokens.old.items) (stmt_tree s.old)) }
@@ -302,12 +305,13 @@ fn number_stmt(s: &mut Stmt, tokens: &mut Vec<u32>) -> Result<(), NoMemory>
     ensures tokens { OnOk result (tokens.new.items ≡ tokens.old.items ++ tokens_of (stmt_nodes (stmt_tree s.old))) }
 {
     let from = mem::replace(s, Stmt::Empty(Node { id: 0, token: 0 }));
-    *s = numbered_stmt(from, tokens)?;
+    *s = number_parts(from, tokens)?;
     Ok(())
 }
 
 #[cycle(number_stmt)]
-fn numbered_stmt(from: Stmt, tokens: &mut Vec<u32>) -> Result<Stmt, NoMemory>
+#[tactic(auto, using(crate::proofs::NodeLaws::tokens_of_both, std::proofs::lemmas::List::with_items_is))]
+fn number_parts(from: Stmt, tokens: &mut Vec<u32>) -> Result<Stmt, NoMemory>
     requires { length tokens.old.items + stmt_count (stmt_tree from) < 2 ^ 32 }
     ensures tree { IfOk result (λ to. stmt_tree to ≡ relabel_stmt numbered (length tokens.old.items) (stmt_tree from)) }
     ensures end { OnOk result (length tokens.new.items ≡ length tokens.old.items + stmt_count (stmt_tree from)) }
@@ -324,35 +328,32 @@ fn numbered_stmt(from: Stmt, tokens: &mut Vec<u32>) -> Result<Stmt, NoMemory>
             number_declaration(&mut d, tokens)?;
             Ok(Stmt::Declaration(d))
         }
-        Stmt::Block(mut items) => {
-            number_stmts(&mut items, tokens)?;
-            Ok(Stmt::Block(items))
-        }
-        Stmt::If { node, mut condition, mut then, otherwise } => {
+        Stmt::Block(items) => Ok(Stmt::Block(number_items(items, tokens)?)),
+        Stmt::If { node, mut condition, then, otherwise } => {
             let node = number_node(node, tokens)?;
             number_expr(&mut condition, tokens)?;
-            number_stmt(&mut then, tokens)?;
-            let otherwise = numbered_else(otherwise, tokens)?;
+            let then = number_boxed(then, tokens)?;
+            let otherwise = number_else(otherwise, tokens)?;
             Ok(Stmt::If { node, condition, then, otherwise })
         }
-        Stmt::While { node, mut condition, mut body } => {
+        Stmt::While { node, mut condition, body } => {
             let node = number_node(node, tokens)?;
             number_expr(&mut condition, tokens)?;
-            number_stmt(&mut body, tokens)?;
+            let body = number_boxed(body, tokens)?;
             Ok(Stmt::While { node, condition, body })
         }
-        Stmt::Do { node, mut body, mut condition } => {
+        Stmt::Do { node, body, mut condition } => {
             let node = number_node(node, tokens)?;
-            number_stmt(&mut body, tokens)?;
+            let body = number_boxed(body, tokens)?;
             number_expr(&mut condition, tokens)?;
             Ok(Stmt::Do { node, body, condition })
         }
-        Stmt::For { node, mut start, mut condition, mut step, mut body } => {
+        Stmt::For { node, mut start, mut condition, mut step, body } => {
             let node = number_node(node, tokens)?;
             number_start(&mut start, tokens)?;
             number_option(&mut condition, tokens)?;
             number_option(&mut step, tokens)?;
-            number_stmt(&mut body, tokens)?;
+            let body = number_boxed(body, tokens)?;
             Ok(Stmt::For { node, start, condition, step, body })
         }
         Stmt::Break(node) => Ok(Stmt::Break(number_node(node, tokens)?)),
@@ -366,7 +367,21 @@ fn numbered_stmt(from: Stmt, tokens: &mut Vec<u32>) -> Result<Stmt, NoMemory>
 }
 
 #[cycle(number_stmt)]
-fn numbered_else(
+#[tactic(auto, using(crate::proofs::NodeLaws::tokens_of_both, std::proofs::lemmas::List::with_items_is))]
+fn number_boxed(s: Box<Stmt>, tokens: &mut Vec<u32>) -> Result<Box<Stmt>, NoMemory>
+    requires { length tokens.old.items + stmt_count (stmt_tree s.value) < 2 ^ 32 }
+    ensures tree { IfOk result (λ to. stmt_tree to.value ≡ relabel_stmt numbered (length tokens.old.items) (stmt_tree s.value)) }
+    ensures end { OnOk result (length tokens.new.items ≡ length tokens.old.items + stmt_count (stmt_tree s.value)) }
+    ensures tokens { OnOk result (tokens.new.items ≡ tokens.old.items ++ tokens_of (stmt_nodes (stmt_tree s.value))) }
+{
+    let mut s = s;
+    number_stmt(&mut s, tokens)?;
+    Ok(s)
+}
+
+#[cycle(number_stmt)]
+#[tactic(auto, using(crate::proofs::NodeLaws::tokens_of_both, std::proofs::lemmas::List::with_items_is))]
+fn number_else(
     from: Option<Box<Stmt>>,
     tokens: &mut Vec<u32>,
 ) -> Result<Option<Box<Stmt>>, NoMemory>
@@ -377,14 +392,25 @@ fn numbered_else(
 {
     match from {
         None => Ok(None),
-        Some(mut s) => {
-            number_stmt(&mut s, tokens)?;
-            Ok(Some(s))
-        }
+        Some(s) => Ok(Some(number_boxed(s, tokens)?)),
     }
 }
 
 #[cycle(number_stmt)]
+#[tactic(auto, using(crate::proofs::NodeLaws::tokens_of_both, std::proofs::lemmas::List::with_items_is))]
+fn number_items(items: Vec<Stmt>, tokens: &mut Vec<u32>) -> Result<Vec<Stmt>, NoMemory>
+    requires { length tokens.old.items + stmts_count (stmts_tree items.items) < 2 ^ 32 }
+    ensures tree { IfOk result (λ to. stmts_tree to.items ≡ relabel_stmts numbered (length tokens.old.items) (stmts_tree items.items)) }
+    ensures end { OnOk result (length tokens.new.items ≡ length tokens.old.items + stmts_count (stmts_tree items.items)) }
+    ensures tokens { OnOk result (tokens.new.items ≡ tokens.old.items ++ tokens_of (stmts_nodes (stmts_tree items.items))) }
+{
+    let mut items = items;
+    number_stmts(&mut items, tokens)?;
+    Ok(items)
+}
+
+#[cycle(number_stmt)]
+#[tactic(auto, using(crate::proofs::NodeLaws::tokens_of_both, std::proofs::lemmas::List::with_items_is))]
 pub fn number_stmts(items: &mut [Stmt], tokens: &mut Vec<u32>) -> Result<(), NoMemory>
     requires { length tokens.old.items + stmts_count (stmts_tree items.old) < 2 ^ 32 }
     ensures tree { OnOk result (stmts_tree items.new ≡ relabel_stmts numbered (length tokens.old.items) (stmts_tree items.old)) }

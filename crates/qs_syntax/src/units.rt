@@ -3,8 +3,8 @@ ghost use Rattle.std.specs.Prelude.{◌≡◌, ◌+◌, ◌<◌, ◌^◌, ◌++�
 ghost use Rattle.std.specs.Option.{option_eq};
 ghost use Rattle.std.specs.Cmp.Lexicographic.{pointwise};
 ghost use Rattle.qs_syntax.specs.TreeOf.{stmts_tree, parameter_tree, members_tree, struct_tree, forward_tree, function_tree, decl_tree};
-ghost use Rattle.qs_syntax.specs.Nodes.{tokens_of, all_count, all_nodes, option_count, option_nodes, stmts_count, stmts_nodes, parameter_count, parameter_nodes, struct_count, struct_nodes, function_count, function_nodes, decl_count, decl_nodes};
-ghost use Rattle.qs_syntax.specs.Numbering.{numbered, relabel_all, relabel_option, relabel_stmts, relabel_parameter, relabel_struct, relabel_function, relabel_decl};
+ghost use Rattle.qs_syntax.specs.Nodes.{tokens_of, all_count, all_nodes, option_count, option_nodes, stmts_count, stmts_nodes, parameter_count, parameter_nodes, members_count, members_nodes, struct_count, struct_nodes, function_count, function_nodes, decl_count, decl_nodes};
+ghost use Rattle.qs_syntax.specs.Numbering.{numbered, relabel_all, relabel_option, relabel_stmts, relabel_parameter, relabel_members, relabel_struct, relabel_function, relabel_decl};
 ghost use Rattle.qs_syntax.specs.Sameness.{same_stmts, same_parameter, same_members, same_struct, same_forward, same_function, same_decl, same_unit};
 
 use crate::declarations::{
@@ -228,6 +228,7 @@ pub fn copy_decls(alloc: Global, from: &[Decl]) -> Result<Vec<Decl>, NoMemory>
 
 // ---- the numbers of the nodes
 
+#[tactic(auto, using(crate::proofs::NodeLaws::tokens_of_both, std::proofs::lemmas::List::with_items_is))]
 fn number_struct(structure: &mut Struct, tokens: &mut Vec<u32>) -> Result<(), NoMemory>
     requires { length tokens.old.items + struct_count (struct_tree structure.old) < 2 ^ 32 }
     ensures tree { OnOk result (struct_tree structure.new ≡ relabel_struct numbered (length tokens.old.items) (struct_tree structure.old)) }
@@ -238,6 +239,7 @@ fn number_struct(structure: &mut Struct, tokens: &mut Vec<u32>) -> Result<(), No
     number_groups(&mut structure.members, tokens)
 }
 
+#[tactic(auto, using(crate::proofs::NodeLaws::tokens_of_both, std::proofs::lemmas::List::with_items_is))]
 fn number_groups(groups: &mut [Members], tokens: &mut Vec<u32>) -> Result<(), NoMemory>
     requires { length tokens.old.items + all_count members_count (map members_tree groups.old) < 2 ^ 32 }
     ensures tree { OnOk result (map members_tree groups.new ≡ relabel_all numbered members_count (relabel_members numbered) (length tokens.old.items) (map members_tree groups.old)) }
@@ -250,6 +252,7 @@ fn number_groups(groups: &mut [Members], tokens: &mut Vec<u32>) -> Result<(), No
     Ok(())
 }
 
+#[tactic(auto, using(crate::proofs::NodeLaws::tokens_of_both, std::proofs::lemmas::List::with_items_is))]
 fn number_parameters(parameters: &mut [Parameter], tokens: &mut Vec<u32>) -> Result<(), NoMemory>
     requires { length tokens.old.items + all_count parameter_count (map parameter_tree parameters.old) < 2 ^ 32 }
     ensures tree { OnOk result (map parameter_tree parameters.new ≡ relabel_all numbered parameter_count (relabel_parameter numbered) (length tokens.old.items) (map parameter_tree parameters.old)) }
@@ -262,6 +265,7 @@ fn number_parameters(parameters: &mut [Parameter], tokens: &mut Vec<u32>) -> Res
     Ok(())
 }
 
+#[tactic(auto, using(crate::proofs::NodeLaws::tokens_of_both, std::proofs::lemmas::List::with_items_is))]
 fn number_body(body: &mut Option<Vec<Stmt>>, tokens: &mut Vec<u32>) -> Result<(), NoMemory>
     requires { length tokens.old.items + option_count stmts_count (option_map (λ b. stmts_tree b.items) body.old) < 2 ^ 32 }
     ensures tree { OnOk result (option_map (λ b. stmts_tree b.items) body.new ≡ relabel_option (relabel_stmts numbered) (length tokens.old.items) (option_map (λ b. stmts_tree b.items) body.old)) }
@@ -274,6 +278,7 @@ fn number_body(body: &mut Option<Vec<Stmt>>, tokens: &mut Vec<u32>) -> Result<()
     }
 }
 
+#[tactic(auto, using(crate::proofs::NodeLaws::tokens_of_both, std::proofs::lemmas::List::with_items_is))]
 fn number_function(function: &mut Function, tokens: &mut Vec<u32>) -> Result<(), NoMemory>
     requires { length tokens.old.items + function_count (function_tree function.old) < 2 ^ 32 }
     ensures tree { OnOk result (function_tree function.new ≡ relabel_function numbered (length tokens.old.items) (function_tree function.old)) }
@@ -285,6 +290,7 @@ fn number_function(function: &mut Function, tokens: &mut Vec<u32>) -> Result<(),
     number_body(&mut function.body, tokens)
 }
 
+#[tactic(auto, using(crate::proofs::NodeLaws::tokens_of_both, std::proofs::lemmas::List::with_items_is))]
 fn number_decl(declaration: &mut Decl, tokens: &mut Vec<u32>) -> Result<(), NoMemory>
     requires { length tokens.old.items + decl_count (decl_tree declaration.old) < 2 ^ 32 }
     ensures tree { OnOk result (decl_tree declaration.new ≡ relabel_decl numbered (length tokens.old.items) (decl_tree declaration.old)) }
@@ -303,6 +309,7 @@ fn number_decl(declaration: &mut Decl, tokens: &mut Vec<u32>) -> Result<(), NoMe
 }
 
 /// Numbers the nodes, where `tokens` has the token of each node before them; theirs are put behind.
+#[tactic(auto, using(crate::proofs::NodeLaws::tokens_of_both, std::proofs::lemmas::List::with_items_is))]
 pub fn number_decls(declarations: &mut [Decl], tokens: &mut Vec<u32>) -> Result<(), NoMemory>
     requires { length tokens.old.items + all_count decl_count (map decl_tree declarations.old) < 2 ^ 32 }
     ensures tree { OnOk result (map decl_tree declarations.new ≡ relabel_all numbered decl_count (relabel_decl numbered) (length tokens.old.items) (map decl_tree declarations.old)) }

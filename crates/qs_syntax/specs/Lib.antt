@@ -8,6 +8,7 @@ pub mod ReadsStatements
 pub mod ReadsUnits
 pub mod Nodes
 pub mod Numbering
+pub mod WithoutTokens
 pub mod Units
 pub mod UnitTrees
 pub mod Sameness

@@ -146,7 +146,3 @@ bare = record { label = λ n node. record { id = 0; token = 0 }; onward = λ n k
 
 abbrev pub numbered_unit : UnitTree → UnitTree
 numbered_unit ds = relabel_unit numbered ds
-
--- what a unit says, wherever it stands
-abbrev pub bare_unit : UnitTree → UnitTree
-bare_unit ds = relabel_unit bare ds

@@ -365,50 +365,49 @@ fn number_initialiser(item: &mut Initialiser, tokens: &mut Vec<u32>) -> Result<(
         node: Node { id: 0, token: 0 },
         shape: Shape::Constant(0, false),
     };
-    let from = mem::replace(item, Initialiser::Value(nothing));
-    *item = number_parts(from, tokens)?;
+    *item = match mem::replace(item, Initialiser::Value(nothing)) {
+        Initialiser::Value(mut e) => {
+            number_expr(&mut e, tokens)?;
+            Initialiser::Value(e)
+        }
+        Initialiser::List(list) => Initialiser::List(number_list(list, tokens)?),
+    };
     Ok(())
 }
 
 #[cycle(number_initialiser)]
 #[tactic(auto, using(crate::proofs::NodeLaws::tokens_of_both, std::proofs::lemmas::List::with_items_is))]
-fn number_parts(from: Initialiser, tokens: &mut Vec<u32>) -> Result<Initialiser, NoMemory>
-    requires { length tokens.old.items + initialiser_count (initialiser_tree from) < 2 ^ 32 }
-    ensures tree { IfOk result (λ to. initialiser_tree to ≡ relabel_initialiser numbered (length tokens.old.items) (initialiser_tree from)) }
-    ensures end { OnOk result (length tokens.new.items ≡ length tokens.old.items + initialiser_count (initialiser_tree from)) }
-    ensures tokens { OnOk result (tokens.new.items ≡ tokens.old.items ++ tokens_of (initialiser_nodes (initialiser_tree from))) }
+fn number_list(list: InitialiserList, tokens: &mut Vec<u32>) -> Result<InitialiserList, NoMemory>
+    requires { length tokens.old.items + initialiser_count (list_tree list) < 2 ^ 32 }
+    ensures tree { IfOk result (λ to. list_tree to ≡ relabel_initialiser numbered (length tokens.old.items) (list_tree list)) }
+    ensures end { OnOk result (length tokens.new.items ≡ length tokens.old.items + initialiser_count (list_tree list)) }
+    ensures tokens { OnOk result (tokens.new.items ≡ tokens.old.items ++ tokens_of (initialiser_nodes (list_tree list))) }
 {
-    match from {
-        Initialiser::Value(mut e) => {
-            number_expr(&mut e, tokens)?;
-            Ok(Initialiser::Value(e))
-        }
-        Initialiser::List(mut list) => {
-            number_list(&mut list, tokens)?;
-            Ok(Initialiser::List(list))
-        }
-    }
+    let node = number_node(list.node, tokens)?;
+    let items = number_items(list.items, tokens)?;
+    Ok(InitialiserList { node, items })
 }
 
 #[cycle(number_initialiser)]
-#[tactic(auto, using(crate::proofs::NodeLaws::tokens_of_both, std::proofs::lemmas::List::with_items_is))]
-fn number_list(list: &mut InitialiserList, tokens: &mut Vec<u32>) -> Result<(), NoMemory>
-    requires { length tokens.old.items + initialiser_count (list_tree list.old) < 2 ^ 32 }
-    ensures tree { OnOk result (list_tree list.new ≡ relabel_initialiser numbered (length tokens.old.items) (list_tree list.old)) }
-    ensures end { OnOk result (length tokens.new.items ≡ length tokens.old.items + initialiser_count (list_tree list.old)) }
-    ensures tokens { OnOk result (tokens.new.items ≡ tokens.old.items ++ tokens_of (initialiser_nodes (list_tree list.old))) }
+#[tactic(auto, using(crate::proofs::NodeLaws::tokens_of_both, crate::proofs::NumberingLoops::initialisers_count_of, crate::proofs::NumberingLoops::initialisers_nodes_of, crate::proofs::NumberingLoops::initialisers_of_relabelled, std::proofs::lemmas::List::with_items_is))]
+fn number_items(items: Vec<Initialiser>, tokens: &mut Vec<u32>) -> Result<Vec<Initialiser>, NoMemory>
+    requires { length tokens.old.items + initialisers_count (initialisers_tree items.items) < 2 ^ 32 }
+    ensures tree { IfOk result (λ to. initialisers_tree to.items ≡ relabel_initialisers numbered (length tokens.old.items) (initialisers_tree items.items)) }
+    ensures end { OnOk result (length tokens.new.items ≡ length tokens.old.items + initialisers_count (initialisers_tree items.items)) }
+    ensures tokens { OnOk result (tokens.new.items ≡ tokens.old.items ++ tokens_of (initialisers_nodes (initialisers_tree items.items))) }
 {
-    list.node = number_node(list.node, tokens)?;
-    number_initialisers(&mut list.items, tokens)
+    let mut items = items;
+    number_initialisers(&mut items, tokens)?;
+    Ok(items)
 }
 
 #[cycle(number_initialiser)]
 #[tactic(auto, using(crate::proofs::NodeLaws::tokens_of_both, std::proofs::lemmas::List::with_items_is))]
 fn number_initialisers(items: &mut [Initialiser], tokens: &mut Vec<u32>) -> Result<(), NoMemory>
-    requires { length tokens.old.items + initialisers_count (initialisers_tree items.old) < 2 ^ 32 }
-    ensures tree { OnOk result (initialisers_tree items.new ≡ relabel_initialisers numbered (length tokens.old.items) (initialisers_tree items.old)) }
-    ensures end { OnOk result (length tokens.new.items ≡ length tokens.old.items + initialisers_count (initialisers_tree items.old)) }
-    ensures tokens { OnOk result (tokens.new.items ≡ tokens.old.items ++ tokens_of (initialisers_nodes (initialisers_tree items.old))) }
+    requires { length tokens.old.items + all_count initialiser_count (map initialiser_tree items.old) < 2 ^ 32 }
+    ensures tree { OnOk result (map initialiser_tree items.new ≡ relabel_all numbered initialiser_count (relabel_initialiser numbered) (length tokens.old.items) (map initialiser_tree items.old)) }
+    ensures end { OnOk result (length tokens.new.items ≡ length tokens.old.items + all_count initialiser_count (map initialiser_tree items.old)) }
+    ensures tokens { OnOk result (tokens.new.items ≡ tokens.old.items ++ tokens_of (all_nodes initialiser_nodes (map initialiser_tree items.old))) }
 {
     for item in items.iter_mut() {
         number_initialiser(item, tokens)?;
@@ -448,6 +447,21 @@ pub fn number_declaration(declaration: &mut Declaration, tokens: &mut Vec<u32>) 
     ensures tokens { OnOk result (tokens.new.items ≡ tokens.old.items ++ tokens_of (declaration_nodes (declaration_tree declaration.old))) }
 {
     number_variables(&mut declaration.variables, tokens)
+}
+
+/// The same, of a declaration that is handed over.
+pub fn number_owned_declaration(
+    declaration: Declaration,
+    tokens: &mut Vec<u32>,
+) -> Result<Declaration, NoMemory>
+    requires { length tokens.old.items + declaration_count (declaration_tree declaration) < 2 ^ 32 }
+    ensures tree { IfOk result (λ to. declaration_tree to ≡ relabel_declaration numbered (length tokens.old.items) (declaration_tree declaration)) }
+    ensures end { OnOk result (length tokens.new.items ≡ length tokens.old.items + declaration_count (declaration_tree declaration)) }
+    ensures tokens { OnOk result (tokens.new.items ≡ tokens.old.items ++ tokens_of (declaration_nodes (declaration_tree declaration))) }
+{
+    let mut declaration = declaration;
+    number_declaration(&mut declaration, tokens)?;
+    Ok(declaration)
 }
 
 #[tactic(auto, using(crate::proofs::NodeLaws::tokens_of_both, std::proofs::lemmas::List::with_items_is))]

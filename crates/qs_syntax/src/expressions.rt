@@ -281,6 +281,18 @@ pub fn number_expr(e: &mut Expr, tokens: &mut Vec<u32>) -> Result<(), NoMemory>
     Ok(())
 }
 
+/// The same, of an expression that is handed over.
+pub fn number_owned_expr(e: Expr, tokens: &mut Vec<u32>) -> Result<Expr, NoMemory>
+    requires { length tokens.old.items + expr_count (expr_tree e) < 2 ^ 32 }
+    ensures tree { IfOk result (λ to. expr_tree to ≡ relabel_expr numbered (length tokens.old.items) (expr_tree e)) }
+    ensures end { OnOk result (length tokens.new.items ≡ length tokens.old.items + expr_count (expr_tree e)) }
+    ensures tokens { OnOk result (tokens.new.items ≡ tokens.old.items ++ tokens_of (expr_nodes (expr_tree e))) }
+{
+    let mut e = e;
+    number_expr(&mut e, tokens)?;
+    Ok(e)
+}
+
 #[cycle(number_expr)]
 #[tactic(auto, using(crate::proofs::NodeLaws::tokens_of_both, std::proofs::lemmas::List::with_items_is))]
 fn number_boxed(e: Box<Expr>, tokens: &mut Vec<u32>) -> Result<Box<Expr>, NoMemory>

@@ -1,12 +1,14 @@
 // Statements (C11 6.8): their trees, whether two are the same, copies, and the numbers of their nodes.
 ghost use Rattle.std.specs.Prelude.{◌≡◌, ◌+◌, ◌<◌, ◌^◌, ◌++◌, ◌↔◌, IfOk, IsTrue, OnOk, length, map};
 ghost use Rattle.qs_syntax.specs.TreeOf.{option_tree, start_tree, stmt_tree, stmts_tree, else_tree};
-ghost use Rattle.qs_syntax.specs.Nodes.{tokens_of, option_count, option_nodes, expr_count, expr_nodes, start_count, start_nodes, stmt_count, stmt_nodes, stmts_count, stmts_nodes, else_count, else_nodes};
-ghost use Rattle.qs_syntax.specs.Numbering.{numbered, relabel_option, relabel_expr, relabel_start, relabel_stmt, relabel_stmts, relabel_else};
+ghost use Rattle.qs_syntax.specs.Nodes.{tokens_of, all_count, all_nodes, option_count, option_nodes, expr_count, expr_nodes, start_count, start_nodes, stmt_count, stmt_nodes, stmts_count, stmts_nodes, else_count, else_nodes};
+ghost use Rattle.qs_syntax.specs.Numbering.{numbered, relabel_all, relabel_option, relabel_expr, relabel_start, relabel_stmt, relabel_stmts, relabel_else};
 ghost use Rattle.qs_syntax.specs.Sameness.{same_option, same_start, same_stmt, same_stmts, same_else};
 
-use crate::declarations::{Declaration, copy_declaration, number_declaration, same_declaration};
-use crate::expressions::{Expr, copy_expr, number_expr, same_expr};
+use crate::declarations::{
+    Declaration, copy_declaration, number_owned_declaration, same_declaration,
+};
+use crate::expressions::{Expr, copy_expr, number_owned_expr, same_expr};
 use crate::nodes::{Node, number_node, same_node};
 use qs_base::NoMemory;
 use std::alloc::Global;
@@ -269,30 +271,28 @@ pub fn copy_stmts(alloc: Global, from: &[Stmt]) -> Result<Vec<Stmt>, NoMemory>
 
 // ---- the numbers of the nodes
 
-#[tactic(auto, using(crate::proofs::NodeLaws::tokens_of_both, std::proofs::lemmas::List::with_items_is))]
-fn number_option(option: &mut Option<Expr>, tokens: &mut Vec<u32>) -> Result<(), NoMemory>
-    requires { length tokens.old.items + option_count expr_count (option_tree option.old) < 2 ^ 32 }
-    ensures tree { OnOk result (option_tree option.new ≡ relabel_option (relabel_expr numbered) (length tokens.old.items) (option_tree option.old)) }
-    ensures end { OnOk result (length tokens.new.items ≡ length tokens.old.items + option_count expr_count (option_tree option.old)) }
-    ensures tokens { OnOk result (tokens.new.items ≡ tokens.old.items ++ tokens_of (option_nodes expr_nodes (option_tree option.old))) }
+fn number_option(option: Option<Expr>, tokens: &mut Vec<u32>) -> Result<Option<Expr>, NoMemory>
+    requires { length tokens.old.items + option_count expr_count (option_tree option) < 2 ^ 32 }
+    ensures tree { IfOk result (λ to. option_tree to ≡ relabel_option (relabel_expr numbered) (length tokens.old.items) (option_tree option)) }
+    ensures end { OnOk result (length tokens.new.items ≡ length tokens.old.items + option_count expr_count (option_tree option)) }
+    ensures tokens { OnOk result (tokens.new.items ≡ tokens.old.items ++ tokens_of (option_nodes expr_nodes (option_tree option))) }
 {
     match option {
-        None => Ok(()),
-        Some(e) => number_expr(e, tokens),
+        None => Ok(None),
+        Some(e) => Ok(Some(number_owned_expr(e, tokens)?)),
     }
 }
 
-#[tactic(auto, using(crate::proofs::NodeLaws::tokens_of_both, std::proofs::lemmas::List::with_items_is))]
-fn number_start(start: &mut Start, tokens: &mut Vec<u32>) -> Result<(), NoMemory>
-    requires { length tokens.old.items + start_count (start_tree start.old) < 2 ^ 32 }
-    ensures tree { OnOk result (start_tree start.new ≡ relabel_start numbered (length tokens.old.items) (start_tree start.old)) }
-    ensures end { OnOk result (length tokens.new.items ≡ length tokens.old.items + start_count (start_tree start.old)) }
-    ensures tokens { OnOk result (tokens.new.items ≡ tokens.old.items ++ tokens_of (start_nodes (start_tree start.old))) }
+fn number_start(start: Start, tokens: &mut Vec<u32>) -> Result<Start, NoMemory>
+    requires { length tokens.old.items + start_count (start_tree start) < 2 ^ 32 }
+    ensures tree { IfOk result (λ to. start_tree to ≡ relabel_start numbered (length tokens.old.items) (start_tree start)) }
+    ensures end { OnOk result (length tokens.new.items ≡ length tokens.old.items + start_count (start_tree start)) }
+    ensures tokens { OnOk result (tokens.new.items ≡ tokens.old.items ++ tokens_of (start_nodes (start_tree start))) }
 {
     match start {
-        Start::Nothing => Ok(()),
-        Start::Expression(e) => number_expr(e, tokens),
-        Start::Declaration(d) => number_declaration(d, tokens),
+        Start::Nothing => Ok(Start::Nothing),
+        Start::Expression(e) => Ok(Start::Expression(number_owned_expr(e, tokens)?)),
+        Start::Declaration(d) => Ok(Start::Declaration(number_owned_declaration(d, tokens)?)),
     }
 }
 
@@ -304,66 +304,45 @@ fn number_stmt(s: &mut Stmt, tokens: &mut Vec<u32>) -> Result<(), NoMemory>
     ensures end { OnOk result (length tokens.new.items ≡ length tokens.old.items + stmt_count (stmt_tree s.old)) }
     ensures tokens { OnOk result (tokens.new.items ≡ tokens.old.items ++ tokens_of (stmt_nodes (stmt_tree s.old))) }
 {
-    let from = mem::replace(s, Stmt::Empty(Node { id: 0, token: 0 }));
-    *s = number_parts(from, tokens)?;
+    *s = match mem::replace(s, Stmt::Empty(Node { id: 0, token: 0 })) {
+        Stmt::Empty(node) => Stmt::Empty(number_node(node, tokens)?),
+        Stmt::Expression(node, e) => {
+            let node = number_node(node, tokens)?;
+            Stmt::Expression(node, number_owned_expr(e, tokens)?)
+        }
+        Stmt::Declaration(d) => Stmt::Declaration(number_owned_declaration(d, tokens)?),
+        Stmt::Block(items) => Stmt::Block(number_items(items, tokens)?),
+        Stmt::If { node, condition, then, otherwise } => Stmt::If {
+            node: number_node(node, tokens)?,
+            condition: number_owned_expr(condition, tokens)?,
+            then: number_boxed(then, tokens)?,
+            otherwise: number_else(otherwise, tokens)?,
+        },
+        Stmt::While { node, condition, body } => Stmt::While {
+            node: number_node(node, tokens)?,
+            condition: number_owned_expr(condition, tokens)?,
+            body: number_boxed(body, tokens)?,
+        },
+        Stmt::Do { node, body, condition } => Stmt::Do {
+            node: number_node(node, tokens)?,
+            body: number_boxed(body, tokens)?,
+            condition: number_owned_expr(condition, tokens)?,
+        },
+        Stmt::For { node, start, condition, step, body } => Stmt::For {
+            node: number_node(node, tokens)?,
+            start: number_start(start, tokens)?,
+            condition: number_option(condition, tokens)?,
+            step: number_option(step, tokens)?,
+            body: number_boxed(body, tokens)?,
+        },
+        Stmt::Break(node) => Stmt::Break(number_node(node, tokens)?),
+        Stmt::Continue(node) => Stmt::Continue(number_node(node, tokens)?),
+        Stmt::Return(node, e) => {
+            let node = number_node(node, tokens)?;
+            Stmt::Return(node, number_option(e, tokens)?)
+        }
+    };
     Ok(())
-}
-
-#[cycle(number_stmt)]
-#[tactic(auto, using(crate::proofs::NodeLaws::tokens_of_both, std::proofs::lemmas::List::with_items_is))]
-fn number_parts(from: Stmt, tokens: &mut Vec<u32>) -> Result<Stmt, NoMemory>
-    requires { length tokens.old.items + stmt_count (stmt_tree from) < 2 ^ 32 }
-    ensures tree { IfOk result (λ to. stmt_tree to ≡ relabel_stmt numbered (length tokens.old.items) (stmt_tree from)) }
-    ensures end { OnOk result (length tokens.new.items ≡ length tokens.old.items + stmt_count (stmt_tree from)) }
-    ensures tokens { OnOk result (tokens.new.items ≡ tokens.old.items ++ tokens_of (stmt_nodes (stmt_tree from))) }
-{
-    match from {
-        Stmt::Empty(node) => Ok(Stmt::Empty(number_node(node, tokens)?)),
-        Stmt::Expression(node, mut e) => {
-            let node = number_node(node, tokens)?;
-            number_expr(&mut e, tokens)?;
-            Ok(Stmt::Expression(node, e))
-        }
-        Stmt::Declaration(mut d) => {
-            number_declaration(&mut d, tokens)?;
-            Ok(Stmt::Declaration(d))
-        }
-        Stmt::Block(items) => Ok(Stmt::Block(number_items(items, tokens)?)),
-        Stmt::If { node, mut condition, then, otherwise } => {
-            let node = number_node(node, tokens)?;
-            number_expr(&mut condition, tokens)?;
-            let then = number_boxed(then, tokens)?;
-            let otherwise = number_else(otherwise, tokens)?;
-            Ok(Stmt::If { node, condition, then, otherwise })
-        }
-        Stmt::While { node, mut condition, body } => {
-            let node = number_node(node, tokens)?;
-            number_expr(&mut condition, tokens)?;
-            let body = number_boxed(body, tokens)?;
-            Ok(Stmt::While { node, condition, body })
-        }
-        Stmt::Do { node, body, mut condition } => {
-            let node = number_node(node, tokens)?;
-            let body = number_boxed(body, tokens)?;
-            number_expr(&mut condition, tokens)?;
-            Ok(Stmt::Do { node, body, condition })
-        }
-        Stmt::For { node, mut start, mut condition, mut step, body } => {
-            let node = number_node(node, tokens)?;
-            number_start(&mut start, tokens)?;
-            number_option(&mut condition, tokens)?;
-            number_option(&mut step, tokens)?;
-            let body = number_boxed(body, tokens)?;
-            Ok(Stmt::For { node, start, condition, step, body })
-        }
-        Stmt::Break(node) => Ok(Stmt::Break(number_node(node, tokens)?)),
-        Stmt::Continue(node) => Ok(Stmt::Continue(number_node(node, tokens)?)),
-        Stmt::Return(node, mut e) => {
-            let node = number_node(node, tokens)?;
-            number_option(&mut e, tokens)?;
-            Ok(Stmt::Return(node, e))
-        }
-    }
 }
 
 #[cycle(number_stmt)]
@@ -392,12 +371,15 @@ fn number_else(
 {
     match from {
         None => Ok(None),
-        Some(s) => Ok(Some(number_boxed(s, tokens)?)),
+        Some(mut s) => {
+            number_stmt(&mut s, tokens)?;
+            Ok(Some(s))
+        }
     }
 }
 
 #[cycle(number_stmt)]
-#[tactic(auto, using(crate::proofs::NodeLaws::tokens_of_both, std::proofs::lemmas::List::with_items_is))]
+#[tactic(auto, using(crate::proofs::NumberingLoops::stmts_count_of, crate::proofs::NumberingLoops::stmts_nodes_of, crate::proofs::NumberingLoops::stmts_of_relabelled, std::proofs::lemmas::List::with_items_is))]
 fn number_items(items: Vec<Stmt>, tokens: &mut Vec<u32>) -> Result<Vec<Stmt>, NoMemory>
     requires { length tokens.old.items + stmts_count (stmts_tree items.items) < 2 ^ 32 }
     ensures tree { IfOk result (λ to. stmts_tree to.items ≡ relabel_stmts numbered (length tokens.old.items) (stmts_tree items.items)) }
@@ -412,10 +394,10 @@ fn number_items(items: Vec<Stmt>, tokens: &mut Vec<u32>) -> Result<Vec<Stmt>, No
 #[cycle(number_stmt)]
 #[tactic(auto, using(crate::proofs::NodeLaws::tokens_of_both, std::proofs::lemmas::List::with_items_is))]
 pub fn number_stmts(items: &mut [Stmt], tokens: &mut Vec<u32>) -> Result<(), NoMemory>
-    requires { length tokens.old.items + stmts_count (stmts_tree items.old) < 2 ^ 32 }
-    ensures tree { OnOk result (stmts_tree items.new ≡ relabel_stmts numbered (length tokens.old.items) (stmts_tree items.old)) }
-    ensures end { OnOk result (length tokens.new.items ≡ length tokens.old.items + stmts_count (stmts_tree items.old)) }
-    ensures tokens { OnOk result (tokens.new.items ≡ tokens.old.items ++ tokens_of (stmts_nodes (stmts_tree items.old))) }
+    requires { length tokens.old.items + all_count stmt_count (map stmt_tree items.old) < 2 ^ 32 }
+    ensures tree { OnOk result (map stmt_tree items.new ≡ relabel_all numbered stmt_count (relabel_stmt numbered) (length tokens.old.items) (map stmt_tree items.old)) }
+    ensures end { OnOk result (length tokens.new.items ≡ length tokens.old.items + all_count stmt_count (map stmt_tree items.old)) }
+    ensures tokens { OnOk result (tokens.new.items ≡ tokens.old.items ++ tokens_of (all_nodes stmt_nodes (map stmt_tree items.old))) }
 {
     for s in items.iter_mut() {
         number_stmt(s, tokens)?;

@@ -3,7 +3,7 @@ ghost use Rattle.std.specs.Prelude.{◌≡◌, ◌+◌, ◌<◌, ◌^◌, ◌++�
 ghost use Rattle.std.specs.Option.{option_eq};
 ghost use Rattle.std.specs.Cmp.Lexicographic.{pointwise};
 ghost use Rattle.qs_syntax.specs.TreeOf.{stmts_tree, parameter_tree, members_tree, struct_tree, forward_tree, function_tree, decl_tree};
-ghost use Rattle.qs_syntax.specs.Nodes.{tokens_of, all_count, all_nodes, option_count, option_nodes, stmts_count, stmts_nodes, parameter_count, parameter_nodes, members_count, members_nodes, struct_count, struct_nodes, function_count, function_nodes, decl_count, decl_nodes};
+ghost use Rattle.qs_syntax.specs.Nodes.{tokens_of, all_count, all_nodes, option_count, option_nodes, stmts_count, stmts_nodes, parameter_count, parameter_nodes, members_count, members_nodes, struct_count, struct_nodes, function_count, function_nodes, decl_count, decl_nodes, unit_count, unit_nodes};
 ghost use Rattle.qs_syntax.specs.Numbering.{numbered, relabel_all, relabel_option, relabel_stmts, relabel_parameter, relabel_members, relabel_struct, relabel_function, relabel_decl};
 ghost use Rattle.qs_syntax.specs.Sameness.{same_stmts, same_parameter, same_members, same_struct, same_forward, same_function, same_decl, same_unit};
 
@@ -265,7 +265,7 @@ fn number_parameters(parameters: &mut [Parameter], tokens: &mut Vec<u32>) -> Res
     Ok(())
 }
 
-#[tactic(auto, using(crate::proofs::NodeLaws::tokens_of_both, std::proofs::lemmas::List::with_items_is))]
+#[tactic(auto, using(crate::proofs::NumberingLoops::stmts_count_of, crate::proofs::NumberingLoops::stmts_nodes_of, crate::proofs::NumberingLoops::stmts_of_relabelled, std::proofs::lemmas::List::with_items_is))]
 fn number_body(body: &mut Option<Vec<Stmt>>, tokens: &mut Vec<u32>) -> Result<(), NoMemory>
     requires { length tokens.old.items + option_count stmts_count (option_map (λ b. stmts_tree b.items) body.old) < 2 ^ 32 }
     ensures tree { OnOk result (option_map (λ b. stmts_tree b.items) body.new ≡ relabel_option (relabel_stmts numbered) (length tokens.old.items) (option_map (λ b. stmts_tree b.items) body.old)) }
@@ -310,14 +310,27 @@ fn number_decl(declaration: &mut Decl, tokens: &mut Vec<u32>) -> Result<(), NoMe
 
 /// Numbers the nodes, where `tokens` has the token of each node before them; theirs are put behind.
 #[tactic(auto, using(crate::proofs::NodeLaws::tokens_of_both, std::proofs::lemmas::List::with_items_is))]
-pub fn number_decls(declarations: &mut [Decl], tokens: &mut Vec<u32>) -> Result<(), NoMemory>
-    requires { length tokens.old.items + all_count decl_count (map decl_tree declarations.old) < 2 ^ 32 }
+fn number_decls(declarations: &mut [Decl], tokens: &mut Vec<u32>) -> Result<(), NoMemory>
+    requires { length tokens.old.items + unit_count (map decl_tree declarations.old) < 2 ^ 32 }
     ensures tree { OnOk result (map decl_tree declarations.new ≡ relabel_all numbered decl_count (relabel_decl numbered) (length tokens.old.items) (map decl_tree declarations.old)) }
-    ensures end { OnOk result (length tokens.new.items ≡ length tokens.old.items + all_count decl_count (map decl_tree declarations.old)) }
-    ensures tokens { OnOk result (tokens.new.items ≡ tokens.old.items ++ tokens_of (all_nodes decl_nodes (map decl_tree declarations.old))) }
+    ensures end { OnOk result (length tokens.new.items ≡ length tokens.old.items + unit_count (map decl_tree declarations.old)) }
+    ensures tokens { OnOk result (tokens.new.items ≡ tokens.old.items ++ tokens_of (unit_nodes (map decl_tree declarations.old))) }
 {
     for declaration in declarations.iter_mut() {
         number_decl(declaration, tokens)?;
     }
     Ok(())
+}
+
+/// The same, of declarations that are handed over.
+#[tactic(auto, using(crate::proofs::NodeLaws::tokens_of_both, std::proofs::lemmas::List::with_items_is))]
+pub fn number_owned_decls(declarations: Vec<Decl>, tokens: &mut Vec<u32>) -> Result<Vec<Decl>, NoMemory>
+    requires { length tokens.old.items + unit_count (map decl_tree declarations.items) < 2 ^ 32 }
+    ensures tree { IfOk result (λ to. map decl_tree to.items ≡ relabel_all numbered decl_count (relabel_decl numbered) (length tokens.old.items) (map decl_tree declarations.items)) }
+    ensures end { OnOk result (length tokens.new.items ≡ length tokens.old.items + unit_count (map decl_tree declarations.items)) }
+    ensures tokens { OnOk result (tokens.new.items ≡ tokens.old.items ++ tokens_of (unit_nodes (map decl_tree declarations.items))) }
+{
+    let mut declarations = declarations;
+    number_decls(&mut declarations, tokens)?;
+    Ok(declarations)
 }

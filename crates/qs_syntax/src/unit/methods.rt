@@ -9,7 +9,7 @@ ghost use Rattle.qs_syntax.specs.Sameness.{same_unit};
 ghost use Rattle.qs_syntax.specs.Units.{IsRead};
 
 use super::Unit;
-use crate::units::{Decl, copy_decls, number_decls, same_decls};
+use crate::units::{Decl, copy_decls, number_owned_decls, same_decls};
 use qs_base::NoMemory;
 use std::alloc::Global;
 
@@ -22,6 +22,7 @@ impl Unit {
     }
 
     /// The count of the nodes.
+    #[tactic(auto, using(crate::proofs::UnitLaws::count_of_unit))]
     pub fn nodes(&self) -> u32
         ensures { result ≡ unit_count (unit_tree self.now) }
     {
@@ -29,6 +30,7 @@ impl Unit {
     }
 
     /// The number of the first token of the node with this number.
+    #[tactic(auto, using(crate::proofs::UnitLaws::count_of_unit, crate::proofs::UnitLaws::node_of_unit))]
     pub fn token_of(&self, node: u32) -> u32
         requires { node < unit_count (unit_tree self.now) }
         ensures { slice_get (unit_nodes (unit_tree self.now)) node ≡ Some (record { id = node; token = result }) }
@@ -61,9 +63,8 @@ pub fn numbered(alloc: Global, unnumbered: Vec<Decl>) -> Result<Unit, NoMemory>
     requires few { unit_count (map decl_tree unnumbered.items) < 2 ^ 32 }
     ensures { IfOk result (λ unit. unit_tree unit ≡ numbered_unit (map decl_tree unnumbered.items)) }
 {
-    let mut declarations = unnumbered;
     let mut tokens = Vec::new(alloc);
-    number_decls(&mut declarations, &mut tokens)?;
+    let declarations = number_owned_decls(unnumbered, &mut tokens)?;
     Ok(Unit {
         declarations,
         tokens,

@@ -134,7 +134,7 @@ module _ (g f : Relabelling) (label : ℕ → Node → Node) (At : ℕ → ℕ �
     pub m : ℕ
     pub at : At n m
 
-  next : Place → ℕ → Place
+  abbrev next : Place → ℕ → Place
   next p count = record { n = g.onward p.n count; m = f.onward p.m count; at = c.moves p.n p.m count p.at }
 
   node_again : (p : Place) (node : Node) → g.label p.n (f.label p.m node) ≡ label p.n node

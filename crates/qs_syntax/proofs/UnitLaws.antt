@@ -43,7 +43,7 @@ tokens_known to from before after none e same = e ∙ ap (λ l. l ++ tokens_of (
 -- ---- what units tell
 
 pub count_of_unit : (unit : Unit) → length unit.tokens.items ≡ unit_count (unit_tree unit)
-count_of_unit unit = ap length unit.known ∙ (length-map (λ n. n.token) (unit_nodes (unit_tree unit)) ∙ unit_length (unit_tree unit))
+count_of_unit unit = ap length unit.known ∙ (length-map (unit_nodes (unit_tree unit)) (λ n. n.token) ∙ unit_length (unit_tree unit))
 
 -- the node at a place of a unit's list has the place for its number, and the token that stands there
 pub node_of_unit : (unit : Unit) (i token : ℕ) → slice_get (tokens_of (unit_nodes (unit_tree unit))) i ≡ Some token → slice_get (unit_nodes (unit_tree unit)) i ≡ Some (record { id = i; token = token })

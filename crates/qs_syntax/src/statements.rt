@@ -298,51 +298,50 @@ fn number_start(start: Start, tokens: &mut Vec<u32>) -> Result<Start, NoMemory>
 
 #[cycle(number_stmt)]
 #[tactic(auto, using(crate::proofs::NodeLaws::tokens_of_both, std::proofs::lemmas::List::with_items_is))]
-fn number_stmt(s: &mut Stmt, tokens: &mut Vec<u32>) -> Result<(), NoMemory>
-    requires { length tokens.old.items + stmt_count (stmt_tree s.old) < 2 ^ 32 }
-    ensures tree { OnOk result (stmt_tree s.new ≡ relabel_stmt numbered (length tokens.old.items) (stmt_tree s.old)) }
-    ensures end { OnOk result (length tokens.new.items ≡ length tokens.old.items + stmt_count (stmt_tree s.old)) }
-    ensures tokens { OnOk result (tokens.new.items ≡ tokens.old.items ++ tokens_of (stmt_nodes (stmt_tree s.old))) }
+fn number_stmt(s: Stmt, tokens: &mut Vec<u32>) -> Result<Stmt, NoMemory>
+    requires { length tokens.old.items + stmt_count (stmt_tree s) < 2 ^ 32 }
+    ensures tree { IfOk result (λ to. stmt_tree to ≡ relabel_stmt numbered (length tokens.old.items) (stmt_tree s)) }
+    ensures end { OnOk result (length tokens.new.items ≡ length tokens.old.items + stmt_count (stmt_tree s)) }
+    ensures tokens { OnOk result (tokens.new.items ≡ tokens.old.items ++ tokens_of (stmt_nodes (stmt_tree s))) }
 {
-    *s = match mem::replace(s, Stmt::Empty(Node { id: 0, token: 0 })) {
-        Stmt::Empty(node) => Stmt::Empty(number_node(node, tokens)?),
+    match s {
+        Stmt::Empty(node) => Ok(Stmt::Empty(number_node(node, tokens)?)),
         Stmt::Expression(node, e) => {
             let node = number_node(node, tokens)?;
-            Stmt::Expression(node, number_owned_expr(e, tokens)?)
+            Ok(Stmt::Expression(node, number_owned_expr(e, tokens)?))
         }
-        Stmt::Declaration(d) => Stmt::Declaration(number_owned_declaration(d, tokens)?),
-        Stmt::Block(items) => Stmt::Block(number_items(items, tokens)?),
-        Stmt::If { node, condition, then, otherwise } => Stmt::If {
+        Stmt::Declaration(d) => Ok(Stmt::Declaration(number_owned_declaration(d, tokens)?)),
+        Stmt::Block(items) => Ok(Stmt::Block(number_items(items, tokens)?)),
+        Stmt::If { node, condition, then, otherwise } => Ok(Stmt::If {
             node: number_node(node, tokens)?,
             condition: number_owned_expr(condition, tokens)?,
             then: number_boxed(then, tokens)?,
             otherwise: number_else(otherwise, tokens)?,
-        },
-        Stmt::While { node, condition, body } => Stmt::While {
+        }),
+        Stmt::While { node, condition, body } => Ok(Stmt::While {
             node: number_node(node, tokens)?,
             condition: number_owned_expr(condition, tokens)?,
             body: number_boxed(body, tokens)?,
-        },
-        Stmt::Do { node, body, condition } => Stmt::Do {
+        }),
+        Stmt::Do { node, body, condition } => Ok(Stmt::Do {
             node: number_node(node, tokens)?,
             body: number_boxed(body, tokens)?,
             condition: number_owned_expr(condition, tokens)?,
-        },
-        Stmt::For { node, start, condition, step, body } => Stmt::For {
+        }),
+        Stmt::For { node, start, condition, step, body } => Ok(Stmt::For {
             node: number_node(node, tokens)?,
             start: number_start(start, tokens)?,
             condition: number_option(condition, tokens)?,
             step: number_option(step, tokens)?,
             body: number_boxed(body, tokens)?,
-        },
-        Stmt::Break(node) => Stmt::Break(number_node(node, tokens)?),
-        Stmt::Continue(node) => Stmt::Continue(number_node(node, tokens)?),
+        }),
+        Stmt::Break(node) => Ok(Stmt::Break(number_node(node, tokens)?)),
+        Stmt::Continue(node) => Ok(Stmt::Continue(number_node(node, tokens)?)),
         Stmt::Return(node, e) => {
             let node = number_node(node, tokens)?;
-            Stmt::Return(node, number_option(e, tokens)?)
+            Ok(Stmt::Return(node, number_option(e, tokens)?))
         }
-    };
-    Ok(())
+    }
 }
 
 #[cycle(number_stmt)]
@@ -354,7 +353,8 @@ fn number_boxed(s: Box<Stmt>, tokens: &mut Vec<u32>) -> Result<Box<Stmt>, NoMemo
     ensures tokens { OnOk result (tokens.new.items ≡ tokens.old.items ++ tokens_of (stmt_nodes (stmt_tree s.value))) }
 {
     let mut s = s;
-    number_stmt(&mut s, tokens)?;
+    let from = mem::replace(&mut *s, Stmt::Empty(Node { id: 0, token: 0 }));
+    *s = number_stmt(from, tokens)?;
     Ok(s)
 }
 
@@ -372,7 +372,8 @@ fn number_else(
     match from {
         None => Ok(None),
         Some(mut s) => {
-            number_stmt(&mut s, tokens)?;
+            let from = mem::replace(&mut *s, Stmt::Empty(Node { id: 0, token: 0 }));
+            *s = number_stmt(from, tokens)?;
             Ok(Some(s))
         }
     }
@@ -400,7 +401,8 @@ pub fn number_stmts(items: &mut [Stmt], tokens: &mut Vec<u32>) -> Result<(), NoM
     ensures tokens { OnOk result (tokens.new.items ≡ tokens.old.items ++ tokens_of (all_nodes stmt_nodes (map stmt_tree items.old))) }
 {
     for s in items.iter_mut() {
-        number_stmt(s, tokens)?;
+        let from = mem::replace(s, Stmt::Empty(Node { id: 0, token: 0 }));
+        *s = number_stmt(from, tokens)?;
     }
     Ok(())
 }

@@ -19,6 +19,3 @@ pub invariant_of-result-clause-known : goal.invariant_of-result-clause-known
 invariant_of-result-clause-known c =
     let same = from_start (map decl_tree c.in_ok-declarations.declarations.items) (map decl_tree c.args.unnumbered.items) c.new-tokens.result.items c.new-tokens.ensures.items c.in_ok-declarations.ensures.tree in
     tokens_known (map decl_tree c.in_ok-declarations.declarations.items) (map decl_tree c.args.unnumbered.items) c.new-tokens.result.items _ c.new-tokens.ensures.items c.in_ok-declarations.ensures.tokens same
-
-pub returns-in_ok-declarations : goal.returns-in_ok-declarations
-returns-in_ok-declarations c = from_start (map decl_tree c.in_ok-declarations.declarations.items) (map decl_tree c.args.unnumbered.items) c.new-tokens.result.items c.new-tokens.ensures.items c.in_ok-declarations.ensures.tree

@@ -1,2 +1,4 @@
+pub mod KeywordLaws
 pub mod PositionLaws
+pub mod Variants
 pub mod WordLaws

@@ -1,3 +1,5 @@
+pub mod Bytes
+pub mod Keywords
 pub mod Names
 pub mod Positions
 pub mod Words

@@ -1,15 +1,19 @@
-//! What every crate shares: the fault for want of memory, names, the numbers of functions,
-//! places of a text, and the operations on words.
+//! What every crate shares: the fault for want of memory, classes of bytes, keywords and names, the
+//! numbers of functions, places of a text, and the operations on words.
 #![tactic(auto)]
 
+mod bytes;
 mod function;
+mod keyword;
 mod memory;
 mod name;
 mod names;
 mod places;
 mod words;
 
+pub use bytes::{is_between, is_digit, is_letter, is_word_byte};
 pub use function::FnId;
+pub use keyword::Keyword;
 pub use memory::NoMemory;
 pub use name::Name;
 pub use names::is_name;

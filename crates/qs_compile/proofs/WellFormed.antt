@@ -7,7 +7,8 @@ use Rattle.qs_isa.specs.declared.instruction.Instr.{Instr}
 use Rattle.qs_isa.specs.declared.instruction.Instr.TheVariants.{Ecall}
 use Rattle.qs_isa.specs.Encoding.{encode_of, IsInstr}
 use Rattle.qs_isa.proofs.Within.{encode-below}
-use Rattle.qs_base.specs.Names.{is_name, is_keyword}
+use Rattle.qs_base.specs.Keywords.{is_keyword, keyword_of}
+use Rattle.qs_base.specs.Names.{is_name}
 use Rattle.qs_image.specs.Image.{Image, FunctionRecord, IsWellFormed, IsAddress, IsCost}
 use Rattle.qs_compile.specs.Built.{main_record}
 use Rattle.qs_compile.specs.FirstForm.{Program}
@@ -66,7 +67,7 @@ abbrev pub program_image : Program → Image
 program_image p = record { entry = 65536; parameters = 0; unsigned_set = 0; functions = main_record ∷ []; code = words_of (program_code p); bytes = [] }
 
 main_is_name : IsTrue (is_name (codes "main"))
-unfolding is_name is_keyword
+unfolding is_name is_keyword keyword_of
 main_is_name = refl
 
 pub program_well_formed : (p : Program) → IsSmall p → IsWellFormed (program_image p)

@@ -5,8 +5,8 @@ use Rattle.qs_ports.specs.Causes.{Rose}
 use Rattle.qs_compile.specs.FirstForm.{Program, IsFirstForm}
 use Rattle.qs_base.specs.declared.places.Pos.{Pos}
 use Rattle.qs_lexer.specs.declared.fault.FaultKind.{FaultKind}
-use Rattle.qs_lexer.proofs.Only.{one_place, one_kind}
-use Rattle.qs_lexer.proofs.Only.{not_both as never}
+use Rattle.qs_lexer.proofs.OneReading.{one_place, one_kind}
+use Rattle.qs_lexer.proofs.OneReading.{not_both as never}
 use Rattle.qs_driver.specs.Source.{IsPlaceOf, HasLexFault, IsNoUnit, IsUnit, IsWrong, lexical, syntactic, other_form}
 use Rattle.qs_driver.specs.Due.{Due}
 use Rattle.qs_driver.specs.Files.{Holds, IsTooLong}

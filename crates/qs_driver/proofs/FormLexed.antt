@@ -1,52 +1,60 @@
 -- The words, punctuators and numbers of a program of the first form.
-use Rattle.std.proofs.Common.{◌≡◌, ℕ, ◌+◌, ◌<◌, suc, Bool, true, false, cond, not, ◌&&◌, List, [], ◌∷◌, ◌++◌, Option, Some, None, Result, Ok, Err, length, take, codes, decimal, nat_le, refl, ap, sym, ◌∙◌, arith, ◌==◌}
-use Rattle.std.proofs.Math.Seq.{take-append_seam}
+use Rattle.std.proofs.Common.{◌≡◌, ℕ, ◌+◌, ◌<◌, suc, Bool, true, false, cond, not, ◌&&◌, List, [], ◌∷◌, ◌++◌, Option, Some, None, Result, Ok, Err, length, take, codes, decimal, nat_le, refl, ap, arith, ◌==◌}
 use Rattle.std.proofs.lemmas.Bool.{agree_below, agree_below_at}
 use Rattle.std.proofs.lemmas.Bool.Decides.{nat_tests}
 use Rattle.std.specs.Cmp.{first_so, second_so}
 use Rattle.std.specs.Fmt.{digits}
-use Rattle.std.specs.List.{list_all, prefix_len}
-use Rattle.qs_base.specs.Names.{is_digit, is_letter}
-use Rattle.qs_lexer.specs.Bytes.{is_number_byte, is_space, starts}
-use Rattle.qs_lexer.specs.Heads.{punctuator_front}
+use Rattle.std.specs.List.{list_all}
+use Rattle.qs_base.specs.Bytes.{is_digit, is_word_byte}
+use Rattle.qs_base.specs.Keywords.{keyword_of}
+use Rattle.qs_base.specs.Names.{is_word}
+use Rattle.qs_lexer.specs.Bytes.{is_number_byte, starts}
 use Rattle.qs_lexer.specs.Numbers.{number_of}
-use Rattle.qs_lexer.specs.Pieces.{Next, class_of, token_or_fault}
-use Rattle.qs_lexer.specs.Words.{keyword_of, punctuator_of}
+use Rattle.qs_lexer.specs.Pieces.{class_of}
+use Rattle.qs_lexer.specs.Scan.{punctuator_front}
+use Rattle.qs_lexer.specs.Terminals.{terminal_of}
+use Rattle.qs_lexer.specs.Words.{word_of}
 use Rattle.qs_lexer.specs.declared.fault.FaultKind.{FaultKind}
-use Rattle.qs_lexer.specs.declared.pieces.Class.TheVariants.{Number, Other}
+use Rattle.qs_lexer.specs.declared.pieces.Class.TheVariants.{Other}
 use Rattle.qs_lexer.specs.declared.pieces.Piece.TheVariants as pieces
-use Rattle.qs_lexer.proofs.Begins.{next_is}
-use Rattle.qs_lexer.proofs.Formed.{punctuator_1, number_stands, word_stands}
+use Rattle.qs_lexer.proofs.PieceClasses.{next_is}
+use Rattle.qs_lexer.proofs.RestOfText.{LexesAs, token_then, white_then}
+use Rattle.qs_lexer.proofs.ScanTokens.{punctuator_1}
+use Rattle.qs_lexer.proofs.TokenEnds.{number_next, word_next}
+use Rattle.qs_syntax.specs.Punctuators.{punctuator_of}
 use Rattle.qs_syntax.specs.declared.terminal.Terminal.{Terminal}
 use Rattle.qs_syntax.specs.declared.terminal.Terminal.TheVariants.{Name, Keyword, Constant, Punctuator}
-use Rattle.qs_syntax.specs.declared.tokens.Keyword.TheVariants as keywords
-use Rattle.qs_syntax.specs.declared.tokens.Punctuator as punctuator
-use Rattle.qs_syntax.specs.declared.tokens.Punctuator.TheVariants as punctuators
+use Rattle.qs_base.specs.declared.keyword.Keyword.TheVariants as keywords
+use Rattle.qs_syntax.specs.declared.punctuator.Punctuator as punctuator
+use Rattle.qs_syntax.specs.declared.punctuator.Punctuator.TheVariants as punctuators
 use Rattle.qs_syntax.specs.declared.tokens.TokenKind.{TokenKind}
 use Rattle.qs_syntax.specs.declared.tokens.TokenKind.TheVariants as kinds
-use Rattle.qs_driver.proofs.LexedOn.{LexesAs, token_then, white_then}
 
--- ---- words
+-- ---- words, and what is white
+
+word_then : (fresh : Bool) (word : List ℕ) (kind : TokenKind) (stop : ℕ) {rest : List ℕ} {number : ℕ} {ls : List Terminal} → is_word word ≡ true → word_of word ≡ Ok kind → is_word_byte stop ≡ false → LexesAs false (stop ∷ rest) (number + 1) ls
+    → LexesAs fresh (word ++ stop ∷ rest) number (terminal_of number word kind ∷ ls)
+word_then fresh word kind stop {rest} w e g on = token_then fresh word kind (word_next fresh word kind stop rest w e g) on
 
 pub int_then : {rest : List ℕ} {number : ℕ} {ls : List Terminal} → LexesAs false (32 ∷ rest) (number + 1) ls → LexesAs true (codes "int" ++ 32 ∷ rest) number (Keyword number keywords.Int ∷ ls)
 unfolding keyword_of
-int_then {rest} on = token_then true (codes "int") (kinds.Keyword keywords.Int) (word_stands true (codes "int" ++ 32 ∷ rest) 3 (pieces.Token 3 (kinds.Keyword keywords.Int)) refl refl refl) on
+int_then on = word_then true (codes "int") (kinds.Keyword keywords.Int) 32 refl refl refl on
 
 pub main_then : {rest : List ℕ} {number : ℕ} {ls : List Terminal} → LexesAs false (40 ∷ rest) (number + 1) ls → LexesAs false (codes "main" ++ 40 ∷ rest) number (Name number (codes "main") ∷ ls)
 unfolding keyword_of
-main_then {rest} on = token_then false (codes "main") kinds.Name (word_stands false (codes "main" ++ 40 ∷ rest) 4 (pieces.Token 4 kinds.Name) refl refl refl) on
+main_then on = word_then false (codes "main") kinds.Name 40 refl refl refl on
 
 pub void_then : {rest : List ℕ} {number : ℕ} {ls : List Terminal} → LexesAs false (41 ∷ rest) (number + 1) ls → LexesAs false (codes "void" ++ 41 ∷ rest) number (Keyword number keywords.Void ∷ ls)
 unfolding keyword_of
-void_then {rest} on = token_then false (codes "void") (kinds.Keyword keywords.Void) (word_stands false (codes "void" ++ 41 ∷ rest) 4 (pieces.Token 4 (kinds.Keyword keywords.Void)) refl refl refl) on
+void_then on = word_then false (codes "void") (kinds.Keyword keywords.Void) 41 refl refl refl on
 
 pub putchar_then : {rest : List ℕ} {number : ℕ} {ls : List Terminal} → LexesAs false (40 ∷ rest) (number + 1) ls → LexesAs false (codes "putchar" ++ 40 ∷ rest) number (Name number (codes "putchar") ∷ ls)
 unfolding keyword_of
-putchar_then {rest} on = token_then false (codes "putchar") kinds.Name (word_stands false (codes "putchar" ++ 40 ∷ rest) 7 (pieces.Token 7 kinds.Name) refl refl refl) on
+putchar_then on = word_then false (codes "putchar") kinds.Name 40 refl refl refl on
 
 pub return_then : {rest : List ℕ} {number : ℕ} {ls : List Terminal} → LexesAs false (32 ∷ rest) (number + 1) ls → LexesAs false (codes "return" ++ 32 ∷ rest) number (Keyword number keywords.Return ∷ ls)
 unfolding keyword_of
-return_then {rest} on = token_then false (codes "return") (kinds.Keyword keywords.Return) (word_stands false (codes "return" ++ 32 ∷ rest) 6 (pieces.Token 6 (kinds.Keyword keywords.Return)) refl refl refl) on
+return_then on = word_then false (codes "return") (kinds.Keyword keywords.Return) 32 refl refl refl on
 
 pub blank_then : {rest : List ℕ} {number : ℕ} {ls : List Terminal} → LexesAs false rest number ls → LexesAs false (32 ∷ rest) number ls
 blank_then on = white_then false false 32 refl refl on
@@ -105,24 +113,6 @@ block_end_then on = punctuator_then 125 punctuators.CloseBrace (record { class =
 
 -- ---- numbers below 256
 
-prefix_all : (p : ℕ → Bool) (word : List ℕ) (stop : ℕ) (rest : List ℕ) → list_all p word ≡ true → p stop ≡ false → prefix_len p (word ++ stop ∷ rest) ≡ length word
-prefix_all p [] stop rest h g = rw g refl
-prefix_all p (x ∷ xs) stop rest h g = rw (first_so (p x) (list_all p xs) h, prefix_all p xs stop rest (second_so (p x) (list_all p xs) h) g) (omega arith)
-
-digit_class : (d : ℕ) (others : List ℕ) → is_digit d ≡ true → class_of false (d ∷ others) ≡ Number
-digit_class d others h =
-    let space : is_space d ≡ false = grind (arith, nat_tests) in
-    let slash : (d == 47) ≡ false = grind (arith, nat_tests) in
-    let letter : is_letter d ≡ false = grind (arith, nat_tests) in
-    rw (space, slash, letter, h) refl
-
-number_next : (word : List ℕ) (kind : TokenKind) (stop : ℕ) (rest : List ℕ) → starts is_digit word ≡ true → list_all is_number_byte word ≡ true → number_of word ≡ Ok kind → is_number_byte stop ≡ false → Next false (word ++ stop ∷ rest) (pieces.Token (length word) kind)
-number_next [] kind stop rest s b e g = cc
-number_next (a ∷ xs) kind stop rest s b e g =
-    let is : token_or_fault (length (a ∷ xs)) (number_of (take (length (a ∷ xs)) ((a ∷ xs) ++ stop ∷ rest))) ≡ pieces.Token (length (a ∷ xs)) kind = ap (token_or_fault (length (a ∷ xs))) (ap number_of (take-append_seam (a ∷ xs) (stop ∷ rest)) ∙ e) in
-    next_is false ((a ∷ xs) ++ stop ∷ rest) Number (class_of false ((a ∷ xs) ++ stop ∷ rest)) (pieces.Token (length (a ∷ xs)) kind) refl (digit_class a (xs ++ stop ∷ rest) s)
-    (number_stands false ((a ∷ xs) ++ stop ∷ rest) (length (a ∷ xs)) (pieces.Token (length (a ∷ xs)) kind) s (sym (prefix_all is_number_byte (a ∷ xs) stop rest b g)) (sym is))
-
 abbrev is_constant : ℕ → Result TokenKind FaultKind → Bool
 is_constant n (Ok kinds.Name) = false
 is_constant n (Ok (kinds.Keyword k)) = false
@@ -159,4 +149,4 @@ number_then n stop {rest} l g on =
     let first : starts is_digit (decimal n) ≡ true = first_so (starts is_digit (decimal n)) (list_all is_number_byte (decimal n)) digits in
     let all : list_all is_number_byte (decimal n) ≡ true = second_so (starts is_digit (decimal n)) (list_all is_number_byte (decimal n)) digits in
     let is : number_of (decimal n) ≡ Ok (kinds.Number n false) = constant_is n (number_of (decimal n)) (first_so (is_constant n (number_of (decimal n))) (starts is_digit (decimal n) && list_all is_number_byte (decimal n)) whole) in
-    token_then false (decimal n) (kinds.Number n false) (number_next (decimal n) (kinds.Number n false) stop rest first all is g) on
+    token_then false (decimal n) (kinds.Number n false) (number_next false (decimal n) (kinds.Number n false) stop rest first all is g) on

@@ -4,8 +4,8 @@ use Rattle.std.proofs.lemmas.List.{append_assoc, append-nil}
 use Rattle.std.proofs.lemmas.List.Elements.{All-head, All-tail}
 use Rattle.qs_syntax.specs.declared.terminal.Terminal.{Terminal}
 use Rattle.qs_syntax.specs.declared.terminal.Terminal.TheVariants.{Name, Keyword, Constant, Punctuator}
-use Rattle.qs_syntax.specs.declared.tokens.Keyword.TheVariants as keywords
-use Rattle.qs_syntax.specs.declared.tokens.Punctuator.TheVariants as punctuators
+use Rattle.qs_base.specs.declared.keyword.Keyword.TheVariants as keywords
+use Rattle.qs_syntax.specs.declared.punctuator.Punctuator.TheVariants as punctuators
 use Rattle.qs_syntax.specs.Trees.{ExprTree, expr, int, call, no_exprs, expr_and, Stmts, no_stmts, stmt_and, expression, return, DeclTree}
 use Rattle.qs_syntax.specs.Numbering.{numbered_unit}
 use Rattle.qs_syntax.specs.Reads.{Postfix, Assignment, Expression, Reads, a_constant, a_call, a_postfix, an_operand, stronger, a_plain_level, a_plain_conditional, a_plain_assignment, a_last_argument}
@@ -15,7 +15,7 @@ use Rattle.qs_syntax.specs.ReadsStatements.{something_there, an_expression, a_re
 use Rattle.qs_syntax.specs.ReadsUnits.{ReadsUnit, a_last_external, a_definition}
 use Rattle.qs_compile.specs.FirstForm.{Program, IsFirstForm, piece_text, pieces_text, return_text, program_text}
 use Rattle.qs_driver.specs.Source.{IsUnit}
-use Rattle.qs_driver.proofs.LexedOn.{LexesAs, Lexed, lexed, nothing_left}
+use Rattle.qs_lexer.proofs.RestOfText.{LexesAs, Lexed, lexed, nothing_left}
 use Rattle.qs_driver.proofs.FormLexed.{int_then, main_then, void_then, putchar_then, return_then, blank_then, line_feed_then, open_then, close_then, semicolon_then, block_then, block_end_then, number_then}
 
 -- ---- what stands in the block

@@ -5,7 +5,6 @@ pub mod Passing
 pub mod Preparing
 pub mod Writings
 pub mod Runs
-pub mod LexedOn
 pub mod FormLexed
 pub mod FormUnits
 pub mod Sources

@@ -5,7 +5,7 @@ use Rattle.qs_syntax.specs.declared.tokens.Token.{Token}
 use Rattle.qs_lexer.specs.Terminals.{terminals}
 use Rattle.qs_lexer.specs.Tokens.{Tokens, LexFaultAt}
 use Rattle.qs_lexer.specs.declared.fault.FaultKind.{FaultKind}
-use Rattle.qs_lexer.proofs.Only.{not_both, one_list}
+use Rattle.qs_lexer.proofs.OneReading.{not_both, one_list}
 use Rattle.qs_parser.specs.Answers.{HasNoReading, IsRefused}
 use Rattle.qs_compile.specs.FirstForm.{Program, IsFirstForm}
 use Rattle.qs_driver.specs.Source.{IsLexical, IsNoUnit, IsUnit, lexical, syntactic, other_form}

@@ -8,7 +8,7 @@ use Rattle.std.proofs.lemmas.Bool.Decides.{nat_tests}
 use Rattle.std.proofs.lemmas.Slice.Eq.{bytes_eq-Decides}
 use Rattle.std.proofs.lemmas.List.Elements.{All-head, All-tail, All-cons, All-nil}
 use Rattle.std.proofs.lemmas.List.Folds.{list_any_none, list_any_at}
-use Rattle.qs_base.specs.Names.{is_between}
+use Rattle.qs_base.specs.Bytes.{is_between}
 use Rattle.qs_image.specs.Image.{FunctionRecord, IsBetween, IsAddress, IsCost}
 use Rattle.qs_image.specs.Faults.{all_differ, is_address, is_cost}
 

@@ -5,7 +5,8 @@ use Rattle.std.specs.List.{list_all}
 use Rattle.std.proofs.lemmas.Bool.{cases_lt, ltb-true}
 use Rattle.std.proofs.lemmas.List.{get_or_past}
 use Rattle.std.proofs.lemmas.List.Sums.{AllPass-from_list_all}
-use Rattle.qs_base.specs.Names.{is_keyword, is_name}
+use Rattle.qs_base.specs.Keywords.{is_keyword, keyword_of}
+use Rattle.qs_base.specs.Names.{is_name}
 use Rattle.qs_image.specs.Image.{Image, FunctionRecord, IsWellFormed, image_bytes}
 use Rattle.qs_image.specs.Example.{larger}
 use Rattle.qs_image.specs.Bytes.{number, words, records, lengths, image_of}
@@ -25,7 +26,7 @@ pub from_bytes : (image : Image) → list_all (λ b. nat_lt b 256) (image_bytes 
 from_bytes image bytes passes says = subst IsWellFormed says (is_image (image_bytes image) (all_bytes (image_bytes image) bytes) passes).well_formed
 
 pub larger-well_formed : IsWellFormed larger
-unfolding first_fault number words records lengths is_name is_keyword
+unfolding first_fault number words records lengths is_name is_keyword keyword_of
 larger-well_formed = from_bytes larger refl refl refl
 
 pub larger-parts : (functions : List FunctionRecord) (code bytes : List ℕ) → functions ≡ larger.functions → code ≡ larger.code → bytes ≡ larger.bytes → IsWellFormed (record { entry = 65540; parameters = 2; unsigned_set = 2; functions = functions; code = code; bytes = bytes })

@@ -1,7 +1,8 @@
 -- The tests of bytes that are read as an image, in their order, and the fault of the first that fails.
 use Rattle.std.specs.Prelude.{ℕ, ◌+◌, ◌*◌, ◌^◌, ◌%◌, Bool, true, ◌&&◌, not, List, [], ◌∷◌, ◌++◌, length, take, nat_le, nat_lt, ◌==◌, if◌then◌else◌, Option, Some, None, bytes_eq, codes, sum, option_map}
 use Rattle.std.specs.List.{list_all, list_any, position_from}
-use Rattle.qs_base.specs.Names.{is_between, is_name}
+use Rattle.qs_base.specs.Bytes.{is_between}
+use Rattle.qs_base.specs.Names.{is_name}
 use Rattle.qs_image.specs.declared.fault.ImageFault.{ImageFault}
 use Rattle.qs_image.specs.declared.fault.ImageFault.TheVariants.{Short, Magic, Count, Trailing, Entry, Cost, Names}
 use Rattle.qs_image.specs.Image.{Image, FunctionRecord}

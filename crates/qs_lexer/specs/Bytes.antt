@@ -1,7 +1,7 @@
 -- Classes of bytes (C11 5.2.1), and lists of bytes that begin or are built in a certain way.
 use Rattle.std.specs.Prelude.{ℕ, Bool, true, false, ◌&&◌, ◌||◌, not, List, [], ◌∷◌, ◌==◌, if◌then◌else◌}
 use Rattle.std.specs.List.{list_all}
-use Rattle.qs_base.specs.Names.{is_between, is_digit, is_word_byte}
+use Rattle.qs_base.specs.Bytes.{is_between, is_digit, is_word_byte}
 
 -- a letter, a digit, `_` or `.`
 abbrev pub is_number_byte : ℕ → Bool

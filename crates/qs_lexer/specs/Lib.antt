@@ -1,12 +1,11 @@
 pub mod Bytes
 pub mod Ends
-pub mod Tables
 pub mod Numbers
 pub mod Literals
 pub mod Words
 pub mod Pieces
 pub mod Tokens
 pub mod Results
-pub mod Heads
+pub mod Scan
 pub mod Laws
 pub mod Terminals

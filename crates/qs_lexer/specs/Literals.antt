@@ -1,9 +1,8 @@
 -- Characters (C11 6.4.4.4) and texts (C11 6.4.5): their elements, and what they are.
-use Rattle.std.specs.Prelude.{ℕ, zero, suc, ◌+◌, ◌-◌, Bool, true, false, List, [], ◌∷◌, length, take, drop, nat_lt, ◌==◌, if◌then◌else◌, Option, Some, None, Result, Ok, Err}
-use Rattle.std.specs.List.{list_any, prefix_len}
+use Rattle.std.specs.Prelude.{ℕ, zero, suc, ◌+◌, ◌-◌, Bool, true, false, List, [], ◌∷◌, length, take, drop, nat_lt, ◌==◌, if◌then◌else◌, Option, Some, None, option_map, Result, Ok, Err}
+use Rattle.std.specs.List.{find, list_any, prefix_len}
 use Rattle.qs_lexer.specs.Bytes.{starts_with}
 use Rattle.qs_lexer.specs.Numbers.{digit_value, value_of}
-use Rattle.qs_lexer.specs.Tables.{look_up}
 use Rattle.qs_lexer.specs.declared.literals.Element.{Element}
 use Rattle.qs_lexer.specs.declared.literals.Element.TheVariants as item
 use Rattle.qs_lexer.specs.declared.fault.FaultKind.{FaultKind}
@@ -14,23 +13,23 @@ use Rattle.qs_syntax.specs.declared.tokens.TokenKind.TheVariants as kinds
 -- ---- escapes: the bytes behind a backslash
 
 -- `'`, `"`, `?`, `\`, and `a`, `b`, `f`, `n`, `r`, `t`, `v` with the values of C11 5.2.2
-abbrev pub simple_escapes : List (List ℕ × ℕ)
+abbrev pub simple_escapes : List (ℕ × ℕ)
 simple_escapes =
-    (39 ∷ [], 39)
-    ∷ (34 ∷ [], 34)
-    ∷ (63 ∷ [], 63)
-    ∷ (92 ∷ [], 92)
-    ∷ (97 ∷ [], 7)
-    ∷ (98 ∷ [], 8)
-    ∷ (102 ∷ [], 12)
-    ∷ (110 ∷ [], 10)
-    ∷ (114 ∷ [], 13)
-    ∷ (116 ∷ [], 9)
-    ∷ (118 ∷ [], 11)
+    (39, 39)
+    ∷ (34, 34)
+    ∷ (63, 63)
+    ∷ (92, 92)
+    ∷ (97, 7)
+    ∷ (98, 8)
+    ∷ (102, 12)
+    ∷ (110, 10)
+    ∷ (114, 13)
+    ∷ (116, 9)
+    ∷ (118, 11)
     ∷ []
 
-unfoldable pub simple_escape : List ℕ → Option ℕ
-simple_escape spelling = look_up simple_escapes spelling
+unfoldable pub simple_escape : ℕ → Option ℕ
+simple_escape byte = option_map (λ row. row.1) (find (λ row. row.0 == byte) simple_escapes)
 
 -- how many octal digits stand first, three at most
 abbrev pub octal_count : List ℕ → ℕ
@@ -43,9 +42,13 @@ hexadecimal_count bytes = prefix_len (λ byte. nat_lt (digit_value byte) 16) byt
 abbrev pub valued : ℕ → Element
 valued value = if nat_lt value 256 then item.Byte value else item.Wide
 
-abbrev pub simple : Option ℕ → Element
-simple None = item.Bad
-simple (Some value) = item.Byte value
+abbrev pub simple_with : Option ℕ → Element
+simple_with None = item.Bad
+simple_with (Some value) = item.Byte value
+
+abbrev pub simple : List ℕ → Element
+simple [] = item.Bad
+simple (byte ∷ bytes) = simple_with (simple_escape byte)
 
 -- `x` and hexadecimal digits, any number of them
 abbrev pub hexadecimal_escape : List ℕ → Element
@@ -59,7 +62,7 @@ abbrev pub escape : List ℕ → Element
 escape bytes =
     if starts_with 120 bytes then hexadecimal_escape (drop 1 bytes)
     else if nat_lt 0 (octal_count bytes) then octal_escape bytes
-    else simple (simple_escape (take 1 bytes))
+    else simple bytes
 
 abbrev pub escape_length : List ℕ → ℕ
 escape_length bytes =

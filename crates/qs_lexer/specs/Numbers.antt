@@ -1,7 +1,7 @@
 -- Integer literals (C11 6.4.4.1): decimal ones without a leading zero, octal ones with a leading `0`, hexadecimal ones behind `0x` or `0X`, each with at most one suffix `u` or `U`.
 use Rattle.std.specs.Prelude.{ℕ, ◌+◌, ◌*◌, ◌-◌, ◌^◌, Bool, true, false, ◌&&◌, ◌||◌, not, List, [], ◌∷◌, length, take, drop, slice_index, nat_lt, ◌==◌, if◌then◌else◌, Result, Ok, Err}
 use Rattle.std.specs.List.{list_all}
-use Rattle.qs_base.specs.Names.{is_between, is_digit}
+use Rattle.qs_base.specs.Bytes.{is_between, is_digit}
 use Rattle.qs_lexer.specs.Bytes.{starts_with}
 use Rattle.qs_lexer.specs.declared.fault.FaultKind.{FaultKind}
 use Rattle.qs_lexer.specs.declared.fault.FaultKind.TheVariants as faults

@@ -2,21 +2,22 @@
 #![tactic(auto)]
 
 mod bytes;
+mod ends;
 mod fault;
 mod laws;
-mod terminal_list;
 mod literals;
 mod numbers;
 mod pieces;
 mod reading;
 mod scan;
+mod terminal_list;
 mod words;
 
 pub use fault::{FaultKind, LexFault};
-pub use laws::{each_token, one_reading};
-pub use terminal_list::{each_terminal, terminals};
+pub use laws::{each_terminal, each_token, one_reading};
 pub use literals::text_bytes;
 pub use reading::tokens;
+pub use terminal_list::terminals;
 
 #[cfg(test)]
 mod tests;

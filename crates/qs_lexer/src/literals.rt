@@ -6,7 +6,6 @@ ghost use Rattle.qs_lexer.specs.Numbers.{value_of};
 use crate::bytes::starts_with;
 use crate::fault::FaultKind;
 use crate::numbers::{digit_value, value_of};
-use crate::words::look_up;
 use qs_base::NoMemory;
 use qs_syntax::TokenKind;
 
@@ -22,25 +21,28 @@ pub enum Element {
 }
 
 /// The simple escapes and their values (C11 5.2.2, 6.4.4.4).
-const SIMPLE_ESCAPES: [(&[u8], u8); 11] = [
-    (b"'", b'\''),
-    (b"\"", b'"'),
-    (b"?", b'?'),
-    (b"\\", b'\\'),
-    (b"a", 7),
-    (b"b", 8),
-    (b"f", 12),
-    (b"n", b'\n'),
-    (b"r", b'\r'),
-    (b"t", b'\t'),
-    (b"v", 11),
+const SIMPLE_ESCAPES: [(u8, u8); 11] = [
+    (b'\'', b'\''),
+    (b'"', b'"'),
+    (b'?', b'?'),
+    (b'\\', b'\\'),
+    (b'a', 7),
+    (b'b', 8),
+    (b'f', 12),
+    (b'n', b'\n'),
+    (b'r', b'\r'),
+    (b't', b'\t'),
+    (b'v', 11),
 ];
 
 #[tactic(auto, unfolding(crate::specs::Literals::simple_escape))]
-fn simple_escape(spelling: &[u8]) -> Option<u8>
-    ensures { result ≡ simple_escape spelling.now }
+fn simple_escape(byte: u8) -> Option<u8>
+    ensures { result ≡ simple_escape byte }
 {
-    look_up(&SIMPLE_ESCAPES, spelling)
+    SIMPLE_ESCAPES
+        .iter()
+        .find(|row| row.0 == byte)
+        .map(|row| row.1)
 }
 
 fn octal_count(bytes: &[u8]) -> usize
@@ -100,13 +102,12 @@ fn octal_escape(bytes: &[u8]) -> Element
     valued(8, &bytes[..count])
 }
 
-#[tactic(auto, unfolding(crate::specs::Literals::simple_escape))]
 fn simple(bytes: &[u8]) -> Element
-    ensures { result ≡ simple (simple_escape (take 1 bytes.now)) }
+    ensures { result ≡ simple bytes.now }
 {
     match bytes {
         [] => Element::Bad,
-        [_, ..] => match simple_escape(&bytes[..1]) {
+        [byte, ..] => match simple_escape(*byte) {
             Some(value) => Element::Byte(value),
             None => Element::Bad,
         },

@@ -2,8 +2,9 @@
 ghost use Rattle.std.specs.Prelude.{◌≡◌, ◌<◌, ◌≤◌, ◌^◌, SomeIff, length};
 ghost use Rattle.qs_lexer.specs.Numbers.{are_digits, digit_value, is_hexadecimal, number_of, number_without_suffix, typed, value_of};
 
-use crate::bytes::{is_digit, starts_with};
+use crate::bytes::starts_with;
 use crate::fault::FaultKind;
+use qs_base::{is_between, is_digit};
 use qs_syntax::TokenKind;
 
 /// The value of a digit, or 16.
@@ -12,9 +13,9 @@ pub fn digit_value(byte: u8) -> u32
 {
     if is_digit(byte) {
         (byte - b'0') as u32
-    } else if b'a' <= byte && byte <= b'f' {
+    } else if is_between(b'a', b'f', byte) {
         (byte - b'a') as u32 + 10
-    } else if b'A' <= byte && byte <= b'F' {
+    } else if is_between(b'A', b'F', byte) {
         (byte - b'A') as u32 + 10
     } else {
         16

@@ -1,5 +1,10 @@
 // What stands first in the rest of a text.
+ghost use Rattle.std.specs.Prelude.{◌≡◌};
+ghost use Rattle.qs_lexer.specs.Pieces.{class_of};
+
+use crate::bytes::{is_space, starts_with};
 use crate::fault::FaultKind;
+use qs_base::{is_digit, is_letter};
 use qs_syntax::TokenKind;
 
 /// How the rest of a text begins.
@@ -38,4 +43,34 @@ pub enum Piece {
     Token(usize, TokenKind),
     /// A fault.
     Fault(FaultKind),
+}
+
+/// How the rest begins; `fresh` says that it may be first on its line.
+pub fn class_of(fresh: bool, rest: &[u8]) -> Class
+    ensures { result ≡ class_of fresh rest.now }
+{
+    match rest {
+        [] => Class::End,
+        [first, others @ ..] => {
+            if is_space(*first) {
+                Class::Space
+            } else if *first == b'/' && starts_with(b'/', others) {
+                Class::LineComment
+            } else if *first == b'/' && starts_with(b'*', others) {
+                Class::BlockComment
+            } else if fresh && *first == b'#' {
+                Class::LineMarker
+            } else if is_letter(*first) {
+                Class::Word
+            } else if is_digit(*first) {
+                Class::Number
+            } else if *first == b'\'' {
+                Class::Character
+            } else if *first == b'"' {
+                Class::Text
+            } else {
+                Class::Other
+            }
+        }
+    }
 }

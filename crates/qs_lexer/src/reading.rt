@@ -43,7 +43,7 @@ fn read(alloc: Global, text: &[u8]) -> Result<Vec<Token>, LexFault>
 
 /// The tokens of a text (C11 6.4), or its first fault. White space and comments stand between tokens, and
 /// each token is the longest that can stand at its place. The text has at most 1,048,576 bytes.
-#[tactic(auto, using(crate::proofs::Only::only_tokens, crate::proofs::Only::only_fault))]
+#[tactic(auto, using(crate::proofs::OneReading::only_tokens, crate::proofs::OneReading::only_fault))]
 pub fn tokens(alloc: Global, text: &[u8]) -> Result<Vec<Token>, LexFault>
     requires limit { length text.now ≤ 1048576 }
     ensures says { Says text.now result }

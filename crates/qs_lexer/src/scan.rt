@@ -1,20 +1,18 @@
 // What stands first in the rest of a text, class by class.
 ghost use Rattle.std.specs.Prelude.{◌≡◌, ◌<◌, ◌^◌, Bool, [], ◌∷◌, true, length};
-ghost use Rattle.qs_base.specs.Names.{is_digit, is_letter};
+ghost use Rattle.qs_base.specs.Bytes.{is_digit, is_letter};
 ghost use Rattle.qs_lexer.specs.Bytes.{is_space, starts, starts_with};
-ghost use Rattle.qs_lexer.specs.Heads.{Opens, punctuator_front};
+ghost use Rattle.qs_lexer.specs.Scan.{Opens, punctuator_front};
 ghost use Rattle.qs_lexer.specs.Pieces.{Next, Stands, still_fresh, token_or_fault};
 ghost use Rattle.qs_lexer.specs.declared.pieces.Class.TheVariants as class;
 
-use crate::bytes::{
-    blanks_then_digit, class_of, comment_end, is_blank, line_length, number_length, quote_end,
-    word_length,
-};
+use crate::bytes::{blanks_then_digit, is_blank, line_length, number_length, word_length};
+use crate::ends::{comment_end, quote_end};
 use crate::fault::FaultKind;
 use crate::literals::{character_of, text_of};
 use crate::numbers::number_of;
-use crate::pieces::{Class, Piece};
-use crate::words::{punctuator_of, word_of};
+use crate::pieces::{Class, Piece, class_of};
+use crate::words::word_of;
 use qs_syntax::{Punctuator, TokenKind};
 
 fn token_or_fault(n: usize, kind: Result<TokenKind, FaultKind>) -> Piece
@@ -121,7 +119,7 @@ fn punctuator_front(n: usize, rest: &[u8]) -> Option<Punctuator>
     ensures { result ≡ punctuator_front n rest.now }
 {
     if n <= rest.len() {
-        punctuator_of(&rest[..n])
+        Punctuator::of(&rest[..n])
     } else {
         None
     }
@@ -143,7 +141,7 @@ fn punctuator(rest: &[u8]) -> Piece
 }
 
 /// What stands first; `fresh` says that it may be first on its line.
-#[tactic(auto, using(crate::proofs::Begins::next_is, crate::proofs::Begins::begun_as))]
+#[tactic(auto, using(crate::proofs::PieceClasses::next_is, crate::proofs::PieceClasses::begun_as))]
 pub fn next(fresh: bool, rest: &[u8]) -> Piece
     ensures { Next fresh rest.now result }
 {

@@ -1,11 +1,10 @@
 // The tokens of a text as the grammar sees them.
-ghost use Rattle.std.specs.Prelude.{◌≡◌, ◌≤◌, true, ℕ, List, IfOk, length};
+ghost use Rattle.std.specs.Prelude.{◌≡◌, ◌≤◌, true, IfOk, length};
 ghost use Rattle.std.specs.List.{list_all};
 ghost use Rattle.qs_lexer.specs.Terminals.{terminal, terminal_of, terminals};
 ghost use Rattle.qs_lexer.specs.Literals.{elements};
 ghost use Rattle.qs_lexer.specs.Tokens.{Tokens};
-ghost use Rattle.qs_syntax.specs.Units.{is_byte, is_terminal};
-ghost use Rattle.qs_syntax.specs.declared.tokens.Token.{Token};
+ghost use Rattle.qs_syntax.specs.Units.{is_terminal};
 
 use crate::literals::text_bytes;
 use qs_base::{Name, NoMemory};
@@ -58,11 +57,3 @@ pub fn terminals(alloc: Global, text: &[u8], tokens: &[Token]) -> Result<Vec<Ter
     }
     Ok(list)
 }
-
-/// There are as many terminals as tokens, and no more than bytes; each name is none of the keywords, each
-/// constant is a value of its type, and each text consists of bytes.
-pub fn each_terminal()
-    ensures as_many { (text : List ℕ) (at : ℕ) (tokens : List Token) → length (terminals text at tokens) ≡ length tokens }
-    ensures at_most { (text : List ℕ) (tokens : List Token) → Tokens text tokens → length tokens ≤ length text }
-    ensures are_terminals { (text : List ℕ) (tokens : List Token) → Tokens text tokens → list_all is_byte text ≡ true → list_all is_terminal (terminals text 0 tokens) ≡ true }
-{}

@@ -2,7 +2,7 @@
 use Rattle.std.proofs.Common.{◌≡◌, ℕ, zero, suc, ◌+◌, ◌-◌, ◌<◌, ◌≤◌, cond, List, [], ◌∷◌, ◌++◌, length, map, Ok, Err, refl, ap, arith}
 use Rattle.std.specs.Prelude.{max}
 use Rattle.qs_syntax.specs.declared.terminal.Terminal.{Terminal}
-use Rattle.qs_syntax.specs.declared.tokens.Punctuator.TheVariants as punctuators
+use Rattle.qs_syntax.specs.declared.punctuator.Punctuator.TheVariants as punctuators
 use Rattle.qs_syntax.specs.Trees.{unnumbered, ExprTree, expr, comma}
 use Rattle.qs_syntax.specs.Reads.{Form, Assignment}
 use Rattle.qs_parser.specs.Heads.{starts, operator_at, binary_of}

@@ -2,7 +2,7 @@
 use Rattle.std.proofs.Common.{◌≡◌, ℕ, List, [], ◌∷◌, ◌++◌, Result, Ok, Err, refl, sym, ap, subst, Bool, true, false, cond, true≢false}
 use Rattle.qs_syntax.specs.declared.terminal.Terminal.{Terminal}
 use Rattle.qs_syntax.specs.declared.terminal.Terminal.TheVariants.{Name, Keyword, Constant, Text, Punctuator}
-use Rattle.qs_syntax.specs.declared.tokens.Punctuator as punctuator
+use Rattle.qs_syntax.specs.declared.punctuator.Punctuator as punctuator
 use Rattle.qs_syntax.specs.Operators.{number_of}
 use Rattle.qs_parser.specs.Heads.{is_punctuator, starts}
 use Rattle.qs_parser.specs.Parse.{Stop, Parse, bind, unexpected, expect, expect_name}

@@ -4,8 +4,8 @@ use Rattle.std.specs.Prelude.{max, ◌==◌, ◌||◌, is_some}
 use Rattle.std.proofs.lemmas.Bool.{eq-eqb, ne_eqb, le-leb, or_from, and_right, or_parts}
 use Rattle.qs_syntax.specs.declared.terminal.Terminal.{Terminal}
 use Rattle.qs_syntax.specs.declared.terminal.Terminal.TheVariants.{Name, Keyword, Constant, Text, Punctuator}
-use Rattle.qs_syntax.specs.declared.tokens.Keyword.TheVariants as keywords
-use Rattle.qs_syntax.specs.declared.tokens.Punctuator.TheVariants as punctuators
+use Rattle.qs_base.specs.declared.keyword.Keyword.TheVariants as keywords
+use Rattle.qs_syntax.specs.declared.punctuator.Punctuator.TheVariants as punctuators
 use Rattle.qs_syntax.specs.declared.operators.UnaryOperator.{UnaryOperator}
 use Rattle.qs_syntax.specs.declared.operators.UnaryOperator.TheVariants as unaries
 use Rattle.qs_syntax.specs.declared.operators.BinaryOperator.{BinaryOperator}

@@ -3,10 +3,10 @@ use Rattle.std.proofs.Common.{◌≡◌, ℕ, zero, suc, ◌+◌, ◌≤◌, max
 use Rattle.std.proofs.lemmas.Bool.{false_from_ne_true}
 use Rattle.qs_syntax.specs.declared.terminal.Terminal.{Terminal}
 use Rattle.qs_syntax.specs.declared.terminal.Terminal.TheVariants.{Keyword, Punctuator}
-use Rattle.qs_syntax.specs.declared.tokens.Keyword as key
-use Rattle.qs_syntax.specs.declared.tokens.Keyword.TheVariants as keywords
-use Rattle.qs_syntax.specs.declared.tokens.Punctuator as punctuator
-use Rattle.qs_syntax.specs.declared.tokens.Punctuator.TheVariants as punctuators
+use Rattle.qs_base.specs.declared.keyword.Keyword as key
+use Rattle.qs_base.specs.declared.keyword.Keyword.TheVariants as keywords
+use Rattle.qs_syntax.specs.declared.punctuator.Punctuator as punctuator
+use Rattle.qs_syntax.specs.declared.punctuator.Punctuator.TheVariants as punctuators
 use Rattle.qs_syntax.specs.Operators.{number_of}
 use Rattle.qs_syntax.specs.Trees.{unnumbered, ExprTree, StartTree, StmtTree, expression, block, branch, while_loop, do_loop, for_loop, break, continue, return, stmts_of, no_else, else_by}
 use Rattle.qs_syntax.specs.Reads.{Reads, Expression, place}

@@ -2,10 +2,10 @@
 use Rattle.std.specs.Prelude.{ℕ, Bool, false, ◌==◌, ◌||◌, List, [], ◌∷◌, Option, Some, None}
 use Rattle.qs_syntax.specs.declared.terminal.Terminal.{Terminal}
 use Rattle.qs_syntax.specs.declared.terminal.Terminal.TheVariants.{Name, Keyword, Constant, Text, Punctuator}
-use Rattle.qs_syntax.specs.declared.tokens.Keyword as key
-use Rattle.qs_syntax.specs.declared.tokens.Keyword.TheVariants as keywords
-use Rattle.qs_syntax.specs.declared.tokens.Punctuator as punctuator
-use Rattle.qs_syntax.specs.declared.tokens.Punctuator.TheVariants as punctuators
+use Rattle.qs_base.specs.declared.keyword.Keyword as key
+use Rattle.qs_base.specs.declared.keyword.Keyword.TheVariants as keywords
+use Rattle.qs_syntax.specs.declared.punctuator.Punctuator as punctuator
+use Rattle.qs_syntax.specs.declared.punctuator.Punctuator.TheVariants as punctuators
 use Rattle.qs_syntax.specs.declared.operators.UnaryOperator.{UnaryOperator}
 use Rattle.qs_syntax.specs.declared.operators.UnaryOperator.TheVariants as unaries
 use Rattle.qs_syntax.specs.declared.operators.BinaryOperator.{BinaryOperator}

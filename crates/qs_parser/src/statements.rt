@@ -1,7 +1,7 @@
 // Statements (C11 6.8). In all functions at most `room` levels are left for the parts of a node, and each
 // answers what is read, how high it is, and what stands behind it. `at` is the place of a first token.
 ghost use Rattle.std.specs.Prelude.{◌≡◌, ◌+◌, ◌≤◌, ◌||◌, length, [], ◌∷◌, IfOk, option_map};
-ghost use Rattle.qs_syntax.specs.declared.tokens.Keyword.TheVariants as keywords;
+ghost use Rattle.qs_base.specs.declared.keyword.Keyword.TheVariants as keywords;
 ghost use Rattle.qs_syntax.specs.Operators.{number_of};
 ghost use Rattle.qs_parser.specs.Heads.{is_keyword};
 ghost use Rattle.qs_syntax.specs.TreeOf.{expr_tree, option_tree, start_tree, stmt_tree};

@@ -18,8 +18,8 @@ use Rattle.qs_syntax.specs.declared.terminal.Terminal.TheVariants.{Name, Keyword
 use Rattle.qs_syntax.specs.declared.tokens.Token.{Token}
 use Rattle.qs_syntax.specs.declared.tokens.TokenKind.{TokenKind}
 use Rattle.qs_syntax.specs.declared.tokens.TokenKind.TheVariants as kinds
-use Rattle.qs_lexer.proofs.Begins.{next_is}
-use Rattle.qs_lexer.proofs.Whites.{space_stands}
+use Rattle.qs_lexer.proofs.PieceClasses.{next_is}
+use Rattle.qs_lexer.proofs.ScanWhiteSpace.{space_stands}
 use Rattle.qs_print.specs.Lexed.{LexedBack, numbered, renumbered}
 use Rattle.qs_print.specs.Spelling.{joined, spelling}
 use Rattle.qs_print.proofs.LexedPunctuators.{punctuator_next}

@@ -6,7 +6,7 @@ use Rattle.std.proofs.lemmas.Fmt.{decimal_by_steps, first_decimal}
 use Rattle.std.proofs.lemmas.Bool.Decides.{nat_tests}
 use Rattle.std.specs.Fmt.{decimal}
 use Rattle.std.specs.List.{list_all}
-use Rattle.qs_base.specs.Names.{is_digit, is_letter}
+use Rattle.qs_base.specs.Bytes.{is_digit, is_letter}
 use Rattle.qs_lexer.specs.Bytes.{is_number_byte, is_space, starts, starts_with}
 use Rattle.qs_lexer.specs.Numbers.{are_digits, base_of, digit_value, digits_of, has_suffix, is_hexadecimal, number_of, number_without_suffix, typed, value_from, value_of, without_suffix}
 use Rattle.qs_lexer.specs.Pieces.{Next, class_of, token_or_fault}
@@ -16,9 +16,9 @@ use Rattle.qs_lexer.specs.declared.pieces.Class.TheVariants.{Space, LineComment,
 use Rattle.qs_lexer.specs.declared.pieces.Piece.TheVariants as pieces
 use Rattle.qs_syntax.specs.declared.tokens.TokenKind.{TokenKind}
 use Rattle.qs_syntax.specs.declared.tokens.TokenKind.TheVariants as kinds
-use Rattle.qs_lexer.proofs.Begins.{next_is}
+use Rattle.qs_lexer.proofs.PieceClasses.{next_is}
 use Rattle.qs_lexer.proofs.Conjunctions.{and_false}
-use Rattle.qs_lexer.proofs.Formed.{number_stands}
+use Rattle.qs_lexer.proofs.ScanTokens.{number_stands}
 use Rattle.qs_print.specs.Spelling.{suffix}
 use Rattle.qs_print.proofs.LexedWords.{and_true, both, found, is_gap, left_false, past, prefix_word}
 

@@ -4,17 +4,18 @@ use Rattle.std.proofs.Math.Seq.{take-append_seam}
 use Rattle.std.proofs.lemmas.List.{length-append, length-take-le}
 use Rattle.std.proofs.lemmas.Bool.Decides.{nat_tests}
 use Rattle.std.specs.List.{list_any}
-use Rattle.qs_base.specs.Names.{is_digit, is_letter}
+use Rattle.qs_base.specs.Bytes.{is_digit, is_letter}
 use Rattle.qs_lexer.specs.Bytes.{is_space, starts_with}
 use Rattle.qs_lexer.specs.Pieces.{Next, Stands, class_of, class_with, token_or_fault}
 use Rattle.qs_lexer.specs.Tables.{look_up}
-use Rattle.qs_lexer.specs.Words.{punctuator_of, punctuator_table, punctuator_with}
+use Rattle.qs_lexer.specs.Words.{punctuator_table, punctuator_with}
+use Rattle.qs_syntax.specs.Punctuators.{punctuator_of}
 use Rattle.qs_lexer.specs.declared.pieces.Class.TheVariants.{Space, LineComment, BlockComment, LineMarker, Word, Number, Character, Text, Other}
 use Rattle.qs_lexer.specs.declared.pieces.Piece.TheVariants as pieces
-use Rattle.qs_syntax.specs.declared.tokens.Punctuator.{Punctuator}
-use Rattle.qs_syntax.specs.declared.tokens.Punctuator.TheVariants as punctuators
+use Rattle.qs_syntax.specs.declared.punctuator.Punctuator.{Punctuator}
+use Rattle.qs_syntax.specs.declared.punctuator.Punctuator.TheVariants as punctuators
 use Rattle.qs_syntax.specs.declared.tokens.TokenKind.TheVariants as kinds
-use Rattle.qs_lexer.proofs.Begins.{next_is}
+use Rattle.qs_lexer.proofs.PieceClasses.{next_is}
 use Rattle.qs_lexer.proofs.Conjunctions.{and_false}
 use Rattle.qs_print.specs.Spelling.{punctuator_spelling}
 use Rattle.qs_print.proofs.LexedWords.{both, is_gap, left_false, not_true, past}

@@ -15,9 +15,9 @@ use Rattle.qs_lexer.specs.declared.pieces.Class.TheVariants.{Text}
 use Rattle.qs_lexer.specs.declared.pieces.Piece.TheVariants as pieces
 use Rattle.qs_syntax.specs.Units.{is_byte}
 use Rattle.qs_syntax.specs.declared.tokens.TokenKind.TheVariants as kinds
-use Rattle.qs_lexer.proofs.Begins.{next_is}
-use Rattle.qs_lexer.proofs.Elements.{first_and_others}
-use Rattle.qs_lexer.proofs.Formed.{text_ends}
+use Rattle.qs_lexer.proofs.PieceClasses.{next_is}
+use Rattle.qs_lexer.proofs.LiteralElements.{first_and_others}
+use Rattle.qs_lexer.proofs.ScanTokens.{text_ends}
 use Rattle.qs_print.specs.Spelling.{octal}
 use Rattle.qs_print.proofs.LexedWords.{both}
 

@@ -3,21 +3,24 @@ use Rattle.std.proofs.Common.{◌≡◌, ℕ, ◌<◌, Bool, true, false, cond, 
 use Rattle.std.proofs.Math.Seq.{take-append_seam}
 use Rattle.std.proofs.lemmas.Bool.Decides.{nat_tests}
 use Rattle.std.specs.List.{list_all, prefix_len}
-use Rattle.qs_base.specs.Names.{is_keyword, is_letter, is_name, is_word, is_word_byte}
+use Rattle.qs_base.specs.Bytes.{is_letter, is_word_byte}
+use Rattle.qs_base.specs.Keywords.{is_keyword}
+use Rattle.qs_base.specs.Names.{is_name, is_word}
 use Rattle.qs_lexer.specs.Bytes.{is_space, starts, starts_with}
 use Rattle.qs_lexer.specs.Pieces.{Next, class_of, class_with, token_or_fault}
-use Rattle.qs_lexer.specs.Words.{keyword_of, word_of, word_with}
+use Rattle.qs_base.specs.Keywords.{keyword_of}
+use Rattle.qs_lexer.specs.Words.{word_of, word_with}
 use Rattle.qs_lexer.specs.declared.pieces.Class.{Class}
 use Rattle.qs_lexer.specs.declared.pieces.Class.TheVariants.{Space, LineComment, BlockComment, LineMarker, Word}
 use Rattle.qs_lexer.specs.declared.pieces.Piece.TheVariants as pieces
-use Rattle.qs_syntax.specs.declared.tokens.Keyword.{Keyword}
-use Rattle.qs_syntax.specs.declared.tokens.Keyword.TheVariants as keywords
+use Rattle.qs_base.specs.declared.keyword.Keyword.{Keyword}
+use Rattle.qs_base.specs.declared.keyword.Keyword.TheVariants as keywords
 use Rattle.qs_syntax.specs.declared.tokens.TokenKind.{TokenKind}
 use Rattle.qs_syntax.specs.declared.tokens.TokenKind.TheVariants as kinds
-use Rattle.qs_lexer.proofs.Begins.{next_is}
+use Rattle.qs_lexer.proofs.PieceClasses.{next_is}
 use Rattle.qs_lexer.proofs.Conjunctions.{and_false}
-use Rattle.qs_lexer.proofs.Formed.{word_stands}
-use Rattle.qs_lexer.proofs.Spelled.{keyword_agrees}
+use Rattle.qs_lexer.proofs.ScanTokens.{word_stands}
+use Rattle.qs_lexer.proofs.TokenLaws.{keyword_agrees}
 use Rattle.qs_print.specs.Spelling.{keyword_spelling}
 
 -- ---- tests

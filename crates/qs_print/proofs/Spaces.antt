@@ -6,7 +6,7 @@ use Rattle.std.proofs.lemmas.Grind.{flat_map-append}
 use Rattle.std.specs.Prelude.{OnOk}
 use Rattle.qs_syntax.specs.declared.terminal.Terminal.{Terminal}
 use Rattle.qs_syntax.specs.declared.terminal.Terminal.TheVariants.{Punctuator}
-use Rattle.qs_syntax.specs.declared.tokens.Punctuator.TheVariants as punctuators
+use Rattle.qs_syntax.specs.declared.punctuator.Punctuator.TheVariants as punctuators
 use Rattle.qs_syntax.specs.Trees.{ExprTree, exprs_of, InitialiserTree, initialisers_of, StmtTree, stmts_of}
 use Rattle.qs_print.specs.Printed.{assignment_level, behind_commas, comma_unless, further_arguments, further_initialisers, printed_arguments, printed_initialiser, printed_initialisers, printed_part, printed_stars, printed_stmt, printed_stmts, with_commas}
 use Rattle.qs_print.specs.Spelling.{joined, spelling}

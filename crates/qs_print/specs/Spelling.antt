@@ -3,10 +3,10 @@
 use Rattle.std.specs.Prelude.{ℕ, ◌+◌, ◌/◌, ◌%◌, Bool, true, false, List, [], ◌∷◌, ◌++◌, codes, decimal, flat_map}
 use Rattle.qs_syntax.specs.declared.terminal.Terminal.{Terminal}
 use Rattle.qs_syntax.specs.declared.terminal.Terminal.TheVariants as terminals
-use Rattle.qs_syntax.specs.declared.tokens.Keyword.{Keyword}
-use Rattle.qs_syntax.specs.declared.tokens.Keyword.TheVariants as keywords
-use Rattle.qs_syntax.specs.declared.tokens.Punctuator.{Punctuator}
-use Rattle.qs_syntax.specs.declared.tokens.Punctuator.TheVariants as punctuators
+use Rattle.qs_base.specs.declared.keyword.Keyword.{Keyword}
+use Rattle.qs_base.specs.declared.keyword.Keyword.TheVariants as keywords
+use Rattle.qs_syntax.specs.declared.punctuator.Punctuator.{Punctuator}
+use Rattle.qs_syntax.specs.declared.punctuator.Punctuator.TheVariants as punctuators
 
 -- 6.4.1
 abbrev pub keyword_spelling : Keyword → List ℕ

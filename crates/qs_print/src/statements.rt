@@ -5,7 +5,7 @@ ghost use Rattle.qs_print.specs.Spaced.{Writes};
 ghost use Rattle.qs_syntax.specs.TreeOf.{else_tree, expr_tree, option_tree, start_tree, stmt_tree, stmts_tree};
 ghost use Rattle.qs_syntax.specs.Trees.{block};
 ghost use Rattle.qs_syntax.specs.declared.terminal.Terminal.TheVariants as terminals;
-ghost use Rattle.qs_syntax.specs.declared.tokens.Punctuator.TheVariants as punctuators;
+ghost use Rattle.qs_syntax.specs.declared.punctuator.Punctuator.TheVariants as punctuators;
 
 use crate::declarations::put_declaration;
 use crate::expressions::{put_expr, put_in_parentheses};

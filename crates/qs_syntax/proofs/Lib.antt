@@ -3,6 +3,7 @@ pub mod NodeLaws
 pub mod NumberingLoops
 pub mod UnitLaws
 pub mod SameLoops
-pub mod SameOperators
+pub mod PunctuatorLaws
+pub mod OperatorLaws
 pub mod Exact
 pub mod ExactUnits

@@ -1,5 +1,6 @@
 pub mod Trees
 pub mod TreeOf
+pub mod Punctuators
 pub mod Operators
 pub mod ReadsTypes
 pub mod Reads

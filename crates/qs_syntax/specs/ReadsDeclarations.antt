@@ -4,8 +4,8 @@
 use Rattle.std.specs.Prelude.{◌≡◌, ℕ, suc, max, List, [], ◌∷◌, ◌++◌, true, false, Some, None}
 use Rattle.qs_syntax.specs.declared.terminal.Terminal.{Terminal}
 use Rattle.qs_syntax.specs.declared.terminal.Terminal.TheVariants.{Name, Keyword, Punctuator}
-use Rattle.qs_syntax.specs.declared.tokens.Keyword.TheVariants as keywords
-use Rattle.qs_syntax.specs.declared.tokens.Punctuator.TheVariants as punctuators
+use Rattle.qs_base.specs.declared.keyword.Keyword.TheVariants as keywords
+use Rattle.qs_syntax.specs.declared.punctuator.Punctuator.TheVariants as punctuators
 use Rattle.qs_syntax.specs.declared.types.Base.{Base}
 use Rattle.qs_syntax.specs.Trees.{unnumbered, ExprTree, LengthsTree, DeclaratorTree, InitialiserTree, value, list, Initialisers, no_initialisers, initialiser_and, VariableTree, DeclarationTree, ParameterTree, MembersTree}
 use Rattle.qs_syntax.specs.ReadsTypes.{ReadsType, ReadsOuterType, ReadsStars}

@@ -3,90 +3,14 @@ use Rattle.std.specs.Prelude.{ℕ, ◌==◌, Bool, true, false, ◌&&◌, List, 
 use Rattle.std.specs.Option.{option_eq}
 use Rattle.std.specs.Bool.{beq}
 use Rattle.std.specs.Cmp.Lexicographic.{pointwise}
-use Rattle.qs_syntax.specs.declared.operators.UnaryOperator.{UnaryOperator}
-use Rattle.qs_syntax.specs.declared.operators.UnaryOperator.TheVariants as unaries
-use Rattle.qs_syntax.specs.declared.operators.StepOperator.{StepOperator}
-use Rattle.qs_syntax.specs.declared.operators.StepOperator.TheVariants as steps
-use Rattle.qs_syntax.specs.declared.operators.BinaryOperator.{BinaryOperator}
-use Rattle.qs_syntax.specs.declared.operators.BinaryOperator.TheVariants as binaries
-use Rattle.qs_syntax.specs.declared.operators.AssignmentOperator.{AssignmentOperator}
-use Rattle.qs_syntax.specs.declared.operators.AssignmentOperator.TheVariants as assigns
-use Rattle.qs_syntax.specs.declared.operators.Access.{Access}
-use Rattle.qs_syntax.specs.declared.operators.Access.TheVariants as accesses
 use Rattle.qs_syntax.specs.declared.types.Base.{Base}
 use Rattle.qs_syntax.specs.declared.types.Base.TheVariants as bases
 use Rattle.qs_syntax.specs.declared.types.TypeName.{TypeName}
 use Rattle.qs_syntax.specs.declared.nodes.Node.{Node}
+use Rattle.qs_syntax.specs.Operators.{same_unary, same_step, same_binary, same_assign, same_access}
 use Rattle.qs_syntax.specs.Trees.{ExprTree, expr, ShapeTree, constant, text, name, unary, step, cast, sizeof_type, sizeof_expr, binary, assign, conditional, comma, subscript, member, call, Exprs, no_exprs, expr_and, exprs_of, LengthsTree, DeclaratorTree, InitialiserTree, value, list, Initialisers, no_initialisers, initialiser_and, VariableTree, DeclarationTree, ParameterTree, MembersTree, StartTree, no_start, start_expression, start_declaration, StmtTree, empty, expression, declaration, block, branch, while_loop, do_loop, for_loop, break, continue, return, Stmts, no_stmts, stmt_and, Else, no_else, else_by, StructTree, ForwardTree, FunctionTree, DeclTree, structure, forward, function, variables, UnitTree}
 
--- ---- operators and names of types
-
--- operators have different numbers
-abbrev pub unary_number : UnaryOperator → ℕ
-unary_number unaries.Address = 0
-unary_number unaries.Indirect = 1
-unary_number unaries.Plus = 2
-unary_number unaries.Minus = 3
-unary_number unaries.Complement = 4
-unary_number unaries.Not = 5
-
-abbrev pub step_number : StepOperator → ℕ
-step_number steps.IncrementBefore = 0
-step_number steps.DecrementBefore = 1
-step_number steps.IncrementAfter = 2
-step_number steps.DecrementAfter = 3
-
-abbrev pub binary_number : BinaryOperator → ℕ
-binary_number binaries.Multiply = 0
-binary_number binaries.Divide = 1
-binary_number binaries.Remainder = 2
-binary_number binaries.Add = 3
-binary_number binaries.Subtract = 4
-binary_number binaries.ShiftLeft = 5
-binary_number binaries.ShiftRight = 6
-binary_number binaries.Less = 7
-binary_number binaries.LessEqual = 8
-binary_number binaries.Greater = 9
-binary_number binaries.GreaterEqual = 10
-binary_number binaries.Equal = 11
-binary_number binaries.NotEqual = 12
-binary_number binaries.BitAnd = 13
-binary_number binaries.BitXor = 14
-binary_number binaries.BitOr = 15
-binary_number binaries.And = 16
-binary_number binaries.Or = 17
-
-abbrev pub assign_number : AssignmentOperator → ℕ
-assign_number assigns.Plain = 0
-assign_number assigns.Multiply = 1
-assign_number assigns.Divide = 2
-assign_number assigns.Remainder = 3
-assign_number assigns.Add = 4
-assign_number assigns.Subtract = 5
-assign_number assigns.ShiftLeft = 6
-assign_number assigns.ShiftRight = 7
-assign_number assigns.BitAnd = 8
-assign_number assigns.BitXor = 9
-assign_number assigns.BitOr = 10
-
-abbrev pub access_number : Access → ℕ
-access_number accesses.Dot = 0
-access_number accesses.Arrow = 1
-
-abbrev pub same_unary : UnaryOperator → UnaryOperator → Bool
-same_unary a b = unary_number a == unary_number b
-
-abbrev pub same_step : StepOperator → StepOperator → Bool
-same_step a b = step_number a == step_number b
-
-abbrev pub same_binary : BinaryOperator → BinaryOperator → Bool
-same_binary a b = binary_number a == binary_number b
-
-abbrev pub same_assign : AssignmentOperator → AssignmentOperator → Bool
-same_assign a b = assign_number a == assign_number b
-
-abbrev pub same_access : Access → Access → Bool
-same_access a b = access_number a == access_number b
+-- ---- names of types
 
 abbrev pub same_bytes : List ℕ → List ℕ → Bool
 same_bytes = pointwise ◌==◌

@@ -3,7 +3,8 @@ ghost use Rattle.std.specs.Prelude.{◌≡◌, ◌+◌, ◌<◌, ◌^◌, ◌++�
 ghost use Rattle.qs_syntax.specs.TreeOf.{expr_tree, exprs_tree, shape_tree};
 ghost use Rattle.qs_syntax.specs.Nodes.{tokens_of, all_count, all_nodes, expr_count, exprs_count, shape_count, expr_nodes, exprs_nodes, shape_nodes};
 ghost use Rattle.qs_syntax.specs.Numbering.{numbered, relabel_all, relabel_expr, relabel_exprs, relabel_shape};
-ghost use Rattle.qs_syntax.specs.Sameness.{same_unary, same_step, same_binary, same_assign, same_access, same_expr, same_shape, same_exprs};
+ghost use Rattle.qs_syntax.specs.Operators.{same_unary, same_step, same_binary, same_assign, same_access};
+ghost use Rattle.qs_syntax.specs.Sameness.{same_expr, same_shape, same_exprs};
 
 use crate::nodes::{Node, number_node, same_node};
 use crate::operators::{Access, AssignmentOperator, BinaryOperator, StepOperator, UnaryOperator};

@@ -1,7 +1,7 @@
 // Tokens as the grammar sees them.
-use crate::tokens::{Keyword, Punctuator};
+use crate::punctuator::Punctuator;
 use crate::text::Text;
-use qs_base::Name;
+use qs_base::{Keyword, Name};
 
 /// A token as the grammar sees it. The number of the token comes first.
 #[derive(Debug, Drop)]

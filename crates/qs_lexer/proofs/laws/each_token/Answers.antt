@@ -1,4 +1,4 @@
-use Rattle.qs_lexer.proofs.Spelled.{in_order, tokens_of}
+use Rattle.qs_lexer.proofs.TokenLaws.{in_order, tokens_of}
 use Rattle.qs_lexer.proofs.laws.each_token.Goals as goal
 
 pub returns-clause-tokens_of : goal.returns-clause-tokens_of

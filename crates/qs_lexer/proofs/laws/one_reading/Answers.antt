@@ -1,4 +1,4 @@
-use Rattle.qs_lexer.proofs.Only.{not_both, one_kind, one_list, one_place}
+use Rattle.qs_lexer.proofs.OneReading.{not_both, one_kind, one_list, one_place}
 use Rattle.qs_lexer.proofs.laws.one_reading.Goals as goal
 
 pub returns-clause-one_list : goal.returns-clause-one_list

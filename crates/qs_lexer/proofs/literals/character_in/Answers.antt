@@ -1,6 +1,6 @@
 use Rattle.std.proofs.Common.{◌≡◌, ap, arith, sym, ◌∙◌}
 use Rattle.qs_lexer.specs.Literals.{character_with, element_length}
-use Rattle.qs_lexer.proofs.Elements.{one_element, several_elements}
+use Rattle.qs_lexer.proofs.LiteralElements.{one_element, several_elements}
 use Rattle.qs_lexer.proofs.literals.character_in.Goals as goal
 
 pub returns-then-element_length-body : goal.returns-then-element_length-body

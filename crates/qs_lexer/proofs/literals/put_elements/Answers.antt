@@ -1,7 +1,7 @@
 use Rattle.std.proofs.Common.{◌++◌, ◌∷◌, [], arith, sym, ap, ◌∙◌, drop, ◌+◌}
 use Rattle.std.proofs.lemmas.List.{append_assoc}
 use Rattle.qs_lexer.specs.Literals.{byte_values, elements_behind}
-use Rattle.qs_lexer.proofs.Elements.{values_go_on}
+use Rattle.qs_lexer.proofs.LiteralElements.{values_go_on}
 use Rattle.qs_lexer.proofs.literals.put_elements.Goals as goal
 
 pub loop-at-preserved : goal.loop-at-preserved

@@ -1,5 +1,5 @@
 use Rattle.std.proofs.Common.{arith, sym, ◌∙◌}
-use Rattle.qs_lexer.proofs.Elements.{text_goes_on}
+use Rattle.qs_lexer.proofs.LiteralElements.{text_goes_on}
 use Rattle.qs_lexer.proofs.literals.text_in.Goals as goal
 
 pub loop-at-preserved : goal.loop-at-preserved

@@ -1,6 +1,6 @@
 use Rattle.std.proofs.Common.{◌≡◌, ◌≤◌, ◌+◌, ◌-◌, drop, length}
 use Rattle.qs_lexer.specs.Literals.{elements_behind, text_with}
-use Rattle.qs_lexer.proofs.Elements.{text_after}
+use Rattle.qs_lexer.proofs.LiteralElements.{text_after}
 use Rattle.qs_lexer.proofs.literals.text_in.Given as goal
 
 abbrev pub invariant-loop-at : goal.invariant-loop-at

@@ -1,6 +1,6 @@
 use Rattle.std.proofs.Common.{◌+◌, ◌*◌, ap, arith, drop}
 use Rattle.qs_lexer.specs.Numbers.{value_from}
-use Rattle.qs_lexer.proofs.Ends.{value_goes, value_grows}
+use Rattle.qs_lexer.proofs.EndLaws.{value_goes, value_grows}
 use Rattle.qs_lexer.proofs.numbers.value_of.Goals as goal
 
 pub returns-then-value-ge4294967296 : goal.returns-then-value-ge4294967296

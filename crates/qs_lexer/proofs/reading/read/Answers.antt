@@ -1,6 +1,6 @@
 use Rattle.std.proofs.Common.{arith, ◌-◌, length}
 use Rattle.qs_lexer.specs.declared.pieces.Piece.TheVariants.{End, White, Token}
-use Rattle.qs_lexer.proofs.Steps.{starts, steps_white, steps_token, steps_fault, steps_move, Moves}
+use Rattle.qs_lexer.proofs.ReadingSteps.{starts, steps_white, steps_token, steps_fault, steps_move, Moves}
 use Rattle.qs_lexer.proofs.reading.read.Goals as goal
 
 white_moves : (c : goal.In-White) → Moves (length c.args.text.now - c.loop-at.at) (White c.in-White.n c.in-White.still)

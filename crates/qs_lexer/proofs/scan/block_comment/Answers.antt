@@ -3,7 +3,7 @@ use Rattle.qs_lexer.specs.Ends.{comment_turn}
 use Rattle.qs_lexer.specs.declared.pieces.Piece.TheVariants.{White, Fault}
 use Rattle.qs_lexer.specs.declared.fault.FaultKind.TheVariants.{OpenComment}
 use Rattle.qs_lexer.proofs.Fronts.{end_within}
-use Rattle.qs_lexer.proofs.Whites.{block_ends, block_open}
+use Rattle.qs_lexer.proofs.ScanWhiteSpace.{block_ends, block_open}
 use Rattle.qs_lexer.proofs.scan.block_comment.Goals as goal
 
 pub overflow_add-result : goal.overflow_add-result

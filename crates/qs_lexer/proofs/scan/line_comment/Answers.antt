@@ -1,6 +1,6 @@
 use Rattle.std.proofs.Common.{refl, false}
 use Rattle.qs_lexer.specs.declared.pieces.Piece.TheVariants.{White}
-use Rattle.qs_lexer.proofs.Whites.{line_stands}
+use Rattle.qs_lexer.proofs.ScanWhiteSpace.{line_stands}
 use Rattle.qs_lexer.proofs.scan.line_comment.Goals as goal
 
 pub returns : goal.returns

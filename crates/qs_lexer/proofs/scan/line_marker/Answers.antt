@@ -1,7 +1,7 @@
 use Rattle.std.proofs.Common.{refl, false, sym, ◌∙◌}
 use Rattle.qs_lexer.specs.declared.pieces.Piece.TheVariants.{White, Fault}
 use Rattle.qs_lexer.specs.declared.fault.FaultKind.TheVariants.{Directive}
-use Rattle.qs_lexer.proofs.Whites.{marker_stands, directive_stands}
+use Rattle.qs_lexer.proofs.ScanWhiteSpace.{marker_stands, directive_stands}
 use Rattle.qs_lexer.proofs.scan.line_marker.Goals as goal
 
 pub returns-then-blanks_then_digit : goal.returns-then-blanks_then_digit

@@ -1,6 +1,6 @@
 use Rattle.std.proofs.Common.{ap, ◌∙◌}
 use Rattle.qs_lexer.specs.Pieces.{token_or_fault}
-use Rattle.qs_lexer.proofs.Formed.{number_stands}
+use Rattle.qs_lexer.proofs.ScanTokens.{number_stands}
 use Rattle.qs_lexer.proofs.scan.number.Goals as goal
 
 pub returns : goal.returns

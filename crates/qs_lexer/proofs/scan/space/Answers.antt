@@ -1,7 +1,7 @@
 use Rattle.std.proofs.Common.{[], refl, get_or, ap, ◌∙◌, ◌∷◌}
 use Rattle.qs_lexer.specs.Pieces.{still_fresh}
 use Rattle.qs_lexer.specs.declared.pieces.Piece.TheVariants.{White}
-use Rattle.qs_lexer.proofs.Whites.{space_stands}
+use Rattle.qs_lexer.proofs.ScanWhiteSpace.{space_stands}
 use Rattle.qs_lexer.proofs.scan.space.Goals as goal
 
 pub returns-in-len1-up : goal.returns-in-len1-up

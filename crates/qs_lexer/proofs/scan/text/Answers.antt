@@ -5,7 +5,7 @@ use Rattle.qs_lexer.specs.Pieces.{token_or_fault}
 use Rattle.qs_lexer.specs.declared.pieces.Piece.TheVariants.{Fault}
 use Rattle.qs_lexer.specs.declared.fault.FaultKind.TheVariants.{OpenText}
 use Rattle.qs_lexer.proofs.Fronts.{end_within}
-use Rattle.qs_lexer.proofs.Formed.{text_ends, text_open}
+use Rattle.qs_lexer.proofs.ScanTokens.{text_ends, text_open}
 use Rattle.qs_lexer.proofs.scan.text.Goals as goal
 
 within : (c : goal.In-Some) → c.in-Some.n + 1 ≤ length c.args.rest.now

@@ -1,6 +1,6 @@
 use Rattle.std.proofs.Common.{ap, ◌∙◌}
 use Rattle.qs_lexer.specs.Pieces.{token_or_fault}
-use Rattle.qs_lexer.proofs.Formed.{word_stands}
+use Rattle.qs_lexer.proofs.ScanTokens.{word_stands}
 use Rattle.qs_lexer.proofs.scan.word.Goals as goal
 
 pub returns : goal.returns

@@ -1,6 +1,6 @@
 use Rattle.std.proofs.Common.{◌≡◌, ◌≤◌, length, arith}
 use Rattle.qs_lexer.specs.Terminals.{terminals}
-use Rattle.qs_lexer.proofs.Seen.{as_many, at_most}
+use Rattle.qs_lexer.proofs.TerminalLaws.{as_many, at_most}
 use Rattle.qs_parser.proofs.parse.unit.Goals as goal
 
 pub unit_of-requires-clause-few : goal.unit_of-requires-clause-few

@@ -1,0 +1,80 @@
+-- The tables of operators: each is found by its punctuator, and what is found has the punctuator.
+use Rattle.std.proofs.Common.{◌≡◌, Bool, ◌&&◌, Some, refl, Decides}
+use Rattle.std.specs.Bool.{beq}
+use Rattle.std.specs.Cmp.{second_so}
+use Rattle.qs_base.proofs.Variants.{finds, find_passes, variants_exact}
+use Rattle.qs_syntax.specs.Operators.{access_of, access_operators, assign_of, assignment_operators, binary_of, binary_operators, punctuator_of_access, punctuator_of_assign, punctuator_of_binary, punctuator_of_step, punctuator_of_unary, same_access, same_assign, same_binary, same_step, same_unary, stands_before, step_of, step_operators, unary_of, unary_operators}
+use Rattle.qs_syntax.specs.Punctuators.{same_punctuator}
+use Rattle.qs_syntax.specs.contracts.punctuator.Punctuator.{the_type as punctuator_type}
+use Rattle.qs_syntax.specs.declared.punctuator.Punctuator.{Punctuator}
+use Rattle.qs_syntax.specs.contracts.operators.UnaryOperator.{the_type as unary_type}
+use Rattle.qs_syntax.specs.declared.operators.UnaryOperator.{UnaryOperator}
+use Rattle.qs_syntax.specs.contracts.operators.StepOperator.{the_type as step_type}
+use Rattle.qs_syntax.specs.declared.operators.StepOperator.{StepOperator}
+use Rattle.qs_syntax.specs.contracts.operators.BinaryOperator.{the_type as binary_type}
+use Rattle.qs_syntax.specs.declared.operators.BinaryOperator.{BinaryOperator}
+use Rattle.qs_syntax.specs.contracts.operators.AssignmentOperator.{the_type as assign_type}
+use Rattle.qs_syntax.specs.declared.operators.AssignmentOperator.{AssignmentOperator}
+use Rattle.qs_syntax.specs.contracts.operators.Access.{the_type as access_type}
+use Rattle.qs_syntax.specs.declared.operators.Access.{Access}
+
+same_punctuator_exact : (a b : Punctuator) → Decides (same_punctuator a b) (a ≡ b)
+same_punctuator_exact a b = variants_exact punctuator_type tt a b
+
+-- ---- UnaryOperator
+
+pub unary_operator_exact : (a b : UnaryOperator) → Decides (same_unary a b) (a ≡ b)
+unary_operator_exact a b = variants_exact unary_type tt a b
+
+pub unary_of-punctuator : (operator : UnaryOperator) → unary_of (punctuator_of_unary operator) ≡ Some operator
+unary_of-punctuator operator = finds unary_type tt unary_operators refl (λ k x. same_punctuator (punctuator_of_unary x) (punctuator_of_unary k)) refl operator
+
+pub punctuator-unary_of : (punctuator : Punctuator) (operator : UnaryOperator) → unary_of punctuator ≡ Some operator → punctuator_of_unary operator ≡ punctuator
+punctuator-unary_of punctuator operator e = (same_punctuator_exact (punctuator_of_unary operator) punctuator).0 (find_passes (λ x. same_punctuator (punctuator_of_unary x) punctuator) unary_operators operator e)
+
+-- ---- StepOperator
+
+pub step_operator_exact : (a b : StepOperator) → Decides (same_step a b) (a ≡ b)
+step_operator_exact a b = variants_exact step_type tt a b
+
+pub step_of-punctuator : (operator : StepOperator) → step_of (stands_before operator) (punctuator_of_step operator) ≡ Some operator
+step_of-punctuator operator = finds step_type tt step_operators refl (λ k x. beq (stands_before x) (stands_before k) && same_punctuator (punctuator_of_step x) (punctuator_of_step k)) refl operator
+
+pub punctuator-step_of : (before : Bool) (punctuator : Punctuator) (operator : StepOperator) → step_of before punctuator ≡ Some operator → punctuator_of_step operator ≡ punctuator
+punctuator-step_of before punctuator operator e =
+    let test : Bool = beq (stands_before operator) before in
+    (same_punctuator_exact (punctuator_of_step operator) punctuator).0
+    (second_so test (same_punctuator (punctuator_of_step operator) punctuator) (find_passes (λ x. beq (stands_before x) before && same_punctuator (punctuator_of_step x) punctuator) step_operators operator e))
+
+-- ---- BinaryOperator
+
+pub binary_operator_exact : (a b : BinaryOperator) → Decides (same_binary a b) (a ≡ b)
+binary_operator_exact a b = variants_exact binary_type tt a b
+
+pub binary_of-punctuator : (operator : BinaryOperator) → binary_of (punctuator_of_binary operator) ≡ Some operator
+binary_of-punctuator operator = finds binary_type tt binary_operators refl (λ k x. same_punctuator (punctuator_of_binary x) (punctuator_of_binary k)) refl operator
+
+pub punctuator-binary_of : (punctuator : Punctuator) (operator : BinaryOperator) → binary_of punctuator ≡ Some operator → punctuator_of_binary operator ≡ punctuator
+punctuator-binary_of punctuator operator e = (same_punctuator_exact (punctuator_of_binary operator) punctuator).0 (find_passes (λ x. same_punctuator (punctuator_of_binary x) punctuator) binary_operators operator e)
+
+-- ---- AssignmentOperator
+
+pub assign_operator_exact : (a b : AssignmentOperator) → Decides (same_assign a b) (a ≡ b)
+assign_operator_exact a b = variants_exact assign_type tt a b
+
+pub assign_of-punctuator : (operator : AssignmentOperator) → assign_of (punctuator_of_assign operator) ≡ Some operator
+assign_of-punctuator operator = finds assign_type tt assignment_operators refl (λ k x. same_punctuator (punctuator_of_assign x) (punctuator_of_assign k)) refl operator
+
+pub punctuator-assign_of : (punctuator : Punctuator) (operator : AssignmentOperator) → assign_of punctuator ≡ Some operator → punctuator_of_assign operator ≡ punctuator
+punctuator-assign_of punctuator operator e = (same_punctuator_exact (punctuator_of_assign operator) punctuator).0 (find_passes (λ x. same_punctuator (punctuator_of_assign x) punctuator) assignment_operators operator e)
+
+-- ---- Access
+
+pub access_operator_exact : (a b : Access) → Decides (same_access a b) (a ≡ b)
+access_operator_exact a b = variants_exact access_type tt a b
+
+pub access_of-punctuator : (operator : Access) → access_of (punctuator_of_access operator) ≡ Some operator
+access_of-punctuator operator = finds access_type tt access_operators refl (λ k x. same_punctuator (punctuator_of_access x) (punctuator_of_access k)) refl operator
+
+pub punctuator-access_of : (punctuator : Punctuator) (operator : Access) → access_of punctuator ≡ Some operator → punctuator_of_access operator ≡ punctuator
+punctuator-access_of punctuator operator e = (same_punctuator_exact (punctuator_of_access operator) punctuator).0 (find_passes (λ x. same_punctuator (punctuator_of_access x) punctuator) access_operators operator e)

@@ -1,6 +1,6 @@
 // Tokens as the grammar sees them.
-use crate::tokens::{Keyword, Punctuator};
 use crate::text::Text;
+use crate::tokens::{Keyword, Punctuator};
 use qs_base::Name;
 
 /// A token as the grammar sees it. The number of the token comes first.

@@ -1,11 +1,11 @@
 -- The nodes of a tree, and the tokens that they begin at: their list is as long as their count says, and has each at its number.
-use Rattle.std.proofs.Common.{◌≡◌, ℕ, ◌+◌, zero, suc, ◌<◌, List, [], ◌∷◌, ◌++◌, Option, Some, None, length, map, refl, sym, ap, ◌∙◌, arith}
+use Rattle.std.proofs.Common.{◌≡◌, ℕ, ◌+◌, zero, suc, List, [], ◌∷◌, ◌++◌, Option, Some, None, length, refl, sym, ap, ◌∙◌, arith}
 use Rattle.std.specs.List.{slice_get}
-use Rattle.std.proofs.lemmas.List.{append_assoc, map-append, length-append}
+use Rattle.std.proofs.lemmas.List.{map-append, length-append}
 use Rattle.qs_syntax.specs.declared.nodes.Node.{Node}
 use Rattle.qs_syntax.specs.Trees.{ExprTree, expr, ShapeTree, constant, text, name, unary, step, cast, sizeof_type, sizeof_expr, binary, assign, conditional, comma, subscript, member, call, Exprs, no_exprs, expr_and, LengthsTree, DeclaratorTree, InitialiserTree, value, list, Initialisers, no_initialisers, initialiser_and, VariableTree, DeclarationTree, ParameterTree, MembersTree, StartTree, no_start, start_expression, start_declaration, StmtTree, empty, expression, declaration, block, branch, while_loop, do_loop, for_loop, break, continue, return, Stmts, no_stmts, stmt_and, Else, no_else, else_by, StructTree, FunctionTree, DeclTree, structure, forward, function, variables, UnitTree}
 use Rattle.qs_syntax.specs.Nodes.{tokens_of, all_count, option_count, expr_count, shape_count, exprs_count, lengths_count, declarator_count, initialiser_count, initialisers_count, variable_count, declaration_count, parameter_count, members_count, start_count, stmt_count, stmts_count, else_count, struct_count, function_count, decl_count, unit_count, all_nodes, option_nodes, expr_nodes, shape_nodes, exprs_nodes, lengths_nodes, declarator_nodes, initialiser_nodes, initialisers_nodes, variable_nodes, declaration_nodes, parameter_nodes, members_nodes, start_nodes, stmt_nodes, stmts_nodes, else_nodes, struct_nodes, function_nodes, decl_nodes, unit_nodes}
-use Rattle.qs_syntax.specs.Numbering.{relabel_nodes, relabel_all, relabel_option, relabel_expr, relabel_shape, relabel_exprs, relabel_lengths, relabel_declarator, relabel_initialiser, relabel_initialisers, relabel_variable, relabel_declaration, relabel_parameter, relabel_members, relabel_start, relabel_stmt, relabel_stmts, relabel_else, relabel_struct, relabel_function, relabel_decl, numbered, numbered_unit}
+use Rattle.qs_syntax.specs.Numbering.{relabel_nodes, relabel_all, relabel_option, relabel_expr, relabel_shape, relabel_exprs, relabel_lengths, relabel_declarator, relabel_initialiser, relabel_initialisers, relabel_variable, relabel_declaration, relabel_parameter, relabel_members, relabel_start, relabel_stmt, relabel_stmts, relabel_else, relabel_decl, numbered, numbered_unit}
 
 -- ---- tokens
 
@@ -252,7 +252,7 @@ mutual
       let k : ℕ = n + 1 + expr_count e in
       ap (λ l. numbered.label n node ∷ l)
       (both_at (n + 1) (expr_count e) (expr_nodes e) (stmt_nodes s ++ else_nodes r) _ _ (expr_length e) (expr_at (n + 1) e)
-        (both_at k (stmt_count s) (stmt_nodes s) (else_nodes r) _ _ (stmt_length s) (stmt_at k s) (else_at (k + stmt_count s) r)))
+      (both_at k (stmt_count s) (stmt_nodes s) (else_nodes r) _ _ (stmt_length s) (stmt_at k s) (else_at (k + stmt_count s) r)))
   stmt_at n (while_loop node e s) = ap (λ l. numbered.label n node ∷ l) (both_at (n + 1) (expr_count e) (expr_nodes e) (stmt_nodes s) _ _ (expr_length e) (expr_at (n + 1) e) (stmt_at (n + 1 + expr_count e) s))
   stmt_at n (do_loop node s e) = ap (λ l. numbered.label n node ∷ l) (both_at (n + 1) (stmt_count s) (stmt_nodes s) (expr_nodes e) _ _ (stmt_length s) (stmt_at (n + 1) s) (expr_at (n + 1 + stmt_count s) e))
   stmt_at n (for_loop node a e u s) =
@@ -261,8 +261,8 @@ mutual
       let k : ℕ = j + option_count expr_count u in
       ap (λ l. numbered.label n node ∷ l)
       (both_at (n + 1) (start_count a) (start_nodes a) (option_nodes expr_nodes e ++ (option_nodes expr_nodes u ++ stmt_nodes s)) _ _ (start_length a) (start_at (n + 1) a)
-        (both_at i (option_count expr_count e) (option_nodes expr_nodes e) (option_nodes expr_nodes u ++ stmt_nodes s) _ _ (maybe_length e) (maybe_at i e)
-          (both_at j (option_count expr_count u) (option_nodes expr_nodes u) (stmt_nodes s) _ _ (maybe_length u) (maybe_at j u) (stmt_at k s))))
+      (both_at i (option_count expr_count e) (option_nodes expr_nodes e) (option_nodes expr_nodes u ++ stmt_nodes s) _ _ (maybe_length e) (maybe_at i e)
+      (both_at j (option_count expr_count u) (option_nodes expr_nodes u) (stmt_nodes s) _ _ (maybe_length u) (maybe_at j u) (stmt_at k s))))
   stmt_at n (break node) = refl
   stmt_at n (continue node) = refl
   stmt_at n (return node e) = ap (λ l. numbered.label n node ∷ l) (maybe_at (n + 1) e)
@@ -281,7 +281,7 @@ decl_at n (forward f) = refl
 decl_at n (function f) =
     ap (λ l. numbered.label n f.node ∷ l)
     (both_at (n + 1) (all_count parameter_count f.parameters) (all_nodes parameter_nodes f.parameters) (option_nodes stmts_nodes f.body) _ _ (all_length parameter_count parameter_nodes parameter_length f.parameters)
-      (all_at parameter_count parameter_nodes (relabel_parameter numbered) parameter_length parameter_at (n + 1) f.parameters) (option_at stmts_nodes (relabel_stmts numbered) stmts_at (n + 1 + all_count parameter_count f.parameters) f.body))
+    (all_at parameter_count parameter_nodes (relabel_parameter numbered) parameter_length parameter_at (n + 1) f.parameters) (option_at stmts_nodes (relabel_stmts numbered) stmts_at (n + 1 + all_count parameter_count f.parameters) f.body))
 decl_at n (variables d) = declaration_at n d
 
 pub unit_at : (ds : UnitTree) → unit_nodes (numbered_unit ds) ≡ relabel_nodes numbered 0 (unit_nodes ds)

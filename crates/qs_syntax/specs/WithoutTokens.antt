@@ -1,5 +1,4 @@
 -- Trees with 0 in place of each node's number and of its token's: what they say, wherever it stands.
-use Rattle.std.specs.Prelude.{List}
 use Rattle.qs_syntax.specs.Trees.{ExprTree, ShapeTree, Exprs, LengthsTree, DeclaratorTree, InitialiserTree, Initialisers, VariableTree, DeclarationTree, ParameterTree, MembersTree, StartTree, StmtTree, Stmts, Else, StructTree, FunctionTree, DeclTree, UnitTree}
 use Rattle.qs_syntax.specs.Numbering.{bare, relabel_expr, relabel_shape, relabel_exprs, relabel_lengths, relabel_declarator, relabel_initialiser, relabel_initialisers, relabel_variable, relabel_declaration, relabel_parameter, relabel_members, relabel_start, relabel_stmt, relabel_stmts, relabel_else, relabel_struct, relabel_function, relabel_decl, relabel_unit}
 

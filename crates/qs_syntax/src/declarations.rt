@@ -7,7 +7,9 @@ ghost use Rattle.qs_syntax.specs.Nodes.{tokens_of, all_count, all_nodes, option_
 ghost use Rattle.qs_syntax.specs.Numbering.{numbered, relabel_all, relabel_option, relabel_lengths, relabel_declarator, relabel_initialiser, relabel_initialisers, relabel_variable, relabel_declaration, relabel_parameter, relabel_members};
 ghost use Rattle.qs_syntax.specs.Sameness.{same_bytes, same_lengths, same_declarator, same_initialiser, same_initialisers, same_variable, same_declaration, same_parameter, same_members};
 
-use crate::expressions::{Expr, Shape, copy_expr, copy_exprs, number_expr, number_exprs, same_expr, same_exprs};
+use crate::expressions::{
+    Expr, Shape, copy_expr, copy_exprs, number_expr, number_exprs, same_expr, same_exprs,
+};
 use crate::nodes::{Node, number_node, same_node};
 use crate::types::{Base, TypeName, same_base, same_type};
 use qs_base::{Name, NoMemory};
@@ -390,7 +392,10 @@ fn number_list(list: InitialiserList, tokens: &mut Vec<u32>) -> Result<Initialis
 
 #[cycle(number_initialiser)]
 #[tactic(auto, using(crate::proofs::NodeLaws::tokens_of_both, crate::proofs::NumberingLoops::initialisers_count_of, crate::proofs::NumberingLoops::initialisers_nodes_of, crate::proofs::NumberingLoops::initialisers_of_relabelled, std::proofs::lemmas::List::with_items_is))]
-fn number_items(items: Vec<Initialiser>, tokens: &mut Vec<u32>) -> Result<Vec<Initialiser>, NoMemory>
+fn number_items(
+    items: Vec<Initialiser>,
+    tokens: &mut Vec<u32>,
+) -> Result<Vec<Initialiser>, NoMemory>
     requires { length tokens.old.items + initialisers_count (initialisers_tree items.items) < 2 ^ 32 }
     ensures tree { IfOk result (λ to. initialisers_tree to.items ≡ relabel_initialisers numbered (length tokens.old.items) (initialisers_tree items.items)) }
     ensures end { OnOk result (length tokens.new.items ≡ length tokens.old.items + initialisers_count (initialisers_tree items.items)) }
@@ -440,7 +445,10 @@ fn number_variable(variable: &mut Variable, tokens: &mut Vec<u32>) -> Result<(),
 }
 
 #[tactic(auto, using(crate::proofs::NodeLaws::tokens_of_both, std::proofs::lemmas::List::with_items_is))]
-pub fn number_declaration(declaration: &mut Declaration, tokens: &mut Vec<u32>) -> Result<(), NoMemory>
+pub fn number_declaration(
+    declaration: &mut Declaration,
+    tokens: &mut Vec<u32>,
+) -> Result<(), NoMemory>
     requires { length tokens.old.items + declaration_count (declaration_tree declaration.old) < 2 ^ 32 }
     ensures tree { OnOk result (declaration_tree declaration.new ≡ relabel_declaration numbered (length tokens.old.items) (declaration_tree declaration.old)) }
     ensures end { OnOk result (length tokens.new.items ≡ length tokens.old.items + declaration_count (declaration_tree declaration.old)) }

@@ -151,22 +151,54 @@ fn same_shape(a: &Shape, b: &Shape) -> bool
         (Shape::SizeofType(t), Shape::SizeofType(u)) => same_type(t, u),
         (Shape::SizeofExpr(a), Shape::SizeofExpr(b)) => same_expr(a, b),
         (
-            Shape::Binary { operator: s, left: a, right: b },
-            Shape::Binary { operator: r, left: c, right: d },
+            Shape::Binary {
+                operator: s,
+                left: a,
+                right: b,
+            },
+            Shape::Binary {
+                operator: r,
+                left: c,
+                right: d,
+            },
         ) => same_binary(*s, *r) && same_expr(a, c) && same_expr(b, d),
         (
-            Shape::Assign { operator: s, left: a, right: b },
-            Shape::Assign { operator: r, left: c, right: d },
+            Shape::Assign {
+                operator: s,
+                left: a,
+                right: b,
+            },
+            Shape::Assign {
+                operator: r,
+                left: c,
+                right: d,
+            },
         ) => same_assign(*s, *r) && same_expr(a, c) && same_expr(b, d),
         (
-            Shape::Conditional { condition: a, then: b, otherwise: c },
-            Shape::Conditional { condition: d, then: e, otherwise: f },
+            Shape::Conditional {
+                condition: a,
+                then: b,
+                otherwise: c,
+            },
+            Shape::Conditional {
+                condition: d,
+                then: e,
+                otherwise: f,
+            },
         ) => same_expr(a, d) && same_expr(b, e) && same_expr(c, f),
         (Shape::Comma(a, b), Shape::Comma(c, d)) => same_expr(a, c) && same_expr(b, d),
         (Shape::Subscript(a, b), Shape::Subscript(c, d)) => same_expr(a, c) && same_expr(b, d),
         (
-            Shape::Member { access: s, object: a, name: x },
-            Shape::Member { access: r, object: b, name: y },
+            Shape::Member {
+                access: s,
+                object: a,
+                name: x,
+            },
+            Shape::Member {
+                access: r,
+                object: b,
+                name: y,
+            },
         ) => same_access(*s, *r) && same_expr(a, b) && x == y,
         (Shape::Call(f, a), Shape::Call(g, b)) => f == g && same_exprs(a, b),
         _ => false,
@@ -216,23 +248,32 @@ fn copy_shape(alloc: Global, shape: &Shape) -> Result<Shape, NoMemory>
         Shape::Name(name) => Ok(Shape::Name(name.copy(alloc)?)),
         Shape::Unary(operator, a) => Ok(Shape::Unary(*operator, copy_boxed(alloc, a)?)),
         Shape::Step(operator, a) => Ok(Shape::Step(*operator, copy_boxed(alloc, a)?)),
-        Shape::Cast(type_name, a) => Ok(Shape::Cast(
-            type_name.copy(alloc)?,
-            copy_boxed(alloc, a)?,
-        )),
+        Shape::Cast(type_name, a) => Ok(Shape::Cast(type_name.copy(alloc)?, copy_boxed(alloc, a)?)),
         Shape::SizeofType(type_name) => Ok(Shape::SizeofType(type_name.copy(alloc)?)),
         Shape::SizeofExpr(a) => Ok(Shape::SizeofExpr(copy_boxed(alloc, a)?)),
-        Shape::Binary { operator, left, right } => Ok(Shape::Binary {
+        Shape::Binary {
+            operator,
+            left,
+            right,
+        } => Ok(Shape::Binary {
             operator: *operator,
             left: copy_boxed(alloc, left)?,
             right: copy_boxed(alloc, right)?,
         }),
-        Shape::Assign { operator, left, right } => Ok(Shape::Assign {
+        Shape::Assign {
+            operator,
+            left,
+            right,
+        } => Ok(Shape::Assign {
             operator: *operator,
             left: copy_boxed(alloc, left)?,
             right: copy_boxed(alloc, right)?,
         }),
-        Shape::Conditional { condition, then, otherwise } => Ok(Shape::Conditional {
+        Shape::Conditional {
+            condition,
+            then,
+            otherwise,
+        } => Ok(Shape::Conditional {
             condition: copy_boxed(alloc, condition)?,
             then: copy_boxed(alloc, then)?,
             otherwise: copy_boxed(alloc, otherwise)?,
@@ -242,7 +283,11 @@ fn copy_shape(alloc: Global, shape: &Shape) -> Result<Shape, NoMemory>
             copy_boxed(alloc, a)?,
             copy_boxed(alloc, b)?,
         )),
-        Shape::Member { access, object, name } => Ok(Shape::Member {
+        Shape::Member {
+            access,
+            object,
+            name,
+        } => Ok(Shape::Member {
             access: *access,
             object: copy_boxed(alloc, object)?,
             name: name.copy(alloc)?,
@@ -324,38 +369,48 @@ fn number_shape(shape: Shape, tokens: &mut Vec<u32>) -> Result<Shape, NoMemory>
         Shape::Cast(type_name, a) => Ok(Shape::Cast(type_name, number_boxed(a, tokens)?)),
         Shape::SizeofType(type_name) => Ok(Shape::SizeofType(type_name)),
         Shape::SizeofExpr(a) => Ok(Shape::SizeofExpr(number_boxed(a, tokens)?)),
-        Shape::Binary { operator, left, right } => Ok(Shape::Binary {
+        Shape::Binary {
+            operator,
+            left,
+            right,
+        } => Ok(Shape::Binary {
             operator,
             left: number_boxed(left, tokens)?,
             right: number_boxed(right, tokens)?,
         }),
-        Shape::Assign { operator, left, right } => Ok(Shape::Assign {
+        Shape::Assign {
+            operator,
+            left,
+            right,
+        } => Ok(Shape::Assign {
             operator,
             left: number_boxed(left, tokens)?,
             right: number_boxed(right, tokens)?,
         }),
-        Shape::Conditional { condition, then, otherwise } => Ok(Shape::Conditional {
+        Shape::Conditional {
+            condition,
+            then,
+            otherwise,
+        } => Ok(Shape::Conditional {
             condition: number_boxed(condition, tokens)?,
             then: number_boxed(then, tokens)?,
             otherwise: number_boxed(otherwise, tokens)?,
         }),
-        Shape::Comma(a, b) => Ok(Shape::Comma(
-            number_boxed(a, tokens)?,
-            number_boxed(b, tokens)?,
-        )),
+        Shape::Comma(a, b) => Ok(Shape::Comma(number_boxed(a, tokens)?, number_boxed(b, tokens)?)),
         Shape::Subscript(a, b) => Ok(Shape::Subscript(
             number_boxed(a, tokens)?,
             number_boxed(b, tokens)?,
         )),
-        Shape::Member { access, object, name } => Ok(Shape::Member {
+        Shape::Member {
+            access,
+            object,
+            name,
+        } => Ok(Shape::Member {
             access,
             object: number_boxed(object, tokens)?,
             name,
         }),
-        Shape::Call(name, arguments) => Ok(Shape::Call(
-            name,
-            number_arguments(arguments, tokens)?,
-        )),
+        Shape::Call(name, arguments) => Ok(Shape::Call(name, number_arguments(arguments, tokens)?)),
     }
 }
 

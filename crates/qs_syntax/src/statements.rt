@@ -130,20 +130,58 @@ pub fn same_stmt(a: &Stmt, b: &Stmt) -> bool
         (Stmt::Declaration(d), Stmt::Declaration(e)) => same_declaration(d, e),
         (Stmt::Block(a), Stmt::Block(b)) => same_stmts(a, b),
         (
-            Stmt::If { node: n, condition: e, then: s, otherwise: r },
-            Stmt::If { node: m, condition: f, then: p, otherwise: q },
+            Stmt::If {
+                node: n,
+                condition: e,
+                then: s,
+                otherwise: r,
+            },
+            Stmt::If {
+                node: m,
+                condition: f,
+                then: p,
+                otherwise: q,
+            },
         ) => same_node(*n, *m) && same_expr(e, f) && same_stmt(s, p) && same_else(r, q),
         (
-            Stmt::While { node: n, condition: e, body: s },
-            Stmt::While { node: m, condition: f, body: p },
+            Stmt::While {
+                node: n,
+                condition: e,
+                body: s,
+            },
+            Stmt::While {
+                node: m,
+                condition: f,
+                body: p,
+            },
         ) => same_node(*n, *m) && same_expr(e, f) && same_stmt(s, p),
         (
-            Stmt::Do { node: n, body: s, condition: e },
-            Stmt::Do { node: m, body: p, condition: f },
+            Stmt::Do {
+                node: n,
+                body: s,
+                condition: e,
+            },
+            Stmt::Do {
+                node: m,
+                body: p,
+                condition: f,
+            },
         ) => same_node(*n, *m) && same_stmt(s, p) && same_expr(e, f),
         (
-            Stmt::For { node: n, start: a, condition: e, step: u, body: s },
-            Stmt::For { node: m, start: b, condition: f, step: v, body: p },
+            Stmt::For {
+                node: n,
+                start: a,
+                condition: e,
+                step: u,
+                body: s,
+            },
+            Stmt::For {
+                node: m,
+                start: b,
+                condition: f,
+                step: v,
+                body: p,
+            },
         ) => {
             same_node(*n, *m)
                 && same_start(a, b)
@@ -211,23 +249,42 @@ fn copy_stmt(alloc: Global, from: &Stmt) -> Result<Stmt, NoMemory>
         Stmt::Expression(node, e) => Ok(Stmt::Expression(*node, copy_expr(alloc, e)?)),
         Stmt::Declaration(d) => Ok(Stmt::Declaration(copy_declaration(alloc, d)?)),
         Stmt::Block(items) => Ok(Stmt::Block(copy_stmts(alloc, items)?)),
-        Stmt::If { node, condition, then, otherwise } => Ok(Stmt::If {
+        Stmt::If {
+            node,
+            condition,
+            then,
+            otherwise,
+        } => Ok(Stmt::If {
             node: *node,
             condition: copy_expr(alloc, condition)?,
             then: copy_boxed(alloc, then)?,
             otherwise: copy_else(alloc, otherwise)?,
         }),
-        Stmt::While { node, condition, body } => Ok(Stmt::While {
+        Stmt::While {
+            node,
+            condition,
+            body,
+        } => Ok(Stmt::While {
             node: *node,
             condition: copy_expr(alloc, condition)?,
             body: copy_boxed(alloc, body)?,
         }),
-        Stmt::Do { node, body, condition } => Ok(Stmt::Do {
+        Stmt::Do {
+            node,
+            body,
+            condition,
+        } => Ok(Stmt::Do {
             node: *node,
             body: copy_boxed(alloc, body)?,
             condition: copy_expr(alloc, condition)?,
         }),
-        Stmt::For { node, start, condition, step, body } => Ok(Stmt::For {
+        Stmt::For {
+            node,
+            start,
+            condition,
+            step,
+            body,
+        } => Ok(Stmt::For {
             node: *node,
             start: copy_start(alloc, start)?,
             condition: copy_option(alloc, condition)?,
@@ -312,23 +369,42 @@ fn number_stmt(s: Stmt, tokens: &mut Vec<u32>) -> Result<Stmt, NoMemory>
         }
         Stmt::Declaration(d) => Ok(Stmt::Declaration(number_owned_declaration(d, tokens)?)),
         Stmt::Block(items) => Ok(Stmt::Block(number_items(items, tokens)?)),
-        Stmt::If { node, condition, then, otherwise } => Ok(Stmt::If {
+        Stmt::If {
+            node,
+            condition,
+            then,
+            otherwise,
+        } => Ok(Stmt::If {
             node: number_node(node, tokens)?,
             condition: number_owned_expr(condition, tokens)?,
             then: number_boxed(then, tokens)?,
             otherwise: number_else(otherwise, tokens)?,
         }),
-        Stmt::While { node, condition, body } => Ok(Stmt::While {
+        Stmt::While {
+            node,
+            condition,
+            body,
+        } => Ok(Stmt::While {
             node: number_node(node, tokens)?,
             condition: number_owned_expr(condition, tokens)?,
             body: number_boxed(body, tokens)?,
         }),
-        Stmt::Do { node, body, condition } => Ok(Stmt::Do {
+        Stmt::Do {
+            node,
+            body,
+            condition,
+        } => Ok(Stmt::Do {
             node: number_node(node, tokens)?,
             body: number_boxed(body, tokens)?,
             condition: number_owned_expr(condition, tokens)?,
         }),
-        Stmt::For { node, start, condition, step, body } => Ok(Stmt::For {
+        Stmt::For {
+            node,
+            start,
+            condition,
+            step,
+            body,
+        } => Ok(Stmt::For {
             node: number_node(node, tokens)?,
             start: number_start(start, tokens)?,
             condition: number_option(condition, tokens)?,

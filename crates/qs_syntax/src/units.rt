@@ -324,7 +324,10 @@ fn number_decls(declarations: &mut [Decl], tokens: &mut Vec<u32>) -> Result<(), 
 
 /// The same, of declarations that are handed over.
 #[tactic(auto, using(crate::proofs::NodeLaws::tokens_of_both, std::proofs::lemmas::List::with_items_is))]
-pub fn number_owned_decls(declarations: Vec<Decl>, tokens: &mut Vec<u32>) -> Result<Vec<Decl>, NoMemory>
+pub fn number_owned_decls(
+    declarations: Vec<Decl>,
+    tokens: &mut Vec<u32>,
+) -> Result<Vec<Decl>, NoMemory>
     requires { length tokens.old.items + unit_count (map decl_tree declarations.items) < 2 ^ 32 }
     ensures tree { IfOk result (λ to. map decl_tree to.items ≡ relabel_all numbered decl_count (relabel_decl numbered) (length tokens.old.items) (map decl_tree declarations.items)) }
     ensures end { OnOk result (length tokens.new.items ≡ length tokens.old.items + unit_count (map decl_tree declarations.items)) }

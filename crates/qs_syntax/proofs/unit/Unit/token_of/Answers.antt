@@ -1,5 +1,6 @@
-use Rattle.std.proofs.Common.{◌≡◌, Some, ap, sym, ◌∙◌, arith, common_steps}
+use Rattle.std.proofs.Common.{◌≡◌, Some, ap, sym, ◌∙◌, arith}
 use Rattle.std.specs.List.{slice_get}
+use Rattle.std.proofs.lemmas.Grind.{common_steps}
 use Rattle.std.proofs.lemmas.Option.{gets}
 use Rattle.qs_syntax.proofs.UnitLaws.{count_of_unit, node_of_unit}
 use Rattle.qs_syntax.proofs.unit.Unit.token_of.Goals as goal

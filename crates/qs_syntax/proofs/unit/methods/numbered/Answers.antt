@@ -1,7 +1,6 @@
-use Rattle.std.proofs.Common.{◌≡◌, map, subst, sym, arith}
+use Rattle.std.proofs.Common.{map, subst, sym}
 use Rattle.qs_syntax.specs.TreeOf.{decl_tree}
 use Rattle.qs_syntax.specs.Units.{IsRead}
-use Rattle.qs_syntax.specs.Numbering.{numbered_unit}
 use Rattle.qs_syntax.proofs.UnitLaws.{is_numbered, from_start, tokens_known}
 use Rattle.qs_syntax.proofs.unit.methods.numbered.Goals as goal
 

@@ -13,8 +13,8 @@ use crate::heads::{begins_one, expect, expect_name, is_keyword, is_punctuator, p
 use crate::types::{stars, type_of};
 use qs_base::Name;
 use qs_syntax::{
-    Base, Declaration, Declarator, Expr, Initialiser, InitialiserList, Keyword, Lengths, Terminal,
-    Punctuator, Members, Parameter, Variable,
+    Base, Declaration, Declarator, Expr, Initialiser, InitialiserList, Keyword, Lengths, Members,
+    Node, Parameter, Punctuator, Terminal, TypeName, Variable,
 };
 use std::alloc::Global;
 
@@ -98,8 +98,7 @@ fn named(
     let (token, name, rest) = expect_name(alloc, tokens)?;
     let (lengths, height, rest) = lengths(alloc, room, rest)?;
     let declarator = Declarator {
-        id: 0,
-        token,
+        node: Node { id: 0, token },
         stars,
         name,
         lengths,
@@ -198,11 +197,10 @@ fn expression(value: Expr) -> Initialiser
 
 /// A list of initialisers.
 fn list(token: u32, items: Vec<Initialiser>) -> Initialiser
-    ensures { initialiser_tree result ≡ trees.list 0 token (initialisers_of (listed initialiser_tree items)) }
+    ensures { initialiser_tree result ≡ trees.list (trees.unnumbered token) (initialisers_of (listed initialiser_tree items)) }
 {
     Initialiser::List(InitialiserList {
-        id: 0,
-        token,
+        node: Node { id: 0, token },
         items,
     })
 }
@@ -396,10 +394,8 @@ fn bracketed(
 {
     let (lengths, height, rest) = lengths(alloc, room, tokens)?;
     let parameter = Parameter {
-        id: 0,
-        token,
-        base,
-        stars,
+        node: Node { id: 0, token },
+        type_name: TypeName { base, stars },
         name,
         lengths,
     };

@@ -201,7 +201,7 @@ fn primary(alloc: Global, room: u8, tokens: &[Terminal]) -> Result<(Expr, u32, &
             after_name(alloc, room, *at, name.copy(alloc)?, rest)
         }
         [Terminal::Constant(at, value, is_unsigned), rest @ ..] => {
-            Ok((nodes::int(*at, *value, *is_unsigned), 1, rest))
+            Ok((nodes::constant(*at, *value, *is_unsigned), 1, rest))
         }
         [Terminal::Text(at, first), rest @ ..] => {
             let (text, rest) = texts_from(alloc, first, rest)?;
@@ -234,7 +234,7 @@ fn index_of(
     let (at, high, rest) = part(alloc, room, Form::Expression, tokens)?;
     let rest = expect(Punctuator::CloseBracket, rest)?;
     Ok((
-        nodes::index(alloc, start, left, at)?,
+        nodes::subscript(alloc, start, left, at)?,
         height.max(high) + 1,
         rest,
     ))
@@ -386,10 +386,10 @@ fn size_of(
         let rest = expect(Punctuator::OpenParenthesis, tokens)?;
         let (name, rest) = type_name(alloc, rest)?;
         let rest = expect(Punctuator::CloseParenthesis, rest)?;
-        return Ok((nodes::size_type(at, name), 1, rest));
+        return Ok((nodes::sizeof_type(at, name), 1, rest));
     }
     let (operand, height, rest) = part(alloc, room, Form::Unary, tokens)?;
-    Ok((nodes::size_expr(alloc, at, operand)?, height + 1, rest))
+    Ok((nodes::sizeof_expr(alloc, at, operand)?, height + 1, rest))
 }
 
 /// A unary expression whose first token is a punctuator.
@@ -558,7 +558,7 @@ fn climb(
     operations(alloc, room, level - 1, start, left, height, rest)
 }
 
-/// What stands behind a condition: a choice, or nothing (C11 6.5.15).
+/// What stands behind a condition: `?` and two operands, or nothing (C11 6.5.15).
 #[cycle(parser)]
 fn after_or(
     alloc: Global,
@@ -582,7 +582,7 @@ fn after_or(
     let (yes, yes_high, rest) = part(alloc, room, Form::Expression, rest)?;
     let rest = expect(Punctuator::Colon, rest)?;
     let (no, no_high, rest) = part(alloc, room, Form::Conditional, rest)?;
-    let node = nodes::choice(alloc, start, condition, yes, no)?;
+    let node = nodes::conditional(alloc, start, condition, yes, no)?;
     Ok((node, height.max(yes_high.max(no_high)) + 1, rest))
 }
 

@@ -10,7 +10,7 @@ use crate::heads::{expect, expect_name, is_keyword, place, starts};
 use crate::statements::items;
 use crate::types::{outer_type, stars};
 use qs_base::Name;
-use qs_syntax::{Base, Decl, Forward, Function, Keyword, Terminal, Punctuator, Parameter, Stmt, Struct};
+use qs_syntax::{Base, Decl, Forward, Function, Keyword, Node, Parameter, Punctuator, Stmt, Struct, Terminal, TypeName};
 use std::alloc::Global;
 
 /// The height to which the parts of a function's body are read: with it the unit is at most 128 high.
@@ -41,8 +41,7 @@ fn struct_of(
     let (members, height, rest) = groups(alloc, room, rest)?;
     let rest = expect(Punctuator::Semicolon, rest)?;
     let found = Struct {
-        id: 0,
-        token,
+        node: Node { id: 0, token },
         name,
         members,
     };
@@ -56,7 +55,10 @@ fn forward_of(alloc: Global, token: u32, tokens: &[Terminal]) -> Result<(Decl, u
 {
     let (_at, name, rest) = expect_name(alloc, tokens)?;
     let rest = expect(Punctuator::Semicolon, rest)?;
-    let found = Forward { id: 0, token, name };
+    let found = Forward {
+        node: Node { id: 0, token },
+        name,
+    };
     Ok((Decl::Forward(found), 1, rest))
 }
 
@@ -75,10 +77,14 @@ fn function(header: Header, body: Option<Vec<Stmt>>) -> Decl
     ensures { decl_tree result ≡ function_with header (option_map (λ items. stmts_tree items.items) body) }
 {
     Decl::Function(Function {
-        id: 0,
-        token: header.token,
-        base: header.base,
-        stars: header.stars,
+        node: Node {
+            id: 0,
+            token: header.token,
+        },
+        result_type: TypeName {
+            base: header.base,
+            stars: header.stars,
+        },
         name: header.name,
         parameters: header.parameters,
         body,

@@ -1,3 +1,4 @@
+pub mod Registers
 pub mod Ranges
 pub mod Fields
 pub mod Table

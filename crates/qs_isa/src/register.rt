@@ -29,6 +29,12 @@ impl Register {
     /// x2, the stack pointer.
     pub const SP: Register = Register { number: 2 };
 
+    /// x10, the first argument and the result.
+    pub const A0: Register = Register { number: 10 };
+
+    /// x17, the last argument, which names a call of the environment.
+    pub const A7: Register = Register { number: 17 };
+
     /// The register of this number, below 32.
     pub fn new(number: u8) -> Register
         requires { number < 32 }

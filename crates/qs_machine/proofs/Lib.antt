@@ -9,3 +9,4 @@ pub mod Starts
 pub mod Growth
 pub mod Runs
 pub mod FromStart
+pub mod Puts

@@ -54,7 +54,7 @@ high : (args : List ℕ) (k n : ℕ) → length args ≤ 8 → 10 ≤ n → slic
 high args k n few le =
     let e : nat_eq n 2 ≡ false = ne_eqb n 2 (omega arith) in
     let f : nat_le 10 n ≡ true = le-leb 10 n le in
-    let g : nat_lt (n - 10) 8 ≡ nat_lt n 18 = grind (arith, nat_tests) in
+    let g : nat_lt (n - 10) 8 ≡ nat_le n 17 = grind (arith, nat_tests) in
     rw (e, f, ← g) (get_or-append_right first_ten (args ++ drop k (replicate 22 0)) 10 n 0 refl le ∙ argument args k (n - 10) few)
 
 register-at : (args : List ℕ) (k n : ℕ) → length args ≤ 8 → slice_index (first_ten ++ (args ++ drop k (replicate 22 0))) n ≡ start_registers args n

@@ -2,9 +2,10 @@
 use Rattle.std.specs.Prelude.{◌≡◌, ℕ, [], ◌∷◌, codes, refl}
 use Rattle.qs_isa.specs.declared.instruction.Instr.TheVariants.{OpImm, Ecall}
 use Rattle.qs_isa.specs.declared.instruction.OpImmKind.TheVariants.{Addi}
+use Rattle.qs_isa.specs.Registers.{sp}
 use Rattle.qs_image.specs.Image.{Image}
 use Rattle.qs_machine.specs.declared.answers.Cause.TheVariants.{Overflow}
-use Rattle.qs_machine.specs.State.{register}
+use Rattle.qs_machine.specs.State.{stack_pointer}
 use Rattle.qs_machine.specs.Step.{StepResult, Next, Traps, Exits, act}
 use Rattle.qs_machine.specs.Run.{start}
 
@@ -19,14 +20,14 @@ image = record {
 }
 
 abbrev lowered : StepResult → ℕ
-lowered (Next s) = register s 2
+lowered (Next s) = stack_pointer s
 lowered (Exits status) = 0
 lowered (Traps cause) = 0
 
-lowers : lowered (act image 16 (start image [] []) (OpImm Addi 2 2 0xfffffff0)) ≡ 0x7ffffff0
+lowers : lowered (act image 16 (start image [] []) (OpImm Addi sp sp 0xfffffff0)) ≡ 0x7ffffff0
 lowers = refl
 
-overflows : act image 15 (start image [] []) (OpImm Addi 2 2 0xfffffff0) ≡ Traps Overflow
+overflows : act image 15 (start image [] []) (OpImm Addi sp sp 0xfffffff0) ≡ Traps Overflow
 overflows = refl
 
 -- a7 is 0, so this ecall exits; the status is a0 modulo 256

@@ -1,15 +1,16 @@
 -- The machine from its start: where it stands after so many steps, and how low its stack pointer went.
-use Rattle.std.specs.Prelude.{ℕ, zero, suc, ◌-◌, ◌&&◌, ◌==◌, nat_le, nat_lt, min, List, [], slice_index, if◌then◌else◌}
+use Rattle.std.specs.Prelude.{ℕ, zero, suc, ◌-◌, ◌&&◌, ◌==◌, nat_le, min, List, [], slice_index, if◌then◌else◌}
+use Rattle.qs_isa.specs.Registers.{sp, a0, a7}
 use Rattle.qs_image.specs.Image.{Image, words_bytes}
 use Rattle.qs_machine.specs.State.{State, code_start, data_start, stack_top, stack_pointer, is_code, is_data}
 use Rattle.qs_machine.specs.declared.answers.Cause.{Cause}
 use Rattle.qs_machine.specs.Step.{StepResult, Next, Exits, Traps, step}
 
--- At the start a0 to a7 (x10 to x17) hold the arguments, the stack pointer (x2) its top, and all other registers 0.
+-- At the start a0 to a7 hold the arguments, the stack pointer the stack's top, and all other registers 0.
 abbrev pub start_registers : List ℕ → ℕ → ℕ
 start_registers args n =
-    if n == 2 then stack_top
-    else if nat_le 10 n && nat_lt n 18 then slice_index args (n - 10)
+    if n == sp then stack_top
+    else if nat_le a0 n && nat_le n a7 then slice_index args (n - a0)
     else 0
 
 -- At the start memory holds the code's words, little-endian, and the data; all other bytes, the stack's too, are 0.

@@ -1,5 +1,6 @@
 -- The state of the machine: one hart over a flat memory (RISC-V Unprivileged ISA 20191213, 1.4 and 2.1).
 use Rattle.std.specs.Prelude.{ℕ, ◌+◌, ◌-◌, ◌*◌, ◌/◌, ◌%◌, ◌^◌, Bool, ◌&&◌, ◌||◌, ◌==◌, nat_le, List, if◌then◌else◌, length}
+use Rattle.qs_isa.specs.Registers.{sp}
 use Rattle.qs_image.specs.Image.{Image}
 
 -- Registers and addresses are words below 2 ^ 32; memory gives the byte at each address.
@@ -24,9 +25,8 @@ with_value f place value n = if n == place then value else f n
 abbrev pub set_register : State → ℕ → ℕ → State
 set_register s n value = if n == 0 then s else record s { registers = with_value s.registers n value }
 
--- x2 is the stack pointer
 abbrev pub stack_pointer : State → ℕ
-stack_pointer s = register s 2
+stack_pointer s = register s sp
 
 -- Where things lie. The stack of `size` bytes lies below its top.
 abbrev pub code_start : ℕ

@@ -16,6 +16,7 @@ use Rattle.qs_isa.specs.declared.instruction.ShiftImmKind.{ShiftImmKind}
 use Rattle.qs_isa.specs.declared.instruction.ShiftImmKind.TheVariants.{Slli, Srli, Srai}
 use Rattle.qs_isa.specs.declared.instruction.OpKind.{OpKind}
 use Rattle.qs_isa.specs.declared.instruction.OpKind.TheVariants.{Add, Sub, Sll, Slt, Sltu, Xor, Srl, Sra, Or, And, Mul, Mulh, Mulhsu, Mulhu, Div, Divu, Rem, Remu}
+use Rattle.qs_isa.specs.Registers.{sp, a0, a7}
 use Rattle.qs_isa.specs.Table.{decode_of}
 use Rattle.qs_image.specs.Image.{Image}
 use Rattle.qs_machine.specs.declared.answers.Cause.{Cause}
@@ -35,7 +36,7 @@ next_pc s = s.pc + 4
 -- Writes a register and goes on at an address. The stack pointer may not leave the stack.
 abbrev pub write_and_go : ℕ → State → ℕ → ℕ → ℕ → StepResult
 write_and_go size s rd value pc =
-    if rd == 2 && (nat_lt value (stack_base size) || nat_lt stack_top value) then Traps Overflow
+    if rd == sp && (nat_lt value (stack_base size) || nat_lt stack_top value) then Traps Overflow
     else Next (record (set_register s rd value) { pc = pc })
 
 abbrev pub write : ℕ → State → ℕ → ℕ → StepResult
@@ -136,10 +137,10 @@ store image size s kind address value =
     else if can_write image size address (store_width kind) then Next (record s { pc = next_pc s; memory = stored kind s.memory address value })
     else Traps StoreOutside
 
--- ---- The environment (2.8): a7 (x17) names the call, a0 (x10) is its argument and its answer
+-- ---- The environment (2.8): a7 names the call, a0 is its argument and its answer
 
 abbrev pub answer : State → ℕ → State
-answer s value = record (set_register s 10 value) { pc = next_pc s }
+answer s value = record (set_register s a0 value) { pc = next_pc s }
 
 -- the next byte of the input, or every bit set at its end
 abbrev pub take_byte : State → List ℕ → StepResult
@@ -152,8 +153,8 @@ put_byte s byte = Next (record (answer s byte) { output = s.output ++ byte ∷ [
 
 abbrev pub environment_call : State → ℕ → StepResult
 environment_call s call =
-    if call == 0 then Exits (register s 10 % 256)
-    else if call == 1 then put_byte s (register s 10 % 256)
+    if call == 0 then Exits (register s a0 % 256)
+    else if call == 1 then put_byte s (register s a0 % 256)
     else if call == 2 then take_byte s s.input
     else Traps UnknownCall
 
@@ -171,7 +172,7 @@ act image size s (OpImm kind rd rs1 immediate) = write size s rd (op_imm_result 
 act image size s (ShiftImm kind rd rs1 amount) = write size s rd (shift_result kind (register s rs1) amount)
 act image size s (Op kind rd rs1 rs2) = write size s rd (op_result kind (register s rs1) (register s rs2))
 act image size s Fence = go_to s (next_pc s)
-act image size s Ecall = environment_call s (register s 17)
+act image size s Ecall = environment_call s (register s a7)
 act image size s Ebreak = Traps Breakpoint
 
 abbrev pub act_on : Image → ℕ → State → Option Instr → StepResult

@@ -135,7 +135,7 @@ impl Machine {
         ensures loaded { (image : Image) (size : ℕ) → IsLoaded self.old image size → IsLoaded self.new image size }
         ensures taken { taken_of self.new ≡ taken_of self.old }
     {
-        self.registers.write(Register::new(10), value);
+        self.registers.write(Register::A0, value);
         self.pc = self.next_pc();
     }
 
@@ -162,7 +162,7 @@ impl Machine {
         ensures more { taken_of self.old ≤ taken_of self.new }
         ensures within { taken_of self.new ≤ length input.now }
     {
-        let byte = (self.registers.read(Register::new(10)) % 256) as u8;
+        let byte = (self.registers.read(Register::A0) % 256) as u8;
         match call {
             0 => StepResult::Exited(byte),
             1 => {
@@ -244,7 +244,7 @@ impl Machine {
                 self.go_to(next)
             }
             Instr::Ecall => {
-                let call = self.registers.read(Register::new(17));
+                let call = self.registers.read(Register::A7);
                 self.environment_call(call, input)
             }
             Instr::Ebreak => self.trap(Cause::Breakpoint),

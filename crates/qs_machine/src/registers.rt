@@ -20,8 +20,9 @@ impl Registers {
         ensures { registers_of result ≡ start_registers args.now }
     {
         let mut words = [0; 32];
-        words[2] = STACK_TOP;
-        words[10..10 + args.len()].copy_from_slice(args);
+        words[Register::SP.number() as usize] = STACK_TOP;
+        let first = Register::A0.number() as usize;
+        words[first..first + args.len()].copy_from_slice(args);
         Registers { words }
     }
 

@@ -1,4 +1,5 @@
 use Rattle.std.proofs.Common.{◌≡◌}
+use Rattle.qs_isa.specs.Registers.{a7}
 use Rattle.qs_machine.specs.State.{register}
 use Rattle.qs_machine.specs.Standing.{state_of}
 use Rattle.qs_machine.proofs.machine.Machine.act.Goals as goal
@@ -49,5 +50,5 @@ returns-in-Fence-clause-does c = λ image size output l.
 
 pub returns-in-Ecall-clause-does : goal.returns-in-Ecall-clause-does
 returns-in-Ecall-clause-does c = λ image size output l.
-    let number : c.read-call.result ≡ register (state_of c.args.self.now c.args.input.now output) 17 = rw c.new.ensures at c.read-call.ensures in
+    let number : c.read-call.result ≡ register (state_of c.args.self.now c.args.input.now output) a7 = c.read-call.ensures in
     rw (c.in-Ecall.is, ← number) (c.environment_call.ensures.does image size output l)

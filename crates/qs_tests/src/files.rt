@@ -1,7 +1,7 @@
 // The tool over real files and streams.
 use qs_base::Pos;
 use qs_driver::{FileKind, SourceFault, Status, WordsFault, run_tool};
-use qs_lexer::FaultKind;
+use qs_lexer::LexFault;
 use qs_ports::{DirStore, StdSink};
 use std::alloc::{AllocError, Global};
 use std::test::Fail;
@@ -14,6 +14,16 @@ fn words_of(alloc: Global, source: &str, out: &str) -> Result<Vec<String>, Alloc
     }
     Ok(words)
 }
+
+// The image of a program that puts 33 and returns 0, assembled by hand: the head of 8 words of code, the record of
+// main and its name, and addi sp, sp, -16; addi a0, x0, 33; addi a7, x0, 1; ecall; addi a0, x0, 0;
+// addi sp, sp, 16; addi a7, x0, 0; ecall.
+const IMAGE: [u8; 80] = [
+    0x51, 0x53, 0x49, 0x31, 8, 0, 0, 0, 0, 0, 0, 0, 1, 0, 0, 0, 4, 0, 0, 0, 0, 0, 1, 0, 0, 0, 0, 0,
+    0, 0, 0, 0, 4, 0, 0, 0, 0, 0, 1, 0, 16, 0, 0, 0, 0x6d, 0x61, 0x69, 0x6e, 0x13, 0x01, 0x01,
+    0xff, 0x13, 0x05, 0x10, 0x02, 0x93, 0x08, 0x10, 0x00, 0x73, 0x00, 0x00, 0x00, 0x13, 0x05, 0x00,
+    0x00, 0x13, 0x01, 0x01, 0x01, 0x93, 0x08, 0x00, 0x00, 0x73, 0x00, 0x00, 0x00,
+];
 
 // The names are those of this process, in the system's folder for such files.
 #[test]
@@ -35,7 +45,7 @@ fn real_files_and_streams(rt: HostRuntime) -> Result<(), Fail> {
         (
             out.as_str(),
             source.as_str(),
-            Status::Source(SourceFault::Lex(FaultKind::BadByte, Pos { line: 1, column: 5 })),
+            Status::Source(SourceFault::Lex(LexFault::BadByte(4), Pos { line: 1, column: 5 })),
         ),
         (
             "/tmp/qsc_test_no_such_file.c",
@@ -64,7 +74,12 @@ fn real_files_and_streams(rt: HostRuntime) -> Result<(), Fail> {
         assert_eq!(rt; ended, status);
     }
     let image = fs::read(&rt, out.as_str())?;
-    assert_eq!(rt; image.len(), 80);
+    assert_eq!(rt; image.as_slice(), IMAGE.as_slice());
+    let kept = fs::read(&rt, source.as_str())?;
+    assert_eq!(rt;
+        kept.as_slice(),
+        b"int main(void){putchar(33);return 0;}\n".as_slice()
+    );
     fs::remove_file(&rt, source.as_str())?;
     fs::remove_file(&rt, out.as_str())?;
     Ok(())

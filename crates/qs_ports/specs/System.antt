@@ -1,5 +1,7 @@
--- Stores and sinks of the system. They tell nothing of what they hold.
+-- Stores and sinks of the system. They tell nothing of what they hold; but where the bytes that a writer holds, or a file
+-- has left, are known, each call moves exactly those that it answers.
 use Rattle.std.specs.Prelude.{ℕ, [], Bool, true, false, Option, Some, None, List, Result, Ok, Err}
+use Rattle.std.specs.Io.KnownBytes.{ReadConsumes, WriteAppends}
 use Rattle.qs_ports.specs.Causes.{one_more}
 use Rattle.qs_ports.specs.SinkView.{SinkView}
 use Rattle.qs_ports.specs.StoreView.{StoreView}
@@ -20,6 +22,10 @@ std_sink_of s = silent_sink s.faults s.failed
 -- the bytes that the writer holds, where they are known
 abbrev pub contents_of : {Writer : Type 0} → (Writer → Option (List ℕ)) → StdSink Writer → Option (List ℕ)
 contents_of contents s = contents s.writer
+
+-- `put` appends to what the writer holds as many first bytes of the piece as it answers, and nothing where it fails
+abbrev pub WritesTo : {Writer : Type 0} → (Writer → Option (List ℕ)) → StdSink Writer → StdSink Writer → List ℕ → Result ℕ SinkFault → Type 0
+WritesTo contents s t piece r = WriteAppends (contents_of contents s) (contents_of contents t) r piece
 
 -- the sink after `put`: it counts each failure
 abbrev pub after_silent_put : SinkView → Result ℕ SinkFault → SinkView
@@ -49,9 +55,18 @@ known_of known (Some file) = known file
 abbrev pub left_to_read : {System File Dir : Type 0} → (File → Option (List ℕ)) → DirStore System File Dir → Option (List ℕ)
 left_to_read remaining s = known_of remaining s.reading
 
+-- `read` takes from the file as many bytes as it answers, which are then the first ones of the buffer, and none where it
+-- fails
+abbrev pub TakesFromFile : {System File Dir : Type 0} → (File → Option (List ℕ)) → DirStore System File Dir → DirStore System File Dir → List ℕ → Result ℕ StoreFault → Type 0
+TakesFromFile remaining s t buffer r = ReadConsumes (left_to_read remaining s) (left_to_read remaining t) r buffer
+
 -- the bytes that the file for writing holds, where they are known
 abbrev pub written_so_far : {System File Dir : Type 0} → (File → Option (List ℕ)) → DirStore System File Dir → Option (List ℕ)
 written_so_far contents s = known_of contents s.writing
+
+-- `write` appends to the file as many first bytes of the piece as it answers, and none where it fails
+abbrev pub AddsToFile : {System File Dir : Type 0} → (File → Option (List ℕ)) → DirStore System File Dir → DirStore System File Dir → List ℕ → Result ℕ StoreFault → Type 0
+AddsToFile contents s t piece r = WriteAppends (written_so_far contents s) (written_so_far contents t) r piece
 
 -- the store after `open`: it counts each failure and each missing file, and has no file open for reading then
 abbrev pub after_silent_open : StoreView → Result Unit StoreFault → StoreView

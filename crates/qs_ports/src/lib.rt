@@ -5,7 +5,8 @@
 //! - In memory, `CleanStore` and `CleanSink` never fail, and `MemStore` and `MemSink` fail exactly at listed calls
 //!   (Memory.antt and the files that are named after them).
 //! - `DirStore` and `StdSink` are the files of the system and its writers (System.antt). They tell nothing of what they
-//!   hold; that the system does what it answers is trusted.
+//!   hold, but what a writer or a file is known to hold changes by exactly the bytes that are answered; that the system
+//!   does what it answers, and opens the file that it is asked for, is trusted.
 #![tactic(auto)]
 
 mod memory;

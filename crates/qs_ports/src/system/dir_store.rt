@@ -39,12 +39,11 @@ impl<R: Files + Drop> DirStore<R> {
 
 impl<R: Files + Drop> Store for DirStore<R> {
     ghost use Rattle.std.specs.Prelude.{IsSome};
-    ghost use Rattle.std.specs.Io.KnownBytes.{ReadConsumes, WriteAppends};
     ghost use Rattle.qs_ports.specs.StoreView.{Opens, Reads, Creates, Writes};
     ghost use Rattle.qs_ports.specs.System.{
       dir_store_of,
-      left_to_read,
-      written_so_far,
+      TakesFromFile,
+      AddsToFile,
       after_silent_open,
       after_silent_create,
       after_silent_move,
@@ -80,7 +79,7 @@ impl<R: Files + Drop> Store for DirStore<R> {
         requires { IsSome (dir_store_of self.old).reading }
         ensures reads { Reads (dir_store_of self.old) (dir_store_of self.new) into.old into.new result }
         ensures changes { dir_store_of self.new ≡ after_silent_move (dir_store_of self.old) result }
-        ensures bytes { ReadConsumes (left_to_read R.File.remaining self.old) (left_to_read R.File.remaining self.new) result into.new }
+        ensures bytes { TakesFromFile R.File.remaining self.old self.new into.new result }
         ensures writing_stays { self.new.writing ≡ self.old.writing }
     {
         let Some(file) = &mut self.reading else {
@@ -117,7 +116,7 @@ impl<R: Files + Drop> Store for DirStore<R> {
         requires { IsSome (dir_store_of self.old).writing }
         ensures writes { Writes (dir_store_of self.old) (dir_store_of self.new) piece.now result }
         ensures changes { dir_store_of self.new ≡ after_silent_move (dir_store_of self.old) result }
-        ensures bytes { WriteAppends (written_so_far R.File.contents self.old) (written_so_far R.File.contents self.new) result piece.now }
+        ensures bytes { AddsToFile R.File.contents self.old self.new piece.now result }
         ensures reading_stays { self.new.reading ≡ self.old.reading }
     {
         let Some(file) = &mut self.writing else {

@@ -32,16 +32,15 @@ impl<W: Write + Drop> StdSink<W> {
 
 impl<W: Write + Drop> Sink for StdSink<W> {
     ghost use Rattle.std.specs.Prelude.{◌≡◌};
-    ghost use Rattle.std.specs.Io.KnownBytes.{WriteAppends};
     ghost use Rattle.qs_ports.specs.SinkView.{Puts};
-    ghost use Rattle.qs_ports.specs.System.{std_sink_of, contents_of, after_silent_put};
+    ghost use Rattle.qs_ports.specs.System.{std_sink_of, WritesTo, after_silent_put};
 
     ghost view = { std_sink_of };
 
     fn put(&mut self, piece: &[u8]) -> Result<usize, SinkFault>
         ensures puts { Puts (std_sink_of self.old) (std_sink_of self.new) piece.now result }
         ensures changes { std_sink_of self.new ≡ after_silent_put (std_sink_of self.old) result }
-        ensures bytes { WriteAppends (contents_of W.contents self.old) (contents_of W.contents self.new) result piece.now }
+        ensures bytes { WritesTo W.contents self.old self.new piece.now result }
     {
         match write_some(&mut self.writer, piece) {
             Ok(count) => {

@@ -1,50 +1,133 @@
--- Small cases, computed from the definitions.
-use Rattle.std.proofs.Common.{◌≡◌, refl, pos, negsuc, [], ◌∷◌}
+-- Rows computed from the definitions.
+use Rattle.std.proofs.Common.{◌≡◌, ℕ, ◌-◌, ◌^◌, Bool, true, false, List, [], ◌∷◌, refl}
+use Rattle.std.specs.Prelude.{ℤ, pos, negsuc, if◌then◌else◌, map}
 use Rattle.qs_assert.specs.declared.variable.Var.{Var}
 use Rattle.qs_assert.specs.declared.variable.VarKind.TheVariants.{Plain}
-use Rattle.qs_assert.specs.declared.variable.NumberType.TheVariants.{Unsigned}
+use Rattle.qs_assert.specs.declared.variable.NumberType.{NumberType}
+use Rattle.qs_assert.specs.declared.variable.NumberType.TheVariants.{Int, Unsigned}
+use Rattle.qs_assert.specs.declared.define.Define.{Define}
+use Rattle.qs_assert.specs.declared.define.Amount.{Amount}
 use Rattle.qs_assert.specs.declared.define.Amount.TheVariants.{Finite, Infinite, Wide}
-use Rattle.qs_assert.specs.Trees.{number, variable, sub, wrapu, wraps, lt, natural, infinity, cost, num, product, guard, named, assertions_of}
+use Rattle.qs_assert.specs.Trees.{TermTree, number, variable, add, sub, mul, div, wrapu, wraps, bits, CondTree, lt, AssertionTree, natural, infinity, cost, num, total, greatest, product, guard, choose, named, terms_of, assertions_of}
 use Rattle.qs_assert.specs.Values.{bit_length, least_power}
 use Rattle.qs_assert.specs.Substitution.{in_assertion}
 use Rattle.qs_assert.specs.Bounds.{amount_at, bound_at}
 
-abbrev n : Var
-n = record { kind = Plain 0; number = Unsigned }
+-- the parameter of number 0, and its type
+abbrev x : NumberType → Var
+x type = record { kind = Plain 0; number = type }
 
--- n is replaced by (wrapu (sub n 1))
-replaced : in_assertion n (wrapu (sub (variable n) (number (pos 1)))) (num (variable n)) ≡ num (wrapu (sub (variable n) (number (pos 1))))
-replaced = refl
+abbrev n : TermTree
+n = variable (x Int)
+
+abbrev finite_each : List ℕ → List Amount
+finite_each = map (λ k. Finite k)
+
+-- ---- terms
+
+-- the greater of 0 and a term, where n is each of these numbers
+abbrev at_each : TermTree → List ℤ → List Amount
+at_each t = map (λ z. amount_at (num t) [] (z ∷ []) [])
+
+lengths_in_bits : at_each (bits n) (negsuc 0 ∷ pos 0 ∷ pos 1 ∷ pos 2 ∷ pos 3 ∷ pos 4 ∷ pos 255 ∷ pos 256 ∷ pos 1234567890 ∷ pos 9223372036854775807 ∷ []) ≡ finite_each (0 ∷ 0 ∷ 1 ∷ 2 ∷ 2 ∷ 3 ∷ 8 ∷ 9 ∷ 31 ∷ 63 ∷ [])
+unfolding bit_length least_power
+lengths_in_bits = refl
+
+unsigned_words : at_each (wrapu n) (pos 0 ∷ pos 4294967295 ∷ pos 4294967296 ∷ negsuc 0 ∷ negsuc 4294967295 ∷ negsuc 4294967296 ∷ []) ≡ finite_each (0 ∷ 4294967295 ∷ 0 ∷ 4294967295 ∷ 0 ∷ 4294967295 ∷ [])
+unsigned_words = refl
+
+-- how far the signed word is above -2^31
+signed_words : at_each (sub (wraps n) (number (negsuc 2147483647))) (pos 0 ∷ pos 2147483647 ∷ pos 2147483648 ∷ negsuc 2147483647 ∷ negsuc 2147483648 ∷ pos 4294967295 ∷ []) ≡ finite_each (2147483648 ∷ 4294967295 ∷ 0 ∷ 0 ∷ 4294967295 ∷ 2147483647 ∷ [])
+signed_words = refl
+
+-- how far the half is above -10
+halves : at_each (sub (div n 2) (number (negsuc 9))) (pos 7 ∷ pos 6 ∷ pos 1 ∷ pos 0 ∷ negsuc 0 ∷ negsuc 1 ∷ negsuc 6 ∷ []) ≡ finite_each (13 ∷ 13 ∷ 10 ∷ 10 ∷ 9 ∷ 9 ∷ 6 ∷ [])
+halves = refl
+
+-- 2^126 times each
+abbrev large : ℤ → TermTree
+large k = mul (terms_of (number (pos (2 ^ 42)) ∷ number (pos (2 ^ 42)) ∷ number (pos (2 ^ 42)) ∷ number k ∷ []))
+
+-- the sum, less 1
+abbrev sum_amount : List ℤ → Amount
+sum_amount ks = amount_at (num (sub (add (terms_of (map large ks))) (number (pos 1)))) [] [] []
+
+sums : map sum_amount ((pos 1 ∷ pos 0 ∷ []) ∷ (pos 1 ∷ pos 1 ∷ []) ∷ (negsuc 0 ∷ negsuc 0 ∷ []) ∷ (pos 1 ∷ pos 1 ∷ pos 1 ∷ negsuc 0 ∷ negsuc 0 ∷ []) ∷ (pos 2 ∷ negsuc 0 ∷ []) ∷ []) ≡ Finite (2 ^ 126 - 1) ∷ Wide ∷ Wide ∷ Finite (2 ^ 126 - 1) ∷ Wide ∷ []
+sums = refl
+
+abbrev product_amount : List ℤ → Amount
+product_amount ks = amount_at (num (mul (terms_of (map large ks)))) [] [] []
+
+-- a factor 0 hides that a product is wide, but not that a factor is
+products : map product_amount ((pos 1 ∷ pos 0 ∷ []) ∷ (pos 1 ∷ pos 1 ∷ []) ∷ (pos 1 ∷ pos 1 ∷ pos 0 ∷ []) ∷ (pos 2 ∷ pos 0 ∷ []) ∷ []) ≡ Finite 0 ∷ Wide ∷ Finite 0 ∷ Wide ∷ []
+products = refl
+
+-- ---- assertions
+
+abbrev plain : AssertionTree → Amount
+plain a = amount_at a [] [] []
+
+-- 2^126, and 2^127, which is wide
+abbrev wide_half : AssertionTree
+wide_half = num (large (pos 1))
+
+abbrev wide_part : AssertionTree
+wide_part = num (large (pos 2))
+
+edges_of_wide : map (λ k. plain (natural k)) ((2 ^ 127 - 1) ∷ (2 ^ 127) ∷ []) ≡ Finite (2 ^ 127 - 1) ∷ Wide ∷ []
+edges_of_wide = refl
+
+-- infinity hides that a sum is wide, but not that a part is
+abbrev part_lists : List (List AssertionTree)
+part_lists = (natural 3 ∷ natural 4 ∷ []) ∷ (wide_half ∷ wide_half ∷ []) ∷ (infinity ∷ wide_half ∷ wide_half ∷ []) ∷ (infinity ∷ wide_part ∷ []) ∷ []
+
+totals : map (λ parts. plain (total (assertions_of parts))) part_lists ≡ Finite 7 ∷ Wide ∷ Infinite ∷ Wide ∷ []
+totals = refl
+
+greatest_parts : map (λ parts. plain (greatest (assertions_of parts))) part_lists ≡ Finite 4 ∷ Finite (2 ^ 126) ∷ Infinite ∷ Wide ∷ []
+greatest_parts = refl
 
 -- 0 times infinity is 0
-nothing_of_infinity : amount_at (product (assertions_of (natural 0 ∷ (infinity ∷ [])))) [] [] [] ≡ Finite 0
-nothing_of_infinity = refl
+factors : map (λ parts. plain (product (assertions_of parts))) ((natural 0 ∷ infinity ∷ []) ∷ (infinity ∷ natural 0 ∷ []) ∷ (natural 1 ∷ infinity ∷ []) ∷ (natural 0 ∷ wide_part ∷ []) ∷ (wide_half ∷ wide_half ∷ infinity ∷ []) ∷ []) ≡ Finite 0 ∷ Finite 0 ∷ Infinite ∷ Wide ∷ Infinite ∷ []
+factors = refl
 
--- 1234567890 has 31 bits
-many_bits : bit_length (pos 1234567890) ≡ 31
-unfolding bit_length least_power
-many_bits = refl
+-- 3 < 4, or 3 < 3
+abbrev condition : Bool → CondTree
+condition holds = lt (number (pos 3)) (number (if holds then pos 4 else pos 3))
 
--- -1 modulo 2^32
-below_zero : amount_at (num (wrapu (number (negsuc 0)))) [] [] [] ≡ Finite 4294967295
-below_zero = refl
+-- what isn't evaluated isn't wide
+guards : plain (guard (condition false) wide_part) ∷ plain (guard (condition true) wide_part) ∷ plain (guard (condition true) (natural 5)) ∷ [] ≡ Infinite ∷ Wide ∷ Finite 5 ∷ []
+guards = refl
 
--- -2^31 - 1 wraps to 2^31 - 1
-below_the_least : amount_at (num (wraps (number (negsuc 2147483648)))) [] [] [] ≡ Finite 2147483647
-below_the_least = refl
+choices : plain (choose (condition true) (natural 5) wide_part) ∷ plain (choose (condition false) wide_part (natural 5)) ∷ plain (choose (condition false) (natural 5) wide_part) ∷ [] ≡ Finite 5 ∷ Finite 5 ∷ Wide ∷ []
+choices = refl
 
--- what a guard keeps out is infinite
-kept_out : amount_at (guard (lt (number (pos 4)) (number (pos 3))) (natural 5)) [] [] [] ≡ Infinite
-kept_out = refl
+-- ---- names
 
--- the first definition of a name; the cost of main and its precondition's value
-first_definition : bound_at (named (102 ∷ [])) (record { name = 102 ∷ []; body = cost 1 } ∷ (record { name = 102 ∷ []; body = natural 7 } ∷ [])) [] (16 ∷ (40 ∷ [])) 0 ≡ Finite 56
-first_definition = refl
+abbrev define : ℕ → AssertionTree → Define
+define letter body = record { name = letter ∷ []; body = body }
 
--- 2^127 is wide
-wide_at_2_to_the_127 : amount_at (natural 170141183460469231731687303715884105728) [] [] [] ≡ Wide
-wide_at_2_to_the_127 = refl
+-- e is f; f is (cost 1); g is f; f is 7; w is wide; h is w
+abbrev definitions : List Define
+definitions = define 101 (named (102 ∷ [])) ∷ define 102 (cost 1) ∷ define 103 (named (102 ∷ [])) ∷ define 102 (natural 7) ∷ define 119 wide_part ∷ define 104 (named (119 ∷ [])) ∷ []
 
--- 2^127 - 1 is not
-widest : amount_at (natural 170141183460469231731687303715884105727) [] [] [] ≡ Finite 170141183460469231731687303715884105727
-widest = refl
+-- e, f, g, h and n
+abbrev letters : List ℕ
+letters = 101 ∷ 102 ∷ 103 ∷ 104 ∷ 110 ∷ []
+
+-- a name has the value of its first definition; what isn't defined, or not earlier, is infinite
+values_of_names : map (λ letter. amount_at (named (letter ∷ [])) definitions [] (16 ∷ 40 ∷ [])) letters ≡ Infinite ∷ Finite 40 ∷ Finite 40 ∷ Wide ∷ Infinite ∷ []
+values_of_names = refl
+
+bounds_of_names : map (λ letter. bound_at (named (letter ∷ [])) definitions [] (16 ∷ 40 ∷ []) 0) letters ≡ Infinite ∷ Finite 56 ∷ Finite 56 ∷ Wide ∷ Infinite ∷ []
+bounds_of_names = refl
+
+-- ---- substitution
+
+-- (wrapu (sub n 1))
+abbrev one_less : TermTree
+one_less = wrapu (sub n (number (pos 1)))
+
+-- an int isn't replaced by what stands for an unsigned variable of its number
+replaced : map (λ type. in_assertion (x type) one_less (num n)) (Int ∷ Unsigned ∷ []) ≡ num one_less ∷ num n ∷ []
+replaced = refl

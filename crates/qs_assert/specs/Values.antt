@@ -37,7 +37,8 @@ unfoldable pub bit_length : ℤ → ℕ
 bit_length (pos n) = least_power n 0 n
 bit_length (negsuc n) = 0
 
--- z divided by k, rounded down, for k of at least 1
+-- z divided by k, rounded down. `Term::div` wants a k of at least 1, but `Term::from_nodes` can make a term that
+-- divides by 0: that is 0, or -1 where z is below 0.
 abbrev pub quotient : ℤ → ℕ → ℤ
 quotient z k = int_div_euclid z (pos k)
 

@@ -21,7 +21,9 @@ mod variable;
 
 pub use bound::{bound_of, value_at};
 pub use define::{Amount, Define};
+pub use listing::put_nodes;
 pub use node::{AssertionNode, CondNode, Node, TermNode};
+pub use sameness::same_nodes;
 pub use substitution::substitute;
 pub use tree::{Assertion, Cond, Term};
 pub use variable::{NumberType, Var, VarKind};

@@ -51,6 +51,7 @@ pub fn put_term(list: &mut Vec<Node>, t: &Term) -> Result<(), NoMemory>
     Ok(())
 }
 
+/// Puts nodes of the same content at the end of a list.
 pub fn put_nodes(alloc: Global, list: &mut Vec<Node>, nodes: &[Node]) -> Result<(), NoMemory>
     ensures { IfOk result (λ _. list.new.items ≡ list.old.items ++ nodes.now) }
 {

@@ -92,7 +92,8 @@ fn same_terms(a: &[TermNode], b: &[TermNode]) -> bool
     true
 }
 
-fn same_nodes(a: &[Node], b: &[Node]) -> bool
+/// Whether the two have the same nodes.
+pub fn same_nodes(a: &[Node], b: &[Node]) -> bool
     ensures { result ≡ all_same same_node a.now b.now }
 {
     if a.len() != b.len() {

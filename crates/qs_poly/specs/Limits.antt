@@ -1,5 +1,6 @@
 -- The limits of polynomials: coefficients from -2^56 to 2^56, at most 64 terms, and degree at most 4.
-use Rattle.std.specs.Prelude.{◌≡◌, ℕ, ◌+◌, ◌^◌, ℤ, Bool, true, ◌&&◌, nat_le, if◌then◌else◌, unsigned_abs, Result, Ok, Err}
+use Rattle.std.specs.Prelude.{◌≡◌, ℕ, ◌+◌, ◌^◌, ℤ, Bool, true, ◌&&◌, nat_le, unsigned_abs, Result, Ok, Err}
+use Rattle.qs_base.specs.Results.{require}
 use Rattle.qs_poly.specs.Polynomials.{Monomial, one, times, Polynomial, nothing, plus}
 use Rattle.qs_poly.specs.Canonical.{IsCanonical}
 use Rattle.qs_poly.specs.declared.fault.PolyFault.{PolyFault}
@@ -32,8 +33,7 @@ has_few_terms p = nat_le (count_terms p) 64
 
 -- a polynomial within the limits, or the first limit that it passes
 abbrev pub within : Polynomial → Result Polynomial PolyFault
-within p =
-    if all_narrow p then (if has_few_terms p then (if all_low p then Ok p else Err HighDegree) else Err ManyTerms) else Err Wide
+within p = require (all_narrow p) Wide (require (has_few_terms p) ManyTerms (require (all_low p) HighDegree (Ok p)))
 
 -- what an operation answers whose true result this is
 abbrev pub Gives : Result Polynomial PolyFault → Polynomial → Type 0

@@ -16,9 +16,9 @@ use Rattle.qs_syntax.specs.declared.operators.BinaryOperator.{BinaryOperator}
 use Rattle.qs_syntax.specs.declared.operators.AssignmentOperator.{AssignmentOperator}
 use Rattle.qs_syntax.specs.declared.operators.Access.{Access}
 use Rattle.qs_syntax.specs.Trees.{ExprTree, expr, int, text, name, unary, step, cast, size_type, size_expr, binary, assign, choice, comma, index, member, call, exprs_of}
-use Rattle.qs_syntax.specs.Operators.{precedence}
+use Rattle.qs_syntax.specs.Operators.{precedence, unary_of, binary_of, assign_of, access_of}
 use Rattle.qs_syntax.specs.Reads.{Form, Postfix, Unary, Level, Conditional, Assignment, Expression, place}
-use Rattle.qs_parser.specs.Heads.{is_punctuator, is_keyword, starts, unary_of, binary_of, assign_of, access_of, operator_at, begins_type}
+use Rattle.qs_parser.specs.Heads.{is_punctuator, is_keyword, starts, operator_at, begins_type}
 
 pub data Stop : Type 0 where
   Unexpected : ℕ → Stop
@@ -254,12 +254,12 @@ module _ (m : ℕ) (part : Form → Parse E) where
 
   -- behind an operator, and what follows its right operand
   abbrev pub operation : ℕ → (start : ℕ) → E → BinaryOperator → (E → Parse E) → Parse E
-  operation j start an operator others [] = unexpected []
-  operation j start an operator others (t ∷ ts) = bind (part (Level j) ts) (λ b us. others (expr 0 start (binary operator a.0 b.0), max a.1 b.1 + 1) us)
+  operation j start a operator others [] = unexpected []
+  operation j start a operator others (t ∷ ts) = bind (part (Level j) ts) (λ b us. others (expr 0 start (binary operator a.0 b.0), max a.1 b.1 + 1) us)
 
   abbrev pub operation_at : ℕ → (start : ℕ) → E → Option BinaryOperator → (E → Parse E) → Parse E
   operation_at j start a None others ts = Ok (a, ts)
-  operation_at j start a (Some operator) others ts = above m a.1 (operation j start an operator others) ts
+  operation_at j start a (Some operator) others ts = above m a.1 (operation j start a operator others) ts
 
   -- The operators of level j + 1, and their right operands. The first number bounds the turns.
   unfoldable pub operations : ℕ → ℕ → (start : ℕ) → E → Parse E

@@ -11,13 +11,16 @@ ghost use Rattle.qs_parser.specs.View.{Gives, read_as, listed, texts_of, form_of
 
 use crate::fault::Halt;
 use crate::heads::{
-    access_at, assign_at, begins_cast, begins_one, expect, expect_name, is_punctuator, level_operator_at,
-    place, starts, starts_suffix, starts_with, unary_of,
+    access_at, assign_at, begins_cast, begins_one, expect, expect_name, is_punctuator,
+    level_operator_at, place, starts, starts_suffix, starts_with,
 };
 use crate::nodes;
 use crate::types::type_name;
 use qs_base::Name;
-use qs_syntax::{Access, AssignmentOperator, Expr, Keyword, Terminal, Punctuator, StepOperator, Text, UnaryOperator};
+use qs_syntax::{
+    Access, AssignmentOperator, Expr, Keyword, Punctuator, StepOperator, Terminal, Text,
+    UnaryOperator,
+};
 use std::alloc::Global;
 
 /// What an expression is read as.
@@ -368,7 +371,11 @@ fn operator_of(
     ensures low { IfOk result (λ x. x.1 ≤ room + 1) }
 {
     let (operand, height, rest) = part(alloc, room, Form::Level(0), tokens)?;
-    Ok((nodes::unary(alloc, at, operator, operand)?, height + 1, rest))
+    Ok((
+        nodes::unary(alloc, at, operator, operand)?,
+        height + 1,
+        rest,
+    ))
 }
 
 /// The operand of `sizeof`: a type in parentheses, or an expression (C11 6.5.3.4).
@@ -409,7 +416,7 @@ fn marked<'a>(
 {
     let is_increment = starts(Punctuator::Increment, tokens);
     let is_decrement = starts(Punctuator::Decrement, tokens);
-    let operator = unary_of(punctuator);
+    let operator = UnaryOperator::of(punctuator);
     if !is_increment && !is_decrement && operator.is_none() {
         return postfix(alloc, room, tokens);
     }
@@ -446,7 +453,14 @@ fn unary(alloc: Global, room: u8, tokens: &[Terminal]) -> Result<(Expr, u32, &[T
             }
             size_of(alloc, room, *at, rest)
         }
-        [Terminal::Punctuator(at, punctuator), rest @ ..] => marked(alloc, room, *at, *punctuator, tokens, rest),
+        [Terminal::Punctuator(at, punctuator), rest @ ..] => marked(
+            alloc,
+            room,
+            *at,
+            *punctuator,
+            tokens,
+            rest,
+        ),
         _ => postfix(alloc, room, tokens),
     }
 }
@@ -470,7 +484,11 @@ fn cast_of(
 
 /// A cast or a unary expression (C11 6.5.4).
 #[cycle(parser)]
-fn cast_or_unary(alloc: Global, room: u8, tokens: &[Terminal]) -> Result<(Expr, u32, &[Terminal]), Halt>
+fn cast_or_unary(
+    alloc: Global,
+    room: u8,
+    tokens: &[Terminal],
+) -> Result<(Expr, u32, &[Terminal]), Halt>
     ensures gives { Gives (read_as expr_tree) result (cast_or_unary room (part room) tokens.now) }
     ensures low { IfOk result (λ x. x.1 ≤ room + 1) }
 {
@@ -652,7 +670,11 @@ fn after_unary(
 
 /// An assignment expression (C11 6.5.16).
 #[cycle(parser)]
-fn assignment(alloc: Global, room: u8, tokens: &[Terminal]) -> Result<(Expr, u32, &[Terminal]), Halt>
+fn assignment(
+    alloc: Global,
+    room: u8,
+    tokens: &[Terminal],
+) -> Result<(Expr, u32, &[Terminal]), Halt>
     ensures gives { Gives (read_as expr_tree) result (assignment room (part room) tokens.now) }
     ensures low { IfOk result (λ x. x.1 ≤ room + 1) }
 {

@@ -4,7 +4,10 @@ ghost use Rattle.qs_syntax.specs.Trees.{expr, int, text, name, size_type, unary,
 ghost use Rattle.qs_syntax.specs.TreeOf.{expr_tree};
 
 use qs_base::Name;
-use qs_syntax::{Access, AssignmentOperator, BinaryOperator, Expr, Shape, StepOperator, Text, TypeName, UnaryOperator};
+use qs_syntax::{
+    Access, AssignmentOperator, BinaryOperator, Expr, Shape, StepOperator, Text, TypeName,
+    UnaryOperator,
+};
 use std::alloc::{AllocError, Global};
 
 /// A number or character.
@@ -52,7 +55,12 @@ pub fn size_type(token: u32, of: TypeName) -> Expr
 }
 
 /// A unary operator and its operand.
-pub fn unary(alloc: Global, token: u32, operator: UnaryOperator, part: Expr) -> Result<Expr, AllocError>
+pub fn unary(
+    alloc: Global,
+    token: u32,
+    operator: UnaryOperator,
+    part: Expr,
+) -> Result<Expr, AllocError>
     ensures { IfOk result (λ e. expr_tree e ≡ expr 0 token (unary operator (expr_tree part))) }
 {
     let part = Box::new(alloc, part)?;
@@ -64,7 +72,12 @@ pub fn unary(alloc: Global, token: u32, operator: UnaryOperator, part: Expr) -> 
 }
 
 /// A step by one and its operand.
-pub fn step(alloc: Global, token: u32, operator: StepOperator, part: Expr) -> Result<Expr, AllocError>
+pub fn step(
+    alloc: Global,
+    token: u32,
+    operator: StepOperator,
+    part: Expr,
+) -> Result<Expr, AllocError>
     ensures { IfOk result (λ e. expr_tree e ≡ expr 0 token (step operator (expr_tree part))) }
 {
     let part = Box::new(alloc, part)?;

@@ -4,7 +4,7 @@ use Rattle.std.specs.Prelude.{max}
 use Rattle.std.proofs.lemmas.Bool.{ne_eqb}
 use Rattle.qs_syntax.specs.declared.terminal.Terminal.{Terminal}
 use Rattle.qs_syntax.specs.declared.punctuator.Punctuator.TheVariants as punctuators
-use Rattle.qs_syntax.specs.Trees.{ExprTree, InitialiserTree, value, list, initialisers_of, VariableTree, DeclaratorTree, MembersTree, ParameterTree}
+use Rattle.qs_syntax.specs.Trees.{unnumbered, ExprTree, InitialiserTree, value, list, initialisers_of, VariableTree, DeclaratorTree, MembersTree, ParameterTree}
 use Rattle.qs_syntax.specs.Reads.{Conditional, Assignment, place}
 use Rattle.qs_parser.specs.Heads.{starts}
 use Rattle.qs_parser.proofs.CodeExpressions.{map_more}
@@ -53,7 +53,7 @@ initialiser_deep (suc zero) ts h e = rw e refl
 initialiser_deep (suc (suc n)) ts h e = absurd (omega arith)
 
 abbrev list_with : Parse (InitialiserTree × ℕ) → Parse (InitialiserTree × ℕ)
-list_with inner ts = bind (expect punctuators.OpenBrace ts) (λ _ vs. bind (initialisers inner (length vs) [] 0 vs) (λ is ws. Ok ((list 0 (place ts) (initialisers_of is.0), is.1 + 1), ws)))
+list_with inner ts = bind (expect punctuators.OpenBrace ts) (λ _ vs. bind (initialisers inner (length vs) [] 0 vs) (λ is ws. Ok ((list (unnumbered (place ts)) (initialisers_of is.0), is.1 + 1), ws)))
 
 deeper_more : (m : ℕ) (q : Parse (InitialiserTree × ℕ)) (ts : List Terminal) → 0 < m → deeper m q ts ≡ q ts
 deeper_more m q ts h = ap (λ b. cond b (deep ts) (q ts)) (ne_eqb m 0 (λ e. omega arith))
@@ -63,7 +63,7 @@ unfolding initialiser
 initialiser_braced n ts e = rw e refl
 
 pub initialiser_list : (n : ℕ) (ts : List Terminal) → 1 < n → starts punctuators.OpenBrace ts ≡ true
-    → initialiser n ts ≡ bind (expect punctuators.OpenBrace ts) (λ _ vs. bind (initialisers (initialiser (n - 1)) (length vs) [] 0 vs) (λ is ws. Ok ((list 0 (place ts) (initialisers_of is.0), is.1 + 1), ws)))
+    → initialiser n ts ≡ bind (expect punctuators.OpenBrace ts) (λ _ vs. bind (initialisers (initialiser (n - 1)) (length vs) [] 0 vs) (λ is ws. Ok ((list (unnumbered (place ts)) (initialisers_of is.0), is.1 + 1), ws)))
 initialiser_list zero ts h e = absurd (omega arith)
 initialiser_list (suc zero) ts h e = absurd (omega arith)
 initialiser_list (suc (suc n)) ts h e = let q : suc n ≡ suc (suc n) - 1 = omega arith in initialiser_braced (suc n) ts e ∙ deeper_more (suc n) (list_with (initialiser (suc n))) ts (omega arith) ∙ ap (λ (k : ℕ). list_with (initialiser k) ts) q

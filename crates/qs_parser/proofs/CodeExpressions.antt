@@ -3,7 +3,7 @@ use Rattle.std.proofs.Common.{◌≡◌, ℕ, zero, suc, ◌+◌, ◌-◌, ◌<�
 use Rattle.std.specs.Prelude.{max}
 use Rattle.qs_syntax.specs.declared.terminal.Terminal.{Terminal}
 use Rattle.qs_syntax.specs.declared.punctuator.Punctuator.TheVariants as punctuators
-use Rattle.qs_syntax.specs.Trees.{ExprTree, expr, comma}
+use Rattle.qs_syntax.specs.Trees.{unnumbered, ExprTree, expr, comma}
 use Rattle.qs_syntax.specs.Reads.{Form, Assignment}
 use Rattle.qs_syntax.specs.Operators.{binary_of}
 use Rattle.qs_parser.specs.Heads.{starts, operator_at}
@@ -54,7 +54,7 @@ module _ (m : ℕ) (p : Form → Parse E) where
 
   pub commas_more : (n i start : ℕ) (a : E) (ts : List Terminal) → i < n
       → commas m p (n - i) start a ts
-      ≡ cond (starts punctuators.Comma ts) (above m a.1 (λ us. bind (expect punctuators.Comma us) (λ _ vs. bind (p Assignment vs) (λ b ws. commas m p (n - (i + 1)) start (expr 0 start (comma a.0 b.0), max a.1 b.1 + 1) ws))) ts) (Ok (a, ts))
+      ≡ cond (starts punctuators.Comma ts) (above m a.1 (λ us. bind (expect punctuators.Comma us) (λ _ vs. bind (p Assignment vs) (λ b ws. commas m p (n - (i + 1)) start (expr (unnumbered start) (comma a.0 b.0), max a.1 b.1 + 1) ws))) ts) (Ok (a, ts))
   unfolding commas
   commas_more n i start a ts lt = ap (λ k. commas m p k start a ts) (left_turns n i lt)
 

@@ -5,7 +5,7 @@ use Rattle.qs_syntax.specs.declared.terminal.Terminal.{Terminal}
 use Rattle.qs_syntax.specs.declared.terminal.Terminal.TheVariants.{Name, Punctuator}
 use Rattle.qs_syntax.specs.declared.punctuator.Punctuator as punctuator
 use Rattle.qs_syntax.specs.declared.punctuator.Punctuator.TheVariants as punctuators
-use Rattle.qs_syntax.specs.Trees.{ExprTree, LengthsTree, DeclaratorTree, InitialiserTree, list, Initialisers, no_initialisers, initialiser_and, initialisers_of, VariableTree, DeclarationTree}
+use Rattle.qs_syntax.specs.Trees.{unnumbered, ExprTree, LengthsTree, DeclaratorTree, InitialiserTree, list, Initialisers, no_initialisers, initialiser_and, initialisers_of, VariableTree, DeclarationTree}
 use Rattle.qs_syntax.specs.Reads.{Conditional, Assignment}
 use Rattle.qs_syntax.specs.ReadsDeclarations.{ReadsGiven, no_length, a_length, ReadsLengths, are_given, first_open, ReadsDeclarator, a_declarator, ReadsInitialiser, a_value, a_list, ReadsInitialisers, a_last_initialiser, a_last_with_comma, an_initialiser, ReadsVariable, an_unset_variable, a_set_variable, ReadsVariables, a_last_variable, a_variable, ReadsDeclaration, a_declaration}
 use Rattle.qs_parser.specs.Heads.{starts, begins_type}
@@ -111,7 +111,7 @@ initialisers_no_end (a_last_initialiser r) rest = initialiser_no_end r rest
 initialisers_no_end (a_last_with_comma {ts = ts} at r) rest = rw (append_assoc ts (Punctuator at punctuators.Comma ∷ []) rest) (initialiser_no_end r (Punctuator at punctuators.Comma ∷ rest))
 initialisers_no_end (an_initialiser {xs = xs} {ys = ys} at r s) rest = rw (append_assoc xs (Punctuator at punctuators.Comma ∷ ys) rest) (initialiser_no_end r (Punctuator at punctuators.Comma ∷ (ys ++ rest)))
 
-list_answer : (o h : ℕ) (is : Initialisers) (rest : List Terminal) → ◌≡◌ {A = Result ((InitialiserTree × ℕ) × List Terminal) Stop} (Ok ((list 0 o (initialisers_of (items_of is)), max 0 h + 1), rest)) (Ok ((list 0 o is, suc h), rest))
+list_answer : (o h : ℕ) (is : Initialisers) (rest : List Terminal) → ◌≡◌ {A = Result ((InitialiserTree × ℕ) × List Terminal) Stop} (Ok ((list (unnumbered o) (initialisers_of (items_of is)), max 0 h + 1), rest)) (Ok ((list (unnumbered o) is, suc h), rest))
 list_answer o h is rest = rw (items_back is, from_zero h, add-one h) refl
 
 mutual

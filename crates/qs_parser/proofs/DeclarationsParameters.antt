@@ -4,9 +4,9 @@ use Rattle.qs_syntax.specs.declared.terminal.Terminal.{Terminal}
 use Rattle.qs_syntax.specs.declared.terminal.Terminal.TheVariants.{Name, Keyword, Constant, Text, Punctuator}
 use Rattle.qs_base.specs.declared.keyword.Keyword.TheVariants as keywords
 use Rattle.qs_syntax.specs.declared.punctuator.Punctuator.TheVariants as punctuators
-use Rattle.qs_syntax.specs.declared.tree.Base.{Base}
+use Rattle.qs_syntax.specs.declared.types.Base.{Base}
 use Rattle.qs_syntax.specs.Operators.{number_of}
-use Rattle.qs_syntax.specs.Trees.{LengthsTree, ParameterTree}
+use Rattle.qs_syntax.specs.Trees.{unnumbered, LengthsTree, ParameterTree}
 use Rattle.qs_syntax.specs.ReadsTypes.{no_const, a_const, ReadsBase, a_void, an_int, a_char, an_unsigned, an_unsigned_int, an_unsigned_char, a_signed, a_signed_int, a_struct, ReadsType, a_type, ReadsStars}
 use Rattle.qs_syntax.specs.Reads.{place}
 use Rattle.qs_syntax.specs.ReadsDeclarations.{ReadsParameter, a_named_parameter, an_unnamed_parameter, ReadsParameters, a_last_parameter, a_parameter, ReadsHead, no_parameter, a_void_head, some_parameters}
@@ -62,15 +62,15 @@ IsParameter m x l = (ReadsParameter x.1 l x.0 × (x.1 ≤ suc m)) ⊎ IsVoid l
 
 module _ (m : ℕ) (start : ℕ) (b : Base) (n : ℕ) (front ys : List Terminal) (t : ReadsType front b) (s : ReadsStars ys n) (same : start ≡ place front) where
   unnamed_read : (x : LengthsTree × ℕ) (l : List Terminal) → AreLengths m x l
-      → IsParameter m (record { id = 0; token = start; base = b; stars = n; name = None; lengths = x.0 }, x.1 + 1) (front ++ (ys ++ l))
+      → IsParameter m (record { node = unnumbered start; type_name = record { base = b; stars = n }; name = None; lengths = x.0 }, x.1 + 1) (front ++ (ys ++ l))
   unnamed_read x l (r, le) = by_case (void_or_not (front ++ (ys ++ l)))
     where
-      by_case : IsVoidOrNot (front ++ (ys ++ l)) → IsParameter m (record { id = 0; token = start; base = b; stars = n; name = None; lengths = x.0 }, x.1 + 1) (front ++ (ys ++ l))
+      by_case : IsVoidOrNot (front ++ (ys ++ l)) → IsParameter m (record { node = unnumbered start; type_name = record { base = b; stars = n }; name = None; lengths = x.0 }, x.1 + 1) (front ++ (ys ++ l))
       by_case (inl v) = inr v
       by_case (inr v) = inl (rw (same, add-one x.1) (an_unnamed_parameter t s r v), omega arith)
 
   named_read : (at : ℕ) (name : List ℕ) (x : LengthsTree × ℕ) (l : List Terminal) → AreLengths m x l
-      → IsParameter m (record { id = 0; token = at; base = b; stars = n; name = Some name; lengths = x.0 }, x.1 + 1) (front ++ (ys ++ Name at name ∷ l))
+      → IsParameter m (record { node = unnumbered at; type_name = record { base = b; stars = n }; name = Some name; lengths = x.0 }, x.1 + 1) (front ++ (ys ++ Name at name ∷ l))
   named_read at name x l (r, le) = inl (rw (add-one x.1) (a_named_parameter at name t s r), omega arith)
 
   sound_with_name : (ts : List Terminal) → Sound (λ x l. IsParameter m x (front ++ (ys ++ l))) [] ts (with_name m start b n ts)

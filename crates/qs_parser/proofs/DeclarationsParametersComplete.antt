@@ -6,8 +6,8 @@ use Rattle.qs_syntax.specs.declared.terminal.Terminal.TheVariants.{Name, Keyword
 use Rattle.qs_base.specs.declared.keyword.Keyword.TheVariants as keywords
 use Rattle.qs_syntax.specs.declared.punctuator.Punctuator as punctuator
 use Rattle.qs_syntax.specs.declared.punctuator.Punctuator.TheVariants as punctuators
-use Rattle.qs_syntax.specs.declared.tree.Base.{Base}
-use Rattle.qs_syntax.specs.Trees.{LengthsTree, ParameterTree}
+use Rattle.qs_syntax.specs.declared.types.Base.{Base}
+use Rattle.qs_syntax.specs.Trees.{unnumbered, LengthsTree, ParameterTree}
 use Rattle.qs_syntax.specs.ReadsTypes.{no_const, a_const, a_void, an_int, a_char, an_unsigned, an_unsigned_int, an_unsigned_char, a_signed, a_signed_int, a_struct, ReadsType, a_type, ReadsStars, no_star, a_star}
 use Rattle.qs_syntax.specs.Reads.{place}
 use Rattle.qs_syntax.specs.ReadsDeclarations.{no_length, a_length, ReadsLengths, are_given, first_open, ReadsParameter, a_named_parameter, an_unnamed_parameter, ReadsParameters, a_last_parameter, a_parameter, ReadsHead, no_parameter, a_void_head, some_parameters}
@@ -70,7 +70,7 @@ parameter_not_alone (an_unnamed_parameter t s l more) rest = unnamed_not_alone t
 
 -- where no name stands
 unnamed : {h : ℕ} {zs : List Terminal} {x : LengthsTree} → ReadsLengths h zs x → (m start : ℕ) (b : Base) (n : ℕ) → h ≤ m → (e : ℕ) (k : punctuator.Punctuator) (rest : List Terminal) → same_punctuator k punctuators.OpenBracket ≡ false
-    → with_name m start b n (zs ++ Punctuator e k ∷ rest) ≡ Ok ((record { id = 0; token = start; base = b; stars = n; name = None; lengths = x }, suc h), Punctuator e k ∷ rest)
+    → with_name m start b n (zs ++ Punctuator e k ∷ rest) ≡ Ok ((record { node = unnumbered start; type_name = record { base = b; stars = n }; name = None; lengths = x }, suc h), Punctuator e k ∷ rest)
 unnamed (are_given no_length) m start b n le e k rest stop = rw (finds_lengths (are_given no_length) m le (Punctuator e k ∷ rest) stop, add-one 0) refl
 unnamed (are_given {h = h} (a_length o c r s)) m start b n le e k rest stop = rw (finds_lengths (are_given (a_length o c r s)) m le (Punctuator e k ∷ rest) stop, add-one h) refl
 unnamed (first_open {h = h} o c r) m start b n le e k rest stop = rw (finds_lengths (first_open o c r) m le (Punctuator e k ∷ rest) stop, add-one h) refl

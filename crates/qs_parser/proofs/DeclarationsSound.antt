@@ -3,8 +3,8 @@ use Rattle.std.proofs.Common.{◌≡◌, ℕ, zero, suc, ◌+◌, ◌≤◌, max
 use Rattle.qs_syntax.specs.declared.terminal.Terminal.{Terminal}
 use Rattle.qs_syntax.specs.declared.terminal.Terminal.TheVariants.{Punctuator}
 use Rattle.qs_syntax.specs.declared.punctuator.Punctuator.TheVariants as punctuators
-use Rattle.qs_syntax.specs.declared.tree.Base.{Base}
-use Rattle.qs_syntax.specs.Trees.{ExprTree, LengthsTree, DeclaratorTree, InitialiserTree, list, initialisers_of, VariableTree, DeclarationTree}
+use Rattle.qs_syntax.specs.declared.types.Base.{Base}
+use Rattle.qs_syntax.specs.Trees.{unnumbered, ExprTree, LengthsTree, DeclaratorTree, InitialiserTree, list, initialisers_of, VariableTree, DeclarationTree}
 use Rattle.qs_syntax.specs.ReadsTypes.{ReadsType, ReadsStars}
 use Rattle.qs_syntax.specs.Reads.{Conditional, Assignment, place}
 use Rattle.qs_syntax.specs.ReadsDeclarations.{ReadsGiven, no_length, a_length, ReadsLengths, are_given, first_open, ReadsDeclarator, a_declarator, ReadsInitialiser, a_value, a_list, ReadsInitialisers, a_last_initialiser, a_last_with_comma, an_initialiser, ReadsVariable, an_unset_variable, a_set_variable, ReadsVariables, a_last_variable, a_variable, ReadsDeclaration, a_declaration}
@@ -108,10 +108,10 @@ module _ (n : ℕ) (one : Parse (InitialiserTree × ℕ)) (good : (ts : List Ter
   sound_initialisers zero done h ts = Sound-err
   sound_initialisers (suc turns) done h ts = Sound-part _ (good ts) (λ i front us r. sound_after_initialiser (initialisers one turns) (λ done h ts. sound_initialisers turns done h ts) done h i front r us)
 
-a_list_read : (m : ℕ) (o : ℕ) (at : ℕ) → at ≡ o → (x : List InitialiserTree × ℕ) (l : List Terminal) → AreInitialisers m [] 0 x l → IsInitialiser (suc m) (list 0 at (initialisers_of x.0), x.1 + 1) (Punctuator o punctuators.OpenBrace ∷ l)
+a_list_read : (m : ℕ) (o : ℕ) (at : ℕ) → at ≡ o → (x : List InitialiserTree × ℕ) (l : List Terminal) → AreInitialisers m [] 0 x l → IsInitialiser (suc m) (list (unnumbered at) (initialisers_of x.0), x.1 + 1) (Punctuator o punctuators.OpenBrace ∷ l)
 a_list_read m o at same x l r = go (all_closed punctuators.CloseBrace AllInitialisers m x l r)
   where
-    go : Ends punctuators.CloseBrace AllInitialisers m x l → IsInitialiser (suc m) (list 0 at (initialisers_of x.0), x.1 + 1) (Punctuator o punctuators.OpenBrace ∷ l)
+    go : Ends punctuators.CloseBrace AllInitialisers m x l → IsInitialiser (suc m) (list (unnumbered at) (initialisers_of x.0), x.1 + 1) (Punctuator o punctuators.OpenBrace ∷ l)
     go (inside, c, e, s, le) = (rw (e, same, add-one x.1) (a_list o c s), omega arith)
 
 pub sound_initialiser : (n : ℕ) (ts : List Terminal) → Sound (IsInitialiser n) [] ts (initialiser n ts)

@@ -13,8 +13,8 @@ use Rattle.qs_syntax.specs.declared.operators.AssignmentOperator.{AssignmentOper
 use Rattle.qs_syntax.specs.declared.operators.Access.{Access}
 use Rattle.qs_syntax.specs.declared.operators.Access.TheVariants as accesses
 use Rattle.qs_syntax.specs.declared.operators.StepOperator.TheVariants as steps
-use Rattle.qs_syntax.specs.declared.tree.TypeName.{TypeName}
-use Rattle.qs_syntax.specs.Trees.{ExprTree, expr, ShapeTree, int, text, name, unary, step, cast, size_type, size_expr, binary, assign, choice, comma, index, member, call, Exprs, no_exprs, expr_and, exprs_of}
+use Rattle.qs_syntax.specs.declared.types.TypeName.{TypeName}
+use Rattle.qs_syntax.specs.Trees.{unnumbered, ExprTree, expr, ShapeTree, constant, text, name, unary, step, cast, sizeof_type, sizeof_expr, binary, assign, conditional, comma, subscript, member, call, Exprs, no_exprs, expr_and, exprs_of}
 use Rattle.qs_syntax.specs.Operators.{punctuator_of_unary, punctuator_of_binary, precedence, punctuator_of_assign, punctuator_of_access, binary_of, assign_of, access_of}
 use Rattle.qs_syntax.specs.ReadsTypes.{ReadsTypeName}
 use Rattle.qs_syntax.specs.Reads.{Form, Postfix, Unary, Level, Conditional, Assignment, Expression, place, at_first, ReadsTexts, no_text, a_further_text, Reads, ReadsArguments, a_name, an_empty_call, a_call, a_constant, a_text, in_parentheses, an_index, a_member, an_increment_after, a_decrement_after, a_postfix, an_increment, a_decrement, an_operator, a_size_of_type, a_size_of_value, a_cast, an_operand, stronger, an_operation, a_plain_level, a_choice, a_plain_conditional, an_assignment, a_plain_assignment, a_comma, a_last_argument, an_argument}
@@ -147,19 +147,19 @@ from_primary : (h : ℕ) (f : List Terminal) (t : ExprTree) (m : ℕ) (rest : Li
     → Goes rest (λ n. parse.postfix m (part m) (f ++ rest) ≡ parse.suffixes m (part m) n (place f) (t, h) rest)
 from_primary h f t m rest e p = record { turns = length rest; enough = omega arith; is = rw (e, p) refl }
 
-for_name : (at : ℕ) (x : List ℕ) → Claim Postfix 1 (Name at x ∷ []) (expr 0 at (name x))
+for_name : (at : ℕ) (x : List ℕ) → Claim Postfix 1 (Name at x ∷ []) (expr (unnumbered at) (name x))
 unfolding parse.primary
 for_name at x m le rest stop =
     let parts = or_parts (starts punctuators.OpenParenthesis rest) (starts_text rest) stop in
-    from_primary 1 (Name at x ∷ []) (expr 0 at (name x)) m rest (rw (parts.0) refl) refl
+    from_primary 1 (Name at x ∷ []) (expr (unnumbered at) (name x)) m rest (rw (parts.0) refl) refl
 
-for_empty_call : (at o c : ℕ) (f : List ℕ) → Claim Postfix 1 (Name at f ∷ Punctuator o punctuators.OpenParenthesis ∷ Punctuator c punctuators.CloseParenthesis ∷ []) (expr 0 at (call f no_exprs))
+for_empty_call : (at o c : ℕ) (f : List ℕ) → Claim Postfix 1 (Name at f ∷ Punctuator o punctuators.OpenParenthesis ∷ Punctuator c punctuators.CloseParenthesis ∷ []) (expr (unnumbered at) (call f no_exprs))
 unfolding parse.primary
-for_empty_call at o c f m le rest stop = from_primary 1 (Name at f ∷ Punctuator o punctuators.OpenParenthesis ∷ Punctuator c punctuators.CloseParenthesis ∷ []) (expr 0 at (call f no_exprs)) m rest refl refl
+for_empty_call at o c f m le rest stop = from_primary 1 (Name at f ∷ Punctuator o punctuators.OpenParenthesis ∷ Punctuator c punctuators.CloseParenthesis ∷ []) (expr (unnumbered at) (call f no_exprs)) m rest refl refl
 
-for_constant : (at n : ℕ) (unsigned : Bool) → Claim Postfix 1 (Constant at n unsigned ∷ []) (expr 0 at (int n unsigned))
+for_constant : (at n : ℕ) (unsigned : Bool) → Claim Postfix 1 (Constant at n unsigned ∷ []) (expr (unnumbered at) (constant n unsigned))
 unfolding parse.primary
-for_constant at n unsigned m le rest stop = from_primary 1 (Constant at n unsigned ∷ []) (expr 0 at (int n unsigned)) m rest refl refl
+for_constant at n unsigned m le rest stop = from_primary 1 (Constant at n unsigned ∷ []) (expr (unnumbered at) (constant n unsigned)) m rest refl refl
 
 texts_stop : (done : List ℕ) (rest : List Terminal) → starts_text rest ≡ false → texts_from done rest ≡ (done, rest)
 unfolding texts_from
@@ -175,11 +175,11 @@ unfolding texts_from
 finds_texts no_text done rest e = texts_stop done rest e ∙ ap (λ (l : List ℕ). (l, rest)) (sym (append-nil done))
 finds_texts (a_further_text {bytes = bytes} at first r) done rest e = finds_texts r (done ++ first) rest e ∙ ap (λ (l : List ℕ). (l, rest)) (append_assoc done first bytes)
 
-for_text : {ts : List Terminal} {bytes : List ℕ} (at : ℕ) (first : List ℕ) → ReadsTexts ts bytes → Claim Postfix 1 (Text at first ∷ ts) (expr 0 at (text (first ++ bytes)))
+for_text : {ts : List Terminal} {bytes : List ℕ} (at : ℕ) (first : List ℕ) → ReadsTexts ts bytes → Claim Postfix 1 (Text at first ∷ ts) (expr (unnumbered at) (text (first ++ bytes)))
 unfolding parse.primary
 for_text {ts} {bytes} at first r m le rest stop =
     let parts = or_parts (starts punctuators.OpenParenthesis rest) (starts_text rest) stop in
-    from_primary 1 (Text at first ∷ ts) (expr 0 at (text (first ++ bytes))) m rest (rw (finds_texts r first rest parts.1) refl) refl
+    from_primary 1 (Text at first ∷ ts) (expr (unnumbered at) (text (first ++ bytes))) m rest (rw (finds_texts r first rest parts.1) refl) refl
 
 for_parentheses : {h : ℕ} {ts : List Terminal} {e : ExprTree} (o c : ℕ) → Reads Expression h ts e → Claim Expression h ts e → Claim Postfix (suc h) (Punctuator o punctuators.OpenParenthesis ∷ (ts ++ Punctuator c punctuators.CloseParenthesis ∷ [])) e
 unfolding parse.primary
@@ -223,14 +223,14 @@ for_argument {h} {k} {xs} {ys} {e} {es} at r s claim others m le (suc n) done i 
     joined e d = cc
 
 for_call : {h : ℕ} {ts : List Terminal} {es : Exprs} (at o c : ℕ) (f : List ℕ) → ReadsArguments h ts es → ClaimArguments h ts es
-    → Claim Postfix (suc h) (Name at f ∷ Punctuator o punctuators.OpenParenthesis ∷ (ts ++ Punctuator c punctuators.CloseParenthesis ∷ [])) (expr 0 at (call f es))
+    → Claim Postfix (suc h) (Name at f ∷ Punctuator o punctuators.OpenParenthesis ∷ (ts ++ Punctuator c punctuators.CloseParenthesis ∷ [])) (expr (unnumbered at) (call f es))
 unfolding parse.primary
 for_call {h} {ts} {es} at o c f r claim m le rest stop =
     let no_end : starts punctuators.CloseParenthesis (ts ++ Punctuator c punctuators.CloseParenthesis ∷ rest) ≡ false = arguments_no_parenthesis r (Punctuator c punctuators.CloseParenthesis ∷ rest) in
     let inner : parse.arguments m (part m) (length (ts ++ Punctuator c punctuators.CloseParenthesis ∷ rest)) [] 0 (ts ++ Punctuator c punctuators.CloseParenthesis ∷ rest) ≡ Ok ((list_of es, max 0 h), rest) =
     claim m (omega arith) (length (ts ++ Punctuator c punctuators.CloseParenthesis ∷ rest)) [] 0 c rest (omega arith) in
-    from_primary (suc h) (Name at f ∷ Punctuator o punctuators.OpenParenthesis ∷ (ts ++ Punctuator c punctuators.CloseParenthesis ∷ [])) (expr 0 at (call f es)) m rest
-    (rw (append_assoc ts (Punctuator c punctuators.CloseParenthesis ∷ []) rest, no_end, inner, exprs_list es) (later (expr 0 at (call f es)) (max 0 h + 1) (suc h) rest (omega arith))) refl
+    from_primary (suc h) (Name at f ∷ Punctuator o punctuators.OpenParenthesis ∷ (ts ++ Punctuator c punctuators.CloseParenthesis ∷ [])) (expr (unnumbered at) (call f es)) m rest
+    (rw (append_assoc ts (Punctuator c punctuators.CloseParenthesis ∷ []) rest, no_end, inner, exprs_list es) (later (expr (unnumbered at) (call f es)) (max 0 h + 1) (suc h) rest (omega arith))) refl
 
 -- ---- suffixes
 
@@ -252,11 +252,11 @@ for_suffix h k xs more a shape m t ts rest r claim le stop spelled b e short =
     (λ n d. ap (parse.postfix m (part m)) spelled ∙ g.is ∙ d ∙ ap (λ s. parse.suffixes m (part m) n s (at_first xs shape, k) rest) (sym (place_more r more))) turn
 
 for_index : {h k : ℕ} {xs ys : List Terminal} {a b : ExprTree} (o c : ℕ) → Reads Postfix h xs a → Reads Expression k ys b → Claim Postfix h xs a → Claim Expression k ys b
-    → Claim Postfix (suc (max h k)) (xs ++ Punctuator o punctuators.OpenBracket ∷ (ys ++ Punctuator c punctuators.CloseBracket ∷ [])) (at_first xs (index a b))
+    → Claim Postfix (suc (max h k)) (xs ++ Punctuator o punctuators.OpenBracket ∷ (ys ++ Punctuator c punctuators.CloseBracket ∷ [])) (at_first xs (subscript a b))
 for_index {h} {k} {xs} {ys} {a} {b} o c r s claim inner m le rest stop =
     let within : part m Expression (ys ++ Punctuator c punctuators.CloseBracket ∷ rest) ≡ found b k (Punctuator c punctuators.CloseBracket ∷ rest) = part_finds Expression k ys b inner (high s) m (omega arith) (Punctuator c punctuators.CloseBracket ∷ rest) (omega arith) in
-    for_suffix h (suc (max h k)) xs (Punctuator o punctuators.OpenBracket ∷ (ys ++ Punctuator c punctuators.CloseBracket ∷ [])) a (index a b) m (Punctuator o punctuators.OpenBracket) (ys ++ Punctuator c punctuators.CloseBracket ∷ rest) rest r claim (omega arith) refl
-    (simp append_assoc) refl (rw within (later (at_first xs (index a b)) (max h k + 1) (suc (max h k)) rest (omega arith))) (omega (arith, length-append ys (Punctuator c punctuators.CloseBracket ∷ rest)))
+    for_suffix h (suc (max h k)) xs (Punctuator o punctuators.OpenBracket ∷ (ys ++ Punctuator c punctuators.CloseBracket ∷ [])) a (subscript a b) m (Punctuator o punctuators.OpenBracket) (ys ++ Punctuator c punctuators.CloseBracket ∷ rest) rest r claim (omega arith) refl
+    (simp append_assoc) refl (rw within (later (at_first xs (subscript a b)) (max h k + 1) (suc (max h k)) rest (omega arith))) (omega (arith, length-append ys (Punctuator c punctuators.CloseBracket ∷ rest)))
 
 access_no_primary : (access : Access) (d : ℕ) (ts : List Terminal) → goes_on_primary (Punctuator d (punctuator_of_access access) ∷ ts) ≡ false
 access_no_primary accesses.Dot d ts = refl
@@ -267,7 +267,7 @@ access_begins m accesses.Dot d ts = refl
 access_begins m accesses.Arrow d ts = refl
 
 access_suffix : (m : ℕ) (access : Access) (d n : ℕ) (x : List ℕ) (start : ℕ) (a : ExprTree) (h : ℕ) (rest : List Terminal)
-    → parse.suffix m (part m) start (a, h) (Punctuator d (punctuator_of_access access) ∷ Name n x ∷ rest) ≡ found (expr 0 start (member access a x)) (h + 1) rest
+    → parse.suffix m (part m) start (a, h) (Punctuator d (punctuator_of_access access) ∷ Name n x ∷ rest) ≡ found (expr (unnumbered start) (member access a x)) (h + 1) rest
 access_suffix m accesses.Dot d n x start a h rest = refl
 access_suffix m accesses.Arrow d n x start a h rest = refl
 
@@ -348,19 +348,19 @@ for_postfix {h} {ts} {e} r claim m le rest stop =
     let g = claim m le rest (primary_stops rest stop) in
     unary_is_postfix m (ts ++ rest) (postfix_begins_at r refl rest) ∙ g.is ∙ suffixes_stop m g.turns (place ts) (e, h) rest stop
 
-for_increment : {h : ℕ} {ts : List Terminal} {e : ExprTree} (at : ℕ) → Reads Unary h ts e → Claim Unary h ts e → Claim Unary (suc h) (Punctuator at punctuators.Increment ∷ ts) (expr 0 at (step steps.IncrementBefore e))
+for_increment : {h : ℕ} {ts : List Terminal} {e : ExprTree} (at : ℕ) → Reads Unary h ts e → Claim Unary h ts e → Claim Unary (suc h) (Punctuator at punctuators.Increment ∷ ts) (expr (unnumbered at) (step steps.IncrementBefore e))
 unfolding parse.unary_of_all
 for_increment {h} {ts} {e} at r claim m le rest stop =
     let lt : 0 < h = high r in
     let room : (m == 0) ≡ false = some_room m (omega arith) in
-    rw (room, part_finds Unary h ts e claim lt m (omega arith) rest stop) (later (expr 0 at (step steps.IncrementBefore e)) (h + 1) (suc h) rest (omega arith))
+    rw (room, part_finds Unary h ts e claim lt m (omega arith) rest stop) (later (expr (unnumbered at) (step steps.IncrementBefore e)) (h + 1) (suc h) rest (omega arith))
 
-for_decrement : {h : ℕ} {ts : List Terminal} {e : ExprTree} (at : ℕ) → Reads Unary h ts e → Claim Unary h ts e → Claim Unary (suc h) (Punctuator at punctuators.Decrement ∷ ts) (expr 0 at (step steps.DecrementBefore e))
+for_decrement : {h : ℕ} {ts : List Terminal} {e : ExprTree} (at : ℕ) → Reads Unary h ts e → Claim Unary h ts e → Claim Unary (suc h) (Punctuator at punctuators.Decrement ∷ ts) (expr (unnumbered at) (step steps.DecrementBefore e))
 unfolding parse.unary_of_all
 for_decrement {h} {ts} {e} at r claim m le rest stop =
     let lt : 0 < h = high r in
     let room : (m == 0) ≡ false = some_room m (omega arith) in
-    rw (room, part_finds Unary h ts e claim lt m (omega arith) rest stop) (later (expr 0 at (step steps.DecrementBefore e)) (h + 1) (suc h) rest (omega arith))
+    rw (room, part_finds Unary h ts e claim lt m (omega arith) rest stop) (later (expr (unnumbered at) (step steps.DecrementBefore e)) (h + 1) (suc h) rest (omega arith))
 
 operator_first : (m : ℕ) (operator : UnaryOperator) (at : ℕ) (ts : List Terminal) → parse.unary_of_all m (part m) (Punctuator at (punctuator_of_unary operator) ∷ ts) ≡ parse.unary_operator_at m (part m) at (Some operator) (punctuator_of_unary operator) ts
 unfolding parse.unary_of_all
@@ -371,11 +371,11 @@ operator_first m unaries.Minus at ts = refl
 operator_first m unaries.Complement at ts = refl
 operator_first m unaries.Not at ts = refl
 
-for_operator : {h : ℕ} {ts : List Terminal} {e : ExprTree} (operator : UnaryOperator) (at : ℕ) → Reads (Level 0) h ts e → Claim (Level 0) h ts e → Claim Unary (suc h) (Punctuator at (punctuator_of_unary operator) ∷ ts) (expr 0 at (unary operator e))
+for_operator : {h : ℕ} {ts : List Terminal} {e : ExprTree} (operator : UnaryOperator) (at : ℕ) → Reads (Level 0) h ts e → Claim (Level 0) h ts e → Claim Unary (suc h) (Punctuator at (punctuator_of_unary operator) ∷ ts) (expr (unnumbered at) (unary operator e))
 for_operator {h} {ts} {e} operator at r claim m le rest stop =
     let lt : 0 < h = high r in
     let room : (m == 0) ≡ false = some_room m (omega arith) in
-    operator_first m operator at (ts ++ rest) ∙ rw (room, part_finds (Level 0) h ts e claim lt m (omega arith) rest stop) (later (expr 0 at (unary operator e)) (h + 1) (suc h) rest (omega arith))
+    operator_first m operator at (ts ++ rest) ∙ rw (room, part_finds (Level 0) h ts e claim lt m (omega arith) rest stop) (later (expr (unnumbered at) (unary operator e)) (h + 1) (suc h) rest (omega arith))
 
 size_of_type_first : (m at : ℕ) (ts : List Terminal) → begins_cast ts ≡ true → parse.unary_of_all m (part m) (Keyword at keywords.Sizeof ∷ ts) ≡ parse.size_of m (part m) at ts
 unfolding parse.unary_of_all
@@ -385,7 +385,7 @@ size_of_value_first : (m at : ℕ) (ts : List Terminal) → 0 < m → begins_cas
 unfolding parse.unary_of_all
 size_of_value_first m at ts lt e = rw (some_room m lt) refl
 
-for_size_of_type : {ts : List Terminal} {t : TypeName} (at o c : ℕ) → ReadsTypeName ts t → Claim Unary 1 (Keyword at keywords.Sizeof ∷ Punctuator o punctuators.OpenParenthesis ∷ (ts ++ Punctuator c punctuators.CloseParenthesis ∷ [])) (expr 0 at (size_type t))
+for_size_of_type : {ts : List Terminal} {t : TypeName} (at o c : ℕ) → ReadsTypeName ts t → Claim Unary 1 (Keyword at keywords.Sizeof ∷ Punctuator o punctuators.OpenParenthesis ∷ (ts ++ Punctuator c punctuators.CloseParenthesis ∷ [])) (expr (unnumbered at) (sizeof_type t))
 for_size_of_type {ts} {t} at o c r m le rest stop =
     let before : begins_cast (Punctuator o punctuators.OpenParenthesis ∷ (ts ++ Punctuator c punctuators.CloseParenthesis ∷ rest)) ≡ true = type_name_begins r (Punctuator c punctuators.CloseParenthesis ∷ rest) in
     ap (λ l. parse.unary_of_all m (part m) (Keyword at keywords.Sizeof ∷ Punctuator o punctuators.OpenParenthesis ∷ l)) (append_assoc ts (Punctuator c punctuators.CloseParenthesis ∷ []) rest)
@@ -393,20 +393,20 @@ for_size_of_type {ts} {t} at o c r m le rest stop =
     ∙ size_of_type m at o (ts ++ Punctuator c punctuators.CloseParenthesis ∷ rest) t c rest before (finds_type_name r (Punctuator c punctuators.CloseParenthesis ∷ rest) refl)
   where
     size_of_type : (m at o : ℕ) (ts : List Terminal) (t : TypeName) (c : ℕ) (rest : List Terminal) → begins_cast (Punctuator o punctuators.OpenParenthesis ∷ ts) ≡ true → parse.type_name ts ≡ Ok (t, Punctuator c punctuators.CloseParenthesis ∷ rest)
-        → parse.size_of m (part m) at (Punctuator o punctuators.OpenParenthesis ∷ ts) ≡ found (expr 0 at (size_type t)) 1 rest
+        → parse.size_of m (part m) at (Punctuator o punctuators.OpenParenthesis ∷ ts) ≡ found (expr (unnumbered at) (sizeof_type t)) 1 rest
     size_of_type m at o ts t c rest before e = rw (before, e) refl
 
-for_size_of_value : {h : ℕ} {ts : List Terminal} {e : ExprTree} (at : ℕ) → Reads Unary h ts e → Claim Unary h ts e → Claim Unary (suc h) (Keyword at keywords.Sizeof ∷ ts) (expr 0 at (size_expr e))
+for_size_of_value : {h : ℕ} {ts : List Terminal} {e : ExprTree} (at : ℕ) → Reads Unary h ts e → Claim Unary h ts e → Claim Unary (suc h) (Keyword at keywords.Sizeof ∷ ts) (expr (unnumbered at) (sizeof_expr e))
 for_size_of_value {h} {ts} {e} at r claim m le rest stop =
     let lt : 0 < h = high r in
     let plain : begins_cast (ts ++ rest) ≡ false = no_cast r rest in
     size_of_value_first m at (ts ++ rest) (omega arith) plain
-    ∙ rw (plain, part_finds Unary h ts e claim lt m (omega arith) rest stop) (later (expr 0 at (size_expr e)) (h + 1) (suc h) rest (omega arith))
+    ∙ rw (plain, part_finds Unary h ts e claim lt m (omega arith) rest stop) (later (expr (unnumbered at) (sizeof_expr e)) (h + 1) (suc h) rest (omega arith))
 
 -- ---- casts
 
 for_cast : {h : ℕ} {ts us : List Terminal} {t : TypeName} {e : ExprTree} (at c : ℕ) → ReadsTypeName ts t → Reads (Level 0) h us e → Claim (Level 0) h us e
-    → Claim (Level 0) (suc h) (Punctuator at punctuators.OpenParenthesis ∷ (ts ++ Punctuator c punctuators.CloseParenthesis ∷ us)) (expr 0 at (cast t e))
+    → Claim (Level 0) (suc h) (Punctuator at punctuators.OpenParenthesis ∷ (ts ++ Punctuator c punctuators.CloseParenthesis ∷ us)) (expr (unnumbered at) (cast t e))
 unfolding expression parse.climb
 for_cast {h} {ts} {us} {t} {e} at c r s claim m le rest stop =
     let lt : 0 < h = high s in
@@ -416,10 +416,10 @@ for_cast {h} {ts} {us} {t} {e} at c r s claim m le rest stop =
     let inner : part m (Level 0) (us ++ rest) ≡ found e h rest = part_finds (Level 0) h us e claim lt m (omega arith) rest stop in
     ap (λ l. expression m (part m) (Level 0) (Punctuator at punctuators.OpenParenthesis ∷ l)) (append_assoc ts (Punctuator c punctuators.CloseParenthesis ∷ us) rest)
     ∙ ap (λ r. bind r (parse.climb m (part m) 0 at)) (cast_read m at (ts ++ Punctuator c punctuators.CloseParenthesis ∷ (us ++ rest)) t c (us ++ rest) e h rest before room type inner)
-    ∙ later (expr 0 at (cast t e)) (h + 1) (suc h) rest (omega arith)
+    ∙ later (expr (unnumbered at) (cast t e)) (h + 1) (suc h) rest (omega arith)
   where
     cast_read : (m at : ℕ) (ts : List Terminal) (t : TypeName) (c : ℕ) (us : List Terminal) (e : ExprTree) (h : ℕ) (rest : List Terminal) → begins_type ts ≡ true → (m == 0) ≡ false → parse.type_name ts ≡ Ok (t, Punctuator c punctuators.CloseParenthesis ∷ us)
-        → part m (Level 0) us ≡ found e h rest → parse.cast_or_unary m (part m) (Punctuator at punctuators.OpenParenthesis ∷ ts) ≡ found (expr 0 at (cast t e)) (h + 1) rest
+        → part m (Level 0) us ≡ found e h rest → parse.cast_or_unary m (part m) (Punctuator at punctuators.OpenParenthesis ∷ ts) ≡ found (expr (unnumbered at) (cast t e)) (h + 1) rest
     cast_read m at ts t c us e h rest before room type inner = rw (before, room, type, inner) refl
 
 for_operand : {h : ℕ} {ts : List Terminal} {e : ExprTree} → Reads Unary h ts e → Claim Unary h ts e → Claim (Level 0) h ts e
@@ -441,7 +441,7 @@ for_stronger {j} {h} {ts} {e} r claim m le rest stop = record {
 }
 
 operation_turn : (m n j start : ℕ) (a b : ExprTree) (h k : ℕ) (operator : BinaryOperator) (at : ℕ) (ts rest : List Terminal) → precedence operator ≡ suc j → h ≤ m → part m (Level j) ts ≡ found b k rest → length (Punctuator at (punctuator_of_binary operator) ∷ ts) ≤ n → length rest ≤ length ts
-    → Goes rest (λ i. parse.operations m (part m) n j start (a, h) (Punctuator at (punctuator_of_binary operator) ∷ ts) ≡ parse.operations m (part m) i j start (expr 0 start (binary operator a b), max h k + 1) rest)
+    → Goes rest (λ i. parse.operations m (part m) n j start (a, h) (Punctuator at (punctuator_of_binary operator) ∷ ts) ≡ parse.operations m (part m) i j start (expr (unnumbered start) (binary operator a b), max h k + 1) rest)
 unfolding parse.operations
 operation_turn m zero j start a b h k operator at ts rest w le e enough short = absurd (omega arith)
 operation_turn m (suc n) j start a b h k operator at ts rest w le e enough short = record {
@@ -465,7 +465,7 @@ for_operation {j} {h} {k} {xs} {ys} {a} {b} operator at w r s left right m le re
     same_turn : {s t p q : ℕ} → s ≡ t → p ≡ q → (n : ℕ) → parse.operations m (part m) n j s (at_first xs (binary operator a b), p) rest ≡ parse.operations m (part m) n j t (at_first xs (binary operator a b), q) rest
     same_turn e d n = cc
 
--- ---- choice
+-- ---- conditional
 
 after_or_reads : (m : ℕ) (l rest : List Terminal) (t : ExprTree) (h : ℕ) → expression m (part m) (Level 10) l ≡ found t h rest → expression m (part m) Conditional l ≡ parse.after_or m (part m) (place l) (t, h) rest
 unfolding expression
@@ -477,7 +477,7 @@ for_plain_level {h} {ts} {e} r claim m le rest stop =
     after_or_reads m (ts ++ rest) rest e h (level_found 10 h ts e claim m le rest (omega arith)) ∙ rw (not_starts punctuators.Question rest stop) refl
 
 for_choice : {h k l : ℕ} {xs ys zs : List Terminal} {a b c : ExprTree} (q s : ℕ) → Reads (Level 10) h xs a → Reads Expression k ys b → Reads Conditional l zs c → Claim (Level 10) h xs a → Claim Expression k ys b → Claim Conditional l zs c
-    → Claim Conditional (suc (max h (max k l))) (xs ++ Punctuator q punctuators.Question ∷ (ys ++ Punctuator s punctuators.Colon ∷ zs)) (at_first xs (choice a b c))
+    → Claim Conditional (suc (max h (max k l))) (xs ++ Punctuator q punctuators.Question ∷ (ys ++ Punctuator s punctuators.Colon ∷ zs)) (at_first xs (conditional a b c))
 for_choice {h} {k} {l} {xs} {ys} {zs} {a} {b} {c} q s ra rb rc first second third m le rest stop =
     let low : h ≤ m = omega arith in
     let condition : expression m (part m) (Level 10) (xs ++ Punctuator q punctuators.Question ∷ (ys ++ Punctuator s punctuators.Colon ∷ (zs ++ rest))) ≡ found a h (Punctuator q punctuators.Question ∷ (ys ++ Punctuator s punctuators.Colon ∷ (zs ++ rest))) =
@@ -486,7 +486,7 @@ for_choice {h} {k} {l} {xs} {ys} {zs} {a} {b} {c} q s ra rb rc first second thir
     let last : part m Conditional (zs ++ rest) ≡ found c l rest = part_finds Conditional l zs c third (high rc) m (omega arith) rest stop in
     ap (expression m (part m) Conditional) (spelled xs ys zs rest (Punctuator q punctuators.Question) (Punctuator s punctuators.Colon))
     ∙ after_or_reads m (xs ++ Punctuator q punctuators.Question ∷ (ys ++ Punctuator s punctuators.Colon ∷ (zs ++ rest))) (Punctuator q punctuators.Question ∷ (ys ++ Punctuator s punctuators.Colon ∷ (zs ++ rest))) a h condition
-    ∙ rw (le-leb h m low, inner, last, place_more ra (Punctuator q punctuators.Question ∷ (ys ++ Punctuator s punctuators.Colon ∷ (zs ++ rest)))) (later (at_first xs (choice a b c)) (max h (max k l) + 1) (suc (max h (max k l))) rest (omega arith))
+    ∙ rw (le-leb h m low, inner, last, place_more ra (Punctuator q punctuators.Question ∷ (ys ++ Punctuator s punctuators.Colon ∷ (zs ++ rest)))) (later (at_first xs (conditional a b c)) (max h (max k l) + 1) (suc (max h (max k l))) rest (omega arith))
   where
     spelled : (xs ys zs rest : List Terminal) (t u : Terminal) → (xs ++ t ∷ (ys ++ u ∷ zs)) ++ rest ≡ xs ++ t ∷ (ys ++ u ∷ (zs ++ rest))
     spelled xs ys zs rest t u = simp append_assoc
@@ -539,7 +539,7 @@ for_plain_assignment {h} {ts} {e} r claim m le rest stop = record {
 }
 
 comma_turn : (m n start : ℕ) (a b : ExprTree) (h k : ℕ) (at : ℕ) (ts rest : List Terminal) → h ≤ m → part m Assignment ts ≡ found b k rest → length (Punctuator at punctuators.Comma ∷ ts) ≤ n → length rest ≤ length ts
-    → Goes rest (λ i. parse.commas m (part m) n start (a, h) (Punctuator at punctuators.Comma ∷ ts) ≡ parse.commas m (part m) i start (expr 0 start (comma a b), max h k + 1) rest)
+    → Goes rest (λ i. parse.commas m (part m) n start (a, h) (Punctuator at punctuators.Comma ∷ ts) ≡ parse.commas m (part m) i start (expr (unnumbered start) (comma a b), max h k + 1) rest)
 unfolding parse.commas
 comma_turn m zero start a b h k at ts rest le e enough short = absurd (omega arith)
 comma_turn m (suc n) start a b h k at ts rest le e enough short = record { turns = n; enough = omega arith; is = rw (le-leb h m le, e) refl }

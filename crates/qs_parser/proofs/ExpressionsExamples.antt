@@ -12,8 +12,8 @@ use Rattle.qs_syntax.specs.declared.operators.AssignmentOperator.{AssignmentOper
 use Rattle.qs_syntax.specs.declared.operators.AssignmentOperator.TheVariants as assigns
 use Rattle.qs_syntax.specs.declared.operators.Access.TheVariants as accesses
 use Rattle.qs_syntax.specs.declared.operators.StepOperator.TheVariants as steps
-use Rattle.qs_syntax.specs.declared.tree.Base.TheVariants as bases
-use Rattle.qs_syntax.specs.Trees.{ExprTree, expr, int, text, name, unary, step, cast, size_type, size_expr, binary, assign, choice, comma, index, member, call, no_exprs, expr_and}
+use Rattle.qs_syntax.specs.declared.types.Base.TheVariants as bases
+use Rattle.qs_syntax.specs.Trees.{unnumbered, ExprTree, expr, constant, text, name, unary, step, cast, sizeof_type, sizeof_expr, binary, assign, conditional, comma, subscript, member, call, no_exprs, expr_and}
 use Rattle.qs_syntax.specs.Operators.{punctuator_of_unary, punctuator_of_binary, punctuator_of_assign}
 use Rattle.qs_syntax.specs.Reads.{Expression}
 use Rattle.qs_parser.specs.Parse.{Stop, Unexpected, Deep, E, texts_from, type, stars, type_name, arguments, primary, suffixes, unary_of_all, operations, climb, commas, expression, part}
@@ -29,13 +29,13 @@ abbrev c_at : ℕ → Terminal
 c_at n = Name n (99 ∷ [])
 
 abbrev a : ℕ → ExprTree
-a n = expr 0 n (name (97 ∷ []))
+a n = expr (unnumbered n) (name (97 ∷ []))
 
 abbrev b : ℕ → ExprTree
-b n = expr 0 n (name (98 ∷ []))
+b n = expr (unnumbered n) (name (98 ∷ []))
 
 abbrev c : ℕ → ExprTree
-c n = expr 0 n (name (99 ∷ []))
+c n = expr (unnumbered n) (name (99 ∷ []))
 
 -- what all of the tokens are read as, and its height
 abbrev AllRead : List Terminal → ExprTree → ℕ → Type 0
@@ -45,98 +45,98 @@ abbrev Refused : ℕ → List Terminal → Stop → Type 0
 Refused n ts stop = ◌≡◌ {A = Result (E × List Terminal) Stop} (part n Expression ts) (Err stop)
 
 -- 7
-a_constant : AllRead (Constant 0 7 false ∷ []) (expr 0 0 (int 7 false)) 1
+a_constant : AllRead (Constant 0 7 false ∷ []) (expr (unnumbered 0) (constant 7 false)) 1
 unfolding part expression primary suffixes arguments unary_of_all operations climb commas texts_from type_name type stars
 a_constant = refl
 
 -- two literals are one text
-texts : AllRead (Text 0 (104 ∷ []) ∷ Text 1 (105 ∷ []) ∷ []) (expr 0 0 (text (104 ∷ 105 ∷ []))) 1
+texts : AllRead (Text 0 (104 ∷ []) ∷ Text 1 (105 ∷ []) ∷ []) (expr (unnumbered 0) (text (104 ∷ 105 ∷ []))) 1
 unfolding part expression primary suffixes arguments unary_of_all operations climb commas texts_from type_name type stars
 texts = refl
 
 -- a + b * c
-product_first : AllRead (a_at 0 ∷ Punctuator 1 punctuators.Plus ∷ b_at 2 ∷ Punctuator 3 punctuators.Star ∷ c_at 4 ∷ []) (expr 0 0 (binary binaries.Add (a 0) (expr 0 2 (binary binaries.Multiply (b 2) (c 4))))) 3
+product_first : AllRead (a_at 0 ∷ Punctuator 1 punctuators.Plus ∷ b_at 2 ∷ Punctuator 3 punctuators.Star ∷ c_at 4 ∷ []) (expr (unnumbered 0) (binary binaries.Add (a 0) (expr (unnumbered 2) (binary binaries.Multiply (b 2) (c 4))))) 3
 unfolding part expression primary suffixes arguments unary_of_all operations climb commas texts_from type_name type stars
 product_first = refl
 
 -- a - b - c
-to_the_left : AllRead (a_at 0 ∷ Punctuator 1 punctuators.Minus ∷ b_at 2 ∷ Punctuator 3 punctuators.Minus ∷ c_at 4 ∷ []) (expr 0 0 (binary binaries.Subtract (expr 0 0 (binary binaries.Subtract (a 0) (b 2))) (c 4))) 3
+to_the_left : AllRead (a_at 0 ∷ Punctuator 1 punctuators.Minus ∷ b_at 2 ∷ Punctuator 3 punctuators.Minus ∷ c_at 4 ∷ []) (expr (unnumbered 0) (binary binaries.Subtract (expr (unnumbered 0) (binary binaries.Subtract (a 0) (b 2))) (c 4))) 3
 unfolding part expression primary suffixes arguments unary_of_all operations climb commas texts_from type_name type stars
 to_the_left = refl
 
 -- (a + b) * c: a height for the parentheses, and the product stands at them
-parentheses : AllRead (Punctuator 0 punctuators.OpenParenthesis ∷ a_at 1 ∷ Punctuator 2 punctuators.Plus ∷ b_at 3 ∷ Punctuator 4 punctuators.CloseParenthesis ∷ Punctuator 5 punctuators.Star ∷ c_at 6 ∷ []) (expr 0 0 (binary binaries.Multiply (expr 0 1 (binary binaries.Add (a 1) (b 3))) (c 6))) 4
+parentheses : AllRead (Punctuator 0 punctuators.OpenParenthesis ∷ a_at 1 ∷ Punctuator 2 punctuators.Plus ∷ b_at 3 ∷ Punctuator 4 punctuators.CloseParenthesis ∷ Punctuator 5 punctuators.Star ∷ c_at 6 ∷ []) (expr (unnumbered 0) (binary binaries.Multiply (expr (unnumbered 1) (binary binaries.Add (a 1) (b 3))) (c 6))) 4
 unfolding part expression primary suffixes arguments unary_of_all operations climb commas texts_from type_name type stars
 parentheses = refl
 
 -- a ( ): a call without arguments
-no_call : AllRead (a_at 0 ∷ Punctuator 1 punctuators.OpenParenthesis ∷ Punctuator 2 punctuators.CloseParenthesis ∷ []) (expr 0 0 (call (97 ∷ []) no_exprs)) 1
+no_call : AllRead (a_at 0 ∷ Punctuator 1 punctuators.OpenParenthesis ∷ Punctuator 2 punctuators.CloseParenthesis ∷ []) (expr (unnumbered 0) (call (97 ∷ []) no_exprs)) 1
 unfolding part expression primary suffixes arguments unary_of_all operations climb commas texts_from type_name type stars
 no_call = refl
 
 -- a(b, c)
-a_call : AllRead (a_at 0 ∷ Punctuator 1 punctuators.OpenParenthesis ∷ b_at 2 ∷ Punctuator 3 punctuators.Comma ∷ c_at 4 ∷ Punctuator 5 punctuators.CloseParenthesis ∷ []) (expr 0 0 (call (97 ∷ []) (expr_and (b 2) (expr_and (c 4) no_exprs)))) 2
+a_call : AllRead (a_at 0 ∷ Punctuator 1 punctuators.OpenParenthesis ∷ b_at 2 ∷ Punctuator 3 punctuators.Comma ∷ c_at 4 ∷ Punctuator 5 punctuators.CloseParenthesis ∷ []) (expr (unnumbered 0) (call (97 ∷ []) (expr_and (b 2) (expr_and (c 4) no_exprs)))) 2
 unfolding part expression primary suffixes arguments unary_of_all operations climb commas texts_from type_name type stars
 a_call = refl
 
 -- a[b]
-an_index : AllRead (a_at 0 ∷ Punctuator 1 punctuators.OpenBracket ∷ b_at 2 ∷ Punctuator 3 punctuators.CloseBracket ∷ []) (expr 0 0 (index (a 0) (b 2))) 2
+an_index : AllRead (a_at 0 ∷ Punctuator 1 punctuators.OpenBracket ∷ b_at 2 ∷ Punctuator 3 punctuators.CloseBracket ∷ []) (expr (unnumbered 0) (subscript (a 0) (b 2))) 2
 unfolding part expression primary suffixes arguments unary_of_all operations climb commas texts_from type_name type stars
 an_index = refl
 
 -- a.b->c
-a_member : AllRead (a_at 0 ∷ Punctuator 1 punctuators.Dot ∷ b_at 2 ∷ Punctuator 3 punctuators.Arrow ∷ c_at 4 ∷ []) (expr 0 0 (member accesses.Arrow (expr 0 0 (member accesses.Dot (a 0) (98 ∷ []))) (99 ∷ []))) 3
+a_member : AllRead (a_at 0 ∷ Punctuator 1 punctuators.Dot ∷ b_at 2 ∷ Punctuator 3 punctuators.Arrow ∷ c_at 4 ∷ []) (expr (unnumbered 0) (member accesses.Arrow (expr (unnumbered 0) (member accesses.Dot (a 0) (98 ∷ []))) (99 ∷ []))) 3
 unfolding part expression primary suffixes arguments unary_of_all operations climb commas texts_from type_name type stars
 a_member = refl
 
 -- a++ --
-steps_after : AllRead (a_at 0 ∷ Punctuator 1 punctuators.Increment ∷ Punctuator 2 punctuators.Decrement ∷ []) (expr 0 0 (step steps.DecrementAfter (expr 0 0 (step steps.IncrementAfter (a 0))))) 3
+steps_after : AllRead (a_at 0 ∷ Punctuator 1 punctuators.Increment ∷ Punctuator 2 punctuators.Decrement ∷ []) (expr (unnumbered 0) (step steps.DecrementAfter (expr (unnumbered 0) (step steps.IncrementAfter (a 0))))) 3
 unfolding part expression primary suffixes arguments unary_of_all operations climb commas texts_from type_name type stars
 steps_after = refl
 
 -- ++ --a
-steps_before : AllRead (Punctuator 0 punctuators.Increment ∷ Punctuator 1 punctuators.Decrement ∷ a_at 2 ∷ []) (expr 0 0 (step steps.IncrementBefore (expr 0 1 (step steps.DecrementBefore (a 2))))) 3
+steps_before : AllRead (Punctuator 0 punctuators.Increment ∷ Punctuator 1 punctuators.Decrement ∷ a_at 2 ∷ []) (expr (unnumbered 0) (step steps.IncrementBefore (expr (unnumbered 1) (step steps.DecrementBefore (a 2))))) 3
 unfolding part expression primary suffixes arguments unary_of_all operations climb commas texts_from type_name type stars
 steps_before = refl
 
 -- (const char *) a
-a_cast : AllRead (Punctuator 0 punctuators.OpenParenthesis ∷ Keyword 1 keywords.Const ∷ Keyword 2 keywords.Char ∷ Punctuator 3 punctuators.Star ∷ Punctuator 4 punctuators.CloseParenthesis ∷ a_at 5 ∷ []) (expr 0 0 (cast (record { base = bases.Char; stars = 1 }) (a 5))) 2
+a_cast : AllRead (Punctuator 0 punctuators.OpenParenthesis ∷ Keyword 1 keywords.Const ∷ Keyword 2 keywords.Char ∷ Punctuator 3 punctuators.Star ∷ Punctuator 4 punctuators.CloseParenthesis ∷ a_at 5 ∷ []) (expr (unnumbered 0) (cast (record { base = bases.Char; stars = 1 }) (a 5))) 2
 unfolding part expression primary suffixes arguments unary_of_all operations climb commas texts_from type_name type stars
 a_cast = refl
 
 -- sizeof (unsigned char)
-size_of_a_type : AllRead (Keyword 0 keywords.Sizeof ∷ Punctuator 1 punctuators.OpenParenthesis ∷ Keyword 2 keywords.Unsigned ∷ Keyword 3 keywords.Char ∷ Punctuator 4 punctuators.CloseParenthesis ∷ []) (expr 0 0 (size_type (record { base = bases.Char; stars = 0 }))) 1
+size_of_a_type : AllRead (Keyword 0 keywords.Sizeof ∷ Punctuator 1 punctuators.OpenParenthesis ∷ Keyword 2 keywords.Unsigned ∷ Keyword 3 keywords.Char ∷ Punctuator 4 punctuators.CloseParenthesis ∷ []) (expr (unnumbered 0) (sizeof_type (record { base = bases.Char; stars = 0 }))) 1
 unfolding part expression primary suffixes arguments unary_of_all operations climb commas texts_from type_name type stars
 size_of_a_type = refl
 
 -- sizeof (a): the parentheses are of the operand
-size_of_a_value : AllRead (Keyword 0 keywords.Sizeof ∷ Punctuator 1 punctuators.OpenParenthesis ∷ a_at 2 ∷ Punctuator 3 punctuators.CloseParenthesis ∷ []) (expr 0 0 (size_expr (a 2))) 3
+size_of_a_value : AllRead (Keyword 0 keywords.Sizeof ∷ Punctuator 1 punctuators.OpenParenthesis ∷ a_at 2 ∷ Punctuator 3 punctuators.CloseParenthesis ∷ []) (expr (unnumbered 0) (sizeof_expr (a 2))) 3
 unfolding part expression primary suffixes arguments unary_of_all operations climb commas texts_from type_name type stars
 size_of_a_value = refl
 
 -- sizeof (int) + a: no cast
-size_before_sum : AllRead (Keyword 0 keywords.Sizeof ∷ Punctuator 1 punctuators.OpenParenthesis ∷ Keyword 2 keywords.Int ∷ Punctuator 3 punctuators.CloseParenthesis ∷ Punctuator 4 punctuators.Plus ∷ a_at 5 ∷ []) (expr 0 0 (binary binaries.Add (expr 0 0 (size_type (record { base = bases.Int; stars = 0 }))) (a 5))) 2
+size_before_sum : AllRead (Keyword 0 keywords.Sizeof ∷ Punctuator 1 punctuators.OpenParenthesis ∷ Keyword 2 keywords.Int ∷ Punctuator 3 punctuators.CloseParenthesis ∷ Punctuator 4 punctuators.Plus ∷ a_at 5 ∷ []) (expr (unnumbered 0) (binary binaries.Add (expr (unnumbered 0) (sizeof_type (record { base = bases.Int; stars = 0 }))) (a 5))) 2
 unfolding part expression primary suffixes arguments unary_of_all operations climb commas texts_from type_name type stars
 size_before_sum = refl
 
 -- a ? b : c
-a_choice : AllRead (a_at 0 ∷ Punctuator 1 punctuators.Question ∷ b_at 2 ∷ Punctuator 3 punctuators.Colon ∷ c_at 4 ∷ []) (expr 0 0 (choice (a 0) (b 2) (c 4))) 2
+a_choice : AllRead (a_at 0 ∷ Punctuator 1 punctuators.Question ∷ b_at 2 ∷ Punctuator 3 punctuators.Colon ∷ c_at 4 ∷ []) (expr (unnumbered 0) (conditional (a 0) (b 2) (c 4))) 2
 unfolding part expression primary suffixes arguments unary_of_all operations climb commas texts_from type_name type stars
 a_choice = refl
 
 -- a = b = c
-assigned_to_the_right : AllRead (a_at 0 ∷ Punctuator 1 punctuators.Assign ∷ b_at 2 ∷ Punctuator 3 punctuators.Assign ∷ c_at 4 ∷ []) (expr 0 0 (assign assigns.Plain (a 0) (expr 0 2 (assign assigns.Plain (b 2) (c 4))))) 3
+assigned_to_the_right : AllRead (a_at 0 ∷ Punctuator 1 punctuators.Assign ∷ b_at 2 ∷ Punctuator 3 punctuators.Assign ∷ c_at 4 ∷ []) (expr (unnumbered 0) (assign assigns.Plain (a 0) (expr (unnumbered 2) (assign assigns.Plain (b 2) (c 4))))) 3
 unfolding part expression primary suffixes arguments unary_of_all operations climb commas texts_from type_name type stars
 assigned_to_the_right = refl
 
 -- a, b, c
-commas_to_the_left : AllRead (a_at 0 ∷ Punctuator 1 punctuators.Comma ∷ b_at 2 ∷ Punctuator 3 punctuators.Comma ∷ c_at 4 ∷ []) (expr 0 0 (comma (expr 0 0 (comma (a 0) (b 2))) (c 4))) 3
+commas_to_the_left : AllRead (a_at 0 ∷ Punctuator 1 punctuators.Comma ∷ b_at 2 ∷ Punctuator 3 punctuators.Comma ∷ c_at 4 ∷ []) (expr (unnumbered 0) (comma (expr (unnumbered 0) (comma (a 0) (b 2))) (c 4))) 3
 unfolding part expression primary suffixes arguments unary_of_all operations climb commas texts_from type_name type stars
 commas_to_the_left = refl
 
 -- each operator between two names, and each before one
 
-binary_operator : (s : BinaryOperator) → AllRead (a_at 0 ∷ Punctuator 1 (punctuator_of_binary s) ∷ b_at 2 ∷ []) (expr 0 0 (binary s (a 0) (b 2))) 2
+binary_operator : (s : BinaryOperator) → AllRead (a_at 0 ∷ Punctuator 1 (punctuator_of_binary s) ∷ b_at 2 ∷ []) (expr (unnumbered 0) (binary s (a 0) (b 2))) 2
 unfolding part expression primary suffixes arguments unary_of_all operations climb commas texts_from type_name type stars
 binary_operator binaries.Multiply = refl
 binary_operator binaries.Divide = refl
@@ -157,7 +157,7 @@ binary_operator binaries.BitOr = refl
 binary_operator binaries.And = refl
 binary_operator binaries.Or = refl
 
-assign_operator : (s : AssignmentOperator) → AllRead (a_at 0 ∷ Punctuator 1 (punctuator_of_assign s) ∷ b_at 2 ∷ []) (expr 0 0 (assign s (a 0) (b 2))) 2
+assign_operator : (s : AssignmentOperator) → AllRead (a_at 0 ∷ Punctuator 1 (punctuator_of_assign s) ∷ b_at 2 ∷ []) (expr (unnumbered 0) (assign s (a 0) (b 2))) 2
 unfolding part expression primary suffixes arguments unary_of_all operations climb commas texts_from type_name type stars
 assign_operator assigns.Plain = refl
 assign_operator assigns.Multiply = refl
@@ -171,7 +171,7 @@ assign_operator assigns.BitAnd = refl
 assign_operator assigns.BitXor = refl
 assign_operator assigns.BitOr = refl
 
-unary_operator : (s : UnaryOperator) → AllRead (Punctuator 0 (punctuator_of_unary s) ∷ a_at 1 ∷ []) (expr 0 0 (unary s (a 1))) 2
+unary_operator : (s : UnaryOperator) → AllRead (Punctuator 0 (punctuator_of_unary s) ∷ a_at 1 ∷ []) (expr (unnumbered 0) (unary s (a 1))) 2
 unfolding part expression primary suffixes arguments unary_of_all operations climb commas texts_from type_name type stars
 unary_operator unaries.Address = refl
 unary_operator unaries.Indirect = refl

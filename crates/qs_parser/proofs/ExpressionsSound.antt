@@ -12,7 +12,7 @@ use Rattle.qs_syntax.specs.declared.operators.BinaryOperator.{BinaryOperator}
 use Rattle.qs_syntax.specs.declared.operators.AssignmentOperator.{AssignmentOperator}
 use Rattle.qs_syntax.specs.declared.operators.Access.{Access}
 use Rattle.qs_syntax.specs.declared.operators.StepOperator.TheVariants as steps
-use Rattle.qs_syntax.specs.Trees.{ExprTree, expr, ShapeTree, text, step, binary, assign, choice, comma, index, member, Exprs, no_exprs, expr_and, exprs_of}
+use Rattle.qs_syntax.specs.Trees.{unnumbered, ExprTree, expr, ShapeTree, text, step, binary, assign, conditional, comma, subscript, member, Exprs, no_exprs, expr_and, exprs_of}
 use Rattle.qs_syntax.specs.Operators.{punctuator_of_unary, punctuator_of_binary, precedence, punctuator_of_assign, punctuator_of_access, number_of, unary_of, binary_of, assign_of, access_of}
 use Rattle.qs_syntax.specs.Reads.{Form, Postfix, Unary, Level, Conditional, Assignment, Expression, place, at_first, ReadsTexts, no_text, a_further_text, Reads, ReadsArguments, a_name, an_empty_call, a_call, a_constant, a_text, in_parentheses, an_index, a_member, an_increment_after, a_decrement_after, a_postfix, an_increment, a_decrement, an_operator, a_size_of_type, a_size_of_value, a_cast, an_operand, stronger, an_operation, a_plain_level, a_choice, a_plain_conditional, an_assignment, a_plain_assignment, a_comma, a_last_argument, an_argument}
 use Rattle.qs_parser.specs.Heads.{is_punctuator, is_keyword, starts, operator_at}
@@ -63,8 +63,8 @@ texts_taken done (Punctuator at m ∷ ts) = no_texts done (Punctuator at m ∷ t
 sound_after_text : (n at : ℕ) (first : List ℕ) (ts : List Terminal) (m : ℕ) (part : Form → Parse E) → Sound (IsRead (n + 1) Postfix) (Text at first ∷ []) ts (parse.after_text m part at (texts_from first ts))
 sound_after_text n at first ts m part =
     let t : TextsTaken first ts (texts_from first ts) = texts_taken first ts in
-    Sound-ends (Text at first ∷ []) ts (texts_from first ts).1 (expr 0 at (text (texts_from first ts).0), 1) t.front t.split
-    (cast_read refl refl (ap (λ l. expr 0 at (text l)) (sym t.joined)) (a_text at first t.are), omega arith)
+    Sound-ends (Text at first ∷ []) ts (texts_from first ts).1 (expr (unnumbered at) (text (texts_from first ts).0), 1) t.front t.split
+    (cast_read refl refl (ap (λ l. expr (unnumbered at) (text l)) (sym t.joined)) (a_text at first t.are), omega arith)
 
 -- ---- arguments
 
@@ -156,16 +156,16 @@ module _ (m : ℕ) (p : Form → Parse E) (sound : (form : Form) (ts : List Term
 
   -- a node on the left part with more behind it
   built : {part : Form} (form : Form) (start h k : ℕ) (xs more us : List Terminal) (a : ExprTree) (shape : ShapeTree) → Reads part h xs a → start ≡ place xs
-      → (r : Reads form (suc k) (xs ++ more) (at_first xs shape)) → xs ++ more ≡ us → k ≤ m → Begun (m + 1) form start (expr 0 start shape, k + 1) us
+      → (r : Reads form (suc k) (xs ++ more) (at_first xs shape)) → xs ++ more ≡ us → k ≤ m → Begun (m + 1) form start (expr (unnumbered start) shape, k + 1) us
   built form start h k xs more us a shape left s r e le =
-      (cast_read (omega arith) e (ap (λ n. expr 0 n shape) (sym s)) r, omega arith, s ∙ sym (place_more left more) ∙ ap place e)
+      (cast_read (omega arith) e (ap (λ n. expr (unnumbered n) shape) (sym s)) r, omega arith, s ∙ sym (place_more left more) ∙ ap place e)
 
   sound_index : (start o : ℕ) (a : E) (done : List Terminal) → Begun (m + 1) Postfix start a done → a.1 ≤ m → (ts : List Terminal) → Sound (Begun (m + 1) Postfix start) (done ++ Punctuator o punctuators.OpenBracket ∷ []) ts (parse.index_of m p start a ts)
   sound_index start o a done r le ts =
       Sound-bind _ (sound Expression ts)
       (λ b front us q. Sound-punctuator punctuators.CloseBracket _ (λ c vs. Sound-ok
       (let low : max a.1 b.1 ≤ m = omega (arith, q.1) in
-      built Postfix start a.1 (max a.1 b.1) done (Punctuator o punctuators.OpenBracket ∷ (front ++ Punctuator c punctuators.CloseBracket ∷ [])) _ a.0 (index a.0 b.0) r.0 r.2 (an_index o c r.0 q.0) (simp append_assoc) low)))
+      built Postfix start a.1 (max a.1 b.1) done (Punctuator o punctuators.OpenBracket ∷ (front ++ Punctuator c punctuators.CloseBracket ∷ [])) _ a.0 (subscript a.0 b.0) r.0 r.2 (an_index o c r.0 q.0) (simp append_assoc) low)))
 
   sound_member : (start d : ℕ) (a : E) (access : Access) (done : List Terminal) → Begun (m + 1) Postfix start a done → a.1 ≤ m → (ts : List Terminal)
       → Sound (Begun (m + 1) Postfix start) (done ++ Punctuator d (punctuator_of_access access) ∷ []) ts (parse.member_of m p start a access ts)
@@ -285,7 +285,7 @@ module _ (m : ℕ) (p : Form → Parse E) (sound : (form : Form) (ts : List Term
       let is = operator_is binary_of punctuator_of_binary binary_is (t ∷ ts) operator level.0 in
       Sound-above m a.1 Sound-err
       (λ le. Sound-token (Sound-bind _ (sound (Level j) ts)
-      (λ b front us q. again (expr 0 start (binary operator a.0 b.0), max a.1 b.1 + 1) ((done ++ t ∷ []) ++ front) us
+      (λ b front us q. again (expr (unnumbered start) (binary operator a.0 b.0), max a.1 b.1 + 1) ((done ++ t ∷ []) ++ front) us
       (let low : max a.1 b.1 ≤ m = omega (arith, q.1) in
       built (Level (suc j)) start a.1 (max a.1 b.1) done (Punctuator is.0 (punctuator_of_binary operator) ∷ front) _ a.0 (binary operator a.0 b.0) r.0 r.2 (an_operation operator is.0 level.1 r.0 q.0)
       (sym (append_assoc done (t ∷ []) front ∙ ap (λ u. done ++ u ∷ front) (token_is t (Punctuator is.0 (punctuator_of_binary operator)) ts is.1 is.2))) low))))
@@ -304,7 +304,7 @@ module _ (m : ℕ) (p : Form → Parse E) (sound : (form : Form) (ts : List Term
   sound_climb (suc j) start a done r ts =
       Sound-then (λ b us. parse.operations m p (length us) j start b us) (sound_climb j start a done r ts) (λ b done us q. sound_operations (length us) j start b done (stronger q.0, q.1, q.2) us)
 
-  -- ---- choice, assignment, comma
+  -- ---- conditional, assignment, comma
 
   sound_after_or : (start : ℕ) (a : E) (done : List Terminal) → Begun (m + 1) (Level 10) start a done → (ts : List Terminal) → Sound (Begun (m + 1) Conditional start) done ts (parse.after_or m p start a ts)
   sound_after_or start a done r ts =
@@ -314,7 +314,7 @@ module _ (m : ℕ) (p : Form → Parse E) (sound : (form : Form) (ts : List Term
       (λ b front vs q. Sound-punctuator punctuators.Colon _ (λ c ws. Sound-bind _ (sound Conditional ws)
       (λ d more xs s. Sound-ok
       (let low : max a.1 (max b.1 d.1) ≤ m = omega (arith, q.1, s.1) in
-      built Conditional start a.1 (max a.1 (max b.1 d.1)) done (Punctuator o punctuators.Question ∷ (front ++ Punctuator c punctuators.Colon ∷ more)) _ a.0 (choice a.0 b.0 d.0) r.0 r.2 (a_choice o c r.0 q.0 s.0) (simp append_assoc) low)))))))
+      built Conditional start a.1 (max a.1 (max b.1 d.1)) done (Punctuator o punctuators.Question ∷ (front ++ Punctuator c punctuators.Colon ∷ more)) _ a.0 (conditional a.0 b.0 d.0) r.0 r.2 (a_choice o c r.0 q.0 s.0) (simp append_assoc) low)))))))
       (λ _. Sound-ok (a_plain_level r.0, r.1, r.2))
 
   sound_after_operand : (start : ℕ) (a : E) (done : List Terminal) → Begun (m + 1) (Level 0) start a done → (ts : List Terminal) → Sound (Begun (m + 1) Conditional start) done ts (parse.after_operand m p start a ts)
@@ -354,7 +354,7 @@ module _ (m : ℕ) (p : Form → Parse E) (sound : (form : Form) (ts : List Term
       Sound-if (starts punctuators.Comma ts)
       (λ _. Sound-above m a.1 Sound-err
       (λ le. Sound-punctuator punctuators.Comma _ (λ c us. Sound-bind _ (sound Assignment us)
-      (λ b front vs q. sound_commas n start (expr 0 start (comma a.0 b.0), max a.1 b.1 + 1) ((done ++ Punctuator c punctuators.Comma ∷ []) ++ front)
+      (λ b front vs q. sound_commas n start (expr (unnumbered start) (comma a.0 b.0), max a.1 b.1 + 1) ((done ++ Punctuator c punctuators.Comma ∷ []) ++ front)
       (let low : max a.1 b.1 ≤ m = omega (arith, q.1) in
       built Expression start a.1 (max a.1 b.1) done (Punctuator c punctuators.Comma ∷ front) _ a.0 (comma a.0 b.0) r.0 r.2 (a_comma c r.0 q.0) (simp append_assoc) low) vs))))
       (λ _. Sound-ok r)

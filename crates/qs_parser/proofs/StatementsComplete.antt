@@ -7,7 +7,7 @@ use Rattle.qs_base.specs.declared.keyword.Keyword as key
 use Rattle.qs_base.specs.declared.keyword.Keyword.TheVariants as keywords
 use Rattle.qs_syntax.specs.declared.punctuator.Punctuator as punctuator
 use Rattle.qs_syntax.specs.declared.punctuator.Punctuator.TheVariants as punctuators
-use Rattle.qs_syntax.specs.Trees.{ExprTree, DeclarationTree, StartTree, StmtTree, expression, declaration, block, while_loop, do_loop, for_loop, return, else_by, Stmts, no_stmts, stmt_and, stmts_of, branch, no_else}
+use Rattle.qs_syntax.specs.Trees.{unnumbered, ExprTree, DeclarationTree, StartTree, StmtTree, expression, declaration, block, while_loop, do_loop, for_loop, return, else_by, Stmts, no_stmts, stmt_and, stmts_of, branch, no_else}
 use Rattle.qs_syntax.specs.Reads.{Reads, Expression, place}
 use Rattle.qs_syntax.specs.ReadsDeclarations.{ReadsDeclaration}
 use Rattle.qs_syntax.specs.ReadsStatements.{is_open, ReadsOptional, nothing_there, something_there, ReadsStart, a_start_declaration, a_start_expression, no_start_at_all, ReadsStatement, a_block, an_empty, an_expression, an_if, an_if_with_else, a_while, a_do, a_for, a_break, a_continue, a_return, ReadsItem, a_statement, a_declared, ReadsItems, no_item, an_item}
@@ -150,7 +150,7 @@ for_block h ts ss o c r m le rest stop =
     rw (append_assoc ts (Punctuator c punctuators.CloseBrace ∷ []) rest, r m (length (ts ++ Punctuator c punctuators.CloseBrace ∷ rest)) (omega arith) (omega (arith, length-append ts (Punctuator c punctuators.CloseBrace ∷ rest))) [] 0 c rest) (block_answer h ss rest)
 
 -- tokens that begin an expression are read as one
-running_at : (m : ℕ) (p : Parse S) (ts : List Terminal) → begins_one ts ≡ true → statement_at m p ts ≡ bind (part m Expression ts) (λ e us. bind (expect punctuators.Semicolon us) (λ _ vs. Ok ((expression 0 (place ts) e.0, e.1 + 1), vs)))
+running_at : (m : ℕ) (p : Parse S) (ts : List Terminal) → begins_one ts ≡ true → statement_at m p ts ≡ bind (part m Expression ts) (λ e us. bind (expect punctuators.Semicolon us) (λ _ vs. Ok ((expression (unnumbered (place ts)) e.0, e.1 + 1), vs)))
 running_at m p [] e = absurd (true≢false (sym e))
 running_at m p (t ∷ ts) e =
     rw (
@@ -165,17 +165,17 @@ running_at m p (t ∷ ts) e =
       not_begun_with keywords.Return (λ at us. refl) (t ∷ ts) e,
     ) refl
 
-for_expression : (h : ℕ) (ts : List Terminal) (e : ExprTree) (s : ℕ) → Reads Expression h ts e → Claim (suc h) (ts ++ Punctuator s punctuators.Semicolon ∷ []) (expression 0 (place ts) e)
+for_expression : (h : ℕ) (ts : List Terminal) (e : ExprTree) (s : ℕ) → Reads Expression h ts e → Claim (suc h) (ts ++ Punctuator s punctuators.Semicolon ∷ []) (expression (unnumbered (place ts)) e)
 for_expression h ts e s r m le rest stop =
     ap (statement_at m (statement m)) (append_assoc ts (Punctuator s punctuators.Semicolon ∷ []) rest)
     ∙ running_at m (statement m) (ts ++ Punctuator s punctuators.Semicolon ∷ rest) (begins r (Punctuator s punctuators.Semicolon ∷ rest))
     ∙ rw (found r m (omega arith) s punctuators.Semicolon rest (omega arith), place_more r (Punctuator s punctuators.Semicolon ∷ rest), add-one h) refl
 
-no_else_then : (m : ℕ) (p : Parse S) (at : ℕ) (e : E) (s : S) (rest : List Terminal) → NoElse rest → after_then m p at e s rest ≡ Ok ((branch 0 at e.0 s.0 no_else, max e.1 s.1 + 1), rest)
+no_else_then : (m : ℕ) (p : Parse S) (at : ℕ) (e : E) (s : S) (rest : List Terminal) → NoElse rest → after_then m p at e s rest ≡ Ok ((branch (unnumbered at) e.0 s.0 no_else, max e.1 s.1 + 1), rest)
 no_else_then m p at e s rest none = rw none refl
 
 for_if : (h k : ℕ) (xs ys : List Terminal) (e : ExprTree) (s : StmtTree) (at o c : ℕ) → Reads Expression h xs e → 0 < k → Claim k ys s
-    → Claim (suc (max h k)) (Keyword at keywords.If ∷ Punctuator o punctuators.OpenParenthesis ∷ (xs ++ Punctuator c punctuators.CloseParenthesis ∷ ys)) (branch 0 at e s no_else)
+    → Claim (suc (max h k)) (Keyword at keywords.If ∷ Punctuator o punctuators.OpenParenthesis ∷ (xs ++ Punctuator c punctuators.CloseParenthesis ∷ ys)) (branch (unnumbered at) e s no_else)
 for_if h k xs ys e s at o c r p q zero le rest stop = let some = high r in absurd (omega arith)
 for_if h k xs ys e s at o c r p q (suc m) le rest stop =
     rw (has_room m, append_assoc xs (Punctuator c punctuators.CloseParenthesis ∷ ys) rest, finds_condition r (suc m) (omega arith) o c (ys ++ rest), finds_at k ys s p q (suc m) (omega arith) rest (λ _. stop refl))
@@ -185,7 +185,7 @@ closed_takes_none : (s : StmtTree) (ts : List Terminal) → is_open s ≡ false 
 closed_takes_none s ts p q = absurd (true≢false (sym q ∙ p))
 
 for_if_with_else : (h k l : ℕ) (xs ys zs : List Terminal) (e : ExprTree) (s t : StmtTree) (at o c n : ℕ) → Reads Expression h xs e → 0 < k → Claim k ys s → is_open s ≡ false → 0 < l → Claim l zs t
-    → Claim (suc (max h (max k l))) (Keyword at keywords.If ∷ Punctuator o punctuators.OpenParenthesis ∷ (xs ++ Punctuator c punctuators.CloseParenthesis ∷ (ys ++ Keyword n keywords.Else ∷ zs))) (branch 0 at e s (else_by t))
+    → Claim (suc (max h (max k l))) (Keyword at keywords.If ∷ Punctuator o punctuators.OpenParenthesis ∷ (xs ++ Punctuator c punctuators.CloseParenthesis ∷ (ys ++ Keyword n keywords.Else ∷ zs))) (branch (unnumbered at) e s (else_by t))
 for_if_with_else h k l xs ys zs e s t at o c n r p q closed p2 z zero le rest stop = let some = high r in absurd (omega arith)
 for_if_with_else h k l xs ys zs e s t at o c n r p q closed p2 z (suc m) le rest stop =
     rw (
@@ -199,13 +199,13 @@ for_if_with_else h k l xs ys zs e s t at o c n r p q closed p2 z (suc m) le rest
     ) refl
 
 for_while : (h k : ℕ) (xs ys : List Terminal) (e : ExprTree) (s : StmtTree) (at o c : ℕ) → Reads Expression h xs e → 0 < k → Claim k ys s
-    → Claim (suc (max h k)) (Keyword at keywords.While ∷ Punctuator o punctuators.OpenParenthesis ∷ (xs ++ Punctuator c punctuators.CloseParenthesis ∷ ys)) (while_loop 0 at e s)
+    → Claim (suc (max h k)) (Keyword at keywords.While ∷ Punctuator o punctuators.OpenParenthesis ∷ (xs ++ Punctuator c punctuators.CloseParenthesis ∷ ys)) (while_loop (unnumbered at) e s)
 for_while h k xs ys e s at o c r p q zero le rest stop = let some = high r in absurd (omega arith)
 for_while h k xs ys e s at o c r p q (suc m) le rest stop =
     rw (has_room m, append_assoc xs (Punctuator c punctuators.CloseParenthesis ∷ ys) rest, finds_condition r (suc m) (omega arith) o c (ys ++ rest), finds_at k ys s p q (suc m) (omega arith) rest stop, add-one (max h k)) refl
 
 for_do : (h k : ℕ) (xs ys : List Terminal) (s : StmtTree) (e : ExprTree) (at w o c n : ℕ) → 0 < h → Claim h xs s → Reads Expression k ys e
-    → Claim (suc (max h k)) (Keyword at keywords.Do ∷ (xs ++ Keyword w keywords.While ∷ Punctuator o punctuators.OpenParenthesis ∷ (ys ++ Punctuator c punctuators.CloseParenthesis ∷ Punctuator n punctuators.Semicolon ∷ []))) (do_loop 0 at s e)
+    → Claim (suc (max h k)) (Keyword at keywords.Do ∷ (xs ++ Keyword w keywords.While ∷ Punctuator o punctuators.OpenParenthesis ∷ (ys ++ Punctuator c punctuators.CloseParenthesis ∷ Punctuator n punctuators.Semicolon ∷ []))) (do_loop (unnumbered at) s e)
 for_do h k xs ys s e at w o c n p q r zero le rest stop = let some = high r in absurd (omega arith)
 for_do h k xs ys s e at w o c n p q r (suc m) le rest stop =
     rw (
@@ -218,7 +218,7 @@ for_do h k xs ys s e at w o c n p q r (suc m) le rest stop =
     ) refl
 
 for_for : (h i j k : ℕ) (ws xs ys zs : List Terminal) (a : StartTree) (e u : Option ExprTree) (s : StmtTree) (at o n c : ℕ) → ReadsStart h ws a → ReadsOptional i xs e → ReadsOptional j ys u → 0 < k → Claim k zs s
-    → Claim (suc (max h (max i (max j k)))) (Keyword at keywords.For ∷ Punctuator o punctuators.OpenParenthesis ∷ (ws ++ (xs ++ Punctuator n punctuators.Semicolon ∷ (ys ++ Punctuator c punctuators.CloseParenthesis ∷ zs)))) (for_loop 0 at a e u s)
+    → Claim (suc (max h (max i (max j k)))) (Keyword at keywords.For ∷ Punctuator o punctuators.OpenParenthesis ∷ (ws ++ (xs ++ Punctuator n punctuators.Semicolon ∷ (ys ++ Punctuator c punctuators.CloseParenthesis ∷ zs)))) (for_loop (unnumbered at) a e u s)
 for_for h i j k ws xs ys zs a e u s at o n c r1 r2 r3 p q zero le rest stop = absurd (omega arith)
 for_for h i j k ws xs ys zs a e u s at o n c r1 r2 r3 p q (suc m) le rest stop =
     rw (
@@ -233,7 +233,7 @@ for_for h i j k ws xs ys zs a e u s at o n c r1 r2 r3 p q (suc m) le rest stop =
       add-one (max h (max i (max j k))),
     ) refl
 
-for_return : (h : ℕ) (ts : List Terminal) (e : Option ExprTree) (at s : ℕ) → ReadsOptional h ts e → Claim (suc h) (Keyword at keywords.Return ∷ (ts ++ Punctuator s punctuators.Semicolon ∷ [])) (return 0 at e)
+for_return : (h : ℕ) (ts : List Terminal) (e : Option ExprTree) (at s : ℕ) → ReadsOptional h ts e → Claim (suc h) (Keyword at keywords.Return ∷ (ts ++ Punctuator s punctuators.Semicolon ∷ [])) (return (unnumbered at) e)
 for_return h ts e at s r m le rest stop = rw (append_assoc ts (Punctuator s punctuators.Semicolon ∷ []) rest, finds_optional_semicolon r m (omega arith) s rest, add-one h) refl
 
 for_statement : (h : ℕ) (ts : List Terminal) (s : StmtTree) → ReadsStatement h ts s → Claim h ts s → ItemClaim h ts s

@@ -8,7 +8,7 @@ use Rattle.qs_base.specs.declared.keyword.Keyword.TheVariants as keywords
 use Rattle.qs_syntax.specs.declared.punctuator.Punctuator as punctuator
 use Rattle.qs_syntax.specs.declared.punctuator.Punctuator.TheVariants as punctuators
 use Rattle.qs_syntax.specs.Operators.{number_of}
-use Rattle.qs_syntax.specs.Trees.{ExprTree, StartTree, StmtTree, expression, block, branch, while_loop, do_loop, for_loop, break, continue, return, stmts_of, no_else, else_by}
+use Rattle.qs_syntax.specs.Trees.{unnumbered, ExprTree, StartTree, StmtTree, expression, block, branch, while_loop, do_loop, for_loop, break, continue, return, stmts_of, no_else, else_by}
 use Rattle.qs_syntax.specs.Reads.{Reads, Expression, place}
 use Rattle.qs_syntax.specs.ReadsStatements.{is_open, ReadsOptional, nothing_there, something_there, ReadsStart, a_start_declaration, a_start_expression, no_start_at_all, ReadsStatement, a_block, an_empty, an_expression, an_if, an_if_with_else, a_while, a_do, a_for, a_break, a_continue, a_return, ReadsItem, a_statement, a_declared, ReadsItems, no_item, an_item}
 use Rattle.qs_parser.specs.Heads.{is_punctuator, is_keyword, starts, starts_with, begins_type}
@@ -56,7 +56,7 @@ module _ (m : ℕ) (inner : Parse S) (takes : (ts : List Terminal) → Takes (in
   takes_after_then at e s [] = λ o. refl
   takes_after_then at e s (t ∷ ts) =
       takes_if (is_keyword keywords.Else t) _ _
-      (λ _. takes_last (inner ts) (λ t. (branch 0 at e.0 s.0 (else_by t.0), max e.1 (max s.1 t.1) + 1)) (λ t. refl) (takes ts))
+      (λ _. takes_last (inner ts) (λ t. (branch (unnumbered at) e.0 s.0 (else_by t.0), max e.1 (max s.1 t.1) + 1)) (λ t. refl) (takes ts))
       (λ no o. no)
 
   takes_keyword : (t : Terminal) (ts : List Terminal) → Takes (keyword_statement m inner (place (t ∷ ts)) t ts)
@@ -64,16 +64,16 @@ module _ (m : ℕ) (inner : Parse S) (takes : (ts : List Terminal) → Takes (in
       takes_if (is_keyword keywords.If t) _ _
       (λ _. takes_if (m == 0) _ _ (λ _. tt) (λ _. takes_bind (condition m ts) _ (λ e us. takes_bind (inner us) _ (λ s vs. takes_after_then (number_of t) e s vs))))
       (λ _. takes_if (is_keyword keywords.While t) _ _
-      (λ _. takes_if (m == 0) _ _ (λ _. tt) (λ _. takes_bind (condition m ts) _ (λ e us. takes_last (inner us) (λ s. (while_loop 0 (number_of t) e.0 s.0, max e.1 s.1 + 1)) (λ s. refl) (takes us))))
+      (λ _. takes_if (m == 0) _ _ (λ _. tt) (λ _. takes_bind (condition m ts) _ (λ e us. takes_last (inner us) (λ s. (while_loop (unnumbered (number_of t)) e.0 s.0, max e.1 s.1 + 1)) (λ s. refl) (takes us))))
       (λ _. takes_if (is_keyword keywords.Do t) _ _
-      (λ _. takes_if (m == 0) _ _ (λ _. tt) (λ _. takes_bind (inner ts) _ (λ s us. takes_bind (expect_while m inner us) _ (λ _ vs. takes_bind (condition m vs) _ (λ e ws. takes_closed (expect punctuators.Semicolon ws) (λ _. (do_loop 0 (number_of t) s.0 e.0, max s.1 e.1 + 1)) (λ _. refl))))))
+      (λ _. takes_if (m == 0) _ _ (λ _. tt) (λ _. takes_bind (inner ts) _ (λ s us. takes_bind (expect_while m inner us) _ (λ _ vs. takes_bind (condition m vs) _ (λ e ws. takes_closed (expect punctuators.Semicolon ws) (λ _. (do_loop (unnumbered (number_of t)) s.0 e.0, max s.1 e.1 + 1)) (λ _. refl))))))
       (λ _. takes_if (is_keyword keywords.For t) _ _
       (λ _. takes_if (m == 0) _ _ (λ _. tt) (λ _. takes_bind (expect punctuators.OpenParenthesis ts) _ (λ _ us. takes_bind (start_of m us) _ (λ a vs. takes_bind (optional m punctuators.Semicolon vs) _ (λ e ws. takes_bind (optional m punctuators.CloseParenthesis ws) _
-      (λ u xs. takes_last (inner xs) (λ s. (for_loop 0 (number_of t) a.0 e.0 u.0 s.0, max a.1 (max e.1 (max u.1 s.1)) + 1)) (λ s. refl) (takes xs)))))))
-      (λ _. takes_if (is_keyword keywords.Break t) _ _ (λ _. takes_closed (expect punctuators.Semicolon ts) (λ _. (break 0 (number_of t), 1)) (λ _. refl))
-      (λ _. takes_if (is_keyword keywords.Continue t) _ _ (λ _. takes_closed (expect punctuators.Semicolon ts) (λ _. (continue 0 (number_of t), 1)) (λ _. refl))
-      (λ _. takes_if (is_keyword keywords.Return t) _ _ (λ _. takes_closed (optional m punctuators.Semicolon ts) (λ e. (return 0 (number_of t) e.0, e.1 + 1)) (λ e. refl))
-      (λ _. takes_bind (part m Expression (t ∷ ts)) _ (λ e us. takes_closed (expect punctuators.Semicolon us) (λ _. (expression 0 (number_of t) e.0, e.1 + 1)) (λ _. refl)))))))))
+      (λ u xs. takes_last (inner xs) (λ s. (for_loop (unnumbered (number_of t)) a.0 e.0 u.0 s.0, max a.1 (max e.1 (max u.1 s.1)) + 1)) (λ s. refl) (takes xs)))))))
+      (λ _. takes_if (is_keyword keywords.Break t) _ _ (λ _. takes_closed (expect punctuators.Semicolon ts) (λ _. (break (unnumbered (number_of t)), 1)) (λ _. refl))
+      (λ _. takes_if (is_keyword keywords.Continue t) _ _ (λ _. takes_closed (expect punctuators.Semicolon ts) (λ _. (continue (unnumbered (number_of t)), 1)) (λ _. refl))
+      (λ _. takes_if (is_keyword keywords.Return t) _ _ (λ _. takes_closed (optional m punctuators.Semicolon ts) (λ e. (return (unnumbered (number_of t)) e.0, e.1 + 1)) (λ e. refl))
+      (λ _. takes_bind (part m Expression (t ∷ ts)) _ (λ e us. takes_closed (expect punctuators.Semicolon us) (λ _. (expression (unnumbered (number_of t)) e.0, e.1 + 1)) (λ _. refl)))))))))
 
   takes_statement_at : (ts : List Terminal) → Takes (statement_at m inner ts)
   takes_statement_at [] = tt
@@ -165,34 +165,34 @@ block_read m o x l r = go (all_closed punctuators.CloseBrace AllItems m x l r)
     go : Ends punctuators.CloseBrace AllItems m x l → IsStatement (suc m) (block (stmts_of x.0), x.1 + 1) (Punctuator o punctuators.OpenBrace ∷ l)
     go (inside, c, e, q, le) = (rw (e, add-one x.1) (a_block o c q), omega arith)
 
-if_read : (m at : ℕ) (e : E) (s : S) (c ys : List Terminal) → IsCondition m e c → IsStatement m s ys → IsStatement (suc m) (branch 0 at e.0 s.0 no_else, max e.1 s.1 + 1) (Keyword at keywords.If ∷ (c ++ ys))
+if_read : (m at : ℕ) (e : E) (s : S) (c ys : List Terminal) → IsCondition m e c → IsStatement m s ys → IsStatement (suc m) (branch (unnumbered at) e.0 s.0 no_else, max e.1 s.1 + 1) (Keyword at keywords.If ∷ (c ++ ys))
 if_read m at e s c ys (inside, o, p, is, r, le) (q, low) = (rw (is, append_assoc inside (Punctuator p punctuators.CloseParenthesis ∷ []) ys, add-one (max e.1 s.1)) (an_if at o p r q), omega arith)
 
 else_read : (m at n : ℕ) (e : E) (s t : S) (c ys zs : List Terminal) → IsCondition m e c → IsStatement m s ys → is_open s.0 ≡ false → IsStatement m t zs
-    → IsStatement (suc m) (branch 0 at e.0 s.0 (else_by t.0), max e.1 (max s.1 t.1) + 1) (Keyword at keywords.If ∷ (c ++ (ys ++ Keyword n keywords.Else ∷ zs)))
+    → IsStatement (suc m) (branch (unnumbered at) e.0 s.0 (else_by t.0), max e.1 (max s.1 t.1) + 1) (Keyword at keywords.If ∷ (c ++ (ys ++ Keyword n keywords.Else ∷ zs)))
 else_read m at n e s t c ys zs (inside, o, p, is, r, le) (q, low) closed (z, least) =
     (rw (is, append_assoc inside (Punctuator p punctuators.CloseParenthesis ∷ []) (ys ++ Keyword n keywords.Else ∷ zs), add-one (max e.1 (max s.1 t.1))) (an_if_with_else at o p n r q closed z), omega arith)
 
-while_read : (m at : ℕ) (e : E) (s : S) (c ys : List Terminal) → IsCondition m e c → IsStatement m s ys → IsStatement (suc m) (while_loop 0 at e.0 s.0, max e.1 s.1 + 1) (Keyword at keywords.While ∷ (c ++ ys))
+while_read : (m at : ℕ) (e : E) (s : S) (c ys : List Terminal) → IsCondition m e c → IsStatement m s ys → IsStatement (suc m) (while_loop (unnumbered at) e.0 s.0, max e.1 s.1 + 1) (Keyword at keywords.While ∷ (c ++ ys))
 while_read m at e s c ys (inside, o, p, is, r, le) (q, low) = (rw (is, append_assoc inside (Punctuator p punctuators.CloseParenthesis ∷ []) ys, add-one (max e.1 s.1)) (a_while at o p r q), omega arith)
 
 do_read : (m at w n : ℕ) (s : S) (e : E) (xs c : List Terminal) → IsStatement m s xs → IsCondition m e c
-    → IsStatement (suc m) (do_loop 0 at s.0 e.0, max s.1 e.1 + 1) (Keyword at keywords.Do ∷ (xs ++ Keyword w keywords.While ∷ (c ++ Punctuator n punctuators.Semicolon ∷ [])))
+    → IsStatement (suc m) (do_loop (unnumbered at) s.0 e.0, max s.1 e.1 + 1) (Keyword at keywords.Do ∷ (xs ++ Keyword w keywords.While ∷ (c ++ Punctuator n punctuators.Semicolon ∷ [])))
 do_read m at w n s e xs c (q, low) (inside, o, p, is, r, le) =
     (rw (is, append_assoc inside (Punctuator p punctuators.CloseParenthesis ∷ []) (Punctuator n punctuators.Semicolon ∷ []), add-one (max s.1 e.1)) (a_do at w o p n q r), omega arith)
 
 for_read : (m at o : ℕ) (a : StartTree × ℕ) (e u : Option ExprTree × ℕ) (s : S) (ws xs ys zs : List Terminal) → IsStart m a ws → IsOptional m punctuators.Semicolon e xs → IsOptional m punctuators.CloseParenthesis u ys → IsStatement m s zs
-    → IsStatement (suc m) (for_loop 0 at a.0 e.0 u.0 s.0, max a.1 (max e.1 (max u.1 s.1)) + 1) (Keyword at keywords.For ∷ Punctuator o punctuators.OpenParenthesis ∷ (ws ++ (xs ++ (ys ++ zs))))
+    → IsStatement (suc m) (for_loop (unnumbered at) a.0 e.0 u.0 s.0, max a.1 (max e.1 (max u.1 s.1)) + 1) (Keyword at keywords.For ∷ Punctuator o punctuators.OpenParenthesis ∷ (ws ++ (xs ++ (ys ++ zs))))
 for_read m at o a e u s ws xs ys zs (start, l1) (first, n, d1, r1, l2) (second, c, d2, r2, l3) (q, l4) = (
   rw (d1, d2, append_assoc second (Punctuator c punctuators.CloseParenthesis ∷ []) zs, append_assoc first (Punctuator n punctuators.Semicolon ∷ []) (second ++ Punctuator c punctuators.CloseParenthesis ∷ zs), add-one (max a.1 (max e.1 (max u.1 s.1))))
       (a_for at o n c start r1 r2 q),
   omega arith,
 )
 
-return_read : (m at : ℕ) (e : Option ExprTree × ℕ) (xs : List Terminal) → IsOptional m punctuators.Semicolon e xs → IsStatement (suc m) (return 0 at e.0, e.1 + 1) (Keyword at keywords.Return ∷ xs)
+return_read : (m at : ℕ) (e : Option ExprTree × ℕ) (xs : List Terminal) → IsOptional m punctuators.Semicolon e xs → IsStatement (suc m) (return (unnumbered at) e.0, e.1 + 1) (Keyword at keywords.Return ∷ xs)
 return_read m at e xs (inside, s, d, r, le) = (rw (d, add-one e.1) (a_return at s r), omega arith)
 
-expression_read : (m : ℕ) (ts us : List Terminal) (e : E) (front : List Terminal) → ts ≡ front ++ us → IsRead m Expression e front → (s : ℕ) → IsStatement (suc m) (expression 0 (place ts) e.0, e.1 + 1) (front ++ Punctuator s punctuators.Semicolon ∷ [])
+expression_read : (m : ℕ) (ts us : List Terminal) (e : E) (front : List Terminal) → ts ≡ front ++ us → IsRead m Expression e front → (s : ℕ) → IsStatement (suc m) (expression (unnumbered (place ts)) e.0, e.1 + 1) (front ++ Punctuator s punctuators.Semicolon ∷ [])
 expression_read m ts us e front split (r, le) s = (rw (split, place_more r us, add-one e.1) (an_expression s r), omega arith)
 
 -- ---- the functions

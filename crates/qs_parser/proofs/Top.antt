@@ -3,7 +3,8 @@ use Rattle.std.proofs.Common.{◌≡◌, ℕ, ◌<◌, ◌^◌, List, [], length
 use Rattle.std.specs.List.{list_all}
 use Rattle.qs_syntax.specs.declared.terminal.Terminal.{Terminal}
 use Rattle.qs_syntax.specs.Trees.{DeclTree}
-use Rattle.qs_syntax.specs.Numbering.{unit_nodes, numbered_unit}
+use Rattle.qs_syntax.specs.Numbering.{numbered_unit}
+use Rattle.qs_syntax.specs.Nodes.{unit_count}
 use Rattle.qs_syntax.specs.Units.{IsRead, is_terminal}
 use Rattle.qs_parser.specs.Parse.{Stop}
 use Rattle.qs_parser.specs.ParseStatements.{unit}
@@ -18,7 +19,7 @@ Gave ts ds h = unit 126 ts ≡ Ok ((ds, h), [])
 pub is_read : (ts : List Terminal) (ds : List DeclTree) (h : ℕ) → list_all is_terminal ts ≡ true → Gave ts ds h → IsRead (numbered_unit ds)
 is_read ts ds h all e = let r = reads_whole ts ds h e in ∣ record { tokens = ts; height = h; unnumbered = ds; are_tokens = all; reads = r.0; low = r.1; are_numbered = refl } ∣₁
 
-pub are_few : (ts : List Terminal) (ds : List DeclTree) (h : ℕ) → length ts < 2 ^ 32 → Gave ts ds h → unit_nodes ds < 2 ^ 32
+pub are_few : (ts : List Terminal) (ds : List DeclTree) (h : ℕ) → length ts < 2 ^ 32 → Gave ts ds h → unit_count ds < 2 ^ 32
 are_few ts ds h few e = let n = counted_unit (reads_whole ts ds h e).0 in omega arith
 
 pub reads_as : (ts : List Terminal) (ds es : List DeclTree) (h : ℕ) → Gave ts ds h → es ≡ numbered_unit ds → ReadsAs ts es

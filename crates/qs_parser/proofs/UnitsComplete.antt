@@ -6,8 +6,8 @@ use Rattle.qs_syntax.specs.declared.terminal.Terminal.TheVariants.{Name, Keyword
 use Rattle.qs_base.specs.declared.keyword.Keyword.TheVariants as keywords
 use Rattle.qs_syntax.specs.declared.punctuator.Punctuator as punctuator
 use Rattle.qs_syntax.specs.declared.punctuator.Punctuator.TheVariants as punctuators
-use Rattle.qs_syntax.specs.declared.tree.Base.{Base}
-use Rattle.qs_syntax.specs.Trees.{LengthsTree, DeclaratorTree, MembersTree, ParameterTree, VariableTree, DeclarationTree, Stmts, StmtTree, stmts_of, DeclTree, structure, forward, function}
+use Rattle.qs_syntax.specs.declared.types.Base.{Base}
+use Rattle.qs_syntax.specs.Trees.{unnumbered, LengthsTree, DeclaratorTree, MembersTree, ParameterTree, VariableTree, DeclarationTree, Stmts, StmtTree, stmts_of, DeclTree, structure, forward, function}
 use Rattle.qs_syntax.specs.Trees as trees
 use Rattle.qs_syntax.specs.ReadsTypes.{ReadsConsts, no_const, a_const, ReadsPrefixes, no_prefix, a_const_prefix, a_static_prefix, ReadsBase, a_void, an_int, a_char, an_unsigned, an_unsigned_int, an_unsigned_char, a_signed, a_signed_int, a_struct, ReadsOuterType, an_outer_type, ReadsStars, no_star, a_star}
 use Rattle.qs_syntax.specs.Reads.{place}
@@ -135,11 +135,11 @@ all_groups : {h : ℕ} {ts : List Terminal} {ms : List MembersTree} → ReadsAll
 all_groups {h} {ts} {ms} r k le c rest = finds_groups r k (length (ts ++ Punctuator c punctuators.CloseBrace ∷ rest)) le (omega (arith, length-append ts (Punctuator c punctuators.CloseBrace ∷ rest))) [] 0 c rest ∙ ap (λ (j : ℕ). Items ms j rest) (from_zero h)
 
 for_struct : (k h : ℕ) (ts : List Terminal) (ms : List MembersTree) (at n o c s : ℕ) (x : List ℕ) → ReadsAllMembers h ts ms → h ≤ suc k → (rest : List Terminal)
-    → external k ((Keyword at keywords.Struct ∷ Name n x ∷ Punctuator o punctuators.OpenBrace ∷ (ts ++ Punctuator c punctuators.CloseBrace ∷ Punctuator s punctuators.Semicolon ∷ [])) ++ rest) ≡ Ok ((structure (record { id = 0; token = at; name = x; members = ms }), suc h), rest)
+    → external k ((Keyword at keywords.Struct ∷ Name n x ∷ Punctuator o punctuators.OpenBrace ∷ (ts ++ Punctuator c punctuators.CloseBrace ∷ Punctuator s punctuators.Semicolon ∷ [])) ++ rest) ≡ Ok ((structure (record { node = unnumbered at; name = x; members = ms }), suc h), rest)
 unfolding external
 for_struct k h ts ms at n o c s x r le rest = rw (append_assoc ts (Punctuator c punctuators.CloseBrace ∷ Punctuator s punctuators.Semicolon ∷ []) rest, all_groups r k le c (Punctuator s punctuators.Semicolon ∷ rest), add-one h) refl
 
-for_forward : (k : ℕ) (at n s : ℕ) (x : List ℕ) (rest : List Terminal) → external k (Keyword at keywords.Struct ∷ Name n x ∷ Punctuator s punctuators.Semicolon ∷ rest) ≡ Ok ((forward (record { id = 0; token = at; name = x }), 1), rest)
+for_forward : (k : ℕ) (at n s : ℕ) (x : List ℕ) (rest : List Terminal) → external k (Keyword at keywords.Struct ∷ Name n x ∷ Punctuator s punctuators.Semicolon ∷ rest) ≡ Ok ((forward (record { node = unnumbered at; name = x }), 1), rest)
 unfolding external
 for_forward k at n s x rest = refl
 
@@ -153,7 +153,7 @@ finds_function {f} {ys} {b} {m} k t s n x o rest =
 
 for_header : (k h m : ℕ) (xs ys zs : List Terminal) (b : Base) (ps : List ParameterTree) (n o c s : ℕ) (x : List ℕ) → ReadsOuterType xs b → ReadsStars ys m → ReadsHead h zs ps → h ≤ suc k → (rest : List Terminal)
     → external k ((xs ++ (ys ++ Name n x ∷ Punctuator o punctuators.OpenParenthesis ∷ (zs ++ Punctuator c punctuators.CloseParenthesis ∷ Punctuator s punctuators.Semicolon ∷ []))) ++ rest)
-    ≡ Ok ((function (record { id = 0; token = place xs; base = b; stars = m; name = x; parameters = ps; body = None }), suc h), rest)
+    ≡ Ok ((function (record { node = unnumbered (place xs); result_type = record { base = b; stars = m }; name = x; parameters = ps; body = None }), suc h), rest)
 for_header k h m xs ys zs b ps n o c s x t q r le rest =
     ap (external k) (append_assoc xs (ys ++ Name n x ∷ Punctuator o punctuators.OpenParenthesis ∷ (zs ++ Punctuator c punctuators.CloseParenthesis ∷ Punctuator s punctuators.Semicolon ∷ [])) rest
     ∙ ap (λ l. xs ++ l) (append_assoc ys (Name n x ∷ Punctuator o punctuators.OpenParenthesis ∷ (zs ++ Punctuator c punctuators.CloseParenthesis ∷ Punctuator s punctuators.Semicolon ∷ [])) rest))
@@ -162,7 +162,7 @@ for_header k h m xs ys zs b ps n o c s x t q r le rest =
 
 for_definition : (k h j m : ℕ) (xs ys zs ws : List Terminal) (b : Base) (ps : List ParameterTree) (ss : Stmts) (n o c i e : ℕ) (x : List ℕ) → ReadsOuterType xs b → ReadsStars ys m → ReadsHead h zs ps → h ≤ suc k → ReadsItems j ws ss → j ≤ k → (rest : List Terminal)
     → external k ((xs ++ (ys ++ Name n x ∷ Punctuator o punctuators.OpenParenthesis ∷ (zs ++ Punctuator c punctuators.CloseParenthesis ∷ Punctuator i punctuators.OpenBrace ∷ (ws ++ Punctuator e punctuators.CloseBrace ∷ [])))) ++ rest)
-    ≡ Ok ((function (record { id = 0; token = place xs; base = b; stars = m; name = x; parameters = ps; body = Some ss }), suc (max h (suc j))), rest)
+    ≡ Ok ((function (record { node = unnumbered (place xs); result_type = record { base = b; stars = m }; name = x; parameters = ps; body = Some ss }), suc (max h (suc j))), rest)
 for_definition k h j m xs ys zs ws b ps ss n o c i e x t q r le z low rest =
     let body = finds_items z k low e rest in
     ap (external k) (append_assoc xs (ys ++ Name n x ∷ Punctuator o punctuators.OpenParenthesis ∷ (zs ++ Punctuator c punctuators.CloseParenthesis ∷ Punctuator i punctuators.OpenBrace ∷ (ws ++ Punctuator e punctuators.CloseBrace ∷ []))) rest

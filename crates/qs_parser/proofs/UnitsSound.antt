@@ -5,9 +5,9 @@ use Rattle.qs_syntax.specs.declared.terminal.Terminal.{Terminal}
 use Rattle.qs_syntax.specs.declared.terminal.Terminal.TheVariants.{Name, Keyword, Punctuator}
 use Rattle.qs_base.specs.declared.keyword.Keyword.TheVariants as keywords
 use Rattle.qs_syntax.specs.declared.punctuator.Punctuator.TheVariants as punctuators
-use Rattle.qs_syntax.specs.declared.tree.Base.{Base}
+use Rattle.qs_syntax.specs.declared.types.Base.{Base}
 use Rattle.qs_syntax.specs.Operators.{number_of}
-use Rattle.qs_syntax.specs.Trees.{MembersTree, ParameterTree, DeclarationTree, StmtTree, stmts_of, DeclTree, structure, forward, function}
+use Rattle.qs_syntax.specs.Trees.{unnumbered, MembersTree, ParameterTree, DeclarationTree, StmtTree, stmts_of, DeclTree, structure, forward, function}
 use Rattle.qs_syntax.specs.Trees as trees
 use Rattle.qs_syntax.specs.ReadsTypes.{ReadsPrefixes, no_prefix, a_const_prefix, a_static_prefix, ReadsOuterType, an_outer_type, ReadsStars}
 use Rattle.qs_syntax.specs.Reads.{place}
@@ -67,11 +67,11 @@ abbrev pub IsExternal : ℕ → DeclTree × ℕ → List Terminal → Type 0
 IsExternal k x l = ReadsExternal x.1 l x.0 × (x.1 ≤ suc (suc k))
 
 struct_read : (k at n o : ℕ) (name : List ℕ) (x : List MembersTree × ℕ) (l : List Terminal) → Closed punctuators.CloseBrace ReadsAllMembers (suc k) [] 0 x l → (s : ℕ)
-    → IsExternal k (structure (record { id = 0; token = at; name = name; members = x.0 }), x.1 + 1) (Keyword at keywords.Struct ∷ Name n name ∷ Punctuator o punctuators.OpenBrace ∷ (l ++ Punctuator s punctuators.Semicolon ∷ []))
+    → IsExternal k (structure (record { node = unnumbered at; name = name; members = x.0 }), x.1 + 1) (Keyword at keywords.Struct ∷ Name n name ∷ Punctuator o punctuators.OpenBrace ∷ (l ++ Punctuator s punctuators.Semicolon ∷ []))
 struct_read k at n o name x l r s = go (all_closed punctuators.CloseBrace ReadsAllMembers (suc k) x l r)
   where
     go : Ends punctuators.CloseBrace ReadsAllMembers (suc k) x l
-        → IsExternal k (structure (record { id = 0; token = at; name = name; members = x.0 }), x.1 + 1) (Keyword at keywords.Struct ∷ Name n name ∷ Punctuator o punctuators.OpenBrace ∷ (l ++ Punctuator s punctuators.Semicolon ∷ []))
+        → IsExternal k (structure (record { node = unnumbered at; name = name; members = x.0 }), x.1 + 1) (Keyword at keywords.Struct ∷ Name n name ∷ Punctuator o punctuators.OpenBrace ∷ (l ++ Punctuator s punctuators.Semicolon ∷ []))
     go (inside, c, e, q, le) = (rw (e, append_assoc inside (Punctuator c punctuators.CloseBrace ∷ []) (Punctuator s punctuators.Semicolon ∷ []), add-one x.1) (a_struct_with_members at n o c s name q), omega arith)
 
 sound_struct : (k at : ℕ) (ts : List Terminal) → Sound (λ x l. IsExternal k x (Keyword at keywords.Struct ∷ l)) [] ts (struct_of k at ts)
@@ -84,15 +84,15 @@ sound_forward k at ts = Sound-name-next ts _ (λ n x us. Sound-punctuator-next p
 
 module _ (k start : ℕ) (b : Base) (front : List Terminal) (t : ReadsOuterType front b) (same : start ≡ place front) where
   header_read : (m n o s : ℕ) (name : List ℕ) (ys : List Terminal) → ReadsStars ys m → (ps : List ParameterTree × ℕ) (l : List Terminal) → IsHead k ps l
-      → IsExternal k (function (record { id = 0; token = start; base = b; stars = m; name = name; parameters = ps.0; body = None }), ps.1 + 1) (front ++ (ys ++ Name n name ∷ Punctuator o punctuators.OpenParenthesis ∷ (l ++ Punctuator s punctuators.Semicolon ∷ [])))
+      → IsExternal k (function (record { node = unnumbered start; result_type = record { base = b; stars = m }; name = name; parameters = ps.0; body = None }), ps.1 + 1) (front ++ (ys ++ Name n name ∷ Punctuator o punctuators.OpenParenthesis ∷ (l ++ Punctuator s punctuators.Semicolon ∷ [])))
   header_read m n o s name ys r ps l (inside, c, e, q, le) = (rw (e, append_assoc inside (Punctuator c punctuators.CloseParenthesis ∷ []) (Punctuator s punctuators.Semicolon ∷ []), same, add-one ps.1) (a_header n o c s name t r q), omega arith)
 
   definition_read : (m n o i : ℕ) (name : List ℕ) (ys : List Terminal) → ReadsStars ys m → (ps : List ParameterTree × ℕ) (l : List Terminal) → IsHead k ps l → (ss : List StmtTree × ℕ) (w : List Terminal) → AreItems k [] 0 ss w
-      → IsExternal k (function (record { id = 0; token = start; base = b; stars = m; name = name; parameters = ps.0; body = Some (stmts_of ss.0) }), max ps.1 (ss.1 + 1) + 1) (front ++ (ys ++ Name n name ∷ Punctuator o punctuators.OpenParenthesis ∷ (l ++ Punctuator i punctuators.OpenBrace ∷ w)))
+      → IsExternal k (function (record { node = unnumbered start; result_type = record { base = b; stars = m }; name = name; parameters = ps.0; body = Some (stmts_of ss.0) }), max ps.1 (ss.1 + 1) + 1) (front ++ (ys ++ Name n name ∷ Punctuator o punctuators.OpenParenthesis ∷ (l ++ Punctuator i punctuators.OpenBrace ∷ w)))
   definition_read m n o i name ys r ps l (inside, c, e, q, le) ss w are = go (all_closed punctuators.CloseBrace AllItems k ss w are)
     where
       go : Ends punctuators.CloseBrace AllItems k ss w
-          → IsExternal k (function (record { id = 0; token = start; base = b; stars = m; name = name; parameters = ps.0; body = Some (stmts_of ss.0) }), max ps.1 (ss.1 + 1) + 1) (front ++ (ys ++ Name n name ∷ Punctuator o punctuators.OpenParenthesis ∷ (l ++ Punctuator i punctuators.OpenBrace ∷ w)))
+          → IsExternal k (function (record { node = unnumbered start; result_type = record { base = b; stars = m }; name = name; parameters = ps.0; body = Some (stmts_of ss.0) }), max ps.1 (ss.1 + 1) + 1) (front ++ (ys ++ Name n name ∷ Punctuator o punctuators.OpenParenthesis ∷ (l ++ Punctuator i punctuators.OpenBrace ∷ w)))
       go (body, d, f, z, low) =
           (rw (e, f, append_assoc inside (Punctuator c punctuators.CloseParenthesis ∷ []) (Punctuator i punctuators.OpenBrace ∷ (body ++ Punctuator d punctuators.CloseBrace ∷ [])), same, add-one ss.1, add-one (max ps.1 (suc ss.1))) (a_definition n o c i d name t r q z), omega arith)
 

@@ -6,16 +6,16 @@ use Rattle.qs_syntax.specs.declared.terminal.Terminal.TheVariants.{Name, Keyword
 use Rattle.qs_base.specs.declared.keyword.Keyword.TheVariants as keywords
 use Rattle.qs_syntax.specs.declared.punctuator.Punctuator as punctuator
 use Rattle.qs_syntax.specs.declared.punctuator.Punctuator.TheVariants as punctuators
-use Rattle.qs_syntax.specs.declared.tree.Base.{Base}
-use Rattle.qs_syntax.specs.declared.tree.Base.TheVariants as bases
-use Rattle.qs_syntax.specs.declared.tree.TypeName.{TypeName}
+use Rattle.qs_syntax.specs.declared.types.Base.{Base}
+use Rattle.qs_syntax.specs.declared.types.Base.TheVariants as bases
+use Rattle.qs_syntax.specs.declared.types.TypeName.{TypeName}
 use Rattle.qs_syntax.specs.declared.operators.UnaryOperator.{UnaryOperator}
 use Rattle.qs_syntax.specs.declared.operators.StepOperator.{StepOperator}
 use Rattle.qs_syntax.specs.declared.operators.StepOperator.TheVariants as steps
 use Rattle.qs_syntax.specs.declared.operators.BinaryOperator.{BinaryOperator}
 use Rattle.qs_syntax.specs.declared.operators.AssignmentOperator.{AssignmentOperator}
 use Rattle.qs_syntax.specs.declared.operators.Access.{Access}
-use Rattle.qs_syntax.specs.Trees.{ExprTree, expr, int, text, name, unary, step, cast, size_type, size_expr, binary, assign, choice, comma, index, member, call, exprs_of}
+use Rattle.qs_syntax.specs.Trees.{unnumbered, ExprTree, expr, constant, text, name, unary, step, cast, sizeof_type, sizeof_expr, binary, assign, conditional, comma, subscript, member, call, exprs_of}
 use Rattle.qs_syntax.specs.Operators.{precedence, unary_of, binary_of, assign_of, access_of}
 use Rattle.qs_syntax.specs.Reads.{Form, Postfix, Unary, Level, Conditional, Assignment, Expression, place}
 use Rattle.qs_parser.specs.Heads.{is_punctuator, is_keyword, starts, operator_at, begins_type}
@@ -158,16 +158,16 @@ module _ (m : ℕ) (part : Form → Parse E) where
 
   abbrev pub call_of : (at : ℕ) → List ℕ → Parse E
   call_of at f ts =
-      if starts punctuators.CloseParenthesis ts then bind (expect punctuators.CloseParenthesis ts) (λ _ us. Ok ((expr 0 at (call f (exprs_of [])), 1), us))
-      else bind (arguments (length ts) [] 0 ts) (λ es us. Ok ((expr 0 at (call f (exprs_of es.0)), es.1 + 1), us))
+      if starts punctuators.CloseParenthesis ts then bind (expect punctuators.CloseParenthesis ts) (λ _ us. Ok ((expr (unnumbered at) (call f (exprs_of [])), 1), us))
+      else bind (arguments (length ts) [] 0 ts) (λ es us. Ok ((expr (unnumbered at) (call f (exprs_of es.0)), es.1 + 1), us))
 
   abbrev pub after_name : (at : ℕ) → List ℕ → Parse E
   after_name at x ts =
       if starts punctuators.OpenParenthesis ts then bind (expect punctuators.OpenParenthesis ts) (λ _ us. call_of at x us)
-      else Ok ((expr 0 at (name x), 1), ts)
+      else Ok ((expr (unnumbered at) (name x), 1), ts)
 
   abbrev pub after_text : (at : ℕ) → List ℕ × List Terminal → Result (E × List Terminal) Stop
-  after_text at x = Ok ((expr 0 at (text x.0), 1), x.1)
+  after_text at x = Ok ((expr (unnumbered at) (text x.0), 1), x.1)
 
   -- behind a parenthesis that begins no cast
   abbrev pub in_parentheses : Parse E
@@ -177,17 +177,17 @@ module _ (m : ℕ) (part : Form → Parse E) where
   primary [] = unexpected []
   primary (Name at x ∷ ts) = after_name at x ts
   primary (Keyword at k ∷ ts) = unexpected (Keyword at k ∷ ts)
-  primary (Constant at n unsigned ∷ ts) = Ok ((expr 0 at (int n unsigned), 1), ts)
+  primary (Constant at n unsigned ∷ ts) = Ok ((expr (unnumbered at) (constant n unsigned), 1), ts)
   primary (Text at bytes ∷ ts) = after_text at (texts_from bytes ts)
   primary (Punctuator at k ∷ ts) = if is_punctuator punctuators.OpenParenthesis (Punctuator at k) then (if m == 0 then deep (Punctuator at k ∷ ts) else in_parentheses ts) else unexpected (Punctuator at k ∷ ts)
 
   -- behind `[`
   abbrev pub index_of : (start : ℕ) → E → Parse E
-  index_of start a ts = bind (part Expression ts) (λ b us. bind (expect punctuators.CloseBracket us) (λ _ vs. Ok ((expr 0 start (index a.0 b.0), max a.1 b.1 + 1), vs)))
+  index_of start a ts = bind (part Expression ts) (λ b us. bind (expect punctuators.CloseBracket us) (λ _ vs. Ok ((expr (unnumbered start) (subscript a.0 b.0), max a.1 b.1 + 1), vs)))
 
   -- behind `.` or `->`
   abbrev pub member_of : (start : ℕ) → E → Access → Parse E
-  member_of start a access ts = bind (expect_name ts) (λ x us. Ok ((expr 0 start (member access a.0 x.1), a.1 + 1), us))
+  member_of start a access ts = bind (expect_name ts) (λ x us. Ok ((expr (unnumbered start) (member access a.0 x.1), a.1 + 1), us))
 
   abbrev pub access_at : (start : ℕ) → E → Option Access → Parse E
   access_at start a None ts = unexpected ts
@@ -201,8 +201,8 @@ module _ (m : ℕ) (part : Form → Parse E) where
   suffix start a [] = unexpected []
   suffix start a (t ∷ ts) =
       if is_punctuator punctuators.OpenBracket t then index_of start a ts
-      else if is_punctuator punctuators.Increment t then Ok ((expr 0 start (step steps.IncrementAfter a.0), a.1 + 1), ts)
-      else if is_punctuator punctuators.Decrement t then Ok ((expr 0 start (step steps.DecrementAfter a.0), a.1 + 1), ts)
+      else if is_punctuator punctuators.Increment t then Ok ((expr (unnumbered start) (step steps.IncrementAfter a.0), a.1 + 1), ts)
+      else if is_punctuator punctuators.Decrement t then Ok ((expr (unnumbered start) (step steps.DecrementAfter a.0), a.1 + 1), ts)
       else access_at start a (operator_at access_of (t ∷ ts)) ts
 
   -- The suffixes behind an operand that begins at `start`. The first number bounds the turns.
@@ -214,16 +214,16 @@ module _ (m : ℕ) (part : Form → Parse E) where
   postfix ts = bind (primary ts) (λ a us. suffixes (length us) (place ts) a us)
 
   abbrev pub step_of : (at : ℕ) → StepOperator → Parse E
-  step_of at operator ts = bind (part Unary ts) (λ e us. Ok ((expr 0 at (step operator e.0), e.1 + 1), us))
+  step_of at operator ts = bind (part Unary ts) (λ e us. Ok ((expr (unnumbered at) (step operator e.0), e.1 + 1), us))
 
   abbrev pub operator_of : (at : ℕ) → UnaryOperator → Parse E
-  operator_of at operator ts = bind (part (Level 0) ts) (λ e us. Ok ((expr 0 at (unary operator e.0), e.1 + 1), us))
+  operator_of at operator ts = bind (part (Level 0) ts) (λ e us. Ok ((expr (unnumbered at) (unary operator e.0), e.1 + 1), us))
 
   -- behind `sizeof`
   abbrev pub size_of : (at : ℕ) → Parse E
   size_of at ts =
-      if begins_cast ts then bind (expect punctuators.OpenParenthesis ts) (λ _ us. bind (type_name us) (λ t vs. bind (expect punctuators.CloseParenthesis vs) (λ _ ws. Ok ((expr 0 at (size_type t), 1), ws))))
-      else bind (part Unary ts) (λ e us. Ok ((expr 0 at (size_expr e.0), e.1 + 1), us))
+      if begins_cast ts then bind (expect punctuators.OpenParenthesis ts) (λ _ us. bind (type_name us) (λ t vs. bind (expect punctuators.CloseParenthesis vs) (λ _ ws. Ok ((expr (unnumbered at) (sizeof_type t), 1), ws))))
+      else bind (part Unary ts) (λ e us. Ok ((expr (unnumbered at) (sizeof_expr e.0), e.1 + 1), us))
 
   abbrev pub unary_operator_at : (at : ℕ) → Option UnaryOperator → punctuator.Punctuator → Parse E
   unary_operator_at at (Some operator) k ts = if m == 0 then deep (Punctuator at k ∷ ts) else operator_of at operator ts
@@ -243,7 +243,7 @@ module _ (m : ℕ) (part : Form → Parse E) where
 
   -- behind the parenthesis of a cast
   abbrev pub cast_of : (at : ℕ) → Parse E
-  cast_of at ts = bind (type_name ts) (λ t us. bind (expect punctuators.CloseParenthesis us) (λ _ vs. bind (part (Level 0) vs) (λ e ws. Ok ((expr 0 at (cast t e.0), e.1 + 1), ws))))
+  cast_of at ts = bind (type_name ts) (λ t us. bind (expect punctuators.CloseParenthesis us) (λ _ vs. bind (part (Level 0) vs) (λ e ws. Ok ((expr (unnumbered at) (cast t e.0), e.1 + 1), ws))))
 
   abbrev pub cast_or_unary : Parse E
   cast_or_unary ts = if begins_cast ts then deeper m (λ us. bind (expect punctuators.OpenParenthesis us) (λ _ vs. cast_of (place ts) vs)) ts else unary_of_all ts
@@ -255,7 +255,7 @@ module _ (m : ℕ) (part : Form → Parse E) where
   -- behind an operator, and what follows its right operand
   abbrev pub operation : ℕ → (start : ℕ) → E → BinaryOperator → (E → Parse E) → Parse E
   operation j start a operator others [] = unexpected []
-  operation j start a operator others (t ∷ ts) = bind (part (Level j) ts) (λ b us. others (expr 0 start (binary operator a.0 b.0), max a.1 b.1 + 1) us)
+  operation j start a operator others (t ∷ ts) = bind (part (Level j) ts) (λ b us. others (expr (unnumbered start) (binary operator a.0 b.0), max a.1 b.1 + 1) us)
 
   abbrev pub operation_at : ℕ → (start : ℕ) → E → Option BinaryOperator → (E → Parse E) → Parse E
   operation_at j start a None others ts = Ok (a, ts)
@@ -275,7 +275,7 @@ module _ (m : ℕ) (part : Form → Parse E) where
   abbrev pub after_or : (start : ℕ) → E → Parse E
   after_or start a ts =
       if starts punctuators.Question ts
-      then above m a.1 (λ us. bind (expect punctuators.Question us) (λ _ vs. bind (part Expression vs) (λ b ws. bind (expect punctuators.Colon ws) (λ _ xs. bind (part Conditional xs) (λ c ys. Ok ((expr 0 start (choice a.0 b.0 c.0), max a.1 (max b.1 c.1) + 1), ys)))))) ts
+      then above m a.1 (λ us. bind (expect punctuators.Question us) (λ _ vs. bind (part Expression vs) (λ b ws. bind (expect punctuators.Colon ws) (λ _ xs. bind (part Conditional xs) (λ c ys. Ok ((expr (unnumbered start) (conditional a.0 b.0 c.0), max a.1 (max b.1 c.1) + 1), ys)))))) ts
       else Ok (a, ts)
 
   -- behind an operand that is no left side of an assignment
@@ -285,7 +285,7 @@ module _ (m : ℕ) (part : Form → Parse E) where
   abbrev pub assignment_of : (start : ℕ) → E → Option AssignmentOperator → Parse E
   assignment_of start a None ts = after_operand start a ts
   assignment_of start a (Some operator) [] = Ok (a, [])
-  assignment_of start a (Some operator) (t ∷ ts) = above m a.1 (λ _. bind (part Assignment ts) (λ b us. Ok ((expr 0 start (assign operator a.0 b.0), max a.1 b.1 + 1), us))) (t ∷ ts)
+  assignment_of start a (Some operator) (t ∷ ts) = above m a.1 (λ _. bind (part Assignment ts) (λ b us. Ok ((expr (unnumbered start) (assign operator a.0 b.0), max a.1 b.1 + 1), us))) (t ∷ ts)
 
   -- behind what may be the left side of an assignment
   abbrev pub after_unary : (start : ℕ) → E → Parse E
@@ -299,7 +299,7 @@ module _ (m : ℕ) (part : Form → Parse E) where
   commas zero start a ts = Ok (a, ts)
   commas (suc n) start a ts =
       if starts punctuators.Comma ts
-      then above m a.1 (λ us. bind (expect punctuators.Comma us) (λ _ vs. bind (part Assignment vs) (λ b ws. commas n start (expr 0 start (comma a.0 b.0), max a.1 b.1 + 1) ws))) ts
+      then above m a.1 (λ us. bind (expect punctuators.Comma us) (λ _ vs. bind (part Assignment vs) (λ b ws. commas n start (expr (unnumbered start) (comma a.0 b.0), max a.1 b.1 + 1) ws))) ts
       else Ok (a, ts)
 
   -- what is at most m + 1 high

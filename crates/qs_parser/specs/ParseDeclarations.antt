@@ -5,8 +5,8 @@ use Rattle.qs_syntax.specs.declared.terminal.Terminal.{Terminal}
 use Rattle.qs_syntax.specs.declared.terminal.Terminal.TheVariants.{Name, Keyword, Constant, Text, Punctuator}
 use Rattle.qs_base.specs.declared.keyword.Keyword.TheVariants as keywords
 use Rattle.qs_syntax.specs.declared.punctuator.Punctuator.TheVariants as punctuators
-use Rattle.qs_syntax.specs.declared.tree.Base.{Base}
-use Rattle.qs_syntax.specs.Trees.{ExprTree, LengthsTree, DeclaratorTree, InitialiserTree, value, list, initialisers_of, VariableTree, DeclarationTree, ParameterTree, MembersTree}
+use Rattle.qs_syntax.specs.declared.types.Base.{Base}
+use Rattle.qs_syntax.specs.Trees.{unnumbered, ExprTree, LengthsTree, DeclaratorTree, InitialiserTree, value, list, initialisers_of, VariableTree, DeclarationTree, ParameterTree, MembersTree}
 use Rattle.qs_syntax.specs.Reads.{Conditional, Assignment, place}
 use Rattle.qs_parser.specs.Heads.{is_keyword, is_punctuator, starts}
 use Rattle.qs_parser.specs.Parse.{Stop, Parse, bind, unexpected, deep, deeper, expect, expect_name, skip_consts, base, type, stars, begins_one, part}
@@ -43,7 +43,7 @@ lengths m ts =
 
 -- behind the stars of a declarator
 abbrev pub named : (m : ℕ) → ℕ → Parse (DeclaratorTree × ℕ)
-named m n ts = bind (expect_name ts) (λ x us. bind (lengths m us) (λ l vs. Ok ((record { id = 0; token = x.0; stars = n; name = x.1; lengths = l.0 }, l.1), vs)))
+named m n ts = bind (expect_name ts) (λ x us. bind (lengths m us) (λ l vs. Ok ((record { node = unnumbered x.0; stars = n; name = x.1; lengths = l.0 }, l.1), vs)))
 
 unfoldable pub declarator : (m : ℕ) → Parse (DeclaratorTree × ℕ)
 declarator m ts = named m (stars ts).0 (stars ts).1
@@ -68,7 +68,7 @@ unfoldable pub initialiser : ℕ → Parse (InitialiserTree × ℕ)
 initialiser zero ts = if begins_initialiser ts then deep ts else unexpected ts
 initialiser (suc m) ts =
     if starts punctuators.OpenBrace ts
-    then deeper m (λ us. bind (expect punctuators.OpenBrace us) (λ _ vs. bind (initialisers (initialiser m) (length vs) [] 0 vs) (λ is ws. Ok ((list 0 (place ts) (initialisers_of is.0), is.1 + 1), ws)))) ts
+    then deeper m (λ us. bind (expect punctuators.OpenBrace us) (λ _ vs. bind (initialisers (initialiser m) (length vs) [] 0 vs) (λ is ws. Ok ((list (unnumbered (place ts)) (initialisers_of is.0), is.1 + 1), ws)))) ts
     else bind (part (suc m) Assignment ts) (λ e us. Ok ((value e.0, e.1), us))
 
 -- behind a declarator
@@ -127,16 +127,16 @@ groups m (suc n) done h ts =
 
 -- behind the name of a parameter that stands at `token`
 abbrev pub bracketed : (m : ℕ) → (token : ℕ) → Base → ℕ → Option (List ℕ) → Parse (ParameterTree × ℕ)
-bracketed m token b n x ts = bind (lengths m ts) (λ l us. Ok ((record { id = 0; token = token; base = b; stars = n; name = x; lengths = l.0 }, l.1 + 1), us))
+bracketed m token b n x ts = bind (lengths m ts) (λ l us. Ok ((record { node = unnumbered token; type_name = record { base = b; stars = n }; name = x; lengths = l.0 }, l.1 + 1), us))
 
 -- behind the stars of a parameter that begins at `start`
 abbrev pub with_name : (m : ℕ) → (start : ℕ) → Base → ℕ → Parse (ParameterTree × ℕ)
-with_name m start b n [] = bind (lengths m []) (λ l us. Ok ((record { id = 0; token = start; base = b; stars = n; name = None; lengths = l.0 }, l.1 + 1), us))
-with_name m start b n (Name at x ∷ ts) = bind (lengths m ts) (λ l us. Ok ((record { id = 0; token = at; base = b; stars = n; name = Some x; lengths = l.0 }, l.1 + 1), us))
-with_name m start b n (Keyword at k ∷ ts) = bind (lengths m (Keyword at k ∷ ts)) (λ l us. Ok ((record { id = 0; token = start; base = b; stars = n; name = None; lengths = l.0 }, l.1 + 1), us))
-with_name m start b n (Constant at k unsigned ∷ ts) = bind (lengths m (Constant at k unsigned ∷ ts)) (λ l us. Ok ((record { id = 0; token = start; base = b; stars = n; name = None; lengths = l.0 }, l.1 + 1), us))
-with_name m start b n (Text at bytes ∷ ts) = bind (lengths m (Text at bytes ∷ ts)) (λ l us. Ok ((record { id = 0; token = start; base = b; stars = n; name = None; lengths = l.0 }, l.1 + 1), us))
-with_name m start b n (Punctuator at k ∷ ts) = bind (lengths m (Punctuator at k ∷ ts)) (λ l us. Ok ((record { id = 0; token = start; base = b; stars = n; name = None; lengths = l.0 }, l.1 + 1), us))
+with_name m start b n [] = bind (lengths m []) (λ l us. Ok ((record { node = unnumbered start; type_name = record { base = b; stars = n }; name = None; lengths = l.0 }, l.1 + 1), us))
+with_name m start b n (Name at x ∷ ts) = bind (lengths m ts) (λ l us. Ok ((record { node = unnumbered at; type_name = record { base = b; stars = n }; name = Some x; lengths = l.0 }, l.1 + 1), us))
+with_name m start b n (Keyword at k ∷ ts) = bind (lengths m (Keyword at k ∷ ts)) (λ l us. Ok ((record { node = unnumbered start; type_name = record { base = b; stars = n }; name = None; lengths = l.0 }, l.1 + 1), us))
+with_name m start b n (Constant at k unsigned ∷ ts) = bind (lengths m (Constant at k unsigned ∷ ts)) (λ l us. Ok ((record { node = unnumbered start; type_name = record { base = b; stars = n }; name = None; lengths = l.0 }, l.1 + 1), us))
+with_name m start b n (Text at bytes ∷ ts) = bind (lengths m (Text at bytes ∷ ts)) (λ l us. Ok ((record { node = unnumbered start; type_name = record { base = b; stars = n }; name = None; lengths = l.0 }, l.1 + 1), us))
+with_name m start b n (Punctuator at k ∷ ts) = bind (lengths m (Punctuator at k ∷ ts)) (λ l us. Ok ((record { node = unnumbered start; type_name = record { base = b; stars = n }; name = None; lengths = l.0 }, l.1 + 1), us))
 
 -- Whether the single token `void` stands here: `void` with a comma or parenthesis behind it.
 abbrev pub is_void_alone : List Terminal → Bool

@@ -5,8 +5,8 @@ use Rattle.qs_syntax.specs.declared.terminal.Terminal.TheVariants.{Name, Keyword
 use Rattle.qs_base.specs.declared.keyword.Keyword.TheVariants as keywords
 use Rattle.qs_syntax.specs.declared.punctuator.Punctuator as punctuator
 use Rattle.qs_syntax.specs.declared.punctuator.Punctuator.TheVariants as punctuators
-use Rattle.qs_syntax.specs.declared.tree.Base.{Base}
-use Rattle.qs_syntax.specs.Trees.{ExprTree, DeclarationTree, ParameterTree, StartTree, no_start, start_expression, start_declaration, StmtTree, empty, expression, block, branch, while_loop, do_loop, for_loop, break, continue, return, stmts_of, no_else, else_by, DeclTree, structure, forward, function}
+use Rattle.qs_syntax.specs.declared.types.Base.{Base}
+use Rattle.qs_syntax.specs.Trees.{unnumbered, ExprTree, DeclarationTree, ParameterTree, StartTree, no_start, start_expression, start_declaration, StmtTree, empty, expression, block, branch, while_loop, do_loop, for_loop, break, continue, return, stmts_of, no_else, else_by, DeclTree, structure, forward, function}
 use Rattle.qs_syntax.specs.Trees as trees
 use Rattle.qs_syntax.specs.Reads.{Expression, place}
 use Rattle.qs_parser.specs.Heads.{is_keyword, is_punctuator, starts, starts_with, begins_type}
@@ -57,11 +57,11 @@ module _ (m : ℕ) (inner : Parse S) where
   abbrev pub after_then : (at : ℕ) → E → S → Parse S
   after_then at e s ts =
       if starts_with keywords.Else ts then else_behind ts
-      else Ok ((branch 0 at e.0 s.0 no_else, max e.1 s.1 + 1), ts)
+      else Ok ((branch (unnumbered at) e.0 s.0 no_else, max e.1 s.1 + 1), ts)
     where
       else_behind : Parse S
       else_behind [] = unexpected []
-      else_behind (u ∷ us) = bind (inner us) (λ t vs. Ok ((branch 0 at e.0 s.0 (else_by t.0), max e.1 (max s.1 t.1) + 1), vs))
+      else_behind (u ∷ us) = bind (inner us) (λ t vs. Ok ((branch (unnumbered at) e.0 s.0 (else_by t.0), max e.1 (max s.1 t.1) + 1), vs))
 
   -- `else` and what follows it, if it stands here
   abbrev pub otherwise : Parse (Option StmtTree × ℕ)
@@ -77,32 +77,32 @@ module _ (m : ℕ) (inner : Parse S) where
   after_if at ts = bind (condition m ts) (λ e us. bind (inner us) (after_then at e))
 
   abbrev pub after_while : (at : ℕ) → Parse S
-  after_while at ts = bind (condition m ts) (λ e us. bind (inner us) (λ s vs. Ok ((while_loop 0 at e.0 s.0, max e.1 s.1 + 1), vs)))
+  after_while at ts = bind (condition m ts) (λ e us. bind (inner us) (λ s vs. Ok ((while_loop (unnumbered at) e.0 s.0, max e.1 s.1 + 1), vs)))
 
   abbrev pub expect_while : Parse (Unit {0})
   expect_while [] = unexpected []
   expect_while (t ∷ ts) = if is_keyword keywords.While t then Ok (tt, ts) else unexpected (t ∷ ts)
 
   abbrev pub after_do : (at : ℕ) → Parse S
-  after_do at ts = bind (inner ts) (λ s us. bind (expect_while us) (λ _ vs. bind (condition m vs) (λ e ws. bind (expect punctuators.Semicolon ws) (λ _ xs. Ok ((do_loop 0 at s.0 e.0, max s.1 e.1 + 1), xs)))))
+  after_do at ts = bind (inner ts) (λ s us. bind (expect_while us) (λ _ vs. bind (condition m vs) (λ e ws. bind (expect punctuators.Semicolon ws) (λ _ xs. Ok ((do_loop (unnumbered at) s.0 e.0, max s.1 e.1 + 1), xs)))))
 
   abbrev pub after_for : (at : ℕ) → Parse S
   after_for at ts =
       bind (expect punctuators.OpenParenthesis ts) (λ _ us. bind (start_of m us) (λ a vs. bind (optional m punctuators.Semicolon vs) (λ e ws. bind (optional m punctuators.CloseParenthesis ws) (λ u xs. bind (inner xs)
-      (λ s ys. Ok ((for_loop 0 at a.0 e.0 u.0 s.0, max a.1 (max e.1 (max u.1 s.1)) + 1), ys))))))
+      (λ s ys. Ok ((for_loop (unnumbered at) a.0 e.0 u.0 s.0, max a.1 (max e.1 (max u.1 s.1)) + 1), ys))))))
 
   abbrev pub after_return : (at : ℕ) → Parse S
-  after_return at ts = bind (optional m punctuators.Semicolon ts) (λ e us. Ok ((return 0 at e.0, e.1 + 1), us))
+  after_return at ts = bind (optional m punctuators.Semicolon ts) (λ e us. Ok ((return (unnumbered at) e.0, e.1 + 1), us))
 
   -- an expression and the semicolon behind it
   abbrev pub running : Parse S
-  running ts = bind (part m Expression ts) (λ e us. bind (expect punctuators.Semicolon us) (λ _ vs. Ok ((expression 0 (place ts) e.0, e.1 + 1), vs)))
+  running ts = bind (part m Expression ts) (λ e us. bind (expect punctuators.Semicolon us) (λ _ vs. Ok ((expression (unnumbered (place ts)) e.0, e.1 + 1), vs)))
 
   -- a statement that has no statement as a part
   abbrev pub plain_statement : (at : ℕ) → (first : Terminal) → Parse S
   plain_statement at t ts =
-      if is_keyword keywords.Break t then bind (expect punctuators.Semicolon ts) (λ _ us. Ok ((break 0 at, 1), us))
-      else if is_keyword keywords.Continue t then bind (expect punctuators.Semicolon ts) (λ _ us. Ok ((continue 0 at, 1), us))
+      if is_keyword keywords.Break t then bind (expect punctuators.Semicolon ts) (λ _ us. Ok ((break (unnumbered at), 1), us))
+      else if is_keyword keywords.Continue t then bind (expect punctuators.Semicolon ts) (λ _ us. Ok ((continue (unnumbered at), 1), us))
       else if is_keyword keywords.Return t then after_return at ts
       else running (t ∷ ts)
 
@@ -117,7 +117,7 @@ module _ (m : ℕ) (inner : Parse S) where
   abbrev pub statement_at : Parse S
   statement_at [] = unexpected []
   statement_at (t ∷ ts) =
-      if is_punctuator punctuators.Semicolon t then Ok ((empty 0 (place (t ∷ ts)), 1), ts)
+      if is_punctuator punctuators.Semicolon t then Ok ((empty (unnumbered (place (t ∷ ts))), 1), ts)
       else if is_punctuator punctuators.OpenBrace t then in_block ts
       else keyword_statement (place (t ∷ ts)) t ts
 
@@ -141,18 +141,18 @@ is_named k (Punctuator at l ∷ ts) = false
 abbrev pub struct_of : (k : ℕ) → (at : ℕ) → Parse (DeclTree × ℕ)
 struct_of k at ts =
     bind (expect_name ts) (λ x us. bind (expect punctuators.OpenBrace us) (λ _ vs. bind (groups k (length vs) [] 0 vs) (λ ms ws. bind (expect punctuators.Semicolon ws) (λ _ xs.
-    Ok ((structure (record { id = 0; token = at; name = x.1; members = ms.0 }), ms.1 + 1), xs)))))
+    Ok ((structure (record { node = unnumbered at; name = x.1; members = ms.0 }), ms.1 + 1), xs)))))
 
 abbrev pub forward_of : (at : ℕ) → Parse (DeclTree × ℕ)
-forward_of at ts = bind (expect_name ts) (λ x us. bind (expect punctuators.Semicolon us) (λ _ vs. Ok ((forward (record { id = 0; token = at; name = x.1 }), 1), vs)))
+forward_of at ts = bind (expect_name ts) (λ x us. bind (expect punctuators.Semicolon us) (λ _ vs. Ok ((forward (record { node = unnumbered at; name = x.1 }), 1), vs)))
 
 -- behind a header's parameters: the semicolon or the body
 abbrev pub body_of : (k : ℕ) → (start : ℕ) → Base → ℕ → List ℕ → List ParameterTree × ℕ → Parse (DeclTree × ℕ)
 body_of k start b n x ps ts =
     if starts punctuators.Semicolon ts
-    then bind (expect punctuators.Semicolon ts) (λ _ us. Ok ((function (record { id = 0; token = start; base = b; stars = n; name = x; parameters = ps.0; body = None }), ps.1 + 1), us))
+    then bind (expect punctuators.Semicolon ts) (λ _ us. Ok ((function (record { node = unnumbered start; result_type = record { base = b; stars = n }; name = x; parameters = ps.0; body = None }), ps.1 + 1), us))
     else bind (expect punctuators.OpenBrace ts) (λ _ us. bind (items k (statement k) (length us) [] 0 us) (λ ss vs.
-    Ok ((function (record { id = 0; token = start; base = b; stars = n; name = x; parameters = ps.0; body = Some (stmts_of ss.0) }), max ps.1 (ss.1 + 1) + 1), vs)))
+    Ok ((function (record { node = unnumbered start; result_type = record { base = b; stars = n }; name = x; parameters = ps.0; body = Some (stmts_of ss.0) }), max ps.1 (ss.1 + 1) + 1), vs)))
 
 -- behind the stars of a header
 abbrev pub function_of : (k : ℕ) → (start : ℕ) → Base → ℕ → Parse (DeclTree × ℕ)

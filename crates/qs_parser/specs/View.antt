@@ -4,10 +4,10 @@ use Rattle.std.specs.Borrow.{Bor}
 use Rattle.std.specs.declared.alloc.Global.{Global}
 use Rattle.std.specs.declared.vec.Vec.{Vec}
 use Rattle.qs_syntax.specs.declared.terminal.Terminal.{Terminal}
-use Rattle.qs_syntax.specs.declared.tree.Base.{Base}
-use Rattle.qs_syntax.specs.declared.tree.Decl.{Decl}
-use Rattle.qs_syntax.specs.declared.tree.TypeName.{TypeName}
-use Rattle.qs_syntax.specs.Trees.{ParameterTree, Stmts, DeclTree, function}
+use Rattle.qs_syntax.specs.declared.types.Base.{Base}
+use Rattle.qs_syntax.specs.declared.units.Decl.{Decl}
+use Rattle.qs_syntax.specs.declared.types.TypeName.{TypeName}
+use Rattle.qs_syntax.specs.Trees.{unnumbered, ParameterTree, Stmts, DeclTree, function}
 use Rattle.qs_syntax.specs.TreeOf.{parameter_tree, decl_tree}
 use Rattle.qs_syntax.specs.Reads as reads
 use Rattle.qs_parser.specs.declared.expressions.Form as forms
@@ -69,7 +69,7 @@ parameters_of h = listed parameter_tree h.parameters
 
 -- a function of this header with this body
 abbrev pub function_with : Header → Option Stmts → DeclTree
-function_with h body = function (record { id = 0; token = h.token; base = h.base; stars = h.stars; name = h.name; parameters = parameters_of h; body = body })
+function_with h body = function (record { node = unnumbered h.token; result_type = record { base = h.base; stars = h.stars }; name = h.name; parameters = parameters_of h; body = body })
 
 -- all that is read, and how high it is, with nothing left
 abbrev pub unit_of : Vec Decl Global × ℕ → (List DeclTree × ℕ) × List Terminal

@@ -14,7 +14,7 @@ use crate::types::{stars, type_of};
 use qs_base::Name;
 use qs_syntax::{
     Base, Declaration, Declarator, Expr, Initialiser, InitialiserList, Keyword, Lengths, Members,
-    Parameter, Punctuator, Terminal, Variable,
+    Node, Parameter, Punctuator, Terminal, TypeName, Variable,
 };
 use std::alloc::Global;
 
@@ -73,11 +73,7 @@ fn lengths_of(
 
 /// The brackets behind a name (C11 6.7.6.2).
 #[tactic(auto, unfolding(crate::specs::ParseDeclarations::lengths))]
-fn lengths(
-    alloc: Global,
-    room: u8,
-    tokens: &[Terminal],
-) -> Result<(Lengths, u32, &[Terminal]), Halt>
+fn lengths(alloc: Global, room: u8, tokens: &[Terminal]) -> Result<(Lengths, u32, &[Terminal]), Halt>
     ensures gives { Gives (read_as lengths_tree) result (lengths room tokens.now) }
     ensures low { IfOk result (λ x. x.1 ≤ room) }
 {
@@ -102,8 +98,7 @@ fn named(
     let (token, name, rest) = expect_name(alloc, tokens)?;
     let (lengths, height, rest) = lengths(alloc, room, rest)?;
     let declarator = Declarator {
-        id: 0,
-        token,
+        node: Node { id: 0, token },
         stars,
         name,
         lengths,
@@ -202,11 +197,10 @@ fn expression(value: Expr) -> Initialiser
 
 /// A list of initialisers.
 fn list(token: u32, items: Vec<Initialiser>) -> Initialiser
-    ensures { initialiser_tree result ≡ trees.list 0 token (initialisers_of (listed initialiser_tree items)) }
+    ensures { initialiser_tree result ≡ trees.list (trees.unnumbered token) (initialisers_of (listed initialiser_tree items)) }
 {
     Initialiser::List(InitialiserList {
-        id: 0,
-        token,
+        node: Node { id: 0, token },
         items,
     })
 }
@@ -244,11 +238,7 @@ fn initialised(
 
 /// A variable with its initialiser (C11 6.7).
 #[tactic(auto, unfolding(crate::specs::ParseDeclarations::variable))]
-fn variable(
-    alloc: Global,
-    room: u8,
-    tokens: &[Terminal],
-) -> Result<(Variable, u32, &[Terminal]), Halt>
+fn variable(alloc: Global, room: u8, tokens: &[Terminal]) -> Result<(Variable, u32, &[Terminal]), Halt>
     ensures gives { Gives (read_as variable_tree) result (variable room tokens.now) }
     ensures low { IfOk result (λ x. x.1 ≤ room + 1) }
 {
@@ -354,11 +344,7 @@ fn declarators(
 
 /// A group of members with their type (C11 6.7.2.1).
 #[tactic(auto, unfolding(crate::specs::ParseDeclarations::members))]
-fn members(
-    alloc: Global,
-    room: u8,
-    tokens: &[Terminal],
-) -> Result<(Members, u32, &[Terminal]), Halt>
+fn members(alloc: Global, room: u8, tokens: &[Terminal]) -> Result<(Members, u32, &[Terminal]), Halt>
     ensures gives { Gives (read_as members_tree) result (members room tokens.now) }
     ensures low { IfOk result (λ x. x.1 ≤ room + 1) }
 {
@@ -408,10 +394,8 @@ fn bracketed(
 {
     let (lengths, height, rest) = lengths(alloc, room, tokens)?;
     let parameter = Parameter {
-        id: 0,
-        token,
-        base,
-        stars,
+        node: Node { id: 0, token },
+        type_name: TypeName { base, stars },
         name,
         lengths,
     };

@@ -11,16 +11,13 @@ ghost use Rattle.qs_parser.specs.View.{Gives, read_as, listed, texts_of, form_of
 
 use crate::fault::Halt;
 use crate::heads::{
-    access_at, assign_at, begins_cast, begins_one, expect, expect_name, is_punctuator,
-    level_operator_at, place, starts, starts_suffix, starts_with,
+    access_at, assign_at, begins_cast, begins_one, expect, expect_name, is_punctuator, level_operator_at,
+    place, starts, starts_suffix, starts_with,
 };
 use crate::nodes;
 use crate::types::type_name;
 use qs_base::Name;
-use qs_syntax::{
-    Access, AssignmentOperator, Expr, Keyword, Punctuator, StepOperator, Terminal, Text,
-    UnaryOperator,
-};
+use qs_syntax::{Access, AssignmentOperator, Expr, Keyword, Terminal, Punctuator, StepOperator, Text, UnaryOperator};
 use std::alloc::Global;
 
 /// What an expression is read as.
@@ -204,7 +201,7 @@ fn primary(alloc: Global, room: u8, tokens: &[Terminal]) -> Result<(Expr, u32, &
             after_name(alloc, room, *at, name.copy(alloc)?, rest)
         }
         [Terminal::Constant(at, value, is_unsigned), rest @ ..] => {
-            Ok((nodes::int(*at, *value, *is_unsigned), 1, rest))
+            Ok((nodes::constant(*at, *value, *is_unsigned), 1, rest))
         }
         [Terminal::Text(at, first), rest @ ..] => {
             let (text, rest) = texts_from(alloc, first, rest)?;
@@ -237,7 +234,7 @@ fn index_of(
     let (at, high, rest) = part(alloc, room, Form::Expression, tokens)?;
     let rest = expect(Punctuator::CloseBracket, rest)?;
     Ok((
-        nodes::index(alloc, start, left, at)?,
+        nodes::subscript(alloc, start, left, at)?,
         height.max(high) + 1,
         rest,
     ))
@@ -371,11 +368,7 @@ fn operator_of(
     ensures low { IfOk result (λ x. x.1 ≤ room + 1) }
 {
     let (operand, height, rest) = part(alloc, room, Form::Level(0), tokens)?;
-    Ok((
-        nodes::unary(alloc, at, operator, operand)?,
-        height + 1,
-        rest,
-    ))
+    Ok((nodes::unary(alloc, at, operator, operand)?, height + 1, rest))
 }
 
 /// The operand of `sizeof`: a type in parentheses, or an expression (C11 6.5.3.4).
@@ -393,10 +386,10 @@ fn size_of(
         let rest = expect(Punctuator::OpenParenthesis, tokens)?;
         let (name, rest) = type_name(alloc, rest)?;
         let rest = expect(Punctuator::CloseParenthesis, rest)?;
-        return Ok((nodes::size_type(at, name), 1, rest));
+        return Ok((nodes::sizeof_type(at, name), 1, rest));
     }
     let (operand, height, rest) = part(alloc, room, Form::Unary, tokens)?;
-    Ok((nodes::size_expr(alloc, at, operand)?, height + 1, rest))
+    Ok((nodes::sizeof_expr(alloc, at, operand)?, height + 1, rest))
 }
 
 /// A unary expression whose first token is a punctuator.
@@ -453,14 +446,7 @@ fn unary(alloc: Global, room: u8, tokens: &[Terminal]) -> Result<(Expr, u32, &[T
             }
             size_of(alloc, room, *at, rest)
         }
-        [Terminal::Punctuator(at, punctuator), rest @ ..] => marked(
-            alloc,
-            room,
-            *at,
-            *punctuator,
-            tokens,
-            rest,
-        ),
+        [Terminal::Punctuator(at, punctuator), rest @ ..] => marked(alloc, room, *at, *punctuator, tokens, rest),
         _ => postfix(alloc, room, tokens),
     }
 }
@@ -484,11 +470,7 @@ fn cast_of(
 
 /// A cast or a unary expression (C11 6.5.4).
 #[cycle(parser)]
-fn cast_or_unary(
-    alloc: Global,
-    room: u8,
-    tokens: &[Terminal],
-) -> Result<(Expr, u32, &[Terminal]), Halt>
+fn cast_or_unary(alloc: Global, room: u8, tokens: &[Terminal]) -> Result<(Expr, u32, &[Terminal]), Halt>
     ensures gives { Gives (read_as expr_tree) result (cast_or_unary room (part room) tokens.now) }
     ensures low { IfOk result (λ x. x.1 ≤ room + 1) }
 {
@@ -576,7 +558,7 @@ fn climb(
     operations(alloc, room, level - 1, start, left, height, rest)
 }
 
-/// What stands behind a condition: a choice, or nothing (C11 6.5.15).
+/// What stands behind a condition: `?` and two operands, or nothing (C11 6.5.15).
 #[cycle(parser)]
 fn after_or(
     alloc: Global,
@@ -600,7 +582,7 @@ fn after_or(
     let (yes, yes_high, rest) = part(alloc, room, Form::Expression, rest)?;
     let rest = expect(Punctuator::Colon, rest)?;
     let (no, no_high, rest) = part(alloc, room, Form::Conditional, rest)?;
-    let node = nodes::choice(alloc, start, condition, yes, no)?;
+    let node = nodes::conditional(alloc, start, condition, yes, no)?;
     Ok((node, height.max(yes_high.max(no_high)) + 1, rest))
 }
 
@@ -670,11 +652,7 @@ fn after_unary(
 
 /// An assignment expression (C11 6.5.16).
 #[cycle(parser)]
-fn assignment(
-    alloc: Global,
-    room: u8,
-    tokens: &[Terminal],
-) -> Result<(Expr, u32, &[Terminal]), Halt>
+fn assignment(alloc: Global, room: u8, tokens: &[Terminal]) -> Result<(Expr, u32, &[Terminal]), Halt>
     ensures gives { Gives (read_as expr_tree) result (assignment room (part room) tokens.now) }
     ensures low { IfOk result (λ x. x.1 ≤ room + 1) }
 {

@@ -1,114 +1,93 @@
 // Nodes of expressions, not yet numbered.
 ghost use Rattle.std.specs.Prelude.{◌≡◌, IfOk, map};
-ghost use Rattle.qs_syntax.specs.Trees.{expr, int, text, name, size_type, unary, step, cast, size_expr, binary, assign, choice, comma, index, member, call, exprs_of};
+ghost use Rattle.qs_syntax.specs.Trees.{unnumbered, expr, constant, text, name, sizeof_type, unary, step, cast, sizeof_expr, binary, assign, conditional, comma, subscript, member, call, exprs_of};
 ghost use Rattle.qs_syntax.specs.TreeOf.{expr_tree};
 
 use qs_base::Name;
-use qs_syntax::{
-    Access, AssignmentOperator, BinaryOperator, Expr, Shape, StepOperator, Text, TypeName,
-    UnaryOperator,
-};
+use qs_syntax::{Access, AssignmentOperator, BinaryOperator, Expr, Node, Shape, StepOperator, Text, TypeName, UnaryOperator};
 use std::alloc::{AllocError, Global};
 
 /// A number or character.
-pub fn int(token: u32, value: u32, is_unsigned: bool) -> Expr
-    ensures { expr_tree result ≡ expr 0 token (int value is_unsigned) }
+pub fn constant(token: u32, value: u32, is_unsigned: bool) -> Expr
+    ensures { expr_tree result ≡ expr (unnumbered token) (constant value is_unsigned) }
 {
     Expr {
-        id: 0,
-        token,
-        shape: Shape::Int(value, is_unsigned),
+        node: Node { id: 0, token },
+        shape: Shape::Constant(value, is_unsigned),
     }
 }
 
 /// A string literal.
 pub fn text(token: u32, bytes: Text) -> Expr
-    ensures { expr_tree result ≡ expr 0 token (text bytes) }
+    ensures { expr_tree result ≡ expr (unnumbered token) (text bytes) }
 {
     Expr {
-        id: 0,
-        token,
+        node: Node { id: 0, token },
         shape: Shape::Text(bytes),
     }
 }
 
 /// The name of a variable.
 pub fn name(token: u32, bytes: Name) -> Expr
-    ensures { expr_tree result ≡ expr 0 token (name bytes) }
+    ensures { expr_tree result ≡ expr (unnumbered token) (name bytes) }
 {
     Expr {
-        id: 0,
-        token,
+        node: Node { id: 0, token },
         shape: Shape::Name(bytes),
     }
 }
 
 /// `sizeof` of a type.
-pub fn size_type(token: u32, of: TypeName) -> Expr
-    ensures { expr_tree result ≡ expr 0 token (size_type of) }
+pub fn sizeof_type(token: u32, of: TypeName) -> Expr
+    ensures { expr_tree result ≡ expr (unnumbered token) (sizeof_type of) }
 {
     Expr {
-        id: 0,
-        token,
-        shape: Shape::SizeType(of),
+        node: Node { id: 0, token },
+        shape: Shape::SizeofType(of),
     }
 }
 
 /// A unary operator and its operand.
-pub fn unary(
-    alloc: Global,
-    token: u32,
-    operator: UnaryOperator,
-    part: Expr,
-) -> Result<Expr, AllocError>
-    ensures { IfOk result (λ e. expr_tree e ≡ expr 0 token (unary operator (expr_tree part))) }
+pub fn unary(alloc: Global, token: u32, operator: UnaryOperator, part: Expr) -> Result<Expr, AllocError>
+    ensures { IfOk result (λ e. expr_tree e ≡ expr (unnumbered token) (unary operator (expr_tree part))) }
 {
     let part = Box::new(alloc, part)?;
     Ok(Expr {
-        id: 0,
-        token,
+        node: Node { id: 0, token },
         shape: Shape::Unary(operator, part),
     })
 }
 
 /// A step by one and its operand.
-pub fn step(
-    alloc: Global,
-    token: u32,
-    operator: StepOperator,
-    part: Expr,
-) -> Result<Expr, AllocError>
-    ensures { IfOk result (λ e. expr_tree e ≡ expr 0 token (step operator (expr_tree part))) }
+pub fn step(alloc: Global, token: u32, operator: StepOperator, part: Expr) -> Result<Expr, AllocError>
+    ensures { IfOk result (λ e. expr_tree e ≡ expr (unnumbered token) (step operator (expr_tree part))) }
 {
     let part = Box::new(alloc, part)?;
     Ok(Expr {
-        id: 0,
-        token,
+        node: Node { id: 0, token },
         shape: Shape::Step(operator, part),
     })
 }
 
 /// A cast and its operand.
 pub fn cast(alloc: Global, token: u32, to: TypeName, part: Expr) -> Result<Expr, AllocError>
-    ensures { IfOk result (λ e. expr_tree e ≡ expr 0 token (cast to (expr_tree part))) }
+    ensures { IfOk result (λ e. expr_tree e ≡ expr (unnumbered token) (cast to (expr_tree part))) }
 {
     let part = Box::new(alloc, part)?;
     Ok(Expr {
-        id: 0,
-        token,
+        node: Node { id: 0, token },
         shape: Shape::Cast(to, part),
     })
 }
 
 /// `sizeof` and its operand.
-pub fn size_expr(alloc: Global, token: u32, part: Expr) -> Result<Expr, AllocError>
-    ensures { IfOk result (λ e. expr_tree e ≡ expr 0 token (size_expr (expr_tree part))) }
+pub fn sizeof_expr(alloc: Global, token: u32, part: Expr) -> Result<Expr, AllocError>
+    ensures { IfOk result (λ e. expr_tree e ≡ expr (unnumbered token) (sizeof_expr (expr_tree part))) }
 {
     let part = Box::new(alloc, part)?;
     Ok(Expr {
-        id: 0,
-        token,
-        shape: Shape::SizeExpr(part),
+        node: Node { id: 0, token },
+        shape: Shape::SizeofExpr(part),
     })
 }
 
@@ -120,14 +99,17 @@ pub fn binary(
     left: Expr,
     right: Expr,
 ) -> Result<Expr, AllocError>
-    ensures { IfOk result (λ e. expr_tree e ≡ expr 0 token (binary operator (expr_tree left) (expr_tree right))) }
+    ensures { IfOk result (λ e. expr_tree e ≡ expr (unnumbered token) (binary operator (expr_tree left) (expr_tree right))) }
 {
     let left = Box::new(alloc, left)?;
     let right = Box::new(alloc, right)?;
     Ok(Expr {
-        id: 0,
-        token,
-        shape: Shape::Binary(operator, left, right),
+        node: Node { id: 0, token },
+        shape: Shape::Binary {
+            operator,
+            left,
+            right,
+        },
     })
 }
 
@@ -139,60 +121,64 @@ pub fn assign(
     left: Expr,
     right: Expr,
 ) -> Result<Expr, AllocError>
-    ensures { IfOk result (λ e. expr_tree e ≡ expr 0 token (assign operator (expr_tree left) (expr_tree right))) }
+    ensures { IfOk result (λ e. expr_tree e ≡ expr (unnumbered token) (assign operator (expr_tree left) (expr_tree right))) }
 {
     let left = Box::new(alloc, left)?;
     let right = Box::new(alloc, right)?;
     Ok(Expr {
-        id: 0,
-        token,
-        shape: Shape::Assign(operator, left, right),
+        node: Node { id: 0, token },
+        shape: Shape::Assign {
+            operator,
+            left,
+            right,
+        },
     })
 }
 
-/// A choice: its condition and the two expressions behind it.
-pub fn choice(
+/// A conditional: its condition and the two expressions behind it.
+pub fn conditional(
     alloc: Global,
     token: u32,
     condition: Expr,
-    yes: Expr,
-    no: Expr,
+    then: Expr,
+    otherwise: Expr,
 ) -> Result<Expr, AllocError>
-    ensures { IfOk result (λ e. expr_tree e ≡ expr 0 token (choice (expr_tree condition) (expr_tree yes) (expr_tree no))) }
+    ensures { IfOk result (λ e. expr_tree e ≡ expr (unnumbered token) (conditional (expr_tree condition) (expr_tree then) (expr_tree otherwise))) }
 {
     let condition = Box::new(alloc, condition)?;
-    let yes = Box::new(alloc, yes)?;
-    let no = Box::new(alloc, no)?;
+    let then = Box::new(alloc, then)?;
+    let otherwise = Box::new(alloc, otherwise)?;
     Ok(Expr {
-        id: 0,
-        token,
-        shape: Shape::Cond(condition, yes, no),
+        node: Node { id: 0, token },
+        shape: Shape::Conditional {
+            condition,
+            then,
+            otherwise,
+        },
     })
 }
 
 /// A comma between two expressions.
 pub fn comma(alloc: Global, token: u32, left: Expr, right: Expr) -> Result<Expr, AllocError>
-    ensures { IfOk result (λ e. expr_tree e ≡ expr 0 token (comma (expr_tree left) (expr_tree right))) }
+    ensures { IfOk result (λ e. expr_tree e ≡ expr (unnumbered token) (comma (expr_tree left) (expr_tree right))) }
 {
     let left = Box::new(alloc, left)?;
     let right = Box::new(alloc, right)?;
     Ok(Expr {
-        id: 0,
-        token,
+        node: Node { id: 0, token },
         shape: Shape::Comma(left, right),
     })
 }
 
 /// An element of an array.
-pub fn index(alloc: Global, token: u32, array: Expr, at: Expr) -> Result<Expr, AllocError>
-    ensures { IfOk result (λ e. expr_tree e ≡ expr 0 token (index (expr_tree array) (expr_tree at))) }
+pub fn subscript(alloc: Global, token: u32, array: Expr, at: Expr) -> Result<Expr, AllocError>
+    ensures { IfOk result (λ e. expr_tree e ≡ expr (unnumbered token) (subscript (expr_tree array) (expr_tree at))) }
 {
     let array = Box::new(alloc, array)?;
     let at = Box::new(alloc, at)?;
     Ok(Expr {
-        id: 0,
-        token,
-        shape: Shape::Index(array, at),
+        node: Node { id: 0, token },
+        shape: Shape::Subscript(array, at),
     })
 }
 
@@ -201,26 +187,28 @@ pub fn member(
     alloc: Global,
     token: u32,
     access: Access,
-    part: Expr,
+    object: Expr,
     name: Name,
 ) -> Result<Expr, AllocError>
-    ensures { IfOk result (λ e. expr_tree e ≡ expr 0 token (member access (expr_tree part) name)) }
+    ensures { IfOk result (λ e. expr_tree e ≡ expr (unnumbered token) (member access (expr_tree object) name)) }
 {
-    let part = Box::new(alloc, part)?;
+    let object = Box::new(alloc, object)?;
     Ok(Expr {
-        id: 0,
-        token,
-        shape: Shape::Member(access, part, name),
+        node: Node { id: 0, token },
+        shape: Shape::Member {
+            access,
+            object,
+            name,
+        },
     })
 }
 
 /// A call.
 pub fn call(token: u32, function: Name, arguments: Vec<Expr>) -> Expr
-    ensures { expr_tree result ≡ expr 0 token (call function (exprs_of (map expr_tree arguments.items))) }
+    ensures { expr_tree result ≡ expr (unnumbered token) (call function (exprs_of (map expr_tree arguments.items))) }
 {
     Expr {
-        id: 0,
-        token,
+        node: Node { id: 0, token },
         shape: Shape::Call(function, arguments),
     }
 }

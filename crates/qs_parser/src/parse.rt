@@ -31,7 +31,7 @@ fn unit_of(alloc: Global, tokens: &[Terminal]) -> Result<Unit, SyntaxFault>
     ensures { Answers tokens.now result }
 {
     match read_unit(alloc, tokens) {
-        Ok((unnumbered, _height)) => Ok(numbered(alloc, &unnumbered)?),
+        Ok((unnumbered, _height)) => Ok(numbered(alloc, unnumbered)?),
         Err(Halt::NoMemory) => Err(SyntaxFault::NoMemory),
         Err(Halt::Unexpected(left)) => Err(SyntaxFault::Unexpected(number_of(tokens, left))),
         Err(Halt::TooDeep(left)) => Err(SyntaxFault::TooDeep(number_of(tokens, left))),

@@ -10,14 +10,14 @@ use std::alloc::{AllocError, Global};
 
 /// A semicolon.
 pub fn empty(token: u32) -> Stmt
-    ensures { stmt_tree result ≡ trees.empty 0 token }
+    ensures { stmt_tree result ≡ trees.empty (trees.unnumbered token) }
 {
     Stmt::Empty(Node { id: 0, token })
 }
 
 /// An expression.
 pub fn expression(token: u32, value: Expr) -> Stmt
-    ensures { stmt_tree result ≡ trees.expression 0 token (expr_tree value) }
+    ensures { stmt_tree result ≡ trees.expression (trees.unnumbered token) (expr_tree value) }
 {
     Stmt::Expression(Node { id: 0, token }, value)
 }
@@ -32,10 +32,15 @@ pub fn block(items: Vec<Stmt>) -> Stmt
 /// `if` without `else`.
 #[tactic(auto, using(crate::proofs::CodeBranches::tree_alone))]
 fn branch_alone(alloc: Global, token: u32, condition: Expr, first: Stmt) -> Result<Stmt, AllocError>
-    ensures { IfOk result (λ s. stmt_tree s ≡ trees.branch 0 token (expr_tree condition) (stmt_tree first) no_else) }
+    ensures { IfOk result (λ s. stmt_tree s ≡ trees.branch (trees.unnumbered token) (expr_tree condition) (stmt_tree first) no_else) }
 {
     let first = Box::new(alloc, first)?;
-    Ok(Stmt::If(Node { id: 0, token }, condition, first, None))
+    Ok(Stmt::If {
+        node: Node { id: 0, token },
+        condition,
+        then: first,
+        otherwise: None,
+    })
 }
 
 /// `if` with `else`.
@@ -47,11 +52,16 @@ fn branch_else(
     first: Stmt,
     second: Stmt,
 ) -> Result<Stmt, AllocError>
-    ensures { IfOk result (λ s. stmt_tree s ≡ trees.branch 0 token (expr_tree condition) (stmt_tree first) (else_by (stmt_tree second))) }
+    ensures { IfOk result (λ s. stmt_tree s ≡ trees.branch (trees.unnumbered token) (expr_tree condition) (stmt_tree first) (else_by (stmt_tree second))) }
 {
     let first = Box::new(alloc, first)?;
     let second = Box::new(alloc, second)?;
-    Ok(Stmt::If(Node { id: 0, token }, condition, first, Some(second)))
+    Ok(Stmt::If {
+        node: Node { id: 0, token },
+        condition,
+        then: first,
+        otherwise: Some(second),
+    })
 }
 
 /// `if`, with what follows `else`.
@@ -62,7 +72,7 @@ pub fn branch(
     first: Stmt,
     second: Option<Stmt>,
 ) -> Result<Stmt, AllocError>
-    ensures { IfOk result (λ s. stmt_tree s ≡ trees.branch 0 token (expr_tree condition) (stmt_tree first) (else_of (option_map stmt_tree second))) }
+    ensures { IfOk result (λ s. stmt_tree s ≡ trees.branch (trees.unnumbered token) (expr_tree condition) (stmt_tree first) (else_of (option_map stmt_tree second))) }
 {
     match second {
         None => branch_alone(alloc, token, condition, first),
@@ -77,18 +87,26 @@ pub fn while_loop(
     condition: Expr,
     body: Stmt,
 ) -> Result<Stmt, AllocError>
-    ensures { IfOk result (λ s. stmt_tree s ≡ trees.while_loop 0 token (expr_tree condition) (stmt_tree body)) }
+    ensures { IfOk result (λ s. stmt_tree s ≡ trees.while_loop (trees.unnumbered token) (expr_tree condition) (stmt_tree body)) }
 {
     let body = Box::new(alloc, body)?;
-    Ok(Stmt::While(Node { id: 0, token }, condition, body))
+    Ok(Stmt::While {
+        node: Node { id: 0, token },
+        condition,
+        body,
+    })
 }
 
 /// `do`.
 pub fn do_loop(alloc: Global, token: u32, body: Stmt, condition: Expr) -> Result<Stmt, AllocError>
-    ensures { IfOk result (λ s. stmt_tree s ≡ trees.do_loop 0 token (stmt_tree body) (expr_tree condition)) }
+    ensures { IfOk result (λ s. stmt_tree s ≡ trees.do_loop (trees.unnumbered token) (stmt_tree body) (expr_tree condition)) }
 {
     let body = Box::new(alloc, body)?;
-    Ok(Stmt::Do(Node { id: 0, token }, body, condition))
+    Ok(Stmt::Do {
+        node: Node { id: 0, token },
+        body,
+        condition,
+    })
 }
 
 /// `for`.
@@ -100,29 +118,35 @@ pub fn for_loop(
     step: Option<Expr>,
     body: Stmt,
 ) -> Result<Stmt, AllocError>
-    ensures { IfOk result (λ s. stmt_tree s ≡ trees.for_loop 0 token (start_tree start) (option_tree condition) (option_tree step) (stmt_tree body)) }
+    ensures { IfOk result (λ s. stmt_tree s ≡ trees.for_loop (trees.unnumbered token) (start_tree start) (option_tree condition) (option_tree step) (stmt_tree body)) }
 {
     let body = Box::new(alloc, body)?;
-    Ok(Stmt::For(Node { id: 0, token }, start, condition, step, body))
+    Ok(Stmt::For {
+        node: Node { id: 0, token },
+        start,
+        condition,
+        step,
+        body,
+    })
 }
 
 /// `break`.
 pub fn broken(token: u32) -> Stmt
-    ensures { stmt_tree result ≡ trees.break 0 token }
+    ensures { stmt_tree result ≡ trees.break (trees.unnumbered token) }
 {
     Stmt::Break(Node { id: 0, token })
 }
 
 /// `continue`.
 pub fn continued(token: u32) -> Stmt
-    ensures { stmt_tree result ≡ trees.continue 0 token }
+    ensures { stmt_tree result ≡ trees.continue (trees.unnumbered token) }
 {
     Stmt::Continue(Node { id: 0, token })
 }
 
 /// `return`.
 pub fn returned(token: u32, value: Option<Expr>) -> Stmt
-    ensures { stmt_tree result ≡ trees.return 0 token (option_tree value) }
+    ensures { stmt_tree result ≡ trees.return (trees.unnumbered token) (option_tree value) }
 {
     Stmt::Return(Node { id: 0, token }, value)
 }

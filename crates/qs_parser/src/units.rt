@@ -10,9 +10,7 @@ use crate::heads::{expect, expect_name, is_keyword, place, starts};
 use crate::statements::items;
 use crate::types::{outer_type, stars};
 use qs_base::Name;
-use qs_syntax::{
-    Base, Decl, Forward, Function, Keyword, Parameter, Punctuator, Stmt, Struct, Terminal,
-};
+use qs_syntax::{Base, Decl, Forward, Function, Keyword, Node, Parameter, Punctuator, Stmt, Struct, Terminal, TypeName};
 use std::alloc::Global;
 
 /// The height to which the parts of a function's body are read: with it the unit is at most 128 high.
@@ -43,8 +41,7 @@ fn struct_of(
     let (members, height, rest) = groups(alloc, room, rest)?;
     let rest = expect(Punctuator::Semicolon, rest)?;
     let found = Struct {
-        id: 0,
-        token,
+        node: Node { id: 0, token },
         name,
         members,
     };
@@ -52,17 +49,16 @@ fn struct_of(
 }
 
 /// A struct without members, behind `struct` (C11 6.7.2.3).
-fn forward_of(
-    alloc: Global,
-    token: u32,
-    tokens: &[Terminal],
-) -> Result<(Decl, u32, &[Terminal]), Halt>
+fn forward_of(alloc: Global, token: u32, tokens: &[Terminal]) -> Result<(Decl, u32, &[Terminal]), Halt>
     ensures gives { Gives (read_as decl_tree) result (forward_of token tokens.now) }
     ensures low { IfOk result (λ x. x.1 ≤ 1) }
 {
     let (_at, name, rest) = expect_name(alloc, tokens)?;
     let rest = expect(Punctuator::Semicolon, rest)?;
-    let found = Forward { id: 0, token, name };
+    let found = Forward {
+        node: Node { id: 0, token },
+        name,
+    };
     Ok((Decl::Forward(found), 1, rest))
 }
 
@@ -81,10 +77,14 @@ fn function(header: Header, body: Option<Vec<Stmt>>) -> Decl
     ensures { decl_tree result ≡ function_with header (option_map (λ items. stmts_tree items.items) body) }
 {
     Decl::Function(Function {
-        id: 0,
-        token: header.token,
-        base: header.base,
-        stars: header.stars,
+        node: Node {
+            id: 0,
+            token: header.token,
+        },
+        result_type: TypeName {
+            base: header.base,
+            stars: header.stars,
+        },
         name: header.name,
         parameters: header.parameters,
         body,

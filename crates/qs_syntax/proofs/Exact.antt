@@ -5,10 +5,11 @@ use Rattle.std.specs.Bool.{beq}
 use Rattle.std.specs.Cmp.{first_so, second_so, booleans_Decides}
 use Rattle.std.specs.Cmp.Lexicographic.{pointwise, pointwise_decides}
 use Rattle.std.proofs.lemmas.Bool.Decides.{Decides-eqb, Decides-and, Decides-like}
-use Rattle.qs_syntax.specs.declared.tree.Base.{Base}
-use Rattle.qs_syntax.specs.declared.tree.Base.TheVariants as bases
-use Rattle.qs_syntax.specs.declared.tree.TypeName.{TypeName}
-use Rattle.qs_syntax.specs.Trees.{ExprTree, expr, ShapeTree, int, text, name, unary, step, cast, size_type, size_expr, binary, assign, choice, comma, index, member, call, Exprs, no_exprs, expr_and, exprs_of, LengthsTree, DeclaratorTree, InitialiserTree, value, list, Initialisers, no_initialisers, initialiser_and, VariableTree, DeclarationTree, ParameterTree, MembersTree}
+use Rattle.qs_syntax.specs.declared.types.Base.{Base}
+use Rattle.qs_syntax.specs.declared.types.Base.TheVariants as bases
+use Rattle.qs_syntax.specs.declared.types.TypeName.{TypeName}
+use Rattle.qs_syntax.specs.declared.nodes.Node.{Node}
+use Rattle.qs_syntax.specs.Trees.{ExprTree, expr, ShapeTree, constant, text, name, unary, step, cast, sizeof_type, sizeof_expr, binary, assign, conditional, comma, subscript, member, call, Exprs, no_exprs, expr_and, exprs_of, LengthsTree, DeclaratorTree, InitialiserTree, value, list, Initialisers, no_initialisers, initialiser_and, VariableTree, DeclarationTree, ParameterTree, MembersTree}
 use Rattle.qs_syntax.specs.Operators.{same_unary, same_step, same_binary, same_assign, same_access}
 use Rattle.qs_syntax.specs.Sameness.{same_bytes, same_base, same_type, same_node, same_expr, same_shape, same_exprs, same_lengths, same_declarator, same_initialiser, same_initialisers, same_variable, same_declaration, same_parameter, same_members}
 use Rattle.qs_syntax.proofs.OperatorLaws.{unary_operator_exact, step_operator_exact, binary_operator_exact, assign_operator_exact, access_operator_exact}
@@ -57,29 +58,31 @@ base_self (bases.Struct x) = (bytes_exact x x).1 refl
 pub base_exact : (a b : Base) → Decides (same_base a b) (a ≡ b)
 base_exact = decides same_base base_equal base_self
 
-type_exact : (a b : TypeName) → Decides (same_type a b) (a ≡ b)
+pub type_exact : (a b : TypeName) → Decides (same_type a b) (a ≡ b)
 type_exact a b =
     Decides-like (same_type a b) (λ h. λ i. record { base = h.0 i; stars = h.1 i }) (λ p. (ap (λ x. x.base) p, ap (λ x. x.stars) p))
     (Decides-and (same_base a.base b.base) (a.stars == b.stars) (base_exact a.base b.base) (Decides-eqb a.stars b.stars))
 
 -- ---- expressions
 
-pub node_exact : (i t j u : ℕ) → Decides (same_node i t j u) ((i ≡ j) × (t ≡ u))
-node_exact i t j u = Decides-and (i == j) (t == u) (Decides-eqb i j) (Decides-eqb t u)
+pub node_exact : (a b : Node) → Decides (same_node a b) (a ≡ b)
+node_exact a b =
+    Decides-like (same_node a b) (λ h. λ i. record { id = h.0 i; token = h.1 i }) (λ p. (ap (λ x. x.id) p, ap (λ x. x.token) p))
+    (Decides-and (a.id == b.id) (a.token == b.token) (Decides-eqb a.id b.id) (Decides-eqb a.token b.token))
 
-pub node_self : (i t : ℕ) → same_node i t i t ≡ true
-node_self i t = (node_exact i t i t).1 (refl, refl)
+pub node_self : (a : Node) → same_node a a ≡ true
+node_self a = (node_exact a a).1 refl
 
 mutual
   expr_equal : (a b : ExprTree) → same_expr a b ≡ true → a ≡ b
-  expr_equal (expr i t s) (expr j u r) h =
-      let p = both (same_node i t j u) (same_shape s r) (node_exact i t j u).0 (shape_equal s r) h in
-      λ k. expr (p.0.0 k) (p.0.1 k) (p.1 k)
+  expr_equal (expr i s) (expr j r) h =
+      let p = both (same_node i j) (same_shape s r) (node_exact i j).0 (shape_equal s r) h in
+      λ k. expr (p.0 k) (p.1 k)
 
   shape_equal : (a b : ShapeTree) → same_shape a b ≡ true → a ≡ b
-  shape_equal (int n u) (int m v) h =
+  shape_equal (constant n u) (constant m v) h =
       let p = both (n == m) (beq u v) (Decides-eqb n m).0 (booleans_Decides u v).0 h in
-      λ k. int (p.0 k) (p.1 k)
+      λ k. constant (p.0 k) (p.1 k)
   shape_equal (text x) (text y) h = ap text ((bytes_exact x y).0 h)
   shape_equal (name x) (name y) h = ap name ((bytes_exact x y).0 h)
   shape_equal (unary s a) (unary r b) h =
@@ -91,23 +94,23 @@ mutual
   shape_equal (cast t a) (cast u b) h =
       let p = both (same_type t u) (same_expr a b) (type_exact t u).0 (expr_equal a b) h in
       λ k. cast (p.0 k) (p.1 k)
-  shape_equal (size_type t) (size_type u) h = ap size_type ((type_exact t u).0 h)
-  shape_equal (size_expr a) (size_expr b) h = ap size_expr (expr_equal a b h)
+  shape_equal (sizeof_type t) (sizeof_type u) h = ap sizeof_type ((type_exact t u).0 h)
+  shape_equal (sizeof_expr a) (sizeof_expr b) h = ap sizeof_expr (expr_equal a b h)
   shape_equal (binary s a b) (binary r c d) h =
       let p = both (same_binary s r) (same_expr a c && same_expr b d) (binary_operator_exact s r).0 (both (same_expr a c) (same_expr b d) (expr_equal a c) (expr_equal b d)) h in
       λ k. binary (p.0 k) (p.1.0 k) (p.1.1 k)
   shape_equal (assign s a b) (assign r c d) h =
       let p = both (same_assign s r) (same_expr a c && same_expr b d) (assign_operator_exact s r).0 (both (same_expr a c) (same_expr b d) (expr_equal a c) (expr_equal b d)) h in
       λ k. assign (p.0 k) (p.1.0 k) (p.1.1 k)
-  shape_equal (choice a b c) (choice d e f) h =
+  shape_equal (conditional a b c) (conditional d e f) h =
       let p = both (same_expr a d) (same_expr b e && same_expr c f) (expr_equal a d) (both (same_expr b e) (same_expr c f) (expr_equal b e) (expr_equal c f)) h in
-      λ k. choice (p.0 k) (p.1.0 k) (p.1.1 k)
+      λ k. conditional (p.0 k) (p.1.0 k) (p.1.1 k)
   shape_equal (comma a b) (comma c d) h =
       let p = both (same_expr a c) (same_expr b d) (expr_equal a c) (expr_equal b d) h in
       λ k. comma (p.0 k) (p.1 k)
-  shape_equal (index a b) (index c d) h =
+  shape_equal (subscript a b) (subscript c d) h =
       let p = both (same_expr a c) (same_expr b d) (expr_equal a c) (expr_equal b d) h in
-      λ k. index (p.0 k) (p.1 k)
+      λ k. subscript (p.0 k) (p.1 k)
   shape_equal (member s a x) (member r b y) h =
       let p = both (same_access s r) (same_expr a b && same_bytes x y) (access_operator_exact s r).0 (both (same_expr a b) (same_bytes x y) (expr_equal a b) (bytes_exact x y).0) h in
       λ k. member (p.0 k) (p.1.0 k) (p.1.1 k)
@@ -125,22 +128,22 @@ mutual
 
 mutual
   expr_self : (a : ExprTree) → same_expr a a ≡ true
-  expr_self (expr i t s) = λ k. node_self i t k && shape_self s k
+  expr_self (expr i s) = λ k. node_self i k && shape_self s k
 
   shape_self : (a : ShapeTree) → same_shape a a ≡ true
-  shape_self (int n u) = λ k. (Decides-eqb n n).1 refl k && (booleans_Decides u u).1 refl k
+  shape_self (constant n u) = λ k. (Decides-eqb n n).1 refl k && (booleans_Decides u u).1 refl k
   shape_self (text x) = (bytes_exact x x).1 refl
   shape_self (name x) = (bytes_exact x x).1 refl
   shape_self (unary s a) = λ k. (unary_operator_exact s s).1 refl k && expr_self a k
   shape_self (step s a) = λ k. (step_operator_exact s s).1 refl k && expr_self a k
   shape_self (cast t a) = λ k. (type_exact t t).1 refl k && expr_self a k
-  shape_self (size_type t) = (type_exact t t).1 refl
-  shape_self (size_expr a) = expr_self a
+  shape_self (sizeof_type t) = (type_exact t t).1 refl
+  shape_self (sizeof_expr a) = expr_self a
   shape_self (binary s a b) = λ k. (binary_operator_exact s s).1 refl k && (expr_self a k && expr_self b k)
   shape_self (assign s a b) = λ k. (assign_operator_exact s s).1 refl k && (expr_self a k && expr_self b k)
-  shape_self (choice a b c) = λ k. expr_self a k && (expr_self b k && expr_self c k)
+  shape_self (conditional a b c) = λ k. expr_self a k && (expr_self b k && expr_self c k)
   shape_self (comma a b) = λ k. expr_self a k && expr_self b k
-  shape_self (index a b) = λ k. expr_self a k && expr_self b k
+  shape_self (subscript a b) = λ k. expr_self a k && expr_self b k
   shape_self (member s a x) = λ k. (access_operator_exact s s).1 refl k && (expr_self a k && (bytes_exact x x).1 refl k)
   shape_self (call f es) = λ k. (bytes_exact f f).1 refl k && exprs_self es k
 
@@ -171,16 +174,16 @@ pub declarator_exact : (a b : DeclaratorTree) → Decides (same_declarator a b) 
 declarator_exact a b =
     let lengths = Decides-and (same_bytes a.name b.name) (same_lengths a.lengths b.lengths) (bytes_exact a.name b.name) (lengths_exact a.lengths b.lengths) in
     let stars = Decides-and (a.stars == b.stars) (same_bytes a.name b.name && same_lengths a.lengths b.lengths) (Decides-eqb a.stars b.stars) lengths in
-    Decides-like (same_declarator a b) (λ h. λ i. record { id = h.0.0 i; token = h.0.1 i; stars = h.1.0 i; name = h.1.1.0 i; lengths = h.1.1.1 i })
-    (λ p. ((ap (λ x. x.id) p, ap (λ x. x.token) p), (ap (λ x. x.stars) p, (ap (λ x. x.name) p, ap (λ x. x.lengths) p))))
-    (Decides-and (same_node a.id a.token b.id b.token) ((a.stars == b.stars) && (same_bytes a.name b.name && same_lengths a.lengths b.lengths)) (node_exact a.id a.token b.id b.token) stars)
+    Decides-like (same_declarator a b) (λ h. λ i. record { node = h.0 i; stars = h.1.0 i; name = h.1.1.0 i; lengths = h.1.1.1 i })
+    (λ p. (ap (λ x. x.node) p, (ap (λ x. x.stars) p, (ap (λ x. x.name) p, ap (λ x. x.lengths) p))))
+    (Decides-and (same_node a.node b.node) ((a.stars == b.stars) && (same_bytes a.name b.name && same_lengths a.lengths b.lengths)) (node_exact a.node b.node) stars)
 
 mutual
   initialiser_equal : (a b : InitialiserTree) → same_initialiser a b ≡ true → a ≡ b
   initialiser_equal (value a) (value b) h = ap value ((expr_exact a b).0 h)
-  initialiser_equal (list i t is) (list j u js) h =
-      let p = both (same_node i t j u) (same_initialisers is js) (node_exact i t j u).0 (initialisers_equal is js) h in
-      λ k. list (p.0.0 k) (p.0.1 k) (p.1 k)
+  initialiser_equal (list i is) (list j js) h =
+      let p = both (same_node i j) (same_initialisers is js) (node_exact i j).0 (initialisers_equal is js) h in
+      λ k. list (p.0 k) (p.1 k)
   initialiser_equal _ _ h = absurd (cc)
 
   initialisers_equal : (a b : Initialisers) → same_initialisers a b ≡ true → a ≡ b
@@ -193,7 +196,7 @@ mutual
 mutual
   initialiser_self : (a : InitialiserTree) → same_initialiser a a ≡ true
   initialiser_self (value a) = (expr_exact a a).1 refl
-  initialiser_self (list i t is) = λ k. node_self i t k && initialisers_self is k
+  initialiser_self (list i is) = λ k. node_self i k && initialisers_self is k
 
   initialisers_self : (a : Initialisers) → same_initialisers a a ≡ true
   initialisers_self no_initialisers = refl
@@ -215,11 +218,10 @@ declaration_exact a b =
 pub parameter_exact : (a b : ParameterTree) → Decides (same_parameter a b) (a ≡ b)
 parameter_exact a b =
     let name = Decides-and (option_eq same_bytes a.name b.name) (same_lengths a.lengths b.lengths) (option_exact same_bytes bytes_exact a.name b.name) (lengths_exact a.lengths b.lengths) in
-    let stars = Decides-and (a.stars == b.stars) (option_eq same_bytes a.name b.name && same_lengths a.lengths b.lengths) (Decides-eqb a.stars b.stars) name in
-    let base = Decides-and (same_base a.base b.base) ((a.stars == b.stars) && (option_eq same_bytes a.name b.name && same_lengths a.lengths b.lengths)) (base_exact a.base b.base) stars in
-    Decides-like (same_parameter a b) (λ h. λ i. record { id = h.0.0 i; token = h.0.1 i; base = h.1.0 i; stars = h.1.1.0 i; name = h.1.1.1.0 i; lengths = h.1.1.1.1 i })
-    (λ p. ((ap (λ x. x.id) p, ap (λ x. x.token) p), (ap (λ x. x.base) p, (ap (λ x. x.stars) p, (ap (λ x. x.name) p, ap (λ x. x.lengths) p)))))
-    (Decides-and (same_node a.id a.token b.id b.token) (same_base a.base b.base && ((a.stars == b.stars) && (option_eq same_bytes a.name b.name && same_lengths a.lengths b.lengths))) (node_exact a.id a.token b.id b.token) base)
+    let type = Decides-and (same_type a.type_name b.type_name) (option_eq same_bytes a.name b.name && same_lengths a.lengths b.lengths) (type_exact a.type_name b.type_name) name in
+    Decides-like (same_parameter a b) (λ h. λ i. record { node = h.0 i; type_name = h.1.0 i; name = h.1.1.0 i; lengths = h.1.1.1 i })
+    (λ p. (ap (λ x. x.node) p, (ap (λ x. x.type_name) p, (ap (λ x. x.name) p, ap (λ x. x.lengths) p))))
+    (Decides-and (same_node a.node b.node) (same_type a.type_name b.type_name && (option_eq same_bytes a.name b.name && same_lengths a.lengths b.lengths)) (node_exact a.node b.node) type)
 
 pub members_exact : (a b : MembersTree) → Decides (same_members a b) (a ≡ b)
 members_exact a b =

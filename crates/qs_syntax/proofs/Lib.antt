@@ -1,6 +1,7 @@
-pub mod Again
-pub mod NumberingLaws
-pub mod Units
+pub mod RelabelLaws
+pub mod NodeLaws
+pub mod NumberingLoops
+pub mod UnitLaws
 pub mod SameLoops
 pub mod PunctuatorLaws
 pub mod OperatorLaws

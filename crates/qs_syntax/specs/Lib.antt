@@ -7,7 +7,9 @@ pub mod Reads
 pub mod ReadsDeclarations
 pub mod ReadsStatements
 pub mod ReadsUnits
+pub mod Nodes
 pub mod Numbering
+pub mod WithoutTokens
 pub mod Units
 pub mod UnitTrees
 pub mod Sameness

@@ -1,228 +1,148 @@
--- Nodes are numbered in the order of the text, a node before its parts. `.._nodes` counts the nodes of a tree, `numbered_..` is the tree
--- with its nodes numbered from n on.
+-- The one map over the nodes of a tree. `relabel_.. f n` goes over them in the order of the text, a node before its parts, from n on, and
+-- puts a node of f's in place of each. What numbers the nodes of a tree, and what takes numbers and tokens away, are such maps.
 use Rattle.std.specs.Prelude.{ℕ, ◌+◌, List, [], ◌∷◌, Option, Some, None}
-use Rattle.qs_syntax.specs.Trees.{ExprTree, expr, ShapeTree, int, text, name, unary, step, cast, size_type, size_expr, binary, assign, choice, comma, index, member, call, Exprs, no_exprs, expr_and, LengthsTree, DeclaratorTree, InitialiserTree, value, list, Initialisers, no_initialisers, initialiser_and, VariableTree, DeclarationTree, ParameterTree, MembersTree, StartTree, no_start, start_expression, start_declaration, StmtTree, empty, expression, declaration, block, branch, while_loop, do_loop, for_loop, break, continue, return, Stmts, no_stmts, stmt_and, Else, no_else, else_by, StructTree, FunctionTree, DeclTree, structure, forward, function, variables}
+use Rattle.qs_syntax.specs.declared.nodes.Node.{Node}
+use Rattle.qs_syntax.specs.Trees.{ExprTree, expr, ShapeTree, constant, text, name, unary, step, cast, sizeof_type, sizeof_expr, binary, assign, conditional, comma, subscript, member, call, Exprs, no_exprs, expr_and, LengthsTree, DeclaratorTree, InitialiserTree, value, list, Initialisers, no_initialisers, initialiser_and, VariableTree, DeclarationTree, ParameterTree, MembersTree, StartTree, no_start, start_expression, start_declaration, StmtTree, empty, expression, declaration, block, branch, while_loop, do_loop, for_loop, break, continue, return, Stmts, no_stmts, stmt_and, Else, no_else, else_by, StructTree, FunctionTree, DeclTree, structure, forward, function, variables, UnitTree}
+use Rattle.qs_syntax.specs.Nodes.{all_count, option_count, expr_count, declarator_count, initialiser_count, variable_count, parameter_count, members_count, start_count, stmt_count, decl_count}
 
--- lists of things that have a count and a numbering
-abbrev pub all_nodes : {A : Type 0} → (A → ℕ) → List A → ℕ
-all_nodes nodes [] = 0
-all_nodes nodes (x ∷ xs) = nodes x + all_nodes nodes xs
+-- what stands in place of a node, given where it is, and where it goes on behind so many nodes
+pub record Relabelling : Type 0 where
+  pub label : ℕ → Node → Node
+  pub onward : ℕ → ℕ → ℕ
 
-abbrev pub all_numbered : {A : Type 0} → (A → ℕ) → (ℕ → A → A) → ℕ → List A → List A
-all_numbered nodes numbered n [] = []
-all_numbered nodes numbered n (x ∷ xs) = numbered n x ∷ all_numbered nodes numbered (n + nodes x) xs
+-- ---- lists and options
 
-abbrev pub option_nodes : {A : Type 0} → (A → ℕ) → Option A → ℕ
-option_nodes nodes None = 0
-option_nodes nodes (Some x) = nodes x
+abbrev pub relabel_nodes : Relabelling → ℕ → List Node → List Node
+relabel_nodes f n [] = []
+relabel_nodes f n (x ∷ xs) = f.label n x ∷ relabel_nodes f (f.onward n 1) xs
 
-abbrev pub option_numbered : {A : Type 0} → (ℕ → A → A) → ℕ → Option A → Option A
-option_numbered numbered n None = None
-option_numbered numbered n (Some x) = Some (numbered n x)
+abbrev pub relabel_all : {A : Type 0} → Relabelling → (A → ℕ) → (ℕ → A → A) → ℕ → List A → List A
+relabel_all f count relabel n [] = []
+relabel_all f count relabel n (x ∷ xs) = relabel n x ∷ relabel_all f count relabel (f.onward n (count x)) xs
+
+abbrev pub relabel_option : {A : Type 0} → (ℕ → A → A) → ℕ → Option A → Option A
+relabel_option relabel n None = None
+relabel_option relabel n (Some x) = Some (relabel n x)
 
 -- ---- expressions
 
 abbrev mutual
-  pub expr_nodes : ExprTree → ℕ
-  expr_nodes (expr id t s) = 1 + shape_nodes s
+  pub relabel_expr : Relabelling → ℕ → ExprTree → ExprTree
+  relabel_expr f n (expr node s) = expr (f.label n node) (relabel_shape f (f.onward n 1) s)
 
-  pub shape_nodes : ShapeTree → ℕ
-  shape_nodes (int n unsigned) = 0
-  shape_nodes (text bytes) = 0
-  shape_nodes (name x) = 0
-  shape_nodes (unary operator a) = expr_nodes a
-  shape_nodes (step operator a) = expr_nodes a
-  shape_nodes (cast type a) = expr_nodes a
-  shape_nodes (size_type type) = 0
-  shape_nodes (size_expr a) = expr_nodes a
-  shape_nodes (binary operator a b) = expr_nodes a + expr_nodes b
-  shape_nodes (assign operator a b) = expr_nodes a + expr_nodes b
-  shape_nodes (choice a b c) = expr_nodes a + expr_nodes b + expr_nodes c
-  shape_nodes (comma a b) = expr_nodes a + expr_nodes b
-  shape_nodes (index a b) = expr_nodes a + expr_nodes b
-  shape_nodes (member access a x) = expr_nodes a
-  shape_nodes (call f es) = exprs_nodes es
+  pub relabel_shape : Relabelling → ℕ → ShapeTree → ShapeTree
+  relabel_shape f n (constant k unsigned) = constant k unsigned
+  relabel_shape f n (text bytes) = text bytes
+  relabel_shape f n (name x) = name x
+  relabel_shape f n (unary operator a) = unary operator (relabel_expr f n a)
+  relabel_shape f n (step operator a) = step operator (relabel_expr f n a)
+  relabel_shape f n (cast type a) = cast type (relabel_expr f n a)
+  relabel_shape f n (sizeof_type type) = sizeof_type type
+  relabel_shape f n (sizeof_expr a) = sizeof_expr (relabel_expr f n a)
+  relabel_shape f n (binary operator a b) = binary operator (relabel_expr f n a) (relabel_expr f (f.onward n (expr_count a)) b)
+  relabel_shape f n (assign operator a b) = assign operator (relabel_expr f n a) (relabel_expr f (f.onward n (expr_count a)) b)
+  relabel_shape f n (conditional a b c) = conditional (relabel_expr f n a) (relabel_expr f (f.onward n (expr_count a)) b) (relabel_expr f (f.onward (f.onward n (expr_count a)) (expr_count b)) c)
+  relabel_shape f n (comma a b) = comma (relabel_expr f n a) (relabel_expr f (f.onward n (expr_count a)) b)
+  relabel_shape f n (subscript a b) = subscript (relabel_expr f n a) (relabel_expr f (f.onward n (expr_count a)) b)
+  relabel_shape f n (member access a x) = member access (relabel_expr f n a) x
+  relabel_shape f n (call x es) = call x (relabel_exprs f n es)
 
-  pub exprs_nodes : Exprs → ℕ
-  exprs_nodes no_exprs = 0
-  exprs_nodes (expr_and e es) = expr_nodes e + exprs_nodes es
-
-abbrev mutual
-  pub numbered_expr : ℕ → ExprTree → ExprTree
-  numbered_expr n (expr id t s) = expr n t (numbered_shape (n + 1) s)
-
-  pub numbered_shape : ℕ → ShapeTree → ShapeTree
-  numbered_shape n (int k unsigned) = int k unsigned
-  numbered_shape n (text bytes) = text bytes
-  numbered_shape n (name x) = name x
-  numbered_shape n (unary operator a) = unary operator (numbered_expr n a)
-  numbered_shape n (step operator a) = step operator (numbered_expr n a)
-  numbered_shape n (cast type a) = cast type (numbered_expr n a)
-  numbered_shape n (size_type type) = size_type type
-  numbered_shape n (size_expr a) = size_expr (numbered_expr n a)
-  numbered_shape n (binary operator a b) = binary operator (numbered_expr n a) (numbered_expr (n + expr_nodes a) b)
-  numbered_shape n (assign operator a b) = assign operator (numbered_expr n a) (numbered_expr (n + expr_nodes a) b)
-  numbered_shape n (choice a b c) = choice (numbered_expr n a) (numbered_expr (n + expr_nodes a) b) (numbered_expr (n + expr_nodes a + expr_nodes b) c)
-  numbered_shape n (comma a b) = comma (numbered_expr n a) (numbered_expr (n + expr_nodes a) b)
-  numbered_shape n (index a b) = index (numbered_expr n a) (numbered_expr (n + expr_nodes a) b)
-  numbered_shape n (member access a x) = member access (numbered_expr n a) x
-  numbered_shape n (call f es) = call f (numbered_exprs n es)
-
-  pub numbered_exprs : ℕ → Exprs → Exprs
-  numbered_exprs n no_exprs = no_exprs
-  numbered_exprs n (expr_and e es) = expr_and (numbered_expr n e) (numbered_exprs (n + expr_nodes e) es)
+  pub relabel_exprs : Relabelling → ℕ → Exprs → Exprs
+  relabel_exprs f n no_exprs = no_exprs
+  relabel_exprs f n (expr_and e es) = expr_and (relabel_expr f n e) (relabel_exprs f (f.onward n (expr_count e)) es)
 
 -- ---- declarations
 
-abbrev pub lengths_nodes : LengthsTree → ℕ
-lengths_nodes l = all_nodes expr_nodes l.given
+abbrev pub relabel_lengths : Relabelling → ℕ → LengthsTree → LengthsTree
+relabel_lengths f n l = record { is_open = l.is_open; given = relabel_all f expr_count (relabel_expr f) n l.given }
 
-abbrev pub numbered_lengths : ℕ → LengthsTree → LengthsTree
-numbered_lengths n l = record { is_open = l.is_open; given = all_numbered expr_nodes numbered_expr n l.given }
-
-abbrev pub declarator_nodes : DeclaratorTree → ℕ
-declarator_nodes d = 1 + lengths_nodes d.lengths
-
-abbrev pub numbered_declarator : ℕ → DeclaratorTree → DeclaratorTree
-numbered_declarator n d = record { id = n; token = d.token; stars = d.stars; name = d.name; lengths = numbered_lengths (n + 1) d.lengths }
+abbrev pub relabel_declarator : Relabelling → ℕ → DeclaratorTree → DeclaratorTree
+relabel_declarator f n d = record { node = f.label n d.node; stars = d.stars; name = d.name; lengths = relabel_lengths f (f.onward n 1) d.lengths }
 
 abbrev mutual
-  pub initialiser_nodes : InitialiserTree → ℕ
-  initialiser_nodes (value e) = expr_nodes e
-  initialiser_nodes (list id t is) = 1 + initialisers_nodes is
+  pub relabel_initialiser : Relabelling → ℕ → InitialiserTree → InitialiserTree
+  relabel_initialiser f n (value e) = value (relabel_expr f n e)
+  relabel_initialiser f n (list node is) = list (f.label n node) (relabel_initialisers f (f.onward n 1) is)
 
-  pub initialisers_nodes : Initialisers → ℕ
-  initialisers_nodes no_initialisers = 0
-  initialisers_nodes (initialiser_and i is) = initialiser_nodes i + initialisers_nodes is
+  pub relabel_initialisers : Relabelling → ℕ → Initialisers → Initialisers
+  relabel_initialisers f n no_initialisers = no_initialisers
+  relabel_initialisers f n (initialiser_and i is) = initialiser_and (relabel_initialiser f n i) (relabel_initialisers f (f.onward n (initialiser_count i)) is)
 
-abbrev mutual
-  pub numbered_initialiser : ℕ → InitialiserTree → InitialiserTree
-  numbered_initialiser n (value e) = value (numbered_expr n e)
-  numbered_initialiser n (list id t is) = list n t (numbered_initialisers (n + 1) is)
+abbrev pub relabel_variable : Relabelling → ℕ → VariableTree → VariableTree
+relabel_variable f n v = record { declarator = relabel_declarator f n v.declarator; initialiser = relabel_option (relabel_initialiser f) (f.onward n (declarator_count v.declarator)) v.initialiser }
 
-  pub numbered_initialisers : ℕ → Initialisers → Initialisers
-  numbered_initialisers n no_initialisers = no_initialisers
-  numbered_initialisers n (initialiser_and i is) = initialiser_and (numbered_initialiser n i) (numbered_initialisers (n + initialiser_nodes i) is)
+abbrev pub relabel_declaration : Relabelling → ℕ → DeclarationTree → DeclarationTree
+relabel_declaration f n d = record { base = d.base; variables = relabel_all f variable_count (relabel_variable f) n d.variables }
 
--- the lengths of a variable stand before its initialiser
-abbrev pub variable_nodes : VariableTree → ℕ
-variable_nodes v = declarator_nodes v.declarator + option_nodes initialiser_nodes v.initialiser
+abbrev pub relabel_parameter : Relabelling → ℕ → ParameterTree → ParameterTree
+relabel_parameter f n p = record { node = f.label n p.node; type_name = p.type_name; name = p.name; lengths = relabel_lengths f (f.onward n 1) p.lengths }
 
-abbrev pub numbered_variable : ℕ → VariableTree → VariableTree
-numbered_variable n v = record { declarator = numbered_declarator n v.declarator; initialiser = option_numbered numbered_initialiser (n + declarator_nodes v.declarator) v.initialiser }
-
-abbrev pub declaration_nodes : DeclarationTree → ℕ
-declaration_nodes d = all_nodes variable_nodes d.variables
-
-abbrev pub numbered_declaration : ℕ → DeclarationTree → DeclarationTree
-numbered_declaration n d = record { base = d.base; variables = all_numbered variable_nodes numbered_variable n d.variables }
-
-abbrev pub parameter_nodes : ParameterTree → ℕ
-parameter_nodes p = 1 + lengths_nodes p.lengths
-
-abbrev pub numbered_parameter : ℕ → ParameterTree → ParameterTree
-numbered_parameter n p = record { id = n; token = p.token; base = p.base; stars = p.stars; name = p.name; lengths = numbered_lengths (n + 1) p.lengths }
-
-abbrev pub members_nodes : MembersTree → ℕ
-members_nodes m = all_nodes declarator_nodes m.declarators
-
-abbrev pub numbered_members : ℕ → MembersTree → MembersTree
-numbered_members n m = record { base = m.base; declarators = all_numbered declarator_nodes numbered_declarator n m.declarators }
+abbrev pub relabel_members : Relabelling → ℕ → MembersTree → MembersTree
+relabel_members f n m = record { base = m.base; declarators = relabel_all f declarator_count (relabel_declarator f) n m.declarators }
 
 -- ---- statements
 
-abbrev pub start_nodes : StartTree → ℕ
-start_nodes no_start = 0
-start_nodes (start_expression e) = expr_nodes e
-start_nodes (start_declaration d) = declaration_nodes d
-
-abbrev pub numbered_start : ℕ → StartTree → StartTree
-numbered_start n no_start = no_start
-numbered_start n (start_expression e) = start_expression (numbered_expr n e)
-numbered_start n (start_declaration d) = start_declaration (numbered_declaration n d)
+abbrev pub relabel_start : Relabelling → ℕ → StartTree → StartTree
+relabel_start f n no_start = no_start
+relabel_start f n (start_expression e) = start_expression (relabel_expr f n e)
+relabel_start f n (start_declaration d) = start_declaration (relabel_declaration f n d)
 
 abbrev mutual
-  pub stmt_nodes : StmtTree → ℕ
-  stmt_nodes (empty id t) = 1
-  stmt_nodes (expression id t e) = 1 + expr_nodes e
-  stmt_nodes (declaration d) = declaration_nodes d
-  stmt_nodes (block ss) = stmts_nodes ss
-  stmt_nodes (branch id t e s r) = 1 + expr_nodes e + stmt_nodes s + else_nodes r
-  stmt_nodes (while_loop id t e s) = 1 + expr_nodes e + stmt_nodes s
-  stmt_nodes (do_loop id t s e) = 1 + stmt_nodes s + expr_nodes e
-  stmt_nodes (for_loop id t a e u s) = 1 + start_nodes a + option_nodes expr_nodes e + option_nodes expr_nodes u + stmt_nodes s
-  stmt_nodes (break id t) = 1
-  stmt_nodes (continue id t) = 1
-  stmt_nodes (return id t e) = 1 + option_nodes expr_nodes e
+  pub relabel_stmt : Relabelling → ℕ → StmtTree → StmtTree
+  relabel_stmt f n (empty node) = empty (f.label n node)
+  relabel_stmt f n (expression node e) = expression (f.label n node) (relabel_expr f (f.onward n 1) e)
+  relabel_stmt f n (declaration d) = declaration (relabel_declaration f n d)
+  relabel_stmt f n (block ss) = block (relabel_stmts f n ss)
+  relabel_stmt f n (branch node e s r) = branch (f.label n node) (relabel_expr f (f.onward n 1) e) (relabel_stmt f (f.onward (f.onward n 1) (expr_count e)) s) (relabel_else f (f.onward (f.onward (f.onward n 1) (expr_count e)) (stmt_count s)) r)
+  relabel_stmt f n (while_loop node e s) = while_loop (f.label n node) (relabel_expr f (f.onward n 1) e) (relabel_stmt f (f.onward (f.onward n 1) (expr_count e)) s)
+  relabel_stmt f n (do_loop node s e) = do_loop (f.label n node) (relabel_stmt f (f.onward n 1) s) (relabel_expr f (f.onward (f.onward n 1) (stmt_count s)) e)
+  relabel_stmt f n (for_loop node a e u s) =
+      for_loop (f.label n node) (relabel_start f (f.onward n 1) a) (relabel_option (relabel_expr f) (f.onward (f.onward n 1) (start_count a)) e) (relabel_option (relabel_expr f) (f.onward (f.onward (f.onward n 1) (start_count a)) (option_count expr_count e)) u)
+      (relabel_stmt f (f.onward (f.onward (f.onward (f.onward n 1) (start_count a)) (option_count expr_count e)) (option_count expr_count u)) s)
+  relabel_stmt f n (break node) = break (f.label n node)
+  relabel_stmt f n (continue node) = continue (f.label n node)
+  relabel_stmt f n (return node e) = return (f.label n node) (relabel_option (relabel_expr f) (f.onward n 1) e)
 
-  pub stmts_nodes : Stmts → ℕ
-  stmts_nodes no_stmts = 0
-  stmts_nodes (stmt_and s ss) = stmt_nodes s + stmts_nodes ss
+  pub relabel_stmts : Relabelling → ℕ → Stmts → Stmts
+  relabel_stmts f n no_stmts = no_stmts
+  relabel_stmts f n (stmt_and s ss) = stmt_and (relabel_stmt f n s) (relabel_stmts f (f.onward n (stmt_count s)) ss)
 
-  pub else_nodes : Else → ℕ
-  else_nodes no_else = 0
-  else_nodes (else_by s) = stmt_nodes s
-
-abbrev mutual
-  pub numbered_stmt : ℕ → StmtTree → StmtTree
-  numbered_stmt n (empty id t) = empty n t
-  numbered_stmt n (expression id t e) = expression n t (numbered_expr (n + 1) e)
-  numbered_stmt n (declaration d) = declaration (numbered_declaration n d)
-  numbered_stmt n (block ss) = block (numbered_stmts n ss)
-  numbered_stmt n (branch id t e s r) = branch n t (numbered_expr (n + 1) e) (numbered_stmt (n + 1 + expr_nodes e) s) (numbered_else (n + 1 + expr_nodes e + stmt_nodes s) r)
-  numbered_stmt n (while_loop id t e s) = while_loop n t (numbered_expr (n + 1) e) (numbered_stmt (n + 1 + expr_nodes e) s)
-  numbered_stmt n (do_loop id t s e) = do_loop n t (numbered_stmt (n + 1) s) (numbered_expr (n + 1 + stmt_nodes s) e)
-  numbered_stmt n (for_loop id t a e u s) =
-      for_loop n t (numbered_start (n + 1) a) (option_numbered numbered_expr (n + 1 + start_nodes a) e) (option_numbered numbered_expr (n + 1 + start_nodes a + option_nodes expr_nodes e) u)
-      (numbered_stmt (n + 1 + start_nodes a + option_nodes expr_nodes e + option_nodes expr_nodes u) s)
-  numbered_stmt n (break id t) = break n t
-  numbered_stmt n (continue id t) = continue n t
-  numbered_stmt n (return id t e) = return n t (option_numbered numbered_expr (n + 1) e)
-
-  pub numbered_stmts : ℕ → Stmts → Stmts
-  numbered_stmts n no_stmts = no_stmts
-  numbered_stmts n (stmt_and s ss) = stmt_and (numbered_stmt n s) (numbered_stmts (n + stmt_nodes s) ss)
-
-  pub numbered_else : ℕ → Else → Else
-  numbered_else n no_else = no_else
-  numbered_else n (else_by s) = else_by (numbered_stmt n s)
+  pub relabel_else : Relabelling → ℕ → Else → Else
+  relabel_else f n no_else = no_else
+  relabel_else f n (else_by s) = else_by (relabel_stmt f n s)
 
 -- ---- what stands at file scope
 
-abbrev pub struct_nodes : StructTree → ℕ
-struct_nodes s = 1 + all_nodes members_nodes s.members
+abbrev pub relabel_struct : Relabelling → ℕ → StructTree → StructTree
+relabel_struct f n s = record { node = f.label n s.node; name = s.name; members = relabel_all f members_count (relabel_members f) (f.onward n 1) s.members }
 
-abbrev pub numbered_struct : ℕ → StructTree → StructTree
-numbered_struct n s = record { id = n; token = s.token; name = s.name; members = all_numbered members_nodes numbered_members (n + 1) s.members }
-
-abbrev pub function_nodes : FunctionTree → ℕ
-function_nodes f = 1 + all_nodes parameter_nodes f.parameters + option_nodes stmts_nodes f.body
-
-abbrev pub numbered_function : ℕ → FunctionTree → FunctionTree
-numbered_function n f = record {
-  id = n;
-  token = f.token;
-  base = f.base;
-  stars = f.stars;
-  name = f.name;
-  parameters = all_numbered parameter_nodes numbered_parameter (n + 1) f.parameters;
-  body = option_numbered numbered_stmts (n + 1 + all_nodes parameter_nodes f.parameters) f.body;
+abbrev pub relabel_function : Relabelling → ℕ → FunctionTree → FunctionTree
+relabel_function f n d = record {
+  node = f.label n d.node;
+  result_type = d.result_type;
+  name = d.name;
+  parameters = relabel_all f parameter_count (relabel_parameter f) (f.onward n 1) d.parameters;
+  body = relabel_option (relabel_stmts f) (f.onward (f.onward n 1) (all_count parameter_count d.parameters)) d.body;
 }
 
-abbrev pub decl_nodes : DeclTree → ℕ
-decl_nodes (structure s) = struct_nodes s
-decl_nodes (forward f) = 1
-decl_nodes (function f) = function_nodes f
-decl_nodes (variables d) = declaration_nodes d
+abbrev pub relabel_decl : Relabelling → ℕ → DeclTree → DeclTree
+relabel_decl f n (structure s) = structure (relabel_struct f n s)
+relabel_decl f n (forward d) = forward (record { node = f.label n d.node; name = d.name })
+relabel_decl f n (function d) = function (relabel_function f n d)
+relabel_decl f n (variables d) = variables (relabel_declaration f n d)
 
-abbrev pub numbered_decl : ℕ → DeclTree → DeclTree
-numbered_decl n (structure s) = structure (numbered_struct n s)
-numbered_decl n (forward f) = forward (record { id = n; token = f.token; name = f.name })
-numbered_decl n (function f) = function (numbered_function n f)
-numbered_decl n (variables d) = variables (numbered_declaration n d)
+abbrev pub relabel_unit : Relabelling → UnitTree → UnitTree
+relabel_unit f ds = relabel_all f decl_count (relabel_decl f) 0 ds
 
-abbrev pub unit_nodes : List DeclTree → ℕ
-unit_nodes ds = all_nodes decl_nodes ds
+-- ---- the maps that are used
 
-abbrev pub numbered_unit : List DeclTree → List DeclTree
-numbered_unit ds = all_numbered decl_nodes numbered_decl 0 ds
+-- a node gets its number in the order of the text, and keeps its token
+abbrev pub numbered : Relabelling
+numbered = record { label = λ n node. record { id = n; token = node.token }; onward = λ n k. n + k }
+
+-- a node loses number and token
+abbrev pub bare : Relabelling
+bare = record { label = λ n node. record { id = 0; token = 0 }; onward = λ n k. n }
+
+abbrev pub numbered_unit : UnitTree → UnitTree
+numbered_unit ds = relabel_unit numbered ds

@@ -6,8 +6,8 @@ use Rattle.qs_syntax.specs.declared.terminal.Terminal.{Terminal}
 use Rattle.qs_syntax.specs.declared.terminal.Terminal.TheVariants.{Name, Keyword, Punctuator}
 use Rattle.qs_base.specs.declared.keyword.Keyword.TheVariants as keywords
 use Rattle.qs_syntax.specs.declared.punctuator.Punctuator.TheVariants as punctuators
-use Rattle.qs_syntax.specs.declared.tree.Base.{Base}
-use Rattle.qs_syntax.specs.Trees.{ExprTree, LengthsTree, DeclaratorTree, InitialiserTree, value, list, Initialisers, no_initialisers, initialiser_and, VariableTree, DeclarationTree, ParameterTree, MembersTree}
+use Rattle.qs_syntax.specs.declared.types.Base.{Base}
+use Rattle.qs_syntax.specs.Trees.{unnumbered, ExprTree, LengthsTree, DeclaratorTree, InitialiserTree, value, list, Initialisers, no_initialisers, initialiser_and, VariableTree, DeclarationTree, ParameterTree, MembersTree}
 use Rattle.qs_syntax.specs.ReadsTypes.{ReadsType, ReadsOuterType, ReadsStars}
 use Rattle.qs_syntax.specs.Reads.{Reads, Conditional, Assignment, place}
 
@@ -26,14 +26,14 @@ pub data ReadsLengths : ℕ → List Terminal → LengthsTree → Type 0 where
 -- declarator = stars NAME dims; the height of its highest part
 pub data ReadsDeclarator : ℕ → List Terminal → DeclaratorTree → Type 0 where
   a_declarator : {h n : ℕ} {xs ys : List Terminal} {lengths : LengthsTree} (at : ℕ) (x : List ℕ) → ReadsStars xs n → ReadsLengths h ys lengths
-      → ReadsDeclarator h (xs ++ Name at x ∷ ys) (record { id = 0; token = at; stars = n; name = x; lengths = lengths })
+      → ReadsDeclarator h (xs ++ Name at x ∷ ys) (record { node = unnumbered at; stars = n; name = x; lengths = lengths })
 
 -- initialiser = assignment | "{" initialiser { "," initialiser } [ "," ] "}"
 mutual
   pub data ReadsInitialiser : ℕ → List Terminal → InitialiserTree → Type 0 where
     a_value : {h : ℕ} {ts : List Terminal} {e : ExprTree} → Reads Assignment h ts e → ReadsInitialiser h ts (value e)
     a_list : {h : ℕ} {ts : List Terminal} {is : Initialisers} (o c : ℕ) → ReadsInitialisers h ts is
-        → ReadsInitialiser (suc h) (Punctuator o punctuators.OpenBrace ∷ (ts ++ Punctuator c punctuators.CloseBrace ∷ [])) (list 0 o is)
+        → ReadsInitialiser (suc h) (Punctuator o punctuators.OpenBrace ∷ (ts ++ Punctuator c punctuators.CloseBrace ∷ [])) (list (unnumbered o) is)
 
   pub data ReadsInitialisers : ℕ → List Terminal → Initialisers → Type 0 where
     a_last_initialiser : {h : ℕ} {ts : List Terminal} {i : InitialiserTree} → ReadsInitialiser h ts i → ReadsInitialisers h ts (initialiser_and i no_initialisers)
@@ -83,10 +83,10 @@ pub data ReadsAllMembers : ℕ → List Terminal → List MembersTree → Type 0
 -- param = lspec stars [ NAME ] dims, but not the single token `void`
 pub data ReadsParameter : ℕ → List Terminal → ParameterTree → Type 0 where
   a_named_parameter : {h n : ℕ} {xs ys zs : List Terminal} {base : Base} {lengths : LengthsTree} (at : ℕ) (x : List ℕ) → ReadsType xs base → ReadsStars ys n → ReadsLengths h zs lengths
-      → ReadsParameter (suc h) (xs ++ (ys ++ Name at x ∷ zs)) (record { id = 0; token = at; base = base; stars = n; name = Some x; lengths = lengths })
+      → ReadsParameter (suc h) (xs ++ (ys ++ Name at x ∷ zs)) (record { node = unnumbered at; type_name = record { base = base; stars = n }; name = Some x; lengths = lengths })
   an_unnamed_parameter : {h n : ℕ} {xs ys zs : List Terminal} {base : Base} {lengths : LengthsTree} → ReadsType xs base → ReadsStars ys n → ReadsLengths h zs lengths
       → ((at : ℕ) → xs ++ (ys ++ zs) ≡ Keyword at keywords.Void ∷ [] → ⊥)
-      → ReadsParameter (suc h) (xs ++ (ys ++ zs)) (record { id = 0; token = place xs; base = base; stars = n; name = None; lengths = lengths })
+      → ReadsParameter (suc h) (xs ++ (ys ++ zs)) (record { node = unnumbered (place xs); type_name = record { base = base; stars = n }; name = None; lengths = lengths })
 
 -- param { "," param }
 pub data ReadsParameters : ℕ → List Terminal → List ParameterTree → Type 0 where

@@ -5,24 +5,24 @@ use Rattle.qs_syntax.specs.declared.terminal.Terminal.{Terminal}
 use Rattle.qs_syntax.specs.declared.terminal.Terminal.TheVariants.{Keyword, Punctuator}
 use Rattle.qs_base.specs.declared.keyword.Keyword.TheVariants as keywords
 use Rattle.qs_syntax.specs.declared.punctuator.Punctuator.TheVariants as punctuators
-use Rattle.qs_syntax.specs.Trees.{ExprTree, DeclarationTree, StartTree, no_start, start_expression, start_declaration, StmtTree, empty, expression, declaration, block, branch, while_loop, do_loop, for_loop, break, continue, return, Stmts, no_stmts, stmt_and, Else, no_else, else_by}
+use Rattle.qs_syntax.specs.Trees.{unnumbered, ExprTree, DeclarationTree, StartTree, no_start, start_expression, start_declaration, StmtTree, empty, expression, declaration, block, branch, while_loop, do_loop, for_loop, break, continue, return, Stmts, no_stmts, stmt_and, Else, no_else, else_by}
 use Rattle.qs_syntax.specs.Reads.{Reads, Expression, place}
 use Rattle.qs_syntax.specs.ReadsDeclarations.{ReadsDeclaration}
 
 -- an `else` that follows would belong to an `if` in it (6.8.4.1)
 abbrev mutual
   pub is_open : StmtTree → Bool
-  is_open (empty id t) = false
-  is_open (expression id t e) = false
+  is_open (empty node) = false
+  is_open (expression node e) = false
   is_open (declaration d) = false
   is_open (block ss) = false
-  is_open (branch id t e s rest) = is_open_end rest
-  is_open (while_loop id t e s) = is_open s
-  is_open (do_loop id t s e) = false
-  is_open (for_loop id t start e u s) = is_open s
-  is_open (break id t) = false
-  is_open (continue id t) = false
-  is_open (return id t e) = false
+  is_open (branch node e s rest) = is_open_end rest
+  is_open (while_loop node e s) = is_open s
+  is_open (do_loop node s e) = false
+  is_open (for_loop node start e u s) = is_open s
+  is_open (break node) = false
+  is_open (continue node) = false
+  is_open (return node e) = false
 
   pub is_open_end : Else → Bool
   is_open_end no_else = true
@@ -44,22 +44,22 @@ mutual
   pub data ReadsStatement : ℕ → List Terminal → StmtTree → Type 0 where
     -- block = "{" { item } "}"
     a_block : {h : ℕ} {ts : List Terminal} {ss : Stmts} (o c : ℕ) → ReadsItems h ts ss → ReadsStatement (suc h) (Punctuator o punctuators.OpenBrace ∷ (ts ++ Punctuator c punctuators.CloseBrace ∷ [])) (block ss)
-    an_empty : (at : ℕ) → ReadsStatement 1 (Punctuator at punctuators.Semicolon ∷ []) (empty 0 at)
-    an_expression : {h : ℕ} {ts : List Terminal} {e : ExprTree} (s : ℕ) → Reads Expression h ts e → ReadsStatement (suc h) (ts ++ Punctuator s punctuators.Semicolon ∷ []) (expression 0 (place ts) e)
+    an_empty : (at : ℕ) → ReadsStatement 1 (Punctuator at punctuators.Semicolon ∷ []) (empty (unnumbered at))
+    an_expression : {h : ℕ} {ts : List Terminal} {e : ExprTree} (s : ℕ) → Reads Expression h ts e → ReadsStatement (suc h) (ts ++ Punctuator s punctuators.Semicolon ∷ []) (expression (unnumbered (place ts)) e)
     an_if : {h k : ℕ} {xs ys : List Terminal} {e : ExprTree} {s : StmtTree} (at o c : ℕ) → Reads Expression h xs e → ReadsStatement k ys s
-        → ReadsStatement (suc (max h k)) (Keyword at keywords.If ∷ Punctuator o punctuators.OpenParenthesis ∷ (xs ++ Punctuator c punctuators.CloseParenthesis ∷ ys)) (branch 0 at e s no_else)
+        → ReadsStatement (suc (max h k)) (Keyword at keywords.If ∷ Punctuator o punctuators.OpenParenthesis ∷ (xs ++ Punctuator c punctuators.CloseParenthesis ∷ ys)) (branch (unnumbered at) e s no_else)
     -- an `else` belongs to the nearest `if` that may take it
     an_if_with_else : {h k l : ℕ} {xs ys zs : List Terminal} {e : ExprTree} {s t : StmtTree} (at o c n : ℕ) → Reads Expression h xs e → ReadsStatement k ys s → is_open s ≡ false → ReadsStatement l zs t
-        → ReadsStatement (suc (max h (max k l))) (Keyword at keywords.If ∷ Punctuator o punctuators.OpenParenthesis ∷ (xs ++ Punctuator c punctuators.CloseParenthesis ∷ (ys ++ Keyword n keywords.Else ∷ zs))) (branch 0 at e s (else_by t))
+        → ReadsStatement (suc (max h (max k l))) (Keyword at keywords.If ∷ Punctuator o punctuators.OpenParenthesis ∷ (xs ++ Punctuator c punctuators.CloseParenthesis ∷ (ys ++ Keyword n keywords.Else ∷ zs))) (branch (unnumbered at) e s (else_by t))
     a_while : {h k : ℕ} {xs ys : List Terminal} {e : ExprTree} {s : StmtTree} (at o c : ℕ) → Reads Expression h xs e → ReadsStatement k ys s
-        → ReadsStatement (suc (max h k)) (Keyword at keywords.While ∷ Punctuator o punctuators.OpenParenthesis ∷ (xs ++ Punctuator c punctuators.CloseParenthesis ∷ ys)) (while_loop 0 at e s)
+        → ReadsStatement (suc (max h k)) (Keyword at keywords.While ∷ Punctuator o punctuators.OpenParenthesis ∷ (xs ++ Punctuator c punctuators.CloseParenthesis ∷ ys)) (while_loop (unnumbered at) e s)
     a_do : {h k : ℕ} {xs ys : List Terminal} {s : StmtTree} {e : ExprTree} (at w o c n : ℕ) → ReadsStatement h xs s → Reads Expression k ys e
-        → ReadsStatement (suc (max h k)) (Keyword at keywords.Do ∷ (xs ++ Keyword w keywords.While ∷ Punctuator o punctuators.OpenParenthesis ∷ (ys ++ Punctuator c punctuators.CloseParenthesis ∷ Punctuator n punctuators.Semicolon ∷ []))) (do_loop 0 at s e)
+        → ReadsStatement (suc (max h k)) (Keyword at keywords.Do ∷ (xs ++ Keyword w keywords.While ∷ Punctuator o punctuators.OpenParenthesis ∷ (ys ++ Punctuator c punctuators.CloseParenthesis ∷ Punctuator n punctuators.Semicolon ∷ []))) (do_loop (unnumbered at) s e)
     a_for : {h i j k : ℕ} {ws xs ys zs : List Terminal} {start : StartTree} {e u : Option ExprTree} {s : StmtTree} (at o n c : ℕ) → ReadsStart h ws start → ReadsOptional i xs e → ReadsOptional j ys u → ReadsStatement k zs s
-        → ReadsStatement (suc (max h (max i (max j k)))) (Keyword at keywords.For ∷ Punctuator o punctuators.OpenParenthesis ∷ (ws ++ (xs ++ Punctuator n punctuators.Semicolon ∷ (ys ++ Punctuator c punctuators.CloseParenthesis ∷ zs)))) (for_loop 0 at start e u s)
-    a_break : (at s : ℕ) → ReadsStatement 1 (Keyword at keywords.Break ∷ Punctuator s punctuators.Semicolon ∷ []) (break 0 at)
-    a_continue : (at s : ℕ) → ReadsStatement 1 (Keyword at keywords.Continue ∷ Punctuator s punctuators.Semicolon ∷ []) (continue 0 at)
-    a_return : {h : ℕ} {ts : List Terminal} {e : Option ExprTree} (at s : ℕ) → ReadsOptional h ts e → ReadsStatement (suc h) (Keyword at keywords.Return ∷ (ts ++ Punctuator s punctuators.Semicolon ∷ [])) (return 0 at e)
+        → ReadsStatement (suc (max h (max i (max j k)))) (Keyword at keywords.For ∷ Punctuator o punctuators.OpenParenthesis ∷ (ws ++ (xs ++ Punctuator n punctuators.Semicolon ∷ (ys ++ Punctuator c punctuators.CloseParenthesis ∷ zs)))) (for_loop (unnumbered at) start e u s)
+    a_break : (at s : ℕ) → ReadsStatement 1 (Keyword at keywords.Break ∷ Punctuator s punctuators.Semicolon ∷ []) (break (unnumbered at))
+    a_continue : (at s : ℕ) → ReadsStatement 1 (Keyword at keywords.Continue ∷ Punctuator s punctuators.Semicolon ∷ []) (continue (unnumbered at))
+    a_return : {h : ℕ} {ts : List Terminal} {e : Option ExprTree} (at s : ℕ) → ReadsOptional h ts e → ReadsStatement (suc h) (Keyword at keywords.Return ∷ (ts ++ Punctuator s punctuators.Semicolon ∷ [])) (return (unnumbered at) e)
 
   -- item = declaration | statement
   pub data ReadsItem : ℕ → List Terminal → StmtTree → Type 0 where

@@ -4,9 +4,9 @@ use Rattle.qs_syntax.specs.declared.terminal.Terminal.{Terminal}
 use Rattle.qs_syntax.specs.declared.terminal.Terminal.TheVariants.{Name, Keyword, Punctuator}
 use Rattle.qs_base.specs.declared.keyword.Keyword.TheVariants as keywords
 use Rattle.qs_syntax.specs.declared.punctuator.Punctuator.TheVariants as punctuators
-use Rattle.qs_syntax.specs.declared.tree.Base.{Base}
-use Rattle.qs_syntax.specs.declared.tree.Base.TheVariants as bases
-use Rattle.qs_syntax.specs.declared.tree.TypeName.{TypeName}
+use Rattle.qs_syntax.specs.declared.types.Base.{Base}
+use Rattle.qs_syntax.specs.declared.types.Base.TheVariants as bases
+use Rattle.qs_syntax.specs.declared.types.TypeName.{TypeName}
 
 -- { "const" }
 pub data ReadsConsts : List Terminal → Type 0 where

@@ -6,30 +6,35 @@ use Rattle.qs_syntax.specs.declared.operators.StepOperator.{StepOperator}
 use Rattle.qs_syntax.specs.declared.operators.BinaryOperator.{BinaryOperator}
 use Rattle.qs_syntax.specs.declared.operators.AssignmentOperator.{AssignmentOperator}
 use Rattle.qs_syntax.specs.declared.operators.Access.{Access}
-use Rattle.qs_syntax.specs.declared.tree.Base.{Base}
-use Rattle.qs_syntax.specs.declared.tree.TypeName.{TypeName}
+use Rattle.qs_syntax.specs.declared.types.Base.{Base}
+use Rattle.qs_syntax.specs.declared.types.TypeName.{TypeName}
+use Rattle.qs_syntax.specs.declared.nodes.Node.{Node}
+
+-- a node at this token, without a number
+abbrev pub unnumbered : ℕ → Node
+unnumbered at = record { id = 0; token = at }
 
 -- ---- expressions (6.5)
 
 mutual
   pub data ExprTree : Type 0 where
-    expr : (id token : ℕ) → ShapeTree → ExprTree
+    expr : Node → ShapeTree → ExprTree
 
   pub data ShapeTree : Type 0 where
     -- a value, and whether it is unsigned
-    int : ℕ → Bool → ShapeTree
+    constant : ℕ → Bool → ShapeTree
     text : List ℕ → ShapeTree
     name : List ℕ → ShapeTree
     unary : UnaryOperator → ExprTree → ShapeTree
     step : StepOperator → ExprTree → ShapeTree
     cast : TypeName → ExprTree → ShapeTree
-    size_type : TypeName → ShapeTree
-    size_expr : ExprTree → ShapeTree
+    sizeof_type : TypeName → ShapeTree
+    sizeof_expr : ExprTree → ShapeTree
     binary : BinaryOperator → ExprTree → ExprTree → ShapeTree
     assign : AssignmentOperator → ExprTree → ExprTree → ShapeTree
-    choice : ExprTree → ExprTree → ExprTree → ShapeTree
+    conditional : ExprTree → ExprTree → ExprTree → ShapeTree
     comma : ExprTree → ExprTree → ShapeTree
-    index : ExprTree → ExprTree → ShapeTree
+    subscript : ExprTree → ExprTree → ShapeTree
     member : Access → ExprTree → List ℕ → ShapeTree
     call : List ℕ → Exprs → ShapeTree
 
@@ -49,8 +54,7 @@ pub record LengthsTree : Type 0 where
   pub given : List ExprTree
 
 pub record DeclaratorTree : Type 0 where
-  pub id : ℕ
-  pub token : ℕ
+  pub node : Node
   pub stars : ℕ
   pub name : List ℕ
   pub lengths : LengthsTree
@@ -58,7 +62,7 @@ pub record DeclaratorTree : Type 0 where
 mutual
   pub data InitialiserTree : Type 0 where
     value : ExprTree → InitialiserTree
-    list : (id token : ℕ) → Initialisers → InitialiserTree
+    list : Node → Initialisers → InitialiserTree
 
   pub data Initialisers : Type 0 where
     no_initialisers : Initialisers
@@ -77,10 +81,8 @@ pub record DeclarationTree : Type 0 where
   pub variables : List VariableTree
 
 pub record ParameterTree : Type 0 where
-  pub id : ℕ
-  pub token : ℕ
-  pub base : Base
-  pub stars : ℕ
+  pub node : Node
+  pub type_name : TypeName
   pub name : Option (List ℕ)
   pub lengths : LengthsTree
 
@@ -97,17 +99,17 @@ pub data StartTree : Type 0 where
 
 mutual
   pub data StmtTree : Type 0 where
-    empty : (id token : ℕ) → StmtTree
-    expression : (id token : ℕ) → ExprTree → StmtTree
+    empty : Node → StmtTree
+    expression : Node → ExprTree → StmtTree
     declaration : DeclarationTree → StmtTree
     block : Stmts → StmtTree
-    branch : (id token : ℕ) → ExprTree → StmtTree → Else → StmtTree
-    while_loop : (id token : ℕ) → ExprTree → StmtTree → StmtTree
-    do_loop : (id token : ℕ) → StmtTree → ExprTree → StmtTree
-    for_loop : (id token : ℕ) → StartTree → Option ExprTree → Option ExprTree → StmtTree → StmtTree
-    break : (id token : ℕ) → StmtTree
-    continue : (id token : ℕ) → StmtTree
-    return : (id token : ℕ) → Option ExprTree → StmtTree
+    branch : Node → ExprTree → StmtTree → Else → StmtTree
+    while_loop : Node → ExprTree → StmtTree → StmtTree
+    do_loop : Node → StmtTree → ExprTree → StmtTree
+    for_loop : Node → StartTree → Option ExprTree → Option ExprTree → StmtTree → StmtTree
+    break : Node → StmtTree
+    continue : Node → StmtTree
+    return : Node → Option ExprTree → StmtTree
 
   pub data Stmts : Type 0 where
     no_stmts : Stmts
@@ -128,21 +130,17 @@ else_of (Some s) = else_by s
 -- ---- what stands at file scope (6.9)
 
 pub record StructTree : Type 0 where
-  pub id : ℕ
-  pub token : ℕ
+  pub node : Node
   pub name : List ℕ
   pub members : List MembersTree
 
 pub record ForwardTree : Type 0 where
-  pub id : ℕ
-  pub token : ℕ
+  pub node : Node
   pub name : List ℕ
 
 pub record FunctionTree : Type 0 where
-  pub id : ℕ
-  pub token : ℕ
-  pub base : Base
-  pub stars : ℕ
+  pub node : Node
+  pub result_type : TypeName
   pub name : List ℕ
   pub parameters : List ParameterTree
   pub body : Option Stmts

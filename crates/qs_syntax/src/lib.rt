@@ -1,30 +1,31 @@
 //! The words of the language: its tokens, and its trees.
 #![tactic(auto)]
 
-mod copy;
-mod numbered_declarations;
-mod numbered_statements;
-mod numbered_units;
-mod numbering;
+mod declarations;
+mod expressions;
+mod nodes;
 mod operators;
 mod punctuator;
-mod same;
-mod same_declarations;
-mod same_expressions;
-mod same_statements;
-mod same_units;
+mod statements;
 mod terminal;
+mod text;
 mod tokens;
-mod tree;
+mod types;
 mod unit;
+mod units;
 
+pub use declarations::{
+    Declaration, Declarator, Initialiser, InitialiserList, Lengths, Members, Parameter, Variable,
+};
+pub use expressions::{Expr, Shape};
+pub use nodes::Node;
 pub use operators::{Access, AssignmentOperator, BinaryOperator, StepOperator, UnaryOperator};
 pub use punctuator::Punctuator;
 pub use qs_base::Keyword;
+pub use statements::{Start, Stmt};
 pub use terminal::Terminal;
+pub use text::Text;
 pub use tokens::{Token, TokenKind};
-pub use tree::{
-    Base, Decl, Declaration, Declarator, Expr, Forward, Function, Initialiser, InitialiserList,
-    Lengths, Members, Node, Parameter, Shape, Start, Stmt, Struct, Text, TypeName, Variable,
-};
+pub use types::{Base, TypeName};
 pub use unit::{Unit, numbered};
+pub use units::{Decl, Forward, Function, Struct};

@@ -1,6 +1,6 @@
 // Tokens as the grammar sees them.
 use crate::punctuator::Punctuator;
-use crate::tree::Text;
+use crate::text::Text;
 use qs_base::{Keyword, Name};
 
 /// A token as the grammar sees it. The number of the token comes first.

@@ -1,13 +1,15 @@
-// How units are made, copied and read.
-ghost use Rattle.std.specs.Prelude.{◌≡◌, ◌<◌, ◌^◌, map, IfOk};
+// How units are made, copied, compared and read.
+ghost use Rattle.std.specs.Prelude.{◌≡◌, ◌<◌, ◌^◌, ◌↔◌, map, IfOk, IsTrue, Some};
+ghost use Rattle.std.specs.List.{slice_get};
 ghost use Rattle.qs_syntax.specs.TreeOf.{decl_tree};
 ghost use Rattle.qs_syntax.specs.UnitTrees.{unit_tree};
-ghost use Rattle.qs_syntax.specs.Numbering.{unit_nodes, numbered_unit};
+ghost use Rattle.qs_syntax.specs.Nodes.{unit_count, unit_nodes};
+ghost use Rattle.qs_syntax.specs.Numbering.{numbered_unit};
+ghost use Rattle.qs_syntax.specs.Sameness.{same_unit};
 ghost use Rattle.qs_syntax.specs.Units.{IsRead};
 
 use super::Unit;
-use crate::numbered_units::numbered_decls;
-use crate::tree::Decl;
+use crate::units::{Decl, copy_decls, number_owned_decls, same_decls};
 use qs_base::NoMemory;
 use std::alloc::Global;
 
@@ -20,30 +22,51 @@ impl Unit {
     }
 
     /// The count of the nodes.
+    #[tactic(auto, using(crate::proofs::UnitLaws::count_of_unit))]
     pub fn nodes(&self) -> u32
-        ensures { result ≡ unit_nodes (unit_tree self.now) }
+        ensures { result ≡ unit_count (unit_tree self.now) }
     {
-        self.nodes
+        self.tokens.len() as u32
+    }
+
+    /// The number of the first token of the node with this number.
+    #[tactic(auto, using(crate::proofs::UnitLaws::count_of_unit, crate::proofs::UnitLaws::node_of_unit))]
+    pub fn token_of(&self, node: u32) -> u32
+        requires { node < unit_count (unit_tree self.now) }
+        ensures { slice_get (unit_nodes (unit_tree self.now)) node ≡ Some (record { id = node; token = result }) }
+    {
+        self.tokens[node as usize]
     }
 
     /// A copy.
     pub fn copy(&self, alloc: Global) -> Result<Unit, NoMemory>
         ensures { IfOk result (λ unit. unit_tree unit ≡ unit_tree self.now) }
     {
-        numbered(alloc, &self.declarations)
+        Ok(Unit {
+            declarations: copy_decls(alloc, &self.declarations)?,
+            tokens: Vec::from_slice(alloc, &self.tokens)?,
+        })
+    }
+
+    /// Whether the two are the same unit: also the tokens of their nodes.
+    pub fn same(&self, other: &Unit) -> bool
+        ensures test { result ≡ same_unit (unit_tree self.now) (unit_tree other.now) }
+        ensures exact { IsTrue result ↔ (unit_tree self.now ≡ unit_tree other.now) }
+    {
+        same_decls(self.declarations(), other.declarations())
     }
 }
 
-/// The unit of these trees, which are given without numbers.
-pub fn numbered(alloc: Global, unnumbered: &[Decl]) -> Result<Unit, NoMemory>
-    requires read { IsRead (numbered_unit (map decl_tree unnumbered.now)) }
-    requires few { unit_nodes (map decl_tree unnumbered.now) < 2 ^ 32 }
-    ensures { IfOk result (λ unit. unit_tree unit ≡ numbered_unit (map decl_tree unnumbered.now)) }
+/// The unit of these trees, which are given without numbers. Their nodes are numbered where they stand.
+pub fn numbered(alloc: Global, unnumbered: Vec<Decl>) -> Result<Unit, NoMemory>
+    requires read { IsRead (numbered_unit (map decl_tree unnumbered.items)) }
+    requires few { unit_count (map decl_tree unnumbered.items) < 2 ^ 32 }
+    ensures { IfOk result (λ unit. unit_tree unit ≡ numbered_unit (map decl_tree unnumbered.items)) }
 {
-    let mut nodes = 0;
-    let declarations = numbered_decls(alloc, unnumbered, &mut nodes)?;
+    let mut tokens = Vec::new(alloc);
+    let declarations = number_owned_decls(unnumbered, &mut tokens)?;
     Ok(Unit {
         declarations,
-        nodes,
+        tokens,
     })
 }

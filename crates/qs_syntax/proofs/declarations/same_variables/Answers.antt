@@ -1,0 +1,10 @@
+use Rattle.std.proofs.Common.{◌∙◌, sym, refl, arith, map}
+use Rattle.std.specs.Cmp.Lexicographic.{pointwise}
+use Rattle.qs_syntax.specs.TreeOf.{variable_tree}
+use Rattle.qs_syntax.specs.Sameness.{same_variable}
+use Rattle.qs_syntax.proofs.SameLoops.{test_ends}
+use Rattle.qs_syntax.proofs.declarations.same_variables.Goals as goal
+
+pub returns : goal.returns
+returns c =
+    test_ends (λ a b. pointwise same_variable (map variable_tree a) (map variable_tree b)) refl (λ _ _. refl) c.args.a.now c.args.b.now c.loop-i.i (omega arith) (omega arith) (omega arith) ∙ sym c.loop-i.invariant.same

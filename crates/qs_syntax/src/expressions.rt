@@ -1,0 +1,443 @@
+// Expressions (C11 6.5): their trees, whether two are the same, copies, and the numbers of their nodes.
+ghost use Rattle.std.specs.Prelude.{◌≡◌, ◌+◌, ◌<◌, ◌^◌, ◌++◌, ◌↔◌, IfOk, IsTrue, OnOk, length, map};
+ghost use Rattle.qs_syntax.specs.TreeOf.{expr_tree, exprs_tree, shape_tree};
+ghost use Rattle.qs_syntax.specs.Nodes.{tokens_of, all_count, all_nodes, expr_count, exprs_count, shape_count, expr_nodes, exprs_nodes, shape_nodes};
+ghost use Rattle.qs_syntax.specs.Numbering.{numbered, relabel_all, relabel_expr, relabel_exprs, relabel_shape};
+ghost use Rattle.qs_syntax.specs.Operators.{same_unary, same_step, same_binary, same_assign, same_access};
+ghost use Rattle.qs_syntax.specs.Sameness.{same_expr, same_shape, same_exprs};
+
+use crate::nodes::{Node, number_node, same_node};
+use crate::operators::{Access, AssignmentOperator, BinaryOperator, StepOperator, UnaryOperator};
+use crate::text::Text;
+use crate::types::{TypeName, same_type};
+use qs_base::{Name, NoMemory};
+use std::alloc::Global;
+use std::mem;
+
+/// An expression (C11 6.5).
+#[cycle(expr)]
+#[derive(Drop)]
+pub struct Expr {
+    /// Its node.
+    pub node: Node,
+    /// What it is.
+    pub shape: Shape,
+}
+
+/// What an expression is, and its parts.
+#[cycle(expr)]
+#[derive(Drop)]
+pub enum Shape {
+    /// A number or character: its value, and whether it is `unsigned` and no `int`.
+    Constant(u32, bool),
+    /// A string literal; literals that stand side by side are one.
+    Text(Text),
+    /// The name of a variable or parameter.
+    Name(Name),
+    /// A unary operator.
+    Unary(UnaryOperator, Box<Expr>),
+    /// A step by one.
+    Step(StepOperator, Box<Expr>),
+    /// A cast.
+    Cast(TypeName, Box<Expr>),
+    /// `sizeof` of a type.
+    SizeofType(TypeName),
+    /// `sizeof` of an expression.
+    SizeofExpr(Box<Expr>),
+    /// An operator between two operands.
+    Binary {
+        /// The operator.
+        operator: BinaryOperator,
+        /// The operand before it.
+        left: Box<Expr>,
+        /// The operand behind it.
+        right: Box<Expr>,
+    },
+    /// An assignment.
+    Assign {
+        /// The operator.
+        operator: AssignmentOperator,
+        /// What is assigned to.
+        left: Box<Expr>,
+        /// The operand behind the operator.
+        right: Box<Expr>,
+    },
+    /// `a ? b : c`
+    Conditional {
+        /// The operand before `?`.
+        condition: Box<Expr>,
+        /// The operand between `?` and `:`.
+        then: Box<Expr>,
+        /// The operand behind `:`.
+        otherwise: Box<Expr>,
+    },
+    /// `a, b`
+    Comma(Box<Expr>, Box<Expr>),
+    /// `a[b]`
+    Subscript(Box<Expr>, Box<Expr>),
+    /// `a.m` or `a->m`
+    Member {
+        /// How the member is reached.
+        access: Access,
+        /// The struct, or the pointer to it.
+        object: Box<Expr>,
+        /// The member's name.
+        name: Name,
+    },
+    /// A call: the function's name and the arguments.
+    Call(Name, Vec<Expr>),
+}
+
+impl Expr {
+    /// Whether the two are the same expression: also the numbers and the tokens of their nodes.
+    pub fn same(&self, other: &Expr) -> bool
+        ensures test { result ≡ same_expr (expr_tree self.now) (expr_tree other.now) }
+        ensures exact { IsTrue result ↔ (expr_tree self.now ≡ expr_tree other.now) }
+    {
+        same_expr(self, other)
+    }
+}
+
+// ---- whether two are the same
+
+fn same_unary(a: UnaryOperator, b: UnaryOperator) -> bool
+    ensures { result ≡ same_unary a b }
+{
+    a == b
+}
+
+fn same_step(a: StepOperator, b: StepOperator) -> bool
+    ensures { result ≡ same_step a b }
+{
+    a == b
+}
+
+fn same_binary(a: BinaryOperator, b: BinaryOperator) -> bool
+    ensures { result ≡ same_binary a b }
+{
+    a == b
+}
+
+fn same_assign(a: AssignmentOperator, b: AssignmentOperator) -> bool
+    ensures { result ≡ same_assign a b }
+{
+    a == b
+}
+
+fn same_access(a: Access, b: Access) -> bool
+    ensures { result ≡ same_access a b }
+{
+    a == b
+}
+
+#[cycle(same_expr)]
+pub fn same_expr(a: &Expr, b: &Expr) -> bool
+    ensures { result ≡ same_expr (expr_tree a.now) (expr_tree b.now) }
+{
+    same_node(a.node, b.node) && same_shape(&a.shape, &b.shape)
+}
+
+#[cycle(same_expr)]
+fn same_shape(a: &Shape, b: &Shape) -> bool
+    ensures { result ≡ same_shape (shape_tree a.now) (shape_tree b.now) }
+{
+    match (a, b) {
+        (Shape::Constant(n, u), Shape::Constant(m, v)) => n == m && u == v,
+        (Shape::Text(x), Shape::Text(y)) => x == y,
+        (Shape::Name(x), Shape::Name(y)) => x == y,
+        (Shape::Unary(s, a), Shape::Unary(r, b)) => same_unary(*s, *r) && same_expr(a, b),
+        (Shape::Step(s, a), Shape::Step(r, b)) => same_step(*s, *r) && same_expr(a, b),
+        (Shape::Cast(t, a), Shape::Cast(u, b)) => same_type(t, u) && same_expr(a, b),
+        (Shape::SizeofType(t), Shape::SizeofType(u)) => same_type(t, u),
+        (Shape::SizeofExpr(a), Shape::SizeofExpr(b)) => same_expr(a, b),
+        (
+            Shape::Binary {
+                operator: s,
+                left: a,
+                right: b,
+            },
+            Shape::Binary {
+                operator: r,
+                left: c,
+                right: d,
+            },
+        ) => same_binary(*s, *r) && same_expr(a, c) && same_expr(b, d),
+        (
+            Shape::Assign {
+                operator: s,
+                left: a,
+                right: b,
+            },
+            Shape::Assign {
+                operator: r,
+                left: c,
+                right: d,
+            },
+        ) => same_assign(*s, *r) && same_expr(a, c) && same_expr(b, d),
+        (
+            Shape::Conditional {
+                condition: a,
+                then: b,
+                otherwise: c,
+            },
+            Shape::Conditional {
+                condition: d,
+                then: e,
+                otherwise: f,
+            },
+        ) => same_expr(a, d) && same_expr(b, e) && same_expr(c, f),
+        (Shape::Comma(a, b), Shape::Comma(c, d)) => same_expr(a, c) && same_expr(b, d),
+        (Shape::Subscript(a, b), Shape::Subscript(c, d)) => same_expr(a, c) && same_expr(b, d),
+        (
+            Shape::Member {
+                access: s,
+                object: a,
+                name: x,
+            },
+            Shape::Member {
+                access: r,
+                object: b,
+                name: y,
+            },
+        ) => same_access(*s, *r) && same_expr(a, b) && x == y,
+        (Shape::Call(f, a), Shape::Call(g, b)) => f == g && same_exprs(a, b),
+        _ => false,
+    }
+}
+
+#[cycle(same_expr)]
+pub fn same_exprs(a: &[Expr], b: &[Expr]) -> bool
+    ensures { result ≡ same_exprs (exprs_tree a.now) (exprs_tree b.now) }
+{
+    for (i, x) in a.iter().enumerate() {
+        if i == b.len() || !same_expr(x, &b[i]) {
+            return false;
+        }
+    }
+    a.len() == b.len()
+}
+
+// ---- copies
+
+#[cycle(copy_expr)]
+pub fn copy_expr(alloc: Global, e: &Expr) -> Result<Expr, NoMemory>
+    ensures { IfOk result (λ to. expr_tree to ≡ expr_tree e.now) }
+{
+    let shape = copy_shape(alloc, &e.shape)?;
+    Ok(Expr {
+        node: e.node,
+        shape,
+    })
+}
+
+#[cycle(copy_expr)]
+fn copy_boxed(alloc: Global, e: &Expr) -> Result<Box<Expr>, NoMemory>
+    ensures { IfOk result (λ to. expr_tree to.value ≡ expr_tree e.now) }
+{
+    let to = copy_expr(alloc, e)?;
+    Ok(Box::new(alloc, to)?)
+}
+
+#[cycle(copy_expr)]
+fn copy_shape(alloc: Global, shape: &Shape) -> Result<Shape, NoMemory>
+    ensures { IfOk result (λ to. shape_tree to ≡ shape_tree shape.now) }
+{
+    match shape {
+        Shape::Constant(value, is_unsigned) => Ok(Shape::Constant(*value, *is_unsigned)),
+        Shape::Text(text) => Ok(Shape::Text(text.copy(alloc)?)),
+        Shape::Name(name) => Ok(Shape::Name(name.copy(alloc)?)),
+        Shape::Unary(operator, a) => Ok(Shape::Unary(*operator, copy_boxed(alloc, a)?)),
+        Shape::Step(operator, a) => Ok(Shape::Step(*operator, copy_boxed(alloc, a)?)),
+        Shape::Cast(type_name, a) => Ok(Shape::Cast(type_name.copy(alloc)?, copy_boxed(alloc, a)?)),
+        Shape::SizeofType(type_name) => Ok(Shape::SizeofType(type_name.copy(alloc)?)),
+        Shape::SizeofExpr(a) => Ok(Shape::SizeofExpr(copy_boxed(alloc, a)?)),
+        Shape::Binary {
+            operator,
+            left,
+            right,
+        } => Ok(Shape::Binary {
+            operator: *operator,
+            left: copy_boxed(alloc, left)?,
+            right: copy_boxed(alloc, right)?,
+        }),
+        Shape::Assign {
+            operator,
+            left,
+            right,
+        } => Ok(Shape::Assign {
+            operator: *operator,
+            left: copy_boxed(alloc, left)?,
+            right: copy_boxed(alloc, right)?,
+        }),
+        Shape::Conditional {
+            condition,
+            then,
+            otherwise,
+        } => Ok(Shape::Conditional {
+            condition: copy_boxed(alloc, condition)?,
+            then: copy_boxed(alloc, then)?,
+            otherwise: copy_boxed(alloc, otherwise)?,
+        }),
+        Shape::Comma(a, b) => Ok(Shape::Comma(copy_boxed(alloc, a)?, copy_boxed(alloc, b)?)),
+        Shape::Subscript(a, b) => Ok(Shape::Subscript(
+            copy_boxed(alloc, a)?,
+            copy_boxed(alloc, b)?,
+        )),
+        Shape::Member {
+            access,
+            object,
+            name,
+        } => Ok(Shape::Member {
+            access: *access,
+            object: copy_boxed(alloc, object)?,
+            name: name.copy(alloc)?,
+        }),
+        Shape::Call(name, arguments) => {
+            let arguments = copy_exprs(alloc, arguments)?;
+            Ok(Shape::Call(name.copy(alloc)?, arguments))
+        }
+    }
+}
+
+#[cycle(copy_expr)]
+pub fn copy_exprs(alloc: Global, from: &[Expr]) -> Result<Vec<Expr>, NoMemory>
+    ensures { IfOk result (λ to. map expr_tree to.items ≡ map expr_tree from.now) }
+{
+    let mut to = Vec::new(alloc);
+    for e in from {
+        to.push(copy_expr(alloc, e)?)?;
+    }
+    Ok(to)
+}
+
+// ---- the numbers of the nodes
+
+/// Numbers the nodes, where `tokens` has the token of each node before them; theirs are put behind.
+#[cycle(number_expr)]
+#[tactic(auto, using(crate::proofs::NodeLaws::tokens_of_both, std::proofs::lemmas::List::with_items_is))]
+pub fn number_expr(e: &mut Expr, tokens: &mut Vec<u32>) -> Result<(), NoMemory>
+    requires { length tokens.old.items + expr_count (expr_tree e.old) < 2 ^ 32 }
+    ensures tree { OnOk result (expr_tree e.new ≡ relabel_expr numbered (length tokens.old.items) (expr_tree e.old)) }
+    ensures end { OnOk result (length tokens.new.items ≡ length tokens.old.items + expr_count (expr_tree e.old)) }
+    ensures tokens { OnOk result (tokens.new.items ≡ tokens.old.items ++ tokens_of (expr_nodes (expr_tree e.old))) }
+{
+    e.node = number_node(e.node, tokens)?;
+    let shape = mem::replace(&mut e.shape, Shape::Constant(0, false));
+    e.shape = number_shape(shape, tokens)?;
+    Ok(())
+}
+
+/// The same, of an expression that is handed over.
+pub fn number_owned_expr(e: Expr, tokens: &mut Vec<u32>) -> Result<Expr, NoMemory>
+    requires { length tokens.old.items + expr_count (expr_tree e) < 2 ^ 32 }
+    ensures tree { IfOk result (λ to. expr_tree to ≡ relabel_expr numbered (length tokens.old.items) (expr_tree e)) }
+    ensures end { OnOk result (length tokens.new.items ≡ length tokens.old.items + expr_count (expr_tree e)) }
+    ensures tokens { OnOk result (tokens.new.items ≡ tokens.old.items ++ tokens_of (expr_nodes (expr_tree e))) }
+{
+    let mut e = e;
+    number_expr(&mut e, tokens)?;
+    Ok(e)
+}
+
+#[cycle(number_expr)]
+#[tactic(auto, using(crate::proofs::NodeLaws::tokens_of_both, std::proofs::lemmas::List::with_items_is))]
+fn number_boxed(e: Box<Expr>, tokens: &mut Vec<u32>) -> Result<Box<Expr>, NoMemory>
+    requires { length tokens.old.items + expr_count (expr_tree e.value) < 2 ^ 32 }
+    ensures tree { IfOk result (λ to. expr_tree to.value ≡ relabel_expr numbered (length tokens.old.items) (expr_tree e.value)) }
+    ensures end { OnOk result (length tokens.new.items ≡ length tokens.old.items + expr_count (expr_tree e.value)) }
+    ensures tokens { OnOk result (tokens.new.items ≡ tokens.old.items ++ tokens_of (expr_nodes (expr_tree e.value))) }
+{
+    let mut e = e;
+    number_expr(&mut e, tokens)?;
+    Ok(e)
+}
+
+#[cycle(number_expr)]
+#[tactic(auto, using(crate::proofs::NodeLaws::tokens_of_both, std::proofs::lemmas::List::with_items_is))]
+fn number_shape(shape: Shape, tokens: &mut Vec<u32>) -> Result<Shape, NoMemory>
+    requires { length tokens.old.items + shape_count (shape_tree shape) < 2 ^ 32 }
+    ensures tree { IfOk result (λ to. shape_tree to ≡ relabel_shape numbered (length tokens.old.items) (shape_tree shape)) }
+    ensures end { OnOk result (length tokens.new.items ≡ length tokens.old.items + shape_count (shape_tree shape)) }
+    ensures tokens { OnOk result (tokens.new.items ≡ tokens.old.items ++ tokens_of (shape_nodes (shape_tree shape))) }
+{
+    match shape {
+        Shape::Constant(value, is_unsigned) => Ok(Shape::Constant(value, is_unsigned)),
+        Shape::Text(text) => Ok(Shape::Text(text)),
+        Shape::Name(name) => Ok(Shape::Name(name)),
+        Shape::Unary(operator, a) => Ok(Shape::Unary(operator, number_boxed(a, tokens)?)),
+        Shape::Step(operator, a) => Ok(Shape::Step(operator, number_boxed(a, tokens)?)),
+        Shape::Cast(type_name, a) => Ok(Shape::Cast(type_name, number_boxed(a, tokens)?)),
+        Shape::SizeofType(type_name) => Ok(Shape::SizeofType(type_name)),
+        Shape::SizeofExpr(a) => Ok(Shape::SizeofExpr(number_boxed(a, tokens)?)),
+        Shape::Binary {
+            operator,
+            left,
+            right,
+        } => Ok(Shape::Binary {
+            operator,
+            left: number_boxed(left, tokens)?,
+            right: number_boxed(right, tokens)?,
+        }),
+        Shape::Assign {
+            operator,
+            left,
+            right,
+        } => Ok(Shape::Assign {
+            operator,
+            left: number_boxed(left, tokens)?,
+            right: number_boxed(right, tokens)?,
+        }),
+        Shape::Conditional {
+            condition,
+            then,
+            otherwise,
+        } => Ok(Shape::Conditional {
+            condition: number_boxed(condition, tokens)?,
+            then: number_boxed(then, tokens)?,
+            otherwise: number_boxed(otherwise, tokens)?,
+        }),
+        Shape::Comma(a, b) => Ok(Shape::Comma(number_boxed(a, tokens)?, number_boxed(b, tokens)?)),
+        Shape::Subscript(a, b) => Ok(Shape::Subscript(
+            number_boxed(a, tokens)?,
+            number_boxed(b, tokens)?,
+        )),
+        Shape::Member {
+            access,
+            object,
+            name,
+        } => Ok(Shape::Member {
+            access,
+            object: number_boxed(object, tokens)?,
+            name,
+        }),
+        Shape::Call(name, arguments) => Ok(Shape::Call(name, number_arguments(arguments, tokens)?)),
+    }
+}
+
+#[cycle(number_expr)]
+#[tactic(auto, using(crate::proofs::NumberingLoops::exprs_count_of, crate::proofs::NumberingLoops::exprs_nodes_of, crate::proofs::NumberingLoops::exprs_of_relabelled, std::proofs::lemmas::List::with_items_is))]
+fn number_arguments(es: Vec<Expr>, tokens: &mut Vec<u32>) -> Result<Vec<Expr>, NoMemory>
+    requires { length tokens.old.items + exprs_count (exprs_tree es.items) < 2 ^ 32 }
+    ensures tree { IfOk result (λ to. exprs_tree to.items ≡ relabel_exprs numbered (length tokens.old.items) (exprs_tree es.items)) }
+    ensures end { OnOk result (length tokens.new.items ≡ length tokens.old.items + exprs_count (exprs_tree es.items)) }
+    ensures tokens { OnOk result (tokens.new.items ≡ tokens.old.items ++ tokens_of (exprs_nodes (exprs_tree es.items))) }
+{
+    let mut es = es;
+    number_exprs(&mut es, tokens)?;
+    Ok(es)
+}
+
+/// Numbers the nodes of all.
+#[cycle(number_expr)]
+#[tactic(auto, using(crate::proofs::NodeLaws::tokens_of_both, std::proofs::lemmas::List::with_items_is))]
+pub fn number_exprs(es: &mut [Expr], tokens: &mut Vec<u32>) -> Result<(), NoMemory>
+    requires { length tokens.old.items + all_count expr_count (map expr_tree es.old) < 2 ^ 32 }
+    ensures tree { OnOk result (map expr_tree es.new ≡ relabel_all numbered expr_count (relabel_expr numbered) (length tokens.old.items) (map expr_tree es.old)) }
+    ensures end { OnOk result (length tokens.new.items ≡ length tokens.old.items + all_count expr_count (map expr_tree es.old)) }
+    ensures tokens { OnOk result (tokens.new.items ≡ tokens.old.items ++ tokens_of (all_nodes expr_nodes (map expr_tree es.old))) }
+{
+    for e in es.iter_mut() {
+        number_expr(e, tokens)?;
+    }
+    Ok(())
+}

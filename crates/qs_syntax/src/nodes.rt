@@ -1,0 +1,37 @@
+// Nodes of trees: their numbers and their places.
+ghost use Rattle.std.specs.Prelude.{◌≡◌, ◌+◌, ◌<◌, ◌^◌, ◌++◌, ◌∷◌, [], IfOk, OnOk, length};
+ghost use Rattle.qs_syntax.specs.Numbering.{numbered};
+ghost use Rattle.qs_syntax.specs.Sameness.{same_node};
+
+use qs_base::NoMemory;
+
+/// The number and the place of a node.
+#[derive(Clone, Copy, PartialEq, Eq, Debug)]
+pub struct Node {
+    /// The number of the node.
+    pub id: u32,
+    /// The number of its first token.
+    pub token: u32,
+}
+
+/// Whether the numbers and the tokens of the two are the same.
+pub fn same_node(a: Node, b: Node) -> bool
+    ensures { result ≡ same_node a b }
+{
+    a.id == b.id && a.token == b.token
+}
+
+/// The node with the next number, where `tokens` has the token of each node before it.
+pub fn number_node(node: Node, tokens: &mut Vec<u32>) -> Result<Node, NoMemory>
+    requires { length tokens.old.items + 1 < 2 ^ 32 }
+    ensures node { IfOk result (λ to. to ≡ numbered.label (length tokens.old.items) node) }
+    ensures end { OnOk result (length tokens.new.items ≡ length tokens.old.items + 1) }
+    ensures tokens { OnOk result (tokens.new.items ≡ tokens.old.items ++ node.token ∷ []) }
+{
+    let id = tokens.len() as u32;
+    tokens.push(node.token)?;
+    Ok(Node {
+        id,
+        token: node.token,
+    })
+}

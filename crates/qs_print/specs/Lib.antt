@@ -3,5 +3,4 @@ pub mod Lexed
 pub mod Levels
 pub mod Printed
 pub mod Spaced
-pub mod WithoutTokens
 pub mod ReadsBack

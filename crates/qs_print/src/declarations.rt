@@ -148,7 +148,7 @@ pub fn put_members(out: &mut Vec<u8>, m: &Members) -> Result<(), NoMemory>
 fn is_void_alone(p: &Parameter) -> bool
     ensures { result ≡ is_void_alone (parameter_tree p.now) }
 {
-    match (&p.base, p.stars, &p.name) {
+    match (&p.type_name.base, p.type_name.stars, &p.name) {
         (Base::Void, 0, None) => !p.lengths.is_open && p.lengths.given.is_empty(),
         _ => false,
     }
@@ -177,8 +177,8 @@ fn put_parameter(out: &mut Vec<u8>, p: &Parameter) -> Result<(), NoMemory>
     ensures { OnOk result (Writes out.old.items (printed_parameter (parameter_tree p.now)) out.new.items) }
 {
     put_const_if(out, is_void_alone(p))?;
-    put_base(out, &p.base)?;
-    put_stars(out, p.stars)?;
+    put_base(out, &p.type_name.base)?;
+    put_stars(out, p.type_name.stars)?;
     put_optional_name(out, &p.name)?;
     put_lengths(out, &p.lengths)
 }

@@ -55,8 +55,8 @@ fn put_body(out: &mut Vec<u8>, body: &Option<Vec<Stmt>>) -> Result<(), NoMemory>
 fn put_function(out: &mut Vec<u8>, f: &Function) -> Result<(), NoMemory>
     ensures { OnOk result (Writes out.old.items (printed_function (function_tree f.now)) out.new.items) }
 {
-    put_base(out, &f.base)?;
-    put_stars(out, f.stars)?;
+    put_base(out, &f.result_type.base)?;
+    put_stars(out, f.result_type.stars)?;
     put_name(out, &f.name)?;
     put_punctuator(out, Punctuator::OpenParenthesis)?;
     put_parameters(out, &f.parameters)?;

@@ -1,5 +1,5 @@
 -- The printed terminals of declarations that were read are read as them again, no higher.
-use Rattle.std.proofs.Common.{◌≡◌, ◌⊎◌, inl, inr, ℕ, zero, suc, ◌+◌, Bool, true, false, ◌&&◌, List, [], ◌∷◌, ◌++◌, length, map, flat_map, Some, None, refl, ap, subst, append-nil, arith}
+use Rattle.std.proofs.Common.{◌≡◌, ◌⊎◌, inl, inr, ℕ, zero, suc, ◌+◌, Bool, true, false, ◌&&◌, List, [], ◌∷◌, ◌++◌, length, flat_map, Some, None, refl, ap, subst, append-nil, arith}
 use Rattle.std.specs.Prelude.{max, ◌==◌}
 use Rattle.qs_syntax.specs.declared.terminal.Terminal.{Terminal}
 use Rattle.qs_syntax.specs.declared.terminal.Terminal.TheVariants.{Name, Keyword, Punctuator}
@@ -15,7 +15,7 @@ use Rattle.qs_syntax.specs.Nodes.{expr_count, variable_count, declarator_count, 
 use Rattle.qs_syntax.specs.Numbering.{bare, relabel_declarator, relabel_expr, relabel_members, relabel_parameter, relabel_variable}
 use Rattle.qs_print.specs.Lexed.{renumbered}
 use Rattle.qs_print.specs.Printed.{behind_commas, is_void, is_without_brackets, printed_base, printed_declaration, printed_declarator, printed_initialiser, printed_initialisers, printed_length, printed_lengths, printed_members, printed_parameter, printed_parameters, printed_part, printed_stars, printed_variable, with_commas, further_initialisers}
-use Rattle.qs_syntax.specs.WithoutTokens.{plain_declaration, plain_declarator, plain_expr, plain_initialiser, plain_initialisers, plain_lengths, plain_members, plain_parameter, plain_variable}
+use Rattle.qs_syntax.specs.WithoutTokens.{plain_declaration, plain_declarator, plain_initialiser, plain_initialisers, plain_lengths, plain_members, plain_parameter, plain_variable}
 use Rattle.qs_print.proofs.Rereading.{all_plain, Again, Reread, renumbered_append, closing, base_reads, type_reads, outer_type_reads, stars_read}
 use Rattle.qs_print.proofs.RereadExpressions.{at_part, law, part}
 

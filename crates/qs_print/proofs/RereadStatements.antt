@@ -1,6 +1,6 @@
 -- The printed terminals of statements that were read are read as them again, no higher.
 use Rattle.std.proofs.Common.{◌≡◌, ℕ, suc, ◌+◌, false, List, [], ◌∷◌, ◌++◌, length, Option, Some, None, refl, ap, sym, ◌∙◌, append-nil, append_assoc, arith}
-use Rattle.std.specs.Prelude.{max, option_map}
+use Rattle.std.specs.Prelude.{max}
 use Rattle.qs_syntax.specs.declared.terminal.Terminal.{Terminal}
 use Rattle.qs_syntax.specs.declared.terminal.Terminal.TheVariants.{Keyword, Punctuator}
 use Rattle.qs_base.specs.declared.keyword.Keyword.TheVariants as keywords
@@ -12,7 +12,7 @@ use Rattle.qs_syntax.specs.ReadsStatements.{is_open, is_open_end, ReadsOptional,
 use Rattle.qs_syntax.specs.Numbering.{bare, relabel_expr}
 use Rattle.qs_print.specs.Lexed.{renumbered}
 use Rattle.qs_print.specs.Printed.{in_parentheses, printed_declaration, printed_expr, printed_optional, printed_start, printed_stmt, printed_stmts}
-use Rattle.qs_syntax.specs.WithoutTokens.{plain_declaration, plain_else, plain_expr, plain_start, plain_stmt, plain_stmts}
+use Rattle.qs_syntax.specs.WithoutTokens.{plain_declaration, plain_else, plain_start, plain_stmt, plain_stmts}
 use Rattle.qs_print.proofs.Rereading.{some_plain, Again, Reread, renumbered_append, behind, enclosed}
 use Rattle.qs_print.proofs.RereadExpressions.{at_whole, law, whole}
 use Rattle.qs_print.proofs.RereadDeclarations.{declaration_law}

@@ -1,5 +1,5 @@
 -- The printed terminals of a unit that was read are read as that unit again, no higher.
-use Rattle.std.proofs.Common.{ℕ, suc, ◌+◌, List, [], ◌∷◌, ◌++◌, length, map, flat_map, Some, None, refl, ap, append-nil, arith}
+use Rattle.std.proofs.Common.{ℕ, suc, ◌+◌, List, [], ◌∷◌, ◌++◌, length, flat_map, Some, None, refl, ap, append-nil, arith}
 use Rattle.std.specs.Prelude.{max}
 use Rattle.qs_syntax.specs.declared.terminal.Terminal.{Terminal}
 use Rattle.qs_syntax.specs.declared.terminal.Terminal.TheVariants.{Name, Punctuator}
@@ -13,7 +13,7 @@ use Rattle.qs_syntax.specs.Nodes.{members_count, parameter_count}
 use Rattle.qs_syntax.specs.Numbering.{bare, relabel_members, relabel_parameter}
 use Rattle.qs_print.specs.Lexed.{renumbered}
 use Rattle.qs_print.specs.Printed.{in_parentheses, printed_base, printed_decl, printed_declaration, printed_members, printed_parameters, printed_stars, printed_stmts, printed_unit}
-use Rattle.qs_syntax.specs.WithoutTokens.{plain_decl, plain_declaration, plain_members, plain_parameter, plain_stmts, without_tokens}
+use Rattle.qs_syntax.specs.WithoutTokens.{plain_decl, plain_declaration, plain_stmts, without_tokens}
 use Rattle.qs_print.proofs.Rereading.{all_plain, Again, Reread, renumbered_append, behind, enclosed, outer_type_reads, stars_read}
 use Rattle.qs_print.proofs.RereadDeclarations.{all_members_law, head_law, outer_declaration_law}
 use Rattle.qs_print.proofs.RereadStatements.{items_law}

@@ -7,11 +7,11 @@ ghost use Rattle.qs_syntax.specs.TreeOf.{declaration_tree, declarator_tree, expr
 use crate::expressions::put_part;
 use crate::levels::{ASSIGNMENT, CONDITIONAL};
 use crate::types::{put_base, put_stars};
-use crate::words::{put_comma_unless, put_keyword, put_punctuator, put_name};
+use crate::words::{put_comma_unless, put_keyword, put_name, put_punctuator};
 use qs_base::{Name, NoMemory};
 use qs_syntax::{
-    Base, Declaration, Declarator, Expr, Initialiser, Keyword, Lengths, Punctuator, Members, Parameter,
-    Variable,
+    Base, Declaration, Declarator, Expr, Initialiser, Keyword, Lengths, Members, Parameter,
+    Punctuator, Variable,
 };
 
 fn put_length(out: &mut Vec<u8>, e: &Expr) -> Result<(), NoMemory>

@@ -8,7 +8,7 @@ ghost use Rattle.qs_syntax.specs.TreeOf.{expr_tree, shape_tree};
 use crate::levels::{ASSIGNMENT, CAST, CONDITIONAL, OR, POSTFIX, UNARY, level};
 use crate::literals::{put_constant, put_text};
 use crate::types::put_type_name;
-use crate::words::{put_comma_unless, put_keyword, put_punctuator, put_name};
+use crate::words::{put_comma_unless, put_keyword, put_name, put_punctuator};
 use qs_base::NoMemory;
 use qs_syntax::{Expr, Keyword, Punctuator, Shape, StepOperator, TypeName};
 

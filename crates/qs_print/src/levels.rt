@@ -30,7 +30,11 @@ pub const COMMA: u32 = 15;
 pub fn step_level(operator: StepOperator) -> u32
     ensures { result ≡ step_level operator }
 {
-    if operator.stands_before() { UNARY } else { POSTFIX }
+    if operator.stands_before() {
+        UNARY
+    } else {
+        POSTFIX
+    }
 }
 
 fn shape_level(shape: &Shape) -> u32

@@ -3,8 +3,8 @@
 
 mod declarations;
 mod expressions;
-mod lexed;
 mod levels;
+mod lexed;
 mod literals;
 mod statements;
 mod types;

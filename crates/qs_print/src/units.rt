@@ -10,9 +10,9 @@ ghost use Rattle.qs_syntax.specs.UnitTrees.{unit_tree};
 use crate::declarations::{put_declaration, put_members, put_parameters};
 use crate::statements::put_block;
 use crate::types::{put_base, put_stars};
-use crate::words::{put_keyword, put_punctuator, put_name};
+use crate::words::{put_keyword, put_name, put_punctuator};
 use qs_base::NoMemory;
-use qs_syntax::{Decl, Forward, Function, Keyword, Punctuator, Members, Stmt, Struct, Unit};
+use qs_syntax::{Decl, Forward, Function, Keyword, Members, Punctuator, Stmt, Struct, Unit};
 use std::alloc::Global;
 
 fn put_all_members(out: &mut Vec<u8>, members: &[Members]) -> Result<(), NoMemory>

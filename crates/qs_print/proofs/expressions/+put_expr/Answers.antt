@@ -1,4 +1,5 @@
-use Rattle.std.proofs.Common.{arith}
+use Rattle.std.proofs.Common.{◌≡◌, arith, false, sym, ◌∙◌}
+use Rattle.qs_syntax.specs.Operators.{stands_before}
 use Rattle.qs_syntax.specs.TreeOf.{expr_tree}
 use Rattle.qs_print.specs.Levels.{assignment_level}
 use Rattle.qs_print.specs.Printed.{printed_part}
@@ -45,3 +46,8 @@ put_shape-returns-in_ok-put_punctuator-in-Member t c = rw (c.in-Member.is, membe
 
 pub put_shape-returns-in_ok-put_arguments-in-Call : goal.put_shape-returns-in_ok-put_arguments-in-Call
 put_shape-returns-in_ok-put_arguments-in-Call t c = rw (c.in-Call.is, call_tree, arguments_list, ← c.deref-in-Call.ensures.value) (last _ _ c.put_punctuator-in-Call-2.result c.in_ok-put_name-in-Call.ensures (last _ _ c.put_punctuator-in-Call-2.result c.in_ok-put_punctuator-in-Call.ensures (last _ _ c.put_punctuator-in-Call-2.result c.in_ok-put_arguments-in-Call.ensures c.put_punctuator-in-Call-2.ensures)))
+
+pub put_step-returns-in_ok-put_part : goal.put_step-returns-in_ok-put_part
+put_step-returns-in_ok-put_part t c =
+    let behind : stands_before c.args.operator ≡ false = sym c.stands_before.ensures ∙ c.if-stands_before.false in
+    rw (behind, ← c.punctuator-else-stands_before.ensures) (last _ _ c.put_punctuator-else-stands_before.result c.in_ok-put_part.ensures c.put_punctuator-else-stands_before.ensures)

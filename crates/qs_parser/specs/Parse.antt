@@ -16,9 +16,9 @@ use Rattle.qs_syntax.specs.declared.operators.BinaryOperator.{BinaryOperator}
 use Rattle.qs_syntax.specs.declared.operators.AssignmentOperator.{AssignmentOperator}
 use Rattle.qs_syntax.specs.declared.operators.Access.{Access}
 use Rattle.qs_syntax.specs.Trees.{unnumbered, ExprTree, expr, constant, text, name, unary, step, cast, sizeof_type, sizeof_expr, binary, assign, conditional, comma, subscript, member, call, exprs_of}
-use Rattle.qs_syntax.specs.Operators.{precedence}
+use Rattle.qs_syntax.specs.Operators.{precedence, unary_of, binary_of, assign_of, access_of}
 use Rattle.qs_syntax.specs.Reads.{Form, Postfix, Unary, Level, Conditional, Assignment, Expression, place}
-use Rattle.qs_parser.specs.Heads.{is_punctuator, is_keyword, starts, unary_of, binary_of, assign_of, access_of, operator_at, begins_type}
+use Rattle.qs_parser.specs.Heads.{is_punctuator, is_keyword, starts, operator_at, begins_type}
 
 pub data Stop : Type 0 where
   Unexpected : ℕ → Stop

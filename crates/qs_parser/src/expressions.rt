@@ -12,7 +12,7 @@ ghost use Rattle.qs_parser.specs.View.{Gives, read_as, listed, texts_of, form_of
 use crate::fault::Halt;
 use crate::heads::{
     access_at, assign_at, begins_cast, begins_one, expect, expect_name, is_punctuator, level_operator_at,
-    place, starts, starts_suffix, starts_with, unary_of,
+    place, starts, starts_suffix, starts_with,
 };
 use crate::nodes;
 use crate::types::type_name;
@@ -431,7 +431,7 @@ fn marked<'a>(
 {
     let is_increment = starts(Punctuator::Increment, tokens);
     let is_decrement = starts(Punctuator::Decrement, tokens);
-    let operator = unary_of(punctuator);
+    let operator = UnaryOperator::of(punctuator);
     if !is_increment && !is_decrement && operator.is_none() {
         return postfix(alloc, room, tokens);
     }

@@ -2,7 +2,8 @@
 use Rattle.std.proofs.Common.{◌≡◌, ℕ, Bool, true, false, List, [], ◌∷◌, Option, Some, None, map, flat_map, refl}
 use Rattle.std.specs.Prelude.{option_map}
 use Rattle.qs_syntax.specs.Trees.{ExprTree, expr, ShapeTree, int, text, name, unary, step, cast, size_type, size_expr, binary, assign, choice, comma, index, member, call, Exprs, no_exprs, expr_and, LengthsTree, DeclaratorTree, InitialiserTree, value, list, Initialisers, no_initialisers, initialiser_and, VariableTree, DeclarationTree, ParameterTree, MembersTree, StartTree, no_start, start_expression, start_declaration, StmtTree, empty, expression, declaration, block, branch, while_loop, do_loop, for_loop, break, continue, return, Stmts, no_stmts, stmt_and, Else, no_else, else_by, StructTree, FunctionTree, DeclTree, structure, forward, function, variables}
-use Rattle.qs_print.specs.Printed.{behind_commas, further_arguments, further_initialisers, is_without_brackets, level, printed_arguments, printed_body, printed_decl, printed_declaration, printed_declarator, printed_else, printed_expr, printed_function, printed_initialiser, printed_initialisers, printed_length, printed_lengths, printed_members, printed_optional, printed_parameter, printed_parameters, printed_part, printed_setting, printed_shape, printed_start, printed_stmt, printed_stmts, printed_struct, printed_unit, printed_variable, shape_level, with_commas}
+use Rattle.qs_print.specs.Levels.{level, shape_level}
+use Rattle.qs_print.specs.Printed.{behind_commas, further_arguments, further_initialisers, is_without_brackets, printed_arguments, printed_body, printed_decl, printed_declaration, printed_declarator, printed_else, printed_expr, printed_function, printed_initialiser, printed_initialisers, printed_length, printed_lengths, printed_members, printed_optional, printed_parameter, printed_parameters, printed_part, printed_setting, printed_shape, printed_start, printed_stmt, printed_stmts, printed_struct, printed_unit, printed_variable, with_commas}
 use Rattle.qs_print.specs.WithoutTokens.{plain_decl, plain_declaration, plain_declarator, plain_else, plain_expr, plain_exprs, plain_function, plain_initialiser, plain_initialisers, plain_lengths, plain_members, plain_parameter, plain_shape, plain_start, plain_stmt, plain_stmts, plain_struct, plain_variable, without_tokens}
 use Rattle.qs_syntax.specs.declared.terminal.Terminal.{Terminal}
 

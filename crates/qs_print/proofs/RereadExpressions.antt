@@ -12,13 +12,15 @@ use Rattle.qs_syntax.specs.declared.operators.AssignmentOperator.{AssignmentOper
 use Rattle.qs_syntax.specs.declared.operators.Access.{Access}
 use Rattle.qs_syntax.specs.declared.operators.StepOperator.TheVariants as steps
 use Rattle.qs_syntax.specs.declared.tree.TypeName.{TypeName}
-use Rattle.qs_syntax.specs.Operators.{punctuator_of_binary, precedence, punctuator_of_assign, punctuator_of_access}
+use Rattle.qs_syntax.specs.Operators.{punctuator_of_binary, precedence, weakest, punctuator_of_assign, punctuator_of_access}
 use Rattle.qs_syntax.specs.Trees.{ExprTree, expr, int, text, name, unary, step, cast, size_type, size_expr, binary, assign, choice, comma, index, member, call, Exprs, no_exprs, expr_and}
 use Rattle.qs_syntax.specs.Reads.{Form, Postfix, Unary, Level, Conditional, Assignment, Expression, at_first, no_text, Reads, a_name, an_empty_call, a_call, a_constant, a_text, in_parentheses, an_index, a_member, an_increment_after, a_decrement_after, a_postfix, an_increment, a_decrement, an_operator, a_size_of_type, a_size_of_value, a_cast, an_operand, stronger, an_operation, a_plain_level, a_choice, a_plain_conditional, an_assignment, a_plain_assignment, a_comma, ReadsArguments, a_last_argument, an_argument}
 use Rattle.qs_print.specs.Lexed.{renumbered}
-use Rattle.qs_print.specs.Printed.{level, parentheses_unless, printed_expr, printed_part, printed_arguments, further_arguments, printed_type_name}
+use Rattle.qs_print.specs.Levels.{level}
+use Rattle.qs_print.specs.Printed.{parentheses_unless, printed_expr, printed_part, printed_arguments, further_arguments, printed_type_name}
 use Rattle.qs_print.specs.WithoutTokens.{plain_expr, plain_exprs}
 use Rattle.qs_print.proofs.Rereading.{Again, Reread, renumbered_append, behind, enclosed, type_name_reads}
+use Rattle.qs_syntax.proofs.OperatorLaws.{precedence_within}
 
 -- ---- forms by their levels
 
@@ -94,26 +96,6 @@ raise v w {h} {ts} {e} le r = subst (λ n. Reads (form_at n) h ts e) (omega arit
     add : (n : ℕ) → Reads (form_at w) h ts e → Reads (form_at (n + w)) h ts e
     add zero r = subst (λ n. Reads (form_at n) h ts e) (omega arith) r
     add (suc n) r = let q : suc (n + w) ≡ suc n + w = omega arith in subst (λ n. Reads (form_at n) h ts e) q (up (n + w) (add n r))
-
-precedence_most : (operator : BinaryOperator) → precedence operator ≤ 10
-precedence_most binaries.Multiply = omega arith
-precedence_most binaries.Divide = omega arith
-precedence_most binaries.Remainder = omega arith
-precedence_most binaries.Add = omega arith
-precedence_most binaries.Subtract = omega arith
-precedence_most binaries.ShiftLeft = omega arith
-precedence_most binaries.ShiftRight = omega arith
-precedence_most binaries.Less = omega arith
-precedence_most binaries.LessEqual = omega arith
-precedence_most binaries.Greater = omega arith
-precedence_most binaries.GreaterEqual = omega arith
-precedence_most binaries.Equal = omega arith
-precedence_most binaries.NotEqual = omega arith
-precedence_most binaries.BitAnd = omega arith
-precedence_most binaries.BitXor = omega arith
-precedence_most binaries.BitOr = omega arith
-precedence_most binaries.And = omega arith
-precedence_most binaries.Or = omega arith
 
 -- ---- the claim
 
@@ -308,7 +290,7 @@ cast_law h at type a la =
 
 operation_law : (j h k at : ℕ) (operator : BinaryOperator) (a b : ExprTree) → precedence operator ≡ suc j → Law (suc (suc (suc j))) h a → Law (suc (suc j)) k b → Law (suc (suc (suc j))) (suc (max h k)) (expr 0 at (binary operator a b))
 operation_law j h k at operator a b e la lb =
-    let most : precedence operator ≤ 10 = precedence_most operator in
+    let most : precedence operator ≤ weakest = precedence_within operator in
     let left : suc (suc (suc j)) ≡ precedence operator + 2 = omega arith in
     let right : suc (suc j) ≡ precedence operator + 1 = omega arith in
     let top : form_at (precedence operator + 2) ≡ Level (suc j) = subst (λ l. form_at l ≡ Level (suc j)) left (level_form (suc j) (omega arith)) in

@@ -1,6 +1,6 @@
 -- The terminals that a tree is printed as (C11 6.5 to 6.9), with parentheses only where the grammar needs them. Their tokens' numbers are
 -- all 0.
-use Rattle.std.specs.Prelude.{ℕ, zero, suc, ◌+◌, Bool, true, false, ◌&&◌, List, [], ◌∷◌, ◌++◌, nat_le, ◌==◌, flat_map, Option, Some, None}
+use Rattle.std.specs.Prelude.{ℕ, zero, suc, ◌+◌, Bool, true, false, ◌&&◌, List, [], ◌∷◌, ◌++◌, nat_le, ◌==◌, if◌then◌else◌, flat_map, Option, Some, None}
 use Rattle.qs_syntax.specs.declared.terminal.Terminal.{Terminal}
 use Rattle.qs_syntax.specs.declared.terminal.Terminal.TheVariants.{Name, Keyword, Constant, Text, Punctuator}
 use Rattle.qs_base.specs.declared.keyword.Keyword.TheVariants as keywords
@@ -9,9 +9,9 @@ use Rattle.qs_syntax.specs.declared.tree.Base.{Base}
 use Rattle.qs_syntax.specs.declared.tree.Base.TheVariants as bases
 use Rattle.qs_syntax.specs.declared.tree.TypeName.{TypeName}
 use Rattle.qs_syntax.specs.declared.operators.StepOperator.{StepOperator}
-use Rattle.qs_syntax.specs.declared.operators.StepOperator.TheVariants as steps
 use Rattle.qs_syntax.specs.Trees.{ExprTree, expr, ShapeTree, int, text, name, unary, step, cast, size_type, size_expr, binary, assign, choice, comma, index, member, call, Exprs, no_exprs, expr_and, LengthsTree, DeclaratorTree, InitialiserTree, value, list, Initialisers, no_initialisers, initialiser_and, VariableTree, DeclarationTree, ParameterTree, MembersTree, StartTree, no_start, start_expression, start_declaration, StmtTree, empty, expression, declaration, block, branch, while_loop, do_loop, for_loop, break, continue, return, Stmts, no_stmts, stmt_and, Else, no_else, else_by, StructTree, ForwardTree, FunctionTree, DeclTree, structure, forward, function, variables}
-use Rattle.qs_syntax.specs.Operators.{punctuator_of_unary, punctuator_of_binary, precedence, punctuator_of_assign, punctuator_of_access}
+use Rattle.qs_syntax.specs.Operators.{precedence, punctuator_of_access, punctuator_of_assign, punctuator_of_binary, punctuator_of_step, punctuator_of_unary, stands_before}
+use Rattle.qs_print.specs.Levels.{assignment_level, cast_level, conditional_level, level, or_level, postfix_level, step_level, unary_level}
 
 -- ---- lists
 
@@ -47,46 +47,6 @@ printed_type_name type = printed_base type.base ++ printed_stars type.stars
 
 -- ---- expressions (6.5)
 
--- How weakly an expression binds: 0 as a postfix expression, 1 as a unary one, 2 as a cast, 3 to 12 as the operators from `* / %` to
--- `||`, 13 as a conditional expression, 14 as an assignment and 15 as a comma.
-abbrev pub unary_level : ℕ
-unary_level = 1
-
-abbrev pub cast_level : ℕ
-cast_level = 2
-
-abbrev pub conditional_level : ℕ
-conditional_level = 13
-
-abbrev pub assignment_level : ℕ
-assignment_level = 14
-
-abbrev pub step_level : StepOperator → ℕ
-step_level steps.IncrementBefore = 1
-step_level steps.DecrementBefore = 1
-step_level steps.IncrementAfter = 0
-step_level steps.DecrementAfter = 0
-
-abbrev pub shape_level : ShapeTree → ℕ
-shape_level (int n unsigned) = 0
-shape_level (text bytes) = 0
-shape_level (name x) = 0
-shape_level (unary operator a) = unary_level
-shape_level (step operator a) = step_level operator
-shape_level (cast type a) = cast_level
-shape_level (size_type type) = unary_level
-shape_level (size_expr a) = unary_level
-shape_level (binary operator a b) = precedence operator + 2
-shape_level (assign operator a b) = assignment_level
-shape_level (choice a b c) = conditional_level
-shape_level (comma a b) = 15
-shape_level (index a b) = 0
-shape_level (member access a x) = 0
-shape_level (call f es) = 0
-
-abbrev pub level : ExprTree → ℕ
-level (expr id t s) = shape_level s
-
 abbrev pub in_parentheses : List Terminal → List Terminal
 in_parentheses ls = Punctuator 0 punctuators.OpenParenthesis ∷ (ls ++ Punctuator 0 punctuators.CloseParenthesis ∷ [])
 
@@ -99,10 +59,8 @@ abbrev pub within : ℕ → ExprTree → List Terminal → List Terminal
 within most e ls = parentheses_unless (nat_le (level e) most) ls
 
 abbrev pub with_step : StepOperator → List Terminal → List Terminal
-with_step steps.IncrementBefore ls = Punctuator 0 punctuators.Increment ∷ ls
-with_step steps.DecrementBefore ls = Punctuator 0 punctuators.Decrement ∷ ls
-with_step steps.IncrementAfter ls = ls ++ Punctuator 0 punctuators.Increment ∷ []
-with_step steps.DecrementAfter ls = ls ++ Punctuator 0 punctuators.Decrement ∷ []
+with_step operator ls =
+    if stands_before operator then Punctuator 0 (punctuator_of_step operator) ∷ ls else ls ++ Punctuator 0 (punctuator_of_step operator) ∷ []
 
 abbrev mutual
   pub printed_expr : ExprTree → List Terminal
@@ -118,13 +76,13 @@ abbrev mutual
   printed_shape (size_type type) = Keyword 0 keywords.Sizeof ∷ in_parentheses (printed_type_name type)
   printed_shape (size_expr a) = Keyword 0 keywords.Sizeof ∷ within unary_level a (printed_expr a)
   printed_shape (binary operator a b) =
-      within (precedence operator + 2) a (printed_expr a) ++ Punctuator 0 (punctuator_of_binary operator) ∷ within (precedence operator + 1) b (printed_expr b)
+      within (precedence operator + cast_level) a (printed_expr a) ++ Punctuator 0 (punctuator_of_binary operator) ∷ within (precedence operator + 1) b (printed_expr b)
   printed_shape (assign operator a b) = within unary_level a (printed_expr a) ++ Punctuator 0 (punctuator_of_assign operator) ∷ within assignment_level b (printed_expr b)
   printed_shape (choice a b c) =
-      within 12 a (printed_expr a) ++ Punctuator 0 punctuators.Question ∷ (printed_expr b ++ Punctuator 0 punctuators.Colon ∷ within conditional_level c (printed_expr c))
+      within or_level a (printed_expr a) ++ Punctuator 0 punctuators.Question ∷ (printed_expr b ++ Punctuator 0 punctuators.Colon ∷ within conditional_level c (printed_expr c))
   printed_shape (comma a b) = printed_expr a ++ Punctuator 0 punctuators.Comma ∷ within assignment_level b (printed_expr b)
-  printed_shape (index a b) = within 0 a (printed_expr a) ++ Punctuator 0 punctuators.OpenBracket ∷ (printed_expr b ++ Punctuator 0 punctuators.CloseBracket ∷ [])
-  printed_shape (member access a x) = within 0 a (printed_expr a) ++ Punctuator 0 (punctuator_of_access access) ∷ Name 0 x ∷ []
+  printed_shape (index a b) = within postfix_level a (printed_expr a) ++ Punctuator 0 punctuators.OpenBracket ∷ (printed_expr b ++ Punctuator 0 punctuators.CloseBracket ∷ [])
+  printed_shape (member access a x) = within postfix_level a (printed_expr a) ++ Punctuator 0 (punctuator_of_access access) ∷ Name 0 x ∷ []
   printed_shape (call f es) = Name 0 f ∷ in_parentheses (printed_arguments es)
 
   -- commas stand between them

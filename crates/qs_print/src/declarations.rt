@@ -5,7 +5,7 @@ ghost use Rattle.qs_print.specs.Spaced.{Writes};
 ghost use Rattle.qs_syntax.specs.TreeOf.{declaration_tree, declarator_tree, expr_tree, initialiser_tree, lengths_tree, members_tree, parameter_tree, variable_tree};
 
 use crate::expressions::put_part;
-use crate::operators::{ASSIGNMENT, CONDITIONAL};
+use crate::levels::{ASSIGNMENT, CONDITIONAL};
 use crate::types::{put_base, put_stars};
 use crate::words::{put_comma_unless, put_keyword, put_punctuator, put_name};
 use qs_base::{Name, NoMemory};

@@ -1,14 +1,12 @@
 // Writes expressions (C11 6.5).
 ghost use Rattle.std.specs.Prelude.{OnOk, map};
-ghost use Rattle.qs_print.specs.Printed.{assignment_level, in_parentheses, printed_expr, printed_part, printed_shape, printed_type_name, step_level, with_commas, with_step};
+ghost use Rattle.qs_print.specs.Levels.{assignment_level, step_level};
+ghost use Rattle.qs_print.specs.Printed.{in_parentheses, printed_expr, printed_part, printed_shape, printed_type_name, with_commas, with_step};
 ghost use Rattle.qs_print.specs.Spaced.{Writes};
 ghost use Rattle.qs_syntax.specs.TreeOf.{expr_tree, shape_tree};
 
+use crate::levels::{ASSIGNMENT, CAST, CONDITIONAL, OR, POSTFIX, UNARY, level};
 use crate::literals::{put_constant, put_text};
-use crate::operators::{
-    ASSIGNMENT, CAST, CONDITIONAL, OR, UNARY, level, punctuator_of_access, punctuator_of_assign,
-    punctuator_of_binary, punctuator_of_unary, precedence,
-};
 use crate::types::put_type_name;
 use crate::words::{put_comma_unless, put_keyword, put_punctuator, put_name};
 use qs_base::NoMemory;
@@ -57,23 +55,12 @@ pub fn put_expr(out: &mut Vec<u8>, e: &Expr) -> Result<(), NoMemory>
 fn put_step(out: &mut Vec<u8>, operator: StepOperator, a: &Expr) -> Result<(), NoMemory>
     ensures { OnOk result (Writes out.old.items (with_step operator (printed_part (step_level operator) (expr_tree a.now))) out.new.items) }
 {
-    match operator {
-        StepOperator::IncrementBefore => {
-            put_punctuator(out, Punctuator::Increment)?;
-            put_part(out, UNARY, a)
-        }
-        StepOperator::DecrementBefore => {
-            put_punctuator(out, Punctuator::Decrement)?;
-            put_part(out, UNARY, a)
-        }
-        StepOperator::IncrementAfter => {
-            put_part(out, 0, a)?;
-            put_punctuator(out, Punctuator::Increment)
-        }
-        StepOperator::DecrementAfter => {
-            put_part(out, 0, a)?;
-            put_punctuator(out, Punctuator::Decrement)
-        }
+    if operator.stands_before() {
+        put_punctuator(out, operator.punctuator())?;
+        put_part(out, UNARY, a)
+    } else {
+        put_part(out, POSTFIX, a)?;
+        put_punctuator(out, operator.punctuator())
     }
 }
 
@@ -86,7 +73,7 @@ fn put_shape(out: &mut Vec<u8>, shape: &Shape) -> Result<(), NoMemory>
         Shape::Text(text) => put_text(out, text),
         Shape::Name(name) => put_name(out, name),
         Shape::Unary(operator, a) => {
-            put_punctuator(out, punctuator_of_unary(*operator))?;
+            put_punctuator(out, operator.punctuator())?;
             put_part(out, CAST, a)
         }
         Shape::Step(operator, a) => put_step(out, *operator, a),
@@ -103,14 +90,14 @@ fn put_shape(out: &mut Vec<u8>, shape: &Shape) -> Result<(), NoMemory>
             put_part(out, UNARY, a)
         }
         Shape::Binary(operator, a, b) => {
-            let own = precedence(*operator);
-            put_part(out, own + 2, a)?;
-            put_punctuator(out, punctuator_of_binary(*operator))?;
+            let own = operator.precedence();
+            put_part(out, own + CAST, a)?;
+            put_punctuator(out, operator.punctuator())?;
             put_part(out, own + 1, b)
         }
         Shape::Assign(operator, a, b) => {
             put_part(out, UNARY, a)?;
-            put_punctuator(out, punctuator_of_assign(*operator))?;
+            put_punctuator(out, operator.punctuator())?;
             put_part(out, ASSIGNMENT, b)
         }
         Shape::Cond(a, b, c) => {
@@ -126,14 +113,14 @@ fn put_shape(out: &mut Vec<u8>, shape: &Shape) -> Result<(), NoMemory>
             put_part(out, ASSIGNMENT, b)
         }
         Shape::Index(a, b) => {
-            put_part(out, 0, a)?;
+            put_part(out, POSTFIX, a)?;
             put_punctuator(out, Punctuator::OpenBracket)?;
             put_expr(out, b)?;
             put_punctuator(out, Punctuator::CloseBracket)
         }
         Shape::Member(access, a, name) => {
-            put_part(out, 0, a)?;
-            put_punctuator(out, punctuator_of_access(*access))?;
+            put_part(out, POSTFIX, a)?;
+            put_punctuator(out, access.punctuator())?;
             put_name(out, name)
         }
         Shape::Call(name, arguments) => {

@@ -4,9 +4,8 @@
 mod declarations;
 mod expressions;
 mod lexed;
+mod levels;
 mod literals;
-mod operators;
-mod spelling;
 mod statements;
 mod types;
 mod units;

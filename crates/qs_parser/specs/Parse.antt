@@ -24,6 +24,11 @@ pub data Stop : Type 0 where
   Unexpected : ℕ → Stop
   Deep : ℕ → Stop
 
+-- how many tokens are left where an answer stops
+abbrev pub left_of : Stop → ℕ
+left_of (Unexpected left) = left
+left_of (Deep left) = left
+
 abbrev pub Parse : Type 0 → Type 0
 Parse A = List Terminal → Result (A × List Terminal) Stop
 
@@ -119,6 +124,14 @@ begins_one (Keyword at k ∷ ts) = is_keyword keywords.Sizeof (Keyword at k)
 begins_one (Constant at n unsigned ∷ ts) = true
 begins_one (Text at bytes ∷ ts) = true
 begins_one (Punctuator at m ∷ ts) = is_some (unary_of m) || (is_punctuator punctuators.OpenParenthesis (Punctuator at m) || (is_punctuator punctuators.Increment (Punctuator at m) || is_punctuator punctuators.Decrement (Punctuator at m)))
+
+-- where no level is left for a part: what begins an expression is too deep, and nothing else may stand there
+abbrev pub beyond : {A : Type 0} → Parse A
+beyond ts = if begins_one ts then deep ts else unexpected ts
+
+-- Behind `sizeof`, where no level is left for its operand and no type stands in parentheses: the parenthesis might begin one.
+abbrev pub size_at_limit : {A : Type 0} → Parse A
+size_at_limit ts = if starts punctuators.OpenParenthesis ts then bind (expect punctuators.OpenParenthesis ts) (λ _ us. beyond us) else beyond ts
 
 -- a parenthesis before a type
 abbrev pub begins_cast : List Terminal → Bool
@@ -233,7 +246,7 @@ module _ (m : ℕ) (part : Form → Parse E) where
   unary_of_all [] = unexpected []
   unary_of_all (Name at x ∷ ts) = postfix (Name at x ∷ ts)
   unary_of_all (Keyword at k ∷ ts) =
-      if is_keyword keywords.Sizeof (Keyword at k) then (if m == 0 && not (begins_cast ts) then deep (Keyword at k ∷ ts) else size_of at ts) else unexpected (Keyword at k ∷ ts)
+      if is_keyword keywords.Sizeof (Keyword at k) then (if m == 0 && not (begins_cast ts) then size_at_limit ts else size_of at ts) else unexpected (Keyword at k ∷ ts)
   unary_of_all (Constant at n unsigned ∷ ts) = postfix (Constant at n unsigned ∷ ts)
   unary_of_all (Text at bytes ∷ ts) = postfix (Text at bytes ∷ ts)
   unary_of_all (Punctuator at k ∷ ts) =
@@ -313,5 +326,5 @@ module _ (m : ℕ) (part : Form → Parse E) where
 
 -- what is at most n high
 unfoldable pub part : ℕ → Form → Parse E
-part zero form ts = if begins_one ts then deep ts else unexpected ts
+part zero form ts = beyond ts
 part (suc n) form ts = expression n (part n) form ts

@@ -1,6 +1,8 @@
 -- The keywords (C11 6.4.1).
 use Rattle.std.specs.Prelude.{ℕ, Bool, List, [], ◌∷◌, bytes_eq, codes, Option, is_some}
 use Rattle.std.specs.List.{find}
+use denote.Enum.Bare.{sameb}
+use Rattle.qs_base.specs.contracts.keyword.Keyword.{the_type}
 use Rattle.qs_base.specs.declared.keyword.Keyword.{Keyword}
 use Rattle.qs_base.specs.declared.keyword.Keyword.TheVariants as keyword
 
@@ -106,3 +108,6 @@ keyword_of word = find (λ keyword. bytes_eq (keyword_spelling keyword) word) ke
 
 unfoldable pub is_keyword : List ℕ → Bool
 is_keyword word = is_some (keyword_of word)
+
+abbrev pub same_keyword : Keyword → Keyword → Bool
+same_keyword = sameb the_type

@@ -6,7 +6,7 @@ use Rattle.qs_syntax.specs.declared.terminal.Terminal.{Terminal}
 use Rattle.qs_syntax.specs.declared.terminal.Terminal.TheVariants.{Name, Keyword, Constant, Punctuator}
 use Rattle.qs_base.specs.declared.keyword.Keyword.TheVariants as keywords
 use Rattle.qs_syntax.specs.declared.punctuator.Punctuator.TheVariants as punctuators
-use Rattle.qs_syntax.specs.Trees.{ExprTree, expr, int, call, no_exprs, expr_and, Stmts, no_stmts, stmt_and, expression, return, DeclTree}
+use Rattle.qs_syntax.specs.Trees.{unnumbered, ExprTree, expr, constant, call, no_exprs, expr_and, Stmts, no_stmts, stmt_and, expression, return, DeclTree}
 use Rattle.qs_syntax.specs.Numbering.{numbered_unit}
 use Rattle.qs_syntax.specs.Reads.{Postfix, Assignment, Expression, Reads, a_constant, a_call, a_postfix, an_operand, stronger, a_plain_level, a_plain_conditional, a_plain_assignment, a_last_argument}
 use Rattle.qs_syntax.specs.ReadsTypes.{no_prefix, an_int, no_const, an_outer_type, no_star}
@@ -43,7 +43,7 @@ returns status tail number h ends = record {
   lexes = return_then (blank_then (number_then status 59 h refl (semicolon_then (block_end_then (ends (number + 1 + 1 + 1 + 1))))));
   height = 2;
   low = omega arith;
-  trees = stmt_and (return 0 number (Some (expr 0 (number + 1) (int status false)))) no_stmts;
+  trees = stmt_and (return (unnumbered number) (Some (expr (unnumbered (number + 1)) (constant status false)))) no_stmts;
   reads = an_item (a_statement (a_return number (number + 1 + 1) (something_there (as_expression (a_constant (number + 1) status false))))) no_item;
 }
 
@@ -57,7 +57,7 @@ puts byte rest number h others = record {
   lexes = putchar_then (open_then (number_then byte 41 h refl (close_then (semicolon_then others.lexes))));
   height = max 3 others.height;
   low = max_low others.height others.low;
-  trees = stmt_and (expression 0 number (expr 0 number (call (codes "putchar") (expr_and (expr 0 (number + 1 + 1) (int byte false)) no_exprs)))) others.trees;
+  trees = stmt_and (expression (unnumbered number) (expr (unnumbered number) (call (codes "putchar") (expr_and (expr (unnumbered (number + 1 + 1)) (constant byte false)) no_exprs)))) others.trees;
   reads = an_item (a_statement (an_expression (number + 1 + 1 + 1 + 1) (as_expression (a_call number (number + 1) (number + 1 + 1 + 1) (codes "putchar") (a_last_argument (as_assignment (a_constant (number + 1 + 1) byte false))))))) others.reads;
 }
 

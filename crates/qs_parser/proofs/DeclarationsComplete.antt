@@ -1,6 +1,6 @@
 -- What has a reading as a declarator, a variable or a declaration is read so, whatever follows that does not go on with it.
-use Rattle.std.proofs.Common.{◌≡◌, ℕ, zero, suc, ◌+◌, ◌<◌, ◌≤◌, max, List, [], ◌∷◌, ◌++◌, length, Result, Ok, refl, sym, ap, ◌∙◌, append_assoc, append-nil, add-one, length-append, Bool, true, false, true≢false, cond, arith, ◌==◌}
-use Rattle.std.proofs.lemmas.Bool.{false_from_ne_true, ne_eqb}
+use Rattle.std.proofs.Common.{◌≡◌, ℕ, zero, suc, ◌+◌, ◌<◌, ◌≤◌, max, List, [], ◌∷◌, ◌++◌, length, Result, Ok, refl, sym, ap, ◌∙◌, append_assoc, append-nil, add-one, length-append, Bool, true, false, true≢false, cond, arith, ◌==◌, ◌&&◌}
+use Rattle.std.proofs.lemmas.Bool.{and_right, false_from_ne_true, ne_eqb}
 use Rattle.qs_syntax.specs.declared.terminal.Terminal.{Terminal}
 use Rattle.qs_syntax.specs.declared.terminal.Terminal.TheVariants.{Name, Punctuator}
 use Rattle.qs_syntax.specs.declared.punctuator.Punctuator as punctuator
@@ -61,12 +61,20 @@ given_not_open no_length (t ∷ ts) stop = rw stop refl
 given_not_open (a_length {xs = xs} {ys = ys} o c r s) rest stop =
     rw (append_assoc xs (Punctuator c punctuators.CloseBracket ∷ ys) rest) (not_begun punctuators.CloseBracket (λ at us. refl) (xs ++ Punctuator c punctuators.CloseBracket ∷ (ys ++ rest)) (begins r (Punctuator c punctuators.CloseBracket ∷ (ys ++ rest))))
 
+-- a length needs a level
+may_follow : {h : ℕ} {ts : List Terminal} {es : List ExprTree} → ReadsGiven h ts es → (m : ℕ) → h ≤ m → (rest : List Terminal) → starts punctuators.OpenBracket rest ≡ false → (m == 0 && starts punctuators.OpenBracket (ts ++ rest)) ≡ false
+may_follow no_length m le rest stop = rw stop (and_right (m == 0) false refl)
+may_follow (a_length o c r s) m le rest stop =
+    let some = high r in
+    let room : (m == 0) ≡ false = ne_eqb m 0 (λ e. omega arith) in
+    rw room refl
+
 pub finds_lengths : {h : ℕ} {ts : List Terminal} {x : LengthsTree} → ReadsLengths h ts x → (m : ℕ) → h ≤ m → (rest : List Terminal) → starts punctuators.OpenBracket rest ≡ false → lengths m (ts ++ rest) ≡ Ok ((x, h), rest)
 unfolding lengths
 finds_lengths (are_given {h = h} {ts = ts} {es = es} r) m le rest stop =
     rw (given_not_open r rest stop, finds_given r m (length (ts ++ rest)) le (omega (arith, length-append ts rest)) [] 0 rest stop, from_zero h) refl
 finds_lengths (first_open {h = h} {ts = ts} {es = es} o c r) m le rest stop =
-    rw (finds_given r m (length (ts ++ rest)) le (omega (arith, length-append ts rest)) [] 0 rest stop, from_zero h) refl
+    rw (may_follow r m le rest stop, finds_given r m (length (ts ++ rest)) le (omega (arith, length-append ts rest)) [] 0 rest stop, from_zero h) refl
 
 -- ---- declarators
 

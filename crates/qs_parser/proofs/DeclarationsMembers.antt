@@ -9,7 +9,7 @@ use Rattle.qs_syntax.specs.ReadsTypes.{ReadsType}
 use Rattle.qs_syntax.specs.ReadsDeclarations.{ReadsDeclarator, ReadsDeclarators, a_last_member, a_member, ReadsMembers, a_group, ReadsAllMembers, a_last_group, a_further_group}
 use Rattle.qs_parser.specs.Heads.{starts}
 use Rattle.qs_parser.specs.ParseDeclarations.{declarators, members, groups}
-use Rattle.qs_parser.proofs.Sound.{Sound, Sound-ok, Sound-err, Sound-mono}
+use Rattle.qs_parser.proofs.Sound.{Sound, Sound-ok, Sound-err, at_end, Sound-mono}
 use Rattle.qs_parser.proofs.SoundSteps.{Sound-if}
 use Rattle.qs_parser.proofs.TypesSound.{sound_type}
 use Rattle.qs_parser.proofs.DeclarationsSteps.{Sound-punctuator-next, Sound-part, Sound-last}
@@ -28,7 +28,7 @@ further_member h k ts us d ds at (j, e, r) s = rw e (a_member at r s)
 
 sound_declarators : (m n : ℕ) (done : List DeclaratorTree) (h : ℕ) (ts : List Terminal) → Sound (Closed punctuators.Semicolon ReadsDeclarators (suc m) done h) [] ts (declarators m n done h ts)
 unfolding declarators
-sound_declarators m zero done h ts = Sound-err
+sound_declarators m zero done h ts = Sound-err at_end
 sound_declarators m (suc n) done h ts =
     Sound-part _ (sound_declarator m ts)
     (λ d front us r. sound_after punctuators.Semicolon IsMember ReadsDeclarators last_member further_member (suc m) (declarators m n) (λ done h ts. sound_declarators m n done h ts) done h d.0 (d.1 + 1) front (d.1, add-one d.1, r.0) (omega arith) us)
@@ -69,7 +69,7 @@ further_group m done h g front (r, le) y l (items, k, inside, c, p, q, e, s, low
 
 pub sound_groups : (m n : ℕ) (done : List MembersTree) (h : ℕ) (ts : List Terminal) → Sound (Closed punctuators.CloseBrace ReadsAllMembers (suc m) done h) [] ts (groups m n done h ts)
 unfolding groups
-sound_groups m zero done h ts = Sound-err
+sound_groups m zero done h ts = Sound-err at_end
 sound_groups m (suc n) done h ts =
     Sound-part _ (sound_members m ts)
     (λ g front us r. Sound-if (starts punctuators.CloseBrace us)

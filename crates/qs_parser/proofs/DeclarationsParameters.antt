@@ -14,7 +14,7 @@ use Rattle.qs_parser.specs.Heads.{is_keyword, starts}
 use Rattle.qs_parser.specs.Parse.{bind, type, stars, unexpected}
 use Rattle.qs_parser.specs.ParseDeclarations.{with_name, is_void_alone, without_first, parameter, after_parameter, parameters, is_void_head, head}
 use Rattle.qs_parser.proofs.HeadsLaws.{keyword_is}
-use Rattle.qs_parser.proofs.Sound.{Sound, Sound-ok, Sound-err, Sound-after, Sound-mono}
+use Rattle.qs_parser.proofs.Sound.{Sound, Sound-ok, Sound-err, at_end, Sound-after, Sound-mono}
 use Rattle.qs_parser.proofs.SoundSteps.{Sound-if}
 use Rattle.qs_parser.proofs.TypesSound.{sound_type, StarsRead, stars_read}
 use Rattle.qs_parser.proofs.DeclarationsSteps.{Sound-behind, Sound-first, Sound-punctuator-next, Sound-no-punctuator, Sound-part-is, Sound-last}
@@ -81,10 +81,14 @@ module _ (m : ℕ) (start : ℕ) (b : Base) (n : ℕ) (front ys : List Terminal)
   sound_with_name (Text at bytes ∷ ts) = Sound-last _ (sound_lengths m (Text at bytes ∷ ts)) unnamed_read
   sound_with_name (Punctuator at k ∷ ts) = Sound-last _ (sound_lengths m (Punctuator at k ∷ ts)) unnamed_read
 
+fewer : (ts : List Terminal) → length (without_first ts) ≤ length ts
+fewer [] = at_end
+fewer (t ∷ ts) = omega arith
+
 sound_parameter : (m : ℕ) (ts : List Terminal) → Sound (IsParameter m) [] ts (parameter m ts)
 unfolding parameter
 sound_parameter m ts =
-    Sound-if (is_void_alone ts) (λ _. Sound-err)
+    Sound-if (is_void_alone ts) (λ _. Sound-err (fewer ts))
     (λ _. Sound-part-is _ (sound_type ts)
     (λ b front us is split t. let first : StarsRead us (stars us) = stars_read us in
     Sound-after [] us first.front (stars us).1 first.split _
@@ -115,7 +119,7 @@ nothing_ends at us e = by_case (starts punctuators.Comma us) (starts punctuators
 
 sound_parameters : (m n : ℕ) (done : List ParameterTree) (h : ℕ) (ts : List Terminal) → Sound (AreParameters m done h) [] ts (parameters m n done h ts)
 unfolding parameters
-sound_parameters m zero done h ts = Sound-err
+sound_parameters m zero done h ts = Sound-err at_end
 sound_parameters m (suc n) done h ts = Sound-part-is _ (sound_parameter m ts) (λ p front us is split r. by_case (λ done h ts. sound_parameters m n done h ts) p front us is split r)
   where
     by_case : ((done : List ParameterTree) (h : ℕ) (ts : List Terminal) → Sound (AreParameters m done h) [] ts (parameters m n done h ts)) → (p : ParameterTree × ℕ) (front us : List Terminal) → parameter m ts ≡ Ok (p, us) → ts ≡ front ++ us → IsParameter m p front

@@ -11,7 +11,8 @@ use Rattle.qs_syntax.specs.Trees.{unnumbered, LengthsTree, ParameterTree}
 use Rattle.qs_syntax.specs.ReadsTypes.{no_const, a_const, a_void, an_int, a_char, an_unsigned, an_unsigned_int, an_unsigned_char, a_signed, a_signed_int, a_struct, ReadsType, a_type, ReadsStars, no_star, a_star}
 use Rattle.qs_syntax.specs.Reads.{place}
 use Rattle.qs_syntax.specs.ReadsDeclarations.{no_length, a_length, ReadsLengths, are_given, first_open, ReadsParameter, a_named_parameter, an_unnamed_parameter, ReadsParameters, a_last_parameter, a_parameter, ReadsHead, no_parameter, a_void_head, some_parameters}
-use Rattle.qs_parser.specs.Heads.{punctuator_number, is_keyword, starts, begins_type}
+use Rattle.qs_syntax.specs.Punctuators.{same_punctuator}
+use Rattle.qs_parser.specs.Heads.{is_keyword, starts, begins_type}
 use Rattle.qs_parser.specs.ParseDeclarations.{with_name, is_void_alone, parameter, parameters, is_void_head, head}
 use Rattle.qs_parser.proofs.TypesComplete.{goes_on_type, goes_on_stars, finds_type, type_begins, finds_stars, stars_go_on}
 use Rattle.qs_parser.proofs.DeclarationsComplete.{Items, one_more, from_zero, not_typed, finds_lengths}
@@ -68,7 +69,7 @@ parameter_not_alone (an_unnamed_parameter t s l more) rest = unnamed_not_alone t
 -- ---- a parameter
 
 -- where no name stands
-unnamed : {h : ℕ} {zs : List Terminal} {x : LengthsTree} → ReadsLengths h zs x → (m start : ℕ) (b : Base) (n : ℕ) → h ≤ m → (e : ℕ) (k : punctuator.Punctuator) (rest : List Terminal) → (punctuator_number k == 0) ≡ false
+unnamed : {h : ℕ} {zs : List Terminal} {x : LengthsTree} → ReadsLengths h zs x → (m start : ℕ) (b : Base) (n : ℕ) → h ≤ m → (e : ℕ) (k : punctuator.Punctuator) (rest : List Terminal) → same_punctuator k punctuators.OpenBracket ≡ false
     → with_name m start b n (zs ++ Punctuator e k ∷ rest) ≡ Ok ((record { node = unnumbered start; type_name = record { base = b; stars = n }; name = None; lengths = x }, suc h), Punctuator e k ∷ rest)
 unnamed (are_given no_length) m start b n le e k rest stop = rw (finds_lengths (are_given no_length) m le (Punctuator e k ∷ rest) stop, add-one 0) refl
 unnamed (are_given {h = h} (a_length o c r s)) m start b n le e k rest stop = rw (finds_lengths (are_given (a_length o c r s)) m le (Punctuator e k ∷ rest) stop, add-one h) refl
@@ -79,13 +80,13 @@ lengths_no_type (are_given no_length) e k rest = refl
 lengths_no_type (are_given (a_length o c r s)) e k rest = refl
 lengths_no_type (first_open o c r) e k rest = refl
 
-lengths_no_star : {h : ℕ} {zs : List Terminal} {x : LengthsTree} → ReadsLengths h zs x → (e : ℕ) (k : punctuator.Punctuator) (rest : List Terminal) → (punctuator_number k == 11) ≡ false → goes_on_stars (zs ++ Punctuator e k ∷ rest) ≡ false
+lengths_no_star : {h : ℕ} {zs : List Terminal} {x : LengthsTree} → ReadsLengths h zs x → (e : ℕ) (k : punctuator.Punctuator) (rest : List Terminal) → same_punctuator k punctuators.Star ≡ false → goes_on_stars (zs ++ Punctuator e k ∷ rest) ≡ false
 lengths_no_star (are_given no_length) e k rest ends = rw ends refl
 lengths_no_star (are_given (a_length o c r s)) e k rest ends = refl
 lengths_no_star (first_open o c r) e k rest ends = refl
 
 -- before a punctuator that goes on with no parameter
-finds_parameter : {h : ℕ} {ts : List Terminal} {p : ParameterTree} → ReadsParameter h ts p → (m : ℕ) → h ≤ suc m → (e : ℕ) (k : punctuator.Punctuator) (rest : List Terminal) → (punctuator_number k == 0) ≡ false → (punctuator_number k == 11) ≡ false
+finds_parameter : {h : ℕ} {ts : List Terminal} {p : ParameterTree} → ReadsParameter h ts p → (m : ℕ) → h ≤ suc m → (e : ℕ) (k : punctuator.Punctuator) (rest : List Terminal) → same_punctuator k punctuators.OpenBracket ≡ false → same_punctuator k punctuators.Star ≡ false
     → parameter m (ts ++ Punctuator e k ∷ rest) ≡ Ok ((p, h), Punctuator e k ∷ rest)
 unfolding parameter
 finds_parameter (a_named_parameter {h = h} {n = n} {xs = xs} {ys = ys} {zs = zs} {base = b} {lengths = x} at name t s l) m le e k rest no_bracket ends =

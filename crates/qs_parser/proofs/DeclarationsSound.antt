@@ -1,5 +1,5 @@
 -- What is read as a declarator, a variable or a declaration has that reading.
-use Rattle.std.proofs.Common.{◌≡◌, ℕ, zero, suc, ◌+◌, ◌≤◌, max, List, [], ◌∷◌, ◌++◌, length, Some, None, refl, sym, ap, ◌∙◌, append_assoc, append-nil, add-one, arith, ◌==◌}
+use Rattle.std.proofs.Common.{◌≡◌, ℕ, zero, suc, ◌+◌, ◌≤◌, max, List, [], ◌∷◌, ◌++◌, length, Some, None, refl, sym, ap, ◌∙◌, append_assoc, append-nil, add-one, arith, ◌==◌, ◌&&◌}
 use Rattle.qs_syntax.specs.declared.terminal.Terminal.{Terminal}
 use Rattle.qs_syntax.specs.declared.terminal.Terminal.TheVariants.{Punctuator}
 use Rattle.qs_syntax.specs.declared.punctuator.Punctuator.TheVariants as punctuators
@@ -11,7 +11,7 @@ use Rattle.qs_syntax.specs.ReadsDeclarations.{ReadsGiven, no_length, a_length, R
 use Rattle.qs_parser.specs.Heads.{starts}
 use Rattle.qs_parser.specs.Parse.{Parse, E, stars}
 use Rattle.qs_parser.specs.ParseDeclarations.{given_lengths, is_empty_brackets, lengths, named, declarator, after_initialiser, initialisers, begins_initialiser, initialiser, initialised, variable, variables, declared, declaration, declaration_within}
-use Rattle.qs_parser.proofs.Sound.{Sound, Sound-ok, Sound-err, Sound-after, Sound-mono}
+use Rattle.qs_parser.proofs.Sound.{Sound, Sound-ok, Sound-err, at_end, Sound-after, Sound-mono}
 use Rattle.qs_parser.proofs.SoundSteps.{Sound-if}
 use Rattle.qs_parser.proofs.TypesSound.{sound_type, StarsRead, stars_read}
 use Rattle.qs_parser.proofs.ExpressionsSound.{IsRead, sound_part}
@@ -51,7 +51,7 @@ pub sound_lengths : (m : ℕ) (ts : List Terminal) → Sound (AreLengths m) [] t
 unfolding lengths
 sound_lengths m ts =
     Sound-if (is_empty_brackets ts) (λ _. Sound-punctuator-next punctuators.OpenBracket ts _ (λ o us. Sound-punctuator-next punctuators.CloseBracket us _
-    (λ c vs. Sound-last _ (sound_given m (length vs) [] 0 vs) (λ x l r. (first_open o c (all_given m x l r).0, (all_given m x l r).1)))))
+    (λ c vs. Sound-last _ (Sound-if (m == 0 && starts punctuators.OpenBracket vs) (λ _. Sound-err at_end) (λ _. sound_given m (length vs) [] 0 vs)) (λ x l r. (first_open o c (all_given m x l r).0, (all_given m x l r).1)))))
     (λ _. Sound-last _ (sound_given m (length ts) [] 0 ts) (λ x l r. (are_given (all_given m x l r).0, (all_given m x l r).1)))
 
 -- ---- declarators
@@ -105,7 +105,7 @@ module _ (n : ℕ) (one : Parse (InitialiserTree × ℕ)) (good : (ts : List Ter
 
   sound_initialisers : (turns : ℕ) (done : List InitialiserTree) (h : ℕ) (ts : List Terminal) → Sound (AreInitialisers n done h) [] ts (initialisers one turns done h ts)
   unfolding initialisers
-  sound_initialisers zero done h ts = Sound-err
+  sound_initialisers zero done h ts = Sound-err at_end
   sound_initialisers (suc turns) done h ts = Sound-part _ (good ts) (λ i front us r. sound_after_initialiser (initialisers one turns) (λ done h ts. sound_initialisers turns done h ts) done h i front r us)
 
 a_list_read : (m : ℕ) (o : ℕ) (at : ℕ) → at ≡ o → (x : List InitialiserTree × ℕ) (l : List Terminal) → AreInitialisers m [] 0 x l → IsInitialiser (suc m) (list (unnumbered at) (initialisers_of x.0), x.1 + 1) (Punctuator o punctuators.OpenBrace ∷ l)
@@ -116,10 +116,10 @@ a_list_read m o at same x l r = go (all_closed punctuators.CloseBrace AllInitial
 
 pub sound_initialiser : (n : ℕ) (ts : List Terminal) → Sound (IsInitialiser n) [] ts (initialiser n ts)
 unfolding initialiser
-sound_initialiser zero ts = Sound-if (begins_initialiser ts) (λ _. Sound-err) (λ _. Sound-err)
+sound_initialiser zero ts = Sound-if (begins_initialiser ts) (λ _. Sound-err at_end) (λ _. Sound-err at_end)
 sound_initialiser (suc m) ts =
     Sound-if (starts punctuators.OpenBrace ts)
-    (λ _. Sound-if (m == 0) (λ _. Sound-err) (λ _. Sound-punctuator-is punctuators.OpenBrace ts _
+    (λ _. Sound-if (m == 0) (λ _. Sound-err at_end) (λ _. Sound-punctuator-is punctuators.OpenBrace ts _
     (λ o us e. Sound-last _ (sound_initialisers m (initialiser m) (λ ts. sound_initialiser m ts) (length us) [] 0 us) (a_list_read m o (place ts) (ap place e)))))
     (λ _. Sound-last _ (sound_part (suc m) Assignment ts) (λ e l r. (a_value r.0, r.1)))
 
@@ -138,7 +138,7 @@ set_read m d front (r, le) at i l (s, low) = (rw (add-one (max d.1 i.1)) (a_set_
 sound_initialised : (m : ℕ) (d : DeclaratorTree × ℕ) (front : List Terminal) → IsDeclarator m d front → (ts : List Terminal) → Sound (λ x l. IsVariable m x (front ++ l)) [] ts (initialised m d ts)
 sound_initialised m d front r ts =
     Sound-if (starts punctuators.Assign ts)
-    (λ _. Sound-if (m == 0) (λ _. Sound-err) (λ _. Sound-punctuator-next punctuators.Assign ts _ (λ at us. Sound-last _ (sound_initialiser m us) (set_read m d front r at))))
+    (λ _. Sound-if (m == 0) (λ _. Sound-err at_end) (λ _. Sound-punctuator-next punctuators.Assign ts _ (λ at us. Sound-last _ (sound_initialiser m us) (set_read m d front r at))))
     (λ _. Sound-ok (unset_read m d front r))
 
 pub sound_variable : (m : ℕ) (ts : List Terminal) → Sound (IsVariable m) [] ts (variable m ts)
@@ -150,7 +150,7 @@ AreVariables m done h x l = Closed punctuators.Semicolon ReadsVariables (suc m) 
 
 sound_variables : (m n : ℕ) (done : List VariableTree) (h : ℕ) (ts : List Terminal) → Sound (AreVariables m done h) [] ts (variables m n done h ts)
 unfolding variables
-sound_variables m zero done h ts = Sound-err
+sound_variables m zero done h ts = Sound-err at_end
 sound_variables m (suc n) done h ts =
     Sound-part _ (sound_variable m ts)
     (λ v front us r. sound_after punctuators.Semicolon ReadsVariable ReadsVariables (λ h ts v r. a_last_variable r) (λ h k ts us v vs at r s. a_variable at r s) (suc m) (variables m n) (λ done h ts. sound_variables m n done h ts) done h v.0 v.1 front r.0 r.1 us)
@@ -176,5 +176,5 @@ sound_declaration m ts = Sound-part (declared m) (sound_type ts) (λ b front us 
 
 pub sound_declaration_within : (n : ℕ) (ts : List Terminal) → Sound (IsDeclaration n) [] ts (declaration_within n ts)
 unfolding declaration_within
-sound_declaration_within zero ts = Sound-err
+sound_declaration_within zero ts = Sound-err at_end
 sound_declaration_within (suc m) ts = sound_declaration m ts

@@ -202,6 +202,11 @@ too_deep : Refused 1 (Punctuator 0 punctuators.Minus ∷ a_at 1 ∷ []) (Deep 2)
 unfolding part expression primary suffixes arguments unary_of_all operations climb commas texts_from type_name type stars
 too_deep = refl
 
+-- sizeof (a) is three high: the operand, since a type might stand behind the parenthesis
+size_too_deep : Refused 1 (Keyword 0 keywords.Sizeof ∷ Punctuator 1 punctuators.OpenParenthesis ∷ a_at 2 ∷ Punctuator 3 punctuators.CloseParenthesis ∷ []) (Deep 2)
+unfolding part expression primary suffixes arguments unary_of_all operations climb commas texts_from type_name type stars
+size_too_deep = refl
+
 -- a + b + c is three high: the second operator
 sum_too_deep : Refused 2 (a_at 0 ∷ Punctuator 1 punctuators.Plus ∷ b_at 2 ∷ Punctuator 3 punctuators.Plus ∷ c_at 4 ∷ []) (Deep 2)
 unfolding part expression primary suffixes arguments unary_of_all operations climb commas texts_from type_name type stars

@@ -13,13 +13,13 @@ use Rattle.qs_syntax.specs.declared.operators.AssignmentOperator.{AssignmentOper
 use Rattle.qs_syntax.specs.declared.operators.Access.{Access}
 use Rattle.qs_syntax.specs.declared.operators.StepOperator.TheVariants as steps
 use Rattle.qs_syntax.specs.Trees.{unnumbered, ExprTree, expr, ShapeTree, text, step, binary, assign, conditional, comma, subscript, member, Exprs, no_exprs, expr_and, exprs_of}
-use Rattle.qs_syntax.specs.Operators.{punctuator_of_unary, punctuator_of_binary, precedence, punctuator_of_assign, punctuator_of_access, number_of}
+use Rattle.qs_syntax.specs.Operators.{punctuator_of_unary, punctuator_of_binary, precedence, punctuator_of_assign, punctuator_of_access, number_of, unary_of, binary_of, assign_of, access_of}
 use Rattle.qs_syntax.specs.Reads.{Form, Postfix, Unary, Level, Conditional, Assignment, Expression, place, at_first, ReadsTexts, no_text, a_further_text, Reads, ReadsArguments, a_name, an_empty_call, a_call, a_constant, a_text, in_parentheses, an_index, a_member, an_increment_after, a_decrement_after, a_postfix, an_increment, a_decrement, an_operator, a_size_of_type, a_size_of_value, a_cast, an_operand, stronger, an_operation, a_plain_level, a_choice, a_plain_conditional, an_assignment, a_plain_assignment, a_comma, a_last_argument, an_argument}
-use Rattle.qs_parser.specs.Heads.{is_punctuator, is_keyword, starts, unary_of, binary_of, assign_of, access_of, operator_at}
+use Rattle.qs_parser.specs.Heads.{is_punctuator, is_keyword, starts, operator_at}
 use Rattle.qs_parser.specs.Parse as parse
 use Rattle.qs_parser.specs.Parse.{Stop, Parse, bind, E, begins_one, begins_cast, texts_from}
 use Rattle.qs_parser.proofs.HeadsLaws.{punctuator_is, keyword_is, unary_is, binary_is, assign_is, access_is, operator_is}
-use Rattle.qs_parser.proofs.Sound.{Sound, Sound-ok, Sound-err, Sound-token, Sound-mono, Sound-bind, Sound-then}
+use Rattle.qs_parser.proofs.Sound.{Sound, Sound-ok, Sound-err, at_end, Sound-token, Sound-mono, Sound-bind, Sound-then}
 use Rattle.qs_parser.proofs.SoundSteps.{Sound-if, Sound-above, Sound-ends, Sound-from, Sound-punctuator, sound_expect, sound_expect_name}
 use Rattle.qs_parser.proofs.TypesSound.{sound_type_name}
 use Rattle.qs_parser.proofs.ExpressionsBegin.{place_more}
@@ -113,7 +113,7 @@ closed m k h c xs ys ds e j r le = record {
 module _ (m : ℕ) (p : Form → Parse E) (sound : (form : Form) (ts : List Terminal) → Sound (IsRead m form) [] ts (p form ts)) where
   sound_arguments : (n : ℕ) (ds : List ExprTree) (k : ℕ) (xs : List Terminal) → Joins k xs ds → k ≤ m → (ts : List Terminal) → Sound (Closed m) xs ts (parse.arguments m p n ds k ts)
   unfolding parse.arguments
-  sound_arguments zero ds k xs j le ts = Sound-err
+  sound_arguments zero ds k xs j le ts = Sound-err at_end
   sound_arguments (suc n) ds k xs j le ts =
       Sound-bind _ (sound Assignment ts)
       (λ e front us r. let low : max k e.1 ≤ m = omega (arith, r.1) in
@@ -143,14 +143,14 @@ module _ (m : ℕ) (p : Form → Parse E) (sound : (form : Form) (ts : List Term
 
   sound_primary : (ts : List Terminal) → Sound (IsRead (m + 1) Postfix) [] ts (parse.primary m p ts)
   unfolding parse.primary
-  sound_primary [] = Sound-err
+  sound_primary [] = Sound-err at_end
   sound_primary (Name at x ∷ ts) = Sound-token (sound_name at x ts)
-  sound_primary (Keyword at k ∷ ts) = Sound-err
+  sound_primary (Keyword at k ∷ ts) = Sound-err at_end
   sound_primary (Constant at n unsigned ∷ ts) = Sound-token (Sound-ok (a_constant at n unsigned, omega arith))
   sound_primary (Text at bytes ∷ ts) = Sound-token (sound_after_text m at bytes ts m p)
   sound_primary (Punctuator at k ∷ ts) =
       Sound-if (is_punctuator punctuators.OpenParenthesis (Punctuator at k))
-      (λ e. Sound-if (m == 0) (λ _. Sound-err) (λ _. punctuator_first punctuators.OpenParenthesis at k ts _ (sound_parentheses at ts) e)) (λ _. Sound-err)
+      (λ e. Sound-if (m == 0) (λ _. Sound-err at_end) (λ _. punctuator_first punctuators.OpenParenthesis at k ts _ (sound_parentheses at ts) e)) (λ _. Sound-err at_end)
 
   -- ---- suffixes
 
@@ -175,7 +175,7 @@ module _ (m : ℕ) (p : Form → Parse E) (sound : (form : Form) (ts : List Term
 
   sound_access : (start : ℕ) (a : E) (done : List Terminal) → Begun (m + 1) Postfix start a done → a.1 ≤ m → (t : Terminal) (ts : List Terminal) (o : Option Access) → operator_at access_of (t ∷ ts) ≡ o
       → Sound (Begun (m + 1) Postfix start) done (t ∷ ts) (parse.access_at m p start a o ts)
-  sound_access start a done r le t ts None e = Sound-err
+  sound_access start a done r le t ts None e = Sound-err at_end
   sound_access start a done r le t ts (Some access) e =
       let is = operator_is access_of punctuator_of_access access_is (t ∷ ts) access e in
       Sound-token (subst (λ u. Sound (Begun (m + 1) Postfix start) (done ++ u ∷ []) ts (parse.member_of m p start a access ts)) (first_same t (Punctuator is.0 (punctuator_of_access access)) ts is.1 is.2) (sound_member start is.0 a access done r le ts))
@@ -184,7 +184,7 @@ module _ (m : ℕ) (p : Form → Parse E) (sound : (form : Form) (ts : List Term
       first_same t u ts us e = cc
 
   sound_suffix : (start : ℕ) (a : E) (done : List Terminal) → Begun (m + 1) Postfix start a done → a.1 ≤ m → (ts : List Terminal) → Sound (Begun (m + 1) Postfix start) done ts (parse.suffix m p start a ts)
-  sound_suffix start a done r le [] = Sound-err
+  sound_suffix start a done r le [] = Sound-err at_end
   sound_suffix start a done r le (t ∷ ts) =
       Sound-if (is_punctuator punctuators.OpenBracket t) (λ e. behind_punctuator punctuators.OpenBracket _ e (sound_index start (number_of t) a done r le ts))
       (λ _. Sound-if (is_punctuator punctuators.Increment t)
@@ -201,7 +201,7 @@ module _ (m : ℕ) (p : Form → Parse E) (sound : (form : Form) (ts : List Term
   sound_suffixes zero start a done r ts = Sound-ok r
   sound_suffixes (suc n) start a done r ts =
       Sound-if (parse.begins_suffix m p ts)
-      (λ _. Sound-above m a.1 Sound-err (λ le. Sound-then (parse.suffixes m p n start) (sound_suffix start a done r le ts) (λ b done us q. sound_suffixes n start b done q us))) (λ _. Sound-ok r)
+      (λ _. Sound-above m a.1 (Sound-err at_end) (λ le. Sound-then (parse.suffixes m p n start) (sound_suffix start a done r le ts) (λ b done us q. sound_suffixes n start b done q us))) (λ _. Sound-ok r)
 
   -- what is read first stands where all the tokens begin
   starting : (form : Form) (ts front us : List Terminal) (a : E) → ts ≡ front ++ us → IsRead (m + 1) form a front → Begun (m + 1) form (place ts) a front
@@ -234,21 +234,27 @@ module _ (m : ℕ) (p : Form → Parse E) (sound : (form : Form) (ts : List Term
   sound_operator_at : (at : ℕ) (k : punctuator.Punctuator) (ts : List Terminal) (o : Option UnaryOperator) → unary_of k ≡ o → Sound (IsRead (m + 1) Unary) [] (Punctuator at k ∷ ts) (parse.unary_operator_at m p at o k ts)
   sound_operator_at at k ts None e = Sound-mono as_unary (sound_postfix (Punctuator at k ∷ ts))
   sound_operator_at at k ts (Some operator) e =
-      Sound-if (m == 0) (λ _. Sound-err) (λ _. Sound-token (subst (λ n. Sound (IsRead (m + 1) Unary) (Punctuator at n ∷ []) ts (parse.operator_of m p at operator ts)) (sym (unary_is k operator e)) (sound_operator operator at ts)))
+      Sound-if (m == 0) (λ _. Sound-err at_end) (λ _. Sound-token (subst (λ n. Sound (IsRead (m + 1) Unary) (Punctuator at n ∷ []) ts (parse.operator_of m p at operator ts)) (sym (unary_is k operator e)) (sound_operator operator at ts)))
+
+  -- nothing is read where no level is left
+  Sound-at_limit : {R : E → List Terminal → Type 0} {done : List Terminal} (ts : List Terminal) → Sound R done ts (parse.size_at_limit ts)
+  Sound-at_limit ts =
+      Sound-if (starts punctuators.OpenParenthesis ts) (λ _. Sound-punctuator punctuators.OpenParenthesis _ (λ o us. Sound-if (begins_one us) (λ _. Sound-err at_end) (λ _. Sound-err at_end)))
+      (λ _. Sound-if (begins_one ts) (λ _. Sound-err at_end) (λ _. Sound-err at_end))
 
   sound_unary : (ts : List Terminal) → Sound (IsRead (m + 1) Unary) [] ts (parse.unary_of_all m p ts)
   unfolding parse.unary_of_all
-  sound_unary [] = Sound-err
+  sound_unary [] = Sound-err at_end
   sound_unary (Name at x ∷ ts) = Sound-mono as_unary (sound_postfix (Name at x ∷ ts))
   sound_unary (Keyword at k ∷ ts) =
       Sound-if (is_keyword keywords.Sizeof (Keyword at k))
-      (λ e. Sound-if (m == 0 && not (begins_cast ts)) (λ _. Sound-err)
-      (λ _. Sound-token (subst (λ u. Sound (IsRead (m + 1) Unary) (u ∷ []) ts (parse.size_of m p at ts)) (sym (keyword_is keywords.Sizeof (Keyword at k) e)) (sound_size at ts)))) (λ _. Sound-err)
+      (λ e. Sound-if (m == 0 && not (begins_cast ts)) (λ _. Sound-token (Sound-at_limit ts))
+      (λ _. Sound-token (subst (λ u. Sound (IsRead (m + 1) Unary) (u ∷ []) ts (parse.size_of m p at ts)) (sym (keyword_is keywords.Sizeof (Keyword at k) e)) (sound_size at ts)))) (λ _. Sound-err at_end)
   sound_unary (Constant at n unsigned ∷ ts) = Sound-mono as_unary (sound_postfix (Constant at n unsigned ∷ ts))
   sound_unary (Text at bytes ∷ ts) = Sound-mono as_unary (sound_postfix (Text at bytes ∷ ts))
   sound_unary (Punctuator at k ∷ ts) =
-      Sound-if (is_punctuator punctuators.Increment (Punctuator at k)) (λ e. Sound-if (m == 0) (λ _. Sound-err) (λ _. punctuator_first punctuators.Increment at k ts _ (sound_increment at ts) e))
-      (λ _. Sound-if (is_punctuator punctuators.Decrement (Punctuator at k)) (λ e. Sound-if (m == 0) (λ _. Sound-err) (λ _. punctuator_first punctuators.Decrement at k ts _ (sound_decrement at ts) e))
+      Sound-if (is_punctuator punctuators.Increment (Punctuator at k)) (λ e. Sound-if (m == 0) (λ _. Sound-err at_end) (λ _. punctuator_first punctuators.Increment at k ts _ (sound_increment at ts) e))
+      (λ _. Sound-if (is_punctuator punctuators.Decrement (Punctuator at k)) (λ e. Sound-if (m == 0) (λ _. Sound-err at_end) (λ _. punctuator_first punctuators.Decrement at k ts _ (sound_decrement at ts) e))
       (λ _. sound_operator_at at k ts (unary_of k) refl))
 
   sound_cast : (at : ℕ) (ts : List Terminal) → Sound (IsRead (m + 1) (Level 0)) (Punctuator at punctuators.OpenParenthesis ∷ []) ts (parse.cast_of m p at ts)
@@ -260,7 +266,7 @@ module _ (m : ℕ) (p : Form → Parse E) (sound : (form : Form) (ts : List Term
   sound_cast_or_unary : (ts : List Terminal) → Sound (IsRead (m + 1) (Level 0)) [] ts (parse.cast_or_unary m p ts)
   sound_cast_or_unary ts =
       Sound-if (begins_cast ts)
-      (λ _. Sound-if (m == 0) (λ _. Sound-err)
+      (λ _. Sound-if (m == 0) (λ _. Sound-err at_end)
       (λ _. Sound-from _ (sound_expect punctuators.OpenParenthesis ts)
       (λ x front us e is. rw is.1 (subst (λ n. Sound (IsRead (m + 1) (Level 0)) (Punctuator is.0 punctuators.OpenParenthesis ∷ []) us (parse.cast_of m p n us)) (sym (ap place (e ∙ ap (λ l. l ++ us) is.1))) (sound_cast is.0 us)))))
       (λ _. Sound-mono (λ x l r. (an_operand r.0, r.1)) (sound_unary ts))
@@ -279,11 +285,11 @@ module _ (m : ℕ) (p : Form → Parse E) (sound : (form : Form) (ts : List Term
       → ((b : E) (done us : List Terminal) → Begun (m + 1) (Level (suc j)) start b done → Sound (Begun (m + 1) (Level (suc j)) start) done us (others b us))
       → (o : Option BinaryOperator) → parse.of_level m p j (operator_at binary_of ts) ≡ o → Sound (Begun (m + 1) (Level (suc j)) start) done ts (parse.operation_at m p j start a o others ts)
   sound_operation_at j start a done r ts others again None e = Sound-ok r
-  sound_operation_at j start a done r [] others again (Some operator) e = Sound-above m a.1 Sound-err (λ le. Sound-err)
+  sound_operation_at j start a done r [] others again (Some operator) e = Sound-above m a.1 (Sound-err at_end) (λ le. Sound-err at_end)
   sound_operation_at j start a done r (t ∷ ts) others again (Some operator) e =
       let level = of_level_is j (operator_at binary_of (t ∷ ts)) operator e in
       let is = operator_is binary_of punctuator_of_binary binary_is (t ∷ ts) operator level.0 in
-      Sound-above m a.1 Sound-err
+      Sound-above m a.1 (Sound-err at_end)
       (λ le. Sound-token (Sound-bind _ (sound (Level j) ts)
       (λ b front us q. again (expr (unnumbered start) (binary operator a.0 b.0), max a.1 b.1 + 1) ((done ++ t ∷ []) ++ front) us
       (let low : max a.1 b.1 ≤ m = omega (arith, q.1) in
@@ -309,7 +315,7 @@ module _ (m : ℕ) (p : Form → Parse E) (sound : (form : Form) (ts : List Term
   sound_after_or : (start : ℕ) (a : E) (done : List Terminal) → Begun (m + 1) (Level 10) start a done → (ts : List Terminal) → Sound (Begun (m + 1) Conditional start) done ts (parse.after_or m p start a ts)
   sound_after_or start a done r ts =
       Sound-if (starts punctuators.Question ts)
-      (λ _. Sound-above m a.1 Sound-err
+      (λ _. Sound-above m a.1 (Sound-err at_end)
       (λ le. Sound-punctuator punctuators.Question _ (λ o us. Sound-bind _ (sound Expression us)
       (λ b front vs q. Sound-punctuator punctuators.Colon _ (λ c ws. Sound-bind _ (sound Conditional ws)
       (λ d more xs s. Sound-ok
@@ -329,7 +335,7 @@ module _ (m : ℕ) (p : Form → Parse E) (sound : (form : Form) (ts : List Term
   sound_assignment_of start a done r [] (Some operator) e = absurd cc
   sound_assignment_of start a done r (t ∷ ts) (Some operator) e =
       let is = operator_is assign_of punctuator_of_assign assign_is (t ∷ ts) operator e in
-      Sound-above m a.1 Sound-err
+      Sound-above m a.1 (Sound-err at_end)
       (λ le. Sound-token (Sound-bind _ (sound Assignment ts)
       (λ b front us q. Sound-ok
       (let low : max a.1 b.1 ≤ m = omega (arith, q.1) in
@@ -352,7 +358,7 @@ module _ (m : ℕ) (p : Form → Parse E) (sound : (form : Form) (ts : List Term
   sound_commas zero start a done r ts = Sound-ok r
   sound_commas (suc n) start a done r ts =
       Sound-if (starts punctuators.Comma ts)
-      (λ _. Sound-above m a.1 Sound-err
+      (λ _. Sound-above m a.1 (Sound-err at_end)
       (λ le. Sound-punctuator punctuators.Comma _ (λ c us. Sound-bind _ (sound Assignment us)
       (λ b front vs q. sound_commas n start (expr (unnumbered start) (comma a.0 b.0), max a.1 b.1 + 1) ((done ++ Punctuator c punctuators.Comma ∷ []) ++ front)
       (let low : max a.1 b.1 ≤ m = omega (arith, q.1) in
@@ -372,5 +378,5 @@ module _ (m : ℕ) (p : Form → Parse E) (sound : (form : Form) (ts : List Term
 
 pub sound_part : (n : ℕ) (form : Form) (ts : List Terminal) → Sound (IsRead n form) [] ts (parse.part n form ts)
 unfolding parse.part
-sound_part zero form ts = Sound-if (begins_one ts) (λ _. Sound-err) (λ _. Sound-err)
+sound_part zero form ts = Sound-if (begins_one ts) (λ _. Sound-err at_end) (λ _. Sound-err at_end)
 sound_part (suc n) form ts = Sound-mono (λ x l r. (r.0, let low : x.1 ≤ n + 1 = r.1 in omega arith)) (sound_expression n (parse.part n) (λ form ts. sound_part n form ts) form ts)

@@ -9,7 +9,7 @@ use Rattle.qs_syntax.specs.Operators.{number_of}
 use Rattle.qs_parser.specs.Heads.{is_punctuator}
 use Rattle.qs_parser.specs.Parse.{Stop, Parse, bind, expect, expect_name}
 use Rattle.qs_parser.proofs.HeadsLaws.{punctuator_is}
-use Rattle.qs_parser.proofs.Sound.{Outcome, Sound, Sound-ok, Sound-err, Sound-after, Sound-token}
+use Rattle.qs_parser.proofs.Sound.{Outcome, Sound, Sound-ok, Sound-err, at_end, Sound-after, Sound-token}
 
 -- a token and then more
 pub with_token : (Q : List Terminal → Type 0) (done : List Terminal) (t : Terminal) (ts : List Terminal) → Q (done ++ t ∷ ts) → Q ((done ++ t ∷ []) ++ ts)
@@ -32,20 +32,20 @@ abbrev pub IsPunctuator : punctuator.Punctuator → Unit {0} → List Terminal �
 IsPunctuator m x ts = (at : ℕ) × (ts ≡ Punctuator at m ∷ [])
 
 pub sound_expect : (m : punctuator.Punctuator) (ts : List Terminal) → Sound (IsPunctuator m) [] ts (expect m ts)
-sound_expect m [] = Sound-err
-sound_expect m (t ∷ ts) = Sound-if (is_punctuator m t) (λ e. Sound-token (Sound-ok (number_of t, ap (λ u. u ∷ []) (punctuator_is m t e)))) (λ e. Sound-err)
+sound_expect m [] = Sound-err at_end
+sound_expect m (t ∷ ts) = Sound-if (is_punctuator m t) (λ e. Sound-token (Sound-ok (number_of t, ap (λ u. u ∷ []) (punctuator_is m t e)))) (λ e. Sound-err at_end)
 
 -- the name alone
 abbrev pub IsName : ℕ × List ℕ → List Terminal → Type 0
 IsName x ts = ts ≡ Name x.0 x.1 ∷ []
 
 pub sound_expect_name : (ts : List Terminal) → Sound IsName [] ts (expect_name ts)
-sound_expect_name [] = Sound-err
+sound_expect_name [] = Sound-err at_end
 sound_expect_name (Name at x ∷ ts) = Sound-token (Sound-ok refl)
-sound_expect_name (Keyword at k ∷ ts) = Sound-err
-sound_expect_name (Constant at n unsigned ∷ ts) = Sound-err
-sound_expect_name (Text at bytes ∷ ts) = Sound-err
-sound_expect_name (Punctuator at m ∷ ts) = Sound-err
+sound_expect_name (Keyword at k ∷ ts) = Sound-err at_end
+sound_expect_name (Constant at n unsigned ∷ ts) = Sound-err at_end
+sound_expect_name (Text at bytes ∷ ts) = Sound-err at_end
+sound_expect_name (Punctuator at m ∷ ts) = Sound-err at_end
 
 module _ {A C : Type 0} {R : A → List Terminal → Type 0} {S : C → List Terminal → Type 0} where
   -- what follows a first part knows how all the tokens begin
@@ -55,7 +55,7 @@ module _ {A C : Type 0} {R : A → List Terminal → Type 0} {S : C → List Ter
     where
       by_case : (r : Result (A × List Terminal) Stop) → Outcome R [] ts r → Sound S done ts (bind r f)
       by_case (Ok x) (front, e, h) = Sound-after done ts front x.1 e (f x.0 x.1) (go x.0 front x.1 e h)
-      by_case (Err e) h = Sound-err
+      by_case (Err e) h = Sound-err h
 
 module _ {C : Type 0} {S : C → List Terminal → Type 0} where
   -- a punctuator, and then more

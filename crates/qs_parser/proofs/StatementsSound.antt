@@ -15,7 +15,7 @@ use Rattle.qs_parser.specs.Heads.{is_punctuator, is_keyword, starts, starts_with
 use Rattle.qs_parser.specs.Parse.{Stop, Parse, bind, unexpected, expect, E, part}
 use Rattle.qs_parser.specs.ParseStatements.{S, optional, condition, start_of, begins_statement, item, items, after_then, expect_while, keyword_statement, statement_at, statement}
 use Rattle.qs_parser.proofs.HeadsLaws.{keyword_is, punctuator_is}
-use Rattle.qs_parser.proofs.Sound.{Sound, Sound-ok, Sound-err, Sound-mono}
+use Rattle.qs_parser.proofs.Sound.{Sound, Sound-ok, Sound-err, at_end, Sound-mono}
 use Rattle.qs_parser.proofs.SoundSteps.{Sound-if}
 use Rattle.qs_parser.proofs.ExpressionsSound.{IsRead, sound_part}
 use Rattle.qs_parser.proofs.ExpressionsBegin.{place_more}
@@ -94,12 +94,12 @@ module _ {A : Type 0} {R : A → List Terminal → Type 0} where
   Sound-keyword k t ts e s = rw (keyword_is k t e) (Sound-first s)
 
   Sound-while-next : (m : ℕ) (inner : Parse S) (ts : List Terminal) (f : Unit {0} → Parse A) → ((w : ℕ) (us : List Terminal) → Sound (λ x l. R x (Keyword w keywords.While ∷ l)) [] us (f tt us)) → Sound R [] ts (bind (expect_while m inner ts) f)
-  Sound-while-next m inner [] f go = Sound-err
+  Sound-while-next m inner [] f go = Sound-err at_end
   Sound-while-next m inner (t ∷ ts) f go = by_case (is_keyword keywords.While t) (λ e. keyword_is keywords.While t e)
     where
       by_case : (b : Bool) → (b ≡ true → t ≡ Keyword (number_of t) keywords.While) → Sound R [] (t ∷ ts) (bind (cond b (Ok (tt, ts)) (unexpected (t ∷ ts))) f)
       by_case true h = rw (h refl) (Sound-first (go (number_of t) ts))
-      by_case false h = Sound-err
+      by_case false h = Sound-err at_end
 
 -- [ expression ] and the punctuator behind it
 abbrev IsOptional : ℕ → punctuator.Punctuator → Option ExprTree × ℕ → List Terminal → Type 0
@@ -203,7 +203,7 @@ module _ (m : ℕ) (inner : Parse S) (takes : (ts : List Terminal) → Takes (in
 
   pub sound_items : (n : ℕ) (done : List StmtTree) (h : ℕ) (ts : List Terminal) → Sound (AreItems m done h) [] ts (items m inner n done h ts)
   unfolding items
-  sound_items zero done h ts = Sound-err
+  sound_items zero done h ts = Sound-err at_end
   sound_items (suc n) done h ts =
       Sound-if (starts punctuators.CloseBrace ts)
       (λ _. Sound-punctuator-next punctuators.CloseBrace ts _ (λ c us. Sound-ok (no_items m done h c)))
@@ -224,16 +224,16 @@ module _ (m : ℕ) (inner : Parse S) (takes : (ts : List Terminal) → Takes (in
   sound_keyword : (t : Terminal) (ts : List Terminal) → Sound (IsStatement (suc m)) [] (t ∷ ts) (keyword_statement m inner (place (t ∷ ts)) t ts)
   sound_keyword t ts =
       Sound-if (is_keyword keywords.If t)
-      (λ is. Sound-if (m == 0) (λ _. Sound-err) (λ _. Sound-keyword keywords.If t ts is
+      (λ is. Sound-if (m == 0) (λ _. Sound-err at_end) (λ _. Sound-keyword keywords.If t ts is
       (Sound-part _ (sound_condition m ts) (λ e c us r. Sound-part-is _ (sound us) (λ s ys vs read _ q. sound_after_then (number_of t) e s c ys r q vs (taken_there us vs s read))))))
       (λ _. Sound-if (is_keyword keywords.While t)
-      (λ is. Sound-if (m == 0) (λ _. Sound-err) (λ _. Sound-keyword keywords.While t ts is
+      (λ is. Sound-if (m == 0) (λ _. Sound-err at_end) (λ _. Sound-keyword keywords.While t ts is
       (Sound-part _ (sound_condition m ts) (λ e c us r. Sound-last _ (sound us) (λ s ys q. while_read m (number_of t) e s c ys r q)))))
       (λ _. Sound-if (is_keyword keywords.Do t)
-      (λ is. Sound-if (m == 0) (λ _. Sound-err) (λ _. Sound-keyword keywords.Do t ts is
+      (λ is. Sound-if (m == 0) (λ _. Sound-err at_end) (λ _. Sound-keyword keywords.Do t ts is
       (Sound-part _ (sound ts) (λ s xs us q. Sound-while-next m inner us _ (λ w vs. Sound-part _ (sound_condition m vs) (λ e c ws r. Sound-punctuator-next punctuators.Semicolon ws _ (λ n ys. Sound-ok (do_read m (number_of t) w n s e xs c q r))))))))
       (λ _. Sound-if (is_keyword keywords.For t)
-      (λ is. Sound-if (m == 0) (λ _. Sound-err) (λ _. Sound-keyword keywords.For t ts is
+      (λ is. Sound-if (m == 0) (λ _. Sound-err at_end) (λ _. Sound-keyword keywords.For t ts is
       (Sound-punctuator-next punctuators.OpenParenthesis ts _ (λ o us. Sound-part _ (sound_start m us) (λ a ws vs r1. Sound-part _ (sound_optional m punctuators.Semicolon vs) (λ e xs ws' r2. Sound-part _ (sound_optional m punctuators.CloseParenthesis ws')
       (λ u ys xs' r3. Sound-last _ (sound xs') (λ s zs q. for_read m (number_of t) o a e u s ws xs ys zs r1 r2 r3 q))))))))
       (λ _. Sound-if (is_keyword keywords.Break t)
@@ -245,7 +245,7 @@ module _ (m : ℕ) (inner : Parse S) (takes : (ts : List Terminal) → Takes (in
       (λ _. Sound-part-is _ (sound_part m Expression (t ∷ ts)) (λ e front us _ split r. Sound-punctuator-next punctuators.Semicolon us _ (λ s vs. Sound-ok (expression_read m (t ∷ ts) us e front split r s))))))))))
 
   sound_statement_at : (ts : List Terminal) → Sound (IsStatement (suc m)) [] ts (statement_at m inner ts)
-  sound_statement_at [] = Sound-err
+  sound_statement_at [] = Sound-err at_end
   sound_statement_at (t ∷ ts) =
       Sound-if (is_punctuator punctuators.Semicolon t)
       (λ is. rw (punctuator_is punctuators.Semicolon t is) (Sound-first (Sound-ok (an_empty (number_of t), omega arith))))
@@ -255,5 +255,5 @@ module _ (m : ℕ) (inner : Parse S) (takes : (ts : List Terminal) → Takes (in
 
 pub sound_statement : (n : ℕ) (ts : List Terminal) → Sound (IsStatement n) [] ts (statement n ts)
 unfolding statement
-sound_statement zero ts = Sound-if (begins_statement ts) (λ _. Sound-err) (λ _. Sound-err)
+sound_statement zero ts = Sound-if (begins_statement ts) (λ _. Sound-err at_end) (λ _. Sound-err at_end)
 sound_statement (suc m) ts = sound_statement_at m (statement m) (λ us. takes_statement m us) (λ us. sound_statement m us) ts

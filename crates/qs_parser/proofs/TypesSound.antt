@@ -12,7 +12,7 @@ use Rattle.qs_syntax.specs.ReadsTypes.{ReadsConsts, no_const, a_const, ReadsBase
 use Rattle.qs_parser.specs.Heads.{is_punctuator, is_keyword, starts}
 use Rattle.qs_parser.specs.Parse.{Stop, bind, expect_name, skip_consts, after_unsigned, after_signed, base, type, stars_from, stars, type_name}
 use Rattle.qs_parser.proofs.HeadsLaws.{keyword_is, punctuator_is, starts_is}
-use Rattle.qs_parser.proofs.Sound.{Sound, Sound-ok, Sound-err, Sound-after, Sound-token, Sound-bind}
+use Rattle.qs_parser.proofs.Sound.{Sound, Sound-ok, Sound-err, at_end, Sound-after, Sound-token, Sound-bind}
 use Rattle.qs_parser.proofs.SoundSteps.{Sound-if, Sound-ends, sound_expect_name}
 
 -- what is left, where the front has a property
@@ -65,14 +65,14 @@ keyword_first : (k : _) (t : Terminal) (ts : List Terminal) (r : Result (Base ×
 keyword_first k t ts r f e = Sound-token (subst (λ u. Sound IsBase (u ∷ []) ts r) (sym (keyword_is k t e)) (f (number_of t)))
 
 pub sound_base : (ts : List Terminal) → Sound IsBase [] ts (base ts)
-sound_base [] = Sound-err
+sound_base [] = Sound-err at_end
 sound_base (t ∷ ts) =
     Sound-if (is_keyword keywords.Void t) (base_token keywords.Void bases.Void t ts a_void)
     (λ _. Sound-if (is_keyword keywords.Int t) (base_token keywords.Int bases.Int t ts an_int)
     (λ _. Sound-if (is_keyword keywords.Char t) (base_token keywords.Char bases.Char t ts a_char)
     (λ _. Sound-if (is_keyword keywords.Unsigned t) (keyword_first keywords.Unsigned t ts (after_unsigned ts) (λ at. sound_after_unsigned at ts))
     (λ _. Sound-if (is_keyword keywords.Signed t) (keyword_first keywords.Signed t ts (after_signed ts) (λ at. sound_after_signed at ts))
-    (λ _. Sound-if (is_keyword keywords.Struct t) (keyword_first keywords.Struct t ts _ (λ at. sound_after_struct at ts)) (λ _. Sound-err))))))
+    (λ _. Sound-if (is_keyword keywords.Struct t) (keyword_first keywords.Struct t ts _ (λ at. sound_after_struct at ts)) (λ _. Sound-err at_end))))))
 
 -- behind tokens that are skipped
 module _ {A : Type 0} {R : A → List Terminal → Type 0} where

@@ -14,11 +14,11 @@ use Rattle.qs_syntax.specs.Reads.{place}
 use Rattle.qs_syntax.specs.ReadsDeclarations.{ReadsAllMembers, an_outer_declaration}
 use Rattle.qs_syntax.specs.ReadsUnits.{ReadsExternal, a_struct_with_members, a_forward, a_header, a_definition, some_variables, ReadsUnit, a_last_external, an_external}
 use Rattle.qs_parser.specs.Heads.{is_keyword, starts}
-use Rattle.qs_parser.specs.Parse.{Stop, Parse, bind, skip_consts, stars}
+use Rattle.qs_parser.specs.Parse.{Stop, left_of, Parse, bind, skip_consts, stars}
 use Rattle.qs_parser.specs.ParseDeclarations.{skip_prefixes, outer_type}
 use Rattle.qs_parser.specs.ParseStatements.{statement, is_named, struct_of, forward_of, body_of, function_of, typed, external, is_empty, externals, unit}
 use Rattle.qs_parser.proofs.HeadsLaws.{keyword_is}
-use Rattle.qs_parser.proofs.Sound.{Outcome, Sound, Sound-ok, Sound-err, Sound-after, Sound-mono}
+use Rattle.qs_parser.proofs.Sound.{Outcome, Sound, Sound-ok, Sound-err, at_end, Sound-after, Sound-mono}
 use Rattle.qs_parser.proofs.SoundSteps.{Sound-if, Sound-ends}
 use Rattle.qs_parser.proofs.TypesSound.{Taken, taken_consts, sound_base, StarsRead, stars_read}
 use Rattle.qs_parser.proofs.DeclarationsSteps.{Sound-behind, Sound-punctuator-next, Sound-name-next, Sound-part, Sound-part-is, Sound-last}
@@ -118,7 +118,7 @@ module _ (k start : ℕ) (b : Base) (front : List Terminal) (t : ReadsOuterType 
 
 pub sound_external : (k : ℕ) (ts : List Terminal) → Sound (IsExternal k) [] ts (external k ts)
 unfolding external
-sound_external k [] = Sound-err
+sound_external k [] = Sound-err at_end
 sound_external k (t ∷ ts) =
     Sound-if (is_keyword keywords.Struct t && is_named punctuators.OpenBrace ts)
     (λ e. Sound-keyword keywords.Struct t ts (and_parts _ _ e).0 (sound_struct k (number_of t) ts))
@@ -141,7 +141,7 @@ further_external k done h d front (r, le) y l (ds, j, p, q, s, low) = (d.0 ∷ d
 
 sound_externals : (k n : ℕ) (done : List DeclTree) (h : ℕ) (ts : List Terminal) → Sound (AreExternals k done h) [] ts (externals k n done h ts)
 unfolding externals
-sound_externals k zero done h ts = Sound-err
+sound_externals k zero done h ts = Sound-err at_end
 sound_externals k (suc n) done h ts =
     Sound-part _ (sound_external k ts)
     (λ d front us r. Sound-if (is_empty us) (λ _. Sound-ok (last_external k done h d front r)) (λ _. Sound-mono (further_external k done h d front r) (sound_externals k n (done ++ d.0 ∷ []) (max h d.1) us)))
@@ -155,6 +155,10 @@ unit_read k x l (ds, j, p, q, r, low) = let same : x.1 ≡ j = omega arith in (r
 pub sound_unit : (k : ℕ) (ts : List Terminal) → Sound (IsUnit k) [] ts (unit k ts)
 unfolding unit
 sound_unit k ts = Sound-mono (unit_read k) (sound_externals k (length ts) [] 0 ts)
+
+-- a fault stands at one of the tokens or at their end
+pub stops_within : (ts : List Terminal) (stop : Stop) → unit 126 ts ≡ Err stop → left_of stop ≤ length ts
+stops_within ts stop e = rw e at (sound_unit 126 ts).is
 
 -- nothing is left behind a unit
 abbrev LeavesNothing : {A : Type 0} → Result (A × List Terminal) Stop → Type 0

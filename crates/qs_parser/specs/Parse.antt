@@ -16,13 +16,18 @@ use Rattle.qs_syntax.specs.declared.operators.BinaryOperator.{BinaryOperator}
 use Rattle.qs_syntax.specs.declared.operators.AssignmentOperator.{AssignmentOperator}
 use Rattle.qs_syntax.specs.declared.operators.Access.{Access}
 use Rattle.qs_syntax.specs.Trees.{unnumbered, ExprTree, expr, constant, text, name, unary, step, cast, sizeof_type, sizeof_expr, binary, assign, conditional, comma, subscript, member, call, exprs_of}
-use Rattle.qs_syntax.specs.Operators.{precedence}
+use Rattle.qs_syntax.specs.Operators.{precedence, unary_of, binary_of, assign_of, access_of}
 use Rattle.qs_syntax.specs.Reads.{Form, Postfix, Unary, Level, Conditional, Assignment, Expression, place}
-use Rattle.qs_parser.specs.Heads.{is_punctuator, is_keyword, starts, unary_of, binary_of, assign_of, access_of, operator_at, begins_type}
+use Rattle.qs_parser.specs.Heads.{is_punctuator, is_keyword, starts, operator_at, begins_type}
 
 pub data Stop : Type 0 where
   Unexpected : ℕ → Stop
   Deep : ℕ → Stop
+
+-- how many tokens are left where an answer stops
+abbrev pub left_of : Stop → ℕ
+left_of (Unexpected left) = left
+left_of (Deep left) = left
 
 abbrev pub Parse : Type 0 → Type 0
 Parse A = List Terminal → Result (A × List Terminal) Stop
@@ -119,6 +124,14 @@ begins_one (Keyword at k ∷ ts) = is_keyword keywords.Sizeof (Keyword at k)
 begins_one (Constant at n unsigned ∷ ts) = true
 begins_one (Text at bytes ∷ ts) = true
 begins_one (Punctuator at m ∷ ts) = is_some (unary_of m) || (is_punctuator punctuators.OpenParenthesis (Punctuator at m) || (is_punctuator punctuators.Increment (Punctuator at m) || is_punctuator punctuators.Decrement (Punctuator at m)))
+
+-- where no level is left for a part: what begins an expression is too deep, and nothing else may stand there
+abbrev pub beyond : {A : Type 0} → Parse A
+beyond ts = if begins_one ts then deep ts else unexpected ts
+
+-- Behind `sizeof`, where no level is left for its operand and no type stands in parentheses: the parenthesis might begin one.
+abbrev pub size_at_limit : {A : Type 0} → Parse A
+size_at_limit ts = if starts punctuators.OpenParenthesis ts then bind (expect punctuators.OpenParenthesis ts) (λ _ us. beyond us) else beyond ts
 
 -- a parenthesis before a type
 abbrev pub begins_cast : List Terminal → Bool
@@ -233,7 +246,7 @@ module _ (m : ℕ) (part : Form → Parse E) where
   unary_of_all [] = unexpected []
   unary_of_all (Name at x ∷ ts) = postfix (Name at x ∷ ts)
   unary_of_all (Keyword at k ∷ ts) =
-      if is_keyword keywords.Sizeof (Keyword at k) then (if m == 0 && not (begins_cast ts) then deep (Keyword at k ∷ ts) else size_of at ts) else unexpected (Keyword at k ∷ ts)
+      if is_keyword keywords.Sizeof (Keyword at k) then (if m == 0 && not (begins_cast ts) then size_at_limit ts else size_of at ts) else unexpected (Keyword at k ∷ ts)
   unary_of_all (Constant at n unsigned ∷ ts) = postfix (Constant at n unsigned ∷ ts)
   unary_of_all (Text at bytes ∷ ts) = postfix (Text at bytes ∷ ts)
   unary_of_all (Punctuator at k ∷ ts) =
@@ -254,12 +267,12 @@ module _ (m : ℕ) (part : Form → Parse E) where
 
   -- behind an operator, and what follows its right operand
   abbrev pub operation : ℕ → (start : ℕ) → E → BinaryOperator → (E → Parse E) → Parse E
-  operation j start an operator others [] = unexpected []
-  operation j start an operator others (t ∷ ts) = bind (part (Level j) ts) (λ b us. others (expr (unnumbered start) (binary operator a.0 b.0), max a.1 b.1 + 1) us)
+  operation j start a operator others [] = unexpected []
+  operation j start a operator others (t ∷ ts) = bind (part (Level j) ts) (λ b us. others (expr (unnumbered start) (binary operator a.0 b.0), max a.1 b.1 + 1) us)
 
   abbrev pub operation_at : ℕ → (start : ℕ) → E → Option BinaryOperator → (E → Parse E) → Parse E
   operation_at j start a None others ts = Ok (a, ts)
-  operation_at j start a (Some operator) others ts = above m a.1 (operation j start an operator others) ts
+  operation_at j start a (Some operator) others ts = above m a.1 (operation j start a operator others) ts
 
   -- The operators of level j + 1, and their right operands. The first number bounds the turns.
   unfoldable pub operations : ℕ → ℕ → (start : ℕ) → E → Parse E
@@ -313,5 +326,5 @@ module _ (m : ℕ) (part : Form → Parse E) where
 
 -- what is at most n high
 unfoldable pub part : ℕ → Form → Parse E
-part zero form ts = if begins_one ts then deep ts else unexpected ts
+part zero form ts = beyond ts
 part (suc n) form ts = expression n (part n) form ts

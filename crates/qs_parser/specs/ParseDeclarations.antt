@@ -1,6 +1,6 @@
 -- The parser of declarations as functions on lists of tokens. Where `m` levels are left for parts, what a function gives is at most
 -- m + 1 high if it is a node, and else as high as its highest part. The first number of a list bounds its turns.
-use Rattle.std.specs.Prelude.{ℕ, zero, suc, ◌+◌, max, List, [], ◌∷◌, ◌++◌, length, Result, Ok, Some, None, Bool, true, false, ◌&&◌, if◌then◌else◌, Option}
+use Rattle.std.specs.Prelude.{ℕ, zero, suc, ◌+◌, max, List, [], ◌∷◌, ◌++◌, length, ◌==◌, Result, Ok, Some, None, Bool, true, false, ◌&&◌, if◌then◌else◌, Option}
 use Rattle.qs_syntax.specs.declared.terminal.Terminal.{Terminal}
 use Rattle.qs_syntax.specs.declared.terminal.Terminal.TheVariants.{Name, Keyword, Constant, Text, Punctuator}
 use Rattle.qs_base.specs.declared.keyword.Keyword.TheVariants as keywords
@@ -35,10 +35,14 @@ is_empty_brackets (t ∷ ts) = is_punctuator punctuators.OpenBracket t && starts
 abbrev pub lengths_of : Bool → Result ((List ExprTree × ℕ) × List Terminal) Stop → Result ((LengthsTree × ℕ) × List Terminal) Stop
 lengths_of is_open r = bind r (λ es us. Ok ((record { is_open = is_open; given = es.0 }, es.1), us))
 
+-- Behind first brackets that are empty. Where no level is left, no bracket may follow.
+abbrev pub behind_open : (m : ℕ) → Parse (List ExprTree × ℕ)
+behind_open m ts = if m == 0 && starts punctuators.OpenBracket ts then deep ts else given_lengths m (length ts) [] 0 ts
+
 unfoldable pub lengths : (m : ℕ) → Parse (LengthsTree × ℕ)
 lengths m ts =
     if is_empty_brackets ts
-    then bind (expect punctuators.OpenBracket ts) (λ _ us. bind (expect punctuators.CloseBracket us) (λ _ vs. lengths_of true (given_lengths m (length vs) [] 0 vs)))
+    then bind (expect punctuators.OpenBracket ts) (λ _ us. bind (expect punctuators.CloseBracket us) (λ _ vs. lengths_of true (behind_open m vs)))
     else lengths_of false (given_lengths m (length ts) [] 0 ts)
 
 -- behind the stars of a declarator

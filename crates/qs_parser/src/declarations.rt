@@ -82,6 +82,9 @@ fn lengths(alloc: Global, room: u8, tokens: &[Terminal]) -> Result<(Lengths, u32
     }
     let rest = expect(Punctuator::OpenBracket, tokens)?;
     let rest = expect(Punctuator::CloseBracket, rest)?;
+    if room == 0 && starts(Punctuator::OpenBracket, rest) {
+        return Err(Halt::TooDeep(rest.len()));
+    }
     lengths_of(alloc, room, true, rest)
 }
 

@@ -5,14 +5,14 @@ ghost use Rattle.std.specs.Prelude.{◌≡◌, ◌+◌, ◌≤◌, length, [], �
 ghost use Rattle.qs_syntax.specs.declared.terminal.Terminal.TheVariants as terminals;
 ghost use Rattle.qs_syntax.specs.TreeOf.{expr_tree};
 ghost use Rattle.qs_syntax.specs.Reads.{Assignment};
-ghost use Rattle.qs_parser.specs.Parse.{texts_from, arguments, call_of, after_name, in_parentheses, primary, index_of, member_of, access_at, suffix, suffixes, postfix, step_of, operator_of, size_of, unary_operator_at, unary_of_all, cast_of, cast_or_unary, operations, climb, after_or, after_operand, assignment_of, after_unary, assignment, commas, expression, part};
+ghost use Rattle.qs_parser.specs.Parse.{texts_from, arguments, call_of, after_name, in_parentheses, primary, index_of, member_of, access_at, suffix, suffixes, postfix, step_of, operator_of, beyond, size_at_limit, size_of, unary_operator_at, unary_of_all, cast_of, cast_or_unary, operations, climb, after_or, after_operand, assignment_of, after_unary, assignment, commas, expression, part};
 ghost use Rattle.qs_parser.specs.Operands.{right_operand};
 ghost use Rattle.qs_parser.specs.View.{Gives, read_as, listed, texts_of, form_of};
 
 use crate::fault::Halt;
 use crate::heads::{
     access_at, assign_at, begins_cast, begins_one, expect, expect_name, is_punctuator, level_operator_at,
-    place, starts, starts_suffix, starts_with, unary_of,
+    place, starts, starts_suffix, starts_with,
 };
 use crate::nodes;
 use crate::types::type_name;
@@ -371,6 +371,28 @@ fn operator_of(
     Ok((nodes::unary(alloc, at, operator, operand)?, height + 1, rest))
 }
 
+/// Where no level is left for a part, an expression is too deep, and nothing else may stand here.
+fn beyond(tokens: &[Terminal]) -> Result<(Expr, u32, &[Terminal]), Halt>
+    ensures gives { Gives (read_as expr_tree) result (beyond tokens.now) }
+    ensures low { IfOk result (λ x. x.1 ≤ 0) }
+{
+    if begins_one(tokens) {
+        return Err(Halt::TooDeep(tokens.len()));
+    }
+    Err(Halt::Unexpected(tokens.len()))
+}
+
+/// Behind `sizeof`, where no level is left for its operand and no type stands in parentheses.
+fn size_at_limit(tokens: &[Terminal]) -> Result<(Expr, u32, &[Terminal]), Halt>
+    ensures gives { Gives (read_as expr_tree) result (size_at_limit tokens.now) }
+    ensures low { IfOk result (λ x. x.1 ≤ 0) }
+{
+    if starts(Punctuator::OpenParenthesis, tokens) {
+        return beyond(expect(Punctuator::OpenParenthesis, tokens)?);
+    }
+    beyond(tokens)
+}
+
 /// The operand of `sizeof`: a type in parentheses, or an expression (C11 6.5.3.4).
 #[cycle(parser)]
 fn size_of(
@@ -409,7 +431,7 @@ fn marked<'a>(
 {
     let is_increment = starts(Punctuator::Increment, tokens);
     let is_decrement = starts(Punctuator::Decrement, tokens);
-    let operator = unary_of(punctuator);
+    let operator = UnaryOperator::of(punctuator);
     if !is_increment && !is_decrement && operator.is_none() {
         return postfix(alloc, room, tokens);
     }
@@ -442,7 +464,7 @@ fn unary(alloc: Global, room: u8, tokens: &[Terminal]) -> Result<(Expr, u32, &[T
                 return Err(Halt::Unexpected(tokens.len()));
             }
             if room == 0 && !begins_cast(rest) {
-                return Err(Halt::TooDeep(tokens.len()));
+                return size_at_limit(rest);
             }
             size_of(alloc, room, *at, rest)
         }

@@ -1,14 +1,16 @@
 // What tokens begin with.
 ghost use Rattle.std.specs.Prelude.{◌≡◌, ◌+◌};
 ghost use Rattle.qs_syntax.specs.Reads.{place};
-ghost use Rattle.qs_syntax.specs.Operators.{precedence};
-ghost use Rattle.qs_parser.specs.Heads.{is_punctuator, is_keyword, starts, starts_with, unary_of, binary_of, assign_of, access_of, operator_at, begins_type};
+ghost use Rattle.qs_syntax.specs.Operators.{access_of, assign_of, binary_of};
+ghost use Rattle.qs_parser.specs.Heads.{is_punctuator, is_keyword, starts, starts_with, operator_at, begins_type};
 ghost use Rattle.qs_parser.specs.Parse.{expect, expect_name, begins_one, begins_cast, starts_suffix, operator_of_level};
 ghost use Rattle.qs_parser.specs.View.{Gives, rest_of, name_of};
 
 use crate::fault::Halt;
 use qs_base::Name;
-use qs_syntax::{Access, AssignmentOperator, BinaryOperator, Keyword, Terminal, Punctuator, UnaryOperator};
+use qs_syntax::{
+    Access, AssignmentOperator, BinaryOperator, Keyword, Punctuator, Terminal, UnaryOperator,
+};
 use std::alloc::Global;
 
 /// Whether the token is this punctuator.
@@ -17,7 +19,8 @@ pub fn is_punctuator(punctuator: Punctuator, token: &Terminal) -> bool
 {
     match token {
         Terminal::Punctuator(_, other) => *other == punctuator,
-        Terminal::Name(..) | Terminal::Keyword(..) | Terminal::Constant(..) | Terminal::Text(..) => false,
+        Terminal::Name(..) | Terminal::Keyword(..) | Terminal::Constant(..) | Terminal::Text(..) =>
+            false,
     }
 }
 
@@ -27,7 +30,10 @@ pub fn is_keyword(keyword: Keyword, token: &Terminal) -> bool
 {
     match token {
         Terminal::Keyword(_, other) => *other == keyword,
-        Terminal::Name(..) | Terminal::Punctuator(..) | Terminal::Constant(..) | Terminal::Text(..) => false,
+        Terminal::Name(..)
+        | Terminal::Punctuator(..)
+        | Terminal::Constant(..)
+        | Terminal::Text(..) => false,
     }
 }
 
@@ -94,104 +100,12 @@ pub fn place(tokens: &[Terminal]) -> u32
     }
 }
 
-/// The unary operator that the punctuator is (C11 6.5.3), if any.
-pub fn unary_of(punctuator: Punctuator) -> Option<UnaryOperator>
-    ensures { result ≡ unary_of punctuator }
-{
-    match punctuator {
-        Punctuator::Ampersand => Some(UnaryOperator::Address),
-        Punctuator::Star => Some(UnaryOperator::Indirect),
-        Punctuator::Plus => Some(UnaryOperator::Plus),
-        Punctuator::Minus => Some(UnaryOperator::Minus),
-        Punctuator::Tilde => Some(UnaryOperator::Complement),
-        Punctuator::Exclamation => Some(UnaryOperator::Not),
-        _ => None,
-    }
-}
-
-/// The operator between two operands that the punctuator is (C11 6.5.5 to 6.5.14), if any.
-fn binary_of(punctuator: Punctuator) -> Option<BinaryOperator>
-    ensures { result ≡ binary_of punctuator }
-{
-    match punctuator {
-        Punctuator::Star => Some(BinaryOperator::Multiply),
-        Punctuator::Slash => Some(BinaryOperator::Divide),
-        Punctuator::Percent => Some(BinaryOperator::Remainder),
-        Punctuator::Plus => Some(BinaryOperator::Add),
-        Punctuator::Minus => Some(BinaryOperator::Subtract),
-        Punctuator::ShiftLeft => Some(BinaryOperator::ShiftLeft),
-        Punctuator::ShiftRight => Some(BinaryOperator::ShiftRight),
-        Punctuator::Less => Some(BinaryOperator::Less),
-        Punctuator::LessEqual => Some(BinaryOperator::LessEqual),
-        Punctuator::Greater => Some(BinaryOperator::Greater),
-        Punctuator::GreaterEqual => Some(BinaryOperator::GreaterEqual),
-        Punctuator::Equal => Some(BinaryOperator::Equal),
-        Punctuator::NotEqual => Some(BinaryOperator::NotEqual),
-        Punctuator::Ampersand => Some(BinaryOperator::BitAnd),
-        Punctuator::Caret => Some(BinaryOperator::BitXor),
-        Punctuator::Bar => Some(BinaryOperator::BitOr),
-        Punctuator::AndAnd => Some(BinaryOperator::And),
-        Punctuator::OrOr => Some(BinaryOperator::Or),
-        _ => None,
-    }
-}
-
-/// The assignment operator that the punctuator is (C11 6.5.16), if any.
-fn assign_of(punctuator: Punctuator) -> Option<AssignmentOperator>
-    ensures { result ≡ assign_of punctuator }
-{
-    match punctuator {
-        Punctuator::Assign => Some(AssignmentOperator::Plain),
-        Punctuator::MultiplyAssign => Some(AssignmentOperator::Multiply),
-        Punctuator::DivideAssign => Some(AssignmentOperator::Divide),
-        Punctuator::RemainderAssign => Some(AssignmentOperator::Remainder),
-        Punctuator::AddAssign => Some(AssignmentOperator::Add),
-        Punctuator::SubtractAssign => Some(AssignmentOperator::Subtract),
-        Punctuator::ShiftLeftAssign => Some(AssignmentOperator::ShiftLeft),
-        Punctuator::ShiftRightAssign => Some(AssignmentOperator::ShiftRight),
-        Punctuator::AndAssign => Some(AssignmentOperator::BitAnd),
-        Punctuator::XorAssign => Some(AssignmentOperator::BitXor),
-        Punctuator::OrAssign => Some(AssignmentOperator::BitOr),
-        _ => None,
-    }
-}
-
-/// How weakly an operator between two operands binds, from 1 for `* / %` to 10 for `||`.
-fn precedence(operator: BinaryOperator) -> u32
-    ensures { result ≡ precedence operator }
-{
-    match operator {
-        BinaryOperator::Multiply | BinaryOperator::Divide | BinaryOperator::Remainder => 1,
-        BinaryOperator::Add | BinaryOperator::Subtract => 2,
-        BinaryOperator::ShiftLeft | BinaryOperator::ShiftRight => 3,
-        BinaryOperator::Less | BinaryOperator::LessEqual | BinaryOperator::Greater | BinaryOperator::GreaterEqual =>
-            4,
-        BinaryOperator::Equal | BinaryOperator::NotEqual => 5,
-        BinaryOperator::BitAnd => 6,
-        BinaryOperator::BitXor => 7,
-        BinaryOperator::BitOr => 8,
-        BinaryOperator::And => 9,
-        BinaryOperator::Or => 10,
-    }
-}
-
-/// How a member is reached by the punctuator (C11 6.5.2.3), if at all.
-fn access_of(punctuator: Punctuator) -> Option<Access>
-    ensures { result ≡ access_of punctuator }
-{
-    match punctuator {
-        Punctuator::Dot => Some(Access::Dot),
-        Punctuator::Arrow => Some(Access::Arrow),
-        _ => None,
-    }
-}
-
 /// The operator between two operands that stands first, if one does.
 pub fn binary_at(tokens: &[Terminal]) -> Option<BinaryOperator>
     ensures { result ≡ operator_at binary_of tokens.now }
 {
     match tokens {
-        [Terminal::Punctuator(_, punctuator), ..] => binary_of(*punctuator),
+        [Terminal::Punctuator(_, punctuator), ..] => BinaryOperator::of(*punctuator),
         _ => None,
     }
 }
@@ -201,7 +115,7 @@ pub fn assign_at(tokens: &[Terminal]) -> Option<AssignmentOperator>
     ensures { result ≡ operator_at assign_of tokens.now }
 {
     match tokens {
-        [Terminal::Punctuator(_, punctuator), ..] => assign_of(*punctuator),
+        [Terminal::Punctuator(_, punctuator), ..] => AssignmentOperator::of(*punctuator),
         _ => None,
     }
 }
@@ -211,7 +125,7 @@ pub fn access_at(tokens: &[Terminal]) -> Option<Access>
     ensures { result ≡ operator_at access_of tokens.now }
 {
     match tokens {
-        [Terminal::Punctuator(_, punctuator), ..] => access_of(*punctuator),
+        [Terminal::Punctuator(_, punctuator), ..] => Access::of(*punctuator),
         _ => None,
     }
 }
@@ -221,7 +135,7 @@ pub fn level_operator_at(level: u8, tokens: &[Terminal]) -> Option<BinaryOperato
     ensures { result ≡ operator_of_level level (operator_at binary_of tokens.now) }
 {
     match binary_at(tokens) {
-        Some(operator) if precedence(operator) == u32::from(level) + 1 => Some(operator),
+        Some(operator) if operator.precedence() == u32::from(level) + 1 => Some(operator),
         _ => None,
     }
 }
@@ -234,7 +148,7 @@ pub fn begins_one(tokens: &[Terminal]) -> bool
         [] => false,
         [Terminal::Keyword(..), ..] => starts_with(Keyword::Sizeof, tokens),
         [Terminal::Punctuator(_, punctuator), ..] => {
-            unary_of(*punctuator).is_some()
+            UnaryOperator::of(*punctuator).is_some()
                 || starts(Punctuator::OpenParenthesis, tokens)
                 || starts(Punctuator::Increment, tokens)
                 || starts(Punctuator::Decrement, tokens)
@@ -259,7 +173,8 @@ pub fn begins_cast(tokens: &[Terminal]) -> bool
 {
     match tokens {
         [] => false,
-        [first, rest @ ..] => is_punctuator(Punctuator::OpenParenthesis, first) && begins_type(rest),
+        [first, rest @ ..] => is_punctuator(Punctuator::OpenParenthesis, first)
+            && begins_type(rest),
     }
 }
 

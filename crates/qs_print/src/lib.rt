@@ -3,10 +3,9 @@
 
 mod declarations;
 mod expressions;
+mod levels;
 mod lexed;
 mod literals;
-mod operators;
-mod spelling;
 mod statements;
 mod types;
 mod units;

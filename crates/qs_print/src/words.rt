@@ -4,7 +4,6 @@ ghost use Rattle.qs_print.specs.Printed.{comma_unless};
 ghost use Rattle.qs_print.specs.Spaced.{Writes};
 ghost use Rattle.qs_syntax.specs.declared.terminal.Terminal.TheVariants as terminals;
 
-use crate::spelling::{keyword_spelling, punctuator_spelling};
 use qs_base::{Name, NoMemory};
 use qs_syntax::{Keyword, Punctuator};
 
@@ -20,14 +19,14 @@ fn put_word(out: &mut Vec<u8>, spelling: &[u8]) -> Result<(), NoMemory>
 pub fn put_keyword(out: &mut Vec<u8>, keyword: Keyword) -> Result<(), NoMemory>
     ensures { OnOk result (Writes out.old.items (terminals.Keyword 0 keyword ∷ []) out.new.items) }
 {
-    put_word(out, keyword_spelling(keyword))
+    put_word(out, keyword.spelling())
 }
 
 /// Writes a punctuator.
 pub fn put_punctuator(out: &mut Vec<u8>, punctuator: Punctuator) -> Result<(), NoMemory>
     ensures { OnOk result (Writes out.old.items (terminals.Punctuator 0 punctuator ∷ []) out.new.items) }
 {
-    put_word(out, punctuator_spelling(punctuator))
+    put_word(out, punctuator.spelling())
 }
 
 /// Writes a name.

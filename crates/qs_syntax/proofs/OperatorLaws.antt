@@ -1,11 +1,11 @@
 -- The tables of operators: each is found by its punctuator, and what is found has the punctuator.
-use Rattle.std.proofs.Common.{◌≡◌, Bool, ◌&&◌, Some, refl, Decides}
+use Rattle.std.proofs.Common.{◌≡◌, Bool, true, ◌&&◌, Some, refl, Decides, ◌≤◌, nat_le, arith}
+use Rattle.std.proofs.lemmas.Bool.Decides.{nat_tests}
 use Rattle.std.specs.Bool.{beq}
 use Rattle.std.specs.Cmp.{second_so}
-use Rattle.qs_base.proofs.Variants.{finds, find_passes, variants_exact}
-use Rattle.qs_syntax.specs.Operators.{access_of, access_operators, assign_of, assignment_operators, binary_of, binary_operators, punctuator_of_access, punctuator_of_assign, punctuator_of_binary, punctuator_of_step, punctuator_of_unary, same_access, same_assign, same_binary, same_step, same_unary, stands_before, step_of, step_operators, unary_of, unary_operators}
+use Rattle.qs_base.proofs.Variants.{every, finds, find_passes, variants_exact}
+use Rattle.qs_syntax.specs.Operators.{access_of, access_operators, assign_of, assignment_operators, binary_of, binary_operators, precedence, punctuator_of_access, punctuator_of_assign, punctuator_of_binary, punctuator_of_step, punctuator_of_unary, same_access, same_assign, same_binary, same_step, same_unary, stands_before, step_of, step_operators, unary_of, unary_operators, weakest}
 use Rattle.qs_syntax.specs.Punctuators.{same_punctuator}
-use Rattle.qs_syntax.specs.contracts.punctuator.Punctuator.{the_type as punctuator_type}
 use Rattle.qs_syntax.specs.declared.punctuator.Punctuator.{Punctuator}
 use Rattle.qs_syntax.specs.contracts.operators.UnaryOperator.{the_type as unary_type}
 use Rattle.qs_syntax.specs.declared.operators.UnaryOperator.{UnaryOperator}
@@ -17,11 +17,9 @@ use Rattle.qs_syntax.specs.contracts.operators.AssignmentOperator.{the_type as a
 use Rattle.qs_syntax.specs.declared.operators.AssignmentOperator.{AssignmentOperator}
 use Rattle.qs_syntax.specs.contracts.operators.Access.{the_type as access_type}
 use Rattle.qs_syntax.specs.declared.operators.Access.{Access}
+use Rattle.qs_syntax.proofs.PunctuatorLaws.{same_punctuator_exact}
 
-same_punctuator_exact : (a b : Punctuator) → Decides (same_punctuator a b) (a ≡ b)
-same_punctuator_exact a b = variants_exact punctuator_type tt a b
-
--- ---- UnaryOperator
+-- ---- unary operators
 
 pub unary_operator_exact : (a b : UnaryOperator) → Decides (same_unary a b) (a ≡ b)
 unary_operator_exact a b = variants_exact unary_type tt a b
@@ -32,7 +30,7 @@ unary_of-punctuator operator = finds unary_type tt unary_operators refl (λ k x.
 pub punctuator-unary_of : (punctuator : Punctuator) (operator : UnaryOperator) → unary_of punctuator ≡ Some operator → punctuator_of_unary operator ≡ punctuator
 punctuator-unary_of punctuator operator e = (same_punctuator_exact (punctuator_of_unary operator) punctuator).0 (find_passes (λ x. same_punctuator (punctuator_of_unary x) punctuator) unary_operators operator e)
 
--- ---- StepOperator
+-- ---- steps by one
 
 pub step_operator_exact : (a b : StepOperator) → Decides (same_step a b) (a ≡ b)
 step_operator_exact a b = variants_exact step_type tt a b
@@ -46,7 +44,7 @@ punctuator-step_of before punctuator operator e =
     (same_punctuator_exact (punctuator_of_step operator) punctuator).0
     (second_so test (same_punctuator (punctuator_of_step operator) punctuator) (find_passes (λ x. beq (stands_before x) before && same_punctuator (punctuator_of_step x) punctuator) step_operators operator e))
 
--- ---- BinaryOperator
+-- ---- operators between two operands
 
 pub binary_operator_exact : (a b : BinaryOperator) → Decides (same_binary a b) (a ≡ b)
 binary_operator_exact a b = variants_exact binary_type tt a b
@@ -57,7 +55,12 @@ binary_of-punctuator operator = finds binary_type tt binary_operators refl (λ k
 pub punctuator-binary_of : (punctuator : Punctuator) (operator : BinaryOperator) → binary_of punctuator ≡ Some operator → punctuator_of_binary operator ≡ punctuator
 punctuator-binary_of punctuator operator e = (same_punctuator_exact (punctuator_of_binary operator) punctuator).0 (find_passes (λ x. same_punctuator (punctuator_of_binary x) punctuator) binary_operators operator e)
 
--- ---- AssignmentOperator
+pub precedence_within : (operator : BinaryOperator) → precedence operator ≤ weakest
+precedence_within operator =
+    let h : nat_le (precedence operator) weakest ≡ true = every binary_type tt binary_operators refl (λ x. nat_le (precedence x) weakest) refl operator in
+    grind (arith, nat_tests)
+
+-- ---- assignments
 
 pub assign_operator_exact : (a b : AssignmentOperator) → Decides (same_assign a b) (a ≡ b)
 assign_operator_exact a b = variants_exact assign_type tt a b
@@ -68,7 +71,7 @@ assign_of-punctuator operator = finds assign_type tt assignment_operators refl (
 pub punctuator-assign_of : (punctuator : Punctuator) (operator : AssignmentOperator) → assign_of punctuator ≡ Some operator → punctuator_of_assign operator ≡ punctuator
 punctuator-assign_of punctuator operator e = (same_punctuator_exact (punctuator_of_assign operator) punctuator).0 (find_passes (λ x. same_punctuator (punctuator_of_assign x) punctuator) assignment_operators operator e)
 
--- ---- Access
+-- ---- access to a member
 
 pub access_operator_exact : (a b : Access) → Decides (same_access a b) (a ≡ b)
 access_operator_exact a b = variants_exact access_type tt a b

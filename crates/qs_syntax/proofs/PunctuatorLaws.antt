@@ -1,15 +1,18 @@
 -- A punctuator and its spelling.
-use Rattle.std.proofs.Common.{◌≡◌, ℕ, Bool, true, false, List, Option, Some, None, refl, ap, bytes_eq}
+use Rattle.std.proofs.Common.{◌≡◌, ℕ, Bool, true, false, List, Option, Some, None, refl, ap, bytes_eq, Decides}
 use Rattle.std.specs.List.{list_all}
 use Rattle.std.proofs.lemmas.Slice.Eq.{bytes_eq-Decides}
-use Rattle.qs_base.proofs.Variants.{every, finds, find_passes}
-use Rattle.qs_syntax.specs.Punctuators.{punctuator_of, punctuator_spelling, punctuators}
+use Rattle.qs_base.proofs.Variants.{every, finds, find_passes, variants_exact}
+use Rattle.qs_syntax.specs.Punctuators.{punctuator_of, punctuator_spelling, punctuators, same_punctuator}
 use Rattle.qs_syntax.specs.contracts.punctuator.Punctuator.{the_type}
 use Rattle.qs_syntax.specs.declared.punctuator.Punctuator.{Punctuator}
 
 -- what holds of each punctuator of the list holds of every punctuator
 pub each_punctuator : (test : Punctuator → Bool) → list_all test punctuators ≡ true → (punctuator : Punctuator) → test punctuator ≡ true
 each_punctuator test h punctuator = every the_type tt punctuators refl test h punctuator
+
+pub same_punctuator_exact : (a b : Punctuator) → Decides (same_punctuator a b) (a ≡ b)
+same_punctuator_exact a b = variants_exact the_type tt a b
 
 -- a punctuator is what its spelling is
 pub punctuator_of-spelling : (punctuator : Punctuator) → punctuator_of (punctuator_spelling punctuator) ≡ Some punctuator

@@ -1,6 +1,7 @@
-use Rattle.std.proofs.Common.{map}
+use Rattle.std.proofs.Common.{map, arith}
 use Rattle.qs_syntax.specs.TreeOf.{decl_tree}
 use Rattle.qs_parser.specs.Parse.{Unexpected, Deep}
+use Rattle.qs_parser.proofs.UnitsSound.{stops_within}
 use Rattle.qs_parser.proofs.Top.{is_read, are_few, reads_as, no_reading}
 use Rattle.qs_parser.proofs.parse.unit_of.Goals as goal
 
@@ -14,8 +15,14 @@ pub returns-in_ok-numbered-in-Ok : goal.returns-in_ok-numbered-in-Ok
 returns-in_ok-numbered-in-Ok c =
     reads_as c.args.tokens.now (map decl_tree c.in-Ok.unnumbered.items) (map decl_tree c.in_ok-numbered-in-Ok.field-0.declarations.items) c.in-Ok._height c.in-Ok.ensures.gives (rw c.deref.ensures.value at c.in_ok-numbered-in-Ok.ensures)
 
+pub number_of-requires-clause-within : goal.number_of-requires-clause-within
+number_of-requires-clause-within c = rw c.deref.ensures.value (stops_within c.args.tokens.now (Unexpected c.in-Err-Unexpected.left) (rw c.in-Err-Unexpected.field-0-is at c.in-Err-Unexpected.ensures.gives))
+
+pub number_of-in-Err-TooDeep-requires-clause-within : goal.number_of-in-Err-TooDeep-requires-clause-within
+number_of-in-Err-TooDeep-requires-clause-within c = rw c.deref.ensures.value (stops_within c.args.tokens.now (Deep c.in-Err-TooDeep.left) (rw c.in-Err-TooDeep.field-0-is at c.in-Err-TooDeep.ensures.gives))
+
 pub returns-in-Err-Unexpected : goal.returns-in-Err-Unexpected
-returns-in-Err-Unexpected c = record { none = no_reading c.args.tokens.now (Unexpected c.in-Err-Unexpected.left) (rw c.in-Err-Unexpected.field-0-is at c.in-Err-Unexpected.ensures.gives); within = c.number_of.ensures }
+returns-in-Err-Unexpected c = record { none = no_reading c.args.tokens.now (Unexpected c.in-Err-Unexpected.left) (rw c.in-Err-Unexpected.field-0-is at c.in-Err-Unexpected.ensures.gives); within = omega (arith, c.number_of.ensures) }
 
 pub returns-in-Err-TooDeep : goal.returns-in-Err-TooDeep
-returns-in-Err-TooDeep c = record { none = no_reading c.args.tokens.now (Deep c.in-Err-TooDeep.left) (rw c.in-Err-TooDeep.field-0-is at c.in-Err-TooDeep.ensures.gives); within = c.number_of-in-Err-TooDeep.ensures }
+returns-in-Err-TooDeep c = record { none = no_reading c.args.tokens.now (Deep c.in-Err-TooDeep.left) (rw c.in-Err-TooDeep.field-0-is at c.in-Err-TooDeep.ensures.gives); within = omega (arith, c.number_of-in-Err-TooDeep.ensures) }

@@ -1,84 +1,125 @@
--- The value after a substitution is the value in the state where the variable has the term's value.
-use Rattle.std.proofs.Common.{◌≡◌, refl, ap, true, false}
-use Rattle.std.specs.Prelude.{pos, Bool, if◌then◌else◌, ◌+ℤ◌, ◌-ℤ◌, ◌*ℤ◌, ◌&&◌, ◌||◌, int_le, int_lt}
+-- The value after a substitution is the value in the state where each variable has its image's value.
+use Rattle.std.proofs.Common.{◌≡◌, refl, ap, sym, ◌∙◌, true, false}
+use Rattle.std.specs.Prelude.{pos, List, [], ◌∷◌, Option, Some, None, Bool, if◌then◌else◌, ◌+ℤ◌, ◌-ℤ◌, ◌*ℤ◌, ◌&&◌, ◌||◌, int_le, int_lt}
 use Rattle.std.specs.Prelude.{not as flip}
 use Rattle.std.specs.Ordering.{int_eq}
 use Rattle.qs_assert.specs.declared.variable.Var.{Var}
 use Rattle.qs_assert.specs.Trees.{TermTree, number, variable, add, sub, mul, div, wrapu, wraps, bits, TermTrees, no_terms, term_and, CondTree, le, lt, eq, ne, not, and, or, CondTrees, no_conds, cond_and, AssertionTree, natural, infinity, cost, num, total, greatest, product, guard, choose, named, AssertionTrees, no_assertions, assertion_and}
 use Rattle.qs_assert.specs.Values.{State, term_value, sum_of_terms, product_of_terms, quotient, wrapped_unsigned, wrapped_signed, bit_length, holds, all_hold, some_holds, finite, infinite, value, sum_of, greatest_of, product_of, plus, greater, times, natural_part}
-use Rattle.qs_assert.specs.Substitution.{in_term, in_terms, in_cond, in_conds, in_assertion, in_assertions, same_variable, with_value}
-
--- the state in which x has the value of u
-abbrev set_to : Var → TermTree → State → State
-set_to x u s = with_value x (term_value u s) s
-
-chosen : (b : Bool) (t u : TermTree) (s : State) → term_value (if b then t else u) s ≡ (if b then term_value t s else term_value u s)
-chosen true t u s = refl
-chosen false t u s = refl
+use Rattle.qs_assert.specs.declared.images.Image.{Image}
+use Rattle.qs_assert.specs.declared.images.Others.{Others}
+use Rattle.qs_assert.specs.declared.images.Others.TheVariants.{Stay, AreMissing}
+use Rattle.qs_assert.specs.Images.{Images, term_image, terms_image, cond_image, conds_image, assertion_image, assertions_image, with_images}
+use Rattle.qs_assert.specs.declared.images.Substituted.TheVariants.{Whole, Missing}
+use Rattle.qs_assert.specs.Simultaneous.{image_in, or_others, images, or_itself, terms_for, first_without, unless_missing, substituted}
+use Rattle.qs_assert.specs.Substitution.{same_variable, one_image, in_assertion, with_value}
 
 both : {A B C : Type 0} (f : A → B → C) {a a' : A} {b b' : B} → a ≡ a' → b ≡ b' → f a b ≡ f a' b'
 both f p q = λ i. f (p i) (q i)
 
 mutual
-  pub term_agrees : (x : Var) (u t : TermTree) (s : State) → term_value (in_term x u t) s ≡ term_value t (set_to x u s)
-  term_agrees x u (number k) s = refl
-  term_agrees x u (variable y) s = chosen (same_variable y x) u (variable y) s
-  term_agrees x u (add ts) s = sum_agrees x u ts s
-  term_agrees x u (sub t v) s = both ◌-ℤ◌ (term_agrees x u t s) (term_agrees x u v s)
-  term_agrees x u (mul ts) s = product_agrees x u ts s
-  term_agrees x u (div t k) s = ap (λ z. quotient z k) (term_agrees x u t s)
-  term_agrees x u (wrapu t) s = ap wrapped_unsigned (term_agrees x u t s)
-  term_agrees x u (wraps t) s = ap wrapped_signed (term_agrees x u t s)
-  term_agrees x u (bits t) s = ap (λ z. pos (bit_length z)) (term_agrees x u t s)
+  pub term_agrees : (m : Images) (t : TermTree) (s : State) → term_value (term_image m t) s ≡ term_value t (with_images m s)
+  term_agrees m (number k) s = refl
+  term_agrees m (variable y) s = refl
+  term_agrees m (add ts) s = sum_agrees m ts s
+  term_agrees m (sub t v) s = both ◌-ℤ◌ (term_agrees m t s) (term_agrees m v s)
+  term_agrees m (mul ts) s = product_agrees m ts s
+  term_agrees m (div t k) s = ap (λ z. quotient z k) (term_agrees m t s)
+  term_agrees m (wrapu t) s = ap wrapped_unsigned (term_agrees m t s)
+  term_agrees m (wraps t) s = ap wrapped_signed (term_agrees m t s)
+  term_agrees m (bits t) s = ap (λ z. pos (bit_length z)) (term_agrees m t s)
 
-  pub sum_agrees : (x : Var) (u : TermTree) (ts : TermTrees) (s : State) → sum_of_terms (in_terms x u ts) s ≡ sum_of_terms ts (set_to x u s)
-  sum_agrees x u no_terms s = refl
-  sum_agrees x u (term_and t ts) s = both ◌+ℤ◌ (term_agrees x u t s) (sum_agrees x u ts s)
+  pub sum_agrees : (m : Images) (ts : TermTrees) (s : State) → sum_of_terms (terms_image m ts) s ≡ sum_of_terms ts (with_images m s)
+  sum_agrees m no_terms s = refl
+  sum_agrees m (term_and t ts) s = both ◌+ℤ◌ (term_agrees m t s) (sum_agrees m ts s)
 
-  pub product_agrees : (x : Var) (u : TermTree) (ts : TermTrees) (s : State) → product_of_terms (in_terms x u ts) s ≡ product_of_terms ts (set_to x u s)
-  product_agrees x u no_terms s = refl
-  product_agrees x u (term_and t ts) s = both ◌*ℤ◌ (term_agrees x u t s) (product_agrees x u ts s)
-
-mutual
-  pub cond_agrees : (x : Var) (u : TermTree) (c : CondTree) (s : State) → holds (in_cond x u c) s ≡ holds c (set_to x u s)
-  cond_agrees x u (le t v) s = both int_le (term_agrees x u t s) (term_agrees x u v s)
-  cond_agrees x u (lt t v) s = both int_lt (term_agrees x u t s) (term_agrees x u v s)
-  cond_agrees x u (eq t v) s = both int_eq (term_agrees x u t s) (term_agrees x u v s)
-  cond_agrees x u (ne t v) s = ap flip (both int_eq (term_agrees x u t s) (term_agrees x u v s))
-  cond_agrees x u (not c) s = ap flip (cond_agrees x u c s)
-  cond_agrees x u (and cs) s = all_agree x u cs s
-  cond_agrees x u (or cs) s = some_agree x u cs s
-
-  pub all_agree : (x : Var) (u : TermTree) (cs : CondTrees) (s : State) → all_hold (in_conds x u cs) s ≡ all_hold cs (set_to x u s)
-  all_agree x u no_conds s = refl
-  all_agree x u (cond_and c cs) s = both (λ a b. a && b) (cond_agrees x u c s) (all_agree x u cs s)
-
-  pub some_agree : (x : Var) (u : TermTree) (cs : CondTrees) (s : State) → some_holds (in_conds x u cs) s ≡ some_holds cs (set_to x u s)
-  some_agree x u no_conds s = refl
-  some_agree x u (cond_and c cs) s = both (λ a b. a || b) (cond_agrees x u c s) (some_agree x u cs s)
+  pub product_agrees : (m : Images) (ts : TermTrees) (s : State) → product_of_terms (terms_image m ts) s ≡ product_of_terms ts (with_images m s)
+  product_agrees m no_terms s = refl
+  product_agrees m (term_and t ts) s = both ◌*ℤ◌ (term_agrees m t s) (product_agrees m ts s)
 
 mutual
-  pub value_agrees : (x : Var) (u : TermTree) (a : AssertionTree) (s : State) → value (in_assertion x u a) s ≡ value a (set_to x u s)
-  value_agrees x u (natural n) s = refl
-  value_agrees x u infinity s = refl
-  value_agrees x u (cost f) s = refl
-  value_agrees x u (num t) s = ap (λ z. finite (natural_part z)) (term_agrees x u t s)
-  value_agrees x u (total parts) s = sum_of_agrees x u parts s
-  value_agrees x u (greatest parts) s = greatest_of_agrees x u parts s
-  value_agrees x u (product parts) s = product_of_agrees x u parts s
-  value_agrees x u (guard c a) s = both (λ b v. if b then v else infinite) (cond_agrees x u c s) (value_agrees x u a s)
-  value_agrees x u (choose c a b) s =
-      (λ i. if cond_agrees x u c s i then value_agrees x u a s i else value_agrees x u b s i)
-  value_agrees x u (named n) s = refl
+  pub cond_agrees : (m : Images) (c : CondTree) (s : State) → holds (cond_image m c) s ≡ holds c (with_images m s)
+  cond_agrees m (le t v) s = both int_le (term_agrees m t s) (term_agrees m v s)
+  cond_agrees m (lt t v) s = both int_lt (term_agrees m t s) (term_agrees m v s)
+  cond_agrees m (eq t v) s = both int_eq (term_agrees m t s) (term_agrees m v s)
+  cond_agrees m (ne t v) s = ap flip (both int_eq (term_agrees m t s) (term_agrees m v s))
+  cond_agrees m (not c) s = ap flip (cond_agrees m c s)
+  cond_agrees m (and cs) s = all_agree m cs s
+  cond_agrees m (or cs) s = some_agree m cs s
 
-  pub sum_of_agrees : (x : Var) (u : TermTree) (parts : AssertionTrees) (s : State) → sum_of (in_assertions x u parts) s ≡ sum_of parts (set_to x u s)
-  sum_of_agrees x u no_assertions s = refl
-  sum_of_agrees x u (assertion_and a parts) s = both plus (value_agrees x u a s) (sum_of_agrees x u parts s)
+  pub all_agree : (m : Images) (cs : CondTrees) (s : State) → all_hold (conds_image m cs) s ≡ all_hold cs (with_images m s)
+  all_agree m no_conds s = refl
+  all_agree m (cond_and c cs) s = both (λ a b. a && b) (cond_agrees m c s) (all_agree m cs s)
 
-  pub greatest_of_agrees : (x : Var) (u : TermTree) (parts : AssertionTrees) (s : State) → greatest_of (in_assertions x u parts) s ≡ greatest_of parts (set_to x u s)
-  greatest_of_agrees x u no_assertions s = refl
-  greatest_of_agrees x u (assertion_and a parts) s = both greater (value_agrees x u a s) (greatest_of_agrees x u parts s)
+  pub some_agree : (m : Images) (cs : CondTrees) (s : State) → some_holds (conds_image m cs) s ≡ some_holds cs (with_images m s)
+  some_agree m no_conds s = refl
+  some_agree m (cond_and c cs) s = both (λ a b. a || b) (cond_agrees m c s) (some_agree m cs s)
 
-  pub product_of_agrees : (x : Var) (u : TermTree) (parts : AssertionTrees) (s : State) → product_of (in_assertions x u parts) s ≡ product_of parts (set_to x u s)
-  product_of_agrees x u no_assertions s = refl
-  product_of_agrees x u (assertion_and a parts) s = both times (value_agrees x u a s) (product_of_agrees x u parts s)
+mutual
+  pub value_agrees : (m : Images) (a : AssertionTree) (s : State) → value (assertion_image m a) s ≡ value a (with_images m s)
+  value_agrees m (natural n) s = refl
+  value_agrees m infinity s = refl
+  value_agrees m (cost f) s = refl
+  value_agrees m (num t) s = ap (λ z. finite (natural_part z)) (term_agrees m t s)
+  value_agrees m (total parts) s = sum_of_agrees m parts s
+  value_agrees m (greatest parts) s = greatest_of_agrees m parts s
+  value_agrees m (product parts) s = product_of_agrees m parts s
+  value_agrees m (guard c a) s = both (λ b v. if b then v else infinite) (cond_agrees m c s) (value_agrees m a s)
+  value_agrees m (choose c a b) s =
+      (λ i. if cond_agrees m c s i then value_agrees m a s i else value_agrees m b s i)
+  value_agrees m (named n) s = refl
+
+  pub sum_of_agrees : (m : Images) (parts : AssertionTrees) (s : State) → sum_of (assertions_image m parts) s ≡ sum_of parts (with_images m s)
+  sum_of_agrees m no_assertions s = refl
+  sum_of_agrees m (assertion_and a parts) s = both plus (value_agrees m a s) (sum_of_agrees m parts s)
+
+  pub greatest_of_agrees : (m : Images) (parts : AssertionTrees) (s : State) → greatest_of (assertions_image m parts) s ≡ greatest_of parts (with_images m s)
+  greatest_of_agrees m no_assertions s = refl
+  greatest_of_agrees m (assertion_and a parts) s = both greater (value_agrees m a s) (greatest_of_agrees m parts s)
+
+  pub product_of_agrees : (m : Images) (parts : AssertionTrees) (s : State) → product_of (assertions_image m parts) s ≡ product_of parts (with_images m s)
+  product_of_agrees m no_assertions s = refl
+  product_of_agrees m (assertion_and a parts) s = both times (value_agrees m a s) (product_of_agrees m parts s)
+
+-- ---- images of a list
+
+one_at : (b : Bool) (u v : TermTree) (s : State) → term_value (if b then u else v) s ≡ (if b then term_value u s else term_value v s)
+one_at true u v s = refl
+one_at false u v s = refl
+
+set_to : (x : Var) (u : TermTree) (s : State) → with_images (one_image x u) s ≡ with_value x (term_value u s) s
+set_to x u s = λ i. record s { at = λ y. one_at (same_variable y x) u (variable y) s i }
+
+one_term : (b : Bool) (u : TermTree) (y : Var) → or_itself (if b then Some u else None) y ≡ (if b then u else variable y)
+one_term true u y = refl
+one_term false u y = refl
+
+-- a list of one image
+pub one_listed : (x : Var) (u : TermTree) → terms_for (image_in (record { variable = x; term = u } ∷ [])) ≡ one_image x u
+one_listed x u = λ i y. one_term (same_variable y x) u y i
+
+pub one_replaced : (list : List Image) (x : Var) (u : TermTree) (a b : AssertionTree) → list ≡ record { variable = x; term = u } ∷ [] → b ≡ assertion_image (terms_for (image_in list)) a → b ≡ in_assertion x u a
+one_replaced list x u a b e h =
+    h ∙ (ap (λ (l : List Image). assertion_image (terms_for (image_in l)) a) e ∙ ap (λ m. assertion_image m a) (one_listed x u))
+
+pub value_after : (x : Var) (u : TermTree) (a b : AssertionTree) → b ≡ in_assertion x u a → (s : State) → value b s ≡ value a (with_value x (term_value u s) s)
+value_after x u a b e s = ap (λ c. value c s) e ∙ (value_agrees (one_image x u) a s ∙ ap (λ t. value a t) (set_to x u s))
+
+others_are_kept : (o : Option TermTree) (others : Others) (x : Var) → or_itself (or_others o others x) x ≡ or_itself o x
+others_are_kept (Some t) others x = refl
+others_are_kept None Stay x = refl
+others_are_kept None AreMissing x = refl
+
+-- which variables have an image changes nothing of the terms
+pub same_terms_for : (list : List Image) (others : Others) → terms_for (images list others) ≡ terms_for (image_in list)
+same_terms_for list others = λ i x. others_are_kept (image_in list x) others x i
+
+-- ---- the answers of a substitution
+
+pub all_there : (list : List Image) (others : Others) (a b : AssertionTree) → b ≡ assertion_image (terms_for (image_in list)) a → None ≡ first_without (images list others) a → Whole b ≡ substituted (images list others) a
+all_there list others a b e h =
+    ap (λ (x : AssertionTree). Whole x) (e ∙ ap (λ m. assertion_image m a) (sym (same_terms_for list others)))
+    ∙ ap (λ o. unless_missing o (assertion_image (terms_for (images list others)) a)) h
+
+pub one_missing : (list : List Image) (others : Others) (a : AssertionTree) (x : Var) → Some x ≡ first_without (images list others) a → Missing x ≡ substituted (images list others) a
+one_missing list others a x h = ap (λ o. unless_missing o (assertion_image (terms_for (images list others)) a)) h

@@ -1,6 +1,6 @@
 -- Rows computed from the definitions.
 use Rattle.std.proofs.Common.{◌≡◌, ℕ, ◌-◌, ◌^◌, Bool, true, false, List, [], ◌∷◌, refl}
-use Rattle.std.specs.Prelude.{ℤ, pos, negsuc, if◌then◌else◌, map}
+use Rattle.std.specs.Prelude.{ℤ, pos, negsuc, if◌then◌else◌, map, Some, None}
 use Rattle.qs_assert.specs.declared.variable.Var.{Var}
 use Rattle.qs_assert.specs.declared.variable.VarKind.TheVariants.{Plain}
 use Rattle.qs_assert.specs.declared.variable.NumberType.{NumberType}
@@ -8,10 +8,16 @@ use Rattle.qs_assert.specs.declared.variable.NumberType.TheVariants.{Int, Unsign
 use Rattle.qs_assert.specs.declared.define.Define.{Define}
 use Rattle.qs_assert.specs.declared.define.Amount.{Amount}
 use Rattle.qs_assert.specs.declared.define.Amount.TheVariants.{Finite, Infinite, Wide}
+use Rattle.qs_assert.specs.declared.images.Image.{Image}
+use Rattle.qs_assert.specs.declared.images.Others.TheVariants.{Stay, AreMissing}
+use Rattle.qs_assert.specs.declared.images.Substituted.TheVariants.{Whole, Missing}
 use Rattle.qs_assert.specs.Trees.{TermTree, number, variable, add, sub, mul, div, wrapu, wraps, bits, CondTree, lt, AssertionTree, natural, infinity, cost, num, total, greatest, product, guard, choose, named, terms_of, assertions_of}
 use Rattle.qs_assert.specs.Values.{bit_length, least_power}
 use Rattle.qs_assert.specs.Substitution.{in_assertion}
 use Rattle.qs_assert.specs.Bounds.{amount_at, bound_at}
+use Rattle.qs_assert.specs.Order.{order_fault}
+use Rattle.qs_assert.specs.Simultaneous.{images, substituted}
+use Rattle.qs_assert.specs.Variables.{mentions}
 
 -- the parameter of number 0, and its type
 abbrev x : NumberType → Var
@@ -131,3 +137,47 @@ one_less = wrapu (sub n (number (pos 1)))
 -- an int isn't replaced by what stands for an unsigned variable of its number
 replaced : map (λ type. in_assertion (x type) one_less (num n)) (Int ∷ Unsigned ∷ []) ≡ num one_less ∷ num n ∷ []
 replaced = refl
+
+-- ---- the order of definitions
+
+abbrev name : ℕ → AssertionTree
+name letter = named (letter ∷ [])
+
+in_order : map order_fault ([] ∷ (define 104 (natural 5) ∷ define 107 (name 104) ∷ []) ∷ (define 104 (natural 5) ∷ define 104 (name 104) ∷ []) ∷ []) ≡ None ∷ None ∷ None ∷ []
+in_order = refl
+
+-- a name that is defined later, its own name, and a name that isn't defined
+out_of_order : map order_fault ((define 107 (name 104) ∷ define 104 (natural 5) ∷ []) ∷ (define 104 (name 104) ∷ []) ∷ (define 104 (natural 5) ∷ define 107 (name 104) ∷ define 109 (total (assertions_of (name 107 ∷ name 110 ∷ []))) ∷ []) ∷ []) ≡ Some 0 ∷ Some 0 ∷ Some 2 ∷ []
+out_of_order = refl
+
+-- ---- variables
+
+-- the parameter of number 1
+abbrev y : Var
+y = record { kind = Plain 1; number = Int }
+
+abbrev difference : AssertionTree
+difference = num (sub n (variable y))
+
+mentioned : map (mentions (guard (lt (variable y) n) (cost 0))) (x Int ∷ y ∷ x Unsigned ∷ []) ≡ true ∷ true ∷ false ∷ []
+mentioned = refl
+
+not_mentioned : map (λ a. mentions a y) (num n ∷ name 104 ∷ infinity ∷ difference ∷ []) ≡ false ∷ false ∷ false ∷ true ∷ []
+not_mentioned = refl
+
+-- ---- substitution of all at once
+
+abbrev for : Var → TermTree → Image
+for v t = record { variable = v; term = t }
+
+-- x and y are exchanged
+exchanged : substituted (images (for (x Int) (variable y) ∷ for y n ∷ []) AreMissing) difference ≡ Whole (num (sub (variable y) n))
+exchanged = refl
+
+-- the first image of a variable counts, and others stay or are missing
+first_image : map (λ others. substituted (images (for y (number (pos 1)) ∷ for y (number (pos 2)) ∷ []) others) difference) (Stay ∷ AreMissing ∷ []) ≡ Whole (num (sub n (number (pos 1)))) ∷ Missing (x Int) ∷ []
+first_image = refl
+
+-- the first in the order of the text is told
+first_missing : substituted (images [] AreMissing) (guard (lt (variable y) n) (num n)) ≡ Missing y
+first_missing = refl

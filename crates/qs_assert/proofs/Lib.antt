@@ -4,7 +4,10 @@ pub mod BitLengths
 pub mod Evaluated
 pub mod Kept
 pub mod Known
+pub mod Ordered
 pub mod Replaced
 pub mod Reversed
 pub mod Same
+pub mod Shaped
 pub mod Tabled
+pub mod Variabled

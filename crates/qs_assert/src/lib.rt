@@ -1,16 +1,21 @@
 //! Terms, conditions and assertions of derivations: their trees, substitution, and their values.
 #![tactic(auto)]
 
+ghost use Rattle.qs_assert.specs.Variables.{IsOfItsVariables};
+
 mod amounts;
 mod assertions;
 mod bound;
 mod conditions;
 mod define;
 mod evaluation;
+mod images;
 mod listing;
 mod node;
 mod numbers;
+mod order;
 mod sameness;
+mod shape;
 mod stack;
 mod substitution;
 mod terms;
@@ -18,15 +23,23 @@ mod total;
 mod tree;
 mod truths;
 mod variable;
+mod variables;
 
 pub use bound::{bound_of, value_at};
 pub use define::{Amount, Define};
+pub use images::{Image, Others, Substituted, substitute, substitute_all};
 pub use listing::put_nodes;
 pub use node::{AssertionNode, CondNode, Node, TermNode};
+pub use order::order_fault;
 pub use sameness::same_nodes;
-pub use substitution::substitute;
 pub use tree::{Assertion, Cond, Term};
 pub use variable::{NumberType, Var, VarKind};
+pub use variables::mentions;
+
+/// An assertion has the same value where the variables that it mentions have the same numbers.
+pub fn values_are_of_their_variables()
+    ensures { IsOfItsVariables }
+{}
 
 #[cfg(test)]
 mod tests;

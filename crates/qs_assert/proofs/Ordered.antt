@@ -1,0 +1,90 @@
+-- Which names the nodes of an assertion have, and how definitions are gone through in order.
+use Rattle.std.proofs.Common.{◌≡◌, ◌<◌, ◌≤◌, ℕ, suc, ◌+◌, take, drop, length, get_or, refl, ap, sym, ◌∙◌, Bool, true, false, List, [], ◌∷◌, ◌++◌, map, add-one, arith}
+use Rattle.std.specs.Prelude.{◌&&◌, if◌then◌else◌, Option, Some, None}
+use Rattle.std.specs.List.{list_all}
+use Rattle.std.proofs.lemmas.List.Folds.{list_all-append}
+use Rattle.std.proofs.Math.Seq.{take-suc, drop-cons}
+use Rattle.std.proofs.Math.ListN.{drop_of_length-le}
+use Rattle.std.proofs.lemmas.List.{length-take-le}
+use Rattle.qs_assert.specs.declared.define.Define.{Define}
+use Rattle.qs_assert.specs.declared.node.TermNode.{TermNode}
+use Rattle.qs_assert.specs.declared.node.Node.{Node}
+use Rattle.qs_assert.specs.declared.node.Node.TheVariants.{Term}
+use Rattle.qs_assert.specs.Trees.{CondTree, le, lt, eq, ne, not, and, or, CondTrees, no_conds, cond_and, AssertionTree, natural, infinity, cost, num, total, greatest, product, guard, choose, named, AssertionTrees, no_assertions, assertion_and}
+use Rattle.qs_assert.specs.Listing.{term_nodes, inner_term, cond_nodes, conds_nodes, assertion_nodes, assertions_nodes}
+use Rattle.qs_assert.specs.Order.{names_known, all_names_known, is_among, order_fault_behind, node_known}
+
+both : (known : List ℕ → Bool) (xs ys : List Node) (a b : Bool) → list_all (node_known known) xs ≡ a → list_all (node_known known) ys ≡ b → list_all (node_known known) (xs ++ ys) ≡ (a && b)
+both known xs ys a b p q = list_all-append (node_known known) xs ys ∙ (λ i. p i && q i)
+
+-- terms and conditions have no names
+
+terms_known : (known : List ℕ → Bool) (nodes : List TermNode) → list_all (node_known known) (map Term nodes) ≡ true
+terms_known known [] = refl
+terms_known known (node ∷ nodes) = terms_known known nodes
+
+mutual
+  cond_known : (known : List ℕ → Bool) (c : CondTree) → list_all (node_known known) (cond_nodes c) ≡ true
+  cond_known known (le t u) = both known (inner_term t) (inner_term u) true true (terms_known known (term_nodes t)) (terms_known known (term_nodes u))
+  cond_known known (lt t u) = both known (inner_term t) (inner_term u) true true (terms_known known (term_nodes t)) (terms_known known (term_nodes u))
+  cond_known known (eq t u) = both known (inner_term t) (inner_term u) true true (terms_known known (term_nodes t)) (terms_known known (term_nodes u))
+  cond_known known (ne t u) = both known (inner_term t) (inner_term u) true true (terms_known known (term_nodes t)) (terms_known known (term_nodes u))
+  cond_known known (not c) = cond_known known c
+  cond_known known (and cs) = conds_known known cs
+  cond_known known (or cs) = conds_known known cs
+
+  conds_known : (known : List ℕ → Bool) (cs : CondTrees) → list_all (node_known known) (conds_nodes cs) ≡ true
+  conds_known known no_conds = refl
+  conds_known known (cond_and c cs) = both known (cond_nodes c) (conds_nodes cs) true true (cond_known known c) (conds_known known cs)
+
+named_known : (b : Bool) → (b && true) ≡ b
+named_known true = refl
+named_known false = refl
+
+mutual
+  pub nodes_known : (known : List ℕ → Bool) (a : AssertionTree) → list_all (node_known known) (assertion_nodes a) ≡ names_known a known
+  nodes_known known (natural n) = refl
+  nodes_known known infinity = refl
+  nodes_known known (cost f) = refl
+  nodes_known known (num t) = terms_known known (term_nodes t)
+  nodes_known known (total parts) = all_nodes_known known parts
+  nodes_known known (greatest parts) = all_nodes_known known parts
+  nodes_known known (product parts) = all_nodes_known known parts
+  nodes_known known (guard c a) = both known (cond_nodes c) (assertion_nodes a) true (names_known a known) (cond_known known c) (nodes_known known a)
+  nodes_known known (choose c a b) =
+      both known (cond_nodes c) (assertion_nodes a ++ assertion_nodes b) true (names_known a known && names_known b known) (cond_known known c)
+      (both known (assertion_nodes a) (assertion_nodes b) (names_known a known) (names_known b known) (nodes_known known a) (nodes_known known b))
+  nodes_known known (named n) = named_known (known n)
+
+  pub all_nodes_known : (known : List ℕ → Bool) (parts : AssertionTrees) → list_all (node_known known) (assertions_nodes parts) ≡ all_names_known parts known
+  all_nodes_known known no_assertions = refl
+  all_nodes_known known (assertion_and a parts) =
+      both known (assertion_nodes a) (assertions_nodes parts) (names_known a known) (all_names_known parts known) (nodes_known known a) (all_nodes_known known parts)
+
+-- ---- definitions
+
+goes_on : (b : Bool) (x y : Option ℕ) → b ≡ true → (if b then x else y) ≡ x
+goes_on true x y h = refl
+goes_on false x y h = cc
+
+stops : (b : Bool) (x y : Option ℕ) → b ≡ false → (if b then x else y) ≡ y
+stops true x y h = cc
+stops false x y h = refl
+
+-- definition i is in order
+pub order_step : (ds : List Define) (i : ℕ) (d : Define) → i < length ds → names_known (get_or ds i d).body (is_among (take i ds)) ≡ true → order_fault_behind (drop i ds) (take i ds) ≡ order_fault_behind (drop (i + 1) ds) (take (i + 1) ds)
+order_step ds i d h k =
+    ap (λ (l : List Define). order_fault_behind l (take i ds)) (drop-cons ds i d h)
+    ∙ (goes_on (names_known (get_or ds i d).body (is_among (take i ds))) (order_fault_behind (drop (suc i) ds) (take i ds ++ get_or ds i d ∷ [])) (Some (length (take i ds))) k
+    ∙ (ap (λ (e : List Define). order_fault_behind (drop (suc i) ds) e) (sym (take-suc ds i d h))
+    ∙ ap (λ (j : ℕ). order_fault_behind (drop j ds) (take j ds)) (sym (add-one i))))
+
+-- or it is the first that isn't
+pub order_stop : (ds : List Define) (i : ℕ) (d : Define) → i < length ds → names_known (get_or ds i d).body (is_among (take i ds)) ≡ false → order_fault_behind (drop i ds) (take i ds) ≡ Some i
+order_stop ds i d h k =
+    ap (λ (l : List Define). order_fault_behind l (take i ds)) (drop-cons ds i d h)
+    ∙ (stops (names_known (get_or ds i d).body (is_among (take i ds))) (order_fault_behind (drop (suc i) ds) (take i ds ++ get_or ds i d ∷ [])) (Some (length (take i ds))) k
+    ∙ ap (λ (n : ℕ). Some n) (length-take-le i ds (omega arith)))
+
+pub order_end : (ds : List Define) (i : ℕ) → length ds ≤ i → order_fault_behind (drop i ds) (take i ds) ≡ None
+order_end ds i h = ap (λ (l : List Define). order_fault_behind l (take i ds)) (drop_of_length-le ds h)

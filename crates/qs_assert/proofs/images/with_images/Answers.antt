@@ -1,0 +1,12 @@
+use Rattle.qs_assert.specs.Images.{assertion_image}
+use Rattle.qs_assert.specs.Simultaneous.{image_in, terms_for}
+use Rattle.qs_assert.proofs.Replaced.{all_replaced}
+use Rattle.qs_assert.proofs.images.with_images.Goals as goal
+
+pub from_nodes-requires : goal.from_nodes-requires
+from_nodes-requires c =
+    (assertion_image (terms_for (image_in c.args.list.now)) c.args.a.now, all_replaced _ _ _ _ _ c.loop-node-test.false c.nodes-given.ensures c.loop-node.invariant)
+
+pub returns : goal.returns
+returns c =
+    c.from_nodes.ensures _ (all_replaced _ c.args.a.now _ _ _ c.loop-node-test.false c.nodes-given.ensures c.loop-node.invariant)

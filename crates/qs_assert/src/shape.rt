@@ -1,0 +1,52 @@
+// Whether nodes are those of a term.
+ghost use Rattle.std.specs.Prelude.{◌≡◌, ◌≢◌, MatchOption};
+ghost use Rattle.qs_assert.specs.Listing.{term_nodes};
+ghost use Rattle.qs_assert.specs.Shapes.{term_arity, are_terms};
+ghost use Rattle.qs_assert.specs.Trees.{TermTree};
+
+use crate::{Term, TermNode};
+
+impl TermNode {
+    /// How many parts follow the node.
+    pub fn arity(self) -> usize
+        ensures { result ≡ term_arity self }
+    {
+        match self {
+            TermNode::Number(_) => 0,
+            TermNode::Variable(_) => 0,
+            TermNode::Add(count) => count,
+            TermNode::Sub => 2,
+            TermNode::Mul(count) => count,
+            TermNode::Div(_) => 1,
+            TermNode::WrapUnsigned => 1,
+            TermNode::WrapSigned => 1,
+            TermNode::Bits => 1,
+        }
+    }
+}
+
+fn is_one_term(nodes: &[TermNode]) -> bool
+    ensures { result ≡ are_terms nodes.now 1 }
+{
+    let mut due: u128 = 1;
+    for i in 0..nodes.len() {
+        if due == 0 {
+            return false;
+        }
+        due = due - 1 + nodes[i].arity() as u128;
+    }
+    due == 0
+}
+
+impl Term {
+    /// The term that has these nodes, each before those of its parts, if there is one.
+    pub fn read(nodes: Vec<TermNode>) -> Option<Term>
+        ensures { MatchOption result ((t : TermTree) → nodes.items ≢ term_nodes t) (λ t. nodes.items ≡ term_nodes t) }
+    {
+        if is_one_term(&nodes) {
+            Some(Term::from_nodes(nodes))
+        } else {
+            None
+        }
+    }
+}

@@ -1,7 +1,7 @@
 // The tool over real files and streams.
 use qs_base::Pos;
 use qs_driver::{FileKind, SourceFault, Status, WordsFault, run_tool};
-use qs_lexer::FaultKind;
+use qs_lexer::LexFault;
 use qs_ports::{DirStore, StdSink};
 use std::alloc::{AllocError, Global};
 use std::test::Fail;
@@ -35,7 +35,7 @@ fn real_files_and_streams(rt: HostRuntime) -> Result<(), Fail> {
         (
             out.as_str(),
             source.as_str(),
-            Status::Source(SourceFault::Lex(FaultKind::BadByte, Pos { line: 1, column: 5 })),
+            Status::Source(SourceFault::Lex(LexFault::BadByte(4), Pos { line: 1, column: 5 })),
         ),
         (
             "/tmp/qsc_test_no_such_file.c",

@@ -44,10 +44,10 @@ not_two file limit P Q never h k = never k.content (subst P (one_content file li
 
 -- the status is none of those at which a source is refused
 pub record IsNoRefusal (status : Status) : Type 0 where
-  pub missing : status ≢ Missing kinds.Source
-  pub too_long : status ≢ Source (TooLong kinds.Source)
-  pub lexical : (fault : LexFault) (pos : Pos) → status ≢ Source (Lex fault pos)
-  pub syntactic : (fault : SyntaxFault) (place : TokenPlace) → status ≢ Source (Syntax fault place)
+  pub not_missing : status ≢ Missing kinds.Source
+  pub not_long : status ≢ Source (TooLong kinds.Source)
+  pub not_lexical : (fault : LexFault) (pos : Pos) → status ≢ Source (Lex fault pos)
+  pub not_syntactic : (fault : SyntaxFault) (place : TokenPlace) → status ≢ Source (Syntax fault place)
 
 pub data SourceEnds (file : Option (List ℕ)) (status : Status) : Type 0 where
   absent : file ≡ None → status ≡ Missing kinds.Source → SourceEnds file status
@@ -92,14 +92,14 @@ tells_missing file status (absent a e) f = a
 tells_missing file status (long l e) f = absurd cc
 tells_missing file status (lexical fault pos h e) f = absurd cc
 tells_missing file status (syntactic fault place h e) f = absurd cc
-tells_missing file status (good h no) f = absurd (no.missing f)
+tells_missing file status (good h none) f = absurd (none.not_missing f)
 
 tells_long : (file : Option (List ℕ)) (status : Status) → SourceEnds file status → status ≡ Source (TooLong kinds.Source) → IsTooLong file source_limit
 tells_long file status (absent a e) f = absurd cc
 tells_long file status (long l e) f = l
 tells_long file status (lexical fault pos h e) f = absurd cc
 tells_long file status (syntactic fault place h e) f = absurd cc
-tells_long file status (good h no) f = absurd (no.too_long f)
+tells_long file status (good h none) f = absurd (none.not_long f)
 
 tells_lexical : (file : Option (List ℕ)) (status : Status) → SourceEnds file status → (fault : LexFault) (pos : Pos) → status ≡ Source (Lex fault pos) → HoldsWith file source_limit (λ text. HasLexFault text fault pos)
 tells_lexical file status (absent a e) g q f = absurd cc
@@ -110,14 +110,14 @@ tells_lexical file status (lexical fault pos h e) g q f =
     let same_place : pos ≡ q = cc in
     subst (λ (x : LexFault). HoldsWith file source_limit (λ text. HasLexFault text x q)) same_fault (subst (λ (x : Pos). HoldsWith file source_limit (λ text. HasLexFault text fault x)) same_place h)
 tells_lexical file status (syntactic fault place h e) g q f = absurd cc
-tells_lexical file status (good h no) g q f = absurd (no.lexical g q f)
+tells_lexical file status (good h none) g q f = absurd (none.not_lexical g q f)
 
 tells_syntactic : (file : Option (List ℕ)) (status : Status) → SourceEnds file status → IsSyntax status → HoldsWith file source_limit IsNoUnit
 tells_syntactic file status (absent a e) (g, q, f) = absurd cc
 tells_syntactic file status (long l e) (g, q, f) = absurd cc
 tells_syntactic file status (lexical fault pos h e) (g, q, f) = absurd cc
 tells_syntactic file status (syntactic fault place h e) s = record { content = h.content; holds = h.holds; has = syntax_no_unit h.content fault place h.has }
-tells_syntactic file status (good h no) (g, q, f) = absurd (no.syntactic g q f)
+tells_syntactic file status (good h none) (g, q, f) = absurd (none.not_syntactic g q f)
 
 -- ---- what the file leads to
 
@@ -126,30 +126,30 @@ leads_missing file status (absent a e) x = e
 leads_missing file status (long l e) x = absurd (not_absent file l.content x l.there)
 leads_missing file status (lexical fault pos h e) x = absurd (not_absent file h.content x h.holds.there)
 leads_missing file status (syntactic fault place h e) x = absurd (not_absent file h.content x h.holds.there)
-leads_missing file status (good h no) x = absurd (not_absent file h.content x h.holds.there)
+leads_missing file status (good h none) x = absurd (not_absent file h.content x h.holds.there)
 
 leads_long : (file : Option (List ℕ)) (status : Status) → SourceEnds file status → IsTooLong file source_limit → status ≡ Source (TooLong kinds.Source)
 leads_long file status (absent a e) x = absurd (not_absent file x.content a x.there)
 leads_long file status (long l e) x = e
 leads_long file status (lexical fault pos h e) x = absurd (not_long file source_limit h.content h.holds x)
 leads_long file status (syntactic fault place h e) x = absurd (not_long file source_limit h.content h.holds x)
-leads_long file status (good h no) x = absurd (not_long file source_limit h.content h.holds x)
+leads_long file status (good h none) x = absurd (not_long file source_limit h.content h.holds x)
 
 leads_lexical : (file : Option (List ℕ)) (status : Status) → SourceEnds file status → (fault : LexFault) (pos : Pos) → HoldsWith file source_limit (λ text. HasLexFault text fault pos) → status ≡ Source (Lex fault pos)
 leads_lexical file status (absent a e) g q x = absurd (not_absent file x.content a x.holds.there)
 leads_lexical file status (long l e) g q x = absurd (not_long file source_limit x.content x.holds l)
 leads_lexical file status (lexical fault pos h e) g q x =
-    let there = subst (λ (text : List ℕ). HasLexFault text fault pos) (one_content file source_limit h.content x.content h.holds x.holds) h.has in
+    let there : HasLexFault x.content fault pos = subst (λ (text : List ℕ). HasLexFault text fault pos) (one_content file source_limit h.content x.content h.holds x.holds) h.has in
     e ∙ ap (λ y. Source (Lex y pos)) (same_lex_fault x.content fault g pos q there x.has) ∙ ap (λ y. Source (Lex g y)) (same_lex_place x.content fault g pos q there x.has)
 leads_lexical file status (syntactic fault place h e) g q x = absurd (not_two file source_limit (λ text. HasSyntaxFault text fault place) (λ text. HasLexFault text g q) (λ text a b. lex_or_tokens text g q a.tokens b a.are_tokens) h x)
-leads_lexical file status (good h no) g q x = absurd (not_two file source_limit IsUnit (λ text. HasLexFault text g q) (λ text a b. lex_or_tokens text g q a.tokens b a.are_tokens) h x)
+leads_lexical file status (good h none) g q x = absurd (not_two file source_limit IsUnit (λ text. HasLexFault text g q) (λ text a b. lex_or_tokens text g q a.tokens b a.are_tokens) h x)
 
 leads_syntactic : (file : Option (List ℕ)) (status : Status) → SourceEnds file status → HoldsWith file source_limit IsNoUnit → IsSyntax status
 leads_syntactic file status (absent a e) x = absurd (not_absent file x.content a x.holds.there)
 leads_syntactic file status (long l e) x = absurd (not_long file source_limit x.content x.holds l)
 leads_syntactic file status (lexical fault pos h e) x = absurd (not_two file source_limit (λ text. HasLexFault text fault pos) IsNoUnit (λ text a b. lex_or_tokens text fault pos b.tokens a b.are_tokens) h x)
 leads_syntactic file status (syntactic fault place h e) x = (fault, place, e)
-leads_syntactic file status (good h no) x = absurd (not_two file source_limit IsNoUnit IsUnit no_unit x h)
+leads_syntactic file status (good h none) x = absurd (not_two file source_limit IsNoUnit IsUnit no_unit x h)
 
 pub refuses_source : (file : Option (List ℕ)) (status : Status) → SourceEnds file status → RefusesSource file status
 refuses_source file status s = record {

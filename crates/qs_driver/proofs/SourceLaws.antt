@@ -14,14 +14,18 @@ use Rattle.qs_lexer.proofs.Seen.{as_many}
 use Rattle.qs_parser.specs.Answers.{Answers, HasNoReading, IsRefused}
 use Rattle.qs_parser.specs.declared.syntax_fault.SyntaxFault.{SyntaxFault}
 use Rattle.qs_parser.specs.declared.syntax_fault.SyntaxFault.TheVariants as syntax
-use Rattle.qs_driver.specs.Source.{IsPlaceOf, IsTokenPlace, byte_of, number_of, HasLexFault, HasSyntaxFault, IsNoUnit, IsUnit, RefusesText, has_lex_fault, has_syntax_fault}
+use Rattle.qs_ports.specs.StoreView.{StoreView}
+use Rattle.qs_driver.specs.Limits.{source_limit}
+use Rattle.qs_driver.specs.Files.{WasRead}
+use Rattle.qs_driver.specs.Source.{IsPlaceOf, IsTokenPlace, byte_of, number_of, HasLexFault, HasSyntaxFault, IsNoUnit, IsUnit, RefusesText, has_lex_fault, has_syntax_fault, lacks_memory, LacksSource, lex_fault, syntax_fault, no_memory}
+use Rattle.qs_driver.specs.declared.status.Status.{Status}
 use Rattle.qs_driver.specs.declared.status.Status.TheVariants.{Source}
 use Rattle.qs_driver.specs.declared.status.SourceFault.TheVariants.{Lex, Syntax}
 use Rattle.qs_driver.specs.declared.status.TokenPlace.{TokenPlace}
 
 -- ---- what is answered of a text
 
-has_fault : (text : List ℕ) (fault : LexFault) (kind : FaultKind) (found at : ℕ) (pos : Pos) → fault ≡ fault_at kind found → LexFaultAt text kind found → ◌≡◌ {A = _} (Some found) (Some at) → IsPlaceOf text at pos → RefusesText text (Source (Lex fault pos))
+has_fault : (text : List ℕ) (fault : LexFault) (kind : FaultKind) (found at : ℕ) (pos : Pos) → fault ≡ fault_at kind found → LexFaultAt text kind found → Some found ≡ Some at → IsPlaceOf text at pos → RefusesText text (Source (Lex fault pos))
 has_fault text fault kind found at pos is stands e place =
     let same : at ≡ found = cc in
     has_lex_fault fault pos (record { kind = kind; at = found; is = is; stands = stands; place = subst (λ (k : ℕ). IsPlaceOf text k pos) same place }) refl
@@ -86,3 +90,10 @@ pub same_lex_place : (text : List ℕ) (f g : LexFault) (p q : Pos) → HasLexFa
 same_lex_place text f g p q a b =
     let at : a.at ≡ b.at = one_place text a.kind b.kind a.at b.at a.stands b.stands in
     same_pos text b.at p q (subst (λ (k : ℕ). IsPlaceOf text k p) at a.place) b.place
+
+-- ---- a source in the store
+
+pub text_refused : (v w : StoreView) (name text : List ℕ) (status : Status) → WasRead v w name source_limit text → RefusesText text status → LacksSource v w name status
+text_refused v w name text status read (has_lex_fault fault pos f e) = lex_fault fault pos read.untouched (λ told. record { content = text; holds = read.holds told; has = f }) e
+text_refused v w name text status read (has_syntax_fault fault place f e) = syntax_fault fault place read.untouched (λ told. record { content = text; holds = read.holds told; has = f }) e
+text_refused v w name text status read (lacks_memory e) = no_memory read.untouched e

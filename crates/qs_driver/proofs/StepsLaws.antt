@@ -3,7 +3,7 @@ use Rattle.std.proofs.Common.{◌≡◌, ◌⊎◌, ℕ, List, [], ◌∷◌, Re
 use Rattle.qs_ports.specs.Causes.{Rose}
 use Rattle.qs_ports.specs.SinkView.{SinkView, Appends, IsCut, PutsAll}
 use Rattle.qs_ports.specs.declared.sink.SinkFault.{SinkFault}
-use Rattle.qs_driver.specs.Devices.{Streams}
+use Rattle.qs_driver.specs.Devices.{Streams, streams}
 use Rattle.qs_driver.specs.Steps.{Stream, Out, Log, Step, on_out, on_log, OnlyOn, IsPut, IsCutWithin, ArePut, AreCutShort}
 use Rattle.qs_driver.specs.Due.{Due, IsWritten, status_after, EndsWith}
 use Rattle.qs_driver.specs.declared.status.Status.{Status}
@@ -11,9 +11,6 @@ use Rattle.qs_driver.specs.declared.status.Status.TheVariants.{SinkFailed}
 
 abbrev pub due_of : Status → List Step → Due
 due_of status steps = record { status = status; steps = steps }
-
-abbrev pub streams : SinkView → SinkView → Streams
-streams out log = record { out = out; log = log }
 
 -- ---- how what is due comes to be written
 

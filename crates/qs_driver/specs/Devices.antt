@@ -14,6 +14,9 @@ pub record Streams : Type 0 where
   pub out : SinkView
   pub log : SinkView
 
+abbrev pub streams : SinkView → SinkView → Streams
+streams out log = record { out = out; log = log }
+
 abbrev pub streams_of : DevicesView → Streams
 streams_of d = record { out = d.out; log = d.log }
 

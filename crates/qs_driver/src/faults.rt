@@ -5,8 +5,8 @@ ghost use Rattle.qs_driver.specs.Lines.{line};
 ghost use Rattle.qs_driver.specs.Faults.{fault_line, cause_text, image_text, lex_text, place_line, pos_of, syntax_text, unexpected_text};
 ghost use Rattle.qs_driver.specs.Names.{names_in, no_names};
 
-use crate::names::{FileNames, file_name};
 use crate::lines::{put_line, put_number, put_parts};
+use crate::names::{FileNames, file_name};
 use crate::{SourceFault, Status, TokenPlace, WordsFault};
 use hex::encode_to_slice;
 use itoa::Buffer;

@@ -108,10 +108,10 @@ leads_same b v w status (cannot differ c) s = absurd (differ s)
 
 -- a status at which no source is refused
 done_is_none : (status : Status) → status ≡ Done → IsNoRefusal status
-done_is_none status e = record { missing = λ f. cc; too_long = λ f. cc; lexical = λ fault pos f. cc; syntactic = λ fault place f. cc }
+done_is_none status e = record { not_missing = λ f. cc; not_long = λ f. cc; not_lexical = λ fault pos f. cc; not_syntactic = λ fault place f. cc }
 
 form_is_none : (status : Status) → status ≡ Source NotFirstForm → IsNoRefusal status
-form_is_none status e = record { missing = λ f. cc; too_long = λ f. cc; lexical = λ fault pos f. cc; syntactic = λ fault place f. cc }
+form_is_none status e = record { not_missing = λ f. cc; not_long = λ f. cc; not_lexical = λ fault pos f. cc; not_syntactic = λ fault place f. cc }
 
 cannot_source : (b : BuildWords) (v w : StoreView) (status : Status) → StoreHeld v w → status ≢ NoMemory → IsTrue v.told → CannotBuild b v w status → SourceEnds (v.files b.source) status
 cannot_source b v w status n m told (meant.no_source l) = elim (source_ends v w b.source status n told l) [

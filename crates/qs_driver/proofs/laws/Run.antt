@@ -1,5 +1,5 @@
 -- How `run` comes to a machine and its input, and what it came to.
-use Rattle.std.proofs.Common.{◌≡◌, ℕ, ◌≤◌, List, length, Option, Some, None, Ok, Err, refl, sym, ◌∙◌, subst, arith, inl, inr, IsTrue}
+use Rattle.std.proofs.Common.{◌≡◌, ℕ, ◌≤◌, List, length, Option, Some, None, Result, Ok, Err, refl, sym, ◌∙◌, subst, arith, inl, inr, IsTrue}
 use Rattle.qs_ports.specs.StoreView.{StoreView, HasSameCounts, HasMissed}
 use Rattle.qs_ports.specs.SinkView.{SinkView}
 use Rattle.qs_ports.proofs.Wholes.{keeps_more, counts_more, failed_later}
@@ -19,7 +19,7 @@ use Rattle.qs_driver.specs.Files as files
 use Rattle.qs_driver.specs.Arguments.{LacksWords, words_of}
 use Rattle.qs_driver.specs.Arguments as arguments
 use Rattle.qs_driver.specs.Task.{Answers}
-use Rattle.qs_driver.specs.commands.Run.{RunWords, names_of, run, ReadImage, ReadInput, ComesToInput, CannotRun, IsDueToRun, IsDueAt, after_output, refused_after, CannotLoad, WasLoaded, IsReady, ReadsNamed, Finishes}
+use Rattle.qs_driver.specs.commands.Run.{RunWords, names_of, run, ReadImage, ReadInput, ComesToInput, CannotRun, IsDueToRun, IsDueAt, after_output, refused_after, CannotLoad, WasLoaded, IsReady, ReadsNamed, Prepares, IsFresh, Finishes}
 use Rattle.qs_driver.specs.commands.Run as meant
 use Rattle.qs_driver.specs.declared.commands.run.Ready.{Ready}
 use Rattle.qs_driver.specs.declared.status.Status.{Status}
@@ -120,6 +120,13 @@ pub input_is_refused : (r : RunWords) (u v w : StoreView) (bytes : List ℕ) (ma
 input_is_refused r u v w bytes machine status read l h = input_refused r u v w bytes machine r.input status refl read l h
 
 -- ---- the run
+
+pub fresh : (r : RunWords) (v w : StoreView) (prepared : Result Ready Status) → Prepares r v w prepared → IsFresh prepared
+fresh r v w (Ok ready) h = h.none_taken
+fresh r v w (Err status) h = tt
+
+pub may_run : (taken : ℕ) (input : List ℕ) → taken ≡ 0 → taken ≤ length input
+may_run taken input e = omega arith
 
 -- what is due at an outcome, with its output on `out` first
 record IsDueWith (r : RunWords) (outcome : Outcome) : Type 0 where

@@ -49,7 +49,7 @@ starts files r image h can =
     ∙ chosen (ltb stack_limit r.stack) false (StackTooLarge r.stack) (at_start files r image r.input) (le-ltb stack_limit r.stack can.small)
 
 takes_input : (v : StoreView) (r : RunWords) (image : Image) (name : Option (List ℕ)) (input : List ℕ) → HasInput v name input → at_start v.files r image name ≡ at_outcome r image input
-takes_input v r image None input e = ap (at_outcome r image) e
+takes_input v r image None input e = ap (at_outcome r image) (sym e)
 takes_input v r image (Some name) input h = ap (at_input r image) h.there ∙ chosen (ltb input_limit (length input)) false (Source (TooLong kinds.Input)) (at_outcome r image input) (le-ltb input_limit (length input) h.within)
 
 told_input : (v : StoreView) (name : Option (List ℕ)) (input : List ℕ) → IsTrue v.told → ReadInput v name input → HasInput v name input

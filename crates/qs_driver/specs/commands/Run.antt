@@ -17,11 +17,12 @@ use Rattle.qs_driver.specs.Limits.{image_limit, input_limit, stack_limit}
 use Rattle.qs_driver.specs.Names.{Names, no_names}
 use Rattle.qs_driver.specs.Lines.{exit_line}
 use Rattle.qs_driver.specs.Faults.{fault_line}
+use Rattle.qs_driver.specs.Devices.{Streams, views_of}
 use Rattle.qs_driver.specs.Steps.{on_out, on_log}
 use Rattle.qs_driver.specs.Due.{Due, refusal, IsRefusal, EndsWith}
 use Rattle.qs_driver.specs.Files.{IsUntouched, Holds, HoldsWith, CannotRead, ReadsFile}
 use Rattle.qs_driver.specs.Arguments.{first_misfit, words_of, LacksWords}
-use Rattle.qs_driver.specs.Task.{Task}
+use Rattle.qs_driver.specs.Task.{Task, Answers}
 use Rattle.qs_driver.specs.declared.commands.run.RunOrder.{RunOrder}
 use Rattle.qs_driver.specs.declared.commands.run.Ready.{Ready}
 use Rattle.qs_driver.specs.declared.status.Status.{Status}
@@ -302,3 +303,13 @@ Finishes r (end.Exited status) v w result = EndsWith (exit_line status) Done v w
 Finishes r (end.Trapped cause pc) v w result = EndsWith (fault_line (names_of r) (Trapped cause pc)) (Trapped cause pc) v w result
 Finishes r end.StepLimit v w result = EndsWith (fault_line (names_of r) (StepLimit r.steps)) (StepLimit r.steps) v w result
 Finishes r end.SinkFailed v w result = (result ≡ SinkFailed) × (w ≡ v)
+
+-- a machine that was prepared has taken no input yet
+abbrev pub IsFresh : Result Ready Status → Type 0
+IsFresh (Ok ready) = taken_of ready.machine ≡ 0
+IsFresh (Err status) = Unit {0}
+
+-- what was prepared is run, or refused, whatever the store was
+abbrev pub RunsFrom : RunWords → Result Ready Status → Streams → Streams → Status → Type 0
+RunsFrom r prepared v w result =
+    (before after : StoreView) → Prepares r before after prepared → Answers (run r) (views_of before v.out v.log) (views_of after w.out w.log) result

@@ -1,9 +1,10 @@
 // `build`: from the source in the store to the image in the store.
 ghost use Rattle.std.specs.Prelude.{◌≡◌};
-ghost use Rattle.qs_driver.specs.Devices.{views, views_left};
+ghost use Rattle.qs_driver.specs.Devices.{streams, views, views_left};
+ghost use Rattle.qs_driver.specs.Due.{IsWritten};
 ghost use Rattle.qs_driver.specs.Names.{names_in};
 ghost use Rattle.qs_driver.specs.Task.{Answers};
-ghost use Rattle.qs_driver.specs.commands.Build.{build, names_of, words_in, Builds, ReadsProgram};
+ghost use Rattle.qs_driver.specs.commands.Build.{build, due_of, names_of, words_in, Builds, ReadsProgram};
 
 use crate::devices::Devices;
 use crate::due::{refuse, status_after};
@@ -63,6 +64,21 @@ fn build_image<S: Store>(
     Ok(image)
 }
 
+// Puts the cost of each function of the image, or the line of the fault.
+fn report<O: Sink, L: Sink>(
+    work: Result<Image, Status>,
+    order: &BuildOrder<'_>,
+    out: &mut O,
+    log: &mut L,
+) -> Status
+    ensures { IsWritten (due_of (words_in order.now) work) (streams (O.view out.old) (L.view log.old)) (streams (O.view out.new) (L.view log.new)) result }
+{
+    match work {
+        Ok(image) => status_after(put_costs(out, &image.functions), Status::Done),
+        Err(status) => refuse(log, &names_of(order), status),
+    }
+}
+
 /// Builds the image, and puts the cost of each of its functions.
 pub fn build<S: Store, O: Sink, L: Sink>(
     alloc: Global,
@@ -72,8 +88,5 @@ pub fn build<S: Store, O: Sink, L: Sink>(
     ensures { Answers (build (words_in order.now)) (views S.view O.view L.view devices.entry) (views_left S.view O.view L.view devices.exit) result }
 {
     let Devices { store, out, log } = devices;
-    match build_image(alloc, order, store) {
-        Ok(image) => status_after(put_costs(out, &image.functions), Status::Done),
-        Err(status) => refuse(log, &names_of(order), status),
-    }
+    report(build_image(alloc, order, store), order, out, log)
 }

@@ -1,9 +1,9 @@
 // `run`: an image on a stack of a given size.
 ghost use Rattle.std.specs.Prelude.{◌≡◌};
-ghost use Rattle.qs_driver.specs.Devices.{views, views_left};
+ghost use Rattle.qs_driver.specs.Devices.{streams, views, views_left};
 ghost use Rattle.qs_driver.specs.Names.{names_in};
 ghost use Rattle.qs_driver.specs.Task.{Answers};
-ghost use Rattle.qs_driver.specs.commands.Run.{names_of, run, words_in, Finishes, Loads, Prepares, ReadsInput};
+ghost use Rattle.qs_driver.specs.commands.Run.{names_of, run, words_in, Finishes, IsFresh, Loads, Prepares, ReadsInput, RunsFrom};
 
 use crate::arguments::argument_words;
 use crate::devices::Devices;
@@ -73,11 +73,7 @@ pub struct Ready {
 }
 
 // Reads the image and the input, and loads the image.
-fn prepare<S: Store>(
-    alloc: Global,
-    order: &RunOrder<'_>,
-    store: &mut S,
-) -> Result<Ready, Status>
+fn prepare<S: Store>(alloc: Global, order: &RunOrder<'_>, store: &mut S) -> Result<Ready, Status>
     ensures { Prepares (words_in order.now) (S.view store.old) (S.view store.new) result }
 {
     let bytes = read_file(alloc, store, order.image, FileKind::Image, IMAGE_LIMIT)?;
@@ -95,13 +91,29 @@ fn finish<L: Sink>(end: RunEnd, order: &RunOrder<'_>, log: &mut L) -> Status
             put_number(log, "exit ", u64::from(status)),
             Status::Done,
         ),
-        RunEnd::Trapped(cause, pc) => refuse(
-            log,
-            &names_of(order),
-            Status::Trapped { cause, pc },
-        ),
+        RunEnd::Trapped(cause, pc) => refuse(log, &names_of(order), Status::Trapped { cause, pc }),
         RunEnd::StepLimit => refuse(log, &names_of(order), Status::StepLimit(order.steps)),
         RunEnd::SinkFailed => Status::SinkFailed,
+    }
+}
+
+// Runs what was prepared, or refuses it.
+fn run_ready<O: Sink, L: Sink>(
+    prepared: Result<Ready, Status>,
+    order: &RunOrder<'_>,
+    out: &mut O,
+    log: &mut L,
+) -> Status
+    requires { IsFresh prepared }
+    ensures { RunsFrom (words_in order.now) prepared (streams (O.view out.old) (L.view log.old)) (streams (O.view out.new) (L.view log.new)) result }
+{
+    match prepared {
+        Ok(ready) => {
+            let mut ready = ready;
+            let end = ready.machine.run(order.steps, &ready.input, out);
+            finish(end, order, log)
+        }
+        Err(status) => refuse(log, &names_of(order), status),
     }
 }
 
@@ -114,12 +126,5 @@ pub fn run<S: Store, O: Sink, L: Sink>(
     ensures { Answers (run (words_in order.now)) (views S.view O.view L.view devices.entry) (views_left S.view O.view L.view devices.exit) result }
 {
     let Devices { store, out, log } = devices;
-    match prepare(alloc, order, store) {
-        Ok(ready) => {
-            let mut ready = ready;
-            let end = ready.machine.run(order.steps, &ready.input, out);
-            finish(end, order, log)
-        }
-        Err(status) => refuse(log, &names_of(order), status),
-    }
+    run_ready(prepare(alloc, order, store), order, out, log)
 }

@@ -1,5 +1,5 @@
 -- When a source is refused, where no call failed and memory was found.
-use Rattle.std.proofs.Common.{◌≡◌, ◌≢◌, ◌⊎◌, ◌∙◌, ℕ, List, length, Option, Some, None, ap, subst, sym, refl, inl, inr, arith, IsTrue}
+use Rattle.std.proofs.Common.{◌≡◌, ◌≢◌, ◌⊎◌, ◌∙◌, ℕ, List, length, Option, Some, None, ap, subst, sym, inl, inr, arith, IsTrue}
 use Rattle.qs_base.specs.declared.places.Pos.{Pos}
 use Rattle.qs_lexer.specs.declared.fault.LexFault.{LexFault}
 use Rattle.qs_parser.specs.declared.syntax_fault.SyntaxFault.{SyntaxFault}
@@ -12,7 +12,6 @@ use Rattle.qs_driver.specs.Source as source
 use Rattle.qs_driver.specs.Promises.{StoreHeld}
 use Rattle.qs_driver.specs.declared.status.Status.{Status}
 use Rattle.qs_driver.specs.declared.status.Status.TheVariants.{Source, Missing, NoMemory}
-use Rattle.qs_driver.specs.declared.status.SourceFault.{SourceFault}
 use Rattle.qs_driver.specs.declared.status.SourceFault.TheVariants.{TooLong, Lex, Syntax}
 use Rattle.qs_driver.specs.declared.status.TokenPlace.{TokenPlace}
 use Rattle.qs_driver.specs.declared.status.FileKind.TheVariants as kinds

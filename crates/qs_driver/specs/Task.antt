@@ -1,5 +1,4 @@
 -- What a command asks of the tool, and when it is answered.
-use Rattle.std.specs.Prelude.{◌≡◌}
 use Rattle.qs_ports.specs.StoreView.{StoreView}
 use Rattle.qs_driver.specs.Devices.{DevicesView, streams_of}
 use Rattle.qs_driver.specs.Due.{Due, IsWritten}

@@ -23,7 +23,9 @@ fn perform<S: Store, O: Sink, L: Sink>(
     command: &Command,
     devices: Devices<'_, S, O, L>,
 ) -> Status
-    ensures { Answers (task_of (Some (command_of command.now))) (views S.view O.view L.view devices.entry) (views_left S.view O.view L.view devices.exit) result }
+    ensures { let before = views S.view O.view L.view devices.entry in
+        let after = views_left S.view O.view L.view devices.exit in
+        Answers (task_of (Some (command_of command.now))) before after result }
 {
     match command {
         Command::Build { source, proof, out } => match proof {
@@ -65,7 +67,9 @@ fn perform<S: Store, O: Sink, L: Sink>(
 
 // No memory was found for the words.
 fn lacks_memory<S: Store, O: Sink, L: Sink>(devices: Devices<'_, S, O, L>) -> Status
-    ensures { LacksMemory (views S.view O.view L.view devices.entry) (views_left S.view O.view L.view devices.exit) result }
+    ensures { let before = views S.view O.view L.view devices.entry in
+        let after = views_left S.view O.view L.view devices.exit in
+        LacksMemory before after result }
 {
     let Devices {
         store: _,

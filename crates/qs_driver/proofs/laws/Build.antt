@@ -1,5 +1,5 @@
 -- What `build` came to.
-use Rattle.std.proofs.Common.{◌≢◌, ℕ, List, Result, Ok, Err, ◌∙◌, refl, inl, inr, arith, IsTrue}
+use Rattle.std.proofs.Common.{◌≢◌, ℕ, List, Result, Ok, Err, ◌∙◌, refl, inl, inr, arith}
 use Rattle.qs_ports.specs.StoreView.{StoreView, Keeps, HasSameCounts, HasFailed, Holds as HoldsBytes}
 use Rattle.qs_ports.specs.SinkView.{SinkView}
 use Rattle.qs_ports.specs.Whole.{Stores, IsCutShort}

@@ -1,5 +1,5 @@
 -- What follows from what is due to `build`.
-use Rattle.std.proofs.Common.{◌≡◌, ◌≢◌, ◌⊎◌, ◌↔◌, ℕ, ◌<◌, ◌∙◌, List, ap, subst, sym, inl, inr, IsTrue}
+use Rattle.std.proofs.Common.{◌≡◌, ◌≢◌, ◌⊎◌, ◌<◌, ap, subst, sym, inl, inr, IsTrue}
 use Rattle.qs_ports.specs.StoreView.{StoreView}
 use Rattle.qs_compile.specs.FirstForm.{Program, IsFirstForm}
 use Rattle.qs_driver.specs.Limits.{source_limit}

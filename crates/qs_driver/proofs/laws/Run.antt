@@ -1,5 +1,5 @@
 -- How `run` comes to a machine and its input, and what it came to.
-use Rattle.std.proofs.Common.{◌≡◌, ℕ, ◌≤◌, List, length, Option, Some, None, Result, Ok, Err, refl, sym, ◌∙◌, subst, arith, inl, inr, IsTrue}
+use Rattle.std.proofs.Common.{◌≡◌, ℕ, ◌≤◌, List, length, Option, Some, None, Result, Ok, Err, refl, sym, ◌∙◌, subst, arith, IsTrue}
 use Rattle.qs_ports.specs.StoreView.{StoreView, HasSameCounts, HasMissed}
 use Rattle.qs_ports.specs.SinkView.{SinkView}
 use Rattle.qs_ports.proofs.Wholes.{keeps_more, counts_more, failed_later}

@@ -15,7 +15,7 @@ use Rattle.qs_driver.specs.Promises.{StoreHeld, SaysStoreFailed}
 use Rattle.qs_driver.specs.commands.Run.{RunWords, run, CannotRun, ComesToInput, IsDueToRun, IsDueAt, HasInput, ReadInput, HoldsImage, CanRun, IsGood, outcome, IsOfRun, Accepts, Refuses, Files, status_at, at_outcome, at_input, at_start, at_arguments, at_image, at_bytes, at_file, run_status}
 use Rattle.qs_driver.specs.commands.Run as meant
 use Rattle.qs_driver.specs.declared.status.Status.{Status}
-use Rattle.qs_driver.specs.declared.status.Status.TheVariants.{Done, Source, Words, Missing, Image as NotAnImage, Trapped, StepLimit, StackTooLarge, NoMemory}
+use Rattle.qs_driver.specs.declared.status.Status.TheVariants.{Source, Words, Missing, StackTooLarge, NoMemory}
 use Rattle.qs_driver.specs.declared.status.SourceFault.TheVariants.{TooLong}
 use Rattle.qs_driver.specs.declared.status.WordsFault.TheVariants.{ArgCount}
 use Rattle.qs_driver.specs.declared.status.FileKind.TheVariants as kinds

@@ -6,11 +6,11 @@ use Rattle.qs_cli.specs.Commands.{Command, Build, Check, Bound, Derive, Outline,
 use Rattle.qs_driver.specs.Names.{no_names}
 use Rattle.qs_driver.specs.Faults.{fault_line}
 use Rattle.qs_driver.specs.Devices.{DevicesView, streams_of, views_of}
-use Rattle.qs_driver.specs.Steps.{ArePut, AreCutShort}
+use Rattle.qs_driver.specs.Steps.{AreCutShort}
 use Rattle.qs_driver.specs.Due.{Due, refusal, IsWritten, EndsWith}
 use Rattle.qs_driver.specs.Task.{Task, Answers}
 use Rattle.qs_driver.specs.Tool.{build_with, task_of}
-use Rattle.qs_driver.specs.Promises.{LacksMemory, NoneFailed, SaysStoreFailed, ShowsFailures, Promises}
+use Rattle.qs_driver.specs.Promises.{LacksMemory, NoneFailed, SaysStoreFailed, Promises}
 use Rattle.qs_driver.specs.declared.status.Status.{Status}
 use Rattle.qs_driver.specs.declared.status.Status.TheVariants.{SinkFailed, NoMemory}
 use Rattle.qs_driver.proofs.StepsLaws.{HasSameFaults, all_same, short_rose, log_last}

@@ -1,5 +1,5 @@
 -- `build`: from the source in the store to the image in the store.
-use Rattle.std.specs.Prelude.{◌≡◌, ◌≢◌, ◌↔◌, ℕ, List, [], ◌∷◌, IsTrue, Option, Some, None, Result, Ok, Err}
+use Rattle.std.specs.Prelude.{◌≡◌, ◌≢◌, ◌↔◌, ℕ, List, [], ◌∷◌, IsTrue, Option, Result, Ok, Err}
 use Rattle.qs_ports.specs.StoreView.{StoreView, HasSameCounts, HasFailed}
 use Rattle.qs_ports.specs.Whole.{Stores, IsCutShort}
 use Rattle.qs_image.specs.Image.{Image, IsImage}

@@ -19,7 +19,7 @@ use Rattle.qs_driver.specs.Lines.{exit_line}
 use Rattle.qs_driver.specs.Faults.{fault_line}
 use Rattle.qs_driver.specs.Devices.{Streams, views_of}
 use Rattle.qs_driver.specs.Steps.{on_out, on_log}
-use Rattle.qs_driver.specs.Due.{Due, refusal, IsRefusal, EndsWith}
+use Rattle.qs_driver.specs.Due.{Due, IsRefusal, EndsWith}
 use Rattle.qs_driver.specs.Files.{IsUntouched, Holds, HoldsWith, CannotRead, ReadsFile}
 use Rattle.qs_driver.specs.Arguments.{first_misfit, words_of, LacksWords}
 use Rattle.qs_driver.specs.Task.{Task, Answers}

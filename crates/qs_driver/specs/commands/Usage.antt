@@ -5,7 +5,6 @@ use Rattle.qs_driver.specs.Names.{no_names}
 use Rattle.qs_driver.specs.Files.{IsUntouched}
 use Rattle.qs_driver.specs.Due.{Due, IsRefusal}
 use Rattle.qs_driver.specs.Task.{Task}
-use Rattle.qs_driver.specs.declared.status.Status.{Status}
 use Rattle.qs_driver.specs.declared.status.Status.TheVariants.{Words}
 use Rattle.qs_driver.specs.declared.status.WordsFault.TheVariants.{Usage}
 

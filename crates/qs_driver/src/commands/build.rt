@@ -71,7 +71,9 @@ fn report<O: Sink, L: Sink>(
     out: &mut O,
     log: &mut L,
 ) -> Status
-    ensures { IsWritten (due_of (words_in order.now) work) (streams (O.view out.old) (L.view log.old)) (streams (O.view out.new) (L.view log.new)) result }
+    ensures { let before = streams (O.view out.old) (L.view log.old) in
+        let after = streams (O.view out.new) (L.view log.new) in
+        IsWritten (due_of (words_in order.now) work) before after result }
 {
     match work {
         Ok(image) => status_after(put_costs(out, &image.functions), Status::Done),
@@ -85,7 +87,9 @@ pub fn build<S: Store, O: Sink, L: Sink>(
     order: &BuildOrder<'_>,
     devices: Devices<'_, S, O, L>,
 ) -> Status
-    ensures { Answers (build (words_in order.now)) (views S.view O.view L.view devices.entry) (views_left S.view O.view L.view devices.exit) result }
+    ensures { let before = views S.view O.view L.view devices.entry in
+        let after = views_left S.view O.view L.view devices.exit in
+        Answers (build (words_in order.now)) before after result }
 {
     let Devices { store, out, log } = devices;
     report(build_image(alloc, order, store), order, out, log)

@@ -105,7 +105,9 @@ fn run_ready<O: Sink, L: Sink>(
     log: &mut L,
 ) -> Status
     requires { IsFresh prepared }
-    ensures { RunsFrom (words_in order.now) prepared (streams (O.view out.old) (L.view log.old)) (streams (O.view out.new) (L.view log.new)) result }
+    ensures { let before = streams (O.view out.old) (L.view log.old) in
+        let after = streams (O.view out.new) (L.view log.new) in
+        RunsFrom (words_in order.now) prepared before after result }
 {
     match prepared {
         Ok(ready) => {
@@ -123,7 +125,9 @@ pub fn run<S: Store, O: Sink, L: Sink>(
     order: &RunOrder<'_>,
     devices: Devices<'_, S, O, L>,
 ) -> Status
-    ensures { Answers (run (words_in order.now)) (views S.view O.view L.view devices.entry) (views_left S.view O.view L.view devices.exit) result }
+    ensures { let before = views S.view O.view L.view devices.entry in
+        let after = views_left S.view O.view L.view devices.exit in
+        Answers (run (words_in order.now)) before after result }
 {
     let Devices { store, out, log } = devices;
     run_ready(prepare(alloc, order, store), order, out, log)

@@ -11,7 +11,9 @@ use qs_ports::{Sink, Store};
 
 /// Refuses the words.
 pub fn usage<S: Store, O: Sink, L: Sink>(devices: Devices<'_, S, O, L>) -> Status
-    ensures { Answers none (views S.view O.view L.view devices.entry) (views_left S.view O.view L.view devices.exit) result }
+    ensures { let before = views S.view O.view L.view devices.entry in
+        let after = views_left S.view O.view L.view devices.exit in
+        Answers none before after result }
 {
     let Devices {
         store: _,

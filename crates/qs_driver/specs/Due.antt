@@ -1,17 +1,37 @@
--- What is due at the end of a call: a status, and what each sink gets at it.
-use Rattle.std.specs.Prelude.{◌≡◌, ℕ, List, []}
+-- What is due at the end of a call: a status, and what is put on the streams at it.
+use Rattle.std.specs.Prelude.{◌≡◌, ◌⊎◌, ℕ, List, [], ◌∷◌, Result, Ok, Err}
+use Rattle.qs_ports.specs.SinkView.{SinkView, Appends, IsCut}
+use Rattle.qs_ports.specs.declared.sink.SinkFault.{SinkFault}
 use Rattle.qs_driver.specs.Names.{Names}
-use Rattle.qs_driver.specs.Lines.{fault_line}
+use Rattle.qs_driver.specs.Faults.{fault_line}
+use Rattle.qs_driver.specs.Devices.{Streams}
+use Rattle.qs_driver.specs.Steps.{Step, on_log, ArePut, AreCutShort}
 use Rattle.qs_driver.specs.declared.status.Status.{Status}
+use Rattle.qs_driver.specs.declared.status.Status.TheVariants.{SinkFailed}
 
 pub record Due : Type 0 where
   pub status : Status
-  pub out : List ℕ
-  pub log : List ℕ
+  pub steps : List Step
 
--- `out` gets nothing, and `log` the line of the fault
+-- the line of the fault on standard error, and nothing else
 abbrev pub refusal : Names → Status → Due
-refusal names status = record { status = status; out = []; log = fault_line names status }
+refusal names status = record { status = status; steps = on_log (fault_line names status) ∷ [] }
 
 abbrev pub IsRefusal : Names → Status → Due → Type 0
 IsRefusal names status due = due ≡ refusal names status
+
+-- All that is due was put and the status is the due one; or a stream failed within it, and the status says so.
+abbrev pub IsWritten : Due → Streams → Streams → Status → Type 0
+IsWritten due before after result =
+    ((result ≡ due.status) × ArePut due.steps before after)
+    ⊎ ((result ≡ SinkFailed) × AreCutShort due.steps before after)
+
+-- the status after a text was put, if this one is due
+abbrev pub status_after : Result Unit SinkFault → Status → Status
+status_after (Ok u) due = due
+status_after (Err e) due = SinkFailed
+
+-- The text was put on a sink, and the status is the due one; or the sink failed within the text, and the status says so.
+abbrev pub EndsWith : List ℕ → Status → SinkView → SinkView → Status → Type 0
+EndsWith text due v w result =
+    ((result ≡ due) × Appends v w text) ⊎ ((result ≡ SinkFailed) × ((k : ℕ) × IsCut v w text k))

@@ -1,33 +1,86 @@
--- Why a source is refused: it has a lexical fault, or it is no unit, or it is a unit of another form than the first.
-use Rattle.std.specs.Prelude.{◌≡◌, ℕ, ◌≤◌, List, Option}
+-- A source that a command reads: its text, or why it is refused.
+use Rattle.std.specs.Prelude.{◌≡◌, ◌↔◌, ℕ, List, length, IsTrue, Option, Some, None, Result, Ok, Err, Vec, slice_get}
+use Rattle.std.specs.declared.alloc.Global.{Global}
 use Rattle.qs_base.specs.Positions.{line_at, column_at}
 use Rattle.qs_base.specs.declared.places.Pos.{Pos}
 use Rattle.qs_syntax.specs.declared.tokens.Token.{Token}
 use Rattle.qs_syntax.specs.Trees.{DeclTree}
 use Rattle.qs_lexer.specs.Tokens.{Tokens, LexFaultAt}
+use Rattle.qs_lexer.specs.Results.{fault_at}
 use Rattle.qs_lexer.specs.Terminals.{terminals}
 use Rattle.qs_lexer.specs.declared.fault.FaultKind.{FaultKind}
-use Rattle.qs_parser.specs.Answers.{ReadsAs, HasNoReading}
-use Rattle.qs_driver.specs.declared.status.SourceFault.{SourceFault}
-use Rattle.qs_driver.specs.declared.status.SourceFault.TheVariants.{Lex, Syntax, NotFirstForm}
-use Rattle.qs_driver.specs.declared.status.SyntaxKind.{SyntaxKind}
+use Rattle.qs_lexer.specs.declared.fault.LexFault.{LexFault}
+use Rattle.qs_lexer.specs.declared.fault.LexFault.TheVariants as lexical_faults
+use Rattle.qs_parser.specs.Answers.{ReadsAs, IsRefused, HasNoReading}
+use Rattle.qs_parser.specs.declared.syntax_fault.SyntaxFault.{SyntaxFault}
+use Rattle.qs_parser.specs.declared.syntax_fault.SyntaxFault.TheVariants as syntax_faults
+use Rattle.qs_ports.specs.StoreView.{StoreView}
+use Rattle.qs_driver.specs.Limits.{source_limit}
+use Rattle.qs_driver.specs.Files.{IsUntouched, HoldsWith, IsTooLong, WasRead, CannotRead}
+use Rattle.qs_driver.specs.declared.status.Status.{Status}
+use Rattle.qs_driver.specs.declared.status.Status.TheVariants.{Source, Missing, NoMemory}
+use Rattle.qs_driver.specs.declared.status.SourceFault.TheVariants.{TooLong, Lex, Syntax}
+use Rattle.qs_driver.specs.declared.status.TokenPlace.{TokenPlace}
+use Rattle.qs_driver.specs.declared.status.TokenPlace.TheVariants.{At, End}
+use Rattle.qs_driver.specs.declared.status.FileKind.TheVariants as kinds
+
+-- ---- places
 
 -- the line and column of this byte
 pub record IsPlaceOf (text : List ℕ) (at : ℕ) (pos : Pos) : Type 0 where
   pub line : pos.line ≡ line_at text at
   pub column : pos.column ≡ column_at text at
 
--- the text has a lexical fault of this kind, at this line and column
-pub record HasLexFault (text : List ℕ) (kind : FaultKind) (pos : Pos) : Type 0 where
+-- the token with this number starts at this line and column
+pub record IsStartOf (text : List ℕ) (tokens : List Token) (number : ℕ) (pos : Pos) : Type 0 where
+  pub token : Token
+  pub is : slice_get tokens number ≡ Some token
+  pub place : IsPlaceOf text token.start pos
+
+-- the number is the count of all tokens, and the text ends at this line and column
+pub record IsEndOf (text : List ℕ) (tokens : List Token) (number : ℕ) (pos : Pos) : Type 0 where
+  pub all : number ≡ length tokens
+  pub place : IsPlaceOf text (length text) pos
+
+-- the place of the token with this number, or of the end, where all tokens stand before
+abbrev pub IsTokenPlace : List ℕ → List Token → ℕ → TokenPlace → Type 0
+IsTokenPlace text tokens number (At pos) = IsStartOf text tokens number pos
+IsTokenPlace text tokens number (End pos) = IsEndOf text tokens number pos
+
+-- ---- a text
+
+-- the text has this lexical fault, at this line and column
+pub record HasLexFault (text : List ℕ) (fault : LexFault) (pos : Pos) : Type 0 where
+  pub kind : FaultKind
   pub at : ℕ
-  pub fault : LexFaultAt text kind at
+  pub is : fault ≡ fault_at kind at
+  pub stands : LexFaultAt text kind at
   pub place : IsPlaceOf text at pos
 
--- the fault is the lexical one of this kind at this byte
-pub record IsLexical (text : List ℕ) (kind : FaultKind) (at : ℕ) (fault : SourceFault) : Type 0 where
-  pub pos : Pos
-  pub place : IsPlaceOf text at pos
-  pub is : fault ≡ Lex kind pos
+-- the byte at which a lexical fault begins
+abbrev pub byte_of : LexFault → Option ℕ
+byte_of lexical_faults.NoMemory = None
+byte_of (lexical_faults.BadByte at) = Some at
+byte_of (lexical_faults.OpenComment at) = Some at
+byte_of (lexical_faults.BadLiteral at) = Some at
+byte_of (lexical_faults.WideLiteral at) = Some at
+byte_of (lexical_faults.Directive at) = Some at
+byte_of (lexical_faults.OpenText at) = Some at
+
+-- the number of the token that a syntax fault names
+abbrev pub number_of : SyntaxFault → Option ℕ
+number_of syntax_faults.NoMemory = None
+number_of (syntax_faults.Unexpected number) = Some number
+number_of (syntax_faults.TooDeep number) = Some number
+
+-- the text has tokens with no reading that isn't too high; the fault names one of them or their end, at this place
+pub record HasSyntaxFault (text : List ℕ) (fault : SyntaxFault) (place : TokenPlace) : Type 0 where
+  pub tokens : List Token
+  pub are_tokens : Tokens text tokens
+  pub number : ℕ
+  pub names : number_of fault ≡ Some number
+  pub refused : IsRefused (terminals text 0 tokens) number
+  pub place_is : IsTokenPlace text tokens number place
 
 -- the text has tokens, and they have no reading that isn't too high
 pub record IsNoUnit (text : List ℕ) : Type 0 where
@@ -42,8 +95,57 @@ pub record IsUnit (text : List ℕ) : Type 0 where
   pub trees : List DeclTree
   pub reads : ReadsAs (terminals text 0 tokens) trees
 
--- what is wrong with a text that isn't of the first form
-pub data IsWrong (text : List ℕ) (fault : SourceFault) : Type 0 where
-  lexical : (kind : FaultKind) (pos : Pos) → HasLexFault text kind pos → fault ≡ Lex kind pos → IsWrong text fault
-  syntactic : (kind : SyntaxKind) (pos : Pos) → IsNoUnit text → fault ≡ Syntax kind pos → IsWrong text fault
-  other_form : IsUnit text → fault ≡ NotFirstForm → IsWrong text fault
+-- why a text isn't known to be a unit, and the status at that
+pub data RefusesText (text : List ℕ) (status : Status) : Type 0 where
+  has_lex_fault : (fault : LexFault) (pos : Pos) → HasLexFault text fault pos → status ≡ Source (Lex fault pos) → RefusesText text status
+  has_syntax_fault : (fault : SyntaxFault) (place : TokenPlace) → HasSyntaxFault text fault place → status ≡ Source (Syntax fault place)
+      → RefusesText text status
+  lacks_memory : status ≡ NoMemory → RefusesText text status
+
+-- the answer of `check_text`
+abbrev pub ChecksText : List ℕ → Result Unit Status → Type 0
+ChecksText text (Ok u) = IsUnit text
+ChecksText text (Err status) = RefusesText text status
+
+-- ---- a source in the store
+
+-- the source was read, it is a unit, and no file changed
+pub record HasSource (before after : StoreView) (name text : List ℕ) : Type 0 where
+  pub read : WasRead before after name source_limit text
+  pub unit : IsUnit text
+
+-- Why there is no source to go on with, and the status at that.
+pub data LacksSource (before after : StoreView) (name : List ℕ) (status : Status) : Type 0 where
+  unread : CannotRead before after name kinds.Source source_limit status → LacksSource before after name status
+  lex_fault : (fault : LexFault) (pos : Pos) → IsUntouched before after
+      → (IsTrue before.told → HoldsWith (before.files name) source_limit (λ text. HasLexFault text fault pos)) → status ≡ Source (Lex fault pos)
+      → LacksSource before after name status
+  syntax_fault : (fault : SyntaxFault) (place : TokenPlace) → IsUntouched before after
+      → (IsTrue before.told → HoldsWith (before.files name) source_limit (λ text. HasSyntaxFault text fault place)) → status ≡ Source (Syntax fault place)
+      → LacksSource before after name status
+  no_memory : IsUntouched before after → status ≡ NoMemory → LacksSource before after name status
+
+-- the answer of `read_source`
+abbrev pub ReadsSource : StoreView → StoreView → List ℕ → Result (Vec ℕ Global) Status → Type 0
+ReadsSource before after name (Ok text) = HasSource before after name text.items
+ReadsSource before after name (Err status) = LacksSource before after name status
+
+-- ---- when a source is refused
+
+-- the statuses at which a source is refused
+pub data IsOfSource : Status → Type 0 where
+  missing_source : IsOfSource (Missing kinds.Source)
+  long_source : IsOfSource (Source (TooLong kinds.Source))
+  ill_spelled : (fault : LexFault) (pos : Pos) → IsOfSource (Source (Lex fault pos))
+  no_reading : (fault : SyntaxFault) (place : TokenPlace) → IsOfSource (Source (Syntax fault place))
+
+-- some syntax fault is answered
+abbrev pub IsSyntax : Status → Type 0
+IsSyntax status = (fault : SyntaxFault) × (place : TokenPlace) × (status ≡ Source (Syntax fault place))
+
+-- Each refusal of a source comes exactly where its cause is.
+pub record RefusesSource (file : Option (List ℕ)) (status : Status) : Type 0 where
+  pub missing : (status ≡ Missing kinds.Source) ↔ (file ≡ None)
+  pub too_long : (status ≡ Source (TooLong kinds.Source)) ↔ IsTooLong file source_limit
+  pub lexical : (fault : LexFault) (pos : Pos) → (status ≡ Source (Lex fault pos)) ↔ HoldsWith file source_limit (λ text. HasLexFault text fault pos)
+  pub syntactic : IsSyntax status ↔ HoldsWith file source_limit IsNoUnit

@@ -1,8 +1,8 @@
 // The arguments of main as the words of the machine.
 ghost use Rattle.std.specs.Prelude.{◌≡◌, ◌<◌, ◌≤◌, length};
 ghost use Rattle.qs_base.specs.Words.{wrap};
-ghost use Rattle.qs_driver.specs.Run.{fits_parameter};
-ghost use Rattle.qs_driver.specs.RunResults.{FindsWords};
+ghost use Rattle.qs_machine.specs.Arguments.{fits_parameter};
+ghost use Rattle.qs_driver.specs.Arguments.{FindsWords};
 
 use crate::{Status, WordsFault};
 use qs_image::ImageView;
@@ -48,9 +48,7 @@ pub fn argument_words(
         if !fits_parameter(image, i, number) {
             return Err(Status::Words(WordsFault::ArgRange(i)));
         }
-        if words.push(word_of(number)).is_err() {
-            return Err(Status::NoMemory);
-        }
+        words.push(word_of(number))?;
     }
     Ok(words)
 }

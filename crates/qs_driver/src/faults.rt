@@ -1,18 +1,20 @@
 // The line of each fault. Nothing here takes memory.
 ghost use Rattle.std.specs.Prelude.{◌≡◌, ◌++◌, [], ◌∷◌, codes, decimal};
 ghost use Rattle.qs_ports.specs.SinkView.{PutsAll};
-ghost use Rattle.qs_driver.specs.Lines.{line, fault_line, cause_text, image_text, lex_text, syntax_text, place_line};
+ghost use Rattle.qs_driver.specs.Lines.{line};
+ghost use Rattle.qs_driver.specs.Faults.{fault_line, cause_text, image_text, lex_text, place_line, pos_of, syntax_text, unexpected_text};
 ghost use Rattle.qs_driver.specs.Names.{names_in, no_names};
 
+use crate::lines::{put_line, put_number, put_parts};
 use crate::names::{FileNames, file_name};
-use crate::report::{put_line, put_number, put_parts};
-use crate::{SourceFault, Status, SyntaxKind, WordsFault};
+use crate::{SourceFault, Status, TokenPlace, WordsFault};
 use hex::encode_to_slice;
 use itoa::Buffer;
 use qs_base::Pos;
 use qs_image::ImageFault;
-use qs_lexer::FaultKind;
+use qs_lexer::LexFault;
 use qs_machine::Cause;
+use qs_parser::SyntaxFault;
 use qs_ports::{Sink, SinkFault};
 
 fn put_counts_line<K: Sink>(log: &mut K, expected: &str, given: &str) -> Result<(), SinkFault>
@@ -68,26 +70,45 @@ fn put_words_fault<K: Sink>(
     }
 }
 
-fn lex_word(kind: FaultKind) -> &'static str
-    ensures { result.now ≡ lex_text kind }
+fn lex_word(fault: LexFault) -> &'static str
+    ensures { result.now ≡ lex_text fault }
 {
-    match kind {
-        FaultKind::BadByte => "bad byte",
-        FaultKind::OpenComment => "open comment",
-        FaultKind::BadLiteral => "bad literal",
-        FaultKind::WideLiteral => "wide literal",
-        FaultKind::Directive => "directive",
-        FaultKind::OpenText => "open text",
+    match fault {
+        LexFault::NoMemory => "out of memory",
+        LexFault::BadByte(_) => "bad byte",
+        LexFault::OpenComment(_) => "open comment",
+        LexFault::BadLiteral(_) => "bad literal",
+        LexFault::WideLiteral(_) => "wide literal",
+        LexFault::Directive(_) => "directive",
+        LexFault::OpenText(_) => "open text",
     }
 }
 
-fn syntax_word(kind: SyntaxKind) -> &'static str
-    ensures { result.now ≡ syntax_text kind }
+fn unexpected_word(place: TokenPlace) -> &'static str
+    ensures { result.now ≡ unexpected_text place }
 {
-    match kind {
-        SyntaxKind::UnexpectedToken => "unexpected token",
-        SyntaxKind::UnexpectedEnd => "unexpected end",
-        SyntaxKind::TooDeep => "too deep",
+    match place {
+        TokenPlace::At(_) => "unexpected token",
+        TokenPlace::End(_) => "unexpected end",
+    }
+}
+
+fn syntax_word(fault: SyntaxFault, place: TokenPlace) -> &'static str
+    ensures { result.now ≡ syntax_text fault place }
+{
+    match fault {
+        SyntaxFault::NoMemory => "out of memory",
+        SyntaxFault::Unexpected(_) => unexpected_word(place),
+        SyntaxFault::TooDeep(_) => "too deep",
+    }
+}
+
+fn pos_of(place: TokenPlace) -> Pos
+    ensures { result ≡ pos_of place }
+{
+    match place {
+        TokenPlace::At(pos) => pos,
+        TokenPlace::End(pos) => pos,
     }
 }
 
@@ -139,8 +160,13 @@ fn put_source_fault<K: Sink>(
 {
     match fault {
         SourceFault::TooLong(kind) => put_line(log, "too long: ", file_name(names, kind)),
-        SourceFault::Lex(kind, pos) => put_place(log, names.source, pos, lex_word(kind)),
-        SourceFault::Syntax(kind, pos) => put_place(log, names.source, pos, syntax_word(kind)),
+        SourceFault::Lex(fault, pos) => put_place(log, names.source, pos, lex_word(fault)),
+        SourceFault::Syntax(fault, place) => put_place(
+            log,
+            names.source,
+            pos_of(place),
+            syntax_word(fault, place),
+        ),
         SourceFault::NotFirstForm => put_line(log, names.source, ": not in the first form"),
     }
 }

@@ -1,6 +1,6 @@
 // Reads a file that a command names.
 ghost use Rattle.std.specs.Prelude.{◌<◌, ◌^◌};
-ghost use Rattle.qs_driver.specs.Results.{ReadsFile};
+ghost use Rattle.qs_driver.specs.Files.{ReadsFile};
 
 use crate::{FileKind, SourceFault, Status};
 use qs_ports::{ReadFault, Store, read_whole};

@@ -2,15 +2,17 @@
 #![tactic(auto)]
 
 mod arguments;
-mod build;
+mod commands;
+mod devices;
+mod due;
 mod faults;
 mod files;
+mod limits;
+mod lines;
 mod names;
-mod report;
-mod run;
 mod source;
 mod status;
 mod tool;
 
-pub use status::{FileKind, SourceFault, Status, SyntaxKind, WordsFault};
+pub use status::{FileKind, SourceFault, Status, TokenPlace, WordsFault};
 pub use tool::run_tool;

@@ -25,30 +25,6 @@ pub fn nameless() -> FileNames<'static>
     }
 }
 
-/// The names of the files of `build`.
-pub fn names_of_build<'a>(source: &'a str, output: &'a str) -> FileNames<'a>
-    ensures { names_in result ≡ record no_names { source = source.now; output = output.now } }
-{
-    let none = nameless();
-    FileNames {
-        source,
-        output,
-        ..none
-    }
-}
-
-/// The names of the files of `run`.
-pub fn names_of_run<'a>(image: &'a str, input: &'a str) -> FileNames<'a>
-    ensures { names_in result ≡ record no_names { image = image.now; input = input.now } }
-{
-    let none = nameless();
-    FileNames {
-        image,
-        input,
-        ..none
-    }
-}
-
 /// The name of a file of this kind.
 pub fn file_name<'a>(names: &FileNames<'a>, kind: FileKind) -> &'a str
     ensures { result.now ≡ file_name (names_in names.now) kind }

@@ -1,14 +1,19 @@
-// What is wrong with a source before its form is looked at.
-ghost use Rattle.std.specs.Prelude.{◌≡◌, ◌≤◌, ◌<◌, ◌^◌, length, IfOk};
-ghost use Rattle.qs_base.specs.Positions.{column_at, line_at};
+// A source that a command reads: its text, or why it is refused.
+ghost use Rattle.std.specs.Prelude.{◌≡◌, ◌≤◌, ◌<◌, ◌^◌, length};
 ghost use Rattle.qs_lexer.specs.Results.{SaysFault};
-ghost use Rattle.qs_driver.specs.Results.{IsAmiss, Reads};
-ghost use Rattle.qs_driver.specs.Source.{IsLexical, IsPlaceOf};
+ghost use Rattle.qs_lexer.specs.Tokens.{Tokens};
+ghost use Rattle.qs_lexer.specs.Terminals.{terminals};
+ghost use Rattle.qs_parser.specs.Answers.{Answers};
+ghost use Rattle.qs_driver.specs.Limits.{source_limit};
+ghost use Rattle.qs_driver.specs.Source.{byte_of, number_of, ChecksText, IsPlaceOf, IsTokenPlace, ReadsSource, RefusesText};
 
-use crate::{SourceFault, SyntaxKind};
-use qs_base::{NoMemory, Pos, position};
-use qs_lexer::{FaultKind, LexFault, tokens};
+use crate::files::read_file;
+use crate::limits::SOURCE_LIMIT;
+use crate::{FileKind, SourceFault, Status, TokenPlace};
+use qs_base::{Pos, position};
+use qs_lexer::{LexFault, tokens};
 use qs_parser::{SyntaxFault, unit};
+use qs_ports::Store;
 use qs_syntax::Token;
 use std::alloc::Global;
 
@@ -20,69 +25,92 @@ fn place(text: &[u8], at: usize) -> Pos
     position(text, at.min(text.len()))
 }
 
-/// A lexical fault of this kind at the byte `at`.
-fn lexical(text: &[u8], kind: FaultKind, at: u32) -> SourceFault
-    requires { length text.now < 2 ^ 31 }
-    ensures { IsLexical text.now kind at result }
-{
-    SourceFault::Lex(kind, place(text, at as usize))
-}
-
-fn lex_fault(text: &[u8], fault: LexFault) -> Result<SourceFault, NoMemory>
-    requires short { length text.now < 2 ^ 31 }
-    requires says { SaysFault text.now fault }
-    ensures { IfOk result (λ fault. IsAmiss text.now fault) }
+/// The byte at which a lexical fault begins.
+fn byte_of(fault: LexFault) -> Option<u32>
+    ensures { result ≡ byte_of fault }
 {
     match fault {
-        LexFault::NoMemory => Err(NoMemory),
-        LexFault::BadByte(at) => Ok(lexical(text, FaultKind::BadByte, at)),
-        LexFault::OpenComment(at) => Ok(lexical(text, FaultKind::OpenComment, at)),
-        LexFault::BadLiteral(at) => Ok(lexical(text, FaultKind::BadLiteral, at)),
-        LexFault::WideLiteral(at) => Ok(lexical(text, FaultKind::WideLiteral, at)),
-        LexFault::Directive(at) => Ok(lexical(text, FaultKind::Directive, at)),
-        LexFault::OpenText(at) => Ok(lexical(text, FaultKind::OpenText, at)),
+        LexFault::NoMemory => None,
+        LexFault::BadByte(at) => Some(at),
+        LexFault::OpenComment(at) => Some(at),
+        LexFault::BadLiteral(at) => Some(at),
+        LexFault::WideLiteral(at) => Some(at),
+        LexFault::Directive(at) => Some(at),
+        LexFault::OpenText(at) => Some(at),
     }
 }
 
-/// The place of the token with this number, or of the end where there is none.
-fn token_place(text: &[u8], tokens: &[Token], number: u32) -> Pos
-    requires { length text.now < 2 ^ 31 }
+/// The status of a text with this lexical fault.
+fn lexical(text: &[u8], fault: LexFault) -> Status
+    requires short { length text.now < 2 ^ 31 }
+    requires says { SaysFault text.now fault }
+    ensures { RefusesText text.now result }
+{
+    match byte_of(fault) {
+        Some(at) => Status::Source(SourceFault::Lex(fault, place(text, at as usize))),
+        None => Status::NoMemory,
+    }
+}
+
+/// The number of the token that a syntax fault names.
+fn number_of(fault: SyntaxFault) -> Option<u32>
+    ensures { result ≡ number_of fault }
+{
+    match fault {
+        SyntaxFault::NoMemory => None,
+        SyntaxFault::Unexpected(number) => Some(number),
+        SyntaxFault::TooDeep(number) => Some(number),
+    }
+}
+
+/// The place of the token with this number, or of the end where the number is the count of all tokens.
+fn token_place(text: &[u8], tokens: &[Token], number: u32) -> TokenPlace
+    requires short { length text.now < 2 ^ 31 }
+    requires within { number ≤ length tokens.now }
+    ensures { IsTokenPlace text.now tokens.now number result }
 {
     match tokens.get(number as usize) {
-        Some(token) => place(text, token.start as usize),
-        None => place(text, text.len()),
+        Some(token) => TokenPlace::At(place(text, token.start as usize)),
+        None => TokenPlace::End(place(text, text.len())),
     }
 }
 
-/// Why the parser can't go on at the token with this number.
-fn unexpected(tokens: &[Token], number: u32) -> SyntaxKind {
-    if (number as usize) < tokens.len() {
-        SyntaxKind::UnexpectedToken
-    } else {
-        SyntaxKind::UnexpectedEnd
+/// The status of a text whose tokens have this syntax fault.
+fn syntactic(text: &[u8], tokens: &[Token], fault: SyntaxFault) -> Status
+    requires short { length text.now < 2 ^ 31 }
+    requires tokens { Tokens text.now tokens.now }
+    requires says { Answers (terminals text.now 0 tokens.now) (Err fault) }
+    ensures { RefusesText text.now result }
+{
+    match number_of(fault) {
+        Some(number) => Status::Source(SourceFault::Syntax(
+            fault,
+            token_place(text, tokens, number),
+        )),
+        None => Status::NoMemory,
     }
 }
 
-/// What is wrong with a text before its form is looked at: its first lexical fault, else where it is no
-/// unit.
-pub fn reading_fault(alloc: Global, text: &[u8]) -> Result<Option<SourceFault>, NoMemory>
-    requires limit { length text.now ≤ 1048576 }
-    ensures { IfOk result (λ fault. Reads text.now fault) }
+/// Tests that a text is a unit. It is lexed and parsed.
+fn check_text(alloc: Global, text: &[u8]) -> Result<(), Status>
+    requires limit { length text.now ≤ source_limit }
+    ensures { ChecksText text.now result }
 {
     let tokens = match tokens(alloc, text) {
         Ok(tokens) => tokens,
-        Err(fault) => return Ok(Some(lex_fault(text, fault)?)),
+        Err(fault) => return Err(lexical(text, fault)),
     };
     match unit(alloc, text, &tokens) {
-        Ok(_unit) => Ok(None),
-        Err(SyntaxFault::NoMemory) => Err(NoMemory),
-        Err(SyntaxFault::Unexpected(number)) => Ok(Some(SourceFault::Syntax(
-            unexpected(&tokens, number),
-            token_place(text, &tokens, number),
-        ))),
-        Err(SyntaxFault::TooDeep(number)) => Ok(Some(SourceFault::Syntax(
-            SyntaxKind::TooDeep,
-            token_place(text, &tokens, number),
-        ))),
+        Ok(_unit) => Ok(()),
+        Err(fault) => Err(syntactic(text, &tokens, fault)),
     }
+}
+
+/// The text of a source that is a unit.
+pub fn read_source<S: Store>(alloc: Global, store: &mut S, name: &str) -> Result<Vec<u8>, Status>
+    ensures { ReadsSource (S.view store.old) (S.view store.new) name.now result }
+{
+    let text = read_file(alloc, store, name, FileKind::Source, SOURCE_LIMIT)?;
+    check_text(alloc, &text)?;
+    Ok(text)
 }

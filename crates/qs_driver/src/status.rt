@@ -1,8 +1,16 @@
 // How a call of the tool ends.
-use qs_base::Pos;
+ghost use Rattle.std.specs.Prelude.{◌≡◌};
+ghost use Rattle.qs_driver.specs.Status.{code_of};
+ghost use Rattle.qs_driver.specs.declared.status.Status.TheVariants.{Image, NoMemory, StoreFailed};
+ghost use Rattle.qs_driver.specs.declared.status.FileKind.TheVariants.{Output};
+
+use qs_base::{NoMemory, Pos};
 use qs_image::ImageFault;
-use qs_lexer::FaultKind;
+use qs_lexer::LexFault;
 use qs_machine::Cause;
+use qs_parser::SyntaxFault;
+use qs_ports::WriteFault;
+use std::alloc::AllocFailed;
 use thiserror::Error;
 
 /// A file that the words name.
@@ -18,15 +26,13 @@ pub enum FileKind {
     Output,
 }
 
-/// Where the tokens of a source stop to be a unit.
+/// Where a token of a source stands, or where its tokens end.
 #[derive(Clone, Copy, Debug, PartialEq, Eq)]
-pub enum SyntaxKind {
-    /// At a token that can't stand there.
-    UnexpectedToken,
-    /// At the end, where more must follow.
-    UnexpectedEnd,
-    /// At a token with which every reading is higher than 128.
-    TooDeep,
+pub enum TokenPlace {
+    /// A token begins here.
+    At(Pos),
+    /// The text ends here, and no token is left.
+    End(Pos),
 }
 
 /// What is wrong with a source, or with the length of any file.
@@ -35,12 +41,12 @@ pub enum SourceFault {
     /// The file has more bytes than its limit.
     #[error("too long")]
     TooLong(FileKind),
-    /// It has a lexical fault of this kind, at this line and column.
-    #[error("lexical fault")]
-    Lex(FaultKind, Pos),
-    /// Its tokens are no unit, or one that is too high.
-    #[error("syntax fault")]
-    Syntax(SyntaxKind, Pos),
+    /// It has this lexical fault, at this line and column.
+    #[error("{0}")]
+    Lex(LexFault, Pos),
+    /// Its tokens are no unit, or one that is too high; the fault names a token, which stands at this place.
+    #[error("{0}")]
+    Syntax(SyntaxFault, TokenPlace),
     /// It isn't `int main(void){`, pieces `putchar(K);`, `return K;}`.
     #[error("not in the first form")]
     NotFirstForm,
@@ -91,9 +97,6 @@ pub enum Status {
 }
 
 impl Status {
-    ghost use Rattle.std.specs.Prelude.{◌≡◌};
-    ghost use Rattle.qs_driver.specs.Code.{code_of};
-
     /// The number with which the program ends, 0 where all was done.
     pub fn code(&self) -> u8
         ensures { result ≡ code_of self.now }
@@ -111,5 +114,37 @@ impl Status {
             Status::SinkFailed => 11,
             Status::NoMemory => 12,
         }
+    }
+}
+
+impl From<NoMemory> for Status {
+    ghost from_gives = { λ _ status. status ≡ NoMemory };
+
+    fn from(_fault: NoMemory) -> Status {
+        Status::NoMemory
+    }
+}
+
+impl<T: Drop> From<AllocFailed<T>> for Status {
+    ghost from_gives = { λ _ status. status ≡ NoMemory };
+
+    fn from(_fault: AllocFailed<T>) -> Status {
+        Status::NoMemory
+    }
+}
+
+impl From<ImageFault> for Status {
+    ghost from_gives = { λ fault status. status ≡ Image fault };
+
+    fn from(fault: ImageFault) -> Status {
+        Status::Image(fault)
+    }
+}
+
+impl From<WriteFault> for Status {
+    ghost from_gives = { λ _ status. status ≡ StoreFailed Output };
+
+    fn from(_fault: WriteFault) -> Status {
+        Status::StoreFailed(FileKind::Output)
     }
 }

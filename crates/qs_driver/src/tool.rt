@@ -1,120 +1,43 @@
-// The top call.
-ghost use Rattle.std.specs.Prelude.{◌≡◌, Option, Some, map, string_bytes};
+// The top call: reads the words, and hands the devices to their command.
+ghost use Rattle.std.specs.Prelude.{Some, map, string_bytes};
 ghost use Rattle.qs_cli.specs.Reading.{command_of};
-ghost use Rattle.qs_driver.specs.Lines.{fault_line};
-ghost use Rattle.qs_driver.specs.Names.{names_in};
-ghost use Rattle.qs_driver.specs.Results.{status_after, IsPut};
-ghost use Rattle.qs_driver.specs.Run.{run_names};
-ghost use Rattle.qs_driver.specs.RunResults.{words_in, Finishes};
-ghost use Rattle.qs_driver.specs.Promises.{Promises};
-ghost use Rattle.qs_driver.specs.Tool.{call, task_of, AnswersTask, ToBuild, ToRun, Nothing};
-ghost use Rattle.qs_ports.specs.StoreView.{StoreView};
-ghost use Rattle.qs_ports.specs.SinkView.{SinkView};
+ghost use Rattle.qs_driver.specs.Devices.{views, views_left, views_of};
+ghost use Rattle.qs_driver.specs.Promises.{LacksMemory, Promises};
+ghost use Rattle.qs_driver.specs.Task.{Answers};
+ghost use Rattle.qs_driver.specs.Tool.{task, task_of};
 
-use crate::build::build;
-use crate::faults::put_fault;
-use crate::names::{FileNames, nameless, names_of_build, names_of_run};
-use crate::report::{put_costs, put_number};
-use crate::run::{RunOrder, prepare};
-use crate::{Status, WordsFault};
+use crate::Status;
+use crate::commands::build::{BuildOrder, build};
+use crate::commands::run::{RunOrder, run};
+use crate::commands::usage::usage;
+use crate::devices::Devices;
+use crate::due::refuse;
+use crate::names::nameless;
 use qs_cli::{CliFault, Command, read_words};
-use qs_machine::RunEnd;
-use qs_ports::{Sink, SinkFault, Store};
+use qs_ports::{Sink, Store};
 use std::alloc::Global;
 
-// The status that is due, unless a sink failed.
-fn status_after(written: Result<(), SinkFault>, due: Status) -> Status
-    ensures { result ≡ status_after written due }
-{
-    match written {
-        Ok(()) => due,
-        Err(_) => Status::SinkFailed,
-    }
-}
-
-// Puts the line of a fault.
-fn refuse<L: Sink>(log: &mut L, names: &FileNames<'_>, status: Status) -> Status
-    ensures { IsPut (fault_line (names_in names.now) status) status (L.view log.old) (L.view log.new) result }
-{
-    status_after(put_fault(log, names, status), status)
-}
-
-fn run_build<S: Store, O: Sink, L: Sink>(
-    alloc: Global,
-    source: &str,
-    output: &str,
-    store: &mut S,
-    out: &mut O,
-    log: &mut L,
-) -> Status
-    ensures { AnswersTask (ToBuild source.now output.now) (S.view store.old) (S.view store.new) (O.view out.old) (O.view out.new) (L.view log.old) (L.view log.new) result }
-{
-    match build(alloc, source, output, store) {
-        Ok(image) => status_after(put_costs(out, &image.functions), Status::Done),
-        Err(status) => refuse(log, &names_of_build(source, output), status),
-    }
-}
-
-// Puts the line at the end of a run.
-fn finish<L: Sink>(end: RunEnd, words: &RunOrder<'_>, names: &FileNames<'_>, log: &mut L) -> Status
-    requires { names_in names.now ≡ run_names (words_in words.now) }
-    ensures { Finishes (words_in words.now) end (L.view log.old) (L.view log.new) result }
-{
-    match end {
-        RunEnd::Exited(status) => status_after(
-            put_number(log, "exit ", u64::from(status)),
-            Status::Done,
-        ),
-        RunEnd::Trapped(cause, pc) => refuse(log, names, Status::Trapped { cause, pc }),
-        RunEnd::StepLimit => refuse(log, names, Status::StepLimit(words.steps)),
-        RunEnd::SinkFailed => Status::SinkFailed,
-    }
-}
-
-fn run_image<S: Store, O: Sink, L: Sink>(
-    alloc: Global,
-    words: &RunOrder<'_>,
-    store: &mut S,
-    out: &mut O,
-    log: &mut L,
-) -> Status
-    ensures { AnswersTask (ToRun (words_in words.now)) (S.view store.old) (S.view store.new) (O.view out.old) (O.view out.new) (L.view log.old) (L.view log.new) result }
-{
-    let names = names_of_run(words.image, words.input.unwrap_or(""));
-    match prepare(alloc, words, store) {
-        Ok(ready) => {
-            let mut ready = ready;
-            let end = ready.machine.run(words.steps, &ready.input, out);
-            finish(end, words, &names, log)
-        }
-        Err(status) => refuse(log, &names, status),
-    }
-}
-
-// Refuses words that mean no command, or one that isn't built yet.
-fn refuse_words<L: Sink>(log: &mut L) -> Status
-    ensures { (store : StoreView) (out : SinkView) → AnswersTask Nothing store store out out (L.view log.old) (L.view log.new) result }
-{
-    refuse(log, &nameless(), Status::Words(WordsFault::Usage))
-}
-
+// A row for each command.
 fn perform<S: Store, O: Sink, L: Sink>(
     alloc: Global,
     command: &Command,
-    store: &mut S,
-    out: &mut O,
-    log: &mut L,
+    devices: Devices<'_, S, O, L>,
 ) -> Status
-    ensures { AnswersTask (task_of (Some (command_of command.now))) (S.view store.old) (S.view store.new) (O.view out.old) (O.view out.new) (L.view log.old) (L.view log.new) result }
+    ensures { let before = views S.view O.view L.view devices.entry in
+        let after = views_left S.view O.view L.view devices.exit in
+        Answers (task_of (Some (command_of command.now))) before after result }
 {
     match command {
-        Command::Build {
-            source,
-            proof,
-            out: output,
-        } => match proof {
-            None => run_build(alloc, source.as_str(), output.as_str(), store, out, log),
-            Some(_) => refuse_words(log),
+        Command::Build { source, proof, out } => match proof {
+            None => build(
+                alloc,
+                &BuildOrder {
+                    source: source.as_str(),
+                    out: out.as_str(),
+                },
+                devices,
+            ),
+            Some(_) => usage(devices),
         },
         Command::Run {
             image,
@@ -122,23 +45,38 @@ fn perform<S: Store, O: Sink, L: Sink>(
             args,
             input,
             steps,
-        } => {
-            let words = RunOrder {
+        } => run(
+            alloc,
+            &RunOrder {
                 image: image.as_str(),
                 stack: *stack,
                 args: args.as_slice(),
                 input: input.as_ref().map(|name| name.as_str()),
                 steps: *steps,
-            };
-            run_image(alloc, &words, store, out, log)
-        }
-        Command::Check { .. } => refuse_words(log),
-        Command::Bound { .. } => refuse_words(log),
-        Command::Derive { .. } => refuse_words(log),
-        Command::Outline { .. } => refuse_words(log),
-        Command::Exec { .. } => refuse_words(log),
-        Command::Sample { .. } => refuse_words(log),
+            },
+            devices,
+        ),
+        Command::Check { .. } => usage(devices),
+        Command::Bound { .. } => usage(devices),
+        Command::Derive { .. } => usage(devices),
+        Command::Outline { .. } => usage(devices),
+        Command::Exec { .. } => usage(devices),
+        Command::Sample { .. } => usage(devices),
     }
+}
+
+// No memory was found for the words.
+fn lacks_memory<S: Store, O: Sink, L: Sink>(devices: Devices<'_, S, O, L>) -> Status
+    ensures { let before = views S.view O.view L.view devices.entry in
+        let after = views_left S.view O.view L.view devices.exit in
+        LacksMemory before after result }
+{
+    let Devices {
+        store: _,
+        out: _,
+        log,
+    } = devices;
+    refuse(log, &nameless(), Status::NoMemory)
 }
 
 /// Does all that the program does: reads the words of the command line (the program's own name aside), does the
@@ -150,11 +88,14 @@ pub fn run_tool<S: Store, O: Sink, L: Sink>(
     out: &mut O,
     log: &mut L,
 ) -> Status
-    ensures { Promises (call (map string_bytes words.now) (S.view store.old) (S.view store.new) (O.view out.old) (O.view out.new) (L.view log.old) (L.view log.new)) result }
+    ensures { let before = views_of (S.view store.old) (O.view out.old) (L.view log.old) in
+        let after = views_of (S.view store.new) (O.view out.new) (L.view log.new) in
+        Promises (task (map string_bytes words.now)) before after result }
 {
+    let devices = Devices { store, out, log };
     match read_words(alloc, words) {
-        Ok(command) => perform(alloc, &command, store, out, log),
-        Err(CliFault::Usage) => refuse_words(log),
-        Err(CliFault::NoMemory) => refuse(log, &nameless(), Status::NoMemory),
+        Ok(command) => perform(alloc, &command, devices),
+        Err(CliFault::Usage) => usage(devices),
+        Err(CliFault::NoMemory) => lacks_memory(devices),
     }
 }

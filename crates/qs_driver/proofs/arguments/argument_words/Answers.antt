@@ -1,6 +1,6 @@
 use Rattle.std.proofs.Common.{◌≡◌, rules, refl, sym, ◌∙◌, pos, get_or, is_ok, true, SFits, w64, to_z-of_z}
-use Rattle.qs_driver.specs.RunResults.{misfit}
-use Rattle.qs_driver.proofs.Passing.{misfit_at, passed_more}
+use Rattle.qs_driver.specs.Arguments.{misfit}
+use Rattle.qs_driver.proofs.ArgumentsLaws.{misfit_at, passed_more}
 use Rattle.qs_driver.proofs.arguments.argument_words.Goals as goal
 
 pub returns-then-not-fits_parameter : goal.returns-then-not-fits_parameter

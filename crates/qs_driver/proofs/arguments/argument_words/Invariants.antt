@@ -1,4 +1,4 @@
-use Rattle.qs_driver.proofs.Passing.{Passed}
+use Rattle.qs_driver.proofs.ArgumentsLaws.{Passed}
 use Rattle.qs_driver.proofs.arguments.argument_words.Given as goal
 
 abbrev pub invariant-loop-i : goal.invariant-loop-i

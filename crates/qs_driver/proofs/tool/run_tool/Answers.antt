@@ -1,14 +1,13 @@
-use Rattle.std.proofs.Common.{refl, ap}
-use Rattle.qs_driver.specs.Tool.{task_of, Nothing}
-use Rattle.qs_driver.proofs.Preparing.{untouched}
-use Rattle.qs_driver.proofs.Answering.{answered, words_not_read, promised}
+use Rattle.std.proofs.Common.{Some, None}
+use Rattle.qs_cli.specs.Reading.{command_of}
+use Rattle.qs_driver.proofs.laws.Tool.{promised, lacks_promised}
 use Rattle.qs_driver.proofs.tool.run_tool.Goals as goal
 
 pub returns-in-Ok : goal.returns-in-Ok
-returns-in-Ok g c = promised _ _ (answered _ _ _ (ap task_of c.in-Ok.ensures) c.perform.ensures)
+returns-in-Ok g c = rw c.in-Ok.ensures (promised (Some (command_of c.in-Ok.command)) _ _ _ c.perform.ensures)
 
 pub returns-in-Err-Usage : goal.returns-in-Err-Usage
-returns-in-Err-Usage g c = promised _ _ (answered _ Nothing _ (ap task_of (rw c.in-Err-Usage.field-0-is at c.in-Err-Usage.ensures)) (c.refuse_words.ensures _ _))
+returns-in-Err-Usage g c = rw (rw c.in-Err-Usage.field-0-is at c.in-Err-Usage.ensures) (promised None _ _ _ c.usage.ensures)
 
 pub returns-in-Err-NoMemory : goal.returns-in-Err-NoMemory
-returns-in-Err-NoMemory g c = promised _ _ (words_not_read _ _ (untouched _) refl c.refuse.ensures)
+returns-in-Err-NoMemory g c = lacks_promised _ _ _ _ c.lacks_memory.ensures

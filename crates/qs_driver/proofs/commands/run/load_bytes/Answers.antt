@@ -1,0 +1,26 @@
+use Rattle.std.proofs.Common.{refl}
+use Rattle.std.proofs.lemmas.Result.{err_from_is_err_and}
+use Rattle.qs_driver.specs.commands.Run.{bad_image, no_words, too_large}
+use Rattle.qs_driver.proofs.commands.run.load_bytes.Goals as goal
+
+pub returns-in_err-image : goal.returns-in_err-image
+returns-in_err-image c =
+    let p = err_from_is_err_and c.from_residual.result c.from_residual.ensures.1 in
+    rw p.1 (bad_image _ c.in_err-image.ensures.fault p.2)
+
+pub returns-in_err-args : goal.returns-in_err-args
+returns-in_err-args c =
+    let p = err_from_is_err_and c.from_residual-in_err-args.result c.from_residual-in_err-args.ensures.1 in
+    rw (p.1, p.2) (no_words _ c.in_ok-image.ensures.image c.in_err-args.ensures)
+
+pub returns-in-Ok : goal.returns-in-Ok
+returns-in-Ok c = record {
+  image = c.in_ok-image.image;
+  is_image = c.in_ok-image.ensures.image;
+  can_run = record { count = c.in_ok-args.ensures.count; fit = c.in_ok-args.ensures.fit; small = c.in-Ok.ensures.loads.small };
+  none_taken = c.in-Ok.ensures.fresh;
+  stands = rw (c.deref.ensures.value, c.in_ok-args.ensures.words_are) at c.in-Ok.ensures.start;
+}
+
+pub returns-in-Err-StackTooLarge : goal.returns-in-Err-StackTooLarge
+returns-in-Err-StackTooLarge c = too_large _ c.in_ok-image.ensures.image c.in_ok-args.ensures.count c.in_ok-args.ensures.fit (rw c.in-Err-StackTooLarge.field-0-is at c.in-Err-StackTooLarge.ensures.fault) refl

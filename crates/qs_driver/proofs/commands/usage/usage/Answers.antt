@@ -1,0 +1,5 @@
+use Rattle.qs_driver.proofs.laws.Usage.{usage_answers}
+use Rattle.qs_driver.proofs.commands.usage.usage.Goals as goal
+
+pub returns : goal.returns
+returns g c = usage_answers _ _ _ _ _ c.refuse.ensures

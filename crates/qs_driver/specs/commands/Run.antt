@@ -1,0 +1,316 @@
+-- `run`: an image on a stack of a given size.
+use Rattle.std.specs.Prelude.{◌≡◌, ◌≢◌, ℕ, ℤ, ◌<◌, ◌≤◌, List, [], ◌∷◌, length, IsTrue, ltb, eqb, if◌then◌else◌, Option, Some, None, Result, Ok, Err, Vec, option_map}
+use Rattle.std.specs.declared.alloc.Global.{Global}
+use Rattle.qs_ports.specs.StoreView.{StoreView}
+use Rattle.qs_ports.specs.SinkView.{SinkView}
+use Rattle.qs_image.specs.Image.{Image, IsImage}
+use Rattle.qs_image.specs.Bytes.{image_of}
+use Rattle.qs_image.specs.Faults.{first_fault}
+use Rattle.qs_image.specs.declared.fault.ImageFault.{ImageFault}
+use Rattle.qs_machine.specs.Run.{Outcome, Exited, Trapped as HasTrapped, Going, machine, start}
+use Rattle.qs_machine.specs.Standing.{Stands, taken_of}
+use Rattle.qs_machine.specs.declared.machine.Machine.{Machine}
+use Rattle.qs_machine.specs.declared.answers.Cause.{Cause}
+use Rattle.qs_machine.specs.declared.answers.RunEnd.{RunEnd}
+use Rattle.qs_machine.specs.declared.answers.RunEnd.TheVariants as end
+use Rattle.qs_driver.specs.Limits.{image_limit, input_limit, stack_limit}
+use Rattle.qs_driver.specs.Names.{Names, no_names}
+use Rattle.qs_driver.specs.Lines.{exit_line}
+use Rattle.qs_driver.specs.Faults.{fault_line}
+use Rattle.qs_driver.specs.Devices.{Streams, views_of}
+use Rattle.qs_driver.specs.Steps.{on_out, on_log}
+use Rattle.qs_driver.specs.Due.{Due, IsRefusal, EndsWith}
+use Rattle.qs_driver.specs.Files.{IsUntouched, Holds, HoldsWith, CannotRead, ReadsFile}
+use Rattle.qs_machine.specs.Arguments.{first_misfit, words_of}
+use Rattle.qs_driver.specs.Arguments.{LacksWords}
+use Rattle.qs_driver.specs.Task.{Task, Answers}
+use Rattle.qs_driver.specs.declared.commands.run.RunOrder.{RunOrder}
+use Rattle.qs_driver.specs.declared.commands.run.Ready.{Ready}
+use Rattle.qs_driver.specs.declared.status.Status.{Status}
+use Rattle.qs_driver.specs.declared.status.Status.TheVariants.{Done, Source, Words, Missing, Image as NotAnImage, Trapped, StepLimit, StackTooLarge, SinkFailed, NoMemory}
+use Rattle.qs_driver.specs.declared.status.SourceFault.TheVariants.{TooLong}
+use Rattle.qs_driver.specs.declared.status.WordsFault.TheVariants.{ArgCount, ArgRange}
+use Rattle.qs_driver.specs.declared.status.FileKind.TheVariants as kinds
+
+-- ---- the words
+
+-- the files, the bytes of stack, the arguments, the most steps
+pub record RunWords : Type 0 where
+  pub image : List ℕ
+  pub stack : ℕ
+  pub args : List ℤ
+  pub input : Option (List ℕ)
+  pub steps : ℕ
+
+-- the words as the code holds them
+abbrev pub words_in : RunOrder → RunWords
+words_in order = record {
+  image = order.image.now;
+  stack = order.stack;
+  args = order.args.now;
+  input = option_map (λ name. name.now) order.input;
+  steps = order.steps;
+}
+
+abbrev pub input_name : Option (List ℕ) → List ℕ
+input_name None = []
+input_name (Some name) = name
+
+abbrev pub names_of : RunWords → Names
+names_of r = record no_names { image = r.image; input = input_name r.input }
+
+-- ---- the files
+
+-- the file is there, and its bytes are this image
+abbrev pub HoldsImage : Option (List ℕ) → Image → Type 0
+HoldsImage file image = HoldsWith file image_limit (λ content. IsImage content image)
+
+-- the file is there, and its bytes are no image: this is the first test that they fail
+abbrev pub HoldsNoImage : Option (List ℕ) → ImageFault → Type 0
+HoldsNoImage file fault = HoldsWith file image_limit (λ content. first_fault content ≡ Some fault)
+
+-- the image was read, or its place in the store isn't told
+abbrev pub ReadImage : StoreView → RunWords → Image → Type 0
+ReadImage before r image = IsTrue before.told → HoldsImage (before.files r.image) image
+
+-- the input that is named is there, or none is named and the input is empty
+abbrev pub HasInput : StoreView → Option (List ℕ) → List ℕ → Type 0
+HasInput before None input = input ≡ []
+HasInput before (Some name) input = Holds (before.files name) input_limit input
+
+-- the input was read, or its place in the store isn't told
+abbrev pub ReadInput : StoreView → Option (List ℕ) → List ℕ → Type 0
+ReadInput before None input = input ≡ []
+ReadInput before (Some name) input = IsTrue before.told → Holds (before.files name) input_limit input
+
+-- ---- what is due
+
+-- the arguments and the stack are those that the image can be run with
+pub record CanRun (r : RunWords) (image : Image) : Type 0 where
+  pub count : length r.args ≡ image.parameters
+  pub fit : first_misfit image 0 r.args ≡ None
+  pub small : r.stack ≤ stack_limit
+
+-- the output on `out`, then a line on `log`
+abbrev pub after_output : List ℕ → Status → List ℕ → Due
+after_output output status line = record { status = status; steps = on_out output ∷ on_log line ∷ [] }
+
+-- the output on `out`, then the line of the fault
+abbrev pub refused_after : List ℕ → RunWords → Status → Due
+refused_after output r status = after_output output status (fault_line (names_of r) status)
+
+-- what is due at this outcome of the machine
+abbrev pub IsDueAt : RunWords → Outcome → Due → Type 0
+IsDueAt r (Exited output status) due = due ≡ after_output output Done (exit_line status)
+IsDueAt r (HasTrapped cause pc output) due = due ≡ refused_after output r (Trapped cause pc)
+IsDueAt r (Going output) due = due ≡ refused_after output r (StepLimit r.steps)
+
+-- The machine was run on the image, with the stack, arguments, input and steps of the words.
+pub record HasRun (r : RunWords) (before after : StoreView) (due : Due) : Type 0 where
+  pub image : Image
+  pub input : List ℕ
+  pub image_read : ReadImage before r image
+  pub can_run : CanRun r image
+  pub input_read : ReadInput before r.input input
+  pub untouched : IsUntouched before after
+  pub is_due : IsDueAt r (machine image r.stack (words_of r.args) input r.steps) due
+
+-- there are more or fewer arguments than main of the image has parameters
+pub record CountDiffers (r : RunWords) (before : StoreView) (parameters : ℕ) : Type 0 where
+  pub image : Image
+  pub image_read : ReadImage before r image
+  pub parameters_are : parameters ≡ image.parameters
+  pub differ : length r.args ≢ parameters
+
+-- argument i is the first that is no value of its parameter
+pub record IsMisfit (r : RunWords) (before : StoreView) (i : ℕ) : Type 0 where
+  pub image : Image
+  pub image_read : ReadImage before r image
+  pub count : length r.args ≡ image.parameters
+  pub first : first_misfit image 0 r.args ≡ Some i
+
+-- the image can be run with these arguments, and the stack is too large
+pub record IsTooLarge (r : RunWords) (before : StoreView) : Type 0 where
+  pub image : Image
+  pub image_read : ReadImage before r image
+  pub count : length r.args ≡ image.parameters
+  pub fit : first_misfit image 0 r.args ≡ None
+  pub large : stack_limit < r.stack
+
+-- the image can be run, and its input has this name
+pub record ComesToInput (r : RunWords) (before : StoreView) (name : List ℕ) : Type 0 where
+  pub image : Image
+  pub image_read : ReadImage before r image
+  pub can_run : CanRun r image
+  pub named : r.input ≡ Some name
+
+-- Why the machine wasn't run, and the status at that. The tests come in this order.
+pub data CannotRun (r : RunWords) (before after : StoreView) (status : Status) : Type 0 where
+  unread_image : CannotRead before after r.image kinds.Image image_limit status → CannotRun r before after status
+  no_image : (fault : ImageFault) → IsUntouched before after → (IsTrue before.told → HoldsNoImage (before.files r.image) fault) → status ≡ NotAnImage fault → CannotRun r before after status
+  count_differs : (parameters : ℕ) → IsUntouched before after → CountDiffers r before parameters → status ≡ Words (ArgCount parameters (length r.args)) → CannotRun r before after status
+  misfit : (i : ℕ) → IsUntouched before after → IsMisfit r before i → status ≡ Words (ArgRange i) → CannotRun r before after status
+  stack_too_large : IsUntouched before after → IsTooLarge r before → status ≡ StackTooLarge r.stack → CannotRun r before after status
+  unread_input : (name : List ℕ) → ComesToInput r before name → CannotRead before after name kinds.Input input_limit status → CannotRun r before after status
+  no_memory : IsUntouched before after → status ≡ NoMemory → CannotRun r before after status
+
+-- What is due to `run`, and why.
+pub data IsDueToRun (r : RunWords) (before after : StoreView) (due : Due) : Type 0 where
+  ran : HasRun r before after due → IsDueToRun r before after due
+  refused : (status : Status) → CannotRun r before after status → IsRefusal (names_of r) status due → IsDueToRun r before after due
+
+-- ---- what follows
+
+-- an image that is there, with arguments, a stack and an input that it can be run with
+pub record IsGood (r : RunWords) (before : StoreView) : Type 0 where
+  pub image : Image
+  pub input : List ℕ
+  pub told : IsTrue before.told
+  pub image_there : HoldsImage (before.files r.image) image
+  pub can_run : CanRun r image
+  pub input_there : HasInput before r.input input
+
+-- the outcome of the machine
+abbrev pub outcome : {r : RunWords} {before : StoreView} → IsGood r before → Outcome
+outcome {r} g = machine g.image r.stack (words_of r.args) g.input r.steps
+
+-- the status at an outcome
+abbrev pub status_at : ℕ → Outcome → Status
+status_at steps (Exited output status) = Done
+status_at steps (HasTrapped cause pc output) = Trapped cause pc
+status_at steps (Going output) = StepLimit steps
+
+-- each image that can be run is run to its outcome
+abbrev pub Accepts : RunWords → StoreView → Status → Type 0
+Accepts r before status = (g : IsGood r before) → status ≡ status_at r.steps (outcome g)
+
+-- the statuses with which `run` ends where no call fails
+pub data IsOfRun : Status → Type 0 where
+  done : IsOfRun Done
+  missing_image : IsOfRun (Missing kinds.Image)
+  missing_input : IsOfRun (Missing kinds.Input)
+  long_image : IsOfRun (Source (TooLong kinds.Image))
+  long_input : IsOfRun (Source (TooLong kinds.Input))
+  broken_image : (fault : ImageFault) → IsOfRun (NotAnImage fault)
+  wrong_count : (expected given : ℕ) → IsOfRun (Words (ArgCount expected given))
+  wrong_argument : (i : ℕ) → IsOfRun (Words (ArgRange i))
+  large_stack : (size : ℕ) → IsOfRun (StackTooLarge size)
+  trapped : (cause : Cause) (pc : ℕ) → IsOfRun (Trapped cause pc)
+  step_limit : (steps : ℕ) → IsOfRun (StepLimit steps)
+  out_of_memory : IsOfRun NoMemory
+
+-- ---- the status, by the words and the files alone: the tests in their order, then the machine
+
+-- the file of a name, if there is one
+abbrev pub Files : Type 0
+Files = List ℕ → Option (List ℕ)
+
+-- at the outcome of the machine
+abbrev pub at_outcome : RunWords → Image → List ℕ → Status
+at_outcome r image input = status_at r.steps (machine image r.stack (words_of r.args) input r.steps)
+
+-- where the input is this file
+abbrev pub at_input : RunWords → Image → Option (List ℕ) → Status
+at_input r image None = Missing kinds.Input
+at_input r image (Some input) = if ltb input_limit (length input) then Source (TooLong kinds.Input) else at_outcome r image input
+
+-- where the input has this name, or there is none
+abbrev pub at_start : Files → RunWords → Image → Option (List ℕ) → Status
+at_start files r image None = at_outcome r image []
+at_start files r image (Some name) = at_input r image (files name)
+
+-- where this argument is the first that doesn't fit, or all fit
+abbrev pub at_arguments : Files → RunWords → Image → Option ℕ → Status
+at_arguments files r image (Some i) = Words (ArgRange i)
+at_arguments files r image None = if ltb stack_limit r.stack then StackTooLarge r.stack else at_start files r image r.input
+
+abbrev pub at_image : Files → RunWords → Image → Status
+at_image files r image =
+    if eqb (length r.args) image.parameters then at_arguments files r image (first_misfit image 0 r.args)
+    else Words (ArgCount image.parameters (length r.args))
+
+-- where the bytes fail this test of an image first, or none
+abbrev pub at_bytes : Files → RunWords → List ℕ → Option ImageFault → Status
+at_bytes files r content (Some fault) = NotAnImage fault
+at_bytes files r content None = at_image files r (image_of content)
+
+-- where the image is this file
+abbrev pub at_file : Files → RunWords → Option (List ℕ) → Status
+at_file files r None = Missing kinds.Image
+at_file files r (Some content) =
+    if ltb image_limit (length content) then Source (TooLong kinds.Image) else at_bytes files r content (first_fault content)
+
+abbrev pub run_status : Files → RunWords → Status
+run_status files r = at_file files r (files r.image)
+
+-- The status is the one that the words and the files tell, and no refusal of another command comes.
+pub record Refuses (r : RunWords) (before : StoreView) (status : Status) : Type 0 where
+  pub own : IsOfRun status
+  pub exactly : IsTrue before.told → status ≡ run_status before.files r
+
+abbrev pub run : RunWords → Task
+run r = record { IsDue = IsDueToRun r; Accepts = Accepts r; Refuses = Refuses r }
+
+-- ---- what the parts of the code answer
+
+-- why bytes aren't loaded
+pub data CannotLoad (bytes : List ℕ) (r : RunWords) (status : Status) : Type 0 where
+  bad_image : (fault : ImageFault) → first_fault bytes ≡ Some fault → status ≡ NotAnImage fault → CannotLoad bytes r status
+  no_words : (image : Image) → IsImage bytes image → LacksWords image r.args status → CannotLoad bytes r status
+  too_large : (image : Image) → IsImage bytes image → length r.args ≡ image.parameters → first_misfit image 0 r.args ≡ None → stack_limit < r.stack → status ≡ StackTooLarge r.stack → CannotLoad bytes r status
+  lacks_memory : status ≡ NoMemory → CannotLoad bytes r status
+
+-- the machine stands at the start of the image that the bytes are
+pub record WasLoaded (bytes : List ℕ) (r : RunWords) (machine : Machine) : Type 0 where
+  pub image : Image
+  pub is_image : IsImage bytes image
+  pub can_run : CanRun r image
+  pub none_taken : taken_of machine ≡ 0
+  pub stands : (input : List ℕ) → Stands machine image r.stack input (start image (words_of r.args) input)
+
+-- the answer of `load_bytes`
+abbrev pub Loads : List ℕ → RunWords → Result Machine Status → Type 0
+Loads bytes r (Ok machine) = WasLoaded bytes r machine
+Loads bytes r (Err status) = CannotLoad bytes r status
+
+-- the answer of `read_input`, where the input has this name or none
+abbrev pub ReadsNamed : StoreView → StoreView → Option (List ℕ) → Result (Vec ℕ Global) Status → Type 0
+ReadsNamed before after None (Ok input) = (input.items ≡ []) × IsUntouched before after
+ReadsNamed before after None (Err status) = ⊥
+ReadsNamed before after (Some name) (Ok input) = ReadsFile before after name kinds.Input input_limit (Ok input)
+ReadsNamed before after (Some name) (Err status) = ReadsFile before after name kinds.Input input_limit (Err status)
+
+abbrev pub ReadsInput : RunWords → StoreView → StoreView → Result (Vec ℕ Global) Status → Type 0
+ReadsInput r before after answer = ReadsNamed before after r.input answer
+
+-- a machine at the start of the image that the words name, and the input that they name
+pub record IsReady (r : RunWords) (before after : StoreView) (ready : Ready) : Type 0 where
+  pub image : Image
+  pub image_read : ReadImage before r image
+  pub can_run : CanRun r image
+  pub input_read : ReadInput before r.input ready.input.items
+  pub untouched : IsUntouched before after
+  pub none_taken : taken_of ready.machine ≡ 0
+  pub stands : Stands ready.machine image r.stack ready.input.items (start image (words_of r.args) ready.input.items)
+
+-- the answer of `prepare`
+abbrev pub Prepares : RunWords → StoreView → StoreView → Result Ready Status → Type 0
+Prepares r before after (Ok ready) = IsReady r before after ready
+Prepares r before after (Err status) = CannotRun r before after status
+
+-- the line at the end of a run was put on `log`
+abbrev pub Finishes : RunWords → RunEnd → SinkView → SinkView → Status → Type 0
+Finishes r (end.Exited status) v w result = EndsWith (exit_line status) Done v w result
+Finishes r (end.Trapped cause pc) v w result = EndsWith (fault_line (names_of r) (Trapped cause pc)) (Trapped cause pc) v w result
+Finishes r end.StepLimit v w result = EndsWith (fault_line (names_of r) (StepLimit r.steps)) (StepLimit r.steps) v w result
+Finishes r end.SinkFailed v w result = (result ≡ SinkFailed) × (w ≡ v)
+
+-- a machine that was prepared has taken no input yet
+abbrev pub IsFresh : Result Ready Status → Type 0
+IsFresh (Ok ready) = taken_of ready.machine ≡ 0
+IsFresh (Err status) = Unit {0}
+
+-- what was prepared is run, or refused, whatever the store was
+abbrev pub RunsFrom : RunWords → Result Ready Status → Streams → Streams → Status → Type 0
+RunsFrom r prepared v w result =
+    (before after : StoreView) → Prepares r before after prepared → Answers (run r) (views_of before v.out v.log) (views_of after w.out w.log) result

@@ -1,0 +1,134 @@
+// `run`: an image on a stack of a given size.
+ghost use Rattle.std.specs.Prelude.{◌≡◌};
+ghost use Rattle.qs_driver.specs.Devices.{streams, views, views_left};
+ghost use Rattle.qs_driver.specs.Names.{names_in};
+ghost use Rattle.qs_driver.specs.Task.{Answers};
+ghost use Rattle.qs_driver.specs.commands.Run.{names_of, run, words_in, Finishes, IsFresh, Loads, Prepares, ReadsInput, RunsFrom};
+
+use crate::arguments::argument_words;
+use crate::devices::Devices;
+use crate::due::{refuse, status_after};
+use crate::files::read_file;
+use crate::limits::{IMAGE_LIMIT, INPUT_LIMIT};
+use crate::lines::put_number;
+use crate::names::{FileNames, nameless};
+use crate::{FileKind, Status};
+use qs_image::read;
+use qs_machine::{LoadFault, Machine, RunEnd, load};
+use qs_ports::{Sink, Store};
+use std::alloc::Global;
+
+/// The words of `run`.
+#[derive(Clone, Copy)]
+pub struct RunOrder<'a> {
+    pub image: &'a str,
+    pub stack: u64,
+    pub args: &'a [i64],
+    pub input: Option<&'a str>,
+    pub steps: u64,
+}
+
+fn names_of<'a>(order: &RunOrder<'a>) -> FileNames<'a>
+    ensures { names_in result ≡ names_of (words_in order.now) }
+{
+    let none = nameless();
+    FileNames {
+        image: order.image,
+        input: order.input.unwrap_or(""),
+        ..none
+    }
+}
+
+fn load_bytes(alloc: Global, bytes: &[u8], order: &RunOrder<'_>) -> Result<Machine, Status>
+    ensures { Loads bytes.now (words_in order.now) result }
+{
+    let image = read(bytes)?;
+    let args = argument_words(alloc, &image, order.args)?;
+    match load(alloc, &image, order.stack, &args) {
+        Ok(machine) => Ok(machine),
+        Err(LoadFault::StackTooLarge) => Err(Status::StackTooLarge(order.stack)),
+        Err(LoadFault::ArgCount(_)) => unreachable!(),
+        Err(LoadFault::NoMemory) => Err(Status::NoMemory),
+    }
+}
+
+fn read_input<S: Store>(
+    alloc: Global,
+    order: &RunOrder<'_>,
+    store: &mut S,
+) -> Result<Vec<u8>, Status>
+    ensures { ReadsInput (words_in order.now) (S.view store.old) (S.view store.new) result }
+{
+    match order.input {
+        Some(name) => read_file(alloc, store, name, FileKind::Input, INPUT_LIMIT),
+        None => Ok(Vec::new(alloc)),
+    }
+}
+
+/// A machine at the start of the image, and its input.
+#[derive(Drop)]
+pub struct Ready {
+    pub machine: Machine,
+    pub input: Vec<u8>,
+}
+
+// Reads the image and the input, and loads the image.
+fn prepare<S: Store>(alloc: Global, order: &RunOrder<'_>, store: &mut S) -> Result<Ready, Status>
+    ensures { Prepares (words_in order.now) (S.view store.old) (S.view store.new) result }
+{
+    let bytes = read_file(alloc, store, order.image, FileKind::Image, IMAGE_LIMIT)?;
+    let machine = load_bytes(alloc, &bytes, order)?;
+    let input = read_input(alloc, order, store)?;
+    Ok(Ready { machine, input })
+}
+
+// Puts the line at the end of a run.
+fn finish<L: Sink>(end: RunEnd, order: &RunOrder<'_>, log: &mut L) -> Status
+    ensures { Finishes (words_in order.now) end (L.view log.old) (L.view log.new) result }
+{
+    match end {
+        RunEnd::Exited(status) => status_after(
+            put_number(log, "exit ", u64::from(status)),
+            Status::Done,
+        ),
+        RunEnd::Trapped(cause, pc) => refuse(log, &names_of(order), Status::Trapped { cause, pc }),
+        RunEnd::StepLimit => refuse(log, &names_of(order), Status::StepLimit(order.steps)),
+        RunEnd::SinkFailed => Status::SinkFailed,
+    }
+}
+
+// Runs what was prepared, or refuses it.
+fn run_ready<O: Sink, L: Sink>(
+    prepared: Result<Ready, Status>,
+    order: &RunOrder<'_>,
+    out: &mut O,
+    log: &mut L,
+) -> Status
+    requires { IsFresh prepared }
+    ensures { let before = streams (O.view out.old) (L.view log.old) in
+        let after = streams (O.view out.new) (L.view log.new) in
+        RunsFrom (words_in order.now) prepared before after result }
+{
+    match prepared {
+        Ok(ready) => {
+            let mut ready = ready;
+            let end = ready.machine.run(order.steps, &ready.input, out);
+            finish(end, order, log)
+        }
+        Err(status) => refuse(log, &names_of(order), status),
+    }
+}
+
+/// Runs the image: the output of the machine goes to `out`, the line at its end to `log`.
+pub fn run<S: Store, O: Sink, L: Sink>(
+    alloc: Global,
+    order: &RunOrder<'_>,
+    devices: Devices<'_, S, O, L>,
+) -> Status
+    ensures { let before = views S.view O.view L.view devices.entry in
+        let after = views_left S.view O.view L.view devices.exit in
+        Answers (run (words_in order.now)) before after result }
+{
+    let Devices { store, out, log } = devices;
+    run_ready(prepare(alloc, order, store), order, out, log)
+}

@@ -1,0 +1,24 @@
+// Words that mean no command, or one that isn't built yet.
+ghost use Rattle.qs_driver.specs.Devices.{views, views_left};
+ghost use Rattle.qs_driver.specs.Task.{Answers};
+ghost use Rattle.qs_driver.specs.commands.Usage.{none};
+
+use crate::devices::Devices;
+use crate::due::refuse;
+use crate::names::nameless;
+use crate::{Status, WordsFault};
+use qs_ports::{Sink, Store};
+
+/// Refuses the words.
+pub fn usage<S: Store, O: Sink, L: Sink>(devices: Devices<'_, S, O, L>) -> Status
+    ensures { let before = views S.view O.view L.view devices.entry in
+        let after = views_left S.view O.view L.view devices.exit in
+        Answers none before after result }
+{
+    let Devices {
+        store: _,
+        out: _,
+        log,
+    } = devices;
+    refuse(log, &nameless(), Status::Words(WordsFault::Usage))
+}

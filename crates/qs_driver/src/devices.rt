@@ -1,0 +1,8 @@
+// What a command works on.
+
+/// The store of files, and the two streams: `out` gets results, `log` the lines of faults.
+pub struct Devices<'a, S, O, L> {
+    pub store: &'a mut S,
+    pub out: &'a mut O,
+    pub log: &'a mut L,
+}

@@ -9,4 +9,3 @@ mod recognise;
 pub use building::compile;
 pub use form::{FirstForm, MOST_OUTPUTS};
 pub use recognise::first_form;
-

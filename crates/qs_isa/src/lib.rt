@@ -15,4 +15,3 @@ pub use encoding::encode;
 pub use immediate::{BranchOffset, Immediate, JumpOffset, ShiftAmount, UpperImmediate};
 pub use instruction::{BranchKind, Instr, LoadKind, OpImmKind, OpKind, ShiftImmKind, StoreKind};
 pub use register::Register;
-

@@ -175,7 +175,7 @@ module _ (m : ℕ) (p : Form → Parse E) (sound : (form : Form) (ts : List Term
 
   sound_access : (start : ℕ) (a : E) (done : List Terminal) → Begun (m + 1) Postfix start a done → a.1 ≤ m → (t : Terminal) (ts : List Terminal) (o : Option Access) → operator_at access_of (t ∷ ts) ≡ o
       → Sound (Begun (m + 1) Postfix start) done (t ∷ ts) (parse.access_at m p start a o ts)
-  sound_access start a done r le t ts None e = Sound-err at_end
+  sound_access start a done r le t ts None e = Sound-err (omega arith)
   sound_access start a done r le t ts (Some access) e =
       let is = operator_is access_of punctuator_of_access access_is (t ∷ ts) access e in
       Sound-token (subst (λ u. Sound (Begun (m + 1) Postfix start) (done ++ u ∷ []) ts (parse.member_of m p start a access ts)) (first_same t (Punctuator is.0 (punctuator_of_access access)) ts is.1 is.2) (sound_member start is.0 a access done r le ts))

@@ -39,6 +39,13 @@ fn unit_of(alloc: Global, tokens: &[Terminal]) -> Result<Unit, SyntaxFault>
     }
 }
 
+/// A number of 32 bits: a law, for what its clause says.
+fn fits(number: u32)
+    ensures { number < 2 ^ 32 }
+{
+    let _value = number;
+}
+
 /// Tokens of a text are fewer than the places that they have: a law, for what its clause says.
 fn are_few(text: &[u8], tokens: &[Token])
     requires { Tokens text.now tokens.now }
@@ -47,7 +54,7 @@ fn are_few(text: &[u8], tokens: &[Token])
     if tokens.is_empty() {
         return;
     }
-    let _last = tokens[tokens.len() - 1];
+    fits(tokens[tokens.len() - 1].end);
 }
 
 /// The unit that the tokens of a text are read as (C11 6.9), or why there is none of height at most 128.

@@ -6,7 +6,7 @@ use Rattle.qs_syntax.proofs.RelabelLaws.{numbered_without_tokens}
 use Rattle.qs_syntax.specs.ReadsUnits.{ReadsUnit}
 use Rattle.qs_syntax.specs.Trees.{DeclTree}
 use Rattle.qs_syntax.specs.Units.{IsRead, Reading}
-use Rattle.qs_print.specs.Lexed.{LexedBack, renumbered}
+use Rattle.qs_print.specs.Laws.{LexedBack, renumbered}
 use Rattle.qs_print.specs.Printed.{printed_unit}
 use Rattle.qs_print.specs.ReadsBack.{ReadsBack}
 use Rattle.qs_print.specs.Spelling.{joined}

@@ -12,7 +12,7 @@ use Rattle.qs_syntax.specs.declared.terminal.Terminal.TheVariants.{Name, Keyword
 use Rattle.qs_syntax.specs.declared.tokens.TokenKind.{TokenKind}
 use Rattle.qs_syntax.specs.declared.tokens.TokenKind.TheVariants as kinds
 use Rattle.qs_lexer.proofs.RestOfText.{LexesAs, Lexed, lexed, nothing_left, token_then, white_then}
-use Rattle.qs_print.specs.Lexed.{LexedBack, numbered, renumbered}
+use Rattle.qs_print.specs.Laws.{LexedBack, numbered, renumbered}
 use Rattle.qs_print.specs.Spelling.{joined, spelling}
 use Rattle.qs_print.proofs.LexedPunctuators.{punctuator_next}
 use Rattle.qs_print.proofs.LexedNumbers.{constant_next}

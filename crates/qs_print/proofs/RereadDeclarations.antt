@@ -13,7 +13,7 @@ use Rattle.qs_syntax.specs.Trees.{unnumbered, ExprTree, LengthsTree, DeclaratorT
 use Rattle.qs_syntax.specs.ReadsDeclarations.{ReadsGiven, no_length, a_length, ReadsLengths, are_given, first_open, ReadsDeclarator, a_declarator, ReadsInitialiser, a_value, a_list, ReadsInitialisers, a_last_initialiser, a_last_with_comma, an_initialiser, ReadsVariable, an_unset_variable, a_set_variable, ReadsVariables, a_last_variable, a_variable, ReadsDeclaration, a_declaration, ReadsOuterDeclaration, an_outer_declaration, ReadsDeclarators, a_last_member, a_member, ReadsMembers, a_group, ReadsAllMembers, a_last_group, a_further_group, ReadsParameter, a_named_parameter, an_unnamed_parameter, ReadsParameters, a_last_parameter, a_parameter, ReadsHead, no_parameter, a_void_head, some_parameters}
 use Rattle.qs_syntax.specs.Nodes.{expr_count, variable_count, declarator_count, members_count, parameter_count}
 use Rattle.qs_syntax.specs.Numbering.{bare, relabel_declarator, relabel_expr, relabel_members, relabel_parameter, relabel_variable}
-use Rattle.qs_print.specs.Lexed.{renumbered}
+use Rattle.qs_print.specs.Laws.{renumbered}
 use Rattle.qs_print.specs.Printed.{behind_commas, is_void, is_without_brackets, printed_base, printed_declaration, printed_declarator, printed_initialiser, printed_initialisers, printed_length, printed_lengths, printed_members, printed_parameter, printed_parameters, printed_part, printed_stars, printed_variable, with_commas, further_initialisers}
 use Rattle.qs_syntax.specs.WithoutTokens.{plain_declaration, plain_declarator, plain_initialiser, plain_initialisers, plain_lengths, plain_members, plain_parameter, plain_variable}
 use Rattle.qs_print.proofs.Rereading.{all_plain, Again, Reread, renumbered_append, closing, base_reads, type_reads, outer_type_reads, stars_read}

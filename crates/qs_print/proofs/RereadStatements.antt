@@ -10,7 +10,7 @@ use Rattle.qs_syntax.specs.Reads.{place}
 use Rattle.qs_syntax.specs.ReadsDeclarations.{ReadsDeclaration}
 use Rattle.qs_syntax.specs.ReadsStatements.{is_open, is_open_end, ReadsOptional, nothing_there, something_there, ReadsStart, a_start_declaration, a_start_expression, no_start_at_all, ReadsStatement, a_block, an_empty, an_expression, an_if, an_if_with_else, a_while, a_do, a_for, a_break, a_continue, a_return, ReadsItem, a_statement, a_declared, ReadsItems, no_item, an_item}
 use Rattle.qs_syntax.specs.Numbering.{bare, relabel_expr}
-use Rattle.qs_print.specs.Lexed.{renumbered}
+use Rattle.qs_print.specs.Laws.{renumbered}
 use Rattle.qs_print.specs.Printed.{in_parentheses, printed_declaration, printed_expr, printed_optional, printed_start, printed_stmt, printed_stmts}
 use Rattle.qs_syntax.specs.WithoutTokens.{plain_declaration, plain_else, plain_start, plain_stmt, plain_stmts}
 use Rattle.qs_print.proofs.Rereading.{some_plain, Again, Reread, renumbered_append, behind, enclosed}

@@ -11,7 +11,7 @@ use Rattle.qs_syntax.specs.ReadsStatements.{ReadsItems}
 use Rattle.qs_syntax.specs.ReadsUnits.{ReadsExternal, a_struct_with_members, a_forward, a_header, a_definition, some_variables, ReadsUnit, a_last_external, an_external}
 use Rattle.qs_syntax.specs.Nodes.{members_count, parameter_count}
 use Rattle.qs_syntax.specs.Numbering.{bare, relabel_members, relabel_parameter}
-use Rattle.qs_print.specs.Lexed.{renumbered}
+use Rattle.qs_print.specs.Laws.{renumbered}
 use Rattle.qs_print.specs.Printed.{in_parentheses, printed_base, printed_decl, printed_declaration, printed_members, printed_parameters, printed_stars, printed_stmts, printed_unit}
 use Rattle.qs_syntax.specs.WithoutTokens.{plain_decl, plain_declaration, plain_stmts, without_tokens}
 use Rattle.qs_print.proofs.Rereading.{all_plain, Again, Reread, renumbered_append, behind, enclosed, outer_type_reads, stars_read}

@@ -9,7 +9,7 @@ use Rattle.qs_syntax.specs.declared.types.Base.TheVariants as bases
 use Rattle.qs_syntax.specs.declared.types.TypeName.{TypeName}
 use Rattle.qs_syntax.specs.ReadsTypes.{no_const, no_prefix, ReadsBase, a_void, an_int, a_char, an_unsigned, a_struct, ReadsType, a_type, ReadsOuterType, an_outer_type, ReadsStars, no_star, a_star, ReadsTypeName, a_type_name}
 use Rattle.qs_syntax.specs.Numbering.{bare, relabel_all, relabel_option}
-use Rattle.qs_print.specs.Lexed.{numbered, renumbered}
+use Rattle.qs_print.specs.Laws.{numbered, renumbered}
 use Rattle.qs_print.specs.Printed.{in_parentheses, printed_base, printed_stars, printed_type_name}
 
 -- the trees of a list, or the one that is there, without the numbers of tokens and nodes

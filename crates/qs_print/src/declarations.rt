@@ -1,7 +1,7 @@
 // Writes declarations (C11 6.7).
 ghost use Rattle.std.specs.Prelude.{◌≡◌, OnOk, flat_map, map, option_map};
 ghost use Rattle.qs_print.specs.Printed.{const_if, is_void_alone, open_brackets, printed_declaration, printed_declarator, printed_initialiser, printed_length, printed_lengths, printed_members, printed_name, printed_parameter, printed_parameters, printed_setting, printed_variable, with_commas};
-ghost use Rattle.qs_print.specs.Spaced.{Writes};
+ghost use Rattle.qs_print.specs.Words.{Writes};
 ghost use Rattle.qs_syntax.specs.TreeOf.{declaration_tree, declarator_tree, expr_tree, initialiser_tree, lengths_tree, members_tree, parameter_tree, variable_tree};
 
 use crate::expressions::put_part;

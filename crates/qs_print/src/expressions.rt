@@ -2,7 +2,7 @@
 ghost use Rattle.std.specs.Prelude.{OnOk, map};
 ghost use Rattle.qs_print.specs.Levels.{assignment_level, step_level};
 ghost use Rattle.qs_print.specs.Printed.{in_parentheses, printed_expr, printed_part, printed_shape, printed_type_name, with_commas, with_step};
-ghost use Rattle.qs_print.specs.Spaced.{Writes};
+ghost use Rattle.qs_print.specs.Words.{Writes};
 ghost use Rattle.qs_syntax.specs.TreeOf.{expr_tree, shape_tree};
 
 use crate::levels::{ASSIGNMENT, CAST, CONDITIONAL, OR, POSTFIX, UNARY, level};

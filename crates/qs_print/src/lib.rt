@@ -3,13 +3,13 @@
 
 mod declarations;
 mod expressions;
+mod laws;
 mod levels;
-mod lexed;
 mod literals;
 mod statements;
 mod types;
 mod units;
 mod words;
 
-pub use lexed::lexed_back;
+pub use laws::lexed_back;
 pub use units::print;

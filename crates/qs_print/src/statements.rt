@@ -1,7 +1,7 @@
 // Writes statements (C11 6.8).
 ghost use Rattle.std.specs.Prelude.{[], ◌∷◌, ◌++◌, OnOk, flat_map, map};
 ghost use Rattle.qs_print.specs.Printed.{in_parentheses, printed_else, printed_optional, printed_start, printed_stmt};
-ghost use Rattle.qs_print.specs.Spaced.{Writes};
+ghost use Rattle.qs_print.specs.Words.{Writes};
 ghost use Rattle.qs_syntax.specs.TreeOf.{else_tree, expr_tree, option_tree, start_tree, stmt_tree, stmts_tree};
 ghost use Rattle.qs_syntax.specs.Trees.{block};
 ghost use Rattle.qs_syntax.specs.declared.terminal.Terminal.TheVariants as terminals;

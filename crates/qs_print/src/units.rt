@@ -2,7 +2,7 @@
 ghost use Rattle.std.specs.Prelude.{◌≡◌, IfOk, OnOk, flat_map, map, option_map};
 ghost use Rattle.qs_print.specs.Printed.{printed_body, printed_decl, printed_forward, printed_function, printed_members, printed_struct, printed_unit};
 ghost use Rattle.qs_print.specs.ReadsBack.{ReadsBack};
-ghost use Rattle.qs_print.specs.Spaced.{Writes};
+ghost use Rattle.qs_print.specs.Words.{Writes};
 ghost use Rattle.qs_print.specs.Spelling.{joined};
 ghost use Rattle.qs_syntax.specs.TreeOf.{decl_tree, forward_tree, function_tree, members_tree, stmts_tree, struct_tree};
 ghost use Rattle.qs_syntax.specs.UnitTrees.{unit_tree};

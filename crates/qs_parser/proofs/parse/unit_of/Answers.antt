@@ -6,20 +6,20 @@ use Rattle.qs_parser.proofs.Top.{is_read, are_few, reads_as, no_reading}
 use Rattle.qs_parser.proofs.parse.unit_of.Goals as goal
 
 pub numbered-requires-clause-read : goal.numbered-requires-clause-read
-numbered-requires-clause-read c = rw c.deref.ensures.value (is_read c.args.tokens.now (map decl_tree c.in-Ok.unnumbered.items) c.in-Ok._height c.requires.tokens c.in-Ok.ensures.gives)
+numbered-requires-clause-read c = is_read c.args.tokens.now (map decl_tree c.in-Ok.unnumbered.items) c.in-Ok._height c.requires.tokens c.in-Ok.ensures.gives
 
 pub numbered-requires-clause-few : goal.numbered-requires-clause-few
-numbered-requires-clause-few c = rw c.deref.ensures.value (are_few c.args.tokens.now (map decl_tree c.in-Ok.unnumbered.items) c.in-Ok._height c.requires.few c.in-Ok.ensures.gives)
+numbered-requires-clause-few c = are_few c.args.tokens.now (map decl_tree c.in-Ok.unnumbered.items) c.in-Ok._height c.requires.few c.in-Ok.ensures.gives
 
 pub returns-in_ok-numbered-in-Ok : goal.returns-in_ok-numbered-in-Ok
 returns-in_ok-numbered-in-Ok c =
-    reads_as c.args.tokens.now (map decl_tree c.in-Ok.unnumbered.items) (map decl_tree c.in_ok-numbered-in-Ok.field-0.declarations.items) c.in-Ok._height c.in-Ok.ensures.gives (rw c.deref.ensures.value at c.in_ok-numbered-in-Ok.ensures)
+    reads_as c.args.tokens.now (map decl_tree c.in-Ok.unnumbered.items) (map decl_tree c.in_ok-numbered-in-Ok.field-0.declarations.items) c.in-Ok._height c.in-Ok.ensures.gives c.in_ok-numbered-in-Ok.ensures
 
 pub number_of-requires-clause-within : goal.number_of-requires-clause-within
-number_of-requires-clause-within c = rw c.deref.ensures.value (stops_within c.args.tokens.now (Unexpected c.in-Err-Unexpected.left) (rw c.in-Err-Unexpected.field-0-is at c.in-Err-Unexpected.ensures.gives))
+number_of-requires-clause-within c = rw c.in-Err-Unexpected.field-0-is (stops_within c.args.tokens.now (Unexpected c.in-Err-Unexpected.left) (rw c.in-Err-Unexpected.field-0-is at c.in-Err-Unexpected.ensures.gives))
 
-pub number_of-in-Err-TooDeep-requires-clause-within : goal.number_of-in-Err-TooDeep-requires-clause-within
-number_of-in-Err-TooDeep-requires-clause-within c = rw c.deref.ensures.value (stops_within c.args.tokens.now (Deep c.in-Err-TooDeep.left) (rw c.in-Err-TooDeep.field-0-is at c.in-Err-TooDeep.ensures.gives))
+pub number_of-requires-in-Err-TooDeep-clause-within : goal.number_of-requires-in-Err-TooDeep-clause-within
+number_of-requires-in-Err-TooDeep-clause-within c = rw c.in-Err-TooDeep.field-0-is (stops_within c.args.tokens.now (Deep c.in-Err-TooDeep.left) (rw c.in-Err-TooDeep.field-0-is at c.in-Err-TooDeep.ensures.gives))
 
 pub returns-in-Err-Unexpected : goal.returns-in-Err-Unexpected
 returns-in-Err-Unexpected c = record { none = no_reading c.args.tokens.now (Unexpected c.in-Err-Unexpected.left) (rw c.in-Err-Unexpected.field-0-is at c.in-Err-Unexpected.ensures.gives); within = omega (arith, c.number_of.ensures) }

@@ -1,7 +1,7 @@
 // The law of printed terminals.
 ghost use Rattle.std.specs.Prelude.{◌≡◌, List, true};
 ghost use Rattle.std.specs.List.{list_all};
-ghost use Rattle.qs_print.specs.Lexed.{LexedBack};
+ghost use Rattle.qs_print.specs.Laws.{LexedBack};
 ghost use Rattle.qs_syntax.specs.Units.{is_well_formed};
 ghost use Rattle.qs_syntax.specs.declared.terminal.Terminal.{Terminal};
 

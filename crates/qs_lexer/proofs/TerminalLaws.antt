@@ -9,7 +9,7 @@ use Rattle.qs_base.specs.Names.{is_name}
 use Rattle.qs_lexer.specs.Laws.{InOrder, IsTokenOf, spelling}
 use Rattle.qs_lexer.specs.Terminals.{terminal, terminal_of, terminals}
 use Rattle.qs_lexer.specs.Tokens.{Tokens}
-use Rattle.qs_syntax.specs.Units.{is_byte, is_terminal}
+use Rattle.qs_syntax.specs.Units.{is_byte, is_well_formed}
 use Rattle.qs_syntax.specs.declared.terminal.Terminal.{Terminal}
 use Rattle.qs_syntax.specs.declared.tokens.Token.{Token}
 use Rattle.qs_syntax.specs.declared.tokens.TokenKind.{TokenKind}
@@ -57,7 +57,7 @@ number_low text tokens t k d l =
 and_true : (b c : Bool) → b ≡ true → c ≡ true → (b && c) ≡ true
 and_true b c p q = rw (p, q) refl
 
-seen : (at : ℕ) (bytes : List ℕ) (kind : TokenKind) → (kind ≡ kinds.Name → is_name bytes ≡ true) → is_valued kind ≡ true → list_all is_byte bytes ≡ true → is_terminal (terminal_of at bytes kind) ≡ true
+seen : (at : ℕ) (bytes : List ℕ) (kind : TokenKind) → (kind ≡ kinds.Name → is_name bytes ≡ true) → is_valued kind ≡ true → list_all is_byte bytes ≡ true → is_well_formed (terminal_of at bytes kind) ≡ true
 seen at bytes kinds.Name n v b = n refl
 seen at bytes (kinds.Keyword keyword) n v b = refl
 seen at bytes (kinds.Number value unsigned) n v b = v
@@ -65,15 +65,15 @@ seen at bytes (kinds.Character value) n v b = v
 seen at bytes kinds.Text n v b = text_low bytes b
 seen at bytes (kinds.Punctuator punctuator) n v b = refl
 
-all_seen : (text : List ℕ) (at : ℕ) (tokens : List Token) → list_all is_byte text ≡ true → All (IsTokenOf text) tokens → all_valued tokens ≡ true → list_all is_terminal (terminals text at tokens) ≡ true
+all_seen : (text : List ℕ) (at : ℕ) (tokens : List Token) → list_all is_byte text ≡ true → All (IsTokenOf text) tokens → all_valued tokens ≡ true → list_all is_well_formed (terminals text at tokens) ≡ true
 all_seen text at [] b a v = refl
 all_seen text at (t ∷ ts) b a v =
-    and_true (is_terminal (terminal text at t)) (list_all is_terminal (terminals text (at + 1) ts))
+    and_true (is_well_formed (terminal text at t)) (list_all is_well_formed (terminals text (at + 1) ts))
     (seen at (spelling text t) t.kind (All-head (IsTokenOf text) t ts a).name (first_so (is_valued t.kind) (all_valued ts) v) (bytes_take (t.end - t.start) (drop t.start text) (bytes_drop t.start text b)))
     (all_seen text (at + 1) ts b (All-tail (IsTokenOf text) t ts a) (second_so (is_valued t.kind) (all_valued ts) v))
 
-pub are_terminals : (text : List ℕ) (tokens : List Token) → Tokens text tokens → list_all is_byte text ≡ true → list_all is_terminal (terminals text 0 tokens) ≡ true
-are_terminals text tokens t b = all_seen text 0 tokens b (tokens_of text tokens t) (read_valued text tokens t.fresh (length text) b t.reads)
+pub are_well_formed : (text : List ℕ) (tokens : List Token) → Tokens text tokens → list_all is_byte text ≡ true → list_all is_well_formed (terminals text 0 tokens) ≡ true
+are_well_formed text tokens t b = all_seen text 0 tokens b (tokens_of text tokens t) (read_valued text tokens t.fresh (length text) b t.reads)
 
 -- the bytes of a slice
 fits_byte : (n : ℕ) → Fits w8 n → is_byte n ≡ true
@@ -95,5 +95,5 @@ goes_on text tokens done more at d one l i e m =
 pub ended : (text : List ℕ) (tokens : List Token) (done : List Terminal) (at : ℕ) → length tokens ≤ at → done ++ terminals text at (drop at tokens) ≡ terminals text 0 tokens → done ≡ terminals text 0 tokens
 ended text tokens done at l i = sym (append-nil done) ∙ sym (ap (λ list. done ++ terminals text at list) (drop_all at tokens l)) ∙ i
 
-pub seen_items : (text : List ℕ) (tokens : List Token) (items : List Terminal) → Tokens text tokens → ((i : ℕ) → Fits w8 (get_or text i 0)) → items ≡ terminals text 0 tokens → list_all is_terminal items ≡ true
-seen_items text tokens items t f e = ap (list_all is_terminal) e ∙ are_terminals text tokens t (slice_bytes text f)
+pub seen_items : (text : List ℕ) (tokens : List Token) (items : List Terminal) → Tokens text tokens → ((i : ℕ) → Fits w8 (get_or text i 0)) → items ≡ terminals text 0 tokens → list_all is_well_formed items ≡ true
+seen_items text tokens items t f e = ap (list_all is_well_formed) e ∙ are_well_formed text tokens t (slice_bytes text f)

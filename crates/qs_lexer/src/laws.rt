@@ -5,7 +5,7 @@ ghost use Rattle.qs_lexer.specs.Laws.{InOrder, IsTokenOf};
 ghost use Rattle.qs_lexer.specs.Terminals.{terminals};
 ghost use Rattle.qs_lexer.specs.Tokens.{LexFaultAt, Tokens};
 ghost use Rattle.qs_lexer.specs.declared.fault.FaultKind.{FaultKind};
-ghost use Rattle.qs_syntax.specs.Units.{is_byte, is_terminal};
+ghost use Rattle.qs_syntax.specs.Units.{is_byte, is_well_formed};
 ghost use Rattle.qs_syntax.specs.declared.tokens.Token.{Token};
 
 /// A text has at most one list of tokens and at most one fault, and never both.
@@ -28,5 +28,5 @@ pub fn each_token()
 pub fn each_terminal()
     ensures as_many { (text : List ℕ) (at : ℕ) (tokens : List Token) → length (terminals text at tokens) ≡ length tokens }
     ensures at_most { (text : List ℕ) (tokens : List Token) → Tokens text tokens → length tokens ≤ length text }
-    ensures are_terminals { (text : List ℕ) (tokens : List Token) → Tokens text tokens → list_all is_byte text ≡ true → list_all is_terminal (terminals text 0 tokens) ≡ true }
+    ensures are_well_formed { (text : List ℕ) (tokens : List Token) → Tokens text tokens → list_all is_byte text ≡ true → list_all is_well_formed (terminals text 0 tokens) ≡ true }
 {}

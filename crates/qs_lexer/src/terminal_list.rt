@@ -4,7 +4,7 @@ ghost use Rattle.std.specs.List.{list_all};
 ghost use Rattle.qs_lexer.specs.Terminals.{terminal, terminal_of, terminals};
 ghost use Rattle.qs_lexer.specs.Literals.{elements};
 ghost use Rattle.qs_lexer.specs.Tokens.{Tokens};
-ghost use Rattle.qs_syntax.specs.Units.{is_terminal};
+ghost use Rattle.qs_syntax.specs.Units.{is_well_formed};
 
 use crate::literals::text_bytes;
 use qs_base::{Name, NoMemory};
@@ -49,7 +49,7 @@ fn terminal(alloc: Global, text: &[u8], at: usize, token: Token) -> Result<Termi
 pub fn terminals(alloc: Global, text: &[u8], tokens: &[Token]) -> Result<Vec<Terminal>, NoMemory>
     requires tokens_of { Tokens text.now tokens.now }
     ensures terminals { IfOk result (λ list. list.items ≡ terminals text.now 0 tokens.now) }
-    ensures are_terminals { IfOk result (λ list. list_all is_terminal list.items ≡ true) }
+    ensures are_well_formed { IfOk result (λ list. list_all is_well_formed list.items ≡ true) }
 {
     let mut list = Vec::new(alloc);
     for (at, token) in tokens.iter().enumerate() {

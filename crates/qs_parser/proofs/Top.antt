@@ -5,7 +5,7 @@ use Rattle.qs_syntax.specs.declared.terminal.Terminal.{Terminal}
 use Rattle.qs_syntax.specs.Trees.{DeclTree}
 use Rattle.qs_syntax.specs.Numbering.{numbered_unit}
 use Rattle.qs_syntax.specs.Nodes.{unit_count}
-use Rattle.qs_syntax.specs.Units.{IsRead, is_terminal}
+use Rattle.qs_syntax.specs.Units.{IsRead, is_well_formed}
 use Rattle.qs_parser.specs.Parse.{Stop}
 use Rattle.qs_parser.specs.ParseStatements.{unit}
 use Rattle.qs_parser.specs.Answers.{ReadsAs, HasNoReading}
@@ -16,7 +16,7 @@ use Rattle.qs_parser.proofs.UnitsComplete.{finds_whole}
 abbrev Gave : List Terminal → List DeclTree → ℕ → Type 0
 Gave ts ds h = unit 126 ts ≡ Ok ((ds, h), [])
 
-pub is_read : (ts : List Terminal) (ds : List DeclTree) (h : ℕ) → list_all is_terminal ts ≡ true → Gave ts ds h → IsRead (numbered_unit ds)
+pub is_read : (ts : List Terminal) (ds : List DeclTree) (h : ℕ) → list_all is_well_formed ts ≡ true → Gave ts ds h → IsRead (numbered_unit ds)
 is_read ts ds h all e = let r = reads_whole ts ds h e in ∣ record { tokens = ts; height = h; unnumbered = ds; are_tokens = all; reads = r.0; low = r.1; are_numbered = refl } ∣₁
 
 pub are_few : (ts : List Terminal) (ds : List DeclTree) (h : ℕ) → length ts < 2 ^ 32 → Gave ts ds h → unit_count ds < 2 ^ 32

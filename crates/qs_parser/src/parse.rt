@@ -1,7 +1,7 @@
 // From tokens to a unit.
 ghost use Rattle.std.specs.Prelude.{◌≡◌, ◌+◌, ◌≤◌, ◌<◌, ◌^◌, ℕ, List, true, length};
 ghost use Rattle.std.specs.List.{list_all};
-ghost use Rattle.qs_syntax.specs.Units.{is_terminal};
+ghost use Rattle.qs_syntax.specs.Units.{is_well_formed};
 ghost use Rattle.qs_syntax.specs.Trees.{DeclTree};
 ghost use Rattle.qs_syntax.specs.ReadsUnits.{ReadsUnit};
 ghost use Rattle.qs_syntax.specs.declared.terminal.Terminal.{Terminal};
@@ -27,7 +27,7 @@ fn number_of(tokens: &[Terminal], left: usize) -> u32
 
 /// The unit that these terminals are read as.
 fn unit_of(alloc: Global, tokens: &[Terminal]) -> Result<Unit, SyntaxFault>
-    requires tokens { list_all is_terminal tokens.now ≡ true }
+    requires tokens { list_all is_well_formed tokens.now ≡ true }
     requires few { length tokens.now < 2 ^ 32 }
     ensures { Answers tokens.now result }
 {

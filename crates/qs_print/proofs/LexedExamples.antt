@@ -1,7 +1,7 @@
 -- Small texts, computed from the definitions.
 use Rattle.std.proofs.Common.{◌≡◌, true, false, [], ◌∷◌, ◌++◌, codes, refl}
 use Rattle.std.specs.Fmt.{digits}
-use Rattle.qs_print.specs.Lexed.{renumbered}
+use Rattle.qs_print.specs.Laws.{renumbered}
 use Rattle.qs_print.specs.Spelling.{joined, spelling}
 use Rattle.qs_syntax.specs.declared.terminal.Terminal.TheVariants.{Name, Keyword, Constant, Text, Punctuator}
 use Rattle.qs_base.specs.declared.keyword.Keyword.TheVariants as keywords

@@ -13,6 +13,5 @@ pub mod Variants
 pub mod RereadDeclarations
 pub mod RereadStatements
 pub mod RereadUnits
-pub mod PrintedPlain
-pub mod PlainNumbered
+pub mod PrintedRelabelled
 pub mod Back

@@ -1,31 +1,33 @@
 -- The printed terminals of declarations that were read are read as them again, no higher.
-use Rattle.std.proofs.Common.{◌≡◌, ◌⊎◌, inl, inr, ℕ, zero, suc, ◌+◌, Bool, true, false, ◌&&◌, List, [], ◌∷◌, ◌++◌, length, map, flat_map, Some, None, refl, ap, subst, append-nil, arith}
+use Rattle.std.proofs.Common.{◌≡◌, ◌⊎◌, inl, inr, ℕ, zero, suc, ◌+◌, Bool, true, false, ◌&&◌, List, [], ◌∷◌, ◌++◌, length, flat_map, Some, None, refl, ap, subst, append-nil, arith}
 use Rattle.std.specs.Prelude.{max, ◌==◌}
 use Rattle.qs_syntax.specs.declared.terminal.Terminal.{Terminal}
 use Rattle.qs_syntax.specs.declared.terminal.Terminal.TheVariants.{Name, Keyword, Punctuator}
 use Rattle.qs_base.specs.declared.keyword.Keyword.TheVariants as keywords
 use Rattle.qs_syntax.specs.declared.punctuator.Punctuator.TheVariants as punctuators
-use Rattle.qs_syntax.specs.declared.tree.Base.{Base}
-use Rattle.qs_syntax.specs.declared.tree.Base.TheVariants as bases
+use Rattle.qs_syntax.specs.declared.types.Base.{Base}
+use Rattle.qs_syntax.specs.declared.types.Base.TheVariants as bases
 use Rattle.qs_syntax.specs.ReadsTypes.{no_const, a_const, ReadsType, a_type}
 use Rattle.qs_syntax.specs.Reads.{place}
-use Rattle.qs_syntax.specs.Trees.{ExprTree, LengthsTree, DeclaratorTree, InitialiserTree, value, list, Initialisers, no_initialisers, initialiser_and, VariableTree, DeclarationTree, ParameterTree, MembersTree}
+use Rattle.qs_syntax.specs.Trees.{unnumbered, ExprTree, LengthsTree, DeclaratorTree, InitialiserTree, value, list, Initialisers, no_initialisers, initialiser_and, VariableTree, DeclarationTree, ParameterTree, MembersTree}
 use Rattle.qs_syntax.specs.ReadsDeclarations.{ReadsGiven, no_length, a_length, ReadsLengths, are_given, first_open, ReadsDeclarator, a_declarator, ReadsInitialiser, a_value, a_list, ReadsInitialisers, a_last_initialiser, a_last_with_comma, an_initialiser, ReadsVariable, an_unset_variable, a_set_variable, ReadsVariables, a_last_variable, a_variable, ReadsDeclaration, a_declaration, ReadsOuterDeclaration, an_outer_declaration, ReadsDeclarators, a_last_member, a_member, ReadsMembers, a_group, ReadsAllMembers, a_last_group, a_further_group, ReadsParameter, a_named_parameter, an_unnamed_parameter, ReadsParameters, a_last_parameter, a_parameter, ReadsHead, no_parameter, a_void_head, some_parameters}
-use Rattle.qs_print.specs.Lexed.{renumbered}
+use Rattle.qs_syntax.specs.Nodes.{expr_count, variable_count, declarator_count, members_count, parameter_count}
+use Rattle.qs_syntax.specs.Numbering.{bare, relabel_declarator, relabel_expr, relabel_members, relabel_parameter, relabel_variable}
+use Rattle.qs_print.specs.Laws.{renumbered}
 use Rattle.qs_print.specs.Printed.{behind_commas, is_void, is_without_brackets, printed_base, printed_declaration, printed_declarator, printed_initialiser, printed_initialisers, printed_length, printed_lengths, printed_members, printed_parameter, printed_parameters, printed_part, printed_stars, printed_variable, with_commas, further_initialisers}
-use Rattle.qs_print.specs.WithoutTokens.{plain_declaration, plain_declarator, plain_expr, plain_initialiser, plain_initialisers, plain_lengths, plain_members, plain_parameter, plain_variable}
-use Rattle.qs_print.proofs.Rereading.{Again, Reread, renumbered_append, closing, base_reads, type_reads, outer_type_reads, stars_read}
+use Rattle.qs_syntax.specs.WithoutTokens.{plain_declaration, plain_declarator, plain_initialiser, plain_initialisers, plain_lengths, plain_members, plain_parameter, plain_variable}
+use Rattle.qs_print.proofs.Rereading.{all_plain, Again, Reread, renumbered_append, closing, base_reads, type_reads, outer_type_reads, stars_read}
 use Rattle.qs_print.proofs.RereadExpressions.{at_part, law, part}
 
 -- ---- lengths
 
-given_law : {h : ℕ} {ts : List Terminal} {es : List ExprTree} → ReadsGiven h ts es → Reread ReadsGiven (map plain_expr) h (flat_map printed_length es) es
+given_law : {h : ℕ} {ts : List Terminal} {es : List ExprTree} → ReadsGiven h ts es → Reread ReadsGiven (all_plain expr_count (relabel_expr bare)) h (flat_map printed_length es) es
 given_law no_length = record { from = λ n. record { height = 0; tree = []; reads = no_length; low = omega arith; same = refl } }
 given_law (a_length {h = h} {k = k} {e = e} {es = es} o c r s) = record {
   from = λ n.
       let i : ℕ = n + 1 + length (printed_part 13 e) in
       let p : at_part 13 h (n + 1) e = (part 13 h e (law r tt)).from (n + 1) in
-      let q : Again ReadsGiven (map plain_expr) k (renumbered (i + 1) (flat_map printed_length es)) es = (given_law s).from (i + 1) in
+      let q : Again ReadsGiven (all_plain expr_count (relabel_expr bare)) k (renumbered (i + 1) (flat_map printed_length es)) es = (given_law s).from (i + 1) in
       rw (closing (n + 1) punctuators.CloseBracket (printed_part 13 e) (flat_map printed_length es))
       (record { height = max p.height q.height; tree = p.tree ∷ q.tree; reads = a_length n i p.reads q.reads; low = omega arith; same = rw (p.same, q.same) refl });
 }
@@ -33,12 +35,12 @@ given_law (a_length {h = h} {k = k} {e = e} {es = es} o c r s) = record {
 pub lengths_law : {h : ℕ} {ts : List Terminal} {l : LengthsTree} → ReadsLengths h ts l → Reread ReadsLengths plain_lengths h (printed_lengths l) l
 lengths_law (are_given {h = h} {es = es} r) = record {
   from = λ n.
-      let q : Again ReadsGiven (map plain_expr) h (renumbered n (flat_map printed_length es)) es = (given_law r).from n in
+      let q : Again ReadsGiven (all_plain expr_count (relabel_expr bare)) h (renumbered n (flat_map printed_length es)) es = (given_law r).from n in
       record { height = q.height; tree = record { is_open = false; given = q.tree }; reads = are_given q.reads; low = q.low; same = rw q.same refl };
 }
 lengths_law (first_open {h = h} {es = es} o c r) = record {
   from = λ n.
-      let q : Again ReadsGiven (map plain_expr) h (renumbered (n + 1 + 1) (flat_map printed_length es)) es = (given_law r).from (n + 1 + 1) in
+      let q : Again ReadsGiven (all_plain expr_count (relabel_expr bare)) h (renumbered (n + 1 + 1) (flat_map printed_length es)) es = (given_law r).from (n + 1 + 1) in
       record { height = q.height; tree = record { is_open = true; given = q.tree }; reads = first_open n (n + 1) q.reads; low = q.low; same = rw q.same refl };
 }
 
@@ -53,7 +55,7 @@ declarator_law (a_declarator {h = h} {n = count} {lengths = l} at x s r) = recor
       let m : ℕ = n + length (printed_stars count) in
       let q : at_lengths h (m + 1) l = (lengths_law r).from (m + 1) in
       rw (renumbered_append n (printed_stars count) (Name 0 x ∷ printed_lengths l))
-      (record { height = q.height; tree = record { id = 0; token = m; stars = count; name = x; lengths = q.tree }; reads = a_declarator m x (stars_read count n) q.reads; low = q.low; same = rw q.same refl });
+      (record { height = q.height; tree = record { node = unnumbered m; stars = count; name = x; lengths = q.tree }; reads = a_declarator m x (stars_read count n) q.reads; low = q.low; same = rw q.same refl });
 }
 
 abbrev at_declarator : (h n : ℕ) (d : DeclaratorTree) → Type 0
@@ -87,7 +89,7 @@ mutual
     from = λ n.
         let p : at_initialisers h (n + 1) is = (initialisers_law r).from (n + 1) in
         rw (renumbered_append (n + 1) (printed_initialisers is) (Punctuator 0 punctuators.CloseBrace ∷ []))
-        (record { height = suc p.height; tree = list 0 n p.tree; reads = a_list n (n + 1 + length (printed_initialisers is)) p.reads; low = omega arith; same = ap (list 0 0) p.same });
+        (record { height = suc p.height; tree = list (unnumbered n) p.tree; reads = a_list n (n + 1 + length (printed_initialisers is)) p.reads; low = omega arith; same = ap (list (unnumbered 0)) p.same });
   }
 
   initialisers_law : {h : ℕ} {ts : List Terminal} {is : Initialisers} → ReadsInitialisers h ts is → Reread ReadsInitialisers plain_initialisers h (printed_initialisers is) is
@@ -124,13 +126,13 @@ abbrev at_variable : (h n : ℕ) (v : VariableTree) → Type 0
 at_variable h n v = Again ReadsVariable plain_variable h (renumbered n (printed_variable v)) v
 
 abbrev at_variables : (h n : ℕ) (vs : List VariableTree) → Type 0
-at_variables h n vs = Again ReadsVariables (map plain_variable) h (renumbered n (with_commas printed_variable vs)) vs
+at_variables h n vs = Again ReadsVariables (all_plain variable_count (relabel_variable bare)) h (renumbered n (with_commas printed_variable vs)) vs
 
 some_variables : {h : ℕ} {ts : List Terminal} {vs : List VariableTree} → ReadsVariables h ts vs → vs ≡ [] → ⊥
 some_variables (a_last_variable r) e = cc
 some_variables (a_variable at r s) e = cc
 
-pub variables_law : {h : ℕ} {ts : List Terminal} {vs : List VariableTree} → ReadsVariables h ts vs → Reread ReadsVariables (map plain_variable) h (with_commas printed_variable vs) vs
+pub variables_law : {h : ℕ} {ts : List Terminal} {vs : List VariableTree} → ReadsVariables h ts vs → Reread ReadsVariables (all_plain variable_count (relabel_variable bare)) h (with_commas printed_variable vs) vs
 variables_law (a_last_variable {h = h} {v = v} r) = record {
   from = λ n.
       let p : at_variable h n v = (variable_law r).from n in
@@ -167,13 +169,13 @@ outer_declaration_law (an_outer_declaration {h = h} {base = base} {vs = vs} s t 
 -- ---- members
 
 abbrev at_declarators : (h n : ℕ) (ds : List DeclaratorTree) → Type 0
-at_declarators h n ds = Again ReadsDeclarators (map plain_declarator) h (renumbered n (with_commas printed_declarator ds)) ds
+at_declarators h n ds = Again ReadsDeclarators (all_plain declarator_count (relabel_declarator bare)) h (renumbered n (with_commas printed_declarator ds)) ds
 
 some_declarators : {h : ℕ} {ts : List Terminal} {ds : List DeclaratorTree} → ReadsDeclarators h ts ds → ds ≡ [] → ⊥
 some_declarators (a_last_member r) e = cc
 some_declarators (a_member at r s) e = cc
 
-declarators_law : {h : ℕ} {ts : List Terminal} {ds : List DeclaratorTree} → ReadsDeclarators h ts ds → Reread ReadsDeclarators (map plain_declarator) h (with_commas printed_declarator ds) ds
+declarators_law : {h : ℕ} {ts : List Terminal} {ds : List DeclaratorTree} → ReadsDeclarators h ts ds → Reread ReadsDeclarators (all_plain declarator_count (relabel_declarator bare)) h (with_commas printed_declarator ds) ds
 declarators_law (a_last_member {h = h} {d = d} r) = record {
   from = λ n.
       let p : at_declarator h n d = (declarator_law r).from n in
@@ -198,7 +200,7 @@ members_law (a_group {h = h} {base = base} {ds = ds} s t r) = record {
       (record { height = q.height; tree = record { base = base; declarators = q.tree }; reads = a_group (m + length (with_commas printed_declarator ds)) (type_reads base n) q.reads; low = q.low; same = rw q.same refl });
 }
 
-pub all_members_law : {h : ℕ} {ts : List Terminal} {ms : List MembersTree} → ReadsAllMembers h ts ms → Reread ReadsAllMembers (map plain_members) h (flat_map printed_members ms) ms
+pub all_members_law : {h : ℕ} {ts : List Terminal} {ms : List MembersTree} → ReadsAllMembers h ts ms → Reread ReadsAllMembers (all_plain members_count (relabel_members bare)) h (flat_map printed_members ms) ms
 all_members_law (a_last_group {h = h} {m = m} r) = record {
   from = λ n.
       let p : Again ReadsMembers plain_members h (renumbered n (printed_members m)) m = (members_law r).from n in
@@ -208,7 +210,7 @@ all_members_law (a_further_group {h = h} {k = k} {m = m} {ms = ms} r s) = record
   from = λ n.
       let i : ℕ = n + length (printed_members m) in
       let p : Again ReadsMembers plain_members h (renumbered n (printed_members m)) m = (members_law r).from n in
-      let q : Again ReadsAllMembers (map plain_members) k (renumbered i (flat_map printed_members ms)) ms = (all_members_law s).from i in
+      let q : Again ReadsAllMembers (all_plain members_count (relabel_members bare)) k (renumbered i (flat_map printed_members ms)) ms = (all_members_law s).from i in
       rw (renumbered_append n (printed_members m) (flat_map printed_members ms))
       (record { height = max p.height q.height; tree = p.tree ∷ q.tree; reads = a_further_group p.reads q.reads; low = omega arith; same = rw (p.same, q.same) refl });
 }
@@ -244,7 +246,7 @@ at_parameter h n p = Again ReadsParameter plain_parameter h (renumbered n (print
 
 with_const : (h n at : ℕ) (base : Base) (count : ℕ) (l : LengthsTree) → Reread ReadsLengths plain_lengths h (printed_lengths l) l
     → (is_void base && (count == 0 && is_without_brackets l.is_open l.given)) ≡ true
-    → at_parameter (suc h) n (record { id = 0; token = at; base = base; stars = count; name = None; lengths = l })
+    → at_parameter (suc h) n (record { node = unnumbered at; type_name = record { base = base; stars = count }; name = None; lengths = l })
 with_const h n at base count l r e =
     let i : ℕ = n + 1 + length (printed_base base) in
     let j : ℕ = i + length (printed_stars count) in
@@ -252,7 +254,7 @@ with_const h n at base count l r e =
     rw (e, renumbered_append (n + 1) (printed_base base) (printed_stars count ++ printed_lengths l), renumbered_append i (printed_stars count) (printed_lengths l))
     (record {
       height = suc q.height;
-      tree = record { id = 0; token = n; base = base; stars = count; name = None; lengths = q.tree };
+      tree = record { node = unnumbered n; type_name = record { base = base; stars = count }; name = None; lengths = q.tree };
       reads = an_unnamed_parameter (const_type_reads base n) (stars_read count i) q.reads (λ at f. cc);
       low = omega arith;
       same = rw q.same refl;
@@ -260,7 +262,7 @@ with_const h n at base count l r e =
 
 without_const : (h n at : ℕ) (base : Base) (count : ℕ) (l : LengthsTree) → Reread ReadsLengths plain_lengths h (printed_lengths l) l
     → (is_void base && (count == 0 && is_without_brackets l.is_open l.given)) ≡ false
-    → at_parameter (suc h) n (record { id = 0; token = at; base = base; stars = count; name = None; lengths = l })
+    → at_parameter (suc h) n (record { node = unnumbered at; type_name = record { base = base; stars = count }; name = None; lengths = l })
 without_const h n at base count l r e =
     let i : ℕ = n + length (printed_base base) in
     let j : ℕ = i + length (printed_stars count) in
@@ -268,14 +270,14 @@ without_const h n at base count l r e =
     rw (e, renumbered_append n (printed_base base) (printed_stars count ++ printed_lengths l), renumbered_append i (printed_stars count) (printed_lengths l))
     (record {
       height = suc q.height;
-      tree = record { id = 0; token = place (renumbered n (printed_base base)); base = base; stars = count; name = None; lengths = q.tree };
+      tree = record { node = unnumbered (place (renumbered n (printed_base base))); type_name = record { base = base; stars = count }; name = None; lengths = q.tree };
       reads = an_unnamed_parameter (type_reads base n) (stars_read count i) q.reads (not_void base count l.is_open l.given n i j e);
       low = omega arith;
       same = rw q.same refl;
     })
 
 unnamed : (h n at : ℕ) (base : Base) (count : ℕ) (l : LengthsTree) → Reread ReadsLengths plain_lengths h (printed_lengths l) l
-    → at_parameter (suc h) n (record { id = 0; token = at; base = base; stars = count; name = None; lengths = l })
+    → at_parameter (suc h) n (record { node = unnumbered at; type_name = record { base = base; stars = count }; name = None; lengths = l })
 unnamed h n at base count l r =
     elim (test (is_void base && (count == 0 && is_without_brackets l.is_open l.given))) [
       | inl e ↦ with_const h n at base count l r e
@@ -283,26 +285,26 @@ unnamed h n at base count l r =
     ]
 
 named : (h n at : ℕ) (base : Base) (count : ℕ) (x : List ℕ) (l : LengthsTree) → Reread ReadsLengths plain_lengths h (printed_lengths l) l
-    → at_parameter (suc h) n (record { id = 0; token = at; base = base; stars = count; name = Some x; lengths = l })
+    → at_parameter (suc h) n (record { node = unnumbered at; type_name = record { base = base; stars = count }; name = Some x; lengths = l })
 named h n at base count x l r =
     let i : ℕ = n + length (printed_base base) in
     let j : ℕ = i + length (printed_stars count) in
     let q : at_lengths h (j + 1) l = r.from (j + 1) in
     rw (named_alone (is_void base) (count == 0), renumbered_append n (printed_base base) (printed_stars count ++ Name 0 x ∷ printed_lengths l), renumbered_append i (printed_stars count) (Name 0 x ∷ printed_lengths l))
-    (record { height = suc q.height; tree = record { id = 0; token = j; base = base; stars = count; name = Some x; lengths = q.tree }; reads = a_named_parameter j x (type_reads base n) (stars_read count i) q.reads; low = omega arith; same = rw q.same refl })
+    (record { height = suc q.height; tree = record { node = unnumbered j; type_name = record { base = base; stars = count }; name = Some x; lengths = q.tree }; reads = a_named_parameter j x (type_reads base n) (stars_read count i) q.reads; low = omega arith; same = rw q.same refl })
 
 parameter_law : {h : ℕ} {ts : List Terminal} {p : ParameterTree} → ReadsParameter h ts p → Reread ReadsParameter plain_parameter h (printed_parameter p) p
 parameter_law (a_named_parameter {h = h} {n = count} {base = base} {lengths = l} at x t s r) = record { from = λ n. named h n at base count x l (lengths_law r) }
 parameter_law (an_unnamed_parameter {h = h} {n = count} {xs = xs} {base = base} {lengths = l} t s r f) = record { from = λ n. unnamed h n (place xs) base count l (lengths_law r) }
 
 abbrev at_parameters : (h n : ℕ) (ps : List ParameterTree) → Type 0
-at_parameters h n ps = Again ReadsParameters (map plain_parameter) h (renumbered n (with_commas printed_parameter ps)) ps
+at_parameters h n ps = Again ReadsParameters (all_plain parameter_count (relabel_parameter bare)) h (renumbered n (with_commas printed_parameter ps)) ps
 
 some_there : {h : ℕ} {ts : List Terminal} {ps : List ParameterTree} → ReadsParameters h ts ps → ps ≡ [] → ⊥
 some_there (a_last_parameter r) e = cc
 some_there (a_parameter at r s) e = cc
 
-parameters_law : {h : ℕ} {ts : List Terminal} {ps : List ParameterTree} → ReadsParameters h ts ps → Reread ReadsParameters (map plain_parameter) h (with_commas printed_parameter ps) ps
+parameters_law : {h : ℕ} {ts : List Terminal} {ps : List ParameterTree} → ReadsParameters h ts ps → Reread ReadsParameters (all_plain parameter_count (relabel_parameter bare)) h (with_commas printed_parameter ps) ps
 parameters_law (a_last_parameter {h = h} {p = a} r) = record {
   from = λ n.
       let p : at_parameter h n a = (parameter_law r).from n in
@@ -318,7 +320,7 @@ parameters_law (a_parameter {h = h} {k = k} {p = a} {ps = b ∷ bs} at r s) = re
       (record { height = max p.height q.height; tree = p.tree ∷ q.tree; reads = a_parameter m p.reads q.reads; low = omega arith; same = rw (p.same, q.same) refl });
 }
 
-pub head_law : {h : ℕ} {ts : List Terminal} {ps : List ParameterTree} → ReadsHead h ts ps → Reread ReadsHead (map plain_parameter) h (printed_parameters ps) ps
+pub head_law : {h : ℕ} {ts : List Terminal} {ps : List ParameterTree} → ReadsHead h ts ps → Reread ReadsHead (all_plain parameter_count (relabel_parameter bare)) h (printed_parameters ps) ps
 head_law no_parameter = record { from = λ n. record { height = 0; tree = []; reads = a_void_head n; low = omega arith; same = refl } }
 head_law (a_void_head at) = record { from = λ n. record { height = 0; tree = []; reads = a_void_head n; low = omega arith; same = refl } }
 head_law (some_parameters {ps = []} r) = absurd (some_there r refl)

@@ -7,18 +7,17 @@ use Rattle.qs_syntax.specs.declared.terminal.Terminal.TheVariants.{Name, Text, P
 use Rattle.qs_syntax.specs.declared.punctuator.Punctuator.TheVariants as punctuators
 use Rattle.qs_syntax.specs.declared.operators.UnaryOperator.{UnaryOperator}
 use Rattle.qs_syntax.specs.declared.operators.BinaryOperator.{BinaryOperator}
-use Rattle.qs_syntax.specs.declared.operators.BinaryOperator.TheVariants as binaries
 use Rattle.qs_syntax.specs.declared.operators.AssignmentOperator.{AssignmentOperator}
 use Rattle.qs_syntax.specs.declared.operators.Access.{Access}
 use Rattle.qs_syntax.specs.declared.operators.StepOperator.TheVariants as steps
-use Rattle.qs_syntax.specs.declared.tree.TypeName.{TypeName}
+use Rattle.qs_syntax.specs.declared.types.TypeName.{TypeName}
 use Rattle.qs_syntax.specs.Operators.{punctuator_of_binary, precedence, weakest, punctuator_of_assign, punctuator_of_access}
-use Rattle.qs_syntax.specs.Trees.{ExprTree, expr, int, text, name, unary, step, cast, size_type, size_expr, binary, assign, choice, comma, index, member, call, Exprs, no_exprs, expr_and}
+use Rattle.qs_syntax.specs.Trees.{unnumbered, ExprTree, expr, constant, text, name, unary, step, cast, sizeof_type, sizeof_expr, binary, assign, conditional, comma, subscript, member, call, Exprs, no_exprs, expr_and}
 use Rattle.qs_syntax.specs.Reads.{Form, Postfix, Unary, Level, Conditional, Assignment, Expression, at_first, no_text, Reads, a_name, an_empty_call, a_call, a_constant, a_text, in_parentheses, an_index, a_member, an_increment_after, a_decrement_after, a_postfix, an_increment, a_decrement, an_operator, a_size_of_type, a_size_of_value, a_cast, an_operand, stronger, an_operation, a_plain_level, a_choice, a_plain_conditional, an_assignment, a_plain_assignment, a_comma, ReadsArguments, a_last_argument, an_argument}
-use Rattle.qs_print.specs.Lexed.{renumbered}
+use Rattle.qs_print.specs.Laws.{renumbered}
 use Rattle.qs_print.specs.Levels.{level}
 use Rattle.qs_print.specs.Printed.{parentheses_unless, printed_expr, printed_part, printed_arguments, further_arguments, printed_type_name}
-use Rattle.qs_print.specs.WithoutTokens.{plain_expr, plain_exprs}
+use Rattle.qs_syntax.specs.WithoutTokens.{plain_expr, plain_exprs}
 use Rattle.qs_print.proofs.Rereading.{Again, Reread, renumbered_append, behind, enclosed, type_name_reads}
 use Rattle.qs_syntax.proofs.OperatorLaws.{precedence_within}
 
@@ -165,37 +164,37 @@ at_whole h n e = Again (Reads Expression) plain_expr h (renumbered n (printed_ex
 
 -- ---- productions
 
-name_law : (at : ℕ) (x : List ℕ) → Law 0 1 (expr 0 at (name x))
-name_law at x = exact 0 1 (expr 0 at (name x)) (omega arith) (omega arith) (record { from = λ n. record { height = 1; tree = expr 0 n (name x); reads = a_name n x; low = omega arith; same = refl } })
+name_law : (at : ℕ) (x : List ℕ) → Law 0 1 (expr (unnumbered at) (name x))
+name_law at x = exact 0 1 (expr (unnumbered at) (name x)) (omega arith) (omega arith) (record { from = λ n. record { height = 1; tree = expr (unnumbered n) (name x); reads = a_name n x; low = omega arith; same = refl } })
 
-constant_law : (at v : ℕ) (u : Bool) → Law 0 1 (expr 0 at (int v u))
-constant_law at v u = exact 0 1 (expr 0 at (int v u)) (omega arith) (omega arith) (record { from = λ n. record { height = 1; tree = expr 0 n (int v u); reads = a_constant n v u; low = omega arith; same = refl } })
+constant_law : (at v : ℕ) (u : Bool) → Law 0 1 (expr (unnumbered at) (constant v u))
+constant_law at v u = exact 0 1 (expr (unnumbered at) (constant v u)) (omega arith) (omega arith) (record { from = λ n. record { height = 1; tree = expr (unnumbered n) (constant v u); reads = a_constant n v u; low = omega arith; same = refl } })
 
-text_law : (at : ℕ) (bytes : List ℕ) → Law 0 1 (expr 0 at (text bytes))
+text_law : (at : ℕ) (bytes : List ℕ) → Law 0 1 (expr (unnumbered at) (text bytes))
 text_law at bytes =
-    exact 0 1 (expr 0 at (text bytes)) (omega arith) (omega arith)
-    (record { from = λ n. record { height = 1; tree = expr 0 n (text bytes); reads = subst (λ b. Reads Postfix 1 (Text n bytes ∷ []) (expr 0 n (text b))) (append-nil bytes) (a_text n bytes no_text); low = omega arith; same = refl } })
+    exact 0 1 (expr (unnumbered at) (text bytes)) (omega arith) (omega arith)
+    (record { from = λ n. record { height = 1; tree = expr (unnumbered n) (text bytes); reads = subst (λ b. Reads Postfix 1 (Text n bytes ∷ []) (expr (unnumbered n) (text b))) (append-nil bytes) (a_text n bytes no_text); low = omega arith; same = refl } })
 
-empty_call_law : (at : ℕ) (f : List ℕ) → Law 0 1 (expr 0 at (call f no_exprs))
+empty_call_law : (at : ℕ) (f : List ℕ) → Law 0 1 (expr (unnumbered at) (call f no_exprs))
 empty_call_law at f =
-    exact 0 1 (expr 0 at (call f no_exprs)) (omega arith) (omega arith) (record { from = λ n. record { height = 1; tree = expr 0 n (call f no_exprs); reads = an_empty_call n (n + 1) (n + 1 + 1) f; low = omega arith; same = refl } })
+    exact 0 1 (expr (unnumbered at) (call f no_exprs)) (omega arith) (omega arith) (record { from = λ n. record { height = 1; tree = expr (unnumbered n) (call f no_exprs); reads = an_empty_call n (n + 1) (n + 1 + 1) f; low = omega arith; same = refl } })
 
-call_law : (h at : ℕ) (f : List ℕ) (es : Exprs) → Reread ReadsArguments plain_exprs h (printed_arguments es) es → Law 0 (suc h) (expr 0 at (call f es))
+call_law : (h at : ℕ) (f : List ℕ) (es : Exprs) → Reread ReadsArguments plain_exprs h (printed_arguments es) es → Law 0 (suc h) (expr (unnumbered at) (call f es))
 call_law h at f es r =
-    exact 0 (suc h) (expr 0 at (call f es)) (omega arith) (omega arith) (record {
+    exact 0 (suc h) (expr (unnumbered at) (call f es)) (omega arith) (omega arith) (record {
       from = λ n.
           let a : Again ReadsArguments plain_exprs h (renumbered (n + 1 + 1) (printed_arguments es)) es = r.from (n + 1 + 1) in
           rw (renumbered_append (n + 1 + 1) (printed_arguments es) (Punctuator 0 punctuators.CloseParenthesis ∷ []))
-          (record { height = suc a.height; tree = expr 0 n (call f a.tree); reads = a_call n (n + 1) (n + 1 + 1 + length (printed_arguments es)) f a.reads; low = omega arith; same = ap (λ x. expr 0 0 (call f x)) a.same });
+          (record { height = suc a.height; tree = expr (unnumbered n) (call f a.tree); reads = a_call n (n + 1) (n + 1 + 1 + length (printed_arguments es)) f a.reads; low = omega arith; same = ap (λ x. expr (unnumbered 0) (call f x)) a.same });
     })
 
 parentheses_law : (h : ℕ) (e : ExprTree) → Law 15 h e → Law 0 (suc h) e
 parentheses_law h e l =
     record { own = l.own; natural = l.natural; strong = l.strong; fits = omega (arith, l.fits, wrapped_least (nat_le (level e) 15) l.own, wrapped_most (nat_le (level e) 0) l.own) }
 
-index_law : (h k at : ℕ) (a b : ExprTree) → Law 0 h a → Law 15 k b → Law 0 (suc (max h k)) (expr 0 at (index a b))
-index_law h k at a b la lb =
-    exact 0 (suc (max h k)) (expr 0 at (index a b)) (omega arith) (omega arith) (record {
+subscript_law : (h k at : ℕ) (a b : ExprTree) → Law 0 h a → Law 15 k b → Law 0 (suc (max h k)) (expr (unnumbered at) (subscript a b))
+subscript_law h k at a b la lb =
+    exact 0 (suc (max h k)) (expr (unnumbered at) (subscript a b)) (omega arith) (omega arith) (record {
       from = λ n.
           let m : ℕ = n + length (printed_part 0 a) in
           let p : at_part 0 h n a = (part 0 h a la).from n in
@@ -203,92 +202,92 @@ index_law h k at a b la lb =
           rw (renumbered_append n (printed_part 0 a) (Punctuator 0 punctuators.OpenBracket ∷ (printed_expr b ++ Punctuator 0 punctuators.CloseBracket ∷ [])), renumbered_append (m + 1) (printed_expr b) (Punctuator 0 punctuators.CloseBracket ∷ []))
           (record {
             height = suc (max p.height q.height);
-            tree = at_first (renumbered n (printed_part 0 a)) (index p.tree q.tree);
+            tree = at_first (renumbered n (printed_part 0 a)) (subscript p.tree q.tree);
             reads = an_index m (m + 1 + length (printed_expr b)) p.reads q.reads;
             low = omega arith;
             same = rw (p.same, q.same) refl;
           });
     })
 
-member_law : (h at : ℕ) (access : Access) (a : ExprTree) (x : List ℕ) → Law 0 h a → Law 0 (suc h) (expr 0 at (member access a x))
+member_law : (h at : ℕ) (access : Access) (a : ExprTree) (x : List ℕ) → Law 0 h a → Law 0 (suc h) (expr (unnumbered at) (member access a x))
 member_law h at access a x la =
-    exact 0 (suc h) (expr 0 at (member access a x)) (omega arith) (omega arith) (record {
+    exact 0 (suc h) (expr (unnumbered at) (member access a x)) (omega arith) (omega arith) (record {
       from = λ n.
           let m : ℕ = n + length (printed_part 0 a) in
           let p : at_part 0 h n a = (part 0 h a la).from n in
           rw (renumbered_append n (printed_part 0 a) (Punctuator 0 (punctuator_of_access access) ∷ Name 0 x ∷ []))
-          (record { height = suc p.height; tree = at_first (renumbered n (printed_part 0 a)) (member access p.tree x); reads = a_member access m (m + 1) x p.reads; low = omega arith; same = ap (λ b. expr 0 0 (member access b x)) p.same });
+          (record { height = suc p.height; tree = at_first (renumbered n (printed_part 0 a)) (member access p.tree x); reads = a_member access m (m + 1) x p.reads; low = omega arith; same = ap (λ b. expr (unnumbered 0) (member access b x)) p.same });
     })
 
-increment_after_law : (h at : ℕ) (a : ExprTree) → Law 0 h a → Law 0 (suc h) (expr 0 at (step steps.IncrementAfter a))
+increment_after_law : (h at : ℕ) (a : ExprTree) → Law 0 h a → Law 0 (suc h) (expr (unnumbered at) (step steps.IncrementAfter a))
 increment_after_law h at a la =
-    exact 0 (suc h) (expr 0 at (step steps.IncrementAfter a)) (omega arith) (omega arith) (record {
+    exact 0 (suc h) (expr (unnumbered at) (step steps.IncrementAfter a)) (omega arith) (omega arith) (record {
       from = λ n.
           let p : at_part 0 h n a = (part 0 h a la).from n in
           rw (renumbered_append n (printed_part 0 a) (Punctuator 0 punctuators.Increment ∷ []))
-          (record { height = suc p.height; tree = at_first (renumbered n (printed_part 0 a)) (step steps.IncrementAfter p.tree); reads = an_increment_after (n + length (printed_part 0 a)) p.reads; low = omega arith; same = ap (λ b. expr 0 0 (step steps.IncrementAfter b)) p.same });
+          (record { height = suc p.height; tree = at_first (renumbered n (printed_part 0 a)) (step steps.IncrementAfter p.tree); reads = an_increment_after (n + length (printed_part 0 a)) p.reads; low = omega arith; same = ap (λ b. expr (unnumbered 0) (step steps.IncrementAfter b)) p.same });
     })
 
-decrement_after_law : (h at : ℕ) (a : ExprTree) → Law 0 h a → Law 0 (suc h) (expr 0 at (step steps.DecrementAfter a))
+decrement_after_law : (h at : ℕ) (a : ExprTree) → Law 0 h a → Law 0 (suc h) (expr (unnumbered at) (step steps.DecrementAfter a))
 decrement_after_law h at a la =
-    exact 0 (suc h) (expr 0 at (step steps.DecrementAfter a)) (omega arith) (omega arith) (record {
+    exact 0 (suc h) (expr (unnumbered at) (step steps.DecrementAfter a)) (omega arith) (omega arith) (record {
       from = λ n.
           let p : at_part 0 h n a = (part 0 h a la).from n in
           rw (renumbered_append n (printed_part 0 a) (Punctuator 0 punctuators.Decrement ∷ []))
-          (record { height = suc p.height; tree = at_first (renumbered n (printed_part 0 a)) (step steps.DecrementAfter p.tree); reads = a_decrement_after (n + length (printed_part 0 a)) p.reads; low = omega arith; same = ap (λ b. expr 0 0 (step steps.DecrementAfter b)) p.same });
+          (record { height = suc p.height; tree = at_first (renumbered n (printed_part 0 a)) (step steps.DecrementAfter p.tree); reads = a_decrement_after (n + length (printed_part 0 a)) p.reads; low = omega arith; same = ap (λ b. expr (unnumbered 0) (step steps.DecrementAfter b)) p.same });
     })
 
-increment_law : (h at : ℕ) (a : ExprTree) → Law 1 h a → Law 1 (suc h) (expr 0 at (step steps.IncrementBefore a))
+increment_law : (h at : ℕ) (a : ExprTree) → Law 1 h a → Law 1 (suc h) (expr (unnumbered at) (step steps.IncrementBefore a))
 increment_law h at a la =
-    exact 1 (suc h) (expr 0 at (step steps.IncrementBefore a)) (omega arith) (omega arith) (record {
+    exact 1 (suc h) (expr (unnumbered at) (step steps.IncrementBefore a)) (omega arith) (omega arith) (record {
       from = λ n.
           let p : at_part 1 h (n + 1) a = (part 1 h a la).from (n + 1) in
-          record { height = suc p.height; tree = expr 0 n (step steps.IncrementBefore p.tree); reads = an_increment n p.reads; low = omega arith; same = ap (λ b. expr 0 0 (step steps.IncrementBefore b)) p.same };
+          record { height = suc p.height; tree = expr (unnumbered n) (step steps.IncrementBefore p.tree); reads = an_increment n p.reads; low = omega arith; same = ap (λ b. expr (unnumbered 0) (step steps.IncrementBefore b)) p.same };
     })
 
-decrement_law : (h at : ℕ) (a : ExprTree) → Law 1 h a → Law 1 (suc h) (expr 0 at (step steps.DecrementBefore a))
+decrement_law : (h at : ℕ) (a : ExprTree) → Law 1 h a → Law 1 (suc h) (expr (unnumbered at) (step steps.DecrementBefore a))
 decrement_law h at a la =
-    exact 1 (suc h) (expr 0 at (step steps.DecrementBefore a)) (omega arith) (omega arith) (record {
+    exact 1 (suc h) (expr (unnumbered at) (step steps.DecrementBefore a)) (omega arith) (omega arith) (record {
       from = λ n.
           let p : at_part 1 h (n + 1) a = (part 1 h a la).from (n + 1) in
-          record { height = suc p.height; tree = expr 0 n (step steps.DecrementBefore p.tree); reads = a_decrement n p.reads; low = omega arith; same = ap (λ b. expr 0 0 (step steps.DecrementBefore b)) p.same };
+          record { height = suc p.height; tree = expr (unnumbered n) (step steps.DecrementBefore p.tree); reads = a_decrement n p.reads; low = omega arith; same = ap (λ b. expr (unnumbered 0) (step steps.DecrementBefore b)) p.same };
     })
 
-operator_law : (h at : ℕ) (operator : UnaryOperator) (a : ExprTree) → Law 2 h a → Law 1 (suc h) (expr 0 at (unary operator a))
+operator_law : (h at : ℕ) (operator : UnaryOperator) (a : ExprTree) → Law 2 h a → Law 1 (suc h) (expr (unnumbered at) (unary operator a))
 operator_law h at operator a la =
-    exact 1 (suc h) (expr 0 at (unary operator a)) (omega arith) (omega arith) (record {
+    exact 1 (suc h) (expr (unnumbered at) (unary operator a)) (omega arith) (omega arith) (record {
       from = λ n.
           let p : at_part 2 h (n + 1) a = (part 2 h a la).from (n + 1) in
-          record { height = suc p.height; tree = expr 0 n (unary operator p.tree); reads = an_operator operator n p.reads; low = omega arith; same = ap (λ b. expr 0 0 (unary operator b)) p.same };
+          record { height = suc p.height; tree = expr (unnumbered n) (unary operator p.tree); reads = an_operator operator n p.reads; low = omega arith; same = ap (λ b. expr (unnumbered 0) (unary operator b)) p.same };
     })
 
-size_of_value_law : (h at : ℕ) (a : ExprTree) → Law 1 h a → Law 1 (suc h) (expr 0 at (size_expr a))
+size_of_value_law : (h at : ℕ) (a : ExprTree) → Law 1 h a → Law 1 (suc h) (expr (unnumbered at) (sizeof_expr a))
 size_of_value_law h at a la =
-    exact 1 (suc h) (expr 0 at (size_expr a)) (omega arith) (omega arith) (record {
+    exact 1 (suc h) (expr (unnumbered at) (sizeof_expr a)) (omega arith) (omega arith) (record {
       from = λ n.
           let p : at_part 1 h (n + 1) a = (part 1 h a la).from (n + 1) in
-          record { height = suc p.height; tree = expr 0 n (size_expr p.tree); reads = a_size_of_value n p.reads; low = omega arith; same = ap (λ b. expr 0 0 (size_expr b)) p.same };
+          record { height = suc p.height; tree = expr (unnumbered n) (sizeof_expr p.tree); reads = a_size_of_value n p.reads; low = omega arith; same = ap (λ b. expr (unnumbered 0) (sizeof_expr b)) p.same };
     })
 
-size_of_type_law : (at : ℕ) (type : TypeName) → Law 1 1 (expr 0 at (size_type type))
+size_of_type_law : (at : ℕ) (type : TypeName) → Law 1 1 (expr (unnumbered at) (sizeof_type type))
 size_of_type_law at type =
-    exact 1 1 (expr 0 at (size_type type)) (omega arith) (omega arith) (record {
+    exact 1 1 (expr (unnumbered at) (sizeof_type type)) (omega arith) (omega arith) (record {
       from = λ n.
           rw (renumbered_append (n + 1 + 1) (printed_type_name type) (Punctuator 0 punctuators.CloseParenthesis ∷ []))
-          (record { height = 1; tree = expr 0 n (size_type type); reads = a_size_of_type n (n + 1) (n + 1 + 1 + length (printed_type_name type)) (type_name_reads type (n + 1 + 1)); low = omega arith; same = refl });
+          (record { height = 1; tree = expr (unnumbered n) (sizeof_type type); reads = a_size_of_type n (n + 1) (n + 1 + 1 + length (printed_type_name type)) (type_name_reads type (n + 1 + 1)); low = omega arith; same = refl });
     })
 
-cast_law : (h at : ℕ) (type : TypeName) (a : ExprTree) → Law 2 h a → Law 2 (suc h) (expr 0 at (cast type a))
+cast_law : (h at : ℕ) (type : TypeName) (a : ExprTree) → Law 2 h a → Law 2 (suc h) (expr (unnumbered at) (cast type a))
 cast_law h at type a la =
-    exact 2 (suc h) (expr 0 at (cast type a)) (omega arith) (omega arith) (record {
+    exact 2 (suc h) (expr (unnumbered at) (cast type a)) (omega arith) (omega arith) (record {
       from = λ n.
           let m : ℕ = behind n (printed_type_name type) in
           let p : at_part 2 h m a = (part 2 h a la).from m in
           rw (enclosed n (printed_type_name type) (printed_part 2 a))
-          (record { height = suc p.height; tree = expr 0 n (cast type p.tree); reads = a_cast n (n + 1 + length (printed_type_name type)) (type_name_reads type (n + 1)) p.reads; low = omega arith; same = ap (λ b. expr 0 0 (cast type b)) p.same });
+          (record { height = suc p.height; tree = expr (unnumbered n) (cast type p.tree); reads = a_cast n (n + 1 + length (printed_type_name type)) (type_name_reads type (n + 1)) p.reads; low = omega arith; same = ap (λ b. expr (unnumbered 0) (cast type b)) p.same });
     })
 
-operation_law : (j h k at : ℕ) (operator : BinaryOperator) (a b : ExprTree) → precedence operator ≡ suc j → Law (suc (suc (suc j))) h a → Law (suc (suc j)) k b → Law (suc (suc (suc j))) (suc (max h k)) (expr 0 at (binary operator a b))
+operation_law : (j h k at : ℕ) (operator : BinaryOperator) (a b : ExprTree) → precedence operator ≡ suc j → Law (suc (suc (suc j))) h a → Law (suc (suc j)) k b → Law (suc (suc (suc j))) (suc (max h k)) (expr (unnumbered at) (binary operator a b))
 operation_law j h k at operator a b e la lb =
     let most : precedence operator ≤ weakest = precedence_within operator in
     let left : suc (suc (suc j)) ≡ precedence operator + 2 = omega arith in
@@ -297,7 +296,7 @@ operation_law j h k at operator a b e la lb =
     let low : form_at (precedence operator + 1) ≡ Level j = subst (λ l. form_at l ≡ Level j) right (level_form j (omega arith)) in
     let ka : Law (precedence operator + 2) h a = subst (λ l. Law l h a) left la in
     let kb : Law (precedence operator + 1) k b = subst (λ l. Law l k b) right lb in
-    exact (suc (suc (suc j))) (suc (max h k)) (expr 0 at (binary operator a b)) (omega arith) (omega arith) (record {
+    exact (suc (suc (suc j))) (suc (max h k)) (expr (unnumbered at) (binary operator a b)) (omega arith) (omega arith) (record {
       from = λ n.
           let m : ℕ = n + length (printed_part (precedence operator + 2) a) in
           let p : at_part (precedence operator + 2) h n a = (part (precedence operator + 2) h a ka).from n in
@@ -313,9 +312,9 @@ operation_law j h k at operator a b e la lb =
           });
     })
 
-assignment_law : (h k at : ℕ) (operator : AssignmentOperator) (a b : ExprTree) → Law 1 h a → Law 14 k b → Law 14 (suc (max h k)) (expr 0 at (assign operator a b))
+assignment_law : (h k at : ℕ) (operator : AssignmentOperator) (a b : ExprTree) → Law 1 h a → Law 14 k b → Law 14 (suc (max h k)) (expr (unnumbered at) (assign operator a b))
 assignment_law h k at operator a b la lb =
-    exact 14 (suc (max h k)) (expr 0 at (assign operator a b)) (omega arith) (omega arith) (record {
+    exact 14 (suc (max h k)) (expr (unnumbered at) (assign operator a b)) (omega arith) (omega arith) (record {
       from = λ n.
           let m : ℕ = n + length (printed_part 1 a) in
           let p : at_part 1 h n a = (part 1 h a la).from n in
@@ -324,9 +323,9 @@ assignment_law h k at operator a b la lb =
           (record { height = suc (max p.height q.height); tree = at_first (renumbered n (printed_part 1 a)) (assign operator p.tree q.tree); reads = an_assignment operator m p.reads q.reads; low = omega arith; same = rw (p.same, q.same) refl });
     })
 
-comma_law : (h k at : ℕ) (a b : ExprTree) → Law 15 h a → Law 14 k b → Law 15 (suc (max h k)) (expr 0 at (comma a b))
+comma_law : (h k at : ℕ) (a b : ExprTree) → Law 15 h a → Law 14 k b → Law 15 (suc (max h k)) (expr (unnumbered at) (comma a b))
 comma_law h k at a b la lb =
-    exact 15 (suc (max h k)) (expr 0 at (comma a b)) (omega arith) (omega arith) (record {
+    exact 15 (suc (max h k)) (expr (unnumbered at) (comma a b)) (omega arith) (omega arith) (record {
       from = λ n.
           let m : ℕ = n + length (printed_expr a) in
           let p : at_whole h n a = (whole h a la).from n in
@@ -335,9 +334,9 @@ comma_law h k at a b la lb =
           (record { height = suc (max p.height q.height); tree = at_first (renumbered n (printed_expr a)) (comma p.tree q.tree); reads = a_comma m p.reads q.reads; low = omega arith; same = rw (p.same, q.same) refl });
     })
 
-choice_law : (h k l at : ℕ) (a b c : ExprTree) → Law 12 h a → Law 15 k b → Law 13 l c → Law 13 (suc (max h (max k l))) (expr 0 at (choice a b c))
-choice_law h k l at a b c la lb lc =
-    exact 13 (suc (max h (max k l))) (expr 0 at (choice a b c)) (omega arith) (omega arith) (record {
+conditional_law : (h k l at : ℕ) (a b c : ExprTree) → Law 12 h a → Law 15 k b → Law 13 l c → Law 13 (suc (max h (max k l))) (expr (unnumbered at) (conditional a b c))
+conditional_law h k l at a b c la lb lc =
+    exact 13 (suc (max h (max k l))) (expr (unnumbered at) (conditional a b c)) (omega arith) (omega arith) (record {
       from = λ n.
           let m : ℕ = n + length (printed_part 12 a) in
           let i : ℕ = m + 1 + length (printed_expr b) in
@@ -347,7 +346,7 @@ choice_law h k l at a b c la lb lc =
           rw (renumbered_append n (printed_part 12 a) (Punctuator 0 punctuators.Question ∷ (printed_expr b ++ Punctuator 0 punctuators.Colon ∷ printed_part 13 c)), renumbered_append (m + 1) (printed_expr b) (Punctuator 0 punctuators.Colon ∷ printed_part 13 c))
           (record {
             height = suc (max p.height (max q.height r.height));
-            tree = at_first (renumbered n (printed_part 12 a)) (choice p.tree q.tree r.tree);
+            tree = at_first (renumbered n (printed_part 12 a)) (conditional p.tree q.tree r.tree);
             reads = a_choice m i p.reads q.reads r.reads;
             low = omega arith;
             same = rw (p.same, q.same, r.same) refl;
@@ -388,7 +387,7 @@ mutual
   law (a_constant at v u) ok = constant_law at v u
   law (a_text {bytes = bytes} at one r) ok = text_law at (one ++ bytes)
   law (in_parentheses {h = h} {e = e} o c r) ok = parentheses_law h e (law r tt)
-  law (an_index {h = h} {k = k} {xs = xs} {a = a} {b = b} o c r s) ok = index_law h k _ a b (law r tt) (law s tt)
+  law (an_index {h = h} {k = k} {xs = xs} {a = a} {b = b} o c r s) ok = subscript_law h k _ a b (law r tt) (law s tt)
   law (a_member {h = h} {xs = xs} {a = a} access d n x r) ok = member_law h _ access a x (law r tt)
   law (an_increment_after {h = h} {xs = xs} {a = a} s r) ok = increment_after_law h _ a (law r tt)
   law (a_decrement_after {h = h} {xs = xs} {a = a} s r) ok = decrement_after_law h _ a (law r tt)
@@ -403,7 +402,7 @@ mutual
   law (stronger {j = j} {h = h} {e = e} r) ok = weaker (suc (suc j)) (suc (suc (suc j))) h e (omega arith) (law r (omega arith))
   law (an_operation {j = j} {h = h} {k = k} {xs = xs} {a = a} {b = b} operator at w r s) ok = operation_law j h k _ operator a b w (law r ok) (law s (omega arith))
   law (a_plain_level {h = h} {e = e} r) ok = weaker 12 13 h e (omega arith) (law r (omega arith))
-  law (a_choice {h = h} {k = k} {l = l} {xs = xs} {a = a} {b = b} {c = c} q s r t u) ok = choice_law h k l _ a b c (law r (omega arith)) (law t tt) (law u tt)
+  law (a_choice {h = h} {k = k} {l = l} {xs = xs} {a = a} {b = b} {c = c} q s r t u) ok = conditional_law h k l _ a b c (law r (omega arith)) (law t tt) (law u tt)
   law (a_plain_conditional {h = h} {e = e} r) ok = weaker 13 14 h e (omega arith) (law r tt)
   law (an_assignment {h = h} {k = k} {xs = xs} {a = a} {b = b} operator at r s) ok = assignment_law h k _ operator a b (law r tt) (law s tt)
   law (a_plain_assignment {h = h} {e = e} r) ok = weaker 14 15 h e (omega arith) (law r tt)

@@ -1,18 +1,19 @@
 -- The printed terminals of statements that were read are read as them again, no higher.
 use Rattle.std.proofs.Common.{◌≡◌, ℕ, suc, ◌+◌, false, List, [], ◌∷◌, ◌++◌, length, Option, Some, None, refl, ap, sym, ◌∙◌, append-nil, append_assoc, arith}
-use Rattle.std.specs.Prelude.{max, option_map}
+use Rattle.std.specs.Prelude.{max}
 use Rattle.qs_syntax.specs.declared.terminal.Terminal.{Terminal}
 use Rattle.qs_syntax.specs.declared.terminal.Terminal.TheVariants.{Keyword, Punctuator}
 use Rattle.qs_base.specs.declared.keyword.Keyword.TheVariants as keywords
 use Rattle.qs_syntax.specs.declared.punctuator.Punctuator.TheVariants as punctuators
-use Rattle.qs_syntax.specs.Trees.{ExprTree, StartTree, no_start, start_expression, start_declaration, StmtTree, empty, expression, declaration, block, branch, while_loop, do_loop, for_loop, break, continue, return, Stmts, no_stmts, stmt_and, Else, no_else, else_by}
+use Rattle.qs_syntax.specs.Trees.{unnumbered, ExprTree, StartTree, no_start, start_expression, start_declaration, StmtTree, empty, expression, declaration, block, branch, while_loop, do_loop, for_loop, break, continue, return, Stmts, no_stmts, stmt_and, Else, no_else, else_by}
 use Rattle.qs_syntax.specs.Reads.{place}
 use Rattle.qs_syntax.specs.ReadsDeclarations.{ReadsDeclaration}
 use Rattle.qs_syntax.specs.ReadsStatements.{is_open, is_open_end, ReadsOptional, nothing_there, something_there, ReadsStart, a_start_declaration, a_start_expression, no_start_at_all, ReadsStatement, a_block, an_empty, an_expression, an_if, an_if_with_else, a_while, a_do, a_for, a_break, a_continue, a_return, ReadsItem, a_statement, a_declared, ReadsItems, no_item, an_item}
-use Rattle.qs_print.specs.Lexed.{renumbered}
+use Rattle.qs_syntax.specs.Numbering.{bare, relabel_expr}
+use Rattle.qs_print.specs.Laws.{renumbered}
 use Rattle.qs_print.specs.Printed.{in_parentheses, printed_declaration, printed_expr, printed_optional, printed_start, printed_stmt, printed_stmts}
-use Rattle.qs_print.specs.WithoutTokens.{plain_declaration, plain_else, plain_expr, plain_start, plain_stmt, plain_stmts}
-use Rattle.qs_print.proofs.Rereading.{Again, Reread, renumbered_append, behind, enclosed}
+use Rattle.qs_syntax.specs.WithoutTokens.{plain_declaration, plain_else, plain_start, plain_stmt, plain_stmts}
+use Rattle.qs_print.proofs.Rereading.{some_plain, Again, Reread, renumbered_append, behind, enclosed}
 use Rattle.qs_print.proofs.RereadExpressions.{at_whole, law, whole}
 use Rattle.qs_print.proofs.RereadDeclarations.{declaration_law}
 
@@ -20,17 +21,17 @@ use Rattle.qs_print.proofs.RereadDeclarations.{declaration_law}
 
 mutual
   plain_is_open : (s : StmtTree) → is_open (plain_stmt s) ≡ is_open s
-  plain_is_open (empty id t) = refl
-  plain_is_open (expression id t e) = refl
+  plain_is_open (empty node) = refl
+  plain_is_open (expression node e) = refl
   plain_is_open (declaration d) = refl
   plain_is_open (block ss) = refl
-  plain_is_open (branch id t e s rest) = plain_is_open_end rest
-  plain_is_open (while_loop id t e s) = plain_is_open s
-  plain_is_open (do_loop id t s e) = refl
-  plain_is_open (for_loop id t start e u s) = plain_is_open s
-  plain_is_open (break id t) = refl
-  plain_is_open (continue id t) = refl
-  plain_is_open (return id t e) = refl
+  plain_is_open (branch node e s rest) = plain_is_open_end rest
+  plain_is_open (while_loop node e s) = plain_is_open s
+  plain_is_open (do_loop node s e) = refl
+  plain_is_open (for_loop node start e u s) = plain_is_open s
+  plain_is_open (break node) = refl
+  plain_is_open (continue node) = refl
+  plain_is_open (return node e) = refl
 
   plain_is_open_end : (r : Else) → is_open_end (plain_else r) ≡ is_open_end r
   plain_is_open_end no_else = refl
@@ -42,9 +43,9 @@ still_closed s t e f = sym (plain_is_open t) ∙ ap is_open e ∙ plain_is_open 
 -- ---- the parts of statements
 
 abbrev at_optional : (h n : ℕ) (e : Option ExprTree) → Type 0
-at_optional h n e = Again ReadsOptional (option_map plain_expr) h (renumbered n (printed_optional e)) e
+at_optional h n e = Again ReadsOptional (some_plain (relabel_expr bare)) h (renumbered n (printed_optional e)) e
 
-optional_law : {h : ℕ} {ts : List Terminal} {e : Option ExprTree} → ReadsOptional h ts e → Reread ReadsOptional (option_map plain_expr) h (printed_optional e) e
+optional_law : {h : ℕ} {ts : List Terminal} {e : Option ExprTree} → ReadsOptional h ts e → Reread ReadsOptional (some_plain (relabel_expr bare)) h (printed_optional e) e
 optional_law nothing_there = record { from = λ n. record { height = 0; tree = None; reads = nothing_there; low = omega arith; same = refl } }
 optional_law (something_there {h = h} {e = e} r) = record {
   from = λ n.
@@ -85,12 +86,12 @@ mutual
         rw (renumbered_append (n + 1) (printed_stmts ss) (Punctuator 0 punctuators.CloseBrace ∷ []))
         (record { height = suc p.height; tree = block p.tree; reads = a_block n (n + 1 + length (printed_stmts ss)) p.reads; low = omega arith; same = ap block p.same });
   }
-  statement_law (an_empty at) = record { from = λ n. record { height = 1; tree = empty 0 n; reads = an_empty n; low = omega arith; same = refl } }
+  statement_law (an_empty at) = record { from = λ n. record { height = 1; tree = empty (unnumbered n); reads = an_empty n; low = omega arith; same = refl } }
   statement_law (an_expression {h = h} {e = e} s r) = record {
     from = λ n.
         let p : at_whole h n e = (whole h e (law r tt)).from n in
         rw (renumbered_append n (printed_expr e) (Punctuator 0 punctuators.Semicolon ∷ []))
-        (record { height = suc p.height; tree = expression 0 (place (renumbered n (printed_expr e))) p.tree; reads = an_expression (n + length (printed_expr e)) p.reads; low = omega arith; same = ap (expression 0 0) p.same });
+        (record { height = suc p.height; tree = expression (unnumbered (place (renumbered n (printed_expr e)))) p.tree; reads = an_expression (n + length (printed_expr e)) p.reads; low = omega arith; same = ap (expression (unnumbered 0)) p.same });
   }
   statement_law (an_if {h = h} {k = k} {e = e} {s = s} at o c r t) = record {
     from = λ n.
@@ -98,7 +99,7 @@ mutual
         let p : at_whole h (n + 1 + 1) e = (whole h e (law r tt)).from (n + 1 + 1) in
         let q : at_stmt k m s = (statement_law t).from m in
         rw (append-nil (printed_stmt s), enclosed (n + 1) (printed_expr e) (printed_stmt s))
-        (record { height = suc (max p.height q.height); tree = branch 0 n p.tree q.tree no_else; reads = an_if n (n + 1) (n + 1 + 1 + length (printed_expr e)) p.reads q.reads; low = omega arith; same = rw (p.same, q.same) refl });
+        (record { height = suc (max p.height q.height); tree = branch (unnumbered n) p.tree q.tree no_else; reads = an_if n (n + 1) (n + 1 + 1 + length (printed_expr e)) p.reads q.reads; low = omega arith; same = rw (p.same, q.same) refl });
   }
   statement_law (an_if_with_else {h = h} {k = k} {l = l} {e = e} {s = s} {t = u} at o c m r t f v) = record {
     from = λ n.
@@ -110,7 +111,7 @@ mutual
         rw (enclosed (n + 1) (printed_expr e) (printed_stmt s ++ Keyword 0 keywords.Else ∷ printed_stmt u), renumbered_append i (printed_stmt s) (Keyword 0 keywords.Else ∷ printed_stmt u))
         (record {
           height = suc (max p.height (max q.height w.height));
-          tree = branch 0 n p.tree q.tree (else_by w.tree);
+          tree = branch (unnumbered n) p.tree q.tree (else_by w.tree);
           reads = an_if_with_else n (n + 1) (n + 1 + 1 + length (printed_expr e)) j p.reads q.reads (still_closed s q.tree q.same f) w.reads;
           low = omega arith;
           same = rw (p.same, q.same, w.same) refl;
@@ -122,7 +123,7 @@ mutual
         let p : at_whole h (n + 1 + 1) e = (whole h e (law r tt)).from (n + 1 + 1) in
         let q : at_stmt k m s = (statement_law t).from m in
         rw (enclosed (n + 1) (printed_expr e) (printed_stmt s))
-        (record { height = suc (max p.height q.height); tree = while_loop 0 n p.tree q.tree; reads = a_while n (n + 1) (n + 1 + 1 + length (printed_expr e)) p.reads q.reads; low = omega arith; same = rw (p.same, q.same) refl });
+        (record { height = suc (max p.height q.height); tree = while_loop (unnumbered n) p.tree q.tree; reads = a_while n (n + 1) (n + 1 + 1 + length (printed_expr e)) p.reads q.reads; low = omega arith; same = rw (p.same, q.same) refl });
   }
   statement_law (a_do {h = h} {k = k} {s = s} {e = e} at v o c z r t) = record {
     from = λ n.
@@ -130,7 +131,7 @@ mutual
         let p : at_stmt h (n + 1) s = (statement_law r).from (n + 1) in
         let q : at_whole k (m + 1 + 1) e = (whole k e (law t tt)).from (m + 1 + 1) in
         rw (renumbered_append (n + 1) (printed_stmt s) (Keyword 0 keywords.While ∷ (in_parentheses (printed_expr e) ++ Punctuator 0 punctuators.Semicolon ∷ [])), enclosed (m + 1) (printed_expr e) (Punctuator 0 punctuators.Semicolon ∷ []))
-        (record { height = suc (max p.height q.height); tree = do_loop 0 n p.tree q.tree; reads = a_do n m (m + 1) (m + 1 + 1 + length (printed_expr e)) (behind (m + 1) (printed_expr e)) p.reads q.reads; low = omega arith; same = rw (p.same, q.same) refl });
+        (record { height = suc (max p.height q.height); tree = do_loop (unnumbered n) p.tree q.tree; reads = a_do n m (m + 1) (m + 1 + 1 + length (printed_expr e)) (behind (m + 1) (printed_expr e)) p.reads q.reads; low = omega arith; same = rw (p.same, q.same) refl });
   }
   statement_law (a_for {h = h} {i = i} {j = j} {k = k} {start = a} {e = e} {u = u} {s = s} at o z c r t v w) = record {
     from = λ n.
@@ -151,19 +152,19 @@ mutual
         )
         (record {
           height = suc (max p.height (max q.height (max g.height b.height)));
-          tree = for_loop 0 n p.tree q.tree g.tree b.tree;
+          tree = for_loop (unnumbered n) p.tree q.tree g.tree b.tree;
           reads = a_for n (n + 1) y (n + 1 + 1 + length head) p.reads q.reads g.reads b.reads;
           low = omega arith;
           same = rw (p.same, q.same, g.same, b.same) refl;
         });
   }
-  statement_law (a_break at s) = record { from = λ n. record { height = 1; tree = break 0 n; reads = a_break n (n + 1); low = omega arith; same = refl } }
-  statement_law (a_continue at s) = record { from = λ n. record { height = 1; tree = continue 0 n; reads = a_continue n (n + 1); low = omega arith; same = refl } }
+  statement_law (a_break at s) = record { from = λ n. record { height = 1; tree = break (unnumbered n); reads = a_break n (n + 1); low = omega arith; same = refl } }
+  statement_law (a_continue at s) = record { from = λ n. record { height = 1; tree = continue (unnumbered n); reads = a_continue n (n + 1); low = omega arith; same = refl } }
   statement_law (a_return {h = h} {e = e} at s r) = record {
     from = λ n.
         let p : at_optional h (n + 1) e = (optional_law r).from (n + 1) in
         rw (renumbered_append (n + 1) (printed_optional e) (Punctuator 0 punctuators.Semicolon ∷ []))
-        (record { height = suc p.height; tree = return 0 n p.tree; reads = a_return n (n + 1 + length (printed_optional e)) p.reads; low = omega arith; same = ap (return 0 0) p.same });
+        (record { height = suc p.height; tree = return (unnumbered n) p.tree; reads = a_return n (n + 1 + length (printed_optional e)) p.reads; low = omega arith; same = ap (return (unnumbered 0)) p.same });
   }
 
   item_law : {h : ℕ} {ts : List Terminal} {s : StmtTree} → ReadsItem h ts s → Reread ReadsItem plain_stmt h (printed_stmt s) s

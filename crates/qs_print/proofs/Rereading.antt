@@ -1,15 +1,23 @@
 -- What it is that printed terminals read back, whatever their numbers; lists, types and stars.
-use Rattle.std.proofs.Common.{◌≡◌, ℕ, zero, suc, ◌+◌, ◌≤◌, List, [], ◌∷◌, ◌++◌, length, sym, ap, subst, ◌∙◌, append_assoc, append-nil, arith}
+use Rattle.std.proofs.Common.{◌≡◌, ℕ, zero, suc, ◌+◌, ◌≤◌, List, [], ◌∷◌, ◌++◌, Option, length, sym, ap, subst, ◌∙◌, append_assoc, append-nil, arith}
 use Rattle.qs_syntax.specs.declared.terminal.Terminal.{Terminal}
 use Rattle.qs_syntax.specs.declared.terminal.Terminal.TheVariants as terminals
 use Rattle.qs_syntax.specs.declared.punctuator.Punctuator.{Punctuator}
 use Rattle.qs_syntax.specs.declared.punctuator.Punctuator.TheVariants as punctuators
-use Rattle.qs_syntax.specs.declared.tree.Base.{Base}
-use Rattle.qs_syntax.specs.declared.tree.Base.TheVariants as bases
-use Rattle.qs_syntax.specs.declared.tree.TypeName.{TypeName}
+use Rattle.qs_syntax.specs.declared.types.Base.{Base}
+use Rattle.qs_syntax.specs.declared.types.Base.TheVariants as bases
+use Rattle.qs_syntax.specs.declared.types.TypeName.{TypeName}
 use Rattle.qs_syntax.specs.ReadsTypes.{no_const, no_prefix, ReadsBase, a_void, an_int, a_char, an_unsigned, a_struct, ReadsType, a_type, ReadsOuterType, an_outer_type, ReadsStars, no_star, a_star, ReadsTypeName, a_type_name}
-use Rattle.qs_print.specs.Lexed.{numbered, renumbered}
+use Rattle.qs_syntax.specs.Numbering.{bare, relabel_all, relabel_option}
+use Rattle.qs_print.specs.Laws.{numbered, renumbered}
 use Rattle.qs_print.specs.Printed.{in_parentheses, printed_base, printed_stars, printed_type_name}
+
+-- the trees of a list, or the one that is there, without the numbers of tokens and nodes
+abbrev pub all_plain : {A : Type 0} → (A → ℕ) → (ℕ → A → A) → List A → List A
+all_plain count relabel = relabel_all bare count relabel 0
+
+abbrev pub some_plain : {A : Type 0} → (ℕ → A → A) → Option A → Option A
+some_plain relabel = relabel_option relabel 0
 
 -- these terminals are read, no higher than h, as what is the same as x but for the numbers of tokens
 pub record Again {T : Type 0} (R : ℕ → List Terminal → T → Type 0) (plain : T → T) (h : ℕ) (us : List Terminal) (x : T) : Type 0 where

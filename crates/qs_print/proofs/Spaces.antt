@@ -11,7 +11,7 @@ use Rattle.qs_syntax.specs.Trees.{ExprTree, exprs_of, InitialiserTree, initialis
 use Rattle.qs_print.specs.Levels.{assignment_level}
 use Rattle.qs_print.specs.Printed.{behind_commas, comma_unless, further_arguments, further_initialisers, printed_arguments, printed_initialiser, printed_initialisers, printed_part, printed_stars, printed_stmt, printed_stmts, with_commas}
 use Rattle.qs_print.specs.Spelling.{joined, spelling}
-use Rattle.qs_print.specs.Spaced.{spaced, Writes}
+use Rattle.qs_print.specs.Words.{spaced, Writes}
 
 pub spaced_append : (xs ys : List Terminal) → spaced (xs ++ ys) ≡ spaced xs ++ spaced ys
 spaced_append [] ys = refl

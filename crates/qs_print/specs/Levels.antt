@@ -3,7 +3,7 @@
 use Rattle.std.specs.Prelude.{ℕ, ◌+◌, if◌then◌else◌}
 use Rattle.qs_syntax.specs.declared.operators.StepOperator.{StepOperator}
 use Rattle.qs_syntax.specs.Operators.{precedence, stands_before}
-use Rattle.qs_syntax.specs.Trees.{ExprTree, expr, ShapeTree, int, text, name, unary, step, cast, size_type, size_expr, binary, assign, choice, comma, index, member, call}
+use Rattle.qs_syntax.specs.Trees.{ExprTree, expr, ShapeTree, constant, text, name, unary, step, cast, sizeof_type, sizeof_expr, binary, assign, conditional, comma, subscript, member, call}
 
 abbrev pub postfix_level : ℕ
 postfix_level = 0
@@ -30,21 +30,21 @@ abbrev pub step_level : StepOperator → ℕ
 step_level operator = if stands_before operator then unary_level else postfix_level
 
 abbrev pub shape_level : ShapeTree → ℕ
-shape_level (int n unsigned) = postfix_level
+shape_level (constant n unsigned) = postfix_level
 shape_level (text bytes) = postfix_level
 shape_level (name x) = postfix_level
 shape_level (unary operator a) = unary_level
 shape_level (step operator a) = step_level operator
 shape_level (cast type a) = cast_level
-shape_level (size_type type) = unary_level
-shape_level (size_expr a) = unary_level
+shape_level (sizeof_type type) = unary_level
+shape_level (sizeof_expr a) = unary_level
 shape_level (binary operator a b) = precedence operator + cast_level
 shape_level (assign operator a b) = assignment_level
-shape_level (choice a b c) = conditional_level
+shape_level (conditional a b c) = conditional_level
 shape_level (comma a b) = comma_level
-shape_level (index a b) = postfix_level
+shape_level (subscript a b) = postfix_level
 shape_level (member access a x) = postfix_level
 shape_level (call f es) = postfix_level
 
 abbrev pub level : ExprTree → ℕ
-level (expr id t s) = shape_level s
+level (expr node s) = shape_level s

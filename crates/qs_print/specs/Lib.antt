@@ -1,7 +1,6 @@
 pub mod Spelling
-pub mod Lexed
+pub mod Laws
 pub mod Levels
 pub mod Printed
-pub mod Spaced
-pub mod WithoutTokens
+pub mod Words
 pub mod ReadsBack

@@ -5,11 +5,11 @@ use Rattle.qs_syntax.specs.declared.terminal.Terminal.{Terminal}
 use Rattle.qs_syntax.specs.declared.terminal.Terminal.TheVariants.{Name, Keyword, Constant, Text, Punctuator}
 use Rattle.qs_base.specs.declared.keyword.Keyword.TheVariants as keywords
 use Rattle.qs_syntax.specs.declared.punctuator.Punctuator.TheVariants as punctuators
-use Rattle.qs_syntax.specs.declared.tree.Base.{Base}
-use Rattle.qs_syntax.specs.declared.tree.Base.TheVariants as bases
-use Rattle.qs_syntax.specs.declared.tree.TypeName.{TypeName}
+use Rattle.qs_syntax.specs.declared.types.Base.{Base}
+use Rattle.qs_syntax.specs.declared.types.Base.TheVariants as bases
+use Rattle.qs_syntax.specs.declared.types.TypeName.{TypeName}
 use Rattle.qs_syntax.specs.declared.operators.StepOperator.{StepOperator}
-use Rattle.qs_syntax.specs.Trees.{ExprTree, expr, ShapeTree, int, text, name, unary, step, cast, size_type, size_expr, binary, assign, choice, comma, index, member, call, Exprs, no_exprs, expr_and, LengthsTree, DeclaratorTree, InitialiserTree, value, list, Initialisers, no_initialisers, initialiser_and, VariableTree, DeclarationTree, ParameterTree, MembersTree, StartTree, no_start, start_expression, start_declaration, StmtTree, empty, expression, declaration, block, branch, while_loop, do_loop, for_loop, break, continue, return, Stmts, no_stmts, stmt_and, Else, no_else, else_by, StructTree, ForwardTree, FunctionTree, DeclTree, structure, forward, function, variables}
+use Rattle.qs_syntax.specs.Trees.{ExprTree, expr, ShapeTree, constant, text, name, unary, step, cast, sizeof_type, sizeof_expr, binary, assign, conditional, comma, subscript, member, call, Exprs, no_exprs, expr_and, LengthsTree, DeclaratorTree, InitialiserTree, value, list, Initialisers, no_initialisers, initialiser_and, VariableTree, DeclarationTree, ParameterTree, MembersTree, StartTree, no_start, start_expression, start_declaration, StmtTree, empty, expression, declaration, block, branch, while_loop, do_loop, for_loop, break, continue, return, Stmts, no_stmts, stmt_and, Else, no_else, else_by, StructTree, ForwardTree, FunctionTree, DeclTree, structure, forward, function, variables}
 use Rattle.qs_syntax.specs.Operators.{precedence, punctuator_of_access, punctuator_of_assign, punctuator_of_binary, punctuator_of_step, punctuator_of_unary, stands_before}
 use Rattle.qs_print.specs.Levels.{assignment_level, cast_level, conditional_level, level, or_level, postfix_level, step_level, unary_level}
 
@@ -64,24 +64,24 @@ with_step operator ls =
 
 abbrev mutual
   pub printed_expr : ExprTree → List Terminal
-  printed_expr (expr id t s) = printed_shape s
+  printed_expr (expr node s) = printed_shape s
 
   pub printed_shape : ShapeTree → List Terminal
-  printed_shape (int n unsigned) = Constant 0 n unsigned ∷ []
+  printed_shape (constant n unsigned) = Constant 0 n unsigned ∷ []
   printed_shape (text bytes) = Text 0 bytes ∷ []
   printed_shape (name x) = Name 0 x ∷ []
   printed_shape (unary operator a) = Punctuator 0 (punctuator_of_unary operator) ∷ within cast_level a (printed_expr a)
   printed_shape (step operator a) = with_step operator (within (step_level operator) a (printed_expr a))
   printed_shape (cast type a) = in_parentheses (printed_type_name type) ++ within cast_level a (printed_expr a)
-  printed_shape (size_type type) = Keyword 0 keywords.Sizeof ∷ in_parentheses (printed_type_name type)
-  printed_shape (size_expr a) = Keyword 0 keywords.Sizeof ∷ within unary_level a (printed_expr a)
+  printed_shape (sizeof_type type) = Keyword 0 keywords.Sizeof ∷ in_parentheses (printed_type_name type)
+  printed_shape (sizeof_expr a) = Keyword 0 keywords.Sizeof ∷ within unary_level a (printed_expr a)
   printed_shape (binary operator a b) =
       within (precedence operator + cast_level) a (printed_expr a) ++ Punctuator 0 (punctuator_of_binary operator) ∷ within (precedence operator + 1) b (printed_expr b)
   printed_shape (assign operator a b) = within unary_level a (printed_expr a) ++ Punctuator 0 (punctuator_of_assign operator) ∷ within assignment_level b (printed_expr b)
-  printed_shape (choice a b c) =
+  printed_shape (conditional a b c) =
       within or_level a (printed_expr a) ++ Punctuator 0 punctuators.Question ∷ (printed_expr b ++ Punctuator 0 punctuators.Colon ∷ within conditional_level c (printed_expr c))
   printed_shape (comma a b) = printed_expr a ++ Punctuator 0 punctuators.Comma ∷ within assignment_level b (printed_expr b)
-  printed_shape (index a b) = within postfix_level a (printed_expr a) ++ Punctuator 0 punctuators.OpenBracket ∷ (printed_expr b ++ Punctuator 0 punctuators.CloseBracket ∷ [])
+  printed_shape (subscript a b) = within postfix_level a (printed_expr a) ++ Punctuator 0 punctuators.OpenBracket ∷ (printed_expr b ++ Punctuator 0 punctuators.CloseBracket ∷ [])
   printed_shape (member access a x) = within postfix_level a (printed_expr a) ++ Punctuator 0 (punctuator_of_access access) ∷ Name 0 x ∷ []
   printed_shape (call f es) = Name 0 f ∷ in_parentheses (printed_arguments es)
 
@@ -116,7 +116,7 @@ printed_declarator d = printed_stars d.stars ++ Name 0 d.name ∷ printed_length
 abbrev mutual
   pub printed_initialiser : InitialiserTree → List Terminal
   printed_initialiser (value e) = printed_part assignment_level e
-  printed_initialiser (list id t is) = Punctuator 0 punctuators.OpenBrace ∷ (printed_initialisers is ++ Punctuator 0 punctuators.CloseBrace ∷ [])
+  printed_initialiser (list node is) = Punctuator 0 punctuators.OpenBrace ∷ (printed_initialisers is ++ Punctuator 0 punctuators.CloseBrace ∷ [])
 
   -- commas stand between them
   pub printed_initialisers : Initialisers → List Terminal
@@ -161,7 +161,7 @@ is_without_brackets false (e ∷ es) = false
 
 -- its type is `void` and nothing else stands there: the token `void` alone would say that there are no parameters
 abbrev pub is_void_alone : ParameterTree → Bool
-is_void_alone p = is_void p.base && (p.stars == 0 && (is_nameless p.name && is_without_brackets p.lengths.is_open p.lengths.given))
+is_void_alone p = is_void p.type_name.base && (p.type_name.stars == 0 && (is_nameless p.name && is_without_brackets p.lengths.is_open p.lengths.given))
 
 abbrev pub const_if : Bool → List Terminal
 const_if true = Keyword 0 keywords.Const ∷ []
@@ -172,7 +172,7 @@ printed_name None = []
 printed_name (Some x) = Name 0 x ∷ []
 
 abbrev pub printed_parameter : ParameterTree → List Terminal
-printed_parameter p = const_if (is_void_alone p) ++ (printed_base p.base ++ (printed_stars p.stars ++ (printed_name p.name ++ printed_lengths p.lengths)))
+printed_parameter p = const_if (is_void_alone p) ++ (printed_base p.type_name.base ++ (printed_stars p.type_name.stars ++ (printed_name p.name ++ printed_lengths p.lengths)))
 
 abbrev pub printed_parameters : List ParameterTree → List Terminal
 printed_parameters [] = Keyword 0 keywords.Void ∷ []
@@ -191,20 +191,20 @@ printed_start (start_declaration d) = printed_declaration d
 
 abbrev mutual
   pub printed_stmt : StmtTree → List Terminal
-  printed_stmt (empty id t) = Punctuator 0 punctuators.Semicolon ∷ []
-  printed_stmt (expression id t e) = printed_expr e ++ Punctuator 0 punctuators.Semicolon ∷ []
+  printed_stmt (empty node) = Punctuator 0 punctuators.Semicolon ∷ []
+  printed_stmt (expression node e) = printed_expr e ++ Punctuator 0 punctuators.Semicolon ∷ []
   printed_stmt (declaration d) = printed_declaration d
   printed_stmt (block ss) = Punctuator 0 punctuators.OpenBrace ∷ (printed_stmts ss ++ Punctuator 0 punctuators.CloseBrace ∷ [])
-  printed_stmt (branch id t e s rest) = Keyword 0 keywords.If ∷ (in_parentheses (printed_expr e) ++ (printed_stmt s ++ printed_else rest))
-  printed_stmt (while_loop id t e s) = Keyword 0 keywords.While ∷ (in_parentheses (printed_expr e) ++ printed_stmt s)
-  printed_stmt (do_loop id t s e) =
+  printed_stmt (branch node e s rest) = Keyword 0 keywords.If ∷ (in_parentheses (printed_expr e) ++ (printed_stmt s ++ printed_else rest))
+  printed_stmt (while_loop node e s) = Keyword 0 keywords.While ∷ (in_parentheses (printed_expr e) ++ printed_stmt s)
+  printed_stmt (do_loop node s e) =
       Keyword 0 keywords.Do ∷ (printed_stmt s ++ Keyword 0 keywords.While ∷ (in_parentheses (printed_expr e) ++ Punctuator 0 punctuators.Semicolon ∷ []))
-  printed_stmt (for_loop id t start e u s) =
+  printed_stmt (for_loop node start e u s) =
       Keyword 0 keywords.For
       ∷ (in_parentheses (printed_start start ++ (printed_optional e ++ Punctuator 0 punctuators.Semicolon ∷ printed_optional u)) ++ printed_stmt s)
-  printed_stmt (break id t) = Keyword 0 keywords.Break ∷ Punctuator 0 punctuators.Semicolon ∷ []
-  printed_stmt (continue id t) = Keyword 0 keywords.Continue ∷ Punctuator 0 punctuators.Semicolon ∷ []
-  printed_stmt (return id t e) = Keyword 0 keywords.Return ∷ (printed_optional e ++ Punctuator 0 punctuators.Semicolon ∷ [])
+  printed_stmt (break node) = Keyword 0 keywords.Break ∷ Punctuator 0 punctuators.Semicolon ∷ []
+  printed_stmt (continue node) = Keyword 0 keywords.Continue ∷ Punctuator 0 punctuators.Semicolon ∷ []
+  printed_stmt (return node e) = Keyword 0 keywords.Return ∷ (printed_optional e ++ Punctuator 0 punctuators.Semicolon ∷ [])
 
   pub printed_stmts : Stmts → List Terminal
   printed_stmts no_stmts = []
@@ -229,7 +229,7 @@ printed_body (Some ss) = Punctuator 0 punctuators.OpenBrace ∷ (printed_stmts s
 
 abbrev pub printed_function : FunctionTree → List Terminal
 printed_function f =
-    printed_base f.base ++ (printed_stars f.stars ++ Name 0 f.name ∷ (in_parentheses (printed_parameters f.parameters) ++ printed_body f.body))
+    printed_base f.result_type.base ++ (printed_stars f.result_type.stars ++ Name 0 f.name ∷ (in_parentheses (printed_parameters f.parameters) ++ printed_body f.body))
 
 abbrev pub printed_decl : DeclTree → List Terminal
 printed_decl (structure s) = printed_struct s

@@ -1,17 +1,17 @@
 // Writes declarations (C11 6.7).
 ghost use Rattle.std.specs.Prelude.{◌≡◌, OnOk, flat_map, map, option_map};
 ghost use Rattle.qs_print.specs.Printed.{const_if, is_void_alone, open_brackets, printed_declaration, printed_declarator, printed_initialiser, printed_length, printed_lengths, printed_members, printed_name, printed_parameter, printed_parameters, printed_setting, printed_variable, with_commas};
-ghost use Rattle.qs_print.specs.Spaced.{Writes};
+ghost use Rattle.qs_print.specs.Words.{Writes};
 ghost use Rattle.qs_syntax.specs.TreeOf.{declaration_tree, declarator_tree, expr_tree, initialiser_tree, lengths_tree, members_tree, parameter_tree, variable_tree};
 
 use crate::expressions::put_part;
 use crate::levels::{ASSIGNMENT, CONDITIONAL};
 use crate::types::{put_base, put_stars};
-use crate::words::{put_comma_unless, put_keyword, put_punctuator, put_name};
+use crate::words::{put_comma_unless, put_keyword, put_name, put_punctuator};
 use qs_base::{Name, NoMemory};
 use qs_syntax::{
-    Base, Declaration, Declarator, Expr, Initialiser, Keyword, Lengths, Punctuator, Members, Parameter,
-    Variable,
+    Base, Declaration, Declarator, Expr, Initialiser, Keyword, Lengths, Members, Parameter,
+    Punctuator, Variable,
 };
 
 fn put_length(out: &mut Vec<u8>, e: &Expr) -> Result<(), NoMemory>
@@ -148,7 +148,7 @@ pub fn put_members(out: &mut Vec<u8>, m: &Members) -> Result<(), NoMemory>
 fn is_void_alone(p: &Parameter) -> bool
     ensures { result ≡ is_void_alone (parameter_tree p.now) }
 {
-    match (&p.base, p.stars, &p.name) {
+    match (&p.type_name.base, p.type_name.stars, &p.name) {
         (Base::Void, 0, None) => !p.lengths.is_open && p.lengths.given.is_empty(),
         _ => false,
     }
@@ -177,8 +177,8 @@ fn put_parameter(out: &mut Vec<u8>, p: &Parameter) -> Result<(), NoMemory>
     ensures { OnOk result (Writes out.old.items (printed_parameter (parameter_tree p.now)) out.new.items) }
 {
     put_const_if(out, is_void_alone(p))?;
-    put_base(out, &p.base)?;
-    put_stars(out, p.stars)?;
+    put_base(out, &p.type_name.base)?;
+    put_stars(out, p.type_name.stars)?;
     put_optional_name(out, &p.name)?;
     put_lengths(out, &p.lengths)
 }

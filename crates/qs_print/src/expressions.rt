@@ -2,13 +2,13 @@
 ghost use Rattle.std.specs.Prelude.{OnOk, map};
 ghost use Rattle.qs_print.specs.Levels.{assignment_level, step_level};
 ghost use Rattle.qs_print.specs.Printed.{in_parentheses, printed_expr, printed_part, printed_shape, printed_type_name, with_commas, with_step};
-ghost use Rattle.qs_print.specs.Spaced.{Writes};
+ghost use Rattle.qs_print.specs.Words.{Writes};
 ghost use Rattle.qs_syntax.specs.TreeOf.{expr_tree, shape_tree};
 
 use crate::levels::{ASSIGNMENT, CAST, CONDITIONAL, OR, POSTFIX, UNARY, level};
 use crate::literals::{put_constant, put_text};
 use crate::types::put_type_name;
-use crate::words::{put_comma_unless, put_keyword, put_punctuator, put_name};
+use crate::words::{put_comma_unless, put_keyword, put_name, put_punctuator};
 use qs_base::NoMemory;
 use qs_syntax::{Expr, Keyword, Punctuator, Shape, StepOperator, TypeName};
 
@@ -69,7 +69,7 @@ fn put_shape(out: &mut Vec<u8>, shape: &Shape) -> Result<(), NoMemory>
     ensures { OnOk result (Writes out.old.items (printed_shape (shape_tree shape.now)) out.new.items) }
 {
     match shape {
-        Shape::Int(value, is_unsigned) => put_constant(out, *value, *is_unsigned),
+        Shape::Constant(value, is_unsigned) => put_constant(out, *value, *is_unsigned),
         Shape::Text(text) => put_text(out, text),
         Shape::Name(name) => put_name(out, name),
         Shape::Unary(operator, a) => {
@@ -81,45 +81,61 @@ fn put_shape(out: &mut Vec<u8>, shape: &Shape) -> Result<(), NoMemory>
             put_type_in_parentheses(out, type_name)?;
             put_part(out, CAST, a)
         }
-        Shape::SizeType(type_name) => {
+        Shape::SizeofType(type_name) => {
             put_keyword(out, Keyword::Sizeof)?;
             put_type_in_parentheses(out, type_name)
         }
-        Shape::SizeExpr(a) => {
+        Shape::SizeofExpr(a) => {
             put_keyword(out, Keyword::Sizeof)?;
             put_part(out, UNARY, a)
         }
-        Shape::Binary(operator, a, b) => {
+        Shape::Binary {
+            operator,
+            left,
+            right,
+        } => {
             let own = operator.precedence();
-            put_part(out, own + CAST, a)?;
+            put_part(out, own + CAST, left)?;
             put_punctuator(out, operator.punctuator())?;
-            put_part(out, own + 1, b)
+            put_part(out, own + 1, right)
         }
-        Shape::Assign(operator, a, b) => {
-            put_part(out, UNARY, a)?;
+        Shape::Assign {
+            operator,
+            left,
+            right,
+        } => {
+            put_part(out, UNARY, left)?;
             put_punctuator(out, operator.punctuator())?;
-            put_part(out, ASSIGNMENT, b)
+            put_part(out, ASSIGNMENT, right)
         }
-        Shape::Cond(a, b, c) => {
-            put_part(out, OR, a)?;
+        Shape::Conditional {
+            condition,
+            then,
+            otherwise,
+        } => {
+            put_part(out, OR, condition)?;
             put_punctuator(out, Punctuator::Question)?;
-            put_expr(out, b)?;
+            put_expr(out, then)?;
             put_punctuator(out, Punctuator::Colon)?;
-            put_part(out, CONDITIONAL, c)
+            put_part(out, CONDITIONAL, otherwise)
         }
         Shape::Comma(a, b) => {
             put_expr(out, a)?;
             put_punctuator(out, Punctuator::Comma)?;
             put_part(out, ASSIGNMENT, b)
         }
-        Shape::Index(a, b) => {
+        Shape::Subscript(a, b) => {
             put_part(out, POSTFIX, a)?;
             put_punctuator(out, Punctuator::OpenBracket)?;
             put_expr(out, b)?;
             put_punctuator(out, Punctuator::CloseBracket)
         }
-        Shape::Member(access, a, name) => {
-            put_part(out, POSTFIX, a)?;
+        Shape::Member {
+            access,
+            object,
+            name,
+        } => {
+            put_part(out, POSTFIX, object)?;
             put_punctuator(out, access.punctuator())?;
             put_name(out, name)
         }

@@ -30,25 +30,29 @@ pub const COMMA: u32 = 15;
 pub fn step_level(operator: StepOperator) -> u32
     ensures { result ≡ step_level operator }
 {
-    if operator.stands_before() { UNARY } else { POSTFIX }
+    if operator.stands_before() {
+        UNARY
+    } else {
+        POSTFIX
+    }
 }
 
 fn shape_level(shape: &Shape) -> u32
     ensures { result ≡ shape_level (shape_tree shape.now) }
 {
     match shape {
-        Shape::Int(_, _)
+        Shape::Constant(_, _)
         | Shape::Text(_)
         | Shape::Name(_)
-        | Shape::Index(_, _)
-        | Shape::Member(_, _, _)
+        | Shape::Subscript(_, _)
+        | Shape::Member { .. }
         | Shape::Call(_, _) => POSTFIX,
         Shape::Step(operator, _) => step_level(*operator),
-        Shape::Unary(_, _) | Shape::SizeType(_) | Shape::SizeExpr(_) => UNARY,
+        Shape::Unary(_, _) | Shape::SizeofType(_) | Shape::SizeofExpr(_) => UNARY,
         Shape::Cast(_, _) => CAST,
-        Shape::Binary(operator, _, _) => operator.precedence() + CAST,
-        Shape::Cond(_, _, _) => CONDITIONAL,
-        Shape::Assign(_, _, _) => ASSIGNMENT,
+        Shape::Binary { operator, .. } => operator.precedence() + CAST,
+        Shape::Conditional { .. } => CONDITIONAL,
+        Shape::Assign { .. } => ASSIGNMENT,
         Shape::Comma(_, _) => COMMA,
     }
 }

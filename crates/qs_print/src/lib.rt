@@ -3,7 +3,7 @@
 
 mod declarations;
 mod expressions;
-mod lexed;
+mod laws;
 mod levels;
 mod literals;
 mod statements;
@@ -11,5 +11,5 @@ mod types;
 mod units;
 mod words;
 
-pub use lexed::lexed_back;
+pub use laws::lexed_back;
 pub use units::print;

@@ -1,7 +1,7 @@
 // Writes statements (C11 6.8).
 ghost use Rattle.std.specs.Prelude.{[], ◌∷◌, ◌++◌, OnOk, flat_map, map};
 ghost use Rattle.qs_print.specs.Printed.{in_parentheses, printed_else, printed_optional, printed_start, printed_stmt};
-ghost use Rattle.qs_print.specs.Spaced.{Writes};
+ghost use Rattle.qs_print.specs.Words.{Writes};
 ghost use Rattle.qs_syntax.specs.TreeOf.{else_tree, expr_tree, option_tree, start_tree, stmt_tree, stmts_tree};
 ghost use Rattle.qs_syntax.specs.Trees.{block};
 ghost use Rattle.qs_syntax.specs.declared.terminal.Terminal.TheVariants as terminals;
@@ -72,28 +72,47 @@ pub fn put_stmt(out: &mut Vec<u8>, s: &Stmt) -> Result<(), NoMemory>
         }
         Stmt::Declaration(d) => put_declaration(out, d),
         Stmt::Block(items) => put_block(out, items),
-        Stmt::If(_, e, s, other) => {
+        Stmt::If {
+            node: _,
+            condition,
+            then,
+            otherwise,
+        } => {
             put_keyword(out, Keyword::If)?;
-            put_in_parentheses(out, e)?;
-            put_stmt(out, s)?;
-            put_else(out, other)
+            put_in_parentheses(out, condition)?;
+            put_stmt(out, then)?;
+            put_else(out, otherwise)
         }
-        Stmt::While(_, e, s) => {
+        Stmt::While {
+            node: _,
+            condition,
+            body,
+        } => {
             put_keyword(out, Keyword::While)?;
-            put_in_parentheses(out, e)?;
-            put_stmt(out, s)
+            put_in_parentheses(out, condition)?;
+            put_stmt(out, body)
         }
-        Stmt::Do(_, s, e) => {
+        Stmt::Do {
+            node: _,
+            body,
+            condition,
+        } => {
             put_keyword(out, Keyword::Do)?;
-            put_stmt(out, s)?;
+            put_stmt(out, body)?;
             put_keyword(out, Keyword::While)?;
-            put_in_parentheses(out, e)?;
+            put_in_parentheses(out, condition)?;
             put_punctuator(out, Punctuator::Semicolon)
         }
-        Stmt::For(_, start, e, u, s) => {
+        Stmt::For {
+            node: _,
+            start,
+            condition,
+            step,
+            body,
+        } => {
             put_keyword(out, Keyword::For)?;
-            put_for_head(out, start, e, u)?;
-            put_stmt(out, s)
+            put_for_head(out, start, condition, step)?;
+            put_stmt(out, body)
         }
         Stmt::Break(_) => put_jump(out, Keyword::Break),
         Stmt::Continue(_) => put_jump(out, Keyword::Continue),

@@ -1,9 +1,9 @@
 // Writes types (C11 6.7.2, 6.7.6, 6.7.7).
 ghost use Rattle.std.specs.Prelude.{◌≡◌, ◌++◌, OnOk};
 ghost use Rattle.qs_print.specs.Printed.{printed_base, printed_stars, printed_type_name};
-ghost use Rattle.qs_print.specs.Spaced.{Writes};
+ghost use Rattle.qs_print.specs.Words.{Writes};
 
-use crate::words::{put_keyword, put_punctuator, put_name};
+use crate::words::{put_keyword, put_name, put_punctuator};
 use qs_base::NoMemory;
 use qs_syntax::{Base, Keyword, Punctuator, TypeName};
 

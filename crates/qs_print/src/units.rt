@@ -2,7 +2,7 @@
 ghost use Rattle.std.specs.Prelude.{◌≡◌, IfOk, OnOk, flat_map, map, option_map};
 ghost use Rattle.qs_print.specs.Printed.{printed_body, printed_decl, printed_forward, printed_function, printed_members, printed_struct, printed_unit};
 ghost use Rattle.qs_print.specs.ReadsBack.{ReadsBack};
-ghost use Rattle.qs_print.specs.Spaced.{Writes};
+ghost use Rattle.qs_print.specs.Words.{Writes};
 ghost use Rattle.qs_print.specs.Spelling.{joined};
 ghost use Rattle.qs_syntax.specs.TreeOf.{decl_tree, forward_tree, function_tree, members_tree, stmts_tree, struct_tree};
 ghost use Rattle.qs_syntax.specs.UnitTrees.{unit_tree};
@@ -10,9 +10,9 @@ ghost use Rattle.qs_syntax.specs.UnitTrees.{unit_tree};
 use crate::declarations::{put_declaration, put_members, put_parameters};
 use crate::statements::put_block;
 use crate::types::{put_base, put_stars};
-use crate::words::{put_keyword, put_punctuator, put_name};
+use crate::words::{put_keyword, put_name, put_punctuator};
 use qs_base::NoMemory;
-use qs_syntax::{Decl, Forward, Function, Keyword, Punctuator, Members, Stmt, Struct, Unit};
+use qs_syntax::{Decl, Forward, Function, Keyword, Members, Punctuator, Stmt, Struct, Unit};
 use std::alloc::Global;
 
 fn put_all_members(out: &mut Vec<u8>, members: &[Members]) -> Result<(), NoMemory>
@@ -55,8 +55,8 @@ fn put_body(out: &mut Vec<u8>, body: &Option<Vec<Stmt>>) -> Result<(), NoMemory>
 fn put_function(out: &mut Vec<u8>, f: &Function) -> Result<(), NoMemory>
     ensures { OnOk result (Writes out.old.items (printed_function (function_tree f.now)) out.new.items) }
 {
-    put_base(out, &f.base)?;
-    put_stars(out, f.stars)?;
+    put_base(out, &f.result_type.base)?;
+    put_stars(out, f.result_type.stars)?;
     put_name(out, &f.name)?;
     put_punctuator(out, Punctuator::OpenParenthesis)?;
     put_parameters(out, &f.parameters)?;

@@ -1,7 +1,7 @@
 // Writes single terminals, each with a blank behind it.
 ghost use Rattle.std.specs.Prelude.{◌≡◌, ◌++◌, [], ◌∷◌, OnOk};
 ghost use Rattle.qs_print.specs.Printed.{comma_unless};
-ghost use Rattle.qs_print.specs.Spaced.{Writes};
+ghost use Rattle.qs_print.specs.Words.{Writes};
 ghost use Rattle.qs_syntax.specs.declared.terminal.Terminal.TheVariants as terminals;
 
 use qs_base::{Name, NoMemory};

@@ -16,19 +16,19 @@ abbrev pub is_byte : ℕ → Bool
 is_byte value = nat_lt value 256
 
 -- a name is none of the keywords (6.4.2.1), a constant is a value of its type (6.4.4.1), and a text consists of bytes (6.4.5)
-abbrev pub is_terminal : Terminal → Bool
-is_terminal (Name at x) = is_name x
-is_terminal (Keyword at k) = true
-is_terminal (Constant at n unsigned) = nat_lt n (if unsigned then 2 ^ 32 else 2 ^ 31)
-is_terminal (Text at bytes) = list_all is_byte bytes
-is_terminal (Punctuator at m) = true
+abbrev pub is_well_formed : Terminal → Bool
+is_well_formed (Name at x) = is_name x
+is_well_formed (Keyword at k) = true
+is_well_formed (Constant at n unsigned) = nat_lt n (if unsigned then 2 ^ 32 else 2 ^ 31)
+is_well_formed (Text at bytes) = list_all is_byte bytes
+is_well_formed (Punctuator at m) = true
 
 -- these trees are a reading of some tokens, not too high, with its nodes numbered
 pub record Reading (ds : List DeclTree) : Type 0 where
   pub tokens : List Terminal
   pub height : ℕ
   pub unnumbered : List DeclTree
-  pub are_tokens : list_all is_terminal tokens ≡ true
+  pub are_tokens : list_all is_well_formed tokens ≡ true
   pub reads : ReadsUnit height tokens unnumbered
   pub low : height ≤ height_limit
   pub are_numbered : ds ≡ numbered_unit unnumbered

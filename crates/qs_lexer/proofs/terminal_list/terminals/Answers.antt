@@ -16,7 +16,7 @@ pub terminal-requires-clause-within : goal.terminal-requires-clause-within
 terminal-requires-clause-within c =
     (tokens_of c.args.text.now c.args.tokens.now c.requires.tokens_of c.loop-at.at (record { kind = kinds.Name; start = 0; end = 0 }) c.loop-at-test.true).within
 
-pub returns-clause-are_terminals : goal.returns-clause-are_terminals
-returns-clause-are_terminals c =
+pub returns-clause-are_well_formed : goal.returns-clause-are_well_formed
+returns-clause-are_well_formed c =
     seen_items c.args.text.now c.args.tokens.now c.loop-at.list.items c.requires.tokens_of c.type_inv.text
     (ended c.args.text.now c.args.tokens.now c.loop-at.list.items c.loop-at.at c.loop-at-test.false c.loop-at.invariant)

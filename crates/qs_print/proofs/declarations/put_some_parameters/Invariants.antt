@@ -1,7 +1,7 @@
 use Rattle.std.proofs.Common.{◌≡◌, ◌<◌, true, false, map, take}
 use Rattle.qs_syntax.specs.TreeOf.{parameter_tree}
 use Rattle.qs_print.specs.Printed.{printed_parameter, with_commas}
-use Rattle.qs_print.specs.Spaced.{Writes}
+use Rattle.qs_print.specs.Words.{Writes}
 use Rattle.qs_print.proofs.declarations.put_some_parameters.Given as goal
 
 -- those so far are written

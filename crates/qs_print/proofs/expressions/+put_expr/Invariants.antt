@@ -2,7 +2,7 @@ use Rattle.std.proofs.Common.{◌≡◌, ◌<◌, true, false, map, take}
 use Rattle.qs_syntax.specs.TreeOf.{expr_tree}
 use Rattle.qs_print.specs.Levels.{assignment_level}
 use Rattle.qs_print.specs.Printed.{printed_part, with_commas}
-use Rattle.qs_print.specs.Spaced.{Writes}
+use Rattle.qs_print.specs.Words.{Writes}
 use Rattle.qs_print.proofs.expressions.+put_expr.Given as goal
 
 -- those so far are written

@@ -1,5 +1,5 @@
 use Rattle.qs_print.specs.Printed.{printed_stars}
-use Rattle.qs_print.specs.Spaced.{Writes}
+use Rattle.qs_print.specs.Words.{Writes}
 use Rattle.qs_print.proofs.types.put_stars.Given as goal
 
 -- the stars so far are written

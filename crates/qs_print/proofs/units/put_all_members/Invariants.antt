@@ -1,7 +1,7 @@
 use Rattle.std.proofs.Common.{flat_map, map, take}
 use Rattle.qs_syntax.specs.TreeOf.{members_tree}
 use Rattle.qs_print.specs.Printed.{printed_members}
-use Rattle.qs_print.specs.Spaced.{Writes}
+use Rattle.qs_print.specs.Words.{Writes}
 use Rattle.qs_print.proofs.units.put_all_members.Given as goal
 
 -- those so far are written

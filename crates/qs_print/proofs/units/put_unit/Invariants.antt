@@ -1,7 +1,7 @@
 use Rattle.std.proofs.Common.{flat_map, map, take}
 use Rattle.qs_syntax.specs.TreeOf.{decl_tree}
 use Rattle.qs_print.specs.Printed.{printed_decl}
-use Rattle.qs_print.specs.Spaced.{Writes}
+use Rattle.qs_print.specs.Words.{Writes}
 use Rattle.qs_print.proofs.units.put_unit.Given as goal
 
 -- those so far are written

@@ -1,5 +1,5 @@
 -- What a list of tokens begins with.
-use Rattle.std.specs.Prelude.{ℕ, Bool, false, ◌||◌, List, [], ◌∷◌, Option, Some, None}
+use Rattle.std.specs.Prelude.{Bool, false, ◌||◌, List, [], ◌∷◌, Option, None}
 use Rattle.qs_base.specs.Keywords.{same_keyword}
 use Rattle.qs_syntax.specs.Punctuators.{same_punctuator}
 use Rattle.qs_syntax.specs.declared.terminal.Terminal.{Terminal}

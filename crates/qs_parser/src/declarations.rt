@@ -73,7 +73,11 @@ fn lengths_of(
 
 /// The brackets behind a name (C11 6.7.6.2).
 #[tactic(auto, unfolding(crate::specs::ParseDeclarations::lengths))]
-fn lengths(alloc: Global, room: u8, tokens: &[Terminal]) -> Result<(Lengths, u32, &[Terminal]), Halt>
+fn lengths(
+    alloc: Global,
+    room: u8,
+    tokens: &[Terminal],
+) -> Result<(Lengths, u32, &[Terminal]), Halt>
     ensures gives { Gives (read_as lengths_tree) result (lengths room tokens.now) }
     ensures low { IfOk result (λ x. x.1 ≤ room) }
 {
@@ -241,7 +245,11 @@ fn initialised(
 
 /// A variable with its initialiser (C11 6.7).
 #[tactic(auto, unfolding(crate::specs::ParseDeclarations::variable))]
-fn variable(alloc: Global, room: u8, tokens: &[Terminal]) -> Result<(Variable, u32, &[Terminal]), Halt>
+fn variable(
+    alloc: Global,
+    room: u8,
+    tokens: &[Terminal],
+) -> Result<(Variable, u32, &[Terminal]), Halt>
     ensures gives { Gives (read_as variable_tree) result (variable room tokens.now) }
     ensures low { IfOk result (λ x. x.1 ≤ room + 1) }
 {
@@ -347,7 +355,11 @@ fn declarators(
 
 /// A group of members with their type (C11 6.7.2.1).
 #[tactic(auto, unfolding(crate::specs::ParseDeclarations::members))]
-fn members(alloc: Global, room: u8, tokens: &[Terminal]) -> Result<(Members, u32, &[Terminal]), Halt>
+fn members(
+    alloc: Global,
+    room: u8,
+    tokens: &[Terminal],
+) -> Result<(Members, u32, &[Terminal]), Halt>
     ensures gives { Gives (read_as members_tree) result (members room tokens.now) }
     ensures low { IfOk result (λ x. x.1 ≤ room + 1) }
 {

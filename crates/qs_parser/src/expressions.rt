@@ -11,13 +11,16 @@ ghost use Rattle.qs_parser.specs.View.{Gives, read_as, listed, texts_of, form_of
 
 use crate::fault::Halt;
 use crate::heads::{
-    access_at, assign_at, begins_cast, begins_one, expect, expect_name, is_punctuator, level_operator_at,
-    place, starts, starts_suffix, starts_with,
+    access_at, assign_at, begins_cast, begins_one, expect, expect_name, is_punctuator,
+    level_operator_at, place, starts, starts_suffix, starts_with,
 };
 use crate::nodes;
 use crate::types::type_name;
 use qs_base::Name;
-use qs_syntax::{Access, AssignmentOperator, Expr, Keyword, Terminal, Punctuator, StepOperator, Text, UnaryOperator};
+use qs_syntax::{
+    Access, AssignmentOperator, Expr, Keyword, Punctuator, StepOperator, Terminal, Text,
+    UnaryOperator,
+};
 use std::alloc::Global;
 
 /// What an expression is read as.
@@ -368,7 +371,11 @@ fn operator_of(
     ensures low { IfOk result (λ x. x.1 ≤ room + 1) }
 {
     let (operand, height, rest) = part(alloc, room, Form::Level(0), tokens)?;
-    Ok((nodes::unary(alloc, at, operator, operand)?, height + 1, rest))
+    Ok((
+        nodes::unary(alloc, at, operator, operand)?,
+        height + 1,
+        rest,
+    ))
 }
 
 /// Where no level is left for a part, an expression is too deep, and nothing else may stand here.
@@ -468,7 +475,14 @@ fn unary(alloc: Global, room: u8, tokens: &[Terminal]) -> Result<(Expr, u32, &[T
             }
             size_of(alloc, room, *at, rest)
         }
-        [Terminal::Punctuator(at, punctuator), rest @ ..] => marked(alloc, room, *at, *punctuator, tokens, rest),
+        [Terminal::Punctuator(at, punctuator), rest @ ..] => marked(
+            alloc,
+            room,
+            *at,
+            *punctuator,
+            tokens,
+            rest,
+        ),
         _ => postfix(alloc, room, tokens),
     }
 }
@@ -492,7 +506,11 @@ fn cast_of(
 
 /// A cast or a unary expression (C11 6.5.4).
 #[cycle(parser)]
-fn cast_or_unary(alloc: Global, room: u8, tokens: &[Terminal]) -> Result<(Expr, u32, &[Terminal]), Halt>
+fn cast_or_unary(
+    alloc: Global,
+    room: u8,
+    tokens: &[Terminal],
+) -> Result<(Expr, u32, &[Terminal]), Halt>
     ensures gives { Gives (read_as expr_tree) result (cast_or_unary room (part room) tokens.now) }
     ensures low { IfOk result (λ x. x.1 ≤ room + 1) }
 {
@@ -674,7 +692,11 @@ fn after_unary(
 
 /// An assignment expression (C11 6.5.16).
 #[cycle(parser)]
-fn assignment(alloc: Global, room: u8, tokens: &[Terminal]) -> Result<(Expr, u32, &[Terminal]), Halt>
+fn assignment(
+    alloc: Global,
+    room: u8,
+    tokens: &[Terminal],
+) -> Result<(Expr, u32, &[Terminal]), Halt>
     ensures gives { Gives (read_as expr_tree) result (assignment room (part room) tokens.now) }
     ensures low { IfOk result (λ x. x.1 ≤ room + 1) }
 {

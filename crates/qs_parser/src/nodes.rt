@@ -4,7 +4,10 @@ ghost use Rattle.qs_syntax.specs.Trees.{unnumbered, expr, constant, text, name, 
 ghost use Rattle.qs_syntax.specs.TreeOf.{expr_tree};
 
 use qs_base::Name;
-use qs_syntax::{Access, AssignmentOperator, BinaryOperator, Expr, Node, Shape, StepOperator, Text, TypeName, UnaryOperator};
+use qs_syntax::{
+    Access, AssignmentOperator, BinaryOperator, Expr, Node, Shape, StepOperator, Text, TypeName,
+    UnaryOperator,
+};
 use std::alloc::{AllocError, Global};
 
 /// A number or character.
@@ -48,7 +51,12 @@ pub fn sizeof_type(token: u32, of: TypeName) -> Expr
 }
 
 /// A unary operator and its operand.
-pub fn unary(alloc: Global, token: u32, operator: UnaryOperator, part: Expr) -> Result<Expr, AllocError>
+pub fn unary(
+    alloc: Global,
+    token: u32,
+    operator: UnaryOperator,
+    part: Expr,
+) -> Result<Expr, AllocError>
     ensures { IfOk result (λ e. expr_tree e ≡ expr (unnumbered token) (unary operator (expr_tree part))) }
 {
     let part = Box::new(alloc, part)?;
@@ -59,7 +67,12 @@ pub fn unary(alloc: Global, token: u32, operator: UnaryOperator, part: Expr) -> 
 }
 
 /// A step by one and its operand.
-pub fn step(alloc: Global, token: u32, operator: StepOperator, part: Expr) -> Result<Expr, AllocError>
+pub fn step(
+    alloc: Global,
+    token: u32,
+    operator: StepOperator,
+    part: Expr,
+) -> Result<Expr, AllocError>
     ensures { IfOk result (λ e. expr_tree e ≡ expr (unnumbered token) (step operator (expr_tree part))) }
 {
     let part = Box::new(alloc, part)?;

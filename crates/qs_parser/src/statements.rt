@@ -15,7 +15,7 @@ use crate::heads::{
     begins_one, begins_type, expect, is_keyword, is_punctuator, place, starts, starts_with,
 };
 use crate::statement_nodes as nodes;
-use qs_syntax::{Expr, Keyword, Terminal, Punctuator, Start, Stmt};
+use qs_syntax::{Expr, Keyword, Punctuator, Start, Stmt, Terminal};
 use std::alloc::Global;
 
 /// An expression, if there is one, and the punctuator behind it.
@@ -360,7 +360,11 @@ fn keyword_statement<'a>(
 
 /// A statement (C11 6.8) with at most `room` levels for its parts.
 #[cycle(statement)]
-fn statement_at(alloc: Global, room: u8, tokens: &[Terminal]) -> Result<(Stmt, u32, &[Terminal]), Halt>
+fn statement_at(
+    alloc: Global,
+    room: u8,
+    tokens: &[Terminal],
+) -> Result<(Stmt, u32, &[Terminal]), Halt>
     ensures gives { Gives (read_as stmt_tree) result (statement_at room (statement room) tokens.now) }
     ensures low { IfOk result (λ x. x.1 ≤ room + 1) }
 {

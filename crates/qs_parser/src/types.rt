@@ -6,7 +6,7 @@ ghost use Rattle.qs_parser.specs.View.{Gives, base_of, stars_of, type_name_of};
 
 use crate::fault::Halt;
 use crate::heads::{expect_name, is_keyword, is_punctuator, starts};
-use qs_syntax::{Base, Keyword, Terminal, Punctuator, TypeName};
+use qs_syntax::{Base, Keyword, Punctuator, Terminal, TypeName};
 use std::alloc::Global;
 
 /// What stands behind any number of `const`.

@@ -10,7 +10,10 @@ use crate::heads::{expect, expect_name, is_keyword, place, starts};
 use crate::statements::items;
 use crate::types::{outer_type, stars};
 use qs_base::Name;
-use qs_syntax::{Base, Decl, Forward, Function, Keyword, Node, Parameter, Punctuator, Stmt, Struct, Terminal, TypeName};
+use qs_syntax::{
+    Base, Decl, Forward, Function, Keyword, Node, Parameter, Punctuator, Stmt, Struct, Terminal,
+    TypeName,
+};
 use std::alloc::Global;
 
 /// The height to which the parts of a function's body are read: with it the unit is at most 128 high.
@@ -49,7 +52,11 @@ fn struct_of(
 }
 
 /// A struct without members, behind `struct` (C11 6.7.2.3).
-fn forward_of(alloc: Global, token: u32, tokens: &[Terminal]) -> Result<(Decl, u32, &[Terminal]), Halt>
+fn forward_of(
+    alloc: Global,
+    token: u32,
+    tokens: &[Terminal],
+) -> Result<(Decl, u32, &[Terminal]), Halt>
     ensures gives { Gives (read_as decl_tree) result (forward_of token tokens.now) }
     ensures low { IfOk result (λ x. x.1 ≤ 1) }
 {

@@ -18,6 +18,3 @@ pub use laws::{each_terminal, each_token, one_reading};
 pub use literals::text_bytes;
 pub use reading::tokens;
 pub use terminal_list::terminals;
-
-#[cfg(test)]
-mod tests;

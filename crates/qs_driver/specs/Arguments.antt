@@ -9,8 +9,10 @@ use Rattle.qs_driver.specs.declared.status.WordsFault.TheVariants.{ArgCount, Arg
 
 -- why there are no words for the arguments
 pub data LacksWords (image : Image) (args : List ℤ) (status : Status) : Type 0 where
-  count_differs : length args ≢ image.parameters → status ≡ Words (ArgCount image.parameters (length args)) → LacksWords image args status
-  misfit : (i : ℕ) → length args ≡ image.parameters → first_misfit image 0 args ≡ Some i → status ≡ Words (ArgRange i) → LacksWords image args status
+  count_differs : length args ≢ image.parameters
+      → status ≡ Words (ArgCount image.parameters (length args)) → LacksWords image args status
+  misfit : (i : ℕ) → length args ≡ image.parameters → first_misfit image 0 args ≡ Some i
+      → status ≡ Words (ArgRange i) → LacksWords image args status
   no_memory : status ≡ NoMemory → LacksWords image args status
 
 -- the words of arguments that fit

@@ -97,9 +97,10 @@ pub record IsUnit (text : List ℕ) : Type 0 where
 
 -- why a text isn't known to be a unit, and the status at that
 pub data RefusesText (text : List ℕ) (status : Status) : Type 0 where
-  has_lex_fault : (fault : LexFault) (pos : Pos) → HasLexFault text fault pos → status ≡ Source (Lex fault pos) → RefusesText text status
-  has_syntax_fault : (fault : SyntaxFault) (place : TokenPlace) → HasSyntaxFault text fault place → status ≡ Source (Syntax fault place)
-      → RefusesText text status
+  has_lex_fault : (fault : LexFault) (pos : Pos) → HasLexFault text fault pos
+      → status ≡ Source (Lex fault pos) → RefusesText text status
+  has_syntax_fault : (fault : SyntaxFault) (place : TokenPlace) → HasSyntaxFault text fault place
+      → status ≡ Source (Syntax fault place) → RefusesText text status
   lacks_memory : status ≡ NoMemory → RefusesText text status
 
 -- the answer of `check_text`
@@ -108,6 +109,10 @@ ChecksText text (Ok u) = IsUnit text
 ChecksText text (Err status) = RefusesText text status
 
 -- ---- a source in the store
+
+-- the file is there, is within the limit of a source, and its text has this property
+abbrev pub HoldsText : Option (List ℕ) → (List ℕ → Type 0) → Type 0
+HoldsText file Property = HoldsWith file source_limit Property
 
 -- the source was read, it is a unit, and no file changed
 pub record HasSource (before after : StoreView) (name text : List ℕ) : Type 0 where
@@ -118,11 +123,11 @@ pub record HasSource (before after : StoreView) (name text : List ℕ) : Type 0 
 pub data LacksSource (before after : StoreView) (name : List ℕ) (status : Status) : Type 0 where
   unread : CannotRead before after name kinds.Source source_limit status → LacksSource before after name status
   lex_fault : (fault : LexFault) (pos : Pos) → IsUntouched before after
-      → (IsTrue before.told → HoldsWith (before.files name) source_limit (λ text. HasLexFault text fault pos)) → status ≡ Source (Lex fault pos)
-      → LacksSource before after name status
+      → (IsTrue before.told → HoldsText (before.files name) (λ text. HasLexFault text fault pos))
+      → status ≡ Source (Lex fault pos) → LacksSource before after name status
   syntax_fault : (fault : SyntaxFault) (place : TokenPlace) → IsUntouched before after
-      → (IsTrue before.told → HoldsWith (before.files name) source_limit (λ text. HasSyntaxFault text fault place)) → status ≡ Source (Syntax fault place)
-      → LacksSource before after name status
+      → (IsTrue before.told → HoldsText (before.files name) (λ text. HasSyntaxFault text fault place))
+      → status ≡ Source (Syntax fault place) → LacksSource before after name status
   no_memory : IsUntouched before after → status ≡ NoMemory → LacksSource before after name status
 
 -- the answer of `read_source`
@@ -147,5 +152,6 @@ IsSyntax status = (fault : SyntaxFault) × (place : TokenPlace) × (status ≡ S
 pub record RefusesSource (file : Option (List ℕ)) (status : Status) : Type 0 where
   pub missing : (status ≡ Missing kinds.Source) ↔ (file ≡ None)
   pub too_long : (status ≡ Source (TooLong kinds.Source)) ↔ IsTooLong file source_limit
-  pub lexical : (fault : LexFault) (pos : Pos) → (status ≡ Source (Lex fault pos)) ↔ HoldsWith file source_limit (λ text. HasLexFault text fault pos)
-  pub syntactic : IsSyntax status ↔ HoldsWith file source_limit IsNoUnit
+  pub lexical : (fault : LexFault) (pos : Pos)
+      → (status ≡ Source (Lex fault pos)) ↔ HoldsText file (λ text. HasLexFault text fault pos)
+  pub syntactic : IsSyntax status ↔ HoldsText file IsNoUnit

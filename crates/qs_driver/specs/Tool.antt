@@ -3,12 +3,12 @@ use Rattle.std.specs.Prelude.{ℕ, List, Option, Some, None}
 use Rattle.qs_cli.specs.Commands.{Command, meaning, Build, Check, Bound, Derive, Outline, Run, Exec, Sample}
 use Rattle.qs_driver.specs.Task.{Task}
 use Rattle.qs_driver.specs.commands.Usage.{none}
-use Rattle.qs_driver.specs.commands.Build.{build}
-use Rattle.qs_driver.specs.commands.Run.{run}
+use Rattle.qs_driver.specs.commands.Build.{build, build_words}
+use Rattle.qs_driver.specs.commands.Run.{run, run_words}
 
 -- `build` takes no derivations yet
 abbrev pub build_with : List ℕ → Option (List ℕ) → List ℕ → Task
-build_with source None out = build (record { source = source; out = out })
+build_with source None out = build (build_words source out)
 build_with source (Some proof) out = none
 
 -- Those that aren't built yet are answered as words that mean none.
@@ -19,7 +19,7 @@ task_of (Some (Check source proof)) = none
 task_of (Some (Bound source proof args)) = none
 task_of (Some (Derive source out)) = none
 task_of (Some (Outline source)) = none
-task_of (Some (Run image stack args input steps)) = run (record { image = image; stack = stack; args = args; input = input; steps = steps })
+task_of (Some (Run image stack args input steps)) = run (run_words image stack args input steps)
 task_of (Some (Exec source proof args input steps)) = none
 task_of (Some (Sample count out)) = none
 

@@ -7,13 +7,12 @@ use Rattle.qs_compile.specs.FirstForm.{Program, IsFirstForm, program_of, runs_of
 use Rattle.qs_compile.specs.declared.form.FirstForm.{FirstForm}
 use Rattle.qs_compile.specs.Agree.{AgreesFrom}
 use Rattle.qs_compile.specs.Built.{IsBuiltFromMain, LowersStackFirst, main_bound}
-use Rattle.qs_driver.specs.Limits.{source_limit}
 use Rattle.qs_driver.specs.Names.{Names, no_names}
 use Rattle.qs_driver.specs.Lines.{cost_lines}
 use Rattle.qs_driver.specs.Steps.{on_out}
 use Rattle.qs_driver.specs.Due.{Due, refusal, IsRefusal}
-use Rattle.qs_driver.specs.Files.{IsUntouched, HoldsWith}
-use Rattle.qs_driver.specs.Source.{IsUnit, IsOfSource, LacksSource, RefusesSource}
+use Rattle.qs_driver.specs.Files.{IsUntouched}
+use Rattle.qs_driver.specs.Source.{HoldsText, IsUnit, IsOfSource, LacksSource, RefusesSource}
 use Rattle.qs_driver.specs.Task.{Task}
 use Rattle.qs_driver.specs.declared.commands.build.BuildOrder.{BuildOrder}
 use Rattle.qs_driver.specs.declared.status.Status.{Status}
@@ -29,9 +28,12 @@ pub record BuildWords : Type 0 where
   pub source : List ℕ
   pub out : List ℕ
 
+abbrev pub build_words : List ℕ → List ℕ → BuildWords
+build_words source out = record { source = source; out = out }
+
 -- the words as the code holds them
 abbrev pub words_in : BuildOrder → BuildWords
-words_in order = record { source = order.source.now; out = order.out.now }
+words_in order = build_words order.source.now order.out.now
 
 abbrev pub names_of : BuildWords → Names
 names_of b = record no_names { source = b.source; output = b.out }
@@ -40,7 +42,7 @@ names_of b = record no_names { source = b.source; output = b.out }
 
 -- the file is there, and its text is this program
 abbrev pub HoldsProgram : Option (List ℕ) → Program → Type 0
-HoldsProgram file program = HoldsWith file source_limit (λ text. IsFirstForm text program)
+HoldsProgram file program = HoldsText file (λ text. IsFirstForm text program)
 
 -- the text is a unit, and no program of the first form
 pub record HasOtherForm (text : List ℕ) : Type 0 where
@@ -85,7 +87,7 @@ pub record CouldNotWrite (b : BuildWords) (before after : StoreView) : Type 0 wh
 -- the source is there, and isn't of the first form
 pub record HasOtherSource (b : BuildWords) (before after : StoreView) : Type 0 where
   pub untouched : IsUntouched before after
-  pub text : IsTrue before.told → HoldsWith (before.files b.source) source_limit HasOtherForm
+  pub text : IsTrue before.told → HoldsText (before.files b.source) HasOtherForm
 
 -- Why the image wasn't built, and the status at that.
 pub data CannotBuild (b : BuildWords) (before after : StoreView) (status : Status) : Type 0 where
@@ -99,8 +101,10 @@ pub data CannotBuild (b : BuildWords) (before after : StoreView) (status : Statu
 pub data IsDueToBuild (b : BuildWords) (before after : StoreView) (due : Due) : Type 0 where
   built : b.source ≢ b.out → HasBuilt b before after due → IsDueToBuild b before after due
   -- the words name one file twice
-  named_twice : b.source ≡ b.out → IsUntouched before after → IsRefusal (names_of b) (Words SameName) due → IsDueToBuild b before after due
-  refused : b.source ≢ b.out → (status : Status) → CannotBuild b before after status → IsRefusal (names_of b) status due → IsDueToBuild b before after due
+  named_twice : b.source ≡ b.out → IsUntouched before after
+      → IsRefusal (names_of b) (Words SameName) due → IsDueToBuild b before after due
+  refused : b.source ≢ b.out → (status : Status) → CannotBuild b before after status
+      → IsRefusal (names_of b) status due → IsDueToBuild b before after due
 
 -- ---- what follows
 
@@ -128,7 +132,8 @@ pub record Refuses (b : BuildWords) (before : StoreView) (status : Status) : Typ
   pub own : IsOfBuild status
   pub same_name : (status ≡ Words SameName) ↔ (b.source ≡ b.out)
   pub source : IsTrue before.told → b.source ≢ b.out → RefusesSource (before.files b.source) status
-  pub not_first_form : IsTrue before.told → b.source ≢ b.out → (status ≡ Source NotFirstForm) ↔ HoldsWith (before.files b.source) source_limit HasOtherForm
+  pub not_first_form : IsTrue before.told → b.source ≢ b.out
+      → (status ≡ Source NotFirstForm) ↔ HoldsText (before.files b.source) HasOtherForm
 
 abbrev pub build : BuildWords → Task
 build b = record { IsDue = IsDueToBuild b; Accepts = Accepts b; Refuses = Refuses b }
@@ -137,7 +142,8 @@ build b = record { IsDue = IsDueToBuild b; Accepts = Accepts b; Refuses = Refuse
 
 -- why a text isn't compiled
 pub data LacksProgram (text : List ℕ) (status : Status) : Type 0 where
-  no_program : ((program : Program) → IsFirstForm text program → ⊥) → status ≡ Source NotFirstForm → LacksProgram text status
+  no_program : ((program : Program) → IsFirstForm text program → ⊥)
+      → status ≡ Source NotFirstForm → LacksProgram text status
   lacks_memory : status ≡ NoMemory → LacksProgram text status
 
 -- the answer of `read_program`

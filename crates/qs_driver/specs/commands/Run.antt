@@ -42,15 +42,12 @@ pub record RunWords : Type 0 where
   pub input : Option (List ℕ)
   pub steps : ℕ
 
+abbrev pub run_words : List ℕ → ℕ → List ℤ → Option (List ℕ) → ℕ → RunWords
+run_words image stack args input steps = record { image = image; stack = stack; args = args; input = input; steps = steps }
+
 -- the words as the code holds them
 abbrev pub words_in : RunOrder → RunWords
-words_in order = record {
-  image = order.image.now;
-  stack = order.stack;
-  args = order.args.now;
-  input = option_map (λ name. name.now) order.input;
-  steps = order.steps;
-}
+words_in order = run_words order.image.now order.stack order.args.now (option_map (λ name. name.now) order.input) order.steps
 
 abbrev pub input_name : Option (List ℕ) → List ℕ
 input_name None = []
@@ -147,17 +144,24 @@ pub record ComesToInput (r : RunWords) (before : StoreView) (name : List ℕ) : 
 -- Why the machine wasn't run, and the status at that. The tests come in this order.
 pub data CannotRun (r : RunWords) (before after : StoreView) (status : Status) : Type 0 where
   unread_image : CannotRead before after r.image kinds.Image image_limit status → CannotRun r before after status
-  no_image : (fault : ImageFault) → IsUntouched before after → (IsTrue before.told → HoldsNoImage (before.files r.image) fault) → status ≡ NotAnImage fault → CannotRun r before after status
-  count_differs : (parameters : ℕ) → IsUntouched before after → CountDiffers r before parameters → status ≡ Words (ArgCount parameters (length r.args)) → CannotRun r before after status
-  misfit : (i : ℕ) → IsUntouched before after → IsMisfit r before i → status ≡ Words (ArgRange i) → CannotRun r before after status
-  stack_too_large : IsUntouched before after → IsTooLarge r before → status ≡ StackTooLarge r.stack → CannotRun r before after status
-  unread_input : (name : List ℕ) → ComesToInput r before name → CannotRead before after name kinds.Input input_limit status → CannotRun r before after status
+  no_image : (fault : ImageFault) → IsUntouched before after
+      → (IsTrue before.told → HoldsNoImage (before.files r.image) fault)
+      → status ≡ NotAnImage fault → CannotRun r before after status
+  count_differs : (parameters : ℕ) → IsUntouched before after → CountDiffers r before parameters
+      → status ≡ Words (ArgCount parameters (length r.args)) → CannotRun r before after status
+  misfit : (i : ℕ) → IsUntouched before after → IsMisfit r before i
+      → status ≡ Words (ArgRange i) → CannotRun r before after status
+  stack_too_large : IsUntouched before after → IsTooLarge r before
+      → status ≡ StackTooLarge r.stack → CannotRun r before after status
+  unread_input : (name : List ℕ) → ComesToInput r before name
+      → CannotRead before after name kinds.Input input_limit status → CannotRun r before after status
   no_memory : IsUntouched before after → status ≡ NoMemory → CannotRun r before after status
 
 -- What is due to `run`, and why.
 pub data IsDueToRun (r : RunWords) (before after : StoreView) (due : Due) : Type 0 where
   ran : HasRun r before after due → IsDueToRun r before after due
-  refused : (status : Status) → CannotRun r before after status → IsRefusal (names_of r) status due → IsDueToRun r before after due
+  refused : (status : Status) → CannotRun r before after status
+      → IsRefusal (names_of r) status due → IsDueToRun r before after due
 
 -- ---- what follows
 
@@ -257,7 +261,9 @@ run r = record { IsDue = IsDueToRun r; Accepts = Accepts r; Refuses = Refuses r 
 pub data CannotLoad (bytes : List ℕ) (r : RunWords) (status : Status) : Type 0 where
   bad_image : (fault : ImageFault) → first_fault bytes ≡ Some fault → status ≡ NotAnImage fault → CannotLoad bytes r status
   no_words : (image : Image) → IsImage bytes image → LacksWords image r.args status → CannotLoad bytes r status
-  too_large : (image : Image) → IsImage bytes image → length r.args ≡ image.parameters → first_misfit image 0 r.args ≡ None → stack_limit < r.stack → status ≡ StackTooLarge r.stack → CannotLoad bytes r status
+  too_large : (image : Image) → IsImage bytes image → length r.args ≡ image.parameters
+      → first_misfit image 0 r.args ≡ None → stack_limit < r.stack
+      → status ≡ StackTooLarge r.stack → CannotLoad bytes r status
   lacks_memory : status ≡ NoMemory → CannotLoad bytes r status
 
 -- the machine stands at the start of the image that the bytes are
@@ -313,4 +319,5 @@ IsFresh (Err status) = Unit {0}
 -- what was prepared is run, or refused, whatever the store was
 abbrev pub RunsFrom : RunWords → Result Ready Status → Streams → Streams → Status → Type 0
 RunsFrom r prepared v w result =
-    (before after : StoreView) → Prepares r before after prepared → Answers (run r) (views_of before v.out v.log) (views_of after w.out w.log) result
+    (before after : StoreView) → Prepares r before after prepared
+    → Answers (run r) (views_of before v.out v.log) (views_of after w.out w.log) result

@@ -1,4 +1,4 @@
-use Rattle.std.proofs.Common.{◌∙◌, sym, refl, ap, subst, true, false}
+use Rattle.std.proofs.Common.{◌∙◌, sym, ap, subst, true, false}
 use Rattle.std.specs.Prelude.{Err, Vec}
 use Rattle.std.specs.declared.alloc.Global.{Global}
 use Rattle.qs_assert.specs.declared.tree.Assertion.{Assertion}

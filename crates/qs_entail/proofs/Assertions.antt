@@ -12,7 +12,8 @@ use Rattle.qs_poly.specs.Values.{polynomial_value}
 use Rattle.qs_poly.proofs.Ring.{mul_assoc, mul_not_negative}
 use Rattle.qs_poly.proofs.ValueLaws.{number_value, single_value}
 use Rattle.qs_entail.specs.Certificates.{Item, once, twice}
-use Rattle.qs_entail.specs.Building.{Failure, bind, limited, term_polynomial, is_plain, all_plain, assertion_polynomial, total_onto, factors_onto, at, item_polynomial, item_polynomials, sum_all, combination, two_combinations, Two}
+use Rattle.qs_base.specs.Results.{bind}
+use Rattle.qs_entail.specs.Building.{Failure, limited, term_polynomial, is_plain, all_plain, assertion_polynomial, total_onto, factors_onto, at, item_polynomial, item_polynomials, sum_all, combination, two_combinations, Two}
 use Rattle.qs_entail.proofs.Built.{both, bind_ok, limited_value, limited_sum_value, limited_product_value, limited_multiple_value, term_polynomial_value}
 
 -- an assertion whose value is the number that a polynomial has

@@ -1,6 +1,6 @@
 -- The polynomials that are built have the values of their terms.
 use Rattle.std.proofs.Common.{◌≡◌, refl, sym, ap, ◌∙◌, arith, true, false}
-use Rattle.std.specs.Prelude.{ℕ, ℤ, pos, ◌+ℤ◌, ◌-ℤ◌, ◌*ℤ◌, Bool, ◌&&◌, if◌then◌else◌, Result, Ok, Err}
+use Rattle.std.specs.Prelude.{ℕ, ℤ, pos, ◌+ℤ◌, ◌-ℤ◌, ◌*ℤ◌, Bool, ◌&&◌, Result, Ok, Err}
 use Rattle.std.proofs.lemmas.Int.{ints}
 use Rattle.std.proofs.Math.IntN.{*ℤ_comm}
 use Rattle.qs_assert.specs.Trees.{TermTree, number, variable, add, sub, mul, div, wrapu, wraps, bits, TermTrees, no_terms, term_and}
@@ -15,7 +15,8 @@ use Rattle.qs_poly.specs.declared.fault.PolyFault.{PolyFault}
 use Rattle.qs_poly.specs.declared.fault.PolyFault.TheVariants.{Wide, ManyTerms, HighDegree}
 use Rattle.qs_poly.proofs.Ring.{mul_assoc}
 use Rattle.qs_poly.proofs.ValueLaws.{sum_value, multiple_value, lessened_value, product_value, number_value, single_value}
-use Rattle.qs_entail.specs.Building.{Failure, bind, require, limits, limited, difference, term_polynomial, sum_onto, product_onto}
+use Rattle.qs_base.specs.Results.{bind, require}
+use Rattle.qs_entail.specs.Building.{Failure, breaks, limits, limited, difference, term_polynomial, sum_onto, product_onto}
 
 times_one : (z : ℤ) → z *ℤ pos 1 ≡ z
 times_one z = omega (arith, ints)
@@ -31,11 +32,11 @@ pub bind_ok : {A B : Type 0} (r : Result A Failure) (f : A → Result B Failure)
 bind_ok (Ok a) f b h = (a, (refl, h))
 bind_ok (Err n) f b h = cc
 
-pub require_ok : {A : Type 0} (t : Bool) (r : Result A Failure) (a : A) → require t r ≡ Ok a → (t ≡ true) × (r ≡ Ok a)
+pub require_ok : {A : Type 0} (t : Bool) (r : Result A Failure) (a : A) → require t breaks r ≡ Ok a → (t ≡ true) × (r ≡ Ok a)
 require_ok true r a h = (refl, h)
 require_ok false r a h = cc
 
-tested : (p r : Polynomial) (a b c : Bool) → (let good : Result Polynomial PolyFault = Ok p in limits (if a then (if b then (if c then good else Err HighDegree) else Err ManyTerms) else Err Wide)) ≡ Ok r → p ≡ r
+tested : (p r : Polynomial) (a b c : Bool) → (let good : Result Polynomial PolyFault = Ok p in limits (require a Wide (require b ManyTerms (require c HighDegree good)))) ≡ Ok r → p ≡ r
 tested p r true true true h = cc
 tested p r true true false h = cc
 tested p r true false c h = cc

@@ -1,14 +1,16 @@
 -- Where definitions are in order, each name has the value of the body of its first definition.
-use Rattle.std.proofs.Common.{◌≡◌, ℕ, List, [], ◌∷◌, refl, sym, ap, ◌∙◌, subst, true, false}
+use Rattle.std.proofs.Common.{◌≡◌, ℕ, List, [], ◌∷◌, ◌++◌, length, refl, sym, ap, ◌∙◌, subst, true, false}
 use Rattle.std.specs.Prelude.{pos, ◌+ℤ◌, ◌-ℤ◌, ◌*ℤ◌, Bool, ◌&&◌, ◌||◌, if◌then◌else◌, int_le, int_lt, Option, Some, None, Ok}
 use Rattle.std.specs.Prelude.{not as flip}
 use Rattle.std.specs.Ordering.{int_eq}
+use Rattle.std.proofs.lemmas.List.Folds.{list_any-append}
 use Rattle.qs_assert.specs.declared.define.Define.{Define}
+use Rattle.qs_assert.specs.Order.{names_known, all_names_known, is_among, order_fault_behind, IsInOrder}
 use Rattle.qs_assert.specs.Bounds.{Setting, same_name, with_definition, with_definitions}
 use Rattle.qs_assert.specs.Trees.{TermTree, number, variable, add, sub, mul, div, wrapu, wraps, bits, TermTrees, no_terms, term_and, CondTree, le, lt, eq, ne, not, and, or, CondTrees, no_conds, cond_and, AssertionTree, natural, infinity, cost, num, total, greatest, product, guard, choose, named, AssertionTrees, no_assertions, assertion_and}
 use Rattle.qs_assert.specs.Values.{State, wrapped_unsigned, wrapped_signed, bit_length, quotient, natural_part, term_value, sum_of_terms, product_of_terms, holds, all_hold, some_holds, Extended, finite, infinite, or_infinite, value, sum_of, greatest_of, product_of, plus, greater, times}
 use Rattle.qs_entail.specs.Faults.{definition}
-use Rattle.qs_entail.specs.Meaning.{names_known, all_names_known, in_order, IsInOrder, defined_by, InRange}
+use Rattle.qs_entail.specs.Meaning.{defined_by, InRange}
 use Rattle.qs_entail.proofs.Built.{both}
 use Rattle.qs_entail.proofs.Pushed.{made}
 
@@ -90,6 +92,35 @@ mutual
 
 -- ---- definitions
 
+-- all mention only names that are known, or defined earlier
+abbrev in_order : List Define → (List ℕ → Bool) → Bool
+in_order [] known = true
+in_order (d ∷ ds) known = names_known d.body known && in_order ds (λ n. known n || same_name n d.name)
+
+or_one : (a b : Bool) → (a || (b || false)) ≡ (a || b)
+or_one true b = refl
+or_one false true = refl
+or_one false false = refl
+
+one_more_name : (earlier : List Define) (d : Define) (known : List ℕ → Bool) → known ≡ is_among earlier → (λ (n : List ℕ). known n || same_name n d.name) ≡ is_among (earlier ++ d ∷ [])
+one_more_name earlier d known e =
+    λ i n. (ap (λ (k : List ℕ → Bool). k n || same_name n d.name) e ∙ (sym (or_one (is_among earlier n) (same_name n d.name)) ∙ sym (list_any-append (λ (c : Define). same_name n c.name) earlier (d ∷ [])))) i
+
+no_fault_here : (b : Bool) (x : Option ℕ) (i : ℕ) → (if b then x else Some i) ≡ None → (b ≡ true) × (x ≡ None)
+no_fault_here true x i h = (refl, h)
+no_fault_here false x i h = cc
+
+and_true : (a b : Bool) → a ≡ true → b ≡ true → (a && b) ≡ true
+and_true true b h k = k
+and_true false b h k = cc
+
+orders : (ds earlier : List Define) (known : List ℕ → Bool) → known ≡ is_among earlier → order_fault_behind ds earlier ≡ None → in_order ds known ≡ true
+orders [] earlier known e h = refl
+orders (d ∷ ds) earlier known e h =
+    let k = no_fault_here (names_known d.body (is_among earlier)) (order_fault_behind ds (earlier ++ d ∷ [])) (length earlier) h in
+    and_true (names_known d.body known) (in_order ds (λ n. known n || same_name n d.name)) (ap (names_known d.body) e ∙ k.0)
+    (orders ds (earlier ++ d ∷ []) (λ n. known n || same_name n d.name) (one_more_name earlier d known e) k.1)
+
 -- only the names change
 pub only_names : (ds : List Define) (g : Setting) → (with_definitions ds g).state ≡ with_names g.state (with_definitions ds g).state.names
 only_names [] g = refl
@@ -150,7 +181,7 @@ abbrev before_all : State → Setting
 before_all s = record { state = record s { names = λ n. None }; wides = λ n. false }
 
 pub names_given : (ds : List Define) (s : State) → IsInOrder ds → (n : List ℕ) (body : AssertionTree) → definition ds n ≡ Ok body → or_infinite ((defined_by ds s).names n) ≡ value body (defined_by ds s)
-names_given ds s o n body h = given ds (before_all s) (λ n. false) o (λ m h. cc) n body h refl
+names_given ds s o n body h = given ds (before_all s) (λ n. false) (orders ds [] (λ n. false) refl o) (λ m h. cc) n body h refl
 
 pub still_in_range : (ds : List Define) (s : State) → InRange s → InRange (defined_by ds s)
 still_in_range ds s r = subst InRange (sym (only_names ds (before_all s))) (record { from_least = r.from_least; to_greatest = r.to_greatest })

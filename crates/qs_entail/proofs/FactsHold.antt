@@ -16,7 +16,8 @@ use Rattle.qs_poly.specs.Values.{polynomial_value}
 use Rattle.qs_poly.proofs.Equality.{polynomial_equal}
 use Rattle.qs_poly.proofs.ValueLaws.{lessened_value, number_value, single_value}
 use Rattle.qs_entail.specs.Certificates.{Item, FactTree, range, cost_range, apart, num_is, num_bounds, wrapu_is, wraps_is, wrapu_bounds, wraps_bounds, quotient_bounds, bits_bound, bits_half, bits_rise}
-use Rattle.qs_entail.specs.Building.{Failure, bind, limited, difference, term_polynomial, are_inside, combination, two_combinations}
+use Rattle.qs_base.specs.Results.{bind}
+use Rattle.qs_entail.specs.Building.{Failure, limited, difference, term_polynomial, are_inside, combination, two_combinations}
 use Rattle.qs_entail.specs.Pushing.{Known}
 use Rattle.qs_entail.specs.Facts.{least, greatest_of_type, Sides, equal_sides, different_sides, condition_at, condition, added}
 use Rattle.qs_entail.specs.Meaning.{InRange}

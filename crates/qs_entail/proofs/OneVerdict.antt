@@ -3,13 +3,16 @@
 use Rattle.std.proofs.Common.{◌≡◌, ℕ, zero, suc, refl, sym, ap, ◌∙◌, true, false, length-append, add-zero}
 use Rattle.std.specs.Prelude.{ℤ, pos, negsuc, Bool, if◌then◌else◌, ◌&&◌, ◌==◌, List, [], ◌∷◌, ◌++◌, length, Option, Some, Result, Ok, Err}
 use Rattle.qs_assert.specs.declared.define.Define.{Define}
+use Rattle.qs_entail.specs.declared.fault.Rule.{Rule}
+use Rattle.qs_entail.specs.declared.fault.Rule.TheVariants as rules
 use Rattle.qs_assert.specs.Bounds.{same_name}
 use Rattle.qs_assert.specs.Sameness.{same_assertion}
 use Rattle.qs_assert.specs.Trees.{TermTree, CondTree, le, lt, eq, ne, not, and, or, CondTrees, no_conds, cond_and, AssertionTree, natural, infinity, cost, num, total, greatest, product, guard, choose, named, AssertionTrees, no_assertions, assertion_and}
 use Rattle.qs_poly.specs.Polynomials.{Polynomial}
 use Rattle.qs_poly.specs.Operations.{lessened}
 use Rattle.qs_entail.specs.Certificates.{Item, once, twice, FactTree, range, cost_range, apart, num_is, num_bounds, wrapu_is, wraps_is, wrapu_bounds, wraps_bounds, quotient_bounds, bits_bound, bits_half, bits_rise, CertTree, same, via, pick, all, parts, assume, drop, split, contradict, arithmetic, by_definition, fact}
-use Rattle.qs_entail.specs.Building.{Failure, breaks, passes, bind, require, limited, difference, term_polynomial, is_inside, are_inside, is_plain}
+use Rattle.qs_base.specs.Results.{bind, require}
+use Rattle.qs_entail.specs.Building.{Failure, breaks, passes, limited, difference, term_polynomial, is_inside, are_inside, is_plain}
 use Rattle.qs_entail.specs.Pushing.{Known, at_first, with_condition, with_polynomials, push_le, push_lt, push_eq, push, push_not, push_all, push_nots, push_list}
 use Rattle.qs_entail.specs.Facts.{Sides, equal_sides, different_sides, condition_at, condition, added}
 use Rattle.qs_entail.specs.Faults.{Fault, step, node, done, member, member_at, members_of, summands_of, guarded_of, definition, count, count_certs, fault}
@@ -128,20 +131,20 @@ counted [] l = refl
 counted (once k i ∷ items) l = rw (counted_inside i l, counted items l) refl
 counted (twice k i j ∷ items) l = rw (counted_inside i l, counted_inside j l, counted items l) refl
 
-required : {A : Type 0} (b : Bool) (r : Result A Failure) → b ≡ false → require b r ≡ Err breaks
+required : {A : Type 0} (b : Bool) (r : Result A Failure) → b ≡ false → require b breaks r ≡ Err breaks
 required true r h = cc
 required false r h = refl
 
-uncounted : {A : Type 0} (w : List Item) (l : List Polynomial) (r : Result A Failure) → are_counted w (length l) ≡ false → require (are_inside w l) r ≡ Err breaks
+uncounted : {A : Type 0} (w : List Item) (l : List Polynomial) (r : Result A Failure) → are_counted w (length l) ≡ false → require (are_inside w l) breaks r ≡ Err breaks
 uncounted w l r h = required (are_inside w l) r (sym (counted w l) ∙ h)
 
-two_uncounted : {A : Type 0} (v w : List Item) (l : List Polynomial) (r : Result A Failure) → (are_counted v (length l) && are_counted w (length l)) ≡ false → require (are_inside v l && are_inside w l) r ≡ Err breaks
+two_uncounted : {A : Type 0} (v w : List Item) (l : List Polynomial) (r : Result A Failure) → (are_counted v (length l) && are_counted w (length l)) ≡ false → require (are_inside v l && are_inside w l) breaks r ≡ Err breaks
 two_uncounted v w l r h = required (are_inside v l && are_inside w l) r (rw (sym (counted v l), sym (counted w l)) h)
 
-apart_breaks : {A : Type 0} (c : Result CondTree Failure) (w : List Item) (l : List Polynomial) (r : Sides → Result A Failure) → OnlyBreaks c → (is_given (bind c different_sides) && are_counted w (length l)) ≡ false → bind c (λ x. bind (different_sides x) (λ sides. require (are_inside w l) (r sides))) ≡ Err breaks
+apart_breaks : {A : Type 0} (c : Result CondTree Failure) (w : List Item) (l : List Polynomial) (r : Sides → Result A Failure) → OnlyBreaks c → (is_given (bind c different_sides) && are_counted w (length l)) ≡ false → bind c (λ x. bind (different_sides x) (λ sides. require (are_inside w l) breaks (r sides))) ≡ Err breaks
 apart_breaks (Ok c) w l r o h = sides (different_sides c) (different_only c) h
   where
-    sides : (s : Result Sides Failure) → OnlyBreaks s → (is_given s && are_counted w (length l)) ≡ false → bind s (λ sides. require (are_inside w l) (r sides)) ≡ Err breaks
+    sides : (s : Result Sides Failure) → OnlyBreaks s → (is_given s && are_counted w (length l)) ≡ false → bind s (λ sides. require (are_inside w l) breaks (r sides)) ≡ Err breaks
     sides (Ok s) o h = uncounted w l (r s) h
     sides (Err breaks) o h = refl
     sides (Err (passes limit)) o h = absurd o
@@ -165,41 +168,41 @@ fact_breaks (bits_rise t u w) k h = uncounted w k.polynomials _ h
 
 -- ---- nodes
 
-broken : {A : Type 0} (rule : ℕ) (r : Result A Failure) (f : A → Option Fault) → r ≡ Err breaks → node rule r f ≡ Some (step [] rule)
+broken : {A : Type 0} (rule : Rule) (r : Result A Failure) (f : A → Option Fault) → r ≡ Err breaks → node rule r f ≡ Some (step [] rule)
 broken rule r f h = ap (λ r. node rule r f) h
 
-uneven : (n : ℕ) (r : Result AssertionTrees Failure) → OnlyBreaks r → has_count n (bind r (λ members. Ok (count members))) ≡ false → bind r (λ members. require (n == count members) (Ok members)) ≡ Err breaks
+uneven : (n : ℕ) (r : Result AssertionTrees Failure) → OnlyBreaks r → has_count n (bind r (λ members. Ok (count members))) ≡ false → bind r (λ members. require (n == count members) breaks (Ok members)) ≡ Err breaks
 uneven n (Ok members) o h = required (n == count members) (Ok members) h
 uneven n (Err breaks) o h = refl
 uneven n (Err (passes limit)) o h = absurd o
 
-uneven_parts : (n : ℕ) (l r : Result AssertionTrees Failure) (f : AssertionTrees → AssertionTrees → Option Fault) → OnlyBreaks l → OnlyBreaks r → (has_count n (bind l (λ summands. Ok (count summands))) && has_count n (bind r (λ summands. Ok (count summands)))) ≡ false → node 5 (bind l (λ left. require (n == count left) (Ok left))) (λ left. node 5 (bind r (λ right. require (n == count right) (Ok right))) (f left)) ≡ Some (step [] 5)
+uneven_parts : (n : ℕ) (l r : Result AssertionTrees Failure) (f : AssertionTrees → AssertionTrees → Option Fault) → OnlyBreaks l → OnlyBreaks r → (has_count n (bind l (λ summands. Ok (count summands))) && has_count n (bind r (λ summands. Ok (count summands)))) ≡ false → node rules.Parts (bind l (λ left. require (n == count left) breaks (Ok left))) (λ left. node rules.Parts (bind r (λ right. require (n == count right) breaks (Ok right))) (f left)) ≡ Some (step [] rules.Parts)
 uneven_parts n (Ok left) r f o p h = by_count (n == count left) h
   where
-    by_count : (b : Bool) → (b && has_count n (bind r (λ summands. Ok (count summands)))) ≡ false → node 5 (require b (Ok left)) (λ left. node 5 (bind r (λ right. require (n == count right) (Ok right))) (f left)) ≡ Some (step [] 5)
-    by_count true h = broken 5 _ (f left) (uneven n r p h)
+    by_count : (b : Bool) → (b && has_count n (bind r (λ summands. Ok (count summands)))) ≡ false → node rules.Parts (require b breaks (Ok left)) (λ left. node rules.Parts (bind r (λ right. require (n == count right) breaks (Ok right))) (f left)) ≡ Some (step [] rules.Parts)
+    by_count true h = broken rules.Parts _ (f left) (uneven n r p h)
     by_count false h = refl
 uneven_parts n (Err breaks) r f o p h = refl
 uneven_parts n (Err (passes limit)) r f o p h = absurd o
 
-arithmetic_breaks : {A : Type 0} (b : Bool) (w : List Item) (l : List Polynomial) (r : Result A Failure) → (b && are_counted w (length l)) ≡ false → require (b && are_inside w l) r ≡ Err breaks
+arithmetic_breaks : {A : Type 0} (b : Bool) (w : List Item) (l : List Polynomial) (r : Result A Failure) → (b && are_counted w (length l)) ≡ false → require (b && are_inside w l) breaks r ≡ Err breaks
 arithmetic_breaks b w l r h = required (b && are_inside w l) r (rw (sym (counted w l)) h)
 
 does_not_stand : (c : CertTree) (ds : List Define) (k : Known) (p q : AssertionTree) → stands c ds (outlined k) p q ≡ false → fault c ds k p q ≡ Some (step [] (rule_of c))
-does_not_stand same ds k p q h = broken 1 _ _ (required (same_assertion p q) done h)
+does_not_stand same ds k p q h = broken rules.Same _ _ (required (same_assertion p q) done h)
 does_not_stand (via r c d) ds k p q h = cc
 does_not_stand (pick i c) ds k p q h =
-    broken 3 _ _ (not_given _ (bind_breaks (members_of p) (λ members. member_at members i) (members_only p) (λ members. member_at_only members i)) h)
-does_not_stand (all cs) ds k p q h = broken 4 _ _ (uneven (count_certs cs) (members_of q) (members_only q) h)
+    broken rules.Pick _ _ (not_given _ (bind_breaks (members_of p) (λ members. member_at members i) (members_only p) (λ members. member_at_only members i)) h)
+does_not_stand (all cs) ds k p q h = broken rules.All _ _ (uneven (count_certs cs) (members_of q) (members_only q) h)
 does_not_stand (parts cs) ds k p q h =
     uneven_parts (count_certs cs) (summands_of p) (summands_of q) _ (summands_only p) (summands_only q) h
-does_not_stand (assume c) ds k p q h = broken 6 _ _ (not_given (guarded_of p) (guarded_only p) h)
-does_not_stand (drop c d) ds k p q h = broken 7 _ _ (not_given (guarded_of q) (guarded_only q) h)
+does_not_stand (assume c) ds k p q h = broken rules.Assume _ _ (not_given (guarded_of p) (guarded_only p) h)
+does_not_stand (drop c d) ds k p q h = broken rules.DropGuard _ _ (not_given (guarded_of q) (guarded_only q) h)
 does_not_stand (split b c d) ds k p q h = cc
-does_not_stand (contradict w) ds k p q h = broken 9 _ _ (uncounted w k.polynomials _ h)
-does_not_stand (arithmetic w) ds k p q h = broken 10 _ _ (arithmetic_breaks (is_plain p && is_plain q) w k.polynomials _ h)
-does_not_stand (by_definition n c) ds k p q h = broken 11 _ _ (not_given (definition ds n) (definition_only ds n) h)
-does_not_stand (fact f c) ds k p q h = broken 12 _ _ (fact_breaks f k h)
+does_not_stand (contradict w) ds k p q h = broken rules.Contradict _ _ (uncounted w k.polynomials _ h)
+does_not_stand (arithmetic w) ds k p q h = broken rules.Arithmetic _ _ (arithmetic_breaks (is_plain p && is_plain q) w k.polynomials _ h)
+does_not_stand (by_definition n c) ds k p q h = broken rules.ByDefinition _ _ (not_given (definition ds n) (definition_only ds n) h)
+does_not_stand (fact f c) ds k p q h = broken rules.Fact _ _ (fact_breaks f k h)
 
 -- ---- pushes
 

@@ -10,7 +10,8 @@ use Rattle.qs_assert.specs.Trees.{TermTree, CondTree, le, lt, eq, ne, not, and, 
 use Rattle.qs_assert.specs.Values.{State, term_value, holds, all_hold, some_holds}
 use Rattle.qs_poly.specs.Polynomials.{Polynomial}
 use Rattle.qs_poly.specs.Operations.{lessened}
-use Rattle.qs_entail.specs.Building.{Failure, bind, limited, difference, term_polynomial}
+use Rattle.qs_base.specs.Results.{bind}
+use Rattle.qs_entail.specs.Building.{Failure, limited, difference, term_polynomial}
 use Rattle.qs_entail.specs.Pushing.{Known, with_condition, with_polynomials, push_le, push_lt, push_eq, push, push_not, push_all, push_nots, push_list}
 use Rattle.qs_entail.proofs.Built.{both, bind_ok, difference_value, limited_lessened_value, term_polynomial_value}
 use Rattle.qs_entail.proofs.Assertions.{IsNotNegative, AllNotNegative}

@@ -1,7 +1,8 @@
 -- Numbers and negations under the limits.
 use Rattle.std.proofs.Common.{◌≡◌, ◌≢◌, ◌≤◌, ◌^◌, ◌+◌, zero, suc, Bool, true, false, refl, sym, ap, ◌∙◌, subst, arith}
-use Rattle.std.specs.Prelude.{ℤ, pos, negsuc, ◌*ℤ◌, ◌&&◌, nat_le, unsigned_abs, if◌then◌else◌, Result, Ok, Err}
+use Rattle.std.specs.Prelude.{ℤ, pos, negsuc, ◌*ℤ◌, ◌&&◌, nat_le, unsigned_abs, Result, Ok, Err}
 use Rattle.std.proofs.lemmas.Int.{ints}
+use Rattle.qs_base.specs.Results.{require}
 use Rattle.qs_poly.specs.Polynomials.{Monomial, one, Polynomial, nothing, plus}
 use Rattle.qs_poly.specs.Operations.{plus_unless_zero, multiple, number}
 use Rattle.qs_poly.specs.Canonical.{IsCanonical}
@@ -15,7 +16,7 @@ use Rattle.qs_entail.proofs.Built.{limited_ok}
 use Rattle.qs_entail.specs.Building.{breaks, passes, limits, limited}
 
 abbrev judged : Bool → Bool → Bool → Polynomial → Result Polynomial PolyFault
-judged a b c p = if a then (if b then (if c then Ok p else Err HighDegree) else Err ManyTerms) else Err Wide
+judged a b c p = require a Wide (require b ManyTerms (require c HighDegree (Ok p)))
 
 narrow : (c : ℤ) → unsigned_abs c ≤ 2 ^ 56 → is_narrow c ≡ true
 narrow c h = grind arith

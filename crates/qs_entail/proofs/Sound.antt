@@ -4,7 +4,10 @@ use Rattle.std.specs.Prelude.{ℤ, pos, negsuc, ◌≤ℤ◌, Bool, if◌then◌
 use Rattle.std.specs.Prelude.{not as flip}
 use Rattle.std.proofs.lemmas.Int.{ints}
 use Rattle.std.proofs.lemmas.List.Elements.{All-nil, All-cons}
+use Rattle.std.specs.Option.{option_or}
 use Rattle.qs_assert.specs.declared.define.Define.{Define}
+use Rattle.qs_entail.specs.declared.fault.Rule.{Rule}
+use Rattle.qs_entail.specs.declared.fault.Rule.TheVariants as rules
 use Rattle.qs_assert.specs.Sameness.{same_assertion}
 use Rattle.qs_assert.specs.Trees.{not, AssertionTree, natural, infinity, total, greatest, guard, AssertionTrees, no_assertions, assertion_and}
 use Rattle.qs_assert.specs.Values.{State, Extended, finite, infinite, holds, or_infinite, value, sum_of, greatest_of, greater}
@@ -14,10 +17,11 @@ use Rattle.qs_poly.specs.Terms.{polynomial_eq}
 use Rattle.qs_poly.specs.Values.{polynomial_value}
 use Rattle.qs_poly.proofs.ValueLaws.{number_value}
 use Rattle.qs_entail.specs.Certificates.{Item, CertTree, same, via, pick, all, parts, assume, drop, split, contradict, arithmetic, by_definition, fact, CertTrees, no_certs, cert_and}
-use Rattle.qs_entail.specs.Building.{Failure, bind, require, difference, are_inside, combination, is_plain, assertion_polynomial}
+use Rattle.qs_base.specs.Results.{bind, require}
+use Rattle.qs_entail.specs.Building.{Failure, breaks, difference, are_inside, combination, is_plain, assertion_polynomial}
 use Rattle.qs_entail.specs.Pushing.{Known, at_first, with_polynomials, push, push_list}
 use Rattle.qs_entail.specs.Facts.{added}
-use Rattle.qs_entail.specs.Faults.{Fault, step, node, part, both, done, member, member_at, members_of, summands_of, Guarded, guarded_of, count, count_certs, branch, unfolded, definition, contradiction, arithmetic_holds, fault, faults_all, faults_parts}
+use Rattle.qs_entail.specs.Faults.{Fault, step, node, part, done, member, member_at, members_of, summands_of, Guarded, guarded_of, count, count_certs, branch, unfolded, definition, contradiction, arithmetic_holds, fault, faults_all, faults_parts}
 use Rattle.qs_entail.specs.Verdicts.{stands, outline_list, rule_of}
 use Rattle.qs_entail.specs.Meaning.{AtLeast, InRange, defined_by, IsSound}
 use Rattle.qs_entail.proofs.Built.{bind_ok, require_ok, difference_value}
@@ -31,7 +35,7 @@ use Rattle.qs_entail.proofs.Definitions.{names_given, still_in_range}
 
 -- ---- verdicts without a fault
 
-node_none : {A : Type 0} (rule : ℕ) (r : Result A Failure) (f : A → Option Fault) → node rule r f ≡ None → (a : A) × ((r ≡ Ok a) × (f a ≡ None))
+node_none : {A : Type 0} (rule : Rule) (r : Result A Failure) (f : A → Option Fault) → node rule r f ≡ None → (a : A) × ((r ≡ Ok a) × (f a ≡ None))
 node_none rule (Ok a) f h = (a, (refl, h))
 node_none rule (Err failure) f h = cc
 
@@ -39,9 +43,9 @@ part_none : (i : ℕ) (v : Option Fault) → part i v ≡ None → v ≡ None
 part_none i None h = refl
 part_none i (Some f) h = cc
 
-both_none : (v u : Option Fault) → both v u ≡ None → (v ≡ None) × (u ≡ None)
-both_none None u h = (refl, h)
-both_none (Some f) u h = cc
+first_none : (v u : Option Fault) → option_or v u ≡ None → (v ≡ None) × (u ≡ None)
+first_none None u h = (refl, h)
+first_none (Some f) u h = cc
 
 if_none : (b : Bool) (v : Option Fault) (f : Fault) → (if b then v else Some f) ≡ None → v ≡ None
 if_none true v f h = h
@@ -131,29 +135,29 @@ Fits ds s = (n : List ℕ) (body : AssertionTree) → definition ds n ≡ Ok bod
 mutual
   sound : (c : CertTree) (ds : List Define) (k : Known) (p q : AssertionTree) → fault c ds k p q ≡ None → (s : State) → InRange s → Fits ds s → Holds k s → AtLeast (value p s) (value q s)
   sound same ds k p q e s r f h =
-      let a = node_none 1 (require (same_assertion p q) done) (λ _. None) e in
+      let a = node_none rules.Same (require (same_assertion p q) breaks done) (λ _. None) e in
       let b = require_ok (same_assertion p q) done a.0 a.1.0 in
       subst (λ x. AtLeast (value p s) (value x s)) (assertion_same p q b.0) (at_least_itself (value p s))
   sound (via m c d) ds k p q e s r f h =
-      let a = both_none (part 0 (fault c ds k p m)) (part 1 (fault d ds k m q)) e in
+      let a = first_none (part 0 (fault c ds k p m)) (part 1 (fault d ds k m q)) e in
       at_least_through (value p s) (value m s) (value q s) (sound c ds k p m (part_none 0 _ a.0) s r f h) (sound d ds k m q (part_none 1 _ a.1) s r f h)
   sound (pick i c) ds k p q e s r f h =
-      let a = node_none 3 (bind (members_of p) (λ members. member_at members i)) (λ a. part 0 (fault c ds k a q)) e in
+      let a = node_none rules.Pick (bind (members_of p) (λ members. member_at members i)) (λ a. part 0 (fault c ds k a q)) e in
       let b = bind_ok (members_of p) (λ members. member_at members i) a.0 a.1.0 in
       subst (λ x. AtLeast (value x s) (value q s)) (sym (is_greatest p b.0 b.1.0))
       (at_least_through (greatest_of b.0 s) (value a.0 s) (value q s) (picked_at_most b.0 i a.0 s b.1.1) (sound c ds k a.0 q (part_none 0 _ a.1.1) s r f h))
   sound (all cs) ds k p q e s r f h =
-      let a = node_none 4 (bind (members_of q) (λ members. require (count_certs cs == count members) (Ok members))) (λ members. faults_all cs 0 ds k p members) e in
-      let b = bind_ok (members_of q) (λ members. require (count_certs cs == count members) (Ok members)) a.0 a.1.0 in
+      let a = node_none rules.All (bind (members_of q) (λ members. require (count_certs cs == count members) breaks (Ok members))) (λ members. faults_all cs 0 ds k p members) e in
+      let b = bind_ok (members_of q) (λ members. require (count_certs cs == count members) breaks (Ok members)) a.0 a.1.0 in
       let g = require_ok (count_certs cs == count b.0) (Ok b.0) a.0 b.1.1 in
       let i = made b.0 a.0 g.1 in
       let n = same_count (count_certs cs) (count b.0) g.0 ∙ ap count i in
       subst (λ x. AtLeast (value p s) (value x s)) (sym (is_greatest q b.0 b.1.0 ∙ ap greatest i)) (sound_all cs 0 ds k p a.0 n a.1.1 s r f h)
   sound (parts cs) ds k p q e s r f h =
-      let a = node_none 5 (bind (summands_of p) (λ left. require (count_certs cs == count left) (Ok left))) (λ left. node 5 (bind (summands_of q) (λ right. require (count_certs cs == count right) (Ok right))) (λ right. faults_parts cs 0 ds k left right)) e in
-      let b = node_none 5 (bind (summands_of q) (λ right. require (count_certs cs == count right) (Ok right))) (λ right. faults_parts cs 0 ds k a.0 right) a.1.1 in
-      let u = bind_ok (summands_of p) (λ left. require (count_certs cs == count left) (Ok left)) a.0 a.1.0 in
-      let v = bind_ok (summands_of q) (λ right. require (count_certs cs == count right) (Ok right)) b.0 b.1.0 in
+      let a = node_none rules.Parts (bind (summands_of p) (λ left. require (count_certs cs == count left) breaks (Ok left))) (λ left. node rules.Parts (bind (summands_of q) (λ right. require (count_certs cs == count right) breaks (Ok right))) (λ right. faults_parts cs 0 ds k left right)) e in
+      let b = node_none rules.Parts (bind (summands_of q) (λ right. require (count_certs cs == count right) breaks (Ok right))) (λ right. faults_parts cs 0 ds k a.0 right) a.1.1 in
+      let u = bind_ok (summands_of p) (λ left. require (count_certs cs == count left) breaks (Ok left)) a.0 a.1.0 in
+      let v = bind_ok (summands_of q) (λ right. require (count_certs cs == count right) breaks (Ok right)) b.0 b.1.0 in
       let g = require_ok (count_certs cs == count u.0) (Ok u.0) a.0 u.1.1 in
       let l = require_ok (count_certs cs == count v.0) (Ok v.0) b.0 v.1.1 in
       let i = made u.0 a.0 g.1 in
@@ -163,39 +167,39 @@ mutual
       subst (λ x. AtLeast (value x s) (value q s)) (sym (is_total p u.0 u.1.0 ∙ ap total i))
       (subst (λ x. AtLeast (sum_of a.0 s) (value x s)) (sym (is_total q v.0 v.1.0 ∙ ap total j)) (sound_parts cs 0 ds k a.0 b.0 m n b.1.1 s r f h))
   sound (assume c) ds k p q e s r f h =
-      let a = node_none 6 (guarded_of p) (λ g. node 6 (push g.condition k) (λ k'. part 0 (fault c ds k' g.body q))) e in
+      let a = node_none rules.Assume (guarded_of p) (λ g. node rules.Assume (push g.condition k) (λ k'. part 0 (fault c ds k' g.body q))) e in
       let g = a.0 in
-      let b = node_none 6 (push g.condition k) (λ k'. part 0 (fault c ds k' g.body q)) a.1.1 in
+      let b = node_none rules.Assume (push g.condition k) (λ k'. part 0 (fault c ds k' g.body q)) a.1.1 in
       subst (λ x. AtLeast (value x s) (value q s)) (sym (is_guard p g a.1.0))
       (guarded (holds g.condition s) (value g.body s) (value q s) (λ t. sound c ds b.0 g.body q (part_none 0 _ b.1.1) s r f (push_holds g.condition k b.0 s b.1.0 t h)))
   sound (drop c d) ds k p q e s r f h =
-      let a = node_none 7 (guarded_of q) (λ g. node 7 (push (not g.condition) k) (λ k'. both (part 0 (fault c ds k' (natural 0) infinity)) (part 1 (fault d ds k p g.body)))) e in
+      let a = node_none rules.DropGuard (guarded_of q) (λ g. node rules.DropGuard (push (not g.condition) k) (λ k'. option_or (part 0 (fault c ds k' (natural 0) infinity)) (part 1 (fault d ds k p g.body)))) e in
       let g = a.0 in
-      let b = node_none 7 (push (not g.condition) k) (λ k'. both (part 0 (fault c ds k' (natural 0) infinity)) (part 1 (fault d ds k p g.body))) a.1.1 in
-      let v = both_none (part 0 (fault c ds b.0 (natural 0) infinity)) (part 1 (fault d ds k p g.body)) b.1.1 in
+      let b = node_none rules.DropGuard (push (not g.condition) k) (λ k'. option_or (part 0 (fault c ds k' (natural 0) infinity)) (part 1 (fault d ds k p g.body))) a.1.1 in
+      let v = first_none (part 0 (fault c ds b.0 (natural 0) infinity)) (part 1 (fault d ds k p g.body)) b.1.1 in
       subst (λ x. AtLeast (value p s) (value x s)) (sym (is_guard q g a.1.0))
       (unguarded (holds g.condition s) (value p s) (value g.body s)
       (λ t. sound c ds b.0 (natural 0) infinity (part_none 0 _ v.0) s r f (push_holds (not g.condition) k b.0 s b.1.0 (ap flip t) h))
       (sound d ds k p g.body (part_none 1 _ v.1) s r f h))
   sound (split b c d) ds k p q e s r f h =
-      let x = node_none 8 (push b k) (λ k'. node 8 (push (not b) k) (λ k''. both (part 0 (fault c ds k' (branch b true p) (branch b true q))) (part 1 (fault d ds k'' (branch b false p) (branch b false q))))) e in
-      let y = node_none 8 (push (not b) k) (λ k''. both (part 0 (fault c ds x.0 (branch b true p) (branch b true q))) (part 1 (fault d ds k'' (branch b false p) (branch b false q)))) x.1.1 in
-      let v = both_none (part 0 (fault c ds x.0 (branch b true p) (branch b true q))) (part 1 (fault d ds y.0 (branch b false p) (branch b false q))) y.1.1 in
+      let x = node_none rules.Split (push b k) (λ k'. node rules.Split (push (not b) k) (λ k''. option_or (part 0 (fault c ds k' (branch b true p) (branch b true q))) (part 1 (fault d ds k'' (branch b false p) (branch b false q))))) e in
+      let y = node_none rules.Split (push (not b) k) (λ k''. option_or (part 0 (fault c ds x.0 (branch b true p) (branch b true q))) (part 1 (fault d ds k'' (branch b false p) (branch b false q)))) x.1.1 in
+      let v = first_none (part 0 (fault c ds x.0 (branch b true p) (branch b true q))) (part 1 (fault d ds y.0 (branch b false p) (branch b false q))) y.1.1 in
       by_cases (holds b s) (AtLeast (value p s) (value q s))
       (λ t. moved (branch_value b true p s t) (branch_value b true q s t) (sound c ds x.0 (branch b true p) (branch b true q) (part_none 0 _ v.0) s r f (push_holds b k x.0 s x.1.0 t h)))
       (λ t. moved (branch_value b false p s t) (branch_value b false q s t) (sound d ds y.0 (branch b false p) (branch b false q) (part_none 1 _ v.1) s r f (push_holds (not b) k y.0 s y.1.0 (ap flip t) h)))
   sound (contradict w) ds k p q e s r f h =
-      let a = node_none 9 (contradiction w k) (λ _. None) e in
+      let a = node_none rules.Contradict (contradiction w k) (λ _. None) e in
       absurd (contradicts w k s a.1.0 h)
   sound (arithmetic w) ds k p q e s r f h =
-      let a = node_none 10 (arithmetic_holds w k p q) (λ _. None) e in
+      let a = node_none rules.Arithmetic (arithmetic_holds w k p q) (λ _. None) e in
       by_arithmetic w k p q s a.1.0 h
   sound (by_definition n c) ds k p q e s r f h =
-      let a = node_none 11 (definition ds n) (λ body. part 0 (fault c ds k (unfolded n body p) (unfolded n body q))) e in
+      let a = node_none rules.ByDefinition (definition ds n) (λ body. part 0 (fault c ds k (unfolded n body p) (unfolded n body q))) e in
       let b = f n a.0 a.1.0 in
       moved (unfolded_value n a.0 p s b) (unfolded_value n a.0 q s b) (sound c ds k (unfolded n a.0 p) (unfolded n a.0 q) (part_none 0 _ a.1.1) s r f h)
   sound (fact g c) ds k p q e s r f h =
-      let a = node_none 12 (added g k) (λ ps. part 0 (fault c ds (with_polynomials ps k) p q)) e in
+      let a = node_none rules.Fact (added g k) (λ ps. part 0 (fault c ds (with_polynomials ps k) p q)) e in
       sound c ds (with_polynomials a.0 k) p q (part_none 0 _ a.1.1) s r f (more_polynomials a.0 k s h (fact_holds g k a.0 s a.1.0 r h))
 
   sound_all : (cs : CertTrees) (i : ℕ) (ds : List Define) (k : Known) (p : AssertionTree) (members : AssertionTrees) → count_certs cs ≡ count members → faults_all cs i ds k p members ≡ None → (s : State) → InRange s → Fits ds s → Holds k s → AtLeast (value p s) (greatest_of members s)
@@ -203,7 +207,7 @@ mutual
   sound_all no_certs i ds k p (assertion_and q others) n e s r f h = absurd (omega arith)
   sound_all (cert_and c cs) i ds k p no_assertions n e s r f h = absurd (omega arith)
   sound_all (cert_and c cs) i ds k p (assertion_and q others) n e s r f h =
-      let a = both_none (part i (fault c ds k p q)) (faults_all cs (suc i) ds k p others) e in
+      let a = first_none (part i (fault c ds k p q)) (faults_all cs (suc i) ds k p others) e in
       both_at_most (value p s) (value q s) (greatest_of others s) (sound c ds k p q (part_none i _ a.0) s r f h) (sound_all cs (suc i) ds k p others (omega arith) a.1 s r f h)
 
   sound_parts : (cs : CertTrees) (i : ℕ) (ds : List Define) (k : Known) (left right : AssertionTrees) → count_certs cs ≡ count left → count_certs cs ≡ count right → faults_parts cs i ds k left right ≡ None → (s : State) → InRange s → Fits ds s → Holds k s → AtLeast (sum_of left s) (sum_of right s)
@@ -213,7 +217,7 @@ mutual
   sound_parts (cert_and c cs) i ds k no_assertions right m n e s r f h = absurd (omega arith)
   sound_parts (cert_and c cs) i ds k (assertion_and p ps) no_assertions m n e s r f h = absurd (omega arith)
   sound_parts (cert_and c cs) i ds k (assertion_and p ps) (assertion_and q qs) m n e s r f h =
-      let a = both_none (part i (fault c ds k p q)) (faults_parts cs (suc i) ds k ps qs) e in
+      let a = first_none (part i (fault c ds k p q)) (faults_parts cs (suc i) ds k ps qs) e in
       sums_at_least (value p s) (sum_of ps s) (value q s) (sum_of qs s) (sound c ds k p q (part_none i _ a.0) s r f h) (sound_parts cs (suc i) ds k ps qs (omega arith) (omega arith) a.1 s r f h)
 
 pub certificates_are_sound : IsSound

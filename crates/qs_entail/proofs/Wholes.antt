@@ -3,7 +3,8 @@ use Rattle.std.proofs.Common.{◌≡◌, refl, ap, ◌∙◌, sym, Bool, true, f
 use Rattle.qs_poly.specs.Polynomials.{Polynomial}
 use Rattle.qs_poly.specs.Operations.{lessened}
 use Rattle.qs_assert.specs.Trees.{TermTree, CondTree, le, lt, eq, ne, not, and, or, CondTrees, no_conds, cond_and}
-use Rattle.qs_entail.specs.Building.{Failure, Two, bind, limited, difference, term_polynomial}
+use Rattle.qs_base.specs.Results.{bind}
+use Rattle.qs_entail.specs.Building.{Failure, Two, limited, difference, term_polynomial}
 use Rattle.qs_entail.specs.Extending.{pushed}
 use Rattle.qs_entail.specs.Flattening.{flat, flats, both_polynomials, push_whole, push_wholes}
 use Rattle.qs_entail.specs.Pushing.{Known, with_condition, with_polynomials, push_le, push_lt, push_eq, push_all, push_nots}

@@ -1,5 +1,7 @@
 -- The polynomials of terms and assertions, built from their parts from left to right under the limits.
 use Rattle.std.specs.Prelude.{ℤ, pos, negsuc, Bool, true, false, ◌&&◌, nat_lt, List, [], ◌∷◌, length, slice_index_or, Result, Ok, Err}
+use Rattle.std.specs.Result.{result_map_both}
+use Rattle.qs_base.specs.Results.{bind}
 use Rattle.qs_assert.specs.Trees.{TermTree, number, variable, add, sub, mul, div, wrapu, wraps, bits, TermTrees, no_terms, term_and, AssertionTree, natural, infinity, cost, num, total, greatest, product, guard, choose, named, AssertionTrees, no_assertions, assertion_and}
 use Rattle.qs_poly.specs.Polynomials as poly
 use Rattle.qs_poly.specs.Polynomials.{Polynomial, nothing}
@@ -18,17 +20,8 @@ pub data Failure : Type 0 where
 abbrev pub Attempt : Type 0 → Type 0
 Attempt A = Result A Failure
 
-abbrev pub bind : {A B : Type 0} → Result A Failure → (A → Result B Failure) → Result B Failure
-bind (Ok a) f = f a
-bind (Err failure) f = Err failure
-
-abbrev pub require : {A : Type 0} → Bool → Result A Failure → Result A Failure
-require true r = r
-require false r = Err breaks
-
 abbrev pub limits : Result Polynomial PolyFault → Result Polynomial Failure
-limits (Ok p) = Ok p
-limits (Err fault) = Err (passes fault)
+limits = result_map_both (λ p. p) passes
 
 -- a true result, where it passes no limit
 abbrev pub limited : Polynomial → Result Polynomial Failure

@@ -4,7 +4,8 @@ use Rattle.qs_poly.specs.Polynomials.{Polynomial}
 use Rattle.qs_entail.specs.declared.item.Item as code
 use Rattle.qs_entail.specs.declared.item.Item.TheVariants.{Once, Twice}
 use Rattle.qs_entail.specs.declared.combination.Two as pair
-use Rattle.qs_entail.specs.Building.{Failure, bind, Two}
+use Rattle.qs_base.specs.Results.{bind}
+use Rattle.qs_entail.specs.Building.{Failure, Two}
 use Rattle.qs_entail.specs.Verdicts.{is_counted}
 
 abbrev pub two_view : pair.Two → Two

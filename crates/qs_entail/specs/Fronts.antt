@@ -1,7 +1,6 @@
 -- The trees at the front of a list of nodes, each node before those of its parts.
 use Rattle.std.specs.Prelude.{ℕ, zero, suc, ◌+◌, Bool, true, false, if◌then◌else◌, List, [], ◌∷◌}
 use Rattle.qs_assert.specs.declared.node.TermNode.{TermNode}
-use Rattle.qs_assert.specs.declared.node.TermNode.TheVariants.{Number, Variable, Add, Sub, Mul, Div, WrapUnsigned, WrapSigned, Bits}
 use Rattle.qs_assert.specs.declared.node.CondNode.{CondNode}
 use Rattle.qs_assert.specs.declared.node.CondNode.TheVariants.{Le, Lt, Eq, Ne, Not, And, Or}
 use Rattle.qs_assert.specs.declared.node.AssertionNode.{AssertionNode}
@@ -9,21 +8,11 @@ use Rattle.qs_assert.specs.declared.node.AssertionNode.TheVariants.{Natural, Inf
 use Rattle.qs_assert.specs.declared.node.Node.{Node}
 use Rattle.qs_assert.specs.declared.node.Node.TheVariants.{Term, Condition, Assertion}
 use Rattle.qs_assert.specs.Sameness.{same_node}
+use Rattle.qs_assert.specs.Shapes.{term_arity}
 use Rattle.qs_assert.specs.Trees.{AssertionTree}
 use Rattle.qs_assert.specs.Reading.{plant_nodes, no_trees}
 
 -- ---- how many parts follow a node
-
-abbrev pub term_arity : TermNode → ℕ
-term_arity (Number k) = 0
-term_arity (Variable x) = 0
-term_arity (Add n) = n
-term_arity Sub = 2
-term_arity (Mul n) = n
-term_arity (Div k) = 1
-term_arity WrapUnsigned = 1
-term_arity WrapSigned = 1
-term_arity Bits = 1
 
 abbrev pub cond_arity : CondNode → ℕ
 cond_arity Le = 2

@@ -3,7 +3,8 @@ use Rattle.std.specs.Prelude.{pos, List, [], ◌∷◌, ◌++◌, Result, Ok}
 use Rattle.qs_assert.specs.Trees.{TermTree, CondTree, le, lt, eq, ne, not, and, or, CondTrees, no_conds, cond_and}
 use Rattle.qs_poly.specs.Polynomials.{Polynomial}
 use Rattle.qs_poly.specs.Operations.{number, lessened}
-use Rattle.qs_entail.specs.Building.{Failure, bind, limited, difference, term_polynomial}
+use Rattle.qs_base.specs.Results.{bind}
+use Rattle.qs_entail.specs.Building.{Failure, limited, difference, term_polynomial}
 
 -- the conditions that hold, and the polynomials that are at least 0, each in the order of pushing
 pub record Known : Type 0 where

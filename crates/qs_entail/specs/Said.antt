@@ -33,5 +33,5 @@ limit_number Degree = 3
 abbrev pub Tells : Result (Unit {0}) CertFault → Option Fault → Type 0
 Tells (Ok u) verdict = verdict ≡ None
 Tells (Err answers.NoMemory) verdict = Unit {0}
-Tells (Err (Step path rule)) verdict = verdict ≡ Some (step path.items (rule_number rule))
+Tells (Err (Step path rule)) verdict = verdict ≡ Some (step path.items rule)
 Tells (Err (answers.Limit path l)) verdict = verdict ≡ Some (limit path.items (fault_of l))

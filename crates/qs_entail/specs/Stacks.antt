@@ -19,7 +19,8 @@ use Rattle.qs_entail.specs.declared.stack.Head.{Head}
 use Rattle.qs_entail.specs.declared.stack.Head.TheVariants as heads
 use Rattle.qs_entail.specs.declared.operation.Operation.{Operation}
 use Rattle.qs_entail.specs.declared.operation.Operation.TheVariants as operations
-use Rattle.qs_entail.specs.Building.{Failure, breaks, passes, bind, limited}
+use Rattle.qs_base.specs.Results.{bind}
+use Rattle.qs_entail.specs.Building.{Failure, breaks, passes, limited}
 use Rattle.qs_entail.specs.Answers.{fault_of}
 
 -- ---- what the code has

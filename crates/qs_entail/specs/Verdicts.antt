@@ -2,10 +2,13 @@
 -- conditions without polynomials come before the limits of what they push.
 use Rattle.std.specs.Prelude.{ℕ, ◌+◌, ℤ, pos, negsuc, Bool, true, false, if◌then◌else◌, ◌&&◌, nat_lt, nat_le, ◌==◌, List, [], ◌∷◌, ◌++◌, Option, Some, Result, Ok, Err}
 use Rattle.qs_assert.specs.declared.define.Define.{Define}
+use Rattle.qs_entail.specs.declared.fault.Rule.{Rule}
+use Rattle.qs_entail.specs.declared.fault.Rule.TheVariants as rules
 use Rattle.qs_assert.specs.Sameness.{same_assertion}
 use Rattle.qs_assert.specs.Trees.{CondTree, le, lt, eq, ne, not, and, or, CondTrees, no_conds, cond_and, AssertionTree}
 use Rattle.qs_entail.specs.Certificates.{Item, once, twice, FactTree, range, cost_range, apart, num_is, num_bounds, wrapu_is, wraps_is, wrapu_bounds, wraps_bounds, quotient_bounds, bits_bound, bits_half, bits_rise, CertTree, same, via, pick, all, parts, assume, drop, split, contradict, arithmetic, by_definition, fact}
-use Rattle.qs_entail.specs.Building.{Failure, bind, is_plain}
+use Rattle.qs_base.specs.Results.{bind}
+use Rattle.qs_entail.specs.Building.{Failure, is_plain}
 use Rattle.qs_entail.specs.Pushing.{at_first, push_list}
 use Rattle.qs_entail.specs.Facts.{condition, different_sides}
 use Rattle.qs_entail.specs.Faults.{Fault, step, node, members_of, member_at, summands_of, guarded_of, definition, count, count_certs, fault}
@@ -99,19 +102,19 @@ stands (arithmetic w) ds o p q = (is_plain p && is_plain q) && are_counted w o.c
 stands (by_definition n c) ds o p q = is_given (definition ds n)
 stands (fact f c) ds o p q = fact_stands f o
 
-abbrev pub rule_of : CertTree → ℕ
-rule_of same = 1
-rule_of (via r c d) = 2
-rule_of (pick i c) = 3
-rule_of (all cs) = 4
-rule_of (parts cs) = 5
-rule_of (assume c) = 6
-rule_of (drop c d) = 7
-rule_of (split b c d) = 8
-rule_of (contradict w) = 9
-rule_of (arithmetic w) = 10
-rule_of (by_definition n c) = 11
-rule_of (fact f c) = 12
+abbrev pub rule_of : CertTree → Rule
+rule_of same = rules.Same
+rule_of (via r c d) = rules.Via
+rule_of (pick i c) = rules.Pick
+rule_of (all cs) = rules.All
+rule_of (parts cs) = rules.Parts
+rule_of (assume c) = rules.Assume
+rule_of (drop c d) = rules.DropGuard
+rule_of (split b c d) = rules.Split
+rule_of (contradict w) = rules.Contradict
+rule_of (arithmetic w) = rules.Arithmetic
+rule_of (by_definition n c) = rules.ByDefinition
+rule_of (fact f c) = rules.Fact
 
 -- ---- the verdict
 

@@ -10,10 +10,10 @@ use Rattle.qs_entail.specs.declared.walk.Walk.{Walk}
 use Rattle.qs_entail.specs.declared.rules.Both.{Both}
 use Rattle.qs_entail.specs.Answers.{fault_of}
 use Rattle.qs_assert.specs.Trees.{AssertionTree, AssertionTrees}
-use Rattle.qs_entail.specs.Building.{Failure, bind, require}
+use Rattle.qs_base.specs.Results.{bind, require}
+use Rattle.qs_entail.specs.Building.{Failure, breaks}
 use Rattle.qs_entail.specs.Faults.{Fault, step, limit, summands_of, unfolded, count}
 use Rattle.qs_entail.specs.Pushing.{Known}
-use Rattle.qs_entail.specs.Said.{rule_number}
 use Rattle.qs_entail.specs.View.{known_view}
 
 -- the path from the root, and what is known there
@@ -45,15 +45,15 @@ Says old new (Ok u) None = new ≡ old
 Says old new (Ok u) (Some f) = ⊥
 Says old new (Err failures.NoMemory) verdict = Unit {0}
 Says old new (Err (failures.Step rule)) None = ⊥
-Says old new (Err (failures.Step rule)) (Some (step path n)) = (rule_number rule ≡ n) × (new.path ≡ old.path ++ path)
+Says old new (Err (failures.Step rule)) (Some (step path broken)) = (rule ≡ broken) × (new.path ≡ old.path ++ path)
 Says old new (Err (failures.Step rule)) (Some (limit path fault)) = ⊥
 Says old new (Err (failures.Limit l)) None = ⊥
-Says old new (Err (failures.Limit l)) (Some (step path n)) = ⊥
+Says old new (Err (failures.Limit l)) (Some (step path broken)) = ⊥
 Says old new (Err (failures.Limit l)) (Some (limit path fault)) = (fault_of l ≡ fault) × (new.path ≡ old.path ++ path)
 
 -- the summands of a sum that has so many
 abbrev pub counted_summands : ℕ → AssertionTree → Result AssertionTrees Failure
-counted_summands n a = bind (summands_of a) (λ summands. require (n == count summands) (Ok summands))
+counted_summands n a = bind (summands_of a) (λ summands. require (n == count summands) breaks (Ok summands))
 
 -- two assertions, each name n replaced by a body
 pub record Pair : Type 0 where

@@ -1,5 +1,6 @@
 // Combinations of the polynomials that are known to be at least 0.
 ghost use Rattle.std.specs.Prelude.{◌≡◌, pos, List, Result, IfOk, length};
+ghost use Rattle.qs_base.specs.Results.{bind};
 ghost use Rattle.qs_poly.specs.Operations as operations;
 ghost use Rattle.qs_poly.specs.Polynomials.{Polynomial, nothing};
 ghost use Rattle.qs_entail.specs.Answers.{Follows, FollowsAs};
@@ -81,7 +82,7 @@ fn at<'a>(list: &'a [Poly], i: i64, zero: &'a Poly) -> &'a Poly
 }
 
 fn product_times(alloc: Global, p: &Poly, q: &Poly, k: u64) -> Result<Poly, Stop>
-    ensures { Follows result (building.bind (building.limited (operations.product p.now q.now)) (λ r. building.limited (operations.multiple (pos k) r))) }
+    ensures { Follows result (bind (building.limited (operations.product p.now q.now)) (λ r. building.limited (operations.multiple (pos k) r))) }
 {
     let product = operate(alloc, Operation::Product, p, q)?;
     times_number(alloc, &product, k)

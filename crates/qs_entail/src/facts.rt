@@ -4,7 +4,8 @@ ghost use Rattle.qs_poly.specs.Operations.{sum, number};
 ghost use Rattle.qs_poly.specs.Terms.{polynomial_eq};
 ghost use Rattle.qs_entail.specs.Answers.{Follows, FollowsAs};
 ghost use Rattle.qs_entail.specs.Building as building;
-ghost use Rattle.qs_entail.specs.Building.{bind, require, limited};
+ghost use Rattle.qs_base.specs.Results.{bind, require};
+ghost use Rattle.qs_entail.specs.Building.{breaks, limited};
 ghost use Rattle.qs_entail.specs.Certificates as cert;
 ghost use Rattle.qs_entail.specs.Facts as facts;
 ghost use Rattle.qs_entail.specs.Facts.{added};
@@ -78,7 +79,7 @@ fn apart_by(alloc: Global, sides: &Sides, items: &[Item], known: &Known) -> Resu
         bind (building.difference t u) (λ more.
         bind (building.difference u t) (λ less.
         bind (limited (sum z (number (negsuc 0)))) (λ r.
-        require (polynomial_eq z more || polynomial_eq z less) (Ok (r ∷ []))))))))) }
+        require (polynomial_eq z more || polynomial_eq z less) breaks (Ok (r ∷ []))))))))) }
 {
     let left = term_polynomial(alloc, &sides.left)?;
     let right = term_polynomial(alloc, &sides.right)?;

@@ -1,31 +1,14 @@
 // The trees at the front of a list of nodes, each node before those of its parts.
-ghost use Rattle.std.specs.Prelude.{◌≡◌, ◌≤◌, ◌++◌, length, take, drop, IfOk};
+ghost use Rattle.std.specs.Prelude.{◌≡◌, ◌≤◌, length, take, drop, IfOk};
 ghost use Rattle.qs_assert.specs.Trees.{TermTree, CondTree, AssertionTree};
 ghost use Rattle.qs_assert.specs.Listing.{inner_term, cond_nodes, assertion_nodes};
 ghost use Rattle.qs_assert.specs.Reading.{others};
-ghost use Rattle.qs_assert.specs.Sameness.{all_same, same_node};
 ghost use Rattle.qs_entail.specs.Fronts as fronts;
 ghost use Rattle.qs_entail.specs.Fronts.{front_length, term_heads, head_arity};
 
-use qs_assert::{Assertion, AssertionNode, Cond, CondNode, Node, Term, TermNode};
+use qs_assert::{Assertion, AssertionNode, Cond, CondNode, Node, Term, TermNode, put_nodes};
 use qs_base::NoMemory;
 use std::alloc::Global;
-
-fn term_arity(node: TermNode) -> usize
-    ensures { result ≡ fronts.term_arity node }
-{
-    match node {
-        TermNode::Number(_) => 0,
-        TermNode::Variable(_) => 0,
-        TermNode::Add(count) => count,
-        TermNode::Sub => 2,
-        TermNode::Mul(count) => count,
-        TermNode::Div(_) => 1,
-        TermNode::WrapUnsigned => 1,
-        TermNode::WrapSigned => 1,
-        TermNode::Bits => 1,
-    }
-}
 
 fn cond_arity(node: CondNode) -> usize
     ensures { result ≡ fronts.cond_arity node }
@@ -62,7 +45,7 @@ fn arity(node: &Node) -> usize
     ensures { result ≡ fronts.arity node.now }
 {
     match node {
-        Node::Term(head) => term_arity(*head),
+        Node::Term(head) => head.arity(),
         Node::Condition(head) => cond_arity(*head),
         Node::Assertion(head) => assertion_arity(head),
     }
@@ -167,21 +150,6 @@ pub fn part_count(nodes: &[Node]) -> usize
     }
 }
 
-/// Whether the two have the same nodes.
-pub fn same_nodes(a: &[Node], b: &[Node]) -> bool
-    ensures { result ≡ all_same same_node a.now b.now }
-{
-    if a.len() != b.len() {
-        return false;
-    }
-    for i in 0..a.len() {
-        if !a[i].same(&b[i]) {
-            return false;
-        }
-    }
-    true
-}
-
 /// Whether the node is the first.
 pub fn begins(nodes: &[Node], node: &Node) -> bool
     ensures { result ≡ fronts.begins nodes.now node.now }
@@ -190,15 +158,6 @@ pub fn begins(nodes: &[Node], node: &Node) -> bool
         Some(head) => head.same(node),
         None => false,
     }
-}
-
-pub fn put_nodes(alloc: Global, list: &mut Vec<Node>, nodes: &[Node]) -> Result<(), NoMemory>
-    ensures { IfOk result (λ _. list.new.items ≡ list.old.items ++ nodes.now) }
-{
-    for node in nodes {
-        list.push(node.copy(alloc)?)?;
-    }
-    Ok(())
 }
 
 fn term_nodes(alloc: Global, nodes: &[Node]) -> Result<Vec<TermNode>, NoMemory>

@@ -182,7 +182,7 @@ impl Walk {
         q: &Assertion,
     ) -> Result<(), Failed>
         requires { length certificates.now ≡ length left.now }
-        ensures { Says (place self.old) (place self.new) result (node 5 (counted_summands (length certificates.now) q.now) (λ right. faults_parts (certs_tree certificates.now) 0 defines.now (known_view self.old.known) (assertions_of left.now) right)) }
+        ensures { Says (place self.old) (place self.new) result (node Rule.Parts (counted_summands (length certificates.now) q.now) (λ right. faults_parts (certs_tree certificates.now) 0 defines.now (known_view self.old.known) (assertions_of left.now) right)) }
     {
         match counted_summands(self.alloc, certificates.len(), q) {
             Ok(right) => self.check_pairs(defines, certificates, left, &right),
@@ -235,7 +235,7 @@ impl Walk {
         guarded: &Guarded,
         q: &Assertion,
     ) -> Result<(), Failed>
-        ensures { Says (place self.old) (place self.new) result (node 6 (push guarded.now.condition (known_view self.old.known)) (λ known. part 0 (fault (cert_tree certificate.now) defines.now known guarded.now.body q.now))) }
+        ensures { Says (place self.old) (place self.new) result (node Rule.Assume (push guarded.now.condition (known_view self.old.known)) (λ known. part 0 (fault (cert_tree certificate.now) defines.now known guarded.now.body q.now))) }
     {
         match self.push(&guarded.condition, false) {
             Ok(mark) => self.check_until(mark, defines, 0, certificate, &guarded.body, q),
@@ -251,7 +251,7 @@ impl Walk {
         certificate: &Certificate,
         q: &Assertion,
     ) -> Result<(), Failed>
-        ensures { Says (place self.old) (place self.new) result (node 7 (guarded_of q.now) (λ g. node 7 (push (not g.condition) (known_view self.old.known)) (λ known. part 0 (fault (cert_tree certificate.now) defines.now known (natural 0) infinity)))) }
+        ensures { Says (place self.old) (place self.new) result (node Rule.DropGuard (guarded_of q.now) (λ g. node Rule.DropGuard (push (not g.condition) (known_view self.old.known)) (λ known. part 0 (fault (cert_tree certificate.now) defines.now known (natural 0) infinity)))) }
     {
         match guarded_of(self.alloc, q) {
             Ok(guarded) => self.check_unguarded(defines, certificate, &guarded.condition),
@@ -266,7 +266,7 @@ impl Walk {
         certificate: &Certificate,
         condition: &Cond,
     ) -> Result<(), Failed>
-        ensures { Says (place self.old) (place self.new) result (node 7 (push (not condition.now) (known_view self.old.known)) (λ known. part 0 (fault (cert_tree certificate.now) defines.now known (natural 0) infinity))) }
+        ensures { Says (place self.old) (place self.new) result (node Rule.DropGuard (push (not condition.now) (known_view self.old.known)) (λ known. part 0 (fault (cert_tree certificate.now) defines.now known (natural 0) infinity))) }
     {
         let (zero, infinity) = match ends(self.alloc) {
             Ok(pair) => pair,
@@ -287,7 +287,7 @@ impl Walk {
         p: &Assertion,
         q: &Assertion,
     ) -> Result<(), Failed>
-        ensures { Says (place self.old) (place self.new) result (node 7 (guarded_of q.now) (λ g. part 1 (fault (cert_tree certificate.now) defines.now (known_view self.old.known) p.now g.body))) }
+        ensures { Says (place self.old) (place self.new) result (node Rule.DropGuard (guarded_of q.now) (λ g. part 1 (fault (cert_tree certificate.now) defines.now (known_view self.old.known) p.now g.body))) }
     {
         match guarded_of(self.alloc, q) {
             Ok(guarded) => self.check_part(defines, 1, certificate, p, &guarded.body),
@@ -305,7 +305,7 @@ impl Walk {
         p: &Assertion,
         q: &Assertion,
     ) -> Result<(), Failed>
-        ensures { Says (place self.old) (place self.new) result (node 8 (push condition.now (known_view self.old.known)) (λ known. node 8 (push (not condition.now) (known_view self.old.known)) (λ _. part 0 (fault (cert_tree certificate.now) defines.now known (branch condition.now true p.now) (branch condition.now true q.now))))) }
+        ensures { Says (place self.old) (place self.new) result (node Rule.Split (push condition.now (known_view self.old.known)) (λ known. node Rule.Split (push (not condition.now) (known_view self.old.known)) (λ _. part 0 (fault (cert_tree certificate.now) defines.now known (branch condition.now true p.now) (branch condition.now true q.now))))) }
     {
         match self.tries_both(condition) {
             Ok(()) => self.check_branch(defines, condition, true, certificate, p, q),
@@ -323,7 +323,7 @@ impl Walk {
         p: &Assertion,
         q: &Assertion,
     ) -> Result<(), Failed>
-        ensures { Says (place self.old) (place self.new) result (node 8 (push (not condition.now) (known_view self.old.known)) (λ known. part 1 (fault (cert_tree certificate.now) defines.now known (branch condition.now false p.now) (branch condition.now false q.now)))) }
+        ensures { Says (place self.old) (place self.new) result (node Rule.Split (push (not condition.now) (known_view self.old.known)) (λ known. part 1 (fault (cert_tree certificate.now) defines.now known (branch condition.now false p.now) (branch condition.now false q.now)))) }
     {
         self.check_branch(defines, condition, false, certificate, p, q)
     }
@@ -339,7 +339,7 @@ impl Walk {
         p: &Assertion,
         q: &Assertion,
     ) -> Result<(), Failed>
-        ensures { Says (place self.old) (place self.new) result (node 8 (pushed (not_of first) condition.now (known_view self.old.known)) (λ known. part (branch_number first) (fault (cert_tree certificate.now) defines.now known (branch condition.now first p.now) (branch condition.now first q.now)))) }
+        ensures { Says (place self.old) (place self.new) result (node Rule.Split (pushed (not_of first) condition.now (known_view self.old.known)) (λ known. part (branch_number first) (fault (cert_tree certificate.now) defines.now known (branch condition.now first p.now) (branch condition.now first q.now)))) }
     {
         let left = match branch(self.alloc, condition, first, p) {
             Ok(left) => left,

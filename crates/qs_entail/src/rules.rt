@@ -4,7 +4,8 @@ ghost use Rattle.std.specs.Bool.{MatchBool};
 ghost use Rattle.qs_assert.specs.Sameness.{same_assertion};
 ghost use Rattle.qs_assert.specs.Trees.{assertions_of, natural, infinity};
 ghost use Rattle.qs_entail.specs.Answers.{Follows, FollowsAs};
-ghost use Rattle.qs_entail.specs.Building.{bind, require};
+ghost use Rattle.qs_base.specs.Results.{bind, require};
+ghost use Rattle.qs_entail.specs.Building.{breaks};
 ghost use Rattle.qs_entail.specs.Faults.{done, definition, members_of, member_at, summands_of, count, contradiction, arithmetic_holds};
 ghost use Rattle.qs_entail.specs.Walking.{both_view, unfolded_both, branch_number};
 ghost use Rattle.qs_entail.specs.View.{items_view, known_view};
@@ -24,7 +25,7 @@ use std::alloc::Global;
 
 /// The two are the same tree.
 pub fn same(p: &Assertion, q: &Assertion) -> Result<(), Stop>
-    ensures { Follows result (require (same_assertion p.now q.now) done) }
+    ensures { Follows result (require (same_assertion p.now q.now) breaks done) }
 {
     if p.same(q) { Ok(()) } else { Err(Stop::Breaks) }
 }
@@ -62,7 +63,7 @@ fn are_so_many(list: &[Assertion], wanted: usize) -> bool
 /// The members of a greatest that has so many.
 pub fn counted_members(alloc: Global, wanted: usize, q: &Assertion) -> Result<Vec<Assertion>, Stop>
     ensures count { IfOk result (λ v. length v.items ≡ wanted) }
-    ensures members { FollowsAs (λ v. assertions_of v.items) result (bind (members_of q.now) (λ members. require (wanted == count members) (Ok members))) }
+    ensures members { FollowsAs (λ v. assertions_of v.items) result (bind (members_of q.now) (λ members. require (wanted == count members) breaks (Ok members))) }
 {
     let members = members(alloc, q)?;
     if are_so_many(&members, wanted) {
@@ -75,7 +76,7 @@ pub fn counted_members(alloc: Global, wanted: usize, q: &Assertion) -> Result<Ve
 /// The summands of a sum that has so many.
 pub fn counted_summands(alloc: Global, wanted: usize, q: &Assertion) -> Result<Vec<Assertion>, Stop>
     ensures count { IfOk result (λ v. length v.items ≡ wanted) }
-    ensures summands { FollowsAs (λ v. assertions_of v.items) result (bind (summands_of q.now) (λ summands. require (wanted == count summands) (Ok summands))) }
+    ensures summands { FollowsAs (λ v. assertions_of v.items) result (bind (summands_of q.now) (λ summands. require (wanted == count summands) breaks (Ok summands))) }
 {
     let summands = summands(alloc, q)?;
     if are_so_many(&summands, wanted) {

@@ -3,7 +3,8 @@ ghost use Rattle.std.specs.Prelude.{◌≡◌, ◌&&◌, nat_le, Ok};
 ghost use Rattle.qs_entail.specs.Building as building;
 ghost use Rattle.qs_entail.specs.Certificates as cert;
 ghost use Rattle.qs_entail.specs.Answers.{Follows};
-ghost use Rattle.qs_entail.specs.Building.{require, bind};
+ghost use Rattle.qs_base.specs.Results.{require, bind};
+ghost use Rattle.qs_entail.specs.Building.{breaks};
 ghost use Rattle.qs_entail.specs.Faults as faults;
 ghost use Rattle.qs_entail.specs.Faults.{done, definition, count, count_certs};
 ghost use Rattle.qs_entail.specs.Facts as facts;
@@ -38,7 +39,7 @@ fn without_limit(stop: Stop) -> Stop
 
 #[tactic(auto, using(crate::proofs::Stands::given_ok, crate::proofs::Stands::given_err))]
 fn has_member(alloc: Global, p: &Assertion, i: i64) -> Result<(), Stop>
-    ensures { Follows result (require (is_given (bind (faults.members_of p.now) (λ members. faults.member_at members i))) done) }
+    ensures { Follows result (require (is_given (bind (faults.members_of p.now) (λ members. faults.member_at members i))) breaks done) }
 {
     match picked(alloc, p, i) {
         Ok(_member) => Ok(()),
@@ -48,7 +49,7 @@ fn has_member(alloc: Global, p: &Assertion, i: i64) -> Result<(), Stop>
 
 #[tactic(auto, using(crate::proofs::Stands::counted_ok, crate::proofs::Stands::counted_err))]
 fn has_members(alloc: Global, wanted: usize, q: &Assertion) -> Result<(), Stop>
-    ensures { Follows result (require (has_count wanted (bind (faults.members_of q.now) (λ members. Ok (count members)))) done) }
+    ensures { Follows result (require (has_count wanted (bind (faults.members_of q.now) (λ members. Ok (count members)))) breaks done) }
 {
     match counted_members(alloc, wanted, q) {
         Ok(_members) => Ok(()),
@@ -58,7 +59,7 @@ fn has_members(alloc: Global, wanted: usize, q: &Assertion) -> Result<(), Stop>
 
 #[tactic(auto, using(crate::proofs::Stands::counted_ok, crate::proofs::Stands::counted_err))]
 fn has_summands(alloc: Global, wanted: usize, q: &Assertion) -> Result<(), Stop>
-    ensures { Follows result (require (has_count wanted (bind (faults.summands_of q.now) (λ summands. Ok (count summands)))) done) }
+    ensures { Follows result (require (has_count wanted (bind (faults.summands_of q.now) (λ summands. Ok (count summands)))) breaks done) }
 {
     match counted_summands(alloc, wanted, q) {
         Ok(_summands) => Ok(()),
@@ -73,7 +74,7 @@ fn both_have_summands(
     p: &Assertion,
     q: &Assertion,
 ) -> Result<(), Stop>
-    ensures { Follows result (require (has_count wanted (bind (faults.summands_of p.now) (λ summands. Ok (count summands))) && has_count wanted (bind (faults.summands_of q.now) (λ summands. Ok (count summands)))) done) }
+    ensures { Follows result (require (has_count wanted (bind (faults.summands_of p.now) (λ summands. Ok (count summands))) && has_count wanted (bind (faults.summands_of q.now) (λ summands. Ok (count summands)))) breaks done) }
 {
     has_summands(alloc, wanted, p)?;
     has_summands(alloc, wanted, q)
@@ -81,7 +82,7 @@ fn both_have_summands(
 
 #[tactic(auto, using(crate::proofs::Stands::given_ok, crate::proofs::Stands::given_err))]
 fn is_guard(alloc: Global, p: &Assertion) -> Result<(), Stop>
-    ensures { Follows result (require (is_given (faults.guarded_of p.now)) done) }
+    ensures { Follows result (require (is_given (faults.guarded_of p.now)) breaks done) }
 {
     match guarded_of(alloc, p) {
         Ok(_guarded) => Ok(()),
@@ -91,7 +92,7 @@ fn is_guard(alloc: Global, p: &Assertion) -> Result<(), Stop>
 
 #[tactic(auto, using(crate::proofs::Stands::given_ok, crate::proofs::Stands::given_err))]
 fn is_defined(defines: &[Define], name: &Name) -> Result<(), Stop>
-    ensures { Follows result (require (is_given (definition defines.now name.now)) done) }
+    ensures { Follows result (require (is_given (definition defines.now name.now)) breaks done) }
 {
     match definition(defines, name) {
         Ok(_body) => Ok(()),
@@ -100,7 +101,7 @@ fn is_defined(defines: &[Define], name: &Name) -> Result<(), Stop>
 }
 
 fn are_numbers(items: &[Item], count: usize) -> Result<(), Stop>
-    ensures { Follows result (require (are_counted (items_view items.now) count) done) }
+    ensures { Follows result (require (are_counted (items_view items.now) count) breaks done) }
 {
     if are_inside(items, count) {
         Ok(())
@@ -111,7 +112,7 @@ fn are_numbers(items: &[Item], count: usize) -> Result<(), Stop>
 
 #[tactic(auto, using(crate::proofs::Stands::first_holds, crate::proofs::Stands::first_fails))]
 fn both_are_numbers(first: &[Item], second: &[Item], count: usize) -> Result<(), Stop>
-    ensures { Follows result (require (are_counted (items_view first.now) count && are_counted (items_view second.now) count) done) }
+    ensures { Follows result (require (are_counted (items_view first.now) count && are_counted (items_view second.now) count) breaks done) }
 {
     are_numbers(first, count)?;
     are_numbers(second, count)
@@ -119,7 +120,7 @@ fn both_are_numbers(first: &[Item], second: &[Item], count: usize) -> Result<(),
 
 #[tactic(auto, using(crate::proofs::Stands::first_holds, crate::proofs::Stands::first_fails))]
 fn are_plain(items: &[Item], count: usize, p: &Assertion, q: &Assertion) -> Result<(), Stop>
-    ensures { Follows result (require ((building.is_plain p.now && building.is_plain q.now) && are_counted (items_view items.now) count) done) }
+    ensures { Follows result (require ((building.is_plain p.now && building.is_plain q.now) && are_counted (items_view items.now) count) breaks done) }
 {
     if is_plain(p) && is_plain(q) {
         are_numbers(items, count)
@@ -131,7 +132,7 @@ fn are_plain(items: &[Item], count: usize, p: &Assertion, q: &Assertion) -> Resu
 /// The condition of this number says that two terms differ.
 #[tactic(auto, using(crate::proofs::Stands::given_ok, crate::proofs::Stands::given_err))]
 fn is_apart(alloc: Global, conditions: &[Cond], i: i64) -> Result<(), Stop>
-    ensures { Follows result (require (is_given (bind (facts.condition conditions.now i) facts.different_sides)) done) }
+    ensures { Follows result (require (is_given (bind (facts.condition conditions.now i) facts.different_sides)) breaks done) }
 {
     match condition(conditions, i) {
         Ok(c) => match different_sides(alloc, c) {
@@ -144,20 +145,20 @@ fn is_apart(alloc: Global, conditions: &[Cond], i: i64) -> Result<(), Stop>
 
 #[tactic(auto, using(crate::proofs::Stands::first_holds, crate::proofs::Stands::first_fails))]
 fn apart_stands(alloc: Global, i: i64, items: &[Item], outline: &Outline) -> Result<(), Stop>
-    ensures { Follows result (require (fact_stands (cert.apart i (items_view items.now)) (outline_view outline.now)) done) }
+    ensures { Follows result (require (fact_stands (cert.apart i (items_view items.now)) (outline_view outline.now)) breaks done) }
 {
     is_apart(alloc, &outline.conditions, i)?;
     are_numbers(items, outline.count)
 }
 
 fn is_divisor(n: u64) -> Result<(), Stop>
-    ensures { Follows result (require (nat_le 1 n) done) }
+    ensures { Follows result (require (nat_le 1 n) breaks done) }
 {
     if 1 <= n { Ok(()) } else { Err(Stop::Breaks) }
 }
 
 fn fact_stands(alloc: Global, fact: &Fact, outline: &Outline) -> Result<(), Stop>
-    ensures { Follows result (require (fact_stands (fact_tree fact.now) (outline_view outline.now)) done) }
+    ensures { Follows result (require (fact_stands (fact_tree fact.now) (outline_view outline.now)) breaks done) }
 {
     match fact {
         Fact::Range(_) => Ok(()),
@@ -192,7 +193,7 @@ pub fn stands(
     p: &Assertion,
     q: &Assertion,
 ) -> Result<(), Stop>
-    ensures { Follows result (require (stands (cert_tree certificate.now) defines.now (outline_view outline.now) p.now q.now) done) }
+    ensures { Follows result (require (stands (cert_tree certificate.now) defines.now (outline_view outline.now) p.now q.now) breaks done) }
 {
     match certificate {
         Certificate::Same => same(p, q),

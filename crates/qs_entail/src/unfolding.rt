@@ -5,8 +5,7 @@ ghost use Rattle.qs_entail.specs.Faults as faults;
 ghost use Rattle.qs_entail.specs.Placing.{placed};
 
 use crate::Stop;
-use crate::fronts::put_nodes;
-use qs_assert::{Assertion, AssertionNode, Define, Node};
+use qs_assert::{Assertion, AssertionNode, Define, Node, put_nodes};
 use qs_base::{Name, NoMemory};
 use std::alloc::Global;
 

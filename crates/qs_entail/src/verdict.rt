@@ -1,12 +1,14 @@
 // The check of a certificate under hypotheses.
 ghost use Rattle.std.specs.Prelude.{◌≡◌, [], IfOk, OnOk};
 ghost use Rattle.qs_entail.specs.Answers.{Follows};
-ghost use Rattle.qs_entail.specs.Building.{require};
+ghost use Rattle.qs_base.specs.Results.{require};
+ghost use Rattle.qs_entail.specs.Building.{breaks};
 ghost use Rattle.qs_entail.specs.Faults.{done, fault, node};
-ghost use Rattle.qs_entail.specs.Meaning.{IsInOrder, Above};
+ghost use Rattle.qs_assert.specs.Order.{IsInOrder};
+ghost use Rattle.qs_entail.specs.Meaning.{Above};
 ghost use Rattle.qs_entail.specs.Pushing as pushing;
 ghost use Rattle.qs_entail.specs.Pushing.{at_first};
-ghost use Rattle.qs_entail.specs.Said.{rule_number, Tells};
+ghost use Rattle.qs_entail.specs.Said.{Tells};
 ghost use Rattle.qs_entail.specs.Standing.{told};
 ghost use Rattle.qs_entail.specs.Verdicts as verdicts;
 ghost use Rattle.qs_entail.specs.Verdicts.{stands, outline_list, verdict};
@@ -29,7 +31,7 @@ use std::alloc::Global;
 
 /// The rule of a certificate's root.
 fn rule_of(certificate: &Certificate) -> Rule
-    ensures { rule_number result ≡ verdicts.rule_of (cert_tree certificate.now) }
+    ensures { result ≡ verdicts.rule_of (cert_tree certificate.now) }
 {
     match certificate {
         Certificate::Same => Rule::Same,
@@ -85,7 +87,7 @@ fn root_stands(
     q: &Assertion,
     certificate: &Certificate,
 ) -> Result<(), Stop>
-    ensures { Follows result (require (stands (cert_tree certificate.now) defines.now (outline_list hypotheses.now (record { conditions = []; count = 1 })) p.now q.now) done) }
+    ensures { Follows result (require (stands (cert_tree certificate.now) defines.now (outline_list hypotheses.now (record { conditions = []; count = 1 })) p.now q.now) breaks done) }
 {
     match outlined(alloc, hypotheses) {
         Ok(outline) => stands(alloc, certificate, defines, &outline, p, q),

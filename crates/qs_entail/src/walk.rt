@@ -2,7 +2,7 @@
 ghost use Rattle.std.specs.Prelude.{◌≡◌, ◌++◌, ◌∷◌, [], MatchResult, IfOk, OnOk, length, List, ℕ, Ok, None};
 ghost use Rattle.qs_assert.specs.Trees.{not};
 ghost use Rattle.qs_entail.specs.Answers.{Follows, FollowsAs};
-ghost use Rattle.qs_entail.specs.Building.{bind};
+ghost use Rattle.qs_base.specs.Results.{bind};
 ghost use Rattle.qs_entail.specs.Facts.{added};
 ghost use Rattle.qs_entail.specs.Faults.{done, node, contradiction, arithmetic_holds};
 ghost use Rattle.qs_entail.specs.Pushing.{push, with_polynomials};
@@ -132,7 +132,7 @@ impl Walk {
     /// Whether the items contradict what is known.
     #[tactic(auto, using(crate::proofs::Walks::says_settled))]
     pub fn contradicts(&self, items: &[Item]) -> Result<(), Failed>
-        ensures { Says (place self.now) (place self.now) result (node 9 (contradiction (items_view items.now) (known_view self.now.known)) (λ _. None)) }
+        ensures { Says (place self.now) (place self.now) result (node Rule.Contradict (contradiction (items_view items.now) (known_view self.now.known)) (λ _. None)) }
     {
         settle(
             Rule::Contradict,
@@ -143,7 +143,7 @@ impl Walk {
     /// Whether the items are the difference of two plain assertions.
     #[tactic(auto, using(crate::proofs::Walks::says_settled))]
     pub fn is_difference(&self, items: &[Item], p: &Assertion, q: &Assertion) -> Result<(), Failed>
-        ensures { Says (place self.now) (place self.now) result (node 10 (arithmetic_holds (items_view items.now) (known_view self.now.known) p.now q.now) (λ _. None)) }
+        ensures { Says (place self.now) (place self.now) result (node Rule.Arithmetic (arithmetic_holds (items_view items.now) (known_view self.now.known) p.now q.now) (λ _. None)) }
     {
         settle(
             Rule::Arithmetic,

@@ -1,0 +1,140 @@
+-- A layout is made member by member, and no further where the limit is passed.
+use Rattle.std.proofs.Common.{◌≡◌, ◌≤◌, ◌<◌, ℕ, zero, suc, ◌+◌, max, nat_le, Bool, true, false, inl, inr, List, [], ◌∷◌, ◌++◌, Option, Some, None, refl, sym, ap, ◌∙◌, subst, arith, if◌then◌else◌}
+use Rattle.std.specs.List.{slice_get}
+use Rattle.std.proofs.lemmas.List.{append_assoc, append-nil}
+use Rattle.qs_types.specs.declared.extent.Extent.{Extent}
+use Rattle.qs_types.specs.Types.{TypeTree}
+use Rattle.qs_types.specs.Layout.{and_then, Layouts, StructLayout, rounded_up, offsets_from, end_from, strictest, struct_layout, size_limit, layout_within, sized_by, all_sized_by, sized_layout, extents_by}
+use Rattle.qs_types.specs.LayoutLaws.{IsAlignment}
+use Rattle.qs_types.proofs.Options.{nothing, same, went, goes, passed}
+use Rattle.qs_types.proofs.Rounding.{rounds}
+use Rattle.qs_types.proofs.Layouts.{Aligned, ends_after}
+use Rattle.qs_types.proofs.Extents.{AlignedLayouts, extents_aligned, sized_is}
+
+abbrev pub layout_at : List ℕ → (end alignment : ℕ) → Option StructLayout
+layout_at offsets end alignment = layout_within (record { offsets = offsets; size = rounded_up end alignment; alignment = alignment })
+
+-- what the members that are left make of the offsets so far, the end of the last of them, and the strictest alignment so far
+abbrev mutual
+  pub laid_out : Layouts → List TypeTree → List ℕ → (end alignment : ℕ) → Option StructLayout
+  laid_out layouts [] offsets end alignment = layout_at offsets end alignment
+  laid_out layouts (t ∷ ts) offsets end alignment = and_then (sized_by layouts t) (λ e. laid_behind layouts ts offsets end alignment e)
+
+  pub laid_behind : Layouts → List TypeTree → List ℕ → (end alignment : ℕ) → Extent → Option StructLayout
+  laid_behind layouts ts offsets end alignment e =
+      if nat_le (rounded_up end e.alignment + e.size) size_limit
+      then laid_out layouts ts (offsets ++ rounded_up end e.alignment ∷ []) (rounded_up end e.alignment + e.size) (max alignment e.alignment)
+      else None
+
+-- the same in one
+abbrev laid_together : List ℕ → (end alignment : ℕ) → List Extent → Option StructLayout
+laid_together offsets end alignment es = layout_at (offsets ++ offsets_from end es) (end_from end es) (max alignment (strictest es))
+
+pub all_sized_are : (layouts : Layouts) (ts : List TypeTree) (es : List Extent) → all_sized_by layouts ts ≡ Some es → extents_by layouts ts ≡ Some es
+all_sized_are layouts [] es p = p
+all_sized_are layouts (t ∷ ts) es p =
+    let w = went (sized_by layouts t) (λ e. and_then (all_sized_by layouts ts) (λ es. Some (e ∷ es))) es p in
+    let r = went (all_sized_by layouts ts) (λ es. Some (w.value ∷ es)) es w.gave in
+    goes _ w.value (λ e. and_then (extents_by layouts ts) (λ es. Some (e ∷ es))) (Some es) (sized_is layouts t w.value w.had)
+      (goes _ r.value (λ es. Some (w.value ∷ es)) (Some es) (all_sized_are layouts ts r.value r.had) r.gave)
+
+-- past the limit it stays so
+too_large : (offsets : List ℕ) (end alignment : ℕ) → 1 ≤ alignment → size_limit < end → layout_at offsets end alignment ≡ None
+too_large offsets end alignment pos over = go (nat_le (rounded_up end alignment) size_limit) refl
+  where
+    l : StructLayout
+    l = record { offsets = offsets; size = rounded_up end alignment; alignment = alignment }
+    go : (b : Bool) → nat_le (rounded_up end alignment) size_limit ≡ b → (if b then Some l else None) ≡ None
+    go false e = refl
+    go true e = absurd (no e)
+      where
+        no : nat_le (rounded_up end alignment) size_limit ≡ true → ⊥
+        no e = let r = rounds end alignment pos in let above = r.above in grind arith
+
+max_assoc : (a b c : ℕ) → max (max a b) c ≡ max a (max b c)
+max_assoc a b c = grind arith
+
+-- one member more
+one_more : (offsets : List ℕ) (end alignment at : ℕ) (e : Extent) (es : List Extent) → rounded_up end e.alignment ≡ at → laid_together (offsets ++ at ∷ []) (at + e.size) (max alignment e.alignment) es ≡ laid_together offsets end alignment (e ∷ es)
+one_more offsets end alignment at e es p =
+    ap (λ os. layout_at os (end_from (at + e.size) es) (max (max alignment e.alignment) (strictest es))) (append_assoc offsets (at ∷ []) (offsets_from (at + e.size) es))
+    ∙ (ap (λ a. layout_at (offsets ++ at ∷ offsets_from (at + e.size) es) (end_from (at + e.size) es) a) (max_assoc alignment e.alignment (strictest es))
+    ∙ ap (λ x. layout_at (offsets ++ x ∷ offsets_from (x + e.size) es) (end_from (x + e.size) es) (max alignment (max e.alignment (strictest es)))) (sym p))
+
+abbrev WholeLists : Layouts → List TypeTree → Type 0
+WholeLists layouts ts = (offsets : List ℕ) (end alignment : ℕ) → 1 ≤ alignment → laid_out layouts ts offsets end alignment ≡ and_then (all_sized_by layouts ts) (laid_together offsets end alignment)
+
+behind : (layouts : Layouts) → AlignedLayouts layouts → (ts : List TypeTree) → WholeLists layouts ts → (offsets : List ℕ) (end alignment : ℕ) → 1 ≤ alignment → (e : Extent) → laid_behind layouts ts offsets end alignment e ≡ and_then (and_then (all_sized_by layouts ts) (λ es. Some (e ∷ es))) (laid_together offsets end alignment)
+behind layouts h ts rest offsets end alignment pos e = go (nat_le (rounded_up end e.alignment + e.size) size_limit) refl
+  where
+    pos_max : (a b : ℕ) → 1 ≤ a → 1 ≤ max a b
+    pos_max a b p = grind arith
+    goes_on : (o : Option (List Extent)) → and_then o (laid_together (offsets ++ rounded_up end e.alignment ∷ []) (rounded_up end e.alignment + e.size) (max alignment e.alignment)) ≡ and_then (and_then o (λ es. Some (e ∷ es))) (laid_together offsets end alignment)
+    goes_on None = refl
+    goes_on (Some es) = one_more offsets end alignment (rounded_up end e.alignment) e es refl
+    stops : nat_le (rounded_up end e.alignment + e.size) size_limit ≡ false → (o : Option (List Extent)) → all_sized_by layouts ts ≡ o → None ≡ and_then (and_then o (λ es. Some (e ∷ es))) (laid_together offsets end alignment)
+    stops p None q = refl
+    stops p (Some es) q =
+        let a = ends_after es (rounded_up end e.alignment + e.size) (extents_aligned layouts h ts es (all_sized_are layouts ts es q)) in
+        let over : size_limit < rounded_up end e.alignment + e.size = grind arith in
+        sym (too_large (offsets ++ offsets_from end (e ∷ es)) (end_from end (e ∷ es)) (max alignment (strictest (e ∷ es))) (pos_max alignment (strictest (e ∷ es)) pos) (omega arith))
+    go : (b : Bool) → nat_le (rounded_up end e.alignment + e.size) size_limit ≡ b → (if b then laid_out layouts ts (offsets ++ rounded_up end e.alignment ∷ []) (rounded_up end e.alignment + e.size) (max alignment e.alignment) else None) ≡ and_then (and_then (all_sized_by layouts ts) (λ es. Some (e ∷ es))) (laid_together offsets end alignment)
+    go true p =
+        rest (offsets ++ rounded_up end e.alignment ∷ []) (rounded_up end e.alignment + e.size) (max alignment e.alignment) (pos_max alignment e.alignment pos)
+        ∙ goes_on (all_sized_by layouts ts)
+    go false p = stops p (all_sized_by layouts ts) refl
+
+together : (layouts : Layouts) → AlignedLayouts layouts → (ts : List TypeTree) → WholeLists layouts ts
+together layouts h [] offsets end alignment pos =
+    ap (λ os. layout_at os end alignment) (sym (append-nil offsets)) ∙ ap (layout_at (offsets ++ []) end) (one_is_least alignment pos)
+  where
+    one_is_least : (a : ℕ) → 1 ≤ a → a ≡ max a 1
+    one_is_least a p = grind arith
+together layouts h (t ∷ ts) offsets end alignment pos = go (sized_by layouts t)
+  where
+    go : (o : Option Extent) → and_then o (λ e. laid_behind layouts ts offsets end alignment e) ≡ and_then (and_then o (λ e. and_then (all_sized_by layouts ts) (λ es. Some (e ∷ es)))) (laid_together offsets end alignment)
+    go None = refl
+    go (Some e) = behind layouts h ts (together layouts h ts) offsets end alignment pos e
+
+at_least_one : (es : List Extent) → 1 ≤ strictest es
+at_least_one [] = omega arith
+at_least_one (e ∷ es) = let k = at_least_one es in up e.alignment (strictest es) k
+  where
+    up : (a b : ℕ) → 1 ≤ b → 1 ≤ max a b
+    up a b p = grind arith
+
+pub laid_whole : (layouts : Layouts) → AlignedLayouts layouts → (ts : List TypeTree) → laid_out layouts ts [] 0 1 ≡ sized_layout layouts ts
+laid_whole layouts h ts = together layouts h ts [] 0 1 (omega arith) ∙ go (all_sized_by layouts ts)
+  where
+    least : (a : ℕ) → 1 ≤ a → max 1 a ≡ a
+    least a p = grind arith
+    go : (o : Option (List Extent)) → and_then o (laid_together [] 0 1) ≡ and_then o (λ es. layout_within (struct_layout es))
+    go None = refl
+    go (Some es) = ap (layout_at (offsets_from 0 es) (end_from 0 es)) (least (strictest es) (at_least_one es))
+
+-- ---- one step
+
+pub step_none : (layouts : Layouts) (t : TypeTree) (ts : List TypeTree) (offsets : List ℕ) (end alignment : ℕ) → sized_by layouts t ≡ None → laid_out layouts (t ∷ ts) offsets end alignment ≡ None
+step_none layouts t ts offsets end alignment p = ap (λ o. and_then o (λ e. laid_behind layouts ts offsets end alignment e)) p
+
+pub step_over : (layouts : Layouts) (t : TypeTree) (ts : List TypeTree) (offsets : List ℕ) (end alignment : ℕ) (e : Extent) → sized_by layouts t ≡ Some e → size_limit < rounded_up end e.alignment + e.size → laid_out layouts (t ∷ ts) offsets end alignment ≡ None
+step_over layouts t ts offsets end alignment e p over =
+    ap (λ o. and_then o (λ e. laid_behind layouts ts offsets end alignment e)) p
+    ∙ ap (λ b. if b then laid_out layouts ts (offsets ++ rounded_up end e.alignment ∷ []) (rounded_up end e.alignment + e.size) (max alignment e.alignment) else None) no
+  where
+    no : nat_le (rounded_up end e.alignment + e.size) size_limit ≡ false
+    no = grind arith
+
+pub step_on : (layouts : Layouts) (t : TypeTree) (ts : List TypeTree) (offsets : List ℕ) (end alignment : ℕ) (e : Extent) → sized_by layouts t ≡ Some e → rounded_up end e.alignment + e.size ≤ size_limit → laid_out layouts (t ∷ ts) offsets end alignment ≡ laid_out layouts ts (offsets ++ rounded_up end e.alignment ∷ []) (rounded_up end e.alignment + e.size) (max alignment e.alignment)
+step_on layouts t ts offsets end alignment e p within =
+    ap (λ o. and_then o (λ e. laid_behind layouts ts offsets end alignment e)) p
+    ∙ ap (λ b. if b then laid_out layouts ts (offsets ++ rounded_up end e.alignment ∷ []) (rounded_up end e.alignment + e.size) (max alignment e.alignment) else None) yes
+  where
+    yes : nat_le (rounded_up end e.alignment + e.size) size_limit ≡ true
+    yes = grind arith
+
+pub sized_is_layout : (layouts : Layouts) (ts : List TypeTree) (l : StructLayout) → sized_layout layouts ts ≡ Some l → and_then (extents_by layouts ts) (λ es. Some (struct_layout es)) ≡ Some l
+sized_is_layout layouts ts l p =
+    let w = went (all_sized_by layouts ts) (λ es. layout_within (struct_layout es)) l p in
+    let k = passed (nat_le (struct_layout w.value).size size_limit) (struct_layout w.value) l w.gave in
+    goes (extents_by layouts ts) w.value (λ es. Some (struct_layout es)) (Some l) (all_sized_are layouts ts w.value w.had) (ap Some k.is)

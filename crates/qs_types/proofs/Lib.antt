@@ -1,0 +1,7 @@
+mod Options
+mod Rounding
+mod Layouts
+mod Extents
+mod LayoutSteps
+mod Declaring
+mod LayoutExamples

@@ -1,13 +1,21 @@
 -- Layouts stay where a struct is declared, and where one is given its members.
-use Rattle.std.proofs.Common.{◌≡◌, ◌≤◌, ◌<◌, ◌⊎◌, inl, inr, ℕ, zero, suc, ◌+◌, Bool, true, false, List, [], ◌∷◌, ◌++◌, Option, Some, None, is_some, map, option_map, slice_set, refl, sym, ap, ◌∙◌, subst, arith}
+use Rattle.std.proofs.Common.{◌≡◌, ◌≤◌, ◌<◌, ◌⊎◌, inl, inr, ℕ, zero, suc, ◌+◌, Bool, true, false, List, [], ◌∷◌, ◌++◌, Option, Some, None, is_some, map, option_map, slice_set, length, refl, sym, ap, ◌∙◌, subst, arith, Bor, if◌then◌else◌}
+use Rattle.std.specs.Prelude.{option_copied}
+use Rattle.std.specs.List.{ItemBy}
+use Rattle.std.proofs.lemmas.Option.{slice_get_past, slice_get-get_or, slice_get_within}
 use Rattle.std.specs.List.{slice_get}
-use Rattle.std.proofs.lemmas.List.{map-append, map-set}
+use Rattle.std.proofs.lemmas.List.{map-append, map-set, length-map}
+use Rattle.std.specs.Map.{values_of}
 use Rattle.std.proofs.Math.Path.{fun_ext}
 use Rattle.qs_types.specs.Types.{TypeTree, MemberTree, StructTree, Structs}
-use Rattle.qs_types.specs.Layout.{and_then, Layouts, StructLayout as LayoutTree, struct_of, members_layout, layouts_within, layout_of, defined_structs}
+use Rattle.qs_types.specs.Layout.{and_then, Layouts, StructLayout as LayoutTree, struct_of, member_types, members_layout, extents_by, struct_layout, sized_layout, layouts_within, layout_of, defined_structs}
 use Rattle.qs_types.specs.StructsOf.{member_tree, struct_tree, structs_tree, layout_tree, kept_layouts, has_members, has_layout}
+use Rattle.qs_types.specs.TypeOf.{type_tree}
+use Rattle.qs_types.specs.declared.types.CType.{CType}
+use Rattle.qs_types.specs.declared.structs.StructLayout.{StructLayout}
 use Rattle.qs_types.specs.declared.structs.StructType.{StructType}
 use Rattle.qs_types.proofs.Options.{nothing, same}
+use Rattle.qs_types.proofs.LayoutSteps.{sized_is_layout}
 use Rattle.qs_types.proofs.Extents.{Extends, layout_kept, layouts_kept}
 
 -- ---- lists
@@ -172,3 +180,54 @@ declared_keeps items s kept is none j =
     ∙ (ap (λ d. layouts_within d (structs_tree items) j) (sym (none_more (structs_tree items)))
     ∙ (ap (λ (layouts : Layouts). layouts j) (sym (same_layouts (defined_structs (structs_tree items ++ None ∷ [])) (structs_tree items)))
     ∙ ap (λ structs. layout_of structs j) (sym (map-append struct_tree items (s ∷ []) ∙ ap (λ t. structs_tree items ++ t ∷ []) is)))))
+
+-- ---- one struct behind the others, where there is room for it
+
+pub pushed_keeps : (b : Bool) (items now : List StructType) (s : StructType) → now ≡ (if b then items ++ s ∷ [] else items) → KeepsLayouts items → struct_tree s ≡ None → option_map layout_tree s.layout ≡ None → KeepsLayouts now
+pushed_keeps true items now s e kept is none = subst KeepsLayouts (sym e) (declared_keeps items s kept is none)
+pushed_keeps false items now s e kept is none = subst KeepsLayouts (sym e) kept
+
+pub pushed_whole : (b : Bool) (items now : List StructType) (s : StructType) → now ≡ (if b then items ++ s ∷ [] else items) → map has_layout items ≡ map has_members items → has_layout s ≡ has_members s → map has_layout now ≡ map has_members now
+pushed_whole true items now s e whole has =
+    ap (map has_layout) e
+    ∙ (map-append has_layout items (s ∷ [])
+    ∙ (ap (λ bs. bs ++ has_layout s ∷ []) whole
+    ∙ (ap (λ b. map has_members items ++ b ∷ []) has
+    ∙ (sym (map-append has_members items (s ∷ [])) ∙ ap (map has_members) (sym e)))))
+pushed_whole false items now s e whole has = ap (map has_layout) e ∙ (whole ∙ ap (map has_members) (sym e))
+
+-- ---- the layout that is kept for a struct
+
+seen : (r : Option (Bor StructLayout)) → option_map (λ l. layout_tree l.now) r ≡ option_map layout_tree (option_copied r)
+seen None = refl
+seen (Some l) = refl
+
+pub shown : (items : List StructType) (k : ℕ) (s : StructType) (r : Option (Bor StructLayout)) → KeepsLayouts items → slice_get items k ≡ Some s → option_copied r ≡ s.layout → option_map (λ l. layout_tree l.now) r ≡ layout_of (structs_tree items) k
+shown items k s r kept at e =
+    seen r ∙ (ap (option_map layout_tree) e ∙ (ap (λ o. and_then o (λ s. option_map layout_tree s.layout)) (sym at) ∙ kept k))
+
+pub hidden : (items : List StructType) (k : ℕ) → KeepsLayouts items → slice_get items k ≡ None → None ≡ layout_of (structs_tree items) k
+hidden items k kept at = ap (λ o. and_then o (λ s. option_map layout_tree s.layout)) (sym at) ∙ kept k
+
+-- what `get` answers
+pub item : {X : Type 0} (xs : List X) (k : ℕ) (r : Option (Bor X)) → ItemBy (λ (x : Bor X). x.now) xs k k r → option_copied r ≡ slice_get xs k
+item xs k None h = sym (slice_get_past xs k h.3)
+item xs k (Some x) h = sym (slice_get-get_or xs k x.now h.3.0 ∙ ap Some (sym h.1))
+
+-- ---- one struct given its members
+
+pub declared_within : (items : List StructType) (k : ℕ) → slice_get (structs_tree items) k ≡ Some None → k < length items
+declared_within items k fresh = let e = length-map items struct_tree in let h = slice_get_within (structs_tree items) k None fresh in omega arith
+
+types_of_members : (es : List (List ℕ × CType)) → member_types (map member_tree es) ≡ map type_tree (values_of es)
+types_of_members [] = refl
+types_of_members (x ∷ es) = ap (λ ts. type_tree x.1 ∷ ts) (types_of_members es)
+
+-- a layout that is within the limit is that of the members
+pub members_sized : (layouts : Layouts) (es : List (List ℕ × CType)) (l : LayoutTree) → sized_layout layouts (map type_tree (values_of es)) ≡ Some l → members_layout layouts (map member_tree es) ≡ Some l
+members_sized layouts es l p =
+    ap (λ ts. and_then (extents_by layouts ts) (λ xs. Some (struct_layout xs))) (types_of_members es)
+    ∙ sized_is_layout layouts (map type_tree (values_of es)) l p
+
+pub defined_tree : (items : List StructType) (k : ℕ) (s : StructType) (ms : List MemberTree) → struct_tree s ≡ Some ms → structs_tree (slice_set items k s) ≡ slice_set (structs_tree items) k (Some ms)
+defined_tree items k s ms has = map-set struct_tree items k s ∙ ap (slice_set (structs_tree items) k) has

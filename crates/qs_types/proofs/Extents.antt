@@ -4,7 +4,7 @@ use Rattle.std.specs.List.{slice_get}
 use Rattle.std.proofs.lemmas.Nat.{mul-mod}
 use Rattle.qs_types.specs.declared.extent.Extent.{Extent}
 use Rattle.qs_types.specs.Types.{TypeTree, int, unsigned, char, void, pointer, array, struct, MemberTree, Structs}
-use Rattle.qs_types.specs.Layout.{and_then, Layouts, StructLayout, extent_by, extents_by, scalar_extent, array_extent, struct_extent, extent_within, struct_layout, members_layout, member_types, struct_of, layouts_within, layout_of, extent_of, sized_by, defined_structs, size_limit}
+use Rattle.qs_types.specs.Layout.{and_then, Layouts, StructLayout, extent_by, extents_by, scalar_extent, array_extent, struct_extent, extent_within, struct_layout, members_layout, member_types, struct_of, layouts_within, layout_of, extent_of, size_of, alignment_of, sized_by, defined_structs, size_limit}
 use Rattle.qs_types.specs.LayoutLaws.{IsAlignment, IsAligned, IsLaidOut, IsSmall, IsLaidOutFor, SizesAligned, StructsLaidOut}
 use Rattle.qs_types.proofs.Options.{nothing, same, went, goes, passed}
 use Rattle.qs_types.proofs.Rounding.{rounds}
@@ -184,3 +184,15 @@ small structs t e p = go (sizes_aligned structs t e (sized_is (layout_of structs
 pub small_if : (structs : Structs) (t : TypeTree) (o : Option Extent) → o ≡ sized_by (layout_of structs) t → IfSome o IsSmall
 small_if structs t None p = tt
 small_if structs t (Some e) p = small structs t e (sym p)
+
+pub small_struct : (structs : Structs) (k : ℕ) (l : StructLayout) (o : Option Extent) → layout_of structs k ≡ Some l → o ≡ extent_within (struct_extent l) → IfSome o IsSmall
+small_struct structs k l o p e = small_if structs (struct k) o (e ∙ sym (ap (λ x. and_then x (λ l. extent_within (struct_extent l))) p))
+
+pub unit_layouts_aligned : (structs : Structs) → AlignedLayouts (layout_of structs)
+unit_layouts_aligned structs = layouts_aligned (defined_structs structs) structs
+
+pub sized_size : (structs : Structs) (t : TypeTree) (e : Extent) (o : Option Extent) → o ≡ sized_by (layout_of structs) t → o ≡ Some e → size_of structs t ≡ Some e.size
+sized_size structs t e o p q = goes (extent_of structs t) e (λ (e : Extent). Some e.size) (Some e.size) (sized_is (layout_of structs) t e (sym p ∙ q)) refl
+
+pub sized_alignment : (structs : Structs) (t : TypeTree) (e : Extent) (o : Option Extent) → o ≡ sized_by (layout_of structs) t → o ≡ Some e → alignment_of structs t ≡ Some e.alignment
+sized_alignment structs t e o p q = goes (extent_of structs t) e (λ (e : Extent). Some e.alignment) (Some e.alignment) (sized_is (layout_of structs) t e (sym p ∙ q)) refl

@@ -1,5 +1,5 @@
 -- A layout is made member by member, and no further where the limit is passed.
-use Rattle.std.proofs.Common.{◌≡◌, ◌≤◌, ◌<◌, ℕ, zero, suc, ◌+◌, max, nat_le, Bool, true, false, inl, inr, List, [], ◌∷◌, ◌++◌, Option, Some, None, refl, sym, ap, ◌∙◌, subst, arith, if◌then◌else◌}
+use Rattle.std.proofs.Common.{◌≡◌, ◌≤◌, ◌<◌, ℕ, zero, suc, ◌+◌, max, nat_le, drop, Bool, true, false, inl, inr, List, [], ◌∷◌, ◌++◌, Option, Some, None, refl, sym, ap, ◌∙◌, subst, arith, if◌then◌else◌}
 use Rattle.std.specs.List.{slice_get}
 use Rattle.std.proofs.lemmas.List.{append_assoc, append-nil}
 use Rattle.qs_types.specs.declared.extent.Extent.{Extent}
@@ -15,16 +15,20 @@ abbrev pub layout_at : List ℕ → (end alignment : ℕ) → Option StructLayou
 layout_at offsets end alignment = layout_within (record { offsets = offsets; size = rounded_up end alignment; alignment = alignment })
 
 -- what the members that are left make of the offsets so far, the end of the last of them, and the strictest alignment so far
-abbrev mutual
-  pub laid_out : Layouts → List TypeTree → List ℕ → (end alignment : ℕ) → Option StructLayout
-  laid_out layouts [] offsets end alignment = layout_at offsets end alignment
-  laid_out layouts (t ∷ ts) offsets end alignment = and_then (sized_by layouts t) (λ e. laid_behind layouts ts offsets end alignment e)
-
-  pub laid_behind : Layouts → List TypeTree → List ℕ → (end alignment : ℕ) → Extent → Option StructLayout
-  laid_behind layouts ts offsets end alignment e =
+abbrev pub laid_out : Layouts → List TypeTree → List ℕ → (end alignment : ℕ) → Option StructLayout
+laid_out layouts [] offsets end alignment = layout_at offsets end alignment
+laid_out layouts (t ∷ ts) offsets end alignment =
+    and_then (sized_by layouts t) (λ e.
       if nat_le (rounded_up end e.alignment + e.size) size_limit
       then laid_out layouts ts (offsets ++ rounded_up end e.alignment ∷ []) (rounded_up end e.alignment + e.size) (max alignment e.alignment)
-      else None
+      else None)
+
+-- the same behind a member of this extent
+abbrev pub laid_behind : Layouts → List TypeTree → List ℕ → (end alignment : ℕ) → Extent → Option StructLayout
+laid_behind layouts ts offsets end alignment e =
+    if nat_le (rounded_up end e.alignment + e.size) size_limit
+    then laid_out layouts ts (offsets ++ rounded_up end e.alignment ∷ []) (rounded_up end e.alignment + e.size) (max alignment e.alignment)
+    else None
 
 -- the same in one
 abbrev laid_together : List ℕ → (end alignment : ℕ) → List Extent → Option StructLayout
@@ -90,11 +94,11 @@ together layouts h [] offsets end alignment pos =
   where
     one_is_least : (a : ℕ) → 1 ≤ a → a ≡ max a 1
     one_is_least a p = grind arith
-together layouts h (t ∷ ts) offsets end alignment pos = go (sized_by layouts t)
+together layouts h (t ∷ ts) offsets end alignment pos = go (together layouts h ts) (sized_by layouts t)
   where
-    go : (o : Option Extent) → and_then o (λ e. laid_behind layouts ts offsets end alignment e) ≡ and_then (and_then o (λ e. and_then (all_sized_by layouts ts) (λ es. Some (e ∷ es)))) (laid_together offsets end alignment)
-    go None = refl
-    go (Some e) = behind layouts h ts (together layouts h ts) offsets end alignment pos e
+    go : WholeLists layouts ts → (o : Option Extent) → and_then o (λ e. laid_behind layouts ts offsets end alignment e) ≡ and_then (and_then o (λ e. and_then (all_sized_by layouts ts) (λ es. Some (e ∷ es)))) (laid_together offsets end alignment)
+    go rest None = refl
+    go rest (Some e) = behind layouts h ts rest offsets end alignment pos e
 
 at_least_one : (es : List Extent) → 1 ≤ strictest es
 at_least_one [] = omega arith
@@ -138,3 +142,36 @@ sized_is_layout layouts ts l p =
     let w = went (all_sized_by layouts ts) (λ es. layout_within (struct_layout es)) l p in
     let k = passed (nat_le (struct_layout w.value).size size_limit) (struct_layout w.value) l w.gave in
     goes (extents_by layouts ts) w.value (λ es. Some (struct_layout es)) (Some l) (all_sized_are layouts ts w.value w.had) (ap Some k.is)
+
+-- ---- at a place of the list
+
+drop_at : {X : Type 0} (xs : List X) (i : ℕ) (x : X) → slice_get xs i ≡ Some x → drop i xs ≡ x ∷ drop (suc i) xs
+drop_at [] i x p = nothing x p
+drop_at (y ∷ ys) zero x p = ap (λ z. z ∷ ys) (same y x p)
+drop_at (y ∷ ys) (suc i) x p = drop_at ys i x p
+
+next : (i : ℕ) → suc i ≡ i + 1
+next i = omega arith
+
+abbrev pub From : Layouts → List TypeTree → ℕ → List ℕ → (end alignment : ℕ) → Type 0
+From layouts ts i offsets end alignment = laid_out layouts (drop i ts) offsets end alignment ≡ laid_out layouts ts [] 0 1
+
+pub ends_none : (layouts : Layouts) (ts : List TypeTree) (i : ℕ) (t : TypeTree) (offsets : List ℕ) (end alignment : ℕ) → slice_get ts i ≡ Some t → From layouts ts i offsets end alignment → AlignedLayouts layouts → sized_by layouts t ≡ None → None ≡ sized_layout layouts ts
+ends_none layouts ts i t offsets end alignment at so h p =
+    sym (step_none layouts t (drop (suc i) ts) offsets end alignment p)
+    ∙ (ap (λ l. laid_out layouts l offsets end alignment) (sym (drop_at ts i t at)) ∙ (so ∙ laid_whole layouts h ts))
+
+pub ends_over : (layouts : Layouts) (ts : List TypeTree) (i : ℕ) (t : TypeTree) (offsets : List ℕ) (end alignment : ℕ) (e : Extent) → slice_get ts i ≡ Some t → From layouts ts i offsets end alignment → AlignedLayouts layouts → sized_by layouts t ≡ Some e → size_limit < rounded_up end e.alignment + e.size → None ≡ sized_layout layouts ts
+ends_over layouts ts i t offsets end alignment e at so h p over =
+    sym (step_over layouts t (drop (suc i) ts) offsets end alignment e p over)
+    ∙ (ap (λ l. laid_out layouts l offsets end alignment) (sym (drop_at ts i t at)) ∙ (so ∙ laid_whole layouts h ts))
+
+pub goes_on : (layouts : Layouts) (ts : List TypeTree) (i : ℕ) (t : TypeTree) (offsets : List ℕ) (end alignment : ℕ) (e : Extent) → slice_get ts i ≡ Some t → From layouts ts i offsets end alignment → sized_by layouts t ≡ Some e → rounded_up end e.alignment + e.size ≤ size_limit → From layouts ts (i + 1) (offsets ++ rounded_up end e.alignment ∷ []) (rounded_up end e.alignment + e.size) (max alignment e.alignment)
+goes_on layouts ts i t offsets end alignment e at so p within =
+    ap (λ k. laid_out layouts (drop k ts) (offsets ++ rounded_up end e.alignment ∷ []) (rounded_up end e.alignment + e.size) (max alignment e.alignment)) (sym (next i))
+    ∙ (sym (step_on layouts t (drop (suc i) ts) offsets end alignment e p within)
+    ∙ (ap (λ l. laid_out layouts l offsets end alignment) (sym (drop_at ts i t at)) ∙ so))
+
+pub ends_whole : (layouts : Layouts) (ts : List TypeTree) (i : ℕ) (offsets : List ℕ) (end alignment : ℕ) → drop i ts ≡ [] → From layouts ts i offsets end alignment → AlignedLayouts layouts → layout_at offsets end alignment ≡ sized_layout layouts ts
+ends_whole layouts ts i offsets end alignment none so h =
+    ap (λ l. laid_out layouts l offsets end alignment) (sym none) ∙ (so ∙ laid_whole layouts h ts)

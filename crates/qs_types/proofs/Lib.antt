@@ -5,3 +5,7 @@ mod Extents
 mod LayoutSteps
 mod Declaring
 mod LayoutExamples
+mod RuleTrees
+mod DeclarationExamples
+mod ExpressionExamples
+mod PlacedExamples

@@ -6,11 +6,7 @@ use Rattle.qs_syntax.specs.declared.types.Base.TheVariants as bases
 use Rattle.qs_syntax.specs.declared.types.TypeName.{TypeName}
 use Rattle.qs_types.specs.Types.{TypeTree, int, unsigned, char, void, pointer, struct, Structs}
 use Rattle.qs_types.specs.Layout.{and_then}
-
--- the types of a function's parameters and of its result
-pub record Signature : Type 0 where
-  pub parameters : List TypeTree
-  pub result : TypeTree
+use Rattle.qs_types.specs.GivenFunctions.{Signature, putchar_name, putchar_type, getchar_name, getchar_type}
 
 -- a declaration, by the number of its node; no type where the declaration breaks a rule on types
 pub data Entity : Type 0 where
@@ -18,6 +14,8 @@ pub data Entity : Type 0 where
   file_variable : (node : ℕ) → Option TypeTree → Entity
   -- and whether a body was given
   function : (node : ℕ) → Option Signature → Bool → Entity
+  -- putchar or getchar, which count as declared before the text
+  given : Signature → Entity
 
 pub record Binding : Type 0 where
   pub name : List ℕ
@@ -33,8 +31,15 @@ pub record Context : Type 0 where
   pub result : Option TypeTree
   pub in_loop : Bool
 
+abbrev pub given_functions : List Binding
+given_functions =
+    record { name = putchar_name; entity = given putchar_type }
+    ∷ record { name = getchar_name; entity = given getchar_type }
+    ∷ []
+
+-- what is known before a unit
 abbrev pub start_context : Context
-start_context = record { structs = []; tags = []; inner = []; outer = []; result = None; in_loop = false }
+start_context = record { structs = []; tags = []; inner = given_functions; outer = []; result = None; in_loop = false }
 
 abbrev pub lookup : List ℕ → List Binding → Option Entity
 lookup x [] = None

@@ -17,9 +17,10 @@ use Rattle.qs_syntax.specs.Trees as trees
 use Rattle.qs_types.specs.Types.{TypeTree, int, unsigned, char, void, pointer, array, struct, MemberTree, Structs, same_type, is_integer, is_pointer, is_array, is_struct, is_void, is_scalar, referenced}
 use Rattle.qs_types.specs.Layout.{and_then, is_complete, struct_of}
 use Rattle.qs_types.specs.Conversions.{decayed, promoted, arithmetic, common}
+use Rattle.qs_types.specs.GivenFunctions.{Signature}
 use Rattle.qs_types.specs.Rules
 use Rattle.qs_types.specs.Rules.{Test, test, keeps, type_unless}
-use Rattle.qs_types.specs.Contexts.{Signature, Entity, local_variable, file_variable, function, Context, entity_of, named_type, is_void_base}
+use Rattle.qs_types.specs.Contexts.{Entity, local_variable, file_variable, function, given, Context, entity_of, named_type, is_void_base}
 
 -- ---- the words of the rules
 
@@ -252,6 +253,7 @@ name_judged None = Some unknown_name
 name_judged (Some (local_variable node t)) = variable_judged t
 name_judged (Some (file_variable node t)) = variable_judged t
 name_judged (Some (function node signature body)) = Some unknown_name
+name_judged (Some (given signature)) = Some unknown_name
 
 -- 6.5.2.2p2: each argument that has a parameter may be assigned to it
 abbrev pub arguments_fit : List TypeTree → Exprs → List TypeTree → Bool
@@ -271,6 +273,7 @@ call_judged None es us = Some unknown_call
 call_judged (Some (local_variable node t)) es us = Some unknown_call
 call_judged (Some (file_variable node t)) es us = Some unknown_call
 call_judged (Some (function node signature body)) es us = and_then signature (λ s. Some (signature_judged s es us))
+call_judged (Some (given signature)) es us = Some (signature_judged signature es us)
 
 -- ---- expressions
 

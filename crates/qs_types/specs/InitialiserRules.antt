@@ -9,7 +9,7 @@ use Rattle.qs_types.specs.Layout.{and_then, struct_of}
 use Rattle.qs_types.specs.Conversions.{decayed}
 use Rattle.qs_types.specs.Rules
 use Rattle.qs_types.specs.Rules.{Test, keeps, Fault, faults_of}
-use Rattle.qs_types.specs.Contexts.{Context, Entity, local_variable, file_variable, function, entity_of}
+use Rattle.qs_types.specs.Contexts.{Context, Entity, local_variable, file_variable, function, given, entity_of}
 use Rattle.qs_types.specs.Expressions.{type_of, is_lvalue, is_null_constant, is_assignable}
 use Rattle.qs_types.specs.Constants.{constant_of}
 use Rattle.qs_types.specs.Declarations.{text_of}
@@ -39,6 +39,7 @@ is_file_variable None = false
 is_file_variable (Some (local_variable node t)) = false
 is_file_variable (Some (file_variable node t)) = true
 is_file_variable (Some (function node signature body)) = false
+is_file_variable (Some (given signature)) = false
 
 abbrev pub names_file_variable : Context → ExprTree → Bool
 names_file_variable c (expr node (trees.name x)) = is_file_variable (entity_of c x)

@@ -5,3 +5,15 @@ pub mod Conversions
 pub mod TypeOf
 pub mod StructsOf
 pub mod EnvOf
+pub mod Rules
+pub mod GivenFunctions
+pub mod Contexts
+pub mod Expressions
+pub mod Constants
+pub mod ExpressionFaults
+pub mod Declarations
+pub mod InitialiserRules
+pub mod StatementRules
+pub mod UnitRules
+pub mod Placed
+pub mod Limits

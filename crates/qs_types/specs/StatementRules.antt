@@ -8,7 +8,6 @@ use Rattle.qs_types.specs.Conversions.{decayed}
 use Rattle.qs_types.specs.Rules
 use Rattle.qs_types.specs.Rules.{Test, test, keeps, Fault, faults_of}
 use Rattle.qs_types.specs.Contexts.{Entity, local_variable, file_variable, Context, is_declared_here, with_name, inner_scope, inside_loop}
-use Rattle.qs_types.specs.GivenFunctions.{is_given}
 use Rattle.qs_types.specs.Expressions.{type_of, is_assignable}
 use Rattle.qs_types.specs.Declarations.{Declared, variable_declared, lengths_faults, all_typed}
 use Rattle.qs_types.specs.InitialiserRules.{initialiser_faults, initialiser_tests, is_typed}
@@ -34,17 +33,14 @@ abbrev pub is_initialiser_typed : Context → Option InitialiserTree → Bool
 is_initialiser_typed c None = true
 is_initialiser_typed c (Some i) = is_typed c i
 
--- 6.7p3: in one scope a name is declared once; at file scope the names of the given functions are no names of variables
-abbrev pub is_taken : (at_file_scope : Bool) → Context → List ℕ → Bool
-is_taken at_file_scope c x = is_declared_here c x || (at_file_scope && is_given x)
-
-abbrev pub again_tests : Bool → Context → Context → VariableTree → List Test
-again_tests at_file_scope c after v =
-    if all_typed c v.declarator.lengths.given && is_initialiser_typed after v.initialiser then test Rules.declared_twice (is_taken at_file_scope c v.declarator.name) else []
+-- 6.7p3: in one scope a name is declared once
+abbrev pub again_tests : Context → Context → VariableTree → List Test
+again_tests c after v =
+    if all_typed c v.declarator.lengths.given && is_initialiser_typed after v.initialiser then test Rules.declared_twice (is_declared_here c v.declarator.name) else []
 
 abbrev pub variable_tests : Bool → Context → Context → Base → VariableTree → List Test
 variable_tests at_file_scope c after base v =
-    again_tests at_file_scope c after v ++ ((variable_declared c base v).tests ++ initialiser_tests at_file_scope after (variable_declared c base v).type v.initialiser)
+    again_tests c after v ++ ((variable_declared c base v).tests ++ initialiser_tests at_file_scope after (variable_declared c base v).type v.initialiser)
 
 abbrev pub option_initialiser_faults : Bool → Context → Option TypeTree → Option InitialiserTree → List Fault
 option_initialiser_faults at_file_scope c t None = []

@@ -8,9 +8,9 @@ use Rattle.qs_types.specs.Types.{TypeTree, int, unsigned, char, MemberTree, Stru
 use Rattle.qs_types.specs.Layout.{and_then, layout_of, sized_layout, with_members, struct_of, is_complete}
 use Rattle.qs_types.specs.Rules
 use Rattle.qs_types.specs.Rules.{Test, test, keeps, Fault, faults_of}
-use Rattle.qs_types.specs.Contexts.{Signature, Entity, local_variable, file_variable, Binding, Context, start_context, lookup, tag_place, base_type, starred_type, is_void_base, with_name, inner_scope, is_declared_here}
+use Rattle.qs_types.specs.Contexts.{Entity, local_variable, file_variable, given, Binding, Context, start_context, lookup, tag_place, base_type, starred_type, is_void_base, with_name, inner_scope, is_declared_here}
 use Rattle.qs_types.specs.Contexts as contexts
-use Rattle.qs_types.specs.GivenFunctions.{main_name, given_signature}
+use Rattle.qs_types.specs.GivenFunctions.{Signature, main_name}
 use Rattle.qs_types.specs.Expressions.{type_or_void, member_in}
 use Rattle.qs_types.specs.Declarations.{Declared, declared, parameter_declared, lengths_faults, all_typed}
 use Rattle.qs_types.specs.StatementRules.{variables_faults, after_variables, statements_faults}
@@ -123,14 +123,10 @@ agrees_with None s has_body = true
 agrees_with (Some (local_variable node t)) s has_body = false
 agrees_with (Some (file_variable node t)) s has_body = false
 agrees_with (Some (contexts.function node r earlier)) s has_body = agree r s && not (earlier && has_body)
-
-abbrev pub is_as_given : Option Signature → Option Signature → (has_body : Bool) → Bool
-is_as_given None s has_body = true
-is_as_given (Some r) s has_body = agree (Some r) s && not has_body
+agrees_with (Some (given r)) s has_body = agree (Some r) s && not has_body
 
 abbrev pub may_declare : Context → FunctionTree → Bool
-may_declare c f =
-    agrees_with (lookup f.name c.inner) (signature_of c f) (is_some f.body) && is_as_given (given_signature f.name) (signature_of c f) (is_some f.body)
+may_declare c f = agrees_with (lookup f.name c.inner) (signature_of c f) (is_some f.body)
 
 -- 5.1.2.2.1
 abbrev pub is_main_parameter : TypeTree → Bool
@@ -152,14 +148,16 @@ result_tests c f =
 abbrev pub header_tests : Context → FunctionTree → List Test
 header_tests c f = keeps Rules.declared_twice (may_declare c f) ++ (result_tests c f ++ main_tests f (signature_of c f))
 
--- what is known behind the header; a body that was given before stays
-abbrev pub had_body : Option Entity → Bool
-had_body (Some (contexts.function node s body)) = body
-had_body _ = false
+-- what is known behind the header: a body that was given before stays, and so does a function that is given
+abbrev pub declared_function : Option Entity → ℕ → Option Signature → (has_body : Bool) → Entity
+declared_function None node s has_body = contexts.function node s has_body
+declared_function (Some (local_variable n t)) node s has_body = contexts.function node s has_body
+declared_function (Some (file_variable n t)) node s has_body = contexts.function node s has_body
+declared_function (Some (contexts.function n r earlier)) node s has_body = contexts.function node s (earlier || has_body)
+declared_function (Some (given r)) node s has_body = given r
 
 abbrev pub after_function : Context → FunctionTree → Context
-after_function c f =
-    with_name c f.name (contexts.function f.node.id (signature_of c f) (is_some f.body || had_body (lookup f.name c.inner)))
+after_function c f = with_name c f.name (declared_function (lookup f.name c.inner) f.node.id (signature_of c f) (is_some f.body))
 
 -- ---- parameters: they share the scope of the function's block (6.2.1p4)
 
@@ -245,5 +243,6 @@ is_among node rule (f ∷ fs) = ((f.node == node) && (f.rule == rule)) || is_amo
 pub record Violates (unit : UnitTree) (node rule : ℕ) : Type 0 where
   pub found : is_among node rule (faults_in unit) ≡ true
 
-pub record WellTyped (unit : UnitTree) : Type 0 where
+-- no node breaks a rule
+pub record KeepsRules (unit : UnitTree) : Type 0 where
   pub nothing : faults_in unit ≡ []

@@ -18,16 +18,6 @@ use std::alloc::Global;
 /// No type is larger than this.
 pub const SIZE_LIMIT: u32 = 16_777_216;
 
-/// The layout of a struct, if it has members.
-pub fn layout_of(types: &Env, k: u32) -> Option<&StructLayout>
-    ensures { option_map (λ l. layout_tree l.now) result ≡ layout_of (env_tree types.now) k }
-{
-    match types.structs().get(k as usize) {
-        Some(structure) => structure.layout.as_ref(),
-        None => None,
-    }
-}
-
 /// Whether the type is complete (C11 6.2.5).
 pub fn is_complete(types: &Env, t: &CType) -> bool
     ensures { result ≡ is_complete (env_tree types.now) (type_tree t.now) }
@@ -39,7 +29,7 @@ pub fn is_complete(types: &Env, t: &CType) -> bool
         CType::Void => false,
         CType::Pointer(_) => true,
         CType::Array(element, _) => is_complete(types, element),
-        CType::Struct(k) => layout_of(types, *k).is_some(),
+        CType::Struct(k) => types.layout_of(*k).is_some(),
     }
 }
 
@@ -57,7 +47,7 @@ pub fn extent_of(types: &Env, t: &CType) -> Option<Extent>
         CType::Void => None,
         CType::Pointer(_) => scalar(4),
         CType::Array(element, length) => array(extent_of(types, element)?, *length),
-        CType::Struct(k) => structure(layout_of(types, *k)?),
+        CType::Struct(k) => structure(types.layout_of(*k)?),
     }
 }
 
@@ -117,7 +107,7 @@ pub fn offset_of(types: &Env, s: u32, member: u32) -> u32
     requires { is_some (offset_of (env_tree types.now) s member) ≡ true }
     ensures { offset_of (env_tree types.now) s member ≡ Some result }
 {
-    layout_of(types, s).unwrap().offsets[member as usize]
+    types.layout_of(s).unwrap().offsets[member as usize]
 }
 
 /// The least multiple of the alignment that isn't below `n`.
@@ -138,8 +128,8 @@ pub fn members_layout(alloc: Global, types: &Env, members: &IndexMap<Name, CType
     let mut offsets = Vec::new(alloc);
     let mut end = 0;
     let mut alignment = 1;
-    for member in members.values() {
-        let Some(extent) = extent_of(types, member) else {
+    for i in 0..members.len() {
+        let Some(extent) = extent_of(types, &members[i]) else {
             return Ok(None);
         };
         let offset = rounded_up(end, extent.alignment);

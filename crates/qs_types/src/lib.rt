@@ -10,7 +10,7 @@ mod types;
 pub use env::Env;
 pub use extent::Extent;
 pub use layout::{
-    SIZE_LIMIT, align_of, extent_of, is_complete, layout_of, members_layout, offset_of, rounds,
+    SIZE_LIMIT, align_of, extent_of, is_complete, members_layout, offset_of, rounds,
     size_of, sizes_aligned, structs_laid_out,
 };
 pub use structs::{StructLayout, StructType};

@@ -1,15 +1,15 @@
 // How structs are declared and defined.
-ghost use Rattle.std.specs.Prelude.{◌≡◌, ◌++◌, ◌∷◌, [], None, Some, IfOk, OnOk, OnErr, is_some, map};
+ghost use Rattle.std.specs.Prelude.{◌≡◌, ◌++◌, ◌∷◌, [], None, Some, IfOk, OnOk, OnErr, is_some, map, option_map};
 ghost use Rattle.indexmap.specs.IndexMap.{values};
 ghost use Rattle.std.specs.List.{slice_get};
 ghost use Rattle.qs_types.specs.Layout.{layout_of, sized_layout, with_members};
 ghost use Rattle.qs_types.specs.TypeOf.{type_tree};
-ghost use Rattle.qs_types.specs.StructsOf.{structs_tree, member_tree};
+ghost use Rattle.qs_types.specs.StructsOf.{structs_tree, member_tree, layout_tree};
 ghost use Rattle.qs_types.specs.EnvOf.{env_tree};
 
 use super::Env;
 use crate::layout::members_layout;
-use crate::structs::StructType;
+use crate::structs::{StructLayout, StructType};
 use crate::types::CType;
 use indexmap::IndexMap;
 use qs_base::{Name, NoMemory};
@@ -30,6 +30,16 @@ impl Env {
         ensures { structs_tree result.now ≡ env_tree self.now }
     {
         &self.structs
+    }
+
+    /// The layout of a struct, if it has members.
+    pub fn layout_of(&self, k: u32) -> Option<&StructLayout>
+        ensures { option_map (λ l. layout_tree l.now) result ≡ layout_of (env_tree self.now) k }
+    {
+        match self.structs.get(k as usize) {
+            Some(structure) => structure.layout.as_ref(),
+            None => None,
+        }
     }
 
     /// Declares one more struct, without members (C11 6.7.2.3).

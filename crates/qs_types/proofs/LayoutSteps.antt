@@ -1,5 +1,5 @@
 -- A layout is made member by member, and no further where the limit is passed.
-use Rattle.std.proofs.Common.{◌≡◌, ◌≤◌, ◌<◌, ℕ, zero, suc, ◌+◌, max, nat_le, drop, Bool, true, false, inl, inr, List, [], ◌∷◌, ◌++◌, Option, Some, None, refl, sym, ap, ◌∙◌, subst, arith, if◌then◌else◌}
+use Rattle.std.proofs.Common.{◌≡◌, ◌≤◌, ◌<◌, ℕ, zero, suc, ◌+◌, max, nat_le, drop, length, map, Bool, true, false, inl, inr, List, [], ◌∷◌, ◌++◌, Option, Some, None, refl, sym, ap, ◌∙◌, subst, arith, if◌then◌else◌}
 use Rattle.std.specs.List.{slice_get}
 use Rattle.std.proofs.lemmas.List.{append_assoc, append-nil}
 use Rattle.qs_types.specs.declared.extent.Extent.{Extent}
@@ -175,3 +175,31 @@ goes_on layouts ts i t offsets end alignment e at so p within =
 pub ends_whole : (layouts : Layouts) (ts : List TypeTree) (i : ℕ) (offsets : List ℕ) (end alignment : ℕ) → drop i ts ≡ [] → From layouts ts i offsets end alignment → AlignedLayouts layouts → layout_at offsets end alignment ≡ sized_layout layouts ts
 ends_whole layouts ts i offsets end alignment none so h =
     ap (λ l. laid_out layouts l offsets end alignment) (sym none) ∙ (so ∙ laid_whole layouts h ts)
+
+-- the same with the numbers of the code
+pub goes_on_as : (layouts : Layouts) (ts : List TypeTree) (i : ℕ) (t : TypeTree) (offsets : List ℕ) (end alignment : ℕ) (e : Extent) → slice_get ts i ≡ Some t → From layouts ts i offsets end alignment → sized_by layouts t ≡ Some e → (offset : ℕ) (now : List ℕ) (stricter : ℕ) → offset ≡ rounded_up end e.alignment → now ≡ offsets ++ offset ∷ [] → stricter ≡ max alignment e.alignment → offset + e.size ≤ size_limit → From layouts ts (i + 1) now (offset + e.size) stricter
+goes_on_as layouts ts i t offsets end alignment e at so p offset now stricter up put strict within =
+    subst (λ a. From layouts ts (i + 1) now (offset + e.size) a) (sym strict)
+      (subst (λ os. From layouts ts (i + 1) os (offset + e.size) (max alignment e.alignment)) (sym put)
+        (subst (λ o. From layouts ts (i + 1) (offsets ++ o ∷ []) (o + e.size) (max alignment e.alignment)) (sym up)
+          (goes_on layouts ts i t offsets end alignment e at so p (subst (λ o. o + e.size ≤ size_limit) up within))))
+
+pub ends_over_as : (layouts : Layouts) (ts : List TypeTree) (i : ℕ) (t : TypeTree) (offsets : List ℕ) (end alignment : ℕ) (e : Extent) → slice_get ts i ≡ Some t → From layouts ts i offsets end alignment → AlignedLayouts layouts → sized_by layouts t ≡ Some e → (offset : ℕ) → offset ≡ rounded_up end e.alignment → size_limit < offset + e.size → None ≡ sized_layout layouts ts
+ends_over_as layouts ts i t offsets end alignment e at so h p offset up over =
+    ends_over layouts ts i t offsets end alignment e at so h p (subst (λ o. size_limit < o + e.size) up over)
+
+pub ends_whole_as : (layouts : Layouts) (ts : List TypeTree) (i : ℕ) (offsets : List ℕ) (end alignment : ℕ) → drop i ts ≡ [] → From layouts ts i offsets end alignment → AlignedLayouts layouts → (size : ℕ) → size ≡ rounded_up end alignment → layout_within (record { offsets = offsets; size = size; alignment = alignment }) ≡ sized_layout layouts ts
+ends_whole_as layouts ts i offsets end alignment none so h size up =
+    ap (λ n. layout_within (record { offsets = offsets; size = n; alignment = alignment })) up ∙ ends_whole layouts ts i offsets end alignment none so h
+
+pub max_positive : (a b m : ℕ) → m ≡ max a b → 1 ≤ a → 1 ≤ m
+max_positive a b m e p = grind arith
+
+pub max_small : (a b m : ℕ) → m ≡ max a b → a ≤ 4 → b ≤ 4 → m ≤ 4
+max_small a b m e p q = grind arith
+
+pub past : {X Y Z : Type 0} (f : X → Y) (g : Y → Z) (xs : List X) (i : ℕ) → length xs ≤ i → drop i (map g (map f xs)) ≡ []
+past f g [] zero le = refl
+past f g [] (suc i) le = refl
+past f g (x ∷ xs) zero le = absurd (omega arith)
+past f g (x ∷ xs) (suc i) le = past f g xs i (omega arith)

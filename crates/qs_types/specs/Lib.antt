@@ -17,3 +17,4 @@ pub mod StatementRules
 pub mod UnitRules
 pub mod Placed
 pub mod Limits
+pub mod WellTyped

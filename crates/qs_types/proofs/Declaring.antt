@@ -1,5 +1,5 @@
 -- Layouts stay where a struct is declared, and where one is given its members.
-use Rattle.std.proofs.Common.{◌≡◌, ◌≤◌, ◌<◌, ◌⊎◌, inl, inr, ℕ, zero, suc, ◌+◌, Bool, true, false, List, [], ◌∷◌, ◌++◌, Option, Some, None, is_some, map, option_map, slice_set, length, refl, sym, ap, ◌∙◌, subst, arith, Bor, if◌then◌else◌}
+use Rattle.std.proofs.Common.{◌≡◌, ◌<◌, ◌⊎◌, inl, inr, ℕ, zero, suc, Bool, true, false, List, [], ◌∷◌, ◌++◌, Option, Some, None, is_some, map, option_map, slice_set, length, refl, sym, ap, ◌∙◌, subst, arith, Bor, if◌then◌else◌}
 use Rattle.std.specs.Prelude.{option_copied}
 use Rattle.std.specs.List.{ItemBy}
 use Rattle.std.proofs.lemmas.Option.{slice_get_past, slice_get-get_or, slice_get_within}
@@ -7,7 +7,7 @@ use Rattle.std.specs.List.{slice_get}
 use Rattle.std.proofs.lemmas.List.{map-append, map-set, length-map}
 use Rattle.std.specs.Map.{values_of}
 use Rattle.std.proofs.Math.Path.{fun_ext}
-use Rattle.qs_types.specs.Types.{TypeTree, MemberTree, StructTree, Structs}
+use Rattle.qs_types.specs.Types.{MemberTree, Structs}
 use Rattle.qs_types.specs.Layout.{and_then, Layouts, StructLayout as LayoutTree, struct_of, member_types, members_layout, extents_by, struct_layout, sized_layout, layouts_within, layout_of, defined_structs}
 use Rattle.qs_types.specs.StructsOf.{member_tree, struct_tree, structs_tree, layout_tree, kept_layouts, has_members, has_layout}
 use Rattle.qs_types.specs.TypeOf.{type_tree}
@@ -59,6 +59,7 @@ module _ (structs : Structs) (k : ℕ) (ms : List MemberTree) (fresh : slice_get
     where
       three : (k ≡ j) ⊎ ((k < j) ⊎ (j < k))
       three = grind arith
+
       go : (k ≡ j) ⊎ ((k < j) ⊎ (j < k)) → (k ≡ j) ⊎ (k ≡ j → ⊥)
       go (inl e) = inl e
       go (inr (inl l)) = inr (λ e. omega arith)
@@ -136,6 +137,7 @@ defined_keeps items k s ms l kept whole fresh has lays sized j =
     there f [] k y p = nothing y p
     there f (x ∷ xs) zero y p = (x, refl)
     there f (x ∷ xs) (suc k) y p = there f xs k y p
+
     go : (k ≡ j) ⊎ (k ≡ j → ⊥) → kept_layouts (slice_set items k s) j ≡ layout_of (slice_set (structs_tree items) k (Some ms)) j
     go (inl e) =
         let old = there struct_tree items k None fresh in
@@ -165,7 +167,7 @@ same_layouts : (d : ℕ) (structs : Structs) → layouts_within d (structs ++ No
 same_layouts zero structs = refl
 same_layouts (suc d) structs =
     fun_ext (λ j. ap (λ o. and_then o (members_layout (layouts_within d (structs ++ None ∷ [])))) (struct_behind structs j)
-      ∙ ap (λ (layouts : Layouts). and_then (struct_of structs j) (members_layout layouts)) (same_layouts d structs))
+    ∙ ap (λ (layouts : Layouts). and_then (struct_of structs j) (members_layout layouts)) (same_layouts d structs))
 
 kept_behind : (items : List StructType) (s : StructType) → option_map layout_tree s.layout ≡ None → (j : ℕ) → kept_layouts (items ++ s ∷ []) j ≡ kept_layouts items j
 kept_behind [] s none zero = none

@@ -1,14 +1,12 @@
 -- The extents of types are aligned, and layouts stay where structs are added or given members.
-use Rattle.std.proofs.Common.{◌≡◌, ◌≤◌, ◌<◌, ◌⊎◌, inl, inr, ℕ, zero, suc, ◌+◌, ◌*◌, ◌%◌, nat_le, Bool, true, false, List, [], ◌∷◌, Option, Some, None, IfSome, max, refl, sym, ap, ◌∙◌, subst, arith, length, if◌then◌else◌}
-use Rattle.std.specs.List.{slice_get}
+use Rattle.std.proofs.Common.{◌≡◌, ◌≤◌, inl, inr, ℕ, zero, suc, ◌*◌, ◌%◌, nat_le, List, [], ◌∷◌, Option, Some, None, IfSome, refl, sym, ap, ◌∙◌, subst, arith}
 use Rattle.std.proofs.lemmas.Nat.{mul-mod}
 use Rattle.qs_types.specs.declared.extent.Extent.{Extent}
 use Rattle.qs_types.specs.Types.{TypeTree, int, unsigned, char, void, pointer, array, struct, MemberTree, Structs}
 use Rattle.qs_types.specs.Layout.{and_then, Layouts, StructLayout, extent_by, extents_by, scalar_extent, array_extent, struct_extent, extent_within, struct_layout, members_layout, member_types, struct_of, layouts_within, layout_of, extent_of, size_of, alignment_of, sized_by, defined_structs, size_limit}
-use Rattle.qs_types.specs.LayoutLaws.{IsAlignment, IsAligned, IsLaidOut, IsSmall, IsLaidOutFor, SizesAligned, StructsLaidOut}
+use Rattle.qs_types.specs.LayoutLaws.{IsAlignment, IsAligned, IsLaidOut, IsSmall, SizesAligned, StructsLaidOut}
 use Rattle.qs_types.proofs.Options.{nothing, same, went, goes, passed}
-use Rattle.qs_types.proofs.Rounding.{rounds}
-use Rattle.qs_types.proofs.Layouts.{Aligned, lays_out, strictest_alignment}
+use Rattle.qs_types.proofs.Layouts.{Aligned, lays_out}
 
 abbrev pub AlignedLayouts : Layouts → Type 0
 AlignedLayouts layouts = (k : ℕ) (l : StructLayout) → layouts k ≡ Some l → IsAligned (struct_extent l)
@@ -27,6 +25,7 @@ times size n a e = mul-mod size n a ∙ (ap (λ x. (x * (n % a)) % a) e ∙ zero
       where
         none : (m : ℕ) → 0 * m ≡ 0
         none m = omega arith
+
         low : (a : ℕ) → 0 % a ≡ 0
         low a = grind arith
 
@@ -57,7 +56,7 @@ extents_aligned layouts h (t ∷ ts) es p =
     let w = went (extent_by layouts t) (λ e. and_then (extents_by layouts ts) (λ es. Some (e ∷ es))) es p in
     let r = went (extents_by layouts ts) (λ es. Some (w.value ∷ es)) es w.gave in
     subst Aligned (same (w.value ∷ r.value) es r.gave)
-      (one_more w.value r.value (extent_aligned layouts h t w.value w.had).alignment (extents_aligned layouts h ts r.value r.had))
+    (one_more w.value r.value (extent_aligned layouts h t w.value w.had).alignment (extents_aligned layouts h ts r.value r.had))
 
 positive : {a : ℕ} → IsAlignment a → 1 ≤ a
 positive (inl e) = omega arith
@@ -72,7 +71,7 @@ layouts_aligned (suc depth) structs k l p =
     let m = went (struct_of structs k) (members_layout (layouts_within depth structs)) l p in
     let w = went (extents_by (layouts_within depth structs) (member_types m.value)) (λ es. Some (struct_layout es)) l m.gave in
     subst (λ l. IsAligned (struct_extent l)) (same (struct_layout w.value) l w.gave)
-      (layout_aligned w.value (extents_aligned (layouts_within depth structs) (layouts_aligned depth structs) (member_types m.value) w.value w.had))
+    (layout_aligned w.value (extents_aligned (layouts_within depth structs) (layouts_aligned depth structs) (member_types m.value) w.value w.had))
 
 pub sizes_aligned : SizesAligned
 sizes_aligned structs t e p = extent_aligned (layout_of structs) (layouts_aligned (defined_structs structs) structs) t e p
@@ -101,7 +100,7 @@ extents_kept less more h (t ∷ ts) es p =
     let w = went (extent_by less t) (λ e. and_then (extents_by less ts) (λ es. Some (e ∷ es))) es p in
     let r = went (extents_by less ts) (λ es. Some (w.value ∷ es)) es w.gave in
     goes (extent_by more t) w.value (λ e. and_then (extents_by more ts) (λ es. Some (e ∷ es))) (Some es) (extent_kept less more h t w.value w.had)
-      (goes (extents_by more ts) r.value (λ es. Some (w.value ∷ es)) (Some es) (extents_kept less more h ts r.value r.had) r.gave)
+    (goes (extents_by more ts) r.value (λ es. Some (w.value ∷ es)) (Some es) (extents_kept less more h ts r.value r.had) r.gave)
 
 pub layout_kept : (less more : Layouts) → Keeps less more → (ms : List MemberTree) (l : StructLayout) → members_layout less ms ≡ Some l → members_layout more ms ≡ Some l
 layout_kept less more h ms l p =
@@ -118,7 +117,7 @@ layouts_kept (suc depth) zero le structs more h k l p = absurd (omega arith)
 layouts_kept (suc depth) (suc deeper) le structs more h k l p =
     let m = went (struct_of structs k) (members_layout (layouts_within depth structs)) l p in
     goes (struct_of more k) m.value (members_layout (layouts_within deeper more)) (Some l) (h k m.value m.had)
-      (layout_kept (layouts_within depth structs) (layouts_within deeper more) (layouts_kept depth deeper (omega arith) structs more h) m.value l m.gave)
+    (layout_kept (layouts_within depth structs) (layouts_within deeper more) (layouts_kept depth deeper (omega arith) structs more h) m.value l m.gave)
 
 -- ---- each struct is laid out as the types of its members ask
 
@@ -127,7 +126,7 @@ members_of_layout zero structs k ms l m p = nothing l p
 members_of_layout (suc depth) structs k ms l m p =
     let w = went (struct_of structs k) (members_layout (layouts_within depth structs)) l p in
     layout_kept (layouts_within depth structs) (layouts_within (suc depth) structs) (layouts_kept depth (suc depth) (omega arith) structs structs (λ k ms e. e)) ms l
-      (ap (members_layout (layouts_within depth structs)) (same ms w.value (sym m ∙ w.had)) ∙ w.gave)
+    (ap (members_layout (layouts_within depth structs)) (same ms w.value (sym m ∙ w.had)) ∙ w.gave)
 
 pub structs_laid_out : StructsLaidOut
 structs_laid_out structs k ms l m p =
@@ -136,7 +135,8 @@ structs_laid_out structs k ms l m p =
     record {
       extents = w.value;
       of_members = w.had;
-      laid_out = subst (λ l. IsLaidOut w.value l) (same (struct_layout w.value) l w.gave) (lays_out w.value aligned) }
+      laid_out = subst (λ l. IsLaidOut w.value l) (same (struct_layout w.value) l w.gave) (lays_out w.value aligned);
+    }
 
 -- ---- within the limit
 

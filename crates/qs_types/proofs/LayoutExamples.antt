@@ -1,16 +1,16 @@
 -- Layouts by hand: struct a { char c; int n; }; struct b; struct c { struct a x[3]; char t[5]; struct b *p; }; struct d {char t; unsigned char u;};
-use Rattle.std.proofs.Common.{◌≡◌, ℕ, true, false, [], ◌∷◌, Some, None, refl}
-use Rattle.qs_types.specs.Types.{int, unsigned, char, void, pointer, array, struct, Structs}
-use Rattle.qs_types.specs.Layout.{size_of, alignment_of, offset_of, layout_of, is_complete, is_sized, struct_layout}
+use Rattle.std.proofs.Common.{◌≡◌, true, false, [], ◌∷◌, Some, None, refl}
+use Rattle.qs_types.specs.Types.{int, char, void, pointer, array, struct, Structs}
+use Rattle.qs_types.specs.Layout.{size_of, alignment_of, offset_of, layout_of, is_complete, is_sized}
 
 abbrev structs : Structs
 structs =
     Some (record { name = 99 ∷ []; type = char } ∷ record { name = 110 ∷ []; type = int } ∷ [])
     ∷ None
     ∷ Some (
-      record { name = 120 ∷ []; type = array (struct 0) 3 }
-      ∷ record { name = 116 ∷ []; type = array char 5 }
-      ∷ record { name = 112 ∷ []; type = pointer (struct 1) } ∷ [])
+    record { name = 120 ∷ []; type = array (struct 0) 3 }
+    ∷ record { name = 116 ∷ []; type = array char 5 }
+    ∷ record { name = 112 ∷ []; type = pointer (struct 1) } ∷ [])
     ∷ Some (record { name = 116 ∷ []; type = char } ∷ record { name = 117 ∷ []; type = char } ∷ [])
     ∷ []
 

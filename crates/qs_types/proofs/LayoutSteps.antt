@@ -1,14 +1,13 @@
 -- A layout is made member by member, and no further where the limit is passed.
-use Rattle.std.proofs.Common.{◌≡◌, ◌≤◌, ◌<◌, ℕ, zero, suc, ◌+◌, max, nat_le, drop, length, map, Bool, true, false, inl, inr, List, [], ◌∷◌, ◌++◌, Option, Some, None, refl, sym, ap, ◌∙◌, subst, arith, if◌then◌else◌}
+use Rattle.std.proofs.Common.{◌≡◌, ◌≤◌, ◌<◌, ℕ, zero, suc, ◌+◌, max, nat_le, drop, length, map, Bool, true, false, List, [], ◌∷◌, ◌++◌, Option, Some, None, refl, sym, ap, ◌∙◌, subst, arith, if◌then◌else◌}
 use Rattle.std.specs.List.{slice_get}
 use Rattle.std.proofs.lemmas.List.{append_assoc, append-nil}
 use Rattle.qs_types.specs.declared.extent.Extent.{Extent}
 use Rattle.qs_types.specs.Types.{TypeTree}
 use Rattle.qs_types.specs.Layout.{and_then, Layouts, StructLayout, rounded_up, offsets_from, end_from, strictest, struct_layout, size_limit, layout_within, sized_by, all_sized_by, sized_layout, extents_by}
-use Rattle.qs_types.specs.LayoutLaws.{IsAlignment}
 use Rattle.qs_types.proofs.Options.{nothing, same, went, goes, passed}
 use Rattle.qs_types.proofs.Rounding.{rounds}
-use Rattle.qs_types.proofs.Layouts.{Aligned, ends_after}
+use Rattle.qs_types.proofs.Layouts.{ends_after}
 use Rattle.qs_types.proofs.Extents.{AlignedLayouts, extents_aligned, sized_is}
 
 abbrev pub layout_at : List ℕ → (end alignment : ℕ) → Option StructLayout
@@ -19,9 +18,9 @@ abbrev pub laid_out : Layouts → List TypeTree → List ℕ → (end alignment 
 laid_out layouts [] offsets end alignment = layout_at offsets end alignment
 laid_out layouts (t ∷ ts) offsets end alignment =
     and_then (sized_by layouts t) (λ e.
-      if nat_le (rounded_up end e.alignment + e.size) size_limit
-      then laid_out layouts ts (offsets ++ rounded_up end e.alignment ∷ []) (rounded_up end e.alignment + e.size) (max alignment e.alignment)
-      else None)
+    if nat_le (rounded_up end e.alignment + e.size) size_limit
+    then laid_out layouts ts (offsets ++ rounded_up end e.alignment ∷ []) (rounded_up end e.alignment + e.size) (max alignment e.alignment)
+    else None)
 
 -- the same behind a member of this extent
 abbrev pub laid_behind : Layouts → List TypeTree → List ℕ → (end alignment : ℕ) → Extent → Option StructLayout
@@ -40,7 +39,7 @@ all_sized_are layouts (t ∷ ts) es p =
     let w = went (sized_by layouts t) (λ e. and_then (all_sized_by layouts ts) (λ es. Some (e ∷ es))) es p in
     let r = went (all_sized_by layouts ts) (λ es. Some (w.value ∷ es)) es w.gave in
     goes _ w.value (λ e. and_then (extents_by layouts ts) (λ es. Some (e ∷ es))) (Some es) (sized_is layouts t w.value w.had)
-      (goes _ r.value (λ es. Some (w.value ∷ es)) (Some es) (all_sized_are layouts ts r.value r.had) r.gave)
+    (goes _ r.value (λ es. Some (w.value ∷ es)) (Some es) (all_sized_are layouts ts r.value r.had) r.gave)
 
 -- past the limit it stays so
 too_large : (offsets : List ℕ) (end alignment : ℕ) → 1 ≤ alignment → size_limit < end → layout_at offsets end alignment ≡ None
@@ -48,6 +47,7 @@ too_large offsets end alignment pos over = go (nat_le (rounded_up end alignment)
   where
     l : StructLayout
     l = record { offsets = offsets; size = rounded_up end alignment; alignment = alignment }
+
     go : (b : Bool) → nat_le (rounded_up end alignment) size_limit ≡ b → (if b then Some l else None) ≡ None
     go false e = refl
     go true e = absurd (no e)
@@ -73,15 +73,18 @@ behind layouts h ts rest offsets end alignment pos e = go (nat_le (rounded_up en
   where
     pos_max : (a b : ℕ) → 1 ≤ a → 1 ≤ max a b
     pos_max a b p = grind arith
+
     goes_on : (o : Option (List Extent)) → and_then o (laid_together (offsets ++ rounded_up end e.alignment ∷ []) (rounded_up end e.alignment + e.size) (max alignment e.alignment)) ≡ and_then (and_then o (λ es. Some (e ∷ es))) (laid_together offsets end alignment)
     goes_on None = refl
     goes_on (Some es) = one_more offsets end alignment (rounded_up end e.alignment) e es refl
+
     stops : nat_le (rounded_up end e.alignment + e.size) size_limit ≡ false → (o : Option (List Extent)) → all_sized_by layouts ts ≡ o → None ≡ and_then (and_then o (λ es. Some (e ∷ es))) (laid_together offsets end alignment)
     stops p None q = refl
     stops p (Some es) q =
         let a = ends_after es (rounded_up end e.alignment + e.size) (extents_aligned layouts h ts es (all_sized_are layouts ts es q)) in
         let over : size_limit < rounded_up end e.alignment + e.size = grind arith in
         sym (too_large (offsets ++ offsets_from end (e ∷ es)) (end_from end (e ∷ es)) (max alignment (strictest (e ∷ es))) (pos_max alignment (strictest (e ∷ es)) pos) (omega arith))
+
     go : (b : Bool) → nat_le (rounded_up end e.alignment + e.size) size_limit ≡ b → (if b then laid_out layouts ts (offsets ++ rounded_up end e.alignment ∷ []) (rounded_up end e.alignment + e.size) (max alignment e.alignment) else None) ≡ and_then (and_then (all_sized_by layouts ts) (λ es. Some (e ∷ es))) (laid_together offsets end alignment)
     go true p =
         rest (offsets ++ rounded_up end e.alignment ∷ []) (rounded_up end e.alignment + e.size) (max alignment e.alignment) (pos_max alignment e.alignment pos)
@@ -112,6 +115,7 @@ laid_whole layouts h ts = together layouts h ts [] 0 1 (omega arith) ∙ go (all
   where
     least : (a : ℕ) → 1 ≤ a → max 1 a ≡ a
     least a p = grind arith
+
     go : (o : Option (List Extent)) → and_then o (laid_together [] 0 1) ≡ and_then o (λ es. layout_within (struct_layout es))
     go None = refl
     go (Some es) = ap (layout_at (offsets_from 0 es) (end_from 0 es)) (least (strictest es) (at_least_one es))
@@ -180,9 +184,9 @@ ends_whole layouts ts i offsets end alignment none so h =
 pub goes_on_as : (layouts : Layouts) (ts : List TypeTree) (i : ℕ) (t : TypeTree) (offsets : List ℕ) (end alignment : ℕ) (e : Extent) → slice_get ts i ≡ Some t → From layouts ts i offsets end alignment → sized_by layouts t ≡ Some e → (offset : ℕ) (now : List ℕ) (stricter : ℕ) → offset ≡ rounded_up end e.alignment → now ≡ offsets ++ offset ∷ [] → stricter ≡ max alignment e.alignment → offset + e.size ≤ size_limit → From layouts ts (i + 1) now (offset + e.size) stricter
 goes_on_as layouts ts i t offsets end alignment e at so p offset now stricter up put strict within =
     subst (λ a. From layouts ts (i + 1) now (offset + e.size) a) (sym strict)
-      (subst (λ os. From layouts ts (i + 1) os (offset + e.size) (max alignment e.alignment)) (sym put)
-        (subst (λ o. From layouts ts (i + 1) (offsets ++ o ∷ []) (o + e.size) (max alignment e.alignment)) (sym up)
-          (goes_on layouts ts i t offsets end alignment e at so p (subst (λ o. o + e.size ≤ size_limit) up within))))
+    (subst (λ os. From layouts ts (i + 1) os (offset + e.size) (max alignment e.alignment)) (sym put)
+    (subst (λ o. From layouts ts (i + 1) (offsets ++ o ∷ []) (o + e.size) (max alignment e.alignment)) (sym up)
+    (goes_on layouts ts i t offsets end alignment e at so p (subst (λ o. o + e.size ≤ size_limit) up within))))
 
 pub ends_over_as : (layouts : Layouts) (ts : List TypeTree) (i : ℕ) (t : TypeTree) (offsets : List ℕ) (end alignment : ℕ) (e : Extent) → slice_get ts i ≡ Some t → From layouts ts i offsets end alignment → AlignedLayouts layouts → sized_by layouts t ≡ Some e → (offset : ℕ) → offset ≡ rounded_up end e.alignment → size_limit < offset + e.size → None ≡ sized_layout layouts ts
 ends_over_as layouts ts i t offsets end alignment e at so h p offset up over =

@@ -1,9 +1,9 @@
 -- Members lie in order, aligned, apart, within the struct, each as near to the front as it may.
-use Rattle.std.proofs.Common.{◌≡◌, ◌≤◌, ◌<◌, ℕ, zero, suc, ◌+◌, ◌-◌, ◌%◌, inl, inr, List, [], ◌∷◌, Some, None, max, refl, sym, ap, ◌∙◌, subst, arith, length}
+use Rattle.std.proofs.Common.{◌≡◌, ◌≤◌, ◌<◌, ℕ, zero, suc, ◌+◌, ◌%◌, inl, inr, List, [], ◌∷◌, Some, max, refl, sym, ap, ◌∙◌, subst, arith, length}
 use Rattle.std.specs.List.{slice_get}
 use Rattle.std.proofs.Math.Nat.{le-max_left, le-max_right}
 use Rattle.qs_types.specs.declared.extent.Extent.{Extent}
-use Rattle.qs_types.specs.Layout.{StructLayout, rounded_up, offsets_from, end_from, strictest, struct_layout}
+use Rattle.qs_types.specs.Layout.{rounded_up, offsets_from, end_from, strictest, struct_layout}
 use Rattle.qs_types.specs.LayoutLaws.{IsAlignment, IsLaidOut, Lies}
 use Rattle.qs_types.proofs.Options.{nothing, same}
 use Rattle.qs_types.proofs.Rounding.{rounds}
@@ -135,11 +135,13 @@ lays_out es h =
       alignment = strictest_alignment es h;
       strict = λ i e p. strict e.alignment (strictest es) (h i e p) (strictest_alignment es h) (at_most_strictest es i e p);
       multiple = r.multiple;
-      tight = λ n d all. r.least n d (holds es 0 n (omega arith) (λ i e at p q. all i e at (record { takes = p; stands = q }))) }
+      tight = λ n d all. r.least n d (holds es 0 n (omega arith) (λ i e at p q. all i e at (record { takes = p; stands = q })));
+    }
   where
     next_is : (i : ℕ) → i + 1 ≡ suc i
     next_is i = omega arith
+
     behind : (i : ℕ) (e f : Extent) (at next n : ℕ) → Lies es (struct_layout es) i e at → Lies es (struct_layout es) (i + 1) f next → n % f.alignment ≡ 0 → at + e.size ≤ n → next ≤ n
     behind i e f at next n a b d le =
         least es 0 i e f at next n h a.takes a.stands
-          (ap (slice_get es) (sym (next_is i)) ∙ b.takes) (ap (slice_get (offsets_from 0 es)) (sym (next_is i)) ∙ b.stands) d le
+        (ap (slice_get es) (sym (next_is i)) ∙ b.takes) (ap (slice_get (offsets_from 0 es)) (sym (next_is i)) ∙ b.stands) d le

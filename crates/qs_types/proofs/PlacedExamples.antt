@@ -5,13 +5,12 @@ use Rattle.qs_syntax.specs.declared.types.Base.TheVariants as bases
 use Rattle.qs_syntax.specs.Trees.{unnumbered, stmts_of, StmtTree, FunctionTree, Stmts, DeclTree, structure, forward, function, variables, UnitTree}
 use Rattle.qs_syntax.specs.Trees as trees
 use Rattle.qs_syntax.specs.Numbering.{numbered_unit}
-use Rattle.qs_types.specs.Types.{int}
-use Rattle.qs_types.specs.Contexts.{local_variable, file_variable, given, start_context, entity_of, with_name}
+use Rattle.qs_types.specs.Contexts.{given, start_context, entity_of}
 use Rattle.qs_types.specs.GivenFunctions.{putchar_name, putchar_type}
 use Rattle.qs_types.specs.Placed.{addressed_in}
-use Rattle.qs_types.specs.Limits.{placed_bytes, is_within_limits}
+use Rattle.qs_types.specs.Limits.{is_within_limits}
 use Rattle.qs_types.specs.UnitRules.{after_declaration}
-use Rattle.qs_types.proofs.RuleTrees.{found, fault, e, number, a, b, call_f, one, many, local, global, parameter, body, g, eval, f_name}
+use Rattle.qs_types.proofs.RuleTrees.{found, fault, e, number, a, one, many, local, parameter, g, eval}
 
 abbrev addressed_by : FunctionTree → Option Stmts → List ℕ
 addressed_by f None = []

@@ -17,6 +17,7 @@ close q k a m pos is near = go either
   where
     either : (q ≤ k) ⊎ (suc k ≤ q)
     either = grind arith
+
     go : (q ≤ k) ⊎ (suc k ≤ q) → q * a ≤ m
     go (inl le) = let b : q * a ≤ k * a = mul-le-mul_right a le in omega arith
     go (inr lt) = let b : suc k * a ≤ q * a = mul-le-mul_right a lt in let c : suc k * a ≡ k * a + a = suc-mul k a in omega arith
@@ -28,7 +29,8 @@ rounds n a pos =
     record {
       multiple = mul-mod_left ((n + (a - 1)) / a) a;
       above = omega arith;
-      least = λ m d le. close ((n + (a - 1)) / a) (m / a) a m pos (whole m a d) (omega arith) }
+      least = λ m d le. close ((n + (a - 1)) / a) (m / a) a m pos (whole m a d) (omega arith);
+    }
 
 pub rounds_near : (n a : ℕ) → 1 ≤ a → rounded_up n a < n + a
 rounds_near n a pos =

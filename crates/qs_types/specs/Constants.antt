@@ -1,5 +1,5 @@
 -- The values of integer constant expressions (C11 6.6), as words.
-use Rattle.std.specs.Prelude.{ℕ, ◌-◌, ◌%◌, ◌^◌, ◌==◌, nat_lt, Bool, true, false, not, ◌&&◌, ◌||◌, Option, Some, None, if◌then◌else◌, int_lt, int_div, int_rem, pos}
+use Rattle.std.specs.Prelude.{ℕ, ◌-◌, ◌%◌, ◌^◌, ◌==◌, nat_lt, Bool, true, false, not, ◌&&◌, ◌||◌, Option, Some, None, if◌then◌else◌, int_lt}
 use Rattle.qs_base.specs.Words as words
 use Rattle.qs_syntax.specs.declared.operators.UnaryOperator.{UnaryOperator}
 use Rattle.qs_syntax.specs.declared.operators.UnaryOperator.TheVariants as unaries
@@ -7,7 +7,7 @@ use Rattle.qs_syntax.specs.declared.operators.BinaryOperator.{BinaryOperator}
 use Rattle.qs_syntax.specs.declared.operators.BinaryOperator.TheVariants as binaries
 use Rattle.qs_syntax.specs.Trees.{ExprTree, expr, ShapeTree}
 use Rattle.qs_syntax.specs.Trees as trees
-use Rattle.qs_types.specs.Types.{TypeTree, int, unsigned, char, void, pointer, array, struct, same_type, is_integer, is_scalar}
+use Rattle.qs_types.specs.Types.{TypeTree, int, unsigned, char, void, pointer, array, struct, same_type, is_integer}
 use Rattle.qs_types.specs.Layout.{and_then, size_of}
 use Rattle.qs_types.specs.Conversions.{promoted, arithmetic}
 use Rattle.qs_types.specs.Contexts.{Context, named_type}
@@ -133,7 +133,7 @@ abbrev mutual
   shape_value c (trees.sizeof_expr a) = None
   shape_value c (trees.binary operator a b) =
       and_then (value_of c a) (λ x. if decides operator x then Some (truth (is_true x)) else
-        and_then (value_of c b) (combined operator (option_type (type_of c a)) (option_type (type_of c b)) x))
+      and_then (value_of c b) (combined operator (option_type (type_of c a)) (option_type (type_of c b)) x))
   shape_value c (trees.assign operator a b) = None
   shape_value c (trees.conditional d a b) = and_then (value_of c d) (λ x. if is_true x then value_of c a else value_of c b)
   shape_value c (trees.comma a b) = None

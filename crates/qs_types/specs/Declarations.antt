@@ -1,9 +1,9 @@
 -- The types that declarations give (C11 6.7), and the rules that their nodes keep.
-use Rattle.std.specs.Prelude.{ℕ, zero, suc, ◌+◌, Bool, true, false, not, ◌&&◌, ◌||◌, List, [], ◌∷◌, ◌++◌, Option, Some, None, is_some, length, if◌then◌else◌}
+use Rattle.std.specs.Prelude.{ℕ, suc, ◌+◌, Bool, true, false, not, ◌&&◌, ◌||◌, List, [], ◌∷◌, ◌++◌, Option, Some, None, is_some, length, if◌then◌else◌}
 use Rattle.qs_syntax.specs.declared.types.Base.{Base}
 use Rattle.qs_syntax.specs.Trees.{ExprTree, expr, ShapeTree, LengthsTree, DeclaratorTree, InitialiserTree, Initialisers, no_initialisers, initialiser_and, VariableTree, ParameterTree}
 use Rattle.qs_syntax.specs.Trees as trees
-use Rattle.qs_types.specs.Types.{TypeTree, void, pointer, array, is_scalar}
+use Rattle.qs_types.specs.Types.{TypeTree, void, pointer, array}
 use Rattle.qs_types.specs.Layout.{and_then, is_complete, is_sized}
 use Rattle.qs_types.specs.Rules
 use Rattle.qs_types.specs.Rules.{Test, test, keeps, type_unless, Fault, faults_of}
@@ -49,7 +49,7 @@ abbrev pub element_tests : Context → Base → ℕ → List Test
 element_tests c base stars =
     keeps Rules.unknown_tag (is_some (base_type c base))
     ++ test Rules.incomplete_type
-      (is_void_base base || (is_some (base_type c base) && not (is_complete c.structs (type_or_void (starred_type c base stars)))))
+    (is_void_base base || (is_some (base_type c base) && not (is_complete c.structs (type_or_void (starred_type c base stars)))))
 
 -- the lengths with the first, where the brackets are empty, from elsewhere
 abbrev pub whole_lengths : LengthsTree → (first : Option ℕ) → Option (List ℕ) → Option (List ℕ)
@@ -112,13 +112,13 @@ element_lengths l (Some (n ∷ ns)) = if l.is_open then Some (n ∷ ns) else Som
 abbrev pub array_parameter : Context → ParameterTree → Declared
 array_parameter c p =
     declared_by (element_tests c p.type_name.base p.type_name.stars ++ keeps Rules.array_length (is_some (lengths_of c p.lengths.given)))
-      (pointer (object_type c p.type_name.base p.type_name.stars (element_lengths p.lengths (lengths_of c p.lengths.given))))
+    (pointer (object_type c p.type_name.base p.type_name.stars (element_lengths p.lengths (lengths_of c p.lengths.given))))
 
 -- the tag is known, and `void` is not the base; that the type is a scalar is a rule of its own
 abbrev pub plain_parameter : Context → ParameterTree → Declared
 plain_parameter c p =
     declared_by (keeps Rules.unknown_tag (is_some (base_type c p.type_name.base)) ++ test Rules.incomplete_type (is_void_base p.type_name.base))
-      (type_or_void (starred_type c p.type_name.base p.type_name.stars))
+    (type_or_void (starred_type c p.type_name.base p.type_name.stars))
 
 abbrev pub parameter_declared : Context → ParameterTree → Declared
 parameter_declared c p =

@@ -1,7 +1,6 @@
 -- The types of expressions, and the rules that their nodes keep (C11 6.5). Each form has its tests, by the types of its parts, and the
 -- type that it has where it breaks none of them.
-use Rattle.std.specs.Prelude.{ℕ, suc, ◌+◌, ◌==◌, Bool, true, false, not, ◌&&◌, ◌||◌, List, [], ◌∷◌, ◌++◌, Option, Some, None, is_some, length, if◌then◌else◌}
-use Rattle.std.specs.List.{slice_get}
+use Rattle.std.specs.Prelude.{ℕ, ◌+◌, ◌==◌, Bool, true, false, not, ◌&&◌, ◌||◌, List, [], ◌∷◌, ◌++◌, Option, Some, None, is_some, length, if◌then◌else◌}
 use Rattle.qs_syntax.specs.Sameness.{same_bytes}
 use Rattle.qs_syntax.specs.declared.operators.UnaryOperator.{UnaryOperator}
 use Rattle.qs_syntax.specs.declared.operators.UnaryOperator.TheVariants as unaries
@@ -14,7 +13,7 @@ use Rattle.qs_syntax.specs.declared.operators.Access.TheVariants as accesses
 use Rattle.qs_syntax.specs.declared.types.TypeName.{TypeName}
 use Rattle.qs_syntax.specs.Trees.{ExprTree, expr, ShapeTree, Exprs, no_exprs, expr_and}
 use Rattle.qs_syntax.specs.Trees as trees
-use Rattle.qs_types.specs.Types.{TypeTree, int, unsigned, char, void, pointer, array, struct, MemberTree, Structs, same_type, is_integer, is_pointer, is_array, is_struct, is_void, is_scalar, referenced}
+use Rattle.qs_types.specs.Types.{TypeTree, int, unsigned, char, void, pointer, array, struct, MemberTree, Structs, same_type, is_integer, is_pointer, is_array, is_struct, is_scalar, referenced}
 use Rattle.qs_types.specs.Layout.{and_then, is_complete, struct_of}
 use Rattle.qs_types.specs.Conversions.{decayed, promoted, arithmetic, common}
 use Rattle.qs_types.specs.GivenFunctions.{Signature}
@@ -114,7 +113,7 @@ may_cast t e u = both_integers t u || (is_pointer t && (is_pointer u || is_null_
 abbrev pub cast_judged : Context → TypeName → ExprTree → (u : TypeTree) → Judged
 cast_judged context n e u =
     judged (name_tests context n ++ test Rules.cast_type (is_some (named_type context n) && not (may_cast (type_or_void (named_type context n)) e u)))
-      (type_or_void (named_type context n))
+    (type_or_void (named_type context n))
 
 abbrev pub size_judged : Context → TypeName → Judged
 size_judged context n =
@@ -221,7 +220,7 @@ assign_judged structs assigns.BitOr a t b u = compound_judged (may_combine a t (
 abbrev pub subscript_judged : Structs → (t u : TypeTree) → Judged
 subscript_judged structs t u =
     judged (keeps Rules.sum_operands (may_add structs t u) ++ test Rules.indirect_operand (may_add structs t u && not (is_object_pointer structs (sum_type t u))))
-      (referenced (sum_type t u))
+    (referenced (sum_type t u))
 
 abbrev pub member_in : List ℕ → List MemberTree → Option TypeTree
 member_in x [] = None
@@ -298,7 +297,7 @@ abbrev mutual
       and_then (type_of c a) (λ t. and_then (type_of c b) (λ u. Some (assign_judged c.structs operator a t b u)))
   shape_judged c (trees.conditional d a b) =
       and_then (type_of c d) (λ s. and_then (type_of c a) (λ t. and_then (type_of c b) (λ u.
-        Some (conditional_judged (decayed s) a (decayed t) b (decayed u)))))
+      Some (conditional_judged (decayed s) a (decayed t) b (decayed u)))))
   shape_judged c (trees.comma a b) = and_then (type_of c a) (λ t. and_then (type_of c b) (λ u. Some (judged [] (decayed u))))
   shape_judged c (trees.subscript a b) =
       and_then (type_of c a) (λ t. and_then (type_of c b) (λ u. Some (subscript_judged c.structs (decayed t) (decayed u))))

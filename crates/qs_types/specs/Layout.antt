@@ -69,9 +69,10 @@ strictest (m ∷ ms) = max m.alignment (strictest ms)
 -- 6.7.2.1p17: padding at the end makes the size a multiple of the alignment
 abbrev pub struct_layout : List Extent → StructLayout
 struct_layout ms = record {
-    offsets = offsets_from 0 ms;
-    size = rounded_up (end_from 0 ms) (strictest ms);
-    alignment = strictest ms }
+  offsets = offsets_from 0 ms;
+  size = rounded_up (end_from 0 ms) (strictest ms);
+  alignment = strictest ms;
+}
 
 -- ---- the structs of a unit
 

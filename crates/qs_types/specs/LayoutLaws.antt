@@ -3,7 +3,7 @@ use Rattle.std.specs.Prelude.{◌≡◌, ◌≤◌, ◌<◌, ℕ, ◌+◌, ◌%�
 use Rattle.std.specs.List.{slice_get}
 use Rattle.qs_types.specs.declared.extent.Extent.{Extent}
 use Rattle.qs_types.specs.Types.{TypeTree, MemberTree, Structs}
-use Rattle.qs_types.specs.Layout.{Layouts, StructLayout, layout_of, extent_of, extents_by, struct_of, member_types, rounded_up}
+use Rattle.qs_types.specs.Layout.{StructLayout, layout_of, extent_of, extents_by, struct_of, member_types, rounded_up}
 
 -- the least multiple of the alignment that isn't below n
 pub record IsLeastMultiple (alignment n r : ℕ) : Type 0 where

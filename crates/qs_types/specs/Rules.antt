@@ -1,5 +1,5 @@
 -- The typing rules by the numbers that the tool prints, tests on nodes, and what they find.
-use Rattle.std.specs.Prelude.{ℕ, Bool, true, false, not, ◌||◌, List, [], ◌∷◌, Option, Some, None, if◌then◌else◌}
+use Rattle.std.specs.Prelude.{ℕ, Bool, false, not, ◌||◌, List, [], ◌∷◌, Option, Some, None, if◌then◌else◌}
 use Rattle.qs_types.specs.Types.{TypeTree}
 
 -- ---- the rules

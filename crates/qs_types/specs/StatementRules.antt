@@ -1,15 +1,15 @@
 -- What is known behind declarations and statements, and which of their nodes break which rules (C11 6.7, 6.8).
-use Rattle.std.specs.Prelude.{ℕ, Bool, true, false, not, ◌&&◌, ◌||◌, List, [], ◌∷◌, ◌++◌, Option, Some, None, is_some, if◌then◌else◌}
+use Rattle.std.specs.Prelude.{ℕ, Bool, true, false, not, ◌&&◌, List, [], ◌∷◌, ◌++◌, Option, Some, None, if◌then◌else◌}
 use Rattle.qs_syntax.specs.declared.types.Base.{Base}
 use Rattle.qs_syntax.specs.declared.nodes.Node.{Node}
-use Rattle.qs_syntax.specs.Trees.{ExprTree, InitialiserTree, VariableTree, DeclarationTree, StartTree, no_start, start_expression, start_declaration, StmtTree, empty, expression, declaration, block, branch, while_loop, do_loop, for_loop, break, continue, return, Stmts, no_stmts, stmt_and, Else, no_else, else_by}
+use Rattle.qs_syntax.specs.Trees.{ExprTree, InitialiserTree, VariableTree, StartTree, no_start, start_expression, start_declaration, StmtTree, empty, expression, declaration, block, branch, while_loop, do_loop, for_loop, break, continue, return, Stmts, no_stmts, stmt_and, Else, no_else, else_by}
 use Rattle.qs_types.specs.Types.{TypeTree, is_scalar, is_void}
 use Rattle.qs_types.specs.Conversions.{decayed}
 use Rattle.qs_types.specs.Rules
 use Rattle.qs_types.specs.Rules.{Test, test, keeps, Fault, faults_of}
 use Rattle.qs_types.specs.Contexts.{Entity, local_variable, file_variable, Context, is_declared_here, with_name, inner_scope, inside_loop}
 use Rattle.qs_types.specs.Expressions.{type_of, is_assignable}
-use Rattle.qs_types.specs.Declarations.{Declared, variable_declared, lengths_faults, all_typed}
+use Rattle.qs_types.specs.Declarations.{variable_declared, lengths_faults, all_typed}
 use Rattle.qs_types.specs.InitialiserRules.{initialiser_faults, initialiser_tests, is_typed}
 use Rattle.qs_types.specs.ExpressionFaults.{used, discarded, expr_faults}
 

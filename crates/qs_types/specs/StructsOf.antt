@@ -1,7 +1,7 @@
 -- The pure structs that structs in code stand for.
-use Rattle.std.specs.Prelude.{ℕ, Bool, List, Option, Some, None, map, option_map, is_some}
+use Rattle.std.specs.Prelude.{ℕ, Bool, List, map, option_map, is_some}
 use Rattle.std.specs.List.{slice_get}
-use Rattle.qs_types.specs.Types.{TypeTree, MemberTree, StructTree, Structs}
+use Rattle.qs_types.specs.Types.{MemberTree, StructTree, Structs}
 use Rattle.qs_types.specs.Layout.{and_then, Layouts, StructLayout as LayoutTree}
 use Rattle.qs_types.specs.TypeOf.{type_tree}
 use Rattle.qs_types.specs.declared.types.CType.{CType}

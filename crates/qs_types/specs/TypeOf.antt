@@ -1,5 +1,4 @@
 -- The pure types that types in code stand for.
-use Rattle.std.specs.Prelude.{ℕ}
 use Rattle.qs_types.specs.Types.{TypeTree, int, unsigned, char, void, pointer, array, struct}
 use Rattle.qs_types.specs.declared.types.CType.{CType, CType-F, fold-CType}
 
@@ -14,4 +13,3 @@ type_step (CType-F.Struct k) = struct k
 
 abbrev pub type_tree : CType → TypeTree
 type_tree = fold-CType TypeTree type_step
-

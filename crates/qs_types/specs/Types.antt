@@ -1,5 +1,5 @@
 -- The types of the language (C11 6.2.5), and the structs of a unit.
-use Rattle.std.specs.Prelude.{ℕ, Bool, true, false, ◌&&◌, ◌||◌, ◌==◌, List, Option, Some, None}
+use Rattle.std.specs.Prelude.{ℕ, Bool, true, false, ◌&&◌, ◌||◌, ◌==◌, List, Option}
 
 pub data TypeTree : Type 0 where
   int : TypeTree

@@ -1,18 +1,18 @@
 -- Which nodes of a unit break which rules (C11 6.9).
-use Rattle.std.specs.Prelude.{◌≡◌, ℕ, ◌+◌, ◌==◌, Bool, true, false, not, ◌&&◌, ◌||◌, List, [], ◌∷◌, ◌++◌, Option, Some, None, is_some, length, slice_set, if◌then◌else◌}
+use Rattle.std.specs.Prelude.{◌≡◌, ℕ, ◌==◌, Bool, true, false, not, ◌&&◌, ◌||◌, List, [], ◌∷◌, ◌++◌, Option, Some, None, is_some, if◌then◌else◌}
 use Rattle.std.specs.List.{list_all}
 use Rattle.qs_syntax.specs.Sameness.{same_bytes}
 use Rattle.qs_syntax.specs.declared.types.Base.{Base}
-use Rattle.qs_syntax.specs.Trees.{DeclaratorTree, ParameterTree, MembersTree, StructTree, ForwardTree, FunctionTree, Stmts, DeclTree, structure, forward, function, variables, UnitTree}
-use Rattle.qs_types.specs.Types.{TypeTree, int, unsigned, char, MemberTree, Structs, same_type, is_scalar, is_void, is_struct}
-use Rattle.qs_types.specs.Layout.{and_then, layout_of, sized_layout, with_members, struct_of, is_complete}
+use Rattle.qs_syntax.specs.Trees.{DeclaratorTree, ParameterTree, MembersTree, StructTree, FunctionTree, Stmts, DeclTree, structure, forward, function, variables, UnitTree}
+use Rattle.qs_types.specs.Types.{TypeTree, int, unsigned, MemberTree, Structs, same_type, is_scalar, is_struct}
+use Rattle.qs_types.specs.Layout.{and_then, layout_of, sized_layout, with_members, struct_of}
 use Rattle.qs_types.specs.Rules
 use Rattle.qs_types.specs.Rules.{Test, test, keeps, Fault, faults_of}
 use Rattle.qs_types.specs.Contexts.{Entity, local_variable, file_variable, given, Binding, Context, start_context, lookup, tag_place, base_type, starred_type, is_void_base, with_name, inner_scope, is_declared_here}
 use Rattle.qs_types.specs.Contexts as contexts
 use Rattle.qs_types.specs.GivenFunctions.{Signature, main_name}
-use Rattle.qs_types.specs.Expressions.{type_or_void, member_in}
-use Rattle.qs_types.specs.Declarations.{Declared, declared, parameter_declared, lengths_faults, all_typed}
+use Rattle.qs_types.specs.Expressions.{type_or_void}
+use Rattle.qs_types.specs.Declarations.{declared, parameter_declared, lengths_faults, all_typed}
 use Rattle.qs_types.specs.StatementRules.{variables_faults, after_variables, statements_faults}
 
 -- ---- structs (6.7.2.1, 6.7.2.3)
@@ -62,7 +62,7 @@ is_name_in x (y ∷ ys) = same_bytes y x || is_name_in x ys
 abbrev pub member_faults : Context → List (List ℕ) → Base → DeclaratorTree → List Fault
 member_faults c before base d =
     faults_of d.node.id
-      (if all_typed c d.lengths.given then (declared c base d None).tests ++ test Rules.member_twice (is_name_in d.name before) else [])
+    (if all_typed c d.lengths.given then (declared c base d None).tests ++ test Rules.member_twice (is_name_in d.name before) else [])
     ++ lengths_faults c d.lengths.given
 
 abbrev pub together_faults : Context → List (List ℕ) → Base → List DeclaratorTree → List Fault
@@ -182,7 +182,7 @@ abbrev pub parameter_tests : Context → (has_body : Bool) → ParameterTree →
 parameter_tests c has_body p =
     if all_typed c p.lengths.given
     then test Rules.declared_twice (is_name_declared c p.name)
-      ++ ((parameter_declared c p).tests ++ signature_tests p has_body (parameter_declared c p).type)
+    ++ ((parameter_declared c p).tests ++ signature_tests p has_body (parameter_declared c p).type)
     else []
 
 abbrev pub parameters_faults : Context → (has_body : Bool) → List ParameterTree → List Fault

@@ -122,7 +122,11 @@ fn rounded_up(n: u32, alignment: u32) -> u32
 
 /// The layout of a struct with these members, if each member and the whole have a size within the
 /// limit.
-pub fn members_layout(alloc: Global, types: &Env, members: &IndexMap<Name, CType>) -> Result<Option<StructLayout>, NoMemory>
+pub fn members_layout(
+    alloc: Global,
+    types: &Env,
+    members: &IndexMap<Name, CType>,
+) -> Result<Option<StructLayout>, NoMemory>
     ensures { IfOk result (λ layout. option_map layout_tree layout ≡ sized_layout (layout_of (env_tree types.now)) (map type_tree (values members.now))) }
 {
     let mut offsets = Vec::new(alloc);
@@ -159,17 +163,14 @@ fn whole_layout(offsets: Vec<u32>, size: u32, alignment: u32) -> Option<StructLa
 /// Each struct is laid out as the types of its members ask.
 pub fn structs_laid_out()
     ensures { StructsLaidOut }
-{
-}
+{}
 
 /// The size of each type is a multiple of its alignment.
 pub fn sizes_aligned()
     ensures { SizesAligned }
-{
-}
+{}
 
 /// What is rounded up is the least multiple that isn't below.
 pub fn rounds()
     ensures { Rounds }
-{
-}
+{}

@@ -36,7 +36,10 @@ impl CType {
             CType::Char => Ok(CType::Char),
             CType::Void => Ok(CType::Void),
             CType::Pointer(to) => Ok(CType::Pointer(Box::new(alloc, to.copy(alloc)?)?)),
-            CType::Array(element, length) => Ok(CType::Array(Box::new(alloc, element.copy(alloc)?)?, *length)),
+            CType::Array(element, length) => Ok(CType::Array(
+                Box::new(alloc, element.copy(alloc)?)?,
+                *length,
+            )),
             CType::Struct(k) => Ok(CType::Struct(*k)),
         }
     }

@@ -56,7 +56,12 @@ impl Env {
 
     /// Gives a struct that has no members yet its members (C11 6.7.2.1), if each member and the whole
     /// have a size within the limit, and tells whether they have.
-    pub fn define(&mut self, alloc: Global, k: u32, members: IndexMap<Name, CType>) -> Result<bool, NoMemory>
+    pub fn define(
+        &mut self,
+        alloc: Global,
+        k: u32,
+        members: IndexMap<Name, CType>,
+    ) -> Result<bool, NoMemory>
         requires { slice_get (env_tree self.old) k ≡ Some None }
         ensures told { IfOk result (λ done. done ≡ is_some (sized_layout (layout_of (env_tree self.old)) (map type_tree (values members)))) }
         ensures defined { IfOk result (λ done. env_tree self.new ≡ with_members done (env_tree self.old) k (map member_tree members.entries)) }

@@ -1,4 +1,4 @@
-use Rattle.std.proofs.Common.{◌≡◌, ◌≤◌, map}
+use Rattle.std.proofs.Common.{◌≤◌, map}
 use Rattle.indexmap.specs.IndexMap.{values}
 use Rattle.qs_types.specs.Layout.{layout_of}
 use Rattle.qs_types.specs.TypeOf.{type_tree}

@@ -7,4 +7,5 @@ invariant_of-self c =
     let s = c.args.self.now in
     record {
       laid_out = pushed_keeps (is_ok c.push.result) s.structs.items c.push.new.self.items _ c.push.ensures.items s.laid_out refl refl;
-      whole = pushed_whole (is_ok c.push.result) s.structs.items c.push.new.self.items _ c.push.ensures.items s.whole refl }
+      whole = pushed_whole (is_ok c.push.result) s.structs.items c.push.new.self.items _ c.push.ensures.items s.whole refl;
+    }

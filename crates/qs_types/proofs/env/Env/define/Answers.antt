@@ -11,10 +11,11 @@ invariant_of-self c =
     let s = c.args.self.now in
     let given : StructType = record { members = Some c.args.members; layout = Some c.in-Some.layout } in
     let sized : members_layout (layout_of (env_tree s)) (map member_tree c.args.members.entries) ≡ Some (layout_tree c.in-Some.layout) =
-      members_sized (layout_of (env_tree s)) c.args.members.entries (layout_tree c.in-Some.layout) (sym c.in_ok-members_layout.ensures ∙ ap (option_map layout_tree) c.in-Some.is) in
+    members_sized (layout_of (env_tree s)) c.args.members.entries (layout_tree c.in-Some.layout) (sym c.in_ok-members_layout.ensures ∙ ap (option_map layout_tree) c.in-Some.is) in
     record {
       laid_out = defined_keeps s.structs.items c.args.k given (map member_tree c.args.members.entries) (layout_tree c.in-Some.layout) s.laid_out s.whole c.requires refl refl sized;
-      whole = defined_whole s.structs.items c.args.k given s.whole refl }
+      whole = defined_whole s.structs.items c.args.k given s.whole refl;
+    }
 
 pub returns-in-Some-clause-defined : goal.returns-in-Some-clause-defined
 returns-in-Some-clause-defined c =

@@ -10,7 +10,7 @@ returns-in-Some c =
     let items : c.deref.result.now ≡ s.structs.items = search rules in
     let got : c.get.result ≡ Some c.in-Some.structure = search rules in
     let at : slice_get s.structs.items c.args.k ≡ Some c.in-Some.structure.now =
-      ap (λ xs. slice_get xs c.args.k) (sym items) ∙ (sym (item c.deref.result.now c.args.k c.get.result c.get.ensures.lookup) ∙ ap (λ r. option_copied r) got) in
+    ap (λ xs. slice_get xs c.args.k) (sym items) ∙ (sym (item c.deref.result.now c.args.k c.get.result c.get.ensures.lookup) ∙ ap (λ r. option_copied r) got) in
     shown s.structs.items c.args.k c.in-Some.structure.now c.as_ref.result s.laid_out at c.as_ref.ensures.value
 
 pub returns-in-None : goal.returns-in-None
@@ -19,5 +19,5 @@ returns-in-None c =
     let items : c.deref.result.now ≡ s.structs.items = search rules in
     let got : c.get.result ≡ None = search rules in
     let at : slice_get s.structs.items c.args.k ≡ None =
-      ap (λ xs. slice_get xs c.args.k) (sym items) ∙ (sym (item c.deref.result.now c.args.k c.get.result c.get.ensures.lookup) ∙ ap (λ r. option_copied r) got) in
+    ap (λ xs. slice_get xs c.args.k) (sym items) ∙ (sym (item c.deref.result.now c.args.k c.get.result c.get.ensures.lookup) ∙ ap (λ r. option_copied r) got) in
     hidden s.structs.items c.args.k s.laid_out at

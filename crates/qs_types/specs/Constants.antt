@@ -5,6 +5,9 @@ use Rattle.qs_syntax.specs.declared.operators.UnaryOperator.{UnaryOperator}
 use Rattle.qs_syntax.specs.declared.operators.UnaryOperator.TheVariants as unaries
 use Rattle.qs_syntax.specs.declared.operators.BinaryOperator.{BinaryOperator}
 use Rattle.qs_syntax.specs.declared.operators.BinaryOperator.TheVariants as binaries
+use Rattle.qs_syntax.specs.declared.types.Base.{Base}
+use Rattle.qs_syntax.specs.declared.types.Base.TheVariants as bases
+use Rattle.qs_syntax.specs.declared.types.TypeName.{TypeName}
 use Rattle.qs_syntax.specs.Trees.{ExprTree, expr, ShapeTree}
 use Rattle.qs_syntax.specs.Trees as trees
 use Rattle.qs_types.specs.Types.{TypeTree, int, unsigned, char, void, pointer, array, struct, same_type, is_integer}
@@ -13,7 +16,19 @@ use Rattle.qs_types.specs.Conversions.{promoted, arithmetic}
 use Rattle.qs_types.specs.Contexts.{Context, named_type}
 use Rattle.qs_types.specs.Expressions.{type_of}
 
--- ---- what they are built of: literals, `sizeof` of a type name, casts, and operators other than assignment, step, comma, `&`, `*` and calls
+-- ---- names of integer types
+
+abbrev pub is_integer_base : Base → Bool
+is_integer_base bases.Void = false
+is_integer_base bases.Int = true
+is_integer_base bases.Unsigned = true
+is_integer_base bases.Char = true
+is_integer_base (bases.Struct tag) = false
+
+abbrev pub is_integer_name : TypeName → Bool
+is_integer_name n = n.stars == 0 && is_integer_base n.base
+
+-- ---- what they are built of: literals, `sizeof` of a type name, casts to integer types, and operators other than assignment, step, comma, `&`, `*` and calls
 
 abbrev mutual
   pub is_built : ExprTree → Bool
@@ -30,7 +45,7 @@ abbrev mutual
   is_built_shape (trees.unary unaries.Complement a) = is_built a
   is_built_shape (trees.unary unaries.Not a) = is_built a
   is_built_shape (trees.step operator a) = false
-  is_built_shape (trees.cast n a) = is_built a
+  is_built_shape (trees.cast n a) = is_integer_name n && is_built a
   is_built_shape (trees.sizeof_type n) = true
   is_built_shape (trees.sizeof_expr a) = false
   is_built_shape (trees.binary operator a b) = is_built a && is_built b

@@ -108,11 +108,19 @@ element_lengths l None = None
 element_lengths l (Some []) = Some []
 element_lengths l (Some (n ∷ ns)) = if l.is_open then Some (n ∷ ns) else Some ns
 
--- 6.7.6.3p7: a parameter written as an array is a pointer to its elements
+abbrev pub array_parameter_tests : Context → ParameterTree → List Test
+array_parameter_tests c p =
+    element_tests c p.type_name.base p.type_name.stars ++ keeps Rules.array_length (is_some (lengths_of c p.lengths.given))
+
+-- the elements of a parameter that is written as an array
+abbrev pub parameter_element : Context → ParameterTree → TypeTree
+parameter_element c p = object_type c p.type_name.base p.type_name.stars (element_lengths p.lengths (lengths_of c p.lengths.given))
+
+-- 6.7.6.3p7: a parameter written as an array is a pointer to its elements, which have a size
 abbrev pub array_parameter : Context → ParameterTree → Declared
 array_parameter c p =
-    declared_by (element_tests c p.type_name.base p.type_name.stars ++ keeps Rules.array_length (is_some (lengths_of c p.lengths.given)))
-    (pointer (object_type c p.type_name.base p.type_name.stars (element_lengths p.lengths (lengths_of c p.lengths.given))))
+    declared_by (array_parameter_tests c p ++ size_tests c (array_parameter_tests c p) (parameter_element c p))
+    (pointer (parameter_element c p))
 
 -- the tag is known, and `void` is not the base; that the type is a scalar is a rule of its own
 abbrev pub plain_parameter : Context → ParameterTree → Declared

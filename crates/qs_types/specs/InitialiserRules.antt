@@ -67,13 +67,10 @@ fits_scalar at_file_scope c t e u = is_scalar t && (is_assignable t e (decayed u
 abbrev pub fits_struct : Bool → TypeTree → ExprTree → (u : TypeTree) → Bool
 fits_struct at_file_scope t e u = not at_file_scope && (is_struct t && (same_type t u && is_lvalue e))
 
--- an expression as initialiser of a variable
+-- an expression as initialiser of a variable, or of a part in a list: a part that is an array or a struct has a list of its own, a text,
+-- or for a local a whole struct
 abbrev pub fits_variable : Bool → Context → TypeTree → ExprTree → (u : TypeTree) → Bool
 fits_variable at_file_scope c t e u = holds_text t (text_of e) || (fits_scalar at_file_scope c t e u || fits_struct at_file_scope t e u)
-
--- an expression in a list: parts that are arrays or structs have lists of their own
-abbrev pub fits_part : Bool → Context → TypeTree → ExprTree → (u : TypeTree) → Bool
-fits_part at_file_scope c t e u = holds_text t (text_of e) || fits_scalar at_file_scope c t e u
 
 -- ---- lists
 
@@ -88,7 +85,7 @@ takes_list t = is_array t || is_struct t
 -- an initialiser of a part of type t fits, what stands in an inner list aside; no part is left where there is no type
 abbrev pub element_fits : Bool → Context → Option TypeTree → InitialiserTree → Bool
 element_fits at_file_scope c None i = false
-element_fits at_file_scope c (Some t) (trees.value e) = fits_typed (type_of c e) (fits_part at_file_scope c t e)
+element_fits at_file_scope c (Some t) (trees.value e) = fits_typed (type_of c e) (fits_variable at_file_scope c t e)
 element_fits at_file_scope c (Some t) (trees.list node is) = takes_list t
 
 -- the elements of a list from number i on

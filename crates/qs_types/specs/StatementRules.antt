@@ -1,5 +1,5 @@
 -- What is known behind declarations and statements, and which of their nodes break which rules (C11 6.7, 6.8).
-use Rattle.std.specs.Prelude.{ℕ, Bool, true, false, not, ◌&&◌, List, [], ◌∷◌, ◌++◌, Option, Some, None, if◌then◌else◌}
+use Rattle.std.specs.Prelude.{ℕ, Bool, true, false, not, ◌&&◌, List, [], ◌∷◌, ◌++◌, Option, Some, None, is_some, if◌then◌else◌}
 use Rattle.qs_syntax.specs.declared.types.Base.{Base}
 use Rattle.qs_syntax.specs.declared.nodes.Node.{Node}
 use Rattle.qs_syntax.specs.Trees.{ExprTree, InitialiserTree, VariableTree, StartTree, no_start, start_expression, start_declaration, StmtTree, empty, expression, declaration, block, branch, while_loop, do_loop, for_loop, break, continue, return, Stmts, no_stmts, stmt_and, Else, no_else, else_by}
@@ -115,9 +115,22 @@ for_scope c (start_declaration d) = inner_scope c
 abbrev pub loop_tests : Context → List Test
 loop_tests c = keeps Rules.outside_loop c.in_loop
 
+abbrev pub option_typed : Context → Option ExprTree → Bool
+option_typed c None = true
+option_typed c (Some e) = is_some (type_of c e)
+
+abbrev pub start_typed : Context → StartTree → Bool
+start_typed c no_start = true
+start_typed c (start_expression e) = is_some (type_of c e)
+start_typed c (start_declaration d) = true
+
+-- the test of a `for`, where the expressions that are its parts have types
+abbrev pub for_tests : Context → StartTree → Option ExprTree → Option ExprTree → List Test
+for_tests c start e u = if start_typed c start && option_typed c u then option_condition_tests c e else []
+
 -- the condition and the last expression of a `for`
-abbrev pub for_faults : Context → Node → Option ExprTree → Option ExprTree → List Fault
-for_faults c node e u = faults_of node.id (option_condition_tests c e) ++ (option_used c e ++ option_discarded c u)
+abbrev pub for_faults : Context → StartTree → Node → Option ExprTree → Option ExprTree → List Fault
+for_faults c start node e u = faults_of node.id (for_tests c start e u) ++ (option_used c e ++ option_discarded c u)
 
 abbrev mutual
   pub statement_faults : Context → StmtTree → List Fault
@@ -130,7 +143,7 @@ abbrev mutual
   statement_faults c (do_loop node s e) = statement_faults (inside_loop c) s ++ condition_faults c node e
   statement_faults c (for_loop node start e u s) =
       start_faults (for_scope c start) start
-      ++ (for_faults (after_start (for_scope c start) start) node e u
+      ++ (for_faults (after_start (for_scope c start) start) start node e u
       ++ statement_faults (inside_loop (after_start (for_scope c start) start)) s)
   statement_faults c (break node) = faults_of node.id (loop_tests c)
   statement_faults c (continue node) = faults_of node.id (loop_tests c)

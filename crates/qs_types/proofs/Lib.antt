@@ -1,0 +1,11 @@
+mod Options
+mod Rounding
+mod Layouts
+mod Extents
+mod LayoutSteps
+mod Declaring
+mod LayoutExamples
+mod RuleTrees
+mod DeclarationExamples
+mod ExpressionExamples
+mod PlacedExamples

@@ -1,0 +1,7 @@
+use Rattle.qs_types.specs.TypeOf.{type_tree}
+use Rattle.qs_types.specs.EnvOf.{env_tree}
+use Rattle.qs_types.proofs.Extents.{sized_size}
+use Rattle.qs_types.proofs.layout.size_of.Goals as goal
+
+pub returns : goal.returns
+returns c = sized_size (env_tree c.args.types.now) (type_tree c.args.t.now) c.unwrap.result c.extent_of.result c.extent_of.ensures.extent c.unwrap.ensures

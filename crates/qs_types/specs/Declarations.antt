@@ -1,0 +1,133 @@
+-- The types that declarations give (C11 6.7), and the rules that their nodes keep.
+use Rattle.std.specs.Prelude.{ℕ, suc, ◌+◌, Bool, true, false, not, ◌&&◌, ◌||◌, List, [], ◌∷◌, ◌++◌, Option, Some, None, is_some, length, if◌then◌else◌}
+use Rattle.qs_syntax.specs.declared.types.Base.{Base}
+use Rattle.qs_syntax.specs.Trees.{ExprTree, expr, ShapeTree, LengthsTree, DeclaratorTree, InitialiserTree, Initialisers, no_initialisers, initialiser_and, VariableTree, ParameterTree}
+use Rattle.qs_syntax.specs.Trees as trees
+use Rattle.qs_types.specs.Types.{TypeTree, void, pointer, array}
+use Rattle.qs_types.specs.Layout.{and_then, is_complete, is_sized}
+use Rattle.qs_types.specs.Rules
+use Rattle.qs_types.specs.Rules.{Test, test, keeps, type_unless, Fault, faults_of}
+use Rattle.qs_types.specs.Contexts.{Context, base_type, starred_type, is_void_base}
+use Rattle.qs_types.specs.Expressions.{type_of, type_or_void}
+use Rattle.qs_types.specs.Constants.{length_of}
+use Rattle.qs_types.specs.ExpressionFaults.{used, expr_faults}
+
+-- ---- array lengths (6.7.6.2)
+
+abbrev pub all_typed : Context → List ExprTree → Bool
+all_typed c [] = true
+all_typed c (e ∷ es) = is_some (type_of c e) && all_typed c es
+
+abbrev pub lengths_faults : Context → List ExprTree → List Fault
+lengths_faults c [] = []
+lengths_faults c (e ∷ es) = expr_faults c used e ++ lengths_faults c es
+
+abbrev pub lengths_of : Context → List ExprTree → Option (List ℕ)
+lengths_of c [] = Some []
+lengths_of c (e ∷ es) = and_then (length_of c e) (λ n. and_then (lengths_of c es) (λ ns. Some (n ∷ ns)))
+
+-- 6.7.6.2p3: the first length is the outermost
+abbrev pub arrays : TypeTree → List ℕ → TypeTree
+arrays t [] = t
+arrays t (n ∷ ns) = array (arrays t ns) n
+
+-- ---- a declared type: the tests of the node that declares it, and the type where it breaks none
+
+pub record Declared : Type 0 where
+  pub tests : List Test
+  pub type : Option TypeTree
+
+abbrev pub declared_by : List Test → TypeTree → Declared
+declared_by tests t = record { tests = tests; type = type_unless tests t }
+
+-- a length has no type: the node breaks no rule, and the name has no type
+abbrev pub undeclared : Declared
+undeclared = record { tests = []; type = None }
+
+-- the tag is known, `void` is not the base, and the type of the elements is complete
+abbrev pub element_tests : Context → Base → ℕ → List Test
+element_tests c base stars =
+    keeps Rules.unknown_tag (is_some (base_type c base))
+    ++ test Rules.incomplete_type
+    (is_void_base base || (is_some (base_type c base) && not (is_complete c.structs (type_or_void (starred_type c base stars)))))
+
+-- the lengths with the first, where the brackets are empty, from elsewhere
+abbrev pub whole_lengths : LengthsTree → (first : Option ℕ) → Option (List ℕ) → Option (List ℕ)
+whole_lengths l first None = None
+whole_lengths l first (Some ns) = if l.is_open then and_then first (λ n. Some (n ∷ ns)) else Some ns
+
+abbrev pub object_type : Context → Base → ℕ → Option (List ℕ) → TypeTree
+object_type c base stars None = void
+object_type c base stars (Some ns) = arrays (type_or_void (starred_type c base stars)) ns
+
+abbrev pub size_tests : Context → List Test → TypeTree → List Test
+size_tests c before t = test Rules.large_type (not (Rules.breaks_one before) && not (is_sized c.structs t))
+
+abbrev pub with_size_tests : Context → List Test → TypeTree → Declared
+with_size_tests c before t = declared_by (before ++ size_tests c before t) t
+
+-- a variable or a member, where its lengths are these
+abbrev pub object_declared : Context → Base → ℕ → Option (List ℕ) → Declared
+object_declared c base stars ns =
+    with_size_tests c (element_tests c base stars ++ keeps Rules.array_length (is_some ns)) (object_type c base stars ns)
+
+abbrev pub declared : Context → Base → DeclaratorTree → (first : Option ℕ) → Declared
+declared c base d first =
+    if all_typed c d.lengths.given then object_declared c base d.stars (whole_lengths d.lengths first (lengths_of c d.lengths.given)) else undeclared
+
+-- ---- variables (6.7.9p22): a list or a text gives the length that the brackets don't
+
+abbrev pub initialisers_count : Initialisers → ℕ
+initialisers_count no_initialisers = 0
+initialisers_count (initialiser_and i is) = suc (initialisers_count is)
+
+abbrev pub text_of : ExprTree → Option (List ℕ)
+text_of (expr node (trees.text bytes)) = Some bytes
+text_of (expr node _) = None
+
+abbrev pub length_by : Option InitialiserTree → Option ℕ
+length_by None = None
+length_by (Some (trees.value e)) = and_then (text_of e) (λ bytes. Some (length bytes + 1))
+length_by (Some (trees.list node is)) = Some (initialisers_count is)
+
+abbrev pub variable_declared : Context → Base → VariableTree → Declared
+variable_declared c base v = declared c base v.declarator (length_by v.initialiser)
+
+-- ---- parameters (6.7.6.3)
+
+abbrev pub is_any : List ExprTree → Bool
+is_any [] = false
+is_any (e ∷ es) = true
+
+abbrev pub is_array_parameter : LengthsTree → Bool
+is_array_parameter l = l.is_open || is_any l.given
+
+-- the lengths of the elements: the first is that of the parameter
+abbrev pub element_lengths : LengthsTree → Option (List ℕ) → Option (List ℕ)
+element_lengths l None = None
+element_lengths l (Some []) = Some []
+element_lengths l (Some (n ∷ ns)) = if l.is_open then Some (n ∷ ns) else Some ns
+
+abbrev pub array_parameter_tests : Context → ParameterTree → List Test
+array_parameter_tests c p =
+    element_tests c p.type_name.base p.type_name.stars ++ keeps Rules.array_length (is_some (lengths_of c p.lengths.given))
+
+-- the elements of a parameter that is written as an array
+abbrev pub parameter_element : Context → ParameterTree → TypeTree
+parameter_element c p = object_type c p.type_name.base p.type_name.stars (element_lengths p.lengths (lengths_of c p.lengths.given))
+
+-- 6.7.6.3p7: a parameter written as an array is a pointer to its elements, which have a size
+abbrev pub array_parameter : Context → ParameterTree → Declared
+array_parameter c p =
+    declared_by (array_parameter_tests c p ++ size_tests c (array_parameter_tests c p) (parameter_element c p))
+    (pointer (parameter_element c p))
+
+-- the tag is known, and `void` is not the base; that the type is a scalar is a rule of its own
+abbrev pub plain_parameter : Context → ParameterTree → Declared
+plain_parameter c p =
+    declared_by (keeps Rules.unknown_tag (is_some (base_type c p.type_name.base)) ++ test Rules.incomplete_type (is_void_base p.type_name.base))
+    (type_or_void (starred_type c p.type_name.base p.type_name.stars))
+
+abbrev pub parameter_declared : Context → ParameterTree → Declared
+parameter_declared c p =
+    if all_typed c p.lengths.given then (if is_array_parameter p.lengths then array_parameter c p else plain_parameter c p) else undeclared

@@ -1,0 +1,158 @@
+-- What is known behind declarations and statements, and which of their nodes break which rules (C11 6.7, 6.8).
+use Rattle.std.specs.Prelude.{ℕ, Bool, true, false, not, ◌&&◌, List, [], ◌∷◌, ◌++◌, Option, Some, None, is_some, if◌then◌else◌}
+use Rattle.qs_syntax.specs.declared.types.Base.{Base}
+use Rattle.qs_syntax.specs.declared.nodes.Node.{Node}
+use Rattle.qs_syntax.specs.Trees.{ExprTree, InitialiserTree, VariableTree, StartTree, no_start, start_expression, start_declaration, StmtTree, empty, expression, declaration, block, branch, while_loop, do_loop, for_loop, break, continue, return, Stmts, no_stmts, stmt_and, Else, no_else, else_by}
+use Rattle.qs_types.specs.Types.{TypeTree, is_scalar, is_void}
+use Rattle.qs_types.specs.Conversions.{decayed}
+use Rattle.qs_types.specs.Rules
+use Rattle.qs_types.specs.Rules.{Test, test, keeps, Fault, faults_of}
+use Rattle.qs_types.specs.Contexts.{Entity, local_variable, file_variable, Context, is_declared_here, with_name, inner_scope, inside_loop}
+use Rattle.qs_types.specs.Expressions.{type_of, is_assignable}
+use Rattle.qs_types.specs.Declarations.{variable_declared, lengths_faults, all_typed}
+use Rattle.qs_types.specs.InitialiserRules.{initialiser_faults, initialiser_tests, is_typed}
+use Rattle.qs_types.specs.ExpressionFaults.{used, discarded, expr_faults}
+
+-- ---- variables (6.7)
+
+-- a variable stands for an object of the call, or of the file scope
+abbrev pub entity_at : (at_file_scope : Bool) → ℕ → Option TypeTree → Entity
+entity_at true node t = file_variable node t
+entity_at false node t = local_variable node t
+
+-- 6.2.1p7: known behind the declarator
+abbrev pub after_variable : Bool → Context → Base → VariableTree → Context
+after_variable at_file_scope c base v =
+    with_name c v.declarator.name (entity_at at_file_scope v.declarator.node.id (variable_declared c base v).type)
+
+abbrev pub after_variables : Bool → Context → Base → List VariableTree → Context
+after_variables at_file_scope c base [] = c
+after_variables at_file_scope c base (v ∷ vs) = after_variables at_file_scope (after_variable at_file_scope c base v) base vs
+
+abbrev pub is_initialiser_typed : Context → Option InitialiserTree → Bool
+is_initialiser_typed c None = true
+is_initialiser_typed c (Some i) = is_typed c i
+
+-- 6.7p3: in one scope a name is declared once
+abbrev pub again_tests : Context → Context → VariableTree → List Test
+again_tests c after v =
+    if all_typed c v.declarator.lengths.given && is_initialiser_typed after v.initialiser then test Rules.declared_twice (is_declared_here c v.declarator.name) else []
+
+abbrev pub variable_tests : Bool → Context → Context → Base → VariableTree → List Test
+variable_tests at_file_scope c after base v =
+    again_tests c after v ++ ((variable_declared c base v).tests ++ initialiser_tests at_file_scope after (variable_declared c base v).type v.initialiser)
+
+abbrev pub option_initialiser_faults : Bool → Context → Option TypeTree → Option InitialiserTree → List Fault
+option_initialiser_faults at_file_scope c t None = []
+option_initialiser_faults at_file_scope c t (Some i) = initialiser_faults at_file_scope c t i
+
+abbrev pub variable_faults : Bool → Context → Context → Base → VariableTree → List Fault
+variable_faults at_file_scope c after base v =
+    faults_of v.declarator.node.id (variable_tests at_file_scope c after base v)
+    ++ (lengths_faults c v.declarator.lengths.given ++ option_initialiser_faults at_file_scope after (variable_declared c base v).type v.initialiser)
+
+abbrev pub variables_faults : Bool → Context → Base → List VariableTree → List Fault
+variables_faults at_file_scope c base [] = []
+variables_faults at_file_scope c base (v ∷ vs) =
+    variable_faults at_file_scope c (after_variable at_file_scope c base v) base v
+    ++ variables_faults at_file_scope (after_variable at_file_scope c base v) base vs
+
+-- ---- expressions in statements
+
+-- 6.8.4.1p1, 6.8.5p2: a condition is a scalar
+abbrev pub condition_tests : Option TypeTree → List Test
+condition_tests None = []
+condition_tests (Some t) = keeps Rules.truth_operand (is_scalar (decayed t))
+
+abbrev pub option_condition_tests : Context → Option ExprTree → List Test
+option_condition_tests c None = []
+option_condition_tests c (Some e) = condition_tests (type_of c e)
+
+-- the faults of the condition, and that of the statement
+abbrev pub condition_faults : Context → Node → ExprTree → List Fault
+condition_faults c node e = faults_of node.id (condition_tests (type_of c e)) ++ expr_faults c used e
+
+abbrev pub option_used : Context → Option ExprTree → List Fault
+option_used c None = []
+option_used c (Some e) = expr_faults c used e
+
+abbrev pub option_discarded : Context → Option ExprTree → List Fault
+option_discarded c None = []
+option_discarded c (Some e) = expr_faults c discarded e
+
+-- 6.8.6.4p1
+abbrev pub returns : TypeTree → ExprTree → Option TypeTree → List Test
+returns result e None = []
+returns result e (Some t) = keeps Rules.returned_type (not (is_void result) && is_assignable result e (decayed t))
+
+abbrev pub return_tests : Context → Option TypeTree → Option ExprTree → List Test
+return_tests c None e = []
+return_tests c (Some result) None = keeps Rules.returned_type (is_void result)
+return_tests c (Some result) (Some e) = returns result e (type_of c e)
+
+-- ---- statements (6.8)
+
+abbrev pub after_start : Context → StartTree → Context
+after_start c no_start = c
+after_start c (start_expression e) = c
+after_start c (start_declaration d) = after_variables false c d.base d.variables
+
+abbrev pub start_faults : Context → StartTree → List Fault
+start_faults c no_start = []
+start_faults c (start_expression e) = expr_faults c discarded e
+start_faults c (start_declaration d) = variables_faults false c d.base d.variables
+
+abbrev pub after_statement : Context → StmtTree → Context
+after_statement c (declaration d) = after_variables false c d.base d.variables
+after_statement c _ = c
+
+-- 6.8.5p5: a `for` with a declaration is a scope
+abbrev pub for_scope : Context → StartTree → Context
+for_scope c no_start = c
+for_scope c (start_expression e) = c
+for_scope c (start_declaration d) = inner_scope c
+
+abbrev pub loop_tests : Context → List Test
+loop_tests c = keeps Rules.outside_loop c.in_loop
+
+abbrev pub option_typed : Context → Option ExprTree → Bool
+option_typed c None = true
+option_typed c (Some e) = is_some (type_of c e)
+
+abbrev pub start_typed : Context → StartTree → Bool
+start_typed c no_start = true
+start_typed c (start_expression e) = is_some (type_of c e)
+start_typed c (start_declaration d) = true
+
+-- the test of a `for`, where the expressions that are its parts have types
+abbrev pub for_tests : Context → StartTree → Option ExprTree → Option ExprTree → List Test
+for_tests c start e u = if start_typed c start && option_typed c u then option_condition_tests c e else []
+
+-- the condition and the last expression of a `for`
+abbrev pub for_faults : Context → StartTree → Node → Option ExprTree → Option ExprTree → List Fault
+for_faults c start node e u = faults_of node.id (for_tests c start e u) ++ (option_used c e ++ option_discarded c u)
+
+abbrev mutual
+  pub statement_faults : Context → StmtTree → List Fault
+  statement_faults c (empty node) = []
+  statement_faults c (expression node e) = expr_faults c discarded e
+  statement_faults c (declaration d) = variables_faults false c d.base d.variables
+  statement_faults c (block ss) = statements_faults (inner_scope c) ss
+  statement_faults c (branch node e s r) = condition_faults c node e ++ (statement_faults c s ++ else_faults c r)
+  statement_faults c (while_loop node e s) = condition_faults c node e ++ statement_faults (inside_loop c) s
+  statement_faults c (do_loop node s e) = statement_faults (inside_loop c) s ++ condition_faults c node e
+  statement_faults c (for_loop node start e u s) =
+      start_faults (for_scope c start) start
+      ++ (for_faults (after_start (for_scope c start) start) start node e u
+      ++ statement_faults (inside_loop (after_start (for_scope c start) start)) s)
+  statement_faults c (break node) = faults_of node.id (loop_tests c)
+  statement_faults c (continue node) = faults_of node.id (loop_tests c)
+  statement_faults c (return node e) = faults_of node.id (return_tests c c.result e) ++ option_used c e
+
+  pub statements_faults : Context → Stmts → List Fault
+  statements_faults c no_stmts = []
+  statements_faults c (stmt_and s ss) = statement_faults c s ++ statements_faults (after_statement c s) ss
+
+  pub else_faults : Context → Else → List Fault
+  else_faults c no_else = []
+  else_faults c (else_by s) = statement_faults c s

@@ -1,0 +1,248 @@
+-- Which nodes of a unit break which rules (C11 6.9).
+use Rattle.std.specs.Prelude.{◌≡◌, ℕ, ◌==◌, Bool, true, false, not, ◌&&◌, ◌||◌, List, [], ◌∷◌, ◌++◌, Option, Some, None, is_some, if◌then◌else◌}
+use Rattle.std.specs.List.{list_all}
+use Rattle.qs_syntax.specs.Sameness.{same_bytes}
+use Rattle.qs_syntax.specs.declared.types.Base.{Base}
+use Rattle.qs_syntax.specs.Trees.{DeclaratorTree, ParameterTree, MembersTree, StructTree, FunctionTree, Stmts, DeclTree, structure, forward, function, variables, UnitTree}
+use Rattle.qs_types.specs.Types.{TypeTree, int, unsigned, MemberTree, Structs, same_type, is_scalar, is_struct}
+use Rattle.qs_types.specs.Layout.{and_then, layout_of, sized_layout, with_members, struct_of}
+use Rattle.qs_types.specs.Rules
+use Rattle.qs_types.specs.Rules.{Test, test, keeps, Fault, faults_of}
+use Rattle.qs_types.specs.Contexts.{Entity, local_variable, file_variable, given, Binding, Context, start_context, lookup, tag_place, base_type, starred_type, is_void_base, with_name, inner_scope, is_declared_here}
+use Rattle.qs_types.specs.Contexts as contexts
+use Rattle.qs_types.specs.GivenFunctions.{Signature, main_name}
+use Rattle.qs_types.specs.Expressions.{type_or_void}
+use Rattle.qs_types.specs.Declarations.{declared, parameter_declared, lengths_faults, all_typed}
+use Rattle.qs_types.specs.StatementRules.{variables_faults, after_variables, statements_faults}
+
+-- ---- structs (6.7.2.1, 6.7.2.3)
+
+-- a tag that is new is declared behind the others
+abbrev pub with_tag : Context → List ℕ → Context
+with_tag c tag = if is_some (tag_place c tag) then c else record c { structs = c.structs ++ None ∷ []; tags = c.tags ++ tag ∷ [] }
+
+-- the members with a type, in order
+abbrev pub with_member : List ℕ → Option TypeTree → List MemberTree → List MemberTree
+with_member x None ms = ms
+with_member x (Some t) ms = record { name = x; type = t } ∷ ms
+
+abbrev pub members_together : Context → Base → List DeclaratorTree → List MemberTree
+members_together c base [] = []
+members_together c base (d ∷ ds) = with_member d.name (declared c base d None).type (members_together c base ds)
+
+abbrev pub members_of : Context → List MembersTree → List MemberTree
+members_of c [] = []
+members_of c (m ∷ ms) = members_together c m.base m.declarators ++ members_of c ms
+
+abbrev pub is_defined : Context → List ℕ → Bool
+is_defined c tag = is_some (and_then (tag_place c tag) (struct_of c.structs))
+
+abbrev pub member_types : List MemberTree → List TypeTree
+member_types [] = []
+member_types (m ∷ ms) = m.type ∷ member_types ms
+
+-- whether the struct with these members is within the limit of sizes
+abbrev pub is_small : Context → List MemberTree → Bool
+is_small c ms = is_some (sized_layout (layout_of c.structs) (member_types ms))
+
+abbrev pub define_at : Context → List MemberTree → Option ℕ → Context
+define_at c ms None = c
+define_at c ms (Some k) = record c { structs = with_members (is_small c ms) c.structs k ms }
+
+-- a struct is defined once
+abbrev pub after_struct : Context → StructTree → Context
+after_struct c s =
+    if is_defined c s.name then c else define_at (with_tag c s.name) (members_of (with_tag c s.name) s.members) (tag_place (with_tag c s.name) s.name)
+
+abbrev pub is_name_in : List ℕ → List (List ℕ) → Bool
+is_name_in x [] = false
+is_name_in x (y ∷ ys) = same_bytes y x || is_name_in x ys
+
+-- a member, behind those with these names
+abbrev pub member_faults : Context → List (List ℕ) → Base → DeclaratorTree → List Fault
+member_faults c before base d =
+    faults_of d.node.id
+    (if all_typed c d.lengths.given then (declared c base d None).tests ++ test Rules.member_twice (is_name_in d.name before) else [])
+    ++ lengths_faults c d.lengths.given
+
+abbrev pub together_faults : Context → List (List ℕ) → Base → List DeclaratorTree → List Fault
+together_faults c before base [] = []
+together_faults c before base (d ∷ ds) = member_faults c before base d ++ together_faults c (d.name ∷ before) base ds
+
+abbrev pub names_before : List (List ℕ) → List DeclaratorTree → List (List ℕ)
+names_before before [] = before
+names_before before (d ∷ ds) = names_before (d.name ∷ before) ds
+
+abbrev pub members_faults : Context → List (List ℕ) → List MembersTree → List Fault
+members_faults c before [] = []
+members_faults c before (m ∷ ms) = together_faults c before m.base m.declarators ++ members_faults c (names_before before m.declarators) ms
+
+abbrev pub struct_tests : Context → StructTree → List Test
+struct_tests c s =
+    test Rules.unknown_tag (is_defined c s.name) ++ keeps Rules.large_type (is_small (with_tag c s.name) (members_of (with_tag c s.name) s.members))
+
+abbrev pub struct_faults : Context → StructTree → List Fault
+struct_faults c s = faults_of s.node.id (struct_tests c s) ++ members_faults (with_tag c s.name) [] s.members
+
+-- ---- the types of functions (6.7.6.3)
+
+-- None where a parameter has no type
+abbrev pub parameter_types : Context → List ParameterTree → Option (List TypeTree)
+parameter_types c [] = Some []
+parameter_types c (p ∷ ps) = and_then (parameter_declared c p).type (λ t. and_then (parameter_types c ps) (λ ts. Some (t ∷ ts)))
+
+-- `void` with stars is no type
+abbrev pub is_void_pointer : FunctionTree → Bool
+is_void_pointer f = is_void_base f.result_type.base && not (f.result_type.stars == 0)
+
+abbrev pub result_type : Context → FunctionTree → Option TypeTree
+result_type c f = if is_void_pointer f then None else starred_type c f.result_type.base f.result_type.stars
+
+abbrev pub signature_of : Context → FunctionTree → Option Signature
+signature_of c f = and_then (parameter_types c f.parameters) (λ ts. and_then (result_type c f) (λ t. Some (record { parameters = ts; result = t })))
+
+abbrev pub same_types : List TypeTree → List TypeTree → Bool
+same_types [] [] = true
+same_types (t ∷ ts) (u ∷ us) = same_type t u && same_types ts us
+same_types _ _ = false
+
+abbrev pub same_signature : Signature → Signature → Bool
+same_signature s r = same_type s.result r.result && same_types s.parameters r.parameters
+
+-- where one of them has no type, nothing is to be said
+abbrev pub agree : Option Signature → Option Signature → Bool
+agree None s = true
+agree (Some r) None = true
+agree (Some r) (Some s) = same_signature r s
+
+-- ---- functions (6.9.1)
+
+-- 6.7p3: what was declared under the name before agrees, with at most one body
+abbrev pub agrees_with : Option Entity → Option Signature → (has_body : Bool) → Bool
+agrees_with None s has_body = true
+agrees_with (Some (local_variable node t)) s has_body = false
+agrees_with (Some (file_variable node t)) s has_body = false
+agrees_with (Some (contexts.function node r earlier)) s has_body = agree r s && not (earlier && has_body)
+agrees_with (Some (given r)) s has_body = agree (Some r) s && not has_body
+
+abbrev pub may_declare : Context → FunctionTree → Bool
+may_declare c f = agrees_with (lookup f.name c.inner) (signature_of c f) (is_some f.body)
+
+-- 5.1.2.2.1
+abbrev pub is_main_parameter : TypeTree → Bool
+is_main_parameter t = same_type t int || same_type t unsigned
+
+abbrev pub is_main_type : Option Signature → Bool
+is_main_type None = true
+is_main_type (Some s) = same_type s.result int && list_all is_main_parameter s.parameters
+
+abbrev pub main_tests : FunctionTree → Option Signature → List Test
+main_tests f s = if same_bytes f.name main_name then keeps Rules.main_type (is_main_type s) else []
+
+-- 6.7.6.3p1, 6.9.1p3: the result is a scalar or void
+abbrev pub result_tests : Context → FunctionTree → List Test
+result_tests c f =
+    keeps Rules.unknown_tag (is_some (base_type c f.result_type.base))
+    ++ (test Rules.incomplete_type (is_void_pointer f) ++ test Rules.signature_type (is_struct (type_or_void (result_type c f))))
+
+abbrev pub header_tests : Context → FunctionTree → List Test
+header_tests c f = keeps Rules.declared_twice (may_declare c f) ++ (result_tests c f ++ main_tests f (signature_of c f))
+
+-- what is known behind the header: a body that was given before stays, and so does a function that is given
+abbrev pub declared_function : Option Entity → ℕ → Option Signature → (has_body : Bool) → Entity
+declared_function None node s has_body = contexts.function node s has_body
+declared_function (Some (local_variable n t)) node s has_body = contexts.function node s has_body
+declared_function (Some (file_variable n t)) node s has_body = contexts.function node s has_body
+declared_function (Some (contexts.function n r earlier)) node s has_body = contexts.function node s (earlier || has_body)
+declared_function (Some (given r)) node s has_body = given r
+
+abbrev pub after_function : Context → FunctionTree → Context
+after_function c f = with_name c f.name (declared_function (lookup f.name c.inner) f.node.id (signature_of c f) (is_some f.body))
+
+-- ---- parameters: they share the scope of the function's block (6.2.1p4)
+
+abbrev pub after_parameter : Context → ParameterTree → Option (List ℕ) → Context
+after_parameter c p None = c
+after_parameter c p (Some x) = with_name c x (local_variable p.node.id (parameter_declared c p).type)
+
+abbrev pub after_parameters : Context → List ParameterTree → Context
+after_parameters c [] = c
+after_parameters c (p ∷ ps) = after_parameters (after_parameter c p p.name) ps
+
+abbrev pub is_name_declared : Context → Option (List ℕ) → Bool
+is_name_declared c None = false
+is_name_declared c (Some x) = is_declared_here c x
+
+-- 6.9.1p5: the parameters of a body have names; parameters are scalars
+abbrev pub signature_tests : ParameterTree → (has_body : Bool) → Option TypeTree → List Test
+signature_tests p has_body None = test Rules.signature_type (has_body && not (is_some p.name))
+signature_tests p has_body (Some t) = keeps Rules.signature_type (is_scalar t && (not has_body || is_some p.name))
+
+abbrev pub parameter_tests : Context → (has_body : Bool) → ParameterTree → List Test
+parameter_tests c has_body p =
+    if all_typed c p.lengths.given
+    then test Rules.declared_twice (is_name_declared c p.name)
+    ++ ((parameter_declared c p).tests ++ signature_tests p has_body (parameter_declared c p).type)
+    else []
+
+abbrev pub parameters_faults : Context → (has_body : Bool) → List ParameterTree → List Fault
+parameters_faults c has_body [] = []
+parameters_faults c has_body (p ∷ ps) =
+    (faults_of p.node.id (parameter_tests c has_body p) ++ lengths_faults c p.lengths.given)
+    ++ parameters_faults (after_parameter c p p.name) has_body ps
+
+-- ---- bodies
+
+abbrev pub body_context : Context → FunctionTree → Context
+body_context c f = after_parameters (record (inner_scope c) { result = result_type c f }) f.parameters
+
+abbrev pub body_faults : Context → FunctionTree → Option Stmts → List Fault
+body_faults c f None = []
+body_faults c f (Some ss) = statements_faults (body_context c f) ss
+
+abbrev pub function_faults : Context → FunctionTree → List Fault
+function_faults c f =
+    faults_of f.node.id (header_tests c f)
+    ++ (parameters_faults (inner_scope c) (is_some f.body) f.parameters ++ body_faults (after_function c f) f f.body)
+
+-- ---- units
+
+abbrev pub after_declaration : Context → DeclTree → Context
+after_declaration c (structure s) = after_struct c s
+after_declaration c (forward f) = with_tag c f.name
+after_declaration c (function f) = after_function c f
+after_declaration c (variables d) = after_variables true c d.base d.variables
+
+abbrev pub declaration_faults : Context → DeclTree → List Fault
+declaration_faults c (structure s) = struct_faults c s
+declaration_faults c (forward f) = []
+declaration_faults c (function f) = function_faults c f
+declaration_faults c (variables d) = variables_faults true c d.base d.variables
+
+abbrev pub declarations_faults : Context → UnitTree → List Fault
+declarations_faults c [] = []
+declarations_faults c (d ∷ ds) = declaration_faults c d ++ declarations_faults (after_declaration c d) ds
+
+abbrev pub faults_in : UnitTree → List Fault
+faults_in unit = declarations_faults start_context unit
+
+-- what is known at the end of a unit
+abbrev pub context_after : Context → UnitTree → Context
+context_after c [] = c
+context_after c (d ∷ ds) = context_after (after_declaration c d) ds
+
+-- the structs of a unit
+abbrev pub structs_of : UnitTree → Structs
+structs_of unit = (context_after start_context unit).structs
+
+-- the node breaks the rule
+abbrev pub is_among : (node rule : ℕ) → List Fault → Bool
+is_among node rule [] = false
+is_among node rule (f ∷ fs) = ((f.node == node) && (f.rule == rule)) || is_among node rule fs
+
+pub record Violates (unit : UnitTree) (node rule : ℕ) : Type 0 where
+  pub found : is_among node rule (faults_in unit) ≡ true
+
+-- no node breaks a rule
+pub record KeepsRules (unit : UnitTree) : Type 0 where
+  pub nothing : faults_in unit ≡ []

@@ -1,0 +1,17 @@
+//! The types of the language, how their objects lie in memory, and the typing rules.
+#![tactic(auto)]
+
+mod env;
+mod extent;
+mod layout;
+mod structs;
+mod types;
+
+pub use env::Env;
+pub use extent::Extent;
+pub use layout::{
+    SIZE_LIMIT, align_of, extent_of, is_complete, members_layout, offset_of, rounds, size_of,
+    sizes_aligned, structs_laid_out,
+};
+pub use structs::{StructLayout, StructType};
+pub use types::CType;

@@ -1,9 +1,7 @@
 -- Calls (C11 6.5.2.2, 6.9.1).
-use Rattle.std.specs.Prelude.{ℕ, ◌+◌, ◌-◌, ◌%◌, ◌^◌, List, [], ◌∷◌, length, Option, Some, None}
-use Rattle.qs_base.specs.declared.function.FnId.{FnId}
-use Rattle.qs_memory.specs.Values.{Pointer, into, Value, integer, address}
-use Rattle.qs_memory.specs.Memory.{Memory, store, make, release}
-use Rattle.qs_memory.specs.declared.scalar.Scalar.{Scalar}
+use Rattle.std.specs.Prelude.{ℕ, ◌+◌, ◌-◌, ◌%◌, ◌^◌, List, [], ◌∷◌, length, Option, Some}
+use Rattle.qs_memory.specs.Values.{into, Value, integer, address}
+use Rattle.qs_memory.specs.Memory.{store, make, release}
 use Rattle.qs_events.specs.Events.{Calls, Returns, Takes, TakesEnd, Puts}
 use Rattle.qs_events.specs.Runs.{emit, undefined, given}
 use Rattle.qs_calls.specs.World.{World, with_memory, RootRun, Return, Environment, no_values, with_value}
@@ -59,7 +57,7 @@ abbrev pub activate : (function : ℕ) → Frame → Body → (arguments : List 
 activate f frame body arguments k w =
     let first = length w.memory in
     emit (Calls f) (pass frame.parameters arguments first no_values (with_memory w (make frame.blocks w.memory))
-      (body first (λ result u. emit (Returns f) (k result (with_memory u (release first u.memory))))))
+    (body first (λ result u. emit (Returns f) (k result (with_memory u (release first u.memory))))))
 
 -- UNDEFINED 9 (6.9.1p12): the result is used, where the function ended without one
 abbrev pub used : Option Value → (Value → RootRun) → RootRun

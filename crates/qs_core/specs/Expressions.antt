@@ -1,5 +1,5 @@
 -- The value of an expression, which has no side effects.
-use Rattle.std.specs.Prelude.{ℕ, ◌+◌, Bool, true, false, if◌then◌else◌, List, [], ◌∷◌, Option, Some, None}
+use Rattle.std.specs.Prelude.{ℕ, ◌+◌, true, false, if◌then◌else◌, List, [], ◌∷◌, Option, Some}
 use Rattle.qs_memory.specs.Partial.{◌>>=◌}
 use Rattle.qs_memory.specs.Values.{Pointer, null, into, Value, integer, address, as_pointer, convert}
 use Rattle.qs_memory.specs.Memory.{Memory}

@@ -1,10 +1,10 @@
 -- What a statement does, by what follows it: next, after a break, after a continue, and after a return. Each run of a loop makes at most
 -- a number of turns; what calls do is given.
-use Rattle.std.specs.Prelude.{ℕ, zero, suc, Bool, if◌then◌else◌, List, Option, Some, None}
+use Rattle.std.specs.Prelude.{ℕ, zero, suc, if◌then◌else◌, Option, Some, None}
 use Rattle.qs_memory.specs.Values.{Pointer, Value, as_pointer}
 use Rattle.qs_memory.specs.Memory as memory
 use Rattle.qs_memory.specs.Pointers.{truth}
-use Rattle.qs_events.specs.Runs.{undefined, short, given}
+use Rattle.qs_events.specs.Runs.{short, given}
 use Rattle.qs_calls.specs.World.{World, with_memory, RootRun, Return, with_value}
 use Rattle.qs_calls.specs.Calls.{CallsOf, invoke, used}
 use Rattle.qs_core.specs.declared.places.Target.{Target}

@@ -1,5 +1,5 @@
 -- The trees that the program's values stand for.
-use Rattle.std.specs.Prelude.{List, Option, Some, None, map, option_map, Box}
+use Rattle.std.specs.Prelude.{List, map, option_map}
 use Rattle.qs_memory.specs.BlankOf.{blank_tree}
 use Rattle.qs_core.specs.Trees.{CoreExprTree, literal, null_pointer, variable, temporary, address_of, load, member, unary, binary, conversion, conjunction, disjunction, choice, CoreStmtTree, skip, seq, assign, store, copy, fill, call, branch, loop, break, continue, return, stmts_of, CoreParameterTree, CoreVariableTree, CoreFunctionTree, PieceTree, blank, bytes, pointer, DataBlockTree, CoreUnitTree}
 use Rattle.qs_core.specs.declared.expressions.CoreExpr.{CoreExpr, CoreExpr-F, fold-CoreExpr}

@@ -1,12 +1,11 @@
 -- What a unit of core does: the run of each root function, from each memory and input, within each bound.
-use Rattle.std.specs.Prelude.{ℕ, zero, suc, ◌+◌, Bool, true, List, [], ◌∷◌, ◌++◌, length, map, slice_index_or, Option, Some, None}
-use Rattle.qs_memory.specs.Values.{Pointer, into, Value}
+use Rattle.std.specs.Prelude.{ℕ, zero, suc, true, List, [], ◌∷◌, ◌++◌, length, map, slice_index_or, None}
+use Rattle.qs_memory.specs.Values.{into, Value}
 use Rattle.qs_memory.specs.Memory.{Cell, unset, byte, parts_of, Block, Memory, blank_cells}
 use Rattle.qs_events.specs.Runs.{undefined, short}
-use Rattle.qs_calls.specs.World.{World, RootRun, Return, leaves, Environment, no_values}
+use Rattle.qs_calls.specs.World.{World, RootRun, Return, leaves, no_values}
 use Rattle.qs_calls.specs.Calls.{CallsOf, Frame, Body, activate}
-use Rattle.qs_core.specs.Trees.{CoreStmts, no_stmts, CoreFunctionTree, PieceTree, blank, bytes, pointer, DataBlockTree, CoreUnitTree}
-use Rattle.qs_core.specs.Expressions.{Locals}
+use Rattle.qs_core.specs.Trees.{no_stmts, CoreFunctionTree, PieceTree, blank, bytes, pointer, DataBlockTree, CoreUnitTree}
 use Rattle.qs_core.specs.Statements.{Continuation, Continuations, Context, runs_all}
 
 -- ---- functions

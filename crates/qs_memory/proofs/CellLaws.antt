@@ -1,10 +1,10 @@
 -- Lists of cells over the cells of a block, and the cells of a value.
-use Rattle.std.proofs.Common.{◌≡◌, ◌⊎◌, inl, inr, ⊎_elim, ℕ, zero, suc, ◌+◌, ◌*◌, ◌/◌, ◌%◌, ◌^◌, ◌<◌, ◌≤◌, ◌==◌, ◌&&◌, nat_lt, Bool, true, false, if◌then◌else◌, List, [], ◌∷◌, length, Option, Some, refl, sym, ap, ap₂, ◌∙◌, arith}
+use Rattle.std.proofs.Common.{◌≡◌, ◌⊎◌, inl, inr, ⊎_elim, ℕ, zero, suc, ◌+◌, ◌*◌, ◌/◌, ◌%◌, ◌^◌, ◌<◌, ◌≤◌, ◌==◌, ◌&&◌, nat_lt, Bool, true, false, if◌then◌else◌, List, [], ◌∷◌, length, slice_index_or, Option, Some, refl, sym, ap, ap₂, ◌∙◌, arith}
 use Rattle.std.proofs.lemmas.Bool.{cases_lt}
 use Rattle.std.proofs.lemmas.Bool.Decides.{nat_tests}
 use Rattle.qs_memory.specs.Partial.{◌>>=◌, only_if}
 use Rattle.qs_memory.specs.Values.{Pointer, null, into, same_pointer, Value, integer, address, width}
-use Rattle.qs_memory.specs.Memory.{Cell, cells_from, overlaid, bytes_of, parts_of, cells_of, number_of, are_parts, pointer_of, value_of}
+use Rattle.qs_memory.specs.Memory.{Cell, unset, cells_from, overlaid, bytes_of, parts_of, cells_of, number_of, are_parts, pointer_of, value_of}
 use Rattle.qs_memory.specs.declared.scalar.Scalar.{Scalar}
 use Rattle.qs_memory.specs.declared.scalar.Scalar.TheVariants as scalars
 use Rattle.qs_memory.proofs.Options.{some_same, only_if_value}
@@ -39,6 +39,16 @@ overlaid-within (cell ∷ new) offset old other at h k =
     ∙ sym (choice_other at offset cell (overlaid new (offset + 1) other at) there))
     (cases_lt at (offset + 1))
 
+-- the new cells one by one
+pub overlaid-inside : (new : List Cell) (offset : ℕ) (old : ℕ → Cell) (i : ℕ) → i < length new → overlaid new offset old (offset + i) ≡ slice_index_or new i unset
+overlaid-inside [] offset old i h = absurd (omega arith)
+overlaid-inside (cell ∷ new) offset old zero h = choice_same (offset + 0) offset cell (overlaid new (offset + 1) old (offset + 0)) (grind (arith, nat_tests))
+overlaid-inside (cell ∷ new) offset old (suc i) h =
+    let moved : offset + suc i ≡ offset + 1 + i = omega arith in
+    choice_other (offset + suc i) offset cell (overlaid new (offset + 1) old (offset + suc i)) (grind (arith, nat_tests))
+    ∙ ap (overlaid new (offset + 1) old) moved
+    ∙ overlaid-inside new (offset + 1) old i (omega arith)
+
 -- what holds of each cell of a list
 abbrev pub Each : (Cell → Type 0) → List Cell → Type 0
 Each P [] = Unit {0}
@@ -65,6 +75,27 @@ cells_from-like (suc size) cells other offset h =
 pub length-cells_from : (cells : ℕ → Cell) (offset size : ℕ) → length (cells_from cells offset size) ≡ size
 length-cells_from cells offset zero = refl
 length-cells_from cells offset (suc size) = ap suc (length-cells_from cells (offset + 1) size)
+
+-- the cells that are read, one by one
+pub cells_from-each : (cells : ℕ → Cell) (offset size i : ℕ) → i < size → slice_index_or (cells_from cells offset size) i unset ≡ cells (offset + i)
+cells_from-each cells offset zero i h = absurd (omega arith)
+cells_from-each cells offset (suc size) zero h = let same : offset ≡ offset + 0 = omega arith in ap cells same
+cells_from-each cells offset (suc size) (suc i) h =
+    let moved : offset + 1 + i ≡ offset + suc i = omega arith in
+    cells_from-each cells (offset + 1) size i (omega arith) ∙ ap cells moved
+
+-- cells that are alike at two offsets
+pub cells_from-moved : (size : ℕ) (cells other : ℕ → Cell) (offset to : ℕ) → ((i : ℕ) → i < size → cells (offset + i) ≡ other (to + i)) → cells_from cells offset size ≡ cells_from other to size
+cells_from-moved zero cells other offset to h = refl
+cells_from-moved (suc size) cells other offset to h =
+    let a : offset ≡ offset + 0 = omega arith in
+    let b : to + 0 ≡ to = omega arith in
+    ap₂ (λ c cs. c ∷ cs) (ap cells a ∙ h 0 (omega arith) ∙ ap other b)
+    (cells_from-moved size cells other (offset + 1) (to + 1)
+    (λ i lt.
+    let c : offset + 1 + i ≡ offset + (i + 1) = omega arith in
+    let d : to + (i + 1) ≡ to + 1 + i = omega arith in
+    ap cells c ∙ h (i + 1) (omega arith) ∙ ap other d))
 
 -- what was laid down is read
 pub cells_from-overlaid : (new : List Cell) (offset : ℕ) (old : ℕ → Cell) → cells_from (overlaid new offset old) offset (length new) ≡ new

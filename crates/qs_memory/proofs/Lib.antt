@@ -1,9 +1,12 @@
-mod Options
-mod CellLaws
-mod BlockLaws
-mod StoreLaws
-mod StepLaws
-mod SoundLaws
-mod ValueLaws
+pub mod Options
+pub mod CellLaws
+pub mod BlockLaws
+pub mod StoreLaws
+pub mod StepLaws
+pub mod WriteLaws
+pub mod DefinedLaws
+pub mod SoundLaws
+pub mod ValueLaws
+pub mod TypeLaws
 mod AccessExamples
 mod OperationExamples

@@ -4,6 +4,7 @@ use Rattle.std.proofs.lemmas.Bool.{cases_eq, cases_lt}
 use Rattle.qs_memory.specs.Values.{Pointer, null, into, Value, integer, address, width, has_type}
 use Rattle.qs_memory.specs.Memory.{Cell, unset, byte, part, Block, Memory, block_at, Target, cells_at, with_cells, bytes_of, parts_of, cells_of, BlankTree, zeros, nulls, repeated, nothing, joined, times, blank_cells, make, release}
 use Rattle.qs_memory.specs.declared.scalar.Scalar.{Scalar}
+use Rattle.qs_memory.specs.declared.scalar.Scalar.TheVariants as scalars
 use Rattle.qs_memory.specs.Soundness.{IsLive, IsSoundPointer, IsSoundValue, IsSoundCell, IsSound, ComesAfter}
 use Rattle.qs_memory.specs.Laws.{AreFresh, SoundnessIsKept}
 use Rattle.qs_memory.proofs.Options.{only_if_value}
@@ -26,7 +27,7 @@ value_kept m later (address p) f s = pointer_kept m later p f s
 pub cell_kept : (m later : Memory) (c : Cell) → ComesAfter m later → IsSoundCell m c → IsSoundCell later c
 cell_kept m later unset f s = s
 cell_kept m later (byte b) f s = s
-cell_kept m later (part p k) f s = pointer_kept m later p f s
+cell_kept m later (part p k) f s = record { pointer = pointer_kept m later p f s.pointer; number = s.number }
 
 -- ---- cells of sound values
 
@@ -34,9 +35,15 @@ sound_bytes : (m : Memory) (size n : ℕ) → Each (IsSoundCell m) (bytes_of siz
 sound_bytes m zero n = tt
 sound_bytes m (suc size) n = (omega arith, sound_bytes m size (n / 256))
 
-sound_parts : (m : Memory) (p : Pointer) (first size : ℕ) → IsSoundPointer m p → Each (IsSoundCell m) (parts_of p first size)
-sound_parts m p first zero s = tt
-sound_parts m p first (suc size) s = (s, sound_parts m p (first + 1) size s)
+sound_parts : (m : Memory) (p : Pointer) (first size : ℕ) → IsSoundPointer m p → first + size ≤ 4 → Each (IsSoundCell m) (parts_of p first size)
+sound_parts m p first zero s few = tt
+sound_parts m p first (suc size) s few = (record { pointer = s; number = omega arith }, sound_parts m p (first + 1) size s (omega arith))
+
+narrow : (s : Scalar) → 0 + width s ≤ 4
+narrow scalars.Char = omega arith
+narrow scalars.Int = omega arith
+narrow scalars.Unsigned = omega arith
+narrow scalars.Pointer = omega arith
 
 sound_cells : (s : Scalar) (m : Memory) (v : Value) (cells : List Cell) → IsSoundValue m v → cells_of s v ≡ Some cells → Each (IsSoundCell m) cells
 sound_cells s m (integer n) cells sound h =
@@ -44,7 +51,7 @@ sound_cells s m (integer n) cells sound h =
     subst (λ (l : List Cell). Each (IsSoundCell m) l) c.1 (sound_bytes m (width s) n)
 sound_cells s m (address p) cells sound h =
     let c = only_if_value (has_type s (address p)) _ cells h in
-    subst (λ (l : List Cell). Each (IsSoundCell m) l) c.1 (sound_parts m p 0 (width s) sound)
+    subst (λ (l : List Cell). Each (IsSoundCell m) l) c.1 (sound_parts m p 0 (width s) sound (narrow s))
 
 each_append : (P : Cell → Type 0) (a b : List Cell) → Each P a → Each P b → Each P (a ++ b)
 each_append P [] b h k = k
@@ -56,7 +63,7 @@ each_times P (suc n) a h = each_append P a (times n a) h (each_times P n a h)
 
 sound_blank : (m : Memory) (blank : BlankTree) → Each (IsSoundCell m) (blank_cells blank)
 sound_blank m (zeros n) = each_times (IsSoundCell m) n (byte 0 ∷ []) (omega arith, tt)
-sound_blank m (nulls n) = each_times (IsSoundCell m) n (parts_of null 0 4) (sound_parts m null 0 4 tt)
+sound_blank m (nulls n) = each_times (IsSoundCell m) n (parts_of null 0 4) (sound_parts m null 0 4 tt (omega arith))
 sound_blank m (repeated n b) = each_times (IsSoundCell m) n (blank_cells b) (sound_blank m b)
 sound_blank m nothing = tt
 sound_blank m (joined b c) = each_append (IsSoundCell m) (blank_cells b) (blank_cells c) (sound_blank m b) (sound_blank m c)

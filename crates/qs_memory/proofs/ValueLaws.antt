@@ -27,7 +27,7 @@ use Rattle.qs_memory.proofs.SoundLaws.{sound_read}
 
 -- ---- loads
 
-number_small : (m : Memory) (cells : List Cell) (n : ℕ) → Each (IsSoundCell m) cells → number_of cells ≡ Some n → n < 256 ^ length cells
+pub number_small : (m : Memory) (cells : List Cell) (n : ℕ) → Each (IsSoundCell m) cells → number_of cells ≡ Some n → n < 256 ^ length cells
 number_small m [] n each h = let e = some_same 0 n h in omega arith
 number_small m (unset ∷ cells) n each h = cc
 number_small m (part p k ∷ cells) n each h = cc
@@ -51,7 +51,7 @@ pointer_sound m (unset ∷ cells) p each h = cc
 pointer_sound m (byte b ∷ cells) p each h = cc
 pointer_sound m (part q k ∷ cells) p each h =
     let c = only_if_value (are_parts q 0 (part q k ∷ cells)) q p h in
-    subst (λ (r : Pointer). IsSoundPointer m r) c.1 each.0
+    subst (λ (r : Pointer). IsSoundPointer m r) c.1 each.0.pointer
 
 value_sound : (s : Scalar) (m : Memory) (cells : List Cell) (v : Value) → length cells ≡ width s → Each (IsSoundCell m) cells → value_of s cells ≡ Some v → IsSoundValue m v
 value_sound scalars.Char m cells v long each h = number_sound m cells v each (subst (λ (n : ℕ). 256 ^ n ≤ 2 ^ 32) (sym long) (omega arith)) h
@@ -166,4 +166,10 @@ binary_sound (binaries.ComparePointers op) m (address p) (integer n) x sa sb h =
 binary_sound (binaries.ComparePointers op) m (integer a) w x sa sb h = cc
 
 pub values_are_sound : ValuesAreSound
-values_are_sound = record { loaded = loaded_sound; converted = converted_sound; unary = unary_sound; binary = binary_sound }
+values_are_sound = record {
+  loaded = loaded_sound;
+  converted = converted_sound;
+  member = λ m p q offset h. moved_sound m p q (pos offset) h;
+  unary = unary_sound;
+  binary = binary_sound;
+}

@@ -8,5 +8,7 @@ pub mod DefinedLaws
 pub mod SoundLaws
 pub mod ValueLaws
 pub mod TypeLaws
+mod Tables
 mod AccessExamples
 mod OperationExamples
+mod PointerExamples

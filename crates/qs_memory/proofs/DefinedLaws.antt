@@ -53,9 +53,9 @@ bytes_defined :
     (size : ℕ) (cells : ℕ → Cell) (offset : ℕ)
     → IsSome (number_of (cells_from cells offset size) >>= λ n. Some (integer n)) ↔ AreBytes cells offset size
 bytes_defined size cells offset = (
-    λ h. record { bytes = are_bytes size cells offset (then_some (number_of (cells_from cells offset size)) integer h) },
-    λ a. some_then (number_of (cells_from cells offset size)) integer (have_number size cells offset a.bytes)
-  )
+  λ h. record { bytes = are_bytes size cells offset (then_some (number_of (cells_from cells offset size)) integer h) },
+  λ a. some_then (number_of (cells_from cells offset size)) integer (have_number size cells offset a.bytes),
+)
 
 -- ---- cells that are the parts of a pointer
 
@@ -121,19 +121,19 @@ parts_of_pointer (part q k) cells p h =
 
 parts_defined : (cells : ℕ → Cell) (offset : ℕ) → IsSome (pointer_of (cells_from cells offset 4) >>= λ p. Some (address p)) ↔ AreParts cells offset
 parts_defined cells offset = (
-    λ h.
-        let a = answer_of (pointer_of (cells_from cells offset 4)) (then_some (pointer_of (cells_from cells offset 4)) address h) in
-        record {
-          pointer = a.value;
-          parts = λ i lt.
-              let same : 0 + i ≡ i = omega arith in
-              each_part a.value 0 4 cells offset (parts_of_pointer (cells offset) (cells_from cells (offset + 1) 3) a.value a.is) i lt
-              ∙ ap (part a.value) same;
-        },
-    λ a.
-        some_then (pointer_of (cells_from cells offset 4)) address
-        (some_is (pointer_of (cells_from cells offset 4)) a.pointer (ap pointer_of (from_zero a.pointer a.parts) ∙ pointer_back a.pointer))
-  )
+  λ h.
+      let a = answer_of (pointer_of (cells_from cells offset 4)) (then_some (pointer_of (cells_from cells offset 4)) address h) in
+      record {
+        pointer = a.value;
+        parts = λ i lt.
+            let same : 0 + i ≡ i = omega arith in
+            each_part a.value 0 4 cells offset (parts_of_pointer (cells offset) (cells_from cells (offset + 1) 3) a.value a.is) i lt
+            ∙ ap (part a.value) same;
+      },
+  λ a.
+      some_then (pointer_of (cells_from cells offset 4)) address
+      (some_is (pointer_of (cells_from cells offset 4)) a.pointer (ap pointer_of (from_zero a.pointer a.parts) ∙ pointer_back a.pointer)),
+)
   where
     from_zero : (p : Pointer) → ((i : ℕ) → i < 4 → cells (offset + i) ≡ part p i) → cells_from cells offset 4 ≡ parts_of p 0 4
     from_zero p h = are_parts_of p 0 4 cells offset (λ i lt. let same : i ≡ 0 + i = omega arith in h i lt ∙ ap (part p) same)
@@ -153,10 +153,11 @@ load_needs : (s : Scalar) (m : Memory) (p : Pointer) → IsSome (load s m p) →
 load_needs s m p h =
     let v = answer_of (load s m p) h in
     let a = followed (range m p (width s) (width s)) _ v.value v.is in
-    let at = range_is m p (width s) (width s) a.value a.first in
-    (range_access m p (width s) (width s) a.value at,
-    holds_value s m p a.value at.is
-    ((value_defined s (block_at m a.value.block).cells a.value.offset).0 (some_is (value_of s (cells_at m a.value (width s))) v.value a.then)))
+    let at = range_is m p (width s) (width s) a.value a.first in (
+      range_access m p (width s) (width s) a.value at,
+      holds_value s m p a.value at.is
+          ((value_defined s (block_at m a.value.block).cells a.value.offset).0 (some_is (value_of s (cells_at m a.value (width s))) v.value a.then)),
+    )
 
 load_allowed : (s : Scalar) (m : Memory) (p : Pointer) → MayRead m p (width s) (width s) → HoldsValue s m p → IsSome (load s m p)
 load_allowed s m null may holds = absurd may
@@ -241,7 +242,7 @@ no_overlap t u size h =
         cc
 
 fit_together : (b i c j size : ℕ) → (into b i ≡ into c j) ⊎ AreApart (into b i) size (into c j) size → overlap (record { block = b; offset = i }) (record { block = c; offset = j }) size ≡ false
-fit_together b i c j size (inl same) = 
+fit_together b i c j size (inl same) =
     let offsets : i ≡ j = ap offset_in same in
     grind (arith, nat_tests, offsets)
   where
@@ -259,11 +260,14 @@ copy_needs size alignment m to from h =
     let a = answer_of (copy size alignment m to from) h in
     let c = copied size alignment m to from a.value a.is in
     let t : Target = c.wrote.at in
-    let u : Target = c.source in
-    (wrote_may m to size alignment (cells_at m u size) a.value c.wrote,
-    (range_access m from size alignment u c.is,
-    subst (λ (q : Pointer). (q ≡ from) ⊎ AreApart q size from size) (sym c.wrote.is.is)
-    (subst (λ (q : Pointer). (into t.block t.offset ≡ q) ⊎ AreApart (into t.block t.offset) size q size) (sym c.is.is) (no_overlap t u size c.apart))))
+    let u : Target = c.source in (
+      wrote_may m to size alignment (cells_at m u size) a.value c.wrote,
+      (
+        range_access m from size alignment u c.is,
+        subst (λ (q : Pointer). (q ≡ from) ⊎ AreApart q size from size) (sym c.wrote.is.is)
+            (subst (λ (q : Pointer). (into t.block t.offset ≡ q) ⊎ AreApart (into t.block t.offset) size q size) (sym c.is.is) (no_overlap t u size c.apart)),
+      ),
+    )
 
 copy_allowed :
     (size alignment : ℕ) (m : Memory) (to from : Pointer) → MayWrite m to size alignment → MayRead m from size alignment

@@ -18,3 +18,6 @@ pub use operation::{
     Arithmetic, BinaryOperation, Comparison, Direction, Signedness, UnaryOperation,
 };
 pub use scalar::Scalar;
+
+#[cfg(test)]
+mod tests;

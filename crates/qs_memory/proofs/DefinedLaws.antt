@@ -1,19 +1,19 @@
 -- When each step of memory is defined.
-use Rattle.std.proofs.Common.{◌≡◌, ◌≢◌, ◌⊎◌, ◌↔◌, inl, inr, ⊎_elim, ℕ, zero, suc, ◌+◌, ◌*◌, ◌%◌, ◌<◌, ◌≤◌, ◌==◌, ◌&&◌, not, nat_lt, nat_le, Bool, true, false}
-use Rattle.std.proofs.Common.{List, [], ◌∷◌, length, Option, Some, None, IsSome, refl, sym, ap, ap₂, ◌∙◌, subst, arith}
+use Rattle.std.proofs.Common.{◌≡◌, ◌⊎◌, ◌↔◌, inl, inr, ⊎_elim, ℕ, zero, suc, ◌+◌, ◌*◌, ◌<◌, ◌≤◌, ◌==◌, ◌&&◌, not, nat_lt, Bool, true, false}
+use Rattle.std.proofs.Common.{List, ◌∷◌, length, Option, Some, IsSome, refl, sym, ap, ap₂, ◌∙◌, subst, arith}
 use Rattle.std.proofs.lemmas.Bool.{cases_eq, cases_lt}
 use Rattle.std.proofs.lemmas.Bool.Decides.{nat_tests}
 use Rattle.qs_memory.specs.Partial.{◌>>=◌, only_if}
 use Rattle.qs_memory.specs.Values.{Pointer, null, into, same_pointer, Value, integer, address, width, has_type}
 use Rattle.qs_memory.specs.Memory.{Cell, unset, byte, part, Memory, block_at, Target, range, cells_from, cells_at, with_cells, write_cells, bytes_of, parts_of}
 use Rattle.qs_memory.specs.Memory.{cells_of, number_of, are_parts, pointer_of, value_of, load, store, overlap, copy, BlankTree, blank_cells, fill}
-use Rattle.qs_memory.specs.Accesses.{IsAccess, MayRead, IsWritable, MayWrite, AreApart, IsByte, AreBytes, AreParts, HasValue, HoldsValue}
+use Rattle.qs_memory.specs.Accesses.{MayRead, IsWritable, MayWrite, AreApart, IsByte, AreBytes, AreParts, HasValue, HoldsValue}
 use Rattle.qs_memory.specs.Laws.{StepsAreDefined}
 use Rattle.qs_memory.specs.declared.scalar.Scalar.{Scalar}
 use Rattle.qs_memory.specs.declared.scalar.Scalar.TheVariants as scalars
-use Rattle.qs_memory.proofs.Options.{followed, only_if_some, only_if_value, answer_of, some_is, some_then, then_some}
+use Rattle.qs_memory.proofs.Options.{followed, only_if_value, answer_of, some_is, some_then, then_some}
 use Rattle.qs_memory.proofs.CellLaws.{pointer_back}
-use Rattle.qs_memory.proofs.BlockLaws.{IsRange, range_is, range_access, access_range}
+use Rattle.qs_memory.proofs.BlockLaws.{range_is, range_access, access_range}
 use Rattle.qs_memory.proofs.StoreLaws.{Wrote, stored, store_gives}
 use Rattle.qs_memory.proofs.StepLaws.{copied, filled}
 

@@ -8,6 +8,7 @@ pub mod DefinedLaws
 pub mod SoundLaws
 pub mod ValueLaws
 pub mod TypeLaws
+pub mod PointerLaws
 mod Tables
 mod AccessExamples
 mod OperationExamples

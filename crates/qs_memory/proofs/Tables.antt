@@ -1,6 +1,6 @@
 -- Tables of examples: each line has what is computed and what it is to give.
-use Rattle.std.proofs.Common.{◌≡◌, ℕ, List, [], ◌∷◌, map, Option, Some, None}
-use Rattle.qs_memory.specs.Values.{Pointer, null, into, Value, integer, address}
+use Rattle.std.proofs.Common.{◌≡◌, ℕ, List, map, Option, Some, None}
+use Rattle.qs_memory.specs.Values.{null, into, Value, integer, address}
 
 pub record Line (A : Type 0) : Type 0 where
   pub computed : A

@@ -1,11 +1,11 @@
 -- Values that are loaded, converted or computed are of their types.
-use Rattle.std.proofs.Common.{◌≡◌, refl, ℕ, zero, suc, ◌%◌, ◌^◌, ◌<◌, ◌==◌, nat_lt, not, Bool, true, false, List, length, Option, Some, sym, ap, ◌∙◌, subst, arith}
+use Rattle.std.proofs.Common.{◌≡◌, refl, ℕ, zero, suc, ◌%◌, ◌^◌, ◌<◌, ◌==◌, nat_lt, not, Bool, true, List, length, Option, Some, subst, arith}
 use Rattle.std.proofs.lemmas.Bool.Decides.{nat_tests}
 use Rattle.qs_memory.specs.Partial.{◌>>=◌}
 use Rattle.qs_memory.specs.Values.{Pointer, null, Value, integer, address, as_integer, width, has_type, pointer_of_integer, convert}
 use Rattle.qs_memory.specs.Integers.{calculate, compares, minus, complement}
 use Rattle.qs_memory.specs.Memory.{Cell, Memory, block_at, target, range, cells_at, number_of, pointer_of, value_of, load}
-use Rattle.qs_memory.specs.Pointers.{moved_by, elements, difference, compares_pointers, truth}
+use Rattle.qs_memory.specs.Pointers.{moved_by, difference, compares_pointers, truth}
 use Rattle.qs_memory.specs.Operations.{of_truth, apply_unary, apply_binary, integer_type, unary_type, binary_type}
 use Rattle.qs_memory.specs.Soundness.{IsSoundValue, IsSoundCell, IsSound}
 use Rattle.qs_memory.specs.Laws.{ValuesHaveTypes}

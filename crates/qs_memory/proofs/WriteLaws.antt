@@ -1,11 +1,11 @@
 -- What a write leaves, cell by cell, and the loads that follow it.
-use Rattle.std.proofs.Common.{◌≡◌, ℕ, ◌+◌, ◌%◌, ◌<◌, ◌≤◌, ◌==◌, ◌&&◌, nat_le, true, List, length, slice_index_or, Some, refl, sym, ap, ◌∙◌, subst, arith}
+use Rattle.std.proofs.Common.{◌≡◌, ℕ, ◌+◌, ◌%◌, ◌<◌, ◌≤◌, ◌==◌, ◌&&◌, nat_le, true, List, length, Some, refl, sym, ap, ◌∙◌, subst, arith}
 use Rattle.std.proofs.lemmas.Bool.Decides.{nat_tests}
 use Rattle.qs_memory.specs.Partial.{only_if}
 use Rattle.qs_memory.specs.Values.{Pointer, into, width}
-use Rattle.qs_memory.specs.Memory.{Cell, unset, Block, Memory, block_at, Target, cells_from, cells_at, with_cells, value_of, blank_cells, load, copy}
+use Rattle.qs_memory.specs.Memory.{Cell, Block, Memory, block_at, Target, cells_from, cells_at, with_cells, value_of, blank_cells, load, copy}
 use Rattle.qs_memory.specs.Soundness.{IsLive}
-use Rattle.qs_memory.specs.Accesses.{IsAccess, MayRead, AreWritten, Writes, cells_behind}
+use Rattle.qs_memory.specs.Accesses.{IsAccess, AreWritten, Writes, cells_behind}
 use Rattle.qs_memory.specs.Laws.{WritesAreExact, LoadsAfterWrites}
 use Rattle.qs_memory.specs.declared.scalar.Scalar.{Scalar}
 use Rattle.qs_memory.proofs.Options.{some_same}

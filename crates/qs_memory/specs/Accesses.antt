@@ -1,5 +1,5 @@
 -- When an access may be made and what a write leaves, told block by block and cell by cell: the laws of steps are stated in these words.
-use Rattle.std.specs.Prelude.{◌≡◌, ◌≢◌, ◌⊎◌, ℕ, ◌+◌, ◌*◌, ◌<◌, ◌≤◌, true, List, [], length, slice_index_or}
+use Rattle.std.specs.Prelude.{◌≡◌, ◌≢◌, ◌⊎◌, ℕ, ◌+◌, ◌*◌, ◌<◌, ◌≤◌, true, ℤ, pos, ◌+ℤ◌, List, [], length, slice_index_or}
 use Rattle.qs_memory.specs.Values.{Pointer, null, into}
 use Rattle.qs_memory.specs.Memory.{Cell, unset, byte, part, Memory, block_at, cells_from}
 use Rattle.qs_memory.specs.Soundness.{IsLive}
@@ -79,3 +79,33 @@ Writes m (into block offset) new after = AreWritten m block offset new after
 abbrev pub cells_behind : Memory → Pointer → (size : ℕ) → List Cell
 cells_behind m null size = []
 cells_behind m (into block offset) size = cells_from (block_at m block).cells offset size
+
+-- ---- what operations on pointers need
+
+-- a pointer into a live block, moved by so many bytes to another one into it or just past its end
+pub record IsMoved (m : Memory) (p : Pointer) (bytes : ℤ) (q : Pointer) : Type 0 where
+  pub block : ℕ
+  pub old : ℕ
+  pub new : ℕ
+  pub begins : p ≡ into block old
+  pub gives : q ≡ into block new
+  pub live : IsLive m block
+  pub inside : new ≤ (block_at m block).size
+  pub distance : pos old +ℤ bytes ≡ pos new
+
+-- both are into one live block
+pub record AreInOneBlock (m : Memory) (p q : Pointer) : Type 0 where
+  pub block : ℕ
+  pub left : ℕ
+  pub right : ℕ
+  pub first : p ≡ into block left
+  pub second : q ≡ into block right
+  pub live : IsLive m block
+
+-- each is null or into a live block, and two blocks are met strictly inside both
+abbrev pub AreComparable : Memory → Pointer → Pointer → Type 0
+AreComparable m null null = Unit {0}
+AreComparable m null (into c j) = IsLive m c
+AreComparable m (into b i) null = IsLive m b
+AreComparable m (into b i) (into c j) =
+    IsLive m b × (IsLive m c × ((b ≡ c) ⊎ ((i < (block_at m b).size) × (j < (block_at m c).size))))

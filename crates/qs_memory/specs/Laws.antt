@@ -1,13 +1,13 @@
 -- What is promised of memories and values, once for all widths.
-use Rattle.std.specs.Prelude.{◌≡◌, ℕ, ◌+◌, ◌%◌, ◌<◌, ◌≤◌, ◌⊎◌, ◌↔◌, true, List, length, slice_index_or, Some, None, IsSome}
+use Rattle.std.specs.Prelude.{◌≡◌, ℕ, ◌+◌, ◌%◌, ◌<◌, ◌≤◌, ◌⊎◌, ◌↔◌, Bool, true, ℤ, List, length, slice_index_or, Some, None, IsSome}
 use Rattle.qs_memory.specs.Partial.{◌>>=◌}
 use Rattle.qs_memory.specs.Values.{Pointer, into, Value, width, has_type, convert}
 use Rattle.qs_memory.specs.Memory.{Cell, Memory, block_at, new_block, target, cells_of, load, store, copy, fill}
 use Rattle.qs_memory.specs.Memory.{BlankTree, blank_cells, make, release}
-use Rattle.qs_memory.specs.Pointers.{member_of}
+use Rattle.qs_memory.specs.Pointers.{moved, member_of, in_one_block, equal}
 use Rattle.qs_memory.specs.Operations.{apply_unary, apply_binary, unary_type, binary_type}
 use Rattle.qs_memory.specs.Soundness.{IsSoundPointer, IsSoundValue, IsSound, ComesAfter}
-use Rattle.qs_memory.specs.Accesses.{MayRead, MayWrite, AreApart, HoldsValue, Writes, cells_behind}
+use Rattle.qs_memory.specs.Accesses.{MayRead, MayWrite, AreApart, HoldsValue, Writes, cells_behind, IsMoved, AreInOneBlock, AreComparable}
 use Rattle.qs_memory.specs.declared.scalar.Scalar.{Scalar}
 use Rattle.qs_memory.specs.declared.operation.UnaryOperation.{UnaryOperation}
 use Rattle.qs_memory.specs.declared.operation.BinaryOperation.{BinaryOperation}
@@ -52,6 +52,15 @@ pub record WritesAreExact : Type 0 where
       (size alignment : ℕ) (m after : Memory) (to from : Pointer)
       → copy size alignment m to from ≡ Some after → Writes m to (cells_behind m from size) after
   pub fill : (blank : BlankTree) (m after : Memory) (p : Pointer) → fill blank m p ≡ Some after → Writes m p (blank_cells blank) after
+
+-- when a pointer is moved, ordered with another and compared for equality, and that equal ones are the same
+pub record PointersAreDefined : Type 0 where
+  pub moved : (m : Memory) (p q : Pointer) (bytes : ℤ) → (moved m p bytes ≡ Some q) ↔ IsMoved m p bytes q
+  pub ordered :
+      (m : Memory) (p q : Pointer) (test : ℕ → ℕ → Bool)
+      → IsSome (in_one_block m p q (λ i j. Some (test i j))) ↔ AreInOneBlock m p q
+  pub compared : (m : Memory) (p q : Pointer) → IsSome (equal m p q) ↔ AreComparable m p q
+  pub same : (m : Memory) (p q : Pointer) (answer : Bool) → equal m p q ≡ Some answer → (answer ≡ true) ↔ (p ≡ q)
 
 -- a load after a copy is the load from its source, or, as after a fill, what it was if it is apart
 pub record LoadsAfterWrites : Type 0 where

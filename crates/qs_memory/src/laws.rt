@@ -1,5 +1,5 @@
 // The laws of memories and values. Each is the contract of an empty function.
-ghost use Rattle.qs_memory.specs.Laws.{LoadAfterStore, LoadElsewhere, StoresCommute, StepsAreDefined, WritesAreExact, LoadsAfterWrites};
+ghost use Rattle.qs_memory.specs.Laws.{LoadAfterStore, LoadElsewhere, StoresCommute, StepsAreDefined, WritesAreExact, LoadsAfterWrites, PointersAreDefined};
 ghost use Rattle.qs_memory.specs.Laws.{BlocksAreFresh, BlocksAreReleased, MemoryGoesOn, SoundnessIsKept, ValuesAreSound, ValuesHaveTypes};
 
 /// A load gives what was stored (C11 6.2.4p2).
@@ -31,6 +31,12 @@ pub fn writes_are_exact()
 /// What is loaded after a copy, and that a copy or a fill elsewhere changes no load.
 pub fn loads_after_writes()
     ensures { LoadsAfterWrites }
+{}
+
+/// When a pointer is moved, ordered with another and compared for equality (C11 6.5.6p8, 6.5.8p5,
+/// 6.5.9p6), and that equal ones are the same.
+pub fn pointers_are_defined()
+    ensures { PointersAreDefined }
 {}
 
 /// Blocks that are made have numbers that no block had, and are unset (C11 6.2.4p6).

@@ -2,7 +2,8 @@
 use Rattle.std.proofs.Common.{ℕ, Bool, true, false, [], ◌∷◌, List, slice_index_or, Option, Some, is_some, refl}
 use Rattle.qs_memory.specs.Partial.{◌>>=◌}
 use Rattle.qs_memory.specs.Values.{Pointer, null, into, Value, integer, address}
-use Rattle.qs_memory.specs.Memory.{unset, byte, Block, Memory, new_block, load, store, copy, fill, BlankTree, zeros, nulls, repeated, nothing, joined, make, release}
+use Rattle.qs_memory.specs.Memory.{unset, byte, Block, Memory, new_block, load, store, copy, fill, BlankTree, zeros, nulls, repeated, nothing, joined}
+use Rattle.qs_memory.specs.Memory.{make, release}
 use Rattle.qs_memory.specs.declared.scalar.Scalar.{Scalar}
 use Rattle.qs_memory.specs.declared.scalar.Scalar.TheVariants as scalars
 use Rattle.qs_memory.proofs.Tables.{◌gives◌, Holds, word, at, null_pointer, undefined}

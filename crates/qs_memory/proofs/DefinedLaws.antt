@@ -39,7 +39,9 @@ are_bytes (suc size) cells offset h (suc i) lt =
     subst (λ (at : ℕ). IsByte (cells at)) same
     (are_bytes size cells (offset + 1) (first_byte (cells offset) (cells_from cells (offset + 1) size) h).1 i (omega arith))
 
-have_number : (size : ℕ) (cells : ℕ → Cell) (offset : ℕ) → ((i : ℕ) → i < size → IsByte (cells (offset + i))) → IsSome (number_of (cells_from cells offset size))
+have_number :
+    (size : ℕ) (cells : ℕ → Cell) (offset : ℕ) → ((i : ℕ) → i < size → IsByte (cells (offset + i)))
+    → IsSome (number_of (cells_from cells offset size))
 have_number zero cells offset h = refl
 have_number (suc size) cells offset h =
     let same : offset + 0 ≡ offset = omega arith in
@@ -74,7 +76,9 @@ same_pointer_is (into b i) (into c j) h =
     let offsets : i ≡ j = grind (arith, nat_tests, h) in
     ap₂ (λ x y. into x y) blocks offsets
 
-first_part : (p : Pointer) (first : ℕ) (c : Cell) (cells : List Cell) → are_parts p first (c ∷ cells) ≡ true → (c ≡ part p first) × (are_parts p (first + 1) cells ≡ true)
+first_part :
+    (p : Pointer) (first : ℕ) (c : Cell) (cells : List Cell) → are_parts p first (c ∷ cells) ≡ true
+    → (c ≡ part p first) × (are_parts p (first + 1) cells ≡ true)
 first_part p first unset cells h = cc
 first_part p first (byte b) cells h = cc
 first_part p first (part q k) cells h =
@@ -146,7 +150,9 @@ value_defined scalars.Pointer cells offset = parts_defined cells offset
 
 -- ---- loads
 
-holds_value : (s : Scalar) (m : Memory) (p : Pointer) (t : Target) → p ≡ into t.block t.offset → HasValue s (block_at m t.block).cells t.offset → HoldsValue s m p
+holds_value :
+    (s : Scalar) (m : Memory) (p : Pointer) (t : Target) → p ≡ into t.block t.offset → HasValue s (block_at m t.block).cells t.offset
+    → HoldsValue s m p
 holds_value s m p t is h = subst (λ (q : Pointer). HoldsValue s m q) (sym is) h
 
 load_needs : (s : Scalar) (m : Memory) (p : Pointer) → IsSome (load s m p) → MayRead m p (width s) (width s) × HoldsValue s m p
@@ -170,7 +176,9 @@ load_allowed s m (into b o) may holds =
 writable_at : (m : Memory) (p : Pointer) (t : Target) → p ≡ into t.block t.offset → (block_at m t.block).is_writable ≡ true → IsWritable m p
 writable_at m p t is h = subst (λ (q : Pointer). IsWritable m q) (sym is) h
 
-wrote_may : (m : Memory) (p : Pointer) (size alignment : ℕ) (new : List Cell) (after : Memory) → Wrote m p size alignment new after → MayWrite m p size alignment
+wrote_may :
+    (m : Memory) (p : Pointer) (size alignment : ℕ) (new : List Cell) (after : Memory) → Wrote m p size alignment new after
+    → MayWrite m p size alignment
 wrote_may m p size alignment new after w = (range_access m p size alignment w.at w.is, writable_at m p w.at w.is.is w.writable)
 
 typed : (s : Scalar) (v : Value) (cells : List Cell) → cells_of s v ≡ Some cells → has_type s v ≡ true
@@ -215,7 +223,9 @@ fill_allowed blank m (into b o) may =
 
 -- ---- copies
 
-no_overlap : (t u : Target) (size : ℕ) → overlap t u size ≡ false → (into t.block t.offset ≡ into u.block u.offset) ⊎ AreApart (into t.block t.offset) size (into u.block u.offset) size
+no_overlap :
+    (t u : Target) (size : ℕ) → overlap t u size ≡ false
+    → (into t.block t.offset ≡ into u.block u.offset) ⊎ AreApart (into t.block t.offset) size (into u.block u.offset) size
 no_overlap t u size h =
     ⊎_elim
     (λ (one : t.block ≡ u.block).
@@ -241,7 +251,9 @@ no_overlap t u size h =
         let no_way : false ≡ true = sym h ∙ both in
         cc
 
-fit_together : (b i c j size : ℕ) → (into b i ≡ into c j) ⊎ AreApart (into b i) size (into c j) size → overlap (record { block = b; offset = i }) (record { block = c; offset = j }) size ≡ false
+fit_together :
+    (b i c j size : ℕ) → (into b i ≡ into c j) ⊎ AreApart (into b i) size (into c j) size
+    → overlap (record { block = b; offset = i }) (record { block = c; offset = j }) size ≡ false
 fit_together b i c j size (inl same) =
     let offsets : i ≡ j = ap offset_in same in
     grind (arith, nat_tests, offsets)

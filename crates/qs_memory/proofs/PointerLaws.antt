@@ -143,7 +143,9 @@ equal_needs m (into b i) (into c j) h =
     let is = pair_of m b i c j w.value w.is in
     (is.first, (is.second, ⊎_elim (λ same. inl same) (λ other. inr (inside w.value (sym (pair_other m b i c j other) ∙ is.gives))) (cases_eq b c)))
   where
-    inside : (answer : Bool) → only_if (nat_lt i (block_at m b).size && nat_lt j (block_at m c).size) (Some false) ≡ Some answer → (i < (block_at m b).size) × (j < (block_at m c).size)
+    inside :
+        (answer : Bool) → only_if (nat_lt i (block_at m b).size && nat_lt j (block_at m c).size) (Some false) ≡ Some answer
+        → (i < (block_at m b).size) × (j < (block_at m c).size)
     inside answer e =
         let t = (only_if_value (nat_lt i (block_at m b).size && nat_lt j (block_at m c).size) false answer e).0 in
         let x : i < (block_at m b).size = grind (arith, nat_tests, t) in

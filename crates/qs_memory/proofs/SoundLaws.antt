@@ -2,14 +2,16 @@
 use Rattle.std.proofs.Common.{◌≡◌, ◌⊎◌, inl, inr, ℕ, zero, suc, ◌+◌, ◌-◌, ◌/◌, ◌<◌, ◌≤◌, List, [], ◌∷◌, ◌++◌, length, Some, sym, ap, ◌∙◌, subst, arith}
 use Rattle.std.proofs.lemmas.Bool.{cases_eq, cases_lt}
 use Rattle.qs_memory.specs.Values.{Pointer, null, into, Value, integer, address, width, has_type}
-use Rattle.qs_memory.specs.Memory.{Cell, unset, byte, part, Block, Memory, block_at, Target, cells_at, with_cells, bytes_of, parts_of, cells_of, BlankTree, zeros, nulls, repeated, nothing, joined, times, blank_cells, make, release}
+use Rattle.qs_memory.specs.Memory.{Cell, unset, byte, part, Block, Memory, block_at, Target, cells_at, with_cells, bytes_of, parts_of, cells_of}
+use Rattle.qs_memory.specs.Memory.{BlankTree, zeros, nulls, repeated, nothing, joined, times, blank_cells, make, release}
 use Rattle.qs_memory.specs.declared.scalar.Scalar.{Scalar}
 use Rattle.qs_memory.specs.declared.scalar.Scalar.TheVariants as scalars
 use Rattle.qs_memory.specs.Soundness.{IsLive, IsSoundPointer, IsSoundValue, IsSoundCell, IsSound, ComesAfter}
 use Rattle.qs_memory.specs.Laws.{AreFresh, SoundnessIsKept}
 use Rattle.qs_memory.proofs.Options.{only_if_value}
 use Rattle.qs_memory.proofs.CellLaws.{Each, each_overlaid, each_from}
-use Rattle.qs_memory.proofs.BlockLaws.{live_known, IsRange, written, not_written, size_kept, liveness_kept, after_write, after_make, after_release, blocks_are_fresh, blocks_are_released, live_below}
+use Rattle.qs_memory.proofs.BlockLaws.{live_known, IsRange, written, not_written, size_kept, liveness_kept, after_write, after_make, after_release}
+use Rattle.qs_memory.proofs.BlockLaws.{blocks_are_fresh, blocks_are_released, live_below}
 use Rattle.qs_memory.proofs.StoreLaws.{Wrote, stored}
 use Rattle.qs_memory.proofs.StepLaws.{copied, filled}
 
@@ -84,10 +86,13 @@ sound_written m t new live sound each = record {
         (each_overlaid (IsSoundCell m) new t.offset (block_at m t.block).cells o each (subst (λ (c : ℕ). IsSoundCell m ((block_at m c).cells o)) here (sound.cells b o l h))))
     at b o l h (inr there) = subst (λ (k : Block). IsSoundCell m (k.cells o)) (sym (not_written m t new b there)) (sound.cells b o l h)
 
-sound_wrote : (m : Memory) (p : Pointer) (size alignment : ℕ) (new : List Cell) (after : Memory) → IsSound m → Each (IsSoundCell m) new → Wrote m p size alignment new after → IsSound after
+sound_wrote :
+    (m : Memory) (p : Pointer) (size alignment : ℕ) (new : List Cell) (after : Memory) → IsSound m → Each (IsSoundCell m) new
+    → Wrote m p size alignment new after → IsSound after
 sound_wrote m p size alignment new after sound each w = subst (λ (a : Memory). IsSound a) w.gives (sound_written m w.at new w.is.live sound each)
 
-pub sound_read : (m : Memory) (p : Pointer) (size alignment : ℕ) (t : Target) → IsSound m → IsRange m p size alignment t → Each (IsSoundCell m) (cells_at m t size)
+pub sound_read :
+    (m : Memory) (p : Pointer) (size alignment : ℕ) (t : Target) → IsSound m → IsRange m p size alignment t → Each (IsSoundCell m) (cells_at m t size)
 sound_read m p size alignment t sound is =
     each_from (IsSoundCell m) (block_at m t.block).cells t.offset size (λ at low high. let fits = is.fits in sound.cells t.block at is.live (omega arith))
 
@@ -97,7 +102,9 @@ sound_make sizes m sound = record { cells = λ b o l h. cell_kept m (make sizes 
     fresh : AreFresh sizes m
     fresh = blocks_are_fresh sizes m
 
-    at : (b o : ℕ) → IsLive (make sizes m) b → o < (block_at (make sizes m) b).size → (b < length m) ⊎ (length m ≤ b) → IsSoundCell m ((block_at (make sizes m) b).cells o)
+    at :
+        (b o : ℕ) → IsLive (make sizes m) b → o < (block_at (make sizes m) b).size → (b < length m) ⊎ (length m ≤ b)
+        → IsSoundCell m ((block_at (make sizes m) b).cells o)
     at b o l h (inl known) =
         let same = fresh.old b known in
         subst (λ (k : Block). IsSoundCell m (k.cells o)) (sym same)

@@ -1,18 +1,21 @@
 -- Loads and stores after a store.
-use Rattle.std.proofs.Common.{◌≡◌, ◌≢◌, ◌⊎◌, inl, inr, ⊎_elim, ℕ, ◌+◌, ◌%◌, ◌≤◌, ◌==◌, ◌&&◌, nat_le, Bool, true, false, List, length, Some, refl, sym, ap, ap₂, ◌∙◌, subst, arith, ext_get_or}
+use Rattle.std.proofs.Common.{◌≡◌, ◌≢◌, ◌⊎◌, inl, inr, ⊎_elim, ℕ, ◌+◌, ◌%◌, ◌≤◌, ◌==◌, ◌&&◌, nat_le, Bool, true, false, List, length, Some, refl, sym}
+use Rattle.std.proofs.Common.{ap, ap₂, ◌∙◌, subst, arith, ext_get_or}
 use Rattle.std.proofs.Math.Path.{fun_ext}
 use Rattle.std.proofs.lemmas.Bool.{cases_eq}
 use Rattle.std.proofs.lemmas.Bool.Decides.{nat_tests}
 use Rattle.qs_memory.specs.Partial.{◌>>=◌, only_if}
 use Rattle.qs_memory.specs.Values.{Pointer, null, into, Value, width}
-use Rattle.qs_memory.specs.Memory.{Cell, Block, Memory, no_block, block_at, Target, range, cells_from, overlaid, cells_at, with_cells, write_cells, cells_of, value_of, load, store}
+use Rattle.qs_memory.specs.Memory.{Cell, Block, Memory, no_block, block_at, Target, range, cells_from, overlaid, cells_at, with_cells, write_cells}
+use Rattle.qs_memory.specs.Memory.{cells_of, value_of, load, store}
 use Rattle.qs_memory.specs.declared.scalar.Scalar.{Scalar}
 use Rattle.qs_memory.specs.Soundness.{IsLive}
 use Rattle.qs_memory.specs.Accesses.{AreApart}
 use Rattle.qs_memory.specs.Laws.{LoadAfterStore, LoadElsewhere, StoresCommute}
 use Rattle.qs_memory.proofs.Options.{same_answers, followed, only_if_value}
 use Rattle.qs_memory.proofs.CellLaws.{cells_from-overlaid, cells_from-apart, overlaid-commute, CellsOf, cells_are}
-use Rattle.qs_memory.proofs.BlockLaws.{IsRange, range_is, range-into, range-like, range_kept, written, not_written, size_kept, liveness_kept, writability_kept, length-with_cells}
+use Rattle.qs_memory.proofs.BlockLaws.{IsRange, range_is, range-into, range-like, range_kept, written, not_written, size_kept, liveness_kept}
+use Rattle.qs_memory.proofs.BlockLaws.{writability_kept, length-with_cells}
 
 -- what a write of cells did
 pub record Wrote (m : Memory) (p : Pointer) (size alignment : ℕ) (new : List Cell) (after : Memory) : Type 0 where
@@ -51,18 +54,26 @@ store_gives s m p v t new at cells writable =
     ∙ ap (λ b. only_if b (Some (with_cells m t new))) writable
 
 -- a load as two tests on its block, and its cells
-pub load-into : (t : Scalar) (m : Memory) (c j : ℕ) → load t m (into c j) ≡ only_if (block_at m c).is_live (only_if (nat_le (j + width t) (block_at m c).size && j % width t == 0) (value_of t (cells_from (block_at m c).cells j (width t))))
+pub load-into :
+    (t : Scalar) (m : Memory) (c j : ℕ)
+    → load t m (into c j)
+    ≡ only_if (block_at m c).is_live (only_if (nat_le (j + width t) (block_at m c).size && j % width t == 0) (value_of t (cells_from (block_at m c).cells j (width t))))
 load-into t m c j =
     ap (λ o. o >>= λ u. value_of t (cells_at m u (width t))) (range-into m c j (width t) (width t))
     ∙ twice (block_at m c).is_live (nat_le (j + width t) (block_at m c).size && j % width t == 0)
   where
-    twice : (a b : Bool) → (only_if a (only_if b (Some (record { block = c; offset = j }))) >>= λ (u : Target). value_of t (cells_at m u (width t))) ≡ only_if a (only_if b (value_of t (cells_from (block_at m c).cells j (width t))))
+    twice :
+        (a b : Bool)
+        → (only_if a (only_if b (Some (record { block = c; offset = j }))) >>= λ (u : Target). value_of t (cells_at m u (width t)))
+        ≡ only_if a (only_if b (value_of t (cells_from (block_at m c).cells j (width t))))
     twice true true = refl
     twice true false = refl
     twice false b = refl
 
 -- loads look at marks, sizes and the cells that they read
-pub load-like : (t : Scalar) (m later : Memory) (c j : ℕ) → (block_at later c).is_live ≡ (block_at m c).is_live → (block_at later c).size ≡ (block_at m c).size → cells_from (block_at later c).cells j (width t) ≡ cells_from (block_at m c).cells j (width t) → load t later (into c j) ≡ load t m (into c j)
+pub load-like :
+    (t : Scalar) (m later : Memory) (c j : ℕ) → (block_at later c).is_live ≡ (block_at m c).is_live → (block_at later c).size ≡ (block_at m c).size
+    → cells_from (block_at later c).cells j (width t) ≡ cells_from (block_at m c).cells j (width t) → load t later (into c j) ≡ load t m (into c j)
 load-like t m later c j live long cells =
     load-into t later c j
     ∙ ap₂ (λ l n. only_if l (only_if (nat_le (j + width t) n && j % width t == 0) (value_of t (cells_from (block_at later c).cells j (width t))))) live long
@@ -87,7 +98,10 @@ load_after_store s m after p v h =
     ∙ ap (value_of s) cells
     ∙ st.are.back
 
-elsewhere : (t : Scalar) (m : Memory) (u : Target) (new : List Cell) (c j : ℕ) → IsLive m u.block → (u.block ≢ c) ⊎ ((u.offset + length new ≤ j) ⊎ (j + width t ≤ u.offset)) → cells_from (block_at (with_cells m u new) c).cells j (width t) ≡ cells_from (block_at m c).cells j (width t)
+elsewhere :
+    (t : Scalar) (m : Memory) (u : Target) (new : List Cell) (c j : ℕ) → IsLive m u.block
+    → (u.block ≢ c) ⊎ ((u.offset + length new ≤ j) ⊎ (j + width t ≤ u.offset))
+    → cells_from (block_at (with_cells m u new) c).cells j (width t) ≡ cells_from (block_at m c).cells j (width t)
 elsewhere t m u new c j live (inl other) = ap (λ (k : Block). cells_from k.cells j (width t)) (not_written m u new c (λ e. other (sym e)))
 elsewhere t m u new c j live (inr apart) =
     ⊎_elim
@@ -97,7 +111,9 @@ elsewhere t m u new c j live (inr apart) =
     (λ there. ap (λ (k : Block). cells_from k.cells j (width t)) (not_written m u new c there))
     (cases_eq c u.block)
 
-pub apart_at : (p : Pointer) (b i size other : ℕ) (q : Pointer) (c j : ℕ) → p ≡ into b i → q ≡ into c j → AreApart p size q other → (b ≢ c) ⊎ (i + size ≤ j) ⊎ (j + other ≤ i)
+pub apart_at :
+    (p : Pointer) (b i size other : ℕ) (q : Pointer) (c j : ℕ) → p ≡ into b i → q ≡ into c j → AreApart p size q other
+    → (b ≢ c) ⊎ (i + size ≤ j) ⊎ (j + other ≤ i)
 apart_at p b i size other q c j e f h =
     subst (λ (r : Pointer). AreApart (into b i) size r other) f (subst (λ (r : Pointer). AreApart r size q other) e h)
 
@@ -123,7 +139,9 @@ abbrev laid : Bool → ℕ → List Cell → Block → Block
 laid true offset new k = record k { cells = overlaid new offset k.cells }
 laid false offset new k = k
 
-written_at : (m : Memory) (t : Target) (new : List Cell) → IsLive m t.block → (b : ℕ) → block_at (with_cells m t new) b ≡ laid (b == t.block) t.offset new (block_at m b)
+written_at :
+    (m : Memory) (t : Target) (new : List Cell) → IsLive m t.block → (b : ℕ)
+    → block_at (with_cells m t new) b ≡ laid (b == t.block) t.offset new (block_at m b)
 written_at m t new live b =
     ⊎_elim
     (λ (here : b ≡ t.block).
@@ -135,7 +153,9 @@ written_at m t new live b =
     not_written m t new b there ∙ ap (λ z. laid z t.offset new (block_at m b)) (sym is))
     (cases_eq b t.block)
 
-laid-commute : (x y : Bool) (i j : ℕ) (a b : List Cell) (k : Block) → ((x ≡ true) → (y ≡ true) → (i + length a ≤ j) ⊎ (j + length b ≤ i)) → laid y j b (laid x i a k) ≡ laid x i a (laid y j b k)
+laid-commute :
+    (x y : Bool) (i j : ℕ) (a b : List Cell) (k : Block) → ((x ≡ true) → (y ≡ true) → (i + length a ≤ j) ⊎ (j + length b ≤ i))
+    → laid y j b (laid x i a k) ≡ laid x i a (laid y j b k)
 laid-commute true true i j a b k apart = ap (λ cells. record k { cells = cells }) (fun_ext (λ at. overlaid-commute a b i j k.cells at (apart refl refl)))
 laid-commute true false i j a b k apart = refl
 laid-commute false true i j a b k apart = refl
@@ -155,7 +175,10 @@ writes_commute m t u new other live_t live_u apart =
     ∙ laid-commute (b == t.block) (b == u.block) t.offset u.offset new other (block_at m b) (λ x y. at b x y apart)
     ∙ sym (written_at (with_cells m u other) t new (liveness_kept m u other live_u t.block ∙ live_t) b ∙ ap (laid (b == t.block) t.offset new) (written_at m u other live_u b)))
   where
-    at : (b : ℕ) → (b == t.block) ≡ true → (b == u.block) ≡ true → (t.block ≢ u.block) ⊎ (t.offset + length new ≤ u.offset) ⊎ (u.offset + length other ≤ t.offset) → (t.offset + length new ≤ u.offset) ⊎ (u.offset + length other ≤ t.offset)
+    at :
+        (b : ℕ) → (b == t.block) ≡ true → (b == u.block) ≡ true
+        → (t.block ≢ u.block) ⊎ (t.offset + length new ≤ u.offset) ⊎ (u.offset + length other ≤ t.offset)
+        → (t.offset + length new ≤ u.offset) ⊎ (u.offset + length other ≤ t.offset)
     at b x y (inl differ) = let same : t.block ≡ u.block = grind (arith, nat_tests, x, y) in absurd (differ same)
     at b x y (inr apart) = apart
 

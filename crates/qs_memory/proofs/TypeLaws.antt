@@ -36,7 +36,9 @@ number_typed s m cells v long each small h =
     subst (λ (w : Value). has_type s w ≡ true) (some_same (integer a.value) v a.then)
     (small a.value (subst (λ (k : ℕ). a.value < 256 ^ k) long (number_small m cells a.value each a.first)))
 
-value_typed : (s : Scalar) (m : Memory) (cells : List Cell) (v : Value) → length cells ≡ width s → Each (IsSoundCell m) cells → value_of s cells ≡ Some v → has_type s v ≡ true
+value_typed :
+    (s : Scalar) (m : Memory) (cells : List Cell) (v : Value) → length cells ≡ width s → Each (IsSoundCell m) cells → value_of s cells ≡ Some v
+    → has_type s v ≡ true
 value_typed scalars.Char m cells v long each h = number_typed scalars.Char m cells v long each (λ n small. fits n 256 small) h
 value_typed scalars.Int m cells v long each h = number_typed scalars.Int m cells v long each (λ n small. fits n 4294967296 small) h
 value_typed scalars.Unsigned m cells v long each h = number_typed scalars.Unsigned m cells v long each (λ n small. fits n 4294967296 small) h

@@ -1,6 +1,8 @@
 // The laws of memories and values. Each is the contract of an empty function.
-ghost use Rattle.qs_memory.specs.Laws.{LoadAfterStore, LoadElsewhere, StoresCommute, StepsAreDefined, WritesAreExact, LoadsAfterWrites, PointersAreDefined};
-ghost use Rattle.qs_memory.specs.Laws.{BlocksAreFresh, BlocksAreReleased, MemoryGoesOn, SoundnessIsKept, ValuesAreSound, ValuesHaveTypes};
+ghost use Rattle.qs_memory.specs.Laws.{LoadAfterStore, LoadElsewhere, StoresCommute, StepsAreDefined, WritesAreExact};
+ghost use Rattle.qs_memory.specs.Laws.{LoadsAfterWrites, PointersAreDefined};
+ghost use Rattle.qs_memory.specs.Laws.{BlocksAreFresh, BlocksAreReleased, MemoryGoesOn, SoundnessIsKept};
+ghost use Rattle.qs_memory.specs.Laws.{ValuesAreSound, ValuesHaveTypes};
 
 /// A load gives what was stored (C11 6.2.4p2).
 pub fn load_after_store()

@@ -142,7 +142,7 @@ parts_defined cells offset = (
     from_zero : (p : Pointer) → ((i : ℕ) → i < 4 → cells (offset + i) ≡ part p i) → cells_from cells offset 4 ≡ parts_of p 0 4
     from_zero p h = are_parts_of p 0 4 cells offset (λ i lt. let same : i ≡ 0 + i = omega arith in h i lt ∙ ap (part p) same)
 
-value_defined : (s : Scalar) (cells : ℕ → Cell) (offset : ℕ) → IsSome (value_of s (cells_from cells offset (width s))) ↔ HasValue s cells offset
+pub value_defined : (s : Scalar) (cells : ℕ → Cell) (offset : ℕ) → IsSome (value_of s (cells_from cells offset (width s))) ↔ HasValue s cells offset
 value_defined scalars.Char cells offset = bytes_defined 1 cells offset
 value_defined scalars.Int cells offset = bytes_defined 4 cells offset
 value_defined scalars.Unsigned cells offset = bytes_defined 4 cells offset
@@ -155,7 +155,7 @@ holds_value :
     → HoldsValue s m p
 holds_value s m p t is h = subst (λ (q : Pointer). HoldsValue s m q) (sym is) h
 
-load_needs : (s : Scalar) (m : Memory) (p : Pointer) → IsSome (load s m p) → MayRead m p (width s) (width s) × HoldsValue s m p
+pub load_needs : (s : Scalar) (m : Memory) (p : Pointer) → IsSome (load s m p) → MayRead m p (width s) (width s) × HoldsValue s m p
 load_needs s m p h =
     let v = answer_of (load s m p) h in
     let a = followed (range m p (width s) (width s)) _ v.value v.is in
@@ -165,7 +165,7 @@ load_needs s m p h =
           ((value_defined s (block_at m a.value.block).cells a.value.offset).0 (some_is (value_of s (cells_at m a.value (width s))) v.value a.then)),
     )
 
-load_allowed : (s : Scalar) (m : Memory) (p : Pointer) → MayRead m p (width s) (width s) → HoldsValue s m p → IsSome (load s m p)
+pub load_allowed : (s : Scalar) (m : Memory) (p : Pointer) → MayRead m p (width s) (width s) → HoldsValue s m p → IsSome (load s m p)
 load_allowed s m null may holds = absurd may
 load_allowed s m (into b o) may holds =
     subst (λ (r : Option Target). IsSome (r >>= λ t. value_of s (cells_at m t (width s)))) (sym (access_range m b o (width s) (width s) may))
@@ -193,20 +193,20 @@ typed_cells : (s : Scalar) (v : Value) → has_type s v ≡ true → TypedCells 
 typed_cells s (integer n) h = record { cells = bytes_of (width s) n; is = ap (λ b. only_if b (Some (bytes_of (width s) n))) h }
 typed_cells s (address p) h = record { cells = parts_of p 0 (width s); is = ap (λ b. only_if b (Some (parts_of p 0 (width s)))) h }
 
-store_needs : (s : Scalar) (m : Memory) (p : Pointer) (v : Value) → IsSome (store s m p v) → MayWrite m p (width s) (width s) × (has_type s v ≡ true)
+pub store_needs : (s : Scalar) (m : Memory) (p : Pointer) (v : Value) → IsSome (store s m p v) → MayWrite m p (width s) (width s) × (has_type s v ≡ true)
 store_needs s m p v h =
     let a = answer_of (store s m p v) h in
     let st = stored s m p v a.value a.is in
     (wrote_may m p (width s) (width s) st.new a.value st.wrote, typed s v st.new st.cells)
 
-store_allowed : (s : Scalar) (m : Memory) (p : Pointer) (v : Value) → MayWrite m p (width s) (width s) → has_type s v ≡ true → IsSome (store s m p v)
+pub store_allowed : (s : Scalar) (m : Memory) (p : Pointer) (v : Value) → MayWrite m p (width s) (width s) → has_type s v ≡ true → IsSome (store s m p v)
 store_allowed s m null v may is = absurd may.0
 store_allowed s m (into b o) v may is =
     let c = typed_cells s v is in
     some_is (store s m (into b o) v) _
     (store_gives s m (into b o) v (record { block = b; offset = o }) c.cells (access_range m b o (width s) (width s) may.0) c.is may.1)
 
-fill_needs : (blank : BlankTree) (m : Memory) (p : Pointer) → IsSome (fill blank m p) → MayWrite m p (length (blank_cells blank)) 1
+pub fill_needs : (blank : BlankTree) (m : Memory) (p : Pointer) → IsSome (fill blank m p) → MayWrite m p (length (blank_cells blank)) 1
 fill_needs blank m p h =
     let a = answer_of (fill blank m p) h in
     wrote_may m p (length (blank_cells blank)) 1 (blank_cells blank) a.value (filled blank m p a.value a.is)
@@ -215,7 +215,7 @@ fill_needs blank m p h =
 write_allowed : (m : Memory) (t : Target) (new : List Cell) → (block_at m t.block).is_writable ≡ true → IsSome (write_cells m t new)
 write_allowed m t new h = some_is (write_cells m t new) (with_cells m t new) (ap (λ b. only_if b (Some (with_cells m t new))) h)
 
-fill_allowed : (blank : BlankTree) (m : Memory) (p : Pointer) → MayWrite m p (length (blank_cells blank)) 1 → IsSome (fill blank m p)
+pub fill_allowed : (blank : BlankTree) (m : Memory) (p : Pointer) → MayWrite m p (length (blank_cells blank)) 1 → IsSome (fill blank m p)
 fill_allowed blank m null may = absurd may.0
 fill_allowed blank m (into b o) may =
     subst (λ (r : Option Target). IsSome (r >>= λ t. write_cells m t (blank_cells blank))) (sym (access_range m b o (length (blank_cells blank)) 1 may.0))
@@ -223,7 +223,7 @@ fill_allowed blank m (into b o) may =
 
 -- ---- copies
 
-no_overlap :
+pub no_overlap :
     (t u : Target) (size : ℕ) → overlap t u size ≡ false
     → (into t.block t.offset ≡ into u.block u.offset) ⊎ AreApart (into t.block t.offset) size (into u.block u.offset) size
 no_overlap t u size h =
@@ -251,7 +251,7 @@ no_overlap t u size h =
         let no_way : false ≡ true = sym h ∙ both in
         cc
 
-fit_together :
+pub fit_together :
     (b i c j size : ℕ) → (into b i ≡ into c j) ⊎ AreApart (into b i) size (into c j) size
     → overlap (record { block = b; offset = i }) (record { block = c; offset = j }) size ≡ false
 fit_together b i c j size (inl same) =
@@ -265,7 +265,7 @@ fit_together b i c j size (inr (inl differ)) = grind (arith, nat_tests, differ)
 fit_together b i c j size (inr (inr (inl before))) = grind (arith, nat_tests, before)
 fit_together b i c j size (inr (inr (inr behind))) = grind (arith, nat_tests, behind)
 
-copy_needs :
+pub copy_needs :
     (size alignment : ℕ) (m : Memory) (to from : Pointer) → IsSome (copy size alignment m to from)
     → MayWrite m to size alignment × (MayRead m from size alignment × ((to ≡ from) ⊎ AreApart to size from size))
 copy_needs size alignment m to from h =
@@ -281,7 +281,7 @@ copy_needs size alignment m to from h =
       ),
     )
 
-copy_allowed :
+pub copy_allowed :
     (size alignment : ℕ) (m : Memory) (to from : Pointer) → MayWrite m to size alignment → MayRead m from size alignment
     → (to ≡ from) ⊎ AreApart to size from size → IsSome (copy size alignment m to from)
 copy_allowed size alignment m null from may reads fit = absurd may.0

@@ -37,7 +37,7 @@ within_is size (pos n) offset h =
     record { is = ap pos c.1; inside = subst (λ (k : ℕ). k ≤ size) c.1 low }
 within_is size (negsuc n) offset h = cc
 
-move_needs : (m : Memory) (p q : Pointer) (bytes : ℤ) → moved m p bytes ≡ Some q → IsMoved m p bytes q
+pub move_needs : (m : Memory) (p q : Pointer) (bytes : ℤ) → moved m p bytes ≡ Some q → IsMoved m p bytes q
 move_needs m p q bytes h =
     let a = followed (target m p) _ q h in
     let t : Target = a.value in
@@ -55,7 +55,7 @@ move_needs m p q bytes h =
       distance = w.is;
     }
 
-move_allowed : (m : Memory) (p q : Pointer) (bytes : ℤ) → IsMoved m p bytes q → moved m p bytes ≡ Some q
+pub move_allowed : (m : Memory) (p q : Pointer) (bytes : ℤ) → IsMoved m p bytes q → moved m p bytes ≡ Some q
 move_allowed m p q bytes h =
     let low = h.inside in
     let test : nat_le h.new (block_at m h.block).size ≡ true = grind (arith, nat_tests, low) in
@@ -67,7 +67,7 @@ move_allowed m p q bytes h =
 
 -- ---- order
 
-order_needs : (m : Memory) (p q : Pointer) (test : ℕ → ℕ → Bool) → IsSome (in_one_block m p q (λ i j. Some (test i j))) → AreInOneBlock m p q
+pub order_needs : (m : Memory) (p q : Pointer) (test : ℕ → ℕ → Bool) → IsSome (in_one_block m p q (λ i j. Some (test i j))) → AreInOneBlock m p q
 order_needs m p q test h =
     let w = answer_of (in_one_block m p q (λ i j. Some (test i j))) h in
     let a = followed (target m p) _ w.value w.is in
@@ -85,7 +85,7 @@ order_needs m p q test h =
       live = first.live;
     }
 
-order_allowed : (m : Memory) (p q : Pointer) (test : ℕ → ℕ → Bool) → AreInOneBlock m p q → IsSome (in_one_block m p q (λ i j. Some (test i j)))
+pub order_allowed : (m : Memory) (p q : Pointer) (test : ℕ → ℕ → Bool) → AreInOneBlock m p q → IsSome (in_one_block m p q (λ i j. Some (test i j)))
 order_allowed m p q test h =
     let same : (h.block == h.block) ≡ true = grind (arith, nat_tests) in
     some_is (in_one_block m p q (λ i j. Some (test i j))) (test h.left h.right)
@@ -128,7 +128,7 @@ pair_other m b i c j e =
     let test : (b == c) ≡ false = grind (arith, nat_tests, e) in
     ap (λ x. if x then Some (i == j) else only_if (nat_lt i (block_at m b).size && nat_lt j (block_at m c).size) (Some false)) test
 
-equal_needs : (m : Memory) (p q : Pointer) → IsSome (equal m p q) → AreComparable m p q
+pub equal_needs : (m : Memory) (p q : Pointer) → IsSome (equal m p q) → AreComparable m p q
 equal_needs m null null h = tt
 equal_needs m null (into c j) h =
     let w = answer_of (equal m null (into c j)) h in
@@ -152,7 +152,7 @@ equal_needs m (into b i) (into c j) h =
         let y : j < (block_at m c).size = grind (arith, nat_tests, t) in
         (x, y)
 
-equal_allowed : (m : Memory) (p q : Pointer) → AreComparable m p q → IsSome (equal m p q)
+pub equal_allowed : (m : Memory) (p q : Pointer) → AreComparable m p q → IsSome (equal m p q)
 equal_allowed m null null h = refl
 equal_allowed m null (into c j) h = some_is (equal m null (into c j)) false (ap (λ o. o >>= λ t. Some false) (target_live m c j h))
 equal_allowed m (into b i) null h = some_is (equal m (into b i) null) false (ap (λ o. o >>= λ t. Some false) (target_live m b i h))
@@ -185,7 +185,7 @@ never o answer h e =
     let no_way : false ≡ true = some_same false answer a.then ∙ e in
     cc
 
-equal_same : (m : Memory) (p q : Pointer) (answer : Bool) → equal m p q ≡ Some answer → (answer ≡ true) ↔ (p ≡ q)
+pub equal_same : (m : Memory) (p q : Pointer) (answer : Bool) → equal m p q ≡ Some answer → (answer ≡ true) ↔ (p ≡ q)
 equal_same m null null answer h = (λ e. refl, λ e. sym (some_same true answer h))
 equal_same m null (into c j) answer h = (λ e. absurd (never (target m (into c j)) answer h e), λ e. absurd (null_differs c j e))
 equal_same m (into b i) null answer h = (λ e. absurd (never (target m (into b i)) answer h e), λ e. absurd (null_differs b i (sym e)))

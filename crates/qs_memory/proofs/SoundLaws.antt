@@ -33,11 +33,11 @@ cell_kept m later (part p k) f s = record { pointer = pointer_kept m later p f s
 
 -- ---- cells of sound values
 
-sound_bytes : (m : Memory) (size n : ℕ) → Each (IsSoundCell m) (bytes_of size n)
+pub sound_bytes : (m : Memory) (size n : ℕ) → Each (IsSoundCell m) (bytes_of size n)
 sound_bytes m zero n = tt
 sound_bytes m (suc size) n = (omega arith, sound_bytes m size (n / 256))
 
-sound_parts : (m : Memory) (p : Pointer) (first size : ℕ) → IsSoundPointer m p → first + size ≤ 4 → Each (IsSoundCell m) (parts_of p first size)
+pub sound_parts : (m : Memory) (p : Pointer) (first size : ℕ) → IsSoundPointer m p → first + size ≤ 4 → Each (IsSoundCell m) (parts_of p first size)
 sound_parts m p first zero s few = tt
 sound_parts m p first (suc size) s few = (record { pointer = s; number = omega arith }, sound_parts m p (first + 1) size s (omega arith))
 
@@ -47,7 +47,7 @@ narrow scalars.Int = omega arith
 narrow scalars.Unsigned = omega arith
 narrow scalars.Pointer = omega arith
 
-sound_cells : (s : Scalar) (m : Memory) (v : Value) (cells : List Cell) → IsSoundValue m v → cells_of s v ≡ Some cells → Each (IsSoundCell m) cells
+pub sound_cells : (s : Scalar) (m : Memory) (v : Value) (cells : List Cell) → IsSoundValue m v → cells_of s v ≡ Some cells → Each (IsSoundCell m) cells
 sound_cells s m (integer n) cells sound h =
     let c = only_if_value (has_type s (integer n)) _ cells h in
     subst (λ (l : List Cell). Each (IsSoundCell m) l) c.1 (sound_bytes m (width s) n)
@@ -55,15 +55,15 @@ sound_cells s m (address p) cells sound h =
     let c = only_if_value (has_type s (address p)) _ cells h in
     subst (λ (l : List Cell). Each (IsSoundCell m) l) c.1 (sound_parts m p 0 (width s) sound (narrow s))
 
-each_append : (P : Cell → Type 0) (a b : List Cell) → Each P a → Each P b → Each P (a ++ b)
+pub each_append : (P : Cell → Type 0) (a b : List Cell) → Each P a → Each P b → Each P (a ++ b)
 each_append P [] b h k = k
 each_append P (c ∷ a) b h k = (h.0, each_append P a b h.1 k)
 
-each_times : (P : Cell → Type 0) (n : ℕ) (a : List Cell) → Each P a → Each P (times n a)
+pub each_times : (P : Cell → Type 0) (n : ℕ) (a : List Cell) → Each P a → Each P (times n a)
 each_times P zero a h = tt
 each_times P (suc n) a h = each_append P a (times n a) h (each_times P n a h)
 
-sound_blank : (m : Memory) (blank : BlankTree) → Each (IsSoundCell m) (blank_cells blank)
+pub sound_blank : (m : Memory) (blank : BlankTree) → Each (IsSoundCell m) (blank_cells blank)
 sound_blank m (zeros n) = each_times (IsSoundCell m) n (byte 0 ∷ []) (omega arith, tt)
 sound_blank m (nulls n) = each_times (IsSoundCell m) n (parts_of null 0 4) (sound_parts m null 0 4 tt (omega arith))
 sound_blank m (repeated n b) = each_times (IsSoundCell m) n (blank_cells b) (sound_blank m b)
@@ -96,7 +96,7 @@ pub sound_read :
 sound_read m p size alignment t sound is =
     each_from (IsSoundCell m) (block_at m t.block).cells t.offset size (λ at low high. let fits = is.fits in sound.cells t.block at is.live (omega arith))
 
-sound_make : (sizes : List ℕ) (m : Memory) → IsSound m → IsSound (make sizes m)
+pub sound_make : (sizes : List ℕ) (m : Memory) → IsSound m → IsSound (make sizes m)
 sound_make sizes m sound = record { cells = λ b o l h. cell_kept m (make sizes m) _ (after_make sizes m) (at b o l h (cases_lt b (length m))) }
   where
     fresh : AreFresh sizes m
@@ -115,7 +115,7 @@ sound_make sizes m sound = record { cells = λ b o l h. cell_kept m (make sizes 
         let place : length m + (b - length m) ≡ b = omega arith in
         subst (λ (k : Block). IsSoundCell m (k.cells o)) (sym (fresh.new (b - length m) (omega arith)) ∙ ap (block_at (make sizes m)) place) tt
 
-sound_release : (first : ℕ) (m : Memory) → IsSound m → IsSound (release first m)
+pub sound_release : (first : ℕ) (m : Memory) → IsSound m → IsSound (release first m)
 sound_release first m sound = record {
   cells = λ b o l h.
       let same = (blocks_are_released first m).old b (live_below first m b l) in

@@ -36,7 +36,7 @@ number_typed s m cells v long each small h =
     subst (λ (w : Value). has_type s w ≡ true) (some_same (integer a.value) v a.then)
     (small a.value (subst (λ (k : ℕ). a.value < 256 ^ k) long (number_small m cells a.value each a.first)))
 
-value_typed :
+pub value_typed :
     (s : Scalar) (m : Memory) (cells : List Cell) (v : Value) → length cells ≡ width s → Each (IsSoundCell m) cells → value_of s cells ≡ Some v
     → has_type s v ≡ true
 value_typed scalars.Char m cells v long each h = number_typed scalars.Char m cells v long each (λ n small. fits n 256 small) h
@@ -46,7 +46,7 @@ value_typed scalars.Pointer m cells v long each h =
     let a = followed (pointer_of cells) (λ p. Some (address p)) v h in
     subst (λ (w : Value). has_type scalars.Pointer w ≡ true) (some_same (address a.value) v a.then) refl
 
-loaded_typed : (s : Scalar) (m : Memory) (p : Pointer) (v : Value) → IsSound m → load s m p ≡ Some v → has_type s v ≡ true
+pub loaded_typed : (s : Scalar) (m : Memory) (p : Pointer) (v : Value) → IsSound m → load s m p ≡ Some v → has_type s v ≡ true
 loaded_typed s m p v sound h =
     let a = followed (range m p (width s) (width s)) _ v h in
     value_typed s m (cells_at m a.value (width s)) v (length-cells_from (block_at m a.value.block).cells a.value.offset (width s))
@@ -58,7 +58,7 @@ null_typed : (n : ℕ) (w : Value) → pointer_of_integer n ≡ Some w → has_t
 null_typed zero w h = subst (λ (x : Value). has_type scalars.Pointer x ≡ true) (some_same (address null) w h) refl
 null_typed (suc n) w h = cc
 
-converted_typed : (s : Scalar) (m : Memory) (v w : Value) → IsSoundValue m v → convert s v ≡ Some w → has_type s w ≡ true
+pub converted_typed : (s : Scalar) (m : Memory) (v w : Value) → IsSoundValue m v → convert s v ≡ Some w → has_type s w ≡ true
 converted_typed scalars.Char m (integer n) w sound h =
     subst (λ (x : Value). has_type scalars.Char x ≡ true) (some_same (integer (n % 256)) w h) (fits (n % 256) 256 (omega arith))
 converted_typed scalars.Int m (integer n) w sound h =
@@ -75,11 +75,11 @@ converted_typed scalars.Pointer m (address p) w sound h =
 -- ---- operations
 
 -- the kind of a type's values
-abbrev IsInteger : Value → Type 0
+abbrev pub IsInteger : Value → Type 0
 IsInteger (integer n) = Unit {0}
 IsInteger (address p) = ⊥
 
-integer_typed : (s : Signedness) (m : Memory) (v : Value) → IsSoundValue m v → IsInteger v → has_type (integer_type s) v ≡ true
+pub integer_typed : (s : Signedness) (m : Memory) (v : Value) → IsSoundValue m v → IsInteger v → has_type (integer_type s) v ≡ true
 integer_typed Signed m (integer n) sound is = fits n 4294967296 sound
 integer_typed Unsigned m (integer n) sound is = fits n 4294967296 sound
 integer_typed s m (address p) sound is = absurd is
@@ -93,7 +93,7 @@ integer_kind : (f : ℕ → ℕ) (v w : Value) → (as_integer v >>= λ x. Some 
 integer_kind f (integer x) w h = subst IsInteger (some_same (integer (f x)) w h) tt
 integer_kind f (address p) w h = cc
 
-unary_typed : (op : UnaryOperation) (m : Memory) (v w : Value) → IsSoundValue m v → apply_unary op m v ≡ Some w → has_type (unary_type op) w ≡ true
+pub unary_typed : (op : UnaryOperation) (m : Memory) (v w : Value) → IsSoundValue m v → apply_unary op m v ≡ Some w → has_type (unary_type op) w ≡ true
 unary_typed (unaries.Plus s) m v w sound h = integer_typed s m w (unary_sound (unaries.Plus s) m v w sound h) (integer_kind (λ x. x) v w h)
 unary_typed (unaries.Minus s) m v w sound h = integer_typed s m w (unary_sound (unaries.Minus s) m v w sound h) (integer_kind minus v w h)
 unary_typed (unaries.Complement s) m v w sound h = integer_typed s m w (unary_sound (unaries.Complement s) m v w sound h) (integer_kind complement v w h)
@@ -108,7 +108,7 @@ difference_kind element m p q w h =
     let d = only_if_value _ _ w c.1 in
     subst IsInteger d.1 tt
 
-binary_typed :
+pub binary_typed :
     (op : BinaryOperation) (m : Memory) (v w x : Value) → IsSoundValue m v → IsSoundValue m w → apply_binary op m v w ≡ Some x
     → has_type (binary_type op) x ≡ true
 binary_typed (binaries.Arithmetic op s) m (integer a) (integer b) x sa sb h =

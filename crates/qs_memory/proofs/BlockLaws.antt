@@ -1,14 +1,19 @@
 -- The blocks of a memory before and after a step.
-use Rattle.std.proofs.Common.{◌≡◌, ⊎_elim, ℕ, zero, suc, ◌+◌, ◌-◌, ◌%◌, ◌<◌, ◌≤◌, ◌==◌, ◌&&◌, nat_le, true, false, List, [], ◌∷◌, length, map, take, drop, get_or, slice_index_or, Some, refl, sym, ap, ap₂, ◌∙◌, subst, arith, length-append, length-take, length-drop, length-set, get_or-take, get_or-drop, get_or-set_same, get_or-set_other}
+use Rattle.std.proofs.Common.{◌≡◌, ⊎_elim, ℕ, zero, suc, ◌+◌, ◌-◌, ◌/◌, ◌%◌, ◌<◌, ◌≤◌, ◌==◌, ◌&&◌, nat_le, true, false, List, [], ◌∷◌, length, map}
+use Rattle.std.proofs.Common.{take, drop, get_or, slice_index_or, Some, refl, sym, ap, ap₂, ◌∙◌, subst, arith, length-append, length-take}
+use Rattle.std.proofs.Common.{length-drop, length-set, get_or-take, get_or-drop, get_or-set_same, get_or-set_other}
 use Rattle.std.proofs.lemmas.List.{length-map}
 use Rattle.std.proofs.Math.ListN.{get_or-append}
+use Rattle.std.proofs.Math.Nat.{mod-add-div, mul-mod_left, mul_comm}
 use Rattle.std.proofs.Math.Seq.{get_or-append_right}
 use Rattle.std.proofs.lemmas.Bool.{cases_eq, cases_lt}
 use Rattle.std.proofs.lemmas.Bool.Decides.{nat_tests}
 use Rattle.qs_memory.specs.Partial.{only_if}
 use Rattle.qs_memory.specs.Values.{Pointer, null, into}
-use Rattle.qs_memory.specs.Memory.{Cell, Block, Memory, no_block, block_at, Target, target, is_in_range, range, overlaid, with_cells, new_block, make, released, release}
+use Rattle.qs_memory.specs.Memory.{Cell, Block, Memory, no_block, block_at, Target, target, is_in_range, range, overlaid, with_cells, new_block, make}
+use Rattle.qs_memory.specs.Memory.{released, release}
 use Rattle.qs_memory.specs.Soundness.{IsLive, ComesAfter}
+use Rattle.qs_memory.specs.Accesses.{IsAccess, MayRead}
 use Rattle.qs_memory.specs.Laws.{AreFresh, AreReleased}
 use Rattle.qs_memory.proofs.Options.{followed, only_if_value, only_if-then}
 
@@ -44,26 +49,53 @@ range_is m p size alignment t h =
     (record { is = at.is; live = at.live; fits = grind (arith, nat_tests, c.0); aligned = grind (arith, nat_tests, c.0) })
 
 -- a range as two tests on its block
-pub range-into : (m : Memory) (b o size alignment : ℕ) → range m (into b o) size alignment ≡ only_if (block_at m b).is_live (only_if (nat_le (o + size) (block_at m b).size && o % alignment == 0) (Some (record { block = b; offset = o })))
+pub range-into :
+    (m : Memory) (b o size alignment : ℕ)
+    → range m (into b o) size alignment
+    ≡ only_if (block_at m b).is_live (only_if (nat_le (o + size) (block_at m b).size && o % alignment == 0) (Some (record { block = b; offset = o })))
 range-into m b o size alignment = only_if-then (block_at m b).is_live _ _
 
 -- ranges look at no cells
-pub range-like : (m later : Memory) (b o size alignment : ℕ) → (block_at later b).is_live ≡ (block_at m b).is_live → (block_at later b).size ≡ (block_at m b).size → range later (into b o) size alignment ≡ range m (into b o) size alignment
+pub range-like :
+    (m later : Memory) (b o size alignment : ℕ) → (block_at later b).is_live ≡ (block_at m b).is_live → (block_at later b).size ≡ (block_at m b).size
+    → range later (into b o) size alignment ≡ range m (into b o) size alignment
 range-like m later b o size alignment live long =
     range-into later b o size alignment
     ∙ ap₂ (λ l s. only_if l (only_if (nat_le (o + size) s && o % alignment == 0) (Some (record { block = b; offset = o })))) live long
     ∙ sym (range-into m b o size alignment)
 
+-- a range is an access that may be made
+pub range_access : (m : Memory) (p : Pointer) (size alignment : ℕ) (t : Target) → IsRange m p size alignment t → MayRead m p size alignment
+range_access m p size alignment t at =
+    let zero_left = at.aligned in
+    let whole = mod-add-div t.offset alignment in
+    let product = mul_comm alignment (t.offset / alignment) in
+    subst (λ (q : Pointer). MayRead m q size alignment) (sym at.is)
+    (record { live = at.live; inside = at.fits; multiple = t.offset / alignment; aligned = omega arith })
+
+pub access_range :
+    (m : Memory) (b o size alignment : ℕ) → IsAccess m b o size alignment → range m (into b o) size alignment ≡ Some (record { block = b; offset = o })
+access_range m b o size alignment may =
+    let fits = may.inside in
+    let aligned : o % alignment ≡ 0 = ap (λ n. n % alignment) may.aligned ∙ mul-mod_left may.multiple alignment in
+    let test : (nat_le (o + size) (block_at m b).size && o % alignment == 0) ≡ true = grind (arith, nat_tests, fits, aligned) in
+    range-into m b o size alignment
+    ∙ ap₂ (λ l t. only_if l (only_if t (Some (record { block = b; offset = o })))) may.live test
+
 -- ---- cells are written
 
-pub written : (m : Memory) (t : Target) (new : List Cell) → IsLive m t.block → block_at (with_cells m t new) t.block ≡ record (block_at m t.block) { cells = overlaid new t.offset (block_at m t.block).cells }
+pub written :
+    (m : Memory) (t : Target) (new : List Cell) → IsLive m t.block
+    → block_at (with_cells m t new) t.block ≡ record (block_at m t.block) { cells = overlaid new t.offset (block_at m t.block).cells }
 written m t new live = get_or-set_same m t.block _ no_block (live_known m t.block live)
 
 pub not_written : (m : Memory) (t : Target) (new : List Cell) (b : ℕ) → (b ≡ t.block → ⊥) → block_at (with_cells m t new) b ≡ block_at m b
 not_written m t new b other = get_or-set_other m t.block b _ no_block other
 
 -- what no write changes
-unwritten : {A : Type 0} → (of : Block → A) → ((block : Block) (cells : ℕ → Cell) → of (record block { cells = cells }) ≡ of block) → (m : Memory) (t : Target) (new : List Cell) → IsLive m t.block → (b : ℕ) → of (block_at (with_cells m t new) b) ≡ of (block_at m b)
+unwritten :
+    {A : Type 0} → (of : Block → A) → ((block : Block) (cells : ℕ → Cell) → of (record block { cells = cells }) ≡ of block)
+    → (m : Memory) (t : Target) (new : List Cell) → IsLive m t.block → (b : ℕ) → of (block_at (with_cells m t new) b) ≡ of (block_at m b)
 unwritten of same m t new live b =
     ⊎_elim
     (λ (here : b ≡ t.block). subst (λ (c : ℕ). of (block_at (with_cells m t new) c) ≡ of (block_at m c)) (sym here) (ap of (written m t new live) ∙ same (block_at m t.block) _))
@@ -73,11 +105,22 @@ unwritten of same m t new live b =
 pub size_kept : (m : Memory) (t : Target) (new : List Cell) → IsLive m t.block → (b : ℕ) → (block_at (with_cells m t new) b).size ≡ (block_at m b).size
 size_kept = unwritten (λ block. block.size) (λ block cells. refl)
 
-pub liveness_kept : (m : Memory) (t : Target) (new : List Cell) → IsLive m t.block → (b : ℕ) → (block_at (with_cells m t new) b).is_live ≡ (block_at m b).is_live
+pub liveness_kept :
+    (m : Memory) (t : Target) (new : List Cell) → IsLive m t.block → (b : ℕ) → (block_at (with_cells m t new) b).is_live ≡ (block_at m b).is_live
 liveness_kept = unwritten (λ block. block.is_live) (λ block cells. refl)
 
-pub writability_kept : (m : Memory) (t : Target) (new : List Cell) → IsLive m t.block → (b : ℕ) → (block_at (with_cells m t new) b).is_writable ≡ (block_at m b).is_writable
+pub writability_kept :
+    (m : Memory) (t : Target) (new : List Cell) → IsLive m t.block → (b : ℕ)
+    → (block_at (with_cells m t new) b).is_writable ≡ (block_at m b).is_writable
 writability_kept = unwritten (λ block. block.is_writable) (λ block cells. refl)
+
+-- the place of an access is what it was before a write
+pub range_kept :
+    (m : Memory) (t : Target) (new : List Cell) → IsLive m t.block → (p : Pointer) (size alignment : ℕ) (u : Target) → p ≡ into u.block u.offset
+    → range (with_cells m t new) p size alignment ≡ range m p size alignment
+range_kept m t new live p size alignment u is =
+    subst (λ (q : Pointer). range (with_cells m t new) q size alignment ≡ range m q size alignment) (sym is)
+    (range-like m (with_cells m t new) u.block u.offset size alignment (liveness_kept m t new live u.block) (size_kept m t new live u.block))
 
 pub length-with_cells : (m : Memory) (t : Target) (new : List Cell) → length (with_cells m t new) ≡ length m
 length-with_cells m t new = length-set m t.block _
@@ -179,7 +222,8 @@ after_release first m = record {
   longer = omega (arith, length-release first m);
   live = λ b h l. ap (λ (k : Block). k.is_live) (sym (release_old first m b (live_below first m b l))) ∙ l;
   size = λ b h. released_size first m b;
-  writable = λ b h. ⊎_elim (λ lt. ap (λ (k : Block). k.is_writable) (release_old first m b lt)) (λ ge. ap (λ (k : Block). k.is_writable) (release_new first m b ge)) (cases_lt b first);
+  writable = λ b h.
+      ⊎_elim (λ lt. ap (λ (k : Block). k.is_writable) (release_old first m b lt)) (λ ge. ap (λ (k : Block). k.is_writable) (release_new first m b ge)) (cases_lt b first);
 }
 
 -- ---- one after another

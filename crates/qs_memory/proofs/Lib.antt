@@ -3,7 +3,13 @@ pub mod CellLaws
 pub mod BlockLaws
 pub mod StoreLaws
 pub mod StepLaws
+pub mod WriteLaws
+pub mod DefinedLaws
 pub mod SoundLaws
 pub mod ValueLaws
+pub mod TypeLaws
+pub mod PointerLaws
+mod Tables
 mod AccessExamples
 mod OperationExamples
+mod PointerExamples

@@ -1,162 +1,189 @@
--- Operations that are just defined and just undefined, computed from the definitions. 4294967295 is the `int` -1, 2147483648 the least one.
-use Rattle.std.proofs.Common.{◌≡◌, true, false, [], ◌∷◌, Some, None, refl}
-use Rattle.qs_memory.specs.Values.{null, into, integer, address, convert}
-use Rattle.qs_memory.specs.Integers.{calculate, compares}
-use Rattle.qs_memory.specs.Memory.{Memory, new_block}
+-- Operations and conversions, computed from the definitions: each operator beside its neighbours, and what is just defined and just undefined.
+-- 4294967295 is the `int` -1, 2147483648 the least one.
+use Rattle.std.proofs.Common.{ℕ, [], ◌∷◌, List, Option, refl}
+use Rattle.qs_memory.specs.Values.{Value, integer, address, null, into, convert}
 use Rattle.qs_memory.specs.Operations.{apply_unary, apply_binary}
 use Rattle.qs_memory.specs.declared.scalar.Scalar.TheVariants as scalars
+use Rattle.qs_memory.specs.declared.operation.Signedness.{Signedness}
 use Rattle.qs_memory.specs.declared.operation.Signedness.TheVariants.{Signed, Unsigned}
-use Rattle.qs_memory.specs.declared.operation.Arithmetic.TheVariants as arithmetics
-use Rattle.qs_memory.specs.declared.operation.Comparison.TheVariants as comparisons
-use Rattle.qs_memory.specs.declared.operation.Direction.TheVariants.{Up, Down}
+use Rattle.qs_memory.specs.declared.operation.Arithmetic.{Arithmetic}
+use Rattle.qs_memory.specs.declared.operation.Arithmetic.TheVariants.{Add, Subtract, Multiply, Divide, Remainder, ShiftLeft, ShiftRight, And, Or, Xor}
+use Rattle.qs_memory.specs.declared.operation.Comparison.{Comparison}
+use Rattle.qs_memory.specs.declared.operation.Comparison.TheVariants.{Less, LessOrEqual, Greater, GreaterOrEqual, Equal, NotEqual}
+use Rattle.qs_memory.specs.declared.operation.Direction.TheVariants.{Up}
 use Rattle.qs_memory.specs.declared.operation.UnaryOperation.TheVariants as unaries
 use Rattle.qs_memory.specs.declared.operation.BinaryOperation.TheVariants as binaries
+use Rattle.qs_memory.proofs.Tables.{◌gives◌, Holds, word, at, null_pointer, undefined, yes, not_so}
 
--- ---- sums wrap
+-- ---- integers
 
-sum_wraps : calculate arithmetics.Add Signed 2147483647 1 ≡ Some 2147483648
-sum_wraps = refl
+abbrev result : Arithmetic → Signedness → ℕ → ℕ → Option Value
+result op s x y = apply_binary (binaries.Arithmetic op s) [] (integer x) (integer y)
 
-difference_wraps : calculate arithmetics.Subtract Unsigned 0 1 ≡ Some 4294967295
-difference_wraps = refl
+-- 29 is 11101 and 3 is 00011: no two operators give the same, nor do the operands exchanged
+each_operator :
+    Holds (
+    (result Add Signed 29 3 gives word 32)
+    ∷ (result Subtract Signed 29 3 gives word 26)
+    ∷ (result Multiply Signed 29 3 gives word 87)
+    ∷ (result Divide Signed 29 3 gives word 9)
+    ∷ (result Remainder Signed 29 3 gives word 2)
+    ∷ (result ShiftLeft Signed 29 3 gives word 232)
+    ∷ (result ShiftRight Signed 29 3 gives word 3)
+    ∷ (result And Signed 29 3 gives word 1)
+    ∷ (result Or Signed 29 3 gives word 31)
+    ∷ (result Xor Signed 29 3 gives word 30)
+    ∷ (result Add Unsigned 29 3 gives word 32)
+    ∷ (result Subtract Unsigned 29 3 gives word 26)
+    ∷ (result Multiply Unsigned 29 3 gives word 87)
+    ∷ (result Divide Unsigned 29 3 gives word 9)
+    ∷ (result Remainder Unsigned 29 3 gives word 2)
+    ∷ (result ShiftLeft Unsigned 29 3 gives word 232)
+    ∷ (result ShiftRight Unsigned 29 3 gives word 3)
+    ∷ (result And Unsigned 29 3 gives word 1)
+    ∷ (result Or Unsigned 29 3 gives word 31)
+    ∷ (result Xor Unsigned 29 3 gives word 30)
+    ∷ [])
+each_operator = refl
 
-product_wraps : calculate arithmetics.Multiply Signed 65536 65536 ≡ Some 0
-product_wraps = refl
+operators_wrap :
+    Holds (
+    (result Add Signed 2147483647 1 gives word 2147483648)
+    ∷ (result Add Unsigned 4294967295 2 gives word 1)
+    ∷ (result Subtract Signed 2147483648 1 gives word 2147483647)
+    ∷ (result Subtract Unsigned 0 1 gives word 4294967295)
+    ∷ (result Multiply Signed 65536 65537 gives word 65536)
+    ∷ (result Multiply Unsigned 4294967295 4294967295 gives word 1)
+    ∷ (result ShiftLeft Signed 3 31 gives word 2147483648)
+    ∷ (result ShiftLeft Unsigned 4294967295 1 gives word 4294967294)
+    ∷ [])
+operators_wrap = refl
 
--- ---- undefined 2
+-- -7 / 2 is -3 and leaves -1, 7 / -2 is -3 and leaves 1
+signs :
+    Holds (
+    (result Divide Signed 4294967289 2 gives word 4294967293)
+    ∷ (result Remainder Signed 4294967289 2 gives word 4294967295)
+    ∷ (result Divide Signed 7 4294967294 gives word 4294967293)
+    ∷ (result Remainder Signed 7 4294967294 gives word 1)
+    ∷ (result Divide Unsigned 4294967289 2 gives word 2147483644)
+    ∷ (result Remainder Unsigned 4294967289 2 gives word 1)
+    ∷ (result ShiftRight Signed 4294967288 1 gives word 4294967292)
+    ∷ (result ShiftRight Unsigned 4294967288 1 gives word 2147483644)
+    ∷ [])
+signs = refl
 
-by_zero : calculate arithmetics.Divide Unsigned 5 0 ≡ None
-by_zero = refl
+-- undefined 2
+quotients :
+    Holds (
+    (result Divide Signed 5 0 gives undefined)
+    ∷ (result Divide Unsigned 5 0 gives undefined)
+    ∷ (result Remainder Signed 5 0 gives undefined)
+    ∷ (result Remainder Unsigned 5 0 gives undefined)
+    ∷ (result Divide Signed 2147483648 4294967295 gives undefined)
+    ∷ (result Remainder Signed 2147483648 4294967295 gives undefined)
+    ∷ (result Divide Unsigned 2147483648 4294967295 gives word 0)
+    ∷ (result Remainder Unsigned 2147483648 4294967295 gives word 2147483648)
+    ∷ (result Divide Signed 2147483649 4294967295 gives word 2147483647)
+    ∷ (result Remainder Signed 2147483649 4294967295 gives word 0)
+    ∷ (result Divide Signed 2147483648 1 gives word 2147483648)
+    ∷ (result Divide Signed 0 5 gives word 0)
+    ∷ [])
+quotients = refl
 
-remainder_by_zero : calculate arithmetics.Remainder Signed 5 0 ≡ None
-remainder_by_zero = refl
+-- undefined 3
+shifts :
+    Holds (
+    (result ShiftLeft Signed 1 31 gives word 2147483648)
+    ∷ (result ShiftLeft Signed 1 32 gives undefined)
+    ∷ (result ShiftLeft Unsigned 1 4294967295 gives undefined)
+    ∷ (result ShiftRight Signed 2147483648 31 gives word 4294967295)
+    ∷ (result ShiftRight Unsigned 2147483648 31 gives word 1)
+    ∷ (result ShiftRight Unsigned 1 32 gives undefined)
+    ∷ (result ShiftRight Signed 1 4294967295 gives undefined)
+    ∷ (result ShiftLeft Signed 1 0 gives word 1)
+    ∷ [])
+shifts = refl
 
-least_by_minus_one : calculate arithmetics.Divide Signed 2147483648 4294967295 ≡ None
-least_by_minus_one = refl
+-- ---- comparisons
 
-least_modulo_minus_one : calculate arithmetics.Remainder Signed 2147483648 4294967295 ≡ None
-least_modulo_minus_one = refl
+-- 1 with 2, 2 with 2, 2 with 1, -1 or 4294967295 with 0, and 0 with that
+abbrev compared : Comparison → Signedness → List (Option Value)
+compared op s = on 1 2 ∷ on 2 2 ∷ on 2 1 ∷ on 4294967295 0 ∷ on 0 4294967295 ∷ []
+  where
+    on : ℕ → ℕ → Option Value
+    on x y = apply_binary (binaries.Compare op s) [] (integer x) (integer y)
 
-same_words_unsigned : calculate arithmetics.Divide Unsigned 2147483648 4294967295 ≡ Some 0
-same_words_unsigned = refl
+each_comparison :
+    Holds (
+    (compared Less Signed gives (yes ∷ not_so ∷ not_so ∷ yes ∷ not_so ∷ []))
+    ∷ (compared LessOrEqual Signed gives (yes ∷ yes ∷ not_so ∷ yes ∷ not_so ∷ []))
+    ∷ (compared Greater Signed gives (not_so ∷ not_so ∷ yes ∷ not_so ∷ yes ∷ []))
+    ∷ (compared GreaterOrEqual Signed gives (not_so ∷ yes ∷ yes ∷ not_so ∷ yes ∷ []))
+    ∷ (compared Equal Signed gives (not_so ∷ yes ∷ not_so ∷ not_so ∷ not_so ∷ []))
+    ∷ (compared NotEqual Signed gives (yes ∷ not_so ∷ yes ∷ yes ∷ yes ∷ []))
+    ∷ (compared Less Unsigned gives (yes ∷ not_so ∷ not_so ∷ not_so ∷ yes ∷ []))
+    ∷ (compared LessOrEqual Unsigned gives (yes ∷ yes ∷ not_so ∷ not_so ∷ yes ∷ []))
+    ∷ (compared Greater Unsigned gives (not_so ∷ not_so ∷ yes ∷ yes ∷ not_so ∷ []))
+    ∷ (compared GreaterOrEqual Unsigned gives (not_so ∷ yes ∷ yes ∷ yes ∷ not_so ∷ []))
+    ∷ (compared Equal Unsigned gives (not_so ∷ yes ∷ not_so ∷ not_so ∷ not_so ∷ []))
+    ∷ (compared NotEqual Unsigned gives (yes ∷ not_so ∷ yes ∷ yes ∷ yes ∷ []))
+    ∷ [])
+each_comparison = refl
 
-almost_least_by_minus_one : calculate arithmetics.Divide Signed 2147483649 4294967295 ≡ Some 2147483647
-almost_least_by_minus_one = refl
+-- ---- operations on one value
 
--- -7 / 2 is -3, and -7 % 2 is -1
-toward_zero : calculate arithmetics.Divide Signed 4294967289 2 ≡ Some 4294967293
-toward_zero = refl
+each_unary :
+    Holds (
+    (apply_unary (unaries.Plus Signed) [] (integer 4294967291) gives word 4294967291)
+    ∷ (apply_unary (unaries.Minus Signed) [] (integer 5) gives word 4294967291)
+    ∷ (apply_unary (unaries.Minus Unsigned) [] (integer 0) gives word 0)
+    ∷ (apply_unary (unaries.Minus Signed) [] (integer 2147483648) gives word 2147483648)
+    ∷ (apply_unary (unaries.Complement Signed) [] (integer 5) gives word 4294967290)
+    ∷ (apply_unary (unaries.Complement Unsigned) [] (integer 4294967295) gives word 0)
+    ∷ (apply_unary unaries.Not [] (integer 5) gives word 0)
+    ∷ (apply_unary unaries.Not [] (integer 0) gives word 1)
+    ∷ (apply_unary unaries.Truth [] (integer 5) gives word 1)
+    ∷ (apply_unary unaries.Truth [] (integer 0) gives word 0)
+    ∷ (apply_unary unaries.Truth [] (integer 2147483648) gives word 1)
+    ∷ [])
+each_unary = refl
 
-sign_of_the_dividend : calculate arithmetics.Remainder Signed 4294967289 2 ≡ Some 4294967295
-sign_of_the_dividend = refl
+-- ---- conversions
 
--- ---- undefined 3
+each_conversion :
+    Holds (
+    (convert scalars.Char (integer 4294967295) gives word 255)
+    ∷ (convert scalars.Char (integer 256) gives word 0)
+    ∷ (convert scalars.Char (integer 200) gives word 200)
+    ∷ (convert scalars.Int (integer 4294967295) gives word 4294967295)
+    ∷ (convert scalars.Unsigned (integer 4294967295) gives word 4294967295)
+    ∷ (convert scalars.Pointer (integer 0) gives null_pointer)
+    ∷ (convert scalars.Pointer (integer 1) gives undefined)
+    ∷ (convert scalars.Pointer (address (into 3 4)) gives at 3 4)
+    ∷ (convert scalars.Pointer (address null) gives null_pointer)
+    ∷ (convert scalars.Char (address null) gives undefined)
+    ∷ (convert scalars.Int (address null) gives undefined)
+    ∷ (convert scalars.Unsigned (address null) gives undefined)
+    ∷ [])
+each_conversion = refl
 
-shift_by_31 : calculate arithmetics.ShiftLeft Signed 1 31 ≡ Some 2147483648
-shift_by_31 = refl
+-- ---- operands of another kind
 
-shift_by_32 : calculate arithmetics.ShiftLeft Signed 1 32 ≡ None
-shift_by_32 = refl
-
-shift_by_minus_one : calculate arithmetics.ShiftRight Unsigned 1 4294967295 ≡ None
-shift_by_minus_one = refl
-
-arithmetic_shift : calculate arithmetics.ShiftRight Signed 4294967288 1 ≡ Some 4294967292
-arithmetic_shift = refl
-
-logical_shift : calculate arithmetics.ShiftRight Unsigned 4294967288 1 ≡ Some 2147483644
-logical_shift = refl
-
--- ---- comparisons, and the types of operands
-
-minus_one_is_less : compares comparisons.Less Signed 4294967295 0 ≡ true
-minus_one_is_less = refl
-
-greatest_is_not : compares comparisons.Less Unsigned 4294967295 0 ≡ false
-greatest_is_not = refl
-
-to_char : convert scalars.Char (integer 4294967295) ≡ Some (integer 255)
-to_char = refl
-
-null_constant : convert scalars.Pointer (integer 0) ≡ Some (address null)
-null_constant = refl
-
-complement_of_zero : apply_unary (unaries.Complement Signed) [] (integer 0) ≡ Some (integer 4294967295)
-complement_of_zero = refl
-
-minus_zero : apply_unary (unaries.Minus Unsigned) [] (integer 0) ≡ Some (integer 0)
-minus_zero = refl
-
--- ---- pointers: blocks 0 and 1 have eight bytes, block 2 is released
-
-abbrev blocks : Memory
-blocks = new_block 8 ∷ new_block 8 ∷ record (new_block 8) { is_live = false } ∷ []
-
--- undefined 5
-
-to_the_end : apply_binary (binaries.Move Up Signed 4) blocks (address (into 0 0)) (integer 2) ≡ Some (address (into 0 8))
-to_the_end = refl
-
-past_the_end : apply_binary (binaries.Move Up Signed 4) blocks (address (into 0 0)) (integer 3) ≡ None
-past_the_end = refl
-
-back_to_the_start : apply_binary (binaries.Move Up Signed 4) blocks (address (into 0 4)) (integer 4294967295) ≡ Some (address (into 0 0))
-back_to_the_start = refl
-
-before_the_start : apply_binary (binaries.Move Down Unsigned 4) blocks (address (into 0 0)) (integer 1) ≡ None
-before_the_start = refl
-
-unsigned_goes_by_its_value : apply_binary (binaries.Move Up Unsigned 4) blocks (address (into 0 4)) (integer 4294967295) ≡ None
-unsigned_goes_by_its_value = refl
-
-null_plus_zero : apply_binary (binaries.Move Up Signed 4) blocks (address null) (integer 0) ≡ None
-null_plus_zero = refl
-
-released_plus_zero : apply_binary (binaries.Move Up Signed 4) blocks (address (into 2 0)) (integer 0) ≡ None
-released_plus_zero = refl
-
--- undefined 6
-
-elements_apart : apply_binary (binaries.Difference 4) blocks (address (into 0 0)) (address (into 0 8)) ≡ Some (integer 4294967294)
-elements_apart = refl
-
-no_whole_elements : apply_binary (binaries.Difference 4) blocks (address (into 0 7)) (address (into 0 0)) ≡ None
-no_whole_elements = refl
-
-blocks_apart : apply_binary (binaries.Difference 4) blocks (address (into 0 0)) (address (into 1 0)) ≡ None
-blocks_apart = refl
-
-ordered : apply_binary (binaries.ComparePointers comparisons.Less) blocks (address (into 0 4)) (address (into 0 8)) ≡ Some (integer 1)
-ordered = refl
-
-order_of_blocks : apply_binary (binaries.ComparePointers comparisons.Less) blocks (address (into 0 4)) (address (into 1 4)) ≡ None
-order_of_blocks = refl
-
-order_with_null : apply_binary (binaries.ComparePointers comparisons.LessOrEqual) blocks (address null) (address null) ≡ None
-order_with_null = refl
-
--- undefined 7
-
-both_inside : apply_binary (binaries.ComparePointers comparisons.Equal) blocks (address (into 0 7)) (address (into 1 0)) ≡ Some (integer 0)
-both_inside = refl
-
-one_past_the_end : apply_binary (binaries.ComparePointers comparisons.Equal) blocks (address (into 0 8)) (address (into 1 0)) ≡ None
-one_past_the_end = refl
-
-ends_of_one_block : apply_binary (binaries.ComparePointers comparisons.NotEqual) blocks (address (into 0 8)) (address (into 0 8)) ≡ Some (integer 0)
-ends_of_one_block = refl
-
-released_with_itself : apply_binary (binaries.ComparePointers comparisons.Equal) blocks (address (into 2 0)) (address (into 2 0)) ≡ None
-released_with_itself = refl
-
-end_with_null : apply_binary (binaries.ComparePointers comparisons.Equal) blocks (address (into 0 8)) (address null) ≡ Some (integer 0)
-end_with_null = refl
-
-released_with_null : apply_binary (binaries.ComparePointers comparisons.Equal) blocks (address null) (address (into 2 0)) ≡ None
-released_with_null = refl
-
-truth_of_null : apply_unary unaries.Truth blocks (address null) ≡ Some (integer 0)
-truth_of_null = refl
-
-truth_of_a_released_pointer : apply_unary unaries.Not blocks (address (into 2 4)) ≡ None
-truth_of_a_released_pointer = refl
+other_kinds :
+    Holds (
+    (apply_unary (unaries.Plus Signed) [] (address null) gives undefined)
+    ∷ (apply_unary (unaries.Minus Signed) [] (address null) gives undefined)
+    ∷ (apply_unary (unaries.Complement Signed) [] (address null) gives undefined)
+    ∷ (apply_binary (binaries.Arithmetic Add Signed) [] (address null) (integer 1) gives undefined)
+    ∷ (apply_binary (binaries.Arithmetic Add Signed) [] (integer 1) (address null) gives undefined)
+    ∷ (apply_binary (binaries.Compare Equal Signed) [] (address null) (integer 0) gives undefined)
+    ∷ (apply_binary (binaries.Compare Equal Signed) [] (integer 0) (address null) gives undefined)
+    ∷ (apply_binary (binaries.Move Up Signed 1) [] (integer 0) (integer 0) gives undefined)
+    ∷ (apply_binary (binaries.Move Up Signed 1) [] (address null) (address null) gives undefined)
+    ∷ (apply_binary (binaries.Difference 1) [] (integer 0) (address null) gives undefined)
+    ∷ (apply_binary (binaries.Difference 1) [] (address null) (integer 0) gives undefined)
+    ∷ (apply_binary (binaries.ComparePointers Equal) [] (integer 0) (address null) gives undefined)
+    ∷ (apply_binary (binaries.ComparePointers Equal) [] (address null) (integer 0) gives undefined)
+    ∷ [])
+other_kinds = refl

@@ -1,5 +1,5 @@
 -- What a defined answer says of the steps that led to it.
-use Rattle.std.proofs.Common.{◌≡◌, Bool, true, false, Option, Some, None, refl}
+use Rattle.std.proofs.Common.{◌≡◌, Bool, true, false, Option, Some, None, is_some, IsSome, refl, sym, ap}
 use Rattle.qs_memory.specs.Partial.{◌>>=◌, only_if}
 
 pub some_same : {A : Type 0} → (x y : A) → Some x ≡ Some y → x ≡ y
@@ -30,3 +30,30 @@ only_if-then false x next = refl
 pub only_if-or_none : {A B : Type 0} → (test : Bool) (o : Option A) (next : A → Option B) → (only_if test o >>= next) ≡ only_if test (o >>= next)
 only_if-or_none true o next = refl
 only_if-or_none false o next = refl
+
+-- ---- answers that are defined
+
+pub record Answer {A : Type 0} (o : Option A) : Type 0 where
+  pub value : A
+  pub is : o ≡ Some value
+
+pub answer_of : {A : Type 0} → (o : Option A) → IsSome o → Answer o
+answer_of None h = cc
+answer_of (Some x) h = record { value = x; is = refl }
+
+pub some_is : {A : Type 0} → (o : Option A) (x : A) → o ≡ Some x → IsSome o
+some_is o x h = ap is_some h
+
+pub some_then : {A B : Type 0} → (o : Option A) (f : A → B) → IsSome o → IsSome (o >>= λ x. Some (f x))
+some_then None f h = h
+some_then (Some x) f h = refl
+
+pub then_some : {A B : Type 0} → (o : Option A) (f : A → B) → IsSome (o >>= λ x. Some (f x)) → IsSome o
+then_some None f h = h
+then_some (Some x) f h = refl
+
+-- what each gives where the other does is the same
+pub same_answers : {A : Type 0} → (o r : Option A) → ((x : A) → o ≡ Some x → r ≡ Some x) → ((x : A) → r ≡ Some x → o ≡ Some x) → o ≡ r
+same_answers (Some x) r f g = sym (f x refl)
+same_answers None (Some y) f g = g y refl
+same_answers None None f g = refl

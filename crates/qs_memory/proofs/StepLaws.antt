@@ -15,7 +15,9 @@ pub record Copied (size alignment : ℕ) (m : Memory) (to from : Pointer) (after
   pub wrote : Wrote m to size alignment (cells_at m source size) after
   pub apart : overlap wrote.at source size ≡ false
 
-pub copied : (size alignment : ℕ) (m : Memory) (to from : Pointer) (after : Memory) → copy size alignment m to from ≡ Some after → Copied size alignment m to from after
+pub copied :
+    (size alignment : ℕ) (m : Memory) (to from : Pointer) (after : Memory) → copy size alignment m to from ≡ Some after
+    → Copied size alignment m to from after
 copied size alignment m to from after h =
     let a = followed (range m to size alignment) _ after h in
     let b = followed (range m from size alignment) _ after a.then in
@@ -32,7 +34,9 @@ copied size alignment m to from after h =
     not_true true e = cc
     not_true false e = refl
 
-pub filled : (blank : BlankTree) (m : Memory) (p : Pointer) (after : Memory) → fill blank m p ≡ Some after → Wrote m p (length (blank_cells blank)) 1 (blank_cells blank) after
+pub filled :
+    (blank : BlankTree) (m : Memory) (p : Pointer) (after : Memory) → fill blank m p ≡ Some after
+    → Wrote m p (length (blank_cells blank)) 1 (blank_cells blank) after
 filled blank m p after h =
     let a = followed (range m p (length (blank_cells blank)) 1) _ after h in
     let c = only_if_value (block_at m a.value.block).is_writable _ after a.then in

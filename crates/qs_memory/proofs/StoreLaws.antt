@@ -1,17 +1,21 @@
 -- Loads and stores after a store.
-use Rattle.std.proofs.Common.{◌≡◌, ◌≢◌, ◌⊎◌, inl, inr, ⊎_elim, ℕ, ◌+◌, ◌%◌, ◌≤◌, ◌==◌, ◌&&◌, nat_le, Bool, true, false, List, length, Some, refl, sym, ap, ap₂, ◌∙◌, subst, arith, ext_get_or}
+use Rattle.std.proofs.Common.{◌≡◌, ◌≢◌, ◌⊎◌, inl, inr, ⊎_elim, ℕ, ◌+◌, ◌%◌, ◌≤◌, ◌==◌, ◌&&◌, nat_le, Bool, true, false, List, length, Some, refl, sym}
+use Rattle.std.proofs.Common.{ap, ap₂, ◌∙◌, subst, arith, ext_get_or}
 use Rattle.std.proofs.Math.Path.{fun_ext}
 use Rattle.std.proofs.lemmas.Bool.{cases_eq}
 use Rattle.std.proofs.lemmas.Bool.Decides.{nat_tests}
 use Rattle.qs_memory.specs.Partial.{◌>>=◌, only_if}
 use Rattle.qs_memory.specs.Values.{Pointer, null, into, Value, width}
-use Rattle.qs_memory.specs.Memory.{Cell, Block, Memory, no_block, block_at, Target, range, cells_from, overlaid, cells_at, with_cells, cells_of, value_of, load, store}
+use Rattle.qs_memory.specs.Memory.{Cell, Block, Memory, no_block, block_at, Target, range, cells_from, overlaid, cells_at, with_cells, write_cells}
+use Rattle.qs_memory.specs.Memory.{cells_of, value_of, load, store}
 use Rattle.qs_memory.specs.declared.scalar.Scalar.{Scalar}
 use Rattle.qs_memory.specs.Soundness.{IsLive}
-use Rattle.qs_memory.specs.Laws.{AreApart, LoadAfterStore, LoadElsewhere, StoresCommute}
-use Rattle.qs_memory.proofs.Options.{some_same, followed, only_if_value}
+use Rattle.qs_memory.specs.Accesses.{AreApart}
+use Rattle.qs_memory.specs.Laws.{LoadAfterStore, LoadElsewhere, StoresCommute}
+use Rattle.qs_memory.proofs.Options.{same_answers, followed, only_if_value}
 use Rattle.qs_memory.proofs.CellLaws.{cells_from-overlaid, cells_from-apart, overlaid-commute, CellsOf, cells_are}
-use Rattle.qs_memory.proofs.BlockLaws.{IsRange, range_is, range-into, range-like, written, not_written, size_kept, liveness_kept, length-with_cells}
+use Rattle.qs_memory.proofs.BlockLaws.{IsRange, range_is, range-into, range-like, range_kept, written, not_written, size_kept, liveness_kept}
+use Rattle.qs_memory.proofs.BlockLaws.{writability_kept, length-with_cells}
 
 -- what a write of cells did
 pub record Wrote (m : Memory) (p : Pointer) (size alignment : ℕ) (new : List Cell) (after : Memory) : Type 0 where
@@ -40,19 +44,36 @@ stored s m p v after h =
       wrote = record { at = a.value; range = a.first; is = range_is m p (width s) (width s) a.value a.first; writable = c.0; gives = c.1 };
     }
 
+-- a store from its parts
+pub store_gives :
+    (s : Scalar) (m : Memory) (p : Pointer) (v : Value) (t : Target) (new : List Cell) → range m p (width s) (width s) ≡ Some t → cells_of s v ≡ Some new
+    → (block_at m t.block).is_writable ≡ true → store s m p v ≡ Some (with_cells m t new)
+store_gives s m p v t new at cells writable =
+    ap (λ o. o >>= λ u. cells_of s v >>= λ c. write_cells m u c) at
+    ∙ ap (λ o. o >>= λ c. write_cells m t c) cells
+    ∙ ap (λ b. only_if b (Some (with_cells m t new))) writable
+
 -- a load as two tests on its block, and its cells
-pub load-into : (t : Scalar) (m : Memory) (c j : ℕ) → load t m (into c j) ≡ only_if (block_at m c).is_live (only_if (nat_le (j + width t) (block_at m c).size && j % width t == 0) (value_of t (cells_from (block_at m c).cells j (width t))))
+pub load-into :
+    (t : Scalar) (m : Memory) (c j : ℕ)
+    → load t m (into c j)
+    ≡ only_if (block_at m c).is_live (only_if (nat_le (j + width t) (block_at m c).size && j % width t == 0) (value_of t (cells_from (block_at m c).cells j (width t))))
 load-into t m c j =
     ap (λ o. o >>= λ u. value_of t (cells_at m u (width t))) (range-into m c j (width t) (width t))
     ∙ twice (block_at m c).is_live (nat_le (j + width t) (block_at m c).size && j % width t == 0)
   where
-    twice : (a b : Bool) → (only_if a (only_if b (Some (record { block = c; offset = j }))) >>= λ (u : Target). value_of t (cells_at m u (width t))) ≡ only_if a (only_if b (value_of t (cells_from (block_at m c).cells j (width t))))
+    twice :
+        (a b : Bool)
+        → (only_if a (only_if b (Some (record { block = c; offset = j }))) >>= λ (u : Target). value_of t (cells_at m u (width t)))
+        ≡ only_if a (only_if b (value_of t (cells_from (block_at m c).cells j (width t))))
     twice true true = refl
     twice true false = refl
     twice false b = refl
 
 -- loads look at marks, sizes and the cells that they read
-pub load-like : (t : Scalar) (m later : Memory) (c j : ℕ) → (block_at later c).is_live ≡ (block_at m c).is_live → (block_at later c).size ≡ (block_at m c).size → cells_from (block_at later c).cells j (width t) ≡ cells_from (block_at m c).cells j (width t) → load t later (into c j) ≡ load t m (into c j)
+pub load-like :
+    (t : Scalar) (m later : Memory) (c j : ℕ) → (block_at later c).is_live ≡ (block_at m c).is_live → (block_at later c).size ≡ (block_at m c).size
+    → cells_from (block_at later c).cells j (width t) ≡ cells_from (block_at m c).cells j (width t) → load t later (into c j) ≡ load t m (into c j)
 load-like t m later c j live long cells =
     load-into t later c j
     ∙ ap₂ (λ l n. only_if l (only_if (nat_le (j + width t) n && j % width t == 0) (value_of t (cells_from (block_at later c).cells j (width t))))) live long
@@ -77,7 +98,10 @@ load_after_store s m after p v h =
     ∙ ap (value_of s) cells
     ∙ st.are.back
 
-elsewhere : (t : Scalar) (m : Memory) (u : Target) (new : List Cell) (c j : ℕ) → IsLive m u.block → (u.block ≢ c) ⊎ ((u.offset + length new ≤ j) ⊎ (j + width t ≤ u.offset)) → cells_from (block_at (with_cells m u new) c).cells j (width t) ≡ cells_from (block_at m c).cells j (width t)
+elsewhere :
+    (t : Scalar) (m : Memory) (u : Target) (new : List Cell) (c j : ℕ) → IsLive m u.block
+    → (u.block ≢ c) ⊎ ((u.offset + length new ≤ j) ⊎ (j + width t ≤ u.offset))
+    → cells_from (block_at (with_cells m u new) c).cells j (width t) ≡ cells_from (block_at m c).cells j (width t)
 elsewhere t m u new c j live (inl other) = ap (λ (k : Block). cells_from k.cells j (width t)) (not_written m u new c (λ e. other (sym e)))
 elsewhere t m u new c j live (inr apart) =
     ⊎_elim
@@ -87,41 +111,37 @@ elsewhere t m u new c j live (inr apart) =
     (λ there. ap (λ (k : Block). cells_from k.cells j (width t)) (not_written m u new c there))
     (cases_eq c u.block)
 
-pub apart_at : (p : Pointer) (b i size other : ℕ) (q : Pointer) (c j : ℕ) → p ≡ into b i → q ≡ into c j → AreApart p size q other → (b ≢ c) ⊎ (i + size ≤ j) ⊎ (j + other ≤ i)
+pub apart_at :
+    (p : Pointer) (b i size other : ℕ) (q : Pointer) (c j : ℕ) → p ≡ into b i → q ≡ into c j → AreApart p size q other
+    → (b ≢ c) ⊎ (i + size ≤ j) ⊎ (j + other ≤ i)
 apart_at p b i size other q c j e f h =
     subst (λ (r : Pointer). AreApart (into b i) size r other) f (subst (λ (r : Pointer). AreApart r size q other) e h)
 
+-- a write elsewhere changes no load
+pub wrote_elsewhere :
+    (t : Scalar) (m after : Memory) (p q : Pointer) (size alignment : ℕ) (new : List Cell) → length new ≡ size → AreApart p size q (width t)
+    → Wrote m p size alignment new after → load t after q ≡ load t m q
+wrote_elsewhere t m after p null size alignment new long apart w = refl
+wrote_elsewhere t m after p (into c j) size alignment new long apart w =
+    let u : Target = w.at in
+    let there = apart_at p u.block u.offset size (width t) (into c j) c j w.is.is refl apart in
+    ap (λ (a : Memory). load t a (into c j)) (sym w.gives)
+    ∙ load-like t m (with_cells m u new) c j (liveness_kept m u new w.is.live c) (size_kept m u new w.is.live c)
+    (elsewhere t m u new c j w.is.live (subst (λ (n : ℕ). (u.block ≢ c) ⊎ ((u.offset + n ≤ j) ⊎ (j + width t ≤ u.offset))) (sym long) there))
+
 pub load_elsewhere : LoadElsewhere
-load_elsewhere s t m after p null v apart h = refl
-load_elsewhere s t m after p (into c j) v apart h =
-    let st = stored s m p v after h in
-    let u : Target = st.wrote.at in
-    let there = apart_at p u.block u.offset (width s) (width t) (into c j) c j st.wrote.is.is refl apart in
-    ap (λ (a : Memory). load t a (into c j)) (sym st.wrote.gives)
-    ∙ load-like t m (with_cells m u st.new) c j (liveness_kept m u st.new st.wrote.is.live c) (size_kept m u st.new st.wrote.is.live c)
-    (elsewhere t m u st.new c j st.wrote.is.live (subst (λ (n : ℕ). (u.block ≢ c) ⊎ ((u.offset + n ≤ j) ⊎ (j + width t ≤ u.offset))) (sym st.are.long) (nested there)))
-  where
-    nested : {A B C : Type 0} → A ⊎ B ⊎ C → A ⊎ (B ⊎ C)
-    nested h = h
+load_elsewhere s t m after p q v apart h =
+    let st = stored s m p v after h in wrote_elsewhere t m after p q (width s) (width s) st.new st.are.long apart st.wrote
 
 -- ---- two writes
-
-abbrev block_in : Pointer → ℕ
-block_in null = 0
-block_in (into b o) = b
-
-abbrev offset_in : Pointer → ℕ
-offset_in null = 0
-offset_in (into b o) = o
-
-pub same_target : (t u : Target) → into t.block t.offset ≡ into u.block u.offset → t ≡ u
-same_target t u e = ap₂ (λ b o. record { block = b; offset = o }) (ap block_in e) (ap offset_in e)
 
 abbrev laid : Bool → ℕ → List Cell → Block → Block
 laid true offset new k = record k { cells = overlaid new offset k.cells }
 laid false offset new k = k
 
-written_at : (m : Memory) (t : Target) (new : List Cell) → IsLive m t.block → (b : ℕ) → block_at (with_cells m t new) b ≡ laid (b == t.block) t.offset new (block_at m b)
+written_at :
+    (m : Memory) (t : Target) (new : List Cell) → IsLive m t.block → (b : ℕ)
+    → block_at (with_cells m t new) b ≡ laid (b == t.block) t.offset new (block_at m b)
 written_at m t new live b =
     ⊎_elim
     (λ (here : b ≡ t.block).
@@ -133,7 +153,9 @@ written_at m t new live b =
     not_written m t new b there ∙ ap (λ z. laid z t.offset new (block_at m b)) (sym is))
     (cases_eq b t.block)
 
-laid-commute : (x y : Bool) (i j : ℕ) (a b : List Cell) (k : Block) → ((x ≡ true) → (y ≡ true) → (i + length a ≤ j) ⊎ (j + length b ≤ i)) → laid y j b (laid x i a k) ≡ laid x i a (laid y j b k)
+laid-commute :
+    (x y : Bool) (i j : ℕ) (a b : List Cell) (k : Block) → ((x ≡ true) → (y ≡ true) → (i + length a ≤ j) ⊎ (j + length b ≤ i))
+    → laid y j b (laid x i a k) ≡ laid x i a (laid y j b k)
 laid-commute true true i j a b k apart = ap (λ cells. record k { cells = cells }) (fun_ext (λ at. overlaid-commute a b i j k.cells at (apart refl refl)))
 laid-commute true false i j a b k apart = refl
 laid-commute false true i j a b k apart = refl
@@ -153,30 +175,46 @@ writes_commute m t u new other live_t live_u apart =
     ∙ laid-commute (b == t.block) (b == u.block) t.offset u.offset new other (block_at m b) (λ x y. at b x y apart)
     ∙ sym (written_at (with_cells m u other) t new (liveness_kept m u other live_u t.block ∙ live_t) b ∙ ap (laid (b == t.block) t.offset new) (written_at m u other live_u b)))
   where
-    at : (b : ℕ) → (b == t.block) ≡ true → (b == u.block) ≡ true → (t.block ≢ u.block) ⊎ (t.offset + length new ≤ u.offset) ⊎ (u.offset + length other ≤ t.offset) → (t.offset + length new ≤ u.offset) ⊎ (u.offset + length other ≤ t.offset)
+    at :
+        (b : ℕ) → (b == t.block) ≡ true → (b == u.block) ≡ true
+        → (t.block ≢ u.block) ⊎ (t.offset + length new ≤ u.offset) ⊎ (u.offset + length other ≤ t.offset)
+        → (t.offset + length new ≤ u.offset) ⊎ (u.offset + length other ≤ t.offset)
     at b x y (inl differ) = let same : t.block ≡ u.block = grind (arith, nat_tests, x, y) in absurd (differ same)
     at b x y (inr apart) = apart
 
--- the cells of a value, and the place of an access, are the same in both orders
+-- the first order gives what the second does
+one_order :
+    (s t : Scalar) (m first both : Memory) (p q : Pointer) (v w : Value) → AreApart p (width s) q (width t)
+    → store s m p v ≡ Some first → store t first q w ≡ Some both → (store t m q w >>= λ second. store s second p v) ≡ Some both
+one_order s t m first both p q v w apart h k =
+    let a = stored s m p v first h in
+    let i : Target = a.wrote.at in
+    let new : List Cell = a.new in
+    let b = stored t (with_cells m i new) q w both (subst (λ (x : Memory). store t x q w ≡ Some both) (sym a.wrote.gives) k) in
+    let j : Target = b.wrote.at in
+    let other : List Cell = b.new in
+    let live : IsLive m j.block = sym (liveness_kept m i new a.wrote.is.live j.block) ∙ b.wrote.is.live in
+    let fit = apart_at p i.block i.offset (width s) (width t) q j.block j.offset a.wrote.is.is b.wrote.is.is apart in
+    let far =
+    subst (λ (n : ℕ). (i.block ≢ j.block) ⊎ (i.offset + n ≤ j.offset) ⊎ (j.offset + length other ≤ i.offset)) (sym a.are.long)
+    (subst (λ (n : ℕ). (i.block ≢ j.block) ⊎ (i.offset + width s ≤ j.offset) ⊎ (j.offset + n ≤ i.offset)) (sym b.are.long) fit) in
+    ap (λ o. o >>= λ second. store s second p v)
+    (store_gives t m q w j other (sym (range_kept m i new a.wrote.is.live q (width t) (width t) j b.wrote.is.is) ∙ b.wrote.range) b.cells
+    (sym (writability_kept m i new a.wrote.is.live j.block) ∙ b.wrote.writable))
+    ∙ store_gives s (with_cells m j other) p v i new (range_kept m j other live p (width s) (width s) i a.wrote.is.is ∙ a.wrote.range) a.cells
+    (writability_kept m j other live i.block ∙ a.wrote.writable)
+    ∙ ap Some (sym (writes_commute m i j new other a.wrote.is.live live far) ∙ b.wrote.gives)
+
+apart_swapped : (p : Pointer) (size : ℕ) (q : Pointer) (other : ℕ) → AreApart p size q other → AreApart q other p size
+apart_swapped null size null other h = tt
+apart_swapped null size (into c j) other h = tt
+apart_swapped (into b i) size null other h = tt
+apart_swapped (into b i) size (into c j) other (inl differ) = inl (λ e. differ (sym e))
+apart_swapped (into b i) size (into c j) other (inr (inl before)) = inr (inr before)
+apart_swapped (into b i) size (into c j) other (inr (inr behind)) = inr (inl behind)
+
 pub stores_commute : StoresCommute
-stores_commute s t m first second one other p q v w apart h1 h2 h3 h4 =
-    let a = stored s m p v first h1 in
-    let b = stored t first q w one h2 in
-    let c = stored t m q w second h3 in
-    let d = stored s second p v other h4 in
-    let ta : Target = a.wrote.at in
-    let tc : Target = c.wrote.at in
-    let new : d.new ≡ a.new = some_same d.new a.new (sym d.cells ∙ a.cells) in
-    let old : b.new ≡ c.new = some_same b.new c.new (sym b.cells ∙ c.cells) in
-    let there : b.wrote.at ≡ tc = same_target b.wrote.at tc (sym b.wrote.is.is ∙ c.wrote.is.is) in
-    let here : d.wrote.at ≡ ta = same_target d.wrote.at ta (sym d.wrote.is.is ∙ a.wrote.is.is) in
-    let fit = apart_at p ta.block ta.offset (width s) (width t) q tc.block tc.offset a.wrote.is.is c.wrote.is.is apart in
-    sym b.wrote.gives
-    ∙ ap₂ (λ x y. with_cells first x y) there old
-    ∙ ap (λ x. with_cells x tc c.new) (sym a.wrote.gives)
-    ∙ writes_commute m ta tc a.new c.new a.wrote.is.live c.wrote.is.live
-    (subst (λ (n : ℕ). (ta.block ≢ tc.block) ⊎ (ta.offset + n ≤ tc.offset) ⊎ (tc.offset + length c.new ≤ ta.offset)) (sym a.are.long)
-    (subst (λ (n : ℕ). (ta.block ≢ tc.block) ⊎ (ta.offset + width s ≤ tc.offset) ⊎ (tc.offset + n ≤ ta.offset)) (sym c.are.long) fit))
-    ∙ ap (λ x. with_cells x ta a.new) c.wrote.gives
-    ∙ ap₂ (λ x y. with_cells second x y) (sym here) (sym new)
-    ∙ d.wrote.gives
+stores_commute s t m p q v w apart =
+    same_answers (store s m p v >>= λ first. store t first q w) (store t m q w >>= λ second. store s second p v)
+    (λ both h. let a = followed (store s m p v) _ both h in one_order s t m a.value both p q v w apart a.first a.then)
+    (λ both h. let a = followed (store t m q w) _ both h in one_order t s m a.value both q p w v (apart_swapped p (width s) q (width t) apart) a.first a.then)

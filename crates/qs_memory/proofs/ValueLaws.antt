@@ -1,7 +1,9 @@
 -- Values that are loaded, converted or computed are sound.
-use Rattle.std.proofs.Common.{◌≡◌, ℕ, zero, suc, ◌+◌, ◌*◌, ◌^◌, ◌<◌, ◌≤◌, ◌==◌, nat_le, not, Bool, true, false, List, [], ◌∷◌, length, Option, Some, ℤ, pos, negsuc, ◌+ℤ◌, sym, subst, arith}
+use Rattle.std.proofs.Common.{◌≡◌, ℕ, zero, suc, ◌+◌, ◌*◌, ◌^◌, ◌<◌, ◌≤◌, ◌==◌, nat_le, not, Bool, true, false, List, [], ◌∷◌, length, Option, Some}
+use Rattle.std.proofs.Common.{ℤ, pos, negsuc, ◌+ℤ◌, sym, subst, arith}
 use Rattle.std.proofs.lemmas.Bool.Decides.{nat_tests}
-use Rattle.qs_base.proofs.WordLaws.{wrap-below, add-below, sub-below, and-below, or-below, xor-below, sll-below, srl-below, sra-below, mul-below, div-below, rem-below, divu-below, remu-below}
+use Rattle.qs_base.proofs.WordLaws.{wrap-below, add-below, sub-below, and-below, or-below, xor-below, sll-below, srl-below, sra-below, mul-below}
+use Rattle.qs_base.proofs.WordLaws.{div-below, rem-below, divu-below, remu-below}
 use Rattle.qs_memory.specs.Partial.{◌>>=◌}
 use Rattle.qs_memory.specs.Values.{Pointer, null, Value, integer, address, as_integer, width, pointer_of_integer, convert}
 use Rattle.qs_memory.specs.Integers.{calculate, minus, complement}
@@ -27,7 +29,7 @@ use Rattle.qs_memory.proofs.SoundLaws.{sound_read}
 
 -- ---- loads
 
-number_small : (m : Memory) (cells : List Cell) (n : ℕ) → Each (IsSoundCell m) cells → number_of cells ≡ Some n → n < 256 ^ length cells
+pub number_small : (m : Memory) (cells : List Cell) (n : ℕ) → Each (IsSoundCell m) cells → number_of cells ≡ Some n → n < 256 ^ length cells
 number_small m [] n each h = let e = some_same 0 n h in omega arith
 number_small m (unset ∷ cells) n each h = cc
 number_small m (part p k ∷ cells) n each h = cc
@@ -39,7 +41,9 @@ number_small m (byte b ∷ cells) n each h =
     let small : n < 256 ^ suc (length cells) = omega arith in
     small
 
-number_sound : (m : Memory) (cells : List Cell) (v : Value) → Each (IsSoundCell m) cells → 256 ^ length cells ≤ 2 ^ 32 → (number_of cells >>= λ n. Some (integer n)) ≡ Some v → IsSoundValue m v
+number_sound :
+    (m : Memory) (cells : List Cell) (v : Value) → Each (IsSoundCell m) cells → 256 ^ length cells ≤ 2 ^ 32
+    → (number_of cells >>= λ n. Some (integer n)) ≡ Some v → IsSoundValue m v
 number_sound m cells v each few h =
     let a = followed (number_of cells) (λ n. Some (integer n)) v h in
     let small : a.value < 256 ^ length cells = number_small m cells a.value each a.first in
@@ -51,9 +55,11 @@ pointer_sound m (unset ∷ cells) p each h = cc
 pointer_sound m (byte b ∷ cells) p each h = cc
 pointer_sound m (part q k ∷ cells) p each h =
     let c = only_if_value (are_parts q 0 (part q k ∷ cells)) q p h in
-    subst (λ (r : Pointer). IsSoundPointer m r) c.1 each.0
+    subst (λ (r : Pointer). IsSoundPointer m r) c.1 each.0.pointer
 
-value_sound : (s : Scalar) (m : Memory) (cells : List Cell) (v : Value) → length cells ≡ width s → Each (IsSoundCell m) cells → value_of s cells ≡ Some v → IsSoundValue m v
+value_sound :
+    (s : Scalar) (m : Memory) (cells : List Cell) (v : Value) → length cells ≡ width s → Each (IsSoundCell m) cells → value_of s cells ≡ Some v
+    → IsSoundValue m v
 value_sound scalars.Char m cells v long each h = number_sound m cells v each (subst (λ (n : ℕ). 256 ^ n ≤ 2 ^ 32) (sym long) (omega arith)) h
 value_sound scalars.Int m cells v long each h = number_sound m cells v each (subst (λ (n : ℕ). 256 ^ n ≤ 2 ^ 32) (sym long) (omega arith)) h
 value_sound scalars.Unsigned m cells v long each h = number_sound m cells v each (subst (λ (n : ℕ). 256 ^ n ≤ 2 ^ 32) (sym long) (omega arith)) h
@@ -94,7 +100,9 @@ truth_sound m o f w h =
     let a = followed o (λ b. Some (of_truth (f b))) w h in
     subst (λ (x : Value). IsSoundValue m x) (some_same _ w a.then) (truth_small m (f a.value))
 
-integer_sound : (m : Memory) (f : ℕ → ℕ) → ((x : ℕ) → x < 2 ^ 32 → f x < 2 ^ 32) → (v w : Value) → IsSoundValue m v → (as_integer v >>= λ x. Some (integer (f x))) ≡ Some w → IsSoundValue m w
+integer_sound :
+    (m : Memory) (f : ℕ → ℕ) → ((x : ℕ) → x < 2 ^ 32 → f x < 2 ^ 32) → (v w : Value) → IsSoundValue m v
+    → (as_integer v >>= λ x. Some (integer (f x))) ≡ Some w → IsSoundValue m w
 integer_sound m f small (integer x) w sound h = subst (λ (y : Value). IsSoundValue m y) (some_same _ w h) (small x sound)
 integer_sound m f small (address p) w sound h = cc
 
@@ -166,4 +174,10 @@ binary_sound (binaries.ComparePointers op) m (address p) (integer n) x sa sb h =
 binary_sound (binaries.ComparePointers op) m (integer a) w x sa sb h = cc
 
 pub values_are_sound : ValuesAreSound
-values_are_sound = record { loaded = loaded_sound; converted = converted_sound; unary = unary_sound; binary = binary_sound }
+values_are_sound = record {
+  loaded = loaded_sound;
+  converted = converted_sound;
+  member = λ m p q offset h. moved_sound m p q (pos offset) h;
+  unary = unary_sound;
+  binary = binary_sound;
+}

@@ -1,4 +1,4 @@
--- The zeros and null pointers that a value of the program stands for.
+-- The zeros and null pointers that a `Blank` of the code stands for.
 use Rattle.std.specs.Prelude.{List, [], ◌∷◌}
 use Rattle.qs_memory.specs.Memory.{BlankTree, zeros, nulls, repeated, nothing, joined}
 use Rattle.qs_memory.specs.declared.blank.Blank.{Blank, Blank-F, fold-Blank}

@@ -6,4 +6,5 @@ pub mod Pointers
 pub mod Operations
 pub mod BlankOf
 pub mod Soundness
+pub mod Accesses
 pub mod Laws

@@ -1,5 +1,6 @@
 -- Block memory: objects without addresses (C11 3.15, 6.2.4, 6.2.6, 6.5p6 and p7).
-use Rattle.std.specs.Prelude.{ℕ, zero, suc, ◌+◌, ◌*◌, ◌/◌, ◌%◌, ◌==◌, ◌&&◌, not, nat_lt, nat_le, Bool, true, false, if◌then◌else◌, List, [], ◌∷◌, ◌++◌, length, map, take, drop, slice_set, slice_index_or, Option, Some, None}
+use Rattle.std.specs.Prelude.{ℕ, zero, suc, ◌+◌, ◌*◌, ◌/◌, ◌%◌, ◌==◌, ◌&&◌, not, nat_lt, nat_le, Bool, true, false, if◌then◌else◌}
+use Rattle.std.specs.Prelude.{List, [], ◌∷◌, ◌++◌, length, map, take, drop, slice_set, slice_index_or, Option, Some, None}
 use Rattle.qs_memory.specs.Partial.{◌>>=◌, only_if}
 use Rattle.qs_memory.specs.Values.{Pointer, null, into, same_pointer, Value, integer, address, width, has_type}
 use Rattle.qs_memory.specs.declared.scalar.Scalar.{Scalar}
@@ -67,7 +68,7 @@ cells_at m t size = cells_from (block_at m t.block).cells t.offset size
 abbrev pub with_cells : Memory → Target → List Cell → Memory
 with_cells m t new = slice_set m t.block (record (block_at m t.block) { cells = overlaid new t.offset (block_at m t.block).cells })
 
--- UNDEFINED 4 (6.4.5p7): a write to a block that isn't writable, as a string literal is
+-- UNDEFINED 4 (6.4.5p7): a write to a string literal, the only kind of block that isn't writable
 abbrev pub write_cells : Memory → Target → List Cell → Option Memory
 write_cells m t new = only_if (block_at m t.block).is_writable (Some (with_cells m t new))
 
@@ -109,7 +110,8 @@ pointer_of (unset ∷ cells) = None
 pointer_of (byte b ∷ cells) = None
 pointer_of (part p k ∷ cells) = only_if (are_parts p 0 (part p k ∷ cells)) (Some p)
 
--- UNDEFINED 1 (6.7.9p10, 6.2.6.1p5): a read that meets an unset cell, or cells of another kind than the read needs
+-- UNDEFINED 1 (6.3.2.1p2, 6.7.9p10, 6.5p7): a read that meets an unset cell, or cells of another kind than the read needs; so is a `char` of a
+-- stored pointer, which C11 leaves to the implementation (6.2.6.1p4)
 abbrev pub value_of : Scalar → List Cell → Option Value
 value_of scalars.Char cells = number_of cells >>= λ n. Some (integer n)
 value_of scalars.Int cells = number_of cells >>= λ n. Some (integer n)

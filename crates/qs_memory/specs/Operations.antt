@@ -6,6 +6,10 @@ use Rattle.qs_memory.specs.Values.{Pointer, Value, integer, address, as_integer,
 use Rattle.qs_memory.specs.Integers.{calculate, compares, minus, complement}
 use Rattle.qs_memory.specs.Memory.{Memory}
 use Rattle.qs_memory.specs.Pointers.{moved_by, difference, compares_pointers, truth}
+use Rattle.qs_memory.specs.declared.scalar.Scalar.{Scalar}
+use Rattle.qs_memory.specs.declared.scalar.Scalar.TheVariants as scalars
+use Rattle.qs_memory.specs.declared.operation.Signedness.{Signedness}
+use Rattle.qs_memory.specs.declared.operation.Signedness.TheVariants.{Signed, Unsigned}
 use Rattle.qs_memory.specs.declared.operation.UnaryOperation.{UnaryOperation}
 use Rattle.qs_memory.specs.declared.operation.UnaryOperation.TheVariants.{Plus, Minus, Complement, Not, Truth}
 use Rattle.qs_memory.specs.declared.operation.BinaryOperation.{BinaryOperation}
@@ -40,3 +44,25 @@ apply_binary (Compare op s) m v w = on_integers (λ x y. Some (of_truth (compare
 apply_binary (Move direction s element) m v w = on_pointer_and_integer (moved_by direction s element m) v w
 apply_binary (Difference element) m v w = on_pointers (difference element m) v w
 apply_binary (ComparePointers op) m v w = on_pointers (λ p q. compares_pointers op m p q >>= λ b. Some (of_truth b)) v w
+
+-- ---- the types of results
+
+abbrev pub integer_type : Signedness → Scalar
+integer_type Signed = scalars.Int
+integer_type Unsigned = scalars.Unsigned
+
+-- 6.5.3.3p1, p5: `!` gives an `int`
+abbrev pub unary_type : UnaryOperation → Scalar
+unary_type (Plus s) = integer_type s
+unary_type (Minus s) = integer_type s
+unary_type (Complement s) = integer_type s
+unary_type Not = scalars.Int
+unary_type Truth = scalars.Int
+
+-- 6.5.6p8, p9, 6.5.8p6, 6.5.9p3: comparisons and differences of pointers give an `int`
+abbrev pub binary_type : BinaryOperation → Scalar
+binary_type (Arithmetic op s) = integer_type s
+binary_type (Compare op s) = scalars.Int
+binary_type (Move direction s element) = scalars.Pointer
+binary_type (Difference element) = scalars.Int
+binary_type (ComparePointers op) = scalars.Int

@@ -1,5 +1,6 @@
 -- Pointers: arithmetic, difference, order and equality (C11 6.5.6, 6.5.8, 6.5.9), and the truth of scalars (6.5.3.3p5, 6.8.4.1p2).
-use Rattle.std.specs.Prelude.{ℕ, ◌==◌, ◌&&◌, not, nat_lt, nat_le, Bool, true, false, if◌then◌else◌, Option, Some, None, ℤ, pos, negsuc, ◌+ℤ◌, ◌-ℤ◌, ◌*ℤ◌, neg_ℤ, int_div, int_rem}
+use Rattle.std.specs.Prelude.{ℕ, ◌==◌, ◌&&◌, not, nat_lt, nat_le, Bool, true, false, if◌then◌else◌, Option, Some, None}
+use Rattle.std.specs.Prelude.{ℤ, pos, negsuc, ◌+ℤ◌, ◌-ℤ◌, ◌*ℤ◌, neg_ℤ, int_div, int_rem}
 use Rattle.std.specs.Ordering.{int_eq}
 use Rattle.qs_base.specs.Words.{wrap}
 use Rattle.qs_memory.specs.Partial.{◌>>=◌, only_if}

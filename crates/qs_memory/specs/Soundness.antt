@@ -1,4 +1,4 @@
--- What holds of a memory at every moment of a run, and is asked of every memory to start from; and how memories follow one another.
+-- What each step keeps of the live blocks of a memory, and what a run's first memory is to have; and how memories follow one another.
 use Rattle.std.specs.Prelude.{◌≡◌, ℕ, ◌^◌, ◌<◌, ◌≤◌, true, length}
 use Rattle.qs_memory.specs.Values.{Pointer, null, into, Value, integer, address}
 use Rattle.qs_memory.specs.Memory.{Cell, unset, byte, part, Memory, block_at}
@@ -19,10 +19,15 @@ abbrev pub IsSoundValue : Memory → Value → Type 0
 IsSoundValue m (integer n) = n < 2 ^ 32
 IsSoundValue m (address p) = IsSoundPointer m p
 
+-- a part of a pointer is one of its four
+pub record IsSoundPart (m : Memory) (p : Pointer) (k : ℕ) : Type 0 where
+  pub pointer : IsSoundPointer m p
+  pub number : k < 4
+
 abbrev pub IsSoundCell : Memory → Cell → Type 0
 IsSoundCell m unset = Unit {0}
 IsSoundCell m (byte b) = b < 256
-IsSoundCell m (part p k) = IsSoundPointer m p
+IsSoundCell m (part p k) = IsSoundPart m p k
 
 -- what the live blocks hold is sound
 pub record IsSound (m : Memory) : Type 0 where

@@ -21,7 +21,8 @@ pub enum Blank {
 }
 
 impl Blank {
-    /// The same again.
+    /// The same again, or `NoMemory` where too little is left. Like dropping, it recurses as deep as parts
+    /// nest: 10,000 levels, as many as the types of a unit have, take less than 3 MiB of stack.
     pub fn copy(&self, alloc: Global) -> Result<Blank, NoMemory>
         ensures { IfOk result (λ to. blank_tree to ≡ blank_tree self.now) }
     {

@@ -10,10 +10,14 @@ mod scalar;
 
 pub use blank::Blank;
 pub use laws::{
-    blocks_are_fresh, blocks_are_released, load_after_store, load_elsewhere, memory_goes_on,
-    soundness_is_kept, stores_commute, values_are_sound,
+    blocks_are_fresh, blocks_are_released, load_after_store, load_elsewhere, loads_after_writes,
+    memory_goes_on, pointers_are_defined, soundness_is_kept, steps_are_defined, stores_commute,
+    values_are_sound, values_have_types, writes_are_exact,
 };
 pub use operation::{
     Arithmetic, BinaryOperation, Comparison, Direction, Signedness, UnaryOperation,
 };
 pub use scalar::Scalar;
+
+#[cfg(test)]
+mod tests;

@@ -18,6 +18,3 @@ pub use operation::{
     Arithmetic, BinaryOperation, Comparison, Direction, Signedness, UnaryOperation,
 };
 pub use scalar::Scalar;
-
-#[cfg(test)]
-mod tests;

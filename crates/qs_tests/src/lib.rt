@@ -5,6 +5,8 @@
 #[cfg(test)]
 mod assertions;
 #[cfg(test)]
+mod blanks;
+#[cfg(test)]
 mod certificates;
 #[cfg(test)]
 mod files;

@@ -1,9 +1,9 @@
 // That memory is found for copies: of a blank with a part of each sort, and of blanks that are as deep
 // as types nest.
-use super::*;
 use qs_base::NoMemory;
+use qs_memory::Blank;
 use std::alloc::Global;
-use std::test::Fail;
+use std::test::*;
 
 /// That of `struct { char c; int *p[2]; }`: a byte and its padding, then two pointers.
 fn of_a_struct(alloc: Global) -> Result<Blank, NoMemory> {

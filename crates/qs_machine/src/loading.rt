@@ -87,7 +87,7 @@ pub fn load(
     ensures loads { IfOk result (λ _. MayLoad stack image.now.parameters (length args.now)) }
     ensures fault { IfErr result (λ fault. IsLoadFault stack image.now.parameters (length args.now) fault) }
 {
-    if stack > 1 << 28 {
+    if stack > STACK_LIMIT {
         return Err(LoadFault::StackTooLarge);
     }
     if args.len() != image.parameters() as usize {

@@ -9,6 +9,7 @@ ghost use Rattle.qs_machine.specs.Running.{MayLoad, IsLoadFault};
 
 use crate::machine::Machine;
 use crate::memory::Memory;
+use crate::regions::STACK_LIMIT;
 use crate::registers::Registers;
 use qs_base::NoMemory;
 use qs_image::ImageView;

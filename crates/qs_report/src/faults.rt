@@ -103,6 +103,20 @@ fn put_trap<K: Sink>(log: &mut K, cause: u32, pc: u32) -> Result<(), SinkFault>
     put_parts(log, &[b"trap ", text, b" at 0x", digits.as_slice(), b"\n"])
 }
 
+/// Puts the line `arguments: expected E given G`.
+pub fn put_arg_count<K: Sink>(log: &mut K, expected: u64, given: u64) -> Result<(), SinkFault>
+    ensures { PutsAll (K.view log.old) (K.view log.new) (fault_line [] [] (FaultText.ArgCount expected given)) result }
+{
+    put_pair(log, b"arguments: expected ", expected, b" given ", given)
+}
+
+/// Puts the line `argument I out of range`.
+pub fn put_arg_range<K: Sink>(log: &mut K, argument: u64) -> Result<(), SinkFault>
+    ensures { PutsAll (K.view log.old) (K.view log.new) (fault_line [] [] (FaultText.ArgRange argument)) result }
+{
+    put_between(log, b"argument ", argument, b" out of range")
+}
+
 /// Puts the line of a fault. The file and the function or definition have these names in it, where it has them.
 pub fn put_fault<K: Sink>(
     log: &mut K,
@@ -134,9 +148,9 @@ pub fn put_fault<K: Sink>(
         FaultText::Proof(spot, text) => put_proof_fault(log, file, name, spot, text),
         FaultText::Order => put_parts(log, &[file, b": order ", name, b"\n"]),
         FaultText::ArgCount(expected, given) => {
-            put_pair(log, b"arguments: expected ", *expected, b" given ", *given)
+            put_arg_count(log, u64::from(*expected), u64::from(*given))
         }
-        FaultText::ArgRange(i) => put_between(log, b"argument ", *i, b" out of range"),
+        FaultText::ArgRange(argument) => put_arg_range(log, u64::from(*argument)),
         FaultText::Image(number, part) => put_image(log, file, *number, *part),
         FaultText::Trapped(cause, pc) => put_trap(log, *cause, *pc),
         FaultText::StepLimit(steps) => put_number(log, b"step limit ", *steps),

@@ -12,7 +12,7 @@ mod taking;
 mod words;
 
 pub use fault_texts::{Count, FaultText, LimitKind, Path, ProofText, Shown, Spot};
-pub use faults::put_fault;
+pub use faults::{put_arg_count, put_arg_range, put_fault};
 pub use lines::{bound_line, cost_line, count_line, end_line, fault_line};
-pub use parts::{put_number, put_parts, put_two};
+pub use parts::put_two;
 pub use results::{put_bound, put_cost, put_count, put_end};

@@ -35,7 +35,7 @@ pub fn put_number<K: Sink>(sink: &mut K, head: &[u8], number: u64) -> Result<(),
 pub fn put_between<K: Sink>(
     sink: &mut K,
     head: &[u8],
-    number: u32,
+    number: u64,
     tail: &[u8],
 ) -> Result<(), SinkFault>
     ensures { PutsAll (K.view sink.old) (K.view sink.new) (line (head.now ∷ decimal number ∷ tail.now ∷ [])) result }
@@ -48,9 +48,9 @@ pub fn put_between<K: Sink>(
 pub fn put_pair<K: Sink>(
     sink: &mut K,
     head: &[u8],
-    first: u32,
+    first: u64,
     middle: &[u8],
-    second: u32,
+    second: u64,
 ) -> Result<(), SinkFault>
     ensures { PutsAll (K.view sink.old) (K.view sink.new) (line (head.now ∷ decimal first ∷ middle.now ∷ decimal second ∷ [])) result }
 {

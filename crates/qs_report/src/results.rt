@@ -51,7 +51,13 @@ pub fn put_count<K: Sink>(out: &mut K, count: Count) -> Result<(), SinkFault>
     ensures { PutsAll (K.view out.old) (K.view out.new) (count_line count) result }
 {
     match count {
-        Count::Checked(given, filled) => put_pair(out, b"checked ", given, b" derived ", filled),
+        Count::Checked(given, filled) => put_pair(
+            out,
+            b"checked ",
+            u64::from(given),
+            b" derived ",
+            u64::from(filled),
+        ),
         Count::Derived(filled) => put_number(out, b"derived ", u64::from(filled)),
         Count::Functions(count) => put_number(out, b"functions ", u64::from(count)),
         Count::Output(bytes) => put_number(out, b"output ", bytes),

@@ -4,7 +4,10 @@ pub returns-in-Cycle : goal.returns-in-Cycle
 returns-in-Cycle g c = rw c.in-Cycle.is (rw c.deref.ensures.value at c.put_cycle.ensures)
 
 pub returns-in-ArgCount : goal.returns-in-ArgCount
-returns-in-ArgCount g c = rw c.in-ArgCount.is c.put_pair.ensures
+returns-in-ArgCount g c = rw c.in-ArgCount.is (rw (c.from.ensures, c.from-in-ArgCount.ensures) at c.put_arg_count.ensures)
+
+pub returns-in-ArgRange : goal.returns-in-ArgRange
+returns-in-ArgRange g c = rw c.in-ArgRange.is (rw c.from-in-ArgRange.ensures at c.put_arg_range.ensures)
 
 pub returns-in-StepLimit : goal.returns-in-StepLimit
 returns-in-StepLimit g c = rw c.in-StepLimit.is c.put_number.ensures

@@ -11,7 +11,7 @@ use Rattle.qs_machine.specs.declared.machine.Machine.{Machine}
 use Rattle.qs_machine.specs.declared.answers.RunEnd.{RunEnd}
 use Rattle.qs_machine.specs.declared.answers.RunEnd.TheVariants as end
 use Rattle.qs_driver.specs.Limits.{image_limit, input_limit}
-use Rattle.qs_driver.specs.Lines.{exit_line}
+use Rattle.qs_report.specs.Lines.{end_line}
 use Rattle.qs_driver.specs.Faults.{fault_line}
 use Rattle.qs_driver.specs.Devices.{views_of}
 use Rattle.qs_driver.specs.Due.{Due, refusal, EndsWith}
@@ -142,7 +142,7 @@ record IsDueWith (r : RunWords) (outcome : Outcome) : Type 0 where
   is_due : IsDueAt r outcome (after_output (output_so_far outcome) status line)
 
 due_at : (r : RunWords) (outcome : Outcome) → IsDueWith r outcome
-due_at r (Exited output status) = record { status = Done; line = exit_line status; is_due = refl }
+due_at r (Exited output status) = record { status = Done; line = end_line status; is_due = refl }
 due_at r (HasTrapped cause pc output) = record { status = Trapped cause pc; line = fault_line (names_of r) (Trapped cause pc); is_due = refl }
 due_at r (Going output) = record { status = StepLimit r.steps; line = fault_line (names_of r) (StepLimit r.steps); is_due = refl }
 
@@ -160,7 +160,7 @@ has_run {ready = ready} h d = meant.ran (record {
 pub run_answers : (r : RunWords) (s s' : StoreView) (o o' l l' : SinkView) (ready : Ready) (e : RunEnd) (result : Status) (h : IsReady r s s' ready) → Shows (machine h.image r.stack (words_of r.args) ready.input.items r.steps) o o' e → Finishes r e l l' result → Answers (run r) (views_of s o l) (views_of s' o' l') result
 run_answers r s s' o o' l l' ready (end.Exited status) result h (e, a) f =
     let outcome = machine h.image r.stack (words_of r.args) ready.input.items r.steps in
-    let due : Due = after_output (output_so_far outcome) Done (exit_line status) in
+    let due : Due = after_output (output_so_far outcome) Done (end_line status) in
     let P : Outcome → Type 0 = λ x. IsDueAt r x due in
     record { due = due; is_due = has_run h (subst P (sym e) refl); written = then_log _ _ _ o o' l l' result a f }
 run_answers r s s' o o' l l' ready (end.Trapped cause pc) result h (e, a) f =

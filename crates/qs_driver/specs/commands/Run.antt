@@ -16,7 +16,7 @@ use Rattle.qs_machine.specs.declared.answers.RunEnd.{RunEnd}
 use Rattle.qs_machine.specs.declared.answers.RunEnd.TheVariants as end
 use Rattle.qs_driver.specs.Limits.{image_limit, input_limit}
 use Rattle.qs_driver.specs.Names.{Names, no_names}
-use Rattle.qs_driver.specs.Lines.{exit_line}
+use Rattle.qs_report.specs.Lines.{end_line}
 use Rattle.qs_driver.specs.Faults.{fault_line}
 use Rattle.qs_driver.specs.Devices.{Streams, views_of}
 use Rattle.qs_driver.specs.Steps.{on_out, on_log}
@@ -98,7 +98,7 @@ refused_after output r status = after_output output status (fault_line (names_of
 
 -- what is due at this outcome of the machine
 abbrev pub IsDueAt : RunWords → Outcome → Due → Type 0
-IsDueAt r (Exited output status) due = due ≡ after_output output Done (exit_line status)
+IsDueAt r (Exited output status) due = due ≡ after_output output Done (end_line status)
 IsDueAt r (HasTrapped cause pc output) due = due ≡ refused_after output r (Trapped cause pc)
 IsDueAt r (Going output) due = due ≡ refused_after output r (StepLimit r.steps)
 
@@ -303,7 +303,7 @@ Prepares r before after (Err status) = CannotRun r before after status
 
 -- the line at the end of a run was put on `log`
 abbrev pub Finishes : RunWords → RunEnd → SinkView → SinkView → Status → Type 0
-Finishes r (end.Exited status) v w result = EndsWith (exit_line status) Done v w result
+Finishes r (end.Exited status) v w result = EndsWith (end_line status) Done v w result
 Finishes r (end.Trapped cause pc) v w result = EndsWith (fault_line (names_of r) (Trapped cause pc)) (Trapped cause pc) v w result
 Finishes r end.StepLimit v w result = EndsWith (fault_line (names_of r) (StepLimit r.steps)) (StepLimit r.steps) v w result
 Finishes r end.SinkFailed v w result = (result ≡ SinkFailed) × (w ≡ v)

@@ -1,7 +1,7 @@
 use Rattle.std.proofs.Common.{refl}
 use Rattle.std.proofs.lemmas.Result.{err_from_is_err_and}
-use Rattle.qs_driver.proofs.LinesLaws.{part_cut}
-use Rattle.qs_driver.proofs.lines.put_parts.Goals as goal
+use Rattle.qs_report.proofs.PartsLaws.{part_cut}
+use Rattle.qs_report.proofs.parts.put_parts.Goals as goal
 
 pub returns-in_err-put_all : goal.returns-in_err-put_all
 returns-in_err-put_all g c =

@@ -1,7 +1,7 @@
 -- Texts that are put part by part.
-use Rattle.std.proofs.Common.{◌≡◌, ℕ, ◌+◌, ◌<◌, ◌≤◌, List, [], ◌∷◌, ◌++◌, length, take, drop, get_or, flat_map, ap, sym, ◌∙◌, subst, arith, add-one, Err}
+use Rattle.std.proofs.Common.{◌≡◌, ℕ, ◌+◌, ◌<◌, ◌≤◌, List, [], ◌∷◌, ◌++◌, length, take, drop, get_or, flat_map, codes, ap, sym, ◌∙◌, subst, arith, add-one, Result, Err}
 use Rattle.std.proofs.lemmas.Grind.{common_steps, flat_map-append}
-use Rattle.std.proofs.lemmas.List.{take-append-drop, append-nil}
+use Rattle.std.proofs.lemmas.List.{take-append-drop, append-nil, append_assoc}
 use Rattle.std.proofs.Math.Seq.{take-suc}
 use Rattle.qs_ports.specs.SinkView.{SinkView, Appends, PutsAll}
 use Rattle.qs_ports.specs.declared.sink.SinkFault.{SinkFault}
@@ -34,3 +34,17 @@ all_put f xs i u v h a =
     let all : take i xs ≡ xs = grind (arith, common_steps) in
     let P : List ℕ → Type 0 = λ t. Appends u v t in
     subst P (ap (flat_map f) all) a
+
+-- ---- a text behind a file and a name
+
+abbrev head : List ℕ → List ℕ → List ℕ
+head file name = file ++ (codes ": " ++ (name ++ codes " "))
+
+head_before : (file name rest : List ℕ) → head file name ++ rest ≡ file ++ (codes ": " ++ (name ++ (codes " " ++ rest)))
+head_before file name rest = append_assoc file (codes ": " ++ (name ++ codes " ")) rest ∙ ap (λ t. file ++ (codes ": " ++ t)) (append_assoc name (codes " ") rest)
+
+pub named_put : (file name rest : List ℕ) (u v w : SinkView) (r : Result Unit SinkFault) → Appends u v (head file name) → PutsAll v w rest r → PutsAll u w (file ++ (codes ": " ++ (name ++ (codes " " ++ rest)))) r
+named_put file name rest u v w r a p = let P : List ℕ → Type 0 = λ t. PutsAll u w t r in subst P (head_before file name rest) (then_puts w rest r a p)
+
+pub named_cut : (file name rest : List ℕ) (u w : SinkView) (e r : SinkFault) → PutsAll u w (head file name) (Err e) → PutsAll u w (file ++ (codes ": " ++ (name ++ (codes " " ++ rest)))) (Err r)
+named_cut file name rest u w e r p = let P : List ℕ → Type 0 = λ t. PutsAll u w t (Err r) in subst P (head_before file name rest) (cut_before u w (head file name) rest e r p)

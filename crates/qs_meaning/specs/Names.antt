@@ -1,0 +1,80 @@
+-- What names, texts and called functions stand for in the typed tree (C11 6.2.1, 6.4.5, 6.5.1, 6.5.2.2).
+use Rattle.std.specs.Prelude.{ℕ, ◌+◌, ◌==◌, Bool, List, [], ◌∷◌, Option, Some, None, length, if◌then◌else◌}
+use Rattle.qs_syntax.specs.Sameness.{same_bytes}
+use Rattle.qs_types.specs.Types.{TypeTree}
+use Rattle.qs_types.specs.Layout.{and_then}
+use Rattle.qs_types.specs.GivenFunctions.{Signature, putchar_name}
+use Rattle.qs_types.specs.Contexts.{Entity, local_variable, file_variable, given, Context, place_from, entity_of}
+use Rattle.qs_types.specs.Contexts as contexts
+use Rattle.qs_types.specs.Placed.{is_one_of}
+use Rattle.qs_meaning.specs.Typed.{Expr, address, Lvalue, variable, object, Object, local, static, Callee, function, putchar, getchar}
+
+-- the plain variables of a function and its placed locals, with its parameters among them, by the numbers of their nodes
+pub record Locals : Type 0 where
+  pub plain : List ℕ
+  pub placed : List ℕ
+
+-- what has a block from the beginning: file-scope variables and texts, by the numbers of their nodes
+pub record Statics : Type 0 where
+  pub variables : List ℕ
+  pub texts : List ℕ
+
+-- what is known where an expression stands: the context of the typing rules, the locals of the function, what the unit has in memory, and
+-- the names of its functions with a body
+pub record Scope : Type 0 where
+  pub context : Context
+  pub locals : Locals
+  pub statics : Statics
+  pub functions : List (List ℕ)
+
+abbrev pub within : Scope → Context → Scope
+within s context = record s { context = context }
+
+-- the place of a node in a list; the length of the list where it isn't there
+abbrev pub place_among : ℕ → List ℕ → ℕ
+place_among node [] = 0
+place_among node (n ∷ ns) = if node == n then 0 else place_among node ns + 1
+
+-- ---- objects
+
+-- a placed local is a block of the call, any other a variable of the call
+abbrev pub local_lvalue : Locals → ℕ → Lvalue
+local_lvalue locals node =
+    if is_one_of node locals.placed then object (address (local (place_among node locals.placed))) else variable (place_among node locals.plain)
+
+abbrev pub file_variable_object : Statics → ℕ → Object
+file_variable_object statics node = static (place_among node statics.variables)
+
+-- 6.4.5p6: the blocks of texts stand behind those of the file-scope variables
+abbrev pub text_object : Statics → ℕ → Object
+text_object statics node = static (length statics.variables + place_among node statics.texts)
+
+-- 6.5.1p2: the name of a variable is an lvalue
+abbrev pub entity_lvalue : Scope → Entity → Option Lvalue
+entity_lvalue s (local_variable node t) = Some (local_lvalue s.locals node)
+entity_lvalue s (file_variable node t) = Some (object (address (file_variable_object s.statics node)))
+entity_lvalue s (contexts.function node signature body) = None
+entity_lvalue s (given signature) = None
+
+abbrev pub name_lvalue : Scope → List ℕ → Option Lvalue
+name_lvalue s x = and_then (entity_of s.context x) (entity_lvalue s)
+
+-- ---- functions
+
+-- a function that is called, and the types of its parameters
+pub record Designated : Type 0 where
+  pub callee : Callee
+  pub parameters : List TypeTree
+
+abbrev pub with_parameters : Option Signature → Callee → Option Designated
+with_parameters signature callee = and_then signature (λ (s : Signature). Some (record { callee = callee; parameters = s.parameters }))
+
+-- putchar and getchar are given (7.21.7.8, 7.21.7.6); any other function has its place among those with a body
+abbrev pub entity_designated : Scope → List ℕ → Entity → Option Designated
+entity_designated s f (local_variable node t) = None
+entity_designated s f (file_variable node t) = None
+entity_designated s f (contexts.function node signature body) = and_then (place_from 0 f s.functions) (λ k. with_parameters signature (function k))
+entity_designated s f (given signature) = with_parameters (Some signature) (if same_bytes f putchar_name then putchar else getchar)
+
+abbrev pub designated : Scope → List ℕ → Option Designated
+designated s f = and_then (entity_of s.context f) (entity_designated s f)

@@ -2,7 +2,7 @@
 -- (C11 6.3.2.1, 6.5.17, 6.8.3).
 use Rattle.std.specs.Prelude.{ℕ, Option, Some, None}
 use Rattle.qs_types.specs.Types.{TypeTree, int, unsigned, char, void, pointer, array, struct}
-use Rattle.qs_types.specs.Layout.{and_then}
+use Rattle.qs_memory.specs.Partial.{◌>>=◌}
 use Rattle.qs_types.specs.Conversions.{decayed}
 use Rattle.qs_meaning.specs.Conversions.{scalar_of}
 use Rattle.qs_meaning.specs.Typed.{Expr, value, called, assigned, sequence, Lvalue, variable, object, Arguments, Assignment, Effect, discard, assign, perform, copy, in_order, Callee}
@@ -45,7 +45,7 @@ address_in (variable x) = None
 address_in (object p) = Some p
 
 abbrev pub address_of : Form → Option Expr
-address_of form = and_then (lvalue_of form) address_in
+address_of form = lvalue_of form >>= address_in
 
 -- ---- as a value
 

@@ -3,7 +3,8 @@ use Rattle.std.specs.Prelude.{ℕ, ◌+◌, ◌*◌, Bool, true, false, List, []
 use Rattle.qs_syntax.specs.Trees.{ExprTree, InitialiserTree, Initialisers, no_initialisers, initialiser_and}
 use Rattle.qs_syntax.specs.Trees as trees
 use Rattle.qs_types.specs.Types.{TypeTree, int, unsigned, char, void, pointer, array, struct, is_array, Structs}
-use Rattle.qs_types.specs.Layout.{and_then, size_of, offset_of}
+use Rattle.qs_memory.specs.Partial.{◌>>=◌}
+use Rattle.qs_types.specs.Layout.{size_of, offset_of}
 use Rattle.qs_types.specs.Declarations.{text_of}
 use Rattle.qs_types.specs.InitialiserRules.{part_type}
 use Rattle.qs_meaning.specs.Typed.{Expr, member, Lvalue, object, Effect, nothing, copy, fill, in_order}
@@ -16,7 +17,7 @@ use Rattle.qs_meaning.specs.Blanks.{blank_of}
 
 -- where the part number i begins
 abbrev pub part_offset : Structs → TypeTree → ℕ → Option ℕ
-part_offset structs (array t n) i = and_then (size_of structs t) (λ size. Some (size * i))
+part_offset structs (array t n) i = size_of structs t >>= λ size. Some (size * i)
 part_offset structs (struct k) i = offset_of structs k i
 part_offset structs _ i = None
 
@@ -35,8 +36,8 @@ abbrev mutual
   pub pieces_from : Structs → TypeTree → (offset number : ℕ) → Initialisers → Option (List Piece)
   pieces_from structs t offset i no_initialisers = Some []
   pieces_from structs t offset i (initialiser_and first rest) =
-      and_then (part_type structs t i) (λ u. and_then (part_offset structs t i) (λ at. and_then (pieces structs u (offset + at) first) (λ now.
-      and_then (pieces_from structs t offset (i + 1) rest) (λ later. Some (now ++ later)))))
+      part_type structs t i >>= λ u. part_offset structs t i >>= λ at. pieces structs u (offset + at) first >>= λ now.
+      pieces_from structs t offset (i + 1) rest >>= λ later. Some (now ++ later)
 
 -- ---- locals
 
@@ -48,11 +49,11 @@ text_room _ bytes = 0
 -- a text that initialises an array is copied from its block
 abbrev pub text_set : Scope → TypeTree → (to : Expr) → ExprTree → Option Effect
 text_set s t to e =
-    and_then (text_of e) (λ bytes. and_then (typed s e) (λ (a : Typed). and_then (address_of a.form) (λ from. Some (copy (text_room t bytes) 1 to from))))
+    text_of e >>= λ bytes. typed s e >>= λ (a : Typed). address_of a.form >>= λ from. Some (copy (text_room t bytes) 1 to from)
 
 -- 6.7.9p11, p13: a scalar or a struct is initialised as by an assignment whose value is discarded
 abbrev pub assigned_set : Scope → Typed → ExprTree → Option Effect
-assigned_set s part e = and_then (typed s e) (λ a. and_then (plain_form s.context.structs part a) (λ form. Some (effect_of part.type form)))
+assigned_set s part e = typed s e >>= λ a. plain_form s.context.structs part a >>= λ form. Some (effect_of part.type form)
 
 -- the part of the object at this address
 abbrev pub piece_set : Scope → (base : Expr) → Piece → Option Effect
@@ -62,16 +63,16 @@ piece_set s base p =
 
 abbrev pub pieces_set : Scope → (base : Expr) → List Piece → Option Effect
 pieces_set s base [] = Some nothing
-pieces_set s base (p ∷ ps) = and_then (piece_set s base p) (λ now. and_then (pieces_set s base ps) (λ later. Some (in_order now later)))
+pieces_set s base (p ∷ ps) = piece_set s base p >>= λ now. pieces_set s base ps >>= λ later. Some (in_order now later)
 
 -- 6.7.9p19, p21: first zeros and Nulls everywhere, then the expressions in order
 abbrev pub filled : Scope → TypeTree → (base : Expr) → InitialiserTree → Option Effect
 filled s t base i =
-    and_then (blank_of s.context.structs t) (λ cells. and_then (pieces s.context.structs t 0 i) (λ ps.
-    and_then (pieces_set s base ps) (λ sets. Some (in_order (fill cells base) sets))))
+    blank_of s.context.structs t >>= λ cells. pieces s.context.structs t 0 i >>= λ ps.
+    pieces_set s base ps >>= λ sets. Some (in_order (fill cells base) sets)
 
 abbrev pub object_set : Scope → Typed → InitialiserTree → Option Effect
-object_set s a i = and_then (address_of a.form) (λ base. filled s a.type base i)
+object_set s a i = address_of a.form >>= λ base. filled s a.type base i
 
 -- the local with its initialiser
 abbrev pub local_set : Scope → Typed → InitialiserTree → Option Effect

@@ -1,8 +1,15 @@
-pub mod Memory
-pub mod Operators
 pub mod Typed
 pub mod Conversions
 pub mod Forms
 pub mod Operations
 pub mod Names
 pub mod Expressions
+pub mod Blanks
+pub mod Initialisers
+pub mod Statements
+pub mod Texts
+pub mod InitialValues
+pub mod Units
+pub mod States
+pub mod Meaning
+pub mod Runs

@@ -2,12 +2,12 @@
 use Rattle.std.specs.Prelude.{ℕ, ◌+◌, ◌==◌, Bool, List, [], ◌∷◌, Option, Some, None, length, if◌then◌else◌}
 use Rattle.qs_syntax.specs.Sameness.{same_bytes}
 use Rattle.qs_types.specs.Types.{TypeTree}
-use Rattle.qs_types.specs.Layout.{and_then}
+use Rattle.qs_memory.specs.Partial.{◌>>=◌}
 use Rattle.qs_types.specs.GivenFunctions.{Signature, putchar_name}
 use Rattle.qs_types.specs.Contexts.{Entity, local_variable, file_variable, given, Context, place_from, entity_of}
 use Rattle.qs_types.specs.Contexts as contexts
 use Rattle.qs_types.specs.Placed.{is_one_of}
-use Rattle.qs_meaning.specs.Typed.{Expr, address, Lvalue, variable, object, Object, local, static, Callee, function, putchar, getchar}
+use Rattle.qs_meaning.specs.Typed.{Expr, pointer_to, Lvalue, variable, object, Object, local, static, Callee, function, putchar, getchar}
 
 -- the plain variables of a function and its placed locals, with its parameters among them, by the numbers of their nodes
 pub record Locals : Type 0 where
@@ -40,7 +40,7 @@ place_among node (n ∷ ns) = if node == n then 0 else place_among node ns + 1
 -- a placed local is a block of the call, any other a variable of the call
 abbrev pub local_lvalue : Locals → ℕ → Lvalue
 local_lvalue locals node =
-    if is_one_of node locals.placed then object (address (local (place_among node locals.placed))) else variable (place_among node locals.plain)
+    if is_one_of node locals.placed then object (pointer_to (local (place_among node locals.placed))) else variable (place_among node locals.plain)
 
 abbrev pub file_variable_object : Statics → ℕ → Object
 file_variable_object statics node = static (place_among node statics.variables)
@@ -52,29 +52,29 @@ text_object statics node = static (length statics.variables + place_among node s
 -- 6.5.1p2: the name of a variable is an lvalue
 abbrev pub entity_lvalue : Scope → Entity → Option Lvalue
 entity_lvalue s (local_variable node t) = Some (local_lvalue s.locals node)
-entity_lvalue s (file_variable node t) = Some (object (address (file_variable_object s.statics node)))
+entity_lvalue s (file_variable node t) = Some (object (pointer_to (file_variable_object s.statics node)))
 entity_lvalue s (contexts.function node signature body) = None
 entity_lvalue s (given signature) = None
 
 abbrev pub name_lvalue : Scope → List ℕ → Option Lvalue
-name_lvalue s x = and_then (entity_of s.context x) (entity_lvalue s)
+name_lvalue s x = entity_of s.context x >>= entity_lvalue s
 
 -- ---- functions
 
 -- a function that is called, and the types of its parameters
-pub record Designated : Type 0 where
+pub record Designator : Type 0 where
   pub callee : Callee
   pub parameters : List TypeTree
 
-abbrev pub with_parameters : Option Signature → Callee → Option Designated
-with_parameters signature callee = and_then signature (λ (s : Signature). Some (record { callee = callee; parameters = s.parameters }))
+abbrev pub with_parameters : Option Signature → Callee → Option Designator
+with_parameters signature callee = signature >>= λ (s : Signature). Some (record { callee = callee; parameters = s.parameters })
 
 -- putchar and getchar are given (7.21.7.8, 7.21.7.6); any other function has its place among those with a body
-abbrev pub entity_designated : Scope → List ℕ → Entity → Option Designated
+abbrev pub entity_designated : Scope → List ℕ → Entity → Option Designator
 entity_designated s f (local_variable node t) = None
 entity_designated s f (file_variable node t) = None
-entity_designated s f (contexts.function node signature body) = and_then (place_from 0 f s.functions) (λ k. with_parameters signature (function k))
+entity_designated s f (contexts.function node signature body) = place_from 0 f s.functions >>= λ k. with_parameters signature (function k)
 entity_designated s f (given signature) = with_parameters (Some signature) (if same_bytes f putchar_name then putchar else getchar)
 
-abbrev pub designated : Scope → List ℕ → Option Designated
-designated s f = and_then (entity_of s.context f) (entity_designated s f)
+abbrev pub designated : Scope → List ℕ → Option Designator
+designated s f = entity_of s.context f >>= entity_designated s f

@@ -4,7 +4,7 @@ use Rattle.qs_syntax.specs.declared.types.Base.{Base}
 use Rattle.qs_syntax.specs.Trees.{ExprTree, InitialiserTree, VariableTree, StartTree, no_start, start_expression, start_declaration, StmtTree, Else, no_else, else_by}
 use Rattle.qs_syntax.specs.Trees as trees
 use Rattle.qs_types.specs.Types.{TypeTree}
-use Rattle.qs_types.specs.Layout.{and_then}
+use Rattle.qs_memory.specs.Partial.{◌>>=◌}
 use Rattle.qs_types.specs.Contexts.{inner_scope}
 use Rattle.qs_types.specs.Declarations.{variable_declared}
 use Rattle.qs_types.specs.StatementRules.{after_variable, after_start, after_statement, for_scope}
@@ -28,18 +28,18 @@ behind_variable s base v = within s (after_variable false s.context base v)
 
 abbrev pub variable_typed : Scope → Base → VariableTree → Option Effect
 variable_typed s base v =
-    and_then (variable_declared s.context base v).type (λ t. initialised (behind_variable s base v) v.declarator.node.id t v.initialiser)
+    (variable_declared s.context base v).type >>= λ t. initialised (behind_variable s base v) v.declarator.node.id t v.initialiser
 
 abbrev pub variables_typed : Scope → Base → List VariableTree → Option Effect
 variables_typed s base [] = Some nothing
 variables_typed s base (v ∷ vs) =
-    and_then (variable_typed s base v) (λ now. and_then (variables_typed (behind_variable s base v) base vs) (λ later. Some (in_order now later)))
+    variable_typed s base v >>= λ now. variables_typed (behind_variable s base v) base vs >>= λ later. Some (in_order now later)
 
 -- ---- expressions in statements
 
 -- 6.8.3p2: an expression is evaluated for its effect
 abbrev pub effect_typed : Scope → ExprTree → Option Effect
-effect_typed s e = and_then (typed s e) (λ a. Some (effect_in_use a))
+effect_typed s e = typed s e >>= λ a. Some (effect_in_use a)
 
 abbrev pub option_effect : Scope → Option ExprTree → Option Effect
 option_effect s None = Some nothing
@@ -47,11 +47,11 @@ option_effect s (Some e) = effect_typed s e
 
 -- 6.8.4.1p2, 6.8.5p4: a condition is compared with 0
 abbrev pub condition_typed : Scope → ExprTree → Option Expr
-condition_typed s e = and_then (typed s e) (λ a. Some (value_in_use a))
+condition_typed s e = typed s e >>= λ a. Some (value_in_use a)
 
 abbrev pub option_condition : Scope → Option ExprTree → Option (Option Expr)
 option_condition s None = Some None
-option_condition s (Some e) = and_then (condition_typed s e) (λ c. Some (Some c))
+option_condition s (Some e) = condition_typed s e >>= λ c. Some (Some c)
 
 abbrev pub start_typed : Scope → StartTree → Option Effect
 start_typed s no_start = Some nothing
@@ -61,7 +61,7 @@ start_typed s (start_declaration d) = variables_typed s d.base d.variables
 -- 6.8.6.4p3: the value is converted to the type of the result
 abbrev pub return_typed : Scope → Option ExprTree → Option Stmt
 return_typed s None = Some return_nothing
-return_typed s (Some e) = and_then s.context.result (λ t. and_then (typed s e) (λ a. Some (return (conversion (type_in_use a) t) (value_in_use a))))
+return_typed s (Some e) = s.context.result >>= λ t. typed s e >>= λ a. Some (return (conversion (type_in_use a) t) (value_in_use a))
 
 -- ---- statements
 
@@ -77,17 +77,17 @@ in_for s start = within s (after_start (for_scope s.context start) start)
 
 abbrev mutual
   pub statement_typed : Scope → StmtTree → Option Stmt
-  statement_typed s (trees.block ss) = and_then (statements_typed (inner s) ss) (λ b. Some (block b))
-  statement_typed s (trees.declaration d) = and_then (variables_typed s d.base d.variables) (λ a. Some (evaluate a))
-  statement_typed s (trees.expression node e) = and_then (effect_typed s e) (λ a. Some (evaluate a))
+  statement_typed s (trees.block ss) = statements_typed (inner s) ss >>= λ b. Some (block b)
+  statement_typed s (trees.declaration d) = variables_typed s d.base d.variables >>= λ a. Some (evaluate a)
+  statement_typed s (trees.expression node e) = effect_typed s e >>= λ a. Some (evaluate a)
   statement_typed s (trees.empty node) = Some (evaluate nothing)
   statement_typed s (trees.branch node e t r) =
-      and_then (condition_typed s e) (λ c. and_then (statement_typed s t) (λ a. and_then (else_typed s r) (λ b. Some (branch c a b))))
-  statement_typed s (trees.while_loop node e t) = and_then (condition_typed s e) (λ c. and_then (statement_typed s t) (λ b. Some (while_loop c b)))
-  statement_typed s (trees.do_loop node t e) = and_then (statement_typed s t) (λ b. and_then (condition_typed s e) (λ c. Some (do_loop b c)))
+      condition_typed s e >>= λ c. statement_typed s t >>= λ a. else_typed s r >>= λ b. Some (branch c a b)
+  statement_typed s (trees.while_loop node e t) = condition_typed s e >>= λ c. statement_typed s t >>= λ b. Some (while_loop c b)
+  statement_typed s (trees.do_loop node t e) = statement_typed s t >>= λ b. condition_typed s e >>= λ c. Some (do_loop b c)
   statement_typed s (trees.for_loop node start e u t) =
-      and_then (start_typed (before_for s start) start) (λ a. and_then (option_condition (in_for s start) e) (λ c.
-      and_then (option_effect (in_for s start) u) (λ b. and_then (statement_typed (in_for s start) t) (λ d. Some (for_loop a c b d)))))
+      start_typed (before_for s start) start >>= λ a. option_condition (in_for s start) e >>= λ c.
+      option_effect (in_for s start) u >>= λ b. statement_typed (in_for s start) t >>= λ d. Some (for_loop a c b d)
   statement_typed s (trees.break node) = Some break
   statement_typed s (trees.continue node) = Some continue
   statement_typed s (trees.return node e) = return_typed s e
@@ -95,7 +95,7 @@ abbrev mutual
   pub statements_typed : Scope → trees.Stmts → Option Stmts
   statements_typed s trees.no_stmts = Some no_stmts
   statements_typed s (trees.stmt_and t ts) =
-      and_then (statement_typed s t) (λ a. and_then (statements_typed (within s (after_statement s.context t)) ts) (λ b. Some (stmt_and a b)))
+      statement_typed s t >>= λ a. statements_typed (within s (after_statement s.context t)) ts >>= λ b. Some (stmt_and a b)
 
   pub else_typed : Scope → Else → Option Stmt
   else_typed s no_else = Some (evaluate nothing)

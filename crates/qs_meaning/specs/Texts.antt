@@ -1,11 +1,12 @@
 -- The texts that have blocks of their own, in the order of the unit's text (C11 6.4.5p6): all but those that initialise an array of file
 -- scope, where they only say its cells (6.7.9p14). Those below `sizeof` and those that initialise a local array have blocks.
 use Rattle.std.specs.Prelude.{ℕ, true, List, [], ◌∷◌, ◌++◌, Option, Some, None, if◌then◌else◌}
+use Rattle.qs_syntax.specs.declared.nodes.Node.{Node}
 use Rattle.qs_syntax.specs.declared.types.Base.{Base}
 use Rattle.qs_syntax.specs.Trees.{ExprTree, expr, ShapeTree, Exprs, no_exprs, expr_and, InitialiserTree, Initialisers, no_initialisers, initialiser_and, VariableTree, StartTree, no_start, start_expression, start_declaration, StmtTree, empty, expression, declaration, block, branch, while_loop, do_loop, for_loop, break, continue, return, Stmts, no_stmts, stmt_and, Else, no_else, else_by, DeclTree, structure, forward, function, variables, UnitTree}
 use Rattle.qs_syntax.specs.Trees as trees
 use Rattle.qs_types.specs.Types.{TypeTree, is_array, Structs}
-use Rattle.qs_types.specs.Layout.{and_then}
+use Rattle.qs_memory.specs.Partial.{◌>>=◌}
 use Rattle.qs_types.specs.Contexts.{Context}
 use Rattle.qs_types.specs.Declarations.{variable_declared}
 use Rattle.qs_types.specs.StatementRules.{after_variable}
@@ -21,26 +22,24 @@ pub record Text : Type 0 where
 
 abbrev mutual
   pub texts_in : ExprTree → List Text
-  texts_in (expr node (trees.text bytes)) = record { node = node.id; bytes = bytes } ∷ []
-  texts_in (expr node shape) = shape_texts shape
+  texts_in (expr node shape) = shape_texts node shape
 
-  -- the texts of the parts
-  pub shape_texts : ShapeTree → List Text
-  shape_texts (trees.constant n u) = []
-  shape_texts (trees.text bytes) = []
-  shape_texts (trees.name x) = []
-  shape_texts (trees.unary operator a) = texts_in a
-  shape_texts (trees.step operator a) = texts_in a
-  shape_texts (trees.cast name a) = texts_in a
-  shape_texts (trees.sizeof_type name) = []
-  shape_texts (trees.sizeof_expr a) = texts_in a
-  shape_texts (trees.binary operator a b) = texts_in a ++ texts_in b
-  shape_texts (trees.assign operator a b) = texts_in a ++ texts_in b
-  shape_texts (trees.conditional c a b) = texts_in c ++ (texts_in a ++ texts_in b)
-  shape_texts (trees.comma a b) = texts_in a ++ texts_in b
-  shape_texts (trees.subscript a b) = texts_in a ++ texts_in b
-  shape_texts (trees.member access a x) = texts_in a
-  shape_texts (trees.call f es) = all_texts es
+  pub shape_texts : Node → ShapeTree → List Text
+  shape_texts node (trees.constant n u) = []
+  shape_texts node (trees.text bytes) = record { node = node.id; bytes = bytes } ∷ []
+  shape_texts node (trees.name x) = []
+  shape_texts node (trees.unary operator a) = texts_in a
+  shape_texts node (trees.step operator a) = texts_in a
+  shape_texts node (trees.cast name a) = texts_in a
+  shape_texts node (trees.sizeof_type name) = []
+  shape_texts node (trees.sizeof_expr a) = texts_in a
+  shape_texts node (trees.binary operator a b) = texts_in a ++ texts_in b
+  shape_texts node (trees.assign operator a b) = texts_in a ++ texts_in b
+  shape_texts node (trees.conditional c a b) = texts_in c ++ (texts_in a ++ texts_in b)
+  shape_texts node (trees.comma a b) = texts_in a ++ texts_in b
+  shape_texts node (trees.subscript a b) = texts_in a ++ texts_in b
+  shape_texts node (trees.member access a x) = texts_in a
+  shape_texts node (trees.call f es) = all_texts es
 
   pub all_texts : Exprs → List Text
   all_texts no_exprs = []
@@ -115,7 +114,7 @@ option_pieces_texts (Some ps) = pieces_texts ps
 
 abbrev pub file_initialiser_texts : Structs → Option TypeTree → Option InitialiserTree → List Text
 file_initialiser_texts structs t None = []
-file_initialiser_texts structs t (Some i) = option_pieces_texts (and_then t (λ t. pieces structs t 0 i))
+file_initialiser_texts structs t (Some i) = option_pieces_texts (t >>= λ t. pieces structs t 0 i)
 
 abbrev pub file_variables_texts : Context → Base → List VariableTree → List Text
 file_variables_texts c base [] = []

@@ -1,13 +1,20 @@
 -- The typed tree of a unit: every name resolved, every conversion explicit, lvalues and discarded expressions sorts of their own, sizes and
 -- offsets as numbers (C11 6.3, 6.5, 6.7.9, 6.8, 6.9.1).
 use Rattle.std.specs.Prelude.{ℕ, Bool, List, Option}
-use Rattle.qs_meaning.specs.Memory.{Scalar, Cell}
-use Rattle.qs_meaning.specs.Operators.{UnaryOperation, Operation}
+use Rattle.qs_memory.specs.Memory.{Cell, BlankTree}
+use Rattle.qs_memory.specs.declared.scalar.Scalar.{Scalar}
+use Rattle.qs_memory.specs.declared.operation.UnaryOperation.{UnaryOperation}
+use Rattle.qs_memory.specs.declared.operation.BinaryOperation.{BinaryOperation}
 
 -- 6.3.1, 6.3.2.3: what happens to a value before it is used
 pub data Conversion : Type 0 where
   unchanged : Conversion
   converted : (from to : Scalar) → Conversion
+
+-- 6.5.6p2: whether an operation takes its operands as they are written, or a pointer that stands on the right first
+pub data Order : Type 0 where
+  as_written : Order
+  exchanged : Order
 
 -- the object that a name or a text stands for: a placed local or parameter, by its place among those of the function; a file-scope variable,
 -- by its place among those of the unit; a text, which stands behind the file-scope variables
@@ -31,23 +38,24 @@ mutual
     constant : Scalar → ℕ → Expr
     -- 6.3.2.1p2: the value that an lvalue has
     value : Scalar → Lvalue → Expr
-    -- 6.5.1, 6.5.3.2p3
-    address : Object → Expr
+    -- 6.5.1, 6.5.3.2p3: the address of an object
+    pointer_to : Object → Expr
     -- 6.5.2.3: the address of a member, by its offset, from that of the struct
     member : (offset : ℕ) → Expr → Expr
     -- 6.5.2.2p5: a call whose result is used
     called : (result : Scalar) → Callee → Arguments → Expr
     -- 6.5.2.4: the value before the step; the amount is 1
-    stepped_after : Scalar → Lvalue → Operation → (operand back : Conversion) → Expr
+    stepped_after : Scalar → Lvalue → BinaryOperation → (operand back : Conversion) → Expr
     -- 6.5.3.3
-    unary : UnaryOperation → (result : Scalar) → Conversion → Expr → Expr
+    unary : UnaryOperation → Conversion → Expr → Expr
     -- 6.5.4
     cast : Conversion → Expr → Expr
     -- 6.5.5 to 6.5.12
-    binary : Operation → (left right : Conversion) → Expr → Expr → Expr
-    -- 6.5.13, 6.5.14
-    both : Expr → Expr → Expr
-    either : Expr → Expr → Expr
+    binary : BinaryOperation → Order → (left right : Conversion) → Expr → Expr → Expr
+    -- 6.5.13
+    logical_and : Expr → Expr → Expr
+    -- 6.5.14
+    logical_or : Expr → Expr → Expr
     -- 6.5.15
     conditional : (result : Scalar) → Expr → (second third : Conversion) → Expr → Expr → Expr
     -- 6.5.16p3: the value that was assigned
@@ -69,7 +77,7 @@ mutual
     -- 6.5.16.1p2: the value is converted to the type of the lvalue
     set : Scalar → Lvalue → Conversion → Expr → Assignment
     -- 6.5.16.2p3: the operation's value is converted back; `++a` and `--a` are such assignments (6.5.3.1p2)
-    update : Scalar → Lvalue → Operation → (left right back : Conversion) → Expr → Assignment
+    update : Scalar → Lvalue → BinaryOperation → (left right back : Conversion) → Expr → Assignment
 
   -- an expression whose value is discarded (6.8.3p2, 6.5.17p2), or what a declaration does (6.7.9)
   pub data Effect : Type 0 where
@@ -80,7 +88,7 @@ mutual
     -- 6.5.16.1p3: a struct is copied, or the bytes of a text
     copy : (size alignment : ℕ) → (to from : Expr) → Effect
     -- 6.7.9p19, p21: an object before the expressions of its list
-    fill : List Cell → (at : Expr) → Effect
+    fill : BlankTree → (at : Expr) → Effect
     in_order : Effect → Effect → Effect
 
 -- ---- statements (6.8)

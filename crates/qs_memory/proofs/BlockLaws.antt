@@ -1,16 +1,16 @@
 -- The blocks of a memory before and after a step.
-use Rattle.std.proofs.Common.{◌≡◌, ◌≢◌, ◌⊎◌, inl, inr, ⊎_elim, ℕ, zero, suc, ◌+◌, ◌-◌, ◌%◌, ◌<◌, ◌≤◌, ◌==◌, ◌&&◌, nat_le, Bool, true, false, List, [], ◌∷◌, length, map, take, drop, get_or, slice_index_or, Option, Some, None, refl, sym, ap, ap₂, ◌∙◌, subst, arith, length-append, length-take, length-drop, length-set, get_or-take, get_or-drop, get_or-set_same, get_or-set_other}
+use Rattle.std.proofs.Common.{◌≡◌, ⊎_elim, ℕ, zero, suc, ◌+◌, ◌-◌, ◌%◌, ◌<◌, ◌≤◌, ◌==◌, ◌&&◌, nat_le, true, false, List, [], ◌∷◌, length, map, take, drop, get_or, slice_index_or, Some, refl, sym, ap, ap₂, ◌∙◌, subst, arith, length-append, length-take, length-drop, length-set, get_or-take, get_or-drop, get_or-set_same, get_or-set_other}
 use Rattle.std.proofs.lemmas.List.{length-map}
 use Rattle.std.proofs.Math.ListN.{get_or-append}
 use Rattle.std.proofs.Math.Seq.{get_or-append_right}
 use Rattle.std.proofs.lemmas.Bool.{cases_eq, cases_lt}
 use Rattle.std.proofs.lemmas.Bool.Decides.{nat_tests}
-use Rattle.qs_memory.specs.Partial.{◌>>=◌, only_if}
+use Rattle.qs_memory.specs.Partial.{only_if}
 use Rattle.qs_memory.specs.Values.{Pointer, null, into}
 use Rattle.qs_memory.specs.Memory.{Cell, Block, Memory, no_block, block_at, Target, target, is_in_range, range, overlaid, with_cells, new_block, make, released, release}
 use Rattle.qs_memory.specs.Soundness.{IsLive, ComesAfter}
 use Rattle.qs_memory.specs.Laws.{AreFresh, AreReleased}
-use Rattle.qs_memory.proofs.Options.{some_same, Followed, followed, only_if_some, only_if_value, only_if-then}
+use Rattle.qs_memory.proofs.Options.{followed, only_if_value, only_if-then}
 
 pub live_known : (m : Memory) (b : ℕ) → IsLive m b → b < length m
 live_known [] b h = cc
@@ -41,7 +41,7 @@ range_is m p size alignment t h =
     let c = only_if_value (is_in_range m a.value size alignment) _ t a.then in
     let at = target_is m p a.value a.first in
     subst (λ (u : Target). IsRange m p size alignment u) c.1
-      (record { is = at.is; live = at.live; fits = grind (arith, nat_tests, c.0); aligned = grind (arith, nat_tests, c.0) })
+    (record { is = at.is; live = at.live; fits = grind (arith, nat_tests, c.0); aligned = grind (arith, nat_tests, c.0) })
 
 -- a range as two tests on its block
 pub range-into : (m : Memory) (b o size alignment : ℕ) → range m (into b o) size alignment ≡ only_if (block_at m b).is_live (only_if (nat_le (o + size) (block_at m b).size && o % alignment == 0) (Some (record { block = b; offset = o })))
@@ -66,9 +66,9 @@ not_written m t new b other = get_or-set_other m t.block b _ no_block other
 unwritten : {A : Type 0} → (of : Block → A) → ((block : Block) (cells : ℕ → Cell) → of (record block { cells = cells }) ≡ of block) → (m : Memory) (t : Target) (new : List Cell) → IsLive m t.block → (b : ℕ) → of (block_at (with_cells m t new) b) ≡ of (block_at m b)
 unwritten of same m t new live b =
     ⊎_elim
-      (λ (here : b ≡ t.block). subst (λ (c : ℕ). of (block_at (with_cells m t new) c) ≡ of (block_at m c)) (sym here) (ap of (written m t new live) ∙ same (block_at m t.block) _))
-      (λ there. ap of (not_written m t new b there))
-      (cases_eq b t.block)
+    (λ (here : b ≡ t.block). subst (λ (c : ℕ). of (block_at (with_cells m t new) c) ≡ of (block_at m c)) (sym here) (ap of (written m t new live) ∙ same (block_at m t.block) _))
+    (λ there. ap of (not_written m t new b there))
+    (cases_eq b t.block)
 
 pub size_kept : (m : Memory) (t : Target) (new : List Cell) → IsLive m t.block → (b : ℕ) → (block_at (with_cells m t new) b).size ≡ (block_at m b).size
 size_kept = unwritten (λ block. block.size) (λ block cells. refl)
@@ -137,10 +137,10 @@ past_end (k ∷ m) (suc b) h = past_end m b (omega arith)
 release_old : (first : ℕ) (m : Memory) (b : ℕ) → b < first → block_at (release first m) b ≡ block_at m b
 release_old first m b h =
     ⊎_elim
-      (λ (known : b < length m).
-        get_or-append (take first m) (map released (drop first m)) no_block b (omega (arith, length-take first m)) ∙ get_or-take first m b no_block h)
-      (λ (past : length m ≤ b). past_end (release first m) b (omega (arith, length-release first m)) ∙ sym (past_end m b past))
-      (cases_lt b (length m))
+    (λ (known : b < length m).
+    get_or-append (take first m) (map released (drop first m)) no_block b (omega (arith, length-take first m)) ∙ get_or-take first m b no_block h)
+    (λ (past : length m ≤ b). past_end (release first m) b (omega (arith, length-release first m)) ∙ sym (past_end m b past))
+    (cases_lt b (length m))
 
 each_released : (m : Memory) (i : ℕ) → get_or (map released m) i no_block ≡ released (get_or m i no_block)
 each_released [] i = refl
@@ -150,15 +150,15 @@ each_released (k ∷ m) (suc i) = each_released m i
 release_new : (first : ℕ) (m : Memory) (b : ℕ) → first ≤ b → block_at (release first m) b ≡ released (block_at m b)
 release_new first m b h =
     ⊎_elim
-      (λ (known : b < length m).
-        let long : length (take first m) ≡ first = length-take first m ∙ omega arith in
-        let place : first + (b - first) ≡ b = omega arith in
-        get_or-append_right (take first m) (map released (drop first m)) b no_block (omega arith)
-        ∙ ap (λ n. get_or (map released (drop first m)) (b - n) no_block) long
-        ∙ each_released (drop first m) (b - first)
-        ∙ ap released (get_or-drop first m (b - first) no_block ∙ ap (λ j. get_or m j no_block) place))
-      (λ (past : length m ≤ b). past_end (release first m) b (omega (arith, length-release first m)) ∙ ap released (sym (past_end m b past)))
-      (cases_lt b (length m))
+    (λ (known : b < length m).
+    let long : length (take first m) ≡ first = length-take first m ∙ omega arith in
+    let place : first + (b - first) ≡ b = omega arith in
+    get_or-append_right (take first m) (map released (drop first m)) b no_block (omega arith)
+    ∙ ap (λ n. get_or (map released (drop first m)) (b - n) no_block) long
+    ∙ each_released (drop first m) (b - first)
+    ∙ ap released (get_or-drop first m (b - first) no_block ∙ ap (λ j. get_or m j no_block) place))
+    (λ (past : length m ≤ b). past_end (release first m) b (omega (arith, length-release first m)) ∙ ap released (sym (past_end m b past)))
+    (cases_lt b (length m))
 
 pub blocks_are_released : (first : ℕ) (m : Memory) → AreReleased first m
 blocks_are_released first m = record {

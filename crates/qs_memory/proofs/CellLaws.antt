@@ -1,13 +1,13 @@
 -- Lists of cells over the cells of a block, and the cells of a value.
-use Rattle.std.proofs.Common.{◌≡◌, ◌⊎◌, inl, inr, ⊎_elim, ℕ, zero, suc, ◌+◌, ◌*◌, ◌/◌, ◌%◌, ◌^◌, ◌<◌, ◌≤◌, ◌==◌, ◌&&◌, nat_lt, Bool, true, false, cond, if◌then◌else◌, List, [], ◌∷◌, length, Option, Some, None, refl, sym, ap, ap₂, ◌∙◌, subst, arith}
+use Rattle.std.proofs.Common.{◌≡◌, ◌⊎◌, inl, inr, ⊎_elim, ℕ, zero, suc, ◌+◌, ◌*◌, ◌/◌, ◌%◌, ◌^◌, ◌<◌, ◌≤◌, ◌==◌, ◌&&◌, nat_lt, Bool, true, false, if◌then◌else◌, List, [], ◌∷◌, length, Option, Some, refl, sym, ap, ap₂, ◌∙◌, arith}
 use Rattle.std.proofs.lemmas.Bool.{cases_lt}
 use Rattle.std.proofs.lemmas.Bool.Decides.{nat_tests}
 use Rattle.qs_memory.specs.Partial.{◌>>=◌, only_if}
-use Rattle.qs_memory.specs.Values.{Pointer, null, into, same_pointer, Value, integer, address, width, has_type}
-use Rattle.qs_memory.specs.Memory.{Cell, unset, byte, part, cells_from, overlaid, bytes_of, parts_of, cells_of, number_of, are_parts, pointer_of, value_of, times}
+use Rattle.qs_memory.specs.Values.{Pointer, null, into, same_pointer, Value, integer, address, width}
+use Rattle.qs_memory.specs.Memory.{Cell, cells_from, overlaid, bytes_of, parts_of, cells_of, number_of, are_parts, pointer_of, value_of}
 use Rattle.qs_memory.specs.declared.scalar.Scalar.{Scalar}
 use Rattle.qs_memory.specs.declared.scalar.Scalar.TheVariants as scalars
-use Rattle.qs_memory.proofs.Options.{some_same, Followed, followed, only_if_some, only_if_value}
+use Rattle.qs_memory.proofs.Options.{some_same, only_if_value}
 
 -- ---- cells that are laid over others
 
@@ -29,15 +29,15 @@ pub overlaid-within : (new : List Cell) (offset : ℕ) (old other : ℕ → Cell
 overlaid-within [] offset old other at h k = absurd (omega arith)
 overlaid-within (cell ∷ new) offset old other at h k =
     ⊎_elim
-      (λ (before : at < offset + 1).
-        let here : (at == offset) ≡ true = grind (arith, nat_tests) in
-        choice_same at offset cell (overlaid new (offset + 1) old at) here ∙ sym (choice_same at offset cell (overlaid new (offset + 1) other at) here))
-      (λ (after : offset + 1 ≤ at).
-        let there : (at == offset) ≡ false = grind (arith, nat_tests) in
-        choice_other at offset cell (overlaid new (offset + 1) old at) there
-        ∙ overlaid-within new (offset + 1) old other at (omega arith) (omega arith)
-        ∙ sym (choice_other at offset cell (overlaid new (offset + 1) other at) there))
-      (cases_lt at (offset + 1))
+    (λ (before : at < offset + 1).
+    let here : (at == offset) ≡ true = grind (arith, nat_tests) in
+    choice_same at offset cell (overlaid new (offset + 1) old at) here ∙ sym (choice_same at offset cell (overlaid new (offset + 1) other at) here))
+    (λ (after : offset + 1 ≤ at).
+    let there : (at == offset) ≡ false = grind (arith, nat_tests) in
+    choice_other at offset cell (overlaid new (offset + 1) old at) there
+    ∙ overlaid-within new (offset + 1) old other at (omega arith) (omega arith)
+    ∙ sym (choice_other at offset cell (overlaid new (offset + 1) other at) there))
+    (cases_lt at (offset + 1))
 
 -- what holds of each cell of a list
 abbrev pub Each : (Cell → Type 0) → List Cell → Type 0
@@ -71,8 +71,8 @@ pub cells_from-overlaid : (new : List Cell) (offset : ℕ) (old : ℕ → Cell) 
 cells_from-overlaid [] offset old = refl
 cells_from-overlaid (cell ∷ new) offset old =
     ap₂ (λ c cs. c ∷ cs)
-      (choice_same offset offset cell (overlaid new (offset + 1) old offset) (grind (arith, nat_tests)))
-      (cells_from-like (length new) _ (overlaid new (offset + 1) old) (offset + 1) (λ at a b. choice_other at offset cell _ (grind (arith, nat_tests))) ∙ cells_from-overlaid new (offset + 1) old)
+    (choice_same offset offset cell (overlaid new (offset + 1) old offset) (grind (arith, nat_tests)))
+    (cells_from-like (length new) _ (overlaid new (offset + 1) old) (offset + 1) (λ at a b. choice_other at offset cell _ (grind (arith, nat_tests))) ∙ cells_from-overlaid new (offset + 1) old)
 
 -- and what lies elsewhere is as it was
 pub cells_from-apart : (size : ℕ) (new : List Cell) (old : ℕ → Cell) (offset at : ℕ) → (at + size ≤ offset) ⊎ (offset + length new ≤ at) → cells_from (overlaid new offset old) at size ≡ cells_from old at size
@@ -89,8 +89,8 @@ pub overlaid-commute :
     (a b : List Cell) (i j : ℕ) (old : ℕ → Cell) (at : ℕ) → (i + length a ≤ j) ⊎ (j + length b ≤ i) → overlaid b j (overlaid a i old) at ≡ overlaid a i (overlaid b j old) at
 overlaid-commute a b i j old at apart =
     ⊎_elim (λ (before : at < j). out (inl before)) (λ (from : j ≤ at).
-      ⊎_elim (λ (inside : at < j + length b). in_b from inside) (λ (past : j + length b ≤ at). out (inr past)) (cases_lt at (j + length b)))
-      (cases_lt at j)
+    ⊎_elim (λ (inside : at < j + length b). in_b from inside) (λ (past : j + length b ≤ at). out (inr past)) (cases_lt at (j + length b)))
+    (cases_lt at j)
   where
     out : (at < j) ⊎ (j + length b ≤ at) → overlaid b j (overlaid a i old) at ≡ overlaid a i (overlaid b j old) at
     out h = overlaid-apart b j (overlaid a i old) at h ∙ sym (overlaid-like a i (overlaid b j old) old at (overlaid-apart b j old at h))

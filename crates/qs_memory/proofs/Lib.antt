@@ -1,3 +1,9 @@
 mod Options
 mod CellLaws
 mod BlockLaws
+mod StoreLaws
+mod StepLaws
+mod SoundLaws
+mod ValueLaws
+mod AccessExamples
+mod OperationExamples

@@ -1,6 +1,6 @@
 -- Operations on integers of 32 bits (C11 6.5.3.3, 6.5.5 to 6.5.12). Each is a number below 2 ^ 32, an `int` seen by its two's complement.
 -- Sums, differences, products and left shifts wrap modulo 2 ^ 32, signed ones too.
-use Rattle.std.specs.Prelude.{ℕ, ◌^◌, ◌==◌, ◌&&◌, not, nat_lt, nat_le, Bool, true, false, Option, Some, None, ℤ, pos, int_lt}
+use Rattle.std.specs.Prelude.{ℕ, ◌^◌, ◌==◌, ◌&&◌, not, nat_lt, Bool, false, Option, Some, ℤ, pos, int_lt}
 use Rattle.qs_base.specs.Words.{signed, all_ones, add, sub, and, or, xor, sll, srl, sra, mul, div, rem, divu, remu}
 use Rattle.qs_memory.specs.Partial.{only_if}
 use Rattle.qs_memory.specs.declared.operation.Signedness.{Signedness}

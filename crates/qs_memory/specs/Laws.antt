@@ -1,9 +1,9 @@
 -- What is promised of memories and values, once for all widths.
-use Rattle.std.specs.Prelude.{◌≡◌, ◌≢◌, ℕ, ◌+◌, ◌<◌, ◌≤◌, ◌⊎◌, List, length, slice_index_or, Option, Some, None}
+use Rattle.std.specs.Prelude.{◌≡◌, ◌≢◌, ℕ, ◌+◌, ◌<◌, ◌≤◌, ◌⊎◌, List, length, slice_index_or, Some, None}
 use Rattle.qs_memory.specs.Values.{Pointer, null, into, Value, width, convert}
-use Rattle.qs_memory.specs.Memory.{Cell, unset, Memory, Block, no_block, block_at, new_block, released, Target, target, load, store, copy, fill, BlankTree, make, release}
+use Rattle.qs_memory.specs.Memory.{Memory, block_at, new_block, target, load, store, copy, fill, BlankTree, make, release}
 use Rattle.qs_memory.specs.Operations.{apply_unary, apply_binary}
-use Rattle.qs_memory.specs.Soundness.{IsLive, IsSoundPointer, IsSoundValue, IsSound, ComesAfter}
+use Rattle.qs_memory.specs.Soundness.{IsSoundPointer, IsSoundValue, IsSound, ComesAfter}
 use Rattle.qs_memory.specs.declared.scalar.Scalar.{Scalar}
 use Rattle.qs_memory.specs.declared.operation.UnaryOperation.{UnaryOperation}
 use Rattle.qs_memory.specs.declared.operation.BinaryOperation.{BinaryOperation}

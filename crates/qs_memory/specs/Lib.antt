@@ -4,5 +4,6 @@ pub mod Integers
 pub mod Memory
 pub mod Pointers
 pub mod Operations
+pub mod BlankOf
 pub mod Soundness
 pub mod Laws

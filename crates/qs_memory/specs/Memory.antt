@@ -1,5 +1,5 @@
 -- Block memory: objects without addresses (C11 3.15, 6.2.4, 6.2.6, 6.5p6 and p7).
-use Rattle.std.specs.Prelude.{ℕ, zero, suc, ◌+◌, ◌*◌, ◌/◌, ◌%◌, ◌^◌, ◌==◌, ◌&&◌, not, nat_lt, nat_le, Bool, true, false, if◌then◌else◌, List, [], ◌∷◌, ◌++◌, length, map, take, drop, slice_set, slice_index_or, Option, Some, None}
+use Rattle.std.specs.Prelude.{ℕ, zero, suc, ◌+◌, ◌*◌, ◌/◌, ◌%◌, ◌==◌, ◌&&◌, not, nat_lt, nat_le, Bool, true, false, if◌then◌else◌, List, [], ◌∷◌, ◌++◌, length, map, take, drop, slice_set, slice_index_or, Option, Some, None}
 use Rattle.qs_memory.specs.Partial.{◌>>=◌, only_if}
 use Rattle.qs_memory.specs.Values.{Pointer, null, into, same_pointer, Value, integer, address, width, has_type}
 use Rattle.qs_memory.specs.declared.scalar.Scalar.{Scalar}

@@ -1,6 +1,6 @@
 -- What an operation gives on values in a memory. None where it is undefined, or where a value isn't of the kind that the operation takes,
 -- which no typed program meets.
-use Rattle.std.specs.Prelude.{ℕ, not, Bool, if◌then◌else◌, Option, Some, None}
+use Rattle.std.specs.Prelude.{ℕ, not, Bool, if◌then◌else◌, Option, Some}
 use Rattle.qs_memory.specs.Partial.{◌>>=◌}
 use Rattle.qs_memory.specs.Values.{Pointer, Value, integer, address, as_integer, as_pointer}
 use Rattle.qs_memory.specs.Integers.{calculate, compares, minus, complement}

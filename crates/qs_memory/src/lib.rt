@@ -13,5 +13,7 @@ pub use laws::{
     blocks_are_fresh, blocks_are_released, load_after_store, load_elsewhere, memory_goes_on,
     soundness_is_kept, stores_commute, values_are_sound,
 };
-pub use operation::{Arithmetic, BinaryOperation, Comparison, Direction, Signedness, UnaryOperation};
+pub use operation::{
+    Arithmetic, BinaryOperation, Comparison, Direction, Signedness, UnaryOperation,
+};
 pub use scalar::Scalar;

@@ -6,7 +6,7 @@ use Rattle.qs_syntax.specs.Trees.{UnitTree, StmtTree, InitialiserTree}
 use Rattle.qs_memory.specs.declared.scalar.Scalar.TheVariants.{Char, Int, Unsigned, Pointer}
 use Rattle.qs_memory.specs.Partial.{◌>>=◌}
 use Rattle.qs_memory.specs.Values.{null, into}
-use Rattle.qs_memory.specs.Memory.{Cell, byte, part, zeros, nulls, repeated, joined}
+use Rattle.qs_memory.specs.Memory.{nothing as blank_nothing, Cell, byte, part, BlankTree, zeros, nulls, repeated, joined}
 use Rattle.qs_types.specs.Types.{TypeTree, int, unsigned, char, pointer, array, struct}
 use Rattle.qs_meaning.specs.Typed.{unchanged, converted, Expr, constant, value, pointer_to, member, Effect, nothing, assign, set, update, copy, fill, in_order, variable, object, local, static, StaticBlock, TypedUnit}
 use Rattle.qs_meaning.specs.Forms.{lvalue}
@@ -22,8 +22,12 @@ use Rattle.qs_meaning.proofs.Known.{structs, scope, u, x, v, text_at}
 blank_pointers : blank_of structs (array (pointer int) 2) ≡ Some (repeated 2 (nulls 1))
 blank_pointers = refl
 
+-- the blank of struct s: char m, padding, int n
+abbrev blank_s : BlankTree
+blank_s = joined (zeros 0) (joined (zeros 1) (joined (zeros 3) (joined (zeros 4) (joined (zeros 0) blank_nothing))))
+
 -- char m; int n; with the padding between them
-blank_struct : blank_of structs (struct 0) ≡ Some (joined (zeros 0) (joined (zeros 1) (joined (zeros 3) (joined (zeros 4) (zeros 0)))))
+blank_struct : blank_of structs (struct 0) ≡ Some blank_s
 blank_struct = refl
 
 -- ---- locals
@@ -58,11 +62,11 @@ list_of_lists : set_of first (array (array int 2) 2) (listed (listed (numbers (7
 list_of_lists = refl
 
 -- struct s w={u,8};
-list_of_struct : set_of first (struct 0) (listed (valued u ∷ valued (number 8) ∷ [])) ≡ Some (in_order (fill (joined (zeros 0) (joined (zeros 1) (joined (zeros 3) (joined (zeros 4) (zeros 0))))) first) (in_order (assign (set Char (object (member 0 first)) (converted Unsigned Char) (value Unsigned (variable 2)))) (in_order (int_at 4 8) nothing)))
+list_of_struct : set_of first (struct 0) (listed (valued u ∷ valued (number 8) ∷ [])) ≡ Some (in_order (fill blank_s first) (in_order (assign (set Char (object (member 0 first)) (converted Unsigned Char) (value Unsigned (variable 2)))) (in_order (int_at 4 8) nothing)))
 list_of_struct = refl
 
 -- struct s w[2]={v};
-struct_in_list : set_of first (array (struct 0) 2) (listed (valued v ∷ [])) ≡ Some (in_order (fill (repeated 2 (joined (zeros 0) (joined (zeros 1) (joined (zeros 3) (joined (zeros 4) (zeros 0)))))) first) (in_order (copy 8 4 (member 0 first) (pointer_to (local 2))) nothing))
+struct_in_list : set_of first (array (struct 0) 2) (listed (valued v ∷ [])) ≡ Some (in_order (fill (repeated 2 blank_s) first) (in_order (copy 8 4 (member 0 first) (pointer_to (local 2))) nothing))
 struct_in_list = refl
 
 -- char w[4]="ab"; the second text of the unit

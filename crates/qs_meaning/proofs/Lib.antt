@@ -6,3 +6,4 @@ mod Outcomes
 mod UndefinedExamples
 mod RunExamples
 mod Related
+mod Growth

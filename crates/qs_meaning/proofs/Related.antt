@@ -9,10 +9,10 @@ use Rattle.qs_memory.specs.Pointers.{member_of, truth}
 use Rattle.qs_memory.specs.Operations.{apply_unary}
 use Rattle.qs_events.specs.Events.{Event, Takes, TakesEnd, Puts}
 use Rattle.qs_events.specs.Events as events
-use Rattle.qs_events.specs.Runs.{emit, undefined}
+use Rattle.qs_events.specs.Runs.{emit, undefined, given}
 use Rattle.qs_meaning.specs.Typed.{Conversion, unchanged, Callee, function, putchar, getchar, Expr, constant, value, pointer_to, member, called, stepped_after, unary, cast, binary, logical_and, logical_or, conditional, assigned, sequence, Lvalue, variable, object, Arguments, no_arguments, argument_and, Assignment, set, update, Effect, nothing, discard, assign, perform, copy, fill, in_order, Stmt, evaluate, block, branch, while_loop, do_loop, for_loop, break, continue, return, return_nothing, Stmts, no_stmts, stmt_and, Parameter, plain, placed, Function}
-use Rattle.qs_meaning.specs.States.{Variables, no_variables, put, World, in_memory, SourceRun, Next, Return, Calls, Here, defined, choose, test, convert_by, conversion_then, Place, in_variable, in_object, read, write}
-use Rattle.qs_meaning.specs.Meaning.{take, put_byte, call, operated, updated, one, expression, lvalue, arguments, assignment, effect, Targets, in_loop, turns, condition, for_condition, statement, statements}
+use Rattle.qs_meaning.specs.States.{Variables, no_variables, put, World, in_memory, SourceRun, Next, Return, Calls, Here, choose, test, convert_by, conversion_then, Place, in_variable, in_object, read, write}
+use Rattle.qs_meaning.specs.Meaning.{take_byte, put_byte, call, operated, updated, one, expression, lvalue, arguments, assignment, effect, Targets, in_loop, turns, condition, for_condition, statement, statements}
 use Rattle.qs_meaning.specs.Runs.{bind, result_at_end, nowhere, targets, leave, body, entered}
 
 module _ (R : SourceRun → SourceRun → Type 0) where
@@ -39,24 +39,24 @@ module _ (R : SourceRun → SourceRun → Type 0) where
   TurnsRelated m n = (t u : Next → Next) → ((k l : Next) → NextRelated k l → NextRelated (t k) (u l)) → NextRelated (turns m t) (turns n u)
 
   module _ (keeps : Keeps) where
-    defined_related : {A : Type 0} → (o : Option A) (f g : A → SourceRun) → ((x : A) → R (f x) (g x)) → R (defined o f) (defined o g)
-    defined_related None f g h = keeps.undefined
-    defined_related (Some x) f g h = h x
+    pub given_related : {A : Type 0} → (o : Option A) (f g : A → SourceRun) → ((x : A) → R (f x) (g x)) → R (given o f) (given o g)
+    given_related None f g h = keeps.undefined
+    given_related (Some x) f g h = h x
 
     choose_related : (b : Bool) (k k' l l' : Next) → NextRelated k l → NextRelated k' l' → NextRelated (choose b k k') (choose b l l')
     choose_related true k k' l l' h i = h
     choose_related false k k' l l' h i = i
 
     test_related : (x : Value) (k k' l l' : Next) → NextRelated k l → NextRelated k' l' → NextRelated (test x k k') (test x l l')
-    test_related x k k' l l' h i v w = defined_related (truth w.memory x) _ _ (λ b. choose_related b k k' l l' h i v w)
+    test_related x k k' l l' h i v w = given_related (truth w.memory x) _ _ (λ b. choose_related b k k' l l' h i v w)
 
     write_related : (s : Scalar) (p : Place) (y : Value) (k l : Next) → NextRelated k l → NextRelated (write s p y k) (write s p y l)
     write_related s (in_variable x) y k l h v w = h (put v x y) w
-    write_related s (in_object p) y k l h v w = defined_related (store s w.memory p y) _ _ (λ m. h v (in_memory w m))
+    write_related s (in_object p) y k l h v w = given_related (store s w.memory p y) _ _ (λ m. h v (in_memory w m))
 
-    take_related : (bytes : List ℕ) (k l : Return) → ReturnRelated k l → (w : World) → R (take bytes k w) (take bytes l w)
-    take_related [] k l h w = keeps.emit _ _ _ (h _ _)
-    take_related (b ∷ bs) k l h w = keeps.emit _ _ _ (h _ _)
+    take_byte_related : (bytes : List ℕ) (k l : Return) → ReturnRelated k l → (w : World) → R (take_byte bytes k w) (take_byte bytes l w)
+    take_byte_related [] k l h w = keeps.emit _ _ _ (h _ _)
+    take_byte_related (b ∷ bs) k l h w = keeps.emit _ _ _ (h _ _)
 
     put_byte_related : (xs : List Value) (k l : Return) → ReturnRelated k l → (w : World) → R (put_byte xs k w) (put_byte xs l w)
     put_byte_related [] k l h w = keeps.undefined
@@ -72,7 +72,7 @@ module _ (R : SourceRun → SourceRun → Type 0) where
     bind_related (placed i s ∷ ps) [] first_block k l h v w = keeps.undefined
     bind_related (plain i ∷ ps) (x ∷ xs) first_block k l h v w = bind_related ps xs first_block k l h (put v i x) w
     bind_related (placed i s ∷ ps) (x ∷ xs) first_block k l h v w =
-        defined_related (store s w.memory (into (first_block + i) 0) x) _ _ (λ m. bind_related ps xs first_block k l h v (in_memory w m))
+        given_related (store s w.memory (into (first_block + i) 0) x) _ _ (λ m. bind_related ps xs first_block k l h v (in_memory w m))
 
     -- a call seen with two bounds
     module _ (m n : ℕ) (first_block : ℕ) (turns_related : TurnsRelated m n) (c d : Calls) (calls_related : CallsRelated c d) where
@@ -85,52 +85,52 @@ module _ (R : SourceRun → SourceRun → Type 0) where
       call_related : (f : Callee) (xs : List Value) (k l : Return) → ReturnRelated k l → (w : World) → R (call f here xs k w) (call f there xs l w)
       call_related (function f) xs k l h w = calls_related f xs k l h w
       call_related putchar xs k l h w = put_byte_related xs k l h w
-      call_related getchar xs k l h w = take_related w.input k l h w
+      call_related getchar xs k l h w = take_byte_related w.input k l h w
 
       mutual
         expression_related : (a : Expr) (k l : Value → Next) → ((x : Value) → NextRelated (k x) (l x)) → NextRelated (expression a here k) (expression a there l)
         expression_related (constant s i) k l h v w = h _ v w
-        expression_related (value s a) k l h v w = lvalue_related a _ _ (λ p v w. defined_related (read s p v w) _ _ (λ x. h x v w)) v w
+        expression_related (value s a) k l h v w = lvalue_related a _ _ (λ p v w. given_related (read s p v w) _ _ (λ x. h x v w)) v w
         expression_related (pointer_to o) k l h v w = h _ v w
         expression_related (member offset a) k l h v w =
-            expression_related a _ _ (λ x v w. defined_related (as_pointer x >>= λ p. member_of w.memory p offset) _ _ (λ p. h (address p) v w)) v w
+            expression_related a _ _ (λ x v w. given_related (as_pointer x >>= λ p. member_of w.memory p offset) _ _ (λ p. h (address p) v w)) v w
         expression_related (called s f es) k l h v w =
-            arguments_related es _ _ (λ xs v w. call_related f xs _ _ (λ result w. defined_related result _ _ (λ x. h x v w)) w) v w
+            arguments_related es _ _ (λ xs v w. call_related f xs _ _ (λ result w. given_related result _ _ (λ x. h x v w)) w) v w
         expression_related (stepped_after s a operation left back) k l h v w =
-            lvalue_related a _ _ (λ p v w. defined_related (read s p v w) _ _ (λ x.
-            defined_related (updated operation left unchanged back w.memory x one) _ _ (λ y. write_related s p y _ _ (h x) v w))) v w
+            lvalue_related a _ _ (λ p v w. given_related (read s p v w) _ _ (λ x.
+            given_related (updated operation left unchanged back w.memory x one) _ _ (λ y. write_related s p y _ _ (h x) v w))) v w
         expression_related (unary operation i a) k l h v w =
-            expression_related a _ _ (λ x v w. defined_related (convert_by i x >>= λ x. apply_unary operation w.memory x) _ _ (λ y. h y v w)) v w
-        expression_related (cast i a) k l h v w = expression_related a _ _ (λ x v w. defined_related (convert_by i x) _ _ (λ y. h y v w)) v w
+            expression_related a _ _ (λ x v w. given_related (convert_by i x >>= λ x. apply_unary operation w.memory x) _ _ (λ y. h y v w)) v w
+        expression_related (cast i a) k l h v w = expression_related a _ _ (λ x v w. given_related (convert_by i x) _ _ (λ y. h y v w)) v w
         expression_related (binary operation order left right a b) k l h v w =
             expression_related a _ _ (λ x. expression_related b _ _ (λ y v w.
-            defined_related (operated operation order left right w.memory x y) _ _ (λ z. h z v w))) v w
+            given_related (operated operation order left right w.memory x y) _ _ (λ z. h z v w))) v w
         expression_related (logical_and a b) k l h v w =
             expression_related a _ _ (λ x. test_related x _ _ _ _ (expression_related b _ _ (λ y. test_related y _ _ _ _ (h _) (h _))) (h _)) v w
         expression_related (logical_or a b) k l h v w =
             expression_related a _ _ (λ x. test_related x _ _ _ _ (h _) (expression_related b _ _ (λ y. test_related y _ _ _ _ (h _) (h _)))) v w
         expression_related (conditional s a i j b e) k l h v w =
             expression_related a _ _ (λ x. test_related x _ _ _ _
-            (expression_related b _ _ (λ y v w. defined_related (convert_by i y) _ _ (λ z. h z v w)))
-            (expression_related e _ _ (λ y v w. defined_related (convert_by j y) _ _ (λ z. h z v w)))) v w
+            (expression_related b _ _ (λ y v w. given_related (convert_by i y) _ _ (λ z. h z v w)))
+            (expression_related e _ _ (λ y v w. given_related (convert_by j y) _ _ (λ z. h z v w)))) v w
         expression_related (assigned a) k l h v w = assignment_related a k l h v w
         expression_related (sequence a b) k l h v w = effect_related a _ _ (expression_related b k l h) v w
 
         lvalue_related : (a : Lvalue) (k l : Place → Next) → ((p : Place) → NextRelated (k p) (l p)) → NextRelated (lvalue a here k) (lvalue a there l)
         lvalue_related (variable x) k l h v w = h _ v w
-        lvalue_related (object a) k l h v w = expression_related a _ _ (λ x v w. defined_related (as_pointer x) _ _ (λ p. h _ v w)) v w
+        lvalue_related (object a) k l h v w = expression_related a _ _ (λ x v w. given_related (as_pointer x) _ _ (λ p. h _ v w)) v w
 
         arguments_related : (es : Arguments) (k l : List Value → Next) → ((xs : List Value) → NextRelated (k xs) (l xs)) → NextRelated (arguments es here k) (arguments es there l)
         arguments_related no_arguments k l h v w = h _ v w
         arguments_related (argument_and i a es) k l h v w =
-            expression_related a _ _ (λ x v w. defined_related (convert_by i x) _ _ (λ y. arguments_related es _ _ (λ ys. h _) v w)) v w
+            expression_related a _ _ (λ x v w. given_related (convert_by i x) _ _ (λ y. arguments_related es _ _ (λ ys. h _) v w)) v w
 
         assignment_related : (a : Assignment) (k l : Value → Next) → ((x : Value) → NextRelated (k x) (l x)) → NextRelated (assignment a here k) (assignment a there l)
         assignment_related (set s a i b) k l h v w =
-            lvalue_related a _ _ (λ p. expression_related b _ _ (λ x v w. defined_related (convert_by i x) _ _ (λ y. write_related s p y _ _ (h y) v w))) v w
+            lvalue_related a _ _ (λ p. expression_related b _ _ (λ x v w. given_related (convert_by i x) _ _ (λ y. write_related s p y _ _ (h y) v w))) v w
         assignment_related (update s a operation left right back b) k l h v w =
-            lvalue_related a _ _ (λ p v w. defined_related (read s p v w) _ _ (λ x.
-            expression_related b _ _ (λ y v w. defined_related (updated operation left right back w.memory x y) _ _ (λ z. write_related s p z _ _ (h z) v w)) v w)) v w
+            lvalue_related a _ _ (λ p v w. given_related (read s p v w) _ _ (λ x.
+            expression_related b _ _ (λ y v w. given_related (updated operation left right back w.memory x y) _ _ (λ z. write_related s p z _ _ (h z) v w)) v w)) v w
 
         effect_related : (a : Effect) (k l : Next) → NextRelated k l → NextRelated (effect a here k) (effect a there l)
         effect_related nothing k l h v w = h v w
@@ -139,9 +139,9 @@ module _ (R : SourceRun → SourceRun → Type 0) where
         effect_related (perform f es) k l h v w = arguments_related es _ _ (λ xs v w. call_related f xs _ _ (λ result w. h v w) w) v w
         effect_related (copy size alignment a b) k l h v w =
             expression_related a _ _ (λ x. expression_related b _ _ (λ y v w.
-            defined_related (as_pointer x >>= λ to. as_pointer y >>= λ from. blocks.copy size alignment w.memory to from) _ _ (λ m. h v (in_memory w m)))) v w
+            given_related (as_pointer x >>= λ to. as_pointer y >>= λ from. blocks.copy size alignment w.memory to from) _ _ (λ m. h v (in_memory w m)))) v w
         effect_related (fill blank a) k l h v w =
-            expression_related a _ _ (λ x v w. defined_related (as_pointer x >>= λ p. blocks.fill blank w.memory p) _ _ (λ m. h v (in_memory w m))) v w
+            expression_related a _ _ (λ x v w. given_related (as_pointer x >>= λ p. blocks.fill blank w.memory p) _ _ (λ m. h v (in_memory w m))) v w
         effect_related (in_order a b) k l h v w = effect_related a _ _ (effect_related b k l h) v w
 
       condition_related : (e : Expr) (k k' l l' : Next) → NextRelated k l → NextRelated k' l' → NextRelated (condition e here k k') (condition e there l l')
@@ -169,7 +169,7 @@ module _ (R : SourceRun → SourceRun → Type 0) where
         statement_related break t u h v w = h.at_break v w
         statement_related continue t u h v w = h.at_continue v w
         statement_related (return i a) t u h v w =
-            expression_related a _ _ (λ x v w. defined_related (convert_by i x) _ _ (λ y. h.at_return (Some y) w)) v w
+            expression_related a _ _ (λ x v w. given_related (convert_by i x) _ _ (λ y. h.at_return (Some y) w)) v w
         statement_related return_nothing t u h v w = h.at_return None w
 
         statements_related : (ss : Stmts) (t u : Targets) → TargetsRelated t u → NextRelated (statements ss here t) (statements ss there u)
@@ -186,6 +186,6 @@ module _ (R : SourceRun → SourceRun → Type 0) where
       body_related : (g : Function) (f : ℕ) (k l : Return) → ReturnRelated k l → NextRelated (body g here f k) (body g there f l)
       body_related g f k l h = statements_related g.body _ _ (targets_related g _ _ (leave_related f k l h))
 
-    entered_related : (m n : ℕ) → TurnsRelated m n → (c d : Calls) → CallsRelated c d → (f : ℕ) (g : Function) (xs : List Value) (k l : Return) → ReturnRelated k l → (w : World) → R (entered m c f g xs k w) (entered n d f g xs l w)
+    pub entered_related : (m n : ℕ) → TurnsRelated m n → (c d : Calls) → CallsRelated c d → (f : ℕ) (g : Function) (xs : List Value) (k l : Return) → ReturnRelated k l → (w : World) → R (entered m c f g xs k w) (entered n d f g xs l w)
     entered_related m n t c d e f g xs k l h w =
         keeps.emit _ _ _ (bind_related g.parameters xs (length w.memory) _ _ (body_related m n (length w.memory) t c d e g f k l h) no_variables (in_memory w (make g.blocks w.memory)))

@@ -20,7 +20,7 @@ blank_by blanks (struct k) = blanks k
 
 -- the members from this place on, each at its offset, with the padding before it, and then the padding at the end
 abbrev pub members_blank : Structs → Blanks → (at size : ℕ) → List MemberTree → (offsets : List ℕ) → Option BlankTree
-members_blank structs blanks at size [] offsets = Some (zeros (size - at))
+members_blank structs blanks at size [] offsets = Some (joined (zeros (size - at)) nothing)
 members_blank structs blanks at size (m ∷ ms) [] = None
 members_blank structs blanks at size (m ∷ ms) (offset ∷ offsets) =
     blank_by blanks m.type >>= λ b. size_of structs m.type >>= λ n. members_blank structs blanks (offset + n) size ms offsets >>= λ rest.

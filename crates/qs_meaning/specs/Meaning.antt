@@ -11,16 +11,16 @@ use Rattle.qs_memory.specs.Pointers.{member_of}
 use Rattle.qs_memory.specs.Operations.{apply_unary, apply_binary}
 use Rattle.qs_base.specs.Words.{all_ones}
 use Rattle.qs_events.specs.Events.{Takes, TakesEnd, Puts}
-use Rattle.qs_events.specs.Runs.{emit, undefined, short}
+use Rattle.qs_events.specs.Runs.{emit, undefined, short, given}
 use Rattle.qs_meaning.specs.Typed.{Conversion, unchanged, Order, as_written, exchanged, Callee, function, putchar, getchar, Expr, constant, value, pointer_to, member, called, stepped_after, unary, cast, binary, logical_and, logical_or, conditional, assigned, sequence, Lvalue, variable, object, Arguments, no_arguments, argument_and, Assignment, set, update, Effect, nothing, discard, assign, perform, copy, fill, in_order, Stmt, evaluate, block, branch, while_loop, do_loop, for_loop, break, continue, return, return_nothing, Stmts, no_stmts, stmt_and}
-use Rattle.qs_meaning.specs.States.{World, in_memory, SourceRun, Next, Return, Here, defined, test, convert_by, conversion_then, pointer_at, Place, in_variable, in_object, read, write}
+use Rattle.qs_meaning.specs.States.{World, in_memory, SourceRun, Next, Return, Here, test, convert_by, conversion_then, pointer_at, Place, in_variable, in_object, read, write}
 
 -- ---- calls (6.5.2.2)
 
 -- 7.21.7.6: the next byte of the input, or -1 at its end
-abbrev pub take : List ℕ → Return → World → SourceRun
-take [] next w = emit TakesEnd (next (Some (integer all_ones)) w)
-take (b ∷ bs) next w = emit (Takes b) (next (Some (integer b)) (record w { input = bs }))
+abbrev pub take_byte : List ℕ → Return → World → SourceRun
+take_byte [] next w = emit TakesEnd (next (Some (integer all_ones)) w)
+take_byte (b ∷ bs) next w = emit (Takes b) (next (Some (integer b)) (record w { input = bs }))
 
 -- 7.21.7.8: the argument as an unsigned char, which is the result too
 abbrev pub put_byte : List Value → Return → World → SourceRun
@@ -30,7 +30,7 @@ put_byte _ next w = undefined
 abbrev pub call : Callee → Here → List Value → Return → World → SourceRun
 call (function f) h xs next w = h.calls f xs next w
 call putchar h xs next w = put_byte xs next w
-call getchar h xs next w = take w.input next w
+call getchar h xs next w = take_byte w.input next w
 
 -- ---- operations
 
@@ -55,26 +55,26 @@ abbrev mutual
   -- 6.5.1p3
   expression (constant s n) h next = next (integer n)
   -- 6.3.2.1p2
-  expression (value s l) h next = lvalue l h (λ p v w. defined (read s p v w) (λ x. next x v w))
+  expression (value s l) h next = lvalue l h (λ p v w. given (read s p v w) (λ x. next x v w))
   -- 6.5.3.2p3
   expression (pointer_to o) h next = next (address (pointer_at o h.first_block))
   -- 6.5.2.3p3, p4
   expression (member offset a) h next =
-      expression a h (λ x v w. defined (as_pointer x >>= λ p. member_of w.memory p offset) (λ p. next (address p) v w))
+      expression a h (λ x v w. given (as_pointer x >>= λ p. member_of w.memory p offset) (λ p. next (address p) v w))
   -- 6.5.2.2p4, p5, p10; UNDEFINED 9 (6.9.1p12): the function ended without the value that is used
-  expression (called s f es) h next = arguments es h (λ xs v. call f h xs (λ result w. defined result (λ x. next x v w)))
+  expression (called s f es) h next = arguments es h (λ xs v. call f h xs (λ result w. given result (λ x. next x v w)))
   -- 6.5.2.4p2
   expression (stepped_after s l operation left back) h next =
-      lvalue l h (λ p v w. defined (read s p v w) (λ x.
-      defined (updated operation left unchanged back w.memory x one) (λ y. write s p y (next x) v w)))
+      lvalue l h (λ p v w. given (read s p v w) (λ x.
+      given (updated operation left unchanged back w.memory x one) (λ y. write s p y (next x) v w)))
   -- 6.5.3.3
   expression (unary operation c a) h next =
-      expression a h (λ x v w. defined (convert_by c x >>= λ x. apply_unary operation w.memory x) (λ y. next y v w))
+      expression a h (λ x v w. given (convert_by c x >>= λ x. apply_unary operation w.memory x) (λ y. next y v w))
   -- 6.5.4p5
   expression (cast c a) h next = expression a h (λ x. conversion_then c x next)
   -- 6.5.5 to 6.5.12
   expression (binary operation order left right a b) h next =
-      expression a h (λ x. expression b h (λ y v w. defined (operated operation order left right w.memory x y) (λ z. next z v w)))
+      expression a h (λ x. expression b h (λ y v w. given (operated operation order left right w.memory x y) (λ z. next z v w)))
   -- 6.5.13p4: the right operand isn't evaluated where the left one is 0
   expression (logical_and a b) h next =
       expression a h (λ x. test x (expression b h (λ y. test y (next (integer 1)) (next (integer 0)))) (next (integer 0)))
@@ -92,7 +92,7 @@ abbrev mutual
   -- 6.3.2.1p1
   pub lvalue : Lvalue → Here → (Place → Next) → Next
   lvalue (variable x) h next = next (in_variable x)
-  lvalue (object a) h next = expression a h (λ x v w. defined (as_pointer x) (λ p. next (in_object p) v w))
+  lvalue (object a) h next = expression a h (λ x v w. given (as_pointer x) (λ p. next (in_object p) v w))
 
   -- 6.5.2.2p4, p7
   pub arguments : Arguments → Here → (List Value → Next) → Next
@@ -104,8 +104,8 @@ abbrev mutual
   assignment (set s l c a) h next = lvalue l h (λ p. expression a h (λ x. conversion_then c x (λ y. write s p y (next y))))
   -- 6.5.16.2p3: the left side, the value that stands there, the right side, the write
   assignment (update s l operation left right back a) h next =
-      lvalue l h (λ p v w. defined (read s p v w) (λ x.
-      expression a h (λ y v w. defined (updated operation left right back w.memory x y) (λ z. write s p z (next z) v w)) v w))
+      lvalue l h (λ p v w. given (read s p v w) (λ x.
+      expression a h (λ y v w. given (updated operation left right back w.memory x y) (λ z. write s p z (next z) v w)) v w))
 
   pub effect : Effect → Here → Next → Next
   effect nothing h next = next
@@ -115,10 +115,10 @@ abbrev mutual
   -- 6.5.16.1p3
   effect (copy size alignment a b) h next =
       expression a h (λ x. expression b h (λ y v w.
-      defined (as_pointer x >>= λ to. as_pointer y >>= λ from. blocks.copy size alignment w.memory to from) (λ m. next v (in_memory w m))))
+      given (as_pointer x >>= λ to. as_pointer y >>= λ from. blocks.copy size alignment w.memory to from) (λ m. next v (in_memory w m))))
   -- 6.7.9p19, p21
   effect (fill blank a) h next =
-      expression a h (λ x v w. defined (as_pointer x >>= λ p. blocks.fill blank w.memory p) (λ m. next v (in_memory w m)))
+      expression a h (λ x v w. given (as_pointer x >>= λ p. blocks.fill blank w.memory p) (λ m. next v (in_memory w m)))
   effect (in_order a b) h next = effect a h (effect b h next)
 
 -- ---- statements

@@ -6,9 +6,9 @@ use Rattle.qs_memory.specs.Values.{into, Value, integer, address}
 use Rattle.qs_memory.specs.Memory.{Memory, store, make, release}
 use Rattle.qs_events.specs.Events.{Calls, Returns}
 use Rattle.qs_events.specs.BoundedRun.{BoundedRun}
-use Rattle.qs_events.specs.Runs.{emit, ended, undefined, short, Left, bounded}
+use Rattle.qs_events.specs.Runs.{emit, ended, undefined, short, given, Left, bounded}
 use Rattle.qs_meaning.specs.Typed.{Parameter, plain, placed, Function, TypedUnit}
-use Rattle.qs_meaning.specs.States.{Variables, no_variables, put, World, in_memory, SourceRun, Next, Return, Here, defined}
+use Rattle.qs_meaning.specs.States.{Variables, no_variables, put, World, in_memory, SourceRun, Next, Return, Here}
 use Rattle.qs_meaning.specs.States as states
 use Rattle.qs_meaning.specs.Meaning.{Targets, statements}
 use Rattle.qs_meaning.specs.Units.{initial_memory}
@@ -22,7 +22,7 @@ bind [] (x ∷ xs) first_block next v w = undefined
 bind (p ∷ ps) [] first_block next v w = undefined
 bind (plain i ∷ ps) (x ∷ xs) first_block next v w = bind ps xs first_block next (put v i x) w
 bind (placed k s ∷ ps) (x ∷ xs) first_block next v w =
-    defined (store s w.memory (into (first_block + k) 0) x) (λ m. bind ps xs first_block next v (in_memory w m))
+    given (store s w.memory (into (first_block + k) 0) x) (λ m. bind ps xs first_block next v (in_memory w m))
 
 -- 5.1.2.2.3: the end of main returns 0; another function ends without a value (6.9.1p12)
 abbrev pub result_at_end : (is_main : Bool) → Option Value
@@ -57,7 +57,7 @@ entered n calls f g xs next w =
 abbrev pub calls_within : List Function → (turns depth : ℕ) → states.Calls
 calls_within functions n zero f xs next w = short
 calls_within functions n (suc depth) f xs next w =
-    defined (slice_get functions f) (λ g. entered n (calls_within functions n depth) f g xs next w)
+    given (slice_get functions f) (λ g. entered n (calls_within functions n depth) f g xs next w)
 
 -- ---- runs
 
@@ -89,7 +89,7 @@ start_world unit input = record { memory = initial_memory unit; input = input }
 
 -- the run of main from the initial memory
 abbrev pub main_run : TypedUnit → List Value → (input : List ℕ) → (n : ℕ) → SourceRun
-main_run unit xs input n = defined (main_from 0 unit.functions) (λ root. run_of unit root xs (start_world unit input) n)
+main_run unit xs input n = given (main_from 0 unit.functions) (λ root. run_of unit root xs (start_world unit input) n)
 
 -- the run of a source as agreement sees it
 abbrev pub source_run : TypedUnit → List Value → (input : List ℕ) → (n : ℕ) → BoundedRun

@@ -5,7 +5,7 @@ use Rattle.qs_memory.specs.Partial.{◌>>=◌}
 use Rattle.qs_memory.specs.Values.{Pointer, into, Value, integer, convert}
 use Rattle.qs_memory.specs.Memory.{Memory, load, store}
 use Rattle.qs_memory.specs.Pointers.{truth}
-use Rattle.qs_events.specs.Runs.{Run, undefined, Left}
+use Rattle.qs_events.specs.Runs.{Run, given, Left}
 use Rattle.qs_meaning.specs.Typed.{Conversion, unchanged, converted, Object, local, static}
 
 -- the plain variables of a call; None is a variable that has no value yet (6.2.4p6)
@@ -50,18 +50,13 @@ pub record Here : Type 0 where
 
 -- ---- steps
 
--- what is defined goes on; what isn't ends the run
-abbrev pub defined : {A : Type 0} → Option A → (A → SourceRun) → SourceRun
-defined None next = undefined
-defined (Some x) next = next x
-
 abbrev pub choose : Bool → Next → Next → Next
 choose true met unmet = met
 choose false met unmet = unmet
 
 -- 6.8.4.1p2, 6.5.13p3, 6.5.14p3, 6.5.15p4: whether a value compares unequal to 0
 abbrev pub test : Value → Next → Next → Next
-test x met unmet v w = defined (truth w.memory x) (λ b. choose b met unmet v w)
+test x met unmet v w = given (truth w.memory x) (λ b. choose b met unmet v w)
 
 -- 6.3
 abbrev pub convert_by : Conversion → Value → Option Value
@@ -69,7 +64,7 @@ convert_by unchanged x = Some x
 convert_by (converted from to) x = convert to x
 
 abbrev pub conversion_then : Conversion → Value → (Value → Next) → Next
-conversion_then c x next v w = defined (convert_by c x) (λ y. next y v w)
+conversion_then c x next v w = given (convert_by c x) (λ y. next y v w)
 
 -- ---- objects
 
@@ -90,4 +85,4 @@ read s (in_object p) v w = load s w.memory p
 
 abbrev pub write : Scalar → Place → Value → Next → Next
 write s (in_variable x) y next v w = next (put v x y) w
-write s (in_object p) y next v w = defined (store s w.memory p y) (λ m. next v (in_memory w m))
+write s (in_object p) y next v w = given (store s w.memory p y) (λ m. next v (in_memory w m))

@@ -16,26 +16,28 @@ local x node t = record { name = x ∷ []; entity = local_variable node (Some t)
 
 abbrev pub context : Context
 context = record {
-    structs = structs;
-    tags = (115 ∷ []) ∷ [];
-    inner =
+  structs = structs;
+  tags = (115 ∷ []) ∷ [];
+  inner =
       local 99 1 char ∷ local 105 2 int ∷ local 117 3 unsigned ∷ local 112 4 (pointer int) ∷ local 116 5 (pointer char)
       ∷ local 120 6 int ∷ local 97 7 (array int 3) ∷ local 118 8 (struct 0) ∷ local 113 9 (pointer (struct 0)) ∷ [];
-    outer =
+  outer =
       record { name = 103 ∷ []; entity = file_variable 10 (Some int) }
       ∷ record { name = 104 ∷ []; entity = file_variable 11 (Some (array char 2)) }
       ∷ record { name = 102 ∷ []; entity = function 12 (Some (record { parameters = char ∷ pointer int ∷ []; result = int })) true }
       ∷ record { name = 107 ∷ []; entity = function 13 (Some (record { parameters = []; result = void })) true }
       ∷ given_functions;
-    result = Some char;
-    in_loop = true }
+  result = Some char;
+  in_loop = true;
+}
 
 abbrev pub scope : Scope
 scope = record {
-    context = context;
-    locals = record { plain = 1 ∷ 2 ∷ 3 ∷ 4 ∷ 5 ∷ 9 ∷ []; placed = 6 ∷ 7 ∷ 8 ∷ [] };
-    statics = record { variables = 10 ∷ 11 ∷ []; texts = 40 ∷ 41 ∷ [] };
-    functions = (102 ∷ []) ∷ (107 ∷ []) ∷ [] }
+  context = context;
+  locals = record { plain = 1 ∷ 2 ∷ 3 ∷ 4 ∷ 5 ∷ 9 ∷ []; placed = 6 ∷ 7 ∷ 8 ∷ [] };
+  statics = record { variables = 10 ∷ 11 ∷ []; texts = 40 ∷ 41 ∷ [] };
+  functions = (102 ∷ []) ∷ (107 ∷ []) ∷ [];
+}
 
 abbrev pub u : ExprTree
 u = expr (unnumbered 0) (trees.name (117 ∷ []))

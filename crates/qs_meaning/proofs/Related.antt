@@ -65,7 +65,7 @@ module _ (R : SourceRun → SourceRun → Type 0) where
     put_byte_related (address p ∷ xs) k l h w = keeps.undefined
 
     bind_related : (ps : List Parameter) (xs : List Value) (first_block : ℕ) (k l : Next) → NextRelated k l
-      → NextRelated (bind ps xs first_block k) (bind ps xs first_block l)
+        → NextRelated (bind ps xs first_block k) (bind ps xs first_block l)
     bind_related [] [] first_block k l h v w = h v w
     bind_related [] (x ∷ xs) first_block k l h v w = keeps.undefined
     bind_related (plain i ∷ ps) [] first_block k l h v w = keeps.undefined

@@ -146,12 +146,13 @@ s_base = bases.Struct (115 ∷ [])
 -- struct s {char m; int n;};
 abbrev pub struct_s : DeclTree
 struct_s = structure (record {
-    node = unnumbered 0;
-    name = 115 ∷ [];
-    members =
+  node = unnumbered 0;
+  name = 115 ∷ [];
+  members =
       record { base = bases.Char; declarators = declarator 0 109 one ∷ [] }
       ∷ record { base = bases.Int; declarators = declarator 0 110 one ∷ [] }
-      ∷ [] })
+      ∷ [];
+})
 
 -- ---- statements
 

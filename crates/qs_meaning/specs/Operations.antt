@@ -36,20 +36,22 @@ signedness t = if same_type t unsigned then Unsigned else Signed
 -- 6.5.5p3, 6.5.6p4, 6.5.10p3, 6.5.11p3, 6.5.12p3: the usual arithmetic conversions
 abbrev pub combined : Arithmetic → (t u : TypeTree) → Operated
 combined operator t u = record {
-    operation = operations.Arithmetic operator (signedness (arithmetic t u));
-    left = conversion t (arithmetic t u);
-    right = conversion u (arithmetic t u);
-    type = arithmetic t u;
-    order = as_written }
+  operation = operations.Arithmetic operator (signedness (arithmetic t u));
+  left = conversion t (arithmetic t u);
+  right = conversion u (arithmetic t u);
+  type = arithmetic t u;
+  order = as_written;
+}
 
 -- 6.5.7p3: each operand is promoted, and the type is that of the promoted left one
 abbrev pub shifted : Arithmetic → (t u : TypeTree) → Operated
 shifted operator t u = record {
-    operation = operations.Arithmetic operator (signedness (promoted t));
-    left = conversion t (promoted t);
-    right = conversion u (promoted u);
-    type = promoted t;
-    order = as_written }
+  operation = operations.Arithmetic operator (signedness (promoted t));
+  left = conversion t (promoted t);
+  right = conversion u (promoted u);
+  type = promoted t;
+  order = as_written;
+}
 
 abbrev pub comparison_of : Comparison → TypeTree → BinaryOperation
 comparison_of comparison t = if is_pointer t then operations.ComparePointers comparison else operations.Compare comparison (signedness t)
@@ -58,30 +60,33 @@ comparison_of comparison t = if is_pointer t then operations.ComparePointers com
 -- one; the result has type int
 abbrev pub compared : Comparison → (t u : TypeTree) → Operated
 compared comparison t u = record {
-    operation = comparison_of comparison (common t u);
-    left = conversion t (common t u);
-    right = conversion u (common t u);
-    type = int;
-    order = as_written }
+  operation = comparison_of comparison (common t u);
+  left = conversion t (common t u);
+  right = conversion u (common t u);
+  type = int;
+  order = as_written;
+}
 
 -- ---- pointers (6.5.6): the size of an element is that of the type that the pointer leads to
 
 -- 6.5.6p8: the integer is promoted
 abbrev pub moved : Direction → (element : ℕ) → (t u : TypeTree) → Operated
 moved direction element t u = record {
-    operation = operations.Move direction (signedness (promoted u)) element;
-    left = unchanged;
-    right = conversion u (promoted u);
-    type = t;
-    order = as_written }
+  operation = operations.Move direction (signedness (promoted u)) element;
+  left = unchanged;
+  right = conversion u (promoted u);
+  type = t;
+  order = as_written;
+}
 
 abbrev pub moved_from_left : (element : ℕ) → (t u : TypeTree) → Operated
 moved_from_left element t u = record {
-    operation = operations.Move Up (signedness (promoted t)) element;
-    left = conversion t (promoted t);
-    right = unchanged;
-    type = u;
-    order = exchanged }
+  operation = operations.Move Up (signedness (promoted t)) element;
+  left = conversion t (promoted t);
+  right = unchanged;
+  type = u;
+  order = exchanged;
+}
 
 -- 6.5.6p9
 abbrev pub apart : (element : ℕ) → Operated

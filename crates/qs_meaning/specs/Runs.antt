@@ -34,10 +34,11 @@ nowhere v w = undefined
 
 abbrev pub targets : Function → Return → Targets
 targets g next = record {
-    behind = λ v. next (result_at_end g.is_main);
-    at_break = nowhere;
-    at_continue = nowhere;
-    at_return = next }
+  behind = λ v. next (result_at_end g.is_main);
+  at_break = nowhere;
+  at_continue = nowhere;
+  at_return = next;
+}
 
 -- 6.2.4p6: the blocks of the call live until its end
 abbrev pub leave : (function first_block : ℕ) → Return → Return

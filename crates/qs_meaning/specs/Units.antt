@@ -81,7 +81,8 @@ function_with s f body addressed ls =
       variables = scalars;
       blocks = sizes;
       body = statements;
-      is_main = same_bytes f.name main_name })
+      is_main = same_bytes f.name main_name;
+    })
 
 abbrev pub function_typed : Scope → FunctionTree → Option trees.Stmts → Option (List Function)
 function_typed s f None = Some []
@@ -144,10 +145,11 @@ texts_of unit = unit_texts start_context unit
 
 abbrev pub start_scope : UnitTree → Scope
 start_scope unit = record {
-    context = start_context;
-    locals = record { plain = []; placed = [] };
-    statics = record { variables = file_variables_in unit; texts = map (λ (t : Text). t.node) (texts_of unit) };
-    functions = functions_in unit }
+  context = start_context;
+  locals = record { plain = []; placed = [] };
+  statics = record { variables = file_variables_in unit; texts = map (λ (t : Text). t.node) (texts_of unit) };
+  functions = functions_in unit;
+}
 
 -- the typed tree of a unit
 abbrev pub typed_of : UnitTree → Option TypedUnit

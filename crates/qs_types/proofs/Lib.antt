@@ -5,6 +5,7 @@ mod Extents
 mod LayoutSteps
 mod Declaring
 mod LayoutExamples
+mod RuleLaws
 mod RuleTrees
 mod DeclarationExamples
 mod ExpressionExamples

@@ -5,6 +5,7 @@ use Rattle.qs_syntax.specs.declared.types.Base.TheVariants as bases
 use Rattle.qs_syntax.specs.Trees.{unnumbered, stmts_of, StmtTree, FunctionTree, Stmts, DeclTree, structure, forward, function, variables, UnitTree}
 use Rattle.qs_syntax.specs.Trees as trees
 use Rattle.qs_syntax.specs.Numbering.{numbered_unit}
+use Rattle.qs_types.specs.declared.rules.Rule.TheVariants as rules
 use Rattle.qs_types.specs.Contexts.{given, start_context, entity_of}
 use Rattle.qs_types.specs.GivenFunctions.{putchar_name, putchar_type}
 use Rattle.qs_types.specs.Placed.{addressed_in}
@@ -45,15 +46,15 @@ putchar_called : found (g (eval (e (trees.call putchar_name (trees.exprs_of (num
 putchar_called = refl
 
 -- void g(void){putchar();}
-putchar_without : found (g (eval (e (trees.call putchar_name trees.no_exprs)) ∷ []) ∷ []) ≡ fault 2 4
+putchar_without : found (g (eval (e (trees.call putchar_name trees.no_exprs)) ∷ []) ∷ []) ≡ fault 2 rules.ArgumentCount
 putchar_without = refl
 
 -- int putchar; at file scope
-putchar_variable : found (trees.variables (record { base = bases.Int; variables = record { declarator = record { node = unnumbered 0; stars = 0; name = putchar_name; lengths = one }; initialiser = None } ∷ [] }) ∷ []) ≡ fault 0 1
+putchar_variable : found (trees.variables (record { base = bases.Int; variables = record { declarator = record { node = unnumbered 0; stars = 0; name = putchar_name; lengths = one }; initialiser = None } ∷ [] }) ∷ []) ≡ fault 0 rules.DeclaredTwice
 putchar_variable = refl
 
 -- char putchar(int);
-putchar_otherwise : found (function (record { node = unnumbered 0; result_type = record { base = bases.Char; stars = 0 }; name = putchar_name; parameters = parameter bases.Int 0 None ∷ []; body = None }) ∷ []) ≡ fault 0 1
+putchar_otherwise : found (function (record { node = unnumbered 0; result_type = record { base = bases.Char; stars = 0 }; name = putchar_name; parameters = parameter bases.Int 0 None ∷ []; body = None }) ∷ []) ≡ fault 0 rules.DeclaredTwice
 putchar_otherwise = refl
 
 -- void g(void){char a[1048576];}

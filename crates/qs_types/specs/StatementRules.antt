@@ -5,7 +5,7 @@ use Rattle.qs_syntax.specs.declared.nodes.Node.{Node}
 use Rattle.qs_syntax.specs.Trees.{ExprTree, InitialiserTree, VariableTree, StartTree, no_start, start_expression, start_declaration, StmtTree, empty, expression, declaration, block, branch, while_loop, do_loop, for_loop, break, continue, return, Stmts, no_stmts, stmt_and, Else, no_else, else_by}
 use Rattle.qs_types.specs.Types.{TypeTree, is_scalar, is_void}
 use Rattle.qs_types.specs.Conversions.{decayed}
-use Rattle.qs_types.specs.Rules
+use Rattle.qs_types.specs.declared.rules.Rule.TheVariants as rules
 use Rattle.qs_types.specs.Rules.{Test, test, keeps, Fault, faults_of}
 use Rattle.qs_types.specs.Contexts.{Entity, local_variable, file_variable, Context, is_declared_here, with_name, inner_scope, inside_loop}
 use Rattle.qs_types.specs.Expressions.{type_of, is_assignable}
@@ -36,7 +36,7 @@ is_initialiser_typed c (Some i) = is_typed c i
 -- 6.7p3: in one scope a name is declared once
 abbrev pub again_tests : Context → Context → VariableTree → List Test
 again_tests c after v =
-    if all_typed c v.declarator.lengths.given && is_initialiser_typed after v.initialiser then test Rules.declared_twice (is_declared_here c v.declarator.name) else []
+    if all_typed c v.declarator.lengths.given && is_initialiser_typed after v.initialiser then test rules.DeclaredTwice (is_declared_here c v.declarator.name) else []
 
 abbrev pub variable_tests : Bool → Context → Context → Base → VariableTree → List Test
 variable_tests at_file_scope c after base v =
@@ -62,7 +62,7 @@ variables_faults at_file_scope c base (v ∷ vs) =
 -- 6.8.4.1p1, 6.8.5p2: a condition is a scalar
 abbrev pub condition_tests : Option TypeTree → List Test
 condition_tests None = []
-condition_tests (Some t) = keeps Rules.truth_operand (is_scalar (decayed t))
+condition_tests (Some t) = keeps rules.TruthOperand (is_scalar (decayed t))
 
 abbrev pub option_condition_tests : Context → Option ExprTree → List Test
 option_condition_tests c None = []
@@ -83,11 +83,11 @@ option_discarded c (Some e) = expr_faults c discarded e
 -- 6.8.6.4p1
 abbrev pub returns : TypeTree → ExprTree → Option TypeTree → List Test
 returns result e None = []
-returns result e (Some t) = keeps Rules.returned_type (not (is_void result) && is_assignable result e (decayed t))
+returns result e (Some t) = keeps rules.ReturnedType (not (is_void result) && is_assignable result e (decayed t))
 
 abbrev pub return_tests : Context → Option TypeTree → Option ExprTree → List Test
 return_tests c None e = []
-return_tests c (Some result) None = keeps Rules.returned_type (is_void result)
+return_tests c (Some result) None = keeps rules.ReturnedType (is_void result)
 return_tests c (Some result) (Some e) = returns result e (type_of c e)
 
 -- ---- statements (6.8)
@@ -113,7 +113,7 @@ for_scope c (start_expression e) = c
 for_scope c (start_declaration d) = inner_scope c
 
 abbrev pub loop_tests : Context → List Test
-loop_tests c = keeps Rules.outside_loop c.in_loop
+loop_tests c = keeps rules.OutsideLoop c.in_loop
 
 abbrev pub option_typed : Context → Option ExprTree → Bool
 option_typed c None = true

@@ -6,8 +6,9 @@ use Rattle.qs_syntax.specs.declared.types.Base.{Base}
 use Rattle.qs_syntax.specs.Trees.{DeclaratorTree, ParameterTree, MembersTree, StructTree, FunctionTree, Stmts, DeclTree, structure, forward, function, variables, UnitTree}
 use Rattle.qs_types.specs.Types.{TypeTree, int, unsigned, MemberTree, Structs, same_type, is_scalar, is_struct}
 use Rattle.qs_types.specs.Layout.{and_then, layout_of, sized_layout, with_members, struct_of}
-use Rattle.qs_types.specs.Rules
-use Rattle.qs_types.specs.Rules.{Test, test, keeps, Fault, faults_of}
+use Rattle.qs_types.specs.declared.rules.Rule.TheVariants as rules
+use Rattle.qs_types.specs.declared.rules.Rule.{Rule}
+use Rattle.qs_types.specs.Rules.{same_rule, Test, test, keeps, Fault, faults_of}
 use Rattle.qs_types.specs.Contexts.{Entity, local_variable, file_variable, given, Binding, Context, start_context, lookup, tag_place, base_type, starred_type, is_void_base, with_name, inner_scope, is_declared_here}
 use Rattle.qs_types.specs.Contexts as contexts
 use Rattle.qs_types.specs.GivenFunctions.{Signature, main_name}
@@ -62,7 +63,7 @@ is_name_in x (y ∷ ys) = same_bytes y x || is_name_in x ys
 abbrev pub member_faults : Context → List (List ℕ) → Base → DeclaratorTree → List Fault
 member_faults c before base d =
     faults_of d.node.id
-    (if all_typed c d.lengths.given then (declared c base d None).tests ++ test Rules.member_twice (is_name_in d.name before) else [])
+    (if all_typed c d.lengths.given then (declared c base d None).tests ++ test rules.MemberTwice (is_name_in d.name before) else [])
     ++ lengths_faults c d.lengths.given
 
 abbrev pub together_faults : Context → List (List ℕ) → Base → List DeclaratorTree → List Fault
@@ -79,7 +80,7 @@ members_faults c before (m ∷ ms) = together_faults c before m.base m.declarato
 
 abbrev pub struct_tests : Context → StructTree → List Test
 struct_tests c s =
-    test Rules.unknown_tag (is_defined c s.name) ++ keeps Rules.large_type (is_small (with_tag c s.name) (members_of (with_tag c s.name) s.members))
+    test rules.UnknownTag (is_defined c s.name) ++ keeps rules.LargeType (is_small (with_tag c s.name) (members_of (with_tag c s.name) s.members))
 
 abbrev pub struct_faults : Context → StructTree → List Fault
 struct_faults c s = faults_of s.node.id (struct_tests c s) ++ members_faults (with_tag c s.name) [] s.members
@@ -137,16 +138,16 @@ is_main_type None = true
 is_main_type (Some s) = same_type s.result int && list_all is_main_parameter s.parameters
 
 abbrev pub main_tests : FunctionTree → Option Signature → List Test
-main_tests f s = if same_bytes f.name main_name then keeps Rules.main_type (is_main_type s) else []
+main_tests f s = if same_bytes f.name main_name then keeps rules.MainType (is_main_type s) else []
 
 -- 6.7.6.3p1, 6.9.1p3: the result is a scalar or void
 abbrev pub result_tests : Context → FunctionTree → List Test
 result_tests c f =
-    keeps Rules.unknown_tag (is_some (base_type c f.result_type.base))
-    ++ (test Rules.incomplete_type (is_void_pointer f) ++ test Rules.signature_type (is_struct (type_or_void (result_type c f))))
+    keeps rules.UnknownTag (is_some (base_type c f.result_type.base))
+    ++ (test rules.IncompleteType (is_void_pointer f) ++ test rules.SignatureType (is_struct (type_or_void (result_type c f))))
 
 abbrev pub header_tests : Context → FunctionTree → List Test
-header_tests c f = keeps Rules.declared_twice (may_declare c f) ++ (result_tests c f ++ main_tests f (signature_of c f))
+header_tests c f = keeps rules.DeclaredTwice (may_declare c f) ++ (result_tests c f ++ main_tests f (signature_of c f))
 
 -- what is known behind the header: a body that was given before stays, and so does a function that is given
 abbrev pub declared_function : Option Entity → ℕ → Option Signature → (has_body : Bool) → Entity
@@ -175,13 +176,13 @@ is_name_declared c (Some x) = is_declared_here c x
 
 -- 6.9.1p5: the parameters of a body have names; parameters are scalars
 abbrev pub signature_tests : ParameterTree → (has_body : Bool) → Option TypeTree → List Test
-signature_tests p has_body None = test Rules.signature_type (has_body && not (is_some p.name))
-signature_tests p has_body (Some t) = keeps Rules.signature_type (is_scalar t && (not has_body || is_some p.name))
+signature_tests p has_body None = test rules.SignatureType (has_body && not (is_some p.name))
+signature_tests p has_body (Some t) = keeps rules.SignatureType (is_scalar t && (not has_body || is_some p.name))
 
 abbrev pub parameter_tests : Context → (has_body : Bool) → ParameterTree → List Test
 parameter_tests c has_body p =
     if all_typed c p.lengths.given
-    then test Rules.declared_twice (is_name_declared c p.name)
+    then test rules.DeclaredTwice (is_name_declared c p.name)
     ++ ((parameter_declared c p).tests ++ signature_tests p has_body (parameter_declared c p).type)
     else []
 
@@ -236,11 +237,11 @@ abbrev pub structs_of : UnitTree → Structs
 structs_of unit = (context_after start_context unit).structs
 
 -- the node breaks the rule
-abbrev pub is_among : (node rule : ℕ) → List Fault → Bool
+abbrev pub is_among : (node : ℕ) → (rule : Rule) → List Fault → Bool
 is_among node rule [] = false
-is_among node rule (f ∷ fs) = ((f.node == node) && (f.rule == rule)) || is_among node rule fs
+is_among node rule (f ∷ fs) = ((f.node == node) && same_rule f.rule rule) || is_among node rule fs
 
-pub record Violates (unit : UnitTree) (node rule : ℕ) : Type 0 where
+pub record Violates (unit : UnitTree) (node : ℕ) (rule : Rule) : Type 0 where
   pub found : is_among node rule (faults_in unit) ≡ true
 
 -- no node breaks a rule

@@ -10,3 +10,7 @@ mod RuleTrees
 mod DeclarationExamples
 mod ExpressionExamples
 mod PlacedExamples
+mod ValueExamples
+mod HeldBackExamples
+mod LimitExamples
+mod ReferenceExamples

@@ -1,5 +1,5 @@
--- Which locals are placed, what is counted of them, and what names stand for.
-use Rattle.std.proofs.Common.{◌≡◌, ℕ, true, false, List, [], ◌∷◌, Option, Some, None, refl}
+-- Which locals are placed, and the functions that are given.
+use Rattle.std.proofs.Common.{◌≡◌, ℕ, List, [], ◌∷◌, Option, Some, None, refl}
 use Rattle.qs_syntax.specs.declared.operators.UnaryOperator.TheVariants as unaries
 use Rattle.qs_syntax.specs.declared.types.Base.TheVariants as bases
 use Rattle.qs_syntax.specs.Trees.{unnumbered, stmts_of, StmtTree, FunctionTree, Stmts, DeclTree, structure, forward, function, variables, UnitTree}
@@ -9,9 +9,8 @@ use Rattle.qs_types.specs.declared.rules.Rule.TheVariants as rules
 use Rattle.qs_types.specs.Contexts.{given, start_context, entity_of}
 use Rattle.qs_types.specs.GivenFunctions.{putchar_name, putchar_type}
 use Rattle.qs_types.specs.Placed.{addressed_in}
-use Rattle.qs_types.specs.Limits.{is_within_limits}
 use Rattle.qs_types.specs.UnitRules.{after_declaration}
-use Rattle.qs_types.proofs.RuleTrees.{found, fault, e, number, a, one, many, local, parameter, g, eval}
+use Rattle.qs_types.proofs.RuleTrees.{found, fault, e, number, a, one, local, parameter, g, eval}
 
 abbrev addressed_by : FunctionTree → Option Stmts → List ℕ
 addressed_by f None = []
@@ -56,11 +55,3 @@ putchar_variable = refl
 -- char putchar(int);
 putchar_otherwise : found (function (record { node = unnumbered 0; result_type = record { base = bases.Char; stars = 0 }; name = putchar_name; parameters = parameter bases.Int 0 None ∷ []; body = None }) ∷ []) ≡ fault 0 rules.DeclaredTwice
 putchar_otherwise = refl
-
--- void g(void){char a[1048576];}
-largest_locals : is_within_limits (g (local bases.Char 0 97 (many (number 1048576)) None ∷ []) ∷ []) ≡ true
-largest_locals = refl
-
--- void g(void){char a[1048577];}
-large_locals : is_within_limits (g (local bases.Char 0 97 (many (number 1048577)) None ∷ []) ∷ []) ≡ false
-large_locals = refl

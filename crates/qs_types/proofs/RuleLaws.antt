@@ -1,8 +1,8 @@
 -- The numbers of the rules: from 1 in the order of the table, and different ones for different rules.
-use Rattle.std.proofs.Common.{◌≡◌, ℕ, zero, suc, List, [], ◌∷◌, Option, Some, refl, sym, trans, cong}
-use Rattle.std.specs.List.{map}
+use Rattle.std.proofs.Common.{◌≡◌, ℕ, List, [], ◌∷◌, Option, Some, map, refl, sym, ap, ◌∙◌}
 use Rattle.qs_types.specs.declared.rules.Rule.{Rule}
 use Rattle.qs_types.specs.declared.rules.Rule.TheVariants as rules
+use Rattle.qs_types.proofs.Options.{same}
 use Rattle.qs_types.specs.Rules.{rule_number, all_rules, rule_at}
 
 numbers_in_order : map rule_number all_rules ≡ 1 ∷ 2 ∷ 3 ∷ 4 ∷ 5 ∷ 6 ∷ 7 ∷ 8 ∷ 9 ∷ 10 ∷ 11 ∷ 12 ∷ 13 ∷ 14 ∷ 15 ∷ 16 ∷ 17 ∷ 18 ∷ 19 ∷ 20 ∷ 21 ∷ 22 ∷ 23 ∷ 24 ∷ 25 ∷ 26 ∷ 27 ∷ 28 ∷ 29 ∷ 30 ∷ []
@@ -41,11 +41,5 @@ rule_of_number rules.OutsideLoop = refl
 rule_of_number rules.MisplacedValue = refl
 rule_of_number rules.InitialiserType = refl
 
-numbers_found : (r s : Rule) → rule_at (rule_number r) ≡ rule_at (rule_number s) → r ≡ s
-numbers_found r s e = some_same (trans (sym (rule_of_number r)) (trans e (rule_of_number s)))
-  where
-    some_same : {a b : Rule} → Some a ≡ Some b → a ≡ b
-    some_same refl = refl
-
 numbers_differ : (r s : Rule) → rule_number r ≡ rule_number s → r ≡ s
-numbers_differ r s e = numbers_found r s (cong rule_at e)
+numbers_differ r s e = same r s (sym (rule_of_number r) ∙ ap rule_at e ∙ rule_of_number s)

@@ -90,5 +90,9 @@ g ss = body bases.Void (103 ∷ []) [] ss
 abbrev pub eval : ExprTree → StmtTree
 eval v = trees.expression (unnumbered 0) v
 
+-- several variables of file scope
+abbrev pub variable : ℕ → ℕ → LengthsTree → Option InitialiserTree → trees.VariableTree
+variable stars name lengths i = record { declarator = declarator stars name lengths; initialiser = i }
+
 abbrev pub f_name : List ℕ
 f_name = 102 ∷ []

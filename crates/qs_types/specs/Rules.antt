@@ -1,5 +1,5 @@
 -- The numbers of the typing rules, tests on nodes, and what they find.
-use Rattle.std.specs.Prelude.{ℕ, zero, suc, ◌==◌, Bool, false, not, ◌||◌, List, [], ◌∷◌, Option, Some, None, if◌then◌else◌}
+use Rattle.std.specs.Prelude.{ℕ, zero, suc, ◌==◌, Bool, true, false, not, ◌||◌, List, [], ◌∷◌, Option, Some, None, if◌then◌else◌}
 use Rattle.std.specs.List.{slice_get}
 use Rattle.qs_types.specs.declared.rules.Rule.{Rule}
 use Rattle.qs_types.specs.declared.rules.Rule.TheVariants as rules
@@ -112,3 +112,7 @@ pub record Fault : Type 0 where
 abbrev pub faults_of : (node : ℕ) → List Test → List Fault
 faults_of node [] = []
 faults_of node (t ∷ ts) = if t.breaks then record { node = node; rule = t.rule } ∷ faults_of node ts else faults_of node ts
+
+abbrev pub is_any : List Fault → Bool
+is_any [] = false
+is_any (f ∷ fs) = true

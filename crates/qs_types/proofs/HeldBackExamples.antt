@@ -1,13 +1,12 @@
 -- Which rules wait for the types of a node's parts, and which parts of a struct, a list or a header are at fault.
-use Rattle.std.proofs.Common.{◌≡◌, ℕ, false, List, [], ◌∷◌, Option, Some, None, refl}
-use Rattle.qs_syntax.specs.declared.operators.UnaryOperator.TheVariants as unaries
+use Rattle.std.proofs.Common.{◌≡◌, false, List, [], ◌∷◌, None, refl}
 use Rattle.qs_syntax.specs.declared.operators.BinaryOperator.TheVariants as binaries
 use Rattle.qs_syntax.specs.declared.types.Base.TheVariants as bases
 use Rattle.qs_syntax.specs.Trees.{unnumbered, structure, DeclTree, DeclaratorTree, LengthsTree, initialisers_of}
 use Rattle.qs_syntax.specs.Trees as trees
 use Rattle.qs_types.specs.declared.rules.Rule.TheVariants as rules
 use Rattle.qs_types.specs.GivenFunctions.{main_name}
-use Rattle.qs_types.proofs.RuleTrees.{found, fault, e, number, a, x, call_f, one, many, declarator, global, local, listed, valued, s_base, struct_s, forward_s, parameter, header, g, eval, f_name}
+use Rattle.qs_types.proofs.RuleTrees.{found, fault, e, number, a, x, call_f, one, many, declarator, global, local, listed, valued, s_base, struct_s, parameter, header, g, eval, f_name}
 
 -- ---- initialisers without type
 

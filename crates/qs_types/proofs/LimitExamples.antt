@@ -1,5 +1,5 @@
 -- The node at which each count passes its limit, at small limits and at those of the language.
-use Rattle.std.proofs.Common.{◌≡◌, ℕ, true, false, List, [], ◌∷◌, Option, Some, None, refl}
+use Rattle.std.proofs.Common.{◌≡◌, ℕ, true, false, List, [], ◌∷◌, Some, None, refl}
 use Rattle.qs_syntax.specs.declared.operators.UnaryOperator.TheVariants as unaries
 use Rattle.qs_syntax.specs.declared.types.Base.TheVariants as bases
 use Rattle.qs_syntax.specs.Trees.{ExprTree, unnumbered, UnitTree, initialisers_of}
@@ -8,7 +8,7 @@ use Rattle.qs_syntax.specs.Numbering.{numbered_unit}
 use Rattle.qs_types.specs.GivenFunctions.{putchar_name}
 use Rattle.qs_types.specs.Limits.{first_past_nodes, first_past_functions, first_past_parameters, first_past_globals, global_limit, first_past_locals, local_limit}
 use Rattle.qs_types.specs.WellTyped.{first_undefined, has_main}
-use Rattle.qs_types.proofs.RuleTrees.{e, number, a, call_f, one, many, some, global, local, listed, valued, parameter, header, body, g, eval, f_name}
+use Rattle.qs_types.proofs.RuleTrees.{e, number, a, call_f, one, many, global, local, valued, parameter, header, body, g, eval, f_name}
 
 abbrev h_name : List ℕ
 h_name = 104 ∷ []

@@ -1,16 +1,15 @@
 -- What names stand for, and which texts are blocks.
-use Rattle.std.proofs.Common.{◌≡◌, ℕ, true, false, List, [], ◌∷◌, Option, Some, None, refl}
-use Rattle.qs_syntax.specs.declared.operators.UnaryOperator.TheVariants as unaries
+use Rattle.std.proofs.Common.{◌≡◌, ℕ, false, List, [], ◌∷◌, Some, None, refl}
 use Rattle.qs_syntax.specs.declared.operators.BinaryOperator.TheVariants as binaries
 use Rattle.qs_syntax.specs.declared.types.Base.TheVariants as bases
 use Rattle.qs_syntax.specs.Trees.{ExprTree, unnumbered, stmts_of, structure, initialisers_of}
 use Rattle.qs_syntax.specs.Trees as trees
 use Rattle.qs_syntax.specs.Numbering.{numbered_unit}
-use Rattle.qs_types.specs.Types.{int, char, pointer, void}
+use Rattle.qs_types.specs.Types.{int, char, void}
 use Rattle.qs_types.specs.Contexts.{local_variable, file_variable, function, given}
 use Rattle.qs_types.specs.GivenFunctions.{putchar_name, putchar_type}
-use Rattle.qs_types.specs.References.{Reference, references, TextBlock, literal_blocks}
-use Rattle.qs_types.proofs.RuleTrees.{e, number, a, call_f, one, many, some, declarator, global, local, listed, valued, s_base, parameter, header, body, g, eval, f_name}
+use Rattle.qs_types.specs.References.{references, TextBlock, literal_blocks}
+use Rattle.qs_types.proofs.RuleTrees.{e, number, a, call_f, one, many, declarator, global, local, listed, valued, s_base, parameter, header, body, g, eval, f_name}
 
 abbrev text : List ℕ → ExprTree
 text bytes = e (trees.text bytes)

@@ -6,7 +6,7 @@ use Rattle.qs_syntax.specs.Trees as trees
 use Rattle.qs_types.specs.Types.{TypeTree, void, pointer, array}
 use Rattle.qs_types.specs.Layout.{and_then, is_complete, is_sized}
 use Rattle.qs_types.specs.declared.rules.Rule.TheVariants as rules
-use Rattle.qs_types.specs.Rules.{Test, test, keeps, breaks_one, type_unless, Fault, faults_of}
+use Rattle.qs_types.specs.Rules.{Test, test, keeps, breaks_one, type_unless, Fault}
 use Rattle.qs_types.specs.Contexts.{Context, base_type, starred_type, is_void_base}
 use Rattle.qs_types.specs.Expressions.{type_of, type_or_void}
 use Rattle.qs_types.specs.Constants.{length_of}

@@ -4,7 +4,7 @@ use Rattle.std.specs.Prelude.{◌≡◌, ℕ, ◌+◌, nat_lt, true, List, [], �
 use Rattle.std.specs.List.{slice_get}
 use Rattle.qs_syntax.specs.Nodes.{unit_count}
 use Rattle.qs_syntax.specs.declared.types.Base.{Base}
-use Rattle.qs_syntax.specs.Trees.{VariableTree, ParameterTree, FunctionTree, Stmts, DeclTree, structure, forward, function, variables, UnitTree}
+use Rattle.qs_syntax.specs.Trees.{VariableTree, ParameterTree, FunctionTree, Stmts, structure, forward, function, variables, UnitTree}
 use Rattle.qs_types.specs.Types.{TypeTree, Structs}
 use Rattle.qs_types.specs.Layout.{size_of, rounded_up}
 use Rattle.qs_types.specs.Contexts.{Context, start_context}

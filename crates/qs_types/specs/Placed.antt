@@ -11,7 +11,7 @@ use Rattle.qs_types.specs.Contexts.{Entity, local_variable, file_variable, funct
 use Rattle.qs_types.specs.Declarations.{variable_declared, parameter_declared}
 use Rattle.qs_types.specs.StatementRules.{after_variable, after_statement, after_start, for_scope}
 use Rattle.qs_types.specs.UnitRules.{body_context}
-use Rattle.qs_types.specs.Sites.{Site, statements_sites}
+use Rattle.qs_types.specs.Sites.{statements_sites}
 
 -- ---- operands of `&`
 

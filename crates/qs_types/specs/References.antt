@@ -1,5 +1,5 @@
 -- What the names in a unit stand for, which functions are called, and which texts are blocks of memory, in the order of the text.
-use Rattle.std.specs.Prelude.{ℕ, Bool, List, [], ◌∷◌, ◌++◌, Option, Some, None, flat_map, if◌then◌else◌}
+use Rattle.std.specs.Prelude.{ℕ, List, [], ◌∷◌, ◌++◌, Option, Some, None, flat_map, if◌then◌else◌}
 use Rattle.qs_syntax.specs.Trees.{ExprTree, expr, ShapeTree, Exprs, no_exprs, expr_and, UnitTree}
 use Rattle.qs_syntax.specs.Trees as trees
 use Rattle.qs_types.specs.Contexts.{Entity, Context, entity_of}

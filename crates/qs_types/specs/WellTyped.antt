@@ -1,6 +1,6 @@
 -- When a unit is well typed: no node breaks a rule, `main` has a body, and each function that is called has one, below `sizeof` too.
 use Rattle.std.specs.Prelude.{◌≡◌, ℕ, Bool, true, false, not, ◌&&◌, List, [], ◌∷◌, Option, Some, None, if◌then◌else◌}
-use Rattle.qs_syntax.specs.Trees.{DeclTree, structure, forward, function, variables, UnitTree}
+use Rattle.qs_syntax.specs.Trees.{structure, forward, function, variables, UnitTree}
 use Rattle.qs_types.specs.Contexts.{Entity, local_variable, file_variable, given, Context, start_context, entity_of}
 use Rattle.qs_types.specs.Contexts as contexts
 use Rattle.qs_types.specs.GivenFunctions.{main_name}

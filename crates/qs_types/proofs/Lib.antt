@@ -6,6 +6,7 @@ mod LayoutSteps
 mod Declaring
 mod LayoutExamples
 mod RuleLaws
+mod ConstantTypes
 mod RuleTrees
 mod DeclarationExamples
 mod ExpressionExamples

@@ -9,12 +9,12 @@ use Rattle.qs_types.specs.declared.rules.Rule.TheVariants as rules
 use Rattle.qs_types.specs.Contexts.{given, start_context, entity_of}
 use Rattle.qs_types.specs.GivenFunctions.{putchar_name, putchar_type}
 use Rattle.qs_types.specs.Placed.{addressed_in}
-use Rattle.qs_types.specs.UnitRules.{after_declaration}
+
 use Rattle.qs_types.proofs.RuleTrees.{found, fault, e, number, a, one, local, parameter, g, eval}
 
 abbrev addressed_by : FunctionTree → Option Stmts → List ℕ
 addressed_by f None = []
-addressed_by f (Some ss) = addressed_in (after_declaration start_context (function f)) f ss
+addressed_by f (Some ss) = addressed_in start_context f ss
 
 -- the nodes of the first function of a unit whose names are operands of `&`
 abbrev addressed : UnitTree → List ℕ

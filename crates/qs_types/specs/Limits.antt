@@ -10,7 +10,7 @@ use Rattle.qs_types.specs.Layout.{size_of, rounded_up}
 use Rattle.qs_types.specs.Contexts.{Context, start_context}
 use Rattle.qs_types.specs.Declarations.{variable_declared}
 use Rattle.qs_types.specs.StatementRules.{after_variable}
-use Rattle.qs_types.specs.UnitRules.{is_name_in, after_declaration, after_function}
+use Rattle.qs_types.specs.UnitRules.{is_name_in, after_declaration}
 use Rattle.qs_types.specs.Placed.{Local, placed_in}
 use Rattle.qs_types.specs.References.{TextBlock, literal_blocks}
 
@@ -122,7 +122,7 @@ local_limit = 1048576
 abbrev pub local_block : Structs → Local → Block
 local_block structs l = record { node = l.node; size = rounded_up (type_size structs l.type) word_size }
 
--- the context is that behind the header
+-- the context is that before the header
 abbrev pub local_blocks : Context → FunctionTree → Stmts → List Block
 local_blocks c f ss = map (local_block c.structs) (placed_in c f ss)
 
@@ -137,7 +137,7 @@ abbrev pub local_past_from : (limit : ℕ) → Context → UnitTree → Option �
 local_past_from limit c [] = None
 local_past_from limit c (structure s ∷ ds) = local_past_from limit (after_declaration c (structure s)) ds
 local_past_from limit c (forward f ∷ ds) = local_past_from limit (after_declaration c (forward f)) ds
-local_past_from limit c (function f ∷ ds) = or_else (local_past limit (after_function c f) f f.body) (local_past_from limit (after_function c f) ds)
+local_past_from limit c (function f ∷ ds) = or_else (local_past limit c f f.body) (local_past_from limit (after_declaration c (function f)) ds)
 local_past_from limit c (variables d ∷ ds) = local_past_from limit (after_declaration c (variables d)) ds
 
 abbrev pub first_past_locals : (limit : ℕ) → UnitTree → Option ℕ

@@ -7,10 +7,10 @@ use Rattle.qs_syntax.specs.declared.operators.UnaryOperator.TheVariants as unari
 use Rattle.qs_syntax.specs.Trees.{ExprTree, expr, ShapeTree, Exprs, no_exprs, expr_and, VariableTree, ParameterTree, StartTree, no_start, start_expression, start_declaration, StmtTree, empty, expression, declaration, block, branch, while_loop, do_loop, for_loop, break, continue, return, Stmts, no_stmts, stmt_and, Else, no_else, else_by, FunctionTree}
 use Rattle.qs_syntax.specs.Trees as trees
 use Rattle.qs_types.specs.Types.{TypeTree, is_scalar}
-use Rattle.qs_types.specs.Contexts.{Entity, local_variable, file_variable, function, given, Context, entity_of, inner_scope}
-use Rattle.qs_types.specs.Declarations.{variable_declared, parameter_declared}
-use Rattle.qs_types.specs.StatementRules.{after_variable, after_statement, after_start, for_scope}
-use Rattle.qs_types.specs.UnitRules.{body_context}
+use Rattle.qs_types.specs.Contexts.{Entity, local_variable, file_variable, function, given, Context, entity_of, inner_scope, inside_loop}
+use Rattle.qs_types.specs.Declarations.{variable_declared}
+use Rattle.qs_types.specs.StatementRules.{after_variable, after_statement, for_context}
+use Rattle.qs_types.specs.UnitRules.{parameter_types, body_context}
 use Rattle.qs_types.specs.Sites.{statements_sites}
 
 -- ---- operands of `&`
@@ -55,7 +55,7 @@ abbrev mutual
   all_addressed c no_exprs = []
   all_addressed c (expr_and e es) = addressed c e ++ all_addressed c es
 
--- the declarations of a function whose names are operands of `&`; the context is that behind its header
+-- the declarations of a function whose names are operands of `&`; the context is that before its header
 abbrev pub addressed_in : Context → FunctionTree → Stmts → List ℕ
 addressed_in c f ss = flat_map (λ s. addressed s.context s.expression) (statements_sites (body_context c f) ss)
 
@@ -81,11 +81,11 @@ abbrev mutual
   statement_locals c (expression node e) = []
   statement_locals c (declaration d) = variables_locals c d.base d.variables
   statement_locals c (block ss) = statements_locals (inner_scope c) ss
-  statement_locals c (branch node e s r) = statement_locals c s ++ else_locals c r
-  statement_locals c (while_loop node e s) = statement_locals c s
-  statement_locals c (do_loop node s e) = statement_locals c s
+  statement_locals c (branch node e s r) = statement_locals (inner_scope c) s ++ else_locals c r
+  statement_locals c (while_loop node e s) = statement_locals (inside_loop (inner_scope c)) s
+  statement_locals c (do_loop node s e) = statement_locals (inside_loop (inner_scope c)) s
   statement_locals c (for_loop node start e u s) =
-      start_locals (for_scope c start) start ++ statement_locals (after_start (for_scope c start) start) s
+      start_locals (inner_scope c) start ++ statement_locals (inside_loop (inner_scope (for_context c start))) s
   statement_locals c (break node) = []
   statement_locals c (continue node) = []
   statement_locals c (return node e) = []
@@ -96,14 +96,15 @@ abbrev mutual
 
   pub else_locals : Context → Else → List Local
   else_locals c no_else = []
-  else_locals c (else_by s) = statement_locals c s
+  else_locals c (else_by s) = statement_locals (inner_scope c) s
 
-abbrev pub parameters_locals : Context → List ParameterTree → List Local
-parameters_locals c [] = []
-parameters_locals c (p ∷ ps) = record { node = p.node.id; type = (parameter_declared c p).type } ∷ parameters_locals c ps
+abbrev pub parameters_locals : List ParameterTree → List (Option TypeTree) → List Local
+parameters_locals [] ts = []
+parameters_locals (p ∷ ps) [] = []
+parameters_locals (p ∷ ps) (t ∷ ts) = record { node = p.node.id; type = t } ∷ parameters_locals ps ts
 
 abbrev pub locals_in : Context → FunctionTree → Stmts → List Local
-locals_in c f ss = parameters_locals c f.parameters ++ statements_locals (body_context c f) ss
+locals_in c f ss = parameters_locals f.parameters (parameter_types (inner_scope c) f.parameters) ++ statements_locals (body_context c f) ss
 
 -- ---- which of them are placed
 

@@ -4,11 +4,11 @@ use Rattle.qs_syntax.specs.declared.types.Base.{Base}
 use Rattle.qs_syntax.specs.Trees.{ExprTree, DeclaratorTree, InitialiserTree, value, list, Initialisers, no_initialisers, initialiser_and, VariableTree, ParameterTree, MembersTree, StartTree, no_start, start_expression, start_declaration, StmtTree, empty, expression, declaration, block, branch, while_loop, do_loop, for_loop, break, continue, return, Stmts, no_stmts, stmt_and, Else, no_else, else_by, FunctionTree, DeclTree, structure, forward, function, variables, UnitTree}
 use Rattle.qs_types.specs.Types.{TypeTree}
 use Rattle.qs_types.specs.Layout.{and_then}
-use Rattle.qs_types.specs.Contexts.{Context, start_context, inner_scope}
+use Rattle.qs_types.specs.Contexts.{Context, start_context, inner_scope, inside_loop}
 use Rattle.qs_types.specs.Declarations.{text_of, variable_declared}
 use Rattle.qs_types.specs.InitialiserRules.{part_type, holds_text}
-use Rattle.qs_types.specs.StatementRules.{after_variable, after_statement, after_start, for_scope}
-use Rattle.qs_types.specs.UnitRules.{with_tag, after_parameter, body_context, after_function, after_declaration}
+use Rattle.qs_types.specs.StatementRules.{after_variable, after_statement, for_context}
+use Rattle.qs_types.specs.UnitRules.{with_tag, after_parameter, body_context, after_declaration}
 
 -- an expression, and whether it is a text that only fills an array of file scope (6.7.9p14)
 pub record Site : Type 0 where
@@ -79,13 +79,13 @@ abbrev mutual
   statement_sites c (expression node e) = site c e
   statement_sites c (declaration d) = variables_sites false c d.base d.variables
   statement_sites c (block ss) = statements_sites (inner_scope c) ss
-  statement_sites c (branch node e s r) = site c e ++ (statement_sites c s ++ else_sites c r)
-  statement_sites c (while_loop node e s) = site c e ++ statement_sites c s
-  statement_sites c (do_loop node s e) = statement_sites c s ++ site c e
+  statement_sites c (branch node e s r) = site c e ++ (statement_sites (inner_scope c) s ++ else_sites c r)
+  statement_sites c (while_loop node e s) = site c e ++ statement_sites (inside_loop (inner_scope c)) s
+  statement_sites c (do_loop node s e) = statement_sites (inside_loop (inner_scope c)) s ++ site c e
   statement_sites c (for_loop node start e u s) =
-      start_sites (for_scope c start) start
-      ++ (option_sites (after_start (for_scope c start) start) e
-      ++ (option_sites (after_start (for_scope c start) start) u ++ statement_sites (after_start (for_scope c start) start) s))
+      start_sites (inner_scope c) start
+      ++ (option_sites (for_context c start) e
+      ++ (option_sites (for_context c start) u ++ statement_sites (inside_loop (inner_scope (for_context c start))) s))
   statement_sites c (break node) = []
   statement_sites c (continue node) = []
   statement_sites c (return node e) = option_sites c e
@@ -96,7 +96,7 @@ abbrev mutual
 
   pub else_sites : Context → Else → List Site
   else_sites c no_else = []
-  else_sites c (else_by s) = statement_sites c s
+  else_sites c (else_by s) = statement_sites (inner_scope c) s
 
 -- ---- file scope
 
@@ -106,9 +106,9 @@ members_sites c (m ∷ ms) = declarators_sites c m.declarators ++ members_sites 
 
 abbrev pub parameters_sites : Context → List ParameterTree → List Site
 parameters_sites c [] = []
-parameters_sites c (p ∷ ps) = sites c p.lengths.given ++ parameters_sites (after_parameter c p p.name) ps
+parameters_sites c (p ∷ ps) = sites c p.lengths.given ++ parameters_sites (after_parameter c p) ps
 
--- the body of a function; the context is that behind its header
+-- the body of a function; the context is that before its header
 abbrev pub body_sites : Context → FunctionTree → Option Stmts → List Site
 body_sites c f None = []
 body_sites c f (Some ss) = statements_sites (body_context c f) ss
@@ -116,7 +116,7 @@ body_sites c f (Some ss) = statements_sites (body_context c f) ss
 abbrev pub declaration_sites : Context → DeclTree → List Site
 declaration_sites c (structure s) = members_sites (with_tag c s.name) s.members
 declaration_sites c (forward f) = []
-declaration_sites c (function f) = parameters_sites (inner_scope c) f.parameters ++ body_sites (after_function c f) f f.body
+declaration_sites c (function f) = parameters_sites (inner_scope c) f.parameters ++ body_sites c f f.body
 declaration_sites c (variables d) = variables_sites true c d.base d.variables
 
 abbrev pub declarations_sites : Context → UnitTree → List Site

@@ -109,11 +109,9 @@ abbrev pub after_statement : Context → StmtTree → Context
 after_statement c (declaration d) = after_variables false c d.base d.variables
 after_statement c _ = c
 
--- 6.8.5p5: a `for` with a declaration is a scope
-abbrev pub for_scope : Context → StartTree → Context
-for_scope c no_start = c
-for_scope c (start_expression e) = c
-for_scope c (start_declaration d) = inner_scope c
+-- 6.8.4p3, 6.8.5p5: the statements that are parts of others are scopes, and so is a `for`
+abbrev pub for_context : Context → StartTree → Context
+for_context c start = after_start (inner_scope c) start
 
 abbrev pub loop_tests : Context → List Test
 loop_tests c = keeps rules.OutsideLoop c.in_loop
@@ -141,13 +139,12 @@ abbrev mutual
   statement_faults c (expression node e) = expr_faults c discarded e
   statement_faults c (declaration d) = variables_faults false c d.base d.variables
   statement_faults c (block ss) = statements_faults (inner_scope c) ss
-  statement_faults c (branch node e s r) = condition_faults c node e ++ (statement_faults c s ++ else_faults c r)
-  statement_faults c (while_loop node e s) = condition_faults c node e ++ statement_faults (inside_loop c) s
-  statement_faults c (do_loop node s e) = statement_faults (inside_loop c) s ++ condition_faults c node e
+  statement_faults c (branch node e s r) = condition_faults c node e ++ (statement_faults (inner_scope c) s ++ else_faults c r)
+  statement_faults c (while_loop node e s) = condition_faults c node e ++ statement_faults (inside_loop (inner_scope c)) s
+  statement_faults c (do_loop node s e) = statement_faults (inside_loop (inner_scope c)) s ++ condition_faults c node e
   statement_faults c (for_loop node start e u s) =
-      start_faults (for_scope c start) start
-      ++ (for_faults (after_start (for_scope c start) start) start node e u
-      ++ statement_faults (inside_loop (after_start (for_scope c start) start)) s)
+      start_faults (inner_scope c) start
+      ++ (for_faults (for_context c start) start node e u ++ statement_faults (inside_loop (inner_scope (for_context c start))) s)
   statement_faults c (break node) = faults_of node.id (loop_tests c)
   statement_faults c (continue node) = faults_of node.id (loop_tests c)
   statement_faults c (return node e) = faults_of node.id (return_tests c c.result e) ++ option_used c e
@@ -158,4 +155,4 @@ abbrev mutual
 
   pub else_faults : Context → Else → List Fault
   else_faults c no_else = []
-  else_faults c (else_by s) = statement_faults c s
+  else_faults c (else_by s) = statement_faults (inner_scope c) s

@@ -1,11 +1,12 @@
 -- Which nodes of a unit break which rules (C11 6.9).
-use Rattle.std.specs.Prelude.{◌≡◌, ℕ, ◌==◌, Bool, true, false, not, ◌&&◌, ◌||◌, List, [], ◌∷◌, ◌++◌, Option, Some, None, is_some, if◌then◌else◌}
+use Rattle.std.specs.Prelude.{◌≡◌, ℕ, ◌+◌, ◌==◌, nat_le, Bool, true, false, not, ◌&&◌, ◌||◌, List, [], ◌∷◌, ◌++◌, Option, Some, None, is_some, if◌then◌else◌}
 use Rattle.std.specs.List.{list_all}
 use Rattle.qs_syntax.specs.Sameness.{same_bytes}
 use Rattle.qs_syntax.specs.declared.types.Base.{Base}
 use Rattle.qs_syntax.specs.Trees.{DeclaratorTree, ParameterTree, MembersTree, StructTree, FunctionTree, Stmts, DeclTree, structure, forward, function, variables, UnitTree}
 use Rattle.qs_types.specs.Types.{TypeTree, int, unsigned, MemberTree, Structs, same_type, is_scalar, is_struct}
-use Rattle.qs_types.specs.Layout.{and_then, member_types, layout_of, sized_layout, with_members, struct_of}
+use Rattle.qs_types.specs.declared.extent.Extent.{Extent}
+use Rattle.qs_types.specs.Layout.{and_then, member_types, rounded_up, layout_of, size_limit, sized_by, sized_layout, with_members, struct_of}
 use Rattle.qs_types.specs.declared.rules.Rule.TheVariants as rules
 use Rattle.qs_types.specs.declared.rules.Rule.{Rule}
 use Rattle.qs_types.specs.Rules.{same_rule, Test, test, keeps, Fault, faults_of}
@@ -22,43 +23,65 @@ use Rattle.qs_types.specs.StatementRules.{variables_faults, after_variables, sta
 abbrev pub with_tag : Context → List ℕ → Context
 with_tag c tag = if is_some (tag_place c tag) then c else record c { structs = c.structs ++ None ∷ []; tags = c.tags ++ tag ∷ [] }
 
--- whether the struct with these members is within the limit of sizes
-abbrev pub is_small : Context → List MemberTree → Bool
-is_small c ms = is_some (sized_layout (layout_of c.structs) (member_types ms))
+-- the members before a place of a struct: the names of all, those that have a type, and where the last of these ends
+pub record Before : Type 0 where
+  pub names : List (List ℕ)
+  pub members : List MemberTree
+  pub end : ℕ
 
--- the members with this one behind them
-abbrev pub and_member : List MemberTree → List ℕ → TypeTree → List MemberTree
-and_member before x t = before ++ record { name = x; type = t } ∷ []
+abbrev pub no_members : Before
+no_members = record { names = []; members = []; end = 0 }
 
--- the member at which the struct would pass the limit of sizes is too large
-abbrev pub room_tests : Context → (before : List MemberTree) → List ℕ → Option TypeTree → List Test
-room_tests c before x None = []
-room_tests c before x (Some t) = keeps rules.LargeType (is_small c (and_member before x t))
+-- where a member ends that lies behind this end
+abbrev pub member_end : (end : ℕ) → Extent → ℕ
+member_end end e = rounded_up end e.alignment + e.size
 
-abbrev pub type_with_room : Context → (before : List MemberTree) → List ℕ → Option TypeTree → Option TypeTree
-type_with_room c before x None = None
-type_with_room c before x (Some t) = if is_small c (and_member before x t) then Some t else None
+-- a struct isn't larger than the limit of sizes
+abbrev pub has_room : (end : ℕ) → Option Extent → Bool
+has_room end None = true
+has_room end (Some e) = nat_le (member_end end e) size_limit
 
--- a member behind those with a type
-abbrev pub member_declared : Context → (before : List MemberTree) → Base → DeclaratorTree → Declared
-member_declared c before base d = record {
-  tests = (declared c base d None).tests ++ room_tests c before d.name (declared c base d None).type;
-  type = type_with_room c before d.name (declared c base d None).type;
+abbrev pub option_extent : Structs → Option TypeTree → Option Extent
+option_extent structs t = and_then t (sized_by (layout_of structs))
+
+-- the member at which the struct would be too large is too large
+abbrev pub with_room_tests : Context → (end : ℕ) → Declared → Declared
+with_room_tests c end d = record {
+  tests = d.tests ++ keeps rules.LargeType (has_room end (option_extent c.structs d.type));
+  type = if has_room end (option_extent c.structs d.type) then d.type else None;
 }
 
-abbrev pub with_member : List MemberTree → List ℕ → Option TypeTree → List MemberTree
-with_member before x None = before
-with_member before x (Some t) = and_member before x t
+abbrev pub member_declared : Context → (end : ℕ) → Base → DeclaratorTree → Declared
+member_declared c end base d = with_room_tests c end (declared c base d None)
 
-abbrev pub after_member : Context → List MemberTree → Base → DeclaratorTree → List MemberTree
-after_member c before base d = with_member before d.name (member_declared c before base d).type
+abbrev pub is_name_in : List ℕ → List (List ℕ) → Bool
+is_name_in x [] = false
+is_name_in x (y ∷ ys) = same_bytes y x || is_name_in x ys
 
-abbrev pub after_together : Context → List MemberTree → Base → List DeclaratorTree → List MemberTree
+abbrev pub end_behind : (end : ℕ) → Option Extent → ℕ
+end_behind end None = end
+end_behind end (Some e) = member_end end e
+
+abbrev pub with_member : (again : Bool) → List MemberTree → List ℕ → Option TypeTree → List MemberTree
+with_member again members x None = members
+with_member again members x (Some t) = if again then members else members ++ record { name = x; type = t } ∷ []
+
+-- a member of a name that was declared before doesn't count
+abbrev pub with_member_of : Context → Before → List ℕ → Option TypeTree → Before
+with_member_of c before x t = record {
+  names = x ∷ before.names;
+  members = with_member (is_name_in x before.names) before.members x t;
+  end = if is_name_in x before.names then before.end else end_behind before.end (option_extent c.structs t);
+}
+
+abbrev pub after_member : Context → Before → Base → DeclaratorTree → Before
+after_member c before base d = with_member_of c before d.name (member_declared c before.end base d).type
+
+abbrev pub after_together : Context → Before → Base → List DeclaratorTree → Before
 after_together c before base [] = before
 after_together c before base (d ∷ ds) = after_together c (after_member c before base d) base ds
 
--- the members with a type, in order
-abbrev pub after_members : Context → List MemberTree → List MembersTree → List MemberTree
+abbrev pub after_members : Context → Before → List MembersTree → Before
 after_members c before [] = before
 after_members c before (m ∷ ms) = after_members c (after_together c before m.base m.declarators) ms
 
@@ -67,47 +90,48 @@ is_defined c tag = is_some (and_then (tag_place c tag) (struct_of c.structs))
 
 abbrev pub define_at : Context → List MemberTree → Option ℕ → Context
 define_at c ms None = c
-define_at c ms (Some k) = record c { structs = with_members (is_small c ms) c.structs k ms }
+define_at c ms (Some k) = record c { structs = with_members (is_some (sized_layout (layout_of c.structs) (member_types ms))) c.structs k ms }
 
 -- a struct is defined once
 abbrev pub after_struct : Context → StructTree → Context
 after_struct c s =
-    if is_defined c s.name then c else define_at (with_tag c s.name) (after_members (with_tag c s.name) [] s.members) (tag_place (with_tag c s.name) s.name)
+    if is_defined c s.name then c else define_at (with_tag c s.name) (after_members (with_tag c s.name) no_members s.members).members (tag_place (with_tag c s.name) s.name)
 
-abbrev pub is_name_in : List ℕ → List (List ℕ) → Bool
-is_name_in x [] = false
-is_name_in x (y ∷ ys) = same_bytes y x || is_name_in x ys
+abbrev pub member_tests : Context → Before → Base → DeclaratorTree → List Test
+member_tests c before base d =
+    if all_typed c d.lengths.given
+    then (member_declared c before.end base d).tests ++ test rules.MemberTwice (is_name_in d.name before.names)
+    else []
 
--- a member, behind those with these names, and those with a type
-abbrev pub member_faults : Context → (names : List (List ℕ)) → List MemberTree → Base → DeclaratorTree → List Fault
-member_faults c names before base d =
-    faults_of d.node.id
-    (if all_typed c d.lengths.given then (member_declared c before base d).tests ++ test rules.MemberTwice (is_name_in d.name names) else [])
-    ++ lengths_faults c d.lengths.given
+abbrev pub member_faults : Context → Before → Base → DeclaratorTree → List Fault
+member_faults c before base d = faults_of d.node.id (member_tests c before base d) ++ lengths_faults c d.lengths.given
 
-abbrev pub together_faults : Context → (names : List (List ℕ)) → List MemberTree → Base → List DeclaratorTree → List Fault
-together_faults c names before base [] = []
-together_faults c names before base (d ∷ ds) =
-    member_faults c names before base d ++ together_faults c (d.name ∷ names) (after_member c before base d) base ds
+abbrev pub together_faults : Context → Before → Base → List DeclaratorTree → List Fault
+together_faults c before base [] = []
+together_faults c before base (d ∷ ds) = member_faults c before base d ++ together_faults c (after_member c before base d) base ds
 
-abbrev pub names_after : (names : List (List ℕ)) → List DeclaratorTree → List (List ℕ)
-names_after names [] = names
-names_after names (d ∷ ds) = names_after (d.name ∷ names) ds
-
-abbrev pub members_faults : Context → (names : List (List ℕ)) → List MemberTree → List MembersTree → List Fault
-members_faults c names before [] = []
-members_faults c names before (m ∷ ms) =
-    together_faults c names before m.base m.declarators
-    ++ members_faults c (names_after names m.declarators) (after_together c before m.base m.declarators) ms
+abbrev pub members_faults : Context → Before → List MembersTree → List Fault
+members_faults c before [] = []
+members_faults c before (m ∷ ms) =
+    together_faults c before m.base m.declarators ++ members_faults c (after_together c before m.base m.declarators) ms
 
 abbrev pub struct_faults : Context → StructTree → List Fault
-struct_faults c s = faults_of s.node.id (test rules.UnknownTag (is_defined c s.name)) ++ members_faults (with_tag c s.name) [] [] s.members
+struct_faults c s = faults_of s.node.id (test rules.UnknownTag (is_defined c s.name)) ++ members_faults (with_tag c s.name) no_members s.members
 
 -- ---- the types of functions (6.7.6.3)
 
+-- a parameter is known behind its declarator (6.2.1p7)
+abbrev pub with_parameter : Context → ParameterTree → Option TypeTree → Option (List ℕ) → Context
+with_parameter c p t None = c
+with_parameter c p t (Some x) = with_name c x (local_variable p.node.id t)
+
+abbrev pub after_parameter : Context → ParameterTree → Context
+after_parameter c p = with_parameter c p (parameter_declared c p).type p.name
+
+-- the types of parameters, where the first is known in this context
 abbrev pub parameter_types : Context → List ParameterTree → List (Option TypeTree)
 parameter_types c [] = []
-parameter_types c (p ∷ ps) = (parameter_declared c p).type ∷ parameter_types c ps
+parameter_types c (p ∷ ps) = (parameter_declared c p).type ∷ parameter_types (after_parameter c p) ps
 
 -- `void` with stars is no type
 abbrev pub is_void_pointer : FunctionTree → Bool
@@ -122,7 +146,7 @@ pub record Header : Type 0 where
   pub result : Option TypeTree
 
 abbrev pub header_of : Context → FunctionTree → Header
-header_of c f = record { parameters = parameter_types c f.parameters; result = result_type c f }
+header_of c f = record { parameters = parameter_types (inner_scope c) f.parameters; result = result_type c f }
 
 -- the types, where each part has one
 abbrev pub all_of : List (Option TypeTree) → Option (List TypeTree)
@@ -192,14 +216,6 @@ after_function c f = with_name c f.name (declared_function (lookup f.name c.inne
 
 -- ---- parameters: they share the scope of the function's block (6.2.1p4)
 
-abbrev pub after_parameter : Context → ParameterTree → Option (List ℕ) → Context
-after_parameter c p None = c
-after_parameter c p (Some x) = with_name c x (local_variable p.node.id (parameter_declared c p).type)
-
-abbrev pub after_parameters : Context → List ParameterTree → Context
-after_parameters c [] = c
-after_parameters c (p ∷ ps) = after_parameters (after_parameter c p p.name) ps
-
 abbrev pub is_name_declared : Context → Option (List ℕ) → Bool
 is_name_declared c None = false
 is_name_declared c (Some x) = is_declared_here c x
@@ -220,12 +236,19 @@ abbrev pub parameters_faults : Context → (has_body : Bool) → List ParameterT
 parameters_faults c has_body [] = []
 parameters_faults c has_body (p ∷ ps) =
     (faults_of p.node.id (parameter_tests c has_body p) ++ lengths_faults c p.lengths.given)
-    ++ parameters_faults (after_parameter c p p.name) has_body ps
+    ++ parameters_faults (after_parameter c p) has_body ps
 
 -- ---- bodies
 
+abbrev pub with_parameters : Context → List ParameterTree → List (Option TypeTree) → Context
+with_parameters c [] ts = c
+with_parameters c (p ∷ ps) [] = c
+with_parameters c (p ∷ ps) (t ∷ ts) = with_parameters (with_parameter c p t p.name) ps ts
+
+-- what is known at the begin of the body; the context is that before the header
 abbrev pub body_context : Context → FunctionTree → Context
-body_context c f = after_parameters (record (inner_scope c) { result = result_type c f }) f.parameters
+body_context c f =
+    with_parameters (record (inner_scope (after_function c f)) { result = result_type c f }) f.parameters (parameter_types (inner_scope c) f.parameters)
 
 abbrev pub body_faults : Context → FunctionTree → Option Stmts → List Fault
 body_faults c f None = []
@@ -234,7 +257,7 @@ body_faults c f (Some ss) = statements_faults (body_context c f) ss
 abbrev pub function_faults : Context → FunctionTree → List Fault
 function_faults c f =
     faults_of f.node.id (header_tests c f)
-    ++ (parameters_faults (inner_scope c) (is_some f.body) f.parameters ++ body_faults (after_function c f) f f.body)
+    ++ (parameters_faults (inner_scope c) (is_some f.body) f.parameters ++ body_faults c f f.body)
 
 -- ---- units
 

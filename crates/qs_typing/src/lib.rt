@@ -1,0 +1,9 @@
+//! The types of a unit, or the first fault in it.
+#![tactic(auto)]
+
+mod context;
+mod entity;
+mod scopes;
+
+pub use context::Context;
+pub use entity::{Entity, Signature};

@@ -5,7 +5,12 @@ mod Extents
 mod LayoutSteps
 mod Declaring
 mod LayoutExamples
+mod RuleLaws
 mod RuleTrees
 mod DeclarationExamples
 mod ExpressionExamples
 mod PlacedExamples
+mod ValueExamples
+mod HeldBackExamples
+mod LimitExamples
+mod ReferenceExamples

@@ -5,7 +5,8 @@ use Rattle.std.specs.Map.{lookup as lookup_entry}
 use Rattle.std.specs.Cmp.{first_so, second_so}
 use Rattle.std.specs.Cmp.Lexicographic.{pointwise, pointwise_decides}
 use Rattle.std.proofs.lemmas.Bool.Decides.{Decides-eqb}
-use Rattle.std.proofs.lemmas.List.{take-append-drop, reverse-append, length-reverse, get_or-reverse, map-append, length-append}
+use Rattle.std.proofs.lemmas.List.{take-append-drop, reverse-append, length-reverse, get_or-reverse, map-append, length-append, length-map, length-take-le, take_all}
+use Rattle.std.proofs.Math.Seq.{take-length}
 use Rattle.qs_syntax.specs.Sameness.{same_bytes}
 use Rattle.qs_types.specs.Layout.{and_then}
 use Rattle.qs_types.specs.Contexts.{Entity, lookup}
@@ -54,6 +55,13 @@ stands_for x items i d p g =
     let back : length items - 1 - k ≡ i = omega arith in
     there x (reverse items) i k d (sym p) (omega arith) (g ∙ sym (get_or-reverse items k d (omega arith) ∙ ap (λ j. get_or items j d) back))
 
+-- a place is within the declarations
+pub within : (x : List ℕ) (items : List Binding) (i : ℕ) → Some i ≡ place_in x (newest_first items) → i < length items
+within x items i p =
+    let low : i < length (reverse items) = below x (reverse items) i (sym p) in
+    let n : length (reverse items) ≡ length items = length-reverse items in
+    omega arith
+
 none_by : (x : List ℕ) (b : Binding) (bs : List Binding) (t : Bool) → (place_in x bs ≡ None → lookup x (map binding_tree bs) ≡ None) → (if t then Some (length bs) else place_in x bs) ≡ None → (if t then Some (entity_tree b.entity) else lookup x (map binding_tree bs)) ≡ None
 none_by x b bs true h p = absurd (cc)
 none_by x b bs false h p = h p
@@ -101,6 +109,82 @@ split items n = ap reverse (sym (take-append-drop n items)) ∙ reverse-append (
 -- the names of the innermost scope, and those around it, are all names
 pub together : (items : List Binding) (n : ℕ) → map binding_tree (newest_first (drop n items)) ++ map binding_tree (newest_first (take n items)) ≡ map binding_tree (newest_first items)
 together items n = sym (ap (map binding_tree) (split items n) ∙ map-append binding_tree (newest_first (drop n items)) (newest_first (take n items)))
+
+-- what a name stands for in all scopes
+pub found : (x : List ℕ) (items : List Binding) (n i : ℕ) (d : Binding) → Some i ≡ place_in x (newest_first items) → d ≡ get_or items i d
+    → Some (entity_tree d.entity) ≡ lookup x (map binding_tree (newest_first (drop n items)) ++ map binding_tree (newest_first (take n items)))
+found x items n i d p g = sym (ap (lookup x) (together items n) ∙ stands_for x items i d p g)
+
+pub not_found : (x : List ℕ) (items : List Binding) (n : ℕ) → None ≡ place_in x (newest_first items)
+    → None ≡ lookup x (map binding_tree (newest_first (drop n items)) ++ map binding_tree (newest_first (take n items)))
+not_found x items n p = sym (ap (lookup x) (together items n) ∙ stands_for_nothing x (newest_first items) (sym p))
+
+placed : (x : List ℕ) (items : List Binding) (n : ℕ) (o : Option ℕ) → o ≡ place_in x (newest_first items) → place_in x (newest_first (drop n items) ++ newest_first (take n items)) ≡ o
+placed x items n o p = sym (ap (place_in x) (split items n)) ∙ sym p
+
+length_of_outer : (items : List Binding) (n : ℕ) → n ≤ length items → length (newest_first (take n items)) ≡ n
+length_of_outer items n h = length-reverse (take n items) ∙ length-take-le n items h
+
+-- what it stands for in the innermost one
+pub found_here : (x : List ℕ) (items : List Binding) (n i : ℕ) (d : Binding) → n ≤ length items → n ≤ i → Some i ≡ place_in x (newest_first items) → d ≡ get_or items i d
+    → Some (entity_tree d.entity) ≡ lookup x (map binding_tree (newest_first (drop n items)))
+found_here x items n i d h low p g =
+    let m = length_of_outer items n h in
+    sym (stands_here x (newest_first (drop n items)) (newest_first (take n items)) i (omega arith) (placed x items n (Some i) p)
+    ∙ ap (λ l. lookup x (map binding_tree l)) (sym (split items n))
+    ∙ stands_for x items i d p g)
+
+pub found_outside : (x : List ℕ) (items : List Binding) (n i : ℕ) → n ≤ length items → i < n → Some i ≡ place_in x (newest_first items)
+    → None ≡ lookup x (map binding_tree (newest_first (drop n items)))
+found_outside x items n i h low p =
+    let m = length_of_outer items n h in
+    sym (not_here x (newest_first (drop n items)) (newest_first (take n items)) i (omega arith) (placed x items n (Some i) p))
+
+pub found_nowhere : (x : List ℕ) (items : List Binding) (n : ℕ) → None ≡ place_in x (newest_first items) → None ≡ lookup x (map binding_tree (newest_first (drop n items)))
+found_nowhere x items n p = sym (nowhere x (newest_first (drop n items)) (newest_first (take n items)) (placed x items n None p))
+
+-- ---- scopes that begin and end
+
+pub entered : (items : List Binding) (n len : ℕ) → len ≡ length items
+    → map binding_tree (newest_first (take len items)) ≡ map binding_tree (newest_first (drop n items)) ++ map binding_tree (newest_first (take n items))
+entered items n len e = ap (λ m. map binding_tree (newest_first (take m items))) e ∙ ap (λ l. map binding_tree (newest_first l)) (take-length items) ∙ sym (together items n)
+
+take_of_front : (items : List Binding) (n m : ℕ) → n ≤ m → take n (take m items) ≡ take n items
+take_of_front items zero m h = refl
+take_of_front [] (suc n) (suc m) h = refl
+take_of_front [] (suc n) zero h = absurd (omega arith)
+take_of_front (b ∷ items) (suc n) zero h = absurd (omega arith)
+take_of_front (b ∷ items) (suc n) (suc m) h = ap (λ l. b ∷ l) (take_of_front items n m (omega arith))
+
+-- the declarations of the scopes around stay where the latest one is forgotten
+pub forgets : (items after : List Binding) (n : ℕ) → n < length items → after ≡ take (length items - 1) items → take n after ≡ take n items
+forgets items after n h e = ap (take n) e ∙ take_of_front items n (length items - 1) (omega arith)
+
+pub forgets_one : (items after : List Binding) → 0 < length items → after ≡ take (length items - 1) items → length after < length items
+forgets_one items after h e =
+    let n : length after ≡ length items - 1 = ap length e ∙ length-take-le (length items - 1) items (omega arith) in
+    omega arith
+
+-- where all of a scope is forgotten, those around it are left
+pub left : (items before : List Binding) (n k : ℕ) → take n items ≡ take n before → length items ≤ n
+    → map binding_tree (newest_first (drop k items)) ++ map binding_tree (newest_first (take k items)) ≡ map binding_tree (newest_first (take n before))
+left items before n k e h = together items k ∙ ap (λ l. map binding_tree (newest_first l)) (sym (take_all n items h) ∙ e)
+
+outer_length : (items : List Binding) (n : ℕ) → n ≤ length items → length (map binding_tree (newest_first (take n items))) ≡ n
+outer_length items n h = length-map (newest_first (take n items)) binding_tree ∙ length_of_outer items n h
+
+-- a scope begins behind as many names as stand outside of it
+pub begins : (items : List Binding) (n : ℕ) → n ≤ length items → n ≡ length (map binding_tree (newest_first (take n items)))
+begins items n h = sym (outer_length items n h)
+
+pub left_begins : (items before : List Binding) (n k : ℕ) → n ≤ length before → take n items ≡ take n before → length items ≤ n → k ≤ length (map binding_tree (newest_first (take n before)))
+    → length (map binding_tree (newest_first (take k items))) ≡ k
+left_begins items before n k h e m low =
+    let a : length (take n items) ≡ n = ap length e ∙ length-take-le n before h in
+    let b : take n items ≡ items = take_all n items m in
+    let d : length items ≡ n = sym (ap length b) ∙ a in
+    let f = outer_length before n h in
+    outer_length items k (omega arith)
 
 -- ---- one declaration more
 

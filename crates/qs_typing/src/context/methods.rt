@@ -60,6 +60,7 @@ fn given_names(alloc: Global) -> Result<Scopes, NoMemory>
 }
 
 /// A type with stars in front (C11 6.7.6.1).
+#[tactic(auto, using(crate::proofs::Tags::one_star))]
 fn pointers(alloc: Global, stars: u32, to: CType) -> Result<CType, NoMemory>
     ensures { IfOk result (λ t. type_tree t ≡ pointers stars (type_tree to)) }
 {
@@ -181,7 +182,10 @@ impl Context {
     pub fn tag_place(&self, tag: &Name) -> Option<u32>
         ensures { result ≡ tag_place (context_tree self.now) tag.now }
     {
-        Some(self.tags.get_index_of(tag)? as u32)
+        match self.tags.get_index_of(tag) {
+            Some(place) => Some(place as u32),
+            None => None,
+        }
     }
 
     /// Declares a tag behind the others, if it is new.
@@ -221,7 +225,10 @@ impl Context {
             Base::Int => Some(CType::Int),
             Base::Unsigned => Some(CType::Unsigned),
             Base::Char => Some(CType::Char),
-            Base::Struct(tag) => Some(CType::Struct(self.tag_place(tag)?)),
+            Base::Struct(tag) => match self.tag_place(tag) {
+                Some(k) => Some(CType::Struct(k)),
+                None => None,
+            },
         }
     }
 

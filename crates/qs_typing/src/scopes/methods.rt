@@ -37,19 +37,26 @@ impl Scopes {
     pub fn find(&self, name: &Name) -> Option<&Entity>
         ensures { option_map (λ e. entity_tree e.now) result ≡ lookup name.now (inner_bindings self.now ++ outer_bindings self.now) }
     {
-        let place = self.place_of(name)?;
-        Some(&self.bindings[place].entity)
+        match self.place_of(name) {
+            Some(place) => Some(&self.bindings[place].entity),
+            None => None,
+        }
     }
 
     /// What a name stands for that is declared in the innermost scope.
     pub fn find_here(&self, name: &Name) -> Option<&Entity>
         ensures { option_map (λ e. entity_tree e.now) result ≡ lookup name.now (inner_bindings self.now) }
     {
-        let place = self.place_of(name)?;
-        if place < self.start {
-            return None;
+        match self.place_of(name) {
+            Some(place) => {
+                if place < self.start {
+                    None
+                } else {
+                    Some(&self.bindings[place].entity)
+                }
+            }
+            None => None,
         }
-        Some(&self.bindings[place].entity)
     }
 
     /// Declares a name in the innermost scope.

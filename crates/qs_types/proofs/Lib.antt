@@ -5,7 +5,7 @@ mod Extents
 mod LayoutSteps
 mod Declaring
 mod LayoutExamples
-mod RuleLaws
+pub mod RuleLaws
 mod ConstantTypes
 mod RuleTrees
 mod DeclarationExamples

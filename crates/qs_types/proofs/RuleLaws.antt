@@ -41,5 +41,5 @@ rule_of_number rules.OutsideLoop = refl
 rule_of_number rules.MisplacedValue = refl
 rule_of_number rules.InitialiserType = refl
 
-numbers_differ : (r s : Rule) → rule_number r ≡ rule_number s → r ≡ s
+pub numbers_differ : (r s : Rule) → rule_number r ≡ rule_number s → r ≡ s
 numbers_differ r s e = same r s (sym (rule_of_number r) ∙ ap rule_at e ∙ rule_of_number s)

@@ -79,10 +79,14 @@ subscript = refl
 subscript_from_right : typed scope (at (number 1) c.a) ≡ is int (lvalue (object (binary (Move Up signs.Signed 4) exchanged unchanged unchanged one first_of_a)))
 subscript_from_right = refl
 
-arguments_converted : typed scope (c.call 102 (u ∷ c.a ∷ [])) ≡ is int (call (function 0) (argument_and (converted Unsigned Char) unsigned_u (argument_and unchanged first_of_a no_arguments)))
+arguments_converted :
+    typed scope (c.call 102 (u ∷ c.a ∷ []))
+    ≡ is int (call (function 0) (argument_and (converted Unsigned Char) unsigned_u (argument_and unchanged first_of_a no_arguments)))
 arguments_converted = refl
 
-null_argument : typed scope (c.call 102 (c.c ∷ number 0 ∷ [])) ≡ is int (call (function 0) (argument_and unchanged char_c (argument_and (converted Int Pointer) (constant Int 0) no_arguments)))
+null_argument :
+    typed scope (c.call 102 (c.c ∷ number 0 ∷ []))
+    ≡ is int (call (function 0) (argument_and unchanged char_c (argument_and (converted Int Pointer) (constant Int 0) no_arguments)))
 null_argument = refl
 
 void_call : typed scope (c.call 107 []) ≡ is void (call (function 1) no_arguments)
@@ -100,18 +104,28 @@ dot_member = refl
 arrow_member : typed scope (arrow c.q 109) ≡ is char (lvalue (object (member 0 (value Pointer (variable 5)))))
 arrow_member = refl
 
-increment_after : typed scope (e (trees.step steps.IncrementAfter c.c)) ≡ is char (step (update Char (variable 0) add_ints (converted Char Int) unchanged (converted Int Char) one) (stepped_after Char (variable 0) add_ints (converted Char Int) (converted Int Char)))
+increment_after :
+    typed scope (e (trees.step steps.IncrementAfter c.c))
+    ≡ is char (step (update Char (variable 0) add_ints (converted Char Int) unchanged (converted Int Char) one) (stepped_after Char (variable 0) add_ints
+      (converted Char Int) (converted Int Char)))
 increment_after = refl
 
-decrement_after : typed scope (e (trees.step steps.DecrementAfter c.p)) ≡ is (pointer int) (step (update Pointer (variable 3) (Move Down signs.Signed 4) unchanged unchanged unchanged one) (stepped_after Pointer (variable 3) (Move Down signs.Signed 4) unchanged unchanged))
+decrement_after :
+    typed scope (e (trees.step steps.DecrementAfter c.p))
+    ≡ is (pointer int) (step (update Pointer (variable 3) (Move Down signs.Signed 4) unchanged unchanged unchanged one) (stepped_after Pointer (variable 3)
+      (Move Down signs.Signed 4) unchanged unchanged))
 decrement_after = refl
 
 -- ---- 6.5.3: ++x, --u, &x, &a, *p, *q as an object, +c, -u, ~c, !p, !c, sizeof a, sizeof (struct s)
 
-increment_before : typed scope (e (trees.step steps.IncrementBefore x)) ≡ is int (assignment (update Int (object (pointer_to (local 0))) add_ints unchanged unchanged unchanged one))
+increment_before :
+    typed scope (e (trees.step steps.IncrementBefore x))
+    ≡ is int (assignment (update Int (object (pointer_to (local 0))) add_ints unchanged unchanged unchanged one))
 increment_before = refl
 
-decrement_before : typed scope (e (trees.step steps.DecrementBefore u)) ≡ is unsigned (assignment (update Unsigned (variable 2) (Arithmetic Subtract signs.Unsigned) unchanged (converted Int Unsigned) unchanged one))
+decrement_before :
+    typed scope (e (trees.step steps.DecrementBefore u))
+    ≡ is unsigned (assignment (update Unsigned (variable 2) (Arithmetic Subtract signs.Unsigned) unchanged (converted Int Unsigned) unchanged one))
 decrement_before = refl
 
 address_of_object : typed scope (address x) ≡ is (pointer int) (result (pointer_to (local 0)))
@@ -167,13 +181,17 @@ cast_of_null = refl
 
 -- ---- 6.5.5 to 6.5.12: c*i, i+u, x+1, p+i, c+p, a-p, p-u, c<<u, u>>c, i<u, p==0, a!=p, c&c
 
-usual_char : typed scope (op binaries.Multiply c.c c.i) ≡ is int (result (binary (Arithmetic Multiply signs.Signed) as_written (converted Char Int) unchanged char_c int_i))
+usual_char :
+    typed scope (op binaries.Multiply c.c c.i)
+    ≡ is int (result (binary (Arithmetic Multiply signs.Signed) as_written (converted Char Int) unchanged char_c int_i))
 usual_char = refl
 
 usual_unsigned : typed scope (op binaries.Add c.i u) ≡ is unsigned (result (binary add_unsigneds as_written (converted Int Unsigned) unchanged int_i unsigned_u))
 usual_unsigned = refl
 
-usual_char_unsigned : typed scope (op binaries.Divide c.c u) ≡ is unsigned (result (binary (Arithmetic Divide signs.Unsigned) as_written (converted Char Unsigned) unchanged char_c unsigned_u))
+usual_char_unsigned :
+    typed scope (op binaries.Divide c.c u)
+    ≡ is unsigned (result (binary (Arithmetic Divide signs.Unsigned) as_written (converted Char Unsigned) unchanged char_c unsigned_u))
 usual_char_unsigned = refl
 
 lvalue_conversion : typed scope (op binaries.Add x (number 1)) ≡ is int (result (binary add_ints as_written unchanged unchanged int_x one))
@@ -182,34 +200,50 @@ lvalue_conversion = refl
 pointer_plus : typed scope (op binaries.Add c.p c.i) ≡ is (pointer int) (result (binary (Move Up signs.Signed 4) as_written unchanged unchanged pointer_p int_i))
 pointer_plus = refl
 
-plus_pointer : typed scope (op binaries.Add c.c c.p) ≡ is (pointer int) (result (binary (Move Up signs.Signed 4) exchanged (converted Char Int) unchanged char_c pointer_p))
+plus_pointer :
+    typed scope (op binaries.Add c.c c.p)
+    ≡ is (pointer int) (result (binary (Move Up signs.Signed 4) exchanged (converted Char Int) unchanged char_c pointer_p))
 plus_pointer = refl
 
-pointer_minus : typed scope (op binaries.Subtract c.p u) ≡ is (pointer int) (result (binary (Move Down signs.Unsigned 4) as_written unchanged unchanged pointer_p unsigned_u))
+pointer_minus :
+    typed scope (op binaries.Subtract c.p u)
+    ≡ is (pointer int) (result (binary (Move Down signs.Unsigned 4) as_written unchanged unchanged pointer_p unsigned_u))
 pointer_minus = refl
 
 pointer_difference : typed scope (op binaries.Subtract c.a c.p) ≡ is int (result (binary (Difference 4) as_written unchanged unchanged first_of_a pointer_p))
 pointer_difference = refl
 
-shift_left : typed scope (op binaries.ShiftLeft c.c u) ≡ is int (result (binary (Arithmetic ShiftLeft signs.Signed) as_written (converted Char Int) unchanged char_c unsigned_u))
+shift_left :
+    typed scope (op binaries.ShiftLeft c.c u)
+    ≡ is int (result (binary (Arithmetic ShiftLeft signs.Signed) as_written (converted Char Int) unchanged char_c unsigned_u))
 shift_left = refl
 
-shift_right : typed scope (op binaries.ShiftRight u c.c) ≡ is unsigned (result (binary (Arithmetic ShiftRight signs.Unsigned) as_written unchanged (converted Char Int) unsigned_u char_c))
+shift_right :
+    typed scope (op binaries.ShiftRight u c.c)
+    ≡ is unsigned (result (binary (Arithmetic ShiftRight signs.Unsigned) as_written unchanged (converted Char Int) unsigned_u char_c))
 shift_right = refl
 
-less_unsigned : typed scope (op binaries.Less c.i u) ≡ is int (result (binary (Compare Less signs.Unsigned) as_written (converted Int Unsigned) unchanged int_i unsigned_u))
+less_unsigned :
+    typed scope (op binaries.Less c.i u)
+    ≡ is int (result (binary (Compare Less signs.Unsigned) as_written (converted Int Unsigned) unchanged int_i unsigned_u))
 less_unsigned = refl
 
-less_chars : typed scope (op binaries.Less c.c c.c) ≡ is int (result (binary (Compare Less signs.Signed) as_written (converted Char Int) (converted Char Int) char_c char_c))
+less_chars :
+    typed scope (op binaries.Less c.c c.c)
+    ≡ is int (result (binary (Compare Less signs.Signed) as_written (converted Char Int) (converted Char Int) char_c char_c))
 less_chars = refl
 
-equal_null : typed scope (op binaries.Equal c.p (number 0)) ≡ is int (result (binary (ComparePointers Equal) as_written unchanged (converted Int Pointer) pointer_p (constant Int 0)))
+equal_null :
+    typed scope (op binaries.Equal c.p (number 0))
+    ≡ is int (result (binary (ComparePointers Equal) as_written unchanged (converted Int Pointer) pointer_p (constant Int 0)))
 equal_null = refl
 
 not_equal_array : typed scope (op binaries.NotEqual c.a c.p) ≡ is int (result (binary (ComparePointers NotEqual) as_written unchanged unchanged first_of_a pointer_p))
 not_equal_array = refl
 
-bits : typed scope (op binaries.BitAnd c.c c.c) ≡ is int (result (binary (Arithmetic And signs.Signed) as_written (converted Char Int) (converted Char Int) char_c char_c))
+bits :
+    typed scope (op binaries.BitAnd c.c c.c)
+    ≡ is int (result (binary (Arithmetic And signs.Signed) as_written (converted Char Int) (converted Char Int) char_c char_c))
 bits = refl
 
 -- ---- 6.5.13 to 6.5.15: c && p, p || i, c ? i : u, i ? p : 0
@@ -223,7 +257,9 @@ logical_or_kept = refl
 conditional_usual : typed scope (e (trees.conditional c.c c.i u)) ≡ is unsigned (result (conditional Unsigned char_c (converted Int Unsigned) unchanged int_i unsigned_u))
 conditional_usual = refl
 
-conditional_null : typed scope (e (trees.conditional c.i c.p (number 0))) ≡ is (pointer int) (result (conditional Pointer int_i unchanged (converted Int Pointer) pointer_p (constant Int 0)))
+conditional_null :
+    typed scope (e (trees.conditional c.i c.p (number 0)))
+    ≡ is (pointer int) (result (conditional Pointer int_i unchanged (converted Int Pointer) pointer_p (constant Int 0)))
 conditional_null = refl
 
 -- ---- 6.5.16: c = u, x = c, p = 0, v = v, c += u, u <<= c, p -= c
@@ -240,13 +276,19 @@ set_null = refl
 set_struct : typed scope (c.set v (deref c.q)) ≡ is (struct 0) (struct_assignment 8 4 (pointer_to (local 2)) (value Pointer (variable 5)))
 set_struct = refl
 
-add_assigned : typed scope (c.update assigns.Add c.c u) ≡ is char (assignment (update Char (variable 0) add_unsigneds (converted Char Unsigned) unchanged (converted Unsigned Char) unsigned_u))
+add_assigned :
+    typed scope (c.update assigns.Add c.c u)
+    ≡ is char (assignment (update Char (variable 0) add_unsigneds (converted Char Unsigned) unchanged (converted Unsigned Char) unsigned_u))
 add_assigned = refl
 
-shift_assigned : typed scope (c.update assigns.ShiftLeft u c.c) ≡ is unsigned (assignment (update Unsigned (variable 2) (Arithmetic ShiftLeft signs.Unsigned) unchanged (converted Char Int) unchanged char_c))
+shift_assigned :
+    typed scope (c.update assigns.ShiftLeft u c.c)
+    ≡ is unsigned (assignment (update Unsigned (variable 2) (Arithmetic ShiftLeft signs.Unsigned) unchanged (converted Char Int) unchanged char_c))
 shift_assigned = refl
 
-pointer_moved : typed scope (c.update assigns.Subtract c.p c.c) ≡ is (pointer int) (assignment (update Pointer (variable 3) (Move Down signs.Signed 4) unchanged (converted Char Int) unchanged char_c))
+pointer_moved :
+    typed scope (c.update assigns.Subtract c.p c.c)
+    ≡ is (pointer int) (assignment (update Pointer (variable 3) (Move Down signs.Signed 4) unchanged (converted Char Int) unchanged char_c))
 pointer_moved = refl
 
 -- ---- 6.5.17: i, a; k(), c++; (c = u, p), where what stands left of a comma is discarded
@@ -254,8 +296,13 @@ pointer_moved = refl
 comma_of_array : typed scope (c.comma c.i c.a) ≡ is (pointer int) (comma (discard int_i) (array int 3) (lvalue (object first_of_a)))
 comma_of_array = refl
 
-comma_of_call : typed scope (c.comma (c.call 107 []) (c.after c.c)) ≡ is char (comma (perform (function 1) no_arguments) char (step (update Char (variable 0) add_ints (converted Char Int) unchanged (converted Int Char) one) (stepped_after Char (variable 0) add_ints (converted Char Int) (converted Int Char))))
+comma_of_call :
+    typed scope (c.comma (c.call 107 []) (c.after c.c))
+    ≡ is char (comma (perform (function 1) no_arguments) char (step (update Char (variable 0) add_ints (converted Char Int) unchanged (converted Int Char) one)
+      (stepped_after Char (variable 0) add_ints (converted Char Int) (converted Int Char))))
 comma_of_call = refl
 
-comma_of_assignment : typed scope (c.comma (c.set c.c u) c.p) ≡ is (pointer int) (comma (assign (set Char (variable 0) (converted Unsigned Char) unsigned_u)) (pointer int) (lvalue (variable 3)))
+comma_of_assignment :
+    typed scope (c.comma (c.set c.c u) c.p)
+    ≡ is (pointer int) (comma (assign (set Char (variable 0) (converted Unsigned Char) unsigned_u)) (pointer int) (lvalue (variable 3)))
 comma_of_assignment = refl

@@ -50,7 +50,10 @@ step_after : of_main (int_ 97 ∷ eval (set a (number 5)) ∷ return (plus (op b
 step_after = refl
 
 -- int a; a=0; 0&&(a=1); 1||(a=2); 1&&(a=a+3); return a;
-short_circuits : of_main (int_ 97 ∷ eval (set a (number 0)) ∷ eval (op binaries.And (number 0) (set a (number 1))) ∷ eval (op binaries.Or (number 1) (set a (number 2))) ∷ eval (op binaries.And (number 1) (set a (plus a (number 3)))) ∷ return a ∷ []) ≡ ends 3
+short_circuits :
+    of_main (int_ 97 ∷ eval (set a (number 0)) ∷ eval (op binaries.And (number 0) (set a (number 1))) ∷ eval (op binaries.Or (number 1) (set a (number 2))) ∷ eval
+      (op binaries.And (number 1) (set a (plus a (number 3)))) ∷ return a ∷ [])
+    ≡ ends 3
 short_circuits = refl
 
 -- int a; return (a=3,a+1);
@@ -58,7 +61,9 @@ comma_in_order : of_main (int_ 97 ∷ return (comma (set a (number 3)) (plus a (
 comma_in_order = refl
 
 -- return putchar(65)-putchar(66)+1; the output in the order of the text
-output_in_order : of_main (return (plus (op binaries.Subtract (putchar (number 65)) (putchar (number 66))) (number 1)) ∷ []) ≡ Some (Ended (Calls 0 ∷ Puts 65 ∷ Puts 66 ∷ Returns 0 ∷ []) 0)
+output_in_order :
+    of_main (return (plus (op binaries.Subtract (putchar (number 65)) (putchar (number 66))) (number 1)) ∷ [])
+    ≡ Some (Ended (Calls 0 ∷ Puts 65 ∷ Puts 66 ∷ Returns 0 ∷ []) 0)
 output_in_order = refl
 
 -- ---- conversions on the way (6.5.16.1p2, 6.5.2.2p7)
@@ -98,11 +103,16 @@ do_ends = refl
 abbrev int_i_0 : trees.StartTree
 int_i_0 = start_declaration (record { base = bases.Int; variables = record { declarator = declarator 0 105 one; initialiser = Some (valued (number 0)) } ∷ [] })
 
-for_continues : of_main (int_ 97 ∷ eval (set a (number 0)) ∷ trees.for_loop (unnumbered 0) int_i_0 (Some (less i (number 2))) (Some (after i)) (block (when (op binaries.Equal i (number 0)) (trees.continue (unnumbered 0)) ∷ eval (set a (plus a (number 5))) ∷ [])) ∷ return a ∷ []) ≡ ends 5
+for_continues :
+    of_main (int_ 97 ∷ eval (set a (number 0)) ∷ trees.for_loop (unnumbered 0) int_i_0 (Some (less i (number 2))) (Some (after i)) (block (when (op binaries.Equal i
+      (number 0)) (trees.continue (unnumbered 0)) ∷ eval (set a (plus a (number 5))) ∷ [])) ∷ return a ∷ [])
+    ≡ ends 5
 for_continues = refl
 
 -- for(;;){putchar(120);break;} return 4;
-for_ever_breaks : of_main (trees.for_loop (unnumbered 0) no_start None None (block (eval (putchar (number 120)) ∷ trees.break (unnumbered 0) ∷ [])) ∷ return (number 4) ∷ []) ≡ Some (Ended (Calls 0 ∷ Puts 120 ∷ Returns 0 ∷ []) 4)
+for_ever_breaks :
+    of_main (trees.for_loop (unnumbered 0) no_start None None (block (eval (putchar (number 120)) ∷ trees.break (unnumbered 0) ∷ [])) ∷ return (number 4) ∷ [])
+    ≡ Some (Ended (Calls 0 ∷ Puts 120 ∷ Returns 0 ∷ []) 4)
 for_ever_breaks = refl
 
 -- while(1)putchar(120); within 2 turns
@@ -121,7 +131,10 @@ file_scope_written = refl
 
 -- int b; while(b..): a declaration without initialiser does nothing when it is reached again:
 -- int b; b=0; while(b<2){int a; if(b==0)a=9; b=b+1; if(b==2)return a;} return 0;
-reached_again : of_main (int_ 98 ∷ eval (set b (number 0)) ∷ while (less b (number 2)) (block (int_ 97 ∷ when (op binaries.Equal b (number 0)) (eval (set a (number 9))) ∷ eval (set b (plus b (number 1))) ∷ when (op binaries.Equal b (number 2)) (return a) ∷ [])) ∷ return (number 0) ∷ []) ≡ ends 9
+reached_again :
+    of_main (int_ 98 ∷ eval (set b (number 0)) ∷ while (less b (number 2)) (block (int_ 97 ∷ when (op binaries.Equal b (number 0)) (eval (set a (number 9))) ∷ eval
+      (set b (plus b (number 1))) ∷ when (op binaries.Equal b (number 2)) (return a) ∷ [])) ∷ return (number 0) ∷ [])
+    ≡ ends 9
 reached_again = refl
 
 -- ---- calls (6.5.2.2, 6.9.1)
@@ -130,7 +143,9 @@ reached_again = refl
 abbrev f_next : DeclTree
 f_next = defined bases.Int 0 (102 ∷ []) (parameter bases.Int 0 97 ∷ []) (eval (set a (plus a (number 1))) ∷ return a ∷ [])
 
-by_value : outcome (f_next ∷ main_ (int_ 97 ∷ eval (set a (number 5)) ∷ return (plus (op binaries.Multiply (call 102 (a ∷ [])) (number 10)) a) ∷ []) ∷ []) ≡ Some (Ended (Calls 1 ∷ Calls 0 ∷ Returns 0 ∷ Returns 1 ∷ []) 65)
+by_value :
+    outcome (f_next ∷ main_ (int_ 97 ∷ eval (set a (number 5)) ∷ return (plus (op binaries.Multiply (call 102 (a ∷ [])) (number 10)) a) ∷ []) ∷ [])
+    ≡ Some (Ended (Calls 1 ∷ Calls 0 ∷ Returns 0 ∷ Returns 1 ∷ []) 65)
 by_value = refl
 
 -- void f(int *p){*p=3;} with a placed parameter: int f(int a){int *p;p=&a;*p=*p+1;return a;}
@@ -145,7 +160,9 @@ abbrev f_recursive : DeclTree
 f_recursive = defined bases.Int 0 (102 ∷ []) (parameter bases.Int 0 97 ∷ []) (when (op binaries.Equal a (number 0)) (return (number 0)) ∷ return (plus (call 102 (op binaries.Subtract a (number 1) ∷ [])) (number 1)) ∷ [])
 
 -- main is nested one deep, so f(1) is nested three deep
-recursion : outcome (f_recursive ∷ main_ (return (call 102 (number 1 ∷ [])) ∷ []) ∷ []) ≡ Some (Ended (Calls 1 ∷ Calls 0 ∷ Calls 0 ∷ Returns 0 ∷ Returns 0 ∷ Returns 1 ∷ []) 1)
+recursion :
+    outcome (f_recursive ∷ main_ (return (call 102 (number 1 ∷ [])) ∷ []) ∷ [])
+    ≡ Some (Ended (Calls 1 ∷ Calls 0 ∷ Calls 0 ∷ Returns 0 ∷ Returns 0 ∷ Returns 1 ∷ []) 1)
 recursion = refl
 
 recursion_is_short : outcome (f_recursive ∷ main_ (return (call 102 (number 2 ∷ [])) ∷ []) ∷ []) ≡ Some (Short (Calls 1 ∷ Calls 0 ∷ Calls 0 ∷ []))
@@ -166,9 +183,14 @@ status_modulo = refl
 -- ---- initialisers (6.7.9)
 
 -- int a[3]={4,5}; return a[0]*10+a[1]+a[2];
-list_fills : of_main (local bases.Int 0 97 (many 3) (Some (listed (numbers (4 ∷ 5 ∷ [])))) ∷ return (plus (plus (op binaries.Multiply (at a (number 0)) (number 10)) (at a (number 1))) (at a (number 2))) ∷ []) ≡ ends 45
+list_fills :
+    of_main (local bases.Int 0 97 (many 3) (Some (listed (numbers (4 ∷ 5 ∷ [])))) ∷ return (plus (plus (op binaries.Multiply (at a (number 0)) (number 10)) (at a
+      (number 1))) (at a (number 2))) ∷ [])
+    ≡ ends 45
 list_fills = refl
 
 -- int a[2]={7,a[0]+1}; return a[1]; each expression is evaluated just before it is stored
-list_in_order : of_main (local bases.Int 0 97 (many 2) (Some (listed (valued (number 7) ∷ valued (plus (at a (number 0)) (number 1)) ∷ []))) ∷ return (at a (number 1)) ∷ []) ≡ ends 8
+list_in_order :
+    of_main (local bases.Int 0 97 (many 2) (Some (listed (valued (number 7) ∷ valued (plus (at a (number 0)) (number 1)) ∷ []))) ∷ return (at a (number 1)) ∷ [])
+    ≡ ends 8
 list_in_order = refl

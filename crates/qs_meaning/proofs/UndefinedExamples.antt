@@ -53,11 +53,17 @@ pointer_of_int : of_main (int_ 97 ∷ eval (set a (number 0)) ∷ return (op Equ
 pointer_of_int = refl
 
 -- struct s {char m;int n;}; int main(void){struct s a;struct s b;a.n=7;b=a;return b.n;}
-copied_cells : outcome (struct_s ∷ main_ (local s_base 0 97 one None ∷ local s_base 0 98 one None ∷ eval (set (dot a 110) (number 7)) ∷ eval (set b a) ∷ return (dot b 110) ∷ []) ∷ []) ≡ ends 7
+copied_cells :
+    outcome (struct_s ∷ main_ (local s_base 0 97 one None ∷ local s_base 0 98 one None ∷ eval (set (dot a 110) (number 7)) ∷ eval (set b a) ∷ return (dot b 110) ∷ [])
+      ∷ [])
+    ≡ ends 7
 copied_cells = refl
 
 -- the same with return b.m; an unset cell is copied as it is
-copied_unset_cell : outcome (struct_s ∷ main_ (local s_base 0 97 one None ∷ local s_base 0 98 one None ∷ eval (set (dot a 110) (number 7)) ∷ eval (set b a) ∷ return (dot b 109) ∷ []) ∷ []) ≡ stuck
+copied_unset_cell :
+    outcome (struct_s ∷ main_ (local s_base 0 97 one None ∷ local s_base 0 98 one None ∷ eval (set (dot a 110) (number 7)) ∷ eval (set b a) ∷ return (dot b 109) ∷ [])
+      ∷ [])
+    ≡ stuck
 copied_unset_cell = refl
 
 -- ---- 2: division or remainder by zero, and of the least int by -1
@@ -138,15 +144,21 @@ through_null : of_main (pointer_ 112 ∷ eval (set p (number 0)) ∷ return (der
 through_null = refl
 
 -- char b[8]; *(int *)(b+4)=1; return b[4];
-aligned_access : of_main (local bases.Char 0 98 (many 8) None ∷ eval (set (deref (cast bases.Int 1 (plus b (number 4)))) (number 1)) ∷ return (at b (number 4)) ∷ []) ≡ ends 1
+aligned_access :
+    of_main (local bases.Char 0 98 (many 8) None ∷ eval (set (deref (cast bases.Int 1 (plus b (number 4)))) (number 1)) ∷ return (at b (number 4)) ∷ [])
+    ≡ ends 1
 aligned_access = refl
 
 -- char b[8]; *(int *)(b+2)=1; return b[2];
-misaligned_access : of_main (local bases.Char 0 98 (many 8) None ∷ eval (set (deref (cast bases.Int 1 (plus b (number 2)))) (number 1)) ∷ return (at b (number 2)) ∷ []) ≡ stuck
+misaligned_access :
+    of_main (local bases.Char 0 98 (many 8) None ∷ eval (set (deref (cast bases.Int 1 (plus b (number 2)))) (number 1)) ∷ return (at b (number 2)) ∷ [])
+    ≡ stuck
 misaligned_access = refl
 
 -- char b[3]="ab"; b[0]=99; return b[0];
-array_of_text : of_main (local bases.Char 0 98 (many 3) (Some (valued (text (97 ∷ 98 ∷ [])))) ∷ eval (set (at b (number 0)) (number 99)) ∷ return (at b (number 0)) ∷ []) ≡ ends 99
+array_of_text :
+    of_main (local bases.Char 0 98 (many 3) (Some (valued (text (97 ∷ 98 ∷ [])))) ∷ eval (set (at b (number 0)) (number 99)) ∷ return (at b (number 0)) ∷ [])
+    ≡ ends 99
 array_of_text = refl
 
 -- char *p; p="ab"; p[0]=99; return 0;
@@ -162,7 +174,9 @@ abbrev f_local : DeclTree
 f_local = defined bases.Int 1 (102 ∷ []) [] (int_ 97 ∷ eval (set a (number 1)) ∷ return (address a) ∷ [])
 
 -- int main(void){int *p;p=f();p;return 0;}
-released_pointer_copied : outcome (f_local ∷ main_ (pointer_ 112 ∷ eval (set p (call 102 [])) ∷ eval p ∷ return (number 0) ∷ []) ∷ []) ≡ Some (Ended (Calls 1 ∷ Calls 0 ∷ Returns 0 ∷ Returns 1 ∷ []) 0)
+released_pointer_copied :
+    outcome (f_local ∷ main_ (pointer_ 112 ∷ eval (set p (call 102 [])) ∷ eval p ∷ return (number 0) ∷ []) ∷ [])
+    ≡ Some (Ended (Calls 1 ∷ Calls 0 ∷ Returns 0 ∷ Returns 1 ∷ []) 0)
 released_pointer_copied = refl
 
 -- int main(void){return *f();}
@@ -212,11 +226,16 @@ released_moved : outcome (f_local ∷ main_ (eval (plus (call 102 []) (number 0)
 released_moved = refl
 
 -- struct s {char m;int n;}; int main(void){struct s a;struct s *q;q=&a;&q->n;return 0;}
-member_address : outcome (struct_s ∷ main_ (local s_base 0 97 one None ∷ local s_base 1 113 one None ∷ eval (set q (address a)) ∷ eval (address (arrow q 110)) ∷ return (number 0) ∷ []) ∷ []) ≡ ends 0
+member_address :
+    outcome (struct_s ∷ main_ (local s_base 0 97 one None ∷ local s_base 1 113 one None ∷ eval (set q (address a)) ∷ eval (address (arrow q 110)) ∷ return (number 0)
+      ∷ []) ∷ [])
+    ≡ ends 0
 member_address = refl
 
 -- the same with q=0; also the first member
-null_member_address : outcome (struct_s ∷ main_ (local s_base 1 113 one None ∷ eval (set q (number 0)) ∷ eval (address (arrow q 109)) ∷ return (number 0) ∷ []) ∷ []) ≡ stuck
+null_member_address :
+    outcome (struct_s ∷ main_ (local s_base 1 113 one None ∷ eval (set q (number 0)) ∷ eval (address (arrow q 109)) ∷ return (number 0) ∷ []) ∷ [])
+    ≡ stuck
 null_member_address = refl
 
 -- int a[2]; int *p; p=0; (p=a,1)+p; return 0;
@@ -288,7 +307,9 @@ released_and_null : outcome (f_local ∷ main_ (return (op Equal (call 102 []) (
 released_and_null = refl
 
 -- int main(void){if(f())return 1;return 0;}
-truth_of_released : outcome (f_local ∷ main_ (when (call 102 []) (return (number 1)) ∷ return (number 0) ∷ []) ∷ []) ≡ Some (Undefined (Calls 1 ∷ Calls 0 ∷ Returns 0 ∷ []))
+truth_of_released :
+    outcome (f_local ∷ main_ (when (call 102 []) (return (number 1)) ∷ return (number 0) ∷ []) ∷ [])
+    ≡ Some (Undefined (Calls 1 ∷ Calls 0 ∷ Returns 0 ∷ []))
 truth_of_released = refl
 
 -- int a[2]; if(a+2)return 1; return 0;
@@ -351,9 +372,13 @@ no_result_discarded : outcome (f_maybe ∷ main_ (eval (call 102 (number 0 ∷ [
 no_result_discarded = refl
 
 -- int main(void){int b;b=1;return f(b)+(b=0);}
-result_before_set : outcome (f_maybe ∷ main_ (int_ 98 ∷ eval (set b (number 1)) ∷ return (plus (call 102 (b ∷ [])) (set b (number 0))) ∷ []) ∷ []) ≡ Some (Ended (Calls 1 ∷ Calls 0 ∷ Returns 0 ∷ Returns 1 ∷ []) 1)
+result_before_set :
+    outcome (f_maybe ∷ main_ (int_ 98 ∷ eval (set b (number 1)) ∷ return (plus (call 102 (b ∷ [])) (set b (number 0))) ∷ []) ∷ [])
+    ≡ Some (Ended (Calls 1 ∷ Calls 0 ∷ Returns 0 ∷ Returns 1 ∷ []) 1)
 result_before_set = refl
 
 -- int main(void){int b;b=1;return (b=0)+f(b);}
-result_behind_set : outcome (f_maybe ∷ main_ (int_ 98 ∷ eval (set b (number 1)) ∷ return (plus (set b (number 0)) (call 102 (b ∷ []))) ∷ []) ∷ []) ≡ Some (Undefined (Calls 1 ∷ Calls 0 ∷ Returns 0 ∷ []))
+result_behind_set :
+    outcome (f_maybe ∷ main_ (int_ 98 ∷ eval (set b (number 1)) ∷ return (plus (set b (number 0)) (call 102 (b ∷ []))) ∷ []) ∷ [])
+    ≡ Some (Undefined (Calls 1 ∷ Calls 0 ∷ Returns 0 ∷ []))
 result_behind_set = refl

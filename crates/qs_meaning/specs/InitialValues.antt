@@ -14,12 +14,12 @@ use Rattle.qs_types.specs.Contexts.{Entity, local_variable, file_variable, funct
 use Rattle.qs_types.specs.Expressions.{is_null_constant}
 use Rattle.qs_types.specs.Constants.{constant_of}
 use Rattle.qs_types.specs.Declarations.{text_of}
+use Rattle.qs_types.specs.References.{TextBlock}
 use Rattle.qs_meaning.specs.Typed.{Object, local, static, StaticBlock}
 use Rattle.qs_meaning.specs.Conversions.{scalar_of}
 use Rattle.qs_meaning.specs.Names.{Scope, file_variable_object, text_object}
 use Rattle.qs_meaning.specs.Blanks.{blank_of}
 use Rattle.qs_meaning.specs.Initialisers.{Piece, pieces}
-use Rattle.qs_meaning.specs.Texts.{Text}
 
 -- ---- constants (6.6)
 
@@ -96,5 +96,5 @@ abbrev pub variable_block : Scope → TypeTree → Option InitialiserTree → Op
 variable_block s t i = initial_cells s t i >>= λ cells. Some (record { cells = cells; writable = true })
 
 -- 6.4.5p7: a text isn't written to
-abbrev pub text_block : Text → StaticBlock
+abbrev pub text_block : TextBlock → StaticBlock
 text_block t = record { cells = text_cells t.bytes; writable = false }

@@ -7,7 +7,6 @@ pub mod Expressions
 pub mod Blanks
 pub mod Initialisers
 pub mod Statements
-pub mod Texts
 pub mod InitialValues
 pub mod Units
 pub mod States

@@ -5,9 +5,9 @@ use Rattle.qs_syntax.specs.Trees.{ExprTree, InitialiserTree, VariableTree, Start
 use Rattle.qs_syntax.specs.Trees as trees
 use Rattle.qs_types.specs.Types.{TypeTree}
 use Rattle.qs_memory.specs.Partial.{◌>>=◌}
-use Rattle.qs_types.specs.Contexts.{inner_scope}
+use Rattle.qs_types.specs.Contexts.{inner_scope, inside_loop}
 use Rattle.qs_types.specs.Declarations.{variable_declared}
-use Rattle.qs_types.specs.StatementRules.{after_variable, after_start, after_statement, for_scope}
+use Rattle.qs_types.specs.StatementRules.{after_variable, after_statement, for_context}
 use Rattle.qs_meaning.specs.Typed.{Expr, Effect, nothing, in_order, Stmt, evaluate, block, branch, while_loop, do_loop, for_loop, break, continue, return, return_nothing, Stmts, no_stmts, stmt_and}
 use Rattle.qs_meaning.specs.Conversions.{conversion}
 use Rattle.qs_meaning.specs.Forms.{lvalue, Typed, type_in_use, value_in_use, effect_in_use}
@@ -65,15 +65,16 @@ return_typed s (Some e) = s.context.result >>= λ t. typed s e >>= λ a. Some (r
 
 -- ---- statements
 
+-- 6.8.2, 6.8.4p3, 6.8.5p5: blocks, the statements that are parts of others, and a `for` are scopes
 abbrev pub inner : Scope → Scope
 inner s = within s (inner_scope s.context)
 
--- what is known in the whole of a `for` behind its first part (6.8.5.3p1)
-abbrev pub before_for : Scope → StartTree → Scope
-before_for s start = within s (for_scope s.context start)
+abbrev pub loop_body : Scope → Scope
+loop_body s = within s (inside_loop (inner_scope s.context))
 
+-- 6.8.5.3p1: what the first part of a `for` declares is known in the others
 abbrev pub in_for : Scope → StartTree → Scope
-in_for s start = within s (after_start (for_scope s.context start) start)
+in_for s start = within s (for_context s.context start)
 
 abbrev mutual
   pub statement_typed : Scope → StmtTree → Option Stmt
@@ -82,12 +83,12 @@ abbrev mutual
   statement_typed s (trees.expression node e) = effect_typed s e >>= λ a. Some (evaluate a)
   statement_typed s (trees.empty node) = Some (evaluate nothing)
   statement_typed s (trees.branch node e t r) =
-      condition_typed s e >>= λ c. statement_typed s t >>= λ a. else_typed s r >>= λ b. Some (branch c a b)
-  statement_typed s (trees.while_loop node e t) = condition_typed s e >>= λ c. statement_typed s t >>= λ b. Some (while_loop c b)
-  statement_typed s (trees.do_loop node t e) = statement_typed s t >>= λ b. condition_typed s e >>= λ c. Some (do_loop b c)
+      condition_typed s e >>= λ c. statement_typed (inner s) t >>= λ a. else_typed s r >>= λ b. Some (branch c a b)
+  statement_typed s (trees.while_loop node e t) = condition_typed s e >>= λ c. statement_typed (loop_body s) t >>= λ b. Some (while_loop c b)
+  statement_typed s (trees.do_loop node t e) = statement_typed (loop_body s) t >>= λ b. condition_typed s e >>= λ c. Some (do_loop b c)
   statement_typed s (trees.for_loop node start e u t) =
-      start_typed (before_for s start) start >>= λ a. option_condition (in_for s start) e >>= λ c.
-      option_effect (in_for s start) u >>= λ b. statement_typed (in_for s start) t >>= λ d. Some (for_loop a c b d)
+      start_typed (inner s) start >>= λ a. option_condition (in_for s start) e >>= λ c.
+      option_effect (in_for s start) u >>= λ b. statement_typed (loop_body (in_for s start)) t >>= λ d. Some (for_loop a c b d)
   statement_typed s (trees.break node) = Some break
   statement_typed s (trees.continue node) = Some continue
   statement_typed s (trees.return node e) = return_typed s e
@@ -99,4 +100,4 @@ abbrev mutual
 
   pub else_typed : Scope → Else → Option Stmt
   else_typed s no_else = Some (evaluate nothing)
-  else_typed s (else_by t) = statement_typed s t
+  else_typed s (else_by t) = statement_typed (inner s) t

@@ -10,16 +10,16 @@ use Rattle.qs_memory.specs.Memory.{unset, Block, overlaid, Memory}
 use Rattle.qs_types.specs.Types.{TypeTree, Structs}
 use Rattle.qs_types.specs.Layout.{size_of}
 use Rattle.qs_types.specs.GivenFunctions.{main_name}
-use Rattle.qs_types.specs.Contexts.{Context, start_context}
-use Rattle.qs_types.specs.Declarations.{variable_declared, parameter_declared}
+use Rattle.qs_types.specs.Contexts.{start_context, inner_scope}
+use Rattle.qs_types.specs.Declarations.{variable_declared}
 use Rattle.qs_types.specs.StatementRules.{after_variable}
-use Rattle.qs_types.specs.UnitRules.{body_context, after_function, after_declaration}
+use Rattle.qs_types.specs.UnitRules.{parameter_types, body_context, after_declaration}
 use Rattle.qs_types.specs.Placed.{Local, addressed_in, locals_in, is_placed}
+use Rattle.qs_types.specs.References.{TextBlock, literal_blocks}
 use Rattle.qs_meaning.specs.Typed.{Expr, pointer_to, Lvalue, variable, object, Object, local, static, Parameter, plain, placed, Function, StaticBlock, TypedUnit}
 use Rattle.qs_meaning.specs.Conversions.{scalar_of}
 use Rattle.qs_meaning.specs.Names.{Locals, Statics, Scope, within, local_lvalue}
 use Rattle.qs_meaning.specs.InitialValues.{variable_block, text_block}
-use Rattle.qs_meaning.specs.Texts.{Text, unit_texts}
 use Rattle.qs_meaning.specs.Statements.{statements_typed}
 
 -- ---- the locals of a function
@@ -56,14 +56,16 @@ abbrev pub parameter_by : Scalar → Lvalue → Option Parameter
 parameter_by type (variable x) = Some (plain x)
 parameter_by type (object p) = parameter_in_object type p
 
-abbrev pub parameter_typed : Context → Locals → ParameterTree → Option Parameter
-parameter_typed c locals p = (parameter_declared c p).type >>= λ t. parameter_by (scalar_of t) (local_lvalue locals p.node.id)
+abbrev pub parameter_typed : Locals → ParameterTree → Option TypeTree → Option Parameter
+parameter_typed locals p type = type >>= λ t. parameter_by (scalar_of t) (local_lvalue locals p.node.id)
 
-abbrev pub parameters_typed : Context → Locals → List ParameterTree → Option (List Parameter)
-parameters_typed c locals [] = Some []
-parameters_typed c locals (p ∷ ps) = parameter_typed c locals p >>= λ now. parameters_typed c locals ps >>= λ rest. Some (now ∷ rest)
+abbrev pub parameters_typed : Locals → List ParameterTree → List (Option TypeTree) → Option (List Parameter)
+parameters_typed locals [] [] = Some []
+parameters_typed locals [] (t ∷ ts) = None
+parameters_typed locals (p ∷ ps) [] = None
+parameters_typed locals (p ∷ ps) (t ∷ ts) = parameter_typed locals p t >>= λ now. parameters_typed locals ps ts >>= λ rest. Some (now ∷ rest)
 
--- ---- functions (6.9.1); the scope is that behind the header
+-- ---- functions (6.9.1); the scope is that before the header
 
 abbrev pub in_body : Scope → FunctionTree → Locals → Scope
 in_body s f locals = record s { context = body_context s.context f; locals = locals }
@@ -71,7 +73,7 @@ in_body s f locals = record s { context = body_context s.context f; locals = loc
 -- the function, where these are its locals, and the operands of `&` among them
 abbrev pub function_with : Scope → FunctionTree → trees.Stmts → (addressed : List ℕ) → List Local → Option Function
 function_with s f body addressed ls =
-    parameters_typed s.context (locals_of addressed ls) f.parameters >>= λ parameters.
+    parameters_typed (locals_of addressed ls) f.parameters (parameter_types (inner_scope s.context) f.parameters) >>= λ parameters.
     scalars_of (plain_among addressed ls) >>= λ scalars.
     sizes_of s.context.structs (placed_among addressed ls) >>= λ sizes.
     statements_typed (in_body s f (locals_of addressed ls)) body >>= λ statements.
@@ -109,7 +111,7 @@ no_blocks functions = functions >>= λ fs. Some (record { functions = fs; blocks
 abbrev pub declaration_typed : Scope → DeclTree → Option TypedUnit
 declaration_typed s (structure d) = Some (record { functions = []; blocks = [] })
 declaration_typed s (forward d) = Some (record { functions = []; blocks = [] })
-declaration_typed s (function f) = no_blocks (function_typed (within s (after_function s.context f)) f f.body)
+declaration_typed s (function f) = no_blocks (function_typed s f f.body)
 declaration_typed s (variables d) = no_functions (file_variables_typed s d.base d.variables)
 
 abbrev pub declarations_typed : Scope → UnitTree → Option TypedUnit
@@ -140,21 +142,18 @@ functions_in (forward d ∷ ds) = functions_in ds
 functions_in (function f ∷ ds) = name_with_body f.name f.body ++ functions_in ds
 functions_in (variables d ∷ ds) = functions_in ds
 
-abbrev pub texts_of : UnitTree → List Text
-texts_of unit = unit_texts start_context unit
-
 abbrev pub start_scope : UnitTree → Scope
 start_scope unit = record {
   context = start_context;
   locals = record { plain = []; placed = [] };
-  statics = record { variables = file_variables_in unit; texts = map (λ (t : Text). t.node) (texts_of unit) };
+  statics = record { variables = file_variables_in unit; texts = map (λ (t : TextBlock). t.node) (literal_blocks unit) };
   functions = functions_in unit;
 }
 
 -- the typed tree of a unit
 abbrev pub typed_of : UnitTree → Option TypedUnit
 typed_of unit =
-    declarations_typed (start_scope unit) unit >>= λ (u : TypedUnit). Some (record u { blocks = u.blocks ++ map text_block (texts_of unit) })
+    declarations_typed (start_scope unit) unit >>= λ (u : TypedUnit). Some (record u { blocks = u.blocks ++ map text_block (literal_blocks unit) })
 
 -- ---- the memory in which a run begins: the unit's blocks are its first ones
 

@@ -107,13 +107,13 @@ arrow_member = refl
 increment_after :
     typed scope (e (trees.step steps.IncrementAfter c.c))
     ≡ is char (step (update Char (variable 0) add_ints (converted Char Int) unchanged (converted Int Char) one) (stepped_after Char (variable 0) add_ints
-      (converted Char Int) (converted Int Char)))
+    (converted Char Int) (converted Int Char)))
 increment_after = refl
 
 decrement_after :
     typed scope (e (trees.step steps.DecrementAfter c.p))
     ≡ is (pointer int) (step (update Pointer (variable 3) (Move Down signs.Signed 4) unchanged unchanged unchanged one) (stepped_after Pointer (variable 3)
-      (Move Down signs.Signed 4) unchanged unchanged))
+    (Move Down signs.Signed 4) unchanged unchanged))
 decrement_after = refl
 
 -- ---- 6.5.3: ++x, --u, &x, &a, *p, *q as an object, +c, -u, ~c, !p, !c, sizeof a, sizeof (struct s)
@@ -299,7 +299,7 @@ comma_of_array = refl
 comma_of_call :
     typed scope (c.comma (c.call 107 []) (c.after c.c))
     ≡ is char (comma (perform (function 1) no_arguments) char (step (update Char (variable 0) add_ints (converted Char Int) unchanged (converted Int Char) one)
-      (stepped_after Char (variable 0) add_ints (converted Char Int) (converted Int Char))))
+    (stepped_after Char (variable 0) add_ints (converted Char Int) (converted Int Char))))
 comma_of_call = refl
 
 comma_of_assignment :

@@ -73,7 +73,7 @@ list_of_lists = refl
 list_of_struct :
     set_of first (struct 0) (listed (valued u ∷ valued (number 8) ∷ []))
     ≡ Some (in_order (fill blank_s first) (in_order (assign (set Char (object (member 0 first)) (converted Unsigned Char) (value Unsigned (variable 2)))) (in_order
-      (int_at 4 8) nothing)))
+    (int_at 4 8) nothing)))
 list_of_struct = refl
 
 -- struct s w[2]={v};
@@ -98,7 +98,7 @@ text_without_zero = refl
 texts_in_list :
     set_of first (array (array char 3) 2) (listed (valued (text_at 40 (97 ∷ [])) ∷ valued (text_at 41 (98 ∷ 99 ∷ [])) ∷ []))
     ≡ Some (in_order (fill (repeated 2 (repeated 3 (zeros 1))) first) (in_order (copy 2 1 (member 0 first) (pointer_to (static 2))) (in_order (copy 3 1 (member 3 first)
-      (pointer_to (static 3))) nothing)))
+    (pointer_to (static 3))) nothing)))
 texts_in_list = refl
 
 -- ---- file scope: the cells of the blocks of a unit that has only variables
@@ -139,14 +139,14 @@ struct_with_padding = refl
 -- char a[]="x"; char b[2]="x"; char c[1]="x";
 arrays_of_texts :
     blocks_of (global bases.Char 0 97 open_length (Some (valued (text (120 ∷ [])))) ∷ global bases.Char 0 98 (many 2) (Some (valued (text (120 ∷ []))))
-      ∷ global bases.Char 0 99 (many 1) (Some (valued (text (120 ∷ [])))) ∷ [])
+    ∷ global bases.Char 0 99 (many 1) (Some (valued (text (120 ∷ [])))) ∷ [])
     ≡ Some (writable (byte 120 ∷ byte 0 ∷ []) ∷ writable (byte 120 ∷ byte 0 ∷ []) ∷ writable (byte 120 ∷ []) ∷ [])
 arrays_of_texts = refl
 
 -- int a; int *b=&a; int *c=0;
 addresses :
     blocks_of (global bases.Int 0 97 one None ∷ global bases.Int 1 98 one (Some (valued (address (named 97)))) ∷ global bases.Int 1 99 one (Some (valued (number 0)))
-      ∷ [])
+    ∷ [])
     ≡ Some (writable (byte 0 ∷ byte 0 ∷ byte 0 ∷ byte 0 ∷ []) ∷ writable (pointer_cells 0) ∷ writable null_cells ∷ [])
 addresses = refl
 

@@ -7,3 +7,6 @@ mod UndefinedExamples
 mod RunExamples
 mod Related
 mod Growth
+mod Options
+mod Sums
+mod TypedExpressions

@@ -52,7 +52,7 @@ step_after = refl
 -- int a; a=0; 0&&(a=1); 1||(a=2); 1&&(a=a+3); return a;
 short_circuits :
     of_main (int_ 97 ∷ eval (set a (number 0)) ∷ eval (op binaries.And (number 0) (set a (number 1))) ∷ eval (op binaries.Or (number 1) (set a (number 2))) ∷ eval
-      (op binaries.And (number 1) (set a (plus a (number 3)))) ∷ return a ∷ [])
+    (op binaries.And (number 1) (set a (plus a (number 3)))) ∷ return a ∷ [])
     ≡ ends 3
 short_circuits = refl
 
@@ -105,7 +105,7 @@ int_i_0 = start_declaration (record { base = bases.Int; variables = record { dec
 
 for_continues :
     of_main (int_ 97 ∷ eval (set a (number 0)) ∷ trees.for_loop (unnumbered 0) int_i_0 (Some (less i (number 2))) (Some (after i)) (block (when (op binaries.Equal i
-      (number 0)) (trees.continue (unnumbered 0)) ∷ eval (set a (plus a (number 5))) ∷ [])) ∷ return a ∷ [])
+    (number 0)) (trees.continue (unnumbered 0)) ∷ eval (set a (plus a (number 5))) ∷ [])) ∷ return a ∷ [])
     ≡ ends 5
 for_continues = refl
 
@@ -133,7 +133,7 @@ file_scope_written = refl
 -- int b; b=0; while(b<2){int a; if(b==0)a=9; b=b+1; if(b==2)return a;} return 0;
 reached_again :
     of_main (int_ 98 ∷ eval (set b (number 0)) ∷ while (less b (number 2)) (block (int_ 97 ∷ when (op binaries.Equal b (number 0)) (eval (set a (number 9))) ∷ eval
-      (set b (plus b (number 1))) ∷ when (op binaries.Equal b (number 2)) (return a) ∷ [])) ∷ return (number 0) ∷ [])
+    (set b (plus b (number 1))) ∷ when (op binaries.Equal b (number 2)) (return a) ∷ [])) ∷ return (number 0) ∷ [])
     ≡ ends 9
 reached_again = refl
 
@@ -185,7 +185,7 @@ status_modulo = refl
 -- int a[3]={4,5}; return a[0]*10+a[1]+a[2];
 list_fills :
     of_main (local bases.Int 0 97 (many 3) (Some (listed (numbers (4 ∷ 5 ∷ [])))) ∷ return (plus (plus (op binaries.Multiply (at a (number 0)) (number 10)) (at a
-      (number 1))) (at a (number 2))) ∷ [])
+    (number 1))) (at a (number 2))) ∷ [])
     ≡ ends 45
 list_fills = refl
 

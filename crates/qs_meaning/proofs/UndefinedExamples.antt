@@ -55,14 +55,14 @@ pointer_of_int = refl
 -- struct s {char m;int n;}; int main(void){struct s a;struct s b;a.n=7;b=a;return b.n;}
 copied_cells :
     outcome (struct_s ∷ main_ (local s_base 0 97 one None ∷ local s_base 0 98 one None ∷ eval (set (dot a 110) (number 7)) ∷ eval (set b a) ∷ return (dot b 110) ∷ [])
-      ∷ [])
+    ∷ [])
     ≡ ends 7
 copied_cells = refl
 
 -- the same with return b.m; an unset cell is copied as it is
 copied_unset_cell :
     outcome (struct_s ∷ main_ (local s_base 0 97 one None ∷ local s_base 0 98 one None ∷ eval (set (dot a 110) (number 7)) ∷ eval (set b a) ∷ return (dot b 109) ∷ [])
-      ∷ [])
+    ∷ [])
     ≡ stuck
 copied_unset_cell = refl
 
@@ -228,7 +228,7 @@ released_moved = refl
 -- struct s {char m;int n;}; int main(void){struct s a;struct s *q;q=&a;&q->n;return 0;}
 member_address :
     outcome (struct_s ∷ main_ (local s_base 0 97 one None ∷ local s_base 1 113 one None ∷ eval (set q (address a)) ∷ eval (address (arrow q 110)) ∷ return (number 0)
-      ∷ []) ∷ [])
+    ∷ []) ∷ [])
     ≡ ends 0
 member_address = refl
 

@@ -13,3 +13,4 @@ pub mod States
 pub mod Meaning
 pub mod Runs
 pub mod Laws
+pub mod TypedLaws

@@ -105,7 +105,7 @@ summed structs t u =
 -- 6.5.6p3
 abbrev pub subtracted : Structs → (t u : TypeTree) → Option Operated
 subtracted structs t u =
-    if is_pointer u then (element_size structs u >>= λ element. Some (apart element))
+    if is_pointer u then (element_size structs t >>= λ element. Some (apart element))
     else (if is_pointer t then (element_size structs t >>= λ element. Some (moved Down element t u))
     else Some (combined arithmetics.Subtract t u))
 

@@ -1,2 +1,2 @@
-mod RunLaws
-mod WeightLaws
+pub mod RunLaws
+pub mod WeightLaws

@@ -1,9 +1,9 @@
-mod Options
-mod CellLaws
-mod BlockLaws
-mod StoreLaws
-mod StepLaws
-mod SoundLaws
-mod ValueLaws
+pub mod Options
+pub mod CellLaws
+pub mod BlockLaws
+pub mod StoreLaws
+pub mod StepLaws
+pub mod SoundLaws
+pub mod ValueLaws
 mod AccessExamples
 mod OperationExamples

@@ -1,0 +1,9 @@
+//! What a call is, for every language whose runs are over block memory: where its arguments go, the
+//! blocks that it makes and releases, its events, and the two functions that the environment gives.
+#![tactic(auto)]
+
+mod callee;
+mod parameter;
+
+pub use callee::Callee;
+pub use parameter::Parameter;

@@ -1,0 +1,75 @@
+-- What a statement does, by what follows it: next, after a break, after a continue, and after a return. Each run of a loop makes at most
+-- a number of turns; what calls do is given.
+use Rattle.std.specs.Prelude.{ℕ, zero, suc, if◌then◌else◌, Option, Some, None}
+use Rattle.qs_memory.specs.Values.{Pointer, Value, as_pointer}
+use Rattle.qs_memory.specs.Memory as memory
+use Rattle.qs_memory.specs.Pointers.{truth}
+use Rattle.qs_events.specs.Runs.{short, given}
+use Rattle.qs_calls.specs.World.{World, with_memory, RootRun, Return, with_value}
+use Rattle.qs_calls.specs.Calls.{CallsOf, invoke, used}
+use Rattle.qs_core.specs.declared.places.Target.{Target}
+use Rattle.qs_core.specs.declared.places.Target.TheVariants as targets
+use Rattle.qs_core.specs.Trees.{CoreExprTree, CoreStmtTree, skip, seq, assign, store, copy, fill, call, branch, loop, break, continue, return, CoreStmts, no_stmts, stmt_and}
+use Rattle.qs_core.specs.Expressions.{Locals, value, values}
+
+abbrev pub Continuation : Type 0
+Continuation = Locals → World → RootRun
+
+pub record Continuations : Type 0 where
+  pub next : Continuation
+  pub on_break : Continuation
+  pub on_continue : Continuation
+  pub on_return : Return
+
+-- the same all through a body: how many turns each run of a loop may make, and what calls do
+pub record Context : Type 0 where
+  pub turns : ℕ
+  pub calls : CallsOf
+
+abbrev pub assigned : Target → Locals → Value → Locals
+assigned (targets.Variable x) l v = record l { variables = with_value l.variables x v }
+assigned (targets.Temporary k) l v = record l { temporaries = with_value l.temporaries k v }
+
+-- 6.5.2.2: where a call's result goes
+abbrev pub take_result : Option ℕ → Continuation → Locals → Return
+take_result None next l result w = next l w
+take_result (Some k) next l result w = used result (λ v. next (assigned (targets.Temporary k) l v) w)
+
+-- goes on with the pointer that an expression's value is
+abbrev pub given_pointer : CoreExprTree → Locals → World → (Pointer → RootRun) → RootRun
+given_pointer e l w next = given (value e l w.memory) (λ v. given (as_pointer v) next)
+
+-- a loop that makes at most so many turns
+abbrev pub repeated : ℕ → (Continuation → Continuation) → Continuation
+repeated zero turn l w = short
+repeated (suc n) turn l w = turn (repeated n turn) l w
+
+-- what follows the step of a loop, and its body
+abbrev pub after_step : Continuations → Continuation → Continuations
+after_step k again = record { next = again; on_break = k.next; on_continue = again; on_return = k.on_return }
+
+abbrev pub after_body : Continuations → Continuation → Continuations
+after_body k step = record { next = step; on_break = k.next; on_continue = step; on_return = k.on_return }
+
+abbrev mutual
+  pub runs : CoreStmtTree → Context → Continuations → Continuation
+  runs skip c k l w = k.next l w
+  runs (seq ss) c k l w = runs_all ss c k l w
+  runs (assign x e) c k l w = given (value e l w.memory) (λ v. k.next (assigned x l v) w)
+  runs (store s a b) c k l w =
+      given_pointer a l w (λ p. given (value b l w.memory) (λ v. given (memory.store s w.memory p v) (λ m. k.next l (with_memory w m))))
+  runs (copy size alignment a b) c k l w =
+      given_pointer a l w (λ p. given_pointer b l w (λ q. given (memory.copy size alignment w.memory p q) (λ m. k.next l (with_memory w m))))
+  runs (fill blank a) c k l w = given_pointer a l w (λ p. given (memory.fill blank w.memory p) (λ m. k.next l (with_memory w m)))
+  runs (call x f arguments) c k l w = given (values arguments l w.memory) (λ vs. invoke f c.calls vs (take_result x k.next l) w)
+  runs (branch e a b) c k l w =
+      given (value e l w.memory) (λ v. given (truth w.memory v) (λ yes. if yes then runs a c k l w else runs b c k l w))
+  runs (loop body step) c k l w = repeated c.turns (λ again. runs body c (after_body k (runs step c (after_step k again)))) l w
+  runs break c k l w = k.on_break l w
+  runs continue c k l w = k.on_continue l w
+  runs (return None) c k l w = k.on_return None w
+  runs (return (Some e)) c k l w = given (value e l w.memory) (λ v. k.on_return (Some v) w)
+
+  pub runs_all : CoreStmts → Context → Continuations → Continuation
+  runs_all no_stmts c k l w = k.next l w
+  runs_all (stmt_and s ss) c k l w = runs s c (record k { next = runs_all ss c k }) l w

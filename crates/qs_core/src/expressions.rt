@@ -1,0 +1,36 @@
+// Expressions of core. They have no side effects.
+
+use crate::places::Place;
+use qs_memory::{BinaryOperation, Scalar, UnaryOperation};
+
+/// A pure expression. Its conversions are explicit, and sizes and offsets are numbers.
+#[derive(Drop)]
+#[cycle(core_expr)]
+pub enum CoreExpr {
+    /// an integer of this type, as its 32 bits
+    Literal(Scalar, u32),
+    /// a null pointer
+    Null,
+    /// the variable of this type with this number
+    Variable(Scalar, u32),
+    /// the temporary of this type with this number
+    Temporary(Scalar, u32),
+    /// a pointer to the start of a block
+    Address(Place),
+    /// the value of this type that the pointer points to
+    Load(Scalar, Box<CoreExpr>),
+    /// a pointer to the member at this offset of the object that the pointer points to
+    Member(u32, Box<CoreExpr>),
+    /// an operation on a value
+    Unary(UnaryOperation, Box<CoreExpr>),
+    /// an operation on two values
+    Binary(BinaryOperation, Box<CoreExpr>, Box<CoreExpr>),
+    /// a value of this type
+    Convert(Scalar, Box<CoreExpr>),
+    /// `&&`
+    And(Box<CoreExpr>, Box<CoreExpr>),
+    /// `||`
+    Or(Box<CoreExpr>, Box<CoreExpr>),
+    /// `?:`
+    Choice(Box<CoreExpr>, Box<CoreExpr>, Box<CoreExpr>),
+}

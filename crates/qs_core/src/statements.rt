@@ -1,0 +1,36 @@
+// Statements of core.
+
+use crate::expressions::CoreExpr;
+use crate::places::Target;
+use qs_calls::Callee;
+use qs_memory::{Blank, Scalar};
+
+/// A statement.
+#[derive(Drop)]
+#[cycle(core_stmt)]
+pub enum CoreStmt {
+    /// nothing
+    Skip,
+    /// one after the other
+    Seq(Vec<CoreStmt>),
+    /// gives a variable or a temporary the value
+    Assign(Target, CoreExpr),
+    /// stores, as this type, where the first points to, the value of the second
+    Store(Scalar, CoreExpr, CoreExpr),
+    /// copies so many bytes, aligned like this, to where the first points to, from where the second does
+    Copy(u32, u32, CoreExpr, CoreExpr),
+    /// fills the object that the pointer points to
+    Fill(Blank, CoreExpr),
+    /// calls with these arguments, and puts the result into this temporary
+    Call(Option<u32>, Callee, Vec<CoreExpr>),
+    /// the first where the expression isn't 0, else the second
+    If(CoreExpr, Box<CoreStmt>, Box<CoreStmt>),
+    /// the first, its body, then the second, its step, again and again
+    Loop(Box<CoreStmt>, Box<CoreStmt>),
+    /// ends the loop
+    Break,
+    /// goes to the step of the loop
+    Continue,
+    /// ends the function, with this result
+    Return(Option<CoreExpr>),
+}

@@ -15,7 +15,9 @@ use Rattle.qs_memory.specs.declared.operation.Comparison.TheVariants.{Less, Equa
 use Rattle.qs_memory.specs.declared.operation.BinaryOperation.{BinaryOperation}
 use Rattle.qs_memory.specs.declared.operation.BinaryOperation.TheVariants.{Arithmetic, Compare, Move, Difference, ComparePointers}
 use Rattle.qs_types.specs.Types.{int, unsigned, char, void, pointer, array, struct}
-use Rattle.qs_meaning.specs.Typed.{unchanged, converted, as_written, exchanged, function, putchar, getchar, Expr, constant, value, pointer_to, member, called, stepped_after, unary, cast, binary, logical_and, logical_or, conditional, assigned, sequence, variable, object, no_arguments, argument_and, set, update, discard, assign, perform, copy, local, static}
+use Rattle.qs_meaning.specs.Typed.{unchanged, converted, as_written, exchanged, Expr, constant, value, pointer_to, member, called, stepped_after, unary, cast, binary, logical_and, logical_or, conditional, assigned, sequence, variable, object, no_arguments, argument_and, set, update, discard, assign, perform, copy, local, static}
+use Rattle.qs_calls.specs.declared.callee.Callee.{Callee}
+use Rattle.qs_calls.specs.declared.callee.Callee.TheVariants.{Function, PutChar, GetChar}
 use Rattle.qs_meaning.specs.Forms.{lvalue, result, call, assignment, step, struct_assignment, comma}
 use Rattle.qs_meaning.specs.Expressions.{typed}
 use Rattle.qs_meaning.proofs.Samples as c
@@ -23,6 +25,9 @@ use Rattle.qs_meaning.proofs.Samples.{e, number, natural, op, address, deref, at
 use Rattle.qs_meaning.proofs.Known.{scope, is, u, t, x, v, g, h, text_at}
 
 -- ---- words
+
+abbrev function : ℕ → Callee
+function k = Function (record { 0 = k })
 
 abbrev char_c : Expr
 char_c = value Char (variable 0)
@@ -92,10 +97,10 @@ null_argument = refl
 void_call : typed scope (c.call 107 []) ≡ is void (call (function 1) no_arguments)
 void_call = refl
 
-putchar_call : typed scope (c.putchar c.c) ≡ is int (call putchar (argument_and (converted Char Int) char_c no_arguments))
+putchar_call : typed scope (c.putchar c.c) ≡ is int (call PutChar (argument_and (converted Char Int) char_c no_arguments))
 putchar_call = refl
 
-getchar_call : typed scope c.getchar ≡ is int (call getchar no_arguments)
+getchar_call : typed scope c.getchar ≡ is int (call GetChar no_arguments)
 getchar_call = refl
 
 dot_member : typed scope (dot v 110) ≡ is int (lvalue (object (member 4 (pointer_to (local 2)))))

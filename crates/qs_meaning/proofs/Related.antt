@@ -1,147 +1,109 @@
 -- The meaning keeps every relation between runs that events and undefined steps keep: runs with related ends, calls and turns are related.
-use Rattle.std.proofs.Common.{◌≡◌, ℕ, zero, suc, ◌+◌, ◌≤◌, Bool, true, false, List, [], ◌∷◌, length, Option, Some, None, refl, arith, slice_get}
+use Rattle.std.proofs.Common.{◌≡◌, ℕ, zero, suc, Bool, true, false, List, [], ◌∷◌, Option, Some, None}
 use Rattle.qs_memory.specs.declared.scalar.Scalar.{Scalar}
 use Rattle.qs_memory.specs.Partial.{◌>>=◌}
-use Rattle.qs_memory.specs.Values.{Pointer, into, Value, integer, address, as_pointer}
-use Rattle.qs_memory.specs.Memory.{Memory, store, make, release}
+use Rattle.qs_memory.specs.Values.{Value, address, as_pointer}
+use Rattle.qs_memory.specs.Memory.{store}
 use Rattle.qs_memory.specs.Memory as blocks
 use Rattle.qs_memory.specs.Pointers.{member_of, truth}
 use Rattle.qs_memory.specs.Operations.{apply_unary}
-use Rattle.qs_events.specs.Events.{Event, Takes, TakesEnd, Puts}
-use Rattle.qs_events.specs.Events as events
-use Rattle.qs_events.specs.Runs.{emit, undefined, given}
-use Rattle.qs_meaning.specs.Typed.{Conversion, unchanged, Callee, function, putchar, getchar, Expr, constant, value, pointer_to, member, called, stepped_after, unary, cast, binary, logical_and, logical_or, conditional, assigned, sequence, Lvalue, variable, object, Arguments, no_arguments, argument_and, Assignment, set, update, Effect, nothing, discard, assign, perform, copy, fill, in_order, Stmt, evaluate, block, branch, while_loop, do_loop, for_loop, break, continue, return, return_nothing, Stmts, no_stmts, stmt_and, Parameter, plain, placed, Function}
-use Rattle.qs_meaning.specs.States.{Variables, no_variables, put, World, in_memory, SourceRun, Next, Return, Calls, Here, choose, test, convert_by, conversion_then, Place, in_variable, in_object, read, write}
-use Rattle.qs_meaning.specs.Meaning.{take_byte, put_byte, call, operated, updated, one, expression, lvalue, arguments, assignment, effect, Targets, in_loop, turns, condition, for_condition, statement, statements}
-use Rattle.qs_meaning.specs.Runs.{bind, result_at_end, nowhere, targets, leave, body, entered}
+use Rattle.qs_calls.specs.World.{World, with_memory, Environment, with_value}
+use Rattle.qs_calls.specs.Calls.{CallsOf}
+use Rattle.qs_calls.specs.Relations.{Relation, Keeps, ReturnsRelated, CallsRelated, BodiesRelated}
+use Rattle.qs_calls.proofs.RelationLaws.{given_related, invoke_related}
+use Rattle.qs_meaning.specs.Typed.{Conversion, unchanged, Expr, constant, value, pointer_to, member, called, stepped_after, unary, cast, binary, logical_and, logical_or, conditional, assigned, sequence, Lvalue, variable, object, Arguments, no_arguments, argument_and, Assignment, set, update, Effect, nothing, discard, assign, perform, copy, fill, in_order, Stmt, evaluate, block, branch, while_loop, do_loop, for_loop, break, continue, return, return_nothing, Stmts, no_stmts, stmt_and, Function}
+use Rattle.qs_meaning.specs.States.{Next, Here, choose, test, convert_by, conversion_then, Place, in_variable, in_object, read, write}
+use Rattle.qs_meaning.specs.Meaning.{operated, updated, one, expression, lvalue, arguments, assignment, effect, Targets, in_loop, turns, condition, for_condition, statement, statements}
+use Rattle.qs_meaning.specs.Runs.{body_of}
 
-module _ (R : SourceRun → SourceRun → Type 0) where
-  pub record Keeps : Type 0 where
-    pub emit : (event : Event) (o p : SourceRun) → R o p → R (emit event o) (emit event p)
-    pub undefined : R undefined undefined
-
+module _ (R : Relation) where
   abbrev pub NextRelated : Next → Next → Type 0
-  NextRelated k l = (v : Variables) (w : World) → R (k v w) (l v w)
-
-  abbrev pub ReturnRelated : Return → Return → Type 0
-  ReturnRelated k l = (result : Option Value) (w : World) → R (k result w) (l result w)
+  NextRelated k l = (v : Environment) (w : World) → R (k v w) (l v w)
 
   pub record TargetsRelated (t u : Targets) : Type 0 where
     pub behind : NextRelated t.behind u.behind
     pub at_break : NextRelated t.at_break u.at_break
     pub at_continue : NextRelated t.at_continue u.at_continue
-    pub at_return : ReturnRelated t.at_return u.at_return
-
-  abbrev pub CallsRelated : Calls → Calls → Type 0
-  CallsRelated c d = (f : ℕ) (xs : List Value) (k l : Return) → ReturnRelated k l → (w : World) → R (c f xs k w) (d f xs l w)
+    pub at_return : ReturnsRelated R t.at_return u.at_return
 
   abbrev pub TurnsRelated : ℕ → ℕ → Type 0
   TurnsRelated m n = (t u : Next → Next) → ((k l : Next) → NextRelated k l → NextRelated (t k) (u l)) → NextRelated (turns m t) (turns n u)
 
-  module _ (keeps : Keeps) where
-    pub given_related : {A : Type 0} → (o : Option A) (f g : A → SourceRun) → ((x : A) → R (f x) (g x)) → R (given o f) (given o g)
-    given_related None f g h = keeps.undefined
-    given_related (Some x) f g h = h x
-
+  module _ (keeps : Keeps R) where
     choose_related : (b : Bool) (k k' l l' : Next) → NextRelated k l → NextRelated k' l' → NextRelated (choose b k k') (choose b l l')
     choose_related true k k' l l' h i = h
     choose_related false k k' l l' h i = i
 
     test_related : (x : Value) (k k' l l' : Next) → NextRelated k l → NextRelated k' l' → NextRelated (test x k k') (test x l l')
-    test_related x k k' l l' h i v w = given_related (truth w.memory x) _ _ (λ b. choose_related b k k' l l' h i v w)
+    test_related x k k' l l' h i v w = given_related R keeps (truth w.memory x) _ _ (λ b. choose_related b k k' l l' h i v w)
 
     write_related : (s : Scalar) (p : Place) (y : Value) (k l : Next) → NextRelated k l → NextRelated (write s p y k) (write s p y l)
-    write_related s (in_variable x) y k l h v w = h (put v x y) w
-    write_related s (in_object p) y k l h v w = given_related (store s w.memory p y) _ _ (λ m. h v (in_memory w m))
-
-    take_byte_related : (bytes : List ℕ) (k l : Return) → ReturnRelated k l → (w : World) → R (take_byte bytes k w) (take_byte bytes l w)
-    take_byte_related [] k l h w = keeps.emit _ _ _ (h _ _)
-    take_byte_related (b ∷ bs) k l h w = keeps.emit _ _ _ (h _ _)
-
-    put_byte_related : (xs : List Value) (k l : Return) → ReturnRelated k l → (w : World) → R (put_byte xs k w) (put_byte xs l w)
-    put_byte_related [] k l h w = keeps.undefined
-    put_byte_related (integer n ∷ []) k l h w = keeps.emit _ _ _ (h _ _)
-    put_byte_related (integer n ∷ x ∷ xs) k l h w = keeps.undefined
-    put_byte_related (address p ∷ xs) k l h w = keeps.undefined
-
-    bind_related : (ps : List Parameter) (xs : List Value) (first_block : ℕ) (k l : Next) → NextRelated k l
-        → NextRelated (bind ps xs first_block k) (bind ps xs first_block l)
-    bind_related [] [] first_block k l h v w = h v w
-    bind_related [] (x ∷ xs) first_block k l h v w = keeps.undefined
-    bind_related (plain i ∷ ps) [] first_block k l h v w = keeps.undefined
-    bind_related (placed i s ∷ ps) [] first_block k l h v w = keeps.undefined
-    bind_related (plain i ∷ ps) (x ∷ xs) first_block k l h v w = bind_related ps xs first_block k l h (put v i x) w
-    bind_related (placed i s ∷ ps) (x ∷ xs) first_block k l h v w =
-        given_related (store s w.memory (into (first_block + i) 0) x) _ _ (λ m. bind_related ps xs first_block k l h v (in_memory w m))
+    write_related s (in_variable x) y k l h v w = h (with_value v x y) w
+    write_related s (in_object p) y k l h v w = given_related R keeps (store s w.memory p y) _ _ (λ m. h v (with_memory w m))
 
     -- a call seen with two bounds
-    module _ (m n : ℕ) (first_block : ℕ) (turns_related : TurnsRelated m n) (c d : Calls) (calls_related : CallsRelated c d) where
+    module _ (m n : ℕ) (turns_related : TurnsRelated m n) (c d : CallsOf) (calls_related : CallsRelated R c d) (first_block : ℕ) where
       abbrev here : Here
       here = record { turns = m; first_block = first_block; calls = c }
 
       abbrev there : Here
       there = record { turns = n; first_block = first_block; calls = d }
 
-      call_related : (f : Callee) (xs : List Value) (k l : Return) → ReturnRelated k l → (w : World) → R (call f here xs k w) (call f there xs l w)
-      call_related (function f) xs k l h w = calls_related f xs k l h w
-      call_related putchar xs k l h w = put_byte_related xs k l h w
-      call_related getchar xs k l h w = take_byte_related w.input k l h w
-
       mutual
         expression_related : (a : Expr) (k l : Value → Next) → ((x : Value) → NextRelated (k x) (l x)) → NextRelated (expression a here k) (expression a there l)
         expression_related (constant s i) k l h v w = h _ v w
-        expression_related (value s a) k l h v w = lvalue_related a _ _ (λ p v w. given_related (read s p v w) _ _ (λ x. h x v w)) v w
+        expression_related (value s a) k l h v w = lvalue_related a _ _ (λ p v w. given_related R keeps (read s p v w) _ _ (λ x. h x v w)) v w
         expression_related (pointer_to o) k l h v w = h _ v w
         expression_related (member offset a) k l h v w =
-            expression_related a _ _ (λ x v w. given_related (as_pointer x >>= λ p. member_of w.memory p offset) _ _ (λ p. h (address p) v w)) v w
+            expression_related a _ _ (λ x v w. given_related R keeps (as_pointer x >>= λ p. member_of w.memory p offset) _ _ (λ p. h (address p) v w)) v w
         expression_related (called s f es) k l h v w =
-            arguments_related es _ _ (λ xs v w. call_related f xs _ _ (λ result w. given_related result _ _ (λ x. h x v w)) w) v w
+            arguments_related es _ _ (λ xs v w. invoke_related R keeps f c d calls_related xs _ _ (λ result w. given_related R keeps result _ _ (λ x. h x v w)) w) v w
         expression_related (stepped_after s a operation left back) k l h v w =
-            lvalue_related a _ _ (λ p v w. given_related (read s p v w) _ _ (λ x.
-            given_related (updated operation left unchanged back w.memory x one) _ _ (λ y. write_related s p y _ _ (h x) v w))) v w
+            lvalue_related a _ _ (λ p v w. given_related R keeps (read s p v w) _ _ (λ x.
+            given_related R keeps (updated operation left unchanged back w.memory x one) _ _ (λ y. write_related s p y _ _ (h x) v w))) v w
         expression_related (unary operation i a) k l h v w =
-            expression_related a _ _ (λ x v w. given_related (convert_by i x >>= λ x. apply_unary operation w.memory x) _ _ (λ y. h y v w)) v w
-        expression_related (cast i a) k l h v w = expression_related a _ _ (λ x v w. given_related (convert_by i x) _ _ (λ y. h y v w)) v w
+            expression_related a _ _ (λ x v w. given_related R keeps (convert_by i x >>= λ x. apply_unary operation w.memory x) _ _ (λ y. h y v w)) v w
+        expression_related (cast i a) k l h v w = expression_related a _ _ (λ x v w. given_related R keeps (convert_by i x) _ _ (λ y. h y v w)) v w
         expression_related (binary operation order left right a b) k l h v w =
             expression_related a _ _ (λ x. expression_related b _ _ (λ y v w.
-            given_related (operated operation order left right w.memory x y) _ _ (λ z. h z v w))) v w
+            given_related R keeps (operated operation order left right w.memory x y) _ _ (λ z. h z v w))) v w
         expression_related (logical_and a b) k l h v w =
             expression_related a _ _ (λ x. test_related x _ _ _ _ (expression_related b _ _ (λ y. test_related y _ _ _ _ (h _) (h _))) (h _)) v w
         expression_related (logical_or a b) k l h v w =
             expression_related a _ _ (λ x. test_related x _ _ _ _ (h _) (expression_related b _ _ (λ y. test_related y _ _ _ _ (h _) (h _)))) v w
         expression_related (conditional s a i j b e) k l h v w =
             expression_related a _ _ (λ x. test_related x _ _ _ _
-            (expression_related b _ _ (λ y v w. given_related (convert_by i y) _ _ (λ z. h z v w)))
-            (expression_related e _ _ (λ y v w. given_related (convert_by j y) _ _ (λ z. h z v w)))) v w
+            (expression_related b _ _ (λ y v w. given_related R keeps (convert_by i y) _ _ (λ z. h z v w)))
+            (expression_related e _ _ (λ y v w. given_related R keeps (convert_by j y) _ _ (λ z. h z v w)))) v w
         expression_related (assigned a) k l h v w = assignment_related a k l h v w
         expression_related (sequence a b) k l h v w = effect_related a _ _ (expression_related b k l h) v w
 
         lvalue_related : (a : Lvalue) (k l : Place → Next) → ((p : Place) → NextRelated (k p) (l p)) → NextRelated (lvalue a here k) (lvalue a there l)
         lvalue_related (variable x) k l h v w = h _ v w
-        lvalue_related (object a) k l h v w = expression_related a _ _ (λ x v w. given_related (as_pointer x) _ _ (λ p. h _ v w)) v w
+        lvalue_related (object a) k l h v w = expression_related a _ _ (λ x v w. given_related R keeps (as_pointer x) _ _ (λ p. h _ v w)) v w
 
         arguments_related : (es : Arguments) (k l : List Value → Next) → ((xs : List Value) → NextRelated (k xs) (l xs)) → NextRelated (arguments es here k) (arguments es there l)
         arguments_related no_arguments k l h v w = h _ v w
         arguments_related (argument_and i a es) k l h v w =
-            expression_related a _ _ (λ x v w. given_related (convert_by i x) _ _ (λ y. arguments_related es _ _ (λ ys. h _) v w)) v w
+            expression_related a _ _ (λ x v w. given_related R keeps (convert_by i x) _ _ (λ y. arguments_related es _ _ (λ ys. h _) v w)) v w
 
         assignment_related : (a : Assignment) (k l : Value → Next) → ((x : Value) → NextRelated (k x) (l x)) → NextRelated (assignment a here k) (assignment a there l)
         assignment_related (set s a i b) k l h v w =
-            lvalue_related a _ _ (λ p. expression_related b _ _ (λ x v w. given_related (convert_by i x) _ _ (λ y. write_related s p y _ _ (h y) v w))) v w
+            lvalue_related a _ _ (λ p. expression_related b _ _ (λ x v w. given_related R keeps (convert_by i x) _ _ (λ y. write_related s p y _ _ (h y) v w))) v w
         assignment_related (update s a operation left right back b) k l h v w =
-            lvalue_related a _ _ (λ p v w. given_related (read s p v w) _ _ (λ x.
-            expression_related b _ _ (λ y v w. given_related (updated operation left right back w.memory x y) _ _ (λ z. write_related s p z _ _ (h z) v w)) v w)) v w
+            lvalue_related a _ _ (λ p v w. given_related R keeps (read s p v w) _ _ (λ x.
+            expression_related b _ _ (λ y v w. given_related R keeps (updated operation left right back w.memory x y) _ _ (λ z. write_related s p z _ _ (h z) v w)) v w)) v w
 
         effect_related : (a : Effect) (k l : Next) → NextRelated k l → NextRelated (effect a here k) (effect a there l)
         effect_related nothing k l h v w = h v w
         effect_related (discard a) k l h v w = expression_related a _ _ (λ x. h) v w
         effect_related (assign a) k l h v w = assignment_related a _ _ (λ x. h) v w
-        effect_related (perform f es) k l h v w = arguments_related es _ _ (λ xs v w. call_related f xs _ _ (λ result w. h v w) w) v w
+        effect_related (perform f es) k l h v w = arguments_related es _ _ (λ xs v w. invoke_related R keeps f c d calls_related xs _ _ (λ result w. h v w) w) v w
         effect_related (copy size alignment a b) k l h v w =
             expression_related a _ _ (λ x. expression_related b _ _ (λ y v w.
-            given_related (as_pointer x >>= λ to. as_pointer y >>= λ from. blocks.copy size alignment w.memory to from) _ _ (λ m. h v (in_memory w m)))) v w
+            given_related R keeps (as_pointer x >>= λ to. as_pointer y >>= λ from. blocks.copy size alignment w.memory to from) _ _ (λ m. h v (with_memory w m)))) v w
         effect_related (fill blank a) k l h v w =
-            expression_related a _ _ (λ x v w. given_related (as_pointer x >>= λ p. blocks.fill blank w.memory p) _ _ (λ m. h v (in_memory w m))) v w
+            expression_related a _ _ (λ x v w. given_related R keeps (as_pointer x >>= λ p. blocks.fill blank w.memory p) _ _ (λ m. h v (with_memory w m))) v w
         effect_related (in_order a b) k l h v w = effect_related a _ _ (effect_related b k l h) v w
 
       condition_related : (e : Expr) (k k' l l' : Next) → NextRelated k l → NextRelated k' l' → NextRelated (condition e here k k') (condition e there l l')
@@ -169,7 +131,7 @@ module _ (R : SourceRun → SourceRun → Type 0) where
         statement_related break t u h v w = h.at_break v w
         statement_related continue t u h v w = h.at_continue v w
         statement_related (return i a) t u h v w =
-            expression_related a _ _ (λ x v w. given_related (convert_by i x) _ _ (λ y. h.at_return (Some y) w)) v w
+            expression_related a _ _ (λ x v w. given_related R keeps (convert_by i x) _ _ (λ y. h.at_return (Some y) w)) v w
         statement_related return_nothing t u h v w = h.at_return None w
 
         statements_related : (ss : Stmts) (t u : Targets) → TargetsRelated t u → NextRelated (statements ss here t) (statements ss there u)
@@ -177,15 +139,7 @@ module _ (R : SourceRun → SourceRun → Type 0) where
         statements_related (stmt_and s ss) t u h v w =
             statement_related s _ _ (record { behind = statements_related ss t u h; at_break = h.at_break; at_continue = h.at_continue; at_return = h.at_return }) v w
 
-      targets_related : (g : Function) (k l : Return) → ReturnRelated k l → TargetsRelated (targets g k) (targets g l)
-      targets_related g k l h = record { behind = λ v w. h _ w; at_break = λ v w. keeps.undefined; at_continue = λ v w. keeps.undefined; at_return = h }
-
-      leave_related : (f : ℕ) (k l : Return) → ReturnRelated k l → ReturnRelated (leave f first_block k) (leave f first_block l)
-      leave_related f k l h result w = keeps.emit _ _ _ (h result _)
-
-      body_related : (g : Function) (f : ℕ) (k l : Return) → ReturnRelated k l → NextRelated (body g here f k) (body g there f l)
-      body_related g f k l h = statements_related g.body _ _ (targets_related g _ _ (leave_related f k l h))
-
-    pub entered_related : (m n : ℕ) → TurnsRelated m n → (c d : Calls) → CallsRelated c d → (f : ℕ) (g : Function) (xs : List Value) (k l : Return) → ReturnRelated k l → (w : World) → R (entered m c f g xs k w) (entered n d f g xs l w)
-    entered_related m n t c d e f g xs k l h w =
-        keeps.emit _ _ _ (bind_related g.parameters xs (length w.memory) _ _ (body_related m n (length w.memory) t c d e g f k l h) no_variables (in_memory w (make g.blocks w.memory)))
+    pub body_related : (m n : ℕ) → TurnsRelated m n → (c d : CallsOf) → CallsRelated R c d → (g : Function) → BodiesRelated R (body_of g m c) (body_of g n d)
+    body_related m n turns_related c d calls_related g first k l h v w =
+        statements_related m n turns_related c d calls_related first g.body _ _
+        (record { behind = λ v w. h _ w; at_break = λ v w. keeps.undefined; at_continue = λ v w. keeps.undefined; at_return = h }) v w

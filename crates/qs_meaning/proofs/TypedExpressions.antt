@@ -27,7 +27,8 @@ use Rattle.qs_types.specs.Contexts.{Entity, local_variable, file_variable, funct
 use Rattle.qs_types.specs.Expressions.{is_lvalue, is_lvalue_shape, is_assignable, both_integers, is_object_pointer, may_add, Judged, judged, unary_judged, step_judged, cast_judged, size_judged, type_or_void, binary_judged, conditional_judged, assign_judged, may_assign, may_combine, may_move, sum_type, subscript_judged, member_type, found_member, member_judged, name_judged, call_judged, type_of, shape_judged, types_of}
 use Rattle.qs_types.specs.Placed.{is_one_of, local_node, named_local, operand_of, addressed, shape_addressed, all_addressed}
 use Rattle.qs_types.specs.References.{expr_calls, shape_calls, exprs_calls}
-use Rattle.qs_meaning.specs.Typed.{Expr, pointer_to, Lvalue, variable, object, Object, local, static, Arguments, no_arguments, Callee, putchar, getchar}
+use Rattle.qs_meaning.specs.Typed.{Expr, pointer_to, Lvalue, variable, object, Object, local, static, Arguments, no_arguments}
+use Rattle.qs_calls.specs.declared.callee.Callee.TheVariants.{Function}
 use Rattle.qs_meaning.specs.Typed as typed_trees
 use Rattle.qs_meaning.specs.Operations.{Operated, operation_of}
 use Rattle.qs_meaning.specs.Forms.{Form, lvalue, result, Typed, lvalue_of, address_in, address_of, type_in_use, value_in_use}
@@ -365,7 +366,7 @@ module _ (s : Scope) where
   call_stands f (Some (function node (Some signature) body)) es us list j count r e h = by_judged j _ (same _ _ e) h (λ h.
       let k : Known (place_from 0 f s.functions) = known _ r in
       let arguments = arguments_known signature.parameters list (counted signature.parameters us _ h ∙ sym count) in
-      value_stands _ (onward (place_from 0 f s.functions >>= λ k. with_parameters (Some signature) (typed_trees.function k)) _
+      value_stands _ (onward (place_from 0 f s.functions >>= λ k. with_parameters (Some signature) (Function (record { 0 = k }))) _
       (onward (place_from 0 f s.functions) _ k (record { value = _; is = refl }))
       (onward (arguments_of signature.parameters list) _ arguments (record { value = _; is = refl }))))
   call_stands f (Some (given signature)) es us list j count r e h = by_judged j _ (same _ _ e) h (λ h.

@@ -3,9 +3,10 @@
 use Rattle.std.specs.Prelude.{ℕ, Option, Some, None}
 use Rattle.qs_types.specs.Types.{TypeTree, int, unsigned, char, void, pointer, array, struct}
 use Rattle.qs_memory.specs.Partial.{◌>>=◌}
+use Rattle.qs_calls.specs.declared.callee.Callee.{Callee}
 use Rattle.qs_types.specs.Conversions.{decayed}
 use Rattle.qs_meaning.specs.Conversions.{scalar_of}
-use Rattle.qs_meaning.specs.Typed.{Expr, value, called, assigned, sequence, Lvalue, variable, object, Arguments, Assignment, Effect, discard, assign, perform, copy, in_order, Callee}
+use Rattle.qs_meaning.specs.Typed.{Expr, value, called, assigned, sequence, Lvalue, variable, object, Arguments, Assignment, Effect, discard, assign, perform, copy, in_order}
 
 pub data Form : Type 0 where
   -- 6.3.2.1p1

@@ -1,11 +1,10 @@
 -- What is promised of the runs of a source.
 use Rattle.std.specs.Prelude.{◌≡◌, ℕ, ◌≤◌, List}
 use Rattle.qs_memory.specs.Values.{Value}
-use Rattle.qs_memory.specs.Memory.{Memory}
-use Rattle.qs_events.specs.Runs.{Left, Within, followed_by}
+use Rattle.qs_events.specs.Runs.{Within, followed_by}
+use Rattle.qs_calls.specs.World.{World, Return, leaves}
 use Rattle.qs_meaning.specs.Typed.{Function, TypedUnit}
-use Rattle.qs_meaning.specs.States.{World, SourceRun, Return}
-use Rattle.qs_meaning.specs.Runs.{calls_within, left, run_of, main_run}
+use Rattle.qs_meaning.specs.Runs.{calls_within, run_of, main_run}
 
 -- a greater bound keeps what has ended or is undefined, and goes on from where a run is short
 abbrev pub RunsGrow : Type 0
@@ -14,12 +13,9 @@ RunsGrow = (unit : TypedUnit) (root : ℕ) (xs : List Value) (w : World) (m n : 
 abbrev pub MainGrows : Type 0
 MainGrows = (unit : TypedUnit) (xs : List Value) (input : List ℕ) (m n : ℕ) → m ≤ n → Within (main_run unit xs input m) (main_run unit xs input n)
 
--- what follows when a function has left this
-abbrev pub going_on : Return → Left Value Memory → SourceRun
-going_on next end = next end.result (record { memory = end.memory; input = end.input })
-
 -- a call is the run of the function alone, and then what follows
 abbrev pub CallsFollow : Type 0
 CallsFollow =
-    (functions : List Function) (turns depth f : ℕ) (xs : List Value) (next : Return) (w : World)
-    → calls_within functions turns depth f xs next w ≡ followed_by (calls_within functions turns depth f xs left w) (going_on next)
+    (functions : List Function) (turns depth f : ℕ) (xs : List Value) (k : Return) (w : World)
+    → followed_by (calls_within functions turns depth f xs leaves w) (λ left. k left.result (record { memory = left.memory; input = left.input }))
+    ≡ calls_within functions turns depth f xs k w

@@ -1,6 +1,6 @@
 -- The meaning of expressions and statements (C11 6.5, 6.8): what is done, in order, and what follows. Operands, arguments and the sides of
 -- an assignment are evaluated left to right.
-use Rattle.std.specs.Prelude.{ℕ, zero, suc, ◌%◌, ◌^◌, List, [], ◌∷◌, Option, Some, None}
+use Rattle.std.specs.Prelude.{ℕ, zero, suc, List, [], ◌∷◌, Option, Some, None}
 use Rattle.qs_memory.specs.declared.scalar.Scalar.{Scalar}
 use Rattle.qs_memory.specs.declared.operation.BinaryOperation.{BinaryOperation}
 use Rattle.qs_memory.specs.Partial.{◌>>=◌}
@@ -9,28 +9,11 @@ use Rattle.qs_memory.specs.Memory.{Memory}
 use Rattle.qs_memory.specs.Memory as blocks
 use Rattle.qs_memory.specs.Pointers.{member_of}
 use Rattle.qs_memory.specs.Operations.{apply_unary, apply_binary}
-use Rattle.qs_base.specs.Words.{all_ones}
-use Rattle.qs_events.specs.Events.{Takes, TakesEnd, Puts}
-use Rattle.qs_events.specs.Runs.{emit, undefined, short, given}
-use Rattle.qs_meaning.specs.Typed.{Conversion, unchanged, Order, as_written, exchanged, Callee, function, putchar, getchar, Expr, constant, value, pointer_to, member, called, stepped_after, unary, cast, binary, logical_and, logical_or, conditional, assigned, sequence, Lvalue, variable, object, Arguments, no_arguments, argument_and, Assignment, set, update, Effect, nothing, discard, assign, perform, copy, fill, in_order, Stmt, evaluate, block, branch, while_loop, do_loop, for_loop, break, continue, return, return_nothing, Stmts, no_stmts, stmt_and}
-use Rattle.qs_meaning.specs.States.{World, in_memory, SourceRun, Next, Return, Here, test, convert_by, conversion_then, pointer_at, Place, in_variable, in_object, read, write}
-
--- ---- calls (6.5.2.2)
-
--- 7.21.7.6: the next byte of the input, or -1 at its end
-abbrev pub take_byte : List ℕ → Return → World → SourceRun
-take_byte [] next w = emit TakesEnd (next (Some (integer all_ones)) w)
-take_byte (b ∷ bs) next w = emit (Takes b) (next (Some (integer b)) (record w { input = bs }))
-
--- 7.21.7.8: the argument as an unsigned char, which is the result too
-abbrev pub put_byte : List Value → Return → World → SourceRun
-put_byte (integer n ∷ []) next w = emit (Puts (n % 2 ^ 8)) (next (Some (integer (n % 2 ^ 8))) w)
-put_byte _ next w = undefined
-
-abbrev pub call : Callee → Here → List Value → Return → World → SourceRun
-call (function f) h xs next w = h.calls f xs next w
-call putchar h xs next w = put_byte xs next w
-call getchar h xs next w = take_byte w.input next w
+use Rattle.qs_events.specs.Runs.{short, given}
+use Rattle.qs_calls.specs.World.{with_memory, Return}
+use Rattle.qs_calls.specs.Calls.{invoke}
+use Rattle.qs_meaning.specs.Typed.{Conversion, unchanged, Order, as_written, exchanged, Expr, constant, value, pointer_to, member, called, stepped_after, unary, cast, binary, logical_and, logical_or, conditional, assigned, sequence, Lvalue, variable, object, Arguments, no_arguments, argument_and, Assignment, set, update, Effect, nothing, discard, assign, perform, copy, fill, in_order, Stmt, evaluate, block, branch, while_loop, do_loop, for_loop, break, continue, return, return_nothing, Stmts, no_stmts, stmt_and}
+use Rattle.qs_meaning.specs.States.{Next, Here, test, convert_by, conversion_then, pointer_at, Place, in_variable, in_object, read, write}
 
 -- ---- operations
 
@@ -62,7 +45,7 @@ abbrev mutual
   expression (member offset a) h next =
       expression a h (λ x v w. given (as_pointer x >>= λ p. member_of w.memory p offset) (λ p. next (address p) v w))
   -- 6.5.2.2p4, p5, p10; UNDEFINED 9 (6.9.1p12): the function ended without the value that is used
-  expression (called s f es) h next = arguments es h (λ xs v. call f h xs (λ result w. given result (λ x. next x v w)))
+  expression (called s f es) h next = arguments es h (λ xs v. invoke f h.calls xs (λ result w. given result (λ x. next x v w)))
   -- 6.5.2.4p2
   expression (stepped_after s l operation left back) h next =
       lvalue l h (λ p v w. given (read s p v w) (λ x.
@@ -111,14 +94,14 @@ abbrev mutual
   effect nothing h next = next
   effect (discard a) h next = expression a h (λ x. next)
   effect (assign a) h next = assignment a h (λ x. next)
-  effect (perform f es) h next = arguments es h (λ xs v. call f h xs (λ result. next v))
+  effect (perform f es) h next = arguments es h (λ xs v. invoke f h.calls xs (λ result. next v))
   -- 6.5.16.1p3
   effect (copy size alignment a b) h next =
       expression a h (λ x. expression b h (λ y v w.
-      given (as_pointer x >>= λ to. as_pointer y >>= λ from. blocks.copy size alignment w.memory to from) (λ m. next v (in_memory w m))))
+      given (as_pointer x >>= λ to. as_pointer y >>= λ from. blocks.copy size alignment w.memory to from) (λ m. next v (with_memory w m))))
   -- 6.7.9p19, p21
   effect (fill blank a) h next =
-      expression a h (λ x v w. given (as_pointer x >>= λ p. blocks.fill blank w.memory p) (λ m. next v (in_memory w m)))
+      expression a h (λ x v w. given (as_pointer x >>= λ p. blocks.fill blank w.memory p) (λ m. next v (with_memory w m)))
   effect (in_order a b) h next = effect a h (effect b h next)
 
 -- ---- statements

@@ -3,11 +3,12 @@ use Rattle.std.specs.Prelude.{ℕ, ◌+◌, ◌==◌, Bool, List, [], ◌∷◌,
 use Rattle.qs_syntax.specs.Sameness.{same_bytes}
 use Rattle.qs_types.specs.Types.{TypeTree}
 use Rattle.qs_memory.specs.Partial.{◌>>=◌}
+use Rattle.qs_calls.specs.declared.callee.Callee.{Callee}
+use Rattle.qs_calls.specs.declared.callee.Callee.TheVariants.{Function, PutChar, GetChar}
 use Rattle.qs_types.specs.GivenFunctions.{Signature, putchar_name}
-use Rattle.qs_types.specs.Contexts.{Entity, local_variable, file_variable, given, Context, place_from, entity_of}
-use Rattle.qs_types.specs.Contexts as contexts
+use Rattle.qs_types.specs.Contexts.{Entity, local_variable, file_variable, function, given, Context, place_from, entity_of}
 use Rattle.qs_types.specs.Placed.{is_one_of}
-use Rattle.qs_meaning.specs.Typed.{Expr, pointer_to, Lvalue, variable, object, Object, local, static, Callee, function, putchar, getchar}
+use Rattle.qs_meaning.specs.Typed.{Expr, pointer_to, Lvalue, variable, object, Object, local, static}
 
 -- the plain variables of a function and its placed locals, with its parameters among them, by the numbers of their nodes
 pub record Locals : Type 0 where
@@ -53,7 +54,7 @@ text_object statics node = static (length statics.variables + place_among node s
 abbrev pub entity_lvalue : Scope → Entity → Option Lvalue
 entity_lvalue s (local_variable node t) = Some (local_lvalue s.locals node)
 entity_lvalue s (file_variable node t) = Some (object (pointer_to (file_variable_object s.statics node)))
-entity_lvalue s (contexts.function node signature body) = None
+entity_lvalue s (function node signature body) = None
 entity_lvalue s (given signature) = None
 
 abbrev pub name_lvalue : Scope → List ℕ → Option Lvalue
@@ -73,8 +74,8 @@ with_parameters signature callee = signature >>= λ (s : Signature). Some (recor
 abbrev pub entity_designated : Scope → List ℕ → Entity → Option Designator
 entity_designated s f (local_variable node t) = None
 entity_designated s f (file_variable node t) = None
-entity_designated s f (contexts.function node signature body) = place_from 0 f s.functions >>= λ k. with_parameters signature (function k)
-entity_designated s f (given signature) = with_parameters (Some signature) (if same_bytes f putchar_name then putchar else getchar)
+entity_designated s f (function node signature body) = place_from 0 f s.functions >>= λ k. with_parameters signature (Function (record { 0 = k }))
+entity_designated s f (given signature) = with_parameters (Some signature) (if same_bytes f putchar_name then PutChar else GetChar)
 
 abbrev pub designated : Scope → List ℕ → Option Designator
 designated s f = entity_of s.context f >>= entity_designated s f

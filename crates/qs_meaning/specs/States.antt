@@ -1,52 +1,24 @@
 -- What a run of the source goes through, and what may follow a step of it (C11 5.1.2.3, 6.2.4).
-use Rattle.std.specs.Prelude.{ℕ, ◌+◌, ◌==◌, Bool, true, false, List, [], ◌∷◌, Option, Some, None, if◌then◌else◌}
+use Rattle.std.specs.Prelude.{ℕ, ◌+◌, Bool, true, false, Option, Some, None}
 use Rattle.qs_memory.specs.declared.scalar.Scalar.{Scalar}
 use Rattle.qs_memory.specs.Partial.{◌>>=◌}
-use Rattle.qs_memory.specs.Values.{Pointer, into, Value, integer, convert}
-use Rattle.qs_memory.specs.Memory.{Memory, load, store}
+use Rattle.qs_memory.specs.Values.{Pointer, into, Value, convert}
+use Rattle.qs_memory.specs.Memory.{load, store}
 use Rattle.qs_memory.specs.Pointers.{truth}
-use Rattle.qs_events.specs.Runs.{Run, given, Left}
+use Rattle.qs_events.specs.Runs.{given}
+use Rattle.qs_calls.specs.World.{World, with_memory, RootRun, Environment, with_value}
+use Rattle.qs_calls.specs.Calls.{CallsOf}
 use Rattle.qs_meaning.specs.Typed.{Conversion, unchanged, converted, Object, local, static}
 
--- the plain variables of a call; None is a variable that has no value yet (6.2.4p6)
-abbrev pub Variables : Type 0
-Variables = ℕ → Option Value
-
-abbrev pub no_variables : Variables
-no_variables = λ x. None
-
-abbrev pub put : Variables → ℕ → Value → Variables
-put variables x v = λ y. if y == x then Some v else variables y
-
--- what all calls share: the memory, and the bytes of the input that weren't taken
-pub record World : Type 0 where
-  pub memory : Memory
-  pub input : List ℕ
-
-abbrev pub in_memory : World → Memory → World
-in_memory w m = record w { memory = m }
-
--- a run that leaves the root function's result, the memory and the input
-abbrev pub SourceRun : Type 0
-SourceRun = Run (Left Value Memory)
-
--- what follows in the same call
+-- what follows in the same call, from its plain variables; one that has no value yet is None (6.2.4p6)
 abbrev pub Next : Type 0
-Next = Variables → World → SourceRun
-
--- what follows in the caller; None where the function ended without a value (6.9.1p12)
-abbrev pub Return : Type 0
-Return = Option Value → World → SourceRun
-
--- what calling a function does: its number, its arguments, what follows
-abbrev pub Calls : Type 0
-Calls = ℕ → List Value → Return → World → SourceRun
+Next = Environment → World → RootRun
 
 -- what stays the same in a call: how many turns a loop makes at most, the number of the first block of the call, and its calls
 pub record Here : Type 0 where
   pub turns : ℕ
   pub first_block : ℕ
-  pub calls : Calls
+  pub calls : CallsOf
 
 -- ---- steps
 
@@ -79,10 +51,10 @@ pub data Place : Type 0 where
   in_object : Pointer → Place
 
 -- UNDEFINED 1 (6.3.2.1p2): a plain variable that has no value
-abbrev pub read : Scalar → Place → Variables → World → Option Value
+abbrev pub read : Scalar → Place → Environment → World → Option Value
 read s (in_variable x) v w = v x
 read s (in_object p) v w = load s w.memory p
 
 abbrev pub write : Scalar → Place → Value → Next → Next
-write s (in_variable x) y next v w = next (put v x y) w
-write s (in_object p) y next v w = given (store s w.memory p y) (λ m. next v (in_memory w m))
+write s (in_variable x) y next v w = next (with_value v x y) w
+write s (in_object p) y next v w = given (store s w.memory p y) (λ m. next v (with_memory w m))

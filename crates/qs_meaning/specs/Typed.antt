@@ -5,6 +5,8 @@ use Rattle.qs_memory.specs.Memory.{Cell, BlankTree}
 use Rattle.qs_memory.specs.declared.scalar.Scalar.{Scalar}
 use Rattle.qs_memory.specs.declared.operation.UnaryOperation.{UnaryOperation}
 use Rattle.qs_memory.specs.declared.operation.BinaryOperation.{BinaryOperation}
+use Rattle.qs_calls.specs.declared.callee.Callee.{Callee}
+use Rattle.qs_calls.specs.declared.parameter.Parameter.{Parameter}
 
 -- 6.3.1, 6.3.2.3: what happens to a value before it is used
 pub data Conversion : Type 0 where
@@ -21,12 +23,6 @@ pub data Order : Type 0 where
 pub data Object : Type 0 where
   local : ℕ → Object
   static : ℕ → Object
-
--- a function with a body by its place among these, or one of the two that are given
-pub data Callee : Type 0 where
-  function : ℕ → Callee
-  putchar : Callee
-  getchar : Callee
 
 -- ---- expressions (6.5)
 
@@ -113,11 +109,6 @@ mutual
     stmt_and : Stmt → Stmts → Stmts
 
 -- ---- functions (6.9.1)
-
--- where an argument goes: into a plain variable, or into the block of a placed parameter
-pub data Parameter : Type 0 where
-  plain : (variable : ℕ) → Parameter
-  placed : (local : ℕ) → Scalar → Parameter
 
 -- the types of the plain variables and the sizes of the placed locals, both with the parameters among them and in the order of the text
 pub record Function : Type 0 where

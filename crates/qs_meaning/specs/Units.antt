@@ -1,12 +1,14 @@
 -- The typed tree of a unit (C11 6.9), and the memory in which its runs begin.
-use Rattle.std.specs.Prelude.{ℕ, not, Bool, true, List, [], ◌∷◌, ◌++◌, Option, Some, None, length, map, filter}
+use Rattle.std.specs.Prelude.{ℕ, not, Bool, true, List, [], ◌∷◌, ◌++◌, Option, Some, None, length, map, filter, slice_index_or}
 use Rattle.qs_syntax.specs.Sameness.{same_bytes}
 use Rattle.qs_syntax.specs.declared.types.Base.{Base}
 use Rattle.qs_syntax.specs.Trees.{VariableTree, ParameterTree, FunctionTree, DeclTree, structure, forward, function, variables, UnitTree}
 use Rattle.qs_syntax.specs.Trees as trees
 use Rattle.qs_memory.specs.declared.scalar.Scalar.{Scalar}
 use Rattle.qs_memory.specs.Partial.{◌>>=◌}
-use Rattle.qs_memory.specs.Memory.{unset, Block, overlaid, Memory}
+use Rattle.qs_calls.specs.declared.parameter.Parameter.{Parameter}
+use Rattle.qs_calls.specs.declared.parameter.Parameter.TheVariants.{Plain, Placed}
+use Rattle.qs_memory.specs.Memory.{unset, Block, Memory}
 use Rattle.qs_types.specs.Types.{TypeTree, Structs}
 use Rattle.qs_types.specs.Layout.{size_of}
 use Rattle.qs_types.specs.GivenFunctions.{main_name}
@@ -16,7 +18,7 @@ use Rattle.qs_types.specs.StatementRules.{after_variable}
 use Rattle.qs_types.specs.UnitRules.{parameter_types, body_context, after_declaration}
 use Rattle.qs_types.specs.Placed.{Local, addressed_in, locals_in, is_placed}
 use Rattle.qs_types.specs.References.{TextBlock, literal_blocks}
-use Rattle.qs_meaning.specs.Typed.{Expr, pointer_to, Lvalue, variable, object, Object, local, static, Parameter, plain, placed, Function, StaticBlock, TypedUnit}
+use Rattle.qs_meaning.specs.Typed.{Expr, pointer_to, Lvalue, variable, object, Object, local, static, Function, StaticBlock, TypedUnit}
 use Rattle.qs_meaning.specs.Conversions.{scalar_of}
 use Rattle.qs_meaning.specs.Names.{Locals, Statics, Scope, within, local_lvalue}
 use Rattle.qs_meaning.specs.InitialValues.{variable_block, text_block}
@@ -49,11 +51,11 @@ sizes_of structs (l ∷ ls) = l.type >>= size_of structs >>= λ size. sizes_of s
 -- ---- parameters (6.9.1p9, p10): an argument is the parameter's first value
 
 abbrev pub parameter_in_object : Scalar → Expr → Option Parameter
-parameter_in_object type (pointer_to (local k)) = Some (placed k type)
+parameter_in_object type (pointer_to (local k)) = Some (Placed k type)
 parameter_in_object type _ = None
 
 abbrev pub parameter_by : Scalar → Lvalue → Option Parameter
-parameter_by type (variable x) = Some (plain x)
+parameter_by type (variable x) = Some (Plain x)
 parameter_by type (object p) = parameter_in_object type p
 
 abbrev pub parameter_typed : Locals → ParameterTree → Option TypeTree → Option Parameter
@@ -158,7 +160,7 @@ typed_of unit =
 -- ---- the memory in which a run begins: the unit's blocks are its first ones
 
 abbrev pub block_of : StaticBlock → Block
-block_of b = record { size = length b.cells; is_live = true; is_writable = b.writable; cells = overlaid b.cells 0 (λ offset. unset) }
+block_of b = record { size = length b.cells; is_live = true; is_writable = b.writable; cells = λ offset. slice_index_or b.cells offset unset }
 
 abbrev pub initial_memory : TypedUnit → Memory
 initial_memory u = map block_of u.blocks

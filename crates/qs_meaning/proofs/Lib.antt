@@ -10,3 +10,4 @@ mod Growth
 mod Options
 mod Sums
 mod TypedExpressions
+mod Faultless

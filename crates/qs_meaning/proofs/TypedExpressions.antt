@@ -17,16 +17,15 @@ use Rattle.qs_syntax.specs.Trees.{ExprTree, expr, ShapeTree, Exprs, no_exprs, ex
 use Rattle.qs_syntax.specs.Trees as trees
 use Rattle.qs_memory.specs.Partial.{◌>>=◌}
 use Rattle.qs_types.specs.declared.extent.Extent.{Extent}
-use Rattle.qs_types.specs.Types.{TypeTree, int, unsigned, char, void, pointer, array, struct, is_integer, is_pointer, is_struct, is_scalar, same_type, referenced, Structs}
+use Rattle.qs_types.specs.Types.{TypeTree, int, unsigned, char, void, pointer, array, struct, is_integer, is_pointer, is_array, is_struct, is_scalar, same_type, referenced, Structs}
 use Rattle.qs_types.specs.Layout.{and_then, extent_of, size_of, is_complete}
 use Rattle.qs_types.specs.Conversions.{decayed}
 use Rattle.qs_types.specs.GivenFunctions.{Signature, putchar_name}
 use Rattle.qs_types.specs.Rules.{Test, keeps, breaks_one, type_unless}
 use Rattle.qs_types.specs.declared.rules.Rule.TheVariants as rules
-use Rattle.qs_types.specs.Contexts.{Entity, local_variable, file_variable, function, given, Context, place_from, entity_of, named_type, is_void_base}
+use Rattle.qs_types.specs.Contexts.{Entity, local_variable, file_variable, function, given, Context, entity_of, named_type, is_void_base}
 use Rattle.qs_types.specs.Expressions.{is_lvalue, is_lvalue_shape, is_assignable, both_integers, is_object_pointer, may_add, Judged, judged, unary_judged, step_judged, cast_judged, size_judged, type_or_void, binary_judged, conditional_judged, assign_judged, may_assign, may_combine, may_move, sum_type, subscript_judged, member_type, found_member, member_judged, name_judged, call_judged, type_of, shape_judged, types_of}
 use Rattle.qs_types.specs.Placed.{is_one_of, local_node, named_local, operand_of, addressed, shape_addressed, all_addressed}
-use Rattle.qs_types.specs.References.{expr_calls, shape_calls, exprs_calls}
 use Rattle.qs_meaning.specs.Typed.{Expr, pointer_to, Lvalue, variable, object, Object, local, static, Arguments, no_arguments}
 use Rattle.qs_calls.specs.declared.callee.Callee.TheVariants.{Function}
 use Rattle.qs_meaning.specs.Typed as typed_trees
@@ -34,9 +33,9 @@ use Rattle.qs_meaning.specs.Operations.{Operated, operation_of}
 use Rattle.qs_meaning.specs.Forms.{Form, lvalue, result, Typed, lvalue_of, address_in, address_of, type_in_use, value_in_use}
 use Rattle.qs_meaning.specs.Names.{Locals, Scope, place_among, local_lvalue, entity_lvalue, with_parameters, Designator, entity_designated, designated}
 use Rattle.qs_meaning.specs.Expressions.{object_at, operated, operator_value, subscript_form, arguments_of, call_form, member_offset, dot_form, arrow_form, member_form, set_form, struct_form, plain_form, compound_form, assign_form, one, step_after_form, step_form, address_form, unary_form, size_form, operator_form, binary_form, typed, form_of, all_typed}
-use Rattle.qs_meaning.specs.TypedLaws.{IsReady, are_placed, entity_runs, all_run, TypedWhereTypes}
+use Rattle.qs_meaning.specs.TypedLaws.{IsReady, are_placed, TypedWhereTypes}
 use Rattle.qs_meaning.proofs.Options.{never, left, right, either, all_left, all_right, nothing, same, Went, went, goes, Known, known, is_known, onward}
-use Rattle.qs_meaning.proofs.Sums.{struct_is_large, same_is_struct, summed_known, subtracted_known, member_offset_known, has_members_is_large}
+use Rattle.qs_meaning.proofs.Sums.{struct_is_large, same_is_struct, summed_known, subtracted_known, member_offset_known, member_complete, has_members_is_large}
 
 -- ---- tests that aren't broken
 
@@ -101,10 +100,10 @@ object_stands o p e c =
     record { form = object_at p; is = e; place = λ _. record { at = object p; is = refl; complete = c; large = λ _. record { value = p; is = refl }; taken = λ _. record { value = p; is = refl } } }
 
 -- the address of a form that is an lvalue
-address_known : (form : Form) (l : Lvalue) → form ≡ lvalue l → Known (address_in l) → Known (address_of form)
+pub address_known : (form : Form) (l : Lvalue) → form ≡ lvalue l → Known (address_in l) → Known (address_of form)
 address_known form l e k = record { value = k.value; is = ap address_of e ∙ k.is }
 
-lvalue_known : (form : Form) (l : Lvalue) → form ≡ lvalue l → Known (lvalue_of form)
+pub lvalue_known : (form : Form) (l : Lvalue) → form ≡ lvalue l → Known (lvalue_of form)
 lvalue_known form l e = record { value = l; is = ap lvalue_of e }
 
 -- ---- names
@@ -254,31 +253,26 @@ module _ (s : Scope) where
       let e : Known (extent_of structs a.type) = known _ c in
       onward (extent_of structs a.type) _ e (onward (address_of a.form) _ p (onward (address_of b.form) _ q (record { value = _; is = refl })))
 
-  pub plain_known : (x y : ExprTree) (t u : TypeTree) (f g : Form) → Place x t f → Place y u g → may_assign x t y u ≡ true
+  -- an object or a variable of type t, and a value that fits it
+  pub assigned_known : (y : ExprTree) (t u : TypeTree) (f g : Form) → Known (lvalue_of f) → (is_scalar t ≡ false → Known (address_of f)) → is_complete structs t ≡ true → Place y u g
+      → (is_assignable t y (decayed u) || (is_struct t && (same_type t u && is_lvalue y))) ≡ true
       → Known (plain_form structs (record { type = t; form = f }) (record { type = u; form = g }))
-  plain_known x y (struct k) u f g place other h =
+  assigned_known y (struct k) u f g at large complete other h =
+      let q = other (right (same_type (struct k) u) _ h) in
+      struct_known (record { type = struct k; form = f }) (record { type = u; form = g }) complete (large refl)
+      (address_known g q.at q.is (q.large (struct_is_large u (same_is_struct (struct k) u refl (left _ _ h)))))
+  assigned_known y int u f g at large complete other h = set_known (record { type = int; form = f }) (record { type = u; form = g }) at
+  assigned_known y unsigned u f g at large complete other h = set_known (record { type = unsigned; form = f }) (record { type = u; form = g }) at
+  assigned_known y char u f g at large complete other h = set_known (record { type = char; form = f }) (record { type = u; form = g }) at
+  assigned_known y void u f g at large complete other h = set_known (record { type = void; form = f }) (record { type = u; form = g }) at
+  assigned_known y (pointer t) u f g at large complete other h = set_known (record { type = pointer t; form = f }) (record { type = u; form = g }) at
+  assigned_known y (array t n) u f g at large complete other h = set_known (record { type = array t n; form = f }) (record { type = u; form = g }) at
+
+  plain_known : (x y : ExprTree) (t u : TypeTree) (f g : Form) → Place x t f → Place y u g → may_assign x t y u ≡ true
+      → Known (plain_form structs (record { type = t; form = f }) (record { type = u; form = g }))
+  plain_known x y t u f g place other h =
       let p = place (left _ _ (left _ _ h)) in
-      let is_same = left _ _ (right (is_lvalue x && true) _ h) in
-      let q = other (right (same_type (struct k) u) _ (right (is_lvalue x && true) _ h)) in
-      struct_known (record { type = struct k; form = f }) (record { type = u; form = g }) p.complete (address_known f p.at p.is (p.large refl)) (address_known g q.at q.is (q.large (struct_is_large u (same_is_struct (struct k) u refl is_same))))
-  plain_known x y int u f g place other h =
-      let p = place (left _ _ (left _ _ h)) in
-      set_known (record { type = int; form = f }) (record { type = u; form = g }) (lvalue_known f p.at p.is)
-  plain_known x y unsigned u f g place other h =
-      let p = place (left _ _ (left _ _ h)) in
-      set_known (record { type = unsigned; form = f }) (record { type = u; form = g }) (lvalue_known f p.at p.is)
-  plain_known x y char u f g place other h =
-      let p = place (left _ _ (left _ _ h)) in
-      set_known (record { type = char; form = f }) (record { type = u; form = g }) (lvalue_known f p.at p.is)
-  plain_known x y void u f g place other h =
-      let p = place (left _ _ (left _ _ h)) in
-      set_known (record { type = void; form = f }) (record { type = u; form = g }) (lvalue_known f p.at p.is)
-  plain_known x y (pointer t) u f g place other h =
-      let p = place (left _ _ (left _ _ h)) in
-      set_known (record { type = (pointer t); form = f }) (record { type = u; form = g }) (lvalue_known f p.at p.is)
-  plain_known x y (array t n) u f g place other h =
-      let p = place (left _ _ (left _ _ h)) in
-      set_known (record { type = (array t n); form = f }) (record { type = u; form = g }) (lvalue_known f p.at p.is)
+      assigned_known y t u f g (lvalue_known f p.at p.is) (λ l. address_known f p.at p.is (p.large l)) p.complete other (right (is_lvalue x && not (is_array t)) _ h)
 
   assign_known : (operator : AssignmentOperator) (x y : ExprTree) (t u : TypeTree) (f g : Form) → Place x t f → Place y u g
       → breaks_one (assign_judged structs operator x t y u).tests ≡ false
@@ -329,14 +323,14 @@ module _ (s : Scope) where
       let offset = member_offset_known structs ready.laid_out t x found in
       object_stands _ (typed_trees.member offset.value base.value)
       (goes (address_of form) base.value _ _ base.is (goes (member_offset structs t x) offset.value _ _ offset.is refl))
-      (subst (λ o. is_complete structs (type_or_void o) ≡ true) (sym m.is) (ready.member_complete t m.value x m.is))
+      (subst (λ o. is_complete structs (type_or_void o) ≡ true) (sym m.is) (member_complete structs ready.members t m.value x m.is))
   member_stands ready accesses.Arrow node a t form x place h =
       let found = right (is_pointer (decayed t)) _ (kept _ h) in
       let m : Known (member_type structs (referenced (decayed t)) x) = known _ found in
       let offset = member_offset_known structs ready.laid_out (referenced (decayed t)) x found in
       object_stands _ (typed_trees.member offset.value (value_in_use (record { type = t; form = form })))
       (goes (member_offset structs (referenced (decayed t)) x) offset.value _ _ offset.is refl)
-      (subst (λ o. is_complete structs (type_or_void o) ≡ true) (sym m.is) (ready.member_complete (referenced (decayed t)) m.value x m.is))
+      (subst (λ o. is_complete structs (type_or_void o) ≡ true) (sym m.is) (member_complete structs ready.members (referenced (decayed t)) m.value x m.is))
 
   -- ---- calls
 
@@ -357,19 +351,16 @@ module _ (s : Scope) where
   counted ts us rest e = eqb-true (length ts) (length us) (not_true _ (unbroken_left _ rest e))
 
   call_stands : (f : List ℕ) (o : Option Entity) (es : Exprs) (us : List TypeTree) (list : List Typed) (j : Judged) {names : List ℕ} → length list ≡ length us
-      → entity_runs s f o ≡ true → call_judged o es us ≡ Some j → breaks_one j.tests ≡ false
+      → call_judged o es us ≡ Some j → breaks_one j.tests ≡ false
       → Stands s ((o >>= entity_designated s f) >>= λ (d : Designator). arguments_of d.parameters list >>= λ converted. Some (Form.call d.callee converted)) false names j.type
-  call_stands f None es us list j count r e h = never r
-  call_stands f (Some (local_variable node t)) es us list j count r e h = never r
-  call_stands f (Some (file_variable node t)) es us list j count r e h = never r
-  call_stands f (Some (function node None body)) es us list j count r e h = nothing j e
-  call_stands f (Some (function node (Some signature) body)) es us list j count r e h = by_judged j _ (same _ _ e) h (λ h.
-      let k : Known (place_from 0 f s.functions) = known _ r in
+  call_stands f None es us list j count e h = by_judged j _ (same _ _ e) h (λ h. never (sym h))
+  call_stands f (Some (local_variable node t)) es us list j count e h = by_judged j _ (same _ _ e) h (λ h. never (sym h))
+  call_stands f (Some (file_variable node t)) es us list j count e h = by_judged j _ (same _ _ e) h (λ h. never (sym h))
+  call_stands f (Some (function node None body)) es us list j count e h = nothing j e
+  call_stands f (Some (function node (Some signature) body)) es us list j count e h = by_judged j _ (same _ _ e) h (λ h.
       let arguments = arguments_known signature.parameters list (counted signature.parameters us _ h ∙ sym count) in
-      value_stands _ (onward (place_from 0 f s.functions >>= λ k. with_parameters (Some signature) (Function (record { 0 = k }))) _
-      (onward (place_from 0 f s.functions) _ k (record { value = _; is = refl }))
-      (onward (arguments_of signature.parameters list) _ arguments (record { value = _; is = refl }))))
-  call_stands f (Some (given signature)) es us list j count r e h = by_judged j _ (same _ _ e) h (λ h.
+      value_stands _ (onward (arguments_of signature.parameters list) _ arguments (record { value = _; is = refl })))
+  call_stands f (Some (given signature)) es us list j count e h = by_judged j _ (same _ _ e) h (λ h.
       let arguments = arguments_known signature.parameters list (counted signature.parameters us _ h ∙ sym count) in
       value_stands _ (onward (arguments_of signature.parameters list) _ arguments (record { value = _; is = refl })))
 
@@ -392,29 +383,29 @@ module _ (s : Scope) where
 
   module _ (ready : IsReady s) where
     mutual
-      expression_typed : (e : ExprTree) (t : TypeTree) → are_placed s (addressed s.context e) ≡ true → all_run s (expr_calls e) ≡ true → type_of s.context e ≡ Some t → TypedBy s e t
-      expression_typed (expr node shape) t placed run e =
+      pub expression_typed : (e : ExprTree) (t : TypeTree) → are_placed s (addressed s.context e) ≡ true → type_of s.context e ≡ Some t → TypedBy s e t
+      expression_typed (expr node shape) t placed e =
           let w = went (shape_judged s.context shape) (λ (j : Judged). type_unless j.tests j.type) t e in
           let u = unless w.value.tests w.value.type t w.gave in
-          let f = shape_stands shape node w.value placed run w.had u.unbroken in
+          let f = shape_stands shape node w.value placed w.had u.unbroken in
           record {
             form = f.form;
             is = goes (type_of s.context (expr node shape)) t _ _ e (goes (form_of s node shape) f.form _ _ f.is refl);
             place = λ l. subst (λ z. IsPlace s (named_local s.context (expr node shape)) z f.form) u.type (f.place l);
           }
 
-      shape_stands : (shape : ShapeTree) (node : Node) (j : Judged) → are_placed s (shape_addressed s.context shape) ≡ true → all_run s (shape_calls shape) ≡ true
+      shape_stands : (shape : ShapeTree) (node : Node) (j : Judged) → are_placed s (shape_addressed s.context shape) ≡ true
           → shape_judged s.context shape ≡ Some j → breaks_one j.tests ≡ false
           → Stands s (form_of s node shape) (is_lvalue_shape shape) (named_local s.context (expr node shape)) j.type
-      shape_stands (trees.constant n u) node j placed run e h = by_judged j _ (same _ _ e) h (λ h. value_stands _ (record { value = _; is = refl }))
-      shape_stands (trees.text bytes) node j placed run e h = by_judged j _ (same _ _ e) h (λ h. object_stands _ _ refl refl)
-      shape_stands (trees.name x) node j placed run e h =
+      shape_stands (trees.constant n u) node j placed e h = by_judged j _ (same _ _ e) h (λ h. value_stands _ (record { value = _; is = refl }))
+      shape_stands (trees.text bytes) node j placed e h = by_judged j _ (same _ _ e) h (λ h. object_stands _ _ refl refl)
+      shape_stands (trees.name x) node j placed e h =
           name_stands s (entity_of s.context x) j (ready.placed x) (ready.local_complete x) (ready.file_complete x) e h
-      shape_stands (trees.subscript a b) node j placed run e h =
+      shape_stands (trees.subscript a b) node j placed e h =
           let x = went (type_of s.context a) (λ t. and_then (type_of s.context b) (λ u. Some (subscript_judged structs (decayed t) (decayed u)))) j e in
           let y = went (type_of s.context b) (λ u. Some (subscript_judged structs (decayed x.value) (decayed u))) j x.gave in
-          let f = expression_typed a x.value (all_left _ (addressed s.context a) _ placed) (all_left _ (expr_calls a) _ run) x.had in
-          let g = expression_typed b y.value (all_right _ (addressed s.context a) _ placed) (all_right _ (expr_calls a) _ run) y.had in
+          let f = expression_typed a x.value (all_left _ (addressed s.context a) _ placed) x.had in
+          let g = expression_typed b y.value (all_right _ (addressed s.context a) _ placed) y.had in
           by_judged j _ (same _ _ y.gave) h (λ h.
           let may = not_true _ (unbroken_left _ _ h) in
           let o = summed_known structs (decayed x.value) (decayed y.value) may in
@@ -422,71 +413,71 @@ module _ (s : Scope) where
           (object_stands _ _ (goes (operation_of structs binaries.Add (decayed x.value) (decayed y.value) >>= λ (o : Operated). Some (operated o (record { type = x.value; form = f.form }) (record { type = y.value; form = g.form })))
           _ _ _ (goes (operation_of structs binaries.Add (decayed x.value) (decayed y.value)) o.value _ _ o.is refl) refl)
           (right (is_pointer (sum_type (decayed x.value) (decayed y.value))) _ (object_kept (may_add structs (decayed x.value) (decayed y.value)) _ may (unbroken_right (not (may_add structs (decayed x.value) (decayed y.value))) _ h))))))
-      shape_stands (trees.call f es) node j placed run e h =
+      shape_stands (trees.call f es) node j placed e h =
           let w = went (types_of s.context es) (λ us. call_judged (entity_of s.context f) es us) j e in
-          let all = all_typed_by es w.value placed (right (entity_runs s f (entity_of s.context f)) _ run) w.had in
-          behind (all_typed s es) all.list (call_form s f) all.is (call_stands f (entity_of s.context f) es w.value all.list j all.count (left _ _ run) w.gave h)
-      shape_stands (trees.member access a x) node j placed run e h =
+          let all = all_typed_by es w.value placed w.had in
+          behind (all_typed s es) all.list (call_form s f) all.is (call_stands f (entity_of s.context f) es w.value all.list j all.count w.gave h)
+      shape_stands (trees.member access a x) node j placed e h =
           let w = went (type_of s.context a) (λ t. Some (member_judged structs access a t x)) j e in
-          let f = expression_typed a w.value placed run w.had in
+          let f = expression_typed a w.value placed w.had in
           by_judged j _ (same _ _ w.gave) h (λ h. behind (typed s a) _ _ f.is (member_stands ready access node a w.value f.form x f.place h))
-      shape_stands (trees.step operator a) node j placed run e h =
+      shape_stands (trees.step operator a) node j placed e h =
           let w = went (type_of s.context a) (λ t. Some (step_judged structs a t)) j e in
-          let f = expression_typed a w.value placed run w.had in
+          let f = expression_typed a w.value placed w.had in
           by_judged j _ (same _ _ w.gave) h (λ h. behind (typed s a) _ _ f.is (value_stands _ (step_known operator a w.value f.form f.place h)))
-      shape_stands (trees.unary operator a) node j placed run e h =
+      shape_stands (trees.unary operator a) node j placed e h =
           let w = went (type_of s.context a) (λ t. Some (unary_judged structs operator a t (decayed t))) j e in
-          let f = expression_typed a w.value (all_right _ (operand_of operator (named_local s.context a)) _ placed) run w.had in
+          let f = expression_typed a w.value (all_right _ (operand_of operator (named_local s.context a)) _ placed) w.had in
           by_judged j _ (same _ _ w.gave) h (λ h. behind (typed s a) _ _ f.is (unary_stands operator node a w.value f.form f.place placed h))
-      shape_stands (trees.sizeof_expr a) node j placed run e h =
+      shape_stands (trees.sizeof_expr a) node j placed e h =
           let w = went (type_of s.context a) (λ t. Some (judged (keeps rules.IncompleteType (is_complete structs t)) unsigned)) j e in
           by_judged j _ (same _ _ w.gave) h (λ h. behind (type_of s.context a) w.value (size_form structs) w.had (value_stands _ (size_form_known w.value (kept _ h))))
-      shape_stands (trees.sizeof_type name) node j placed run e h = by_judged j _ (same _ _ e) h (λ h.
+      shape_stands (trees.sizeof_type name) node j placed e h = by_judged j _ (same _ _ e) h (λ h.
           let n = named_known (named_type s.context name) _ h in
           behind (named_type s.context name) n.value (size_form structs) n.is
           (value_stands _ (size_form_known n.value (sized (named_type s.context name) n.value n.is (unbroken_right (is_void_base name.base) _ (unbroken_right (not (is_some (named_type s.context name))) _ h))))))
-      shape_stands (trees.cast name a) node j placed run e h =
+      shape_stands (trees.cast name a) node j placed e h =
           let w = went (type_of s.context a) (λ t. Some (cast_judged s.context name a (decayed t))) j e in
-          let f = expression_typed a w.value placed run w.had in
+          let f = expression_typed a w.value placed w.had in
           by_judged j _ (same _ _ w.gave) h (λ h.
           let n = named_known (named_type s.context name) _ h in
           behind (named_type s.context name) n.value _ n.is (behind (typed s a) _ _ f.is (value_stands _ (record { value = _; is = refl }))))
-      shape_stands (trees.binary operator a b) node j placed run e h =
+      shape_stands (trees.binary operator a b) node j placed e h =
           let x = went (type_of s.context a) (λ t. and_then (type_of s.context b) (λ u. Some (binary_judged structs operator a (decayed t) b (decayed u)))) j e in
           let y = went (type_of s.context b) (λ u. Some (binary_judged structs operator a (decayed x.value) b (decayed u))) j x.gave in
-          let f = expression_typed a x.value (all_left _ (addressed s.context a) _ placed) (all_left _ (expr_calls a) _ run) x.had in
-          let g = expression_typed b y.value (all_right _ (addressed s.context a) _ placed) (all_right _ (expr_calls a) _ run) y.had in
+          let f = expression_typed a x.value (all_left _ (addressed s.context a) _ placed) x.had in
+          let g = expression_typed b y.value (all_right _ (addressed s.context a) _ placed) y.had in
           by_judged j _ (same _ _ y.gave) h (λ h. behind (typed s a) _ _ f.is (behind (typed s b) _ _ g.is
           (value_stands _ (binary_known operator a b (record { type = x.value; form = f.form }) (record { type = y.value; form = g.form }) h))))
-      shape_stands (trees.conditional c a b) node j placed run e h =
+      shape_stands (trees.conditional c a b) node j placed e h =
           let z = went (type_of s.context c) (λ r. and_then (type_of s.context a) (λ t. and_then (type_of s.context b) (λ u. Some (conditional_judged (decayed r) a (decayed t) b (decayed u))))) j e in
           let x = went (type_of s.context a) (λ t. and_then (type_of s.context b) (λ u. Some (conditional_judged (decayed z.value) a (decayed t) b (decayed u)))) j z.gave in
           let y = went (type_of s.context b) (λ u. Some (conditional_judged (decayed z.value) a (decayed x.value) b (decayed u))) j x.gave in
-          let k = expression_typed c z.value (all_left _ (addressed s.context c) _ placed) (all_left _ (expr_calls c) _ run) z.had in
-          let f = expression_typed a x.value (all_left _ (addressed s.context a) _ (all_right _ (addressed s.context c) _ placed)) (all_left _ (expr_calls a) _ (all_right _ (expr_calls c) _ run)) x.had in
-          let g = expression_typed b y.value (all_right _ (addressed s.context a) _ (all_right _ (addressed s.context c) _ placed)) (all_right _ (expr_calls a) _ (all_right _ (expr_calls c) _ run)) y.had in
+          let k = expression_typed c z.value (all_left _ (addressed s.context c) _ placed) z.had in
+          let f = expression_typed a x.value (all_left _ (addressed s.context a) _ (all_right _ (addressed s.context c) _ placed)) x.had in
+          let g = expression_typed b y.value (all_right _ (addressed s.context a) _ (all_right _ (addressed s.context c) _ placed)) y.had in
           by_judged j _ (same _ _ y.gave) h (λ h. behind (typed s c) _ _ k.is (behind (typed s a) _ _ f.is (behind (typed s b) _ _ g.is (value_stands _ (record { value = _; is = refl })))))
-      shape_stands (trees.assign operator a b) node j placed run e h =
+      shape_stands (trees.assign operator a b) node j placed e h =
           let x = went (type_of s.context a) (λ t. and_then (type_of s.context b) (λ u. Some (assign_judged structs operator a t b u))) j e in
           let y = went (type_of s.context b) (λ u. Some (assign_judged structs operator a x.value b u)) j x.gave in
-          let f = expression_typed a x.value (all_left _ (addressed s.context a) _ placed) (all_left _ (expr_calls a) _ run) x.had in
-          let g = expression_typed b y.value (all_right _ (addressed s.context a) _ placed) (all_right _ (expr_calls a) _ run) y.had in
+          let f = expression_typed a x.value (all_left _ (addressed s.context a) _ placed) x.had in
+          let g = expression_typed b y.value (all_right _ (addressed s.context a) _ placed) y.had in
           by_judged j _ (same _ _ y.gave) h (λ h. behind (typed s a) _ _ f.is (behind (typed s b) _ _ g.is
           (value_stands _ (assign_known operator a b x.value y.value f.form g.form f.place g.place h))))
-      shape_stands (trees.comma a b) node j placed run e h =
+      shape_stands (trees.comma a b) node j placed e h =
           let x = went (type_of s.context a) (λ t. and_then (type_of s.context b) (λ u. Some (judged [] (decayed u)))) j e in
           let y = went (type_of s.context b) (λ u. Some (judged [] (decayed u))) j x.gave in
-          let f = expression_typed a x.value (all_left _ (addressed s.context a) _ placed) (all_left _ (expr_calls a) _ run) x.had in
-          let g = expression_typed b y.value (all_right _ (addressed s.context a) _ placed) (all_right _ (expr_calls a) _ run) y.had in
+          let f = expression_typed a x.value (all_left _ (addressed s.context a) _ placed) x.had in
+          let g = expression_typed b y.value (all_right _ (addressed s.context a) _ placed) y.had in
           by_judged j _ (same _ _ y.gave) h (λ h. behind (typed s a) _ _ f.is (behind (typed s b) _ _ g.is (value_stands _ (record { value = _; is = refl }))))
 
-      all_typed_by : (es : Exprs) (us : List TypeTree) → are_placed s (all_addressed s.context es) ≡ true → all_run s (exprs_calls es) ≡ true → types_of s.context es ≡ Some us → AllTyped es us
-      all_typed_by no_exprs us placed run e = record { list = []; is = refl; count = ap length (same _ _ e) }
-      all_typed_by (expr_and a es) us placed run e =
+      all_typed_by : (es : Exprs) (us : List TypeTree) → are_placed s (all_addressed s.context es) ≡ true → types_of s.context es ≡ Some us → AllTyped es us
+      all_typed_by no_exprs us placed e = record { list = []; is = refl; count = ap length (same _ _ e) }
+      all_typed_by (expr_and a es) us placed e =
           let x = went (type_of s.context a) (λ t. and_then (types_of s.context es) (λ ts. Some (t ∷ ts))) us e in
           let y = went (types_of s.context es) (λ ts. Some (x.value ∷ ts)) us x.gave in
-          let f = expression_typed a x.value (all_left _ (addressed s.context a) _ placed) (all_left _ (expr_calls a) _ run) x.had in
-          let rest = all_typed_by es y.value (all_right _ (addressed s.context a) _ placed) (all_right _ (expr_calls a) _ run) y.had in
+          let f = expression_typed a x.value (all_left _ (addressed s.context a) _ placed) x.had in
+          let rest = all_typed_by es y.value (all_right _ (addressed s.context a) _ placed) y.had in
           record {
             list = record { type = x.value; form = f.form } ∷ rest.list;
             is = goes (typed s a) _ _ _ f.is (goes (all_typed s es) rest.list _ _ rest.is refl);
@@ -494,4 +485,4 @@ module _ (s : Scope) where
           }
 
 pub typed_where_types : TypedWhereTypes
-typed_where_types s ready e t placed run is = let f = expression_typed s ready e t placed run is in (f.form, f.is)
+typed_where_types s ready e t placed is = let f = expression_typed s ready e t placed is in (f.form, f.is)

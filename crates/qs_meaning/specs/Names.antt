@@ -6,7 +6,7 @@ use Rattle.qs_memory.specs.Partial.{◌>>=◌}
 use Rattle.qs_calls.specs.declared.callee.Callee.{Callee}
 use Rattle.qs_calls.specs.declared.callee.Callee.TheVariants.{Function, PutChar, GetChar}
 use Rattle.qs_types.specs.GivenFunctions.{Signature, putchar_name}
-use Rattle.qs_types.specs.Contexts.{Entity, local_variable, file_variable, function, given, Context, place_from, entity_of}
+use Rattle.qs_types.specs.Contexts.{Entity, local_variable, file_variable, function, given, Context, entity_of}
 use Rattle.qs_types.specs.Placed.{is_one_of}
 use Rattle.qs_meaning.specs.Typed.{Expr, pointer_to, Lvalue, variable, object, Object, local, static}
 
@@ -62,6 +62,11 @@ name_lvalue s x = entity_of s.context x >>= entity_lvalue s
 
 -- ---- functions
 
+-- the place of a function among those with a body; their count where it isn't there
+abbrev pub function_number : List ℕ → List (List ℕ) → ℕ
+function_number f [] = 0
+function_number f (g ∷ gs) = if same_bytes g f then 0 else function_number f gs + 1
+
 -- a function that is called, and the types of its parameters
 pub record Designator : Type 0 where
   pub callee : Callee
@@ -74,7 +79,7 @@ with_parameters signature callee = signature >>= λ (s : Signature). Some (recor
 abbrev pub entity_designated : Scope → List ℕ → Entity → Option Designator
 entity_designated s f (local_variable node t) = None
 entity_designated s f (file_variable node t) = None
-entity_designated s f (function node signature body) = place_from 0 f s.functions >>= λ k. with_parameters signature (Function (record { 0 = k }))
+entity_designated s f (function node signature body) = with_parameters signature (Function (record { 0 = function_number f s.functions }))
 entity_designated s f (given signature) = with_parameters (Some signature) (if same_bytes f putchar_name then PutChar else GetChar)
 
 abbrev pub designated : Scope → List ℕ → Option Designator

@@ -8,7 +8,7 @@ use Rattle.qs_memory.specs.Partial.{◌>>=◌}
 use Rattle.qs_memory.specs.Values.{null, into}
 use Rattle.qs_memory.specs.Memory.{nothing as blank_nothing, Cell, byte, part, BlankTree, zeros, nulls, repeated, joined}
 use Rattle.qs_types.specs.Types.{TypeTree, int, unsigned, char, pointer, array, struct}
-use Rattle.qs_meaning.specs.Typed.{unchanged, converted, Expr, constant, value, pointer_to, member, Effect, nothing, assign, set, update, copy, fill, in_order, variable, object, local, static, StaticBlock, TypedUnit}
+use Rattle.qs_meaning.specs.Typed.{unchanged, converted, Expr, constant, value, pointer_to, member, Effect, nothing, assign, set, update, copy, fill, in_order, variable, object, local, static, StaticBlock, TypedProgram}
 use Rattle.qs_meaning.specs.Forms.{lvalue}
 use Rattle.qs_meaning.specs.Blanks.{blank_of}
 use Rattle.qs_meaning.specs.Initialisers.{local_set}
@@ -104,7 +104,7 @@ texts_in_list = refl
 -- ---- file scope: the cells of the blocks of a unit that has only variables
 
 abbrev blocks_of : UnitTree → Option (List StaticBlock)
-blocks_of unit = typed_of (numbered_unit unit) >>= λ (u : TypedUnit). Some u.blocks
+blocks_of unit = typed_of (numbered_unit unit) >>= λ (u : TypedProgram). Some u.blocks
 
 abbrev writable : List Cell → StaticBlock
 writable cells = record { cells = cells; writable = true }

@@ -6,7 +6,7 @@ use Rattle.qs_syntax.specs.Trees as trees
 use Rattle.qs_types.specs.Types.{TypeTree, int, unsigned, char, void, pointer, array, struct, Structs}
 use Rattle.qs_types.specs.Contexts.{Binding, local_variable, file_variable, function, Context, given_functions}
 use Rattle.qs_meaning.specs.Names.{Scope}
-use Rattle.qs_meaning.specs.Forms.{Form, Typed}
+use Rattle.qs_meaning.specs.Forms.{Form, TypedExpr}
 
 abbrev pub structs : Structs
 structs = Some (record { name = 109 ∷ []; type = char } ∷ record { name = 110 ∷ []; type = int } ∷ []) ∷ []
@@ -62,5 +62,5 @@ abbrev pub text_at : (node : ℕ) → List ℕ → ExprTree
 text_at node bytes = expr (record { id = node; token = 0 }) (trees.text bytes)
 
 -- an expression of this type and form
-abbrev pub is : TypeTree → Form → Option Typed
+abbrev pub is : TypeTree → Form → Option TypedExpr
 is type form = Some (record { type = type; form = form })

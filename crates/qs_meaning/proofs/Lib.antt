@@ -11,3 +11,4 @@ mod Options
 mod Sums
 mod TypedExpressions
 mod Faultless
+mod Bindings

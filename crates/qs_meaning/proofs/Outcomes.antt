@@ -5,12 +5,23 @@ use Rattle.qs_syntax.specs.Numbering.{numbered_unit}
 use Rattle.qs_memory.specs.Partial.{◌>>=◌}
 use Rattle.qs_events.specs.Events.{Event, Calls, Returns}
 use Rattle.qs_events.specs.BoundedRun.{BoundedRun, Ended, Undefined, Short}
+use Rattle.qs_types.specs.Rules.{Fault}
+use Rattle.qs_types.specs.UnitRules.{faults_in}
+use Rattle.qs_meaning.specs.Typed.{TypedProgram}
 use Rattle.qs_meaning.specs.Units.{typed_of}
 use Rattle.qs_meaning.specs.Runs.{source_run}
 use Rattle.qs_meaning.proofs.Samples.{main_}
 
+-- a unit in which no rule is broken
+abbrev pub faultless : List Fault → UnitTree → Option UnitTree
+faultless [] unit = Some unit
+faultless (fault ∷ faults) unit = None
+
+abbrev pub program_of : UnitTree → Option TypedProgram
+program_of unit = faultless (faults_in (numbered_unit unit)) (numbered_unit unit) >>= typed_of
+
 abbrev pub outcome_within : ℕ → (input : List ℕ) → UnitTree → Option BoundedRun
-outcome_within n input unit = typed_of (numbered_unit unit) >>= λ u. Some (source_run u [] input n)
+outcome_within n input unit = program_of unit >>= λ u. Some (source_run u [] input n)
 
 abbrev pub outcome : UnitTree → Option BoundedRun
 outcome unit = outcome_within 3 [] unit

@@ -13,7 +13,7 @@ use Rattle.qs_calls.specs.Relations.{Relation, Keeps, ReturnsRelated, CallsRelat
 use Rattle.qs_calls.proofs.RelationLaws.{given_related, invoke_related}
 use Rattle.qs_meaning.specs.Typed.{Conversion, unchanged, Expr, constant, value, pointer_to, member, called, stepped_after, unary, cast, binary, logical_and, logical_or, conditional, assigned, sequence, Lvalue, variable, object, Arguments, no_arguments, argument_and, Assignment, set, update, Effect, nothing, discard, assign, perform, copy, fill, in_order, Stmt, evaluate, block, branch, while_loop, do_loop, for_loop, break, continue, return, return_nothing, Stmts, no_stmts, stmt_and, Function}
 use Rattle.qs_meaning.specs.States.{Next, Here, choose, test, convert_by, conversion_then, Place, in_variable, in_object, read, write}
-use Rattle.qs_meaning.specs.Meaning.{operated, updated, one, expression, lvalue, arguments, assignment, effect, Targets, in_loop, turns, condition, for_condition, statement, statements}
+use Rattle.qs_meaning.specs.Meaning.{operation_value, updated_value, step_amount, expression, lvalue, arguments, assignment, effect, Targets, in_loop, turns, condition, for_condition, statement, statements}
 use Rattle.qs_meaning.specs.Runs.{body_of}
 
 module _ (R : Relation) where
@@ -60,13 +60,13 @@ module _ (R : Relation) where
             arguments_related es _ _ (λ xs v w. invoke_related R keeps f c d calls_related xs _ _ (λ result w. given_related R keeps result _ _ (λ x. h x v w)) w) v w
         expression_related (stepped_after s a operation left back) k l h v w =
             lvalue_related a _ _ (λ p v w. given_related R keeps (read s p v w) _ _ (λ x.
-            given_related R keeps (updated operation left unchanged back w.memory x one) _ _ (λ y. write_related s p y _ _ (h x) v w))) v w
+            given_related R keeps (updated_value operation left unchanged back w.memory x step_amount) _ _ (λ y. write_related s p y _ _ (h x) v w))) v w
         expression_related (unary operation i a) k l h v w =
             expression_related a _ _ (λ x v w. given_related R keeps (convert_by i x >>= λ x. apply_unary operation w.memory x) _ _ (λ y. h y v w)) v w
         expression_related (cast i a) k l h v w = expression_related a _ _ (λ x v w. given_related R keeps (convert_by i x) _ _ (λ y. h y v w)) v w
         expression_related (binary operation order left right a b) k l h v w =
             expression_related a _ _ (λ x. expression_related b _ _ (λ y v w.
-            given_related R keeps (operated operation order left right w.memory x y) _ _ (λ z. h z v w))) v w
+            given_related R keeps (operation_value operation order left right w.memory x y) _ _ (λ z. h z v w))) v w
         expression_related (logical_and a b) k l h v w =
             expression_related a _ _ (λ x. test_related x _ _ _ _ (expression_related b _ _ (λ y. test_related y _ _ _ _ (h _) (h _))) (h _)) v w
         expression_related (logical_or a b) k l h v w =
@@ -92,7 +92,7 @@ module _ (R : Relation) where
             lvalue_related a _ _ (λ p. expression_related b _ _ (λ x v w. given_related R keeps (convert_by i x) _ _ (λ y. write_related s p y _ _ (h y) v w))) v w
         assignment_related (update s a operation left right back b) k l h v w =
             lvalue_related a _ _ (λ p v w. given_related R keeps (read s p v w) _ _ (λ x.
-            expression_related b _ _ (λ y v w. given_related R keeps (updated operation left right back w.memory x y) _ _ (λ z. write_related s p z _ _ (h z) v w)) v w)) v w
+            expression_related b _ _ (λ y v w. given_related R keeps (updated_value operation left right back w.memory x y) _ _ (λ z. write_related s p z _ _ (h z) v w)) v w)) v w
 
         effect_related : (a : Effect) (k l : Next) → NextRelated k l → NextRelated (effect a here k) (effect a there l)
         effect_related nothing k l h v w = h v w

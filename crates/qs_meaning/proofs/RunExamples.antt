@@ -148,7 +148,7 @@ by_value :
     ≡ Some (Ended (Calls 1 ∷ Calls 0 ∷ Returns 0 ∷ Returns 1 ∷ []) 65)
 by_value = refl
 
--- void f(int *p){*p=3;} with a placed parameter: int f(int a){int *p;p=&a;*p=*p+1;return a;}
+-- int f(int a){int *p;p=&a;*p=*p+1;return a;}
 abbrev f_placed : DeclTree
 f_placed = defined bases.Int 0 (102 ∷ []) (parameter bases.Int 0 97 ∷ []) (local bases.Int 1 112 one None ∷ eval (set p (address a)) ∷ eval (set (deref p) (plus (deref p) (number 1))) ∷ return a ∷ [])
 

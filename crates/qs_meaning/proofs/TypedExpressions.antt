@@ -30,7 +30,7 @@ use Rattle.qs_meaning.specs.Typed.{Expr, pointer_to, Lvalue, variable, object, O
 use Rattle.qs_calls.specs.declared.callee.Callee.TheVariants.{Function}
 use Rattle.qs_meaning.specs.Typed as typed_trees
 use Rattle.qs_meaning.specs.Operations.{Operated, operation_of}
-use Rattle.qs_meaning.specs.Forms.{Form, lvalue, result, Typed, lvalue_of, address_in, address_of, type_in_use, value_in_use}
+use Rattle.qs_meaning.specs.Forms.{Form, lvalue, result, TypedExpr, lvalue_of, address_in, address_of, type_in_use, value_in_use}
 use Rattle.qs_meaning.specs.Names.{Locals, Scope, place_among, local_lvalue, entity_lvalue, with_parameters, Designator, entity_designated, designated}
 use Rattle.qs_meaning.specs.Expressions.{object_at, operated, operator_value, subscript_form, arguments_of, call_form, member_offset, dot_form, arrow_form, member_form, set_form, struct_form, plain_form, compound_form, assign_form, one, step_after_form, step_form, address_form, unary_form, size_form, operator_form, binary_form, typed, form_of, all_typed}
 use Rattle.qs_meaning.specs.TypedLaws.{IsReady, are_placed, TypedWhereTypes}
@@ -161,13 +161,13 @@ module _ (s : Scope) where
 
   -- ---- operators between two operands
 
-  operator_known : (operator : BinaryOperator) (a b : Typed) → Known (operation_of structs operator (type_in_use a) (type_in_use b)) → Known (operator_form structs operator a b)
+  operator_known : (operator : BinaryOperator) (a b : TypedExpr) → Known (operation_of structs operator (type_in_use a) (type_in_use b)) → Known (operator_form structs operator a b)
   operator_known operator a b k =
       onward (operator_value structs operator a b) _
       (onward (operation_of structs operator (type_in_use a) (type_in_use b)) _ k (record { value = _; is = refl }))
       (record { value = _; is = refl })
 
-  binary_known : (operator : BinaryOperator) (x y : ExprTree) (a b : Typed) → breaks_one (binary_judged structs operator x (type_in_use a) y (type_in_use b)).tests ≡ false → Known (binary_form structs operator a b)
+  binary_known : (operator : BinaryOperator) (x y : ExprTree) (a b : TypedExpr) → breaks_one (binary_judged structs operator x (type_in_use a) y (type_in_use b)).tests ≡ false → Known (binary_form structs operator a b)
   binary_known binaries.And x y a b h = record { value = _; is = refl }
   binary_known binaries.Or x y a b h = record { value = _; is = refl }
   binary_known binaries.Add x y a b h = operator_known binaries.Add a b (summed_known structs (type_in_use a) (type_in_use b) (kept _ h))
@@ -219,11 +219,11 @@ module _ (s : Scope) where
       go (inl h) = subtracted_known structs t u (or_left _ _ (both _ _ h integer))
       go (inr h) = subtracted_known structs t u (or_right (both_integers t u) _ (both _ _ h (or_left _ _ integer)))
 
-  compound_known : (operator : BinaryOperator) (a b : Typed) → Known (lvalue_of a.form) → Known (operation_of structs operator a.type (type_in_use b)) → Known (compound_form structs operator a b)
+  compound_known : (operator : BinaryOperator) (a b : TypedExpr) → Known (lvalue_of a.form) → Known (operation_of structs operator a.type (type_in_use b)) → Known (compound_form structs operator a b)
   compound_known operator a b l o =
       onward (lvalue_of a.form) _ l (onward (operation_of structs operator a.type (type_in_use b)) _ o (record { value = _; is = refl }))
 
-  after_known : (operator : BinaryOperator) (a : Typed) → Known (lvalue_of a.form) → Known (operation_of structs operator a.type int) → Known (step_after_form structs operator a)
+  after_known : (operator : BinaryOperator) (a : TypedExpr) → Known (lvalue_of a.form) → Known (operation_of structs operator a.type int) → Known (step_after_form structs operator a)
   after_known operator a l o = onward (lvalue_of a.form) _ l (onward (operation_of structs operator a.type int) _ o (record { value = _; is = refl }))
 
   step_known : (operator : StepOperator) (a : ExprTree) (t : TypeTree) (form : Form) → Place a t form → breaks_one (step_judged structs a t).tests ≡ false
@@ -233,7 +233,7 @@ module _ (s : Scope) where
       may : ((is_integer t || is_object_pointer structs t) && is_integer int) ≡ true
       may = both _ _ (right (is_lvalue a) _ (kept _ h)) refl
 
-      typed_a : Typed
+      typed_a : TypedExpr
       typed_a = record { type = t; form = form }
 
       at : Known (lvalue_of form)
@@ -245,10 +245,10 @@ module _ (s : Scope) where
       go steps.IncrementAfter = after_known binaries.Add typed_a at (summed_known structs t int (adds t int may))
       go steps.DecrementAfter = after_known binaries.Subtract typed_a at (subtracts t int may)
 
-  set_known : (a b : Typed) → Known (lvalue_of a.form) → Known (set_form a b)
+  set_known : (a b : TypedExpr) → Known (lvalue_of a.form) → Known (set_form a b)
   set_known a b l = onward (lvalue_of a.form) _ l (record { value = _; is = refl })
 
-  struct_known : (a b : Typed) → is_complete structs a.type ≡ true → Known (address_of a.form) → Known (address_of b.form) → Known (struct_form structs a b)
+  struct_known : (a b : TypedExpr) → is_complete structs a.type ≡ true → Known (address_of a.form) → Known (address_of b.form) → Known (struct_form structs a b)
   struct_known a b c p q =
       let e : Known (extent_of structs a.type) = known _ c in
       onward (extent_of structs a.type) _ e (onward (address_of a.form) _ p (onward (address_of b.form) _ q (record { value = _; is = refl })))
@@ -279,10 +279,10 @@ module _ (s : Scope) where
       → Known (assign_form structs operator (record { type = t; form = f }) (record { type = u; form = g }))
   assign_known operator x y t u f g place other = go operator
     where
-      a : Typed
+      a : TypedExpr
       a = record { type = t; form = f }
 
-      b : Typed
+      b : TypedExpr
       b = record { type = u; form = g }
 
       at : is_lvalue x ≡ true → Known (lvalue_of f)
@@ -335,11 +335,11 @@ module _ (s : Scope) where
   -- ---- calls
 
   record AllTyped (es : Exprs) (us : List TypeTree) : Type 0 where
-    list : List Typed
+    list : List TypedExpr
     is : all_typed s es ≡ Some list
     count : length list ≡ length us
 
-  arguments_known : (ts : List TypeTree) (list : List Typed) → length ts ≡ length list → Known (arguments_of ts list)
+  arguments_known : (ts : List TypeTree) (list : List TypedExpr) → length ts ≡ length list → Known (arguments_of ts list)
   arguments_known [] [] e = record { value = no_arguments; is = refl }
   arguments_known [] (a ∷ list) e = absurd (omega arith)
   arguments_known (t ∷ ts) [] e = absurd (omega arith)
@@ -350,7 +350,7 @@ module _ (s : Scope) where
   counted : (ts us : List TypeTree) (rest : Bool) → (not (length ts == length us) || rest) ≡ false → length ts ≡ length us
   counted ts us rest e = eqb-true (length ts) (length us) (not_true _ (unbroken_left _ rest e))
 
-  call_stands : (f : List ℕ) (o : Option Entity) (es : Exprs) (us : List TypeTree) (list : List Typed) (j : Judged) {names : List ℕ} → length list ≡ length us
+  call_stands : (f : List ℕ) (o : Option Entity) (es : Exprs) (us : List TypeTree) (list : List TypedExpr) (j : Judged) {names : List ℕ} → length list ≡ length us
       → call_judged o es us ≡ Some j → breaks_one j.tests ≡ false
       → Stands s ((o >>= entity_designated s f) >>= λ (d : Designator). arguments_of d.parameters list >>= λ converted. Some (Form.call d.callee converted)) false names j.type
   call_stands f None es us list j count e h = by_judged j _ (same _ _ e) h (λ h. never (sym h))

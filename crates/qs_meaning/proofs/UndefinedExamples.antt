@@ -7,7 +7,7 @@ use Rattle.qs_syntax.specs.declared.operators.UnaryOperator.TheVariants as unari
 use Rattle.qs_syntax.specs.Trees.{ExprTree, DeclTree, UnitTree, StmtTree}
 use Rattle.qs_events.specs.Events.{Calls, Returns}
 use Rattle.qs_events.specs.BoundedRun.{BoundedRun, Ended, Undefined}
-use Rattle.qs_meaning.proofs.Samples.{number, natural, a, b, c, p, q, op, plus, set, minus, address, deref, at, dot, arrow, comma, cast, call, text, one, many, local, int_, pointer_, array_, s_base, struct_s, eval, return, when, parameter, defined, main_, valued}
+use Rattle.qs_meaning.proofs.Samples.{number, natural, a, b, c, p, q, op, plus, set, minus, address, deref, at, dot, arrow, comma, cast, call, text, one, many, local, int_, pointer_, array_, s_base, struct_s, eval, return, block, when, parameter, defined, main_, valued}
 use Rattle.qs_meaning.proofs.Outcomes.{outcome, of_main, ends, stuck}
 
 -- ---- 1: a read meets a cell or a variable that is unset, or cells of another kind
@@ -109,7 +109,7 @@ divided_behind_zero = refl
 
 -- ---- 3: a shift by 32 or more, read without a sign
 
--- return (1<<31)!=0, as -1>>31: return -1>>31;
+-- return -1>>31;
 shifted_by_31 : of_main (return (op ShiftRight (minus (number 1)) (number 31)) ∷ []) ≡ ends 255
 shifted_by_31 = refl
 
@@ -349,8 +349,9 @@ overlapping_ranges = refl
 copied_behind_set : outcome (over_ints (eval (set (deref (set q (as_s a))) (deref q)))) ≡ ends 0
 copied_behind_set = refl
 
--- q=(struct s *)(a+1),*q=*(q=(struct s *)a);
-copied_before_set : outcome (over_ints (eval (comma (set q (as_s (plus a (number 1)))) (set (deref q) (deref (set q (as_s a))))))) ≡ stuck
+-- q=(struct s *)(a+1); *q=*(q=(struct s *)a);
+copied_before_set :
+    outcome (over_ints (block (eval (set q (as_s (plus a (number 1)))) ∷ eval (set (deref q) (deref (set q (as_s a)))) ∷ []))) ≡ stuck
 copied_before_set = refl
 
 -- ---- 9: a call whose result is used where the function ended without one

@@ -29,7 +29,7 @@ use Rattle.qs_types.specs.Expressions.{type_of}
 use Rattle.qs_meaning.specs.Typed.{Expr, constant, pointer_to, member, stepped_after, unary, cast, binary, logical_and, logical_or, conditional, Lvalue, object, Arguments, no_arguments, argument_and, set, update}
 use Rattle.qs_meaning.specs.Conversions.{scalar_of, conversion}
 use Rattle.qs_meaning.specs.Operations.{Operated, operation_of, signedness}
-use Rattle.qs_meaning.specs.Forms.{Form, lvalue, result, call, assignment, step, struct_assignment, comma, Typed, lvalue_of, address_of, type_in_use, value_in_use, effect_in_use}
+use Rattle.qs_meaning.specs.Forms.{Form, lvalue, result, call, assignment, step, struct_assignment, comma, TypedExpr, lvalue_of, address_of, type_in_use, value_in_use, effect_in_use}
 use Rattle.qs_meaning.specs.Names.{Scope, text_object, name_lvalue, Designator, designated}
 
 -- ---- primary expressions (6.5.1)
@@ -52,23 +52,23 @@ name_form s x = name_lvalue s x >>= λ l. Some (lvalue l)
 abbrev pub object_at : Expr → Form
 object_at p = lvalue (object p)
 
-abbrev pub operated : Operated → (a b : Typed) → Expr
+abbrev pub operated : Operated → (a b : TypedExpr) → Expr
 operated o a b = binary o.operation o.order o.left o.right (value_in_use a) (value_in_use b)
 
-abbrev pub operator_value : Structs → BinaryOperator → (a b : Typed) → Option Expr
+abbrev pub operator_value : Structs → BinaryOperator → (a b : TypedExpr) → Option Expr
 operator_value structs operator a b = operation_of structs operator (type_in_use a) (type_in_use b) >>= λ o. Some (operated o a b)
 
-abbrev pub subscript_form : Structs → (a b : Typed) → Option Form
+abbrev pub subscript_form : Structs → (a b : TypedExpr) → Option Form
 subscript_form structs a b = operator_value structs binaries.Add a b >>= λ sum. Some (object_at sum)
 
 -- 6.5.2.2p7: each argument is converted to the type of its parameter
-abbrev pub arguments_of : List TypeTree → List Typed → Option Arguments
+abbrev pub arguments_of : List TypeTree → List TypedExpr → Option Arguments
 arguments_of [] [] = Some no_arguments
 arguments_of [] (a ∷ rest) = None
 arguments_of (t ∷ ts) [] = None
 arguments_of (t ∷ ts) (a ∷ rest) = arguments_of ts rest >>= λ later. Some (argument_and (conversion (type_in_use a) t) (value_in_use a) later)
 
-abbrev pub call_form : Scope → List ℕ → List Typed → Option Form
+abbrev pub call_form : Scope → List ℕ → List TypedExpr → Option Form
 call_form s f given =
     designated s f >>= λ (d : Designator). arguments_of d.parameters given >>= λ converted. Some (call d.callee converted)
 
@@ -82,43 +82,43 @@ member_offset structs (struct k) x = struct_of structs k >>= λ ms. member_numbe
 member_offset structs _ x = None
 
 -- 6.5.2.3p3: e.x of an lvalue e
-abbrev pub dot_form : Structs → Typed → List ℕ → Option Form
+abbrev pub dot_form : Structs → TypedExpr → List ℕ → Option Form
 dot_form structs a x =
     address_of a.form >>= λ base. member_offset structs a.type x >>= λ offset. Some (object_at (member offset base))
 
 -- 6.5.2.3p4: p->x
-abbrev pub arrow_form : Structs → Typed → List ℕ → Option Form
+abbrev pub arrow_form : Structs → TypedExpr → List ℕ → Option Form
 arrow_form structs a x =
     member_offset structs (referenced (type_in_use a)) x >>= λ offset. Some (object_at (member offset (value_in_use a)))
 
-abbrev pub member_form : Structs → Access → Typed → List ℕ → Option Form
+abbrev pub member_form : Structs → Access → TypedExpr → List ℕ → Option Form
 member_form structs accesses.Dot a x = dot_form structs a x
 member_form structs accesses.Arrow a x = arrow_form structs a x
 
 -- ---- assignment (6.5.16)
 
 -- 6.5.16.1p2: the value is converted to the type of the lvalue
-abbrev pub set_form : Typed → Typed → Option Form
+abbrev pub set_form : TypedExpr → TypedExpr → Option Form
 set_form a b = lvalue_of a.form >>= λ l. Some (assignment (set (scalar_of a.type) l (conversion (type_in_use b) a.type) (value_in_use b)))
 
--- 6.5.16.1p3
-abbrev pub struct_form : Structs → Typed → Typed → Option Form
+-- 6.5.16.1p2: a struct
+abbrev pub struct_form : Structs → TypedExpr → TypedExpr → Option Form
 struct_form structs a b =
     extent_of structs a.type >>= λ (e : Extent). address_of a.form >>= λ to. address_of b.form >>= λ from.
     Some (struct_assignment e.size e.alignment to from)
 
-abbrev pub plain_form : Structs → Typed → Typed → Option Form
+abbrev pub plain_form : Structs → TypedExpr → TypedExpr → Option Form
 plain_form structs a b = if is_struct a.type then struct_form structs a b else set_form a b
 
 -- 6.5.16.2p3: a op= b is a = a op b, but a is evaluated once
 abbrev pub updated : (t : TypeTree) → Lvalue → Operated → Expr → Form
 updated t l o b = assignment (update (scalar_of t) l o.operation o.left o.right (conversion o.type t) b)
 
-abbrev pub compound_form : Structs → BinaryOperator → Typed → Typed → Option Form
+abbrev pub compound_form : Structs → BinaryOperator → TypedExpr → TypedExpr → Option Form
 compound_form structs operator a b =
     lvalue_of a.form >>= λ l. operation_of structs operator a.type (type_in_use b) >>= λ o. Some (updated a.type l o (value_in_use b))
 
-abbrev pub assign_form : Structs → AssignmentOperator → Typed → Typed → Option Form
+abbrev pub assign_form : Structs → AssignmentOperator → TypedExpr → TypedExpr → Option Form
 assign_form structs assigns.Plain a b = plain_form structs a b
 assign_form structs assigns.Multiply a b = compound_form structs binaries.Multiply a b
 assign_form structs assigns.Divide a b = compound_form structs binaries.Divide a b
@@ -133,7 +133,7 @@ assign_form structs assigns.BitOr a b = compound_form structs binaries.BitOr a b
 
 -- ---- steps (6.5.2.4, 6.5.3.1)
 
-abbrev pub one : Typed
+abbrev pub one : TypedExpr
 one = record { type = int; form = constant_form 1 false }
 
 -- 6.5.2.4p2: what ++a writes, and the value before
@@ -142,12 +142,12 @@ after_form t l o =
     step (update (scalar_of t) l o.operation o.left o.right (conversion o.type t) (value_in_use one))
     (stepped_after (scalar_of t) l o.operation o.left (conversion o.type t))
 
-abbrev pub step_after_form : Structs → BinaryOperator → Typed → Option Form
+abbrev pub step_after_form : Structs → BinaryOperator → TypedExpr → Option Form
 step_after_form structs operator a =
     lvalue_of a.form >>= λ l. operation_of structs operator a.type int >>= λ o. Some (after_form a.type l o)
 
 -- 6.5.3.1p2: ++a is a += 1
-abbrev pub step_form : Structs → StepOperator → Typed → Option Form
+abbrev pub step_form : Structs → StepOperator → TypedExpr → Option Form
 step_form structs steps.IncrementBefore a = compound_form structs binaries.Add a one
 step_form structs steps.DecrementBefore a = compound_form structs binaries.Subtract a one
 step_form structs steps.IncrementAfter a = step_after_form structs binaries.Add a
@@ -156,15 +156,15 @@ step_form structs steps.DecrementAfter a = step_after_form structs binaries.Subt
 -- ---- unary operators (6.5.3)
 
 -- 6.5.3.2p3: the operand is an lvalue, and doesn't turn into the value that it has
-abbrev pub address_form : Typed → Option Form
+abbrev pub address_form : TypedExpr → Option Form
 address_form a = address_of a.form >>= λ p. Some (result p)
 
 -- 6.5.3.2p4
-abbrev pub indirect_form : Typed → Form
+abbrev pub indirect_form : TypedExpr → Form
 indirect_form a = object_at (value_in_use a)
 
 -- 6.5.3.3p2 to p4: the operand is promoted
-abbrev pub arithmetic_form : (Signedness → UnaryOperation) → Typed → Form
+abbrev pub arithmetic_form : (Signedness → UnaryOperation) → TypedExpr → Form
 arithmetic_form operation a =
     let t = promoted (type_in_use a) in
     result (unary (operation (signedness t)) (conversion (type_in_use a) t) (value_in_use a))
@@ -173,10 +173,10 @@ arithmetic_form operation a =
 abbrev pub beside_zero : TypeTree → TypeTree
 beside_zero t = common int t
 
-abbrev pub negation_form : Typed → Form
+abbrev pub negation_form : TypedExpr → Form
 negation_form a = result (unary Not (conversion (type_in_use a) (beside_zero (type_in_use a))) (value_in_use a))
 
-abbrev pub unary_form : UnaryOperator → Typed → Option Form
+abbrev pub unary_form : UnaryOperator → TypedExpr → Option Form
 unary_form unaries.Address a = address_form a
 unary_form unaries.Indirect a = Some (indirect_form a)
 unary_form unaries.Plus a = Some (arithmetic_form Plus a)
@@ -189,15 +189,15 @@ abbrev pub size_form : Structs → TypeTree → Option Form
 size_form structs t = size_of structs t >>= λ size. Some (result (constant scalars.Unsigned size))
 
 -- 6.5.4p5
-abbrev pub cast_form : TypeTree → Typed → Form
+abbrev pub cast_form : TypeTree → TypedExpr → Form
 cast_form t a = result (cast (conversion (type_in_use a) t) (value_in_use a))
 
 -- ---- operators between two operands (6.5.5 to 6.5.14)
 
-abbrev pub operator_form : Structs → BinaryOperator → (a b : Typed) → Option Form
+abbrev pub operator_form : Structs → BinaryOperator → (a b : TypedExpr) → Option Form
 operator_form structs operator a b = operator_value structs operator a b >>= λ e. Some (result e)
 
-abbrev pub binary_form : Structs → BinaryOperator → (a b : Typed) → Option Form
+abbrev pub binary_form : Structs → BinaryOperator → (a b : TypedExpr) → Option Form
 -- 6.5.13, 6.5.14
 binary_form structs binaries.And a b = Some (result (logical_and (value_in_use a) (value_in_use b)))
 binary_form structs binaries.Or a b = Some (result (logical_or (value_in_use a) (value_in_use b)))
@@ -219,20 +219,20 @@ binary_form structs binaries.BitXor a b = operator_form structs binaries.BitXor 
 binary_form structs binaries.BitOr a b = operator_form structs binaries.BitOr a b
 
 -- 6.5.15p5, p6: both branches are converted to one type
-abbrev pub conditional_form : (c a b : Typed) → Form
+abbrev pub conditional_form : (c a b : TypedExpr) → Form
 conditional_form c a b =
     let t = common (type_in_use a) (type_in_use b) in
     result (conditional (scalar_of t) (value_in_use c) (conversion (type_in_use a) t) (conversion (type_in_use b) t) (value_in_use a) (value_in_use b))
 
 -- 6.5.17p2: the left operand is used for its effect; the result is no lvalue
-abbrev pub comma_form : (a b : Typed) → Form
+abbrev pub comma_form : (a b : TypedExpr) → Form
 comma_form a b = comma (effect_in_use a) b.type b.form
 
 -- ---- expressions
 
 abbrev mutual
   -- an expression that has a type
-  pub typed : Scope → ExprTree → Option Typed
+  pub typed : Scope → ExprTree → Option TypedExpr
   typed s (expr node shape) =
       type_of s.context (expr node shape) >>= λ t. form_of s node shape >>= λ form. Some (record { type = t; form = form })
 
@@ -254,6 +254,6 @@ abbrev mutual
   form_of s node (trees.assign operator a b) = typed s a >>= λ a. typed s b >>= assign_form s.context.structs operator a
   form_of s node (trees.comma a b) = typed s a >>= λ a. typed s b >>= λ b. Some (comma_form a b)
 
-  pub all_typed : Scope → Exprs → Option (List Typed)
+  pub all_typed : Scope → Exprs → Option (List TypedExpr)
   all_typed s no_exprs = Some []
   all_typed s (expr_and e es) = typed s e >>= λ a. all_typed s es >>= λ rest. Some (a ∷ rest)

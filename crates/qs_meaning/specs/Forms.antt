@@ -19,12 +19,12 @@ pub data Form : Type 0 where
   assignment : Assignment → Form
   -- 6.5.2.4: `a++` writes, and has the value before
   step : Assignment → (before : Expr) → Form
-  -- 6.5.16p3: an assignment of a struct
+  -- 6.5.16.1p1, p2: an assignment of a struct
   struct_assignment : (size alignment : ℕ) → (to from : Expr) → Form
   -- 6.5.17: the effect of the left operand, then the right one, with its type
   comma : Effect → TypeTree → Form → Form
 
-pub record Typed : Type 0 where
+pub record TypedExpr : Type 0 where
   pub type : TypeTree
   pub form : Form
 
@@ -91,11 +91,11 @@ effect_of t (comma a u b) = in_order a (effect_of u b)
 -- ---- an expression with its type
 
 -- 6.3.2.1p3
-abbrev pub type_in_use : Typed → TypeTree
+abbrev pub type_in_use : TypedExpr → TypeTree
 type_in_use a = decayed a.type
 
-abbrev pub value_in_use : Typed → Expr
+abbrev pub value_in_use : TypedExpr → Expr
 value_in_use a = value_of a.type a.form
 
-abbrev pub effect_in_use : Typed → Effect
+abbrev pub effect_in_use : TypedExpr → Effect
 effect_in_use a = effect_of a.type a.form

@@ -8,7 +8,7 @@ use Rattle.qs_types.specs.Layout.{size_of, offset_of}
 use Rattle.qs_types.specs.Declarations.{text_of}
 use Rattle.qs_types.specs.InitialiserRules.{part_type}
 use Rattle.qs_meaning.specs.Typed.{Expr, member, Lvalue, object, Effect, nothing, copy, fill, in_order}
-use Rattle.qs_meaning.specs.Forms.{Form, lvalue, Typed, address_of, effect_of}
+use Rattle.qs_meaning.specs.Forms.{Form, lvalue, TypedExpr, address_of, effect_of}
 use Rattle.qs_meaning.specs.Names.{Scope}
 use Rattle.qs_meaning.specs.Expressions.{typed, plain_form}
 use Rattle.qs_meaning.specs.Blanks.{blank_of}
@@ -49,10 +49,10 @@ text_room _ bytes = 0
 -- a text that initialises an array is copied from its block
 abbrev pub text_set : Scope → TypeTree → (to : Expr) → ExprTree → Option Effect
 text_set s t to e =
-    text_of e >>= λ bytes. typed s e >>= λ (a : Typed). address_of a.form >>= λ from. Some (copy (text_room t bytes) 1 to from)
+    text_of e >>= λ bytes. typed s e >>= λ (a : TypedExpr). address_of a.form >>= λ from. Some (copy (text_room t bytes) 1 to from)
 
 -- 6.7.9p11, p13: a scalar or a struct is initialised as by an assignment whose value is discarded
-abbrev pub assigned_set : Scope → Typed → ExprTree → Option Effect
+abbrev pub assigned_set : Scope → TypedExpr → ExprTree → Option Effect
 assigned_set s part e = typed s e >>= λ a. plain_form s.context.structs part a >>= λ form. Some (effect_of part.type form)
 
 -- the part of the object at this address
@@ -71,10 +71,10 @@ filled s t base i =
     blank_of s.context.structs t >>= λ cells. pieces s.context.structs t 0 i >>= λ ps.
     pieces_set s base ps >>= λ sets. Some (in_order (fill cells base) sets)
 
-abbrev pub object_set : Scope → Typed → InitialiserTree → Option Effect
+abbrev pub object_set : Scope → TypedExpr → InitialiserTree → Option Effect
 object_set s a i = address_of a.form >>= λ base. filled s a.type base i
 
 -- the local with its initialiser
-abbrev pub local_set : Scope → Typed → InitialiserTree → Option Effect
+abbrev pub local_set : Scope → TypedExpr → InitialiserTree → Option Effect
 local_set s a (trees.value e) = if is_array a.type then object_set s a (trees.value e) else assigned_set s a e
 local_set s a (trees.list node is) = object_set s a (trees.list node is)

@@ -11,7 +11,7 @@ use Rattle.qs_memory.specs.Pointers.{member_of}
 use Rattle.qs_memory.specs.Operations.{apply_unary, apply_binary}
 use Rattle.qs_events.specs.Runs.{short, given}
 use Rattle.qs_calls.specs.World.{with_memory, Return}
-use Rattle.qs_calls.specs.Calls.{invoke}
+use Rattle.qs_calls.specs.Calls.{invoke, used}
 use Rattle.qs_meaning.specs.Typed.{Conversion, unchanged, Order, as_written, exchanged, Expr, constant, value, pointer_to, member, called, stepped_after, unary, cast, binary, logical_and, logical_or, conditional, assigned, sequence, Lvalue, variable, object, Arguments, no_arguments, argument_and, Assignment, set, update, Effect, nothing, discard, assign, perform, copy, fill, in_order, Stmt, evaluate, block, branch, while_loop, do_loop, for_loop, break, continue, return, return_nothing, Stmts, no_stmts, stmt_and}
 use Rattle.qs_meaning.specs.States.{Next, Here, test, convert_by, conversion_then, pointer_at, Place, in_variable, in_object, read, write}
 
@@ -21,15 +21,16 @@ abbrev pub in_their_order : Order → BinaryOperation → Memory → (x y : Valu
 in_their_order as_written operation m x y = apply_binary operation m x y
 in_their_order exchanged operation m x y = apply_binary operation m y x
 
-abbrev pub operated : BinaryOperation → Order → (left right : Conversion) → Memory → (x y : Value) → Option Value
-operated operation order left right m x y = convert_by left x >>= λ x. convert_by right y >>= λ y. in_their_order order operation m x y
+abbrev pub operation_value : BinaryOperation → Order → (left right : Conversion) → Memory → (x y : Value) → Option Value
+operation_value operation order left right m x y = convert_by left x >>= λ x. convert_by right y >>= λ y. in_their_order order operation m x y
 
 -- 6.5.16.2p3: what a compound assignment writes
-abbrev pub updated : BinaryOperation → (left right back : Conversion) → Memory → (x y : Value) → Option Value
-updated operation left right back m x y = operated operation as_written left right m x y >>= convert_by back
+abbrev pub updated_value : BinaryOperation → (left right back : Conversion) → Memory → (x y : Value) → Option Value
+updated_value operation left right back m x y = operation_value operation as_written left right m x y >>= convert_by back
 
-abbrev pub one : Value
-one = integer 1
+-- 6.5.2.4p2: the amount of a step
+abbrev pub step_amount : Value
+step_amount = integer 1
 
 -- ---- expressions
 
@@ -44,12 +45,12 @@ abbrev mutual
   -- 6.5.2.3p3, p4
   expression (member offset a) h next =
       expression a h (λ x v w. given (as_pointer x >>= λ p. member_of w.memory p offset) (λ p. next (address p) v w))
-  -- 6.5.2.2p4, p5, p10; UNDEFINED 9 (6.9.1p12): the function ended without the value that is used
-  expression (called s f es) h next = arguments es h (λ xs v. invoke f h.calls xs (λ result w. given result (λ x. next x v w)))
+  -- 6.5.2.2p4, p5, p10
+  expression (called s f es) h next = arguments es h (λ xs v. invoke f h.calls xs (λ result w. used result (λ x. next x v w)))
   -- 6.5.2.4p2
   expression (stepped_after s l operation left back) h next =
       lvalue l h (λ p v w. given (read s p v w) (λ x.
-      given (updated operation left unchanged back w.memory x one) (λ y. write s p y (next x) v w)))
+      given (updated_value operation left unchanged back w.memory x step_amount) (λ y. write s p y (next x) v w)))
   -- 6.5.3.3
   expression (unary operation c a) h next =
       expression a h (λ x v w. given (convert_by c x >>= λ x. apply_unary operation w.memory x) (λ y. next y v w))
@@ -57,7 +58,7 @@ abbrev mutual
   expression (cast c a) h next = expression a h (λ x. conversion_then c x next)
   -- 6.5.5 to 6.5.12
   expression (binary operation order left right a b) h next =
-      expression a h (λ x. expression b h (λ y v w. given (operated operation order left right w.memory x y) (λ z. next z v w)))
+      expression a h (λ x. expression b h (λ y v w. given (operation_value operation order left right w.memory x y) (λ z. next z v w)))
   -- 6.5.13p4: the right operand isn't evaluated where the left one is 0
   expression (logical_and a b) h next =
       expression a h (λ x. test x (expression b h (λ y. test y (next (integer 1)) (next (integer 0)))) (next (integer 0)))
@@ -88,14 +89,14 @@ abbrev mutual
   -- 6.5.16.2p3: the left side, the value that stands there, the right side, the write
   assignment (update s l operation left right back a) h next =
       lvalue l h (λ p v w. given (read s p v w) (λ x.
-      expression a h (λ y v w. given (updated operation left right back w.memory x y) (λ z. write s p z (next z) v w)) v w))
+      expression a h (λ y v w. given (updated_value operation left right back w.memory x y) (λ z. write s p z (next z) v w)) v w))
 
   pub effect : Effect → Here → Next → Next
   effect nothing h next = next
   effect (discard a) h next = expression a h (λ x. next)
   effect (assign a) h next = assignment a h (λ x. next)
   effect (perform f es) h next = arguments es h (λ xs v. invoke f h.calls xs (λ result. next v))
-  -- 6.5.16.1p3
+  -- 6.5.16.1p2, 6.7.9p14
   effect (copy size alignment a b) h next =
       expression a h (λ x. expression b h (λ y v w.
       given (as_pointer x >>= λ to. as_pointer y >>= λ from. blocks.copy size alignment w.memory to from) (λ m. next v (with_memory w m))))

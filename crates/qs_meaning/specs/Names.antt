@@ -31,10 +31,13 @@ pub record Scope : Type 0 where
 abbrev pub within : Scope → Context → Scope
 within s context = record s { context = context }
 
--- the place of a node in a list; the length of the list where it isn't there
-abbrev pub place_among : ℕ → List ℕ → ℕ
-place_among node [] = 0
-place_among node (n ∷ ns) = if node == n then 0 else place_among node ns + 1
+-- the place of the first that passes a test; the length of the list where none does
+abbrev pub place_where : {A : Type 0} → (A → Bool) → List A → ℕ
+place_where test [] = 0
+place_where test (x ∷ xs) = if test x then 0 else place_where test xs + 1
+
+abbrev pub place_among : (node : ℕ) → List ℕ → ℕ
+place_among node nodes = place_where (λ n. n == node) nodes
 
 -- ---- objects
 
@@ -62,10 +65,8 @@ name_lvalue s x = entity_of s.context x >>= entity_lvalue s
 
 -- ---- functions
 
--- the place of a function among those with a body; their count where it isn't there
-abbrev pub function_number : List ℕ → List (List ℕ) → ℕ
-function_number f [] = 0
-function_number f (g ∷ gs) = if same_bytes g f then 0 else function_number f gs + 1
+abbrev pub function_number : (name : List ℕ) → List (List ℕ) → ℕ
+function_number f names = place_where (λ g. same_bytes g f) names
 
 -- a function that is called, and the types of its parameters
 pub record Designator : Type 0 where

@@ -10,14 +10,15 @@ use Rattle.qs_types.specs.Declarations.{variable_declared}
 use Rattle.qs_types.specs.StatementRules.{after_variable, after_statement, for_context}
 use Rattle.qs_meaning.specs.Typed.{Expr, Effect, nothing, in_order, Stmt, evaluate, block, branch, while_loop, do_loop, for_loop, break, continue, return, return_nothing, Stmts, no_stmts, stmt_and}
 use Rattle.qs_meaning.specs.Conversions.{conversion}
-use Rattle.qs_meaning.specs.Forms.{lvalue, Typed, type_in_use, value_in_use, effect_in_use}
+use Rattle.qs_meaning.specs.Forms.{lvalue, TypedExpr, type_in_use, value_in_use, effect_in_use}
 use Rattle.qs_meaning.specs.Names.{Scope, within, local_lvalue}
 use Rattle.qs_meaning.specs.Expressions.{typed}
 use Rattle.qs_meaning.specs.Initialisers.{local_set}
 
 -- ---- declarations of a block (6.7, 6.8.2)
 
--- 6.2.4p6: without an initialiser a declaration does nothing
+-- A local lives as long as its call does and keeps its value, where C11 ends its life with its block and takes the value away at each
+-- declaration (6.2.4p6). So a declaration without an initialiser does nothing.
 abbrev pub initialised : Scope → (node : ℕ) → TypeTree → Option InitialiserTree → Option Effect
 initialised s node t None = Some nothing
 initialised s node t (Some i) = local_set s (record { type = t; form = lvalue (local_lvalue s.locals node) }) i

@@ -81,7 +81,7 @@ mutual
     discard : Expr → Effect
     assign : Assignment → Effect
     perform : Callee → Arguments → Effect
-    -- 6.5.16.1p3: a struct is copied, or the bytes of a text
+    -- 6.5.16.1p2, 6.7.9p14: a struct is copied, or the bytes of a text
     copy : (size alignment : ℕ) → (to from : Expr) → Effect
     -- 6.7.9p19, p21: an object before the expressions of its list
     fill : BlankTree → (at : Expr) → Effect
@@ -127,6 +127,6 @@ pub record StaticBlock : Type 0 where
   pub writable : Bool
 
 -- the functions with a body, in order; the file-scope variables and then the texts, in order
-pub record TypedUnit : Type 0 where
+pub record TypedProgram : Type 0 where
   pub functions : List Function
   pub blocks : List StaticBlock

@@ -18,7 +18,7 @@ use Rattle.qs_types.specs.StatementRules.{after_variable}
 use Rattle.qs_types.specs.UnitRules.{parameter_types, body_context, after_declaration}
 use Rattle.qs_types.specs.Placed.{Local, addressed_in, locals_in, is_placed}
 use Rattle.qs_types.specs.References.{TextBlock, literal_blocks}
-use Rattle.qs_meaning.specs.Typed.{Expr, pointer_to, Lvalue, variable, object, Object, local, static, Function, StaticBlock, TypedUnit}
+use Rattle.qs_meaning.specs.Typed.{Expr, pointer_to, Lvalue, variable, object, Object, local, static, Function, StaticBlock, TypedProgram}
 use Rattle.qs_meaning.specs.Conversions.{scalar_of}
 use Rattle.qs_meaning.specs.Names.{Locals, Statics, Scope, within, local_lvalue}
 use Rattle.qs_meaning.specs.InitialValues.{variable_block, text_block}
@@ -104,22 +104,22 @@ file_variables_typed s base (v ∷ vs) =
     file_variable_typed s base v >>= λ now. file_variables_typed (within s (after_variable true s.context base v)) base vs >>= λ rest.
     Some (now ∷ rest)
 
-abbrev pub no_functions : Option (List StaticBlock) → Option TypedUnit
+abbrev pub no_functions : Option (List StaticBlock) → Option TypedProgram
 no_functions blocks = blocks >>= λ bs. Some (record { functions = []; blocks = bs })
 
-abbrev pub no_blocks : Option (List Function) → Option TypedUnit
+abbrev pub no_blocks : Option (List Function) → Option TypedProgram
 no_blocks functions = functions >>= λ fs. Some (record { functions = fs; blocks = [] })
 
-abbrev pub declaration_typed : Scope → DeclTree → Option TypedUnit
+abbrev pub declaration_typed : Scope → DeclTree → Option TypedProgram
 declaration_typed s (structure d) = Some (record { functions = []; blocks = [] })
 declaration_typed s (forward d) = Some (record { functions = []; blocks = [] })
 declaration_typed s (function f) = no_blocks (function_typed s f f.body)
 declaration_typed s (variables d) = no_functions (file_variables_typed s d.base d.variables)
 
-abbrev pub declarations_typed : Scope → UnitTree → Option TypedUnit
+abbrev pub declarations_typed : Scope → UnitTree → Option TypedProgram
 declarations_typed s [] = Some (record { functions = []; blocks = [] })
 declarations_typed s (d ∷ ds) =
-    declaration_typed s d >>= λ (now : TypedUnit). declarations_typed (within s (after_declaration s.context d)) ds >>= λ (rest : TypedUnit).
+    declaration_typed s d >>= λ (now : TypedProgram). declarations_typed (within s (after_declaration s.context d)) ds >>= λ (rest : TypedProgram).
     Some (record { functions = now.functions ++ rest.functions; blocks = now.blocks ++ rest.blocks })
 
 -- ---- units
@@ -153,14 +153,14 @@ start_scope unit = record {
 }
 
 -- the typed tree of a unit
-abbrev pub typed_of : UnitTree → Option TypedUnit
+abbrev pub typed_of : UnitTree → Option TypedProgram
 typed_of unit =
-    declarations_typed (start_scope unit) unit >>= λ (u : TypedUnit). Some (record u { blocks = u.blocks ++ map text_block (literal_blocks unit) })
+    declarations_typed (start_scope unit) unit >>= λ (u : TypedProgram). Some (record u { blocks = u.blocks ++ map text_block (literal_blocks unit) })
 
 -- ---- the memory in which a run begins: the unit's blocks are its first ones
 
 abbrev pub block_of : StaticBlock → Block
 block_of b = record { size = length b.cells; is_live = true; is_writable = b.writable; cells = λ offset. slice_index_or b.cells offset unset }
 
-abbrev pub initial_memory : TypedUnit → Memory
+abbrev pub initial_memory : TypedProgram → Memory
 initial_memory u = map block_of u.blocks

@@ -12,3 +12,5 @@ mod Sums
 mod TypedExpressions
 mod Faultless
 mod Bindings
+mod ValueExamples
+mod UnitExamples

@@ -183,3 +183,24 @@ defined base stars f ps ss =
 -- int main(void){ .. }
 abbrev pub main_ : List StmtTree → DeclTree
 main_ ss = defined bases.Int 0 (109 ∷ 97 ∷ 105 ∷ 110 ∷ []) [] ss
+
+-- int x=..,y=..;
+abbrev pub two_ints : ℕ → Option InitialiserTree → ℕ → Option InitialiserTree → trees.DeclarationTree
+two_ints x i y j = record {
+  base = bases.Int;
+  variables = record { declarator = declarator 0 x one; initialiser = i } ∷ record { declarator = declarator 0 y one; initialiser = j } ∷ [];
+}
+
+-- the members are given by their names and types
+abbrev pub struct_named : ℕ → List trees.MembersTree → DeclTree
+struct_named tag members = structure (record { node = unnumbered 0; name = tag ∷ []; members = members })
+
+abbrev pub member_of : Base → ℕ → LengthsTree → trees.MembersTree
+member_of base x lengths = record { base = base; declarators = declarator 0 x lengths ∷ [] }
+
+-- a header without a body
+abbrev pub header : Base → (stars : ℕ) → (name : List ℕ) → List ParameterTree → DeclTree
+header base stars f ps = function (record { node = unnumbered 0; result_type = record { base = base; stars = stars }; name = f; parameters = ps; body = None })
+
+abbrev pub main_name : List ℕ
+main_name = 109 ∷ 97 ∷ 105 ∷ 110 ∷ []

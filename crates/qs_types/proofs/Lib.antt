@@ -5,7 +5,13 @@ mod Extents
 mod LayoutSteps
 mod Declaring
 mod LayoutExamples
+pub mod RuleLaws
+mod ConstantTypes
 mod RuleTrees
 mod DeclarationExamples
 mod ExpressionExamples
 mod PlacedExamples
+mod ValueExamples
+mod HeldBackExamples
+mod LimitExamples
+mod ReferenceExamples

@@ -1,20 +1,20 @@
--- Which locals are placed, what is counted of them, and what names stand for.
-use Rattle.std.proofs.Common.{◌≡◌, ℕ, true, false, List, [], ◌∷◌, Option, Some, None, refl}
+-- Which locals are placed, and the functions that are given.
+use Rattle.std.proofs.Common.{◌≡◌, ℕ, List, [], ◌∷◌, Option, Some, None, refl}
 use Rattle.qs_syntax.specs.declared.operators.UnaryOperator.TheVariants as unaries
 use Rattle.qs_syntax.specs.declared.types.Base.TheVariants as bases
 use Rattle.qs_syntax.specs.Trees.{unnumbered, stmts_of, StmtTree, FunctionTree, Stmts, DeclTree, structure, forward, function, variables, UnitTree}
 use Rattle.qs_syntax.specs.Trees as trees
 use Rattle.qs_syntax.specs.Numbering.{numbered_unit}
+use Rattle.qs_types.specs.declared.rules.Rule.TheVariants as rules
 use Rattle.qs_types.specs.Contexts.{given, start_context, entity_of}
 use Rattle.qs_types.specs.GivenFunctions.{putchar_name, putchar_type}
 use Rattle.qs_types.specs.Placed.{addressed_in}
-use Rattle.qs_types.specs.Limits.{is_within_limits}
-use Rattle.qs_types.specs.UnitRules.{after_declaration}
-use Rattle.qs_types.proofs.RuleTrees.{found, fault, e, number, a, one, many, local, parameter, g, eval}
+
+use Rattle.qs_types.proofs.RuleTrees.{found, fault, e, number, a, one, local, parameter, g, eval}
 
 abbrev addressed_by : FunctionTree → Option Stmts → List ℕ
 addressed_by f None = []
-addressed_by f (Some ss) = addressed_in (after_declaration start_context (function f)) f ss
+addressed_by f (Some ss) = addressed_in start_context f ss
 
 -- the nodes of the first function of a unit whose names are operands of `&`
 abbrev addressed : UnitTree → List ℕ
@@ -45,21 +45,13 @@ putchar_called : found (g (eval (e (trees.call putchar_name (trees.exprs_of (num
 putchar_called = refl
 
 -- void g(void){putchar();}
-putchar_without : found (g (eval (e (trees.call putchar_name trees.no_exprs)) ∷ []) ∷ []) ≡ fault 2 4
+putchar_without : found (g (eval (e (trees.call putchar_name trees.no_exprs)) ∷ []) ∷ []) ≡ fault 2 rules.ArgumentCount
 putchar_without = refl
 
 -- int putchar; at file scope
-putchar_variable : found (trees.variables (record { base = bases.Int; variables = record { declarator = record { node = unnumbered 0; stars = 0; name = putchar_name; lengths = one }; initialiser = None } ∷ [] }) ∷ []) ≡ fault 0 1
+putchar_variable : found (trees.variables (record { base = bases.Int; variables = record { declarator = record { node = unnumbered 0; stars = 0; name = putchar_name; lengths = one }; initialiser = None } ∷ [] }) ∷ []) ≡ fault 0 rules.DeclaredTwice
 putchar_variable = refl
 
 -- char putchar(int);
-putchar_otherwise : found (function (record { node = unnumbered 0; result_type = record { base = bases.Char; stars = 0 }; name = putchar_name; parameters = parameter bases.Int 0 None ∷ []; body = None }) ∷ []) ≡ fault 0 1
+putchar_otherwise : found (function (record { node = unnumbered 0; result_type = record { base = bases.Char; stars = 0 }; name = putchar_name; parameters = parameter bases.Int 0 None ∷ []; body = None }) ∷ []) ≡ fault 0 rules.DeclaredTwice
 putchar_otherwise = refl
-
--- void g(void){char a[1048576];}
-largest_locals : is_within_limits (g (local bases.Char 0 97 (many (number 1048576)) None ∷ []) ∷ []) ≡ true
-largest_locals = refl
-
--- void g(void){char a[1048577];}
-large_locals : is_within_limits (g (local bases.Char 0 97 (many (number 1048577)) None ∷ []) ∷ []) ≡ false
-large_locals = refl

@@ -12,7 +12,6 @@ use Rattle.qs_syntax.specs.Trees.{ExprTree, expr, ShapeTree}
 use Rattle.qs_syntax.specs.Trees as trees
 use Rattle.qs_types.specs.Types.{TypeTree, int, unsigned, char, void, pointer, array, struct, same_type, is_integer}
 use Rattle.qs_types.specs.Layout.{and_then, size_of}
-use Rattle.qs_types.specs.Conversions.{promoted, arithmetic}
 use Rattle.qs_types.specs.Contexts.{Context, named_type}
 use Rattle.qs_types.specs.Expressions.{type_of}
 
@@ -56,6 +55,63 @@ abbrev mutual
   is_built_shape (trees.member access a x) = false
   is_built_shape (trees.call f es) = false
 
+-- ---- whether their type is unsigned
+
+abbrev pub is_unsigned_base : Base → Bool
+is_unsigned_base bases.Void = false
+is_unsigned_base bases.Int = false
+is_unsigned_base bases.Unsigned = true
+is_unsigned_base bases.Char = false
+is_unsigned_base (bases.Struct tag) = false
+
+-- 6.3.1.8, 6.5.7p3, 6.5.8p6, 6.5.9p3, 6.5.13p3, 6.5.14p3: by the operands of an operator
+abbrev pub is_unsigned_by : BinaryOperator → (p q : Bool) → Bool
+is_unsigned_by binaries.Multiply p q = p || q
+is_unsigned_by binaries.Divide p q = p || q
+is_unsigned_by binaries.Remainder p q = p || q
+is_unsigned_by binaries.Add p q = p || q
+is_unsigned_by binaries.Subtract p q = p || q
+is_unsigned_by binaries.ShiftLeft p q = p
+is_unsigned_by binaries.ShiftRight p q = p
+is_unsigned_by binaries.Less p q = false
+is_unsigned_by binaries.LessEqual p q = false
+is_unsigned_by binaries.Greater p q = false
+is_unsigned_by binaries.GreaterEqual p q = false
+is_unsigned_by binaries.Equal p q = false
+is_unsigned_by binaries.NotEqual p q = false
+is_unsigned_by binaries.BitAnd p q = p || q
+is_unsigned_by binaries.BitXor p q = p || q
+is_unsigned_by binaries.BitOr p q = p || q
+is_unsigned_by binaries.And p q = false
+is_unsigned_by binaries.Or p q = false
+
+-- of what is built so, the type is `unsigned` exactly here
+abbrev mutual
+  pub is_unsigned : ExprTree → Bool
+  is_unsigned (expr node shape) = is_unsigned_shape shape
+
+  pub is_unsigned_shape : ShapeTree → Bool
+  is_unsigned_shape (trees.constant n u) = u
+  is_unsigned_shape (trees.text bytes) = false
+  is_unsigned_shape (trees.name x) = false
+  is_unsigned_shape (trees.unary unaries.Address a) = false
+  is_unsigned_shape (trees.unary unaries.Indirect a) = false
+  is_unsigned_shape (trees.unary unaries.Plus a) = is_unsigned a
+  is_unsigned_shape (trees.unary unaries.Minus a) = is_unsigned a
+  is_unsigned_shape (trees.unary unaries.Complement a) = is_unsigned a
+  is_unsigned_shape (trees.unary unaries.Not a) = false
+  is_unsigned_shape (trees.step operator a) = false
+  is_unsigned_shape (trees.cast n a) = is_unsigned_base n.base
+  is_unsigned_shape (trees.sizeof_type n) = true
+  is_unsigned_shape (trees.sizeof_expr a) = true
+  is_unsigned_shape (trees.binary operator a b) = is_unsigned_by operator (is_unsigned a) (is_unsigned b)
+  is_unsigned_shape (trees.assign operator a b) = false
+  is_unsigned_shape (trees.conditional d a b) = is_unsigned a || is_unsigned b
+  is_unsigned_shape (trees.comma a b) = false
+  is_unsigned_shape (trees.subscript a b) = false
+  is_unsigned_shape (trees.member access a x) = false
+  is_unsigned_shape (trees.call f es) = false
+
 -- ---- conversion to an integer type (6.3.1.3)
 
 abbrev pub converted : TypeTree → ℕ → ℕ
@@ -75,43 +131,43 @@ is_true n = not (n == 0)
 
 -- ---- operators on values of one type, which is unsigned or isn't
 
-abbrev pub less : (is_unsigned : Bool) → ℕ → ℕ → Bool
-less is_unsigned a b = if is_unsigned then nat_lt a b else int_lt (words.signed a) (words.signed b)
+abbrev pub less : (unsigned : Bool) → ℕ → ℕ → Bool
+less u a b = if u then nat_lt a b else int_lt (words.signed a) (words.signed b)
 
 -- 6.5.5p5, p6: no value for a division by 0 and for the quotient that is no int
-abbrev pub divides : (is_unsigned : Bool) → ℕ → ℕ → Bool
-divides is_unsigned a b = not (b == 0) && (is_unsigned || not ((a == 2 ^ 31) && (b == 2 ^ 32 - 1)))
+abbrev pub divides : (unsigned : Bool) → ℕ → ℕ → Bool
+divides u a b = not (b == 0) && (u || not ((a == 2 ^ 31) && (b == 2 ^ 32 - 1)))
 
-abbrev pub quotient : (is_unsigned : Bool) → ℕ → ℕ → ℕ
-quotient is_unsigned a b = if is_unsigned then words.divu a b else words.div a b
+abbrev pub quotient : (unsigned : Bool) → ℕ → ℕ → ℕ
+quotient u a b = if u then words.divu a b else words.div a b
 
-abbrev pub rest : (is_unsigned : Bool) → ℕ → ℕ → ℕ
-rest is_unsigned a b = if is_unsigned then words.remu a b else words.rem a b
+abbrev pub rest : (unsigned : Bool) → ℕ → ℕ → ℕ
+rest u a b = if u then words.remu a b else words.rem a b
 
 -- 6.5.7p3: no value where the count isn't below 32
 abbrev pub shifted : ℕ → (count : ℕ) → ℕ → Option ℕ
 shifted a count result = if nat_lt count 32 then Some result else None
 
--- 6.5.5 to 6.5.12, on values of the types t and u
-abbrev pub combined : BinaryOperator → (t u : TypeTree) → ℕ → ℕ → Option ℕ
-combined binaries.Multiply t u a b = Some (words.mul a b)
-combined binaries.Divide t u a b = if divides (same_type (arithmetic t u) unsigned) a b then Some (quotient (same_type (arithmetic t u) unsigned) a b) else None
-combined binaries.Remainder t u a b = if divides (same_type (arithmetic t u) unsigned) a b then Some (rest (same_type (arithmetic t u) unsigned) a b) else None
-combined binaries.Add t u a b = Some (words.add a b)
-combined binaries.Subtract t u a b = Some (words.sub a b)
-combined binaries.ShiftLeft t u a b = shifted a b (words.sll a b)
-combined binaries.ShiftRight t u a b = shifted a b (if same_type (promoted t) unsigned then words.srl a b else words.sra a b)
-combined binaries.Less t u a b = Some (truth (less (same_type (arithmetic t u) unsigned) a b))
-combined binaries.LessEqual t u a b = Some (truth (not (less (same_type (arithmetic t u) unsigned) b a)))
-combined binaries.Greater t u a b = Some (truth (less (same_type (arithmetic t u) unsigned) b a))
-combined binaries.GreaterEqual t u a b = Some (truth (not (less (same_type (arithmetic t u) unsigned) a b)))
-combined binaries.Equal t u a b = Some (truth (a == b))
-combined binaries.NotEqual t u a b = Some (truth (not (a == b)))
-combined binaries.BitAnd t u a b = Some (words.and a b)
-combined binaries.BitXor t u a b = Some (words.xor a b)
-combined binaries.BitOr t u a b = Some (words.or a b)
-combined binaries.And t u a b = Some (truth (is_true a && is_true b))
-combined binaries.Or t u a b = Some (truth (is_true a || is_true b))
+-- 6.5.5 to 6.5.12, on two values; p and q say whether their types are unsigned
+abbrev pub combined : BinaryOperator → (p q : Bool) → ℕ → ℕ → Option ℕ
+combined binaries.Multiply p q a b = Some (words.mul a b)
+combined binaries.Divide p q a b = if divides (p || q) a b then Some (quotient (p || q) a b) else None
+combined binaries.Remainder p q a b = if divides (p || q) a b then Some (rest (p || q) a b) else None
+combined binaries.Add p q a b = Some (words.add a b)
+combined binaries.Subtract p q a b = Some (words.sub a b)
+combined binaries.ShiftLeft p q a b = shifted a b (words.sll a b)
+combined binaries.ShiftRight p q a b = shifted a b (if p then words.srl a b else words.sra a b)
+combined binaries.Less p q a b = Some (truth (less (p || q) a b))
+combined binaries.LessEqual p q a b = Some (truth (not (less (p || q) b a)))
+combined binaries.Greater p q a b = Some (truth (less (p || q) b a))
+combined binaries.GreaterEqual p q a b = Some (truth (not (less (p || q) a b)))
+combined binaries.Equal p q a b = Some (truth (a == b))
+combined binaries.NotEqual p q a b = Some (truth (not (a == b)))
+combined binaries.BitAnd p q a b = Some (words.and a b)
+combined binaries.BitXor p q a b = Some (words.xor a b)
+combined binaries.BitOr p q a b = Some (words.or a b)
+combined binaries.And p q a b = Some (truth (is_true a && is_true b))
+combined binaries.Or p q a b = Some (truth (is_true a || is_true b))
 
 -- 6.5.13p4, 6.5.14p4: the right operand isn't evaluated where the left one decides
 abbrev pub decides : BinaryOperator → ℕ → Bool
@@ -129,10 +185,6 @@ unary_value unaries.Not a = Some (truth (a == 0))
 
 -- ---- the value, where it is defined; a part that isn't evaluated needs none
 
-abbrev pub option_type : Option TypeTree → TypeTree
-option_type None = void
-option_type (Some t) = t
-
 abbrev mutual
   pub value_of : Context → ExprTree → Option ℕ
   value_of c (expr node shape) = shape_value c shape
@@ -148,7 +200,7 @@ abbrev mutual
   shape_value c (trees.sizeof_expr a) = None
   shape_value c (trees.binary operator a b) =
       and_then (value_of c a) (λ x. if decides operator x then Some (truth (is_true x)) else
-      and_then (value_of c b) (combined operator (option_type (type_of c a)) (option_type (type_of c b)) x))
+      and_then (value_of c b) (combined operator (is_unsigned a) (is_unsigned b) x))
   shape_value c (trees.assign operator a b) = None
   shape_value c (trees.conditional d a b) = and_then (value_of c d) (λ x. if is_true x then value_of c a else value_of c b)
   shape_value c (trees.comma a b) = None

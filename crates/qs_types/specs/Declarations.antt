@@ -5,8 +5,8 @@ use Rattle.qs_syntax.specs.Trees.{ExprTree, expr, ShapeTree, LengthsTree, Declar
 use Rattle.qs_syntax.specs.Trees as trees
 use Rattle.qs_types.specs.Types.{TypeTree, void, pointer, array}
 use Rattle.qs_types.specs.Layout.{and_then, is_complete, is_sized}
-use Rattle.qs_types.specs.Rules
-use Rattle.qs_types.specs.Rules.{Test, test, keeps, type_unless, Fault, faults_of}
+use Rattle.qs_types.specs.declared.rules.Rule.TheVariants as rules
+use Rattle.qs_types.specs.Rules.{Test, test, keeps, breaks_one, type_unless, Fault}
 use Rattle.qs_types.specs.Contexts.{Context, base_type, starred_type, is_void_base}
 use Rattle.qs_types.specs.Expressions.{type_of, type_or_void}
 use Rattle.qs_types.specs.Constants.{length_of}
@@ -47,8 +47,8 @@ undeclared = record { tests = []; type = None }
 -- the tag is known, `void` is not the base, and the type of the elements is complete
 abbrev pub element_tests : Context → Base → ℕ → List Test
 element_tests c base stars =
-    keeps Rules.unknown_tag (is_some (base_type c base))
-    ++ test Rules.incomplete_type
+    keeps rules.UnknownTag (is_some (base_type c base))
+    ++ test rules.IncompleteType
     (is_void_base base || (is_some (base_type c base) && not (is_complete c.structs (type_or_void (starred_type c base stars)))))
 
 -- the lengths with the first, where the brackets are empty, from elsewhere
@@ -61,7 +61,7 @@ object_type c base stars None = void
 object_type c base stars (Some ns) = arrays (type_or_void (starred_type c base stars)) ns
 
 abbrev pub size_tests : Context → List Test → TypeTree → List Test
-size_tests c before t = test Rules.large_type (not (Rules.breaks_one before) && not (is_sized c.structs t))
+size_tests c before t = test rules.LargeType (not (breaks_one before) && not (is_sized c.structs t))
 
 abbrev pub with_size_tests : Context → List Test → TypeTree → Declared
 with_size_tests c before t = declared_by (before ++ size_tests c before t) t
@@ -69,7 +69,7 @@ with_size_tests c before t = declared_by (before ++ size_tests c before t) t
 -- a variable or a member, where its lengths are these
 abbrev pub object_declared : Context → Base → ℕ → Option (List ℕ) → Declared
 object_declared c base stars ns =
-    with_size_tests c (element_tests c base stars ++ keeps Rules.array_length (is_some ns)) (object_type c base stars ns)
+    with_size_tests c (element_tests c base stars ++ keeps rules.ArrayLength (is_some ns)) (object_type c base stars ns)
 
 abbrev pub declared : Context → Base → DeclaratorTree → (first : Option ℕ) → Declared
 declared c base d first =
@@ -110,7 +110,7 @@ element_lengths l (Some (n ∷ ns)) = if l.is_open then Some (n ∷ ns) else Som
 
 abbrev pub array_parameter_tests : Context → ParameterTree → List Test
 array_parameter_tests c p =
-    element_tests c p.type_name.base p.type_name.stars ++ keeps Rules.array_length (is_some (lengths_of c p.lengths.given))
+    element_tests c p.type_name.base p.type_name.stars ++ keeps rules.ArrayLength (is_some (lengths_of c p.lengths.given))
 
 -- the elements of a parameter that is written as an array
 abbrev pub parameter_element : Context → ParameterTree → TypeTree
@@ -125,7 +125,7 @@ array_parameter c p =
 -- the tag is known, and `void` is not the base; that the type is a scalar is a rule of its own
 abbrev pub plain_parameter : Context → ParameterTree → Declared
 plain_parameter c p =
-    declared_by (keeps Rules.unknown_tag (is_some (base_type c p.type_name.base)) ++ test Rules.incomplete_type (is_void_base p.type_name.base))
+    declared_by (keeps rules.UnknownTag (is_some (base_type c p.type_name.base)) ++ test rules.IncompleteType (is_void_base p.type_name.base))
     (type_or_void (starred_type c p.type_name.base p.type_name.stars))
 
 abbrev pub parameter_declared : Context → ParameterTree → Declared

@@ -8,7 +8,7 @@ use Rattle.qs_syntax.specs.declared.operators.Access.TheVariants as accesses
 use Rattle.qs_syntax.specs.Trees.{ExprTree, expr, ShapeTree, Exprs, no_exprs, expr_and}
 use Rattle.qs_syntax.specs.Trees as trees
 use Rattle.qs_types.specs.Types.{TypeTree, is_struct, is_void}
-use Rattle.qs_types.specs.Rules
+use Rattle.qs_types.specs.declared.rules.Rule.TheVariants as rules
 use Rattle.qs_types.specs.Rules.{Test, test, Fault, faults_of}
 use Rattle.qs_types.specs.Contexts.{Context}
 use Rattle.qs_types.specs.Expressions.{Judged, type_of, shape_judged}
@@ -64,7 +64,7 @@ is_misplaced p shape t =
 
 abbrev pub position_tests : Position → ShapeTree → Option TypeTree → List Test
 position_tests p shape None = []
-position_tests p shape (Some t) = test Rules.misplaced_value (is_misplaced p shape t)
+position_tests p shape (Some t) = test rules.MisplacedValue (is_misplaced p shape t)
 
 abbrev pub own_tests : Option Judged → List Test
 own_tests None = []

@@ -17,7 +17,7 @@ use Rattle.qs_types.specs.Types.{TypeTree, int, unsigned, char, void, pointer, a
 use Rattle.qs_types.specs.Layout.{and_then, is_complete, struct_of}
 use Rattle.qs_types.specs.Conversions.{decayed, promoted, arithmetic, common}
 use Rattle.qs_types.specs.GivenFunctions.{Signature}
-use Rattle.qs_types.specs.Rules
+use Rattle.qs_types.specs.declared.rules.Rule.TheVariants as rules
 use Rattle.qs_types.specs.Rules.{Test, test, keeps, type_unless}
 use Rattle.qs_types.specs.Contexts.{Entity, local_variable, file_variable, function, given, Context, entity_of, named_type, is_void_base}
 
@@ -85,21 +85,21 @@ judged tests t = record { tests = tests; type = t }
 -- ---- unary operators (6.5.3.2, 6.5.3.3), at the type of the operand; t is that type and v the type of its value
 
 abbrev pub unary_judged : Structs → UnaryOperator → ExprTree → (t v : TypeTree) → Judged
-unary_judged structs unaries.Address a t v = judged (keeps Rules.address_operand (is_lvalue a)) (pointer t)
-unary_judged structs unaries.Indirect a t v = judged (keeps Rules.indirect_operand (is_object_pointer structs v)) (referenced v)
-unary_judged structs unaries.Plus a t v = judged (keeps Rules.arithmetic_operand (is_integer v)) (promoted v)
-unary_judged structs unaries.Minus a t v = judged (keeps Rules.arithmetic_operand (is_integer v)) (promoted v)
-unary_judged structs unaries.Complement a t v = judged (keeps Rules.arithmetic_operand (is_integer v)) (promoted v)
-unary_judged structs unaries.Not a t v = judged (keeps Rules.arithmetic_operand (is_scalar v)) int
+unary_judged structs unaries.Address a t v = judged (keeps rules.AddressOperand (is_lvalue a)) (pointer t)
+unary_judged structs unaries.Indirect a t v = judged (keeps rules.IndirectOperand (is_object_pointer structs v)) (referenced v)
+unary_judged structs unaries.Plus a t v = judged (keeps rules.ArithmeticOperand (is_integer v)) (promoted v)
+unary_judged structs unaries.Minus a t v = judged (keeps rules.ArithmeticOperand (is_integer v)) (promoted v)
+unary_judged structs unaries.Complement a t v = judged (keeps rules.ArithmeticOperand (is_integer v)) (promoted v)
+unary_judged structs unaries.Not a t v = judged (keeps rules.ArithmeticOperand (is_scalar v)) int
 
 -- 6.5.2.4, 6.5.3.1
 abbrev pub step_judged : Structs → ExprTree → TypeTree → Judged
-step_judged structs a t = judged (keeps Rules.step_operand (is_lvalue a && (is_integer t || is_object_pointer structs t))) t
+step_judged structs a t = judged (keeps rules.StepOperand (is_lvalue a && (is_integer t || is_object_pointer structs t))) t
 
 -- ---- type names (6.5.3.4, 6.5.4)
 
 abbrev pub name_tests : Context → TypeName → List Test
-name_tests context n = keeps Rules.unknown_tag (is_some (named_type context n)) ++ test Rules.incomplete_type (is_void_base n.base)
+name_tests context n = keeps rules.UnknownTag (is_some (named_type context n)) ++ test rules.IncompleteType (is_void_base n.base)
 
 -- the named type; where there is none a test fails
 abbrev pub type_or_void : Option TypeTree → TypeTree
@@ -112,12 +112,12 @@ may_cast t e u = both_integers t u || (is_pointer t && (is_pointer u || is_null_
 
 abbrev pub cast_judged : Context → TypeName → ExprTree → (u : TypeTree) → Judged
 cast_judged context n e u =
-    judged (name_tests context n ++ test Rules.cast_type (is_some (named_type context n) && not (may_cast (type_or_void (named_type context n)) e u)))
+    judged (name_tests context n ++ test rules.CastType (is_some (named_type context n) && not (may_cast (type_or_void (named_type context n)) e u)))
     (type_or_void (named_type context n))
 
 abbrev pub size_judged : Context → TypeName → Judged
 size_judged context n =
-    judged (name_tests context n ++ test Rules.incomplete_type (is_some (named_type context n) && not (is_complete context.structs (type_or_void (named_type context n))))) unsigned
+    judged (name_tests context n ++ test rules.IncompleteType (is_some (named_type context n) && not (is_complete context.structs (type_or_void (named_type context n))))) unsigned
 
 -- ---- operators between two values of the types t and u (6.5.5 to 6.5.14)
 
@@ -146,23 +146,23 @@ abbrev pub may_equal : ExprTree → TypeTree → ExprTree → TypeTree → Bool
 may_equal a t b u = both_integers t u || alike_pointers a t b u
 
 abbrev pub integers_judged : (t u result : TypeTree) → Judged
-integers_judged t u result = judged (keeps Rules.integer_operands (both_integers t u)) result
+integers_judged t u result = judged (keeps rules.IntegerOperands (both_integers t u)) result
 
 abbrev pub order_judged : (t u : TypeTree) → Judged
-order_judged t u = judged (keeps Rules.order_operands (may_order t u)) int
+order_judged t u = judged (keeps rules.OrderOperands (may_order t u)) int
 
 abbrev pub equality_judged : ExprTree → TypeTree → ExprTree → TypeTree → Judged
-equality_judged a t b u = judged (keeps Rules.equality_operands (may_equal a t b u)) int
+equality_judged a t b u = judged (keeps rules.EqualityOperands (may_equal a t b u)) int
 
 abbrev pub truth_judged : (t u : TypeTree) → Judged
-truth_judged t u = judged (keeps Rules.truth_operand (is_scalar t && is_scalar u)) int
+truth_judged t u = judged (keeps rules.TruthOperand (is_scalar t && is_scalar u)) int
 
 abbrev pub binary_judged : Structs → BinaryOperator → ExprTree → TypeTree → ExprTree → TypeTree → Judged
 binary_judged structs binaries.Multiply a t b u = integers_judged t u (arithmetic t u)
 binary_judged structs binaries.Divide a t b u = integers_judged t u (arithmetic t u)
 binary_judged structs binaries.Remainder a t b u = integers_judged t u (arithmetic t u)
-binary_judged structs binaries.Add a t b u = judged (keeps Rules.sum_operands (may_add structs t u)) (sum_type t u)
-binary_judged structs binaries.Subtract a t b u = judged (keeps Rules.sum_operands (may_subtract structs t u)) (difference_type t u)
+binary_judged structs binaries.Add a t b u = judged (keeps rules.SumOperands (may_add structs t u)) (sum_type t u)
+binary_judged structs binaries.Subtract a t b u = judged (keeps rules.SumOperands (may_subtract structs t u)) (difference_type t u)
 binary_judged structs binaries.ShiftLeft a t b u = integers_judged t u (promoted t)
 binary_judged structs binaries.ShiftRight a t b u = integers_judged t u (promoted t)
 binary_judged structs binaries.Less a t b u = order_judged t u
@@ -182,7 +182,7 @@ abbrev pub may_choose : (c : TypeTree) → ExprTree → TypeTree → ExprTree �
 may_choose c a t b u = is_scalar c && (both_integers t u || alike_pointers a t b u)
 
 abbrev pub conditional_judged : (c : TypeTree) → ExprTree → TypeTree → ExprTree → TypeTree → Judged
-conditional_judged c a t b u = judged (keeps Rules.branch_types (may_choose c a t b u)) (common t u)
+conditional_judged c a t b u = judged (keeps rules.BranchTypes (may_choose c a t b u)) (common t u)
 
 -- ---- assignments (6.5.16): t is the type of the left operand, u that of the right one
 
@@ -199,10 +199,10 @@ abbrev pub may_move : Structs → ExprTree → TypeTree → TypeTree → Bool
 may_move structs a t v = is_lvalue a && ((is_integer t || is_object_pointer structs t) && is_integer v)
 
 abbrev pub compound_judged : Bool → TypeTree → Judged
-compound_judged may t = judged (keeps Rules.compound_operands may) t
+compound_judged may t = judged (keeps rules.CompoundOperands may) t
 
 abbrev pub assign_judged : Structs → AssignmentOperator → ExprTree → TypeTree → ExprTree → TypeTree → Judged
-assign_judged structs assigns.Plain a t b u = judged (keeps Rules.assigned_type (may_assign a t b u)) t
+assign_judged structs assigns.Plain a t b u = judged (keeps rules.AssignedType (may_assign a t b u)) t
 assign_judged structs assigns.Multiply a t b u = compound_judged (may_combine a t (decayed u)) t
 assign_judged structs assigns.Divide a t b u = compound_judged (may_combine a t (decayed u)) t
 assign_judged structs assigns.Remainder a t b u = compound_judged (may_combine a t (decayed u)) t
@@ -219,7 +219,7 @@ assign_judged structs assigns.BitOr a t b u = compound_judged (may_combine a t (
 -- `a[i]` is `*(a + i)`
 abbrev pub subscript_judged : Structs → (t u : TypeTree) → Judged
 subscript_judged structs t u =
-    judged (keeps Rules.sum_operands (may_add structs t u) ++ test Rules.indirect_operand (may_add structs t u && not (is_object_pointer structs (sum_type t u))))
+    judged (keeps rules.SumOperands (may_add structs t u) ++ test rules.IndirectOperand (may_add structs t u && not (is_object_pointer structs (sum_type t u))))
     (referenced (sum_type t u))
 
 abbrev pub member_in : List ℕ → List MemberTree → Option TypeTree
@@ -232,7 +232,7 @@ member_type structs (struct k) x = and_then (struct_of structs k) (member_in x)
 member_type structs _ x = None
 
 abbrev pub found_member : Bool → Option TypeTree → Judged
-found_member may m = judged (keeps Rules.unknown_member (may && is_some m)) (type_or_void m)
+found_member may m = judged (keeps rules.UnknownMember (may && is_some m)) (type_or_void m)
 
 abbrev pub member_judged : Structs → Access → ExprTree → TypeTree → List ℕ → Judged
 member_judged structs accesses.Dot a t x = found_member (is_lvalue a) (member_type structs t x)
@@ -241,7 +241,7 @@ member_judged structs accesses.Arrow a t x = found_member (is_pointer (decayed t
 -- ---- names and calls (6.5.1, 6.5.2.2)
 
 abbrev pub unknown_name : Judged
-unknown_name = judged (test Rules.unknown_variable true) void
+unknown_name = judged (test rules.UnknownVariable true) void
 
 -- None where the declaration has no type
 abbrev pub variable_judged : Option TypeTree → Option Judged
@@ -262,10 +262,10 @@ arguments_fit (t ∷ ts) (expr_and e es) [] = true
 arguments_fit (t ∷ ts) (expr_and e es) (u ∷ us) = is_assignable t e (decayed u) && arguments_fit ts es us
 
 abbrev pub signature_judged : Signature → Exprs → List TypeTree → Judged
-signature_judged s es us = judged (keeps Rules.argument_count (length s.parameters == length us) ++ keeps Rules.argument_type (arguments_fit s.parameters es us)) s.result
+signature_judged s es us = judged (keeps rules.ArgumentCount (length s.parameters == length us) ++ keeps rules.ArgumentType (arguments_fit s.parameters es us)) s.result
 
 abbrev pub unknown_call : Judged
-unknown_call = judged (test Rules.unknown_function true) void
+unknown_call = judged (test rules.UnknownFunction true) void
 
 abbrev pub call_judged : Option Entity → Exprs → List TypeTree → Option Judged
 call_judged None es us = Some unknown_call
@@ -290,7 +290,7 @@ abbrev mutual
   shape_judged c (trees.step operator a) = and_then (type_of c a) (λ t. Some (step_judged c.structs a t))
   shape_judged c (trees.cast n a) = and_then (type_of c a) (λ t. Some (cast_judged c n a (decayed t)))
   shape_judged c (trees.sizeof_type n) = Some (size_judged c n)
-  shape_judged c (trees.sizeof_expr a) = and_then (type_of c a) (λ t. Some (judged (keeps Rules.incomplete_type (is_complete c.structs t)) unsigned))
+  shape_judged c (trees.sizeof_expr a) = and_then (type_of c a) (λ t. Some (judged (keeps rules.IncompleteType (is_complete c.structs t)) unsigned))
   shape_judged c (trees.binary operator a b) =
       and_then (type_of c a) (λ t. and_then (type_of c b) (λ u. Some (binary_judged c.structs operator a (decayed t) b (decayed u))))
   shape_judged c (trees.assign operator a b) =

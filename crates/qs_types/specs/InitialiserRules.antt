@@ -7,7 +7,7 @@ use Rattle.qs_syntax.specs.declared.operators.UnaryOperator.TheVariants as unari
 use Rattle.qs_types.specs.Types.{TypeTree, char, array, struct, MemberTree, Structs, same_type, is_scalar, is_struct, is_array}
 use Rattle.qs_types.specs.Layout.{and_then, struct_of}
 use Rattle.qs_types.specs.Conversions.{decayed}
-use Rattle.qs_types.specs.Rules
+use Rattle.qs_types.specs.declared.rules.Rule.TheVariants as rules
 use Rattle.qs_types.specs.Rules.{Test, keeps, Fault, faults_of}
 use Rattle.qs_types.specs.Contexts.{Context, Entity, local_variable, file_variable, function, given, entity_of}
 use Rattle.qs_types.specs.Expressions.{type_of, is_lvalue, is_null_constant, is_assignable}
@@ -102,7 +102,7 @@ elements_typed c (initialiser_and (trees.list node inner) is) = elements_typed c
 
 -- the test of a list for an object of type t
 abbrev pub list_tests : Bool → Context → TypeTree → Initialisers → List Test
-list_tests at_file_scope c t is = if elements_typed c is && takes_list t then keeps Rules.initialiser_type (elements_fit at_file_scope c t 0 is) else []
+list_tests at_file_scope c t is = if elements_typed c is && takes_list t then keeps rules.InitialiserType (elements_fit at_file_scope c t 0 is) else []
 
 -- the faults in the parts of an initialiser; the types of inner lists are those of the parts, where there are such
 abbrev mutual
@@ -130,4 +130,4 @@ fits at_file_scope c t (trees.list node is) = takes_list t
 abbrev pub initialiser_tests : Bool → Context → Option TypeTree → Option InitialiserTree → List Test
 initialiser_tests at_file_scope c t None = []
 initialiser_tests at_file_scope c None (Some i) = []
-initialiser_tests at_file_scope c (Some t) (Some i) = if is_typed c i then keeps Rules.initialiser_type (fits at_file_scope c t i) else []
+initialiser_tests at_file_scope c (Some t) (Some i) = if is_typed c i then keeps rules.InitialiserType (fits at_file_scope c t i) else []

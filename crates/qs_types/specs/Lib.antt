@@ -15,6 +15,8 @@ pub mod Declarations
 pub mod InitialiserRules
 pub mod StatementRules
 pub mod UnitRules
+pub mod Sites
+pub mod References
 pub mod Placed
 pub mod Limits
 pub mod WellTyped

@@ -1,95 +1,153 @@
--- How many a unit may have of what is counted. The data of a unit and its string literals are counted where memory is known.
-use Rattle.std.specs.Prelude.{ℕ, ◌+◌, nat_le, Bool, true, false, ◌&&◌, ◌||◌, List, [], ◌∷◌, Option, Some, None, length, if◌then◌else◌}
-use Rattle.std.specs.List.{list_all}
-use Rattle.qs_syntax.specs.Sameness.{same_bytes}
+-- How many a unit may have of what is counted, and the node at which each count first passes its limit. The height of a reading is
+-- kept by the tree itself.
+use Rattle.std.specs.Prelude.{◌≡◌, ℕ, ◌+◌, nat_lt, true, List, [], ◌∷◌, ◌++◌, Option, Some, None, length, map, sum_by, if◌then◌else◌}
+use Rattle.std.specs.List.{slice_get}
 use Rattle.qs_syntax.specs.Nodes.{unit_count}
-use Rattle.qs_syntax.specs.Trees.{FunctionTree, Stmts, DeclTree, structure, forward, function, variables, UnitTree}
+use Rattle.qs_syntax.specs.declared.types.Base.{Base}
+use Rattle.qs_syntax.specs.Trees.{VariableTree, ParameterTree, FunctionTree, Stmts, structure, forward, function, variables, UnitTree}
 use Rattle.qs_types.specs.Types.{TypeTree, Structs}
 use Rattle.qs_types.specs.Layout.{size_of, rounded_up}
 use Rattle.qs_types.specs.Contexts.{Context, start_context}
-use Rattle.qs_types.specs.Placed.{Local, addressed_in, locals_in, is_placed}
-use Rattle.qs_types.specs.UnitRules.{after_declaration, after_function}
+use Rattle.qs_types.specs.Declarations.{variable_declared}
+use Rattle.qs_types.specs.StatementRules.{after_variable}
+use Rattle.qs_types.specs.UnitRules.{is_name_in, after_declaration}
+use Rattle.qs_types.specs.Placed.{Local, placed_in}
+use Rattle.qs_types.specs.References.{TextBlock, literal_blocks}
 
--- ---- nodes
+abbrev pub or_else : Option ℕ → Option ℕ → Option ℕ
+or_else None other = other
+or_else (Some n) other = Some n
+
+-- ---- nodes, which are numbered from 0
 
 abbrev pub node_limit : ℕ
 node_limit = 10000
 
-abbrev pub few_nodes : UnitTree → Bool
-few_nodes unit = nat_le (unit_count unit) node_limit
+abbrev pub first_past_nodes : (limit : ℕ) → UnitTree → Option ℕ
+first_past_nodes limit unit = if nat_lt limit (unit_count unit) then Some limit else None
 
--- ---- names of functions, and their parameters
+-- ---- different names in headers, those of putchar and getchar where they are declared
 
 abbrev pub function_limit : ℕ
 function_limit = 512
 
-abbrev pub is_among_names : List ℕ → List (List ℕ) → Bool
-is_among_names x [] = false
-is_among_names x (y ∷ ys) = same_bytes y x || is_among_names x ys
+abbrev pub header_past : (limit : ℕ) → (names : List (List ℕ)) → UnitTree → Option ℕ
+header_past limit names [] = None
+header_past limit names (structure s ∷ ds) = header_past limit names ds
+header_past limit names (forward f ∷ ds) = header_past limit names ds
+header_past limit names (function f ∷ ds) =
+    if is_name_in f.name names then header_past limit names ds else
+    if nat_lt limit (length names + 1) then Some f.node.id else header_past limit (f.name ∷ names) ds
+header_past limit names (variables d ∷ ds) = header_past limit names ds
 
-abbrev pub with_new : List ℕ → List (List ℕ) → List (List ℕ)
-with_new x names = if is_among_names x names then names else x ∷ names
+abbrev pub first_past_functions : (limit : ℕ) → UnitTree → Option ℕ
+first_past_functions limit unit = header_past limit [] unit
 
--- the names in headers, each once
-abbrev pub function_names : UnitTree → List (List ℕ)
-function_names [] = []
-function_names (structure s ∷ ds) = function_names ds
-function_names (forward f ∷ ds) = function_names ds
-function_names (function f ∷ ds) = with_new f.name (function_names ds)
-function_names (variables d ∷ ds) = function_names ds
-
-abbrev pub few_functions : UnitTree → Bool
-few_functions unit = nat_le (length (function_names unit)) function_limit
+-- ---- parameters of a header
 
 abbrev pub parameter_limit : ℕ
 parameter_limit = 8
 
-abbrev pub few_parameters : DeclTree → Bool
-few_parameters (structure s) = true
-few_parameters (forward f) = true
-few_parameters (function f) = nat_le (length f.parameters) parameter_limit
-few_parameters (variables d) = true
+abbrev pub node_of_parameter : Option ParameterTree → Option ℕ
+node_of_parameter None = None
+node_of_parameter (Some p) = Some p.node.id
 
--- ---- placed locals and parameters, each rounded up to whole words
+abbrev pub first_past_parameters : (limit : ℕ) → UnitTree → Option ℕ
+first_past_parameters limit [] = None
+first_past_parameters limit (structure s ∷ ds) = first_past_parameters limit ds
+first_past_parameters limit (forward f ∷ ds) = first_past_parameters limit ds
+first_past_parameters limit (function f ∷ ds) = or_else (node_of_parameter (slice_get f.parameters limit)) (first_past_parameters limit ds)
+first_past_parameters limit (variables d ∷ ds) = first_past_parameters limit ds
 
-abbrev pub placed_limit : ℕ
-placed_limit = 1048576
+-- ---- blocks of memory: each begins at a multiple of 4
 
 abbrev pub word_size : ℕ
 word_size = 4
 
+-- a block, and the node that declares it
+pub record Block : Type 0 where
+  pub node : ℕ
+  pub size : ℕ
+
+-- where a block behind this end itself ends
+abbrev pub block_end : (end : ℕ) → Block → ℕ
+block_end end b = rounded_up end word_size + b.size
+
+-- the first block that ends past the limit, where they lie one behind another
+abbrev pub block_past : (limit end : ℕ) → List Block → Option ℕ
+block_past limit end [] = None
+block_past limit end (b ∷ bs) = if nat_lt limit (block_end end b) then Some b.node else block_past limit (block_end end b) bs
+
 abbrev pub size_or_none : Option ℕ → ℕ
 size_or_none None = 0
-size_or_none (Some n) = rounded_up n word_size
+size_or_none (Some n) = n
 
-abbrev pub local_size : Structs → Option TypeTree → ℕ
-local_size structs None = 0
-local_size structs (Some t) = size_or_none (size_of structs t)
+abbrev pub type_size : Structs → Option TypeTree → ℕ
+type_size structs None = 0
+type_size structs (Some t) = size_or_none (size_of structs t)
 
-abbrev pub placed_size : Structs → (nodes : List ℕ) → List Local → ℕ
-placed_size structs nodes [] = 0
-placed_size structs nodes (l ∷ ls) = (if is_placed nodes l then local_size structs l.type else 0) + placed_size structs nodes ls
+-- ---- data: the variables of file scope in the order of their declarations, and then the texts that are blocks
 
--- the placed bytes of a function, in the context behind its header
+abbrev pub global_limit : ℕ
+global_limit = 16777216
+
+abbrev pub variables_blocks : Context → Base → List VariableTree → List Block
+variables_blocks c base [] = []
+variables_blocks c base (v ∷ vs) =
+    record { node = v.declarator.node.id; size = type_size c.structs (variable_declared c base v).type }
+    ∷ variables_blocks (after_variable true c base v) base vs
+
+abbrev pub variable_blocks_from : Context → UnitTree → List Block
+variable_blocks_from c [] = []
+variable_blocks_from c (structure s ∷ ds) = variable_blocks_from (after_declaration c (structure s)) ds
+variable_blocks_from c (forward f ∷ ds) = variable_blocks_from (after_declaration c (forward f)) ds
+variable_blocks_from c (function f ∷ ds) = variable_blocks_from (after_declaration c (function f)) ds
+variable_blocks_from c (variables d ∷ ds) = variables_blocks c d.base d.variables ++ variable_blocks_from (after_declaration c (variables d)) ds
+
+-- 6.4.5p6: the bytes of a text and a zero
+abbrev pub text_block : TextBlock → Block
+text_block t = record { node = t.node; size = length t.bytes + 1 }
+
+abbrev pub data_blocks : UnitTree → List Block
+data_blocks unit = variable_blocks_from start_context unit ++ map text_block (literal_blocks unit)
+
+abbrev pub first_past_globals : (limit : ℕ) → UnitTree → Option ℕ
+first_past_globals limit unit = block_past limit 0 (data_blocks unit)
+
+-- ---- placed locals and parameters of a function, each in whole words
+
+abbrev pub local_limit : ℕ
+local_limit = 1048576
+
+abbrev pub local_block : Structs → Local → Block
+local_block structs l = record { node = l.node; size = rounded_up (type_size structs l.type) word_size }
+
+-- the context is that before the header
+abbrev pub local_blocks : Context → FunctionTree → Stmts → List Block
+local_blocks c f ss = map (local_block c.structs) (placed_in c f ss)
+
 abbrev pub placed_bytes : Context → FunctionTree → Stmts → ℕ
-placed_bytes c f ss = placed_size c.structs (addressed_in c f ss) (locals_in c f ss)
+placed_bytes c f ss = sum_by (λ b. b.size) (local_blocks c f ss)
 
-abbrev pub few_placed : Context → FunctionTree → Option Stmts → Bool
-few_placed c f None = true
-few_placed c f (Some ss) = nat_le (placed_bytes c f ss) placed_limit
+abbrev pub local_past : (limit : ℕ) → Context → FunctionTree → Option Stmts → Option ℕ
+local_past limit c f None = None
+local_past limit c f (Some ss) = block_past limit 0 (local_blocks c f ss)
 
-abbrev pub declaration_small : Context → DeclTree → Bool
-declaration_small c (structure s) = true
-declaration_small c (forward f) = true
-declaration_small c (function f) = few_placed (after_function c f) f f.body
-declaration_small c (variables d) = true
+abbrev pub local_past_from : (limit : ℕ) → Context → UnitTree → Option ℕ
+local_past_from limit c [] = None
+local_past_from limit c (structure s ∷ ds) = local_past_from limit (after_declaration c (structure s)) ds
+local_past_from limit c (forward f ∷ ds) = local_past_from limit (after_declaration c (forward f)) ds
+local_past_from limit c (function f ∷ ds) = or_else (local_past limit c f f.body) (local_past_from limit (after_declaration c (function f)) ds)
+local_past_from limit c (variables d ∷ ds) = local_past_from limit (after_declaration c (variables d)) ds
 
-abbrev pub declarations_small : Context → UnitTree → Bool
-declarations_small c [] = true
-declarations_small c (d ∷ ds) = declaration_small c d && declarations_small (after_declaration c d) ds
+abbrev pub first_past_locals : (limit : ℕ) → UnitTree → Option ℕ
+first_past_locals limit unit = local_past_from limit start_context unit
 
 -- ---- units
 
--- the counts of a unit are within their limits, those of its data aside
-abbrev pub is_within_limits : UnitTree → Bool
-is_within_limits unit = few_nodes unit && (few_functions unit && (list_all few_parameters unit && declarations_small start_context unit))
+pub record IsWithinLimits (unit : UnitTree) : Type 0 where
+  pub nodes : first_past_nodes node_limit unit ≡ None
+  pub functions : first_past_functions function_limit unit ≡ None
+  pub parameters : first_past_parameters parameter_limit unit ≡ None
+  pub globals : first_past_globals global_limit unit ≡ None
+  pub locals : first_past_locals local_limit unit ≡ None

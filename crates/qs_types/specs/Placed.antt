@@ -1,16 +1,17 @@
 -- Which locals and parameters are blocks of memory: those that are no scalars, and those whose names are operands of `&`, below `sizeof`
 -- too. The others are plain variables of their call. Declarations are named by the numbers of their nodes.
-use Rattle.std.specs.Prelude.{ℕ, ◌==◌, Bool, false, not, ◌||◌, List, [], ◌∷◌, ◌++◌, Option, Some, None}
+use Rattle.std.specs.Prelude.{ℕ, ◌==◌, Bool, false, not, ◌||◌, List, [], ◌∷◌, ◌++◌, Option, Some, None, flat_map, filter}
 use Rattle.qs_syntax.specs.declared.types.Base.{Base}
 use Rattle.qs_syntax.specs.declared.operators.UnaryOperator.{UnaryOperator}
 use Rattle.qs_syntax.specs.declared.operators.UnaryOperator.TheVariants as unaries
-use Rattle.qs_syntax.specs.Trees.{ExprTree, expr, ShapeTree, Exprs, no_exprs, expr_and, InitialiserTree, Initialisers, no_initialisers, initialiser_and, VariableTree, ParameterTree, StartTree, no_start, start_expression, start_declaration, StmtTree, empty, expression, declaration, block, branch, while_loop, do_loop, for_loop, break, continue, return, Stmts, no_stmts, stmt_and, Else, no_else, else_by, FunctionTree}
+use Rattle.qs_syntax.specs.Trees.{ExprTree, expr, ShapeTree, Exprs, no_exprs, expr_and, VariableTree, ParameterTree, StartTree, no_start, start_expression, start_declaration, StmtTree, empty, expression, declaration, block, branch, while_loop, do_loop, for_loop, break, continue, return, Stmts, no_stmts, stmt_and, Else, no_else, else_by, FunctionTree}
 use Rattle.qs_syntax.specs.Trees as trees
 use Rattle.qs_types.specs.Types.{TypeTree, is_scalar}
-use Rattle.qs_types.specs.Contexts.{Entity, local_variable, file_variable, function, given, Context, entity_of, inner_scope}
-use Rattle.qs_types.specs.Declarations.{variable_declared, parameter_declared}
-use Rattle.qs_types.specs.StatementRules.{after_variable, after_statement, after_start, for_scope}
-use Rattle.qs_types.specs.UnitRules.{body_context}
+use Rattle.qs_types.specs.Contexts.{Entity, local_variable, file_variable, function, given, Context, entity_of, inner_scope, inside_loop}
+use Rattle.qs_types.specs.Declarations.{variable_declared}
+use Rattle.qs_types.specs.StatementRules.{after_variable, after_statement, for_context}
+use Rattle.qs_types.specs.UnitRules.{parameter_types, body_context}
+use Rattle.qs_types.specs.Sites.{statements_sites}
 
 -- ---- operands of `&`
 
@@ -54,61 +55,9 @@ abbrev mutual
   all_addressed c no_exprs = []
   all_addressed c (expr_and e es) = addressed c e ++ all_addressed c es
 
-abbrev pub option_addressed : Context → Option ExprTree → List ℕ
-option_addressed c None = []
-option_addressed c (Some e) = addressed c e
-
-abbrev mutual
-  pub initialiser_addressed : Context → InitialiserTree → List ℕ
-  initialiser_addressed c (trees.value e) = addressed c e
-  initialiser_addressed c (trees.list node is) = initialisers_addressed c is
-
-  pub initialisers_addressed : Context → Initialisers → List ℕ
-  initialisers_addressed c no_initialisers = []
-  initialisers_addressed c (initialiser_and i is) = initialiser_addressed c i ++ initialisers_addressed c is
-
-abbrev pub option_initialiser_addressed : Context → Option InitialiserTree → List ℕ
-option_initialiser_addressed c None = []
-option_initialiser_addressed c (Some i) = initialiser_addressed c i
-
-abbrev pub variables_addressed : Context → Base → List VariableTree → List ℕ
-variables_addressed c base [] = []
-variables_addressed c base (v ∷ vs) =
-    option_initialiser_addressed (after_variable false c base v) v.initialiser ++ variables_addressed (after_variable false c base v) base vs
-
-abbrev pub start_addressed : Context → StartTree → List ℕ
-start_addressed c no_start = []
-start_addressed c (start_expression e) = addressed c e
-start_addressed c (start_declaration d) = variables_addressed c d.base d.variables
-
-abbrev mutual
-  pub statement_addressed : Context → StmtTree → List ℕ
-  statement_addressed c (empty node) = []
-  statement_addressed c (expression node e) = addressed c e
-  statement_addressed c (declaration d) = variables_addressed c d.base d.variables
-  statement_addressed c (block ss) = statements_addressed (inner_scope c) ss
-  statement_addressed c (branch node e s r) = addressed c e ++ (statement_addressed c s ++ else_addressed c r)
-  statement_addressed c (while_loop node e s) = addressed c e ++ statement_addressed c s
-  statement_addressed c (do_loop node s e) = statement_addressed c s ++ addressed c e
-  statement_addressed c (for_loop node start e u s) =
-      start_addressed (for_scope c start) start
-      ++ (option_addressed (after_start (for_scope c start) start) e
-      ++ (option_addressed (after_start (for_scope c start) start) u ++ statement_addressed (after_start (for_scope c start) start) s))
-  statement_addressed c (break node) = []
-  statement_addressed c (continue node) = []
-  statement_addressed c (return node e) = option_addressed c e
-
-  pub statements_addressed : Context → Stmts → List ℕ
-  statements_addressed c no_stmts = []
-  statements_addressed c (stmt_and s ss) = statement_addressed c s ++ statements_addressed (after_statement c s) ss
-
-  pub else_addressed : Context → Else → List ℕ
-  else_addressed c no_else = []
-  else_addressed c (else_by s) = statement_addressed c s
-
--- the declarations of a function whose names are operands of `&`; the context is that behind its header
+-- the declarations of a function whose names are operands of `&`; the context is that before its header
 abbrev pub addressed_in : Context → FunctionTree → Stmts → List ℕ
-addressed_in c f ss = statements_addressed (body_context c f) ss
+addressed_in c f ss = flat_map (λ s. addressed s.context s.expression) (statements_sites (body_context c f) ss)
 
 -- ---- the locals and parameters of a function
 
@@ -132,11 +81,11 @@ abbrev mutual
   statement_locals c (expression node e) = []
   statement_locals c (declaration d) = variables_locals c d.base d.variables
   statement_locals c (block ss) = statements_locals (inner_scope c) ss
-  statement_locals c (branch node e s r) = statement_locals c s ++ else_locals c r
-  statement_locals c (while_loop node e s) = statement_locals c s
-  statement_locals c (do_loop node s e) = statement_locals c s
+  statement_locals c (branch node e s r) = statement_locals (inner_scope c) s ++ else_locals c r
+  statement_locals c (while_loop node e s) = statement_locals (inside_loop (inner_scope c)) s
+  statement_locals c (do_loop node s e) = statement_locals (inside_loop (inner_scope c)) s
   statement_locals c (for_loop node start e u s) =
-      start_locals (for_scope c start) start ++ statement_locals (after_start (for_scope c start) start) s
+      start_locals (inner_scope c) start ++ statement_locals (inside_loop (inner_scope (for_context c start))) s
   statement_locals c (break node) = []
   statement_locals c (continue node) = []
   statement_locals c (return node e) = []
@@ -147,14 +96,15 @@ abbrev mutual
 
   pub else_locals : Context → Else → List Local
   else_locals c no_else = []
-  else_locals c (else_by s) = statement_locals c s
+  else_locals c (else_by s) = statement_locals (inner_scope c) s
 
-abbrev pub parameters_locals : Context → List ParameterTree → List Local
-parameters_locals c [] = []
-parameters_locals c (p ∷ ps) = record { node = p.node.id; type = (parameter_declared c p).type } ∷ parameters_locals c ps
+abbrev pub parameters_locals : List ParameterTree → List (Option TypeTree) → List Local
+parameters_locals [] ts = []
+parameters_locals (p ∷ ps) [] = []
+parameters_locals (p ∷ ps) (t ∷ ts) = record { node = p.node.id; type = t } ∷ parameters_locals ps ts
 
 abbrev pub locals_in : Context → FunctionTree → Stmts → List Local
-locals_in c f ss = parameters_locals c f.parameters ++ statements_locals (body_context c f) ss
+locals_in c f ss = parameters_locals f.parameters (parameter_types (inner_scope c) f.parameters) ++ statements_locals (body_context c f) ss
 
 -- ---- which of them are placed
 
@@ -168,3 +118,7 @@ is_no_scalar (Some t) = not (is_scalar t)
 
 abbrev pub is_placed : (nodes : List ℕ) → Local → Bool
 is_placed nodes l = is_one_of l.node nodes || is_no_scalar l.type
+
+-- the locals and parameters of a function that are blocks, in the order of their declarations
+abbrev pub placed_in : Context → FunctionTree → Stmts → List Local
+placed_in c f ss = filter (is_placed (addressed_in c f ss)) (locals_in c f ss)

@@ -1,110 +1,99 @@
--- The typing rules by the numbers that the tool prints, tests on nodes, and what they find.
-use Rattle.std.specs.Prelude.{ℕ, Bool, false, not, ◌||◌, List, [], ◌∷◌, Option, Some, None, if◌then◌else◌}
+-- The numbers of the typing rules, tests on nodes, and what they find.
+use Rattle.std.specs.Prelude.{ℕ, zero, suc, ◌==◌, Bool, true, false, not, ◌||◌, List, [], ◌∷◌, Option, Some, None, if◌then◌else◌}
+use Rattle.std.specs.List.{slice_get}
+use Rattle.qs_types.specs.declared.rules.Rule.{Rule}
+use Rattle.qs_types.specs.declared.rules.Rule.TheVariants as rules
 use Rattle.qs_types.specs.Types.{TypeTree}
 
 -- ---- the rules
 
-abbrev pub declared_twice : ℕ
-declared_twice = 1
+-- the number of each, which the tool prints
+abbrev pub rule_number : Rule → ℕ
+rule_number rules.DeclaredTwice = 1
+rule_number rules.UnknownVariable = 2
+rule_number rules.UnknownFunction = 3
+rule_number rules.ArgumentCount = 4
+rule_number rules.ArgumentType = 5
+rule_number rules.UnknownTag = 6
+rule_number rules.IncompleteType = 7
+rule_number rules.MemberTwice = 8
+rule_number rules.ArrayLength = 9
+rule_number rules.LargeType = 10
+rule_number rules.SignatureType = 11
+rule_number rules.MainType = 12
+rule_number rules.ArithmeticOperand = 13
+rule_number rules.IndirectOperand = 14
+rule_number rules.AddressOperand = 15
+rule_number rules.StepOperand = 16
+rule_number rules.IntegerOperands = 17
+rule_number rules.SumOperands = 18
+rule_number rules.OrderOperands = 19
+rule_number rules.EqualityOperands = 20
+rule_number rules.TruthOperand = 21
+rule_number rules.BranchTypes = 22
+rule_number rules.AssignedType = 23
+rule_number rules.CompoundOperands = 24
+rule_number rules.UnknownMember = 25
+rule_number rules.CastType = 26
+rule_number rules.ReturnedType = 27
+rule_number rules.OutsideLoop = 28
+rule_number rules.MisplacedValue = 29
+rule_number rules.InitialiserType = 30
 
-abbrev pub unknown_variable : ℕ
-unknown_variable = 2
+-- all of them, in order
+abbrev pub all_rules : List Rule
+all_rules =
+    rules.DeclaredTwice
+    ∷ rules.UnknownVariable
+    ∷ rules.UnknownFunction
+    ∷ rules.ArgumentCount
+    ∷ rules.ArgumentType
+    ∷ rules.UnknownTag
+    ∷ rules.IncompleteType
+    ∷ rules.MemberTwice
+    ∷ rules.ArrayLength
+    ∷ rules.LargeType
+    ∷ rules.SignatureType
+    ∷ rules.MainType
+    ∷ rules.ArithmeticOperand
+    ∷ rules.IndirectOperand
+    ∷ rules.AddressOperand
+    ∷ rules.StepOperand
+    ∷ rules.IntegerOperands
+    ∷ rules.SumOperands
+    ∷ rules.OrderOperands
+    ∷ rules.EqualityOperands
+    ∷ rules.TruthOperand
+    ∷ rules.BranchTypes
+    ∷ rules.AssignedType
+    ∷ rules.CompoundOperands
+    ∷ rules.UnknownMember
+    ∷ rules.CastType
+    ∷ rules.ReturnedType
+    ∷ rules.OutsideLoop
+    ∷ rules.MisplacedValue
+    ∷ rules.InitialiserType
+    ∷ []
 
-abbrev pub unknown_function : ℕ
-unknown_function = 3
+abbrev pub same_rule : Rule → Rule → Bool
+same_rule r s = rule_number r == rule_number s
 
-abbrev pub argument_count : ℕ
-argument_count = 4
-
-abbrev pub argument_type : ℕ
-argument_type = 5
-
-abbrev pub unknown_tag : ℕ
-unknown_tag = 6
-
-abbrev pub incomplete_type : ℕ
-incomplete_type = 7
-
-abbrev pub member_twice : ℕ
-member_twice = 8
-
-abbrev pub array_length : ℕ
-array_length = 9
-
-abbrev pub large_type : ℕ
-large_type = 10
-
-abbrev pub signature_type : ℕ
-signature_type = 11
-
-abbrev pub main_type : ℕ
-main_type = 12
-
-abbrev pub arithmetic_operand : ℕ
-arithmetic_operand = 13
-
-abbrev pub indirect_operand : ℕ
-indirect_operand = 14
-
-abbrev pub address_operand : ℕ
-address_operand = 15
-
-abbrev pub step_operand : ℕ
-step_operand = 16
-
-abbrev pub integer_operands : ℕ
-integer_operands = 17
-
-abbrev pub sum_operands : ℕ
-sum_operands = 18
-
-abbrev pub order_operands : ℕ
-order_operands = 19
-
-abbrev pub equality_operands : ℕ
-equality_operands = 20
-
-abbrev pub truth_operand : ℕ
-truth_operand = 21
-
-abbrev pub branch_types : ℕ
-branch_types = 22
-
-abbrev pub assigned_type : ℕ
-assigned_type = 23
-
-abbrev pub compound_operands : ℕ
-compound_operands = 24
-
-abbrev pub unknown_member : ℕ
-unknown_member = 25
-
-abbrev pub cast_type : ℕ
-cast_type = 26
-
-abbrev pub returned_type : ℕ
-returned_type = 27
-
-abbrev pub outside_loop : ℕ
-outside_loop = 28
-
-abbrev pub misplaced_value : ℕ
-misplaced_value = 29
-
-abbrev pub initialiser_type : ℕ
-initialiser_type = 30
+-- the numbers are those of the places in the list, from 1
+abbrev pub rule_at : ℕ → Option Rule
+rule_at zero = None
+rule_at (suc n) = slice_get all_rules n
 
 -- ---- tests
 
 -- whether a node breaks a rule
 pub record Test : Type 0 where
-  pub rule : ℕ
+  pub rule : Rule
   pub breaks : Bool
 
-abbrev pub test : ℕ → Bool → List Test
+abbrev pub test : Rule → Bool → List Test
 test rule breaks = record { rule = rule; breaks = breaks } ∷ []
 
-abbrev pub keeps : ℕ → Bool → List Test
+abbrev pub keeps : Rule → Bool → List Test
 keeps rule holds = test rule (not holds)
 
 abbrev pub breaks_one : List Test → Bool
@@ -118,8 +107,12 @@ type_unless ts t = if breaks_one ts then None else Some t
 -- a node, by its number, and a rule that it breaks
 pub record Fault : Type 0 where
   pub node : ℕ
-  pub rule : ℕ
+  pub rule : Rule
 
 abbrev pub faults_of : (node : ℕ) → List Test → List Fault
 faults_of node [] = []
 faults_of node (t ∷ ts) = if t.breaks then record { node = node; rule = t.rule } ∷ faults_of node ts else faults_of node ts
+
+abbrev pub is_any : List Fault → Bool
+is_any [] = false
+is_any (f ∷ fs) = true

@@ -2,16 +2,16 @@
 use Rattle.std.specs.Prelude.{ℕ, Bool, true, false, not, ◌&&◌, List, [], ◌∷◌, ◌++◌, Option, Some, None, is_some, if◌then◌else◌}
 use Rattle.qs_syntax.specs.declared.types.Base.{Base}
 use Rattle.qs_syntax.specs.declared.nodes.Node.{Node}
-use Rattle.qs_syntax.specs.Trees.{ExprTree, InitialiserTree, VariableTree, StartTree, no_start, start_expression, start_declaration, StmtTree, empty, expression, declaration, block, branch, while_loop, do_loop, for_loop, break, continue, return, Stmts, no_stmts, stmt_and, Else, no_else, else_by}
+use Rattle.qs_syntax.specs.Trees.{ExprTree, InitialiserTree, value, list, VariableTree, StartTree, no_start, start_expression, start_declaration, StmtTree, empty, expression, declaration, block, branch, while_loop, do_loop, for_loop, break, continue, return, Stmts, no_stmts, stmt_and, Else, no_else, else_by}
 use Rattle.qs_types.specs.Types.{TypeTree, is_scalar, is_void}
 use Rattle.qs_types.specs.Conversions.{decayed}
-use Rattle.qs_types.specs.Rules
-use Rattle.qs_types.specs.Rules.{Test, test, keeps, Fault, faults_of}
+use Rattle.qs_types.specs.declared.rules.Rule.TheVariants as rules
+use Rattle.qs_types.specs.Rules.{Test, test, keeps, Fault, faults_of, is_any}
 use Rattle.qs_types.specs.Contexts.{Entity, local_variable, file_variable, Context, is_declared_here, with_name, inner_scope, inside_loop}
 use Rattle.qs_types.specs.Expressions.{type_of, is_assignable}
 use Rattle.qs_types.specs.Declarations.{variable_declared, lengths_faults, all_typed}
-use Rattle.qs_types.specs.InitialiserRules.{initialiser_faults, initialiser_tests, is_typed}
-use Rattle.qs_types.specs.ExpressionFaults.{used, discarded, expr_faults}
+use Rattle.qs_types.specs.InitialiserRules.{initialiser_faults, initialiser_tests}
+use Rattle.qs_types.specs.ExpressionFaults.{used, discarded, whole, expr_faults}
 
 -- ---- variables (6.7)
 
@@ -29,18 +29,21 @@ abbrev pub after_variables : Bool → Context → Base → List VariableTree →
 after_variables at_file_scope c base [] = c
 after_variables at_file_scope c base (v ∷ vs) = after_variables at_file_scope (after_variable at_file_scope c base v) base vs
 
-abbrev pub is_initialiser_typed : Context → Option InitialiserTree → Bool
-is_initialiser_typed c None = true
-is_initialiser_typed c (Some i) = is_typed c i
+-- the initialiser is an expression without type, since a rule is broken in it: the variable, of which it is a part, breaks none. An
+-- expression without type in which no rule is broken names a declaration without type, maybe the variable itself, and holds nothing back
+abbrev pub holds_back : Context → Option InitialiserTree → Bool
+holds_back c None = false
+holds_back c (Some (value e)) = not (is_some (type_of c e)) && is_any (expr_faults c whole e)
+holds_back c (Some (list node is)) = false
 
 -- 6.7p3: in one scope a name is declared once
-abbrev pub again_tests : Context → Context → VariableTree → List Test
-again_tests c after v =
-    if all_typed c v.declarator.lengths.given && is_initialiser_typed after v.initialiser then test Rules.declared_twice (is_declared_here c v.declarator.name) else []
+abbrev pub again_tests : Context → VariableTree → List Test
+again_tests c v = if all_typed c v.declarator.lengths.given then test rules.DeclaredTwice (is_declared_here c v.declarator.name) else []
 
 abbrev pub variable_tests : Bool → Context → Context → Base → VariableTree → List Test
 variable_tests at_file_scope c after base v =
-    again_tests c after v ++ ((variable_declared c base v).tests ++ initialiser_tests at_file_scope after (variable_declared c base v).type v.initialiser)
+    if holds_back after v.initialiser then [] else
+    again_tests c v ++ ((variable_declared c base v).tests ++ initialiser_tests at_file_scope after (variable_declared c base v).type v.initialiser)
 
 abbrev pub option_initialiser_faults : Bool → Context → Option TypeTree → Option InitialiserTree → List Fault
 option_initialiser_faults at_file_scope c t None = []
@@ -62,7 +65,7 @@ variables_faults at_file_scope c base (v ∷ vs) =
 -- 6.8.4.1p1, 6.8.5p2: a condition is a scalar
 abbrev pub condition_tests : Option TypeTree → List Test
 condition_tests None = []
-condition_tests (Some t) = keeps Rules.truth_operand (is_scalar (decayed t))
+condition_tests (Some t) = keeps rules.TruthOperand (is_scalar (decayed t))
 
 abbrev pub option_condition_tests : Context → Option ExprTree → List Test
 option_condition_tests c None = []
@@ -83,11 +86,11 @@ option_discarded c (Some e) = expr_faults c discarded e
 -- 6.8.6.4p1
 abbrev pub returns : TypeTree → ExprTree → Option TypeTree → List Test
 returns result e None = []
-returns result e (Some t) = keeps Rules.returned_type (not (is_void result) && is_assignable result e (decayed t))
+returns result e (Some t) = keeps rules.ReturnedType (not (is_void result) && is_assignable result e (decayed t))
 
 abbrev pub return_tests : Context → Option TypeTree → Option ExprTree → List Test
 return_tests c None e = []
-return_tests c (Some result) None = keeps Rules.returned_type (is_void result)
+return_tests c (Some result) None = keeps rules.ReturnedType (is_void result)
 return_tests c (Some result) (Some e) = returns result e (type_of c e)
 
 -- ---- statements (6.8)
@@ -106,14 +109,12 @@ abbrev pub after_statement : Context → StmtTree → Context
 after_statement c (declaration d) = after_variables false c d.base d.variables
 after_statement c _ = c
 
--- 6.8.5p5: a `for` with a declaration is a scope
-abbrev pub for_scope : Context → StartTree → Context
-for_scope c no_start = c
-for_scope c (start_expression e) = c
-for_scope c (start_declaration d) = inner_scope c
+-- 6.8.4p3, 6.8.5p5: the statements that are parts of others are scopes, and so is a `for`
+abbrev pub for_context : Context → StartTree → Context
+for_context c start = after_start (inner_scope c) start
 
 abbrev pub loop_tests : Context → List Test
-loop_tests c = keeps Rules.outside_loop c.in_loop
+loop_tests c = keeps rules.OutsideLoop c.in_loop
 
 abbrev pub option_typed : Context → Option ExprTree → Bool
 option_typed c None = true
@@ -138,13 +139,12 @@ abbrev mutual
   statement_faults c (expression node e) = expr_faults c discarded e
   statement_faults c (declaration d) = variables_faults false c d.base d.variables
   statement_faults c (block ss) = statements_faults (inner_scope c) ss
-  statement_faults c (branch node e s r) = condition_faults c node e ++ (statement_faults c s ++ else_faults c r)
-  statement_faults c (while_loop node e s) = condition_faults c node e ++ statement_faults (inside_loop c) s
-  statement_faults c (do_loop node s e) = statement_faults (inside_loop c) s ++ condition_faults c node e
+  statement_faults c (branch node e s r) = condition_faults c node e ++ (statement_faults (inner_scope c) s ++ else_faults c r)
+  statement_faults c (while_loop node e s) = condition_faults c node e ++ statement_faults (inside_loop (inner_scope c)) s
+  statement_faults c (do_loop node s e) = statement_faults (inside_loop (inner_scope c)) s ++ condition_faults c node e
   statement_faults c (for_loop node start e u s) =
-      start_faults (for_scope c start) start
-      ++ (for_faults (after_start (for_scope c start) start) start node e u
-      ++ statement_faults (inside_loop (after_start (for_scope c start) start)) s)
+      start_faults (inner_scope c) start
+      ++ (for_faults (for_context c start) start node e u ++ statement_faults (inside_loop (inner_scope (for_context c start))) s)
   statement_faults c (break node) = faults_of node.id (loop_tests c)
   statement_faults c (continue node) = faults_of node.id (loop_tests c)
   statement_faults c (return node e) = faults_of node.id (return_tests c c.result e) ++ option_used c e
@@ -155,4 +155,4 @@ abbrev mutual
 
   pub else_faults : Context → Else → List Fault
   else_faults c no_else = []
-  else_faults c (else_by s) = statement_faults c s
+  else_faults c (else_by s) = statement_faults (inner_scope c) s

@@ -1,18 +1,20 @@
 -- Which nodes of a unit break which rules (C11 6.9).
-use Rattle.std.specs.Prelude.{◌≡◌, ℕ, ◌==◌, Bool, true, false, not, ◌&&◌, ◌||◌, List, [], ◌∷◌, ◌++◌, Option, Some, None, is_some, if◌then◌else◌}
+use Rattle.std.specs.Prelude.{◌≡◌, ℕ, ◌+◌, ◌==◌, nat_le, Bool, true, false, not, ◌&&◌, ◌||◌, List, [], ◌∷◌, ◌++◌, Option, Some, None, is_some, if◌then◌else◌}
 use Rattle.std.specs.List.{list_all}
 use Rattle.qs_syntax.specs.Sameness.{same_bytes}
 use Rattle.qs_syntax.specs.declared.types.Base.{Base}
 use Rattle.qs_syntax.specs.Trees.{DeclaratorTree, ParameterTree, MembersTree, StructTree, FunctionTree, Stmts, DeclTree, structure, forward, function, variables, UnitTree}
 use Rattle.qs_types.specs.Types.{TypeTree, int, unsigned, MemberTree, Structs, same_type, is_scalar, is_struct}
-use Rattle.qs_types.specs.Layout.{and_then, layout_of, sized_layout, with_members, struct_of}
-use Rattle.qs_types.specs.Rules
-use Rattle.qs_types.specs.Rules.{Test, test, keeps, Fault, faults_of}
+use Rattle.qs_types.specs.declared.extent.Extent.{Extent}
+use Rattle.qs_types.specs.Layout.{and_then, member_types, rounded_up, layout_of, size_limit, sized_by, sized_layout, with_members, struct_of}
+use Rattle.qs_types.specs.declared.rules.Rule.TheVariants as rules
+use Rattle.qs_types.specs.declared.rules.Rule.{Rule}
+use Rattle.qs_types.specs.Rules.{same_rule, Test, test, keeps, Fault, faults_of}
 use Rattle.qs_types.specs.Contexts.{Entity, local_variable, file_variable, given, Binding, Context, start_context, lookup, tag_place, base_type, starred_type, is_void_base, with_name, inner_scope, is_declared_here}
 use Rattle.qs_types.specs.Contexts as contexts
 use Rattle.qs_types.specs.GivenFunctions.{Signature, main_name}
 use Rattle.qs_types.specs.Expressions.{type_or_void}
-use Rattle.qs_types.specs.Declarations.{declared, parameter_declared, lengths_faults, all_typed}
+use Rattle.qs_types.specs.Declarations.{Declared, declared, parameter_declared, lengths_faults, all_typed}
 use Rattle.qs_types.specs.StatementRules.{variables_faults, after_variables, statements_faults}
 
 -- ---- structs (6.7.2.1, 6.7.2.3)
@@ -21,75 +23,115 @@ use Rattle.qs_types.specs.StatementRules.{variables_faults, after_variables, sta
 abbrev pub with_tag : Context → List ℕ → Context
 with_tag c tag = if is_some (tag_place c tag) then c else record c { structs = c.structs ++ None ∷ []; tags = c.tags ++ tag ∷ [] }
 
--- the members with a type, in order
-abbrev pub with_member : List ℕ → Option TypeTree → List MemberTree → List MemberTree
-with_member x None ms = ms
-with_member x (Some t) ms = record { name = x; type = t } ∷ ms
+-- the members before a place of a struct: the names of all, those that have a type, and where the last of these ends
+pub record Before : Type 0 where
+  pub names : List (List ℕ)
+  pub members : List MemberTree
+  pub end : ℕ
 
-abbrev pub members_together : Context → Base → List DeclaratorTree → List MemberTree
-members_together c base [] = []
-members_together c base (d ∷ ds) = with_member d.name (declared c base d None).type (members_together c base ds)
+abbrev pub no_members : Before
+no_members = record { names = []; members = []; end = 0 }
 
-abbrev pub members_of : Context → List MembersTree → List MemberTree
-members_of c [] = []
-members_of c (m ∷ ms) = members_together c m.base m.declarators ++ members_of c ms
+-- where a member ends that lies behind this end
+abbrev pub member_end : (end : ℕ) → Extent → ℕ
+member_end end e = rounded_up end e.alignment + e.size
 
-abbrev pub is_defined : Context → List ℕ → Bool
-is_defined c tag = is_some (and_then (tag_place c tag) (struct_of c.structs))
+-- a struct isn't larger than the limit of sizes
+abbrev pub has_room : (end : ℕ) → Option Extent → Bool
+has_room end None = true
+has_room end (Some e) = nat_le (member_end end e) size_limit
 
-abbrev pub member_types : List MemberTree → List TypeTree
-member_types [] = []
-member_types (m ∷ ms) = m.type ∷ member_types ms
+abbrev pub option_extent : Structs → Option TypeTree → Option Extent
+option_extent structs t = and_then t (sized_by (layout_of structs))
 
--- whether the struct with these members is within the limit of sizes
-abbrev pub is_small : Context → List MemberTree → Bool
-is_small c ms = is_some (sized_layout (layout_of c.structs) (member_types ms))
+-- the member at which the struct would be too large is too large
+abbrev pub with_room_tests : Context → (end : ℕ) → Declared → Declared
+with_room_tests c end d = record {
+  tests = d.tests ++ keeps rules.LargeType (has_room end (option_extent c.structs d.type));
+  type = if has_room end (option_extent c.structs d.type) then d.type else None;
+}
 
-abbrev pub define_at : Context → List MemberTree → Option ℕ → Context
-define_at c ms None = c
-define_at c ms (Some k) = record c { structs = with_members (is_small c ms) c.structs k ms }
-
--- a struct is defined once
-abbrev pub after_struct : Context → StructTree → Context
-after_struct c s =
-    if is_defined c s.name then c else define_at (with_tag c s.name) (members_of (with_tag c s.name) s.members) (tag_place (with_tag c s.name) s.name)
+abbrev pub member_declared : Context → (end : ℕ) → Base → DeclaratorTree → Declared
+member_declared c end base d = with_room_tests c end (declared c base d None)
 
 abbrev pub is_name_in : List ℕ → List (List ℕ) → Bool
 is_name_in x [] = false
 is_name_in x (y ∷ ys) = same_bytes y x || is_name_in x ys
 
--- a member, behind those with these names
-abbrev pub member_faults : Context → List (List ℕ) → Base → DeclaratorTree → List Fault
-member_faults c before base d =
-    faults_of d.node.id
-    (if all_typed c d.lengths.given then (declared c base d None).tests ++ test Rules.member_twice (is_name_in d.name before) else [])
-    ++ lengths_faults c d.lengths.given
+abbrev pub end_behind : (end : ℕ) → Option Extent → ℕ
+end_behind end None = end
+end_behind end (Some e) = member_end end e
 
-abbrev pub together_faults : Context → List (List ℕ) → Base → List DeclaratorTree → List Fault
+abbrev pub with_member : (again : Bool) → List MemberTree → List ℕ → Option TypeTree → List MemberTree
+with_member again members x None = members
+with_member again members x (Some t) = if again then members else members ++ record { name = x; type = t } ∷ []
+
+-- a member of a name that was declared before doesn't count
+abbrev pub with_member_of : Context → Before → List ℕ → Option TypeTree → Before
+with_member_of c before x t = record {
+  names = x ∷ before.names;
+  members = with_member (is_name_in x before.names) before.members x t;
+  end = if is_name_in x before.names then before.end else end_behind before.end (option_extent c.structs t);
+}
+
+abbrev pub after_member : Context → Before → Base → DeclaratorTree → Before
+after_member c before base d = with_member_of c before d.name (member_declared c before.end base d).type
+
+abbrev pub after_together : Context → Before → Base → List DeclaratorTree → Before
+after_together c before base [] = before
+after_together c before base (d ∷ ds) = after_together c (after_member c before base d) base ds
+
+abbrev pub after_members : Context → Before → List MembersTree → Before
+after_members c before [] = before
+after_members c before (m ∷ ms) = after_members c (after_together c before m.base m.declarators) ms
+
+abbrev pub is_defined : Context → List ℕ → Bool
+is_defined c tag = is_some (and_then (tag_place c tag) (struct_of c.structs))
+
+abbrev pub define_at : Context → List MemberTree → Option ℕ → Context
+define_at c ms None = c
+define_at c ms (Some k) = record c { structs = with_members (is_some (sized_layout (layout_of c.structs) (member_types ms))) c.structs k ms }
+
+-- a struct is defined once
+abbrev pub after_struct : Context → StructTree → Context
+after_struct c s =
+    if is_defined c s.name then c else define_at (with_tag c s.name) (after_members (with_tag c s.name) no_members s.members).members (tag_place (with_tag c s.name) s.name)
+
+abbrev pub member_tests : Context → Before → Base → DeclaratorTree → List Test
+member_tests c before base d =
+    if all_typed c d.lengths.given
+    then (member_declared c before.end base d).tests ++ test rules.MemberTwice (is_name_in d.name before.names)
+    else []
+
+abbrev pub member_faults : Context → Before → Base → DeclaratorTree → List Fault
+member_faults c before base d = faults_of d.node.id (member_tests c before base d) ++ lengths_faults c d.lengths.given
+
+abbrev pub together_faults : Context → Before → Base → List DeclaratorTree → List Fault
 together_faults c before base [] = []
-together_faults c before base (d ∷ ds) = member_faults c before base d ++ together_faults c (d.name ∷ before) base ds
+together_faults c before base (d ∷ ds) = member_faults c before base d ++ together_faults c (after_member c before base d) base ds
 
-abbrev pub names_before : List (List ℕ) → List DeclaratorTree → List (List ℕ)
-names_before before [] = before
-names_before before (d ∷ ds) = names_before (d.name ∷ before) ds
-
-abbrev pub members_faults : Context → List (List ℕ) → List MembersTree → List Fault
+abbrev pub members_faults : Context → Before → List MembersTree → List Fault
 members_faults c before [] = []
-members_faults c before (m ∷ ms) = together_faults c before m.base m.declarators ++ members_faults c (names_before before m.declarators) ms
-
-abbrev pub struct_tests : Context → StructTree → List Test
-struct_tests c s =
-    test Rules.unknown_tag (is_defined c s.name) ++ keeps Rules.large_type (is_small (with_tag c s.name) (members_of (with_tag c s.name) s.members))
+members_faults c before (m ∷ ms) =
+    together_faults c before m.base m.declarators ++ members_faults c (after_together c before m.base m.declarators) ms
 
 abbrev pub struct_faults : Context → StructTree → List Fault
-struct_faults c s = faults_of s.node.id (struct_tests c s) ++ members_faults (with_tag c s.name) [] s.members
+struct_faults c s = faults_of s.node.id (test rules.UnknownTag (is_defined c s.name)) ++ members_faults (with_tag c s.name) no_members s.members
 
 -- ---- the types of functions (6.7.6.3)
 
--- None where a parameter has no type
-abbrev pub parameter_types : Context → List ParameterTree → Option (List TypeTree)
-parameter_types c [] = Some []
-parameter_types c (p ∷ ps) = and_then (parameter_declared c p).type (λ t. and_then (parameter_types c ps) (λ ts. Some (t ∷ ts)))
+-- a parameter is known behind its declarator (6.2.1p7)
+abbrev pub with_parameter : Context → ParameterTree → Option TypeTree → Option (List ℕ) → Context
+with_parameter c p t None = c
+with_parameter c p t (Some x) = with_name c x (local_variable p.node.id t)
+
+abbrev pub after_parameter : Context → ParameterTree → Context
+after_parameter c p = with_parameter c p (parameter_declared c p).type p.name
+
+-- the types of parameters, where the first is known in this context
+abbrev pub parameter_types : Context → List ParameterTree → List (Option TypeTree)
+parameter_types c [] = []
+parameter_types c (p ∷ ps) = (parameter_declared c p).type ∷ parameter_types (after_parameter c p) ps
 
 -- `void` with stars is no type
 abbrev pub is_void_pointer : FunctionTree → Bool
@@ -98,55 +140,68 @@ is_void_pointer f = is_void_base f.result_type.base && not (f.result_type.stars 
 abbrev pub result_type : Context → FunctionTree → Option TypeTree
 result_type c f = if is_void_pointer f then None else starred_type c f.result_type.base f.result_type.stars
 
-abbrev pub signature_of : Context → FunctionTree → Option Signature
-signature_of c f = and_then (parameter_types c f.parameters) (λ ts. and_then (result_type c f) (λ t. Some (record { parameters = ts; result = t })))
+-- the types of a header's parts; a part that breaks a rule on types has none
+pub record Header : Type 0 where
+  pub parameters : List (Option TypeTree)
+  pub result : Option TypeTree
 
-abbrev pub same_types : List TypeTree → List TypeTree → Bool
-same_types [] [] = true
-same_types (t ∷ ts) (u ∷ us) = same_type t u && same_types ts us
-same_types _ _ = false
+abbrev pub header_of : Context → FunctionTree → Header
+header_of c f = record { parameters = parameter_types (inner_scope c) f.parameters; result = result_type c f }
 
-abbrev pub same_signature : Signature → Signature → Bool
-same_signature s r = same_type s.result r.result && same_types s.parameters r.parameters
+-- the types, where each part has one
+abbrev pub all_of : List (Option TypeTree) → Option (List TypeTree)
+all_of [] = Some []
+all_of (t ∷ ts) = and_then t (λ t. and_then (all_of ts) (λ ts. Some (t ∷ ts)))
 
--- where one of them has no type, nothing is to be said
-abbrev pub agree : Option Signature → Option Signature → Bool
-agree None s = true
-agree (Some r) None = true
-agree (Some r) (Some s) = same_signature r s
+abbrev pub signature_by : Header → Option Signature
+signature_by h = and_then (all_of h.parameters) (λ ts. and_then h.result (λ t. Some (record { parameters = ts; result = t })))
+
+-- a part without type is let pass
+abbrev pub may_be : TypeTree → Option TypeTree → Bool
+may_be t None = true
+may_be t (Some u) = same_type t u
+
+abbrev pub may_all_be : List TypeTree → List (Option TypeTree) → Bool
+may_all_be [] [] = true
+may_all_be (t ∷ ts) (u ∷ us) = may_be t u && may_all_be ts us
+may_all_be _ _ = false
+
+-- 6.7.6.3p15: the parts of a header agree with what was declared before
+abbrev pub agree : Option Signature → Header → Bool
+agree None h = true
+agree (Some r) h = may_be r.result h.result && may_all_be r.parameters h.parameters
 
 -- ---- functions (6.9.1)
 
 -- 6.7p3: what was declared under the name before agrees, with at most one body
-abbrev pub agrees_with : Option Entity → Option Signature → (has_body : Bool) → Bool
-agrees_with None s has_body = true
-agrees_with (Some (local_variable node t)) s has_body = false
-agrees_with (Some (file_variable node t)) s has_body = false
-agrees_with (Some (contexts.function node r earlier)) s has_body = agree r s && not (earlier && has_body)
-agrees_with (Some (given r)) s has_body = agree (Some r) s && not has_body
+abbrev pub agrees_with : Option Entity → Header → (has_body : Bool) → Bool
+agrees_with None h has_body = true
+agrees_with (Some (local_variable node t)) h has_body = false
+agrees_with (Some (file_variable node t)) h has_body = false
+agrees_with (Some (contexts.function node r earlier)) h has_body = agree r h && not (earlier && has_body)
+agrees_with (Some (given r)) h has_body = agree (Some r) h && not has_body
 
 abbrev pub may_declare : Context → FunctionTree → Bool
-may_declare c f = agrees_with (lookup f.name c.inner) (signature_of c f) (is_some f.body)
+may_declare c f = agrees_with (lookup f.name c.inner) (header_of c f) (is_some f.body)
 
 -- 5.1.2.2.1
-abbrev pub is_main_parameter : TypeTree → Bool
-is_main_parameter t = same_type t int || same_type t unsigned
+abbrev pub is_main_parameter : Option TypeTree → Bool
+is_main_parameter t = may_be int t || may_be unsigned t
 
-abbrev pub is_main_type : Option Signature → Bool
-is_main_type None = true
-is_main_type (Some s) = same_type s.result int && list_all is_main_parameter s.parameters
+abbrev pub is_main_type : Header → Bool
+is_main_type h = may_be int h.result && list_all is_main_parameter h.parameters
 
-abbrev pub main_tests : FunctionTree → Option Signature → List Test
-main_tests f s = if same_bytes f.name main_name then keeps Rules.main_type (is_main_type s) else []
+abbrev pub main_tests : FunctionTree → Header → List Test
+main_tests f h = if same_bytes f.name main_name then keeps rules.MainType (is_main_type h) else []
 
 -- 6.7.6.3p1, 6.9.1p3: the result is a scalar or void
 abbrev pub result_tests : Context → FunctionTree → List Test
 result_tests c f =
-    keeps Rules.unknown_tag (is_some (base_type c f.result_type.base))
-    ++ (test Rules.incomplete_type (is_void_pointer f) ++ test Rules.signature_type (is_struct (type_or_void (result_type c f))))
+    keeps rules.UnknownTag (is_some (base_type c f.result_type.base))
+    ++ (test rules.IncompleteType (is_void_pointer f) ++ test rules.SignatureType (is_struct (type_or_void (result_type c f))))
 
 abbrev pub header_tests : Context → FunctionTree → List Test
-header_tests c f = keeps Rules.declared_twice (may_declare c f) ++ (result_tests c f ++ main_tests f (signature_of c f))
+header_tests c f = keeps rules.DeclaredTwice (may_declare c f) ++ (result_tests c f ++ main_tests f (header_of c f))
 
 -- what is known behind the header: a body that was given before stays, and so does a function that is given
 abbrev pub declared_function : Option Entity → ℕ → Option Signature → (has_body : Bool) → Entity
@@ -157,17 +212,9 @@ declared_function (Some (contexts.function n r earlier)) node s has_body = conte
 declared_function (Some (given r)) node s has_body = given r
 
 abbrev pub after_function : Context → FunctionTree → Context
-after_function c f = with_name c f.name (declared_function (lookup f.name c.inner) f.node.id (signature_of c f) (is_some f.body))
+after_function c f = with_name c f.name (declared_function (lookup f.name c.inner) f.node.id (signature_by (header_of c f)) (is_some f.body))
 
 -- ---- parameters: they share the scope of the function's block (6.2.1p4)
-
-abbrev pub after_parameter : Context → ParameterTree → Option (List ℕ) → Context
-after_parameter c p None = c
-after_parameter c p (Some x) = with_name c x (local_variable p.node.id (parameter_declared c p).type)
-
-abbrev pub after_parameters : Context → List ParameterTree → Context
-after_parameters c [] = c
-after_parameters c (p ∷ ps) = after_parameters (after_parameter c p p.name) ps
 
 abbrev pub is_name_declared : Context → Option (List ℕ) → Bool
 is_name_declared c None = false
@@ -175,13 +222,13 @@ is_name_declared c (Some x) = is_declared_here c x
 
 -- 6.9.1p5: the parameters of a body have names; parameters are scalars
 abbrev pub signature_tests : ParameterTree → (has_body : Bool) → Option TypeTree → List Test
-signature_tests p has_body None = test Rules.signature_type (has_body && not (is_some p.name))
-signature_tests p has_body (Some t) = keeps Rules.signature_type (is_scalar t && (not has_body || is_some p.name))
+signature_tests p has_body None = test rules.SignatureType (has_body && not (is_some p.name))
+signature_tests p has_body (Some t) = keeps rules.SignatureType (is_scalar t && (not has_body || is_some p.name))
 
 abbrev pub parameter_tests : Context → (has_body : Bool) → ParameterTree → List Test
 parameter_tests c has_body p =
     if all_typed c p.lengths.given
-    then test Rules.declared_twice (is_name_declared c p.name)
+    then test rules.DeclaredTwice (is_name_declared c p.name)
     ++ ((parameter_declared c p).tests ++ signature_tests p has_body (parameter_declared c p).type)
     else []
 
@@ -189,12 +236,19 @@ abbrev pub parameters_faults : Context → (has_body : Bool) → List ParameterT
 parameters_faults c has_body [] = []
 parameters_faults c has_body (p ∷ ps) =
     (faults_of p.node.id (parameter_tests c has_body p) ++ lengths_faults c p.lengths.given)
-    ++ parameters_faults (after_parameter c p p.name) has_body ps
+    ++ parameters_faults (after_parameter c p) has_body ps
 
 -- ---- bodies
 
+abbrev pub with_parameters : Context → List ParameterTree → List (Option TypeTree) → Context
+with_parameters c [] ts = c
+with_parameters c (p ∷ ps) [] = c
+with_parameters c (p ∷ ps) (t ∷ ts) = with_parameters (with_parameter c p t p.name) ps ts
+
+-- what is known at the begin of the body; the context is that before the header
 abbrev pub body_context : Context → FunctionTree → Context
-body_context c f = after_parameters (record (inner_scope c) { result = result_type c f }) f.parameters
+body_context c f =
+    with_parameters (record (inner_scope (after_function c f)) { result = result_type c f }) f.parameters (parameter_types (inner_scope c) f.parameters)
 
 abbrev pub body_faults : Context → FunctionTree → Option Stmts → List Fault
 body_faults c f None = []
@@ -203,7 +257,7 @@ body_faults c f (Some ss) = statements_faults (body_context c f) ss
 abbrev pub function_faults : Context → FunctionTree → List Fault
 function_faults c f =
     faults_of f.node.id (header_tests c f)
-    ++ (parameters_faults (inner_scope c) (is_some f.body) f.parameters ++ body_faults (after_function c f) f f.body)
+    ++ (parameters_faults (inner_scope c) (is_some f.body) f.parameters ++ body_faults c f f.body)
 
 -- ---- units
 
@@ -236,11 +290,11 @@ abbrev pub structs_of : UnitTree → Structs
 structs_of unit = (context_after start_context unit).structs
 
 -- the node breaks the rule
-abbrev pub is_among : (node rule : ℕ) → List Fault → Bool
+abbrev pub is_among : (node : ℕ) → (rule : Rule) → List Fault → Bool
 is_among node rule [] = false
-is_among node rule (f ∷ fs) = ((f.node == node) && (f.rule == rule)) || is_among node rule fs
+is_among node rule (f ∷ fs) = ((f.node == node) && same_rule f.rule rule) || is_among node rule fs
 
-pub record Violates (unit : UnitTree) (node rule : ℕ) : Type 0 where
+pub record Violates (unit : UnitTree) (node : ℕ) (rule : Rule) : Type 0 where
   pub found : is_among node rule (faults_in unit) ≡ true
 
 -- no node breaks a rule

@@ -4,6 +4,7 @@
 mod env;
 mod extent;
 mod layout;
+mod rules;
 mod structs;
 mod types;
 
@@ -13,5 +14,6 @@ pub use layout::{
     SIZE_LIMIT, align_of, extent_of, is_complete, members_layout, offset_of, rounds, size_of,
     sizes_aligned, structs_laid_out,
 };
+pub use rules::Rule;
 pub use structs::{StructLayout, StructType};
 pub use types::CType;

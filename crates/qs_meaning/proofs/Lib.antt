@@ -1,0 +1,16 @@
+mod Samples
+mod Known
+mod ExpressionTreeExamples
+mod InitialiserExamples
+mod Outcomes
+mod UndefinedExamples
+mod RunExamples
+mod Related
+mod Growth
+mod Options
+mod Sums
+mod TypedExpressions
+mod Faultless
+mod Bindings
+mod ValueExamples
+mod UnitExamples

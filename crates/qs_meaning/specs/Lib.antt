@@ -1,0 +1,16 @@
+pub mod Typed
+pub mod Conversions
+pub mod Forms
+pub mod Operations
+pub mod Names
+pub mod Expressions
+pub mod Blanks
+pub mod Initialisers
+pub mod Statements
+pub mod InitialValues
+pub mod Units
+pub mod States
+pub mod Meaning
+pub mod Runs
+pub mod Laws
+pub mod TypedLaws

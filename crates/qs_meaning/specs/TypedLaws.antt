@@ -1,0 +1,29 @@
+-- What is promised of the typed trees of expressions: where an expression has a type, it has a typed tree.
+use Rattle.std.specs.Prelude.{◌≡◌, ℕ, Bool, true, false, List, Option, Some, None, is_some}
+use Rattle.std.specs.List.{list_all}
+use Rattle.qs_syntax.specs.Trees.{ExprTree}
+use Rattle.qs_types.specs.Types.{TypeTree, MemberTree, is_scalar}
+use Rattle.qs_types.specs.Layout.{is_complete, struct_of, layout_of}
+use Rattle.qs_types.specs.Contexts.{local_variable, file_variable, entity_of}
+use Rattle.qs_types.specs.Expressions.{type_of}
+use Rattle.qs_types.specs.Placed.{is_one_of, addressed}
+use Rattle.qs_meaning.specs.Forms.{Form}
+use Rattle.qs_meaning.specs.Names.{Scope}
+use Rattle.qs_meaning.specs.Expressions.{typed}
+
+-- what holds of every scope of a well typed unit: arrays and structs are placed, variables and members have complete types, and structs
+-- that have members are laid out
+pub record IsReady (s : Scope) : Type 0 where
+  pub placed : (x : List ℕ) (node : ℕ) (t : TypeTree) → entity_of s.context x ≡ Some (local_variable node (Some t)) → is_scalar t ≡ false → is_one_of node s.locals.placed ≡ true
+  pub local_complete : (x : List ℕ) (node : ℕ) (t : TypeTree) → entity_of s.context x ≡ Some (local_variable node (Some t)) → is_complete s.context.structs t ≡ true
+  pub file_complete : (x : List ℕ) (node : ℕ) (t : TypeTree) → entity_of s.context x ≡ Some (file_variable node (Some t)) → is_complete s.context.structs t ≡ true
+  pub members : (k : ℕ) (ms : List MemberTree) → struct_of s.context.structs k ≡ Some ms → list_all (λ m. is_complete s.context.structs m.type) ms ≡ true
+  pub laid_out : (k : ℕ) (ms : List MemberTree) → struct_of s.context.structs k ≡ Some ms → is_some (layout_of s.context.structs k) ≡ true
+
+-- the locals whose names are operands of `&` are placed
+abbrev pub are_placed : Scope → List ℕ → Bool
+are_placed s nodes = list_all (λ n. is_one_of n s.locals.placed) nodes
+
+abbrev pub TypedWhereTypes : Type 0
+TypedWhereTypes =
+    (s : Scope) → IsReady s → (e : ExprTree) (t : TypeTree) → are_placed s (addressed s.context e) ≡ true → type_of s.context e ≡ Some t → (form : Form) × (typed s e ≡ Some (record { type = t; form = form }))

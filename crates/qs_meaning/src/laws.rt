@@ -1,0 +1,24 @@
+// The laws of the runs of a source. Each is the contract of an empty function.
+ghost use Rattle.qs_meaning.specs.Laws.{CallsFollow, MainGrows, RunsGrow};
+ghost use Rattle.qs_meaning.specs.TypedLaws.{TypedWhereTypes};
+
+/// A greater bound keeps the run of a function that has ended or is undefined, and goes on from
+/// where it is short.
+pub fn runs_grow()
+    ensures { RunsGrow }
+{}
+
+/// The same of `main` from the initial memory.
+pub fn main_grows()
+    ensures { MainGrows }
+{}
+
+/// A call is the run of the function alone, and then what follows.
+pub fn calls_follow()
+    ensures { CallsFollow }
+{}
+
+/// Where an expression has a type, it has a typed tree.
+pub fn typed_where_types()
+    ensures { TypedWhereTypes }
+{}

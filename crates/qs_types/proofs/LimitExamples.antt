@@ -1,0 +1,143 @@
+-- The node at which each count passes its limit, at small limits and at those of the language.
+use Rattle.std.proofs.Common.{◌≡◌, ℕ, true, false, List, [], ◌∷◌, Some, None, refl}
+use Rattle.qs_syntax.specs.declared.operators.UnaryOperator.TheVariants as unaries
+use Rattle.qs_syntax.specs.declared.types.Base.TheVariants as bases
+use Rattle.qs_syntax.specs.Trees.{ExprTree, unnumbered, UnitTree, initialisers_of}
+use Rattle.qs_syntax.specs.Trees as trees
+use Rattle.qs_syntax.specs.Numbering.{numbered_unit}
+use Rattle.qs_types.specs.GivenFunctions.{putchar_name}
+use Rattle.qs_types.specs.Limits.{first_past_nodes, first_past_functions, first_past_parameters, first_past_globals, global_limit, first_past_locals, local_limit}
+use Rattle.qs_types.specs.WellTyped.{first_undefined, has_main}
+use Rattle.qs_types.proofs.RuleTrees.{e, number, a, call_f, one, many, global, local, valued, parameter, header, body, g, eval, f_name}
+
+abbrev h_name : List ℕ
+h_name = 104 ∷ []
+
+abbrev text : List ℕ → ExprTree
+text bytes = e (trees.text bytes)
+
+abbrev empty : trees.StmtTree
+empty = trees.empty (unnumbered 0)
+
+-- ---- nodes: void g(void){;;} has three
+
+nodes_at : first_past_nodes 3 (numbered_unit (g (empty ∷ empty ∷ []) ∷ [])) ≡ None
+nodes_at = refl
+
+nodes_past : first_past_nodes 2 (numbered_unit (g (empty ∷ empty ∷ []) ∷ [])) ≡ Some 2
+nodes_past = refl
+
+-- ---- functions: void f(void);void f(void);void h(void);int putchar(int);
+
+abbrev headers : UnitTree
+headers = numbered_unit (header bases.Void f_name [] ∷ header bases.Void f_name [] ∷ header bases.Void h_name [] ∷ header bases.Int putchar_name (parameter bases.Int 0 None ∷ []) ∷ [])
+
+functions_at : first_past_functions 3 headers ≡ None
+functions_at = refl
+
+putchar_counts : first_past_functions 2 headers ≡ Some 3
+putchar_counts = refl
+
+functions_past : first_past_functions 1 headers ≡ Some 2
+functions_past = refl
+
+-- ---- parameters: void f(int);void h(int,int,int);
+
+abbrev parameters : UnitTree
+parameters = numbered_unit (header bases.Void f_name (parameter bases.Int 0 None ∷ []) ∷ header bases.Void h_name (parameter bases.Int 0 None ∷ parameter bases.Int 0 None ∷ parameter bases.Int 0 None ∷ []) ∷ [])
+
+parameters_at : first_past_parameters 3 parameters ≡ None
+parameters_at = refl
+
+parameters_past : first_past_parameters 2 parameters ≡ Some 5
+parameters_past = refl
+
+-- ---- data
+
+-- char a[16777216];
+largest_global : first_past_globals global_limit (numbered_unit (global bases.Char 0 97 (many (number 16777216)) None ∷ [])) ≡ None
+largest_global = refl
+
+-- char a[16777216];char b;
+global_past : first_past_globals global_limit (numbered_unit (global bases.Char 0 97 (many (number 16777216)) None ∷ global bases.Char 0 98 one None ∷ [])) ≡ Some 2
+global_past = refl
+
+-- char a;int b; take 8 bytes
+global_aligned : first_past_globals 7 (numbered_unit (global bases.Char 0 97 one None ∷ global bases.Int 0 98 one None ∷ [])) ≡ Some 1
+global_aligned = refl
+
+global_aligned_at : first_past_globals 8 (numbered_unit (global bases.Char 0 97 one None ∷ global bases.Int 0 98 one None ∷ [])) ≡ None
+global_aligned_at = refl
+
+-- void g(void){"x";}char a; the text lies behind the variable, at 4
+text_behind : first_past_globals 5 (numbered_unit (g (eval (text (120 ∷ [])) ∷ []) ∷ global bases.Char 0 97 one None ∷ [])) ≡ Some 2
+text_behind = refl
+
+text_behind_at : first_past_globals 6 (numbered_unit (g (eval (text (120 ∷ [])) ∷ []) ∷ global bases.Char 0 97 one None ∷ [])) ≡ None
+text_behind_at = refl
+
+-- char a[2]="xx"; takes 2 bytes
+filled_at : first_past_globals 2 (numbered_unit (global bases.Char 0 97 (many (number 2)) (valued (text (120 ∷ 120 ∷ []))) ∷ [])) ≡ None
+filled_at = refl
+
+-- char *a="xx"; takes 4 bytes and 3
+pointed : first_past_globals 6 (numbered_unit (global bases.Char 1 97 one (valued (text (120 ∷ 120 ∷ []))) ∷ [])) ≡ Some 1
+pointed = refl
+
+pointed_at : first_past_globals 7 (numbered_unit (global bases.Char 1 97 one (valued (text (120 ∷ 120 ∷ []))) ∷ [])) ≡ None
+pointed_at = refl
+
+-- void g(void){sizeof "xx";}
+below_sizeof : first_past_globals 2 (numbered_unit (g (eval (e (trees.sizeof_expr (text (120 ∷ 120 ∷ [])))) ∷ []) ∷ [])) ≡ Some 3
+below_sizeof = refl
+
+-- ---- placed locals and parameters
+
+-- void g(void){char a[1048576];}
+largest_local : first_past_locals local_limit (numbered_unit (g (local bases.Char 0 97 (many (number 1048576)) None ∷ []) ∷ [])) ≡ None
+largest_local = refl
+
+-- void g(void){char a[1048577];}
+local_past : first_past_locals local_limit (numbered_unit (g (local bases.Char 0 97 (many (number 1048577)) None ∷ []) ∷ [])) ≡ Some 1
+local_past = refl
+
+-- void g(void){char b[3];int a;&a;} takes 8 bytes
+locals_rounded : first_past_locals 7 (numbered_unit (g (local bases.Char 0 98 (many (number 3)) None ∷ local bases.Int 0 97 one None ∷ eval (e (trees.unary unaries.Address a)) ∷ []) ∷ [])) ≡ Some 3
+locals_rounded = refl
+
+locals_rounded_at : first_past_locals 8 (numbered_unit (g (local bases.Char 0 98 (many (number 3)) None ∷ local bases.Int 0 97 one None ∷ eval (e (trees.unary unaries.Address a)) ∷ []) ∷ [])) ≡ None
+locals_rounded_at = refl
+
+-- void g(void){char b[3];int a;a;} takes 4 bytes
+plain_takes_none : first_past_locals 4 (numbered_unit (g (local bases.Char 0 98 (many (number 3)) None ∷ local bases.Int 0 97 one None ∷ eval a ∷ []) ∷ [])) ≡ None
+plain_takes_none = refl
+
+-- void f(int a){&a;} takes 4 bytes
+parameter_placed : first_past_locals 3 (numbered_unit (body bases.Void f_name (parameter bases.Int 0 (Some (97 ∷ [])) ∷ []) (eval (e (trees.unary unaries.Address a)) ∷ []) ∷ [])) ≡ Some 1
+parameter_placed = refl
+
+-- ---- functions without a body
+
+-- void f(void);void f(void);void g(void){f();}
+undefined : first_undefined (numbered_unit (header bases.Void f_name [] ∷ header bases.Void f_name [] ∷ g (eval (call_f []) ∷ []) ∷ [])) ≡ Some 0
+undefined = refl
+
+-- void f(void);void g(void){f();}void f(void){}
+defined_behind : first_undefined (numbered_unit (header bases.Void f_name [] ∷ g (eval (call_f []) ∷ []) ∷ body bases.Void f_name [] [] ∷ [])) ≡ None
+defined_behind = refl
+
+-- void h(void);void f(void);void g(void){sizeof f();}
+undefined_below_sizeof : first_undefined (numbered_unit (header bases.Void h_name [] ∷ header bases.Void f_name [] ∷ g (eval (e (trees.sizeof_expr (call_f []))) ∷ []) ∷ [])) ≡ Some 1
+undefined_below_sizeof = refl
+
+-- int putchar(int);void g(void){putchar(1);}
+putchar_defined : first_undefined (numbered_unit (header bases.Int putchar_name (parameter bases.Int 0 None ∷ []) ∷ g (eval (e (trees.call putchar_name (trees.exprs_of (number 1 ∷ [])))) ∷ []) ∷ [])) ≡ None
+putchar_defined = refl
+
+-- int main(void);
+main_without_body : has_main (numbered_unit (header bases.Int (109 ∷ 97 ∷ 105 ∷ 110 ∷ []) [] ∷ [])) ≡ false
+main_without_body = refl
+
+-- int main(void){}
+main_with_body : has_main (numbered_unit (body bases.Int (109 ∷ 97 ∷ 105 ∷ 110 ∷ []) [] [] ∷ [])) ≡ true
+main_with_body = refl

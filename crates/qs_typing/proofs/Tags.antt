@@ -1,0 +1,85 @@
+-- The places of tags, and types with stars.
+use Rattle.std.proofs.Common.{◌≡◌, ◌==◌, ℕ, zero, suc, ◌+◌, ◌-◌, ◌<◌, ◌≤◌, Bool, true, false, not, ◌||◌, List, [], ◌∷◌, ◌++◌, Option, Some, None, is_some, length, take, drop, nat_lt, refl, sym, ap, ◌∙◌, subst, arith, add-one, add-zero, if◌then◌else◌, cond}
+use Rattle.std.specs.List.{position, position_or_len, list_any}
+use Rattle.std.specs.Cmp.{IsEquivalence}
+use Rattle.std.proofs.lemmas.Bool.Decides.{nat_tests}
+use Rattle.std.proofs.lemmas.Cmp.{nat_list_eq_equiv}
+use Rattle.std.proofs.lemmas.List.{length-append, take_at, drop_at}
+use Rattle.qs_syntax.specs.Sameness.{same_bytes}
+use Rattle.qs_types.specs.Types.{TypeTree, pointer, Structs}
+use Rattle.qs_types.specs.Contexts.{Context, Binding, place_from, pointers, tag_place}
+use Rattle.qs_types.specs.UnitRules.{with_tag}
+use Rattle.qs_typing.specs.ContextOf.{outer_scope}
+
+-- ---- stars
+
+pub one_star : (n : ℕ) (t : TypeTree) → pointers (n + 1) t ≡ pointer (pointers n t)
+one_star n t = ap (λ k. pointers k t) (add-one n)
+
+-- ---- tags
+
+same_swap : (x y : List ℕ) → same_bytes x y ≡ same_bytes y x
+same_swap x y = nat_list_eq_equiv.symm x y
+
+place_step : (k p n : ℕ) → cond (nat_lt p n) (Some (k + 1 + p)) None ≡ cond (nat_lt (1 + p) (suc n)) (Some (k + (1 + p))) None
+place_step k p n = grind (arith, nat_tests)
+
+place_first : (k n : ℕ) → Some k ≡ cond (nat_lt 0 (suc n)) (Some (k + 0)) None
+place_first k n = grind (arith, nat_tests)
+
+place_is : (k : ℕ) (tag : List ℕ) (tags : List (List ℕ))
+    → place_from k tag tags ≡ cond (nat_lt (position_or_len (same_bytes tag) tags) (length tags)) (Some (k + position_or_len (same_bytes tag) tags)) None
+place_is k tag [] = refl
+place_is k tag (t ∷ tags) =
+    ap (λ b. if b then Some k else place_from (k + 1) tag tags) (same_swap t tag) ∙ by (same_bytes tag t) (place_is (k + 1) tag tags)
+  where
+    by : (b : Bool)
+        → place_from (k + 1) tag tags ≡ cond (nat_lt (position_or_len (same_bytes tag) tags) (length tags)) (Some (k + 1 + position_or_len (same_bytes tag) tags)) None
+        → (if b then Some k else place_from (k + 1) tag tags)
+        ≡ cond (nat_lt (cond (not b) (1 + position_or_len (same_bytes tag) tags) 0) (suc (length tags))) (Some (k + cond (not b) (1 + position_or_len (same_bytes tag) tags) 0)) None
+    by true rest = place_first k (length tags)
+    by false rest = rest ∙ place_step k (position_or_len (same_bytes tag) tags) (length tags)
+
+from_zero : (p n : ℕ) → cond (nat_lt p n) (Some (0 + p)) None ≡ cond (nat_lt p n) (Some p) None
+from_zero p n = grind (arith, nat_tests)
+
+-- the place of a tag is the first one at which it stands
+pub tag_position : (tag : List ℕ) (tags : List (List ℕ)) → position (same_bytes tag) tags ≡ place_from 0 tag tags
+tag_position tag tags = sym (place_is 0 tag tags ∙ from_zero (position_or_len (same_bytes tag) tags) (length tags))
+
+-- a tag has a place where it is one of them
+has_tag : (k : ℕ) (tag : List ℕ) (tags : List (List ℕ)) → is_some (place_from k tag tags) ≡ list_any (same_bytes tag) tags
+has_tag k tag [] = refl
+has_tag k tag (t ∷ tags) =
+    ap (λ b. is_some (if b then Some k else place_from (k + 1) tag tags)) (same_swap t tag) ∙ by (same_bytes tag t) (has_tag (k + 1) tag tags)
+  where
+    by : (b : Bool) → is_some (place_from (k + 1) tag tags) ≡ list_any (same_bytes tag) tags
+        → is_some (if b then Some k else place_from (k + 1) tag tags) ≡ (b || list_any (same_bytes tag) tags)
+    by true rest = refl
+    by false rest = rest
+
+abbrev pub with_tags : Context → Structs → List (List ℕ) → Context
+with_tags c structs tags = record c { structs = structs; tags = tags }
+
+-- what is known where a tag was inserted behind the others
+pub tag_inserted : (c : Context) (tag : List ℕ) (structs : Structs) (tags : List (List ℕ)) (r : Bool) → tags ≡ (if list_any (same_bytes tag) c.tags then c.tags else c.tags ++ tag ∷ []) → r ≡ not (list_any (same_bytes tag) c.tags)
+    → structs ≡ (if r then c.structs ++ None ∷ [] else c.structs) → with_tags c structs tags ≡ with_tag c tag
+tag_inserted c tag structs tags r e q s = (λ j. with_tags c ((s ∙ ap (λ b. if b then c.structs ++ None ∷ [] else c.structs) q) j) (e j)) ∙ by (list_any (same_bytes tag) c.tags) (has_tag 0 tag c.tags)
+  where
+    by : (b : Bool) → is_some (place_from 0 tag c.tags) ≡ b
+        → with_tags c (if not b then c.structs ++ None ∷ [] else c.structs) (if b then c.tags else c.tags ++ tag ∷ []) ≡ with_tag c tag
+    by true h = ap (λ b. if b then c else with_tags c (c.structs ++ None ∷ []) (c.tags ++ tag ∷ [])) (sym h)
+    by false h = ap (λ b. if b then c else with_tags c (c.structs ++ None ∷ []) (c.tags ++ tag ∷ [])) (sym h)
+
+-- ---- scopes that end
+
+abbrev pub scoped : Context → List Binding → List Binding → Context
+scoped c inner outer = record c { inner = inner; outer = outer }
+
+pub scope_left : (c : Context) (inner outer : List Binding) (k : ℕ) → inner ++ outer ≡ c.outer → length outer ≡ k → scoped c inner outer ≡ outer_scope k c
+scope_left c inner outer k e n =
+    let m : length inner + length outer ≡ length c.outer = sym (length-append inner outer) ∙ ap length e in
+    let a : length inner ≡ length c.outer - k = omega arith in
+    let f : inner ≡ take (length c.outer - k) c.outer = sym (take_at inner outer (length c.outer - k) a) ∙ ap (take (length c.outer - k)) e in
+    let g : outer ≡ drop (length c.outer - k) c.outer = sym (drop_at inner outer (length c.outer - k) a) ∙ ap (drop (length c.outer - k)) e in
+    λ j. scoped c (f j) (g j)

@@ -1,0 +1,4 @@
+pub mod EntityOf
+pub mod Bindings
+pub mod ScopesOf
+pub mod ContextOf

@@ -1,0 +1,391 @@
+// Constant expressions (C11 6.6): how they are built, and their values.
+ghost use Rattle.std.specs.Prelude.{◌≡◌, Some};
+ghost use Rattle.qs_syntax.specs.TreeOf.{expr_tree, shape_tree};
+ghost use Rattle.qs_types.specs.Layout.{and_then, size_of};
+ghost use Rattle.qs_types.specs.Contexts.{base_type, named_type};
+ghost use Rattle.qs_types.specs.Constants as constants;
+ghost use Rattle.qs_typing.specs.ContextOf.{context_tree};
+
+use crate::context::Context;
+use qs_base::{add32, divs32, divu32, mul32, rems32, remu32, sll32, sra32, srl32, sub32};
+use qs_syntax::{Base, BinaryOperator, Expr, Shape, TypeName, UnaryOperator};
+
+// ---- names of integer types
+
+fn is_integer_base(base: &Base) -> bool
+    ensures { result ≡ constants.is_integer_base base.now }
+{
+    match base {
+        Base::Void => false,
+        Base::Int => true,
+        Base::Unsigned => true,
+        Base::Char => true,
+        Base::Struct(_) => false,
+    }
+}
+
+fn is_unsigned_base(base: &Base) -> bool
+    ensures { result ≡ constants.is_unsigned_base base.now }
+{
+    match base {
+        Base::Void => false,
+        Base::Int => false,
+        Base::Unsigned => true,
+        Base::Char => false,
+        Base::Struct(_) => false,
+    }
+}
+
+fn is_integer_name(name: &TypeName) -> bool
+    ensures { result ≡ constants.is_integer_name name.now }
+{
+    name.stars == 0 && is_integer_base(&name.base)
+}
+
+// ---- what they are built of
+
+/// Whether it is built as a constant expression is.
+#[cycle(is_built)]
+pub fn is_built(e: &Expr) -> bool
+    ensures { result ≡ constants.is_built (expr_tree e.now) }
+{
+    is_built_shape(&e.shape)
+}
+
+#[cycle(is_built)]
+fn is_built_shape(shape: &Shape) -> bool
+    ensures { result ≡ constants.is_built_shape (shape_tree shape.now) }
+{
+    match shape {
+        Shape::Constant(_, _) => true,
+        Shape::Text(_) => false,
+        Shape::Name(_) => false,
+        Shape::Unary(operator, a) => match operator {
+            UnaryOperator::Address => false,
+            UnaryOperator::Indirect => false,
+            UnaryOperator::Plus => is_built(a),
+            UnaryOperator::Minus => is_built(a),
+            UnaryOperator::Complement => is_built(a),
+            UnaryOperator::Not => is_built(a),
+        },
+        Shape::Step(_, _) => false,
+        Shape::Cast(name, a) => is_integer_name(name) && is_built(a),
+        Shape::SizeofType(_) => true,
+        Shape::SizeofExpr(_) => false,
+        Shape::Binary { left, right, .. } => is_built(left) && is_built(right),
+        Shape::Assign { .. } => false,
+        Shape::Conditional {
+            condition,
+            then,
+            otherwise,
+        } => is_built(condition) && is_built(then) && is_built(otherwise),
+        Shape::Comma(_, _) => false,
+        Shape::Subscript(_, _) => false,
+        Shape::Member { .. } => false,
+        Shape::Call(_, _) => false,
+    }
+}
+
+// ---- whether their type is unsigned
+
+fn is_unsigned_by(operator: BinaryOperator, p: bool, q: bool) -> bool
+    ensures { result ≡ constants.is_unsigned_by operator p q }
+{
+    match operator {
+        BinaryOperator::Multiply => p || q,
+        BinaryOperator::Divide => p || q,
+        BinaryOperator::Remainder => p || q,
+        BinaryOperator::Add => p || q,
+        BinaryOperator::Subtract => p || q,
+        BinaryOperator::ShiftLeft => p,
+        BinaryOperator::ShiftRight => p,
+        BinaryOperator::Less => false,
+        BinaryOperator::LessEqual => false,
+        BinaryOperator::Greater => false,
+        BinaryOperator::GreaterEqual => false,
+        BinaryOperator::Equal => false,
+        BinaryOperator::NotEqual => false,
+        BinaryOperator::BitAnd => p || q,
+        BinaryOperator::BitXor => p || q,
+        BinaryOperator::BitOr => p || q,
+        BinaryOperator::And => false,
+        BinaryOperator::Or => false,
+    }
+}
+
+#[cycle(is_unsigned)]
+fn is_unsigned(e: &Expr) -> bool
+    ensures { result ≡ constants.is_unsigned (expr_tree e.now) }
+{
+    is_unsigned_shape(&e.shape)
+}
+
+#[cycle(is_unsigned)]
+fn is_unsigned_shape(shape: &Shape) -> bool
+    ensures { result ≡ constants.is_unsigned_shape (shape_tree shape.now) }
+{
+    match shape {
+        Shape::Constant(_, is_unsigned) => *is_unsigned,
+        Shape::Text(_) => false,
+        Shape::Name(_) => false,
+        Shape::Unary(operator, a) => match operator {
+            UnaryOperator::Address => false,
+            UnaryOperator::Indirect => false,
+            UnaryOperator::Plus => is_unsigned(a),
+            UnaryOperator::Minus => is_unsigned(a),
+            UnaryOperator::Complement => is_unsigned(a),
+            UnaryOperator::Not => false,
+        },
+        Shape::Step(_, _) => false,
+        Shape::Cast(name, _) => is_unsigned_base(&name.base),
+        Shape::SizeofType(_) => true,
+        Shape::SizeofExpr(_) => true,
+        Shape::Binary {
+            operator,
+            left,
+            right,
+        } => is_unsigned_by(*operator, is_unsigned(left), is_unsigned(right)),
+        Shape::Assign { .. } => false,
+        Shape::Conditional {
+            then, otherwise, ..
+        } => is_unsigned(then) || is_unsigned(otherwise),
+        Shape::Comma(_, _) => false,
+        Shape::Subscript(_, _) => false,
+        Shape::Member { .. } => false,
+        Shape::Call(_, _) => false,
+    }
+}
+
+// ---- operators on values
+
+fn truth(b: bool) -> u32
+    ensures { result ≡ constants.truth b }
+{
+    u32::from(b)
+}
+
+fn is_true(n: u32) -> bool
+    ensures { result ≡ constants.is_true n }
+{
+    n != 0
+}
+
+fn less(unsigned: bool, a: u32, b: u32) -> bool
+    ensures { result ≡ constants.less unsigned a b }
+{
+    if unsigned {
+        a < b
+    } else {
+        a.cast_signed() < b.cast_signed()
+    }
+}
+
+/// Whether the quotient has a value (C11 6.5.5p5, p6).
+fn divides(unsigned: bool, a: u32, b: u32) -> bool
+    ensures { result ≡ constants.divides unsigned a b }
+{
+    b != 0 && (unsigned || !(a == 2_147_483_648 && b == 4_294_967_295))
+}
+
+fn quotient(unsigned: bool, a: u32, b: u32) -> u32
+    ensures { result ≡ constants.quotient unsigned a b }
+{
+    if unsigned { divu32(a, b) } else { divs32(a, b) }
+}
+
+fn rest(unsigned: bool, a: u32, b: u32) -> u32
+    ensures { result ≡ constants.rest unsigned a b }
+{
+    if unsigned { remu32(a, b) } else { rems32(a, b) }
+}
+
+/// The result of a shift, where the count is small enough (C11 6.5.7p3).
+fn shifted(a: u32, count: u32, value: u32) -> Option<u32>
+    ensures { result ≡ constants.shifted a count value }
+{
+    if count < 32 { Some(value) } else { None }
+}
+
+/// The value of an operator on two values, of which the types are unsigned or aren't.
+fn combined(operator: BinaryOperator, p: bool, q: bool, a: u32, b: u32) -> Option<u32>
+    ensures { result ≡ constants.combined operator p q a b }
+{
+    match operator {
+        BinaryOperator::Multiply => Some(mul32(a, b)),
+        BinaryOperator::Divide => {
+            if divides(p || q, a, b) {
+                Some(quotient(p || q, a, b))
+            } else {
+                None
+            }
+        }
+        BinaryOperator::Remainder => {
+            if divides(p || q, a, b) {
+                Some(rest(p || q, a, b))
+            } else {
+                None
+            }
+        }
+        BinaryOperator::Add => Some(add32(a, b)),
+        BinaryOperator::Subtract => Some(sub32(a, b)),
+        BinaryOperator::ShiftLeft => shifted(a, b, sll32(a, b)),
+        BinaryOperator::ShiftRight => shifted(a, b, if p { srl32(a, b) } else { sra32(a, b) }),
+        BinaryOperator::Less => Some(truth(less(p || q, a, b))),
+        BinaryOperator::LessEqual => Some(truth(!less(p || q, b, a))),
+        BinaryOperator::Greater => Some(truth(less(p || q, b, a))),
+        BinaryOperator::GreaterEqual => Some(truth(!less(p || q, a, b))),
+        BinaryOperator::Equal => Some(truth(a == b)),
+        BinaryOperator::NotEqual => Some(truth(a != b)),
+        BinaryOperator::BitAnd => Some(a & b),
+        BinaryOperator::BitXor => Some(a ^ b),
+        BinaryOperator::BitOr => Some(a | b),
+        BinaryOperator::And => Some(truth(is_true(a) && is_true(b))),
+        BinaryOperator::Or => Some(truth(is_true(a) || is_true(b))),
+    }
+}
+
+/// Whether the left operand decides, so that the right one isn't evaluated (C11 6.5.13p4, 6.5.14p4).
+fn decides(operator: BinaryOperator, a: u32) -> bool
+    ensures { result ≡ constants.decides operator a }
+{
+    match operator {
+        BinaryOperator::And => !is_true(a),
+        BinaryOperator::Or => is_true(a),
+        BinaryOperator::Multiply => false,
+        BinaryOperator::Divide => false,
+        BinaryOperator::Remainder => false,
+        BinaryOperator::Add => false,
+        BinaryOperator::Subtract => false,
+        BinaryOperator::ShiftLeft => false,
+        BinaryOperator::ShiftRight => false,
+        BinaryOperator::Less => false,
+        BinaryOperator::LessEqual => false,
+        BinaryOperator::Greater => false,
+        BinaryOperator::GreaterEqual => false,
+        BinaryOperator::Equal => false,
+        BinaryOperator::NotEqual => false,
+        BinaryOperator::BitAnd => false,
+        BinaryOperator::BitXor => false,
+        BinaryOperator::BitOr => false,
+    }
+}
+
+fn unary_value(operator: UnaryOperator, a: u32) -> Option<u32>
+    ensures { result ≡ constants.unary_value operator a }
+{
+    match operator {
+        UnaryOperator::Address => None,
+        UnaryOperator::Indirect => None,
+        UnaryOperator::Plus => Some(a),
+        UnaryOperator::Minus => Some(sub32(0, a)),
+        UnaryOperator::Complement => Some(a ^ 4_294_967_295),
+        UnaryOperator::Not => Some(truth(a == 0)),
+    }
+}
+
+// ---- type names
+
+/// A value converted to the named type (C11 6.3.1.3).
+fn converted(context: &Context, name: &TypeName, n: u32) -> Option<u32>
+    ensures { result ≡ and_then (named_type (context_tree context.now) name.now) (λ t. Some (constants.converted t n)) }
+{
+    context.base_type(&name.base)?;
+    if name.stars > 0 {
+        return Some(n);
+    }
+    match &name.base {
+        Base::Void => Some(n),
+        Base::Int => Some(n),
+        Base::Unsigned => Some(n),
+        Base::Char => Some(n % 256),
+        Base::Struct(_) => Some(n),
+    }
+}
+
+fn base_size(context: &Context, base: &Base) -> Option<u32>
+    ensures { result ≡ and_then (base_type (context_tree context.now) base.now) (size_of (context_tree context.now).structs) }
+{
+    match base {
+        Base::Void => None,
+        Base::Int => Some(4),
+        Base::Unsigned => Some(4),
+        Base::Char => Some(1),
+        Base::Struct(tag) => {
+            let k = context.tag_place(tag)?;
+            Some(context.structs().layout_of(k)?.size)
+        }
+    }
+}
+
+/// The size of the named type (C11 6.5.3.4).
+fn named_size(context: &Context, name: &TypeName) -> Option<u32>
+    ensures { result ≡ and_then (named_type (context_tree context.now) name.now) (size_of (context_tree context.now).structs) }
+{
+    if name.stars > 0 {
+        context.base_type(&name.base)?;
+        return Some(4);
+    }
+    base_size(context, &name.base)
+}
+
+// ---- values
+
+/// The value, where it is defined; a part that isn't evaluated needs none.
+#[cycle(value)]
+pub fn value(context: &Context, e: &Expr) -> Option<u32>
+    ensures { result ≡ constants.value_of (context_tree context.now) (expr_tree e.now) }
+{
+    shape_value(context, &e.shape)
+}
+
+#[cycle(value)]
+fn shape_value(context: &Context, shape: &Shape) -> Option<u32>
+    ensures { result ≡ constants.shape_value (context_tree context.now) (shape_tree shape.now) }
+{
+    match shape {
+        Shape::Constant(n, _) => Some(*n),
+        Shape::Text(_) => None,
+        Shape::Name(_) => None,
+        Shape::Unary(operator, a) => unary_value(*operator, value(context, a)?),
+        Shape::Step(_, _) => None,
+        Shape::Cast(name, a) => {
+            context.base_type(&name.base)?;
+            converted(context, name, value(context, a)?)
+        }
+        Shape::SizeofType(name) => named_size(context, name),
+        Shape::SizeofExpr(_) => None,
+        Shape::Binary {
+            operator,
+            left,
+            right,
+        } => {
+            let x = value(context, left)?;
+            if decides(*operator, x) {
+                return Some(truth(is_true(x)));
+            }
+            combined(
+                *operator,
+                is_unsigned(left),
+                is_unsigned(right),
+                x,
+                value(context, right)?,
+            )
+        }
+        Shape::Assign { .. } => None,
+        Shape::Conditional {
+            condition,
+            then,
+            otherwise,
+        } => {
+            if is_true(value(context, condition)?) {
+                value(context, then)
+            } else {
+                value(context, otherwise)
+            }
+        }
+        Shape::Comma(_, _) => None,
+        Shape::Subscript(_, _) => None,
+        Shape::Member { .. } => None,
+        Shape::Call(_, _) => None,
+    }
+}

@@ -1,2 +1,4 @@
 pub mod Latest
 pub mod Tags
+pub mod Least
+pub mod Walks

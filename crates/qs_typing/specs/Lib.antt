@@ -2,3 +2,8 @@ pub mod EntityOf
 pub mod Bindings
 pub mod ScopesOf
 pub mod ContextOf
+pub mod JudgedOf
+pub mod Findings
+pub mod FoundOf
+pub mod ExprFindings
+pub mod Walk

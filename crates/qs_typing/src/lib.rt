@@ -3,7 +3,12 @@
 
 mod context;
 mod entity;
+mod found;
+mod judged;
+mod operands;
 mod scopes;
+mod types;
 
-pub use context::Context;
-pub use entity::{Entity, Signature};
+pub use context::{Context, is_void_base};
+pub use entity::{Entity, Referent, Signature};
+pub use found::{Fault, Found};

@@ -3,15 +3,18 @@ use Rattle.std.proofs.Common.{◌≡◌, ℕ, ◌<◌, List, [], ◌∷◌, ◌+
 use Rattle.std.proofs.Math.Seq.{set-append_seam}
 use Rattle.qs_syntax.specs.Trees.{ExprTree, expr, ShapeTree, Exprs, no_exprs, expr_and}
 use Rattle.qs_syntax.specs.Trees as trees
+use Rattle.qs_syntax.specs.declared.nodes.Node.{Node}
 use Rattle.qs_types.specs.Types.{TypeTree}
 use Rattle.qs_types.specs.Rules.{Test, Fault, faults_of}
 use Rattle.qs_types.specs.Contexts.{Context}
-use Rattle.qs_types.specs.Expressions.{type_of, shape_judged}
+use Rattle.qs_types.specs.Expressions.{Judged, type_of, shape_judged}
+use Rattle.qs_types.specs.Layout.{and_then}
 use Rattle.qs_types.specs.ExpressionFaults.{Position, used, discarded, whole, operand_position, object_position, right_position, position_tests, own_tests, expr_faults, part_faults, node_faults}
 use Rattle.qs_types.specs.Placed.{operand_of, named_local, addressed}
 use Rattle.qs_typing.specs.declared.entity.Referent.{Referent}
 use Rattle.qs_typing.specs.Findings.{FoundTree, Findings, least_with, judged_at, with_findings, both}
 use Rattle.qs_typing.specs.ExprFindings.{shape_referent, expr_findings, part_findings, all_findings}
+use Rattle.qs_typing.specs.PartsOf.{joined, one_more, type_by}
 use Rattle.qs_typing.specs.Walk.{opened, filled, with_addressed, walked, parts_walked, all_walked}
 use Rattle.qs_typing.proofs.Least.{least_swaps, least_with-append}
 
@@ -150,3 +153,36 @@ filled_parts c p shape r f t at e =
     ap (filled at t) (shape_walked c p shape (opened None r f))
     ∙ ap (λ ts. let g : FoundTree = record (with_findings (opened t r f) (part_findings c p shape)) { types = ts } in g) (place_filled f.types (part_findings c p shape).types t at e)
     ∙ sym (shape_walked c p shape (opened t r f))
+
+pub none_addressed : (f : FoundTree) → f ≡ with_addressed [] f
+none_addressed f = found_by f.types f.types f.referents f.referents f.addressed (f.addressed ++ []) f.least f.least refl refl (sym (append-nil f.addressed)) refl
+
+-- what is found where a place is made, the parts are walked, the node is judged, and the place is filled
+pub node_walked : (c : Context) (p : Position) (node : Node) (shape : ShapeTree) (f made parts settled after : FoundTree) (r : Option Referent) (j : Option Judged) (t : Option TypeTree) (at : ℕ)
+    → at ≡ length f.types → r ≡ shape_referent c shape → made ≡ opened None r f → j ≡ shape_judged c shape → parts ≡ parts_walked c p shape made
+    → settled ≡ judged_at node.id (position_tests p shape (type_by j)) (judged_at node.id (own_tests j) parts) → t ≡ type_by j → after ≡ filled at t settled
+    → after ≡ walked c p (expr node shape) f
+node_walked c p node shape f made parts settled after r j t at place named opens judged walks settles typed fills =
+    let here : parts ≡ parts_walked c p shape (opened None (shape_referent c shape) f) = walks ∙ ap (parts_walked c p shape) (opens ∙ ap (λ o. opened None o f) named) in
+    let type : t ≡ type_of c (expr node shape) = typed ∙ ap type_by judged in
+    let done : settled ≡ judged_at node.id (position_tests p shape (type_of c (expr node shape))) (judged_at node.id (own_tests (shape_judged c shape)) (parts_walked c p shape (opened None (shape_referent c shape) f))) =
+    settles ∙ (λ i. judged_at node.id (position_tests p shape (type_by (judged i))) (judged_at node.id (own_tests (judged i)) (here i))) in
+    fills ∙ (λ i. filled at (type i) (done i))
+    ∙ ap (λ g. judged_at node.id (position_tests p shape (type_of c (expr node shape))) (judged_at node.id (own_tests (shape_judged c shape)) g))
+    (filled_parts c p shape (shape_referent c shape) f (type_of c (expr node shape)) at place)
+
+-- ---- arguments
+
+pub none_before : (o : Option (List TypeTree)) → joined (Some []) o ≡ o
+none_before None = refl
+none_before (Some ts) = refl
+
+pub none_behind : (o : Option (List TypeTree)) → joined o (Some []) ≡ o
+none_behind None = refl
+none_behind (Some ts) = ap Some (append-nil ts)
+
+pub one_behind : (o rest : Option (List TypeTree)) (t : Option TypeTree) → joined o (and_then t (λ t. and_then rest (λ ts. Some (t ∷ ts)))) ≡ joined (one_more o t) rest
+one_behind None rest t = refl
+one_behind (Some ts) rest None = refl
+one_behind (Some ts) None (Some t) = refl
+one_behind (Some ts) (Some us) (Some t) = ap Some (sym (append_assoc ts (t ∷ []) us))

@@ -1,5 +1,6 @@
 -- What an expression adds to what is found.
 use Rattle.std.specs.Prelude.{List, [], ◌∷◌, ◌++◌, Option, Some, None}
+use Rattle.qs_syntax.specs.declared.nodes.Node.{Node}
 use Rattle.qs_syntax.specs.Trees.{ExprTree, expr, ShapeTree, Exprs, no_exprs, expr_and}
 use Rattle.qs_syntax.specs.Trees as trees
 use Rattle.qs_types.specs.Types.{TypeTree}
@@ -30,6 +31,9 @@ abbrev pub referent_of : Context → ExprTree → Option Referent
 referent_of c (expr node shape) = shape_referent c shape
 
 -- ---- something of each node of an expression, in the order of the text
+
+abbrev pub node_of : ExprTree → Node
+node_of (expr node shape) = node
 
 abbrev mutual
   pub of_nodes : {A : Type 0} → (ExprTree → A) → ExprTree → List A

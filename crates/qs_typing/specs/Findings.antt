@@ -1,7 +1,9 @@
 -- What a walk over a unit has found, and what parts of the unit add to it.
-use Rattle.std.specs.Prelude.{ℕ, ◌==◌, nat_lt, Bool, ◌&&◌, ◌||◌, List, [], ◌∷◌, ◌++◌, Option, Some, None, if◌then◌else◌}
+use Rattle.std.specs.Prelude.{◌≡◌, ℕ, ◌==◌, nat_lt, Bool, true, false, ◌&&◌, ◌||◌, List, [], ◌∷◌, ◌++◌, Option, Some, None, if◌then◌else◌}
 use Rattle.qs_types.specs.Types.{TypeTree}
+use Rattle.qs_types.specs.declared.rules.Rule.{Rule}
 use Rattle.qs_types.specs.Rules.{rule_number, Test, Fault, faults_of}
+use Rattle.qs_types.specs.UnitRules.{is_among}
 use Rattle.qs_typing.specs.declared.entity.Referent.{Referent}
 
 -- ---- the least fault
@@ -18,6 +20,11 @@ lesser (Some g) f = if is_before f g then f else g
 abbrev pub least_with : Option Fault → List Fault → Option Fault
 least_with g [] = g
 least_with g (f ∷ fs) = least_with (Some (lesser g f)) fs
+
+-- a fault is the first of some: it is one of them, and none is before it
+pub record IsFirst (fs : List Fault) (f : Fault) : Type 0 where
+  pub found : is_among f.node f.rule fs ≡ true
+  pub least : (node : ℕ) (rule : Rule) → is_among node rule fs ≡ true → is_before (record { node = node; rule = rule }) f ≡ false
 
 -- ---- all that is found
 

@@ -7,3 +7,5 @@ pub mod Findings
 pub mod FoundOf
 pub mod ExprFindings
 pub mod Walk
+pub mod PartsOf
+pub mod PositionOf

@@ -1,5 +1,5 @@
 // What a walk over a unit has found.
-ghost use Rattle.std.specs.Prelude.{◌≡◌, ◌<◌, ◌∷◌, [], None, Some, IfOk, OnOk, length, map};
+ghost use Rattle.std.specs.Prelude.{◌≡◌, ◌<◌, ◌∷◌, [], None, IfOk, OnOk, length, map, option_map};
 ghost use Rattle.qs_types.specs.Rules.{breaks_one};
 ghost use Rattle.qs_types.specs.TypeOf.{type_tree};
 ghost use Rattle.qs_typing.specs.Findings.{is_before, nothing_found, with_fault, judged_at};
@@ -63,12 +63,12 @@ impl Found {
         Ok(at)
     }
 
-    /// Gives the node at this place a type.
-    pub fn fill(&mut self, at: usize, t: CType)
+    /// Gives the node at this place its type, if it has one.
+    pub fn fill(&mut self, at: usize, t: Option<CType>)
         requires { at < length (found_tree self.old).types }
-        ensures { found_tree self.new ≡ filled at (Some (type_tree t)) (found_tree self.old) }
+        ensures { found_tree self.new ≡ filled at (option_map type_tree t) (found_tree self.old) }
     {
-        self.types[at] = Some(t);
+        self.types[at] = t;
     }
 
     /// Notes that the name of this declaration is an operand of `&`.

@@ -1,7 +1,6 @@
 -- What is found of the nodes of an expression stands in the order of their numbers.
-use Rattle.std.proofs.Common.{◌≡◌, List, [], ◌∷◌, ◌++◌, map, refl, sym, ap, ◌∙◌}
+use Rattle.std.proofs.Common.{◌≡◌, List, ◌∷◌, ◌++◌, map, refl, ap, ◌∙◌}
 use Rattle.std.proofs.lemmas.List.{map-append}
-use Rattle.qs_syntax.specs.declared.nodes.Node.{Node}
 use Rattle.qs_syntax.specs.Trees.{ExprTree, expr, ShapeTree, Exprs, no_exprs, expr_and}
 use Rattle.qs_syntax.specs.Trees as trees
 use Rattle.qs_syntax.specs.Nodes.{expr_nodes, shape_nodes, exprs_nodes}

@@ -1,5 +1,5 @@
 -- The least fault is the same in whatever order faults are found.
-use Rattle.std.proofs.Common.{◌≡◌, ℕ, Bool, true, false, ◌&&◌, ◌||◌, ◌==◌, nat_lt, if◌then◌else◌, List, [], ◌∷◌, ◌++◌, Option, Some, None, refl, sym, ap, ◌∙◌, subst, arith}
+use Rattle.std.proofs.Common.{◌≡◌, ℕ, Bool, true, false, ◌&&◌, ◌||◌, ◌==◌, nat_lt, if◌then◌else◌, List, [], ◌∷◌, ◌++◌, Option, Some, None, refl, sym, ap, ◌∙◌, arith}
 use Rattle.std.proofs.lemmas.Bool.Decides.{nat_tests}
 use Rattle.qs_types.specs.declared.rules.Rule.{Rule}
 use Rattle.qs_types.specs.Rules.{rule_number, Fault}
@@ -7,9 +7,6 @@ use Rattle.qs_types.proofs.RuleLaws.{numbers_differ}
 use Rattle.qs_typing.specs.Findings.{is_before, lesser, least_with}
 
 -- ---- pairs of numbers
-
-less : (a x b y : ℕ) → Bool
-less a x b y = nat_lt a b || ((a == b) && nat_lt x y)
 
 pub transitive : (a b c x y z : ℕ) → (nat_lt a b || ((a == b) && nat_lt x y)) ≡ true → (nat_lt b c || ((b == c) && nat_lt y z)) ≡ true → (nat_lt a c || ((a == c) && nat_lt x z)) ≡ true
 transitive a b c x y z h i = grind (arith, nat_tests)

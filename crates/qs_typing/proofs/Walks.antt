@@ -9,8 +9,8 @@ use Rattle.qs_types.specs.Rules.{Test, Fault, faults_of}
 use Rattle.qs_types.specs.Contexts.{Context}
 use Rattle.qs_types.specs.Expressions.{Judged, type_of, shape_judged}
 use Rattle.qs_types.specs.Layout.{and_then}
-use Rattle.qs_types.specs.ExpressionFaults.{Position, used, discarded, whole, operand_position, object_position, right_position, position_tests, own_tests, expr_faults, part_faults, node_faults}
-use Rattle.qs_types.specs.Placed.{operand_of, named_local, addressed}
+use Rattle.qs_types.specs.ExpressionFaults.{Position, used, discarded, whole, operand_position, object_position, right_position, position_tests, own_tests}
+use Rattle.qs_types.specs.Placed.{operand_of, named_local}
 use Rattle.qs_typing.specs.declared.entity.Referent.{Referent}
 use Rattle.qs_typing.specs.Findings.{FoundTree, Findings, least_with, judged_at, with_findings, both}
 use Rattle.qs_typing.specs.ExprFindings.{shape_referent, expr_findings, part_findings, all_findings}
@@ -79,9 +79,6 @@ node_last f n ts us t r g =
     (own_last f.least n ts us g.faults)
 
 -- ---- the walk
-
-abbrev after_two : Context → Position → Position → ExprTree → ExprTree → FoundTree → FoundTree
-after_two c p q a b f = walked c q b (walked c p a f)
 
 mutual
   pub expr_walked : (c : Context) (p : Position) (e : ExprTree) (f : FoundTree) → walked c p e f ≡ with_findings f (expr_findings c p e)

@@ -1,4 +1,4 @@
-use Rattle.std.proofs.Common.{◌≡◌, ◌≤◌, List, [], ◌∷◌, true, map, drop, length, arith, refl, ◌∙◌, sym, ap}
+use Rattle.std.proofs.Common.{◌≡◌, List, [], ◌∷◌, true, map, drop, arith, refl, ◌∙◌, sym, ap}
 use Rattle.std.proofs.lemmas.List.{drop_all}
 use Rattle.qs_syntax.specs.Trees.{Exprs, no_exprs, expr_and}
 use Rattle.qs_syntax.specs.TreeOf.{exprs_tree}

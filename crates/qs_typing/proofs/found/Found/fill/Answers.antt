@@ -1,4 +1,4 @@
-use Rattle.std.proofs.Common.{◌≡◌, refl, option_map}
+use Rattle.std.proofs.Common.{refl, option_map}
 use Rattle.std.proofs.lemmas.List.{map-set}
 use Rattle.qs_types.specs.TypeOf.{type_tree}
 use Rattle.qs_typing.proofs.Walks.{found_by}

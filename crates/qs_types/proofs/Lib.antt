@@ -3,7 +3,7 @@ mod Rounding
 mod Layouts
 mod Extents
 mod LayoutSteps
-mod Declaring
+pub mod Declaring
 mod LayoutExamples
 pub mod RuleLaws
 mod ConstantTypes

@@ -1,15 +1,15 @@
 -- The places of declarations, the latest first, and what they stand for.
-use Rattle.std.proofs.Common.{◌≡◌, ◌==◌, ◌&&◌, ℕ, zero, suc, ◌+◌, ◌-◌, ◌<◌, ◌≤◌, Bool, true, false, List, [], ◌∷◌, ◌++◌, Option, Some, None, map, length, reverse, take, drop, get_or, refl, sym, ap, ◌∙◌, subst, arith, if◌then◌else◌, cond}
+use Rattle.std.proofs.Common.{◌≡◌, ◌==◌, ◌&&◌, ℕ, zero, suc, ◌+◌, ◌-◌, ◌<◌, ◌≤◌, Bool, true, false, List, [], ◌∷◌, ◌++◌, Option, Some, None, map, length, reverse, take, drop, get_or, refl, sym, ap, ◌∙◌, arith, if◌then◌else◌, cond}
 use Rattle.std.specs.Option.{option_eq}
 use Rattle.std.specs.Map.{lookup as lookup_entry}
 use Rattle.std.specs.Cmp.{first_so, second_so}
-use Rattle.std.specs.Cmp.Lexicographic.{pointwise, pointwise_decides}
+use Rattle.std.specs.Cmp.Lexicographic.{pointwise_decides}
 use Rattle.std.proofs.lemmas.Bool.Decides.{Decides-eqb}
 use Rattle.std.proofs.lemmas.List.{take-append-drop, reverse-append, length-reverse, get_or-reverse, map-append, length-append, length-map, length-take-le, take_all}
 use Rattle.std.proofs.Math.Seq.{take-length}
 use Rattle.qs_syntax.specs.Sameness.{same_bytes}
 use Rattle.qs_types.specs.Layout.{and_then}
-use Rattle.qs_types.specs.Contexts.{Entity, lookup}
+use Rattle.qs_types.specs.Contexts.{lookup}
 use Rattle.qs_typing.specs.declared.entity.Binding.{Binding}
 use Rattle.qs_typing.specs.EntityOf.{entity_tree}
 use Rattle.qs_typing.specs.Bindings.{binding_tree, newest_first, place_in, latest_place, hide_right}

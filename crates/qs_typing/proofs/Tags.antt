@@ -1,13 +1,12 @@
 -- The places of tags, and types with stars.
-use Rattle.std.proofs.Common.{◌≡◌, ◌==◌, ℕ, zero, suc, ◌+◌, ◌-◌, ◌<◌, ◌≤◌, Bool, true, false, not, ◌||◌, List, [], ◌∷◌, ◌++◌, Option, Some, None, is_some, length, take, drop, nat_lt, refl, sym, ap, ◌∙◌, subst, arith, add-one, add-zero, if◌then◌else◌, cond}
+use Rattle.std.proofs.Common.{◌≡◌, ℕ, suc, ◌+◌, ◌-◌, Bool, true, false, not, ◌||◌, List, [], ◌∷◌, ◌++◌, Some, None, is_some, length, take, drop, nat_lt, refl, sym, ap, ◌∙◌, arith, add-one, if◌then◌else◌, cond}
 use Rattle.std.specs.List.{position, position_or_len, list_any}
-use Rattle.std.specs.Cmp.{IsEquivalence}
 use Rattle.std.proofs.lemmas.Bool.Decides.{nat_tests}
 use Rattle.std.proofs.lemmas.Cmp.{nat_list_eq_equiv}
 use Rattle.std.proofs.lemmas.List.{length-append, take_at, drop_at}
 use Rattle.qs_syntax.specs.Sameness.{same_bytes}
 use Rattle.qs_types.specs.Types.{TypeTree, pointer, Structs}
-use Rattle.qs_types.specs.Contexts.{Context, Binding, place_from, pointers, tag_place}
+use Rattle.qs_types.specs.Contexts.{Context, Binding, place_from, pointers}
 use Rattle.qs_types.specs.UnitRules.{with_tag}
 use Rattle.qs_typing.specs.ContextOf.{outer_scope}
 

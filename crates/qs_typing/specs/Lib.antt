@@ -2,3 +2,10 @@ pub mod EntityOf
 pub mod Bindings
 pub mod ScopesOf
 pub mod ContextOf
+pub mod JudgedOf
+pub mod Findings
+pub mod FoundOf
+pub mod ExprFindings
+pub mod Walk
+pub mod PartsOf
+pub mod PositionOf

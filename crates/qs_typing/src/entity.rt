@@ -38,3 +38,16 @@ pub struct Binding {
     pub entity: Entity,
     pub hidden: Option<usize>,
 }
+
+/// What a name stands for, apart from its type: a declaration, by the number of its node.
+#[derive(Clone, Copy, PartialEq, Eq, Debug)]
+pub enum Referent {
+    /// A variable or parameter of a function.
+    Local(u32),
+    /// A variable at file scope.
+    File(u32),
+    /// A function of the unit, by its latest header.
+    Function(u32),
+    /// `putchar` or `getchar`.
+    Given,
+}

@@ -23,6 +23,10 @@ use qs_types::{CType, Env};
 use std::alloc::Global;
 use std::mem;
 
+/// A type with more stars is answered as want of memory: types are copied and dropped level by level,
+/// on the native stack.
+const STAR_LIMIT: u32 = 10_000;
+
 /// The most structs that a context holds.
 const STRUCT_LIMIT: usize = 4_294_967_295;
 
@@ -64,6 +68,9 @@ fn given_names(alloc: Global) -> Result<Scopes, NoMemory>
 fn pointers(alloc: Global, stars: u32, to: CType) -> Result<CType, NoMemory>
     ensures { IfOk result (λ t. type_tree t ≡ pointers stars (type_tree to)) }
 {
+    if stars > STAR_LIMIT {
+        return Err(NoMemory);
+    }
     let mut t = to;
     for _ in 0..stars {
         t = CType::Pointer(Box::new(alloc, t)?);

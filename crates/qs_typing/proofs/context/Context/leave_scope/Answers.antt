@@ -1,4 +1,3 @@
-use Rattle.std.proofs.Common.{◌≡◌}
 use Rattle.qs_typing.specs.ContextOf.{context_tree}
 use Rattle.qs_typing.specs.ScopesOf.{inner_bindings, outer_bindings}
 use Rattle.qs_typing.proofs.Tags.{scope_left}

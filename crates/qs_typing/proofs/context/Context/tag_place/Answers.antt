@@ -1,4 +1,4 @@
-use Rattle.std.proofs.Common.{◌≡◌, ◌∙◌, sym}
+use Rattle.std.proofs.Common.{◌∙◌, sym}
 use Rattle.qs_typing.proofs.Tags.{tag_position}
 use Rattle.qs_typing.proofs.context.Context.tag_place.Goals as goal
 

@@ -1,4 +1,4 @@
-use Rattle.std.proofs.Common.{◌≡◌, ◌∙◌, sym, refl, true, false}
+use Rattle.std.proofs.Common.{◌∙◌, sym, refl, true, false}
 use Rattle.qs_types.specs.EnvOf.{env_tree}
 use Rattle.qs_typing.specs.ContextOf.{context_tree}
 use Rattle.qs_typing.proofs.Tags.{tag_inserted}

@@ -1,4 +1,4 @@
-use Rattle.std.proofs.Common.{◌≡◌, arith}
+use Rattle.std.proofs.Common.{arith}
 use Rattle.qs_typing.proofs.Latest.{entered}
 use Rattle.qs_typing.proofs.scopes.Scopes.enter.Goals as goal
 

@@ -1,4 +1,4 @@
-use Rattle.std.proofs.Common.{◌≡◌, ◌∙◌, sym, arith}
+use Rattle.std.proofs.Common.{◌∙◌, sym, arith}
 use Rattle.qs_typing.proofs.Latest.{within, found, not_found}
 use Rattle.qs_typing.proofs.scopes.Scopes.find.Goals as goal
 

@@ -1,4 +1,4 @@
-use Rattle.std.proofs.Common.{◌≡◌, ◌∙◌, sym, arith}
+use Rattle.std.proofs.Common.{◌∙◌, sym, arith}
 use Rattle.qs_typing.proofs.Latest.{within, found_here, found_outside, found_nowhere}
 use Rattle.qs_typing.proofs.scopes.Scopes.find_here.Goals as goal
 

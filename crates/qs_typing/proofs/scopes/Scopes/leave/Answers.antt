@@ -1,4 +1,4 @@
-use Rattle.std.proofs.Common.{◌≡◌, ◌∙◌, sym, ap, take, arith}
+use Rattle.std.proofs.Common.{◌∙◌, sym, ap, take, arith}
 use Rattle.qs_typing.proofs.Latest.{left}
 use Rattle.qs_typing.proofs.scopes.Scopes.leave.Goals as goal
 

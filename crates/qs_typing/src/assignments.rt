@@ -1,0 +1,119 @@
+// Assignments (C11 6.5.16).
+ghost use Rattle.std.specs.Prelude.{◌≡◌, IfOk, option_map};
+ghost use Rattle.qs_syntax.specs.TreeOf.{expr_tree};
+ghost use Rattle.qs_types.specs.Conversions.{decayed};
+ghost use Rattle.qs_types.specs.EnvOf.{env_tree};
+ghost use Rattle.qs_types.specs.Expressions.{may_assign, may_combine, may_move, compound_judged, assign_judged};
+ghost use Rattle.qs_types.specs.TypeOf.{type_tree};
+ghost use Rattle.qs_typing.specs.JudgedOf.{judged_tree};
+ghost use Rattle.qs_typing.specs.PartsOf.{with_types};
+
+use crate::judged::{Judged, keeps, with_tests};
+use crate::operands::{is_assignable, is_lvalue};
+use crate::types::{both_integers, decayed, is_array, is_integer, is_object_pointer, is_struct};
+use qs_base::NoMemory;
+use qs_syntax::{AssignmentOperator, Expr};
+use qs_types::{CType, Env, Rule};
+use std::alloc::Global;
+
+/// Whether `b` may be assigned to `a` (C11 6.5.16.1p1).
+fn may_assign(alloc: Global, a: &Expr, t: &CType, b: &Expr, u: &CType) -> Result<bool, NoMemory>
+    ensures { IfOk result (λ may. may ≡ may_assign (expr_tree a.now) (type_tree t.now) (expr_tree b.now) (type_tree u.now)) }
+{
+    let v = decayed(u.copy(alloc)?);
+    Ok(
+        is_lvalue(a)
+            && !is_array(t)
+            && (is_assignable(t, b, &v) || is_struct(t) && t.same(u) && is_lvalue(b)),
+    )
+}
+
+fn may_combine(a: &Expr, t: &CType, v: &CType) -> bool
+    ensures { result ≡ may_combine (expr_tree a.now) (type_tree t.now) (type_tree v.now) }
+{
+    is_lvalue(a) && both_integers(t, v)
+}
+
+fn may_move(types: &Env, a: &Expr, t: &CType, v: &CType) -> bool
+    ensures { result ≡ may_move (env_tree types.now) (expr_tree a.now) (type_tree t.now) (type_tree v.now) }
+{
+    is_lvalue(a) && (is_integer(t) || is_object_pointer(types, t)) && is_integer(v)
+}
+
+fn compound_judged(alloc: Global, may: bool, t: CType) -> Result<Judged, NoMemory>
+    ensures { IfOk result (λ j. judged_tree j ≡ compound_judged may (type_tree t)) }
+{
+    with_tests(alloc, &[keeps(Rule::CompoundOperands, may)], t)
+}
+
+/// With an operator whose operands are integers.
+fn combined_judged(alloc: Global, a: &Expr, t: CType, u: CType) -> Result<Judged, NoMemory>
+    ensures { IfOk result (λ j. judged_tree j ≡ compound_judged (may_combine (expr_tree a.now) (type_tree t) (decayed (type_tree u))) (type_tree t)) }
+{
+    let may = may_combine(a, &t, &decayed(u));
+    compound_judged(alloc, may, t)
+}
+
+/// With `+` or `-`.
+fn moved_judged(
+    alloc: Global,
+    types: &Env,
+    a: &Expr,
+    t: CType,
+    u: CType,
+) -> Result<Judged, NoMemory>
+    ensures { IfOk result (λ j. judged_tree j ≡ compound_judged (may_move (env_tree types.now) (expr_tree a.now) (type_tree t) (decayed (type_tree u))) (type_tree t)) }
+{
+    let may = may_move(types, a, &t, &decayed(u));
+    compound_judged(alloc, may, t)
+}
+
+fn assign_judged(
+    alloc: Global,
+    types: &Env,
+    operator: AssignmentOperator,
+    a: &Expr,
+    t: CType,
+    b: &Expr,
+    u: CType,
+) -> Result<Judged, NoMemory>
+    ensures { IfOk result (λ j. judged_tree j ≡ assign_judged (env_tree types.now) operator (expr_tree a.now) (type_tree t) (expr_tree b.now) (type_tree u)) }
+{
+    match operator {
+        AssignmentOperator::Plain => {
+            let may = may_assign(alloc, a, &t, b, &u)?;
+            with_tests(alloc, &[keeps(Rule::AssignedType, may)], t)
+        }
+        AssignmentOperator::Multiply => combined_judged(alloc, a, t, u),
+        AssignmentOperator::Divide => combined_judged(alloc, a, t, u),
+        AssignmentOperator::Remainder => combined_judged(alloc, a, t, u),
+        AssignmentOperator::Add => moved_judged(alloc, types, a, t, u),
+        AssignmentOperator::Subtract => moved_judged(alloc, types, a, t, u),
+        AssignmentOperator::ShiftLeft => combined_judged(alloc, a, t, u),
+        AssignmentOperator::ShiftRight => combined_judged(alloc, a, t, u),
+        AssignmentOperator::BitAnd => combined_judged(alloc, a, t, u),
+        AssignmentOperator::BitXor => combined_judged(alloc, a, t, u),
+        AssignmentOperator::BitOr => combined_judged(alloc, a, t, u),
+    }
+}
+
+/// An assignment.
+pub fn judge_assign(
+    alloc: Global,
+    types: &Env,
+    operator: AssignmentOperator,
+    a: &Expr,
+    t: Option<CType>,
+    b: &Expr,
+    u: Option<CType>,
+) -> Result<Option<Judged>, NoMemory>
+    ensures { IfOk result (λ j. option_map judged_tree j ≡ with_types (option_map type_tree t) (option_map type_tree u) (λ t u. assign_judged (env_tree types.now) operator (expr_tree a.now) t (expr_tree b.now) u)) }
+{
+    match t {
+        None => Ok(None),
+        Some(t) => match u {
+            None => Ok(None),
+            Some(u) => Ok(Some(assign_judged(alloc, types, operator, a, t, b, u)?)),
+        },
+    }
+}

@@ -1,0 +1,348 @@
+// The walk over expressions (C11 6.5).
+ghost use Rattle.std.specs.Prelude.{◌≡◌, ◌+◌, ◌∷◌, [], IfOk, OnOk, length, map, option_map, option_to_list, if◌then◌else◌};
+ghost use Rattle.qs_syntax.specs.TreeOf.{expr_tree, exprs_tree, shape_tree};
+ghost use Rattle.qs_types.specs.ExpressionFaults.{own_tests, position_tests};
+ghost use Rattle.qs_types.specs.Expressions.{judged, shape_judged, type_of, types_of};
+ghost use Rattle.qs_types.specs.Placed.{local_node, named_local, operand_of};
+ghost use Rattle.qs_types.specs.TypeOf.{type_tree};
+ghost use Rattle.qs_types.specs.Types.{array, char, int, unsigned};
+ghost use Rattle.qs_typing.specs.ContextOf.{context_tree};
+ghost use Rattle.qs_typing.specs.EntityOf.{entity_tree};
+ghost use Rattle.qs_typing.specs.ExprFindings.{expr_findings, referent, shape_referent};
+ghost use Rattle.qs_typing.specs.Findings.{judged_at, with_findings};
+ghost use Rattle.qs_typing.specs.FoundOf.{found_tree};
+ghost use Rattle.qs_typing.specs.JudgedOf.{judged_tree};
+ghost use Rattle.qs_typing.specs.PartsOf.{one_more, type_by, types_tree};
+ghost use Rattle.qs_typing.specs.PositionOf.{position_tree};
+ghost use Rattle.qs_typing.specs.Walk.{all_walked, parts_walked, walked, with_addressed};
+
+use crate::assignments::judge_assign;
+use crate::context::Context;
+use crate::entity::{Entity, Referent};
+use crate::found::Found;
+use crate::judged::{Judged, violates, with_tests};
+use crate::members::judge_member;
+use crate::names::{judge_call, judge_cast, judge_name, judge_object, judge_size};
+use crate::operators::{
+    judge_binary, judge_comma, judge_conditional, judge_step, judge_subscript, judge_unary,
+};
+use crate::positions::{Position, is_misplaced, object_position, operand_position, right_position};
+use qs_base::NoMemory;
+use qs_syntax::{Expr, Shape, Text, UnaryOperator};
+use qs_types::{CType, Rule};
+use std::alloc::Global;
+
+// ---- what names stand for
+
+fn referent(entity: Option<&Entity>) -> Option<Referent>
+    ensures { result ≡ referent (option_map (λ e. entity_tree e.now) entity.entry) }
+{
+    match entity {
+        None => None,
+        Some(Entity::LocalVariable(node, _)) => Some(Referent::Local(*node)),
+        Some(Entity::FileVariable(node, _)) => Some(Referent::File(*node)),
+        Some(Entity::Function { node, .. }) => Some(Referent::Function(*node)),
+        Some(Entity::Given(_)) => Some(Referent::Given),
+    }
+}
+
+fn shape_referent(c: &Context, shape: &Shape) -> Option<Referent>
+    ensures { result ≡ shape_referent (context_tree c.now) (shape_tree shape.now) }
+{
+    match shape {
+        Shape::Constant(_, _) => None,
+        Shape::Text(_) => None,
+        Shape::Name(x) => referent(c.find(x)),
+        Shape::Unary(_, _) => None,
+        Shape::Step(_, _) => None,
+        Shape::Cast(_, _) => None,
+        Shape::SizeofType(_) => None,
+        Shape::SizeofExpr(_) => None,
+        Shape::Binary { .. } => None,
+        Shape::Assign { .. } => None,
+        Shape::Conditional { .. } => None,
+        Shape::Comma(_, _) => None,
+        Shape::Subscript(_, _) => None,
+        Shape::Member { .. } => None,
+        Shape::Call(f, _) => referent(c.find(f)),
+    }
+}
+
+fn local_node(entity: Option<&Entity>) -> Option<u32>
+    ensures { option_to_list result ≡ local_node (option_map (λ e. entity_tree e.now) entity.entry) }
+{
+    match entity {
+        None => None,
+        Some(Entity::LocalVariable(node, _)) => Some(*node),
+        Some(Entity::FileVariable(_, _)) => None,
+        Some(Entity::Function { .. }) => None,
+        Some(Entity::Given(_)) => None,
+    }
+}
+
+fn named_local(c: &Context, a: &Expr) -> Option<u32>
+    ensures { option_to_list result ≡ named_local (context_tree c.now) (expr_tree a.now) }
+{
+    match &a.shape {
+        Shape::Constant(_, _) => None,
+        Shape::Text(_) => None,
+        Shape::Name(x) => local_node(c.find(x)),
+        Shape::Unary(_, _) => None,
+        Shape::Step(_, _) => None,
+        Shape::Cast(_, _) => None,
+        Shape::SizeofType(_) => None,
+        Shape::SizeofExpr(_) => None,
+        Shape::Binary { .. } => None,
+        Shape::Assign { .. } => None,
+        Shape::Conditional { .. } => None,
+        Shape::Comma(_, _) => None,
+        Shape::Subscript(_, _) => None,
+        Shape::Member { .. } => None,
+        Shape::Call(_, _) => None,
+    }
+}
+
+/// Notes the declaration of a name that is the operand of `&`.
+#[tactic(auto, using(crate::proofs::Walks::none_addressed))]
+fn note_operand(
+    c: &Context,
+    operator: UnaryOperator,
+    a: &Expr,
+    found: &mut Found,
+) -> Result<(), NoMemory>
+    ensures { OnOk result (found_tree found.new ≡ with_addressed (operand_of operator (named_local (context_tree c.now) (expr_tree a.now))) (found_tree found.old)) }
+{
+    match operator {
+        UnaryOperator::Address => note_node(named_local(c, a), found),
+        UnaryOperator::Indirect => Ok(()),
+        UnaryOperator::Plus => Ok(()),
+        UnaryOperator::Minus => Ok(()),
+        UnaryOperator::Complement => Ok(()),
+        UnaryOperator::Not => Ok(()),
+    }
+}
+
+#[tactic(auto, using(crate::proofs::Walks::none_addressed))]
+fn note_node(node: Option<u32>, found: &mut Found) -> Result<(), NoMemory>
+    ensures { OnOk result (found_tree found.new ≡ with_addressed (option_to_list node) (found_tree found.old)) }
+{
+    match node {
+        None => Ok(()),
+        Some(node) => found.note_addressed(node),
+    }
+}
+
+// ---- literals (6.4.4, 6.4.5)
+
+fn constant_judged(alloc: Global, is_unsigned: bool) -> Result<Judged, NoMemory>
+    ensures { IfOk result (λ j. judged_tree j ≡ judged [] (if is_unsigned then unsigned else int)) }
+{
+    let of = if is_unsigned {
+        CType::Unsigned
+    } else {
+        CType::Int
+    };
+    with_tests(alloc, &[], of)
+}
+
+fn text_judged(alloc: Global, text: &Text) -> Result<Judged, NoMemory>
+    ensures { IfOk result (λ j. judged_tree j ≡ judged [] (array char (length text.now + 1))) }
+{
+    let len = text.bytes().len();
+    if len >= u32::MAX as usize {
+        return Err(NoMemory);
+    }
+    let of = CType::Array(Box::new(alloc, CType::Char)?, len as u32 + 1);
+    with_tests(alloc, &[], of)
+}
+
+// ---- the walk
+
+/// Notes the rules that a node breaks, and gives its type.
+fn settle(
+    node: u32,
+    p: Position,
+    shape: &Shape,
+    judged: Option<Judged>,
+    found: &mut Found,
+) -> Option<CType>
+    ensures typed { option_map type_tree result ≡ type_by (option_map judged_tree judged) }
+    ensures found { found_tree found.new ≡ judged_at node (position_tests (position_tree p) (shape_tree shape.now) (type_by (option_map judged_tree judged))) (judged_at node (own_tests (option_map judged_tree judged)) (found_tree found.old)) }
+{
+    match judged {
+        None => None,
+        Some(Judged { tests, of }) => {
+            if found.judge(node, &tests) {
+                return None;
+            }
+            let broken = is_misplaced(p, shape, &of);
+            found.judge(node, &[violates(Rule::MisplacedValue, broken)]);
+            Some(of)
+        }
+    }
+}
+
+fn copied(alloc: Global, t: &Option<CType>) -> Result<Option<CType>, NoMemory>
+    ensures { IfOk result (λ r. option_map type_tree r ≡ option_map type_tree t.now) }
+{
+    match t {
+        None => Ok(None),
+        Some(t) => Ok(Some(t.copy(alloc)?)),
+    }
+}
+
+#[cycle(walk)]
+fn walk(
+    alloc: Global,
+    c: &Context,
+    e: &Expr,
+    p: Position,
+    found: &mut Found,
+) -> Result<Option<CType>, NoMemory>
+    ensures typed { IfOk result (λ t. option_map type_tree t ≡ type_of (context_tree c.now) (expr_tree e.now)) }
+    ensures found { OnOk result (found_tree found.new ≡ walked (context_tree c.now) (position_tree p) (expr_tree e.now) (found_tree found.old)) }
+{
+    let at = found.open(shape_referent(c, &e.shape))?;
+    let judged = walk_parts(alloc, c, &e.shape, p, found)?;
+    let t = settle(e.node.id, p, &e.shape, judged, found);
+    let kept = copied(alloc, &t)?;
+    found.fill(at, kept);
+    Ok(t)
+}
+
+#[cycle(walk)]
+fn walk_parts(
+    alloc: Global,
+    c: &Context,
+    shape: &Shape,
+    p: Position,
+    found: &mut Found,
+) -> Result<Option<Judged>, NoMemory>
+    ensures judged { IfOk result (λ j. option_map judged_tree j ≡ shape_judged (context_tree c.now) (shape_tree shape.now)) }
+    ensures found { OnOk result (found_tree found.new ≡ parts_walked (context_tree c.now) (position_tree p) (shape_tree shape.now) (found_tree found.old)) }
+{
+    match shape {
+        Shape::Constant(_, is_unsigned) => Ok(Some(constant_judged(alloc, *is_unsigned)?)),
+        Shape::Text(text) => Ok(Some(text_judged(alloc, text)?)),
+        Shape::Name(x) => judge_name(alloc, c.find(x)),
+        Shape::Unary(operator, a) => {
+            note_operand(c, *operator, a, found)?;
+            let t = walk(alloc, c, a, operand_position(*operator), found)?;
+            judge_unary(alloc, c.structs(), *operator, a, t)
+        }
+        Shape::Step(_, a) => {
+            let t = walk(alloc, c, a, Position::Used, found)?;
+            judge_step(alloc, c.structs(), a, t)
+        }
+        Shape::Cast(name, a) => {
+            let t = walk(alloc, c, a, Position::Used, found)?;
+            judge_cast(alloc, c, name, a, t)
+        }
+        Shape::SizeofType(name) => Ok(Some(judge_size(alloc, c, name)?)),
+        Shape::SizeofExpr(a) => {
+            let t = walk(alloc, c, a, Position::Whole, found)?;
+            judge_object(alloc, c, t)
+        }
+        Shape::Binary {
+            operator,
+            left,
+            right,
+        } => {
+            let t = walk(alloc, c, left, Position::Used, found)?;
+            let u = walk(alloc, c, right, Position::Used, found)?;
+            judge_binary(alloc, c.structs(), *operator, left, t, right, u)
+        }
+        Shape::Assign {
+            operator,
+            left,
+            right,
+        } => {
+            let t = walk(alloc, c, left, Position::Whole, found)?;
+            let u = walk(alloc, c, right, Position::Whole, found)?;
+            judge_assign(alloc, c.structs(), *operator, left, t, right, u)
+        }
+        Shape::Conditional {
+            condition,
+            then,
+            otherwise,
+        } => {
+            let s = walk(alloc, c, condition, Position::Used, found)?;
+            let t = walk(alloc, c, then, Position::Used, found)?;
+            let u = walk(alloc, c, otherwise, Position::Used, found)?;
+            judge_conditional(alloc, s, then, t, otherwise, u)
+        }
+        Shape::Comma(a, b) => {
+            let t = walk(alloc, c, a, Position::Discarded, found)?;
+            let u = walk(alloc, c, b, right_position(p), found)?;
+            judge_comma(alloc, t, u)
+        }
+        Shape::Subscript(a, b) => {
+            let t = walk(alloc, c, a, Position::Used, found)?;
+            let u = walk(alloc, c, b, Position::Used, found)?;
+            judge_subscript(alloc, c.structs(), t, u)
+        }
+        Shape::Member {
+            access,
+            object,
+            name,
+        } => {
+            let t = walk(alloc, c, object, object_position(*access), found)?;
+            judge_member(alloc, c.structs(), *access, object, t, name)
+        }
+        Shape::Call(f, es) => {
+            let us = walk_all(alloc, c, es, found)?;
+            judge_call(alloc, c.find(f), es, us)
+        }
+    }
+}
+
+/// The types of arguments, if each has one.
+#[cycle(walk)]
+fn walk_all(
+    alloc: Global,
+    c: &Context,
+    es: &[Expr],
+    found: &mut Found,
+) -> Result<Option<Vec<CType>>, NoMemory>
+    ensures typed { IfOk result (λ ts. types_tree ts ≡ types_of (context_tree c.now) (exprs_tree es.now)) }
+    ensures found { OnOk result (found_tree found.new ≡ all_walked (context_tree c.now) (exprs_tree es.now) (found_tree found.old)) }
+{
+    let mut all = Some(Vec::new(alloc));
+    for e in es {
+        let t = walk(alloc, c, e, Position::Used, found)?;
+        all = with_one_more(all, t)?;
+    }
+    Ok(all)
+}
+
+fn with_one_more(all: Option<Vec<CType>>, t: Option<CType>) -> Result<Option<Vec<CType>>, NoMemory>
+    ensures { IfOk result (λ ts. types_tree ts ≡ one_more (types_tree all) (option_map type_tree t)) }
+{
+    match all {
+        None => Ok(None),
+        Some(mut ts) => match t {
+            None => Ok(None),
+            Some(t) => {
+                ts.push(t)?;
+                Ok(Some(ts))
+            }
+        },
+    }
+}
+
+/// The type of an expression, if it has one. What is found in it is added to what was found before:
+/// the types of its nodes, what its names stand for, the declarations whose names are operands of `&`,
+/// and the rules that its nodes break (C11 6.5).
+#[tactic(auto, using(crate::proofs::Walks::expr_walked))]
+pub fn walk_expression(
+    alloc: Global,
+    c: &Context,
+    e: &Expr,
+    p: Position,
+    found: &mut Found,
+) -> Result<Option<CType>, NoMemory>
+    ensures typed { IfOk result (λ t. option_map type_tree t ≡ type_of (context_tree c.now) (expr_tree e.now)) }
+    ensures found { OnOk result (found_tree found.new ≡ with_findings (found_tree found.old) (expr_findings (context_tree c.now) (position_tree p) (expr_tree e.now))) }
+{
+    walk(alloc, c, e, p, found)
+}

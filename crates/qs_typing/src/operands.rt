@@ -1,0 +1,96 @@
+// Words of the rules on operands (C11 6.3.2, 6.5).
+ghost use Rattle.std.specs.Prelude.{◌≡◌};
+ghost use Rattle.qs_syntax.specs.TreeOf.{expr_tree, shape_tree};
+ghost use Rattle.qs_types.specs.Expressions.{is_lvalue, is_lvalue_shape, is_null_constant, is_assignable, alike_pointers, may_cast};
+ghost use Rattle.qs_types.specs.TypeOf.{type_tree};
+
+use crate::types::{both_integers, is_pointer, same_pointers};
+use qs_syntax::{Access, Expr, Shape, UnaryOperator};
+use qs_types::CType;
+
+/// Whether it is an lvalue (C11 6.3.2.1p1).
+#[cycle(is_lvalue)]
+pub fn is_lvalue(e: &Expr) -> bool
+    ensures { result ≡ is_lvalue (expr_tree e.now) }
+{
+    is_lvalue_shape(&e.shape)
+}
+
+#[cycle(is_lvalue)]
+fn is_lvalue_shape(shape: &Shape) -> bool
+    ensures { result ≡ is_lvalue_shape (shape_tree shape.now) }
+{
+    match shape {
+        Shape::Constant(_, _) => false,
+        Shape::Text(_) => true,
+        Shape::Name(_) => true,
+        Shape::Unary(operator, _) => match operator {
+            UnaryOperator::Address => false,
+            UnaryOperator::Indirect => true,
+            UnaryOperator::Plus => false,
+            UnaryOperator::Minus => false,
+            UnaryOperator::Complement => false,
+            UnaryOperator::Not => false,
+        },
+        Shape::Step(_, _) => false,
+        Shape::Cast(_, _) => false,
+        Shape::SizeofType(_) => false,
+        Shape::SizeofExpr(_) => false,
+        Shape::Binary { .. } => false,
+        Shape::Assign { .. } => false,
+        Shape::Conditional { .. } => false,
+        Shape::Comma(_, _) => false,
+        Shape::Subscript(_, _) => true,
+        Shape::Member { access, object, .. } => match access {
+            Access::Dot => is_lvalue(object),
+            Access::Arrow => true,
+        },
+        Shape::Call(_, _) => false,
+    }
+}
+
+/// Whether it is an integer literal of value 0 (C11 6.3.2.3p3).
+pub fn is_null_constant(e: &Expr) -> bool
+    ensures { result ≡ is_null_constant (expr_tree e.now) }
+{
+    match &e.shape {
+        Shape::Constant(n, _) => *n == 0,
+        Shape::Text(_) => false,
+        Shape::Name(_) => false,
+        Shape::Unary(_, _) => false,
+        Shape::Step(_, _) => false,
+        Shape::Cast(_, _) => false,
+        Shape::SizeofType(_) => false,
+        Shape::SizeofExpr(_) => false,
+        Shape::Binary { .. } => false,
+        Shape::Assign { .. } => false,
+        Shape::Conditional { .. } => false,
+        Shape::Comma(_, _) => false,
+        Shape::Subscript(_, _) => false,
+        Shape::Member { .. } => false,
+        Shape::Call(_, _) => false,
+    }
+}
+
+/// Whether an expression whose value has the type `from` may be assigned to the type `to` (C11 6.5.16.1p1).
+pub fn is_assignable(to: &CType, e: &Expr, from: &CType) -> bool
+    ensures { result ≡ is_assignable (type_tree to.now) (expr_tree e.now) (type_tree from.now) }
+{
+    both_integers(to, from) || same_pointers(to, from) || is_pointer(to) && is_null_constant(e)
+}
+
+/// Whether they are two pointers of one type, or a pointer and a null constant.
+pub fn alike_pointers(a: &Expr, t: &CType, b: &Expr, u: &CType) -> bool
+    ensures { result ≡ alike_pointers (expr_tree a.now) (type_tree t.now) (expr_tree b.now) (type_tree u.now) }
+{
+    same_pointers(t, u)
+        || is_pointer(t) && is_null_constant(b)
+        || is_null_constant(a) && is_pointer(u)
+}
+
+/// Whether an expression whose value has the type `from` may be cast to the type `to` (C11 6.5.4).
+pub fn may_cast(to: &CType, e: &Expr, from: &CType) -> bool
+    ensures { result ≡ may_cast (type_tree to.now) (expr_tree e.now) (type_tree from.now) }
+{
+    both_integers(to, from) || is_pointer(to) && (is_pointer(from) || is_null_constant(e))
+}

@@ -82,9 +82,11 @@ module _ (s : Scope) (declared : List ℕ) (sound : Sound s declared) where
       local_known : (node : ℕ) (t : Option TypeTree) → EntityFine s.context.structs declared s.locals.placed (local_variable node t) → Known t
       local_known node None e = absurd e
       local_known node (Some t) e = record { value = t; is = refl }
+
       file_known : (node : ℕ) (t : Option TypeTree) → EntityFine s.context.structs declared s.locals.placed (file_variable node t) → Known t
       file_known node None e = absurd e
       file_known node (Some t) e = record { value = t; is = refl }
+
       function_known : (node : ℕ) (body : Bool) (o : Option Signature) → EntityFine s.context.structs declared s.locals.placed (function node o body) → Known o
       function_known node body None e = absurd e
       function_known node body (Some o) e = record { value = o; is = refl }

@@ -263,7 +263,8 @@ part_known structs laid_out members (struct k) i c e = go (struct_of structs k) 
               type = m.type;
               is = ap (λ o. member_at o i) s ∙ ap (λ o. and_then o (λ (m : MemberTree). Some m.type)) h;
               complete = member_at_complete structs ms i m (members k ms s) h;
-              offset = record { value = o.value; is = ap (λ z. and_then z (λ (l : StructLayout). slice_get l.offsets i)) l.is ∙ o.is } }
+              offset = record { value = o.value; is = ap (λ z. and_then z (λ (l : StructLayout). slice_get l.offsets i)) l.is ∙ o.is };
+            }
           where
             below : (i : ℕ) (ms : List MemberTree) (m : MemberTree) → slice_get ms i ≡ Some m → i < 0 + length ms
             below i ms m h = let b = slice_get_within ms i m h in omega arith

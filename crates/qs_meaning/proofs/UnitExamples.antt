@@ -51,7 +51,7 @@ inner_local_lives = refl
 -- int f(int a,int b){return a*10+b;} int main(void){int a;a=1;return f(a,a=2);}
 arguments_in_order :
     outcome (defined bases.Int 0 (102 ∷ []) (parameter bases.Int 0 97 ∷ parameter bases.Int 0 98 ∷ []) (c.return (plus (op binaries.Multiply a (number 10)) b) ∷ [])
-      ∷ main_ (int_ 97 ∷ eval (c.set a (number 1)) ∷ c.return (call 102 (a ∷ c.set a (number 2) ∷ [])) ∷ []) ∷ [])
+    ∷ main_ (int_ 97 ∷ eval (c.set a (number 1)) ∷ c.return (call 102 (a ∷ c.set a (number 2) ∷ [])) ∷ []) ∷ [])
     ≡ Some (Ended (Calls 1 ∷ Calls 0 ∷ Returns 0 ∷ Returns 1 ∷ []) 12)
 arguments_in_order = refl
 
@@ -98,25 +98,25 @@ r_base = bases.Struct (114 ∷ [])
 -- struct t {int n;char m;}; struct t a; struct t b; int main(void){b.n=3;b.m=4;a=b;return a.n*10+a.m;}
 padding_at_the_end :
     outcome (struct_named 116 (member_of bases.Int 110 one ∷ member_of bases.Char 109 one ∷ []) ∷ global t_base 0 97 one None ∷ global t_base 0 98 one None
-      ∷ main_ (eval (c.set (dot b 110) (number 3)) ∷ eval (c.set (dot b 109) (number 4)) ∷ eval (c.set a b) ∷ c.return (plus (op binaries.Multiply (dot a 110) (number 10)) (dot a 109)) ∷ []) ∷ [])
+    ∷ main_ (eval (c.set (dot b 110) (number 3)) ∷ eval (c.set (dot b 109) (number 4)) ∷ eval (c.set a b) ∷ c.return (plus (op binaries.Multiply (dot a 110) (number 10)) (dot a 109)) ∷ []) ∷ [])
     ≡ ends 34
 padding_at_the_end = refl
 
 -- struct t {int n;char m;}; struct r {char m;struct t n;}; struct r a={1,{2,3}}; int main(void){struct r b={4,{5}};b.n.m=6;a.n=b.n;return ..;}
 structs_in_structs :
     outcome (struct_named 116 (member_of bases.Int 110 one ∷ member_of bases.Char 109 one ∷ []) ∷ struct_named 114 (member_of bases.Char 109 one ∷ member_of t_base 110 one ∷ [])
-      ∷ global r_base 0 97 one (Some (listed (valued (number 1) ∷ listed (numbers (2 ∷ 3 ∷ [])) ∷ [])))
-      ∷ main_ (c.local r_base 0 98 one (Some (listed (valued (number 4) ∷ listed (numbers (5 ∷ [])) ∷ []))) ∷ eval (c.set (dot (dot b 110) 109) (number 6)) ∷ eval (c.set (dot a 110) (dot b 110))
-      ∷ c.return (plus (plus (op binaries.Multiply (dot (dot a 110) 110) (number 10)) (dot (dot a 110) 109)) (op binaries.Multiply (dot a 109) (number 100))) ∷ []) ∷ [])
+    ∷ global r_base 0 97 one (Some (listed (valued (number 1) ∷ listed (numbers (2 ∷ 3 ∷ [])) ∷ [])))
+    ∷ main_ (c.local r_base 0 98 one (Some (listed (valued (number 4) ∷ listed (numbers (5 ∷ [])) ∷ []))) ∷ eval (c.set (dot (dot b 110) 109) (number 6)) ∷ eval (c.set (dot a 110) (dot b 110))
+    ∷ c.return (plus (plus (op binaries.Multiply (dot (dot a 110) 110) (number 10)) (dot (dot a 110) 109)) (op binaries.Multiply (dot a 109) (number 100))) ∷ []) ∷ [])
     ≡ ends 156
 structs_in_structs = refl
 
 -- struct t {int n;char m[2];}; struct t a={1,"x"}; int main(void){struct t b={2,"y"};return a.m[0]+b.m[0]+b.m[1];}
 texts_in_structs :
     outcome (struct_named 116 (member_of bases.Int 110 one ∷ member_of bases.Char 109 (many 2) ∷ [])
-      ∷ global t_base 0 97 one (Some (listed (valued (number 1) ∷ valued (text (120 ∷ [])) ∷ [])))
-      ∷ main_ (c.local t_base 0 98 one (Some (listed (valued (number 2) ∷ valued (text (121 ∷ [])) ∷ [])))
-      ∷ c.return (plus (plus (c.at (dot a 109) (number 0)) (c.at (dot b 109) (number 0))) (c.at (dot b 109) (number 1))) ∷ []) ∷ [])
+    ∷ global t_base 0 97 one (Some (listed (valued (number 1) ∷ valued (text (120 ∷ [])) ∷ [])))
+    ∷ main_ (c.local t_base 0 98 one (Some (listed (valued (number 2) ∷ valued (text (121 ∷ [])) ∷ [])))
+    ∷ c.return (plus (plus (c.at (dot a 109) (number 0)) (c.at (dot b 109) (number 0))) (c.at (dot b 109) (number 1))) ∷ []) ∷ [])
     ≡ ends 241
 texts_in_structs = refl
 
@@ -151,13 +151,14 @@ function_tree :
       variables = Char ∷ Int ∷ [];
       blocks = 4 ∷ [];
       body =
-        stmt_and (evaluate (discard (pointer_to (local 0))))
-        (stmt_and (branch int_b (evaluate (assign (set Char (variable 0) (converted Int Char) int_b))) (block no_stmts))
-        (stmt_and (while_loop (binary (Compare Less Signed) as_written (converted Char Int) unchanged char_a (constant Int 1)) break)
-        (stmt_and (do_loop continue int_b)
-        (stmt_and (for_loop (in_order (assign (set Int (variable 1) unchanged (constant Int 0))) nothing) None
+          stmt_and (evaluate (discard (pointer_to (local 0))))
+          (stmt_and (branch int_b (evaluate (assign (set Char (variable 0) (converted Int Char) int_b))) (block no_stmts))
+          (stmt_and (while_loop (binary (Compare Less Signed) as_written (converted Char Int) unchanged char_a (constant Int 1)) break)
+          (stmt_and (do_loop continue int_b)
+          (stmt_and (for_loop (in_order (assign (set Int (variable 1) unchanged (constant Int 0))) nothing) None
           (assign (update Char (variable 0) (Arithmetic Add Signed) (converted Char Int) unchanged (converted Int Char) (constant Int 1)))
           (return (converted Int Char) int_b))
-        (stmt_and (return (converted Int Char) (constant Int 7)) no_stmts)))));
-      is_main = false } ∷ [])
+          (stmt_and (return (converted Int Char) (constant Int 7)) no_stmts)))));
+      is_main = false;
+    } ∷ [])
 function_tree = refl

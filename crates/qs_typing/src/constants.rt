@@ -147,7 +147,9 @@ fn is_unsigned_shape(shape: &Shape) -> bool
         } => is_unsigned_by(*operator, is_unsigned(left), is_unsigned(right)),
         Shape::Assign { .. } => false,
         Shape::Conditional {
-            then, otherwise, ..
+            then,
+            otherwise,
+            ..
         } => is_unsigned(then) || is_unsigned(otherwise),
         Shape::Comma(_, _) => false,
         Shape::Subscript(_, _) => false,

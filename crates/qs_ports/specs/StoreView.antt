@@ -60,6 +60,11 @@ pub record Keeps (v w : StoreView) : Type 0 where
   pub files : IsTrue w.told → IsSameFiles v.files w.files
   pub tells : KeepsTelling v w 0
 
+-- no file changed, none was opened for writing, and no room was used
+pub record OnlyReads (v w : StoreView) : Type 0 where
+  pub keeps : Keeps v w
+  pub writing : w.writing ≡ v.writing
+
 -- neither a failure nor a missing file was counted
 pub record HasSameCounts (v w : StoreView) : Type 0 where
   pub faults : w.faults ≡ v.faults

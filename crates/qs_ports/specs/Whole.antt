@@ -1,7 +1,7 @@
 -- Reading and writing files as a whole.
 use Rattle.std.specs.Prelude.{◌≡◌, ◌⊎◌, ℕ, ◌+◌, ◌≤◌, List, [], ◌++◌, length, take, IsTrue, Option, Some, None, Result, Ok, Err, IsSome, Vec}
 use Rattle.std.specs.declared.alloc.Global.{Global}
-use Rattle.qs_ports.specs.StoreView.{StoreView, Keeps, HasSameCounts, HasFailed, HasMissed, Holds, left_of}
+use Rattle.qs_ports.specs.StoreView.{StoreView, Keeps, OnlyReads, HasSameCounts, HasFailed, HasMissed, Holds, left_of}
 use Rattle.qs_ports.specs.declared.whole.ReadFault.{ReadFault}
 use Rattle.qs_ports.specs.declared.whole.ReadFault.TheVariants.{Missing, Failed, NoMemory}
 use Rattle.qs_ports.specs.declared.whole.WriteFault.{WriteFault}
@@ -23,24 +23,24 @@ pub record IsContent (file : Option (List ℕ)) (limit : ℕ) (bytes : List ℕ)
 abbrev pub TakesUpTo : StoreView → ℕ → Type 0
 TakesUpTo w limit = IsTrue w.told → IsSome w.reading → w.place ≤ limit + 1
 
--- the file was read, and no more than these bytes were taken: no file changed, and nothing failed
+-- the file was read, and no more than these bytes were taken: no file changed or was opened for writing, and nothing failed
 pub record IsWhole (v w : StoreView) (name : List ℕ) (limit : ℕ) (bytes : List ℕ) : Type 0 where
-  pub keeps : Keeps v w
+  pub only_reads : OnlyReads v w
   pub counts : HasSameCounts v w
   pub content : IsTrue w.told → IsContent (v.files name) limit bytes
   pub len : length bytes ≤ limit + 1
   pub place : IsTrue w.told → w.place ≡ length bytes
 
--- the answer of `read_whole`; none of them changes a file
+-- the answer of `read_whole`; none of them changes a file, or opens one for writing
 abbrev pub ReadsWhole : StoreView → StoreView → List ℕ → ℕ → Result (Vec ℕ Global) ReadFault → Type 0
 ReadsWhole v w name limit (Ok bytes) = IsWhole v w name limit bytes.items
-ReadsWhole v w name limit (Err Missing) = Keeps v w × HasMissed v w × (IsTrue w.told → v.files name ≡ None)
-ReadsWhole v w name limit (Err Failed) = Keeps v w × HasFailed v w
-ReadsWhole v w name limit (Err NoMemory) = Keeps v w × HasSameCounts v w
+ReadsWhole v w name limit (Err Missing) = OnlyReads v w × HasMissed v w × (IsTrue w.told → v.files name ≡ None)
+ReadsWhole v w name limit (Err Failed) = OnlyReads v w × HasFailed v w
+ReadsWhole v w name limit (Err NoMemory) = OnlyReads v w × HasSameCounts v w
 
 -- n more bytes of the file were read behind the old ones; none only at its end
 pub record IsMore (v w : StoreView) (old new : List ℕ) (most n : ℕ) : Type 0 where
-  pub keeps : Keeps v w
+  pub only_reads : OnlyReads v w
   pub counts : HasSameCounts v w
   pub open_still : IsSome w.reading
   pub at_most : n ≤ most
@@ -57,8 +57,8 @@ TakesAtMost v w most = IsTrue w.told → w.place ≤ v.place + most
 abbrev pub ReadsMore : StoreView → StoreView → List ℕ → List ℕ → ℕ → Result ℕ ReadFault → Type 0
 ReadsMore v w old new most (Ok n) = IsMore v w old new most n
 ReadsMore v w old new most (Err Missing) = ⊥
-ReadsMore v w old new most (Err Failed) = Keeps v w × HasFailed v w × TakesAtMost v w 0
-ReadsMore v w old new most (Err NoMemory) = Keeps v w × HasSameCounts v w × TakesAtMost v w most
+ReadsMore v w old new most (Err Failed) = OnlyReads v w × HasFailed v w × TakesAtMost v w 0
+ReadsMore v w old new most (Err NoMemory) = OnlyReads v w × HasSameCounts v w × TakesAtMost v w most
 
 -- how many bytes are moved where a file is made and filled
 abbrev pub moved_by : List ℕ → List ℕ → ℕ

@@ -12,8 +12,7 @@ use Rattle.qs_base.specs.Words.{add}
 use Rattle.qs_machine.specs.State.{State, register, set_register, with_value, stack_base, stack_top, can_read, can_write}
 use Rattle.qs_machine.specs.declared.answers.Cause.TheVariants.{Overflow, JumpMisaligned, LoadMisaligned, LoadOutside, StoreMisaligned, StoreOutside, UnknownCall}
 use Rattle.qs_machine.specs.Step.{StepResult, Next, Exits, Traps, next_pc, write_and_go, write, jump, go_to, branch, is_taken, load, load_width, loaded, store, store_width, stored, op_imm_result, shift_result, op_result, take_byte, put_byte, environment_call, act, act_on, step_on, fetch, step}
-use Rattle.qs_machine.specs.Run.{Outcome, run, outcome_after}
-use Rattle.qs_machine.specs.Running.{output_of}
+use Rattle.qs_machine.specs.Run.{Outcome, run, outcome_after, output_so_far}
 
 -- a list and what stands behind it
 pub record IsFront (front whole : List ℕ) : Type 0 where
@@ -111,11 +110,11 @@ grows-step_on image size s (Some word) = grows-act_on image size s (decode_of wo
 pub grows-step : (image : Image) (size : ℕ) (s : State) → Grows s (step image size s)
 grows-step image size s = grows-step_on image size s (fetch image s.pc)
 
-grows-after : (s : State) (r : StepResult) (go : State → Outcome) → Grows s r → ((t : State) → IsFront t.output (output_of (go t))) → IsFront s.output (output_of (outcome_after s r go))
-grows-after s (Next t) go first later = longer_front s.output t.output (output_of (go t)) first (later t)
+grows-after : (s : State) (r : StepResult) (go : State → Outcome) → Grows s r → ((t : State) → IsFront t.output (output_so_far (go t))) → IsFront s.output (output_so_far (outcome_after s r go))
+grows-after s (Next t) go first later = longer_front s.output t.output (output_so_far (go t)) first (later t)
 grows-after s (Exits status) go first later = same_front s.output s.output refl
 grows-after s (Traps cause) go first later = same_front s.output s.output refl
 
-pub grows-run : (image : Image) (size steps : ℕ) (s : State) → IsFront s.output (output_of (run image size steps s))
+pub grows-run : (image : Image) (size steps : ℕ) (s : State) → IsFront s.output (output_so_far (run image size steps s))
 grows-run image size zero s = same_front s.output s.output refl
 grows-run image size (suc steps) s = grows-after s (step image size s) (run image size steps) (grows-step image size s) (grows-run image size steps)

@@ -10,3 +10,4 @@ pub mod Growth
 pub mod Runs
 pub mod FromStart
 pub mod Puts
+mod RunExamples

@@ -13,9 +13,9 @@ use Rattle.qs_machine.specs.declared.answers.End.TheVariants as end
 use Rattle.qs_machine.specs.declared.machine.Machine.{Machine}
 use Rattle.qs_machine.specs.State.{State}
 use Rattle.qs_machine.specs.Step.{Exits, Traps, step}
-use Rattle.qs_machine.specs.Run.{Outcome, Exited, Trapped, Going, run}
+use Rattle.qs_machine.specs.Run.{Outcome, Exited, Trapped, Going, run, output_so_far}
 use Rattle.qs_machine.specs.Standing.{Stands, GoesOn, end_of, ended}
-use Rattle.qs_machine.specs.Running.{Reached, HasExited, HasTrapped, IsGoing, IsCutOff, output_of}
+use Rattle.qs_machine.specs.Running.{Reached, HasExited, HasTrapped, IsGoing, IsCutOff}
 use Rattle.qs_machine.proofs.Steps.{run_next, run_exits, run_traps}
 use Rattle.qs_machine.proofs.Growth.{IsFront, grows-run}
 
@@ -101,14 +101,14 @@ pub cut_off : (m n : Machine) (image : Image) (size : ℕ) (input : List ℕ) (s
 cut_off m n image size input s taken steps u v w byte fault h lt g p =
     let reached = reached_next m n image size input s h.next taken (byte ∷ []) h.reached g in
     let e : steps ≡ taken + 1 + (steps - taken - 1) = omega arith in
-    let front : IsFront g.next.output (output_of (run image size (steps - taken - 1) g.next)) = grows-run image size (steps - taken - 1) g.next in
+    let front : IsFront g.next.output (output_so_far (run image size (steps - taken - 1) g.next)) = grows-run image size (steps - taken - 1) g.next in
     let run_is : run image size steps s ≡ run image size (steps - taken - 1) g.next = ap (λ (k : ℕ). run image size k s) e ∙ reached.ahead (steps - taken - 1) in
     let bytes = h.bytes ++ byte ∷ front.rest in
     let byte_is : slice_index bytes (length h.bytes) ≡ byte = get_or_at h.bytes byte front.rest 0 (length h.bytes) refl in
     let output_is : g.next.output ≡ (s.output ++ h.bytes) ++ byte ∷ [] = g.puts ∙ ap (λ (l : List ℕ). l ++ byte ∷ []) h.puts in
     record {
       bytes = bytes;
-      puts = ap (λ (o : Outcome). output_of o) run_is ∙ front.parts ∙ ap (λ (l : List ℕ). l ++ front.rest) output_is ∙ three_parts s.output h.bytes front.rest byte;
+      puts = ap (λ (o : Outcome). output_so_far o) run_is ∙ front.parts ∙ ap (λ (l : List ℕ). l ++ front.rest) output_is ∙ three_parts s.output h.bytes front.rest byte;
       k = length h.bytes;
       cut = cut_at u v w h.bytes front.rest byte fault h.appended p;
       before = taken;

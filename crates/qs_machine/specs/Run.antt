@@ -35,6 +35,12 @@ pub data Outcome : Type 0 where
   Trapped : (cause : Cause) (pc : ℕ) (output : List ℕ) → Outcome
   Going : (output : List ℕ) → Outcome
 
+-- the bytes on the output
+abbrev pub output_so_far : Outcome → List ℕ
+output_so_far (Exited output status) = output
+output_so_far (Trapped cause pc output) = output
+output_so_far (Going output) = output
+
 abbrev pub outcome_after : State → StepResult → (State → Outcome) → Outcome
 outcome_after s (Next t) go = go t
 outcome_after s (Exits status) go = Exited s.output status

@@ -10,15 +10,9 @@ use Rattle.qs_machine.specs.declared.answers.End.TheVariants as end
 use Rattle.qs_machine.specs.declared.machine.Machine.{Machine}
 use Rattle.qs_machine.specs.declared.loading.LoadFault.{LoadFault}
 use Rattle.qs_machine.specs.declared.loading.LoadFault.TheVariants.{StackTooLarge, ArgCount, NoMemory}
-use Rattle.qs_machine.specs.State.{State}
-use Rattle.qs_machine.specs.Run.{Outcome, Exited, Trapped, Going, run}
+use Rattle.qs_machine.specs.State.{State, stack_limit}
+use Rattle.qs_machine.specs.Run.{Outcome, Exited, Trapped, Going, run, output_so_far}
 use Rattle.qs_machine.specs.Standing.{Stands, GoesOn, end_of}
-
--- the bytes on the output
-abbrev pub output_of : Outcome → List ℕ
-output_of (Exited output status) = output
-output_of (Trapped cause pc output) = output
-output_of (Going output) = output
 
 -- So many steps lead from the state `s` to the state `next`, from which the run goes on.
 abbrev pub LeadTo : Image → ℕ → State → ℕ → State → Type 0
@@ -57,7 +51,7 @@ pub record IsGoing (n : Machine) (image : Image) (size : ℕ) (input : List ℕ)
 -- that comes next. The machine stands behind that step, and its output has the byte that the sink did not take.
 pub record IsCutOff (n : Machine) (image : Image) (size : ℕ) (input : List ℕ) (s : State) (steps : ℕ) (v w : SinkView) : Type 0 where
   pub bytes : List ℕ
-  pub puts : output_of (run image size steps s) ≡ s.output ++ bytes
+  pub puts : output_so_far (run image size steps s) ≡ s.output ++ bytes
   pub k : ℕ
   pub cut : IsCut v w bytes k
   -- the steps before the last one that was taken, and where they lead
@@ -86,20 +80,20 @@ run_end_of (end.Trapped cause pc) = run_end.Trapped cause pc
 
 -- an image with so many parameters, on a stack of so many bytes and with so many arguments
 pub record MayLoad (stack parameters arguments : ℕ) : Type 0 where
-  pub small : stack ≤ 2 ^ 28
+  pub small : stack ≤ stack_limit
   pub same_count : arguments ≡ parameters
 
 -- each fault is that of the first test that fails; memory may be wanting where none does
 abbrev pub IsLoadFault : ℕ → ℕ → ℕ → LoadFault → Type 0
-IsLoadFault stack parameters arguments StackTooLarge = 2 ^ 28 < stack
-IsLoadFault stack parameters arguments (ArgCount expected) = (stack ≤ 2 ^ 28) × (arguments ≢ parameters) × (expected ≡ parameters)
+IsLoadFault stack parameters arguments StackTooLarge = stack_limit < stack
+IsLoadFault stack parameters arguments (ArgCount expected) = (stack ≤ stack_limit) × (arguments ≢ parameters) × (expected ≡ parameters)
 IsLoadFault stack parameters arguments NoMemory = MayLoad stack parameters arguments
 
 -- ---- a run from the start
 
 -- What a run answered and put on the sink, by the outcome that the definition gives.
 abbrev pub Shows : Outcome → SinkView → SinkView → RunEnd → Type 0
-Shows outcome v w (run_end.Exited status) = (outcome ≡ Exited (output_of outcome) status) × Appends v w (output_of outcome)
-Shows outcome v w (run_end.Trapped cause pc) = (outcome ≡ Trapped cause pc (output_of outcome)) × Appends v w (output_of outcome)
-Shows outcome v w run_end.StepLimit = (outcome ≡ Going (output_of outcome)) × Appends v w (output_of outcome)
-Shows outcome v w run_end.SinkFailed = (k : ℕ) × IsCut v w (output_of outcome) k
+Shows outcome v w (run_end.Exited status) = (outcome ≡ Exited (output_so_far outcome) status) × Appends v w (output_so_far outcome)
+Shows outcome v w (run_end.Trapped cause pc) = (outcome ≡ Trapped cause pc (output_so_far outcome)) × Appends v w (output_so_far outcome)
+Shows outcome v w run_end.StepLimit = (outcome ≡ Going (output_so_far outcome)) × Appends v w (output_so_far outcome)
+Shows outcome v w run_end.SinkFailed = (k : ℕ) × IsCut v w (output_so_far outcome) k

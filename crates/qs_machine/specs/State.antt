@@ -38,6 +38,10 @@ data_start = 0x10000000
 abbrev pub stack_top : ℕ
 stack_top = 0x80000000
 
+-- the largest stack, in bytes
+abbrev pub stack_limit : ℕ
+stack_limit = 2 ^ 28
+
 abbrev pub stack_base : ℕ → ℕ
 stack_base size = stack_top - size
 

@@ -9,6 +9,7 @@ ghost use Rattle.qs_machine.specs.Running.{MayLoad, IsLoadFault};
 
 use crate::machine::Machine;
 use crate::memory::Memory;
+use crate::regions::STACK_LIMIT;
 use crate::registers::Registers;
 use qs_base::NoMemory;
 use qs_image::ImageView;
@@ -87,7 +88,7 @@ pub fn load(
     ensures loads { IfOk result (λ _. MayLoad stack image.now.parameters (length args.now)) }
     ensures fault { IfErr result (λ fault. IsLoadFault stack image.now.parameters (length args.now) fault) }
 {
-    if stack > 1 << 28 {
+    if stack > STACK_LIMIT {
         return Err(LoadFault::StackTooLarge);
     }
     if args.len() != image.parameters() as usize {

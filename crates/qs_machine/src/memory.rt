@@ -2,7 +2,7 @@
 ghost use Rattle.std.specs.Prelude.{◌≡◌, ◌+◌, ◌-◌, ◌≤◌, ◌^◌, Option, Some, None, option_copied, if◌then◌else◌, length, IsTrue, false};
 ghost use Rattle.qs_base.specs.Words.{sign_extend};
 ghost use Rattle.qs_machine.specs.Bytes.{loaded_from, bytes_from};
-ghost use Rattle.qs_machine.specs.State.{stack_base};
+ghost use Rattle.qs_machine.specs.State.{stack_base, stack_limit};
 ghost use Rattle.qs_machine.specs.Step.{load_width, loaded, store_width, stored};
 
 use crate::regions::{CODE_START, DATA_START, STACK_TOP, place_in, put};
@@ -17,7 +17,7 @@ pub struct Memory {
     pub stack: Vec<u8>,
     ghost code_fits: { length code.items ≤ 2 ^ 20 },
     ghost data_fits: { length data.items ≤ 2 ^ 24 },
-    ghost stack_fits: { length stack.items ≤ 2 ^ 28 },
+    ghost stack_fits: { length stack.items ≤ stack_limit },
 }
 
 /// How many bytes a load reads.

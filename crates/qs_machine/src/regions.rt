@@ -13,6 +13,9 @@ pub const DATA_START: u32 = 0x1000_0000;
 
 pub const STACK_TOP: u32 = 0x8000_0000;
 
+/// The largest stack, in bytes.
+pub const STACK_LIMIT: u64 = 1 << 28;
+
 /// The place in a region of an access that lies in it whole.
 pub fn place_in(start: u32, count: usize, address: u32, width: u32) -> Option<usize>
     requires { count < 2 ^ 32 }

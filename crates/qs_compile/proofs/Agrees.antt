@@ -1,5 +1,5 @@
 -- A machine that puts the program's bytes and then exits with its status does what the program does.
-use Rattle.std.proofs.Common.{◌≡◌, ◌⊎◌, ℕ, zero, suc, ◌-◌, ◌^◌, ◌%◌, ◌<◌, ◌≤◌, ℤ, List, [], ◌∷◌, ◌++◌, sym, ◌∙◌, ap, refl, inl, inr, arith}
+use Rattle.std.proofs.Common.{◌≡◌, ◌⊎◌, ℕ, zero, suc, ◌-◌, ◌^◌, ◌%◌, ◌<◌, ◌≤◌, ℤ, List, [], ◌∷◌, ◌++◌, Some, sym, ◌∙◌, ap, refl, inl, inr, arith}
 use Rattle.std.specs.Prelude.{All, map, slice_index}
 use Rattle.std.proofs.lemmas.List.{append-nil}
 use Rattle.qs_events.specs.Events.{Event, Calls, Returns, Puts, output_of}
@@ -11,12 +11,12 @@ use Rattle.qs_image.specs.Image.{Image}
 use Rattle.qs_machine.specs.declared.answers.Cause.{Cause}
 use Rattle.qs_machine.specs.Arguments.{AreArguments}
 use Rattle.qs_machine.specs.Arguments as arguments
-use Rattle.qs_machine.specs.Run.{Outcome, Exited, Trapped, Going, machine, start}
+use Rattle.qs_machine.specs.Run.{Outcome, Exited, Trapped, Going, machine, start, output_so_far}
 use Rattle.qs_machine.proofs.Reaches.{IsOnTheWay, going, done, Reaches}
-use Rattle.qs_compile.specs.Agree.{Agree, AgreesFrom, Begins, EndsWith, output_so_far}
+use Rattle.qs_compile.specs.Agree.{Agree, AgreesFrom, Begins, HasEndedWith}
 use Rattle.qs_compile.specs.FirstCode.{addi, program_code, words_of}
 use Rattle.qs_compile.specs.FirstForm.{Program, put_all, runs_of, status_of}
-use Rattle.qs_compile.specs.Built.{LowersStackFirst, main_bound}
+use Rattle.qs_compile.specs.Built.{LowersStackFirst, main_bound, main_record}
 use Rattle.qs_compile.proofs.Codes.{program_reaches}
 
 abbrev whole_trace : Program → List Event
@@ -72,7 +72,7 @@ going_way p outcome output (going front behind parts is) e =
 going_way p outcome output (done is) e = absurd (cc)
 
 exits_source : (p : Program) (args : List ℤ) (image : Image) (size : ℕ) (input : List ℕ) (m : ℕ) (output : List ℕ) (status : ℕ) → p.status < 256 → Way p (machine image size [] input m)
-    → machine image size [] input m ≡ Exited output status → EndsWith (runs_of p args input m) output status
+    → machine image size [] input m ≡ Exited output status → HasEndedWith (runs_of p args input m) output status
 exits_source p args image size input zero output status small way e = absurd (cc)
 exits_source p args image size input (suc m) output status small way e =
     let same = exits_way p (machine image size [] input (suc m)) output status way e in
@@ -117,10 +117,12 @@ agrees_without p [] image size input none small r = agrees p [] image size input
 agrees_without p (z ∷ zs) image size input none small r = absurd (cc)
 
 -- the image of a program's code does what the program does
-pub program_agrees : (p : Program) (image : Image) → image.entry ≡ 65536 → image.parameters ≡ 0 → image.code ≡ words_of (program_code p) → All (λ byte. byte < 256) p.outputs → p.status < 256
-    → AgreesFrom main_bound (runs_of p) image
-program_agrees p image entry none code bytes small = record {
-  agree = λ args input least size are bound room most.
+pub program_agrees : (p : Program) (image : Image) → image.entry ≡ 65536 → image.functions ≡ main_record ∷ [] → image.parameters ≡ 0 → image.code ≡ words_of (program_code p)
+    → All (λ byte. byte < 256) p.outputs → p.status < 256 → AgreesFrom (main_bound image) (runs_of p) image
+program_agrees p image entry functions none code bytes small = record {
+  agree = λ args input least size are in_bytes bound room most.
+      let cost : main_bound image args ≡ Some 16 = rw functions refl in
+      let one : Some 16 ≡ Some least = sym cost ∙ bound in
       let same : 16 ≡ least = cc in
       let enough : 16 ≤ size = omega (arith, same, room) in
       agrees_without p args image size input (no_arguments image args none are) small (program_reaches image size input p entry code bytes small enough);

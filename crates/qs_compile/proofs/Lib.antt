@@ -6,3 +6,4 @@ pub mod Pieces
 pub mod Texts
 pub mod WellFormed
 pub mod Words
+mod Examples

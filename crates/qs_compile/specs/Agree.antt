@@ -1,11 +1,12 @@
 -- The machine does what the source does.
-use Rattle.std.specs.Prelude.{◌≡◌, ◌⊎◌, ℕ, ◌^◌, ◌≤◌, ℤ, List, ◌++◌, Option, Some}
+use Rattle.std.specs.Prelude.{◌≡◌, ◌⊎◌, ℕ, ◌<◌, ◌≤◌, ℤ, List, ◌++◌, All, Option, Some}
 use Rattle.qs_image.specs.Image.{Image}
 use Rattle.qs_events.specs.Events.{Event, output_of}
 use Rattle.qs_events.specs.BoundedRun.{BoundedRun, Ended, Undefined, Short, trace_of}
 use Rattle.qs_machine.specs.declared.answers.Cause.{Cause}
 use Rattle.qs_machine.specs.Arguments.{AreArguments, words_of}
-use Rattle.qs_machine.specs.Run.{Outcome, Exited, Trapped, Going, machine}
+use Rattle.qs_machine.specs.State.{stack_limit}
+use Rattle.qs_machine.specs.Run.{Outcome, Exited, Trapped, Going, machine, output_so_far}
 
 -- the runs of a source, for each list of arguments of main, each input and each bound
 abbrev pub Runs : Type 0
@@ -19,18 +20,13 @@ Bound = List ℤ → Option ℕ
 abbrev pub Begins : List ℕ → List ℕ → Type 0
 Begins whole part = (rest : List ℕ) × (whole ≡ part ++ rest)
 
-abbrev pub output_so_far : Outcome → List ℕ
-output_so_far (Exited output status) = output
-output_so_far (Trapped cause pc output) = output
-output_so_far (Going output) = output
-
 -- the run is undefined, after an output with which this one begins
 pub record IsUndefinedWithin (run : BoundedRun) (output : List ℕ) : Type 0 where
   pub trace : List Event
   pub undefined : run ≡ Undefined trace
   pub within : Begins output (output_of trace)
 
-pub record EndsWith (run : BoundedRun) (output : List ℕ) (status : ℕ) : Type 0 where
+pub record HasEndedWith (run : BoundedRun) (output : List ℕ) (status : ℕ) : Type 0 where
   pub trace : List Event
   pub ended : run ≡ Ended trace status
   pub same_output : output_of trace ≡ output
@@ -40,7 +36,7 @@ pub record Agree (source : ℕ → BoundedRun) (machine : ℕ → Outcome) : Typ
   -- where the source ends, the machine exits with the same output and status
   pub ends : (n : ℕ) (trace : List Event) (status : ℕ) → source n ≡ Ended trace status → (m : ℕ) × (machine m ≡ Exited (output_of trace) status)
   -- where the machine exits, the source has ended with the same output and status, or is undefined
-  pub exits_only : (m : ℕ) (output : List ℕ) (status : ℕ) → machine m ≡ Exited output status → EndsWith (source m) output status ⊎ IsUndefinedWithin (source m) output
+  pub exits_only : (m : ℕ) (output : List ℕ) (status : ℕ) → machine m ≡ Exited output status → HasEndedWith (source m) output status ⊎ IsUndefinedWithin (source m) output
   -- the machine traps only where the source is undefined
   pub traps_only : (m : ℕ) (cause : Cause) (pc : ℕ) (output : List ℕ) → machine m ≡ Trapped cause pc output → IsUndefinedWithin (source m) output
   -- as far as the source comes, the machine comes
@@ -48,8 +44,12 @@ pub record Agree (source : ℕ → BoundedRun) (machine : ℕ → Outcome) : Typ
   -- while the machine goes on, its output is the source's so far, or the source is undefined
   pub goes_on_only : (m : ℕ) (output : List ℕ) → machine m ≡ Going output → Begins (output_of (trace_of (source m))) output ⊎ IsUndefinedWithin (source m) output
 
--- Where the arguments are main's and their bound is this number, on each stack of at least so many bytes, up to 2^28, and on each input
--- the image does what the source does.
+-- the input is a list of bytes
+abbrev pub IsInput : List ℕ → Type 0
+IsInput input = All (λ byte. byte < 256) input
+
+-- Where the arguments are main's and their bound is this number, on each stack of at least so many bytes, up to the largest, and on each
+-- input the image does what the source does.
 pub record AgreesFrom (bound : Bound) (runs : Runs) (image : Image) : Type 0 where
-  pub agree : (args : List ℤ) (input : List ℕ) (least size : ℕ) → AreArguments image args → bound args ≡ Some least
-      → least ≤ size → size ≤ 2 ^ 28 → Agree (runs args input) (machine image size (words_of args) input)
+  pub agree : (args : List ℤ) (input : List ℕ) (least size : ℕ) → AreArguments image args → IsInput input → bound args ≡ Some least
+      → least ≤ size → size ≤ stack_limit → Agree (runs args input) (machine image size (words_of args) input)

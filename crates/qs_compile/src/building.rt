@@ -2,7 +2,7 @@
 ghost use Rattle.std.specs.Prelude.{◌≡◌, IfOk};
 ghost use Rattle.qs_compile.specs.Agree.{AgreesFrom};
 ghost use Rattle.qs_compile.specs.FirstForm.{program_of, runs_of};
-ghost use Rattle.qs_compile.specs.Built.{IsBuiltFromMain, LowersStackFirst, main_bound, main_record};
+ghost use Rattle.qs_compile.specs.Built.{HasMainAlone, LowersStackFirst, main_bound, main_record};
 
 use crate::first_code::code_of;
 use crate::form::FirstForm;
@@ -29,9 +29,9 @@ fn main_record(alloc: Global) -> Result<FunctionRecord, NoMemory>
 /// is no data. It first lowers the stack pointer by these 16 bytes. On a stack of that size at least it does
 /// what the program does.
 pub fn compile(alloc: Global, program: &FirstForm) -> Result<Image, NoMemory>
-    ensures built { IfOk result (λ image. IsBuiltFromMain image) }
+    ensures built { IfOk result (λ image. HasMainAlone image) }
     ensures lowers { IfOk result (λ image. LowersStackFirst image) }
-    ensures agrees { IfOk result (λ image. AgreesFrom main_bound (runs_of (program_of program.now)) image) }
+    ensures agrees { IfOk result (λ image. AgreesFrom (main_bound image) (runs_of (program_of program.now)) image) }
 {
     let code = code_of(alloc, program)?;
     let mut functions = Vec::new(alloc);

@@ -14,7 +14,7 @@ invariant_of-result c =
     built_well_formed (program_of c.args.program.now) _ _ _ (search rules) c.in_ok-code.ensures c.new.ensures.items small
 
 pub returns-clause-agrees : goal.returns-clause-agrees
-returns-clause-agrees c = program_agrees (program_of c.args.program.now) _ refl refl c.in_ok-code.ensures c.args.program.now.bytes c.args.program.now.small
+returns-clause-agrees c = program_agrees (program_of c.args.program.now) _ refl (search rules) refl c.in_ok-code.ensures c.args.program.now.bytes c.args.program.now.small
 
 pub returns-clause-lowers : goal.returns-clause-lowers
 returns-clause-lowers c = program_lowers (program_of c.args.program.now) _ c.in_ok-code.ensures

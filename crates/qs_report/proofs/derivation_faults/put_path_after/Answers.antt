@@ -1,0 +1,5 @@
+use Rattle.qs_ports.proofs.Sinks.{then_puts}
+use Rattle.qs_report.proofs.derivation_faults.put_path_after.Goals as goal
+
+pub returns : goal.returns
+returns g c = then_puts _ _ _ c.in_ok-put_all.ensures (rw c.deref.ensures.value at c.put_path.ensures)

@@ -1,0 +1,161 @@
+// The lines of faults.
+ghost use Rattle.std.specs.Prelude.{◌≡◌, ◌++◌, [], ◌∷◌, codes, decimal};
+ghost use Rattle.qs_ports.specs.SinkView.{PutsAll};
+ghost use Rattle.qs_report.specs.Words.{word, IsNumbered, cause_words, hexadecimal, image_words};
+ghost use Rattle.qs_report.specs.Lines.{line, line_at, fault_line, HasItsNumbers};
+
+use crate::FaultText;
+use crate::derivation_faults::{put_cycle, put_proof_fault};
+use crate::parts::{put_between, put_number, put_pair, put_parts, put_two};
+use crate::results::put_shown;
+use crate::words::{cause_word, lex_word, limit_word, proof_file_word};
+use hex::encode_to_slice;
+use itoa::Buffer;
+use qs_base::Pos;
+use qs_ports::{Sink, SinkFault};
+
+// Puts a line at a line and a column of a file, whose text has two parts.
+fn put_place<K: Sink>(
+    log: &mut K,
+    file: &[u8],
+    number: &[u8],
+    column: &[u8],
+    text: &[u8],
+    more: &[u8],
+) -> Result<(), SinkFault>
+    ensures { PutsAll (K.view log.old) (K.view log.new) (line (file.now ∷ codes ":" ∷ number.now ∷ codes ":" ∷ column.now ∷ codes ": " ∷ text.now ∷ more.now ∷ [])) result }
+{
+    put_parts(
+        log,
+        &[file, b":", number, b":", column, b": ", text, more, b"\n"],
+    )
+}
+
+// Puts a line at a place of a file, whose text has two parts.
+fn put_both_at<K: Sink>(
+    log: &mut K,
+    file: &[u8],
+    pos: Pos,
+    text: &[u8],
+    more: &[u8],
+) -> Result<(), SinkFault>
+    ensures { PutsAll (K.view log.old) (K.view log.new) (line (file.now ∷ codes ":" ∷ decimal pos.line ∷ codes ":" ∷ decimal pos.column ∷ codes ": " ∷ text.now ∷ more.now ∷ [])) result }
+{
+    let mut lines = Buffer::new();
+    let mut columns = Buffer::new();
+    let number = lines.format(pos.line).as_bytes();
+    let column = columns.format(pos.column).as_bytes();
+    put_place(log, file, number, column, text, more)
+}
+
+// Puts a line at a place of a file.
+fn put_at<K: Sink>(log: &mut K, file: &[u8], pos: Pos, text: &str) -> Result<(), SinkFault>
+    ensures { PutsAll (K.view log.old) (K.view log.new) (line_at file.now pos text.now) result }
+{
+    put_both_at(log, file, pos, text.as_bytes(), b"")
+}
+
+fn put_rule<K: Sink>(log: &mut K, file: &[u8], pos: Pos, rule: u32) -> Result<(), SinkFault>
+    ensures { PutsAll (K.view log.old) (K.view log.new) (line_at file.now pos (codes "rule K" ++ decimal rule)) result }
+{
+    let mut digits = Buffer::new();
+    put_both_at(log, file, pos, b"rule K", digits.format(rule).as_bytes())
+}
+
+// Puts the line of an image's fault: its word, and a number behind it.
+fn put_image_count<K: Sink>(
+    log: &mut K,
+    file: &[u8],
+    text: &[u8],
+    number: u32,
+) -> Result<(), SinkFault>
+    ensures { PutsAll (K.view log.old) (K.view log.new) (line (file.now ∷ codes ": image " ∷ text.now ∷ decimal number ∷ [])) result }
+{
+    let mut digits = Buffer::new();
+    let digits = digits.format(number).as_bytes();
+    put_parts(log, &[file, b": image ", text, digits, b"\n"])
+}
+
+fn put_image<K: Sink>(log: &mut K, file: &[u8], number: u32, part: u32) -> Result<(), SinkFault>
+    requires { IsNumbered (image_words part) number }
+    ensures { PutsAll (K.view log.old) (K.view log.new) (line (file.now ∷ codes ": image " ∷ word (image_words part) number ∷ [])) result }
+{
+    match number {
+        1 => put_two(log, file, b": image short"),
+        2 => put_two(log, file, b": image magic"),
+        3 => put_image_count(log, file, b"count ", part),
+        4 => put_two(log, file, b": image trailing"),
+        5 => put_two(log, file, b": image entry"),
+        6 => put_image_count(log, file, b"cost ", part),
+        7 => put_two(log, file, b": image names"),
+        _ => unreachable!(),
+    }
+}
+
+fn put_trap<K: Sink>(log: &mut K, cause: u32, pc: u32) -> Result<(), SinkFault>
+    requires { IsNumbered cause_words cause }
+    ensures { PutsAll (K.view log.old) (K.view log.new) (line (codes "trap " ∷ word cause_words cause ∷ codes " at 0x" ∷ hexadecimal pc ∷ [])) result }
+{
+    let mut digits = [0; 8];
+    let place = pc.to_be_bytes();
+    encode_to_slice(place.as_slice(), &mut digits).unwrap();
+    let text = cause_word(cause).as_bytes();
+    put_parts(log, &[b"trap ", text, b" at 0x", digits.as_slice(), b"\n"])
+}
+
+/// Puts the line `arguments: expected E given G`.
+pub fn put_arg_count<K: Sink>(log: &mut K, expected: u64, given: u64) -> Result<(), SinkFault>
+    ensures { PutsAll (K.view log.old) (K.view log.new) (fault_line [] [] (FaultText.ArgCount expected given)) result }
+{
+    put_pair(log, b"arguments: expected ", expected, b" given ", given)
+}
+
+/// Puts the line `argument I out of range`.
+pub fn put_arg_range<K: Sink>(log: &mut K, argument: u64) -> Result<(), SinkFault>
+    ensures { PutsAll (K.view log.old) (K.view log.new) (fault_line [] [] (FaultText.ArgRange argument)) result }
+{
+    put_between(log, b"argument ", argument, b" out of range")
+}
+
+/// Puts the line of a fault. The file and the function or definition have these names in it, where it has them.
+pub fn put_fault<K: Sink>(
+    log: &mut K,
+    file: &[u8],
+    name: &[u8],
+    fault: &FaultText,
+) -> Result<(), SinkFault>
+    requires { HasItsNumbers fault.now }
+    ensures { PutsAll (K.view log.old) (K.view log.new) (fault_line file.now name.now fault.now) result }
+{
+    match fault {
+        FaultText::Usage => put_two(log, b"usage: qsc COMMAND FILE OPTIONS", b""),
+        FaultText::SameName => put_two(log, b"same name: ", file),
+        FaultText::Missing => put_two(log, b"missing: ", file),
+        FaultText::Failed => put_two(log, b"failed: ", file),
+        FaultText::TooLong => put_two(log, b"too long: ", file),
+        FaultText::Lex(pos, number) => put_at(log, file, *pos, lex_word(*number)),
+        FaultText::UnexpectedToken(pos) => put_at(log, file, *pos, "unexpected token"),
+        FaultText::UnexpectedEnd(pos) => put_at(log, file, *pos, "unexpected end"),
+        FaultText::TooDeep(pos) => put_at(log, file, *pos, "too deep"),
+        FaultText::Rule(pos, number) => put_rule(log, file, *pos, *number),
+        FaultText::Limit(pos, kind) => {
+            put_both_at(log, file, *pos, b"limit ", limit_word(*kind).as_bytes())
+        }
+        FaultText::NoMain => put_two(log, file, b": no main"),
+        FaultText::NoBody(pos) => put_at(log, file, *pos, "no body"),
+        FaultText::ProofFile(pos, number) => put_at(log, file, *pos, proof_file_word(*number)),
+        FaultText::Cycle(names) => put_cycle(log, names),
+        FaultText::Proof(spot, text) => put_proof_fault(log, file, name, spot, text),
+        FaultText::Order => put_parts(log, &[file, b": order ", name, b"\n"]),
+        FaultText::ArgCount(expected, given) => {
+            put_arg_count(log, u64::from(*expected), u64::from(*given))
+        }
+        FaultText::ArgRange(argument) => put_arg_range(log, u64::from(*argument)),
+        FaultText::Image(number, part) => put_image(log, file, *number, *part),
+        FaultText::Trapped(cause, pc) => put_trap(log, *cause, *pc),
+        FaultText::StepLimit(steps) => put_number(log, b"step limit ", *steps),
+        FaultText::NoBound(bound) => put_shown(log, b"no bound: ", *bound),
+        FaultText::StackTooLarge(size) => put_number(log, b"stack too large: ", *size),
+        FaultText::NoMemory => put_two(log, b"out of memory", b""),
+    }
+}

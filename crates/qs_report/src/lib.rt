@@ -1,0 +1,18 @@
+//! The lines that the tool prints: what it has done, how a run ended, and its faults. Each line is there as bytes, and as
+//! a text that is put on a sink, which takes no memory.
+#![tactic(auto)]
+
+mod derivation_faults;
+mod fault_texts;
+mod faults;
+mod lines;
+mod parts;
+mod results;
+mod taking;
+mod words;
+
+pub use fault_texts::{Count, FaultText, LimitKind, Path, ProofText, Shown, Spot};
+pub use faults::{put_arg_count, put_arg_range, put_fault};
+pub use lines::{bound_line, cost_line, count_line, end_line, fault_line};
+pub use parts::put_two;
+pub use results::{put_bound, put_cost, put_count, put_end};

@@ -1,4 +1,3 @@
-pub mod LinesLaws
 pub mod FilesLaws
 pub mod ArgumentsLaws
 pub mod FormLexed

@@ -5,7 +5,7 @@ use Rattle.qs_lexer.specs.declared.fault.LexFault.{LexFault}
 use Rattle.qs_parser.specs.declared.syntax_fault.SyntaxFault.{SyntaxFault}
 use Rattle.qs_ports.specs.StoreView.{StoreView}
 use Rattle.qs_driver.specs.Limits.{source_limit}
-use Rattle.qs_driver.specs.Files.{Holds, HoldsWith, IsTooLong}
+use Rattle.qs_driver.specs.Files.{HoldsContent, HoldsWith, IsTooLong}
 use Rattle.qs_driver.specs.Files as files
 use Rattle.qs_driver.specs.Source.{HasLexFault, HasSyntaxFault, IsNoUnit, IsUnit, IsSyntax, LacksSource, IsOfSource, missing_source, long_source, ill_spelled, no_reading, RefusesSource}
 use Rattle.qs_driver.specs.Source as source
@@ -15,6 +15,7 @@ use Rattle.qs_driver.specs.declared.status.Status.TheVariants.{Source, Missing, 
 use Rattle.qs_driver.specs.declared.status.SourceFault.TheVariants.{TooLong, Lex, Syntax}
 use Rattle.qs_driver.specs.declared.status.TokenPlace.{TokenPlace}
 use Rattle.qs_driver.specs.declared.status.FileKind.TheVariants as kinds
+use Rattle.qs_driver.proofs.FilesLaws.{held_with, held_long}
 use Rattle.qs_driver.proofs.SourceLaws.{no_unit, syntax_no_unit, lex_or_tokens, same_lex_fault, same_lex_place}
 
 -- ---- a file is in one state
@@ -25,10 +26,10 @@ not_absent file content a b = cc
 same_content : (file : Option (List ℕ)) (a b : List ℕ) → file ≡ Some a → file ≡ Some b → a ≡ b
 same_content file a b e f = cc
 
-pub one_content : (file : Option (List ℕ)) (limit : ℕ) (a b : List ℕ) → Holds file limit a → Holds file limit b → a ≡ b
+pub one_content : (file : Option (List ℕ)) (limit : ℕ) (a b : List ℕ) → HoldsContent file limit a → HoldsContent file limit b → a ≡ b
 one_content file limit a b h k = same_content file a b h.there k.there
 
-pub not_long : (file : Option (List ℕ)) (limit : ℕ) (content : List ℕ) → Holds file limit content → IsTooLong file limit → ⊥
+pub not_long : (file : Option (List ℕ)) (limit : ℕ) (content : List ℕ) → HoldsContent file limit content → IsTooLong file limit → ⊥
 not_long file limit content h l =
     let e = ap length (same_content file content l.content h.there l.there) in
     let w = h.within in
@@ -58,10 +59,10 @@ pub data SourceEnds (file : Option (List ℕ)) (status : Status) : Type 0 where
 pub source_ends : (v w : StoreView) (name : List ℕ) (status : Status) → StoreHeld v w → IsTrue v.told → LacksSource v w name status → SourceEnds (v.files name) status ⊎ (status ≡ NoMemory)
 source_ends v w name status n told (source.unread (files.missing m e)) = inl (absent (m.absent told) e)
 source_ends v w name status n told (source.unread (files.unreadable f e)) = absurd (n f.failed.rose)
-source_ends v w name status n told (source.unread (files.too_long l e)) = inl (long (l.too_long told) e)
+source_ends v w name status n told (source.unread (files.too_long l e)) = inl (long (held_long l told) e)
 source_ends v w name status n told (source.unread (files.no_memory u e)) = inr e
-source_ends v w name status n told (source.lex_fault fault pos u f e) = inl (lexical fault pos (f told) e)
-source_ends v w name status n told (source.syntax_fault fault place u f e) = inl (syntactic fault place (f told) e)
+source_ends v w name status n told (source.lex_fault fault pos u f e) = inl (lexical fault pos (held_with f told) e)
+source_ends v w name status n told (source.syntax_fault fault place u f e) = inl (syntactic fault place (held_with f told) e)
 source_ends v w name status n told (source.no_memory u e) = inr e
 
 -- the status is one of those at which a source is refused
@@ -78,10 +79,10 @@ source_own v w name status n (source.no_memory u e) = inr e
 pub source_no_unit : (v w : StoreView) (name : List ℕ) (status : Status) → StoreHeld v w → LacksSource v w name status → (IsTrue v.told → HoldsWith (v.files name) source_limit IsUnit → ⊥) ⊎ (status ≡ NoMemory)
 source_no_unit v w name status n (source.unread (files.missing m e)) = inl (λ told h. not_absent (v.files name) h.content (m.absent told) h.holds.there)
 source_no_unit v w name status n (source.unread (files.unreadable f e)) = absurd (n f.failed.rose)
-source_no_unit v w name status n (source.unread (files.too_long l e)) = inl (λ told h. not_long (v.files name) source_limit h.content h.holds (l.too_long told))
+source_no_unit v w name status n (source.unread (files.too_long l e)) = inl (λ told h. not_long (v.files name) source_limit h.content h.holds (held_long l told))
 source_no_unit v w name status n (source.unread (files.no_memory u e)) = inr e
-source_no_unit v w name status n (source.lex_fault fault pos u f e) = inl (λ told h. not_two (v.files name) source_limit (λ text. HasLexFault text fault pos) IsUnit (λ text a b. lex_or_tokens text fault pos b.tokens a b.are_tokens) (f told) h)
-source_no_unit v w name status n (source.syntax_fault fault place u f e) = inl (λ told h. not_two (v.files name) source_limit (λ text. HasSyntaxFault text fault place) IsUnit (λ text a b. no_unit text (syntax_no_unit text fault place a) b) (f told) h)
+source_no_unit v w name status n (source.lex_fault fault pos u f e) = inl (λ told h. not_two (v.files name) source_limit (λ text. HasLexFault text fault pos) IsUnit (λ text a b. lex_or_tokens text fault pos b.tokens a b.are_tokens) (held_with f told) h)
+source_no_unit v w name status n (source.syntax_fault fault place u f e) = inl (λ told h. not_two (v.files name) source_limit (λ text. HasSyntaxFault text fault place) IsUnit (λ text a b. no_unit text (syntax_no_unit text fault place a) b) (held_with f told) h)
 source_no_unit v w name status n (source.no_memory u e) = inr e
 
 -- ---- what the status tells of the file

@@ -94,6 +94,6 @@ same_lex_place text f g p q a b =
 -- ---- a source in the store
 
 pub text_refused : (v w : StoreView) (name text : List ℕ) (status : Status) → WasRead v w name source_limit text → RefusesText text status → LacksSource v w name status
-text_refused v w name text status read (has_lex_fault fault pos f e) = lex_fault fault pos read.untouched (λ told. record { content = text; holds = read.holds told; has = f }) e
-text_refused v w name text status read (has_syntax_fault fault place f e) = syntax_fault fault place read.untouched (λ told. record { content = text; holds = read.holds told; has = f }) e
+text_refused v w name text status read (has_lex_fault fault pos f e) = lex_fault fault pos read.untouched (record { content = text; read_as = read.read_as; has = f }) e
+text_refused v w name text status read (has_syntax_fault fault place f e) = syntax_fault fault place read.untouched (record { content = text; read_as = read.read_as; has = f }) e
 text_refused v w name text status read (lacks_memory e) = no_memory read.untouched e

@@ -2,7 +2,7 @@
 use Rattle.std.specs.Prelude.{◌≡◌, ◌≢◌, ℕ, ℤ, List, length, Some, None, Result, Ok, Err, Vec}
 use Rattle.std.specs.declared.alloc.Global.{Global}
 use Rattle.qs_image.specs.Image.{Image}
-use Rattle.qs_machine.specs.Arguments.{first_misfit, words_of}
+use Rattle.qs_machine.specs.Arguments.{AreArguments, first_misfit, words_of}
 use Rattle.qs_driver.specs.declared.status.Status.{Status}
 use Rattle.qs_driver.specs.declared.status.Status.TheVariants.{Words, NoMemory}
 use Rattle.qs_driver.specs.declared.status.WordsFault.TheVariants.{ArgCount, ArgRange}
@@ -17,8 +17,7 @@ pub data LacksWords (image : Image) (args : List ℤ) (status : Status) : Type 0
 
 -- the words of arguments that fit
 pub record AreWords (image : Image) (args : List ℤ) (words : List ℕ) : Type 0 where
-  pub count : length args ≡ image.parameters
-  pub fit : first_misfit image 0 args ≡ None
+  pub arguments : AreArguments image args
   pub words_are : words ≡ words_of args
 
 -- the answer of `argument_words`

@@ -28,9 +28,9 @@ abbrev pub views : {S O L : Type 0} → (S → StoreView) → (O → SinkView) �
 views store_view out_view log_view d = views_of (store_view d.store.now) (out_view d.out.now) (log_view d.log.now)
 
 -- what a command leaves behind the three references that it was handed
-abbrev pub Left : Type 0 → Type 0 → Type 0 → Type 0
-Left S O L = MutBor S × (MutBor O × (MutBor L × Unit {0}))
+abbrev pub DevicesLeft : Type 0 → Type 0 → Type 0 → Type 0
+DevicesLeft S O L = MutBor S × (MutBor O × (MutBor L × Unit {0}))
 
 -- the devices as a command leaves them
-abbrev pub views_left : {S O L : Type 0} → (S → StoreView) → (O → SinkView) → (L → SinkView) → Left S O L → DevicesView
+abbrev pub views_left : {S O L : Type 0} → (S → StoreView) → (O → SinkView) → (L → SinkView) → DevicesLeft S O L → DevicesView
 views_left store_view out_view log_view d = views_of (store_view d.0.now) (out_view d.1.0.now) (log_view d.1.1.0.now)

@@ -1,7 +1,5 @@
--- The lines that tell faults.
-use Rattle.std.specs.Prelude.{ℕ, List, [], ◌++◌, codes, decimal}
-use Rattle.std.specs.Int.{w32, to_be_bytes}
-use Rattle.hex.specs.Hex.{encode_lower}
+-- The line that tells a status.
+use Rattle.std.specs.Prelude.{ℕ, List, [], ◌∷◌, codes}
 use Rattle.qs_base.specs.declared.places.Pos.{Pos}
 use Rattle.qs_lexer.specs.declared.fault.LexFault.{LexFault}
 use Rattle.qs_lexer.specs.declared.fault.LexFault.TheVariants as lexical
@@ -11,8 +9,11 @@ use Rattle.qs_image.specs.declared.fault.ImageFault.{ImageFault}
 use Rattle.qs_image.specs.declared.fault.ImageFault.TheVariants as fault
 use Rattle.qs_machine.specs.declared.answers.Cause.{Cause}
 use Rattle.qs_machine.specs.declared.answers.Cause.TheVariants as cause
+use Rattle.qs_report.specs.Lines.{line}
+use Rattle.qs_report.specs.Lines as lines
+use Rattle.qs_report.specs.declared.fault_texts.FaultText.{FaultText}
+use Rattle.qs_report.specs.declared.fault_texts.FaultText.TheVariants as texts
 use Rattle.qs_driver.specs.Names.{Names, file_name}
-use Rattle.qs_driver.specs.Lines.{line}
 use Rattle.qs_driver.specs.declared.status.Status.{Status}
 use Rattle.qs_driver.specs.declared.status.Status.TheVariants.{Done, Source, Words, Missing, StoreFailed, Image, Trapped, StepLimit, StackTooLarge, SinkFailed, NoMemory}
 use Rattle.qs_driver.specs.declared.status.SourceFault.TheVariants.{TooLong, Lex, Syntax, NotFirstForm}
@@ -21,73 +22,73 @@ use Rattle.qs_driver.specs.declared.status.TokenPlace.TheVariants.{At, End}
 use Rattle.qs_driver.specs.declared.status.WordsFault.TheVariants.{Usage, SameName, ArgCount, ArgRange}
 
 -- what is wrong with an image
-abbrev pub image_text : ImageFault → List ℕ
-image_text fault.Short = codes "short"
-image_text fault.Magic = codes "magic"
-image_text (fault.Count word) = codes "count " ++ decimal word
-image_text fault.Trailing = codes "trailing"
-image_text fault.Entry = codes "entry"
-image_text (fault.Cost i) = codes "cost " ++ decimal i
-image_text fault.Names = codes "names"
+abbrev pub image_text : ImageFault → FaultText
+image_text fault.Short = texts.Image 1 0
+image_text fault.Magic = texts.Image 2 0
+image_text (fault.Count word) = texts.Image 3 word
+image_text fault.Trailing = texts.Image 4 0
+image_text fault.Entry = texts.Image 5 0
+image_text (fault.Cost i) = texts.Image 6 i
+image_text fault.Names = texts.Image 7 0
 
--- the cause of a trap
-abbrev pub cause_text : Cause → List ℕ
-cause_text cause.Overflow = codes "overflow"
-cause_text cause.IllegalInstruction = codes "illegal"
-cause_text cause.FetchOutside = codes "fetch"
-cause_text cause.JumpMisaligned = codes "jump"
-cause_text cause.LoadMisaligned = codes "load misaligned"
-cause_text cause.LoadOutside = codes "load"
-cause_text cause.StoreMisaligned = codes "store misaligned"
-cause_text cause.StoreOutside = codes "store"
-cause_text cause.UnknownCall = codes "call"
-cause_text cause.Breakpoint = codes "break"
+-- the cause of a trap at this pc
+abbrev pub trap_text : Cause → ℕ → FaultText
+trap_text cause.Overflow pc = texts.Trapped 1 pc
+trap_text cause.IllegalInstruction pc = texts.Trapped 2 pc
+trap_text cause.FetchOutside pc = texts.Trapped 3 pc
+trap_text cause.JumpMisaligned pc = texts.Trapped 4 pc
+trap_text cause.LoadMisaligned pc = texts.Trapped 5 pc
+trap_text cause.LoadOutside pc = texts.Trapped 6 pc
+trap_text cause.StoreMisaligned pc = texts.Trapped 7 pc
+trap_text cause.StoreOutside pc = texts.Trapped 8 pc
+trap_text cause.UnknownCall pc = texts.Trapped 9 pc
+trap_text cause.Breakpoint pc = texts.Trapped 10 pc
 
 -- what is wrong with the bytes of a source
-abbrev pub lex_text : LexFault → List ℕ
-lex_text lexical.NoMemory = codes "out of memory"
-lex_text (lexical.BadByte at) = codes "bad byte"
-lex_text (lexical.OpenComment at) = codes "open comment"
-lex_text (lexical.BadLiteral at) = codes "bad literal"
-lex_text (lexical.WideLiteral at) = codes "wide literal"
-lex_text (lexical.Directive at) = codes "directive"
-lex_text (lexical.OpenText at) = codes "open text"
+abbrev pub lex_text : LexFault → Pos → FaultText
+lex_text lexical.NoMemory pos = texts.NoMemory
+lex_text (lexical.BadByte at) pos = texts.Lex pos 1
+lex_text (lexical.OpenComment at) pos = texts.Lex pos 2
+lex_text (lexical.BadLiteral at) pos = texts.Lex pos 3
+lex_text (lexical.WideLiteral at) pos = texts.Lex pos 4
+lex_text (lexical.Directive at) pos = texts.Lex pos 5
+lex_text (lexical.OpenText at) pos = texts.Lex pos 6
 
 -- what can't stand there: a token, or the end
-abbrev pub unexpected_text : TokenPlace → List ℕ
-unexpected_text (At pos) = codes "unexpected token"
-unexpected_text (End pos) = codes "unexpected end"
-
--- what is wrong with the tokens of a source
-abbrev pub syntax_text : SyntaxFault → TokenPlace → List ℕ
-syntax_text syntax.NoMemory place = codes "out of memory"
-syntax_text (syntax.Unexpected number) place = unexpected_text place
-syntax_text (syntax.TooDeep number) place = codes "too deep"
+abbrev pub unexpected_text : TokenPlace → FaultText
+unexpected_text (At pos) = texts.UnexpectedToken pos
+unexpected_text (End pos) = texts.UnexpectedEnd pos
 
 abbrev pub pos_of : TokenPlace → Pos
 pos_of (At pos) = pos
 pos_of (End pos) = pos
 
--- `NAME:L:C: TEXT`
-abbrev pub place_line : List ℕ → Pos → List ℕ → List ℕ
-place_line name pos text = name ++ (codes ":" ++ (decimal pos.line ++ (codes ":" ++ (decimal pos.column ++ line (codes ": ") text))))
+-- what is wrong with the tokens of a source
+abbrev pub syntax_text : SyntaxFault → TokenPlace → FaultText
+syntax_text syntax.NoMemory place = texts.NoMemory
+syntax_text (syntax.Unexpected number) place = unexpected_text place
+syntax_text (syntax.TooDeep number) place = texts.TooDeep (pos_of place)
+
+-- the line of a fault that names this file, or none
+abbrev pub named_line : List ℕ → FaultText → List ℕ
+named_line file text = lines.fault_line file [] text
 
 -- the one line that tells a fault
 abbrev pub fault_line : Names → Status → List ℕ
 fault_line names Done = []
-fault_line names (Source (TooLong kind)) = line (codes "too long: ") (file_name names kind)
-fault_line names (Source (Lex fault pos)) = place_line names.source pos (lex_text fault)
-fault_line names (Source (Syntax fault place)) = place_line names.source (pos_of place) (syntax_text fault place)
-fault_line names (Source NotFirstForm) = line names.source (codes ": not in the first form")
-fault_line names (Words Usage) = line (codes "usage: qsc COMMAND FILE OPTIONS") []
-fault_line names (Words SameName) = line (codes "same name: ") names.output
-fault_line names (Words (ArgCount expected given)) = codes "arguments: expected " ++ (decimal expected ++ line (codes " given ") (decimal given))
-fault_line names (Words (ArgRange i)) = codes "argument " ++ line (decimal i) (codes " out of range")
-fault_line names (Missing kind) = line (codes "missing: ") (file_name names kind)
-fault_line names (StoreFailed kind) = line (codes "failed: ") (file_name names kind)
-fault_line names (Image f) = names.image ++ line (codes ": image ") (image_text f)
-fault_line names (Trapped c pc) = codes "trap " ++ (cause_text c ++ line (codes " at 0x") (encode_lower (to_be_bytes w32 pc)))
-fault_line names (StepLimit steps) = line (codes "step limit ") (decimal steps)
-fault_line names (StackTooLarge size) = line (codes "stack too large: ") (decimal size)
+fault_line names (Source (TooLong kind)) = named_line (file_name names kind) texts.TooLong
+fault_line names (Source (Lex fault pos)) = named_line names.source (lex_text fault pos)
+fault_line names (Source (Syntax fault place)) = named_line names.source (syntax_text fault place)
+fault_line names (Source NotFirstForm) = line (names.source ∷ codes ": not in the first form" ∷ [])
+fault_line names (Words Usage) = named_line [] texts.Usage
+fault_line names (Words SameName) = named_line names.output texts.SameName
+fault_line names (Words (ArgCount expected given)) = named_line [] (texts.ArgCount expected given)
+fault_line names (Words (ArgRange i)) = named_line [] (texts.ArgRange i)
+fault_line names (Missing kind) = named_line (file_name names kind) texts.Missing
+fault_line names (StoreFailed kind) = named_line (file_name names kind) texts.Failed
+fault_line names (Image f) = named_line names.image (image_text f)
+fault_line names (Trapped c pc) = named_line [] (trap_text c pc)
+fault_line names (StepLimit steps) = named_line [] (texts.StepLimit steps)
+fault_line names (StackTooLarge size) = named_line [] (texts.StackTooLarge size)
 fault_line names SinkFailed = []
-fault_line names NoMemory = line (codes "out of memory") []
+fault_line names NoMemory = named_line [] texts.NoMemory

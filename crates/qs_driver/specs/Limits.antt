@@ -1,5 +1,5 @@
 -- The limits of what the tool takes.
-use Rattle.std.specs.Prelude.{ℕ, ◌^◌}
+use Rattle.std.specs.Prelude.{ℕ}
 
 -- the longest source, in bytes
 abbrev pub source_limit : ℕ
@@ -12,7 +12,3 @@ image_limit = 33554432
 -- the longest input of a run, in bytes
 abbrev pub input_limit : ℕ
 input_limit = 1048576
-
--- the largest stack of a run, in bytes
-abbrev pub stack_limit : ℕ
-stack_limit = 2 ^ 28

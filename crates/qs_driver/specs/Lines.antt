@@ -1,18 +1,12 @@
--- Lines of text.
-use Rattle.std.specs.Prelude.{ℕ, List, [], ◌∷◌, ◌++◌, codes, decimal, flat_map}
+-- The lines of costs.
+use Rattle.std.specs.Prelude.{ℕ, List, flat_map}
 use Rattle.qs_image.specs.Image.{FunctionRecord}
+use Rattle.qs_report.specs.Lines.{cost_line}
 
--- a line in two parts, ended by a line feed
-abbrev pub line : List ℕ → List ℕ → List ℕ
-line head tail = head ++ (tail ++ 10 ∷ [])
+-- the line of a function's cost in bytes of stack
+abbrev pub record_line : FunctionRecord → List ℕ
+record_line f = cost_line f.name f.cost
 
--- `cost NAME N` for each function in order; N is in bytes
-abbrev pub cost_line : FunctionRecord → List ℕ
-cost_line f = codes "cost " ++ (f.name ++ line (codes " ") (decimal f.cost))
-
+-- one for each function in order
 abbrev pub cost_lines : List FunctionRecord → List ℕ
-cost_lines functions = flat_map cost_line functions
-
--- `exit S`
-abbrev pub exit_line : ℕ → List ℕ
-exit_line status = line (codes "exit ") (decimal status)
+cost_lines functions = flat_map record_line functions

@@ -26,9 +26,9 @@ pub record NoneFailed (before after : DevicesView) : Type 0 where
   pub out : Rose before.out.faults after.out.faults → ⊥
   pub log : Rose before.log.faults after.log.faults → ⊥
 
--- the status says that the store failed, or that something worse did
+-- the status says that the store failed, or that a stream failed at the line that says so
 abbrev pub SaysStoreFailed : Status → Type 0
-SaysStoreFailed result = ((kind : FileKind) × (result ≡ StoreFailed kind)) ⊎ ((result ≡ SinkFailed) ⊎ (result ≡ NoMemory))
+SaysStoreFailed result = ((kind : FileKind) × (result ≡ StoreFailed kind)) ⊎ (result ≡ SinkFailed)
 
 -- Where a device failed the status says so. (A count that stands at its last value can't be seen to rise.)
 pub record ShowsFailures (before after : DevicesView) (result : Status) : Type 0 where

@@ -16,7 +16,7 @@ use Rattle.qs_parser.specs.declared.syntax_fault.SyntaxFault.{SyntaxFault}
 use Rattle.qs_parser.specs.declared.syntax_fault.SyntaxFault.TheVariants as syntax_faults
 use Rattle.qs_ports.specs.StoreView.{StoreView}
 use Rattle.qs_driver.specs.Limits.{source_limit}
-use Rattle.qs_driver.specs.Files.{IsUntouched, HoldsWith, IsTooLong, WasRead, CannotRead}
+use Rattle.qs_driver.specs.Files.{IsUntouched, HoldsWith, IsTooLong, WasRead, WasReadWith, CannotRead}
 use Rattle.qs_driver.specs.declared.status.Status.{Status}
 use Rattle.qs_driver.specs.declared.status.Status.TheVariants.{Source, Missing, NoMemory}
 use Rattle.qs_driver.specs.declared.status.SourceFault.TheVariants.{TooLong, Lex, Syntax}
@@ -114,6 +114,10 @@ ChecksText text (Err status) = RefusesText text status
 abbrev pub HoldsText : Option (List ℕ) → (List ℕ → Type 0) → Type 0
 HoldsText file Property = HoldsWith file source_limit Property
 
+-- a text that has this property was read as the source's
+abbrev pub ReadsText : StoreView → List ℕ → (List ℕ → Type 0) → Type 0
+ReadsText before name Property = WasReadWith before name source_limit Property
+
 -- the source was read, it is a unit, and no file changed
 pub record HasSource (before after : StoreView) (name text : List ℕ) : Type 0 where
   pub read : WasRead before after name source_limit text
@@ -123,10 +127,10 @@ pub record HasSource (before after : StoreView) (name text : List ℕ) : Type 0 
 pub data LacksSource (before after : StoreView) (name : List ℕ) (status : Status) : Type 0 where
   unread : CannotRead before after name kinds.Source source_limit status → LacksSource before after name status
   lex_fault : (fault : LexFault) (pos : Pos) → IsUntouched before after
-      → (IsTrue before.told → HoldsText (before.files name) (λ text. HasLexFault text fault pos))
+      → ReadsText before name (λ text. HasLexFault text fault pos)
       → status ≡ Source (Lex fault pos) → LacksSource before after name status
   syntax_fault : (fault : SyntaxFault) (place : TokenPlace) → IsUntouched before after
-      → (IsTrue before.told → HoldsText (before.files name) (λ text. HasSyntaxFault text fault place))
+      → ReadsText before name (λ text. HasSyntaxFault text fault place)
       → status ≡ Source (Syntax fault place) → LacksSource before after name status
   no_memory : IsUntouched before after → status ≡ NoMemory → LacksSource before after name status
 

@@ -1,13 +1,13 @@
 -- What `build` came to.
 use Rattle.std.proofs.Common.{◌≢◌, ℕ, List, Result, Ok, Err, ◌∙◌, refl, inl, inr, arith}
-use Rattle.qs_ports.specs.StoreView.{StoreView, Keeps, HasSameCounts, HasFailed, Holds as HoldsBytes}
+use Rattle.qs_ports.specs.StoreView.{StoreView, Keeps, HasSameCounts, HasFailed, Holds}
 use Rattle.qs_ports.specs.SinkView.{SinkView}
 use Rattle.qs_ports.specs.Whole.{Stores, IsCutShort}
 use Rattle.qs_ports.proofs.Wholes.{keeps_more, counts_more, failed_later}
 use Rattle.qs_image.specs.Image.{Image, IsImage}
 use Rattle.qs_compile.specs.FirstForm.{Program, IsFirstForm, runs_of}
 use Rattle.qs_compile.specs.Agree.{AgreesFrom}
-use Rattle.qs_compile.specs.Built.{IsBuiltFromMain, LowersStackFirst, main_bound}
+use Rattle.qs_compile.specs.Built.{HasMainAlone, LowersStackFirst, main_bound}
 use Rattle.qs_driver.specs.Lines.{cost_lines}
 use Rattle.qs_driver.specs.Faults.{fault_line}
 use Rattle.qs_driver.specs.Devices.{streams, views_of}
@@ -31,7 +31,7 @@ no_source b v w status differ l = meant.refused differ status (meant.no_source l
 pub no_program : (b : BuildWords) (v w : StoreView) (text : List ℕ) (status : Status) → b.source ≢ b.out → HasSource v w b.source text → LacksProgram text status → Builds b v w (Err status)
 no_program b v w text status differ s (meant.no_program none e) = meant.refused differ status (meant.other_form (record {
   untouched = s.read.untouched;
-  text = λ told. record { content = text; holds = s.read.holds told; has = record { unit = s.unit; no_form = none } };
+  text = record { content = text; read_as = s.read.read_as; has = record { unit = s.unit; no_form = none } };
 }) e) refl
 no_program b v w text status differ s (meant.lacks_memory e) = meant.refused differ status (meant.no_memory s.read.untouched e) refl
 
@@ -40,7 +40,7 @@ pub out_of_memory : (b : BuildWords) (v w : StoreView) (text : List ℕ) → b.s
 out_of_memory b v w text differ s = meant.refused differ NoMemory (meant.no_memory s.read.untouched refl) refl
 
 -- a store that kept its files, and then made one
-keeps_then_holds : {v u w : StoreView} {name bytes : List ℕ} {m : ℕ} → Keeps v u → HoldsBytes u w name bytes m → HoldsBytes v w name bytes m
+keeps_then_holds : {v u w : StoreView} {name bytes : List ℕ} {m : ℕ} → Keeps v u → Holds u w name bytes m → Holds v w name bytes m
 keeps_then_holds {v} {u} {w} {name} {bytes} {m} k h = record {
   was_told = λ t. k.was_told (h.was_told t);
   file = h.file;
@@ -52,11 +52,11 @@ keeps_then_holds {v} {u} {w} {name} {bytes} {m} k h = record {
 }
 
 -- the image that was made of the program, and its bytes
-pub image_of : {p : Program} {image : Image} {bytes : List ℕ} → IsBuiltFromMain image → LowersStackFirst image → AgreesFrom main_bound (runs_of p) image → IsImage bytes image → IsImageOf p image bytes
-image_of b l a i = record { is_image = i; built_from = b; lowers = l; agrees = a }
+pub image_of : {p : Program} {image : Image} {bytes : List ℕ} → HasMainAlone image → LowersStackFirst image → AgreesFrom (main_bound image) (runs_of p) image → IsImage bytes image → IsImageOf p image bytes
+image_of b l a i = record { is_image = i; main_alone = b; lowers = l; agrees = a }
 
 has_image : (b : BuildWords) {v u : StoreView} {text bytes : List ℕ} {p : Program} {image : Image} → HasSource v u b.source text → IsFirstForm text p → IsImageOf p image bytes → HasImage b v p image bytes
-has_image b {text = text} s form of = record { text = λ told. record { content = text; holds = s.read.holds told; has = form }; image_of = of }
+has_image b {text = text} s form of = record { text = record { content = text; read_as = s.read.read_as; has = form }; image_of = of }
 
 pub was_built : (b : BuildWords) {v u w : StoreView} {text bytes : List ℕ} {p : Program} {image : Image} → b.source ≢ b.out → HasSource v u b.source text → IsFirstForm text p → IsImageOf p image bytes → Stores u w b.out bytes × HasSameCounts u w → Builds b v w (Ok image)
 was_built b {bytes = bytes} {p = p} {image = image} differ s form of (stores, counts) = meant.built differ (record {
@@ -64,7 +64,7 @@ was_built b {bytes = bytes} {p = p} {image = image} differ s form of (stores, co
   image = image;
   bytes = bytes;
   has_image = has_image b s form of;
-  stores = keeps_then_holds s.read.untouched.keeps stores;
+  stores = keeps_then_holds s.read.untouched.only_reads.keeps stores;
   counts = counts_more s.read.untouched.counts counts;
   is_due = refl;
 })
@@ -79,7 +79,7 @@ not_written b {bytes = bytes} {p = p} {image = image} differ s form of (failed, 
   image = image;
   bytes = bytes;
   has_image = has_image b s form of;
-  part = cut_short s.read.untouched.keeps cut;
+  part = cut_short s.read.untouched.only_reads.keeps cut;
   failed = failed_later s.read.untouched.counts failed;
 }) refl) refl
 

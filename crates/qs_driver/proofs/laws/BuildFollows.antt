@@ -15,6 +15,7 @@ use Rattle.qs_driver.specs.declared.status.SourceFault.TheVariants.{NotFirstForm
 use Rattle.qs_driver.specs.declared.status.WordsFault.TheVariants.{SameName}
 use Rattle.qs_driver.specs.declared.status.FileKind.TheVariants as kinds
 use Rattle.qs_driver.proofs.FormUnits.{first_form_is_unit}
+use Rattle.qs_driver.proofs.FilesLaws.{held_with}
 use Rattle.qs_driver.proofs.SourceFollows.{IsNoRefusal, SourceEnds, good, source_ends, source_own, source_no_unit, refuses_source, not_two}
 use Rattle.qs_driver.proofs.laws.Follows.{Follows, not_risen, not_untouched, source_shows}
 
@@ -26,7 +27,7 @@ data BuildEnds (b : BuildWords) (v w : StoreView) (status : Status) : Type 0 whe
   cannot : b.source ≢ b.out → CannotBuild b v w status → BuildEnds b v w status
 
 build_ends : (b : BuildWords) (v w : StoreView) (due : Due) → IsDueToBuild b v w due → BuildEnds b v w due.status
-build_ends b v w due (meant.built differ h) = built differ h.program h.has_image.text (ap (λ d. d.status) h.is_due)
+build_ends b v w due (meant.built differ h) = built differ h.program (held_with h.has_image.text) (ap (λ d. d.status) h.is_due)
 build_ends b v w due (meant.named_twice e u d) = same e (ap (λ x. x.status) d)
 build_ends b v w due (meant.refused differ status c d) = let P : Status → Type 0 = λ s. CannotBuild b v w s in cannot differ (subst P (sym (ap (λ x. x.status) d)) c)
 
@@ -47,7 +48,7 @@ no_program b v w status n (meant.no_source l) = elim (source_no_unit v w b.sourc
   | inl never ↦ inl (λ g. never g.told (as_unit b v g.program g.text))
   | inr e ↦ inr e
 ]
-no_program b v w status n (meant.other_form o e) = inl (λ g. not_other b v g.program (o.text g.told) g.text)
+no_program b v w status n (meant.other_form o e) = inl (λ g. not_other b v g.program (held_with o.text g.told) g.text)
 no_program b v w status n (meant.unwritable c e) = absurd (n c.failed.rose)
 no_program b v w status n (meant.no_memory u e) = inr e
 
@@ -61,19 +62,19 @@ accepts b v w status n (cannot differ c) = elim (no_program b v w status n c) [
 
 -- ---- what is refused
 
-cannot_own : (b : BuildWords) (v w : StoreView) (status : Status) → StoreHeld v w → CannotBuild b v w status → IsOfBuild status
-cannot_own b v w status n (meant.no_source l) = elim (source_own v w b.source status n l) [
+cannot_own : (b : BuildWords) (v w : StoreView) (status : Status) → StoreHeld v w → status ≢ NoMemory → CannotBuild b v w status → IsOfBuild status
+cannot_own b v w status n m (meant.no_source l) = elim (source_own v w b.source status n l) [
   | inl own ↦ meant.of_source own
-  | inr e ↦ subst IsOfBuild (sym e) meant.out_of_memory
+  | inr e ↦ absurd (m e)
 ]
-cannot_own b v w status n (meant.other_form o e) = subst IsOfBuild (sym e) meant.no_first_form
-cannot_own b v w status n (meant.unwritable c e) = absurd (n c.failed.rose)
-cannot_own b v w status n (meant.no_memory u e) = subst IsOfBuild (sym e) meant.out_of_memory
+cannot_own b v w status n m (meant.other_form o e) = subst IsOfBuild (sym e) meant.no_first_form
+cannot_own b v w status n m (meant.unwritable c e) = absurd (n c.failed.rose)
+cannot_own b v w status n m (meant.no_memory u e) = absurd (m e)
 
-own : (b : BuildWords) (v w : StoreView) (status : Status) → StoreHeld v w → BuildEnds b v w status → IsOfBuild status
-own b v w status n (built differ p t e) = subst IsOfBuild (sym e) meant.done
-own b v w status n (same s e) = subst IsOfBuild (sym e) meant.one_name
-own b v w status n (cannot differ c) = cannot_own b v w status n c
+own : (b : BuildWords) (v w : StoreView) (status : Status) → StoreHeld v w → status ≢ NoMemory → BuildEnds b v w status → IsOfBuild status
+own b v w status n m (built differ p t e) = subst IsOfBuild (sym e) meant.done
+own b v w status n m (same s e) = subst IsOfBuild (sym e) meant.one_name
+own b v w status n m (cannot differ c) = cannot_own b v w status n m c
 
 no_words_fault : {status : Status} → IsOfSource status → status ≡ Words SameName → ⊥
 no_words_fault missing_source e = cc
@@ -118,7 +119,7 @@ cannot_source b v w status n m told (meant.no_source l) = elim (source_ends v w 
   | inl x ↦ x
   | inr e ↦ absurd (m e)
 ]
-cannot_source b v w status n m told (meant.other_form o e) = good (other_as_unit b v (o.text told)) (form_is_none status e)
+cannot_source b v w status n m told (meant.other_form o e) = good (other_as_unit b v (held_with o.text told)) (form_is_none status e)
 cannot_source b v w status n m told (meant.unwritable c e) = absurd (n c.failed.rose)
 cannot_source b v w status n m told (meant.no_memory u e) = absurd (m e)
 
@@ -132,7 +133,7 @@ cannot_tells_form b v w status n told (meant.no_source l) f = elim (source_own v
   | inl own ↦ absurd (no_form_fault own f)
   | inr e ↦ absurd cc
 ]
-cannot_tells_form b v w status n told (meant.other_form o e) f = o.text told
+cannot_tells_form b v w status n told (meant.other_form o e) f = held_with o.text told
 cannot_tells_form b v w status n told (meant.unwritable c e) f = absurd (n c.failed.rose)
 cannot_tells_form b v w status n told (meant.no_memory u e) f = absurd cc
 
@@ -157,7 +158,7 @@ leads_form b v w status n m told d (cannot differ c) o = cannot_leads_form b v w
 
 refuses : (b : BuildWords) (v w : StoreView) (status : Status) → StoreHeld v w → status ≢ NoMemory → BuildEnds b v w status → Refuses b v status
 refuses b v w status n m x = record {
-  own = own b v w status n x;
+  own = own b v w status n m x;
   same_name = (tells_same b v w status n x, leads_same b v w status x);
   source = λ told d. refuses_source (v.files b.source) status (ends_of_source b v w status n m told d x);
   not_first_form = λ told d. (tells_form b v w status n told x, leads_form b v w status n m told d x);

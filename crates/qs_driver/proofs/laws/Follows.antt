@@ -23,7 +23,7 @@ not_risen a b e h = omega arith
 
 pub untouched : (v : StoreView) → IsUntouched v v
 untouched v = record {
-  keeps = record { was_told = λ t. t; files = λ t n. refl; tells = λ t h. (t, omega arith) };
+  only_reads = record { keeps = record { was_told = λ t. t; files = λ t n. refl; tells = λ t h. (t, omega arith) }; writing = refl };
   counts = record { faults = refl; misses = refl };
 }
 
@@ -35,11 +35,11 @@ pub unread_shows : (v w : StoreView) (name : List ℕ) (kind : FileKind) (limit 
 unread_shows v w name kind limit status (files.missing m e) r = absurd (not_risen _ _ m.missed.faults r)
 unread_shows v w name kind limit status (files.unreadable f e) r = inl (kind, e)
 unread_shows v w name kind limit status (files.too_long l e) r = absurd (not_untouched v w l.untouched r)
-unread_shows v w name kind limit status (files.no_memory u e) r = inr (inr e)
+unread_shows v w name kind limit status (files.no_memory u e) r = absurd (not_untouched v w u r)
 
 -- a failure while a source was read
 pub source_shows : (v w : StoreView) (name : List ℕ) (status : Status) → LacksSource v w name status → v.faults < w.faults → SaysStoreFailed status
 source_shows v w name status (source.unread u) r = unread_shows v w name _ _ status u r
 source_shows v w name status (source.lex_fault fault pos u f e) r = absurd (not_untouched v w u r)
 source_shows v w name status (source.syntax_fault fault place u f e) r = absurd (not_untouched v w u r)
-source_shows v w name status (source.no_memory u e) r = inr (inr e)
+source_shows v w name status (source.no_memory u e) r = absurd (not_untouched v w u r)

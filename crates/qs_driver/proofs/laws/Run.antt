@@ -2,19 +2,20 @@
 use Rattle.std.proofs.Common.{◌≡◌, ℕ, ◌≤◌, List, length, Option, Some, None, Result, Ok, Err, refl, sym, ◌∙◌, subst, arith, IsTrue}
 use Rattle.qs_ports.specs.StoreView.{StoreView, HasSameCounts, HasMissed}
 use Rattle.qs_ports.specs.SinkView.{SinkView}
-use Rattle.qs_ports.proofs.Wholes.{keeps_more, counts_more, failed_later}
+use Rattle.qs_ports.specs.Whole.{IsContent}
+use Rattle.qs_ports.proofs.Wholes.{reads_more, counts_more, failed_later}
 use Rattle.qs_image.specs.Image.{Image, IsImage}
-use Rattle.qs_machine.specs.Run.{Outcome, Exited, Trapped as HasTrapped, Going, machine}
-use Rattle.qs_machine.specs.Running.{Shows, output_of}
+use Rattle.qs_machine.specs.Run.{Outcome, Exited, Trapped as HasTrapped, Going, machine, output_so_far}
+use Rattle.qs_machine.specs.Running.{Shows}
 use Rattle.qs_machine.specs.declared.machine.Machine.{Machine}
 use Rattle.qs_machine.specs.declared.answers.RunEnd.{RunEnd}
 use Rattle.qs_machine.specs.declared.answers.RunEnd.TheVariants as end
 use Rattle.qs_driver.specs.Limits.{image_limit, input_limit}
-use Rattle.qs_driver.specs.Lines.{exit_line}
+use Rattle.qs_report.specs.Lines.{end_line}
 use Rattle.qs_driver.specs.Faults.{fault_line}
 use Rattle.qs_driver.specs.Devices.{views_of}
 use Rattle.qs_driver.specs.Due.{Due, refusal, EndsWith}
-use Rattle.qs_driver.specs.Files.{IsUntouched, Holds, IsTooLong, WasRead, CannotRead}
+use Rattle.qs_driver.specs.Files.{IsUntouched, WasReadAs, WasRead, CannotRead}
 use Rattle.qs_driver.specs.Files as files
 use Rattle.qs_machine.specs.Arguments.{words_of}
 use Rattle.qs_driver.specs.Arguments.{LacksWords}
@@ -32,7 +33,7 @@ use Rattle.qs_driver.proofs.StepsLaws.{log_last, then_log, out_fails}
 -- ---- the image
 
 read_image : (r : RunWords) {v w : StoreView} {bytes : List ℕ} {image : Image} → WasRead v w r.image image_limit bytes → IsImage bytes image → ReadImage v r image
-read_image r {bytes = bytes} read i told = record { content = bytes; holds = read.holds told; has = i }
+read_image r {bytes = bytes} read i = record { content = bytes; read_as = read.read_as; has = i }
 
 no_words : (r : RunWords) {v w : StoreView} {bytes : List ℕ} {image : Image} {status : Status} → WasRead v w r.image image_limit bytes → IsImage bytes image → LacksWords image r.args status → CannotRun r v w status
 no_words r {image = image} read i (arguments.count_differs ne e) = meant.count_differs image.parameters read.untouched (record {
@@ -51,13 +52,12 @@ no_words r read i (arguments.no_memory e) = meant.no_memory read.untouched e
 
 -- the image was read, and wasn't loaded
 pub not_loaded : (r : RunWords) (v w : StoreView) (bytes : List ℕ) (status : Status) → WasRead v w r.image image_limit bytes → CannotLoad bytes r status → CannotRun r v w status
-not_loaded r v w bytes status read (meant.bad_image fault f e) = meant.no_image fault read.untouched (λ told. record { content = bytes; holds = read.holds told; has = f }) e
+not_loaded r v w bytes status read (meant.bad_image fault f e) = meant.no_image fault read.untouched (record { content = bytes; read_as = read.read_as; has = f }) e
 not_loaded r v w bytes status read (meant.no_words image i f) = no_words r read i f
-not_loaded r v w bytes status read (meant.too_large image i count fit large e) = meant.stack_too_large read.untouched (record {
+not_loaded r v w bytes status read (meant.too_large image i are large e) = meant.stack_too_large read.untouched (record {
   image = image;
   image_read = read_image r read i;
-  count = count;
-  fit = fit;
+  arguments = are;
   large = large;
 }) e
 not_loaded r v w bytes status read (meant.lacks_memory e) = meant.no_memory read.untouched e
@@ -65,7 +65,7 @@ not_loaded r v w bytes status read (meant.lacks_memory e) = meant.no_memory read
 -- ---- the input, which is read after the image
 
 both_untouched : {u v w : StoreView} → IsUntouched u v → IsUntouched v w → IsUntouched u w
-both_untouched f g = record { keeps = keeps_more f.keeps g.keeps; counts = counts_more f.counts g.counts }
+both_untouched f g = record { only_reads = reads_more f.only_reads g.only_reads; counts = counts_more f.counts g.counts }
 
 missed_later : {u v w : StoreView} → HasSameCounts u v → HasMissed v w → HasMissed u w
 missed_later {u} {v} {w} c m = record {
@@ -76,19 +76,25 @@ missed_later {u} {v} {w} c m = record {
 
 -- what is said of a file behind a call that left the files alone was so before it
 file_before : {v w : StoreView} (name : List ℕ) (P : Option (List ℕ) → Type 0) → IsUntouched v w → (IsTrue w.told → P (w.files name)) → IsTrue v.told → P (v.files name)
-file_before name P u f told = let t = told_after u.keeps told in (let e = u.keeps.files t name in subst P e (f t))
+file_before name P u f told = let k = u.only_reads.keeps in let t = told_after k told in (let e = k.files t name in subst P e (f t))
+
+-- what was read behind a call that left the files alone
+input_before : {v w : StoreView} {name content : List ℕ} {limit : ℕ} → IsUntouched v w → WasReadAs w name limit content → WasReadAs v name limit content
+input_before {name = name} {content = content} u r = record { within = r.within; there = file_before name (λ file. file ≡ Some content) u r.there }
 
 -- the input wasn't read, behind a call that left the files alone
 unread_later : (u v w : StoreView) (name : List ℕ) (status : Status) → IsUntouched u v → CannotRead v w name kinds.Input input_limit status → CannotRead u w name kinds.Input input_limit status
 unread_later u v w name status f (files.missing m e) = files.missing (record {
-  keeps = keeps_more f.keeps m.keeps;
+  only_reads = reads_more f.only_reads m.only_reads;
   missed = missed_later f.counts m.missed;
   absent = file_before name (λ file. file ≡ None) f m.absent;
 }) e
-unread_later u v w name status f (files.unreadable x e) = files.unreadable (record { keeps = keeps_more f.keeps x.keeps; failed = failed_later f.counts x.failed }) e
+unread_later u v w name status f (files.unreadable x e) = files.unreadable (record { only_reads = reads_more f.only_reads x.only_reads; failed = failed_later f.counts x.failed }) e
 unread_later u v w name status f (files.too_long l e) = files.too_long (record {
   untouched = both_untouched f l.untouched;
-  too_long = file_before name (λ file. IsTooLong file input_limit) f l.too_long;
+  read = l.read;
+  more = l.more;
+  is_content = file_before name (λ file. IsContent file input_limit l.read) f l.is_content;
 }) e
 unread_later u v w name status f (files.no_memory x e) = files.no_memory (both_untouched f x) e
 
@@ -108,7 +114,7 @@ input_ready : (r : RunWords) (u v w : StoreView) (bytes : List ℕ) (ready : Rea
 input_ready r u v w bytes ready None e read l (empty, f) = let P : Option (List ℕ) → Type 0 = λ x. ReadInput u x ready.input.items in ready_with r u v w bytes ready read l (subst P (sym e) empty) (both_untouched read.untouched f)
 input_ready r u v w bytes ready (Some name) e read l h =
     let P : Option (List ℕ) → Type 0 = λ x. ReadInput u x ready.input.items in
-    ready_with r u v w bytes ready read l (subst P (sym e) (file_before name (λ file. Holds file input_limit ready.input.items) read.untouched h.holds)) (both_untouched read.untouched h.untouched)
+    ready_with r u v w bytes ready read l (subst P (sym e) (input_before read.untouched h.read_as)) (both_untouched read.untouched h.untouched)
 
 pub is_ready : (r : RunWords) (u v w : StoreView) (bytes : List ℕ) (ready : Ready) → WasRead u v r.image image_limit bytes → WasLoaded bytes r ready.machine → ReadsNamed v w r.input (Ok ready.input) → IsReady r u w ready
 is_ready r u v w bytes ready read l i = input_ready r u v w bytes ready r.input refl read l i
@@ -133,10 +139,10 @@ may_run taken input e = omega arith
 record IsDueWith (r : RunWords) (outcome : Outcome) : Type 0 where
   status : Status
   line : List ℕ
-  is_due : IsDueAt r outcome (after_output (output_of outcome) status line)
+  is_due : IsDueAt r outcome (after_output (output_so_far outcome) status line)
 
 due_at : (r : RunWords) (outcome : Outcome) → IsDueWith r outcome
-due_at r (Exited output status) = record { status = Done; line = exit_line status; is_due = refl }
+due_at r (Exited output status) = record { status = Done; line = end_line status; is_due = refl }
 due_at r (HasTrapped cause pc output) = record { status = Trapped cause pc; line = fault_line (names_of r) (Trapped cause pc); is_due = refl }
 due_at r (Going output) = record { status = StepLimit r.steps; line = fault_line (names_of r) (StepLimit r.steps); is_due = refl }
 
@@ -154,23 +160,23 @@ has_run {ready = ready} h d = meant.ran (record {
 pub run_answers : (r : RunWords) (s s' : StoreView) (o o' l l' : SinkView) (ready : Ready) (e : RunEnd) (result : Status) (h : IsReady r s s' ready) → Shows (machine h.image r.stack (words_of r.args) ready.input.items r.steps) o o' e → Finishes r e l l' result → Answers (run r) (views_of s o l) (views_of s' o' l') result
 run_answers r s s' o o' l l' ready (end.Exited status) result h (e, a) f =
     let outcome = machine h.image r.stack (words_of r.args) ready.input.items r.steps in
-    let due : Due = after_output (output_of outcome) Done (exit_line status) in
+    let due : Due = after_output (output_so_far outcome) Done (end_line status) in
     let P : Outcome → Type 0 = λ x. IsDueAt r x due in
     record { due = due; is_due = has_run h (subst P (sym e) refl); written = then_log _ _ _ o o' l l' result a f }
 run_answers r s s' o o' l l' ready (end.Trapped cause pc) result h (e, a) f =
     let outcome = machine h.image r.stack (words_of r.args) ready.input.items r.steps in
-    let due : Due = refused_after (output_of outcome) r (Trapped cause pc) in
+    let due : Due = refused_after (output_so_far outcome) r (Trapped cause pc) in
     let P : Outcome → Type 0 = λ x. IsDueAt r x due in
     record { due = due; is_due = has_run h (subst P (sym e) refl); written = then_log _ _ _ o o' l l' result a f }
 run_answers r s s' o o' l l' ready end.StepLimit result h (e, a) f =
     let outcome = machine h.image r.stack (words_of r.args) ready.input.items r.steps in
-    let due : Due = refused_after (output_of outcome) r (StepLimit r.steps) in
+    let due : Due = refused_after (output_so_far outcome) r (StepLimit r.steps) in
     let P : Outcome → Type 0 = λ x. IsDueAt r x due in
     record { due = due; is_due = has_run h (subst P (sym e) refl); written = then_log _ _ _ o o' l l' result a f }
 run_answers r s s' o o' l l' ready end.SinkFailed result h (k, c) (e, u) =
     let outcome = machine h.image r.stack (words_of r.args) ready.input.items r.steps in
     let d = due_at r outcome in
-    record { due = after_output (output_of outcome) d.status d.line; is_due = has_run h d.is_due; written = rw (e, u) (out_fails d.status (output_of outcome) d.line o o' l k c) }
+    record { due = after_output (output_so_far outcome) d.status d.line; is_due = has_run h d.is_due; written = rw (e, u) (out_fails d.status (output_so_far outcome) d.line o o' l k c) }
 
 -- ---- the refusal
 

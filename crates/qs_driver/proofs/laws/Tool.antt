@@ -63,7 +63,7 @@ refuses t v w result f a n m =
 
 store_shown : (v w : DevicesView) (due : Due) (result : Status) → SaysStoreFailed due.status → IsWritten due (streams_of v) (streams_of w) result → SaysStoreFailed result
 store_shown v w due result s (inl (e, h)) = subst SaysStoreFailed (sym e) s
-store_shown v w due result s (inr (e, h)) = inr (inl e)
+store_shown v w due result s (inr (e, h)) = inr e
 
 out_shown : (v w : DevicesView) (due : Due) (result : Status) → IsWritten due (streams_of v) (streams_of w) result → v.out.faults < w.out.faults → result ≡ SinkFailed
 out_shown v w due result (inl (e, h)) r = let same : HasSameFaults (streams_of v) (streams_of w) = all_same due.steps (streams_of v) (streams_of w) h in absurd (not_risen v.out.faults w.out.faults same.out r)

@@ -6,13 +6,13 @@ use Rattle.qs_image.specs.Image.{Image, IsImage}
 use Rattle.qs_compile.specs.FirstForm.{Program, IsFirstForm, program_of, runs_of}
 use Rattle.qs_compile.specs.declared.form.FirstForm.{FirstForm}
 use Rattle.qs_compile.specs.Agree.{AgreesFrom}
-use Rattle.qs_compile.specs.Built.{IsBuiltFromMain, LowersStackFirst, main_bound}
+use Rattle.qs_compile.specs.Built.{HasMainAlone, LowersStackFirst, main_bound}
 use Rattle.qs_driver.specs.Names.{Names, no_names}
 use Rattle.qs_driver.specs.Lines.{cost_lines}
 use Rattle.qs_driver.specs.Steps.{on_out}
 use Rattle.qs_driver.specs.Due.{Due, refusal, IsRefusal}
 use Rattle.qs_driver.specs.Files.{IsUntouched}
-use Rattle.qs_driver.specs.Source.{HoldsText, IsUnit, IsOfSource, LacksSource, RefusesSource}
+use Rattle.qs_driver.specs.Source.{HoldsText, ReadsText, IsUnit, IsOfSource, LacksSource, RefusesSource}
 use Rattle.qs_driver.specs.Task.{Task}
 use Rattle.qs_driver.specs.declared.commands.build.BuildOrder.{BuildOrder}
 use Rattle.qs_driver.specs.declared.status.Status.{Status}
@@ -52,13 +52,13 @@ pub record HasOtherForm (text : List ℕ) : Type 0 where
 -- the bytes are those of an image that was built from the program and does what the program does
 pub record IsImageOf (program : Program) (image : Image) (bytes : List ℕ) : Type 0 where
   pub is_image : IsImage bytes image
-  pub built_from : IsBuiltFromMain image
+  pub main_alone : HasMainAlone image
   pub lowers : LowersStackFirst image
-  pub agrees : AgreesFrom main_bound (runs_of program) image
+  pub agrees : AgreesFrom (main_bound image) (runs_of program) image
 
--- the source is this program, of which this image was made
+-- the text that was read as the source's is this program, of which this image was made
 pub record HasImage (b : BuildWords) (before : StoreView) (program : Program) (image : Image) (bytes : List ℕ) : Type 0 where
-  pub text : IsTrue before.told → HoldsProgram (before.files b.source) program
+  pub text : ReadsText before b.source (λ text. IsFirstForm text program)
   pub image_of : IsImageOf program image bytes
 
 -- the cost of each function
@@ -84,10 +84,10 @@ pub record CouldNotWrite (b : BuildWords) (before after : StoreView) : Type 0 wh
   pub part : IsCutShort before after b.out bytes
   pub failed : HasFailed before after
 
--- the source is there, and isn't of the first form
+-- the text that was read as the source's is a unit and no program of the first form; no file changed
 pub record HasOtherSource (b : BuildWords) (before after : StoreView) : Type 0 where
   pub untouched : IsUntouched before after
-  pub text : IsTrue before.told → HoldsText (before.files b.source) HasOtherForm
+  pub text : ReadsText before b.source HasOtherForm
 
 -- Why the image wasn't built, and the status at that.
 pub data CannotBuild (b : BuildWords) (before after : StoreView) (status : Status) : Type 0 where
@@ -119,13 +119,12 @@ pub record IsGood (b : BuildWords) (before : StoreView) : Type 0 where
 abbrev pub Accepts : BuildWords → StoreView → Status → Type 0
 Accepts b before status = IsGood b before → status ≡ Done
 
--- the statuses with which `build` ends where no call fails
+-- the statuses with which `build` ends where no call fails and memory is found
 pub data IsOfBuild : Status → Type 0 where
   done : IsOfBuild Done
   one_name : IsOfBuild (Words SameName)
   of_source : {status : Status} → IsOfSource status → IsOfBuild status
   no_first_form : IsOfBuild (Source NotFirstForm)
-  out_of_memory : IsOfBuild NoMemory
 
 -- Each refusal of `build` comes exactly where its cause is, and no refusal of another command comes.
 pub record Refuses (b : BuildWords) (before : StoreView) (status : Status) : Type 0 where

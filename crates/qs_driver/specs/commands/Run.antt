@@ -7,21 +7,22 @@ use Rattle.qs_image.specs.Image.{Image, IsImage}
 use Rattle.qs_image.specs.Bytes.{image_of}
 use Rattle.qs_image.specs.Faults.{first_fault}
 use Rattle.qs_image.specs.declared.fault.ImageFault.{ImageFault}
+use Rattle.qs_machine.specs.State.{stack_limit}
 use Rattle.qs_machine.specs.Run.{Outcome, Exited, Trapped as HasTrapped, Going, machine, start}
 use Rattle.qs_machine.specs.Standing.{Stands, taken_of}
 use Rattle.qs_machine.specs.declared.machine.Machine.{Machine}
 use Rattle.qs_machine.specs.declared.answers.Cause.{Cause}
 use Rattle.qs_machine.specs.declared.answers.RunEnd.{RunEnd}
 use Rattle.qs_machine.specs.declared.answers.RunEnd.TheVariants as end
-use Rattle.qs_driver.specs.Limits.{image_limit, input_limit, stack_limit}
+use Rattle.qs_driver.specs.Limits.{image_limit, input_limit}
 use Rattle.qs_driver.specs.Names.{Names, no_names}
-use Rattle.qs_driver.specs.Lines.{exit_line}
+use Rattle.qs_report.specs.Lines.{end_line}
 use Rattle.qs_driver.specs.Faults.{fault_line}
 use Rattle.qs_driver.specs.Devices.{Streams, views_of}
 use Rattle.qs_driver.specs.Steps.{on_out, on_log}
 use Rattle.qs_driver.specs.Due.{Due, IsRefusal, EndsWith}
-use Rattle.qs_driver.specs.Files.{IsUntouched, Holds, HoldsWith, CannotRead, ReadsFile}
-use Rattle.qs_machine.specs.Arguments.{first_misfit, words_of}
+use Rattle.qs_driver.specs.Files.{IsUntouched, HoldsContent, HoldsWith, WasReadAs, WasReadWith, CannotRead, ReadsFile}
+use Rattle.qs_machine.specs.Arguments.{AreArguments, first_misfit, words_of}
 use Rattle.qs_driver.specs.Arguments.{LacksWords}
 use Rattle.qs_driver.specs.Task.{Task, Answers}
 use Rattle.qs_driver.specs.declared.commands.run.RunOrder.{RunOrder}
@@ -62,30 +63,29 @@ names_of r = record no_names { image = r.image; input = input_name r.input }
 abbrev pub HoldsImage : Option (List ℕ) → Image → Type 0
 HoldsImage file image = HoldsWith file image_limit (λ content. IsImage content image)
 
--- the file is there, and its bytes are no image: this is the first test that they fail
-abbrev pub HoldsNoImage : Option (List ℕ) → ImageFault → Type 0
-HoldsNoImage file fault = HoldsWith file image_limit (λ content. first_fault content ≡ Some fault)
-
--- the image was read, or its place in the store isn't told
+-- bytes were read as those of the image's file, and they are this image
 abbrev pub ReadImage : StoreView → RunWords → Image → Type 0
-ReadImage before r image = IsTrue before.told → HoldsImage (before.files r.image) image
+ReadImage before r image = WasReadWith before r.image image_limit (λ content. IsImage content image)
+
+-- bytes were read as those of the image's file, and they are no image: this is the first test that they fail
+abbrev pub ReadNoImage : StoreView → RunWords → ImageFault → Type 0
+ReadNoImage before r fault = WasReadWith before r.image image_limit (λ content. first_fault content ≡ Some fault)
 
 -- the input that is named is there, or none is named and the input is empty
 abbrev pub HasInput : StoreView → Option (List ℕ) → List ℕ → Type 0
 HasInput before None input = input ≡ []
-HasInput before (Some name) input = Holds (before.files name) input_limit input
+HasInput before (Some name) input = HoldsContent (before.files name) input_limit input
 
--- the input was read, or its place in the store isn't told
+-- these bytes were read as the input that is named, or none is named and the input is empty
 abbrev pub ReadInput : StoreView → Option (List ℕ) → List ℕ → Type 0
 ReadInput before None input = input ≡ []
-ReadInput before (Some name) input = IsTrue before.told → Holds (before.files name) input_limit input
+ReadInput before (Some name) input = WasReadAs before name input_limit input
 
 -- ---- what is due
 
 -- the arguments and the stack are those that the image can be run with
 pub record CanRun (r : RunWords) (image : Image) : Type 0 where
-  pub count : length r.args ≡ image.parameters
-  pub fit : first_misfit image 0 r.args ≡ None
+  pub arguments : AreArguments image r.args
   pub small : r.stack ≤ stack_limit
 
 -- the output on `out`, then a line on `log`
@@ -98,7 +98,7 @@ refused_after output r status = after_output output status (fault_line (names_of
 
 -- what is due at this outcome of the machine
 abbrev pub IsDueAt : RunWords → Outcome → Due → Type 0
-IsDueAt r (Exited output status) due = due ≡ after_output output Done (exit_line status)
+IsDueAt r (Exited output status) due = due ≡ after_output output Done (end_line status)
 IsDueAt r (HasTrapped cause pc output) due = due ≡ refused_after output r (Trapped cause pc)
 IsDueAt r (Going output) due = due ≡ refused_after output r (StepLimit r.steps)
 
@@ -130,8 +130,7 @@ pub record IsMisfit (r : RunWords) (before : StoreView) (i : ℕ) : Type 0 where
 pub record IsTooLarge (r : RunWords) (before : StoreView) : Type 0 where
   pub image : Image
   pub image_read : ReadImage before r image
-  pub count : length r.args ≡ image.parameters
-  pub fit : first_misfit image 0 r.args ≡ None
+  pub arguments : AreArguments image r.args
   pub large : stack_limit < r.stack
 
 -- the image can be run, and its input has this name
@@ -145,7 +144,7 @@ pub record ComesToInput (r : RunWords) (before : StoreView) (name : List ℕ) : 
 pub data CannotRun (r : RunWords) (before after : StoreView) (status : Status) : Type 0 where
   unread_image : CannotRead before after r.image kinds.Image image_limit status → CannotRun r before after status
   no_image : (fault : ImageFault) → IsUntouched before after
-      → (IsTrue before.told → HoldsNoImage (before.files r.image) fault)
+      → ReadNoImage before r fault
       → status ≡ NotAnImage fault → CannotRun r before after status
   count_differs : (parameters : ℕ) → IsUntouched before after → CountDiffers r before parameters
       → status ≡ Words (ArgCount parameters (length r.args)) → CannotRun r before after status
@@ -188,7 +187,7 @@ status_at steps (Going output) = StepLimit steps
 abbrev pub Accepts : RunWords → StoreView → Status → Type 0
 Accepts r before status = (g : IsGood r before) → status ≡ status_at r.steps (outcome g)
 
--- the statuses with which `run` ends where no call fails
+-- the statuses with which `run` ends where no call fails and memory is found
 pub data IsOfRun : Status → Type 0 where
   done : IsOfRun Done
   missing_image : IsOfRun (Missing kinds.Image)
@@ -201,7 +200,6 @@ pub data IsOfRun : Status → Type 0 where
   large_stack : (size : ℕ) → IsOfRun (StackTooLarge size)
   trapped : (cause : Cause) (pc : ℕ) → IsOfRun (Trapped cause pc)
   step_limit : (steps : ℕ) → IsOfRun (StepLimit steps)
-  out_of_memory : IsOfRun NoMemory
 
 -- ---- the status, by the words and the files alone: the tests in their order, then the machine
 
@@ -261,8 +259,7 @@ run r = record { IsDue = IsDueToRun r; Accepts = Accepts r; Refuses = Refuses r 
 pub data CannotLoad (bytes : List ℕ) (r : RunWords) (status : Status) : Type 0 where
   bad_image : (fault : ImageFault) → first_fault bytes ≡ Some fault → status ≡ NotAnImage fault → CannotLoad bytes r status
   no_words : (image : Image) → IsImage bytes image → LacksWords image r.args status → CannotLoad bytes r status
-  too_large : (image : Image) → IsImage bytes image → length r.args ≡ image.parameters
-      → first_misfit image 0 r.args ≡ None → stack_limit < r.stack
+  too_large : (image : Image) → IsImage bytes image → AreArguments image r.args → stack_limit < r.stack
       → status ≡ StackTooLarge r.stack → CannotLoad bytes r status
   lacks_memory : status ≡ NoMemory → CannotLoad bytes r status
 
@@ -306,7 +303,7 @@ Prepares r before after (Err status) = CannotRun r before after status
 
 -- the line at the end of a run was put on `log`
 abbrev pub Finishes : RunWords → RunEnd → SinkView → SinkView → Status → Type 0
-Finishes r (end.Exited status) v w result = EndsWith (exit_line status) Done v w result
+Finishes r (end.Exited status) v w result = EndsWith (end_line status) Done v w result
 Finishes r (end.Trapped cause pc) v w result = EndsWith (fault_line (names_of r) (Trapped cause pc)) (Trapped cause pc) v w result
 Finishes r end.StepLimit v w result = EndsWith (fault_line (names_of r) (StepLimit r.steps)) (StepLimit r.steps) v w result
 Finishes r end.SinkFailed v w result = (result ≡ SinkFailed) × (w ≡ v)

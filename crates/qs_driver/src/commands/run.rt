@@ -10,12 +10,12 @@ use crate::devices::Devices;
 use crate::due::{refuse, status_after};
 use crate::files::read_file;
 use crate::limits::{IMAGE_LIMIT, INPUT_LIMIT};
-use crate::lines::put_number;
 use crate::names::{FileNames, nameless};
 use crate::{FileKind, Status};
 use qs_image::read;
 use qs_machine::{LoadFault, Machine, RunEnd, load};
 use qs_ports::{Sink, Store};
+use qs_report::put_end;
 use std::alloc::Global;
 
 /// The words of `run`.
@@ -87,10 +87,7 @@ fn finish<L: Sink>(end: RunEnd, order: &RunOrder<'_>, log: &mut L) -> Status
     ensures { Finishes (words_in order.now) end (L.view log.old) (L.view log.new) result }
 {
     match end {
-        RunEnd::Exited(status) => status_after(
-            put_number(log, "exit ", u64::from(status)),
-            Status::Done,
-        ),
+        RunEnd::Exited(status) => status_after(put_end(log, status), Status::Done),
         RunEnd::Trapped(cause, pc) => refuse(log, &names_of(order), Status::Trapped { cause, pc }),
         RunEnd::StepLimit => refuse(log, &names_of(order), Status::StepLimit(order.steps)),
         RunEnd::SinkFailed => Status::SinkFailed,

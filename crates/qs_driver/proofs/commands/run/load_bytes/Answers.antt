@@ -17,10 +17,10 @@ pub returns-in-Ok : goal.returns-in-Ok
 returns-in-Ok c = record {
   image = c.in_ok-image.image;
   is_image = c.in_ok-image.ensures.image;
-  can_run = record { count = c.in_ok-args.ensures.count; fit = c.in_ok-args.ensures.fit; small = c.in-Ok.ensures.loads.small };
+  can_run = record { arguments = c.in_ok-args.ensures.arguments; small = c.in-Ok.ensures.loads.small };
   none_taken = c.in-Ok.ensures.fresh;
   stands = rw (c.deref.ensures.value, c.in_ok-args.ensures.words_are) at c.in-Ok.ensures.start;
 }
 
 pub returns-in-Err-StackTooLarge : goal.returns-in-Err-StackTooLarge
-returns-in-Err-StackTooLarge c = too_large _ c.in_ok-image.ensures.image c.in_ok-args.ensures.count c.in_ok-args.ensures.fit (rw c.in-Err-StackTooLarge.field-0-is at c.in-Err-StackTooLarge.ensures.fault) refl
+returns-in-Err-StackTooLarge c = too_large _ c.in_ok-image.ensures.image c.in_ok-args.ensures.arguments (rw c.in-Err-StackTooLarge.field-0-is at c.in-Err-StackTooLarge.ensures.fault) refl

@@ -1,9 +1,0 @@
-use Rattle.std.proofs.Common.{refl}
-use Rattle.std.proofs.lemmas.Result.{err_from_is_err_and}
-use Rattle.qs_driver.proofs.LinesLaws.{part_cut}
-use Rattle.qs_driver.proofs.lines.put_parts.Goals as goal
-
-pub returns-in_err-put_all : goal.returns-in_err-put_all
-returns-in_err-put_all g c =
-    let p = err_from_is_err_and c.from_residual.result c.from_residual.ensures.1 in
-    rw p.1 (part_cut (λ part. part.now) c.args.parts.now c.loop-part.part-index _ _ _ _ _ c.in_err-put_all.field-0.0 p.0 refl c.loop-part-test.true c.loop-part.invariant c.in_err-put_all.ensures)

@@ -40,6 +40,3 @@ pub use variables::mentions;
 pub fn values_are_of_their_variables()
     ensures { IsOfItsVariables }
 {}
-
-#[cfg(test)]
-mod tests;

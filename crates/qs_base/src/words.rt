@@ -83,6 +83,3 @@ pub fn sra32(a: u32, b: u32) -> u32
 {
     a.cast_signed().wrapping_shr(b).cast_unsigned()
 }
-
-#[cfg(test)]
-mod tests;

@@ -49,6 +49,3 @@ pub fn certificates_are_sound()
 pub fn the_root_is_a_node()
     ensures { RootIsANode }
 {}
-
-#[cfg(test)]
-mod tests;

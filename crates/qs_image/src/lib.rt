@@ -16,6 +16,3 @@ pub use reading::read;
 pub use records::RecordView;
 pub use view::ImageView;
 pub use writing::write;
-
-#[cfg(test)]
-mod tests;

@@ -16,6 +16,3 @@ mod stepping;
 pub use answers::{Cause, RunEnd, StepResult};
 pub use loading::{LoadFault, load};
 pub use machine::Machine;
-
-#[cfg(test)]
-mod tests;

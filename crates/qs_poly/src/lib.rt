@@ -16,6 +16,3 @@ pub use atom::Atom;
 pub use fault::PolyFault;
 pub use laws::polynomials_are_exact;
 pub use poly::Poly;
-
-#[cfg(test)]
-mod tests;

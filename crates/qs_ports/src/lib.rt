@@ -13,8 +13,6 @@ mod memory;
 mod sink;
 mod store;
 mod system;
-#[cfg(test)]
-mod tests;
 mod whole;
 
 pub use memory::{CleanSink, CleanStore, MemSink, MemStore, StoreCall};

@@ -1,7 +1,18 @@
-//! Tests that cross crates and can't be rows of a table: the tool over real files and streams, and names.
+//! Tests of what no clause says and no row of a table can show: the tool over real files and streams, and that memory is
+//! found by the calls that no command makes yet.
 #![tactic(auto)]
 
 #[cfg(test)]
+mod assertions;
+#[cfg(test)]
+mod certificates;
+#[cfg(test)]
 mod files;
 #[cfg(test)]
+mod images;
+#[cfg(test)]
 mod names;
+#[cfg(test)]
+mod polynomials;
+#[cfg(test)]
+mod ports;

@@ -1,6 +1,6 @@
 // That memory is found: a product, and an atom that is nested deeply.
-use super::*;
 use qs_assert::{NumberType, Var, VarKind};
+use qs_poly::{Atom, Poly, PolyFault};
 use std::alloc::Global;
 use std::test::*;
 

@@ -1,7 +1,7 @@
 // That memory is found, and that a path leads to the node that fails.
-use super::*;
 use qs_assert::{Assertion, Define};
 use qs_base::{FnId, Name, NoMemory};
+use qs_entail::{CertFault, Certificate, Fact, Item, check};
 use std::alloc::{AllocError, Global};
 use std::test::Fail;
 

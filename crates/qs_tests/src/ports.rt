@@ -1,10 +1,10 @@
 // What no clause says: that memory is found for the stores and sinks in memory, and that a call that was interrupted is
 // tried again.
-use crate::{
+use qs_base::NoMemory;
+use qs_ports::{
     CleanSink, CleanStore, MemSink, MemStore, ReadFault, Sink, SinkFault, StdSink, Store, put_all,
     read_whole, write_whole,
 };
-use qs_base::NoMemory;
 use std::alloc::Global;
 use std::io::{self, ErrorKind, Write};
 use std::test::Fail;

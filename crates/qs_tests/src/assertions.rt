@@ -1,5 +1,7 @@
 // That memory is found: a tree with a node of each sort, and one that is deep.
-use super::*;
+use qs_assert::{
+    Amount, Assertion, Cond, Define, NumberType, Term, Var, VarKind, bound_of, substitute, value_at,
+};
 use qs_base::{FnId, Name, NoMemory};
 use std::alloc::Global;
 use std::test::Fail;

@@ -3,7 +3,7 @@ use Rattle.std.specs.Prelude.{◌≡◌, ◌⊎◌, ℕ, List, [], ◌∷◌, Re
 use Rattle.qs_ports.specs.SinkView.{SinkView, Appends, IsCut}
 use Rattle.qs_ports.specs.declared.sink.SinkFault.{SinkFault}
 use Rattle.qs_driver.specs.Names.{Names}
-use Rattle.qs_driver.specs.Faults.{fault_line}
+use Rattle.qs_driver.specs.Faults.{status_line}
 use Rattle.qs_driver.specs.Devices.{Streams}
 use Rattle.qs_driver.specs.Steps.{Step, on_log, ArePut, AreCutShort}
 use Rattle.qs_driver.specs.declared.status.Status.{Status}
@@ -15,7 +15,7 @@ pub record Due : Type 0 where
 
 -- the line of the fault on standard error, and nothing else
 abbrev pub refusal : Names → Status → Due
-refusal names status = record { status = status; steps = on_log (fault_line names status) ∷ [] }
+refusal names status = record { status = status; steps = on_log (status_line names status) ∷ [] }
 
 abbrev pub IsRefusal : Names → Status → Due → Type 0
 IsRefusal names status due = due ≡ refusal names status

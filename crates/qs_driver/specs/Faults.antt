@@ -74,21 +74,21 @@ abbrev pub named_line : List ℕ → FaultText → List ℕ
 named_line file text = lines.fault_line file [] text
 
 -- the one line that tells a fault
-abbrev pub fault_line : Names → Status → List ℕ
-fault_line names Done = []
-fault_line names (Source (TooLong kind)) = named_line (file_name names kind) texts.TooLong
-fault_line names (Source (Lex fault pos)) = named_line names.source (lex_text fault pos)
-fault_line names (Source (Syntax fault place)) = named_line names.source (syntax_text fault place)
-fault_line names (Source NotFirstForm) = line (names.source ∷ codes ": not in the first form" ∷ [])
-fault_line names (Words Usage) = named_line [] texts.Usage
-fault_line names (Words SameName) = named_line names.output texts.SameName
-fault_line names (Words (ArgCount expected given)) = named_line [] (texts.ArgCount expected given)
-fault_line names (Words (ArgRange i)) = named_line [] (texts.ArgRange i)
-fault_line names (Missing kind) = named_line (file_name names kind) texts.Missing
-fault_line names (StoreFailed kind) = named_line (file_name names kind) texts.Failed
-fault_line names (Image f) = named_line names.image (image_text f)
-fault_line names (Trapped c pc) = named_line [] (trap_text c pc)
-fault_line names (StepLimit steps) = named_line [] (texts.StepLimit steps)
-fault_line names (StackTooLarge size) = named_line [] (texts.StackTooLarge size)
-fault_line names SinkFailed = []
-fault_line names NoMemory = named_line [] texts.NoMemory
+abbrev pub status_line : Names → Status → List ℕ
+status_line names Done = []
+status_line names (Source (TooLong kind)) = named_line (file_name names kind) texts.TooLong
+status_line names (Source (Lex fault pos)) = named_line names.source (lex_text fault pos)
+status_line names (Source (Syntax fault place)) = named_line names.source (syntax_text fault place)
+status_line names (Source NotFirstForm) = line (names.source ∷ codes ": not in the first form" ∷ [])
+status_line names (Words Usage) = named_line [] texts.Usage
+status_line names (Words SameName) = named_line names.output texts.SameName
+status_line names (Words (ArgCount expected given)) = named_line [] (texts.ArgCount expected given)
+status_line names (Words (ArgRange i)) = named_line [] (texts.ArgRange i)
+status_line names (Missing kind) = named_line (file_name names kind) texts.Missing
+status_line names (StoreFailed kind) = named_line (file_name names kind) texts.Failed
+status_line names (Image f) = named_line names.image (image_text f)
+status_line names (Trapped c pc) = named_line [] (trap_text c pc)
+status_line names (StepLimit steps) = named_line [] (texts.StepLimit steps)
+status_line names (StackTooLarge size) = named_line [] (texts.StackTooLarge size)
+status_line names SinkFailed = []
+status_line names NoMemory = named_line [] texts.NoMemory

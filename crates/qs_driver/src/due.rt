@@ -1,11 +1,11 @@
 // The end of a call: what is due is put, and the status tells how that went.
 ghost use Rattle.std.specs.Prelude.{◌≡◌};
 ghost use Rattle.qs_driver.specs.Due.{status_after, EndsWith};
-ghost use Rattle.qs_driver.specs.Faults.{fault_line};
+ghost use Rattle.qs_driver.specs.Faults.{status_line};
 ghost use Rattle.qs_driver.specs.Names.{names_in};
 
 use crate::Status;
-use crate::faults::put_fault;
+use crate::faults::put_status;
 use crate::names::FileNames;
 use qs_ports::{Sink, SinkFault};
 
@@ -21,7 +21,7 @@ pub fn status_after(written: Result<(), SinkFault>, due: Status) -> Status
 
 /// Puts the line of a fault.
 pub fn refuse<L: Sink>(log: &mut L, names: &FileNames<'_>, status: Status) -> Status
-    ensures { EndsWith (fault_line (names_in names.now) status) status (L.view log.old) (L.view log.new) result }
+    ensures { EndsWith (status_line (names_in names.now) status) status (L.view log.old) (L.view log.new) result }
 {
-    status_after(put_fault(log, names, status), status)
+    status_after(put_status(log, names, status), status)
 }

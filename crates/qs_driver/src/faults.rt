@@ -2,7 +2,7 @@
 ghost use Rattle.std.specs.Prelude.{◌≡◌};
 ghost use Rattle.qs_ports.specs.SinkView.{PutsAll};
 ghost use Rattle.qs_report.specs.Lines.{HasItsNumbers};
-ghost use Rattle.qs_driver.specs.Faults.{fault_line, image_text, lex_text, named_line, pos_of, syntax_text, trap_text, unexpected_text};
+ghost use Rattle.qs_driver.specs.Faults.{status_line, image_text, lex_text, named_line, pos_of, syntax_text, trap_text, unexpected_text};
 ghost use Rattle.qs_driver.specs.Names.{names_in};
 
 use crate::names::{FileNames, file_name};
@@ -13,7 +13,7 @@ use qs_lexer::LexFault;
 use qs_machine::Cause;
 use qs_parser::SyntaxFault;
 use qs_ports::{Sink, SinkFault};
-use qs_report::{FaultText, put_arg_count, put_arg_range, put_two};
+use qs_report::{FaultText, put_arg_count, put_arg_range, put_fault, put_two};
 
 fn image_text(fault: ImageFault) -> FaultText
     ensures is { result ≡ image_text fault }
@@ -98,7 +98,7 @@ fn put_text<K: Sink>(log: &mut K, file: &str, text: FaultText) -> Result<(), Sin
     requires { HasItsNumbers text }
     ensures { PutsAll (K.view log.old) (K.view log.new) (named_line file.now text) result }
 {
-    qs_report::put_fault(log, file.as_bytes(), b"", &text)
+    put_fault(log, file.as_bytes(), b"", &text)
 }
 
 fn put_words_fault<K: Sink>(
@@ -106,7 +106,7 @@ fn put_words_fault<K: Sink>(
     names: &FileNames<'_>,
     fault: WordsFault,
 ) -> Result<(), SinkFault>
-    ensures { PutsAll (K.view log.old) (K.view log.new) (fault_line (names_in names.now) (Status.Words fault)) result }
+    ensures { PutsAll (K.view log.old) (K.view log.new) (status_line (names_in names.now) (Status.Words fault)) result }
 {
     match fault {
         WordsFault::Usage => put_text(log, "", FaultText::Usage),
@@ -123,7 +123,7 @@ fn put_source_fault<K: Sink>(
     names: &FileNames<'_>,
     fault: SourceFault,
 ) -> Result<(), SinkFault>
-    ensures { PutsAll (K.view log.old) (K.view log.new) (fault_line (names_in names.now) (Status.Source fault)) result }
+    ensures { PutsAll (K.view log.old) (K.view log.new) (status_line (names_in names.now) (Status.Source fault)) result }
 {
     match fault {
         SourceFault::TooLong(kind) => put_text(log, file_name(names, kind), FaultText::TooLong),
@@ -136,12 +136,12 @@ fn put_source_fault<K: Sink>(
 }
 
 /// Puts the line of a fault; nothing at `Done` and `SinkFailed`.
-pub fn put_fault<K: Sink>(
+pub fn put_status<K: Sink>(
     log: &mut K,
     names: &FileNames<'_>,
     status: Status,
 ) -> Result<(), SinkFault>
-    ensures { PutsAll (K.view log.old) (K.view log.new) (fault_line (names_in names.now) status) result }
+    ensures { PutsAll (K.view log.old) (K.view log.new) (status_line (names_in names.now) status) result }
 {
     match status {
         Status::Done => Ok(()),

@@ -9,7 +9,7 @@ use Rattle.qs_compile.specs.FirstForm.{Program, IsFirstForm, runs_of}
 use Rattle.qs_compile.specs.Agree.{AgreesFrom}
 use Rattle.qs_compile.specs.Built.{HasMainAlone, LowersStackFirst, main_bound}
 use Rattle.qs_driver.specs.Lines.{cost_lines}
-use Rattle.qs_driver.specs.Faults.{fault_line}
+use Rattle.qs_driver.specs.Faults.{status_line}
 use Rattle.qs_driver.specs.Devices.{streams, views_of}
 use Rattle.qs_driver.specs.Due.{EndsWith, IsWritten}
 use Rattle.qs_driver.specs.Source.{HasSource, LacksSource}
@@ -88,8 +88,8 @@ not_written b {bytes = bytes} {p = p} {image = image} differ s form of (failed, 
 pub costs_put : (b : BuildWords) (image : Image) (l v w : SinkView) (result : Status) → EndsWith (cost_lines image.functions) Done v w result → IsWritten (due_of b (Ok image)) (streams v l) (streams w l) result
 costs_put b image l v w result h = out_last Done (cost_lines image.functions) l v w result h
 
-pub fault_put : (b : BuildWords) (status : Status) (o v w : SinkView) (result : Status) → EndsWith (fault_line (names_of b) status) status v w result → IsWritten (due_of b (Err status)) (streams o v) (streams o w) result
-fault_put b status o v w result h = log_last status (fault_line (names_of b) status) o v w result h
+pub fault_put : (b : BuildWords) (status : Status) (o v w : SinkView) (result : Status) → EndsWith (status_line (names_of b) status) status v w result → IsWritten (due_of b (Err status)) (streams o v) (streams o w) result
+fault_put b status o v w result h = log_last status (status_line (names_of b) status) o v w result h
 
 pub build_answers : (b : BuildWords) (s s' : StoreView) (o o' l l' : SinkView) (work : Result Image Status) (result : Status) → Builds b s s' work → IsWritten (due_of b work) (streams o l) (streams o' l') result → Answers (build b) (views_of s o l) (views_of s' o' l') result
 build_answers b s s' o o' l l' work result d h = record { due = due_of b work; is_due = d; written = h }

@@ -12,7 +12,7 @@ use Rattle.qs_machine.specs.declared.answers.RunEnd.{RunEnd}
 use Rattle.qs_machine.specs.declared.answers.RunEnd.TheVariants as end
 use Rattle.qs_driver.specs.Limits.{image_limit, input_limit}
 use Rattle.qs_report.specs.Lines.{end_line}
-use Rattle.qs_driver.specs.Faults.{fault_line}
+use Rattle.qs_driver.specs.Faults.{status_line}
 use Rattle.qs_driver.specs.Devices.{views_of}
 use Rattle.qs_driver.specs.Due.{Due, refusal, EndsWith}
 use Rattle.qs_driver.specs.Files.{IsUntouched, WasReadAs, WasRead, CannotRead}
@@ -143,8 +143,8 @@ record IsDueWith (r : RunWords) (outcome : Outcome) : Type 0 where
 
 due_at : (r : RunWords) (outcome : Outcome) → IsDueWith r outcome
 due_at r (Exited output status) = record { status = Done; line = end_line status; is_due = refl }
-due_at r (HasTrapped cause pc output) = record { status = Trapped cause pc; line = fault_line (names_of r) (Trapped cause pc); is_due = refl }
-due_at r (Going output) = record { status = StepLimit r.steps; line = fault_line (names_of r) (StepLimit r.steps); is_due = refl }
+due_at r (HasTrapped cause pc output) = record { status = Trapped cause pc; line = status_line (names_of r) (Trapped cause pc); is_due = refl }
+due_at r (Going output) = record { status = StepLimit r.steps; line = status_line (names_of r) (StepLimit r.steps); is_due = refl }
 
 has_run : {r : RunWords} {s s' : StoreView} {ready : Ready} {due : Due} (h : IsReady r s s' ready) → IsDueAt r (machine h.image r.stack (words_of r.args) ready.input.items r.steps) due → IsDueToRun r s s' due
 has_run {ready = ready} h d = meant.ran (record {
@@ -180,5 +180,5 @@ run_answers r s s' o o' l l' ready end.SinkFailed result h (k, c) (e, u) =
 
 -- ---- the refusal
 
-pub fault_put : (r : RunWords) (s s' : StoreView) (o v w : SinkView) (status result : Status) → CannotRun r s s' status → EndsWith (fault_line (names_of r) status) status v w result → Answers (run r) (views_of s o v) (views_of s' o w) result
+pub fault_put : (r : RunWords) (s s' : StoreView) (o v w : SinkView) (status result : Status) → CannotRun r s s' status → EndsWith (status_line (names_of r) status) status v w result → Answers (run r) (views_of s o v) (views_of s' o w) result
 fault_put r s s' o v w status result c h = record { due = refusal (names_of r) status; is_due = meant.refused status c refl; written = log_last _ _ o v w result h }

@@ -4,7 +4,7 @@ use Rattle.qs_ports.specs.StoreView.{StoreView}
 use Rattle.qs_ports.specs.SinkView.{SinkView}
 use Rattle.qs_cli.specs.Commands.{Command, Build, Check, Bound, Derive, Outline, Run, Exec, Sample}
 use Rattle.qs_driver.specs.Names.{no_names}
-use Rattle.qs_driver.specs.Faults.{fault_line}
+use Rattle.qs_driver.specs.Faults.{status_line}
 use Rattle.qs_driver.specs.Devices.{DevicesView, streams_of, views_of}
 use Rattle.qs_driver.specs.Steps.{AreCutShort}
 use Rattle.qs_driver.specs.Due.{Due, refusal, IsWritten, EndsWith}
@@ -87,7 +87,7 @@ promised command v w result a = record {
 
 -- ---- no memory was found for the words
 
-pub lacks : (s : StoreView) (o v w : SinkView) (result : Status) → EndsWith (fault_line no_names NoMemory) NoMemory v w result → LacksMemory (views_of s o v) (views_of s o w) result
+pub lacks : (s : StoreView) (o v w : SinkView) (result : Status) → EndsWith (status_line no_names NoMemory) NoMemory v w result → LacksMemory (views_of s o v) (views_of s o w) result
 lacks s o v w result h = record { untouched = untouched s; written = log_last _ _ o v w result h }
 
 pub lacks_promised : (t : Task) (v w : DevicesView) (result : Status) → LacksMemory v w result → Promises t v w result

@@ -3,7 +3,7 @@ use Rattle.std.proofs.Common.{ap, refl, inl}
 use Rattle.qs_ports.specs.StoreView.{StoreView}
 use Rattle.qs_ports.specs.SinkView.{SinkView}
 use Rattle.qs_driver.specs.Names.{no_names}
-use Rattle.qs_driver.specs.Faults.{fault_line}
+use Rattle.qs_driver.specs.Faults.{status_line}
 use Rattle.qs_driver.specs.Devices.{views_of}
 use Rattle.qs_driver.specs.Due.{refusal, EndsWith}
 use Rattle.qs_driver.specs.Task.{Answers}
@@ -14,7 +14,7 @@ use Rattle.qs_driver.specs.declared.status.WordsFault.TheVariants.{Usage}
 use Rattle.qs_driver.proofs.StepsLaws.{log_last}
 use Rattle.qs_driver.proofs.laws.Follows.{Follows, untouched, not_untouched}
 
-pub usage_answers : (s : StoreView) (o v w : SinkView) (result : Status) → EndsWith (fault_line no_names (Words Usage)) (Words Usage) v w result → Answers none (views_of s o v) (views_of s o w) result
+pub usage_answers : (s : StoreView) (o v w : SinkView) (result : Status) → EndsWith (status_line no_names (Words Usage)) (Words Usage) v w result → Answers none (views_of s o v) (views_of s o w) result
 usage_answers s o v w result h = record {
   due = refusal no_names (Words Usage);
   is_due = record { untouched = untouched s; is_due = refl };

@@ -17,7 +17,7 @@ use Rattle.qs_machine.specs.declared.answers.RunEnd.TheVariants as end
 use Rattle.qs_driver.specs.Limits.{image_limit, input_limit}
 use Rattle.qs_driver.specs.Names.{Names, no_names}
 use Rattle.qs_report.specs.Lines.{end_line}
-use Rattle.qs_driver.specs.Faults.{fault_line}
+use Rattle.qs_driver.specs.Faults.{status_line}
 use Rattle.qs_driver.specs.Devices.{Streams, views_of}
 use Rattle.qs_driver.specs.Steps.{on_out, on_log}
 use Rattle.qs_driver.specs.Due.{Due, IsRefusal, EndsWith}
@@ -94,7 +94,7 @@ after_output output status line = record { status = status; steps = on_out outpu
 
 -- the output on `out`, then the line of the fault
 abbrev pub refused_after : List ℕ → RunWords → Status → Due
-refused_after output r status = after_output output status (fault_line (names_of r) status)
+refused_after output r status = after_output output status (status_line (names_of r) status)
 
 -- what is due at this outcome of the machine
 abbrev pub IsDueAt : RunWords → Outcome → Due → Type 0
@@ -304,8 +304,8 @@ Prepares r before after (Err status) = CannotRun r before after status
 -- the line at the end of a run was put on `log`
 abbrev pub Finishes : RunWords → RunEnd → SinkView → SinkView → Status → Type 0
 Finishes r (end.Exited status) v w result = EndsWith (end_line status) Done v w result
-Finishes r (end.Trapped cause pc) v w result = EndsWith (fault_line (names_of r) (Trapped cause pc)) (Trapped cause pc) v w result
-Finishes r end.StepLimit v w result = EndsWith (fault_line (names_of r) (StepLimit r.steps)) (StepLimit r.steps) v w result
+Finishes r (end.Trapped cause pc) v w result = EndsWith (status_line (names_of r) (Trapped cause pc)) (Trapped cause pc) v w result
+Finishes r end.StepLimit v w result = EndsWith (status_line (names_of r) (StepLimit r.steps)) (StepLimit r.steps) v w result
 Finishes r end.SinkFailed v w result = (result ≡ SinkFailed) × (w ≡ v)
 
 -- a machine that was prepared has taken no input yet

@@ -1,4 +1,4 @@
-use Rattle.qs_driver.proofs.faults.put_fault.Goals as goal
+use Rattle.qs_driver.proofs.faults.put_status.Goals as goal
 
 pub returns-in-StepLimit : goal.returns-in-StepLimit
 returns-in-StepLimit g c = rw c.in-StepLimit.is c.put_text-in-StepLimit.ensures

@@ -1,1 +1,4 @@
-mod RelationLaws
+pub mod RelationLaws
+pub mod TypeLaws
+pub mod RangeLaws
+pub mod InitialLaws

@@ -7,4 +7,7 @@ pub mod Terms
 pub mod Outline
 pub mod CallGraph
 pub mod Sizes
+pub mod Fits
+pub mod Ranges
+pub mod UnitTrees
 pub mod Laws

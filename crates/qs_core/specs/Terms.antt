@@ -1,6 +1,6 @@
 -- Terms and conditions of expressions: what derivations of stack bounds, and the outline, say of them. A term is over whole numbers without
 -- bound; not every expression has one.
-use Rattle.std.specs.Prelude.{ℕ, ◌^◌, ◌==◌, ◌&&◌, nat_le, nat_lt, Bool, true, false, if◌then◌else◌, List, [], ◌∷◌, ◌++◌, slice_index_or, codes, decimal}
+use Rattle.std.specs.Prelude.{ℕ, ◌%◌, ◌^◌, ◌==◌, ◌&&◌, nat_le, nat_lt, Bool, true, false, if◌then◌else◌, List, [], ◌∷◌, ◌++◌, slice_index_or, codes, decimal}
 use Rattle.std.specs.Fmt.{signed_decimal}
 use Rattle.qs_base.specs.Words.{signed}
 use Rattle.qs_memory.specs.declared.scalar.Scalar.{Scalar}
@@ -162,6 +162,10 @@ quotient_of t k = applied_to_both (codes "div") t (decimal k)
 abbrev pub rest_of : List ℕ → ℕ → List ℕ
 rest_of t k = difference_of t (product_of (decimal k) (quotient_of t k))
 
+-- a shift by a literal count, which is below 32
+abbrev pub power : ℕ → ℕ
+power k = 2 ^ (k % 32)
+
 -- t and u are the terms of the operands, k the number of the right one where it is a literal
 abbrev pub arithmetic_text : Arithmetic → Signedness → (t u : List ℕ) → (k : ℕ) → List ℕ
 arithmetic_text arithmetics.Add s t u k = wrapped s (applied_to_both (codes "add") t u)
@@ -169,8 +173,8 @@ arithmetic_text arithmetics.Subtract s t u k = wrapped s (difference_of t u)
 arithmetic_text arithmetics.Multiply s t u k = wrapped s (product_of t u)
 arithmetic_text arithmetics.Divide s t u k = quotient_of t k
 arithmetic_text arithmetics.Remainder s t u k = rest_of t k
-arithmetic_text arithmetics.ShiftLeft s t u k = wrapped s (product_of t (decimal (2 ^ k)))
-arithmetic_text arithmetics.ShiftRight s t u k = quotient_of t (2 ^ k)
+arithmetic_text arithmetics.ShiftLeft s t u k = wrapped s (product_of t (decimal (power k)))
+arithmetic_text arithmetics.ShiftRight s t u k = quotient_of t (power k)
 arithmetic_text arithmetics.And s t u k = []
 arithmetic_text arithmetics.Or s t u k = []
 arithmetic_text arithmetics.Xor s t u k = []

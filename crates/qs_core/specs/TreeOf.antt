@@ -1,7 +1,7 @@
 -- The trees that the program's values stand for.
 use Rattle.std.specs.Prelude.{List, map, option_map}
 use Rattle.qs_memory.specs.BlankOf.{blank_tree}
-use Rattle.qs_core.specs.Trees.{CoreExprTree, literal, null_pointer, variable, temporary, address_of, load, member, unary, binary, conversion, conjunction, disjunction, choice, CoreStmtTree, skip, seq, assign, store, copy, fill, call, branch, loop, break, continue, return, stmts_of, CoreParameterTree, CoreVariableTree, CoreFunctionTree, PieceTree, blank, bytes, pointer, DataBlockTree, CoreUnitTree}
+use Rattle.qs_core.specs.Trees.{CoreExprTree, literal, null_pointer, variable, temporary, address_of, load, member, unary, binary, conversion, conjunction, disjunction, choice, CoreStmtTree, skip, seq, assign, store, copy, fill, call, branch, loop, break, continue, return, stmts_of, CoreParameterTree, CoreVariableTree, CoreFunctionTree, PieceTree, blank, bytes, pointer, DataBlockTree}
 use Rattle.qs_core.specs.declared.expressions.CoreExpr.{CoreExpr, CoreExpr-F, fold-CoreExpr}
 use Rattle.qs_core.specs.declared.statements.CoreStmt.{CoreStmt, CoreStmt-F, fold-CoreStmt}
 use Rattle.qs_core.specs.declared.units.CoreParameter.{CoreParameter}
@@ -10,7 +10,6 @@ use Rattle.qs_core.specs.declared.units.CoreFunction.{CoreFunction}
 use Rattle.qs_core.specs.declared.units.Piece.{Piece}
 use Rattle.qs_core.specs.declared.units.Piece.TheVariants as pieces
 use Rattle.qs_core.specs.declared.units.DataBlock.{DataBlock}
-use Rattle.qs_core.specs.declared.units.CoreUnit.{CoreUnit}
 
 abbrev pub expr_step : CoreExpr-F CoreExprTree → CoreExprTree
 expr_step (CoreExpr-F.Literal s n) = literal s n
@@ -79,10 +78,3 @@ piece_tree (pieces.Address block offset) = pointer block offset
 
 abbrev pub data_block_tree : DataBlock → DataBlockTree
 data_block_tree d = record { is_writable = d.is_writable; pieces = map piece_tree d.pieces.items }
-
-abbrev pub unit_tree : CoreUnit → CoreUnitTree
-unit_tree u = record {
-  functions = map function_tree u.functions.items;
-  main = u.main.0;
-  data_blocks = map data_block_tree u.data_blocks.items;
-}

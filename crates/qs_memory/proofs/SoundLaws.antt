@@ -30,11 +30,11 @@ cell_kept m later (part p k) f s = pointer_kept m later p f s
 
 -- ---- cells of sound values
 
-sound_bytes : (m : Memory) (size n : ℕ) → Each (IsSoundCell m) (bytes_of size n)
+pub sound_bytes : (m : Memory) (size n : ℕ) → Each (IsSoundCell m) (bytes_of size n)
 sound_bytes m zero n = tt
 sound_bytes m (suc size) n = (omega arith, sound_bytes m size (n / 256))
 
-sound_parts : (m : Memory) (p : Pointer) (first size : ℕ) → IsSoundPointer m p → Each (IsSoundCell m) (parts_of p first size)
+pub sound_parts : (m : Memory) (p : Pointer) (first size : ℕ) → IsSoundPointer m p → Each (IsSoundCell m) (parts_of p first size)
 sound_parts m p first zero s = tt
 sound_parts m p first (suc size) s = (s, sound_parts m p (first + 1) size s)
 
@@ -46,7 +46,7 @@ sound_cells s m (address p) cells sound h =
     let c = only_if_value (has_type s (address p)) _ cells h in
     subst (λ (l : List Cell). Each (IsSoundCell m) l) c.1 (sound_parts m p 0 (width s) sound)
 
-each_append : (P : Cell → Type 0) (a b : List Cell) → Each P a → Each P b → Each P (a ++ b)
+pub each_append : (P : Cell → Type 0) (a b : List Cell) → Each P a → Each P b → Each P (a ++ b)
 each_append P [] b h k = k
 each_append P (c ∷ a) b h k = (h.0, each_append P a b h.1 k)
 
@@ -54,7 +54,7 @@ each_times : (P : Cell → Type 0) (n : ℕ) (a : List Cell) → Each P a → Ea
 each_times P zero a h = tt
 each_times P (suc n) a h = each_append P a (times n a) h (each_times P n a h)
 
-sound_blank : (m : Memory) (blank : BlankTree) → Each (IsSoundCell m) (blank_cells blank)
+pub sound_blank : (m : Memory) (blank : BlankTree) → Each (IsSoundCell m) (blank_cells blank)
 sound_blank m (zeros n) = each_times (IsSoundCell m) n (byte 0 ∷ []) (omega arith, tt)
 sound_blank m (nulls n) = each_times (IsSoundCell m) n (parts_of null 0 4) (sound_parts m null 0 4 tt)
 sound_blank m (repeated n b) = each_times (IsSoundCell m) n (blank_cells b) (sound_blank m b)

@@ -27,7 +27,7 @@ use Rattle.qs_memory.proofs.SoundLaws.{sound_read}
 
 -- ---- loads
 
-number_small : (m : Memory) (cells : List Cell) (n : ℕ) → Each (IsSoundCell m) cells → number_of cells ≡ Some n → n < 256 ^ length cells
+pub number_small : (m : Memory) (cells : List Cell) (n : ℕ) → Each (IsSoundCell m) cells → number_of cells ≡ Some n → n < 256 ^ length cells
 number_small m [] n each h = let e = some_same 0 n h in omega arith
 number_small m (unset ∷ cells) n each h = cc
 number_small m (part p k ∷ cells) n each h = cc

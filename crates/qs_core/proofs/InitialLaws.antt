@@ -80,7 +80,7 @@ module _ (u : CoreUnitTree) where
       let is = known_block (λ d. data_fits u d ≡ true) u.data_blocks b (omega arith) (λ d i. all_fit u u.data_blocks b d fits i) in
       let at = data_at u.data_blocks b is.0 is.1 in
       subst (λ (k : Block). Sound (k.cells o)) (sym at.1)
-        (at_index Sound (cells_of_pieces (is.0).pieces) o (pieces_sound (is.0).pieces is.2) (subst (λ (k : Block). o < k.size) at.1 h))
+      (at_index Sound (cells_of_pieces (is.0).pieces) o (pieces_sound (is.0).pieces is.2) (subst (λ (k : Block). o < k.size) at.1 h))
 
 pub initial_memory_is_ready : InitialMemoryIsReady
 initial_memory_is_ready u input fits are =

@@ -118,9 +118,10 @@ arguments_are u f g l w r (p ∷ ps) (e ∷ es) vs fits agree h =
     let one = both (is_type (parameter_type g p) (type_of e)) (arguments_fit g ps es) agree in
     let a = followed (value e l w.memory) _ vs h in
     let b = followed (values es l w.memory) _ vs a.then in
-    subst (λ (z : List Value). ArgumentsAreOf w.memory g (p ∷ ps) z) (some_same (a.value ∷ b.value) vs b.then)
-      (of_type w.memory (parameter_type g p) (type_of e) a.value (type_is (parameter_type g p) (type_of e) one.0) (value_is_of u f e l w a.value fit.0 r a.first),
-        arguments_are u f g l w r ps es b.value fit.1 one.1 b.first)
+    subst (λ (z : List Value). ArgumentsAreOf w.memory g (p ∷ ps) z) (some_same (a.value ∷ b.value) vs b.then) (
+      of_type w.memory (parameter_type g p) (type_of e) a.value (type_is (parameter_type g p) (type_of e) one.0) (value_is_of u f e l w a.value fit.0 r a.first),
+      arguments_are u f g l w r ps es b.value fit.1 one.1 b.first,
+    )
 
 arguments_later : (m later : Memory) (g : CoreFunctionTree) (ps : List Parameter) (vs : List Value) → ComesAfter m later → ArgumentsAreOf m g ps vs → ArgumentsAreOf later g ps vs
 arguments_later m later g [] vs after h = tt
@@ -160,7 +161,7 @@ module _ (R : Relation) (keeps : Keeps R) (shorts : R short short) (u : CoreUnit
   take_in_range (b ∷ input) k j w ready are h =
       let small : b < 256 = are.0 in
       keeps.emit _ _ _ (h (Some (integer b)) (record w { input = input })
-        (number_returned w (record w { input = input }) b (omega arith) refl (record { sound = ready.sound; data_blocks = ready.data_blocks; input = are.1 })))
+      (number_returned w (record w { input = input }) b (omega arith) refl (record { sound = ready.sound; data_blocks = ready.data_blocks; input = are.1 })))
 
   -- ---- passing arguments
 
@@ -178,19 +179,19 @@ module _ (R : Relation) (keeps : Keeps R) (shorts : R short short) (u : CoreUnit
   pass_in_range f start first (Placed i s ∷ ps) [] e w k j is are h = keeps.undefined
   pass_in_range f start first (Plain x ∷ ps) (v ∷ vs) e w k j is are h =
       pass_in_range f start first ps vs (with_value e x v) w k j
-        (record { variables = with_is_of w.memory (variable_type f) e x v is.variables are.0; ready = is.ready; after = is.after; blocks = is.blocks }) are.1 h
+      (record { variables = with_is_of w.memory (variable_type f) e x v is.variables are.0; ready = is.ready; after = is.after; blocks = is.blocks }) are.1 h
   pass_in_range f start first (Placed i s ∷ ps) (v ∷ vs) e w k j is are h =
       given_in_range (memory.store s w.memory (into (first + i) 0) v) _ _ (λ m stored.
-        let on = memory_goes_on.store s w.memory m (into (first + i) 0) v stored in
-        let sound = soundness_is_kept.store s w.memory m (into (first + i) 0) v is.ready.sound (are.0 s refl).sound stored in
-        pass_in_range f start first ps vs e (with_memory w m) k j
-          (record {
-            variables = are_of_later w.memory m (variable_type f) e on is.variables;
-            ready = ready_later u w m is.ready on sound;
-            after = after_next start w.memory m is.after on;
-            blocks = let longer = on.longer in let room = is.blocks in omega arith;
-          })
-          (arguments_later w.memory m f ps vs on are.1) h)
+      let on = memory_goes_on.store s w.memory m (into (first + i) 0) v stored in
+      let sound = soundness_is_kept.store s w.memory m (into (first + i) 0) v is.ready.sound (are.0 s refl).sound stored in
+      pass_in_range f start first ps vs e (with_memory w m) k j
+      (record {
+        variables = are_of_later w.memory m (variable_type f) e on is.variables;
+        ready = ready_later u w m is.ready on sound;
+        after = after_next start w.memory m is.after on;
+        blocks = let longer = on.longer in let room = is.blocks in omega arith;
+      })
+      (arguments_later w.memory m f ps vs on are.1) h)
 
   -- ---- bodies
 
@@ -214,15 +215,15 @@ module _ (R : Relation) (keeps : Keeps R) (shorts : R short short) (u : CoreUnit
     result_in_range result_type (Some x) es fit k j h l w is result v r =
         let first = both (taken_fits f result_type x) (not (any_mentions x es)) fit in
         given_in_range result _ _ (λ value some.
-          h _ v (moment_assigned u f start (targets.Temporary x) l v value
-            (taken result_type x first.0 v.memory value (subst (λ (o : Option Value). ResultIsOf v.memory result_type o) some r.typed))
-            (moment_later u f start l w v is r.after r.ready)))
+        h _ v (moment_assigned u f start (targets.Temporary x) l v value
+        (taken result_type x first.0 v.memory value (subst (λ (o : Option Value). ResultIsOf v.memory result_type o) some r.typed))
+        (moment_later u f start l w v is r.after r.ready)))
 
     invoke_in_range : (g : Callee) (es : List CoreExprTree) (vs : List Value) (l : Locals) (w : World) → IsMoment u f start l w → exprs_fit u f es ≡ true → callee_fits u g es ≡ true → values es l w.memory ≡ Some vs → (k j : Return) → ReturnsInRange R u (result_type_of u g) w.memory k j → R (invoke g c vs k w) (invoke g d vs j w)
     invoke_in_range (Function g) es vs l w is fit agree h k j kj =
         let first = both (nat_lt g.0 (length u.functions)) (arguments_fit (function_at u g.0) (map (λ p. p.place) (function_at u g.0).parameters) es) agree in
         cd g.0 vs k j w (grind (arith, nat_tests, first.0))
-          (arguments_are u f (function_at u g.0) l w is.range (map (λ p. p.place) (function_at u g.0).parameters) es vs fit first.1 h) is.range.ready kj
+        (arguments_are u f (function_at u g.0) l w is.range (map (λ p. p.place) (function_at u g.0).parameters) es vs fit first.1 h) is.range.ready kj
     invoke_in_range PutChar es vs l w is fit agree h k j kj = put_in_range vs k j w is.range.ready kj
     invoke_in_range GetChar es vs l w is fit agree h k j kj = take_in_range w.input k j w is.range.ready is.range.ready.input kj
 
@@ -233,47 +234,47 @@ module _ (R : Relation) (keeps : Keeps R) (shorts : R short short) (u : CoreUnit
       stmt_in_range b (assign x e) fit k j h l w is =
           let two = both (expr_fits u f e) (is_type (target_type f x) (type_of e)) fit in
           given_in_range (value e l w.memory) _ _ (λ v i.
-            h.next _ w (moment_assigned u f start x l w v (of_type w.memory (target_type f x) (type_of e) v (type_is (target_type f x) (type_of e) two.1) (value_is_of u f e l w v two.0 is.range i)) is))
+          h.next _ w (moment_assigned u f start x l w v (of_type w.memory (target_type f x) (type_of e) v (type_is (target_type f x) (type_of e) two.1) (value_is_of u f e l w v two.0 is.range i)) is))
       stmt_in_range b (store s p e) fit k j h l w is =
           let three = both (expr_fits u f p && expr_fits u f e) (same_scalar (type_of e) s) fit in
           let two = both (expr_fits u f p) (expr_fits u f e) three.0 in
           pointer_in_range p l w _ _ (λ q. given_in_range (value e l w.memory) _ _ (λ v i. given_in_range (memory.store s w.memory q v) _ _ (λ m stored.
-            h.next l _ (moment_stepped u f start l w m is (memory_goes_on.store s w.memory m q v stored)
-              (soundness_is_kept.store s w.memory m q v is.range.ready.sound (value_is_of u f e l w v two.1 is.range i).sound stored)))))
+          h.next l _ (moment_stepped u f start l w m is (memory_goes_on.store s w.memory m q v stored)
+          (soundness_is_kept.store s w.memory m q v is.range.ready.sound (value_is_of u f e l w v two.1 is.range i).sound stored)))))
       stmt_in_range b (copy size alignment p q) fit k j h l w is =
           pointer_in_range p l w _ _ (λ x. pointer_in_range q l w _ _ (λ y. given_in_range (memory.copy size alignment w.memory x y) _ _ (λ m copied.
-            h.next l _ (moment_stepped u f start l w m is (memory_goes_on.copy size alignment w.memory m x y copied)
-              (soundness_is_kept.copy size alignment w.memory m x y is.range.ready.sound copied)))))
+          h.next l _ (moment_stepped u f start l w m is (memory_goes_on.copy size alignment w.memory m x y copied)
+          (soundness_is_kept.copy size alignment w.memory m x y is.range.ready.sound copied)))))
       stmt_in_range b (fill blank p) fit k j h l w is =
           pointer_in_range p l w _ _ (λ x. given_in_range (memory.fill blank w.memory x) _ _ (λ m filled.
-            h.next l _ (moment_stepped u f start l w m is (memory_goes_on.fill blank w.memory m x filled)
-              (soundness_is_kept.fill blank w.memory m x is.range.ready.sound filled))))
+          h.next l _ (moment_stepped u f start l w m is (memory_goes_on.fill blank w.memory m x filled)
+          (soundness_is_kept.fill blank w.memory m x is.range.ready.sound filled))))
       stmt_in_range b (call x g es) fit k j h l w is =
           let three = both (exprs_fit u f es && callee_fits u g es) (destination_fits f (result_type_of u g) x es) fit in
           let two = both (exprs_fit u f es) (callee_fits u g es) three.0 in
           given_in_range (values es l w.memory) _ _ (λ vs i.
-            invoke_in_range g es vs l w is two.0 two.1 i _ _ (result_in_range (result_type_of u g) x es three.1 k.next j.next h.next l w is))
+          invoke_in_range g es vs l w is two.0 two.1 i _ _ (result_in_range (result_type_of u g) x es three.1 k.next j.next h.next l w is))
       stmt_in_range b (branch e p q) fit k j h l w is =
           let three = both (expr_fits u f e && stmt_fits u f b p) (stmt_fits u f b q) fit in
           let two = both (expr_fits u f e) (stmt_fits u f b p) three.0 in
           given_in_range (value e l w.memory) _ _ (λ v i. given_in_range (truth w.memory v) _ _ (λ yes t.
-            choice_in_range yes _ _ _ _ (stmt_in_range b p two.1 k j h l w is) (stmt_in_range b q three.1 k j h l w is)))
+          choice_in_range yes _ _ _ _ (stmt_in_range b p two.1 k j h l w is) (stmt_in_range b q three.1 k j h l w is)))
       stmt_in_range b (loop body step) fit k j h l w is =
           let two = both (stmt_fits u f true body) (stmt_fits u f true step) fit in
           turns_in_range turns _ _ (λ again more fg.
-            let st = stmt_in_range true step two.1 (after_step k again) (after_step j more) (record { next = fg; on_break = h.next; on_continue = fg; on_return = h.on_return }) in
-            stmt_in_range true body two.0 _ _ (record { next = st; on_break = h.next; on_continue = st; on_return = h.on_return })) l w is
+          let st = stmt_in_range true step two.1 (after_step k again) (after_step j more) (record { next = fg; on_break = h.next; on_continue = fg; on_return = h.on_return }) in
+          stmt_in_range true body two.0 _ _ (record { next = st; on_break = h.next; on_continue = st; on_return = h.on_return })) l w is
       stmt_in_range b break fit k j h l w is = h.on_break l w is
       stmt_in_range b continue fit k j h l w is = h.on_continue l w is
       stmt_in_range b (return None) fit k j h l w is = h.on_return None w (record { typed = tt; ready = is.range.ready; after = is.after })
       stmt_in_range b (return (Some e)) fit k j h l w is =
           let two = both (expr_fits u f e) (is_type f.result_type (type_of e)) fit in
           given_in_range (value e l w.memory) _ _ (λ v i.
-            h.on_return (Some v) w (record {
-              typed = of_type w.memory f.result_type (type_of e) v (type_is f.result_type (type_of e) two.1) (value_is_of u f e l w v two.0 is.range i);
-              ready = is.range.ready;
-              after = is.after;
-            }))
+          h.on_return (Some v) w (record {
+            typed = of_type w.memory f.result_type (type_of e) v (type_is f.result_type (type_of e) two.1) (value_is_of u f e l w v two.0 is.range i);
+            ready = is.range.ready;
+            after = is.after;
+          }))
 
       pub stmts_in_range : (in_loop : Bool) (ss : CoreStmts) → stmts_fit u f in_loop ss ≡ true → (k j : Continuations) → AllInRange R u f start k j → RelatedInRange R u f start (runs_all ss one k) (runs_all ss other j)
       stmts_in_range b no_stmts fit k j h l w is = h.next l w is
@@ -305,23 +306,23 @@ module _ (R : Relation) (keeps : Keeps R) (shorts : R short short) (u : CoreUnit
       let on = after_make f.blocks w.memory in
       let count = (blocks_are_fresh f.blocks w.memory).count in
       keeps.emit _ _ _ (pass_in_range f w.memory first (map (λ p. p.place) f.parameters) vs no_values (with_memory w m) _ _
-        (record {
-          variables = none_are_of m (variable_type f);
-          ready = ready_later u w m ready on (soundness_is_kept.make f.blocks w.memory ready.sound);
-          after = on;
-          blocks = omega (arith, count);
-        })
-        (arguments_later w.memory m f (map (λ p. p.place) f.parameters) vs on are)
-        (λ e v is.
-          stmts_in_range turns _ _ (calls_in_range turns depth) f w.memory false f.body (function_known u fits g known) _ _
-            (record {
-              next = λ l x moment. keeps.emit _ _ _ (h None _ (returned_later f.result_type w.memory first None x (record { typed = tt; ready = moment.range.ready; after = moment.after })));
-              on_break = λ l x moment. keeps.undefined;
-              on_continue = λ l x moment. keeps.undefined;
-              on_return = λ result x r. keeps.emit _ _ _ (h result _ (returned_later f.result_type w.memory first result x r));
-            })
-            (record { first_block = first; variables = e; temporaries = no_values }) v
-            (record { range = record { variables = is.variables; temporaries = none_are_of v.memory (temporary_type f); blocks = is.blocks; ready = is.ready }; after = is.after })))
+      (record {
+        variables = none_are_of m (variable_type f);
+        ready = ready_later u w m ready on (soundness_is_kept.make f.blocks w.memory ready.sound);
+        after = on;
+        blocks = omega (arith, count);
+      })
+      (arguments_later w.memory m f (map (λ p. p.place) f.parameters) vs on are)
+      (λ e v is.
+      stmts_in_range turns _ _ (calls_in_range turns depth) f w.memory false f.body (function_known u fits g known) _ _
+      (record {
+        next = λ l x moment. keeps.emit _ _ _ (h None _ (returned_later f.result_type w.memory first None x (record { typed = tt; ready = moment.range.ready; after = moment.after })));
+        on_break = λ l x moment. keeps.undefined;
+        on_continue = λ l x moment. keeps.undefined;
+        on_return = λ result x r. keeps.emit _ _ _ (h result _ (returned_later f.result_type w.memory first result x r));
+      })
+      (record { first_block = first; variables = e; temporaries = no_values }) v
+      (record { range = record { variables = is.variables; temporaries = none_are_of v.memory (temporary_type f); blocks = is.blocks; ready = is.ready }; after = is.after })))
 
 -- ---- what follows at other moments makes no difference
 

@@ -98,7 +98,7 @@ loaded_is_of s m p v sound h =
     let a = followed (range m p (width s) (width s)) _ v h in
     record {
       typed =
-        number_typed s m (cells_at m a.value (width s)) v (length-cells_from (block_at m a.value.block).cells a.value.offset (width s))
+          number_typed s m (cells_at m a.value (width s)) v (length-cells_from (block_at m a.value.block).cells a.value.offset (width s))
           (sound_read m p (width s) (width s) a.value sound (range_is m p (width s) (width s) a.value a.first)) a.then;
       sound = loaded_sound s m p v sound h;
     }
@@ -178,11 +178,11 @@ place_is_of : (u : CoreUnitTree) (f : CoreFunctionTree) (place : Place) (l : Loc
 place_is_of u f (Local i) l w v fits r h =
     let room = r.blocks in
     subst (λ (x : Value). IsOf w.memory scalars.Pointer x) (some_same _ v h)
-      (record { typed = refl; sound = record { made = grind (arith, nat_tests, fits, room); in_range = λ live. omega arith } })
+    (record { typed = refl; sound = record { made = grind (arith, nat_tests, fits, room); in_range = λ live. omega arith } })
 place_is_of u f (Data i) l w v fits r h =
     let room = r.ready.data_blocks in
     subst (λ (x : Value). IsOf w.memory scalars.Pointer x) (some_same _ v h)
-      (record { typed = refl; sound = record { made = grind (arith, nat_tests, fits, room); in_range = λ live. omega arith } })
+    (record { typed = refl; sound = record { made = grind (arith, nat_tests, fits, room); in_range = λ live. omega arith } })
 
 second_truth : (m : Memory) (o : Option Value) (w : Value) → (o >>= λ x. truth_value m x) ≡ Some w → IsOf m scalars.Int w
 second_truth m o w h =
@@ -209,7 +209,7 @@ value_is_of u f (member offset a) l w v fits r h =
     let q = followed (as_pointer p.value) _ v p.then in
     let o = followed (member_of w.memory q.value offset) _ v q.then in
     subst (λ (x : Value). IsOf w.memory scalars.Pointer x) (some_same (address o.value) v o.then)
-      (record { typed = refl; sound = moved_sound w.memory q.value o.value (pos offset) o.first })
+    (record { typed = refl; sound = moved_sound w.memory q.value o.value (pos offset) o.first })
 value_is_of u f (unary op a) l w v fits r h =
     let p = followed (value a l w.memory) _ v h in
     let known = value_is_of u f a l w p.value fits r p.first in
@@ -231,14 +231,14 @@ value_is_of u f (conjunction a b) l w v fits r h =
     let p = followed (value a l w.memory) _ v h in
     let q = followed (truth w.memory p.value) _ v p.then in
     decided w.memory q.value _ _ scalars.Int v q.then
-      (second_truth w.memory (value b l w.memory) v)
-      (λ e. subst (λ (x : Value). IsOf w.memory scalars.Int x) (some_same _ v e) (truth_is_of w.memory false))
+    (second_truth w.memory (value b l w.memory) v)
+    (λ e. subst (λ (x : Value). IsOf w.memory scalars.Int x) (some_same _ v e) (truth_is_of w.memory false))
 value_is_of u f (disjunction a b) l w v fits r h =
     let p = followed (value a l w.memory) _ v h in
     let q = followed (truth w.memory p.value) _ v p.then in
     decided w.memory q.value _ _ scalars.Int v q.then
-      (λ e. subst (λ (x : Value). IsOf w.memory scalars.Int x) (some_same _ v e) (truth_is_of w.memory true))
-      (second_truth w.memory (value b l w.memory) v)
+    (λ e. subst (λ (x : Value). IsOf w.memory scalars.Int x) (some_same _ v e) (truth_is_of w.memory true))
+    (second_truth w.memory (value b l w.memory) v)
 value_is_of u f (choice c a b) l w v fits r h =
     let alike = both (expr_fits u f c && expr_fits u f a && expr_fits u f b) (same_scalar (type_of a) (type_of b)) fits in
     let second = both (expr_fits u f c && expr_fits u f a) (expr_fits u f b) alike.0 in
@@ -246,5 +246,5 @@ value_is_of u f (choice c a b) l w v fits r h =
     let p = followed (value c l w.memory) _ v h in
     let q = followed (truth w.memory p.value) _ v p.then in
     decided w.memory q.value _ _ (type_of a) v q.then
-      (value_is_of u f a l w v first.1 r)
-      (λ e. subst (λ (s : Scalar). IsOf w.memory s v) (sym (scalar_same (type_of a) (type_of b) alike.1)) (value_is_of u f b l w v second.1 r e))
+    (value_is_of u f a l w v first.1 r)
+    (λ e. subst (λ (s : Scalar). IsOf w.memory s v) (sym (scalar_same (type_of a) (type_of b) alike.1)) (value_is_of u f b l w v second.1 r e))

@@ -145,9 +145,12 @@ number_text scalars.Unsigned n = decimal n
 number_text scalars.Pointer n = decimal n
 
 -- modulo 2 ^ 32, into the range of the type
+abbrev pub wrap_head : Signedness → List ℕ
+wrap_head Signed = codes "wraps"
+wrap_head Unsigned = codes "wrapu"
+
 abbrev pub wrapped : Signedness → List ℕ → List ℕ
-wrapped Signed t = applied (codes "wraps") t
-wrapped Unsigned t = applied (codes "wrapu") t
+wrapped s t = applied (wrap_head s) t
 
 abbrev pub difference_of : List ℕ → List ℕ → List ℕ
 difference_of t u = applied_to_both (codes "sub") t u
@@ -194,16 +197,22 @@ binary_text (binaries.Difference element) t u k = []
 binary_text (binaries.ComparePointers op) t u k = []
 
 -- a conversion from one type to another: every `char` is an `int` and an `unsigned`
+abbrev pub from_int : (to : Scalar) → List ℕ → List ℕ
+from_int scalars.Char t = rest_of t 256
+from_int scalars.Int t = t
+from_int scalars.Unsigned t = wrapped Unsigned t
+from_int scalars.Pointer t = []
+
+abbrev pub from_unsigned : (to : Scalar) → List ℕ → List ℕ
+from_unsigned scalars.Char t = rest_of t 256
+from_unsigned scalars.Int t = wrapped Signed t
+from_unsigned scalars.Unsigned t = t
+from_unsigned scalars.Pointer t = []
+
 abbrev pub conversion_text : (from to : Scalar) → List ℕ → List ℕ
 conversion_text scalars.Char to t = t
-conversion_text scalars.Int scalars.Char t = rest_of t 256
-conversion_text scalars.Int scalars.Int t = t
-conversion_text scalars.Int scalars.Unsigned t = wrapped Unsigned t
-conversion_text scalars.Int scalars.Pointer t = []
-conversion_text scalars.Unsigned scalars.Char t = rest_of t 256
-conversion_text scalars.Unsigned scalars.Int t = wrapped Signed t
-conversion_text scalars.Unsigned scalars.Unsigned t = t
-conversion_text scalars.Unsigned scalars.Pointer t = []
+conversion_text scalars.Int to t = from_int to t
+conversion_text scalars.Unsigned to t = from_unsigned to t
 conversion_text scalars.Pointer to t = []
 
 abbrev pub term_text : CoreFunctionTree → CoreExprTree → List ℕ

@@ -4,15 +4,17 @@
 
 mod expressions;
 mod laws;
+mod names;
 mod outline;
 mod places;
 mod statements;
+mod term_text;
 mod terms;
 mod types;
 mod unit;
 mod units;
 
-pub use expressions::CoreExpr;
+pub use expressions::{CoreExpr, Operands};
 pub use laws::{
     bodies_stay_in_range, calls_alone, calls_stay_in_range, core_grows, initial_memory_is_ready,
     values_have_types,

@@ -1,14 +1,10 @@
-// The terms and conditions of expressions, as text.
-ghost use Rattle.std.specs.Prelude.{◌≡◌, ◌++◌, OnOk, codes, decimal, length, map, slice_index_or};
-ghost use Rattle.qs_core.specs.TreeOf.{core_expr, function_tree, variable_tree};
+// Which expressions have terms and conditions.
+ghost use Rattle.std.specs.Prelude.{◌≡◌};
+ghost use Rattle.qs_core.specs.TreeOf.{core_expr};
 ghost use Rattle.qs_core.specs.Terms as spec;
 
 use crate::expressions::CoreExpr;
-use crate::types::type_of;
-use crate::units::CoreFunction;
-use itoa::Buffer;
-use qs_base::NoMemory;
-use qs_memory::{Arithmetic, BinaryOperation, Comparison, Scalar, Signedness, UnaryOperation};
+use qs_memory::{Arithmetic, BinaryOperation, Scalar, Signedness, UnaryOperation};
 
 // ---- which expressions have terms
 
@@ -44,15 +40,16 @@ fn is_literal_from(least: u32, greatest: u32, e: &CoreExpr) -> bool
         CoreExpr::Load(_, _) => false,
         CoreExpr::Member(_, _) => false,
         CoreExpr::Unary(_, _) => false,
-        CoreExpr::Binary(_, _, _) => false,
+        CoreExpr::Binary(_, _) => false,
         CoreExpr::Convert(_, _) => false,
-        CoreExpr::And(_, _) => false,
-        CoreExpr::Or(_, _) => false,
+        CoreExpr::And(_) => false,
+        CoreExpr::Or(_) => false,
         CoreExpr::Choice(_, _, _) => false,
     }
 }
 
-fn literal_number(e: &CoreExpr) -> u32
+/// The number of a literal.
+pub fn literal_number(e: &CoreExpr) -> u32
     ensures { result ≡ spec.literal_number (core_expr e.now) }
 {
     match e {
@@ -64,10 +61,10 @@ fn literal_number(e: &CoreExpr) -> u32
         CoreExpr::Load(_, _) => 0,
         CoreExpr::Member(_, _) => 0,
         CoreExpr::Unary(_, _) => 0,
-        CoreExpr::Binary(_, _, _) => 0,
+        CoreExpr::Binary(_, _) => 0,
         CoreExpr::Convert(_, _) => 0,
-        CoreExpr::And(_, _) => 0,
-        CoreExpr::Or(_, _) => 0,
+        CoreExpr::And(_) => 0,
+        CoreExpr::Or(_) => 0,
         CoreExpr::Choice(_, _, _) => 0,
     }
 }
@@ -84,7 +81,12 @@ fn is_count(e: &CoreExpr) -> bool
     is_literal_from(0, 31, e)
 }
 
-fn arithmetic_has_term(op: Arithmetic, s: Signedness, right_has_term: bool, right: &CoreExpr) -> bool
+fn arithmetic_has_term(
+    op: Arithmetic,
+    s: Signedness,
+    right_has_term: bool,
+    right: &CoreExpr,
+) -> bool
     ensures { result ≡ spec.arithmetic_has_term op s right_has_term (core_expr right.now) }
 {
     match op {
@@ -138,10 +140,51 @@ pub fn has_term(e: &CoreExpr) -> bool
         CoreExpr::Load(_, _) => false,
         CoreExpr::Member(_, _) => false,
         CoreExpr::Unary(op, a) => unary_has_term(*op) && has_term(a),
-        CoreExpr::Binary(op, a, b) => binary_has_term(*op, has_term(b), b) && has_term(a),
+        CoreExpr::Binary(op, p) => {
+            binary_has_term(*op, has_term(&p.right), &p.right) && has_term(&p.left)
+        }
         CoreExpr::Convert(s, a) => is_integer(*s) && has_term(a),
-        CoreExpr::And(_, _) => false,
-        CoreExpr::Or(_, _) => false,
+        CoreExpr::And(_) => false,
+        CoreExpr::Or(_) => false,
+        CoreExpr::Choice(_, _, _) => false,
+    }
+}
+
+fn binary_has_condition(op: BinaryOperation, has_one: bool, both_have_terms: bool) -> bool
+    ensures { result ≡ spec.binary_has_condition op has_one both_have_terms }
+{
+    match op {
+        BinaryOperation::Arithmetic(_, _) => has_one,
+        BinaryOperation::Compare(_, _) => both_have_terms,
+        BinaryOperation::Move(_, _, _) => false,
+        BinaryOperation::Difference(_) => false,
+        BinaryOperation::ComparePointers(_) => false,
+    }
+}
+
+/// Whether an expression has a condition.
+pub fn has_condition(e: &CoreExpr) -> bool
+    ensures { result ≡ spec.has_condition (core_expr e.now) }
+{
+    match e {
+        CoreExpr::Literal(s, _) => is_integer(*s),
+        CoreExpr::Null => false,
+        CoreExpr::Variable(s, _) => is_integer(*s),
+        CoreExpr::Temporary(s, _) => is_integer(*s),
+        CoreExpr::Address(_) => false,
+        CoreExpr::Load(_, _) => false,
+        CoreExpr::Member(_, _) => false,
+        CoreExpr::Unary(UnaryOperation::Plus(_), a) => has_term(a),
+        CoreExpr::Unary(UnaryOperation::Minus(_), a) => has_term(a),
+        CoreExpr::Unary(UnaryOperation::Complement(_), _) => false,
+        CoreExpr::Unary(UnaryOperation::Not, a) => has_condition(a),
+        CoreExpr::Unary(UnaryOperation::Truth, _) => false,
+        CoreExpr::Binary(op, p) => {
+            binary_has_condition(*op, has_term(e), has_term(&p.left) && has_term(&p.right))
+        }
+        CoreExpr::Convert(_, _) => has_term(e),
+        CoreExpr::And(p) => has_condition(&p.left) && has_condition(&p.right),
+        CoreExpr::Or(p) => has_condition(&p.left) && has_condition(&p.right),
         CoreExpr::Choice(_, _, _) => false,
     }
 }

@@ -52,10 +52,10 @@ pub fn type_of(e: &CoreExpr) -> Scalar
         CoreExpr::Load(s, _) => *s,
         CoreExpr::Member(_, _) => Scalar::Pointer,
         CoreExpr::Unary(op, _) => unary_type(*op),
-        CoreExpr::Binary(op, _, _) => binary_type(*op),
+        CoreExpr::Binary(op, _) => binary_type(*op),
         CoreExpr::Convert(s, _) => *s,
-        CoreExpr::And(_, _) => Scalar::Int,
-        CoreExpr::Or(_, _) => Scalar::Int,
+        CoreExpr::And(_) => Scalar::Int,
+        CoreExpr::Or(_) => Scalar::Int,
         CoreExpr::Choice(_, a, _) => type_of(a),
     }
 }

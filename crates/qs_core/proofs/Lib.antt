@@ -2,3 +2,6 @@ pub mod RelationLaws
 pub mod TypeLaws
 pub mod RangeLaws
 pub mod InitialLaws
+pub mod OutlineLaws
+mod OutlineExamples
+mod RunExamples

@@ -173,6 +173,7 @@ fn put_return(
     put(out, b"\n")
 }
 
+#[tactic(auto, using(crate::proofs::OutlineLaws::count_of_stmts))]
 fn put_seq(out: &mut Vec<u8>, path: &[u8], parts: &[CoreStmt]) -> Result<(), NoMemory>
     ensures { OnOk result (out.new.items ≡ out.old.items ++ spec.line path.now (spec.seq_form (stmts_of (core_stmts parts.now)))) }
 {
@@ -183,6 +184,7 @@ fn put_seq(out: &mut Vec<u8>, path: &[u8], parts: &[CoreStmt]) -> Result<(), NoM
 }
 
 // The statements of a list, from the first on.
+#[tactic(auto, using(crate::proofs::OutlineLaws::parts_more))]
 #[cycle(put_stmt)]
 fn put_parts(
     alloc: Global,

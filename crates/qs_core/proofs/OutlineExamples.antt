@@ -30,10 +30,10 @@ f = record {
   blocks = [];
   result_type = Some scalars.Unsigned;
   body = stmts_of (
-    branch (binary (binaries.Compare comparisons.Equal Unsigned) n (number 0)) (return (Some (number 0))) skip
-    ∷ call (Some 0) (Function (record { 0 = 0 })) (binary (binaries.Arithmetic arithmetics.Subtract Unsigned) n (number 1) ∷ [])
-    ∷ return (Some (binary (binaries.Arithmetic arithmetics.Add Unsigned) (temporary scalars.Unsigned 0) (number 1)))
-    ∷ []);
+      branch (binary (binaries.Compare comparisons.Equal Unsigned) n (number 0)) (return (Some (number 0))) skip
+      ∷ call (Some 0) (Function (record { 0 = 0 })) (binary (binaries.Arithmetic arithmetics.Subtract Unsigned) n (number 1) ∷ [])
+      ∷ return (Some (binary (binaries.Arithmetic arithmetics.Add Unsigned) (temporary scalars.Unsigned 0) (number 1)))
+      ∷ []);
 }
 
 -- int main(unsigned n) { f(n); return 0; }
@@ -46,10 +46,10 @@ main = record {
   blocks = [];
   result_type = Some scalars.Int;
   body = stmts_of (
-    call None (Function (record { 0 = 0 })) (n ∷ [])
-    ∷ return (Some (literal scalars.Int 0))
-    ∷ return (Some (literal scalars.Int 0))
-    ∷ []);
+      call None (Function (record { 0 = 0 })) (n ∷ [])
+      ∷ return (Some (literal scalars.Int 0))
+      ∷ return (Some (literal scalars.Int 0))
+      ∷ []);
 }
 
 abbrev whole : CoreUnitTree

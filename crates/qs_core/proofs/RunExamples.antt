@@ -81,15 +81,15 @@ element i = binary (binaries.Move Up Signed 4) (address_of (Local 0)) (int i)
 -- while ((c = getchar()) != -1) putchar(c); return 0;
 abbrev copies : CoreUnitTree
 copies = main_with (
-  loop
+    loop
     (seq (stmts_of (
-      call (Some 0) GetChar []
-      ∷ assign (targets.Variable 0) (temporary scalars.Int 0)
-      ∷ branch (binary (binaries.Compare comparisons.NotEqual Signed) c (int 4294967295)) (call None PutChar (c ∷ [])) break
-      ∷ [])))
+    call (Some 0) GetChar []
+    ∷ assign (targets.Variable 0) (temporary scalars.Int 0)
+    ∷ branch (binary (binaries.Compare comparisons.NotEqual Signed) c (int 4294967295)) (call None PutChar (c ∷ [])) break
+    ∷ [])))
     skip
-  ∷ return (Some (int 0))
-  ∷ [])
+    ∷ return (Some (int 0))
+    ∷ [])
 
 it_fits : unit_fits copies ≡ true
 it_fits = refl

@@ -173,18 +173,22 @@ fn put_return(
     put(out, b"\n")
 }
 
-#[tactic(auto, using(crate::proofs::OutlineLaws::count_of_stmts))]
+fn count_of(parts: &[CoreStmt]) -> usize
+    ensures { result ≡ spec.count_of (stmts_of (core_stmts parts.now)) }
+{
+    parts.len()
+}
+
 fn put_seq(out: &mut Vec<u8>, path: &[u8], parts: &[CoreStmt]) -> Result<(), NoMemory>
     ensures { OnOk result (out.new.items ≡ out.old.items ++ spec.line path.now (spec.seq_form (stmts_of (core_stmts parts.now)))) }
 {
     put_path(out, path)?;
     put(out, b" seq ")?;
-    put_count(out, parts.len())?;
+    put_count(out, count_of(parts))?;
     put(out, b"\n")
 }
 
 // The statements of a list, from the first on.
-#[tactic(auto, using(crate::proofs::OutlineLaws::parts_more))]
 #[cycle(put_stmt)]
 fn put_parts(
     alloc: Global,

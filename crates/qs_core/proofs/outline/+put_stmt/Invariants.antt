@@ -9,6 +9,6 @@ abbrev pub invariant-put_parts-loop-s : goal.invariant-put_parts-loop-s
 invariant-put_parts-loop-s l = record {
   number : l.part ≡ l.s-index;
   text :
-    l.out.items ++ outline_parts (map function_tree l.functions) (function_tree l.f) l.path l.part (stmts_of (map core_stmt (drop l.s-index l.parts)))
-    ≡ l.fn.out.items ++ outline_parts (map function_tree l.functions) (function_tree l.f) l.path 0 (stmts_of (map core_stmt l.parts));
+      l.out.items ++ outline_parts (map function_tree l.functions) (function_tree l.f) l.path l.part (stmts_of (map core_stmt (drop l.s-index l.parts)))
+      ≡ l.fn.out.items ++ outline_parts (map function_tree l.functions) (function_tree l.f) l.path 0 (stmts_of (map core_stmt l.parts));
 }

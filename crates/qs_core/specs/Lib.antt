@@ -3,4 +3,11 @@ pub mod TreeOf
 pub mod Expressions
 pub mod Statements
 pub mod Units
+pub mod Terms
+pub mod Outline
+pub mod CallGraph
+pub mod Sizes
+pub mod Fits
+pub mod Ranges
+pub mod UnitTrees
 pub mod Laws

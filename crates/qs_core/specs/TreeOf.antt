@@ -1,8 +1,9 @@
 -- The trees that the program's values stand for.
-use Rattle.std.specs.Prelude.{List, map, option_map}
+use Rattle.std.specs.Prelude.{List, Option, map, option_map}
 use Rattle.qs_memory.specs.BlankOf.{blank_tree}
-use Rattle.qs_core.specs.Trees.{CoreExprTree, literal, null_pointer, variable, temporary, address_of, load, member, unary, binary, conversion, conjunction, disjunction, choice, CoreStmtTree, skip, seq, assign, store, copy, fill, call, branch, loop, break, continue, return, stmts_of, CoreParameterTree, CoreVariableTree, CoreFunctionTree, PieceTree, blank, bytes, pointer, DataBlockTree, CoreUnitTree}
+use Rattle.qs_core.specs.Trees.{CoreExprTree, literal, null_pointer, variable, temporary, address_of, load, member, unary, binary, conversion, conjunction, disjunction, choice, CoreStmtTree, skip, seq, assign, store, copy, fill, call, branch, loop, break, continue, return, stmts_of, CoreParameterTree, CoreVariableTree, CoreFunctionTree, PieceTree, blank, bytes, pointer, DataBlockTree}
 use Rattle.qs_core.specs.declared.expressions.CoreExpr.{CoreExpr, CoreExpr-F, fold-CoreExpr}
+use Rattle.qs_core.specs.declared.expressions.Operands.{Operands, Operands-F, fold-Operands}
 use Rattle.qs_core.specs.declared.statements.CoreStmt.{CoreStmt, CoreStmt-F, fold-CoreStmt}
 use Rattle.qs_core.specs.declared.units.CoreParameter.{CoreParameter}
 use Rattle.qs_core.specs.declared.units.CoreVariable.{CoreVariable}
@@ -10,9 +11,13 @@ use Rattle.qs_core.specs.declared.units.CoreFunction.{CoreFunction}
 use Rattle.qs_core.specs.declared.units.Piece.{Piece}
 use Rattle.qs_core.specs.declared.units.Piece.TheVariants as pieces
 use Rattle.qs_core.specs.declared.units.DataBlock.{DataBlock}
-use Rattle.qs_core.specs.declared.units.CoreUnit.{CoreUnit}
 
-abbrev pub expr_step : CoreExpr-F CoreExprTree → CoreExprTree
+-- two operands
+pub record OperandsTree : Type 0 where
+  pub left : CoreExprTree
+  pub right : CoreExprTree
+
+abbrev pub expr_step : CoreExpr-F CoreExprTree OperandsTree → CoreExprTree
 expr_step (CoreExpr-F.Literal s n) = literal s n
 expr_step CoreExpr-F.Null = null_pointer
 expr_step (CoreExpr-F.Variable s x) = variable s x
@@ -21,17 +26,26 @@ expr_step (CoreExpr-F.Address place) = address_of place
 expr_step (CoreExpr-F.Load s a) = load s a.value
 expr_step (CoreExpr-F.Member offset a) = member offset a.value
 expr_step (CoreExpr-F.Unary op a) = unary op a.value
-expr_step (CoreExpr-F.Binary op a b) = binary op a.value b.value
+expr_step (CoreExpr-F.Binary op p) = binary op p.value.left p.value.right
 expr_step (CoreExpr-F.Convert s a) = conversion s a.value
-expr_step (CoreExpr-F.And a b) = conjunction a.value b.value
-expr_step (CoreExpr-F.Or a b) = disjunction a.value b.value
+expr_step (CoreExpr-F.And p) = conjunction p.value.left p.value.right
+expr_step (CoreExpr-F.Or p) = disjunction p.value.left p.value.right
 expr_step (CoreExpr-F.Choice c a b) = choice c.value a.value b.value
 
+abbrev pub operands_step : Operands-F CoreExprTree OperandsTree → OperandsTree
+operands_step p = record { left = p.left; right = p.right }
+
 abbrev pub core_expr : CoreExpr → CoreExprTree
-core_expr = fold-CoreExpr CoreExprTree expr_step
+core_expr = fold-CoreExpr CoreExprTree OperandsTree expr_step operands_step
+
+abbrev pub core_operands : Operands → OperandsTree
+core_operands = fold-Operands CoreExprTree OperandsTree expr_step operands_step
 
 abbrev pub core_exprs : List CoreExpr → List CoreExprTree
 core_exprs = map core_expr
+
+abbrev pub option_expr : Option CoreExpr → Option CoreExprTree
+option_expr = option_map core_expr
 
 abbrev pub stmt_step : CoreStmt-F CoreStmtTree → CoreStmtTree
 stmt_step CoreStmt-F.Skip = skip
@@ -45,7 +59,7 @@ stmt_step (CoreStmt-F.If c a b) = branch (core_expr c) a.value b.value
 stmt_step (CoreStmt-F.Loop a b) = loop a.value b.value
 stmt_step CoreStmt-F.Break = break
 stmt_step CoreStmt-F.Continue = continue
-stmt_step (CoreStmt-F.Return e) = return (option_map core_expr e)
+stmt_step (CoreStmt-F.Return e) = return (option_expr e)
 
 abbrev pub core_stmt : CoreStmt → CoreStmtTree
 core_stmt = fold-CoreStmt CoreStmtTree stmt_step
@@ -79,10 +93,3 @@ piece_tree (pieces.Address block offset) = pointer block offset
 
 abbrev pub data_block_tree : DataBlock → DataBlockTree
 data_block_tree d = record { is_writable = d.is_writable; pieces = map piece_tree d.pieces.items }
-
-abbrev pub unit_tree : CoreUnit → CoreUnitTree
-unit_tree u = record {
-  functions = map function_tree u.functions.items;
-  main = u.main.0;
-  data_blocks = map data_block_tree u.data_blocks.items;
-}

@@ -24,13 +24,23 @@ pub enum CoreExpr {
     /// an operation on a value
     Unary(UnaryOperation, Box<CoreExpr>),
     /// an operation on two values
-    Binary(BinaryOperation, Box<CoreExpr>, Box<CoreExpr>),
+    Binary(BinaryOperation, Box<Operands>),
     /// a value of this type
     Convert(Scalar, Box<CoreExpr>),
     /// `&&`
-    And(Box<CoreExpr>, Box<CoreExpr>),
+    And(Box<Operands>),
     /// `||`
-    Or(Box<CoreExpr>, Box<CoreExpr>),
+    Or(Box<Operands>),
     /// `?:`
     Choice(Box<CoreExpr>, Box<CoreExpr>, Box<CoreExpr>),
+}
+
+/// Two operands.
+#[derive(Drop)]
+#[cycle(core_expr)]
+pub struct Operands {
+    /// the left one
+    pub left: CoreExpr,
+    /// the right one
+    pub right: CoreExpr,
 }

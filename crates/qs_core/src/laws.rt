@@ -1,5 +1,6 @@
 // The laws of core. Each is the contract of an empty function.
 ghost use Rattle.qs_core.specs.Laws.{CoreGrows, CallsAlone};
+ghost use Rattle.qs_core.specs.Ranges.{BodiesStayInRange, CallsStayInRange, InitialMemoryIsReady, ValuesHaveTypes};
 
 /// A greater bound keeps what has ended or is undefined, and extends the trace of what is short.
 pub fn core_grows()
@@ -9,4 +10,25 @@ pub fn core_grows()
 /// A call is the call alone, and then what follows.
 pub fn calls_alone()
     ensures { CallsAlone }
+{}
+
+/// The value of an expression has the expression's type.
+pub fn values_have_types()
+    ensures { ValuesHaveTypes }
+{}
+
+/// Each moment of a call is in range: every variable's value is in the range of its type, and what would
+/// follow at other moments makes no difference.
+pub fn calls_stay_in_range()
+    ensures { CallsStayInRange }
+{}
+
+/// The same of a part of a body.
+pub fn bodies_stay_in_range()
+    ensures { BodiesStayInRange }
+{}
+
+/// The memory that main starts from is sound, and is the unit's data.
+pub fn initial_memory_is_ready()
+    ensures { InitialMemoryIsReady }
 {}

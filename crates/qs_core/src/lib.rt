@@ -4,12 +4,24 @@
 
 mod expressions;
 mod laws;
+mod names;
+mod outline;
 mod places;
 mod statements;
+mod term_text;
+mod terms;
+mod types;
+mod unit;
 mod units;
 
-pub use expressions::CoreExpr;
-pub use laws::{calls_alone, core_grows};
+pub use expressions::{CoreExpr, Operands};
+pub use laws::{
+    bodies_stay_in_range, calls_alone, calls_stay_in_range, core_grows, initial_memory_is_ready,
+    values_have_types,
+};
+pub use outline::print_outline;
 pub use places::{Place, Target};
 pub use statements::CoreStmt;
-pub use units::{CoreFunction, CoreParameter, CoreUnit, CoreVariable, DataBlock, Piece};
+pub use types::type_of;
+pub use unit::CoreUnit;
+pub use units::{CoreFunction, CoreParameter, CoreVariable, DataBlock, Piece};

@@ -1,7 +1,7 @@
-// Units of core.
+// The parts of a unit of core.
 
 use crate::statements::CoreStmt;
-use qs_base::{FnId, Name};
+use qs_base::Name;
 use qs_calls::Parameter;
 use qs_memory::{Blank, Scalar};
 
@@ -62,16 +62,4 @@ pub struct DataBlock {
     pub is_writable: bool,
     /// what it begins with, in order
     pub pieces: Vec<Piece>,
-}
-
-/// A unit.
-#[derive(Drop)]
-pub struct CoreUnit {
-    /// the functions with a body, in the order of their definitions
-    pub functions: Vec<CoreFunction>,
-    /// main
-    pub main: FnId,
-    /// the file-scope variables in order of declaration, and then the string literals in order of the
-    /// text: the first blocks of every memory
-    pub data_blocks: Vec<DataBlock>,
 }

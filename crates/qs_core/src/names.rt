@@ -1,0 +1,77 @@
+// Numbers, and the names of variables and temporaries, as text.
+ghost use Rattle.std.specs.Prelude.{◌≡◌, ◌++◌, OnOk, decimal};
+ghost use Rattle.std.specs.Fmt.{signed_decimal};
+ghost use Rattle.qs_base.specs.Words.{signed};
+ghost use Rattle.qs_core.specs.TreeOf.{function_tree, variable_tree};
+ghost use Rattle.qs_core.specs.Terms as spec;
+
+use crate::units::{CoreFunction, CoreVariable};
+use itoa::Buffer;
+use qs_base::NoMemory;
+
+/// Writes these bytes.
+pub fn put(out: &mut Vec<u8>, text: &[u8]) -> Result<(), NoMemory>
+    ensures { OnOk result (out.new.items ≡ out.old.items ++ text.now) }
+{
+    out.extend_from_slice(text)?;
+    Ok(())
+}
+
+/// Writes a number in decimal.
+pub fn put_number(out: &mut Vec<u8>, n: u32) -> Result<(), NoMemory>
+    ensures { OnOk result (out.new.items ≡ out.old.items ++ decimal n) }
+{
+    let mut digits = Buffer::new();
+    put(out, digits.format(n).as_bytes())
+}
+
+/// Writes a count in decimal.
+pub fn put_count(out: &mut Vec<u8>, n: usize) -> Result<(), NoMemory>
+    ensures { OnOk result (out.new.items ≡ out.old.items ++ decimal n) }
+{
+    let mut digits = Buffer::new();
+    put(out, digits.format(n).as_bytes())
+}
+
+/// Writes a word, read with a sign, in decimal.
+pub fn put_signed(out: &mut Vec<u8>, n: u32) -> Result<(), NoMemory>
+    ensures { OnOk result (out.new.items ≡ out.old.items ++ signed_decimal (signed n)) }
+{
+    let mut digits = Buffer::new();
+    put(out, digits.format(n.cast_signed()).as_bytes())
+}
+
+fn put_ordinal(out: &mut Vec<u8>, k: u32) -> Result<(), NoMemory>
+    ensures { OnOk result (out.new.items ≡ out.old.items ++ spec.ordinal_text k) }
+{
+    if k == 1 {
+        return Ok(());
+    }
+    put(out, b"#")?;
+    put_number(out, k)
+}
+
+fn put_variable_name(out: &mut Vec<u8>, v: &CoreVariable) -> Result<(), NoMemory>
+    ensures { OnOk result (out.new.items ≡ out.old.items ++ spec.variable_name (variable_tree v.now)) }
+{
+    put(out, v.name.bytes())?;
+    put_ordinal(out, v.ordinal)
+}
+
+/// Writes the name of the variable with this number.
+pub fn put_variable(out: &mut Vec<u8>, f: &CoreFunction, x: u32) -> Result<(), NoMemory>
+    ensures { OnOk result (out.new.items ≡ out.old.items ++ spec.variable_text (function_tree f.now) x) }
+{
+    match f.variables.get(x as usize) {
+        None => Ok(()),
+        Some(v) => put_variable_name(out, v),
+    }
+}
+
+/// Writes the name of the temporary with this number.
+pub fn put_temporary(out: &mut Vec<u8>, k: u32) -> Result<(), NoMemory>
+    ensures { OnOk result (out.new.items ≡ out.old.items ++ spec.temporary_text k) }
+{
+    put(out, b"$")?;
+    put_number(out, k)
+}

@@ -1,0 +1,327 @@
+// The outline of a unit.
+ghost use Rattle.std.specs.Prelude.{◌≡◌, ◌++◌, IfOk, OnOk, flat_map, map};
+ghost use Rattle.qs_core.specs.Trees.{stmts_of, seq};
+ghost use Rattle.qs_core.specs.TreeOf.{core_expr, core_exprs, core_stmt, core_stmts, function_tree, option_expr, parameter_tree};
+ghost use Rattle.qs_core.specs.UnitTrees.{unit_tree};
+ghost use Rattle.qs_core.specs.Outline as spec;
+
+use crate::expressions::CoreExpr;
+use crate::names::{put, put_count, put_temporary, put_variable};
+use crate::places::Target;
+use crate::statements::CoreStmt;
+use crate::term_text::{put_told_condition, put_told_term};
+use crate::unit::CoreUnit;
+use crate::units::{CoreFunction, CoreParameter};
+use qs_base::NoMemory;
+use qs_calls::Callee;
+use std::alloc::Global;
+
+// ---- lines
+
+fn put_path(out: &mut Vec<u8>, path: &[u8]) -> Result<(), NoMemory>
+    ensures { OnOk result (out.new.items ≡ out.old.items ++ spec.path_text path.now) }
+{
+    if path.is_empty() {
+        put(out, b".")
+    } else {
+        put(out, path)
+    }
+}
+
+fn put_line(out: &mut Vec<u8>, path: &[u8], form: &[u8]) -> Result<(), NoMemory>
+    ensures { OnOk result (out.new.items ≡ out.old.items ++ spec.line path.now form.now) }
+{
+    put_path(out, path)?;
+    put(out, b" ")?;
+    put(out, form)?;
+    put(out, b"\n")
+}
+
+// The path of a part.
+fn part_path(alloc: Global, path: &[u8], part: usize) -> Result<Vec<u8>, NoMemory>
+    ensures { IfOk result (λ p. p.items ≡ spec.part_path path.now part) }
+{
+    let mut to = Vec::from_slice(alloc, path)?;
+    put(&mut to, b".")?;
+    put_count(&mut to, part)?;
+    Ok(to)
+}
+
+// ---- forms
+
+fn put_target(out: &mut Vec<u8>, f: &CoreFunction, x: Target) -> Result<(), NoMemory>
+    ensures { OnOk result (out.new.items ≡ out.old.items ++ spec.target_text (function_tree f.now) x) }
+{
+    match x {
+        Target::Variable(x) => put_variable(out, f, x),
+        Target::Temporary(k) => put_temporary(out, k),
+    }
+}
+
+fn put_destination(out: &mut Vec<u8>, x: Option<u32>) -> Result<(), NoMemory>
+    ensures { OnOk result (out.new.items ≡ out.old.items ++ spec.destination_text x) }
+{
+    match x {
+        None => put(out, b"-"),
+        Some(k) => put_temporary(out, k),
+    }
+}
+
+fn put_function_name(out: &mut Vec<u8>, functions: &[CoreFunction], f: u32) -> Result<(), NoMemory>
+    ensures { OnOk result (out.new.items ≡ out.old.items ++ spec.function_text (map function_tree functions.now) f) }
+{
+    match functions.get(f as usize) {
+        None => Ok(()),
+        Some(f) => put(out, f.name.bytes()),
+    }
+}
+
+fn put_callee(out: &mut Vec<u8>, functions: &[CoreFunction], g: Callee) -> Result<(), NoMemory>
+    ensures { OnOk result (out.new.items ≡ out.old.items ++ spec.callee_text (map function_tree functions.now) g) }
+{
+    match g {
+        Callee::Function(f) => put_function_name(out, functions, f.0),
+        Callee::PutChar => put(out, b"putchar"),
+        Callee::GetChar => put(out, b"getchar"),
+    }
+}
+
+fn put_argument(out: &mut Vec<u8>, f: &CoreFunction, e: &CoreExpr) -> Result<(), NoMemory>
+    ensures { OnOk result (out.new.items ≡ out.old.items ++ spec.argument_text (function_tree f.now) (core_expr e.now)) }
+{
+    put(out, b" ")?;
+    put_told_term(out, f, e)
+}
+
+fn put_arguments(out: &mut Vec<u8>, f: &CoreFunction, es: &[CoreExpr]) -> Result<(), NoMemory>
+    ensures { OnOk result (out.new.items ≡ out.old.items ++ flat_map (spec.argument_text (function_tree f.now)) (core_exprs es.now)) }
+{
+    for e in es {
+        put_argument(out, f, e)?;
+    }
+    Ok(())
+}
+
+fn put_returned(out: &mut Vec<u8>, f: &CoreFunction, e: &Option<CoreExpr>) -> Result<(), NoMemory>
+    ensures { OnOk result (out.new.items ≡ out.old.items ++ spec.returned_text (function_tree f.now) (option_expr e.now)) }
+{
+    match e {
+        None => Ok(()),
+        Some(e) => put_argument(out, f, e),
+    }
+}
+
+// ---- statements
+
+fn put_assign(
+    out: &mut Vec<u8>,
+    f: &CoreFunction,
+    path: &[u8],
+    x: Target,
+    e: &CoreExpr,
+) -> Result<(), NoMemory>
+    ensures { OnOk result (out.new.items ≡ out.old.items ++ spec.line path.now (spec.assign_form (function_tree f.now) x (core_expr e.now))) }
+{
+    put_path(out, path)?;
+    put(out, b" assign ")?;
+    put_target(out, f, x)?;
+    put(out, b" ")?;
+    put_told_term(out, f, e)?;
+    put(out, b"\n")
+}
+
+fn put_call(
+    out: &mut Vec<u8>,
+    functions: &[CoreFunction],
+    f: &CoreFunction,
+    path: &[u8],
+    x: Option<u32>,
+    g: Callee,
+    es: &[CoreExpr],
+) -> Result<(), NoMemory>
+    ensures { OnOk result (out.new.items ≡ out.old.items ++ spec.line path.now (spec.call_form (map function_tree functions.now) (function_tree f.now) x g (core_exprs es.now))) }
+{
+    put_path(out, path)?;
+    put(out, b" call ")?;
+    put_destination(out, x)?;
+    put(out, b" ")?;
+    put_callee(out, functions, g)?;
+    put_arguments(out, f, es)?;
+    put(out, b"\n")
+}
+
+fn put_if(out: &mut Vec<u8>, f: &CoreFunction, path: &[u8], e: &CoreExpr) -> Result<(), NoMemory>
+    ensures { OnOk result (out.new.items ≡ out.old.items ++ spec.line path.now (spec.if_form (function_tree f.now) (core_expr e.now))) }
+{
+    put_path(out, path)?;
+    put(out, b" if ")?;
+    put_told_condition(out, f, e)?;
+    put(out, b"\n")
+}
+
+fn put_return(
+    out: &mut Vec<u8>,
+    f: &CoreFunction,
+    path: &[u8],
+    e: &Option<CoreExpr>,
+) -> Result<(), NoMemory>
+    ensures { OnOk result (out.new.items ≡ out.old.items ++ spec.line path.now (spec.return_form (function_tree f.now) (option_expr e.now))) }
+{
+    put_path(out, path)?;
+    put(out, b" return")?;
+    put_returned(out, f, e)?;
+    put(out, b"\n")
+}
+
+fn count_of(parts: &[CoreStmt]) -> usize
+    ensures { result ≡ spec.count_of (stmts_of (core_stmts parts.now)) }
+{
+    parts.len()
+}
+
+fn put_seq(out: &mut Vec<u8>, path: &[u8], parts: &[CoreStmt]) -> Result<(), NoMemory>
+    ensures { OnOk result (out.new.items ≡ out.old.items ++ spec.line path.now (spec.seq_form (stmts_of (core_stmts parts.now)))) }
+{
+    put_path(out, path)?;
+    put(out, b" seq ")?;
+    put_count(out, count_of(parts))?;
+    put(out, b"\n")
+}
+
+// The statements of a list, from the first on.
+#[cycle(put_stmt)]
+fn put_parts(
+    alloc: Global,
+    out: &mut Vec<u8>,
+    functions: &[CoreFunction],
+    f: &CoreFunction,
+    path: &[u8],
+    parts: &[CoreStmt],
+) -> Result<(), NoMemory>
+    ensures { OnOk result (out.new.items ≡ out.old.items ++ spec.outline_parts (map function_tree functions.now) (function_tree f.now) path.now 0 (stmts_of (core_stmts parts.now))) }
+{
+    let mut part = 0;
+    for s in parts {
+        put_part(alloc, out, functions, f, path, part, s)?;
+        part += 1;
+    }
+    Ok(())
+}
+
+// The part with this number.
+#[cycle(put_stmt)]
+fn put_part(
+    alloc: Global,
+    out: &mut Vec<u8>,
+    functions: &[CoreFunction],
+    f: &CoreFunction,
+    path: &[u8],
+    part: usize,
+    s: &CoreStmt,
+) -> Result<(), NoMemory>
+    ensures { OnOk result (out.new.items ≡ out.old.items ++ spec.outline_stmt (map function_tree functions.now) (function_tree f.now) (spec.part_path path.now part) (core_stmt s.now)) }
+{
+    let part_path = part_path(alloc, path, part)?;
+    put_stmt(alloc, out, functions, f, &part_path, s)
+}
+
+#[cycle(put_stmt)]
+fn put_stmt(
+    alloc: Global,
+    out: &mut Vec<u8>,
+    functions: &[CoreFunction],
+    f: &CoreFunction,
+    path: &[u8],
+    s: &CoreStmt,
+) -> Result<(), NoMemory>
+    ensures { OnOk result (out.new.items ≡ out.old.items ++ spec.outline_stmt (map function_tree functions.now) (function_tree f.now) path.now (core_stmt s.now)) }
+{
+    match s {
+        CoreStmt::Skip => put_line(out, path, b"skip"),
+        CoreStmt::Seq(parts) => {
+            put_seq(out, path, parts)?;
+            put_parts(alloc, out, functions, f, path, parts)
+        }
+        CoreStmt::Assign(x, e) => put_assign(out, f, path, *x, e),
+        CoreStmt::Store(_, _, _) => put_line(out, path, b"store"),
+        CoreStmt::Copy(_, _, _, _) => put_line(out, path, b"copy"),
+        CoreStmt::Fill(_, _) => put_line(out, path, b"fill"),
+        CoreStmt::Call(x, g, es) => put_call(out, functions, f, path, *x, *g, es),
+        CoreStmt::If(e, a, b) => {
+            put_if(out, f, path, e)?;
+            put_part(alloc, out, functions, f, path, 0, a)?;
+            put_part(alloc, out, functions, f, path, 1, b)
+        }
+        CoreStmt::Loop(body, step) => {
+            put_line(out, path, b"loop")?;
+            put_part(alloc, out, functions, f, path, 0, body)?;
+            put_part(alloc, out, functions, f, path, 1, step)
+        }
+        CoreStmt::Break => put_line(out, path, b"break"),
+        CoreStmt::Continue => put_line(out, path, b"continue"),
+        CoreStmt::Return(e) => put_return(out, f, path, e),
+    }
+}
+
+// ---- functions
+
+fn put_parameter(out: &mut Vec<u8>, p: &CoreParameter) -> Result<(), NoMemory>
+    ensures { OnOk result (out.new.items ≡ out.old.items ++ spec.parameter_text (parameter_tree p.now)) }
+{
+    put(out, b" ")?;
+    put(out, p.name.bytes())
+}
+
+fn put_parameters(out: &mut Vec<u8>, ps: &[CoreParameter]) -> Result<(), NoMemory>
+    ensures { OnOk result (out.new.items ≡ out.old.items ++ flat_map spec.parameter_text (map parameter_tree ps.now)) }
+{
+    for p in ps {
+        put_parameter(out, p)?;
+    }
+    Ok(())
+}
+
+fn put_heading(out: &mut Vec<u8>, f: &CoreFunction) -> Result<(), NoMemory>
+    ensures { OnOk result (out.new.items ≡ out.old.items ++ spec.heading (function_tree f.now)) }
+{
+    put(out, b"function ")?;
+    put(out, f.name.bytes())?;
+    put_parameters(out, &f.parameters)?;
+    put(out, b"\n")
+}
+
+fn put_function(
+    alloc: Global,
+    out: &mut Vec<u8>,
+    functions: &[CoreFunction],
+    f: &CoreFunction,
+) -> Result<(), NoMemory>
+    ensures { OnOk result (out.new.items ≡ out.old.items ++ spec.outline_function (map function_tree functions.now) (function_tree f.now)) }
+{
+    put_heading(out, f)?;
+    put_seq(out, b"", &f.body)?;
+    put_parts(alloc, out, functions, f, b"", &f.body)
+}
+
+fn put_functions(
+    alloc: Global,
+    out: &mut Vec<u8>,
+    functions: &[CoreFunction],
+) -> Result<(), NoMemory>
+    ensures { OnOk result (out.new.items ≡ out.old.items ++ flat_map (spec.outline_function (map function_tree functions.now)) (map function_tree functions.now)) }
+{
+    for f in functions {
+        put_function(alloc, out, functions, f)?;
+    }
+    Ok(())
+}
+
+/// The outline of a unit: a line for each function with its parameters, and below it a line for each of
+/// its statements, with its path and its form.
+pub fn print_outline(alloc: Global, unit: &CoreUnit) -> Result<Vec<u8>, NoMemory>
+    ensures { IfOk result (λ text. text.items ≡ spec.outline (unit_tree unit.now)) }
+{
+    let mut out = Vec::new(alloc);
+    put_functions(alloc, &mut out, &unit.functions)?;
+    Ok(out)
+}

@@ -14,3 +14,5 @@ mod Faultless
 mod Bindings
 mod ValueExamples
 mod UnitExamples
+mod Initialising
+mod Bodies

@@ -1,6 +1,7 @@
 -- Where a declaration or a statement breaks no rule, it has a typed tree.
 use Rattle.std.proofs.Common.{◌≡◌, ℕ, Bool, true, false, not, ◌&&◌, ◌||◌, List, [], ◌∷◌, ◌++◌, Option, Some, None, is_some, refl, sym, ap, ◌∙◌, subst, if◌then◌else◌}
 use Rattle.std.specs.List.{list_all}
+use Rattle.std.proofs.lemmas.List.Folds.{list_all-append}
 use Rattle.qs_syntax.specs.declared.types.Base.{Base}
 use Rattle.qs_syntax.specs.declared.nodes.Node.{Node}
 use Rattle.qs_syntax.specs.Trees.{ExprTree, DeclaratorTree, InitialiserTree, VariableTree, StartTree, no_start, start_expression, start_declaration, StmtTree, empty, expression, declaration, block, branch, while_loop, do_loop, for_loop, break, continue, return, Stmts, no_stmts, stmt_and, Else, no_else, else_by}
@@ -8,7 +9,7 @@ use Rattle.qs_syntax.specs.Trees as trees
 use Rattle.qs_memory.specs.Partial.{◌>>=◌}
 use Rattle.qs_types.specs.declared.extent.Extent.{Extent}
 use Rattle.qs_types.specs.Types.{TypeTree, int, unsigned, char, void, pointer, array, struct, is_scalar, Structs}
-use Rattle.qs_types.specs.Layout.{and_then, StructLayout, Layouts, array_extent, struct_extent, extent_by, extent_within, sized_by, is_sized, is_complete, layout_of}
+use Rattle.qs_types.specs.Layout.{and_then, StructLayout, Layouts, array_extent, struct_extent, extent_by, extent_within, sized_by, is_sized, is_complete, extent_of, size_of, layout_of}
 use Rattle.qs_types.specs.declared.rules.Rule.TheVariants as rules
 use Rattle.qs_types.specs.Rules.{Test, keeps, breaks_one, Fault, faults_of, is_any}
 use Rattle.qs_types.specs.Contexts.{local_variable, Context, inner_scope, inside_loop}
@@ -103,6 +104,26 @@ locals_left declared placed xs ys e = all_left (is_fine_local declared placed) x
 pub locals_right : (declared placed : List ℕ) (xs ys : List Local) → locals_fine declared placed (xs ++ ys) ≡ true → locals_fine declared placed ys ≡ true
 locals_right declared placed xs ys e = all_right (is_fine_local declared placed) xs ys e
 
+-- locals whose types have sizes
+abbrev pub is_sized_local : Structs → Local → Bool
+is_sized_local structs l = is_some (and_then l.type (size_of structs))
+
+abbrev pub all_sized : Structs → List Local → Bool
+all_sized structs ls = list_all (is_sized_local structs) ls
+
+pub has_size : (structs : Structs) (o : Option TypeTree) (t : TypeTree) → o ≡ Some t → is_complete structs t ≡ true → is_some (and_then o (size_of structs)) ≡ true
+has_size structs o t e c = ap (λ o. is_some (and_then o (size_of structs))) e ∙ whole_some (extent_of structs t) (λ (x : Extent). x.size) c
+
+pub both_sized : {x y : Bool} → x ≡ true → y ≡ true → (x && y) ≡ true
+both_sized {x = x} {y = y} e f = go x e
+  where
+    go : (x : Bool) → x ≡ true → (x && y) ≡ true
+    go true e = f
+    go false e = never e
+
+pub sized_together : (structs : Structs) (xs ys : List Local) → all_sized structs xs ≡ true → all_sized structs ys ≡ true → all_sized structs (xs ++ ys) ≡ true
+sized_together structs xs ys e f = list_all-append (is_sized_local structs) xs ys ∙ both_sized e f
+
 and_false : (b : Bool) → (b && false) ≡ false
 and_false true = refl
 and_false false = refl
@@ -175,12 +196,13 @@ module _ (s₀ : Scope) (declared_nodes : List ℕ) where
       kept_fit false fit e f = never e
 
   pub record Behind (c : Context) (base : Base) (vs : List VariableTree) : Type 0 where
+    pub sized : all_sized c.structs (variables_locals c base vs) ≡ true
     pub tree : Known (variables_typed (within s₀ c) base vs)
     pub stands : Stands (after_variables false c base vs)
 
   pub variables_known : (vs : List VariableTree) (c : Context) (base : Base) → Stands c → variables_faults false c base vs ≡ []
       → sites_taken declared_nodes placed (variables_sites false c base vs) ≡ true → locals_fine declared_nodes placed (variables_locals c base vs) ≡ true → Behind c base vs
-  variables_known [] c base h faults taken fine = record { tree = record { value = _; is = refl }; stands = h }
+  variables_known [] c base h faults taken fine = record { sized = refl; tree = record { value = _; is = refl }; stands = h }
   variables_known (v ∷ vs) c base h faults taken fine =
       let after = after_variable false c base v in
       let own = none_left (variable_faults false c after base v) (variables_faults false after base vs) faults in
@@ -205,6 +227,7 @@ module _ (s₀ : Scope) (declared_nodes : List ℕ) where
         (right (is_fine_local declared_nodes placed (record { node = v.declarator.node.id; type = (variable_declared c base v).type })) _ fine) in
       let first : Known (variable_typed (within s₀ c) base v) = record { value = now.value; is = goes (variable_declared c base v).type d.type _ _ d.is now.is } in
       record {
+        sized = both_sized (has_size c.structs (variable_declared c base v).type d.type d.is d.complete) rest.sized;
         tree = onward (variable_typed (within s₀ c) base v) _ first (onward (variables_typed (within s₀ after) base vs) _ rest.tree (record { value = _; is = refl }));
         stands = rest.stands }
     where
@@ -321,3 +344,90 @@ module _ (s₀ : Scope) (declared_nodes : List ℕ) where
         → locals_fine declared_nodes placed (else_locals c r) ≡ true → Known (else_typed (within s₀ c) r)
     else_known no_else c h f taken fine = record { value = _; is = refl }
     else_known (else_by t) c h f taken fine = statement_known t (inner_scope c) (inner_stands c h) f taken fine
+
+  -- ---- the types of locals have sizes
+
+  start_sized : (start : StartTree) (c : Context) → Stands c → start_faults c start ≡ [] → sites_taken declared_nodes placed (start_sites c start) ≡ true
+      → locals_fine declared_nodes placed (start_locals c start) ≡ true → all_sized c.structs (start_locals c start) ≡ true
+  start_sized no_start c h f taken fine = refl
+  start_sized (start_expression e) c h f taken fine = refl
+  start_sized (start_declaration d) c h f taken fine = (variables_known d.variables c d.base h f taken fine).sized
+
+  -- a declaration changes no struct
+  same_structs : (base : Base) (vs : List VariableTree) (c : Context) → (after_variables false c base vs).structs ≡ c.structs
+  same_structs base [] c = refl
+  same_structs base (v ∷ vs) c = same_structs base vs (after_variable false c base v)
+
+  start_structs : (start : StartTree) (c : Context) → (after_start c start).structs ≡ c.structs
+  start_structs no_start c = refl
+  start_structs (start_expression e) c = refl
+  start_structs (start_declaration d) c = same_structs d.base d.variables c
+
+  statement_structs : (t : StmtTree) (c : Context) → (after_statement c t).structs ≡ c.structs
+  statement_structs (declaration d) c = same_structs d.base d.variables c
+  statement_structs (empty node) c = refl
+  statement_structs (expression node e) c = refl
+  statement_structs (block ss) c = refl
+  statement_structs (branch node e t r) c = refl
+  statement_structs (while_loop node e t) c = refl
+  statement_structs (do_loop node t e) c = refl
+  statement_structs (for_loop node start e u t) c = refl
+  statement_structs (break node) c = refl
+  statement_structs (continue node) c = refl
+  statement_structs (return node e) c = refl
+
+  mutual
+    statement_sized : (t : StmtTree) (c : Context) → Stands c → statement_faults c t ≡ [] → sites_taken declared_nodes placed (statement_sites c t) ≡ true
+        → locals_fine declared_nodes placed (statement_locals c t) ≡ true → all_sized c.structs (statement_locals c t) ≡ true
+    statement_sized (empty node) c h f taken fine = refl
+    statement_sized (expression node e) c h f taken fine = refl
+    statement_sized (declaration d) c h f taken fine = (variables_known d.variables c d.base h f taken fine).sized
+    statement_sized (block ss) c h f taken fine = body_sized ss (inner_scope c) (inner_stands c h) f taken fine
+    statement_sized (branch node e t r) c h f taken fine =
+        let parts = none_right (condition_faults c node e) _ f in
+        let rest = sites_right declared_nodes placed (site c e) (statement_sites (inner_scope c) t ++ else_sites c r) taken in
+        sized_together c.structs (statement_locals (inner_scope c) t) (else_locals c r)
+        (statement_sized t (inner_scope c) (inner_stands c h) (none_left _ _ parts) (sites_left declared_nodes placed (statement_sites (inner_scope c) t) (else_sites c r) rest) (locals_left declared_nodes placed (statement_locals (inner_scope c) t) (else_locals c r) fine))
+        (else_sized r c h (none_right (statement_faults (inner_scope c) t) _ parts) (sites_right declared_nodes placed (statement_sites (inner_scope c) t) (else_sites c r) rest) (locals_right declared_nodes placed (statement_locals (inner_scope c) t) (else_locals c r) fine))
+    statement_sized (while_loop node e t) c h f taken fine =
+        let body = inside_loop (inner_scope c) in
+        statement_sized t body (loop_stands c h) (none_right (condition_faults c node e) _ f) (sites_right declared_nodes placed (site c e) (statement_sites body t) taken) fine
+    statement_sized (do_loop node t e) c h f taken fine =
+        let body = inside_loop (inner_scope c) in
+        statement_sized t body (loop_stands c h) (none_left _ _ f) (sites_left declared_nodes placed (statement_sites body t) (site c e) taken) fine
+    statement_sized (for_loop node start e u t) c h f taken fine =
+        let inside = for_context c start in
+        let body = inside_loop (inner_scope inside) in
+        let parts = none_right (start_faults (inner_scope c) start) _ f in
+        let rest = sites_right declared_nodes placed (start_sites (inner_scope c) start) (option_sites inside e ++ (option_sites inside u ++ statement_sites body t)) taken in
+        let last = sites_right declared_nodes placed (option_sites inside e) (option_sites inside u ++ statement_sites body t) rest in
+        let start_faultless = none_left (start_faults (inner_scope c) start) _ f in
+        let start_taken = sites_left declared_nodes placed (start_sites (inner_scope c) start) (option_sites inside e ++ (option_sites inside u ++ statement_sites body t)) taken in
+        let start_fine = locals_left declared_nodes placed (start_locals (inner_scope c) start) (statement_locals body t) fine in
+        let first = start_known (inner_scope c) (inner_stands c h) start start_faultless start_taken start_fine in
+        let inner = statement_sized t body (loop_stands inside first.stands) (none_right (for_faults inside start node e u) (statement_faults body t) parts)
+          (sites_right declared_nodes placed (option_sites inside u) (statement_sites body t) last) (locals_right declared_nodes placed (start_locals (inner_scope c) start) (statement_locals body t) fine) in
+        sized_together c.structs (start_locals (inner_scope c) start) (statement_locals body t)
+        (start_sized start (inner_scope c) (inner_stands c h) start_faultless start_taken start_fine)
+        (subst (λ z. all_sized z (statement_locals body t) ≡ true) (start_structs start (inner_scope c)) inner)
+    statement_sized (break node) c h f taken fine = refl
+    statement_sized (continue node) c h f taken fine = refl
+    statement_sized (return node e) c h f taken fine = refl
+
+    pub body_sized : (ss : Stmts) (c : Context) → Stands c → statements_faults c ss ≡ [] → sites_taken declared_nodes placed (statements_sites c ss) ≡ true
+        → locals_fine declared_nodes placed (statements_locals c ss) ≡ true → all_sized c.structs (statements_locals c ss) ≡ true
+    body_sized no_stmts c h f taken fine = refl
+    body_sized (stmt_and t ts) c h f taken fine =
+        let after = after_statement c t in
+        let first = none_left (statement_faults c t) (statements_faults after ts) f in
+        let first_taken = sites_left declared_nodes placed (statement_sites c t) (statements_sites after ts) taken in
+        let first_fine = locals_left declared_nodes placed (statement_locals c t) (statements_locals after ts) fine in
+        let rest = body_sized ts after (statement_stands t c h first first_taken first_fine) (none_right (statement_faults c t) (statements_faults after ts) f)
+          (sites_right declared_nodes placed (statement_sites c t) (statements_sites after ts) taken) (locals_right declared_nodes placed (statement_locals c t) (statements_locals after ts) fine) in
+        sized_together c.structs (statement_locals c t) (statements_locals after ts) (statement_sized t c h first first_taken first_fine)
+        (subst (λ z. all_sized z (statements_locals after ts) ≡ true) (statement_structs t c) rest)
+
+    else_sized : (r : Else) (c : Context) → Stands c → else_faults c r ≡ [] → sites_taken declared_nodes placed (else_sites c r) ≡ true
+        → locals_fine declared_nodes placed (else_locals c r) ≡ true → all_sized c.structs (else_locals c r) ≡ true
+    else_sized no_else c h f taken fine = refl
+    else_sized (else_by t) c h f taken fine = statement_sized t (inner_scope c) (inner_stands c h) f taken fine

@@ -16,3 +16,5 @@ mod ValueExamples
 mod UnitExamples
 mod Initialising
 mod Bodies
+mod Functions
+mod FunctionsTyped

@@ -18,3 +18,4 @@ mod Initialising
 mod Bodies
 mod Functions
 mod FunctionsTyped
+mod FileVariables

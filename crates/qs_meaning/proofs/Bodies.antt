@@ -71,7 +71,7 @@ with_size_known c before t h = record {
   complete = sized_extent (layout_of c.structs) t (sized_kept (breaks_one before) (is_sized c.structs t) (first_unbroken before (size_tests c before t) h) (second_unbroken before (size_tests c before t) h));
 }
 
-declared_known : (c : Context) (base : Base) (d : DeclaratorTree) (first : Option ℕ) → all_typed c d.lengths.given ≡ true → breaks_one (declared c base d first).tests ≡ false → DeclaredAs c.structs (declared c base d first)
+pub declared_known : (c : Context) (base : Base) (d : DeclaratorTree) (first : Option ℕ) → all_typed c d.lengths.given ≡ true → breaks_one (declared c base d first).tests ≡ false → DeclaredAs c.structs (declared c base d first)
 declared_known c base d first e h = go (all_typed c d.lengths.given) e h
   where
     lengths : Option (List ℕ)
@@ -128,10 +128,10 @@ and_false : (b : Bool) → (b && false) ≡ false
 and_false true = refl
 and_false false = refl
 
-not_held_back : (c : Context) (t : Option TypeTree) (i : Option InitialiserTree) → option_initialiser_faults false c t i ≡ [] → holds_back c i ≡ false
-not_held_back c t None h = refl
-not_held_back c t (Some (trees.value e)) h = ap (λ fs. not (is_some (type_of c e)) && is_any fs) h ∙ and_false (not (is_some (type_of c e)))
-not_held_back c t (Some (trees.list node is)) h = refl
+pub not_held_back : (at_file_scope : Bool) (c : Context) (t : Option TypeTree) (i : Option InitialiserTree) → option_initialiser_faults at_file_scope c t i ≡ [] → holds_back c i ≡ false
+not_held_back b c t None h = refl
+not_held_back b c t (Some (trees.value e)) h = ap (λ fs. not (is_some (type_of c e)) && is_any fs) h ∙ and_false (not (is_some (type_of c e)))
+not_held_back b c t (Some (trees.list node is)) h = refl
 
 module _ (s₀ : Scope) (declared_nodes : List ℕ) where
   abbrev placed : List ℕ
@@ -210,7 +210,7 @@ module _ (s₀ : Scope) (declared_nodes : List ℕ) where
       let parts = none_right (faults_of v.declarator.node.id (variable_tests false c after base v)) _ own in
       let initialiser = none_right (lengths_faults c v.declarator.lengths.given) _ parts in
       let typed_lengths = lengths_typed c (has_types (within s₀ c) declared_nodes h.sound) v.declarator.lengths.given (none_left _ _ parts) in
-      let unheld = not_held_back after (variable_declared c base v).type v.initialiser initialiser in
+      let unheld = not_held_back false after (variable_declared c base v).type v.initialiser initialiser in
       let whole_tests = ap (λ b. breaks_one (if b then [] else again_tests c v ++ ((variable_declared c base v).tests ++ initialiser_tests false after (variable_declared c base v).type v.initialiser))) (sym unheld) ∙ unbroken v.declarator.node.id (variable_tests false c after base v) tests_faults in
       let later_tests = second_unbroken (again_tests c v) _ whole_tests in
       let d = declared_known c base v.declarator (length_by v.initialiser) typed_lengths (first_unbroken (variable_declared c base v).tests _ later_tests) in

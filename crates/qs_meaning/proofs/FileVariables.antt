@@ -7,7 +7,8 @@ use Rattle.qs_syntax.specs.declared.types.Base.{Base}
 use Rattle.qs_syntax.specs.Trees.{ExprTree, expr, ShapeTree, InitialiserTree, Initialisers, no_initialisers, initialiser_and, VariableTree}
 use Rattle.qs_syntax.specs.Trees as trees
 use Rattle.qs_memory.specs.Partial.{◌>>=◌}
-use Rattle.qs_memory.specs.Memory.{Cell, blank_cells}
+use Rattle.qs_memory.specs.Values.{null}
+use Rattle.qs_memory.specs.Memory.{Cell, BlankTree, blank_cells}
 use Rattle.qs_types.specs.Types.{TypeTree, int, unsigned, char, void, pointer, array, struct, is_integer, is_pointer, is_array, is_scalar, same_type, Structs}
 use Rattle.qs_types.specs.Layout.{and_then, is_complete}
 use Rattle.qs_types.specs.Conversions.{decayed}
@@ -19,7 +20,7 @@ use Rattle.qs_types.specs.Constants.{is_built, value_of, constant_of}
 use Rattle.qs_types.specs.ExpressionFaults.{whole, expr_faults}
 use Rattle.qs_types.specs.Declarations.{text_of, lengths_faults, all_typed, length_by, variable_declared}
 use Rattle.qs_types.specs.InitialiserRules.{part_type, holds_text, is_file_variable, names_file_variable, is_address, is_constant, fits_variable, fits_typed, takes_list, element_fits, elements_fit, elements_typed, list_tests, initialiser_faults, elements_faults, is_typed, fits, initialiser_tests}
-use Rattle.qs_types.specs.StatementRules.{after_variable, after_variables, again_tests, variable_tests, variable_faults, option_initialiser_faults, variables_faults}
+use Rattle.qs_types.specs.StatementRules.{holds_back, after_variable, after_variables, again_tests, variable_tests, variable_faults, option_initialiser_faults, variables_faults}
 use Rattle.qs_meaning.specs.Typed.{StaticBlock}
 use Rattle.qs_meaning.specs.Conversions.{scalar_of}
 use Rattle.qs_meaning.specs.Names.{Scope, within}
@@ -27,12 +28,13 @@ use Rattle.qs_meaning.specs.Blanks.{blank_of}
 use Rattle.qs_meaning.specs.Initialisers.{part_offset, Piece, pieces, pieces_from}
 use Rattle.qs_meaning.specs.InitialValues.{entity_pointer, named_pointer, address_constant, pointer_constant, constant_cells, array_cells, piece_cells, pieces_over, written_over, initial_cells, variable_block}
 use Rattle.qs_meaning.specs.Units.{file_variable_typed, file_variables_typed}
-use Rattle.qs_meaning.specs.TypedLaws.{IsFileScope}
+use Rattle.qs_meaning.specs.TypedLaws.{EntityTyped, IsFileScope}
 use Rattle.qs_meaning.proofs.Options.{never, nothing, left, right, either, Known, known, onward, goes, went}
 use Rattle.qs_meaning.proofs.Sums.{part_known, blank_known}
 use Rattle.qs_meaning.proofs.Faultless.{HasTypes, none_left, none_right, unbroken, first_unbroken, second_unbroken, type_of_known}
 use Rattle.qs_meaning.proofs.Bindings.{Sound, has_types}
 use Rattle.qs_meaning.proofs.TypedExpressions.{unless}
+use Rattle.qs_meaning.proofs.Bodies.{DeclaredAs, declared_known, lengths_typed, not_held_back}
 use Rattle.qs_meaning.proofs.FunctionsTyped.{file_sound}
 
 -- ---- constants
@@ -200,7 +202,7 @@ pointer_cells : (s : Scope) (e : ExprTree) (u : TypeTree) → type_of s.context 
 pointer_cells s e u t p k = go (is_null_constant e) refl p k
   where
     go : (b : Bool) → is_null_constant e ≡ b → (is_pointer (decayed u) ≡ true) ⊎ (is_null_constant e ≡ true) → (is_some (constant_of s.context e) ≡ true) ⊎ Addressing s e u
-      → Known (if b then Some Rattle.qs_memory.specs.Values.null else address_constant s e)
+      → Known (if b then Some null else address_constant s e)
     go true n p k = record { value = _; is = refl }
     go false n (inr m) k = not_both (is_null_constant e) m n
     go false n (inl q) (inl k) = not_both (is_integer (decayed u)) (integer_itself u (constant_integer s.context e u t k)) (pointer_no_integer u q)
@@ -247,3 +249,136 @@ file_piece_known s (array w n) offset e u t h = onward (text_of e) _ (known _ (t
     text_there (array t m) n o e = never e
     text_there (struct k) n o e = never e
 file_piece_known s (struct k) offset e u t h = never h
+
+-- ---- lists
+
+both : (x y : Bool) → x ≡ true → y ≡ true → (x && y) ≡ true
+both true y e f = f
+both false y e f = never e
+
+module _ (s : Scope) (h : IsFileScope s.context) where
+  abbrev structs : Structs
+  structs = s.context.structs
+
+  names_have_types : HasTypes s.context
+  names_have_types = has_types (within s s.context) [] (file_sound s s.context [] h)
+
+  abbrev AllCells : List Piece → Type 0
+  AllCells [] = Unit {0}
+  AllCells (p ∷ ps) = Known (piece_cells s p) × AllCells ps
+
+  joined : (ps qs : List Piece) → AllCells ps → AllCells qs → AllCells (ps ++ qs)
+  joined [] qs k l = l
+  joined (p ∷ ps) qs k l = (k.0, joined ps qs k.1 l)
+
+  over_known : (ps : List Piece) (cells : List Cell) → AllCells ps → Known (pieces_over s ps cells)
+  over_known [] cells k = record { value = cells; is = refl }
+  over_known (p ∷ ps) cells k = onward (piece_cells s p) _ k.0 (over_known ps (written_over cells p.offset k.0.value) k.1)
+
+  record Celled (o : Option (List Piece)) : Type 0 where
+    list : List Piece
+    is : o ≡ Some list
+    cells : AllCells list
+
+  all_elements_typed : (is : Initialisers) (u : TypeTree) (i : ℕ) → elements_faults true s.context (Some u) i is ≡ [] → elements_typed s.context is ≡ true
+  all_elements_typed no_initialisers u i f = refl
+  all_elements_typed (initialiser_and (trees.value e) is) u i f =
+      both _ _ (ap is_some (type_of_known s.context names_have_types e whole (none_left _ _ f)).is) (all_elements_typed is u (i + 1) (none_right (expr_faults s.context whole e) _ f))
+  all_elements_typed (initialiser_and (trees.list node inner) is) u i f =
+      all_elements_typed is u (i + 1) (none_right (initialiser_faults true s.context (part_type structs u i) (trees.list node inner)) _ f)
+
+  part_there : (o : Option TypeTree) (i : InitialiserTree) → element_fits true s.context o i ≡ true → is_some o ≡ true
+  part_there None i e = never e
+  part_there (Some t) i e = refl
+
+  elements_kept : (typed takes fits : Bool) → typed ≡ true → takes ≡ true → breaks_one (if typed && takes then keeps rules.InitialiserType fits else []) ≡ false → fits ≡ true
+  elements_kept true true true e f k = refl
+  elements_kept true true false e f k = never (sym k)
+  elements_kept true false fits e f k = never f
+  elements_kept false takes fits e f k = never e
+
+  mutual
+    initialiser_celled : (i : InitialiserTree) (u : TypeTree) (offset : ℕ) → is_complete structs u ≡ true → element_fits true s.context (Some u) i ≡ true
+        → initialiser_faults true s.context (Some u) i ≡ [] → Celled (pieces structs u offset i)
+    initialiser_celled (trees.value e) u offset complete fits f =
+        let t = type_of_known s.context names_have_types e whole f in
+        record { list = _; is = refl; cells = (file_piece_known s u offset e t.value t.is (subst (λ o. fits_typed o (fits_variable true s.context u e) ≡ true) t.is fits), tt) }
+    initialiser_celled (trees.list node is) u offset complete fits f =
+        let inner = none_right (faults_of node.id (list_tests true s.context u is)) (elements_faults true s.context (Some u) 0 is) f in
+        let tests = unbroken node.id (list_tests true s.context u is) (none_left (faults_of node.id (list_tests true s.context u is)) (elements_faults true s.context (Some u) 0 is) f) in
+        elements_celled is u offset 0 complete (elements_kept (elements_typed s.context is) (takes_list u) (elements_fit true s.context u 0 is) (all_elements_typed is u 0 inner) fits tests) inner
+
+    elements_celled : (is : Initialisers) (u : TypeTree) (offset i : ℕ) → is_complete structs u ≡ true → elements_fit true s.context u i is ≡ true
+        → elements_faults true s.context (Some u) i is ≡ [] → Celled (pieces_from structs u offset i is)
+    elements_celled no_initialisers u offset i complete fits f = record { list = []; is = refl; cells = tt }
+    elements_celled (initialiser_and first is) u offset i complete fits f =
+        let fits_first = left _ _ fits in
+        let p = part_known structs h.laid_out h.members u i complete (part_there (part_type structs u i) first fits_first) in
+        let now = initialiser_celled first p.type (offset + p.offset.value) p.complete
+          (subst (λ o. element_fits true s.context o first ≡ true) p.is fits_first)
+          (subst (λ o. initialiser_faults true s.context o first ≡ []) p.is (none_left _ _ f)) in
+        let later = elements_celled is u offset (i + 1) complete (right (element_fits true s.context (part_type structs u i) first) _ fits)
+          (none_right (initialiser_faults true s.context (part_type structs u i) first) _ f) in
+        record {
+          list = now.list ++ later.list;
+          is = goes (part_type structs u i) p.type _ _ p.is (goes (part_offset structs u i) p.offset.value _ _ p.offset.is (goes (pieces structs p.type (offset + p.offset.value) first) now.list _ _ now.is
+            (goes (pieces_from structs u offset (i + 1) is) later.list _ _ later.is refl)));
+          cells = joined now.list later.list now.cells later.cells }
+
+  block_known : (t : TypeTree) (i : Option InitialiserTree) → is_complete structs t ≡ true → breaks_one (initialiser_tests true s.context (Some t) i) ≡ false
+      → option_initialiser_faults true s.context (Some t) i ≡ [] → Known (variable_block s t i)
+  block_known t None complete tests f =
+      onward (initial_cells s t None) _ (onward (blank_of structs t) _ (blank_known structs h.laid_out h.members t complete) (record { value = _; is = refl })) (record { value = _; is = refl })
+  block_known t (Some i) complete tests f =
+      let b = blank_known structs h.laid_out h.members t complete in
+      let ps = initialiser_celled i t 0 complete (fits_as_element i (kept_fit (is_typed s.context i) _ (has_type i f) tests)) f in
+      onward (initial_cells s t (Some i)) _
+      (onward (blank_of structs t) _ b (onward (pieces structs t 0 i) _ (record { value = ps.list; is = ps.is }) (over_known ps.list (blank_cells b.value) ps.cells)))
+      (record { value = _; is = refl })
+    where
+      has_type : (i : InitialiserTree) → initialiser_faults true s.context (Some t) i ≡ [] → is_typed s.context i ≡ true
+      has_type (trees.value e) f = ap is_some (type_of_known s.context names_have_types e whole f).is
+      has_type (trees.list node is) f = refl
+      kept_fit : (b fit : Bool) → b ≡ true → breaks_one (if b then keeps rules.InitialiserType fit else []) ≡ false → fit ≡ true
+      kept_fit true true e f = refl
+      kept_fit true false e f = never (sym f)
+      kept_fit false fit e f = never e
+      fits_as_element : (i : InitialiserTree) → fits true s.context t i ≡ true → element_fits true s.context (Some t) i ≡ true
+      fits_as_element (trees.value e) k = k
+      fits_as_element (trees.list node is) k = k
+
+-- ---- variables
+
+module _ (s₀ : Scope) where
+  pub record Known_after (c : Context) (base : Base) (vs : List VariableTree) : Type 0 where
+    pub blocks : Known (file_variables_typed (within s₀ c) base vs)
+    pub scope : IsFileScope (after_variables true c base vs)
+
+  pub file_variables_known : (vs : List VariableTree) (c : Context) (base : Base) → IsFileScope c → variables_faults true c base vs ≡ [] → Known_after c base vs
+  file_variables_known [] c base h f = record { blocks = record { value = _; is = refl }; scope = h }
+  file_variables_known (v ∷ vs) c base h faults =
+      let after = after_variable true c base v in
+      let tests = variable_tests true c after base v in
+      let own = none_left (variable_faults true c after base v) (variables_faults true after base vs) faults in
+      let parts = none_right (faults_of v.declarator.node.id tests) (lengths_faults c v.declarator.lengths.given ++ option_initialiser_faults true after (variable_declared c base v).type v.initialiser) own in
+      let initialiser = none_right (lengths_faults c v.declarator.lengths.given) (option_initialiser_faults true after (variable_declared c base v).type v.initialiser) parts in
+      let typed_lengths = lengths_typed c (has_types (within s₀ c) [] (file_sound s₀ c [] h)) v.declarator.lengths.given (none_left _ _ parts) in
+      let whole_tests = ap (λ b. breaks_one (if b then [] else again_tests c v ++ ((variable_declared c base v).tests ++ initialiser_tests true after (variable_declared c base v).type v.initialiser))) (sym (not_held_back true after (variable_declared c base v).type v.initialiser initialiser))
+        ∙ unbroken v.declarator.node.id tests (none_left (faults_of v.declarator.node.id tests) _ own) in
+      let later_tests = second_unbroken (again_tests c v) ((variable_declared c base v).tests ++ initialiser_tests true after (variable_declared c base v).type v.initialiser) whole_tests in
+      let d = declared_known c base v.declarator (length_by v.initialiser) typed_lengths (first_unbroken (variable_declared c base v).tests (initialiser_tests true after (variable_declared c base v).type v.initialiser) later_tests) in
+      let scope = scope_after c base v h d in
+      let block = block_known (within s₀ after) scope d.type v.initialiser d.complete
+        (subst (λ o. breaks_one (initialiser_tests true after o v.initialiser) ≡ false) d.is (second_unbroken (variable_declared c base v).tests (initialiser_tests true after (variable_declared c base v).type v.initialiser) later_tests))
+        (subst (λ o. option_initialiser_faults true after o v.initialiser ≡ []) d.is initialiser) in
+      let first : Known (file_variable_typed (within s₀ c) base v) = record { value = block.value; is = goes (variable_declared c base v).type d.type _ _ d.is block.is } in
+      let rest = file_variables_known vs after base scope (none_right (variable_faults true c after base v) (variables_faults true after base vs) faults) in
+      record {
+        blocks = onward (file_variable_typed (within s₀ c) base v) _ first (onward (file_variables_typed (within s₀ after) base vs) _ rest.blocks (record { value = _; is = refl }));
+        scope = rest.scope }
+    where
+      scope_after : (c : Context) (base : Base) (v : VariableTree) → IsFileScope c → DeclaredAs c.structs (variable_declared c base v) → IsFileScope (after_variable true c base v)
+      scope_after c base v h d = record {
+        names = (subst (λ o. EntityTyped c.structs (file_variable v.declarator.node.id o)) (sym d.is) d.complete, h.names);
+        members = h.members;
+        laid_out = h.laid_out }

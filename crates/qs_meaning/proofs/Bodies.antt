@@ -42,7 +42,7 @@ whole_some : {A B : Type 0} (o : Option A) (f : A → B) → is_some o ≡ true 
 whole_some None f e = never e
 whole_some (Some x) f e = refl
 
-sized_extent : (layouts : Layouts) (t : TypeTree) → is_some (sized_by layouts t) ≡ true → is_some (extent_by layouts t) ≡ true
+pub sized_extent : (layouts : Layouts) (t : TypeTree) → is_some (sized_by layouts t) ≡ true → is_some (extent_by layouts t) ≡ true
 sized_extent layouts int e = refl
 sized_extent layouts unsigned e = refl
 sized_extent layouts char e = refl

@@ -73,7 +73,7 @@ all_of_known (Some t ∷ ts) e =
     let rest = all_of_known ts (right (is_scalar_type (Some t)) _ e) in
     record { value = t ∷ rest.value; is = ap (λ o. and_then o (λ ts. Some (t ∷ ts))) rest.is }
 
-signature_known : (c : Context) (f : FunctionTree) → all_scalar (parameter_types (inner_scope c) f.parameters) ≡ true → Known (result_type c f) → Known (signature_by (header_of c f))
+pub signature_known : (c : Context) (f : FunctionTree) → all_scalar (parameter_types (inner_scope c) f.parameters) ≡ true → Known (result_type c f) → Known (signature_by (header_of c f))
 signature_known c f e r =
     let ts = all_of_known (parameter_types (inner_scope c) f.parameters) e in
     record {

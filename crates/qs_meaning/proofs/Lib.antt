@@ -19,3 +19,5 @@ mod Bodies
 mod Functions
 mod FunctionsTyped
 mod FileVariables
+mod StructTables
+mod UnitsTyped

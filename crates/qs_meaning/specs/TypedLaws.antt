@@ -1,7 +1,7 @@
 -- What is promised of the typed trees of expressions: where an expression has a type, it has a typed tree.
 use Rattle.std.specs.Prelude.{◌≡◌, ℕ, Bool, true, false, List, [], ◌∷◌, ◌++◌, Option, Some, None, is_some}
 use Rattle.std.specs.List.{list_all}
-use Rattle.qs_syntax.specs.Trees.{ExprTree, FunctionTree}
+use Rattle.qs_syntax.specs.Trees.{ExprTree, FunctionTree, UnitTree}
 use Rattle.qs_types.specs.Types.{TypeTree, MemberTree, Structs, is_scalar}
 use Rattle.qs_types.specs.Layout.{is_complete, struct_of, layout_of}
 use Rattle.qs_types.specs.Contexts.{Entity, local_variable, file_variable, function, given, Binding, Context, entity_of}
@@ -10,9 +10,10 @@ use Rattle.qs_types.specs.Placed.{is_one_of, addressed}
 use Rattle.qs_meaning.specs.Forms.{Form}
 use Rattle.qs_meaning.specs.Names.{Scope}
 use Rattle.qs_types.specs.UnitRules.{function_faults}
+use Rattle.qs_types.specs.WellTyped.{WellTyped}
 use Rattle.qs_meaning.specs.Expressions.{typed}
-use Rattle.qs_meaning.specs.Typed.{Function}
-use Rattle.qs_meaning.specs.Units.{function_typed}
+use Rattle.qs_meaning.specs.Typed.{Function, TypedProgram}
+use Rattle.qs_meaning.specs.Units.{function_typed, typed_of}
 
 -- what holds of every scope of a well typed unit: arrays and structs are placed, variables and members have complete types, and structs
 -- that have members are laid out
@@ -57,3 +58,7 @@ abbrev pub FunctionsTyped : Type 0
 FunctionsTyped =
     (s : Scope) → IsFileScope s.context → (f : FunctionTree) → function_faults s.context f ≡ []
     → (fs : List Function) × (function_typed s f f.body ≡ Some fs)
+
+-- a well typed unit has a typed tree
+abbrev pub UnitsTyped : Type 0
+UnitsTyped = (unit : UnitTree) → WellTyped unit → (u : TypedProgram) × (typed_of unit ≡ Some u)

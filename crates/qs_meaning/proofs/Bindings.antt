@@ -51,6 +51,10 @@ pub record Sound (s : Scope) (declared : List ℕ) : Type 0 where
   pub laid_out : LaidOut s.context.structs
   pub members : MembersComplete s.context.structs
 
+-- the operands of `&` are placed, where they are locals of the function
+abbrev pub are_taken : (declared placed : List ℕ) → List ℕ → Bool
+are_taken declared placed nodes = list_all (λ n. not (is_one_of n declared) || is_one_of n placed) nodes
+
 looked_up : (structs : Structs) (declared placed : List ℕ) (bs : List Binding) (x : List ℕ) (entity : Entity) → AllFine structs declared placed bs → lookup x bs ≡ Some entity → EntityFine structs declared placed entity
 looked_up structs declared placed [] x entity fine e = nothing entity e
 looked_up structs declared placed (b ∷ bs) x entity fine e = go (λ f. looked_up structs declared placed bs x entity fine.1 f) (same_bytes b.name x) e
@@ -164,11 +168,7 @@ module _ (s : Scope) (declared : List ℕ) (sound : Sound s declared) where
     all_declared no_exprs = refl
     all_declared (expr_and e es) = both_declared (addressed s.context e) (all_addressed s.context es) (addressed_declared e) (all_declared es)
 
-  -- the operands of `&` are placed, where they are locals of the function
-  abbrev pub are_taken : List ℕ → Bool
-  are_taken nodes = list_all (λ n. not (is_one_of n declared) || is_one_of n s.locals.placed) nodes
-
-  taken_placed : (nodes : List ℕ) → are_declared nodes ≡ true → are_taken nodes ≡ true → are_placed s nodes ≡ true
+  taken_placed : (nodes : List ℕ) → are_declared nodes ≡ true → are_taken declared s.locals.placed nodes ≡ true → are_placed s nodes ≡ true
   taken_placed [] e f = refl
   taken_placed (n ∷ ns) e f =
       both (is_one_of n declared) (is_one_of n s.locals.placed) (left _ _ e) (left _ _ f)
@@ -186,10 +186,10 @@ module _ (s : Scope) (declared : List ℕ) (sound : Sound s declared) where
     pub is : type_of s.context e ≡ Some type
     pub by : TypedBy s e type
 
-  pub expressed : (e : ExprTree) (p : Position) → expr_faults s.context p e ≡ [] → are_taken (addressed s.context e) ≡ true → Expressed e
+  pub expressed : (e : ExprTree) (p : Position) → expr_faults s.context p e ≡ [] → are_taken declared s.locals.placed (addressed s.context e) ≡ true → Expressed e
   expressed e p h taken =
       let t = type_of_known s.context has_types e p h in
       record { type = t.value; is = t.is; by = expression_typed s is_ready e t.value (taken_placed (addressed s.context e) (addressed_declared e) taken) t.is }
 
-  pub typed_known : (e : ExprTree) (p : Position) → expr_faults s.context p e ≡ [] → are_taken (addressed s.context e) ≡ true → Known (typed s e)
+  pub typed_known : (e : ExprTree) (p : Position) → expr_faults s.context p e ≡ [] → are_taken declared s.locals.placed (addressed s.context e) ≡ true → Known (typed s e)
   typed_known e p h taken = let x = expressed e p h taken in record { value = record { type = x.type; form = x.by.form }; is = x.by.is }

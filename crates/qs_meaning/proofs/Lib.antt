@@ -14,3 +14,10 @@ mod Faultless
 mod Bindings
 mod ValueExamples
 mod UnitExamples
+mod Initialising
+mod Bodies
+mod Functions
+mod FunctionsTyped
+mod FileVariables
+mod StructTables
+mod UnitsTyped

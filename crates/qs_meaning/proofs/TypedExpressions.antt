@@ -55,11 +55,11 @@ not_true : (b : Bool) → not b ≡ false → b ≡ true
 not_true true e = refl
 not_true false e = never (sym e)
 
-record Unless (ts : List Test) (t u : TypeTree) : Type 0 where
-  unbroken : breaks_one ts ≡ false
-  type : t ≡ u
+pub record Unless (ts : List Test) (t u : TypeTree) : Type 0 where
+  pub unbroken : breaks_one ts ≡ false
+  pub type : t ≡ u
 
-unless : (ts : List Test) (t u : TypeTree) → type_unless ts t ≡ Some u → Unless ts t u
+pub unless : (ts : List Test) (t u : TypeTree) → type_unless ts t ≡ Some u → Unless ts t u
 unless ts t u e = go (breaks_one ts) refl e
   where
     go : (b : Bool) → breaks_one ts ≡ b → (if b then None else Some t) ≡ Some u → Unless ts t u

@@ -5,10 +5,10 @@ use Rattle.qs_syntax.specs.declared.operators.UnaryOperator.{UnaryOperator}
 use Rattle.qs_syntax.specs.declared.operators.UnaryOperator.TheVariants as unaries
 use Rattle.qs_syntax.specs.Trees.{ExprTree, expr, ShapeTree, InitialiserTree}
 use Rattle.qs_syntax.specs.Trees as trees
-use Rattle.qs_memory.specs.declared.scalar.Scalar.{Scalar}
+use Rattle.qs_memory.specs.declared.scalar.Scalar.TheVariants as scalars
 use Rattle.qs_memory.specs.Partial.{◌>>=◌}
-use Rattle.qs_memory.specs.Values.{Pointer, null, into, Value, integer, address, convert}
-use Rattle.qs_memory.specs.Memory.{Cell, byte, cells_of, blank_cells}
+use Rattle.qs_memory.specs.Values.{Pointer, null, into, width}
+use Rattle.qs_memory.specs.Memory.{Cell, byte, bytes_of, parts_of, blank_cells}
 use Rattle.qs_types.specs.Types.{TypeTree, int, unsigned, char, void, pointer, array, struct, is_pointer, is_array}
 use Rattle.qs_types.specs.Contexts.{Entity, local_variable, file_variable, function, given, entity_of}
 use Rattle.qs_types.specs.Expressions.{is_null_constant}
@@ -23,12 +23,15 @@ use Rattle.qs_meaning.specs.Initialisers.{Piece, pieces}
 
 -- ---- constants (6.6)
 
--- the blocks of the unit are the first ones of the memory
-abbrev pub static_pointer : Object → Option Value
-static_pointer (local k) = None
-static_pointer (static k) = Some (address (into k 0))
+abbrev pub pointer_width : ℕ
+pointer_width = width scalars.Pointer
 
-abbrev pub entity_pointer : Scope → Option Entity → Option Value
+-- the blocks of the unit are the first ones of the memory
+abbrev pub static_pointer : Object → Option Pointer
+static_pointer (local k) = None
+static_pointer (static k) = Some (into k 0)
+
+abbrev pub entity_pointer : Scope → Option Entity → Option Pointer
 entity_pointer s None = None
 entity_pointer s (Some (local_variable node t)) = None
 entity_pointer s (Some (file_variable node t)) = static_pointer (file_variable_object s.statics node)
@@ -36,29 +39,30 @@ entity_pointer s (Some (function node signature body)) = None
 entity_pointer s (Some (given signature)) = None
 
 -- the operand of `&`, where it is a name
-abbrev pub named_pointer : Scope → ExprTree → Option Value
+abbrev pub named_pointer : Scope → ExprTree → Option Pointer
 named_pointer s (expr node (trees.name x)) = entity_pointer s (entity_of s.context x)
 named_pointer s (expr node _) = None
 
-abbrev pub pointer_by : UnaryOperator → Option Value → Option Value
+abbrev pub pointer_by : UnaryOperator → Option Pointer → Option Pointer
 pointer_by unaries.Address p = p
 pointer_by _ p = None
 
 -- 6.6p9: a text, the name of an array of file scope, and `&` of a variable there
-abbrev pub address_constant : Scope → ExprTree → Option Value
+abbrev pub address_constant : Scope → ExprTree → Option Pointer
 address_constant s (expr node (trees.text bytes)) = static_pointer (text_object s.statics node.id)
 address_constant s (expr node (trees.name x)) = entity_pointer s (entity_of s.context x)
 address_constant s (expr node (trees.unary operator a)) = pointer_by operator (named_pointer s a)
 address_constant s (expr node _) = None
 
--- 6.6p7, 6.7.9p11: the value of an initialiser of a scalar of this type
-abbrev pub constant_value : Scope → TypeTree → ExprTree → Option Value
-constant_value s t e =
-    if is_pointer t then (if is_null_constant e then Some (address null) else address_constant s e)
-    else (constant_of s.context e >>= λ n. convert (scalar_of t) (integer n))
+-- 6.3.2.3p3: a null constant is a null pointer
+abbrev pub pointer_constant : Scope → ExprTree → Option Pointer
+pointer_constant s e = if is_null_constant e then Some null else address_constant s e
 
+-- 6.6p7, 6.7.9p11: the cells of a scalar of this type; a number is converted by taking as many of its lowest bytes as the type has (6.3.1.3)
 abbrev pub constant_cells : Scope → TypeTree → ExprTree → Option (List Cell)
-constant_cells s t e = constant_value s t e >>= cells_of (scalar_of t)
+constant_cells s t e =
+    if is_pointer t then (pointer_constant s e >>= λ p. Some (parts_of p 0 pointer_width))
+    else (constant_of s.context e >>= λ n. Some (bytes_of (width (scalar_of t)) n))
 
 -- ---- texts
 

@@ -1,6 +1,6 @@
 // The laws of the runs of a source. Each is the contract of an empty function.
 ghost use Rattle.qs_meaning.specs.Laws.{CallsFollow, MainGrows, RunsGrow};
-ghost use Rattle.qs_meaning.specs.TypedLaws.{TypedWhereTypes};
+ghost use Rattle.qs_meaning.specs.TypedLaws.{FunctionsTyped, TypedWhereTypes, UnitsTyped};
 
 /// A greater bound keeps the run of a function that has ended or is undefined, and goes on from
 /// where it is short.
@@ -21,4 +21,14 @@ pub fn calls_follow()
 /// Where an expression has a type, it has a typed tree.
 pub fn typed_where_types()
     ensures { TypedWhereTypes }
+{}
+
+/// A function that breaks no rule has a typed tree.
+pub fn functions_typed()
+    ensures { FunctionsTyped }
+{}
+
+/// A well typed unit has a typed tree.
+pub fn units_typed()
+    ensures { UnitsTyped }
 {}

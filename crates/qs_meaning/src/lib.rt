@@ -4,4 +4,4 @@
 
 mod laws;
 
-pub use laws::{calls_follow, main_grows, runs_grow, typed_where_types};
+pub use laws::{calls_follow, functions_typed, main_grows, runs_grow, typed_where_types, units_typed};

@@ -76,8 +76,9 @@ declared_known c base d first e h = go (all_typed c d.lengths.given) e h
   where
     lengths : Option (List ℕ)
     lengths = whole_lengths d.lengths first (lengths_of c d.lengths.given)
+
     go : (b : Bool) → b ≡ true → breaks_one (if b then object_declared c base d.stars lengths else undeclared).tests ≡ false
-      → DeclaredAs c.structs (if b then object_declared c base d.stars lengths else undeclared)
+        → DeclaredAs c.structs (if b then object_declared c base d.stars lengths else undeclared)
     go true e h = with_size_known c (element_tests c base d.stars ++ keeps rules.ArrayLength (is_some lengths)) (object_type c base d.stars lengths) h
     go false e h = never e
 
@@ -162,9 +163,11 @@ module _ (s₀ : Scope) (declared_nodes : List ℕ) where
     where
       fine_here : is_fine_local declared_nodes placed (record { node = v.declarator.node.id; type = Some d.type }) ≡ true
       fine_here = subst (λ o. is_fine_local declared_nodes placed (record { node = v.declarator.node.id; type = o }) ≡ true) d.is fine
+
       large_placed : (scalar here : Bool) → (not (not scalar) || here) ≡ true → scalar ≡ false → here ≡ true
       large_placed true here e f = never (sym f)
       large_placed false here e f = e
+
       local_fine : IsFine c.structs declared_nodes placed v.declarator.node.id d.type
       local_fine = record {
         complete = d.complete;
@@ -190,6 +193,7 @@ module _ (s₀ : Scope) (declared_nodes : List ℕ) where
       has_type : (i : InitialiserTree) → initialiser_faults false c (Some t) i ≡ [] → is_typed c i ≡ true
       has_type (trees.value e) f = ap is_some (type_of_known c (has_types (within s₀ c) declared_nodes h.sound) e whole f).is
       has_type (trees.list node is) f = refl
+
       kept_fit : (b fit : Bool) → b ≡ true → breaks_one (if b then keeps rules.InitialiserType fit else []) ≡ false → fit ≡ true
       kept_fit true true e f = refl
       kept_fit true false e f = never (sym f)
@@ -220,16 +224,17 @@ module _ (s₀ : Scope) (declared_nodes : List ℕ) where
       let here = sites_left declared_nodes placed (variable_sites false c after base v) (variables_sites false after base vs) taken in
       let initialiser_taken = sites_right declared_nodes placed (declarator_sites c v.declarator) (option_initialiser_sites false after (variable_declared c base v).type v.initialiser) here in
       let now = initialised_known after stands v.declarator.node.id d.type (fine_at d stands) v.initialiser initialiser_unbroken
-        (subst (λ o. option_initialiser_faults false after o v.initialiser ≡ []) d.is initialiser)
-        (subst (λ o. sites_taken declared_nodes placed (option_initialiser_sites false after o v.initialiser) ≡ true) d.is initialiser_taken) in
+      (subst (λ o. option_initialiser_faults false after o v.initialiser ≡ []) d.is initialiser)
+      (subst (λ o. sites_taken declared_nodes placed (option_initialiser_sites false after o v.initialiser) ≡ true) d.is initialiser_taken) in
       let rest = variables_known vs after base stands (none_right (variable_faults false c after base v) (variables_faults false after base vs) faults)
-        (sites_right declared_nodes placed (variable_sites false c after base v) (variables_sites false after base vs) taken)
-        (right (is_fine_local declared_nodes placed (record { node = v.declarator.node.id; type = (variable_declared c base v).type })) _ fine) in
+      (sites_right declared_nodes placed (variable_sites false c after base v) (variables_sites false after base vs) taken)
+      (right (is_fine_local declared_nodes placed (record { node = v.declarator.node.id; type = (variable_declared c base v).type })) _ fine) in
       let first : Known (variable_typed (within s₀ c) base v) = record { value = now.value; is = goes (variable_declared c base v).type d.type _ _ d.is now.is } in
       record {
         sized = both_sized (has_size c.structs (variable_declared c base v).type d.type d.is d.complete) rest.sized;
         tree = onward (variable_typed (within s₀ c) base v) _ first (onward (variables_typed (within s₀ after) base vs) _ rest.tree (record { value = _; is = refl }));
-        stands = rest.stands }
+        stands = rest.stands;
+      }
     where
       fine_at : (d : DeclaredAs c.structs (variable_declared c base v)) → Stands (after_variable false c base v) → IsFine c.structs declared_nodes placed v.declarator.node.id d.type
       fine_at d stands = subst (λ o. EntityFine c.structs declared_nodes placed (local_variable v.declarator.node.id o)) d.is stands.sound.names.0
@@ -316,12 +321,12 @@ module _ (s₀ : Scope) (declared_nodes : List ℕ) where
         let rest = sites_right declared_nodes placed (start_sites (inner_scope c) start) (option_sites inside e ++ (option_sites inside u ++ statement_sites body t)) taken in
         let last = sites_right declared_nodes placed (option_sites inside e) (option_sites inside u ++ statement_sites body t) rest in
         let first = start_known (inner_scope c) (inner_stands c h) start (none_left _ _ f) (sites_left declared_nodes placed (start_sites (inner_scope c) start) (option_sites inside e ++ (option_sites inside u ++ statement_sites body t)) taken)
-          (locals_left declared_nodes placed (start_locals (inner_scope c) start) (statement_locals body t) fine) in
+        (locals_left declared_nodes placed (start_locals (inner_scope c) start) (statement_locals body t) fine) in
         onward (start_typed (within s₀ (inner_scope c)) start) _ first.tree
         (onward (option_condition (within s₀ inside) e) _ (option_condition_known inside first.stands e (none_left _ _ expressions) (sites_left declared_nodes placed (option_sites inside e) (option_sites inside u ++ statement_sites body t) rest))
         (onward (option_effect (within s₀ inside) u) _ (option_effect_known inside first.stands u (none_right (option_used inside e) _ expressions) (sites_left declared_nodes placed (option_sites inside u) (statement_sites body t) last))
         (onward (statement_typed (within s₀ body) t) _ (statement_known t body (loop_stands inside first.stands) (none_right (for_faults inside start node e u) (statement_faults body t) parts)
-          (sites_right declared_nodes placed (option_sites inside u) (statement_sites body t) last) (locals_right declared_nodes placed (start_locals (inner_scope c) start) (statement_locals body t) fine))
+        (sites_right declared_nodes placed (option_sites inside u) (statement_sites body t) last) (locals_right declared_nodes placed (start_locals (inner_scope c) start) (statement_locals body t) fine))
         (record { value = _; is = refl }))))
     statement_known (break node) c h f taken fine = record { value = _; is = refl }
     statement_known (continue node) c h f taken fine = record { value = _; is = refl }
@@ -337,7 +342,7 @@ module _ (s₀ : Scope) (declared_nodes : List ℕ) where
         let first_fine = locals_left declared_nodes placed (statement_locals c t) (statements_locals after ts) fine in
         onward (statement_typed (within s₀ c) t) _ (statement_known t c h first first_taken first_fine)
         (onward (statements_typed (within s₀ after) ts) _ (all_known ts after (statement_stands t c h first first_taken first_fine) (none_right (statement_faults c t) (statements_faults after ts) f)
-          (sites_right declared_nodes placed (statement_sites c t) (statements_sites after ts) taken) (locals_right declared_nodes placed (statement_locals c t) (statements_locals after ts) fine))
+        (sites_right declared_nodes placed (statement_sites c t) (statements_sites after ts) taken) (locals_right declared_nodes placed (statement_locals c t) (statements_locals after ts) fine))
         (record { value = _; is = refl }))
 
     pub else_known : (r : Else) (c : Context) → Stands c → else_faults c r ≡ [] → sites_taken declared_nodes placed (else_sites c r) ≡ true
@@ -406,7 +411,7 @@ module _ (s₀ : Scope) (declared_nodes : List ℕ) where
         let start_fine = locals_left declared_nodes placed (start_locals (inner_scope c) start) (statement_locals body t) fine in
         let first = start_known (inner_scope c) (inner_stands c h) start start_faultless start_taken start_fine in
         let inner = statement_sized t body (loop_stands inside first.stands) (none_right (for_faults inside start node e u) (statement_faults body t) parts)
-          (sites_right declared_nodes placed (option_sites inside u) (statement_sites body t) last) (locals_right declared_nodes placed (start_locals (inner_scope c) start) (statement_locals body t) fine) in
+        (sites_right declared_nodes placed (option_sites inside u) (statement_sites body t) last) (locals_right declared_nodes placed (start_locals (inner_scope c) start) (statement_locals body t) fine) in
         sized_together c.structs (start_locals (inner_scope c) start) (statement_locals body t)
         (start_sized start (inner_scope c) (inner_stands c h) start_faultless start_taken start_fine)
         (subst (λ z. all_sized z (statement_locals body t) ≡ true) (start_structs start (inner_scope c)) inner)
@@ -423,7 +428,7 @@ module _ (s₀ : Scope) (declared_nodes : List ℕ) where
         let first_taken = sites_left declared_nodes placed (statement_sites c t) (statements_sites after ts) taken in
         let first_fine = locals_left declared_nodes placed (statement_locals c t) (statements_locals after ts) fine in
         let rest = body_sized ts after (statement_stands t c h first first_taken first_fine) (none_right (statement_faults c t) (statements_faults after ts) f)
-          (sites_right declared_nodes placed (statement_sites c t) (statements_sites after ts) taken) (locals_right declared_nodes placed (statement_locals c t) (statements_locals after ts) fine) in
+        (sites_right declared_nodes placed (statement_sites c t) (statements_sites after ts) taken) (locals_right declared_nodes placed (statement_locals c t) (statements_locals after ts) fine) in
         sized_together c.structs (statement_locals c t) (statements_locals after ts) (statement_sized t c h first first_taken first_fine)
         (subst (λ z. all_sized z (statements_locals after ts) ≡ true) (statement_structs t c) rest)
 

@@ -156,6 +156,7 @@ text_type bytes u e = go (same_types e)
   where
     same_types : {t v : TypeTree} → Some t ≡ Some v → t ≡ v
     same_types e = cc
+
     go : {n : ℕ} → array char n ≡ u → is_pointer (decayed u) ≡ true
     go e = subst (λ z. is_pointer (decayed z) ≡ true) e refl
 
@@ -188,6 +189,7 @@ constant_kind s e u t h = go (either (is_some (constant_of s.context e)) _ h)
     rest : (is_null_constant e ≡ true) ⊎ ((is_some (text_of e) || is_address s.context e u) ≡ true) → (is_some (constant_of s.context e) ≡ true) ⊎ Addressing s e u
     rest (inl n) = inl (null_is_constant s.context e n)
     rest (inr a) = inr (addressing s e u t a)
+
     go : (is_some (constant_of s.context e) ≡ true) ⊎ ((is_null_constant e || (is_some (text_of e) || is_address s.context e u)) ≡ true) → (is_some (constant_of s.context e) ≡ true) ⊎ Addressing s e u
     go (inl k) = inl k
     go (inr r) = rest (either (is_null_constant e) _ r)
@@ -202,7 +204,7 @@ pointer_cells : (s : Scope) (e : ExprTree) (u : TypeTree) → type_of s.context 
 pointer_cells s e u t p k = go (is_null_constant e) refl p k
   where
     go : (b : Bool) → is_null_constant e ≡ b → (is_pointer (decayed u) ≡ true) ⊎ (is_null_constant e ≡ true) → (is_some (constant_of s.context e) ≡ true) ⊎ Addressing s e u
-      → Known (if b then Some null else address_constant s e)
+        → Known (if b then Some null else address_constant s e)
     go true n p k = record { value = _; is = refl }
     go false n (inr m) k = not_both (is_null_constant e) m n
     go false n (inl q) (inl k) = not_both (is_integer (decayed u)) (integer_itself u (constant_integer s.context e u t k)) (pointer_no_integer u q)
@@ -315,15 +317,16 @@ module _ (s : Scope) (h : IsFileScope s.context) where
         let fits_first = left _ _ fits in
         let p = part_known structs h.laid_out h.members u i complete (part_there (part_type structs u i) first fits_first) in
         let now = initialiser_celled first p.type (offset + p.offset.value) p.complete
-          (subst (λ o. element_fits true s.context o first ≡ true) p.is fits_first)
-          (subst (λ o. initialiser_faults true s.context o first ≡ []) p.is (none_left _ _ f)) in
+        (subst (λ o. element_fits true s.context o first ≡ true) p.is fits_first)
+        (subst (λ o. initialiser_faults true s.context o first ≡ []) p.is (none_left _ _ f)) in
         let later = elements_celled is u offset (i + 1) complete (right (element_fits true s.context (part_type structs u i) first) _ fits)
-          (none_right (initialiser_faults true s.context (part_type structs u i) first) _ f) in
+        (none_right (initialiser_faults true s.context (part_type structs u i) first) _ f) in
         record {
           list = now.list ++ later.list;
           is = goes (part_type structs u i) p.type _ _ p.is (goes (part_offset structs u i) p.offset.value _ _ p.offset.is (goes (pieces structs p.type (offset + p.offset.value) first) now.list _ _ now.is
-            (goes (pieces_from structs u offset (i + 1) is) later.list _ _ later.is refl)));
-          cells = joined now.list later.list now.cells later.cells }
+              (goes (pieces_from structs u offset (i + 1) is) later.list _ _ later.is refl)));
+          cells = joined now.list later.list now.cells later.cells;
+        }
 
   block_known : (t : TypeTree) (i : Option InitialiserTree) → is_complete structs t ≡ true → breaks_one (initialiser_tests true s.context (Some t) i) ≡ false
       → option_initialiser_faults true s.context (Some t) i ≡ [] → Known (variable_block s t i)
@@ -339,10 +342,12 @@ module _ (s : Scope) (h : IsFileScope s.context) where
       has_type : (i : InitialiserTree) → initialiser_faults true s.context (Some t) i ≡ [] → is_typed s.context i ≡ true
       has_type (trees.value e) f = ap is_some (type_of_known s.context names_have_types e whole f).is
       has_type (trees.list node is) f = refl
+
       kept_fit : (b fit : Bool) → b ≡ true → breaks_one (if b then keeps rules.InitialiserType fit else []) ≡ false → fit ≡ true
       kept_fit true true e f = refl
       kept_fit true false e f = never (sym f)
       kept_fit false fit e f = never e
+
       fits_as_element : (i : InitialiserTree) → fits true s.context t i ≡ true → element_fits true s.context (Some t) i ≡ true
       fits_as_element (trees.value e) k = k
       fits_as_element (trees.list node is) k = k
@@ -364,21 +369,23 @@ module _ (s₀ : Scope) where
       let initialiser = none_right (lengths_faults c v.declarator.lengths.given) (option_initialiser_faults true after (variable_declared c base v).type v.initialiser) parts in
       let typed_lengths = lengths_typed c (has_types (within s₀ c) [] (file_sound s₀ c [] h)) v.declarator.lengths.given (none_left _ _ parts) in
       let whole_tests = ap (λ b. breaks_one (if b then [] else again_tests c v ++ ((variable_declared c base v).tests ++ initialiser_tests true after (variable_declared c base v).type v.initialiser))) (sym (not_held_back true after (variable_declared c base v).type v.initialiser initialiser))
-        ∙ unbroken v.declarator.node.id tests (none_left (faults_of v.declarator.node.id tests) _ own) in
+      ∙ unbroken v.declarator.node.id tests (none_left (faults_of v.declarator.node.id tests) _ own) in
       let later_tests = second_unbroken (again_tests c v) ((variable_declared c base v).tests ++ initialiser_tests true after (variable_declared c base v).type v.initialiser) whole_tests in
       let d = declared_known c base v.declarator (length_by v.initialiser) typed_lengths (first_unbroken (variable_declared c base v).tests (initialiser_tests true after (variable_declared c base v).type v.initialiser) later_tests) in
       let scope = scope_after c base v h d in
       let block = block_known (within s₀ after) scope d.type v.initialiser d.complete
-        (subst (λ o. breaks_one (initialiser_tests true after o v.initialiser) ≡ false) d.is (second_unbroken (variable_declared c base v).tests (initialiser_tests true after (variable_declared c base v).type v.initialiser) later_tests))
-        (subst (λ o. option_initialiser_faults true after o v.initialiser ≡ []) d.is initialiser) in
+      (subst (λ o. breaks_one (initialiser_tests true after o v.initialiser) ≡ false) d.is (second_unbroken (variable_declared c base v).tests (initialiser_tests true after (variable_declared c base v).type v.initialiser) later_tests))
+      (subst (λ o. option_initialiser_faults true after o v.initialiser ≡ []) d.is initialiser) in
       let first : Known (file_variable_typed (within s₀ c) base v) = record { value = block.value; is = goes (variable_declared c base v).type d.type _ _ d.is block.is } in
       let rest = file_variables_known vs after base scope (none_right (variable_faults true c after base v) (variables_faults true after base vs) faults) in
       record {
         blocks = onward (file_variable_typed (within s₀ c) base v) _ first (onward (file_variables_typed (within s₀ after) base vs) _ rest.blocks (record { value = _; is = refl }));
-        scope = rest.scope }
+        scope = rest.scope;
+      }
     where
       scope_after : (c : Context) (base : Base) (v : VariableTree) → IsFileScope c → DeclaredAs c.structs (variable_declared c base v) → IsFileScope (after_variable true c base v)
       scope_after c base v h d = record {
         names = (subst (λ o. EntityTyped c.structs (file_variable v.declarator.node.id o)) (sym d.is) d.complete, h.names);
         members = h.members;
-        laid_out = h.laid_out }
+        laid_out = h.laid_out;
+      }

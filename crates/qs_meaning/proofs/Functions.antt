@@ -78,8 +78,9 @@ addressed_placed taken n e (x ∷ xs) = go (addressed_placed taken n e xs) (x.no
     later : (d p : Bool) → (not d || p) ≡ true → (q : Bool) → (p ≡ true → q ≡ true) → (not d || q) ≡ true
     later false p h q f = refl
     later true p h q f = f h
+
     go : (not (is_one_of n (nodes_of xs)) || is_one_of n (nodes_of (filter (is_placed taken) xs))) ≡ true
-      → (b : Bool) → (x.node == n) ≡ b → (not (b || is_one_of n (nodes_of xs)) || is_one_of n (nodes_of (filter (is_placed taken) (x ∷ xs)))) ≡ true
+        → (b : Bool) → (x.node == n) ≡ b → (not (b || is_one_of n (nodes_of xs)) || is_one_of n (nodes_of (filter (is_placed taken) (x ∷ xs)))) ≡ true
     go rest true h =
         let same_node = eqb-true x.node n h in
         subst (λ m. is_one_of m (nodes_of (filter (is_placed taken) (x ∷ xs))) ≡ true) same_node
@@ -125,6 +126,7 @@ scalars_known structs p (x ∷ xs) e = go (scalars_known structs p xs (right (is
     typed : (o : Option TypeTree) → is_some (and_then o (size_of structs)) ≡ true → Known o
     typed None e = never e
     typed (Some t) e = record { value = t; is = refl }
+
     go : Known (scalars_of (filter p xs)) → (b : Bool) → Known (scalars_of (cond b (x ∷ filter p xs) (filter p xs)))
     go rest true = onward x.type _ (typed x.type (left _ _ e)) (onward (scalars_of (filter p xs)) _ rest (record { value = _; is = refl }))
     go rest false = rest
@@ -136,6 +138,7 @@ sizes_known structs p (x ∷ xs) e = go (sizes_known structs p xs (right (is_siz
     size : (o : Option TypeTree) → is_some (and_then o (size_of structs)) ≡ true → Known (o >>= size_of structs)
     size None e = never e
     size (Some t) e = known (size_of structs t) e
+
     go : Known (sizes_of structs (filter p xs)) → (b : Bool) → Known (sizes_of structs (cond b (x ∷ filter p xs) (filter p xs)))
     go rest true = onward (x.type >>= size_of structs) _ (size x.type (left _ _ e)) (onward (sizes_of structs (filter p xs)) _ rest (record { value = _; is = refl }))
     go rest false = rest
@@ -174,7 +177,7 @@ parameter_type_known : (c : Context) (p : ParameterTree) → all_typed c p.lengt
 parameter_type_known c p e h = go (all_typed c p.lengths.given) (is_array_parameter p.lengths) e h
   where
     go : (b a : Bool) → b ≡ true → breaks_one (if b then (if a then array_parameter c p else plain_parameter c p) else undeclared).tests ≡ false
-      → Known (if b then (if a then array_parameter c p else plain_parameter c p) else undeclared).type
+        → Known (if b then (if a then array_parameter c p else plain_parameter c p) else undeclared).type
     go true true e h = record { value = pointer (parameter_element c p); is = type_known (array_parameter c p).tests (pointer (parameter_element c p)) h }
     go true false e h = record { value = _; is = type_known (plain_parameter c p).tests _ h }
     go false a e h = never e
@@ -212,7 +215,7 @@ module _ (s₀ : Scope) (declared_nodes : List ℕ) where
   parameter_scalar has_body c h p f =
       let lengths = lengths_typed c (has_types (within s₀ c) declared_nodes h) p.lengths.given (none_right (faults_of p.node.id (parameter_tests c has_body p)) _ f) in
       let own = tests_in (all_typed c p.lengths.given) (test rules.DeclaredTwice (is_name_declared c p.name) ++ ((parameter_declared c p).tests ++ signature_tests p has_body (parameter_declared c p).type)) lengths
-        (unbroken p.node.id (parameter_tests c has_body p) (none_left (faults_of p.node.id (parameter_tests c has_body p)) _ f)) in
+      (unbroken p.node.id (parameter_tests c has_body p) (none_left (faults_of p.node.id (parameter_tests c has_body p)) _ f)) in
       let later = second_unbroken (test rules.DeclaredTwice (is_name_declared c p.name)) ((parameter_declared c p).tests ++ signature_tests p has_body (parameter_declared c p).type) own in
       let t = parameter_type_known c p lengths (first_unbroken (parameter_declared c p).tests (signature_tests p has_body (parameter_declared c p).type) later) in
       let signature = subst (λ o. breaks_one (signature_tests p has_body o) ≡ false) t.is (second_unbroken (parameter_declared c p).tests (signature_tests p has_body (parameter_declared c p).type) later) in

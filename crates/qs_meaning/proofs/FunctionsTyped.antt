@@ -79,7 +79,8 @@ signature_known c f e r =
     record {
       value = record { parameters = ts.value; result = r.value };
       is = ap (λ o. and_then o (λ ts. and_then (result_type c f) (λ t. Some (record { parameters = ts; result = t })))) ts.is
-        ∙ ap (λ o. and_then o (λ t. Some (record { parameters = ts.value; result = t }))) r.is }
+          ∙ ap (λ o. and_then o (λ t. Some (record { parameters = ts.value; result = t }))) r.is;
+    }
 
 function_entity : (structs : Structs) (o : Option Entity) (node : ℕ) (signature : Option Signature) (body : Bool) → Known signature → EntityTyped structs (declared_function o node signature body)
 function_entity structs o node signature body k = subst (λ z. EntityTyped structs (declared_function o node z body)) (sym k.is) (go o)
@@ -158,7 +159,7 @@ module _ (s : Scope) (h : IsFileScope s.context) (f : FunctionTree) (body : Stmt
   unfolding at_body
   stands = record {
     sound = with_parameters_sound s₀ (nodes_of ls) f.parameters types at_body (file_sound s₀ at_body (nodes_of ls) body_scope)
-      (parameters_declared (nodes_of ls) locals.placed f.parameters (inner_scope c) parameters_fine) scalar;
+        (parameters_declared (nodes_of ls) locals.placed f.parameters (inner_scope c) parameters_fine) scalar;
     result = subst Known (sym (same_result f.parameters types at_body)) result;
   }
 

@@ -174,16 +174,17 @@ module _ (s : Scope) (declared : List ℕ) (sound : Sound s declared) where
         let fits_first = left _ _ fits in
         let p = part_known structs sound.laid_out sound.members u i complete (part_there (part_type structs u i) first fits_first) in
         let now = initialiser_pieced first base p.type (offset + p.offset.value) p.complete
-          (subst (λ o. element_fits false s.context o first ≡ true) p.is fits_first)
-          (subst (λ o. initialiser_faults false s.context o first ≡ []) p.is (none_left _ _ h))
-          (subst (λ o. sites_taken declared s.locals.placed (initialiser_sites false s.context o first) ≡ true) p.is (sites_left declared s.locals.placed (initialiser_sites false s.context (part_type structs u i) first) (elements_sites false s.context (Some u) (i + 1) is) taken)) in
+        (subst (λ o. element_fits false s.context o first ≡ true) p.is fits_first)
+        (subst (λ o. initialiser_faults false s.context o first ≡ []) p.is (none_left _ _ h))
+        (subst (λ o. sites_taken declared s.locals.placed (initialiser_sites false s.context o first) ≡ true) p.is (sites_left declared s.locals.placed (initialiser_sites false s.context (part_type structs u i) first) (elements_sites false s.context (Some u) (i + 1) is) taken)) in
         let later = elements_pieced is base u offset (i + 1) complete (right (element_fits false s.context (part_type structs u i) first) _ fits)
-          (none_right (initialiser_faults false s.context (part_type structs u i) first) _ h) (sites_right declared s.locals.placed (initialiser_sites false s.context (part_type structs u i) first) (elements_sites false s.context (Some u) (i + 1) is) taken) in
+        (none_right (initialiser_faults false s.context (part_type structs u i) first) _ h) (sites_right declared s.locals.placed (initialiser_sites false s.context (part_type structs u i) first) (elements_sites false s.context (Some u) (i + 1) is) taken) in
         record {
           list = now.list ++ later.list;
           is = goes (part_type structs u i) p.type _ _ p.is (goes (part_offset structs u i) p.offset.value _ _ p.offset.is (goes (pieces structs p.type (offset + p.offset.value) first) now.list _ _ now.is
-            (goes (pieces_from structs u offset (i + 1) is) later.list _ _ later.is refl)));
-          set = joined base now.list later.list now.set later.set }
+              (goes (pieces_from structs u offset (i + 1) is) later.list _ _ later.is refl)));
+          set = joined base now.list later.list now.set later.set;
+        }
 
   -- ---- variables
 
@@ -212,8 +213,8 @@ module _ (s : Scope) (declared : List ℕ) (sound : Sound s declared) where
   local_set_known t l (trees.value e) complete large fits h taken = go t complete large fits h taken
     where
       go : (t : TypeTree) → is_complete structs t ≡ true → (is_scalar t ≡ false → Known (address_in l)) → fits_typed (type_of s.context e) (fits_variable false s.context t e) ≡ true
-        → expr_faults s.context whole e ≡ [] → sites_taken declared s.locals.placed (initialiser_sites false s.context (Some t) (trees.value e)) ≡ true
-        → Known (local_set s (record { type = t; form = lvalue l }) (trees.value e))
+          → expr_faults s.context whole e ≡ [] → sites_taken declared s.locals.placed (initialiser_sites false s.context (Some t) (trees.value e)) ≡ true
+          → Known (local_set s (record { type = t; form = lvalue l }) (trees.value e))
       go (array t n) complete large fits h taken = object_known (array t n) l (trees.value e) complete (large refl) fits h taken
       go int complete large fits h taken = let x = expressed s declared sound e whole h (left _ _ taken) in not_array_known int complete l large e x (fitting int e x fits) refl
       go unsigned complete large fits h taken = let x = expressed s declared sound e whole h (left _ _ taken) in not_array_known unsigned complete l large e x (fitting unsigned e x fits) refl

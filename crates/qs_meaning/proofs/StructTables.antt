@@ -125,6 +125,7 @@ appended_scope c tag h = record {
   where
     g : GoesOn c.structs (c.structs ++ None ∷ [])
     g = appended_goes_on c.structs
+
     length_one : {A : Type 0} (xs : List A) (x : A) → length (xs ++ x ∷ []) ≡ suc (length xs)
     length_one [] x = refl
     length_one (y ∷ xs) x = ap suc (length_one xs x)
@@ -192,11 +193,13 @@ all_extents layouts more g (t ∷ ts) e = go (λ f. all_extents layouts more g t
     joins None p a b = never a
     joins (Some x) None a b = never b
     joins (Some x) (Some xs) a b = refl
+
     rest : (x : Extent) (o : Option (List Extent)) → is_some (and_then o (λ es. Some (x ∷ es))) ≡ true → is_some o ≡ true
     rest x None e = never e
     rest x (Some es) e = refl
+
     go : (is_some (all_sized_by layouts ts) ≡ true → is_some (extents_by more ts) ≡ true)
-      → (o : Option Extent) → sized_by layouts t ≡ o → is_some (and_then o (λ e. and_then (all_sized_by layouts ts) (λ es. Some (e ∷ es)))) ≡ true → is_some (extents_by more (t ∷ ts)) ≡ true
+        → (o : Option Extent) → sized_by layouts t ≡ o → is_some (and_then o (λ e. and_then (all_sized_by layouts ts) (λ es. Some (e ∷ es)))) ≡ true → is_some (extents_by more (t ∷ ts)) ≡ true
     go later None s e = never e
     go later (Some x) s e =
         joins (extent_by more t) (extents_by more ts) (some_grows (extent_by layouts t) (extent_by more t) (extent_grows layouts more g t) (sized_extent layouts t (ap is_some s)))
@@ -209,12 +212,14 @@ sized_members structs (m ∷ ms) e = go (λ f. sized_members structs ms f) (size
     both : (x y : Bool) → x ≡ true → y ≡ true → (x && y) ≡ true
     both true y e f = f
     both false y e f = never e
+
     rest : (x : Extent) (o : Option (List Extent)) → is_some (and_then o (λ es. Some (x ∷ es))) ≡ true → is_some o ≡ true
     rest x None e = never e
     rest x (Some es) e = refl
+
     go : (is_some (all_sized_by (layout_of structs) (member_types ms)) ≡ true → list_all (λ m. is_complete structs m.type) ms ≡ true)
-      → (o : Option Extent) → sized_by (layout_of structs) m.type ≡ o → is_some (and_then o (λ e. and_then (all_sized_by (layout_of structs) (member_types ms)) (λ es. Some (e ∷ es)))) ≡ true
-      → (is_complete structs m.type && list_all (λ m. is_complete structs m.type) ms) ≡ true
+        → (o : Option Extent) → sized_by (layout_of structs) m.type ≡ o → is_some (and_then o (λ e. and_then (all_sized_by (layout_of structs) (member_types ms)) (λ es. Some (e ∷ es)))) ≡ true
+        → (is_complete structs m.type && list_all (λ m. is_complete structs m.type) ms) ≡ true
     go later None s e = never e
     go later (Some x) s e = both _ _ (sized_extent (layout_of structs) m.type (ap is_some s)) (later (rest x (all_sized_by (layout_of structs) (member_types ms)) e))
 
@@ -232,11 +237,14 @@ set_table c k new h n sized = record {
   where
     more : Structs
     more = slice_set c.structs k (Some new)
+
     g : GoesOn c.structs more
     g = record { keeps = set_keeps c.structs k new n; count = set_count c.structs k new n }
+
     members_here : (j : ℕ) (ms : List MemberTree) → (struct_of c.structs j ≡ Some ms) ⊎ IsNew c.structs k new ms → list_all (λ m. is_complete more m.type) ms ≡ true
     members_here j ms (inl e) = members_grow c.structs more g ms (h.scope.members j ms e)
     members_here j ms (inr f) = subst (λ z. list_all (λ m. is_complete more m.type) z ≡ true) f.is (members_grow c.structs more g new (sized_members c.structs new sized))
+
     within : (j : ℕ) (ms : List MemberTree) → struct_of more j ≡ Some ms → new ≡ ms → is_some (layouts_within (suc (defined_structs c.structs)) more j) ≡ true
     within j ms e f =
         let extents = all_extents (layout_of c.structs) (layouts_within (defined_structs c.structs) more) (layouts_grow c.structs more g (defined_structs c.structs) (defined_structs c.structs) (omega arith)) (member_types new) sized in
@@ -245,6 +253,7 @@ set_table c k new h n sized = record {
         laid : (o : Option (List Extent)) → is_some o ≡ true → is_some (and_then o (λ es. Some (struct_layout es))) ≡ true
         laid None e = never e
         laid (Some es) e = refl
+
     laid_out_here : (j : ℕ) (ms : List MemberTree) → struct_of more j ≡ Some ms → (struct_of c.structs j ≡ Some ms) ⊎ IsNew c.structs k new ms → is_some (layout_of more j) ≡ true
     laid_out_here j ms e (inl f) = some_grows (layout_of c.structs j) (layout_of more j) (λ l. layout_grows c.structs more g j l) (h.scope.laid_out j ms f)
     laid_out_here j ms e (inr f) = subst (λ d. is_some (layouts_within d more j) ≡ true) (sym f.count) (within j ms e f.is)
@@ -260,7 +269,7 @@ place_of_new n tag [] k e f = go (same_bytes tag tag) f
 place_of_new n tag (t ∷ tags) k e f = go (λ e f. place_of_new (n + 1) tag tags k e f) (same_bytes t tag) e f
   where
     go : (place_from (n + 1) tag tags ≡ None → place_from (n + 1) tag (tags ++ tag ∷ []) ≡ Some k → k ≡ n + 1 + length tags)
-      → (b : Bool) → (if b then Some n else place_from (n + 1) tag tags) ≡ None → (if b then Some n else place_from (n + 1) tag (tags ++ tag ∷ [])) ≡ Some k → k ≡ n + length (t ∷ tags)
+        → (b : Bool) → (if b then Some n else place_from (n + 1) tag tags) ≡ None → (if b then Some n else place_from (n + 1) tag (tags ++ tag ∷ [])) ≡ Some k → k ≡ n + length (t ∷ tags)
     go later true e f = nothing n (sym e)
     go later false e f = let r = later e f in omega arith
 
@@ -270,9 +279,10 @@ no_members_at c tag h d k = go (tag_place c tag) refl d
     none_there : (o : types.StructTree) → is_some o ≡ false → o ≡ None
     none_there None e = refl
     none_there (Some ms) e = never (sym e)
+
     go : (o : Option ℕ) → tag_place c tag ≡ o → is_some (and_then o (struct_of c.structs)) ≡ false
-      → tag_place (if is_some o then c else record c { structs = c.structs ++ None ∷ []; tags = c.tags ++ tag ∷ [] }) tag ≡ Some k
-      → struct_of (if is_some o then c else record c { structs = c.structs ++ None ∷ []; tags = c.tags ++ tag ∷ [] }).structs k ≡ None
+        → tag_place (if is_some o then c else record c { structs = c.structs ++ None ∷ []; tags = c.tags ++ tag ∷ [] }) tag ≡ Some k
+        → struct_of (if is_some o then c else record c { structs = c.structs ++ None ∷ []; tags = c.tags ++ tag ∷ [] }).structs k ≡ None
     go None e d f = subst (λ j. struct_of (c.structs ++ None ∷ []) j ≡ None) (sym (place_of_new 0 tag c.tags k e f ∙ ap (λ n. 0 + n) h.tags ∙ zero_plus (length c.structs))) (appended_none c.structs)
       where
         zero_plus : (n : ℕ) → 0 + n ≡ n
@@ -286,6 +296,7 @@ define_table c new (Some k) h n = go (is_some (sized_layout (layout_of c.structs
     part : (o : Option (List Extent)) → is_some (and_then o (λ es. layout_within (struct_layout es))) ≡ true → is_some o ≡ true
     part None e = never e
     part (Some es) e = refl
+
     go : (b : Bool) → is_some (sized_layout (layout_of c.structs) (member_types new)) ≡ b → IsTable (record c { structs = with_members b c.structs k new })
     go false e = record { scope = record { names = h.scope.names; members = h.scope.members; laid_out = h.scope.laid_out }; tags = h.tags }
     go true e = set_table c k new h (n k refl) (part (all_sized_by (layout_of c.structs) (member_types new)) e)
@@ -294,6 +305,6 @@ pub after_struct_table : (c : Context) (s : StructTree) → IsTable c → IsTabl
 after_struct_table c s h = go (is_defined c s.name) refl
   where
     go : (b : Bool) → is_defined c s.name ≡ b
-      → IsTable (if b then c else define_at (with_tag c s.name) (after_members (with_tag c s.name) no_members s.members).members (tag_place (with_tag c s.name) s.name))
+        → IsTable (if b then c else define_at (with_tag c s.name) (after_members (with_tag c s.name) no_members s.members).members (tag_place (with_tag c s.name) s.name))
     go true e = h
     go false e = define_table (with_tag c s.name) (after_members (with_tag c s.name) no_members s.members).members (tag_place (with_tag c s.name) s.name) (with_tag_table c s.name h) (no_members_at c s.name h e)

@@ -38,20 +38,26 @@ function_table s c f h faultless = record { scope = after_function_scope c f h.s
   where
     types : List (Option TypeTree)
     types = parameter_types (inner_scope c) f.parameters
+
     ls : List Local
     ls = parameters_locals f.parameters types
+
     s₀ : Scope
     s₀ = record s { locals = locals_of [] ls }
+
     parts : (parameters_faults (inner_scope c) (is_some f.body) f.parameters ++ body_faults c f f.body) ≡ []
     parts = none_right (faults_of f.node.id (header_tests c f)) _ faultless
+
     result : Known (result_type c f)
     result = result_known c f (first_unbroken (result_tests c f) (main_tests f (header_of c f)) (second_unbroken (keeps rules.DeclaredTwice (may_declare c f)) (result_tests c f ++ main_tests f (header_of c f))
-      (unbroken f.node.id (header_tests c f) (none_left (faults_of f.node.id (header_tests c f)) _ faultless))))
+        (unbroken f.node.id (header_tests c f) (none_left (faults_of f.node.id (header_tests c f)) _ faultless))))
+
     inner : IsFileScope (inner_scope c)
     inner = record { names = h.scope.names; members = h.scope.members; laid_out = h.scope.laid_out }
+
     scalar : all_scalar (parameter_types (inner_scope c) f.parameters) ≡ true
     scalar = parameters_scalar s₀ (nodes_of ls) (is_some f.body) f.parameters (inner_scope c) (file_sound s₀ (inner_scope c) (nodes_of ls) inner)
-      (parameters_declared (nodes_of ls) (locals_of [] ls).placed f.parameters (inner_scope c) (all_fine [] ls)) (none_left _ _ parts)
+        (parameters_declared (nodes_of ls) (locals_of [] ls).placed f.parameters (inner_scope c) (all_fine [] ls)) (none_left _ _ parts)
 
 -- ---- units
 
@@ -70,7 +76,8 @@ module _ (s₀ : Scope) where
       let k = file_variables_known s₀ d.variables c d.base h.scope f in
       record {
         tree = onward (file_variables_typed (within s₀ c) d.base d.variables) _ k.blocks (record { value = _; is = refl });
-        table = record { scope = k.scope; tags = ap length (same_tags d.base d.variables c) ∙ h.tags ∙ sym (ap length (same_structs d.base d.variables c)) } }
+        table = record { scope = k.scope; tags = ap length (same_tags d.base d.variables c) ∙ h.tags ∙ sym (ap length (same_structs d.base d.variables c)) };
+      }
 
   declarations_known : (ds : UnitTree) (c : Context) → IsTable c → declarations_faults c ds ≡ [] → Known (declarations_typed (within s₀ c) ds)
   declarations_known [] c h f = record { value = _; is = refl }

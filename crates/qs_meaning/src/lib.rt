@@ -4,4 +4,6 @@
 
 mod laws;
 
-pub use laws::{calls_follow, functions_typed, main_grows, runs_grow, typed_where_types, units_typed};
+pub use laws::{
+    calls_follow, functions_typed, main_grows, runs_grow, typed_where_types, units_typed,
+};

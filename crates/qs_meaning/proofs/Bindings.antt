@@ -20,7 +20,7 @@ use Rattle.qs_meaning.specs.Names.{Scope}
 use Rattle.qs_meaning.specs.Expressions.{typed}
 use Rattle.qs_meaning.specs.TypedLaws.{IsReady, are_placed}
 use Rattle.qs_meaning.proofs.Options.{never, left, right, nothing, same, Known}
-use Rattle.qs_meaning.proofs.Sums.{LaidOut, MembersComplete}
+use Rattle.qs_meaning.proofs.CompleteTypes.{LaidOut, MembersComplete}
 use Rattle.qs_meaning.proofs.Faultless.{HasTypes, type_of_known}
 use Rattle.qs_meaning.proofs.TypedExpressions.{TypedBy, expression_typed}
 
@@ -55,11 +55,13 @@ pub record Sound (s : Scope) (declared : List ℕ) : Type 0 where
 abbrev pub are_taken : (declared placed : List ℕ) → List ℕ → Bool
 are_taken declared placed nodes = list_all (λ n. not (is_one_of n declared) || is_one_of n placed) nodes
 
-looked_up : (structs : Structs) (declared placed : List ℕ) (bs : List Binding) (x : List ℕ) (entity : Entity) → AllFine structs declared placed bs → lookup x bs ≡ Some entity → EntityFine structs declared placed entity
+looked_up : (structs : Structs) (declared placed : List ℕ) (bs : List Binding) (x : List ℕ) (entity : Entity) → AllFine structs declared placed bs
+    → lookup x bs ≡ Some entity → EntityFine structs declared placed entity
 looked_up structs declared placed [] x entity fine e = nothing entity e
 looked_up structs declared placed (b ∷ bs) x entity fine e = go (λ f. looked_up structs declared placed bs x entity fine.1 f) (same_bytes b.name x) e
   where
-    go : (lookup x bs ≡ Some entity → EntityFine structs declared placed entity) → (c : Bool) → (if c then Some b.entity else lookup x bs) ≡ Some entity → EntityFine structs declared placed entity
+    go : (lookup x bs ≡ Some entity → EntityFine structs declared placed entity) → (c : Bool) → (if c then Some b.entity else lookup x bs) ≡ Some entity
+        → EntityFine structs declared placed entity
     go later true e = subst (EntityFine structs declared placed) (same _ _ e) fine.0
     go later false e = later e
 
@@ -107,7 +109,8 @@ module _ (s : Scope) (declared : List ℕ) (sound : Sound s declared) where
       both true y e f = f
       both false y e f = e
 
-  local_declared : (o : Option Entity) → ((entity : Entity) → o ≡ Some entity → EntityFine s.context.structs declared s.locals.placed entity) → are_declared (local_node o) ≡ true
+  local_declared : (o : Option Entity) → ((entity : Entity) → o ≡ Some entity → EntityFine s.context.structs declared s.locals.placed entity) → are_declared
+      (local_node o) ≡ true
   local_declared None fine = refl
   local_declared (Some (local_variable node None)) fine = absurd (fine (local_variable node None) refl)
   local_declared (Some (local_variable node (Some t))) fine = ap (λ b. b && true) (fine (local_variable node (Some t)) refl).is_declared
@@ -149,7 +152,8 @@ module _ (s : Scope) (declared : List ℕ) (sound : Sound s declared) where
     shape_declared (trees.text bytes) = refl
     shape_declared (trees.name x) = refl
     shape_declared (trees.unary operator a) =
-        both_declared (operand_of operator (named_local s.context a)) (addressed s.context a) (operand_declared operator (named_local s.context a) (named_declared a)) (addressed_declared a)
+        both_declared (operand_of operator (named_local s.context a)) (addressed s.context a) (operand_declared operator (named_local s.context a) (named_declared a))
+        (addressed_declared a)
     shape_declared (trees.step operator a) = addressed_declared a
     shape_declared (trees.cast n a) = addressed_declared a
     shape_declared (trees.sizeof_type n) = refl

@@ -49,8 +49,10 @@ sized_extent layouts char e = refl
 sized_extent layouts void e = never e
 sized_extent layouts (pointer t) e = refl
 sized_extent layouts (array t n) e =
-    whole_some (extent_by layouts t) (λ (x : Extent). array_extent x n) (sized_extent layouts t (part_some (sized_by layouts t) (λ (x : Extent). extent_within (array_extent x n)) e))
-sized_extent layouts (struct k) e = whole_some (layouts k) (λ (l : StructLayout). struct_extent l) (part_some (layouts k) (λ (l : StructLayout). extent_within (struct_extent l)) e)
+    whole_some (extent_by layouts t) (λ (x : Extent). array_extent x n)
+        (sized_extent layouts t (part_some (sized_by layouts t) (λ (x : Extent). extent_within (array_extent x n)) e))
+sized_extent layouts (struct k) e = whole_some (layouts k) (λ (l : StructLayout). struct_extent l)
+    (part_some (layouts k) (λ (l : StructLayout). extent_within (struct_extent l)) e)
 
 -- ---- declared types
 
@@ -64,14 +66,17 @@ sized_kept true sized e h = never (sym e)
 sized_kept false true e h = refl
 sized_kept false false e h = never (sym h)
 
-pub with_size_known : (c : Context) (before : List Test) (t : TypeTree) → breaks_one (with_size_tests c before t).tests ≡ false → DeclaredAs c.structs (with_size_tests c before t)
+pub with_size_known : (c : Context) (before : List Test) (t : TypeTree) → breaks_one (with_size_tests c before t).tests ≡ false → DeclaredAs c.structs
+    (with_size_tests c before t)
 with_size_known c before t h = record {
   type = t;
   is = type_known (before ++ size_tests c before t) t h;
-  complete = sized_extent (layout_of c.structs) t (sized_kept (breaks_one before) (is_sized c.structs t) (first_unbroken before (size_tests c before t) h) (second_unbroken before (size_tests c before t) h));
+  complete = sized_extent (layout_of c.structs) t (sized_kept (breaks_one before) (is_sized c.structs t) (first_unbroken before (size_tests c before t) h)
+      (second_unbroken before (size_tests c before t) h));
 }
 
-pub declared_known : (c : Context) (base : Base) (d : DeclaratorTree) (first : Option ℕ) → all_typed c d.lengths.given ≡ true → breaks_one (declared c base d first).tests ≡ false → DeclaredAs c.structs (declared c base d first)
+pub declared_known : (c : Context) (base : Base) (d : DeclaratorTree) (first : Option ℕ) → all_typed c d.lengths.given ≡ true → breaks_one
+    (declared c base d first).tests ≡ false → DeclaredAs c.structs (declared c base d first)
 declared_known c base d first e h = go (all_typed c d.lengths.given) e h
   where
     lengths : Option (List ℕ)
@@ -129,7 +134,8 @@ and_false : (b : Bool) → (b && false) ≡ false
 and_false true = refl
 and_false false = refl
 
-pub not_held_back : (at_file_scope : Bool) (c : Context) (t : Option TypeTree) (i : Option InitialiserTree) → option_initialiser_faults at_file_scope c t i ≡ [] → holds_back c i ≡ false
+pub not_held_back : (at_file_scope : Bool) (c : Context) (t : Option TypeTree) (i : Option InitialiserTree) → option_initialiser_faults at_file_scope c t i ≡ []
+    → holds_back c i ≡ false
 not_held_back b c t None h = refl
 not_held_back b c t (Some (trees.value e)) h = ap (λ fs. not (is_some (type_of c e)) && is_any fs) h ∙ and_false (not (is_some (type_of c e)))
 not_held_back b c t (Some (trees.list node is)) h = refl
@@ -188,7 +194,8 @@ module _ (s₀ : Scope) (declared_nodes : List ℕ) where
       → sites_taken declared_nodes placed (option_initialiser_sites false c (Some t) i) ≡ true → Known (initialised (within s₀ c) node t i)
   initialised_known c h node t fine None tests faults taken = record { value = _; is = refl }
   initialised_known c h node t fine (Some i) tests faults taken =
-      local_set_known (within s₀ c) declared_nodes h.sound t (local_lvalue s₀.locals node) i fine.complete (λ f. local_address node (fine.large f)) (kept_fit (is_typed c i) _ (has_type i faults) tests) faults taken
+      local_set_known (within s₀ c) declared_nodes h.sound t (local_lvalue s₀.locals node) i fine.complete (λ f. local_address node (fine.large f))
+          (kept_fit (is_typed c i) _ (has_type i faults) tests) faults taken
     where
       has_type : (i : InitialiserTree) → initialiser_faults false c (Some t) i ≡ [] → is_typed c i ≡ true
       has_type (trees.value e) f = ap is_some (type_of_known c (has_types (within s₀ c) declared_nodes h.sound) e whole f).is
@@ -215,14 +222,18 @@ module _ (s₀ : Scope) (declared_nodes : List ℕ) where
       let initialiser = none_right (lengths_faults c v.declarator.lengths.given) _ parts in
       let typed_lengths = lengths_typed c (has_types (within s₀ c) declared_nodes h.sound) v.declarator.lengths.given (none_left _ _ parts) in
       let unheld = not_held_back false after (variable_declared c base v).type v.initialiser initialiser in
-      let whole_tests = ap (λ b. breaks_one (if b then [] else again_tests c v ++ ((variable_declared c base v).tests ++ initialiser_tests false after (variable_declared c base v).type v.initialiser))) (sym unheld) ∙ unbroken v.declarator.node.id (variable_tests false c after base v) tests_faults in
+      let whole_tests = ap (λ b. breaks_one (if b then [] else again_tests c v ++
+          ((variable_declared c base v).tests ++ initialiser_tests false after (variable_declared c base v).type v.initialiser)))
+          (sym unheld) ∙ unbroken v.declarator.node.id (variable_tests false c after base v) tests_faults in
       let later_tests = second_unbroken (again_tests c v) _ whole_tests in
       let d = declared_known c base v.declarator (length_by v.initialiser) typed_lengths (first_unbroken (variable_declared c base v).tests _ later_tests) in
       let fine_here = left (is_fine_local declared_nodes placed (record { node = v.declarator.node.id; type = (variable_declared c base v).type })) _ fine in
       let stands = variable_stands c h base v d fine_here in
-      let initialiser_unbroken = subst (λ o. breaks_one (initialiser_tests false after o v.initialiser) ≡ false) d.is (second_unbroken (variable_declared c base v).tests _ later_tests) in
+      let initialiser_unbroken = subst (λ o. breaks_one (initialiser_tests false after o v.initialiser) ≡ false) d.is
+          (second_unbroken (variable_declared c base v).tests _ later_tests) in
       let here = sites_left declared_nodes placed (variable_sites false c after base v) (variables_sites false after base vs) taken in
-      let initialiser_taken = sites_right declared_nodes placed (declarator_sites c v.declarator) (option_initialiser_sites false after (variable_declared c base v).type v.initialiser) here in
+      let initialiser_taken = sites_right declared_nodes placed (declarator_sites c v.declarator)
+          (option_initialiser_sites false after (variable_declared c base v).type v.initialiser) here in
       let now = initialised_known after stands v.declarator.node.id d.type (fine_at d stands) v.initialiser initialiser_unbroken
       (subst (λ o. option_initialiser_faults false after o v.initialiser ≡ []) d.is initialiser)
       (subst (λ o. sites_taken declared_nodes placed (option_initialiser_sites false after o v.initialiser) ≡ true) d.is initialiser_taken) in
@@ -236,7 +247,8 @@ module _ (s₀ : Scope) (declared_nodes : List ℕ) where
         stands = rest.stands;
       }
     where
-      fine_at : (d : DeclaredAs c.structs (variable_declared c base v)) → Stands (after_variable false c base v) → IsFine c.structs declared_nodes placed v.declarator.node.id d.type
+      fine_at : (d : DeclaredAs c.structs (variable_declared c base v)) → Stands (after_variable false c base v)
+          → IsFine c.structs declared_nodes placed v.declarator.node.id d.type
       fine_at d stands = subst (λ o. EntityFine c.structs declared_nodes placed (local_variable v.declarator.node.id o)) d.is stands.sound.names.0
 
   -- ---- expressions in statements
@@ -244,24 +256,32 @@ module _ (s₀ : Scope) (declared_nodes : List ℕ) where
   taken_alone : (c : Context) (e : ExprTree) → sites_taken declared_nodes placed (site c e) ≡ true → are_taken declared_nodes placed (addressed c e) ≡ true
   taken_alone c e h = left _ _ h
 
-  effect_known : (c : Context) → Stands c → (e : ExprTree) → expr_faults c discarded e ≡ [] → sites_taken declared_nodes placed (site c e) ≡ true → Known (effect_typed (within s₀ c) e)
-  effect_known c h e f taken = onward (typed (within s₀ c) e) _ (typed_known (within s₀ c) declared_nodes h.sound e discarded f (taken_alone c e taken)) (record { value = _; is = refl })
+  effect_known : (c : Context) → Stands c → (e : ExprTree) → expr_faults c discarded e ≡ [] → sites_taken declared_nodes placed (site c e) ≡ true → Known
+      (effect_typed (within s₀ c) e)
+  effect_known c h e f taken = onward (typed (within s₀ c) e) _ (typed_known (within s₀ c) declared_nodes h.sound e discarded f (taken_alone c e taken))
+      (record { value = _; is = refl })
 
-  option_effect_known : (c : Context) → Stands c → (e : Option ExprTree) → option_discarded c e ≡ [] → sites_taken declared_nodes placed (option_sites c e) ≡ true → Known (option_effect (within s₀ c) e)
+  option_effect_known : (c : Context) → Stands c → (e : Option ExprTree) → option_discarded c e ≡ [] → sites_taken declared_nodes placed (option_sites c e) ≡ true → Known
+      (option_effect (within s₀ c) e)
   option_effect_known c h None f taken = record { value = _; is = refl }
   option_effect_known c h (Some e) f taken = effect_known c h e f taken
 
-  condition_known : (c : Context) → Stands c → (e : ExprTree) → expr_faults c used e ≡ [] → sites_taken declared_nodes placed (site c e) ≡ true → Known (condition_typed (within s₀ c) e)
-  condition_known c h e f taken = onward (typed (within s₀ c) e) _ (typed_known (within s₀ c) declared_nodes h.sound e used f (taken_alone c e taken)) (record { value = _; is = refl })
+  condition_known : (c : Context) → Stands c → (e : ExprTree) → expr_faults c used e ≡ [] → sites_taken declared_nodes placed (site c e) ≡ true → Known
+      (condition_typed (within s₀ c) e)
+  condition_known c h e f taken = onward (typed (within s₀ c) e) _ (typed_known (within s₀ c) declared_nodes h.sound e used f (taken_alone c e taken))
+      (record { value = _; is = refl })
 
-  option_condition_known : (c : Context) → Stands c → (e : Option ExprTree) → option_used c e ≡ [] → sites_taken declared_nodes placed (option_sites c e) ≡ true → Known (option_condition (within s₀ c) e)
+  option_condition_known : (c : Context) → Stands c → (e : Option ExprTree) → option_used c e ≡ [] → sites_taken declared_nodes placed (option_sites c e) ≡ true → Known
+      (option_condition (within s₀ c) e)
   option_condition_known c h None f taken = record { value = _; is = refl }
   option_condition_known c h (Some e) f taken = onward (condition_typed (within s₀ c) e) _ (condition_known c h e f taken) (record { value = _; is = refl })
 
-  return_known : (c : Context) → Stands c → (e : Option ExprTree) → option_used c e ≡ [] → sites_taken declared_nodes placed (option_sites c e) ≡ true → Known (return_typed (within s₀ c) e)
+  return_known : (c : Context) → Stands c → (e : Option ExprTree) → option_used c e ≡ [] → sites_taken declared_nodes placed (option_sites c e) ≡ true → Known
+      (return_typed (within s₀ c) e)
   return_known c h None f taken = record { value = _; is = refl }
   return_known c h (Some e) f taken =
-      onward c.result _ h.result (onward (typed (within s₀ c) e) _ (typed_known (within s₀ c) declared_nodes h.sound e used f (taken_alone c e taken)) (record { value = _; is = refl }))
+      onward c.result _ h.result (onward (typed (within s₀ c) e) _ (typed_known (within s₀ c) declared_nodes h.sound e used f (taken_alone c e taken))
+          (record { value = _; is = refl }))
 
   record Started (c : Context) (start : StartTree) : Type 0 where
     tree : Known (start_typed (within s₀ c) start)
@@ -294,24 +314,37 @@ module _ (s₀ : Scope) (declared_nodes : List ℕ) where
         → locals_fine declared_nodes placed (statement_locals c t) ≡ true → Known (statement_typed (within s₀ c) t)
     statement_known (empty node) c h f taken fine = record { value = _; is = refl }
     statement_known (expression node e) c h f taken fine = onward (effect_typed (within s₀ c) e) _ (effect_known c h e f taken) (record { value = _; is = refl })
-    statement_known (declaration d) c h f taken fine = onward (variables_typed (within s₀ c) d.base d.variables) _ (variables_known d.variables c d.base h f taken fine).tree (record { value = _; is = refl })
-    statement_known (block ss) c h f taken fine = onward (statements_typed (within s₀ (inner_scope c)) ss) _ (all_known ss (inner_scope c) (inner_stands c h) f taken fine) (record { value = _; is = refl })
+    statement_known (declaration d) c h f taken fine = onward (variables_typed (within s₀ c) d.base d.variables) _ (variables_known d.variables c d.base h f taken fine).tree
+        (record { value = _; is = refl })
+    statement_known (block ss) c h f taken fine = onward (statements_typed (within s₀ (inner_scope c)) ss) _ (all_known ss (inner_scope c) (inner_stands c h) f taken fine)
+        (record { value = _; is = refl })
     statement_known (branch node e t r) c h f taken fine =
         let parts = none_right (condition_faults c node e) _ f in
         let rest = sites_right declared_nodes placed (site c e) (statement_sites (inner_scope c) t ++ else_sites c r) taken in
-        onward (condition_typed (within s₀ c) e) _ (condition_known c h e (none_right (faults_of node.id (condition_tests (type_of c e))) _ (none_left _ _ f)) (sites_left declared_nodes placed (site c e) (statement_sites (inner_scope c) t ++ else_sites c r) taken))
-        (onward (statement_typed (within s₀ (inner_scope c)) t) _ (statement_known t (inner_scope c) (inner_stands c h) (none_left _ _ parts) (sites_left declared_nodes placed (statement_sites (inner_scope c) t) (else_sites c r) rest) (locals_left declared_nodes placed (statement_locals (inner_scope c) t) (else_locals c r) fine))
-        (onward (else_typed (within s₀ c) r) _ (else_known r c h (none_right (statement_faults (inner_scope c) t) _ parts) (sites_right declared_nodes placed (statement_sites (inner_scope c) t) (else_sites c r) rest) (locals_right declared_nodes placed (statement_locals (inner_scope c) t) (else_locals c r) fine))
+        onward (condition_typed (within s₀ c) e) _ (condition_known c h e (none_right (faults_of node.id (condition_tests (type_of c e))) _ (none_left _ _ f))
+            (sites_left declared_nodes placed (site c e) (statement_sites (inner_scope c) t ++ else_sites c r) taken))
+        (onward (statement_typed (within s₀ (inner_scope c)) t) _
+            (statement_known t (inner_scope c) (inner_stands c h) (none_left _ _ parts)
+            (sites_left declared_nodes placed (statement_sites (inner_scope c) t) (else_sites c r) rest)
+            (locals_left declared_nodes placed (statement_locals (inner_scope c) t) (else_locals c r) fine))
+        (onward (else_typed (within s₀ c) r) _ (else_known r c h (none_right (statement_faults (inner_scope c) t) _ parts)
+            (sites_right declared_nodes placed (statement_sites (inner_scope c) t) (else_sites c r) rest)
+            (locals_right declared_nodes placed (statement_locals (inner_scope c) t) (else_locals c r) fine))
         (record { value = _; is = refl })))
     statement_known (while_loop node e t) c h f taken fine =
         let body = inside_loop (inner_scope c) in
-        onward (condition_typed (within s₀ c) e) _ (condition_known c h e (none_right (faults_of node.id (condition_tests (type_of c e))) _ (none_left _ _ f)) (sites_left declared_nodes placed (site c e) (statement_sites body t) taken))
-        (onward (statement_typed (within s₀ body) t) _ (statement_known t body (loop_stands c h) (none_right (condition_faults c node e) _ f) (sites_right declared_nodes placed (site c e) (statement_sites body t) taken) fine)
+        onward (condition_typed (within s₀ c) e) _ (condition_known c h e (none_right (faults_of node.id (condition_tests (type_of c e))) _ (none_left _ _ f))
+            (sites_left declared_nodes placed (site c e) (statement_sites body t) taken))
+        (onward (statement_typed (within s₀ body) t) _ (statement_known t body (loop_stands c h) (none_right (condition_faults c node e) _ f)
+            (sites_right declared_nodes placed (site c e) (statement_sites body t) taken) fine)
         (record { value = _; is = refl }))
     statement_known (do_loop node t e) c h f taken fine =
         let body = inside_loop (inner_scope c) in
-        onward (statement_typed (within s₀ body) t) _ (statement_known t body (loop_stands c h) (none_left _ _ f) (sites_left declared_nodes placed (statement_sites body t) (site c e) taken) fine)
-        (onward (condition_typed (within s₀ c) e) _ (condition_known c h e (none_right (faults_of node.id (condition_tests (type_of c e))) _ (none_right (statement_faults body t) _ f)) (sites_right declared_nodes placed (statement_sites body t) (site c e) taken))
+        onward (statement_typed (within s₀ body) t) _ (statement_known t body (loop_stands c h) (none_left _ _ f)
+            (sites_left declared_nodes placed (statement_sites body t) (site c e) taken) fine)
+        (onward (condition_typed (within s₀ c) e) _ (condition_known c h e
+            (none_right (faults_of node.id (condition_tests (type_of c e))) _ (none_right (statement_faults body t) _ f))
+            (sites_right declared_nodes placed (statement_sites body t) (site c e) taken))
         (record { value = _; is = refl }))
     statement_known (for_loop node start e u t) c h f taken fine =
         let inside = for_context c start in
@@ -320,6 +353,7 @@ module _ (s₀ : Scope) (declared_nodes : List ℕ) where
         let expressions = none_right (faults_of node.id (for_tests inside start e u)) _ (none_left (for_faults inside start node e u) (statement_faults body t) parts) in
         let rest = sites_right declared_nodes placed (start_sites (inner_scope c) start) (option_sites inside e ++ (option_sites inside u ++ statement_sites body t)) taken in
         let last = sites_right declared_nodes placed (option_sites inside e) (option_sites inside u ++ statement_sites body t) rest in
+<<<<<<< HEAD
         let first = start_known (inner_scope c) (inner_stands c h) start (none_left _ _ f) (sites_left declared_nodes placed (start_sites (inner_scope c) start) (option_sites inside e ++ (option_sites inside u ++ statement_sites body t)) taken)
         (locals_left declared_nodes placed (start_locals (inner_scope c) start) (statement_locals body t) fine) in
         onward (start_typed (within s₀ (inner_scope c)) start) _ first.tree
@@ -327,6 +361,20 @@ module _ (s₀ : Scope) (declared_nodes : List ℕ) where
         (onward (option_effect (within s₀ inside) u) _ (option_effect_known inside first.stands u (none_right (option_used inside e) _ expressions) (sites_left declared_nodes placed (option_sites inside u) (statement_sites body t) last))
         (onward (statement_typed (within s₀ body) t) _ (statement_known t body (loop_stands inside first.stands) (none_right (for_faults inside start node e u) (statement_faults body t) parts)
         (sites_right declared_nodes placed (option_sites inside u) (statement_sites body t) last) (locals_right declared_nodes placed (start_locals (inner_scope c) start) (statement_locals body t) fine))
+=======
+        let first = start_known (inner_scope c) (inner_stands c h) start (none_left _ _ f)
+            (sites_left declared_nodes placed (start_sites (inner_scope c) start) (option_sites inside e ++ (option_sites inside u ++ statement_sites body t)) taken)
+          (locals_left declared_nodes placed (start_locals (inner_scope c) start) (statement_locals body t) fine) in
+        onward (start_typed (within s₀ (inner_scope c)) start) _ first.tree
+        (onward (option_condition (within s₀ inside) e) _ (option_condition_known inside first.stands e (none_left _ _ expressions)
+            (sites_left declared_nodes placed (option_sites inside e) (option_sites inside u ++ statement_sites body t) rest))
+        (onward (option_effect (within s₀ inside) u) _ (option_effect_known inside first.stands u (none_right (option_used inside e) _ expressions)
+            (sites_left declared_nodes placed (option_sites inside u) (statement_sites body t) last))
+        (onward (statement_typed (within s₀ body) t) _ (statement_known t body (loop_stands inside first.stands)
+            (none_right (for_faults inside start node e u) (statement_faults body t) parts)
+          (sites_right declared_nodes placed (option_sites inside u) (statement_sites body t) last)
+              (locals_right declared_nodes placed (start_locals (inner_scope c) start) (statement_locals body t) fine))
+>>>>>>> a98275d
         (record { value = _; is = refl }))))
     statement_known (break node) c h f taken fine = record { value = _; is = refl }
     statement_known (continue node) c h f taken fine = record { value = _; is = refl }
@@ -341,8 +389,15 @@ module _ (s₀ : Scope) (declared_nodes : List ℕ) where
         let first_taken = sites_left declared_nodes placed (statement_sites c t) (statements_sites after ts) taken in
         let first_fine = locals_left declared_nodes placed (statement_locals c t) (statements_locals after ts) fine in
         onward (statement_typed (within s₀ c) t) _ (statement_known t c h first first_taken first_fine)
+<<<<<<< HEAD
         (onward (statements_typed (within s₀ after) ts) _ (all_known ts after (statement_stands t c h first first_taken first_fine) (none_right (statement_faults c t) (statements_faults after ts) f)
         (sites_right declared_nodes placed (statement_sites c t) (statements_sites after ts) taken) (locals_right declared_nodes placed (statement_locals c t) (statements_locals after ts) fine))
+=======
+        (onward (statements_typed (within s₀ after) ts) _ (all_known ts after (statement_stands t c h first first_taken first_fine)
+            (none_right (statement_faults c t) (statements_faults after ts) f)
+          (sites_right declared_nodes placed (statement_sites c t) (statements_sites after ts) taken)
+              (locals_right declared_nodes placed (statement_locals c t) (statements_locals after ts) fine))
+>>>>>>> a98275d
         (record { value = _; is = refl }))
 
     pub else_known : (r : Else) (c : Context) → Stands c → else_faults c r ≡ [] → sites_taken declared_nodes placed (else_sites c r) ≡ true
@@ -392,11 +447,16 @@ module _ (s₀ : Scope) (declared_nodes : List ℕ) where
         let parts = none_right (condition_faults c node e) _ f in
         let rest = sites_right declared_nodes placed (site c e) (statement_sites (inner_scope c) t ++ else_sites c r) taken in
         sized_together c.structs (statement_locals (inner_scope c) t) (else_locals c r)
-        (statement_sized t (inner_scope c) (inner_stands c h) (none_left _ _ parts) (sites_left declared_nodes placed (statement_sites (inner_scope c) t) (else_sites c r) rest) (locals_left declared_nodes placed (statement_locals (inner_scope c) t) (else_locals c r) fine))
-        (else_sized r c h (none_right (statement_faults (inner_scope c) t) _ parts) (sites_right declared_nodes placed (statement_sites (inner_scope c) t) (else_sites c r) rest) (locals_right declared_nodes placed (statement_locals (inner_scope c) t) (else_locals c r) fine))
+        (statement_sized t (inner_scope c) (inner_stands c h) (none_left _ _ parts)
+            (sites_left declared_nodes placed (statement_sites (inner_scope c) t) (else_sites c r) rest)
+            (locals_left declared_nodes placed (statement_locals (inner_scope c) t) (else_locals c r) fine))
+        (else_sized r c h (none_right (statement_faults (inner_scope c) t) _ parts)
+            (sites_right declared_nodes placed (statement_sites (inner_scope c) t) (else_sites c r) rest)
+            (locals_right declared_nodes placed (statement_locals (inner_scope c) t) (else_locals c r) fine))
     statement_sized (while_loop node e t) c h f taken fine =
         let body = inside_loop (inner_scope c) in
-        statement_sized t body (loop_stands c h) (none_right (condition_faults c node e) _ f) (sites_right declared_nodes placed (site c e) (statement_sites body t) taken) fine
+        statement_sized t body (loop_stands c h) (none_right (condition_faults c node e) _ f)
+            (sites_right declared_nodes placed (site c e) (statement_sites body t) taken) fine
     statement_sized (do_loop node t e) c h f taken fine =
         let body = inside_loop (inner_scope c) in
         statement_sized t body (loop_stands c h) (none_left _ _ f) (sites_left declared_nodes placed (statement_sites body t) (site c e) taken) fine
@@ -407,11 +467,17 @@ module _ (s₀ : Scope) (declared_nodes : List ℕ) where
         let rest = sites_right declared_nodes placed (start_sites (inner_scope c) start) (option_sites inside e ++ (option_sites inside u ++ statement_sites body t)) taken in
         let last = sites_right declared_nodes placed (option_sites inside e) (option_sites inside u ++ statement_sites body t) rest in
         let start_faultless = none_left (start_faults (inner_scope c) start) _ f in
-        let start_taken = sites_left declared_nodes placed (start_sites (inner_scope c) start) (option_sites inside e ++ (option_sites inside u ++ statement_sites body t)) taken in
+        let start_taken = sites_left declared_nodes placed (start_sites (inner_scope c) start)
+            (option_sites inside e ++ (option_sites inside u ++ statement_sites body t)) taken in
         let start_fine = locals_left declared_nodes placed (start_locals (inner_scope c) start) (statement_locals body t) fine in
         let first = start_known (inner_scope c) (inner_stands c h) start start_faultless start_taken start_fine in
         let inner = statement_sized t body (loop_stands inside first.stands) (none_right (for_faults inside start node e u) (statement_faults body t) parts)
+<<<<<<< HEAD
         (sites_right declared_nodes placed (option_sites inside u) (statement_sites body t) last) (locals_right declared_nodes placed (start_locals (inner_scope c) start) (statement_locals body t) fine) in
+=======
+          (sites_right declared_nodes placed (option_sites inside u) (statement_sites body t) last)
+              (locals_right declared_nodes placed (start_locals (inner_scope c) start) (statement_locals body t) fine) in
+>>>>>>> a98275d
         sized_together c.structs (start_locals (inner_scope c) start) (statement_locals body t)
         (start_sized start (inner_scope c) (inner_stands c h) start_faultless start_taken start_fine)
         (subst (λ z. all_sized z (statement_locals body t) ≡ true) (start_structs start (inner_scope c)) inner)
@@ -428,7 +494,12 @@ module _ (s₀ : Scope) (declared_nodes : List ℕ) where
         let first_taken = sites_left declared_nodes placed (statement_sites c t) (statements_sites after ts) taken in
         let first_fine = locals_left declared_nodes placed (statement_locals c t) (statements_locals after ts) fine in
         let rest = body_sized ts after (statement_stands t c h first first_taken first_fine) (none_right (statement_faults c t) (statements_faults after ts) f)
+<<<<<<< HEAD
         (sites_right declared_nodes placed (statement_sites c t) (statements_sites after ts) taken) (locals_right declared_nodes placed (statement_locals c t) (statements_locals after ts) fine) in
+=======
+          (sites_right declared_nodes placed (statement_sites c t) (statements_sites after ts) taken)
+              (locals_right declared_nodes placed (statement_locals c t) (statements_locals after ts) fine) in
+>>>>>>> a98275d
         sized_together c.structs (statement_locals c t) (statements_locals after ts) (statement_sized t c h first first_taken first_fine)
         (subst (λ z. all_sized z (statements_locals after ts) ≡ true) (statement_structs t c) rest)
 

@@ -101,7 +101,8 @@ module _ (c : Context) (has : HasTypes c) where
     type_of_known (expr node shape) p h =
         let j = shape_known shape p (none_right (node_faults c p node shape) _ h) in
         let tests = unbroken node.id (own_tests (shape_judged c shape) ++ position_tests p shape (type_of c (expr node shape))) (none_left (node_faults c p node shape) _ h) in
-        let own = subst (λ o. breaks_one (own_tests o) ≡ false) j.is (first_unbroken (own_tests (shape_judged c shape)) (position_tests p shape (type_of c (expr node shape))) tests) in
+        let own = subst (λ o. breaks_one (own_tests o) ≡ false) j.is
+        (first_unbroken (own_tests (shape_judged c shape)) (position_tests p shape (type_of c (expr node shape))) tests) in
         next_known (shape_judged c shape) _ j (record { value = j.value.type; is = type_known j.value.tests j.value.type own })
 
     shape_known : (shape : ShapeTree) (p : Position) → part_faults c p shape ≡ [] → Known (shape_judged c shape)
@@ -114,9 +115,11 @@ module _ (c : Context) (has : HasTypes c) where
     shape_known (trees.sizeof_type n) p h = record { value = _; is = refl }
     shape_known (trees.sizeof_expr a) p h = next_known (type_of c a) _ (type_of_known a whole h) (record { value = _; is = refl })
     shape_known (trees.binary operator a b) p h =
-        next_known (type_of c a) _ (type_of_known a used (none_left _ _ h)) (next_known (type_of c b) _ (type_of_known b used (none_right (expr_faults c used a) _ h)) (record { value = _; is = refl }))
+        next_known (type_of c a) _ (type_of_known a used (none_left _ _ h))
+        (next_known (type_of c b) _ (type_of_known b used (none_right (expr_faults c used a) _ h)) (record { value = _; is = refl }))
     shape_known (trees.assign operator a b) p h =
-        next_known (type_of c a) _ (type_of_known a whole (none_left _ _ h)) (next_known (type_of c b) _ (type_of_known b whole (none_right (expr_faults c whole a) _ h)) (record { value = _; is = refl }))
+        next_known (type_of c a) _ (type_of_known a whole (none_left _ _ h))
+        (next_known (type_of c b) _ (type_of_known b whole (none_right (expr_faults c whole a) _ h)) (record { value = _; is = refl }))
     shape_known (trees.conditional d a b) p h =
         let rest = none_right (expr_faults c used d) _ h in
         next_known (type_of c d) _ (type_of_known d used (none_left _ _ h)) (next_known (type_of c a) _ (type_of_known a used (none_left _ _ rest))
@@ -125,7 +128,8 @@ module _ (c : Context) (has : HasTypes c) where
         next_known (type_of c a) _ (type_of_known a discarded (none_left _ _ h))
         (next_known (type_of c b) _ (type_of_known b (right_position p) (none_right (expr_faults c discarded a) _ h)) (record { value = _; is = refl }))
     shape_known (trees.subscript a b) p h =
-        next_known (type_of c a) _ (type_of_known a used (none_left _ _ h)) (next_known (type_of c b) _ (type_of_known b used (none_right (expr_faults c used a) _ h)) (record { value = _; is = refl }))
+        next_known (type_of c a) _ (type_of_known a used (none_left _ _ h))
+        (next_known (type_of c b) _ (type_of_known b used (none_right (expr_faults c used a) _ h)) (record { value = _; is = refl }))
     shape_known (trees.member access a x) p h = next_known (type_of c a) _ (type_of_known a (object_position access) h) (record { value = _; is = refl })
     shape_known (trees.call f es) p h =
         let us = types_known es h in
@@ -134,4 +138,5 @@ module _ (c : Context) (has : HasTypes c) where
     types_known : (es : Exprs) → all_faults c es ≡ [] → Known (types_of c es)
     types_known no_exprs h = record { value = []; is = refl }
     types_known (expr_and e es) h =
-        next_known (type_of c e) _ (type_of_known e used (none_left _ _ h)) (next_known (types_of c es) _ (types_known es (none_right (expr_faults c used e) _ h)) (record { value = _; is = refl }))
+        next_known (type_of c e) _ (type_of_known e used (none_left _ _ h))
+        (next_known (types_of c es) _ (types_known es (none_right (expr_faults c used e) _ h)) (record { value = _; is = refl }))

@@ -71,7 +71,8 @@ pub all_fine : (taken : List ℕ) (xs : List Local) → locals_fine (nodes_of xs
 all_fine taken xs = fine_among taken (nodes_of xs) (locals_of taken xs).placed xs (λ n e. e) (λ n e. e)
 
 -- an operand of `&` that is one of the locals is placed
-addressed_placed : (taken : List ℕ) (n : ℕ) → is_one_of n taken ≡ true → (xs : List Local) → (not (is_one_of n (nodes_of xs)) || is_one_of n (nodes_of (filter (is_placed taken) xs))) ≡ true
+addressed_placed : (taken : List ℕ) (n : ℕ) → is_one_of n taken ≡ true → (xs : List Local) →
+    (not (is_one_of n (nodes_of xs)) || is_one_of n (nodes_of (filter (is_placed taken) xs))) ≡ true
 addressed_placed taken n e [] = refl
 addressed_placed taken n e (x ∷ xs) = go (addressed_placed taken n e xs) (x.node == n) refl
   where
@@ -108,7 +109,8 @@ each_site : (declared placed : List ℕ) (sites : List Site)
     → sites_taken declared placed sites ≡ true
 each_site declared placed [] h = refl
 each_site declared placed (x ∷ xs) h =
-    both _ _ (each_node _ (addressed x.context x.expression) (λ n e. h n (one_left n (addressed x.context x.expression) (flat_map (λ (x : Site). addressed x.context x.expression) xs) e)))
+    both _ _ (each_node _ (addressed x.context x.expression)
+        (λ n e. h n (one_left n (addressed x.context x.expression) (flat_map (λ (x : Site). addressed x.context x.expression) xs) e)))
     (each_site declared placed xs (λ n e. h n (one_right n (addressed x.context x.expression) (flat_map (λ (x : Site). addressed x.context x.expression) xs) e)))
 
 pub all_taken : (sites : List Site) (xs : List Local)
@@ -173,7 +175,8 @@ scalar_complete structs (struct k) e = never e
 declared_by_known : (ts : List Test) (t : TypeTree) → breaks_one ts ≡ false → Known (declared_by ts t).type
 declared_by_known ts t e = record { value = t; is = type_known ts t e }
 
-parameter_type_known : (c : Context) (p : ParameterTree) → all_typed c p.lengths.given ≡ true → breaks_one (parameter_declared c p).tests ≡ false → Known (parameter_declared c p).type
+parameter_type_known : (c : Context) (p : ParameterTree) → all_typed c p.lengths.given ≡ true → breaks_one (parameter_declared c p).tests ≡ false → Known
+    (parameter_declared c p).type
 parameter_type_known c p e h = go (all_typed c p.lengths.given) (is_array_parameter p.lengths) e h
   where
     go : (b a : Bool) → b ≡ true → breaks_one (if b then (if a then array_parameter c p else plain_parameter c p) else undeclared).tests ≡ false
@@ -197,7 +200,8 @@ module _ (s₀ : Scope) (declared_nodes : List ℕ) where
   abbrev placed : List ℕ
   placed = s₀.locals.placed
 
-  with_parameter_sound : (c : Context) → Sound (within s₀ c) declared_nodes → (p : ParameterTree) (o : Option TypeTree) → is_scalar_type o ≡ true → is_one_of p.node.id declared_nodes ≡ true
+  with_parameter_sound : (c : Context) → Sound (within s₀ c) declared_nodes → (p : ParameterTree) (o : Option TypeTree) → is_scalar_type o ≡ true
+      → is_one_of p.node.id declared_nodes ≡ true
       → (x : Option (List ℕ)) → Sound (within s₀ (with_parameter c p o x)) declared_nodes
   with_parameter_sound c h p o e d None = h
   with_parameter_sound c h p None e d (Some x) = never e
@@ -214,29 +218,42 @@ module _ (s₀ : Scope) (declared_nodes : List ℕ) where
       → (faults_of p.node.id (parameter_tests c has_body p) ++ lengths_faults c p.lengths.given) ≡ [] → is_scalar_type (parameter_declared c p).type ≡ true
   parameter_scalar has_body c h p f =
       let lengths = lengths_typed c (has_types (within s₀ c) declared_nodes h) p.lengths.given (none_right (faults_of p.node.id (parameter_tests c has_body p)) _ f) in
+<<<<<<< HEAD
       let own = tests_in (all_typed c p.lengths.given) (test rules.DeclaredTwice (is_name_declared c p.name) ++ ((parameter_declared c p).tests ++ signature_tests p has_body (parameter_declared c p).type)) lengths
       (unbroken p.node.id (parameter_tests c has_body p) (none_left (faults_of p.node.id (parameter_tests c has_body p)) _ f)) in
       let later = second_unbroken (test rules.DeclaredTwice (is_name_declared c p.name)) ((parameter_declared c p).tests ++ signature_tests p has_body (parameter_declared c p).type) own in
+=======
+      let own = tests_in (all_typed c p.lengths.given) (test rules.DeclaredTwice (is_name_declared c p.name) ++
+          ((parameter_declared c p).tests ++ signature_tests p has_body (parameter_declared c p).type)) lengths
+        (unbroken p.node.id (parameter_tests c has_body p) (none_left (faults_of p.node.id (parameter_tests c has_body p)) _ f)) in
+      let later = second_unbroken (test rules.DeclaredTwice (is_name_declared c p.name))
+          ((parameter_declared c p).tests ++ signature_tests p has_body (parameter_declared c p).type) own in
+>>>>>>> a98275d
       let t = parameter_type_known c p lengths (first_unbroken (parameter_declared c p).tests (signature_tests p has_body (parameter_declared c p).type) later) in
-      let signature = subst (λ o. breaks_one (signature_tests p has_body o) ≡ false) t.is (second_unbroken (parameter_declared c p).tests (signature_tests p has_body (parameter_declared c p).type) later) in
+      let signature = subst (λ o. breaks_one (signature_tests p has_body o) ≡ false) t.is
+          (second_unbroken (parameter_declared c p).tests (signature_tests p has_body (parameter_declared c p).type) later) in
       subst (λ o. is_scalar_type o ≡ true) (sym t.is) (first_scalar t.value _ signature)
 
-  pub parameters_scalar : (has_body : Bool) (ps : List ParameterTree) (c : Context) → Sound (within s₀ c) declared_nodes → are_declared ps ≡ true → parameters_faults c has_body ps ≡ []
+  pub parameters_scalar : (has_body : Bool) (ps : List ParameterTree) (c : Context) → Sound (within s₀ c) declared_nodes → are_declared ps ≡ true
+      → parameters_faults c has_body ps ≡ []
       → all_scalar (parameter_types c ps) ≡ true
   parameters_scalar has_body [] c h d f = refl
   parameters_scalar has_body (p ∷ ps) c h d f =
       let own = parameter_scalar has_body c h p (none_left (faults_of p.node.id (parameter_tests c has_body p) ++ lengths_faults c p.lengths.given) _ f) in
       both _ _ own
-      (parameters_scalar has_body ps (after_parameter c p) (with_parameter_sound c h p (parameter_declared c p).type own (left _ _ d) p.name) (right (is_one_of p.node.id declared_nodes) _ d)
+      (parameters_scalar has_body ps (after_parameter c p) (with_parameter_sound c h p (parameter_declared c p).type own (left _ _ d) p.name)
+          (right (is_one_of p.node.id declared_nodes) _ d)
       (none_right (faults_of p.node.id (parameter_tests c has_body p) ++ lengths_faults c p.lengths.given) _ f))
 
   -- the body knows the parameters
-  pub with_parameters_sound : (ps : List ParameterTree) (ts : List (Option TypeTree)) (c : Context) → Sound (within s₀ c) declared_nodes → are_declared ps ≡ true → all_scalar ts ≡ true
+  pub with_parameters_sound : (ps : List ParameterTree) (ts : List (Option TypeTree)) (c : Context) → Sound (within s₀ c) declared_nodes → are_declared ps ≡ true
+      → all_scalar ts ≡ true
       → Sound (within s₀ (with_parameters c ps ts)) declared_nodes
   with_parameters_sound [] ts c h d e = h
   with_parameters_sound (p ∷ ps) [] c h d e = h
   with_parameters_sound (p ∷ ps) (t ∷ ts) c h d e =
-      with_parameters_sound ps ts (with_parameter c p t p.name) (with_parameter_sound c h p t (left _ _ e) (left _ _ d) p.name) (right (is_one_of p.node.id declared_nodes) _ d) (right (is_scalar_type t) _ e)
+      with_parameters_sound ps ts (with_parameter c p t p.name) (with_parameter_sound c h p t (left _ _ e) (left _ _ d) p.name)
+          (right (is_one_of p.node.id declared_nodes) _ d) (right (is_scalar_type t) _ e)
 
 same_result_one : (c : Context) (p : ParameterTree) (t : Option TypeTree) (x : Option (List ℕ)) → (with_parameter c p t x).result ≡ c.result
 same_result_one c p t None = refl
@@ -260,29 +277,35 @@ parameter_known : (locals : Locals) (p : ParameterTree) (o : Option TypeTree) �
 parameter_known locals p None e = never e
 parameter_known locals p (Some t) e = go (is_one_of p.node.id locals.placed)
   where
-    go : (b : Bool) → Known (parameter_by (scalar_of t) (if b then object (pointer_to (local (place_among p.node.id locals.placed))) else variable (place_among p.node.id locals.plain)))
+    go : (b : Bool) → Known (parameter_by (scalar_of t) (if b then object (pointer_to (local (place_among p.node.id locals.placed))) else variable
+        (place_among p.node.id locals.plain)))
     go true = record { value = _; is = refl }
     go false = record { value = _; is = refl }
 
-pub parameters_known : (locals : Locals) (ps : List ParameterTree) (c : Context) → all_scalar (parameter_types c ps) ≡ true → Known (parameters_typed locals ps (parameter_types c ps))
+pub parameters_known : (locals : Locals) (ps : List ParameterTree) (c : Context) → all_scalar (parameter_types c ps) ≡ true → Known
+    (parameters_typed locals ps (parameter_types c ps))
 parameters_known locals [] c e = record { value = _; is = refl }
 parameters_known locals (p ∷ ps) c e =
     onward (parameter_typed locals p (parameter_declared c p).type) _ (parameter_known locals p (parameter_declared c p).type (left _ _ e))
-    (onward (parameters_typed locals ps (parameter_types (after_parameter c p) ps)) _ (parameters_known locals ps (after_parameter c p) (right (is_scalar_type (parameter_declared c p).type) _ e))
+    (onward (parameters_typed locals ps (parameter_types (after_parameter c p) ps)) _
+        (parameters_known locals ps (after_parameter c p) (right (is_scalar_type (parameter_declared c p).type) _ e))
     (record { value = _; is = refl }))
 
 one_sized : (structs : Structs) (o : Option TypeTree) → is_scalar_type o ≡ true → is_some (and_then o (size_of structs)) ≡ true
 one_sized structs None e = never e
 one_sized structs (Some t) e = scalar_size structs t e
 
-pub parameters_sized : (structs : Structs) (ps : List ParameterTree) (c : Context) → all_scalar (parameter_types c ps) ≡ true → all_sized structs (parameters_locals ps (parameter_types c ps)) ≡ true
+pub parameters_sized : (structs : Structs) (ps : List ParameterTree) (c : Context) → all_scalar (parameter_types c ps) ≡ true → all_sized structs
+    (parameters_locals ps (parameter_types c ps)) ≡ true
 parameters_sized structs [] c e = refl
 parameters_sized structs (p ∷ ps) c e =
-    both _ _ (one_sized structs (parameter_declared c p).type (left _ _ e)) (parameters_sized structs ps (after_parameter c p) (right (is_scalar_type (parameter_declared c p).type) _ e))
+    both _ _ (one_sized structs (parameter_declared c p).type (left _ _ e))
+        (parameters_sized structs ps (after_parameter c p) (right (is_scalar_type (parameter_declared c p).type) _ e))
 
 -- the parameters are among the locals
 pub parameters_declared : (declared places : List ℕ) (ps : List ParameterTree) (c : Context) → locals_fine declared places (parameters_locals ps (parameter_types c ps)) ≡ true
     → list_all (λ (p : ParameterTree). is_one_of p.node.id declared) ps ≡ true
 parameters_declared declared places [] c e = refl
 parameters_declared declared places (p ∷ ps) c e =
-    both _ _ (left _ _ (left _ _ e)) (parameters_declared declared places ps (after_parameter c p) (right (is_fine_local declared places (record { node = p.node.id; type = (parameter_declared c p).type })) _ e))
+    both _ _ (left _ _ (left _ _ e)) (parameters_declared declared places ps (after_parameter c p)
+        (right (is_fine_local declared places (record { node = p.node.id; type = (parameter_declared c p).type })) _ e))

@@ -62,7 +62,8 @@ result_known c f h =
     let parts = result_parts (is_some (base_type c f.result_type.base)) (is_void_pointer f) _ h in
     go (is_void_pointer f) parts.1 (starred_known c f parts.0)
   where
-    go : (b : Bool) → b ≡ false → Known (starred_type c f.result_type.base f.result_type.stars) → Known (if b then None else starred_type c f.result_type.base f.result_type.stars)
+    go : (b : Bool) → b ≡ false → Known (starred_type c f.result_type.base f.result_type.stars) → Known
+        (if b then None else starred_type c f.result_type.base f.result_type.stars)
     go true e k = never (sym e)
     go false e k = k
 
@@ -73,7 +74,8 @@ all_of_known (Some t ∷ ts) e =
     let rest = all_of_known ts (right (is_scalar_type (Some t)) _ e) in
     record { value = t ∷ rest.value; is = ap (λ o. and_then o (λ ts. Some (t ∷ ts))) rest.is }
 
-pub signature_known : (c : Context) (f : FunctionTree) → all_scalar (parameter_types (inner_scope c) f.parameters) ≡ true → Known (result_type c f) → Known (signature_by (header_of c f))
+pub signature_known : (c : Context) (f : FunctionTree) → all_scalar (parameter_types (inner_scope c) f.parameters) ≡ true → Known (result_type c f) → Known
+    (signature_by (header_of c f))
 signature_known c f e r =
     let ts = all_of_known (parameter_types (inner_scope c) f.parameters) e in
     record {
@@ -82,7 +84,8 @@ signature_known c f e r =
           ∙ ap (λ o. and_then o (λ t. Some (record { parameters = ts.value; result = t }))) r.is;
     }
 
-function_entity : (structs : Structs) (o : Option Entity) (node : ℕ) (signature : Option Signature) (body : Bool) → Known signature → EntityTyped structs (declared_function o node signature body)
+function_entity : (structs : Structs) (o : Option Entity) (node : ℕ) (signature : Option Signature) (body : Bool) → Known signature → EntityTyped structs
+    (declared_function o node signature body)
 function_entity structs o node signature body k = subst (λ z. EntityTyped structs (declared_function o node z body)) (sym k.is) (go o)
   where
     go : (o : Option Entity) → EntityTyped structs (declared_function o node (Some k.value) body)
@@ -130,7 +133,8 @@ module _ (s : Scope) (h : IsFileScope s.context) (f : FunctionTree) (body : Stmt
   tests = unbroken f.node.id (header_tests c whole) (none_left (faults_of f.node.id (header_tests c whole)) _ faultless)
 
   result : Known (result_type c whole)
-  result = result_known c whole (first_unbroken (result_tests c whole) (main_tests whole (header_of c whole)) (second_unbroken (keeps rules.DeclaredTwice (may_declare c whole)) (result_tests c whole ++ main_tests whole (header_of c whole)) tests))
+  result = result_known c whole (first_unbroken (result_tests c whole) (main_tests whole (header_of c whole))
+      (second_unbroken (keeps rules.DeclaredTwice (may_declare c whole)) (result_tests c whole ++ main_tests whole (header_of c whole)) tests))
 
   fine : locals_fine (nodes_of ls) locals.placed ls ≡ true
   fine = all_fine operands ls
@@ -176,7 +180,8 @@ module _ (s : Scope) (h : IsFileScope s.context) (f : FunctionTree) (body : Stmt
   unfolding at_body
   sized = sized_together c.structs (parameters_locals f.parameters types) (statements_locals (body_context c whole) body)
       (parameters_sized c.structs f.parameters (inner_scope c) scalar)
-      (subst (λ z. all_sized z (statements_locals (body_context c whole) body) ≡ true) (same_structs_with f.parameters types at_body) (body_sized s₀ (nodes_of ls) body (body_context c whole) stands body_faultless body_taken body_fine))
+      (subst (λ z. all_sized z (statements_locals (body_context c whole) body) ≡ true) (same_structs_with f.parameters types at_body)
+      (body_sized s₀ (nodes_of ls) body (body_context c whole) stands body_faultless body_taken body_fine))
 
   pub function_known : Known (function_with s whole body operands ls)
   function_known =

@@ -22,7 +22,7 @@ use Rattle.qs_meaning.specs.Expressions.{typed, plain_form}
 use Rattle.qs_meaning.specs.Blanks.{blank_of}
 use Rattle.qs_meaning.specs.Initialisers.{part_offset, Piece, pieces, pieces_from, text_set, assigned_set, piece_set, pieces_set, filled, object_set, local_set}
 use Rattle.qs_meaning.proofs.Options.{never, left, right, either, all_left, all_right, Known, known, onward, goes}
-use Rattle.qs_meaning.proofs.Sums.{part_known, blank_known}
+use Rattle.qs_meaning.proofs.CompleteTypes.{part_known, blank_known}
 use Rattle.qs_meaning.proofs.Faultless.{none_left, none_right, unbroken, type_of_known}
 use Rattle.qs_meaning.proofs.TypedExpressions.{TypedBy, address_known, assigned_known}
 use Rattle.qs_meaning.proofs.Bindings.{Sound, are_taken, has_types, Expressed, expressed}
@@ -77,14 +77,17 @@ module _ (s : Scope) (declared : List ℕ) (sound : Sound s declared) where
   structs = s.context.structs
 
   -- an expression of type u fits an object of type t that isn't an array
-  not_array_known : (t : TypeTree) → is_complete structs t ≡ true → (l : Lvalue) → (is_scalar t ≡ false → Known (address_in l)) → (e : ExprTree) (x : Expressed s declared sound e)
+  not_array_known : (t : TypeTree) → is_complete structs t ≡ true → (l : Lvalue) → (is_scalar t ≡ false → Known (address_in l)) → (e : ExprTree)
+      (x : Expressed s declared sound e)
       → fits_variable false s.context t e x.type ≡ true → is_array t ≡ false → Known (assigned_set s (record { type = t; form = lvalue l }) e)
   not_array_known t complete l large e x h no_array = onward (typed s e) _ (record { value = record { type = x.type; form = x.by.form }; is = x.by.is })
       (onward (plain_form structs (record { type = t; form = lvalue l }) (record { type = x.type; form = x.by.form })) _
-      (assigned_known s e t x.type (lvalue l) x.by.form (record { value = l; is = refl }) (λ f. address_known (lvalue l) l refl (large f)) complete x.by.place (fits t h no_array))
+      (assigned_known s e t x.type (lvalue l) x.by.form (record { value = l; is = refl }) (λ f. address_known (lvalue l) l refl (large f)) complete x.by.place
+          (fits t h no_array))
       (record { value = _; is = refl }))
     where
-      fits : (t : TypeTree) → fits_variable false s.context t e x.type ≡ true → is_array t ≡ false → (is_assignable t e (decayed x.type) || (is_struct t && (same_type t x.type && is_lvalue e))) ≡ true
+      fits : (t : TypeTree) → fits_variable false s.context t e x.type ≡ true → is_array t ≡ false →
+          (is_assignable t e (decayed x.type) || (is_struct t && (same_type t x.type && is_lvalue e))) ≡ true
       fits int h a = with_true (is_assignable int e (decayed x.type)) false h
       fits unsigned h a = with_true (is_assignable unsigned e (decayed x.type)) false h
       fits char h a = with_true (is_assignable char e (decayed x.type)) false h
@@ -93,17 +96,20 @@ module _ (s : Scope) (declared : List ℕ) (sound : Sound s declared) where
       fits (array t n) h a = never (sym a)
       fits (struct k) h a = h
 
-  text_known : (t : TypeTree) (n : ℕ) (to : Expr) (e : ExprTree) (x : Expressed s declared sound e) → fits_variable false s.context (array t n) e x.type ≡ true → Known (text_set s (array t n) to e)
+  text_known : (t : TypeTree) (n : ℕ) (to : Expr) (e : ExprTree) (x : Expressed s declared sound e) → fits_variable false s.context (array t n) e x.type ≡ true → Known
+      (text_set s (array t n) to e)
   text_known t n to e x h =
       let there = text_there t n (text_of e) (without_false _ h) in
       onward (text_of e) _ (known _ there) (onward (typed s e) _ (record { value = record { type = x.type; form = x.by.form }; is = x.by.is })
       (onward (address_of x.by.form) _ (text_address s e x.type x.by there) (record { value = _; is = refl })))
 
-  fitting : (t : TypeTree) (e : ExprTree) (x : Expressed s declared sound e) → fits_typed (type_of s.context e) (fits_variable false s.context t e) ≡ true → fits_variable false s.context t e x.type ≡ true
+  fitting : (t : TypeTree) (e : ExprTree) (x : Expressed s declared sound e) → fits_typed (type_of s.context e) (fits_variable false s.context t e) ≡ true
+      → fits_variable false s.context t e x.type ≡ true
   fitting t e x h = subst (λ o. fits_typed o (fits_variable false s.context t e) ≡ true) x.is h
 
   -- an expression that initialises a part of an object
-  piece_known : (base : Expr) (offset : ℕ) (t : TypeTree) → is_complete structs t ≡ true → (e : ExprTree) (x : Expressed s declared sound e) → fits_variable false s.context t e x.type ≡ true
+  piece_known : (base : Expr) (offset : ℕ) (t : TypeTree) → is_complete structs t ≡ true → (e : ExprTree) (x : Expressed s declared sound e)
+      → fits_variable false s.context t e x.type ≡ true
       → Known (piece_set s base (record { offset = offset; type = t; expression = e }))
   piece_known base offset (array t n) complete e x h = text_known t n (member offset base) e x h
   piece_known base offset int complete e x h = not_array_known int complete (object (member offset base)) (λ _. record { value = _; is = refl }) e x h refl
@@ -135,7 +141,8 @@ module _ (s : Scope) (declared : List ℕ) (sound : Sound s declared) where
   all_elements_typed : (is : Initialisers) (u : TypeTree) (i : ℕ) → elements_faults false s.context (Some u) i is ≡ [] → elements_typed s.context is ≡ true
   all_elements_typed no_initialisers u i h = refl
   all_elements_typed (initialiser_and (trees.value e) is) u i h =
-      both _ _ (ap is_some (type_of_known s.context (has_types s declared sound) e whole (none_left _ _ h)).is) (all_elements_typed is u (i + 1) (none_right (expr_faults s.context whole e) _ h))
+      both _ _ (ap is_some (type_of_known s.context (has_types s declared sound) e whole (none_left _ _ h)).is)
+          (all_elements_typed is u (i + 1) (none_right (expr_faults s.context whole e) _ h))
     where
       both : (x y : Bool) → x ≡ true → y ≡ true → (x && y) ≡ true
       both true y e f = f
@@ -163,8 +170,10 @@ module _ (s : Scope) (declared : List ℕ) (sound : Sound s declared) where
         record { list = _; is = refl; set = (piece_known base offset u complete e x (fitting u e x fits), tt) }
     initialiser_pieced (trees.list node is) base u offset complete fits h taken =
         let inner = none_right (faults_of node.id (list_tests false s.context u is)) (elements_faults false s.context (Some u) 0 is) h in
-        let tests = unbroken node.id (list_tests false s.context u is) (none_left (faults_of node.id (list_tests false s.context u is)) (elements_faults false s.context (Some u) 0 is) h) in
-        elements_pieced is base u offset 0 complete (elements_kept (elements_typed s.context is) (takes_list u) (elements_fit false s.context u 0 is) (all_elements_typed is u 0 inner) fits tests) inner taken
+        let tests = unbroken node.id (list_tests false s.context u is)
+            (none_left (faults_of node.id (list_tests false s.context u is)) (elements_faults false s.context (Some u) 0 is) h) in
+        elements_pieced is base u offset 0 complete (elements_kept (elements_typed s.context is) (takes_list u) (elements_fit false s.context u 0 is)
+            (all_elements_typed is u 0 inner) fits tests) inner taken
 
     elements_pieced : (is : Initialisers) (base : Expr) (u : TypeTree) (offset i : ℕ) → is_complete structs u ≡ true → elements_fit false s.context u i is ≡ true
         → elements_faults false s.context (Some u) i is ≡ [] → sites_taken declared s.locals.placed (elements_sites false s.context (Some u) i is) ≡ true
@@ -174,6 +183,7 @@ module _ (s : Scope) (declared : List ℕ) (sound : Sound s declared) where
         let fits_first = left _ _ fits in
         let p = part_known structs sound.laid_out sound.members u i complete (part_there (part_type structs u i) first fits_first) in
         let now = initialiser_pieced first base p.type (offset + p.offset.value) p.complete
+<<<<<<< HEAD
         (subst (λ o. element_fits false s.context o first ≡ true) p.is fits_first)
         (subst (λ o. initialiser_faults false s.context o first ≡ []) p.is (none_left _ _ h))
         (subst (λ o. sites_taken declared s.locals.placed (initialiser_sites false s.context o first) ≡ true) p.is (sites_left declared s.locals.placed (initialiser_sites false s.context (part_type structs u i) first) (elements_sites false s.context (Some u) (i + 1) is) taken)) in
@@ -185,6 +195,23 @@ module _ (s : Scope) (declared : List ℕ) (sound : Sound s declared) where
               (goes (pieces_from structs u offset (i + 1) is) later.list _ _ later.is refl)));
           set = joined base now.list later.list now.set later.set;
         }
+=======
+          (subst (λ o. element_fits false s.context o first ≡ true) p.is fits_first)
+          (subst (λ o. initialiser_faults false s.context o first ≡ []) p.is (none_left _ _ h))
+          (subst (λ o. sites_taken declared s.locals.placed (initialiser_sites false s.context o first) ≡ true) p.is
+              (sites_left declared s.locals.placed (initialiser_sites false s.context (part_type structs u i) first)
+              (elements_sites false s.context (Some u) (i + 1) is) taken)) in
+        let later = elements_pieced is base u offset (i + 1) complete (right (element_fits false s.context (part_type structs u i) first) _ fits)
+          (none_right (initialiser_faults false s.context (part_type structs u i) first) _ h)
+              (sites_right declared s.locals.placed (initialiser_sites false s.context (part_type structs u i) first)
+              (elements_sites false s.context (Some u) (i + 1) is) taken) in
+        record {
+          list = now.list ++ later.list;
+          is = goes (part_type structs u i) p.type _ _ p.is
+              (goes (part_offset structs u i) p.offset.value _ _ p.offset.is (goes (pieces structs p.type (offset + p.offset.value) first) now.list _ _ now.is
+            (goes (pieces_from structs u offset (i + 1) is) later.list _ _ later.is refl)));
+          set = joined base now.list later.list now.set later.set }
+>>>>>>> a98275d
 
   -- ---- variables
 
@@ -195,7 +222,8 @@ module _ (s : Scope) (declared : List ℕ) (sound : Sound s declared) where
       let base = address_known (lvalue l) l refl address in
       let ps = initialiser_pieced i base.value t 0 complete fits h taken in
       onward (address_of (lvalue l)) _ base (onward (blank_of structs t) _ (blank_known structs sound.laid_out sound.members t complete)
-      (onward (pieces structs t 0 i) _ (record { value = ps.list; is = ps.is }) (onward (pieces_set s base.value ps.list) _ (all_set base.value ps.list ps.set) (record { value = _; is = refl }))))
+      (onward (pieces structs t 0 i) _ (record { value = ps.list; is = ps.is })
+          (onward (pieces_set s base.value ps.list) _ (all_set base.value ps.list ps.set) (record { value = _; is = refl }))))
 
   takes_list_large : (t : TypeTree) → takes_list t ≡ true → is_scalar t ≡ false
   takes_list_large (array t n) e = refl
@@ -206,19 +234,32 @@ module _ (s : Scope) (declared : List ℕ) (sound : Sound s declared) where
   takes_list_large void e = never e
   takes_list_large (pointer t) e = never e
 
-  pub local_set_known : (t : TypeTree) (l : Lvalue) (i : InitialiserTree) → is_complete structs t ≡ true → (is_scalar t ≡ false → Known (address_in l)) → fits false s.context t i ≡ true
+  pub local_set_known : (t : TypeTree) (l : Lvalue) (i : InitialiserTree) → is_complete structs t ≡ true → (is_scalar t ≡ false → Known (address_in l))
+      → fits false s.context t i ≡ true
       → initialiser_faults false s.context (Some t) i ≡ [] → sites_taken declared s.locals.placed (initialiser_sites false s.context (Some t) i) ≡ true
       → Known (local_set s (record { type = t; form = lvalue l }) i)
   local_set_known t l (trees.list node is) complete large fits h taken = object_known t l (trees.list node is) complete (large (takes_list_large t fits)) fits h taken
   local_set_known t l (trees.value e) complete large fits h taken = go t complete large fits h taken
     where
+<<<<<<< HEAD
       go : (t : TypeTree) → is_complete structs t ≡ true → (is_scalar t ≡ false → Known (address_in l)) → fits_typed (type_of s.context e) (fits_variable false s.context t e) ≡ true
           → expr_faults s.context whole e ≡ [] → sites_taken declared s.locals.placed (initialiser_sites false s.context (Some t) (trees.value e)) ≡ true
           → Known (local_set s (record { type = t; form = lvalue l }) (trees.value e))
+=======
+      go : (t : TypeTree) → is_complete structs t ≡ true → (is_scalar t ≡ false → Known (address_in l)) → fits_typed (type_of s.context e)
+          (fits_variable false s.context t e) ≡ true
+        → expr_faults s.context whole e ≡ [] → sites_taken declared s.locals.placed (initialiser_sites false s.context (Some t) (trees.value e)) ≡ true
+        → Known (local_set s (record { type = t; form = lvalue l }) (trees.value e))
+>>>>>>> a98275d
       go (array t n) complete large fits h taken = object_known (array t n) l (trees.value e) complete (large refl) fits h taken
-      go int complete large fits h taken = let x = expressed s declared sound e whole h (left _ _ taken) in not_array_known int complete l large e x (fitting int e x fits) refl
-      go unsigned complete large fits h taken = let x = expressed s declared sound e whole h (left _ _ taken) in not_array_known unsigned complete l large e x (fitting unsigned e x fits) refl
-      go char complete large fits h taken = let x = expressed s declared sound e whole h (left _ _ taken) in not_array_known char complete l large e x (fitting char e x fits) refl
+      go int complete large fits h taken = let x = expressed s declared sound e whole h (left _ _ taken) in not_array_known int complete l large e x
+          (fitting int e x fits) refl
+      go unsigned complete large fits h taken = let x = expressed s declared sound e whole h (left _ _ taken) in not_array_known unsigned complete l large e x
+          (fitting unsigned e x fits) refl
+      go char complete large fits h taken = let x = expressed s declared sound e whole h (left _ _ taken) in not_array_known char complete l large e x
+          (fitting char e x fits) refl
       go void complete large fits h taken = never complete
-      go (pointer t) complete large fits h taken = let x = expressed s declared sound e whole h (left _ _ taken) in not_array_known (pointer t) complete l large e x (fitting (pointer t) e x fits) refl
-      go (struct k) complete large fits h taken = let x = expressed s declared sound e whole h (left _ _ taken) in not_array_known (struct k) complete l large e x (fitting (struct k) e x fits) refl
+      go (pointer t) complete large fits h taken = let x = expressed s declared sound e whole h (left _ _ taken) in not_array_known (pointer t) complete l large e x
+          (fitting (pointer t) e x fits) refl
+      go (struct k) complete large fits h taken = let x = expressed s declared sound e whole h (left _ _ taken) in not_array_known (struct k) complete l large e x
+          (fitting (struct k) e x fits) refl

@@ -8,7 +8,7 @@ mod RunExamples
 mod Related
 mod Growth
 mod Options
-mod Sums
+mod CompleteTypes
 mod TypedExpressions
 mod Faultless
 mod Bindings

@@ -82,7 +82,8 @@ module _ (R : Relation) where
         lvalue_related (variable x) k l h v w = h _ v w
         lvalue_related (object a) k l h v w = expression_related a _ _ (λ x v w. given_related R keeps (as_pointer x) _ _ (λ p. h _ v w)) v w
 
-        arguments_related : (es : Arguments) (k l : List Value → Next) → ((xs : List Value) → NextRelated (k xs) (l xs)) → NextRelated (arguments es here k) (arguments es there l)
+        arguments_related : (es : Arguments) (k l : List Value → Next) → ((xs : List Value) → NextRelated (k xs) (l xs)) → NextRelated (arguments es here k)
+            (arguments es there l)
         arguments_related no_arguments k l h v w = h _ v w
         arguments_related (argument_and i a es) k l h v w =
             expression_related a _ _ (λ x v w. given_related R keeps (convert_by i x) _ _ (λ y. arguments_related es _ _ (λ ys. h _) v w)) v w
@@ -92,7 +93,8 @@ module _ (R : Relation) where
             lvalue_related a _ _ (λ p. expression_related b _ _ (λ x v w. given_related R keeps (convert_by i x) _ _ (λ y. write_related s p y _ _ (h y) v w))) v w
         assignment_related (update s a operation left right back b) k l h v w =
             lvalue_related a _ _ (λ p v w. given_related R keeps (read s p v w) _ _ (λ x.
-            expression_related b _ _ (λ y v w. given_related R keeps (updated_value operation left right back w.memory x y) _ _ (λ z. write_related s p z _ _ (h z) v w)) v w)) v w
+            expression_related b _ _ (λ y v w. given_related R keeps (updated_value operation left right back w.memory x y) _ _
+            (λ z. write_related s p z _ _ (h z) v w)) v w)) v w
 
         effect_related : (a : Effect) (k l : Next) → NextRelated k l → NextRelated (effect a here k) (effect a there l)
         effect_related nothing k l h v w = h v w

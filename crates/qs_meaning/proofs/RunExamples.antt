@@ -150,14 +150,16 @@ by_value = refl
 
 -- int f(int a){int *p;p=&a;*p=*p+1;return a;}
 abbrev f_placed : DeclTree
-f_placed = defined bases.Int 0 (102 ∷ []) (parameter bases.Int 0 97 ∷ []) (local bases.Int 1 112 one None ∷ eval (set p (address a)) ∷ eval (set (deref p) (plus (deref p) (number 1))) ∷ return a ∷ [])
+f_placed = defined bases.Int 0 (102 ∷ []) (parameter bases.Int 0 97 ∷ [])
+    (local bases.Int 1 112 one None ∷ eval (set p (address a)) ∷ eval (set (deref p) (plus (deref p) (number 1))) ∷ return a ∷ [])
 
 placed_parameter : outcome (f_placed ∷ main_ (return (call 102 (number 8 ∷ [])) ∷ []) ∷ []) ≡ Some (Ended (Calls 1 ∷ Calls 0 ∷ Returns 0 ∷ Returns 1 ∷ []) 9)
 placed_parameter = refl
 
 -- int f(int a){if(a==0)return 0;return f(a-1)+1;}
 abbrev f_recursive : DeclTree
-f_recursive = defined bases.Int 0 (102 ∷ []) (parameter bases.Int 0 97 ∷ []) (when (op binaries.Equal a (number 0)) (return (number 0)) ∷ return (plus (call 102 (op binaries.Subtract a (number 1) ∷ [])) (number 1)) ∷ [])
+f_recursive = defined bases.Int 0 (102 ∷ []) (parameter bases.Int 0 97 ∷ [])
+    (when (op binaries.Equal a (number 0)) (return (number 0)) ∷ return (plus (call 102 (op binaries.Subtract a (number 1) ∷ [])) (number 1)) ∷ [])
 
 -- main is nested one deep, so f(1) is nested three deep
 recursion :

@@ -50,7 +50,8 @@ layouts_grow structs more g (suc d) (suc e) le k l h =
     let w = went (struct_of structs k) (members_layout (layouts_within d structs)) l h in
     let v = went (extents_by (layouts_within d structs) (member_types w.value)) (λ es. Some (struct_layout es)) l w.gave in
     ap (λ o. and_then o (members_layout (layouts_within e more))) (g.keeps k w.value w.had)
-    ∙ ap (λ o. and_then o (λ es. Some (struct_layout es))) (extents_grow (layouts_within d structs) (layouts_within e more) (layouts_grow structs more g d e (omega arith)) (member_types w.value) v.value v.had)
+    ∙ ap (λ o. and_then o (λ es. Some (struct_layout es))) (extents_grow (layouts_within d structs) (layouts_within e more) (layouts_grow structs more g d e (omega arith))
+        (member_types w.value) v.value v.had)
     ∙ v.gave
 
 layout_grows : (structs more : Structs) → GoesOn structs more → Grown (layout_of structs) (layout_of more)
@@ -63,7 +64,8 @@ complete_grows : (structs more : Structs) → GoesOn structs more → (t : TypeT
 complete_grows structs more g t e =
     some_grows (extent_by (layout_of structs) t) (extent_by (layout_of more) t) (extent_grows (layout_of structs) (layout_of more) (layout_grows structs more g) t) e
 
-members_grow : (structs more : Structs) → GoesOn structs more → (ms : List MemberTree) → list_all (λ m. is_complete structs m.type) ms ≡ true → list_all (λ m. is_complete more m.type) ms ≡ true
+members_grow : (structs more : Structs) → GoesOn structs more → (ms : List MemberTree) → list_all (λ m. is_complete structs m.type) ms ≡ true → list_all
+    (λ m. is_complete more m.type) ms ≡ true
 members_grow structs more g [] e = refl
 members_grow structs more g (m ∷ ms) e = both _ _ (complete_grows structs more g m.type (left _ _ e)) (members_grow structs more g ms (right (is_complete structs m.type) _ e))
   where
@@ -118,7 +120,8 @@ appended_scope c tag h = record {
   scope = record {
     names = names_grow c.structs (c.structs ++ None ∷ []) g (c.inner ++ c.outer) h.scope.names;
     members = λ k ms e. members_grow c.structs (c.structs ++ None ∷ []) g ms (h.scope.members k ms (appended_back c.structs k ms e));
-    laid_out = λ k ms e. some_grows (layout_of c.structs k) (layout_of (c.structs ++ None ∷ []) k) (λ l f. layout_grows c.structs (c.structs ++ None ∷ []) g k l f) (h.scope.laid_out k ms (appended_back c.structs k ms e));
+    laid_out = λ k ms e. some_grows (layout_of c.structs k) (layout_of (c.structs ++ None ∷ []) k) (λ l f. layout_grows c.structs (c.structs ++ None ∷ []) g k l f)
+        (h.scope.laid_out k ms (appended_back c.structs k ms e));
   };
   tags = length_one c.tags tag ∙ ap suc h.tags ∙ sym (length_one c.structs None);
 }
@@ -139,7 +142,8 @@ with_tag_table c tag h = go (is_some (tag_place c tag))
 
 -- ---- a struct that gets members
 
-set_keeps : (structs : Structs) (k : ℕ) (new : List MemberTree) → struct_of structs k ≡ None → (j : ℕ) (ms : List MemberTree) → struct_of structs j ≡ Some ms → struct_of (slice_set structs k (Some new)) j ≡ Some ms
+set_keeps : (structs : Structs) (k : ℕ) (new : List MemberTree) → struct_of structs k ≡ None → (j : ℕ) (ms : List MemberTree) → struct_of structs j ≡ Some ms → struct_of
+    (slice_set structs k (Some new)) j ≡ Some ms
 set_keeps [] k new n j ms e = nothing ms e
 set_keeps (x ∷ xs) zero new n zero ms e = nothing ms (sym n ∙ e)
 set_keeps (x ∷ xs) zero new n (suc j) ms e = e
@@ -159,7 +163,8 @@ later_count : (x : types.StructTree) (xs ys : Structs) → defined_structs ys �
 later_count None xs ys e = e
 later_count (Some ms) xs ys e = ap suc e
 
-set_back : (structs : Structs) (k : ℕ) (new : List MemberTree) → struct_of structs k ≡ None → (j : ℕ) (ms : List MemberTree) → struct_of (slice_set structs k (Some new)) j ≡ Some ms
+set_back : (structs : Structs) (k : ℕ) (new : List MemberTree) → struct_of structs k ≡ None → (j : ℕ) (ms : List MemberTree) → struct_of
+    (slice_set structs k (Some new)) j ≡ Some ms
     → (struct_of structs j ≡ Some ms) ⊎ IsNew structs k new ms
 set_back [] k new n j ms e = nothing ms e
 set_back (x ∷ xs) zero new n zero ms e = inr (record { is = same new ms e; count = first_count x xs new n })
@@ -199,13 +204,20 @@ all_extents layouts more g (t ∷ ts) e = go (λ f. all_extents layouts more g t
     rest x (Some es) e = refl
 
     go : (is_some (all_sized_by layouts ts) ≡ true → is_some (extents_by more ts) ≡ true)
+<<<<<<< HEAD
         → (o : Option Extent) → sized_by layouts t ≡ o → is_some (and_then o (λ e. and_then (all_sized_by layouts ts) (λ es. Some (e ∷ es)))) ≡ true → is_some (extents_by more (t ∷ ts)) ≡ true
+=======
+      → (o : Option Extent) → sized_by layouts t ≡ o → is_some (and_then o (λ e. and_then (all_sized_by layouts ts) (λ es. Some (e ∷ es)))) ≡ true → is_some
+          (extents_by more (t ∷ ts)) ≡ true
+>>>>>>> a98275d
     go later None s e = never e
     go later (Some x) s e =
-        joins (extent_by more t) (extents_by more ts) (some_grows (extent_by layouts t) (extent_by more t) (extent_grows layouts more g t) (sized_extent layouts t (ap is_some s)))
+        joins (extent_by more t) (extents_by more ts) (some_grows (extent_by layouts t) (extent_by more t) (extent_grows layouts more g t)
+            (sized_extent layouts t (ap is_some s)))
         (later (rest x (all_sized_by layouts ts) e))
 
-sized_members : (structs : Structs) (ms : List MemberTree) → is_some (all_sized_by (layout_of structs) (member_types ms)) ≡ true → list_all (λ m. is_complete structs m.type) ms ≡ true
+sized_members : (structs : Structs) (ms : List MemberTree) → is_some (all_sized_by (layout_of structs) (member_types ms)) ≡ true → list_all
+    (λ m. is_complete structs m.type) ms ≡ true
 sized_members structs [] e = refl
 sized_members structs (m ∷ ms) e = go (λ f. sized_members structs ms f) (sized_by (layout_of structs) m.type) refl e
   where
@@ -218,8 +230,14 @@ sized_members structs (m ∷ ms) e = go (λ f. sized_members structs ms f) (size
     rest x (Some es) e = refl
 
     go : (is_some (all_sized_by (layout_of structs) (member_types ms)) ≡ true → list_all (λ m. is_complete structs m.type) ms ≡ true)
+<<<<<<< HEAD
         → (o : Option Extent) → sized_by (layout_of structs) m.type ≡ o → is_some (and_then o (λ e. and_then (all_sized_by (layout_of structs) (member_types ms)) (λ es. Some (e ∷ es)))) ≡ true
         → (is_complete structs m.type && list_all (λ m. is_complete structs m.type) ms) ≡ true
+=======
+      → (o : Option Extent) → sized_by (layout_of structs) m.type ≡ o → is_some
+          (and_then o (λ e. and_then (all_sized_by (layout_of structs) (member_types ms)) (λ es. Some (e ∷ es)))) ≡ true
+      → (is_complete structs m.type && list_all (λ m. is_complete structs m.type) ms) ≡ true
+>>>>>>> a98275d
     go later None s e = never e
     go later (Some x) s e = both _ _ (sized_extent (layout_of structs) m.type (ap is_some s)) (later (rest x (all_sized_by (layout_of structs) (member_types ms)) e))
 
@@ -247,14 +265,21 @@ set_table c k new h n sized = record {
 
     within : (j : ℕ) (ms : List MemberTree) → struct_of more j ≡ Some ms → new ≡ ms → is_some (layouts_within (suc (defined_structs c.structs)) more j) ≡ true
     within j ms e f =
-        let extents = all_extents (layout_of c.structs) (layouts_within (defined_structs c.structs) more) (layouts_grow c.structs more g (defined_structs c.structs) (defined_structs c.structs) (omega arith)) (member_types new) sized in
-        ap (λ o. is_some (and_then o (members_layout (layouts_within (defined_structs c.structs) more)))) (e ∙ ap Some (sym f)) ∙ laid (extents_by (layouts_within (defined_structs c.structs) more) (member_types new)) extents
+        let extents = all_extents (layout_of c.structs) (layouts_within (defined_structs c.structs) more)
+            (layouts_grow c.structs more g (defined_structs c.structs) (defined_structs c.structs) (omega arith)) (member_types new) sized in
+        ap (λ o. is_some (and_then o (members_layout (layouts_within (defined_structs c.structs) more)))) (e ∙ ap Some (sym f)) ∙ laid
+            (extents_by (layouts_within (defined_structs c.structs) more) (member_types new)) extents
       where
         laid : (o : Option (List Extent)) → is_some o ≡ true → is_some (and_then o (λ es. Some (struct_layout es))) ≡ true
         laid None e = never e
         laid (Some es) e = refl
+<<<<<<< HEAD
 
     laid_out_here : (j : ℕ) (ms : List MemberTree) → struct_of more j ≡ Some ms → (struct_of c.structs j ≡ Some ms) ⊎ IsNew c.structs k new ms → is_some (layout_of more j) ≡ true
+=======
+    laid_out_here : (j : ℕ) (ms : List MemberTree) → struct_of more j ≡ Some ms → (struct_of c.structs j ≡ Some ms) ⊎ IsNew c.structs k new ms → is_some
+        (layout_of more j) ≡ true
+>>>>>>> a98275d
     laid_out_here j ms e (inl f) = some_grows (layout_of c.structs j) (layout_of more j) (λ l. layout_grows c.structs more g j l) (h.scope.laid_out j ms f)
     laid_out_here j ms e (inr f) = subst (λ d. is_some (layouts_within d more j) ≡ true) (sym f.count) (within j ms e f.is)
 
@@ -269,11 +294,17 @@ place_of_new n tag [] k e f = go (same_bytes tag tag) f
 place_of_new n tag (t ∷ tags) k e f = go (λ e f. place_of_new (n + 1) tag tags k e f) (same_bytes t tag) e f
   where
     go : (place_from (n + 1) tag tags ≡ None → place_from (n + 1) tag (tags ++ tag ∷ []) ≡ Some k → k ≡ n + 1 + length tags)
+<<<<<<< HEAD
         → (b : Bool) → (if b then Some n else place_from (n + 1) tag tags) ≡ None → (if b then Some n else place_from (n + 1) tag (tags ++ tag ∷ [])) ≡ Some k → k ≡ n + length (t ∷ tags)
+=======
+      → (b : Bool) → (if b then Some n else place_from (n + 1) tag tags) ≡ None → (if b then Some n else place_from (n + 1) tag (tags ++ tag ∷ [])) ≡ Some k → k ≡ n + length
+          (t ∷ tags)
+>>>>>>> a98275d
     go later true e f = nothing n (sym e)
     go later false e f = let r = later e f in omega arith
 
-no_members_at : (c : Context) (tag : List ℕ) → IsTable c → is_defined c tag ≡ false → (k : ℕ) → tag_place (with_tag c tag) tag ≡ Some k → struct_of (with_tag c tag).structs k ≡ None
+no_members_at : (c : Context) (tag : List ℕ) → IsTable c → is_defined c tag ≡ false → (k : ℕ) → tag_place (with_tag c tag) tag ≡ Some k → struct_of
+    (with_tag c tag).structs k ≡ None
 no_members_at c tag h d k = go (tag_place c tag) refl d
   where
     none_there : (o : types.StructTree) → is_some o ≡ false → o ≡ None
@@ -281,9 +312,16 @@ no_members_at c tag h d k = go (tag_place c tag) refl d
     none_there (Some ms) e = never (sym e)
 
     go : (o : Option ℕ) → tag_place c tag ≡ o → is_some (and_then o (struct_of c.structs)) ≡ false
+<<<<<<< HEAD
         → tag_place (if is_some o then c else record c { structs = c.structs ++ None ∷ []; tags = c.tags ++ tag ∷ [] }) tag ≡ Some k
         → struct_of (if is_some o then c else record c { structs = c.structs ++ None ∷ []; tags = c.tags ++ tag ∷ [] }).structs k ≡ None
     go None e d f = subst (λ j. struct_of (c.structs ++ None ∷ []) j ≡ None) (sym (place_of_new 0 tag c.tags k e f ∙ ap (λ n. 0 + n) h.tags ∙ zero_plus (length c.structs))) (appended_none c.structs)
+=======
+      → tag_place (if is_some o then c else record c { structs = c.structs ++ None ∷ []; tags = c.tags ++ tag ∷ [] }) tag ≡ Some k
+      → struct_of (if is_some o then c else record c { structs = c.structs ++ None ∷ []; tags = c.tags ++ tag ∷ [] }).structs k ≡ None
+    go None e d f = subst (λ j. struct_of (c.structs ++ None ∷ []) j ≡ None) (sym (place_of_new 0 tag c.tags k e f ∙ ap (λ n. 0 + n) h.tags ∙ zero_plus (length c.structs)))
+        (appended_none c.structs)
+>>>>>>> a98275d
       where
         zero_plus : (n : ℕ) → 0 + n ≡ n
         zero_plus n = omega arith
@@ -307,4 +345,5 @@ after_struct_table c s h = go (is_defined c s.name) refl
     go : (b : Bool) → is_defined c s.name ≡ b
         → IsTable (if b then c else define_at (with_tag c s.name) (after_members (with_tag c s.name) no_members s.members).members (tag_place (with_tag c s.name) s.name))
     go true e = h
-    go false e = define_table (with_tag c s.name) (after_members (with_tag c s.name) no_members s.members).members (tag_place (with_tag c s.name) s.name) (with_tag_table c s.name h) (no_members_at c s.name h e)
+    go false e = define_table (with_tag c s.name) (after_members (with_tag c s.name) no_members s.members).members (tag_place (with_tag c s.name) s.name)
+        (with_tag_table c s.name h) (no_members_at c s.name h e)

@@ -35,7 +35,7 @@ use Rattle.qs_meaning.specs.Names.{Locals, Scope, place_among, local_lvalue, ent
 use Rattle.qs_meaning.specs.Expressions.{object_at, operated, operator_value, subscript_form, arguments_of, call_form, member_offset, dot_form, arrow_form, member_form, set_form, struct_form, plain_form, compound_form, assign_form, one, step_after_form, step_form, address_form, unary_form, size_form, operator_form, binary_form, typed, form_of, all_typed}
 use Rattle.qs_meaning.specs.TypedLaws.{IsReady, are_placed, TypedWhereTypes}
 use Rattle.qs_meaning.proofs.Options.{never, left, right, either, all_left, all_right, nothing, same, Went, went, goes, Known, known, is_known, onward}
-use Rattle.qs_meaning.proofs.Sums.{struct_is_large, same_is_struct, summed_known, subtracted_known, member_offset_known, member_complete, has_members_is_large}
+use Rattle.qs_meaning.proofs.CompleteTypes.{struct_is_large, same_is_struct, summed_known, subtracted_known, member_offset_known, member_complete, has_members_is_large}
 
 -- ---- tests that aren't broken
 
@@ -95,9 +95,15 @@ by_judged {s = s} {o = o} {b = b} {names = names} j k e h f = subst (λ z. break
 value_stands : {s : Scope} {names : List ℕ} {t : TypeTree} (o : Option Form) → Known o → Stands s o false names t
 value_stands o k = record { form = k.value; is = k.is; place = λ e. never e }
 
-object_stands : {s : Scope} {b : Bool} {names : List ℕ} {t : TypeTree} (o : Option Form) (p : Expr) → o ≡ Some (object_at p) → is_complete s.context.structs t ≡ true → Stands s o b names t
+object_stands : {s : Scope} {b : Bool} {names : List ℕ} {t : TypeTree} (o : Option Form) (p : Expr) → o ≡ Some (object_at p) → is_complete s.context.structs t ≡ true
+    → Stands s o b names t
 object_stands o p e c =
-    record { form = object_at p; is = e; place = λ _. record { at = object p; is = refl; complete = c; large = λ _. record { value = p; is = refl }; taken = λ _. record { value = p; is = refl } } }
+    record {
+      form = object_at p;
+      is = e;
+      place = λ _. record
+          { at = object p; is = refl; complete = c; large = λ _. record { value = p; is = refl }; taken = λ _. record { value = p; is = refl } };
+    }
 
 -- the address of a form that is an lvalue
 pub address_known : (form : Form) (l : Lvalue) → form ≡ lvalue l → Known (address_in l) → Known (address_of form)
@@ -147,7 +153,8 @@ module _ (s : Scope) where
 
   unary_stands : (operator : UnaryOperator) (node : Node) (a : ExprTree) (t : TypeTree) (form : Form) → Place a t form
       → are_placed s (shape_addressed s.context (trees.unary operator a)) ≡ true → breaks_one (unary_judged structs operator a t (decayed t)).tests ≡ false
-      → Stands s (unary_form operator (record { type = t; form = form })) (is_lvalue_shape (trees.unary operator a)) (named_local s.context (expr node (trees.unary operator a))) (unary_judged structs operator a t (decayed t)).type
+      → Stands s (unary_form operator (record { type = t; form = form })) (is_lvalue_shape (trees.unary operator a))
+      (named_local s.context (expr node (trees.unary operator a))) (unary_judged structs operator a t (decayed t)).type
   unary_stands unaries.Address node a t form place ready h =
       let p = place (kept _ h) in
       let k = address_known form p.at p.is (p.taken (all_left _ (named_local s.context a) _ ready)) in
@@ -161,13 +168,15 @@ module _ (s : Scope) where
 
   -- ---- operators between two operands
 
-  operator_known : (operator : BinaryOperator) (a b : TypedExpr) → Known (operation_of structs operator (type_in_use a) (type_in_use b)) → Known (operator_form structs operator a b)
+  operator_known : (operator : BinaryOperator) (a b : TypedExpr) → Known (operation_of structs operator (type_in_use a) (type_in_use b)) → Known
+      (operator_form structs operator a b)
   operator_known operator a b k =
       onward (operator_value structs operator a b) _
       (onward (operation_of structs operator (type_in_use a) (type_in_use b)) _ k (record { value = _; is = refl }))
       (record { value = _; is = refl })
 
-  binary_known : (operator : BinaryOperator) (x y : ExprTree) (a b : TypedExpr) → breaks_one (binary_judged structs operator x (type_in_use a) y (type_in_use b)).tests ≡ false → Known (binary_form structs operator a b)
+  binary_known : (operator : BinaryOperator) (x y : ExprTree) (a b : TypedExpr) → breaks_one
+      (binary_judged structs operator x (type_in_use a) y (type_in_use b)).tests ≡ false → Known (binary_form structs operator a b)
   binary_known binaries.And x y a b h = record { value = _; is = refl }
   binary_known binaries.Or x y a b h = record { value = _; is = refl }
   binary_known binaries.Add x y a b h = operator_known binaries.Add a b (summed_known structs (type_in_use a) (type_in_use b) (kept _ h))
@@ -219,11 +228,13 @@ module _ (s : Scope) where
       go (inl h) = subtracted_known structs t u (or_left _ _ (both _ _ h integer))
       go (inr h) = subtracted_known structs t u (or_right (both_integers t u) _ (both _ _ h (or_left _ _ integer)))
 
-  compound_known : (operator : BinaryOperator) (a b : TypedExpr) → Known (lvalue_of a.form) → Known (operation_of structs operator a.type (type_in_use b)) → Known (compound_form structs operator a b)
+  compound_known : (operator : BinaryOperator) (a b : TypedExpr) → Known (lvalue_of a.form) → Known (operation_of structs operator a.type (type_in_use b)) → Known
+      (compound_form structs operator a b)
   compound_known operator a b l o =
       onward (lvalue_of a.form) _ l (onward (operation_of structs operator a.type (type_in_use b)) _ o (record { value = _; is = refl }))
 
-  after_known : (operator : BinaryOperator) (a : TypedExpr) → Known (lvalue_of a.form) → Known (operation_of structs operator a.type int) → Known (step_after_form structs operator a)
+  after_known : (operator : BinaryOperator) (a : TypedExpr) → Known (lvalue_of a.form) → Known (operation_of structs operator a.type int) → Known
+      (step_after_form structs operator a)
   after_known operator a l o = onward (lvalue_of a.form) _ l (onward (operation_of structs operator a.type int) _ o (record { value = _; is = refl }))
 
   step_known : (operator : StepOperator) (a : ExprTree) (t : TypeTree) (form : Form) → Place a t form → breaks_one (step_judged structs a t).tests ≡ false
@@ -254,7 +265,8 @@ module _ (s : Scope) where
       onward (extent_of structs a.type) _ e (onward (address_of a.form) _ p (onward (address_of b.form) _ q (record { value = _; is = refl })))
 
   -- an object or a variable of type t, and a value that fits it
-  pub assigned_known : (y : ExprTree) (t u : TypeTree) (f g : Form) → Known (lvalue_of f) → (is_scalar t ≡ false → Known (address_of f)) → is_complete structs t ≡ true → Place y u g
+  pub assigned_known : (y : ExprTree) (t u : TypeTree) (f g : Form) → Known (lvalue_of f) → (is_scalar t ≡ false → Known (address_of f)) → is_complete structs t ≡ true
+      → Place y u g
       → (is_assignable t y (decayed u) || (is_struct t && (same_type t u && is_lvalue y))) ≡ true
       → Known (plain_form structs (record { type = t; form = f }) (record { type = u; form = g }))
   assigned_known y (struct k) u f g at large complete other h =
@@ -288,7 +300,8 @@ module _ (s : Scope) where
       at : is_lvalue x ≡ true → Known (lvalue_of f)
       at e = let p = place e in lvalue_known f p.at p.is
 
-      combines : (operator : BinaryOperator) → (not (may_combine x t (decayed u)) || false) ≡ false → Known (operation_of structs operator t (decayed u)) → Known (compound_form structs operator a b)
+      combines : (operator : BinaryOperator) → (not (may_combine x t (decayed u)) || false) ≡ false → Known (operation_of structs operator t (decayed u)) → Known
+          (compound_form structs operator a b)
       combines operator h o = compound_known operator a b (at (left _ _ (kept _ h))) o
 
       go : (operator : AssignmentOperator) → breaks_one (assign_judged structs operator x t y u).tests ≡ false → Known (assign_form structs operator a b)
@@ -314,7 +327,8 @@ module _ (s : Scope) where
 
   member_stands : (ready : IsReady s) (access : Access) (node : Node) (a : ExprTree) (t : TypeTree) (form : Form) (x : List ℕ) → Place a t form
       → breaks_one (member_judged structs access a t x).tests ≡ false
-      → Stands s (member_form structs access (record { type = t; form = form }) x) (is_lvalue_shape (trees.member access a x)) (named_local s.context (expr node (trees.member access a x))) (member_judged structs access a t x).type
+      → Stands s (member_form structs access (record { type = t; form = form }) x) (is_lvalue_shape (trees.member access a x))
+      (named_local s.context (expr node (trees.member access a x))) (member_judged structs access a t x).type
   member_stands ready accesses.Dot node a t form x place h =
       let found = right (is_lvalue a) _ (kept _ h) in
       let p = place (left _ _ (kept _ h)) in
@@ -367,7 +381,8 @@ module _ (s : Scope) where
   -- ---- expressions
 
   -- a form behind something known
-  behind : {A : Type 0} {b : Bool} {names : List ℕ} {t : TypeTree} (o : Option A) (x : A) (go : A → Option Form) → o ≡ Some x → Stands s (go x) b names t → Stands s (o >>= go) b names t
+  behind : {A : Type 0} {b : Bool} {names : List ℕ} {t : TypeTree} (o : Option A) (x : A) (go : A → Option Form) → o ≡ Some x → Stands s (go x) b names t → Stands s
+      (o >>= go) b names t
   behind o x go e f = record { form = f.form; is = goes o x go _ e f.is; place = f.place }
 
   named_known : (o : Option TypeTree) (rest : Bool) → (not (is_some o) || rest) ≡ false → Known o
@@ -410,9 +425,11 @@ module _ (s : Scope) where
           let may = not_true _ (unbroken_left _ _ h) in
           let o = summed_known structs (decayed x.value) (decayed y.value) may in
           behind (typed s a) _ _ f.is (behind (typed s b) _ _ g.is
-          (object_stands _ _ (goes (operation_of structs binaries.Add (decayed x.value) (decayed y.value) >>= λ (o : Operated). Some (operated o (record { type = x.value; form = f.form }) (record { type = y.value; form = g.form })))
+          (object_stands _ _ (goes (operation_of structs binaries.Add (decayed x.value) (decayed y.value) >>= λ (o : Operated). Some
+          (operated o (record { type = x.value; form = f.form }) (record { type = y.value; form = g.form })))
           _ _ _ (goes (operation_of structs binaries.Add (decayed x.value) (decayed y.value)) o.value _ _ o.is refl) refl)
-          (right (is_pointer (sum_type (decayed x.value) (decayed y.value))) _ (object_kept (may_add structs (decayed x.value) (decayed y.value)) _ may (unbroken_right (not (may_add structs (decayed x.value) (decayed y.value))) _ h))))))
+          (right (is_pointer (sum_type (decayed x.value) (decayed y.value))) _
+          (object_kept (may_add structs (decayed x.value) (decayed y.value)) _ may (unbroken_right (not (may_add structs (decayed x.value) (decayed y.value))) _ h))))))
       shape_stands (trees.call f es) node j placed e h =
           let w = went (types_of s.context es) (λ us. call_judged (entity_of s.context f) es us) j e in
           let all = all_typed_by es w.value placed w.had in
@@ -435,7 +452,8 @@ module _ (s : Scope) where
       shape_stands (trees.sizeof_type name) node j placed e h = by_judged j _ (same _ _ e) h (λ h.
           let n = named_known (named_type s.context name) _ h in
           behind (named_type s.context name) n.value (size_form structs) n.is
-          (value_stands _ (size_form_known n.value (sized (named_type s.context name) n.value n.is (unbroken_right (is_void_base name.base) _ (unbroken_right (not (is_some (named_type s.context name))) _ h))))))
+          (value_stands _ (size_form_known n.value (sized (named_type s.context name) n.value n.is
+          (unbroken_right (is_void_base name.base) _ (unbroken_right (not (is_some (named_type s.context name))) _ h))))))
       shape_stands (trees.cast name a) node j placed e h =
           let w = went (type_of s.context a) (λ t. Some (cast_judged s.context name a (decayed t))) j e in
           let f = expression_typed a w.value placed w.had in
@@ -450,13 +468,15 @@ module _ (s : Scope) where
           by_judged j _ (same _ _ y.gave) h (λ h. behind (typed s a) _ _ f.is (behind (typed s b) _ _ g.is
           (value_stands _ (binary_known operator a b (record { type = x.value; form = f.form }) (record { type = y.value; form = g.form }) h))))
       shape_stands (trees.conditional c a b) node j placed e h =
-          let z = went (type_of s.context c) (λ r. and_then (type_of s.context a) (λ t. and_then (type_of s.context b) (λ u. Some (conditional_judged (decayed r) a (decayed t) b (decayed u))))) j e in
+          let z = went (type_of s.context c) (λ r. and_then (type_of s.context a)
+          (λ t. and_then (type_of s.context b) (λ u. Some (conditional_judged (decayed r) a (decayed t) b (decayed u))))) j e in
           let x = went (type_of s.context a) (λ t. and_then (type_of s.context b) (λ u. Some (conditional_judged (decayed z.value) a (decayed t) b (decayed u)))) j z.gave in
           let y = went (type_of s.context b) (λ u. Some (conditional_judged (decayed z.value) a (decayed x.value) b (decayed u))) j x.gave in
           let k = expression_typed c z.value (all_left _ (addressed s.context c) _ placed) z.had in
           let f = expression_typed a x.value (all_left _ (addressed s.context a) _ (all_right _ (addressed s.context c) _ placed)) x.had in
           let g = expression_typed b y.value (all_right _ (addressed s.context a) _ (all_right _ (addressed s.context c) _ placed)) y.had in
-          by_judged j _ (same _ _ y.gave) h (λ h. behind (typed s c) _ _ k.is (behind (typed s a) _ _ f.is (behind (typed s b) _ _ g.is (value_stands _ (record { value = _; is = refl })))))
+          by_judged j _ (same _ _ y.gave) h (λ h. behind (typed s c) _ _ k.is
+          (behind (typed s a) _ _ f.is (behind (typed s b) _ _ g.is (value_stands _ (record { value = _; is = refl })))))
       shape_stands (trees.assign operator a b) node j placed e h =
           let x = went (type_of s.context a) (λ t. and_then (type_of s.context b) (λ u. Some (assign_judged structs operator a t b u))) j e in
           let y = went (type_of s.context b) (λ u. Some (assign_judged structs operator a x.value b u)) j x.gave in

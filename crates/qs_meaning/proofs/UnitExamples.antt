@@ -31,15 +31,18 @@ else_taken : of_main (trees.branch (unnumbered 0) (number 0) (c.return (number 1
 else_taken = refl
 
 -- int i; for(i=2;i<3;i++); return i;
-for_starts : of_main (int_ 105 ∷ trees.for_loop (unnumbered 0) (start_expression (c.set i (number 2))) (Some (less i (number 3))) (Some (c.after i)) (trees.empty (unnumbered 0)) ∷ c.return i ∷ []) ≡ ends 3
+for_starts : of_main (int_ 105 ∷ trees.for_loop (unnumbered 0) (start_expression (c.set i (number 2))) (Some (less i (number 3))) (Some (c.after i))
+    (trees.empty (unnumbered 0)) ∷ c.return i ∷ []) ≡ ends 3
 for_starts = refl
 
 -- int a=1,b=2; return b*10+a;
-two_locals : of_main (trees.declaration (two_ints 97 (Some (valued (number 1))) 98 (Some (valued (number 2)))) ∷ c.return (plus (op binaries.Multiply b (number 10)) a) ∷ []) ≡ ends 21
+two_locals : of_main (trees.declaration (two_ints 97 (Some (valued (number 1))) 98 (Some (valued (number 2)))) ∷ c.return (plus (op binaries.Multiply b (number 10)) a) ∷
+    []) ≡ ends 21
 two_locals = refl
 
 -- int a,b=7; int main(void){a=1;return b*10+a;}
-two_globals : outcome (trees.variables (two_ints 97 None 98 (Some (valued (number 7)))) ∷ main_ (eval (c.set a (number 1)) ∷ c.return (plus (op binaries.Multiply b (number 10)) a) ∷ []) ∷ []) ≡ ends 71
+two_globals : outcome (trees.variables (two_ints 97 None 98 (Some (valued (number 7)))) ∷ main_
+    (eval (c.set a (number 1)) ∷ c.return (plus (op binaries.Multiply b (number 10)) a) ∷ []) ∷ []) ≡ ends 71
 two_globals = refl
 
 -- int *p; {int a; a=5; p=&a;} return *p; a local lives as long as its call
@@ -56,7 +59,8 @@ arguments_in_order :
 arguments_in_order = refl
 
 -- int f(void); int main(void){return f();} int f(void){return 5;}
-header_before_body : outcome (header bases.Int 0 (102 ∷ []) [] ∷ main_ (c.return (call 102 []) ∷ []) ∷ defined bases.Int 0 (102 ∷ []) [] (c.return (number 5) ∷ []) ∷ []) ≡ Some (Ended (Calls 0 ∷ Calls 1 ∷ Returns 1 ∷ Returns 0 ∷ []) 5)
+header_before_body : outcome (header bases.Int 0 (102 ∷ []) [] ∷ main_ (c.return (call 102 []) ∷ []) ∷ defined bases.Int 0 (102 ∷ []) [] (c.return (number 5) ∷ []) ∷
+    []) ≡ Some (Ended (Calls 0 ∷ Calls 1 ∷ Returns 1 ∷ Returns 0 ∷ []) 5)
 header_before_body = refl
 
 -- int f(void); int main(void){f();return 3;} is not well typed; its run is undefined at the call
@@ -65,20 +69,23 @@ no_body = refl
 
 -- int a; int main(void){if(a==0){a=1;return main()+7;}} the end of main returns 0, also where it is called
 called_main :
-    outcome (global bases.Int 0 97 one None ∷ main_ (when (op binaries.Equal a (number 0)) (c.block (eval (c.set a (number 1)) ∷ c.return (plus (c.e (trees.call main_name trees.no_exprs)) (number 7)) ∷ [])) ∷ []) ∷ [])
+    outcome (global bases.Int 0 97 one None ∷ main_ (when (op binaries.Equal a (number 0))
+        (c.block (eval (c.set a (number 1)) ∷ c.return (plus (c.e (trees.call main_name trees.no_exprs)) (number 7)) ∷ [])) ∷ []) ∷ [])
     ≡ Some (Ended (Calls 0 ∷ Calls 0 ∷ Returns 0 ∷ Returns 0 ∷ []) 7)
 called_main = refl
 
 -- int main(int a,int b){return a*10+b;} with 4 and 2
 main_with_arguments :
-    (program_of (defined bases.Int 0 main_name (parameter bases.Int 0 97 ∷ parameter bases.Int 0 98 ∷ []) (c.return (plus (op binaries.Multiply a (number 10)) b) ∷ []) ∷ []) >>= λ u. Some (source_run u (integer 4 ∷ integer 2 ∷ []) [] 1))
+    (program_of (defined bases.Int 0 main_name (parameter bases.Int 0 97 ∷ parameter bases.Int 0 98 ∷ []) (c.return (plus (op binaries.Multiply a (number 10)) b) ∷ []) ∷
+        []) >>= λ u. Some (source_run u (integer 4 ∷ integer 2 ∷ []) [] 1))
     ≡ Some (Ended (Calls 0 ∷ Returns 0 ∷ []) 42)
 main_with_arguments = refl
 
 -- ---- roots: int f(int a){return a+1;}
 
 abbrev root_run : ℕ → List Value → Option RootRun
-root_run root xs = program_of (defined bases.Int 0 (102 ∷ []) (parameter bases.Int 0 97 ∷ []) (c.return (plus a (number 1)) ∷ []) ∷ []) >>= λ u. Some (run_of u root xs (record { memory = []; input = 9 ∷ [] }) 1)
+root_run root xs = program_of (defined bases.Int 0 (102 ∷ []) (parameter bases.Int 0 97 ∷ []) (c.return (plus a (number 1)) ∷ []) ∷ []) >>= λ u. Some
+    (run_of u root xs (record { memory = []; input = 9 ∷ [] }) 1)
 
 -- what is left: the result, the memory, the input
 root_ends : root_run 0 (integer 299 ∷ []) ≡ Some (emit (Calls 0) (emit (Returns 0) (ended (record { result = Some (integer 300); memory = []; input = 9 ∷ [] }))))
@@ -98,16 +105,30 @@ r_base = bases.Struct (114 ∷ [])
 -- struct t {int n;char m;}; struct t a; struct t b; int main(void){b.n=3;b.m=4;a=b;return a.n*10+a.m;}
 padding_at_the_end :
     outcome (struct_named 116 (member_of bases.Int 110 one ∷ member_of bases.Char 109 one ∷ []) ∷ global t_base 0 97 one None ∷ global t_base 0 98 one None
+<<<<<<< HEAD
     ∷ main_ (eval (c.set (dot b 110) (number 3)) ∷ eval (c.set (dot b 109) (number 4)) ∷ eval (c.set a b) ∷ c.return (plus (op binaries.Multiply (dot a 110) (number 10)) (dot a 109)) ∷ []) ∷ [])
+=======
+      ∷ main_ (eval (c.set (dot b 110) (number 3)) ∷ eval (c.set (dot b 109) (number 4)) ∷ eval (c.set a b) ∷ c.return
+          (plus (op binaries.Multiply (dot a 110) (number 10)) (dot a 109)) ∷ []) ∷ [])
+>>>>>>> a98275d
     ≡ ends 34
 padding_at_the_end = refl
 
 -- struct t {int n;char m;}; struct r {char m;struct t n;}; struct r a={1,{2,3}}; int main(void){struct r b={4,{5}};b.n.m=6;a.n=b.n;return ..;}
 structs_in_structs :
+<<<<<<< HEAD
     outcome (struct_named 116 (member_of bases.Int 110 one ∷ member_of bases.Char 109 one ∷ []) ∷ struct_named 114 (member_of bases.Char 109 one ∷ member_of t_base 110 one ∷ [])
     ∷ global r_base 0 97 one (Some (listed (valued (number 1) ∷ listed (numbers (2 ∷ 3 ∷ [])) ∷ [])))
     ∷ main_ (c.local r_base 0 98 one (Some (listed (valued (number 4) ∷ listed (numbers (5 ∷ [])) ∷ []))) ∷ eval (c.set (dot (dot b 110) 109) (number 6)) ∷ eval (c.set (dot a 110) (dot b 110))
     ∷ c.return (plus (plus (op binaries.Multiply (dot (dot a 110) 110) (number 10)) (dot (dot a 110) 109)) (op binaries.Multiply (dot a 109) (number 100))) ∷ []) ∷ [])
+=======
+    outcome (struct_named 116 (member_of bases.Int 110 one ∷ member_of bases.Char 109 one ∷ []) ∷ struct_named 114
+        (member_of bases.Char 109 one ∷ member_of t_base 110 one ∷ [])
+      ∷ global r_base 0 97 one (Some (listed (valued (number 1) ∷ listed (numbers (2 ∷ 3 ∷ [])) ∷ [])))
+      ∷ main_ (c.local r_base 0 98 one (Some (listed (valued (number 4) ∷ listed (numbers (5 ∷ [])) ∷ []))) ∷ eval (c.set (dot (dot b 110) 109) (number 6)) ∷ eval
+          (c.set (dot a 110) (dot b 110))
+      ∷ c.return (plus (plus (op binaries.Multiply (dot (dot a 110) 110) (number 10)) (dot (dot a 110) 109)) (op binaries.Multiply (dot a 109) (number 100))) ∷ []) ∷ [])
+>>>>>>> a98275d
     ≡ ends 156
 structs_in_structs = refl
 
@@ -129,7 +150,8 @@ sample =
     ∷ trees.branch (unnumbered 0) b (eval (c.set a b)) (else_by (c.block []))
     ∷ c.while (less a (number 1)) (trees.break (unnumbered 0))
     ∷ trees.do_loop (unnumbered 0) (trees.continue (unnumbered 0)) b
-    ∷ trees.for_loop (unnumbered 0) (start_declaration (record { base = bases.Int; variables = record { declarator = c.declarator 0 105 one; initialiser = Some (valued (number 0)) } ∷ [] })) None (Some (c.after a)) (c.return b)
+    ∷ trees.for_loop (unnumbered 0) (start_declaration (record
+        { base = bases.Int; variables = record { declarator = c.declarator 0 105 one; initialiser = Some (valued (number 0)) } ∷ [] })) None (Some (c.after a)) (c.return b)
     ∷ c.return (number 7) ∷ [])
     ∷ []
 

@@ -44,7 +44,8 @@ back_to_char : of_main (char_c ∷ eval (set c (number 255)) ∷ eval (update as
 back_to_char = refl
 
 -- char c; c=255; return (c++==255)+(c==0)*2;
-char_steps : of_main (char_c ∷ eval (set c (number 255)) ∷ return (plus (equal (e (trees.step steps.IncrementAfter c)) (number 255)) (times (equal c (number 0)) 2)) ∷ []) ≡ ends 3
+char_steps : of_main (char_c ∷ eval (set c (number 255)) ∷ return (plus (equal (e (trees.step steps.IncrementAfter c)) (number 255)) (times (equal c (number 0)) 2)) ∷
+    []) ≡ ends 3
 char_steps = refl
 
 -- return (char)200+(char)100==300; chars are promoted
@@ -60,11 +61,13 @@ sign_not_copied : of_main (return (equal (op binaries.ShiftRight (minus (natural
 sign_not_copied = refl
 
 -- char f(void){return 300;} int main(void){return f()==44;}
-returned_char : outcome (defined bases.Char 0 (102 ∷ []) [] (return (number 300) ∷ []) ∷ main_ (return (equal (call 102 []) (number 44)) ∷ []) ∷ []) ≡ Some (Ended (Calls 1 ∷ Calls 0 ∷ Returns 0 ∷ Returns 1 ∷ []) 1)
+returned_char : outcome (defined bases.Char 0 (102 ∷ []) [] (return (number 300) ∷ []) ∷ main_ (return (equal (call 102 []) (number 44)) ∷ []) ∷ []) ≡ Some
+    (Ended (Calls 1 ∷ Calls 0 ∷ Returns 0 ∷ Returns 1 ∷ []) 1)
 returned_char = refl
 
 -- int *f(void){return 0;} int main(void){return f()==0;}
-returned_null : outcome (defined bases.Int 1 (102 ∷ []) [] (return (number 0) ∷ []) ∷ main_ (return (equal (call 102 []) (number 0)) ∷ []) ∷ []) ≡ Some (Ended (Calls 1 ∷ Calls 0 ∷ Returns 0 ∷ Returns 1 ∷ []) 1)
+returned_null : outcome (defined bases.Int 1 (102 ∷ []) [] (return (number 0) ∷ []) ∷ main_ (return (equal (call 102 []) (number 0)) ∷ []) ∷ []) ≡ Some
+    (Ended (Calls 1 ∷ Calls 0 ∷ Returns 0 ∷ Returns 1 ∷ []) 1)
 returned_null = refl
 
 -- int *p; p=0; return (1?p:0)==0;
@@ -78,7 +81,8 @@ third_operand = refl
 -- ---- comparisons (6.5.8, 6.5.9): (1 op 2)+(2 op 1)*2+(1 op 1)*4
 
 abbrev compared : BinaryOperator → Option BoundedRun
-compared operator = of_main (return (plus (plus (op operator (number 1) (number 2)) (times (op operator (number 2) (number 1)) 2)) (times (op operator (number 1) (number 1)) 4)) ∷ [])
+compared operator = of_main (return (plus (plus (op operator (number 1) (number 2)) (times (op operator (number 2) (number 1)) 2))
+    (times (op operator (number 1) (number 1)) 4)) ∷ [])
 
 less : compared binaries.Less ≡ ends 1
 less = refl
@@ -100,7 +104,8 @@ not_equal_to = refl
 
 -- the same of pointers: int a[2]; with a for 1 and a+1 for 2
 abbrev pointers_compared : BinaryOperator → Option BoundedRun
-pointers_compared operator = of_main (array_ 97 2 ∷ return (plus (plus (op operator a (plus a (number 1))) (times (op operator (plus a (number 1)) a) 2)) (times (op operator a a) 4)) ∷ [])
+pointers_compared operator = of_main (array_ 97 2 ∷ return (plus (plus (op operator a (plus a (number 1))) (times (op operator (plus a (number 1)) a) 2))
+    (times (op operator a a) 4)) ∷ [])
 
 pointer_less : pointers_compared binaries.Less ≡ ends 1
 pointer_less = refl
@@ -131,7 +136,9 @@ zeros : of_main (return (plus (times (op binaries.And (number 2) (number 0)) 10)
 zeros = refl
 
 -- int a[2]; int *p; p=0; return !p+!a*2+!5*4+!0*8;
-negations : of_main (array_ 97 2 ∷ pointer_ 112 ∷ eval (set p (number 0)) ∷ return (plus (plus (plus (e (trees.unary unaries.Not p)) (times (e (trees.unary unaries.Not a)) 2)) (times (e (trees.unary unaries.Not (number 5))) 4)) (times (e (trees.unary unaries.Not (number 0))) 8)) ∷ []) ≡ ends 9
+negations : of_main (array_ 97 2 ∷ pointer_ 112 ∷ eval (set p (number 0)) ∷ return
+    (plus (plus (plus (e (trees.unary unaries.Not p)) (times (e (trees.unary unaries.Not a)) 2)) (times (e (trees.unary unaries.Not (number 5))) 4))
+    (times (e (trees.unary unaries.Not (number 0))) 8)) ∷ []) ≡ ends 9
 negations = refl
 
 -- ---- arithmetic: an operator of 6 and 3, and of int and unsigned
@@ -167,7 +174,8 @@ bits_or : calculated binaries.BitOr ≡ ends 7
 bits_or = refl
 
 -- return ~5+6+-1+ +1;
-unary_operators : of_main (return (plus (plus (plus (e (trees.unary unaries.Complement (number 5))) (number 6)) (minus (number 1))) (e (trees.unary unaries.Plus (number 1)))) ∷ []) ≡ ends 0
+unary_operators : of_main (return (plus (plus (plus (e (trees.unary unaries.Complement (number 5))) (number 6)) (minus (number 1)))
+    (e (trees.unary unaries.Plus (number 1)))) ∷ []) ≡ ends 0
 unary_operators = refl
 
 -- return -1/2u==2147483647; and return -1%7u; divide unsigneds
@@ -230,5 +238,6 @@ decrement_before : stepped (λ x. e (trees.step steps.DecrementBefore x)) ≡ en
 decrement_before = refl
 
 -- int a[2]; int *p; p=a; p++; return p-a+(p--==a+1)*2;
-pointer_steps : of_main (array_ 97 2 ∷ pointer_ 112 ∷ eval (set p a) ∷ eval (e (trees.step steps.IncrementAfter p)) ∷ return (plus (op binaries.Subtract p a) (times (equal (e (trees.step steps.DecrementAfter p)) (plus a (number 1))) 2)) ∷ []) ≡ ends 3
+pointer_steps : of_main (array_ 97 2 ∷ pointer_ 112 ∷ eval (set p a) ∷ eval (e (trees.step steps.IncrementAfter p)) ∷ return
+    (plus (op binaries.Subtract p a) (times (equal (e (trees.step steps.DecrementAfter p)) (plus a (number 1))) 2)) ∷ []) ≡ ends 3
 pointer_steps = refl

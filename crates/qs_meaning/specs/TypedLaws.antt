@@ -18,7 +18,8 @@ use Rattle.qs_meaning.specs.Units.{function_typed, typed_of}
 -- what holds of every scope of a well typed unit: arrays and structs are placed, variables and members have complete types, and structs
 -- that have members are laid out
 pub record IsReady (s : Scope) : Type 0 where
-  pub placed : (x : List ℕ) (node : ℕ) (t : TypeTree) → entity_of s.context x ≡ Some (local_variable node (Some t)) → is_scalar t ≡ false → is_one_of node s.locals.placed ≡ true
+  pub placed : (x : List ℕ) (node : ℕ) (t : TypeTree) → entity_of s.context x ≡ Some (local_variable node (Some t)) → is_scalar t ≡ false
+      → is_one_of node s.locals.placed ≡ true
   pub local_complete : (x : List ℕ) (node : ℕ) (t : TypeTree) → entity_of s.context x ≡ Some (local_variable node (Some t)) → is_complete s.context.structs t ≡ true
   pub file_complete : (x : List ℕ) (node : ℕ) (t : TypeTree) → entity_of s.context x ≡ Some (file_variable node (Some t)) → is_complete s.context.structs t ≡ true
   pub members : (k : ℕ) (ms : List MemberTree) → struct_of s.context.structs k ≡ Some ms → list_all (λ m. is_complete s.context.structs m.type) ms ≡ true
@@ -30,7 +31,8 @@ are_placed s nodes = list_all (λ n. is_one_of n s.locals.placed) nodes
 
 abbrev pub TypedWhereTypes : Type 0
 TypedWhereTypes =
-    (s : Scope) → IsReady s → (e : ExprTree) (t : TypeTree) → are_placed s (addressed s.context e) ≡ true → type_of s.context e ≡ Some t → (form : Form) × (typed s e ≡ Some (record { type = t; form = form }))
+    (s : Scope) → IsReady s → (e : ExprTree) (t : TypeTree) → are_placed s (addressed s.context e) ≡ true → type_of s.context e ≡ Some t → (form : Form) ×
+    (typed s e ≡ Some (record { type = t; form = form }))
 
 -- ---- functions
 

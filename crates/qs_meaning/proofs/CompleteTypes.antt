@@ -1,4 +1,4 @@
--- Where the rules let an operator stand, it has an operation; where a struct is complete, its members have offsets.
+-- What complete types have: sizes, operations on pointers to them, offsets of members, parts, blanks.
 use Rattle.std.proofs.Common.{◌≡◌, ◌<◌, ◌⊎◌, inl, inr, ℕ, zero, suc, ◌+◌, Bool, true, false, not, ◌&&◌, ◌||◌, nat_lt, List, [], ◌∷◌, Option, Some, None, is_some, length, map, refl, sym, ap, ◌∙◌, subst, arith, if◌then◌else◌}
 use Rattle.std.specs.List.{slice_get, list_all}
 use Rattle.std.proofs.lemmas.Option.{slice_get-get_or, slice_get_within}
@@ -96,7 +96,8 @@ summed_known structs t u e = go (summands structs t u e)
     go (neither p q) = not_chosen (is_pointer t) _ _ p (not_chosen (is_pointer u) _ _ q (record { value = _; is = refl }))
     go (first p h) = chosen (is_pointer t) _ _ p (onward (element_size structs t) _ (size_known structs (referenced t) h) (record { value = _; is = refl }))
     go (second p q h) =
-        not_chosen (is_pointer t) _ _ p (chosen (is_pointer u) _ _ q (onward (element_size structs u) _ (size_known structs (referenced u) h) (record { value = _; is = refl })))
+        not_chosen (is_pointer t) _ _ p (chosen (is_pointer u) _ _ q
+        (onward (element_size structs u) _ (size_known structs (referenced u) h) (record { value = _; is = refl })))
 
 decided : {A : Type 0} (b : Bool) (x y : Option A) → Known x → Known y → Known (if b then x else y)
 decided true x y k h = k
@@ -113,7 +114,8 @@ subtracted_known structs t u e = go (either (both_integers t u) _ e)
         (chosen (is_pointer t) _ _ (left _ _ (left _ _ h)) (onward (element_size structs t) _ size (record { value = _; is = refl })))
 
     go : (both_integers t u ≡ true) ⊎ ((is_object_pointer structs t && (is_integer u || same_type t u)) ≡ true) → Known (subtracted structs t u)
-    go (inl h) = not_chosen (is_pointer u) _ _ (integer_no_pointer u (right (is_integer t) _ h)) (not_chosen (is_pointer t) _ _ (integer_no_pointer t (left _ _ h)) (record { value = _; is = refl }))
+    go (inl h) = not_chosen (is_pointer u) _ _ (integer_no_pointer u (right (is_integer t) _ h))
+        (not_chosen (is_pointer t) _ _ (integer_no_pointer t (left _ _ h)) (record { value = _; is = refl }))
     go (inr h) = by_pointer h
 
 -- ---- members (6.5.2.3)
@@ -133,7 +135,8 @@ types_count : (ms : List MemberTree) → length (member_types ms) ≡ length ms
 types_count [] = refl
 types_count (m ∷ ms) = ap suc (types_count ms)
 
-layout_count : (structs : Structs) (depth k : ℕ) (ms : List MemberTree) (l : StructLayout) → struct_of structs k ≡ Some ms → layouts_within depth structs k ≡ Some l → length l.offsets ≡ length ms
+layout_count : (structs : Structs) (depth k : ℕ) (ms : List MemberTree) (l : StructLayout) → struct_of structs k ≡ Some ms → layouts_within depth structs k ≡ Some l
+    → length l.offsets ≡ length ms
 layout_count structs zero k ms l s e = nothing l e
 layout_count structs (suc depth) k ms l s e =
     let w = went (struct_of structs k) (members_layout (layouts_within depth structs)) l e in
@@ -172,13 +175,18 @@ LaidOut structs = (k : ℕ) (ms : List MemberTree) → struct_of structs k ≡ S
 pub member_offset_known : (structs : Structs) → LaidOut structs → (t : TypeTree) (x : List ℕ) → is_some (member_type structs t x) ≡ true → Known (member_offset structs t x)
 member_offset_known structs laid_out (struct k) x e = go (struct_of structs k) refl e
   where
-    go : (o : Option (List MemberTree)) → struct_of structs k ≡ o → is_some (and_then o (member_in x)) ≡ true → Known (o >>= λ ms. member_number 0 x ms >>= offset_of structs k)
+    go : (o : Option (List MemberTree)) → struct_of structs k ≡ o → is_some (and_then o (member_in x)) ≡ true → Known
+        (o >>= λ ms. member_number 0 x ms >>= offset_of structs k)
     go None s e = never e
     go (Some ms) s e =
         let l : Known (layout_of structs k) = known _ (laid_out k ms s) in
         let n = numbered 0 x ms e in
         let o = within_count l.value.offsets n.number (length ms) (layout_count structs (defined_structs structs) k ms l.value s l.is) n.below in
-        record { value = o.value; is = goes (member_number 0 x ms) n.number (offset_of structs k) (Some o.value) n.is (ap (λ z. and_then z (λ (l : StructLayout). slice_get l.offsets n.number)) l.is ∙ o.is) }
+        record {
+          value = o.value;
+          is = goes (member_number 0 x ms) n.number (offset_of structs k) (Some o.value) n.is
+              (ap (λ z. and_then z (λ (l : StructLayout). slice_get l.offsets n.number)) l.is ∙ o.is);
+        }
 member_offset_known structs laid_out int x e = never e
 member_offset_known structs laid_out unsigned x e = never e
 member_offset_known structs laid_out char x e = never e
@@ -197,7 +205,8 @@ has_members_is_large structs (array t n) x e = never e
 
 -- ---- the types of members
 
-member_in_complete : (structs : Structs) (x : List ℕ) (ms : List MemberTree) (u : TypeTree) → list_all (λ m. is_complete structs m.type) ms ≡ true → member_in x ms ≡ Some u → is_complete structs u ≡ true
+member_in_complete : (structs : Structs) (x : List ℕ) (ms : List MemberTree) (u : TypeTree) → list_all (λ m. is_complete structs m.type) ms ≡ true → member_in x ms ≡ Some u
+    → is_complete structs u ≡ true
 member_in_complete structs x [] u all e = nothing u e
 member_in_complete structs x (m ∷ ms) u all e = go (λ f. member_in_complete structs x ms u (right (is_complete structs m.type) _ all) f) (same_bytes m.name x) e
   where
@@ -220,7 +229,8 @@ member_complete structs members void u x e = nothing u e
 member_complete structs members (pointer t) u x e = nothing u e
 member_complete structs members (array t n) u x e = nothing u e
 
-member_at_complete : (structs : Structs) (ms : List MemberTree) (i : ℕ) (m : MemberTree) → list_all (λ m. is_complete structs m.type) ms ≡ true → slice_get ms i ≡ Some m → is_complete structs m.type ≡ true
+member_at_complete : (structs : Structs) (ms : List MemberTree) (i : ℕ) (m : MemberTree) → list_all (λ m. is_complete structs m.type) ms ≡ true → slice_get ms i ≡ Some m
+    → is_complete structs m.type ≡ true
 member_at_complete structs [] i m all e = nothing m e
 member_at_complete structs (x ∷ ms) zero m all e = subst (λ (z : MemberTree). is_complete structs z.type ≡ true) (same _ _ e) (left _ _ all)
 member_at_complete structs (x ∷ ms) (suc i) m all e = member_at_complete structs ms i m (right (is_complete structs x.type) _ all) e
@@ -240,13 +250,20 @@ element_complete structs t n e = go (extent_of structs t) e
     go None e = never e
     go (Some x) e = refl
 
-pub part_known : (structs : Structs) → LaidOut structs → MembersComplete structs → (t : TypeTree) (i : ℕ) → is_complete structs t ≡ true → is_some (part_type structs t i) ≡ true → Part structs t i
+pub part_known : (structs : Structs) → LaidOut structs → MembersComplete structs → (t : TypeTree) (i : ℕ) → is_complete structs t ≡ true → is_some
+    (part_type structs t i) ≡ true → Part structs t i
 part_known structs laid_out members (array t n) i c e = go (nat_lt i n) refl e
   where
     go : (b : Bool) → nat_lt i n ≡ b → is_some (if b then Some t else None) ≡ true → Part structs (array t n) i
     go true h e =
         let d = element_complete structs t n c in
-        record { type = t; is = ap (λ b. if b then Some t else None) h; complete = d; offset = onward (size_of structs t) _ (size_known structs t d) (record { value = _; is = refl }) }
+        record {
+          type = t;
+          is = ap (λ b. if b then Some t else None) h;
+          complete = d;
+          offset = onward (size_of structs t) _ (size_known structs t d)
+              (record { value = _; is = refl });
+        }
     go false h e = never e
 part_known structs laid_out members (struct k) i c e = go (struct_of structs k) refl e
   where
@@ -277,13 +294,15 @@ part_known structs laid_out members (pointer t) i c e = never e
 -- ---- blanks
 
 module _ (structs : Structs) (laid_out : LaidOut structs) (members : MembersComplete structs) where
-  blank_by_known : (layouts : Layouts) (blanks : Blanks) → ((k : ℕ) → is_some (layouts k) ≡ true → Known (blanks k)) → (t : TypeTree) → is_some (extent_by layouts t) ≡ true → Known (blank_by blanks t)
+  blank_by_known : (layouts : Layouts) (blanks : Blanks) → ((k : ℕ) → is_some (layouts k) ≡ true → Known (blanks k)) → (t : TypeTree) → is_some (extent_by layouts t) ≡ true
+      → Known (blank_by blanks t)
   blank_by_known layouts blanks h int e = record { value = _; is = refl }
   blank_by_known layouts blanks h unsigned e = record { value = _; is = refl }
   blank_by_known layouts blanks h char e = record { value = _; is = refl }
   blank_by_known layouts blanks h void e = never e
   blank_by_known layouts blanks h (pointer t) e = record { value = _; is = refl }
-  blank_by_known layouts blanks h (array t n) e = onward (blank_by blanks t) _ (blank_by_known layouts blanks h t (part (extent_by layouts t) e)) (record { value = _; is = refl })
+  blank_by_known layouts blanks h (array t n) e = onward (blank_by blanks t) _ (blank_by_known layouts blanks h t (part (extent_by layouts t) e))
+      (record { value = _; is = refl })
     where
       part : (o : Option Extent) → is_some (and_then o (λ (x : Extent). Some (array_extent x n))) ≡ true → is_some o ≡ true
       part None e = never e
@@ -320,7 +339,8 @@ module _ (structs : Structs) (laid_out : LaidOut structs) (members : MembersComp
       let count = layout_count structs (defined_structs structs) k w.value whole.value w.had whole.is in
       let ms : Known (struct_of structs k) = record { value = w.value; is = w.had } in
       onward (struct_of structs k) _ ms (onward (layout_of structs k) (struct_blank structs (blanks_within depth structs) w.value) whole
-      (members_blank_known (layouts_within depth structs) (blanks_within depth structs) (blanks_known depth) 0 whole.value.size w.value whole.value.offsets v.value count v.had (members k w.value w.had)))
+      (members_blank_known (layouts_within depth structs) (blanks_within depth structs)
+      (blanks_known depth) 0 whole.value.size w.value whole.value.offsets v.value count v.had (members k w.value w.had)))
 
   pub blank_known : (t : TypeTree) → is_complete structs t ≡ true → Known (blank_of structs t)
   blank_known t c = blank_by_known (layout_of structs) (blanks_within (defined_structs structs) structs) (blanks_known (defined_structs structs)) t c

@@ -50,7 +50,7 @@ sized_extent layouts void e = never e
 sized_extent layouts (pointer t) e = refl
 sized_extent layouts (array t n) e =
     whole_some (extent_by layouts t) (λ (x : Extent). array_extent x n)
-        (sized_extent layouts t (part_some (sized_by layouts t) (λ (x : Extent). extent_within (array_extent x n)) e))
+    (sized_extent layouts t (part_some (sized_by layouts t) (λ (x : Extent). extent_within (array_extent x n)) e))
 sized_extent layouts (struct k) e = whole_some (layouts k) (λ (l : StructLayout). struct_extent l)
     (part_some (layouts k) (λ (l : StructLayout). extent_within (struct_extent l)) e)
 
@@ -195,7 +195,7 @@ module _ (s₀ : Scope) (declared_nodes : List ℕ) where
   initialised_known c h node t fine None tests faults taken = record { value = _; is = refl }
   initialised_known c h node t fine (Some i) tests faults taken =
       local_set_known (within s₀ c) declared_nodes h.sound t (local_lvalue s₀.locals node) i fine.complete (λ f. local_address node (fine.large f))
-          (kept_fit (is_typed c i) _ (has_type i faults) tests) faults taken
+      (kept_fit (is_typed c i) _ (has_type i faults) tests) faults taken
     where
       has_type : (i : InitialiserTree) → initialiser_faults false c (Some t) i ≡ [] → is_typed c i ≡ true
       has_type (trees.value e) f = ap is_some (type_of_known c (has_types (within s₀ c) declared_nodes h.sound) e whole f).is
@@ -223,17 +223,17 @@ module _ (s₀ : Scope) (declared_nodes : List ℕ) where
       let typed_lengths = lengths_typed c (has_types (within s₀ c) declared_nodes h.sound) v.declarator.lengths.given (none_left _ _ parts) in
       let unheld = not_held_back false after (variable_declared c base v).type v.initialiser initialiser in
       let whole_tests = ap (λ b. breaks_one (if b then [] else again_tests c v ++
-          ((variable_declared c base v).tests ++ initialiser_tests false after (variable_declared c base v).type v.initialiser)))
-          (sym unheld) ∙ unbroken v.declarator.node.id (variable_tests false c after base v) tests_faults in
+      ((variable_declared c base v).tests ++ initialiser_tests false after (variable_declared c base v).type v.initialiser)))
+      (sym unheld) ∙ unbroken v.declarator.node.id (variable_tests false c after base v) tests_faults in
       let later_tests = second_unbroken (again_tests c v) _ whole_tests in
       let d = declared_known c base v.declarator (length_by v.initialiser) typed_lengths (first_unbroken (variable_declared c base v).tests _ later_tests) in
       let fine_here = left (is_fine_local declared_nodes placed (record { node = v.declarator.node.id; type = (variable_declared c base v).type })) _ fine in
       let stands = variable_stands c h base v d fine_here in
       let initialiser_unbroken = subst (λ o. breaks_one (initialiser_tests false after o v.initialiser) ≡ false) d.is
-          (second_unbroken (variable_declared c base v).tests _ later_tests) in
+      (second_unbroken (variable_declared c base v).tests _ later_tests) in
       let here = sites_left declared_nodes placed (variable_sites false c after base v) (variables_sites false after base vs) taken in
       let initialiser_taken = sites_right declared_nodes placed (declarator_sites c v.declarator)
-          (option_initialiser_sites false after (variable_declared c base v).type v.initialiser) here in
+      (option_initialiser_sites false after (variable_declared c base v).type v.initialiser) here in
       let now = initialised_known after stands v.declarator.node.id d.type (fine_at d stands) v.initialiser initialiser_unbroken
       (subst (λ o. option_initialiser_faults false after o v.initialiser ≡ []) d.is initialiser)
       (subst (λ o. sites_taken declared_nodes placed (option_initialiser_sites false after o v.initialiser) ≡ true) d.is initialiser_taken) in
@@ -281,7 +281,7 @@ module _ (s₀ : Scope) (declared_nodes : List ℕ) where
   return_known c h None f taken = record { value = _; is = refl }
   return_known c h (Some e) f taken =
       onward c.result _ h.result (onward (typed (within s₀ c) e) _ (typed_known (within s₀ c) declared_nodes h.sound e used f (taken_alone c e taken))
-          (record { value = _; is = refl }))
+      (record { value = _; is = refl }))
 
   record Started (c : Context) (start : StartTree) : Type 0 where
     tree : Known (start_typed (within s₀ c) start)
@@ -322,29 +322,29 @@ module _ (s₀ : Scope) (declared_nodes : List ℕ) where
         let parts = none_right (condition_faults c node e) _ f in
         let rest = sites_right declared_nodes placed (site c e) (statement_sites (inner_scope c) t ++ else_sites c r) taken in
         onward (condition_typed (within s₀ c) e) _ (condition_known c h e (none_right (faults_of node.id (condition_tests (type_of c e))) _ (none_left _ _ f))
-            (sites_left declared_nodes placed (site c e) (statement_sites (inner_scope c) t ++ else_sites c r) taken))
+        (sites_left declared_nodes placed (site c e) (statement_sites (inner_scope c) t ++ else_sites c r) taken))
         (onward (statement_typed (within s₀ (inner_scope c)) t) _
-            (statement_known t (inner_scope c) (inner_stands c h) (none_left _ _ parts)
-            (sites_left declared_nodes placed (statement_sites (inner_scope c) t) (else_sites c r) rest)
-            (locals_left declared_nodes placed (statement_locals (inner_scope c) t) (else_locals c r) fine))
+        (statement_known t (inner_scope c) (inner_stands c h) (none_left _ _ parts)
+        (sites_left declared_nodes placed (statement_sites (inner_scope c) t) (else_sites c r) rest)
+        (locals_left declared_nodes placed (statement_locals (inner_scope c) t) (else_locals c r) fine))
         (onward (else_typed (within s₀ c) r) _ (else_known r c h (none_right (statement_faults (inner_scope c) t) _ parts)
-            (sites_right declared_nodes placed (statement_sites (inner_scope c) t) (else_sites c r) rest)
-            (locals_right declared_nodes placed (statement_locals (inner_scope c) t) (else_locals c r) fine))
+        (sites_right declared_nodes placed (statement_sites (inner_scope c) t) (else_sites c r) rest)
+        (locals_right declared_nodes placed (statement_locals (inner_scope c) t) (else_locals c r) fine))
         (record { value = _; is = refl })))
     statement_known (while_loop node e t) c h f taken fine =
         let body = inside_loop (inner_scope c) in
         onward (condition_typed (within s₀ c) e) _ (condition_known c h e (none_right (faults_of node.id (condition_tests (type_of c e))) _ (none_left _ _ f))
-            (sites_left declared_nodes placed (site c e) (statement_sites body t) taken))
+        (sites_left declared_nodes placed (site c e) (statement_sites body t) taken))
         (onward (statement_typed (within s₀ body) t) _ (statement_known t body (loop_stands c h) (none_right (condition_faults c node e) _ f)
-            (sites_right declared_nodes placed (site c e) (statement_sites body t) taken) fine)
+        (sites_right declared_nodes placed (site c e) (statement_sites body t) taken) fine)
         (record { value = _; is = refl }))
     statement_known (do_loop node t e) c h f taken fine =
         let body = inside_loop (inner_scope c) in
         onward (statement_typed (within s₀ body) t) _ (statement_known t body (loop_stands c h) (none_left _ _ f)
-            (sites_left declared_nodes placed (statement_sites body t) (site c e) taken) fine)
+        (sites_left declared_nodes placed (statement_sites body t) (site c e) taken) fine)
         (onward (condition_typed (within s₀ c) e) _ (condition_known c h e
-            (none_right (faults_of node.id (condition_tests (type_of c e))) _ (none_right (statement_faults body t) _ f))
-            (sites_right declared_nodes placed (statement_sites body t) (site c e) taken))
+        (none_right (faults_of node.id (condition_tests (type_of c e))) _ (none_right (statement_faults body t) _ f))
+        (sites_right declared_nodes placed (statement_sites body t) (site c e) taken))
         (record { value = _; is = refl }))
     statement_known (for_loop node start e u t) c h f taken fine =
         let inside = for_context c start in
@@ -353,28 +353,18 @@ module _ (s₀ : Scope) (declared_nodes : List ℕ) where
         let expressions = none_right (faults_of node.id (for_tests inside start e u)) _ (none_left (for_faults inside start node e u) (statement_faults body t) parts) in
         let rest = sites_right declared_nodes placed (start_sites (inner_scope c) start) (option_sites inside e ++ (option_sites inside u ++ statement_sites body t)) taken in
         let last = sites_right declared_nodes placed (option_sites inside e) (option_sites inside u ++ statement_sites body t) rest in
-<<<<<<< HEAD
-        let first = start_known (inner_scope c) (inner_stands c h) start (none_left _ _ f) (sites_left declared_nodes placed (start_sites (inner_scope c) start) (option_sites inside e ++ (option_sites inside u ++ statement_sites body t)) taken)
+        let first = start_known (inner_scope c) (inner_stands c h) start (none_left _ _ f)
+        (sites_left declared_nodes placed (start_sites (inner_scope c) start) (option_sites inside e ++ (option_sites inside u ++ statement_sites body t)) taken)
         (locals_left declared_nodes placed (start_locals (inner_scope c) start) (statement_locals body t) fine) in
         onward (start_typed (within s₀ (inner_scope c)) start) _ first.tree
-        (onward (option_condition (within s₀ inside) e) _ (option_condition_known inside first.stands e (none_left _ _ expressions) (sites_left declared_nodes placed (option_sites inside e) (option_sites inside u ++ statement_sites body t) rest))
-        (onward (option_effect (within s₀ inside) u) _ (option_effect_known inside first.stands u (none_right (option_used inside e) _ expressions) (sites_left declared_nodes placed (option_sites inside u) (statement_sites body t) last))
-        (onward (statement_typed (within s₀ body) t) _ (statement_known t body (loop_stands inside first.stands) (none_right (for_faults inside start node e u) (statement_faults body t) parts)
-        (sites_right declared_nodes placed (option_sites inside u) (statement_sites body t) last) (locals_right declared_nodes placed (start_locals (inner_scope c) start) (statement_locals body t) fine))
-=======
-        let first = start_known (inner_scope c) (inner_stands c h) start (none_left _ _ f)
-            (sites_left declared_nodes placed (start_sites (inner_scope c) start) (option_sites inside e ++ (option_sites inside u ++ statement_sites body t)) taken)
-          (locals_left declared_nodes placed (start_locals (inner_scope c) start) (statement_locals body t) fine) in
-        onward (start_typed (within s₀ (inner_scope c)) start) _ first.tree
         (onward (option_condition (within s₀ inside) e) _ (option_condition_known inside first.stands e (none_left _ _ expressions)
-            (sites_left declared_nodes placed (option_sites inside e) (option_sites inside u ++ statement_sites body t) rest))
+        (sites_left declared_nodes placed (option_sites inside e) (option_sites inside u ++ statement_sites body t) rest))
         (onward (option_effect (within s₀ inside) u) _ (option_effect_known inside first.stands u (none_right (option_used inside e) _ expressions)
-            (sites_left declared_nodes placed (option_sites inside u) (statement_sites body t) last))
+        (sites_left declared_nodes placed (option_sites inside u) (statement_sites body t) last))
         (onward (statement_typed (within s₀ body) t) _ (statement_known t body (loop_stands inside first.stands)
-            (none_right (for_faults inside start node e u) (statement_faults body t) parts)
-          (sites_right declared_nodes placed (option_sites inside u) (statement_sites body t) last)
-              (locals_right declared_nodes placed (start_locals (inner_scope c) start) (statement_locals body t) fine))
->>>>>>> a98275d
+        (none_right (for_faults inside start node e u) (statement_faults body t) parts)
+        (sites_right declared_nodes placed (option_sites inside u) (statement_sites body t) last)
+        (locals_right declared_nodes placed (start_locals (inner_scope c) start) (statement_locals body t) fine))
         (record { value = _; is = refl }))))
     statement_known (break node) c h f taken fine = record { value = _; is = refl }
     statement_known (continue node) c h f taken fine = record { value = _; is = refl }
@@ -389,15 +379,10 @@ module _ (s₀ : Scope) (declared_nodes : List ℕ) where
         let first_taken = sites_left declared_nodes placed (statement_sites c t) (statements_sites after ts) taken in
         let first_fine = locals_left declared_nodes placed (statement_locals c t) (statements_locals after ts) fine in
         onward (statement_typed (within s₀ c) t) _ (statement_known t c h first first_taken first_fine)
-<<<<<<< HEAD
-        (onward (statements_typed (within s₀ after) ts) _ (all_known ts after (statement_stands t c h first first_taken first_fine) (none_right (statement_faults c t) (statements_faults after ts) f)
-        (sites_right declared_nodes placed (statement_sites c t) (statements_sites after ts) taken) (locals_right declared_nodes placed (statement_locals c t) (statements_locals after ts) fine))
-=======
         (onward (statements_typed (within s₀ after) ts) _ (all_known ts after (statement_stands t c h first first_taken first_fine)
-            (none_right (statement_faults c t) (statements_faults after ts) f)
-          (sites_right declared_nodes placed (statement_sites c t) (statements_sites after ts) taken)
-              (locals_right declared_nodes placed (statement_locals c t) (statements_locals after ts) fine))
->>>>>>> a98275d
+        (none_right (statement_faults c t) (statements_faults after ts) f)
+        (sites_right declared_nodes placed (statement_sites c t) (statements_sites after ts) taken)
+        (locals_right declared_nodes placed (statement_locals c t) (statements_locals after ts) fine))
         (record { value = _; is = refl }))
 
     pub else_known : (r : Else) (c : Context) → Stands c → else_faults c r ≡ [] → sites_taken declared_nodes placed (else_sites c r) ≡ true
@@ -448,15 +433,15 @@ module _ (s₀ : Scope) (declared_nodes : List ℕ) where
         let rest = sites_right declared_nodes placed (site c e) (statement_sites (inner_scope c) t ++ else_sites c r) taken in
         sized_together c.structs (statement_locals (inner_scope c) t) (else_locals c r)
         (statement_sized t (inner_scope c) (inner_stands c h) (none_left _ _ parts)
-            (sites_left declared_nodes placed (statement_sites (inner_scope c) t) (else_sites c r) rest)
-            (locals_left declared_nodes placed (statement_locals (inner_scope c) t) (else_locals c r) fine))
+        (sites_left declared_nodes placed (statement_sites (inner_scope c) t) (else_sites c r) rest)
+        (locals_left declared_nodes placed (statement_locals (inner_scope c) t) (else_locals c r) fine))
         (else_sized r c h (none_right (statement_faults (inner_scope c) t) _ parts)
-            (sites_right declared_nodes placed (statement_sites (inner_scope c) t) (else_sites c r) rest)
-            (locals_right declared_nodes placed (statement_locals (inner_scope c) t) (else_locals c r) fine))
+        (sites_right declared_nodes placed (statement_sites (inner_scope c) t) (else_sites c r) rest)
+        (locals_right declared_nodes placed (statement_locals (inner_scope c) t) (else_locals c r) fine))
     statement_sized (while_loop node e t) c h f taken fine =
         let body = inside_loop (inner_scope c) in
         statement_sized t body (loop_stands c h) (none_right (condition_faults c node e) _ f)
-            (sites_right declared_nodes placed (site c e) (statement_sites body t) taken) fine
+        (sites_right declared_nodes placed (site c e) (statement_sites body t) taken) fine
     statement_sized (do_loop node t e) c h f taken fine =
         let body = inside_loop (inner_scope c) in
         statement_sized t body (loop_stands c h) (none_left _ _ f) (sites_left declared_nodes placed (statement_sites body t) (site c e) taken) fine
@@ -468,16 +453,12 @@ module _ (s₀ : Scope) (declared_nodes : List ℕ) where
         let last = sites_right declared_nodes placed (option_sites inside e) (option_sites inside u ++ statement_sites body t) rest in
         let start_faultless = none_left (start_faults (inner_scope c) start) _ f in
         let start_taken = sites_left declared_nodes placed (start_sites (inner_scope c) start)
-            (option_sites inside e ++ (option_sites inside u ++ statement_sites body t)) taken in
+        (option_sites inside e ++ (option_sites inside u ++ statement_sites body t)) taken in
         let start_fine = locals_left declared_nodes placed (start_locals (inner_scope c) start) (statement_locals body t) fine in
         let first = start_known (inner_scope c) (inner_stands c h) start start_faultless start_taken start_fine in
         let inner = statement_sized t body (loop_stands inside first.stands) (none_right (for_faults inside start node e u) (statement_faults body t) parts)
-<<<<<<< HEAD
-        (sites_right declared_nodes placed (option_sites inside u) (statement_sites body t) last) (locals_right declared_nodes placed (start_locals (inner_scope c) start) (statement_locals body t) fine) in
-=======
-          (sites_right declared_nodes placed (option_sites inside u) (statement_sites body t) last)
-              (locals_right declared_nodes placed (start_locals (inner_scope c) start) (statement_locals body t) fine) in
->>>>>>> a98275d
+        (sites_right declared_nodes placed (option_sites inside u) (statement_sites body t) last)
+        (locals_right declared_nodes placed (start_locals (inner_scope c) start) (statement_locals body t) fine) in
         sized_together c.structs (start_locals (inner_scope c) start) (statement_locals body t)
         (start_sized start (inner_scope c) (inner_stands c h) start_faultless start_taken start_fine)
         (subst (λ z. all_sized z (statement_locals body t) ≡ true) (start_structs start (inner_scope c)) inner)
@@ -494,12 +475,8 @@ module _ (s₀ : Scope) (declared_nodes : List ℕ) where
         let first_taken = sites_left declared_nodes placed (statement_sites c t) (statements_sites after ts) taken in
         let first_fine = locals_left declared_nodes placed (statement_locals c t) (statements_locals after ts) fine in
         let rest = body_sized ts after (statement_stands t c h first first_taken first_fine) (none_right (statement_faults c t) (statements_faults after ts) f)
-<<<<<<< HEAD
-        (sites_right declared_nodes placed (statement_sites c t) (statements_sites after ts) taken) (locals_right declared_nodes placed (statement_locals c t) (statements_locals after ts) fine) in
-=======
-          (sites_right declared_nodes placed (statement_sites c t) (statements_sites after ts) taken)
-              (locals_right declared_nodes placed (statement_locals c t) (statements_locals after ts) fine) in
->>>>>>> a98275d
+        (sites_right declared_nodes placed (statement_sites c t) (statements_sites after ts) taken)
+        (locals_right declared_nodes placed (statement_locals c t) (statements_locals after ts) fine) in
         sized_together c.structs (statement_locals c t) (statements_locals after ts) (statement_sized t c h first first_taken first_fine)
         (subst (λ z. all_sized z (statements_locals after ts) ≡ true) (statement_structs t c) rest)
 

@@ -190,13 +190,9 @@ constant_kind s e u t h = go (either (is_some (constant_of s.context e)) _ h)
     rest : (is_null_constant e ≡ true) ⊎ ((is_some (text_of e) || is_address s.context e u) ≡ true) → (is_some (constant_of s.context e) ≡ true) ⊎ Addressing s e u
     rest (inl n) = inl (null_is_constant s.context e n)
     rest (inr a) = inr (addressing s e u t a)
-<<<<<<< HEAD
 
-    go : (is_some (constant_of s.context e) ≡ true) ⊎ ((is_null_constant e || (is_some (text_of e) || is_address s.context e u)) ≡ true) → (is_some (constant_of s.context e) ≡ true) ⊎ Addressing s e u
-=======
     go : (is_some (constant_of s.context e) ≡ true) ⊎ ((is_null_constant e || (is_some (text_of e) || is_address s.context e u)) ≡ true) →
         (is_some (constant_of s.context e) ≡ true) ⊎ Addressing s e u
->>>>>>> a98275d
     go (inl k) = inl k
     go (inr r) = rest (either (is_null_constant e) _ r)
 
@@ -234,7 +230,7 @@ file_piece_known s int offset e u t h =
 file_piece_known s unsigned offset e u t h =
     let p = without_second (is_assignable unsigned e (decayed u)) (is_constant s.context e u) h in
     onward (constant_of s.context e) _ (integer_cells s unsigned e u (integer_operand (is_integer (decayed u)) p.0) (constant_kind s e u t p.1))
-        (record { value = _; is = refl })
+    (record { value = _; is = refl })
 file_piece_known s char offset e u t h =
     let p = without_second (is_assignable char e (decayed u)) (is_constant s.context e u) h in
     onward (constant_of s.context e) _ (integer_cells s char e u (integer_operand (is_integer (decayed u)) p.0) (constant_kind s e u t p.1)) (record { value = _; is = refl })
@@ -242,7 +238,7 @@ file_piece_known s void offset e u t h = never h
 file_piece_known s (pointer w) offset e u t h =
     let p = without_second (is_assignable (pointer w) e (decayed u)) (is_constant s.context e u) h in
     onward (pointer_constant s e) _ (pointer_cells s e u t (kind (either (same_type (pointer w) (decayed u)) (is_null_constant e) p.0)) (constant_kind s e u t p.1))
-        (record { value = _; is = refl })
+    (record { value = _; is = refl })
   where
     kind : (same_type (pointer w) (decayed u) ≡ true) ⊎ (is_null_constant e ≡ true) → (is_pointer (decayed u) ≡ true) ⊎ (is_null_constant e ≡ true)
     kind (inl f) = inl (same_is_pointer (pointer w) (decayed u) refl f)
@@ -295,7 +291,7 @@ module _ (s : Scope) (h : IsFileScope s.context) where
   all_elements_typed no_initialisers u i f = refl
   all_elements_typed (initialiser_and (trees.value e) is) u i f =
       both _ _ (ap is_some (type_of_known s.context names_have_types e whole (none_left _ _ f)).is)
-          (all_elements_typed is u (i + 1) (none_right (expr_faults s.context whole e) _ f))
+      (all_elements_typed is u (i + 1) (none_right (expr_faults s.context whole e) _ f))
   all_elements_typed (initialiser_and (trees.list node inner) is) u i f =
       all_elements_typed is u (i + 1) (none_right (initialiser_faults true s.context (part_type structs u i) (trees.list node inner)) _ f)
 
@@ -314,14 +310,21 @@ module _ (s : Scope) (h : IsFileScope s.context) where
         → initialiser_faults true s.context (Some u) i ≡ [] → Celled (pieces structs u offset i)
     initialiser_celled (trees.value e) u offset complete fits f =
         let t = type_of_known s.context names_have_types e whole f in
-        record { list = _; is = refl; cells = (file_piece_known s u offset e t.value t.is
-            (subst (λ o. fits_typed o (fits_variable true s.context u e) ≡ true) t.is fits), tt) }
+        record {
+          list = _;
+          is = refl;
+          cells = (
+            file_piece_known s u offset e t.value t.is
+                (subst (λ o. fits_typed o (fits_variable true s.context u e) ≡ true) t.is fits),
+            tt,
+          );
+        }
     initialiser_celled (trees.list node is) u offset complete fits f =
         let inner = none_right (faults_of node.id (list_tests true s.context u is)) (elements_faults true s.context (Some u) 0 is) f in
         let tests = unbroken node.id (list_tests true s.context u is)
-            (none_left (faults_of node.id (list_tests true s.context u is)) (elements_faults true s.context (Some u) 0 is) f) in
+        (none_left (faults_of node.id (list_tests true s.context u is)) (elements_faults true s.context (Some u) 0 is) f) in
         elements_celled is u offset 0 complete (elements_kept (elements_typed s.context is) (takes_list u) (elements_fit true s.context u 0 is)
-            (all_elements_typed is u 0 inner) fits tests) inner
+        (all_elements_typed is u 0 inner) fits tests) inner
 
     elements_celled : (is : Initialisers) (u : TypeTree) (offset i : ℕ) → is_complete structs u ≡ true → elements_fit true s.context u i is ≡ true
         → elements_faults true s.context (Some u) i is ≡ [] → Celled (pieces_from structs u offset i is)
@@ -336,23 +339,17 @@ module _ (s : Scope) (h : IsFileScope s.context) where
         (none_right (initialiser_faults true s.context (part_type structs u i) first) _ f) in
         record {
           list = now.list ++ later.list;
-<<<<<<< HEAD
-          is = goes (part_type structs u i) p.type _ _ p.is (goes (part_offset structs u i) p.offset.value _ _ p.offset.is (goes (pieces structs p.type (offset + p.offset.value) first) now.list _ _ now.is
+          is = goes (part_type structs u i) p.type _ _ p.is
+              (goes (part_offset structs u i) p.offset.value _ _ p.offset.is (goes (pieces structs p.type (offset + p.offset.value) first) now.list _ _ now.is
               (goes (pieces_from structs u offset (i + 1) is) later.list _ _ later.is refl)));
           cells = joined now.list later.list now.cells later.cells;
         }
-=======
-          is = goes (part_type structs u i) p.type _ _ p.is
-              (goes (part_offset structs u i) p.offset.value _ _ p.offset.is (goes (pieces structs p.type (offset + p.offset.value) first) now.list _ _ now.is
-            (goes (pieces_from structs u offset (i + 1) is) later.list _ _ later.is refl)));
-          cells = joined now.list later.list now.cells later.cells }
->>>>>>> a98275d
 
   block_known : (t : TypeTree) (i : Option InitialiserTree) → is_complete structs t ≡ true → breaks_one (initialiser_tests true s.context (Some t) i) ≡ false
       → option_initialiser_faults true s.context (Some t) i ≡ [] → Known (variable_block s t i)
   block_known t None complete tests f =
       onward (initial_cells s t None) _ (onward (blank_of structs t) _ (blank_known structs h.laid_out h.members t complete) (record { value = _; is = refl }))
-          (record { value = _; is = refl })
+      (record { value = _; is = refl })
   block_known t (Some i) complete tests f =
       let b = blank_known structs h.laid_out h.members t complete in
       let ps = initialiser_celled i t 0 complete (fits_as_element i (kept_fit (is_typed s.context i) _ (has_type i f) tests)) f in
@@ -387,46 +384,30 @@ module _ (s₀ : Scope) where
       let tests = variable_tests true c after base v in
       let own = none_left (variable_faults true c after base v) (variables_faults true after base vs) faults in
       let parts = none_right (faults_of v.declarator.node.id tests)
-          (lengths_faults c v.declarator.lengths.given ++ option_initialiser_faults true after (variable_declared c base v).type v.initialiser) own in
+      (lengths_faults c v.declarator.lengths.given ++ option_initialiser_faults true after (variable_declared c base v).type v.initialiser) own in
       let initialiser = none_right (lengths_faults c v.declarator.lengths.given)
-          (option_initialiser_faults true after (variable_declared c base v).type v.initialiser) parts in
+      (option_initialiser_faults true after (variable_declared c base v).type v.initialiser) parts in
       let typed_lengths = lengths_typed c (has_types (within s₀ c) [] (file_sound s₀ c [] h)) v.declarator.lengths.given (none_left _ _ parts) in
-<<<<<<< HEAD
-      let whole_tests = ap (λ b. breaks_one (if b then [] else again_tests c v ++ ((variable_declared c base v).tests ++ initialiser_tests true after (variable_declared c base v).type v.initialiser))) (sym (not_held_back true after (variable_declared c base v).type v.initialiser initialiser))
-      ∙ unbroken v.declarator.node.id tests (none_left (faults_of v.declarator.node.id tests) _ own) in
-      let later_tests = second_unbroken (again_tests c v) ((variable_declared c base v).tests ++ initialiser_tests true after (variable_declared c base v).type v.initialiser) whole_tests in
-      let d = declared_known c base v.declarator (length_by v.initialiser) typed_lengths (first_unbroken (variable_declared c base v).tests (initialiser_tests true after (variable_declared c base v).type v.initialiser) later_tests) in
-      let scope = scope_after c base v h d in
-      let block = block_known (within s₀ after) scope d.type v.initialiser d.complete
-      (subst (λ o. breaks_one (initialiser_tests true after o v.initialiser) ≡ false) d.is (second_unbroken (variable_declared c base v).tests (initialiser_tests true after (variable_declared c base v).type v.initialiser) later_tests))
-      (subst (λ o. option_initialiser_faults true after o v.initialiser ≡ []) d.is initialiser) in
-      let first : Known (file_variable_typed (within s₀ c) base v) = record { value = block.value; is = goes (variable_declared c base v).type d.type _ _ d.is block.is } in
-      let rest = file_variables_known vs after base scope (none_right (variable_faults true c after base v) (variables_faults true after base vs) faults) in
-      record {
-        blocks = onward (file_variable_typed (within s₀ c) base v) _ first (onward (file_variables_typed (within s₀ after) base vs) _ rest.blocks (record { value = _; is = refl }));
-        scope = rest.scope;
-      }
-=======
       let whole_tests = ap (λ b. breaks_one (if b then [] else again_tests c v ++
-          ((variable_declared c base v).tests ++ initialiser_tests true after (variable_declared c base v).type v.initialiser)))
-          (sym (not_held_back true after (variable_declared c base v).type v.initialiser initialiser))
-        ∙ unbroken v.declarator.node.id tests (none_left (faults_of v.declarator.node.id tests) _ own) in
+      ((variable_declared c base v).tests ++ initialiser_tests true after (variable_declared c base v).type v.initialiser)))
+      (sym (not_held_back true after (variable_declared c base v).type v.initialiser initialiser))
+      ∙ unbroken v.declarator.node.id tests (none_left (faults_of v.declarator.node.id tests) _ own) in
       let later_tests = second_unbroken (again_tests c v) ((variable_declared c base v).tests ++ initialiser_tests true after
-          (variable_declared c base v).type v.initialiser) whole_tests in
+      (variable_declared c base v).type v.initialiser) whole_tests in
       let d = declared_known c base v.declarator (length_by v.initialiser) typed_lengths
-          (first_unbroken (variable_declared c base v).tests (initialiser_tests true after (variable_declared c base v).type v.initialiser) later_tests) in
+      (first_unbroken (variable_declared c base v).tests (initialiser_tests true after (variable_declared c base v).type v.initialiser) later_tests) in
       let scope = scope_after c base v h d in
       let block = block_known (within s₀ after) scope d.type v.initialiser d.complete
-        (subst (λ o. breaks_one (initialiser_tests true after o v.initialiser) ≡ false) d.is
-            (second_unbroken (variable_declared c base v).tests (initialiser_tests true after (variable_declared c base v).type v.initialiser) later_tests))
-        (subst (λ o. option_initialiser_faults true after o v.initialiser ≡ []) d.is initialiser) in
+      (subst (λ o. breaks_one (initialiser_tests true after o v.initialiser) ≡ false) d.is
+      (second_unbroken (variable_declared c base v).tests (initialiser_tests true after (variable_declared c base v).type v.initialiser) later_tests))
+      (subst (λ o. option_initialiser_faults true after o v.initialiser ≡ []) d.is initialiser) in
       let first : Known (file_variable_typed (within s₀ c) base v) = record { value = block.value; is = goes (variable_declared c base v).type d.type _ _ d.is block.is } in
       let rest = file_variables_known vs after base scope (none_right (variable_faults true c after base v) (variables_faults true after base vs) faults) in
       record {
         blocks = onward (file_variable_typed (within s₀ c) base v) _ first
             (onward (file_variables_typed (within s₀ after) base vs) _ rest.blocks (record { value = _; is = refl }));
-        scope = rest.scope }
->>>>>>> a98275d
+        scope = rest.scope;
+      }
     where
       scope_after : (c : Context) (base : Base) (v : VariableTree) → IsFileScope c → DeclaredAs c.structs (variable_declared c base v) → IsFileScope
           (after_variable true c base v)

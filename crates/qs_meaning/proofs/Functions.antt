@@ -110,7 +110,7 @@ each_site : (declared placed : List ℕ) (sites : List Site)
 each_site declared placed [] h = refl
 each_site declared placed (x ∷ xs) h =
     both _ _ (each_node _ (addressed x.context x.expression)
-        (λ n e. h n (one_left n (addressed x.context x.expression) (flat_map (λ (x : Site). addressed x.context x.expression) xs) e)))
+    (λ n e. h n (one_left n (addressed x.context x.expression) (flat_map (λ (x : Site). addressed x.context x.expression) xs) e)))
     (each_site declared placed xs (λ n e. h n (one_right n (addressed x.context x.expression) (flat_map (λ (x : Site). addressed x.context x.expression) xs) e)))
 
 pub all_taken : (sites : List Site) (xs : List Local)
@@ -218,20 +218,14 @@ module _ (s₀ : Scope) (declared_nodes : List ℕ) where
       → (faults_of p.node.id (parameter_tests c has_body p) ++ lengths_faults c p.lengths.given) ≡ [] → is_scalar_type (parameter_declared c p).type ≡ true
   parameter_scalar has_body c h p f =
       let lengths = lengths_typed c (has_types (within s₀ c) declared_nodes h) p.lengths.given (none_right (faults_of p.node.id (parameter_tests c has_body p)) _ f) in
-<<<<<<< HEAD
-      let own = tests_in (all_typed c p.lengths.given) (test rules.DeclaredTwice (is_name_declared c p.name) ++ ((parameter_declared c p).tests ++ signature_tests p has_body (parameter_declared c p).type)) lengths
-      (unbroken p.node.id (parameter_tests c has_body p) (none_left (faults_of p.node.id (parameter_tests c has_body p)) _ f)) in
-      let later = second_unbroken (test rules.DeclaredTwice (is_name_declared c p.name)) ((parameter_declared c p).tests ++ signature_tests p has_body (parameter_declared c p).type) own in
-=======
       let own = tests_in (all_typed c p.lengths.given) (test rules.DeclaredTwice (is_name_declared c p.name) ++
-          ((parameter_declared c p).tests ++ signature_tests p has_body (parameter_declared c p).type)) lengths
-        (unbroken p.node.id (parameter_tests c has_body p) (none_left (faults_of p.node.id (parameter_tests c has_body p)) _ f)) in
+      ((parameter_declared c p).tests ++ signature_tests p has_body (parameter_declared c p).type)) lengths
+      (unbroken p.node.id (parameter_tests c has_body p) (none_left (faults_of p.node.id (parameter_tests c has_body p)) _ f)) in
       let later = second_unbroken (test rules.DeclaredTwice (is_name_declared c p.name))
-          ((parameter_declared c p).tests ++ signature_tests p has_body (parameter_declared c p).type) own in
->>>>>>> a98275d
+      ((parameter_declared c p).tests ++ signature_tests p has_body (parameter_declared c p).type) own in
       let t = parameter_type_known c p lengths (first_unbroken (parameter_declared c p).tests (signature_tests p has_body (parameter_declared c p).type) later) in
       let signature = subst (λ o. breaks_one (signature_tests p has_body o) ≡ false) t.is
-          (second_unbroken (parameter_declared c p).tests (signature_tests p has_body (parameter_declared c p).type) later) in
+      (second_unbroken (parameter_declared c p).tests (signature_tests p has_body (parameter_declared c p).type) later) in
       subst (λ o. is_scalar_type o ≡ true) (sym t.is) (first_scalar t.value _ signature)
 
   pub parameters_scalar : (has_body : Bool) (ps : List ParameterTree) (c : Context) → Sound (within s₀ c) declared_nodes → are_declared ps ≡ true
@@ -242,7 +236,7 @@ module _ (s₀ : Scope) (declared_nodes : List ℕ) where
       let own = parameter_scalar has_body c h p (none_left (faults_of p.node.id (parameter_tests c has_body p) ++ lengths_faults c p.lengths.given) _ f) in
       both _ _ own
       (parameters_scalar has_body ps (after_parameter c p) (with_parameter_sound c h p (parameter_declared c p).type own (left _ _ d) p.name)
-          (right (is_one_of p.node.id declared_nodes) _ d)
+      (right (is_one_of p.node.id declared_nodes) _ d)
       (none_right (faults_of p.node.id (parameter_tests c has_body p) ++ lengths_faults c p.lengths.given) _ f))
 
   -- the body knows the parameters
@@ -253,7 +247,7 @@ module _ (s₀ : Scope) (declared_nodes : List ℕ) where
   with_parameters_sound (p ∷ ps) [] c h d e = h
   with_parameters_sound (p ∷ ps) (t ∷ ts) c h d e =
       with_parameters_sound ps ts (with_parameter c p t p.name) (with_parameter_sound c h p t (left _ _ e) (left _ _ d) p.name)
-          (right (is_one_of p.node.id declared_nodes) _ d) (right (is_scalar_type t) _ e)
+      (right (is_one_of p.node.id declared_nodes) _ d) (right (is_scalar_type t) _ e)
 
 same_result_one : (c : Context) (p : ParameterTree) (t : Option TypeTree) (x : Option (List ℕ)) → (with_parameter c p t x).result ≡ c.result
 same_result_one c p t None = refl
@@ -288,7 +282,7 @@ parameters_known locals [] c e = record { value = _; is = refl }
 parameters_known locals (p ∷ ps) c e =
     onward (parameter_typed locals p (parameter_declared c p).type) _ (parameter_known locals p (parameter_declared c p).type (left _ _ e))
     (onward (parameters_typed locals ps (parameter_types (after_parameter c p) ps)) _
-        (parameters_known locals ps (after_parameter c p) (right (is_scalar_type (parameter_declared c p).type) _ e))
+    (parameters_known locals ps (after_parameter c p) (right (is_scalar_type (parameter_declared c p).type) _ e))
     (record { value = _; is = refl }))
 
 one_sized : (structs : Structs) (o : Option TypeTree) → is_scalar_type o ≡ true → is_some (and_then o (size_of structs)) ≡ true
@@ -300,7 +294,7 @@ pub parameters_sized : (structs : Structs) (ps : List ParameterTree) (c : Contex
 parameters_sized structs [] c e = refl
 parameters_sized structs (p ∷ ps) c e =
     both _ _ (one_sized structs (parameter_declared c p).type (left _ _ e))
-        (parameters_sized structs ps (after_parameter c p) (right (is_scalar_type (parameter_declared c p).type) _ e))
+    (parameters_sized structs ps (after_parameter c p) (right (is_scalar_type (parameter_declared c p).type) _ e))
 
 -- the parameters are among the locals
 pub parameters_declared : (declared places : List ℕ) (ps : List ParameterTree) (c : Context) → locals_fine declared places (parameters_locals ps (parameter_types c ps)) ≡ true
@@ -308,4 +302,4 @@ pub parameters_declared : (declared places : List ℕ) (ps : List ParameterTree)
 parameters_declared declared places [] c e = refl
 parameters_declared declared places (p ∷ ps) c e =
     both _ _ (left _ _ (left _ _ e)) (parameters_declared declared places ps (after_parameter c p)
-        (right (is_fine_local declared places (record { node = p.node.id; type = (parameter_declared c p).type })) _ e))
+    (right (is_fine_local declared places (record { node = p.node.id; type = (parameter_declared c p).type })) _ e))

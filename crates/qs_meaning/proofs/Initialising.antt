@@ -83,7 +83,7 @@ module _ (s : Scope) (declared : List ℕ) (sound : Sound s declared) where
   not_array_known t complete l large e x h no_array = onward (typed s e) _ (record { value = record { type = x.type; form = x.by.form }; is = x.by.is })
       (onward (plain_form structs (record { type = t; form = lvalue l }) (record { type = x.type; form = x.by.form })) _
       (assigned_known s e t x.type (lvalue l) x.by.form (record { value = l; is = refl }) (λ f. address_known (lvalue l) l refl (large f)) complete x.by.place
-          (fits t h no_array))
+      (fits t h no_array))
       (record { value = _; is = refl }))
     where
       fits : (t : TypeTree) → fits_variable false s.context t e x.type ≡ true → is_array t ≡ false →
@@ -142,7 +142,7 @@ module _ (s : Scope) (declared : List ℕ) (sound : Sound s declared) where
   all_elements_typed no_initialisers u i h = refl
   all_elements_typed (initialiser_and (trees.value e) is) u i h =
       both _ _ (ap is_some (type_of_known s.context (has_types s declared sound) e whole (none_left _ _ h)).is)
-          (all_elements_typed is u (i + 1) (none_right (expr_faults s.context whole e) _ h))
+      (all_elements_typed is u (i + 1) (none_right (expr_faults s.context whole e) _ h))
     where
       both : (x y : Bool) → x ≡ true → y ≡ true → (x && y) ≡ true
       both true y e f = f
@@ -171,9 +171,9 @@ module _ (s : Scope) (declared : List ℕ) (sound : Sound s declared) where
     initialiser_pieced (trees.list node is) base u offset complete fits h taken =
         let inner = none_right (faults_of node.id (list_tests false s.context u is)) (elements_faults false s.context (Some u) 0 is) h in
         let tests = unbroken node.id (list_tests false s.context u is)
-            (none_left (faults_of node.id (list_tests false s.context u is)) (elements_faults false s.context (Some u) 0 is) h) in
+        (none_left (faults_of node.id (list_tests false s.context u is)) (elements_faults false s.context (Some u) 0 is) h) in
         elements_pieced is base u offset 0 complete (elements_kept (elements_typed s.context is) (takes_list u) (elements_fit false s.context u 0 is)
-            (all_elements_typed is u 0 inner) fits tests) inner taken
+        (all_elements_typed is u 0 inner) fits tests) inner taken
 
     elements_pieced : (is : Initialisers) (base : Expr) (u : TypeTree) (offset i : ℕ) → is_complete structs u ≡ true → elements_fit false s.context u i is ≡ true
         → elements_faults false s.context (Some u) i is ≡ [] → sites_taken declared s.locals.placed (elements_sites false s.context (Some u) i is) ≡ true
@@ -183,35 +183,22 @@ module _ (s : Scope) (declared : List ℕ) (sound : Sound s declared) where
         let fits_first = left _ _ fits in
         let p = part_known structs sound.laid_out sound.members u i complete (part_there (part_type structs u i) first fits_first) in
         let now = initialiser_pieced first base p.type (offset + p.offset.value) p.complete
-<<<<<<< HEAD
         (subst (λ o. element_fits false s.context o first ≡ true) p.is fits_first)
         (subst (λ o. initialiser_faults false s.context o first ≡ []) p.is (none_left _ _ h))
-        (subst (λ o. sites_taken declared s.locals.placed (initialiser_sites false s.context o first) ≡ true) p.is (sites_left declared s.locals.placed (initialiser_sites false s.context (part_type structs u i) first) (elements_sites false s.context (Some u) (i + 1) is) taken)) in
+        (subst (λ o. sites_taken declared s.locals.placed (initialiser_sites false s.context o first) ≡ true) p.is
+        (sites_left declared s.locals.placed (initialiser_sites false s.context (part_type structs u i) first)
+        (elements_sites false s.context (Some u) (i + 1) is) taken)) in
         let later = elements_pieced is base u offset (i + 1) complete (right (element_fits false s.context (part_type structs u i) first) _ fits)
-        (none_right (initialiser_faults false s.context (part_type structs u i) first) _ h) (sites_right declared s.locals.placed (initialiser_sites false s.context (part_type structs u i) first) (elements_sites false s.context (Some u) (i + 1) is) taken) in
-        record {
-          list = now.list ++ later.list;
-          is = goes (part_type structs u i) p.type _ _ p.is (goes (part_offset structs u i) p.offset.value _ _ p.offset.is (goes (pieces structs p.type (offset + p.offset.value) first) now.list _ _ now.is
-              (goes (pieces_from structs u offset (i + 1) is) later.list _ _ later.is refl)));
-          set = joined base now.list later.list now.set later.set;
-        }
-=======
-          (subst (λ o. element_fits false s.context o first ≡ true) p.is fits_first)
-          (subst (λ o. initialiser_faults false s.context o first ≡ []) p.is (none_left _ _ h))
-          (subst (λ o. sites_taken declared s.locals.placed (initialiser_sites false s.context o first) ≡ true) p.is
-              (sites_left declared s.locals.placed (initialiser_sites false s.context (part_type structs u i) first)
-              (elements_sites false s.context (Some u) (i + 1) is) taken)) in
-        let later = elements_pieced is base u offset (i + 1) complete (right (element_fits false s.context (part_type structs u i) first) _ fits)
-          (none_right (initialiser_faults false s.context (part_type structs u i) first) _ h)
-              (sites_right declared s.locals.placed (initialiser_sites false s.context (part_type structs u i) first)
-              (elements_sites false s.context (Some u) (i + 1) is) taken) in
+        (none_right (initialiser_faults false s.context (part_type structs u i) first) _ h)
+        (sites_right declared s.locals.placed (initialiser_sites false s.context (part_type structs u i) first)
+        (elements_sites false s.context (Some u) (i + 1) is) taken) in
         record {
           list = now.list ++ later.list;
           is = goes (part_type structs u i) p.type _ _ p.is
               (goes (part_offset structs u i) p.offset.value _ _ p.offset.is (goes (pieces structs p.type (offset + p.offset.value) first) now.list _ _ now.is
-            (goes (pieces_from structs u offset (i + 1) is) later.list _ _ later.is refl)));
-          set = joined base now.list later.list now.set later.set }
->>>>>>> a98275d
+              (goes (pieces_from structs u offset (i + 1) is) later.list _ _ later.is refl)));
+          set = joined base now.list later.list now.set later.set;
+        }
 
   -- ---- variables
 
@@ -223,7 +210,7 @@ module _ (s : Scope) (declared : List ℕ) (sound : Sound s declared) where
       let ps = initialiser_pieced i base.value t 0 complete fits h taken in
       onward (address_of (lvalue l)) _ base (onward (blank_of structs t) _ (blank_known structs sound.laid_out sound.members t complete)
       (onward (pieces structs t 0 i) _ (record { value = ps.list; is = ps.is })
-          (onward (pieces_set s base.value ps.list) _ (all_set base.value ps.list ps.set) (record { value = _; is = refl }))))
+      (onward (pieces_set s base.value ps.list) _ (all_set base.value ps.list ps.set) (record { value = _; is = refl }))))
 
   takes_list_large : (t : TypeTree) → takes_list t ≡ true → is_scalar t ≡ false
   takes_list_large (array t n) e = refl
@@ -241,16 +228,10 @@ module _ (s : Scope) (declared : List ℕ) (sound : Sound s declared) where
   local_set_known t l (trees.list node is) complete large fits h taken = object_known t l (trees.list node is) complete (large (takes_list_large t fits)) fits h taken
   local_set_known t l (trees.value e) complete large fits h taken = go t complete large fits h taken
     where
-<<<<<<< HEAD
-      go : (t : TypeTree) → is_complete structs t ≡ true → (is_scalar t ≡ false → Known (address_in l)) → fits_typed (type_of s.context e) (fits_variable false s.context t e) ≡ true
-          → expr_faults s.context whole e ≡ [] → sites_taken declared s.locals.placed (initialiser_sites false s.context (Some t) (trees.value e)) ≡ true
-          → Known (local_set s (record { type = t; form = lvalue l }) (trees.value e))
-=======
       go : (t : TypeTree) → is_complete structs t ≡ true → (is_scalar t ≡ false → Known (address_in l)) → fits_typed (type_of s.context e)
           (fits_variable false s.context t e) ≡ true
-        → expr_faults s.context whole e ≡ [] → sites_taken declared s.locals.placed (initialiser_sites false s.context (Some t) (trees.value e)) ≡ true
-        → Known (local_set s (record { type = t; form = lvalue l }) (trees.value e))
->>>>>>> a98275d
+          → expr_faults s.context whole e ≡ [] → sites_taken declared s.locals.placed (initialiser_sites false s.context (Some t) (trees.value e)) ≡ true
+          → Known (local_set s (record { type = t; form = lvalue l }) (trees.value e))
       go (array t n) complete large fits h taken = object_known (array t n) l (trees.value e) complete (large refl) fits h taken
       go int complete large fits h taken = let x = expressed s declared sound e whole h (left _ _ taken) in not_array_known int complete l large e x
           (fitting int e x fits) refl

@@ -51,7 +51,7 @@ layouts_grow structs more g (suc d) (suc e) le k l h =
     let v = went (extents_by (layouts_within d structs) (member_types w.value)) (λ es. Some (struct_layout es)) l w.gave in
     ap (λ o. and_then o (members_layout (layouts_within e more))) (g.keeps k w.value w.had)
     ∙ ap (λ o. and_then o (λ es. Some (struct_layout es))) (extents_grow (layouts_within d structs) (layouts_within e more) (layouts_grow structs more g d e (omega arith))
-        (member_types w.value) v.value v.had)
+    (member_types w.value) v.value v.had)
     ∙ v.gave
 
 layout_grows : (structs more : Structs) → GoesOn structs more → Grown (layout_of structs) (layout_of more)
@@ -204,16 +204,12 @@ all_extents layouts more g (t ∷ ts) e = go (λ f. all_extents layouts more g t
     rest x (Some es) e = refl
 
     go : (is_some (all_sized_by layouts ts) ≡ true → is_some (extents_by more ts) ≡ true)
-<<<<<<< HEAD
-        → (o : Option Extent) → sized_by layouts t ≡ o → is_some (and_then o (λ e. and_then (all_sized_by layouts ts) (λ es. Some (e ∷ es)))) ≡ true → is_some (extents_by more (t ∷ ts)) ≡ true
-=======
-      → (o : Option Extent) → sized_by layouts t ≡ o → is_some (and_then o (λ e. and_then (all_sized_by layouts ts) (λ es. Some (e ∷ es)))) ≡ true → is_some
-          (extents_by more (t ∷ ts)) ≡ true
->>>>>>> a98275d
+        → (o : Option Extent) → sized_by layouts t ≡ o → is_some (and_then o (λ e. and_then (all_sized_by layouts ts) (λ es. Some (e ∷ es)))) ≡ true → is_some
+        (extents_by more (t ∷ ts)) ≡ true
     go later None s e = never e
     go later (Some x) s e =
         joins (extent_by more t) (extents_by more ts) (some_grows (extent_by layouts t) (extent_by more t) (extent_grows layouts more g t)
-            (sized_extent layouts t (ap is_some s)))
+        (sized_extent layouts t (ap is_some s)))
         (later (rest x (all_sized_by layouts ts) e))
 
 sized_members : (structs : Structs) (ms : List MemberTree) → is_some (all_sized_by (layout_of structs) (member_types ms)) ≡ true → list_all
@@ -230,14 +226,9 @@ sized_members structs (m ∷ ms) e = go (λ f. sized_members structs ms f) (size
     rest x (Some es) e = refl
 
     go : (is_some (all_sized_by (layout_of structs) (member_types ms)) ≡ true → list_all (λ m. is_complete structs m.type) ms ≡ true)
-<<<<<<< HEAD
-        → (o : Option Extent) → sized_by (layout_of structs) m.type ≡ o → is_some (and_then o (λ e. and_then (all_sized_by (layout_of structs) (member_types ms)) (λ es. Some (e ∷ es)))) ≡ true
+        → (o : Option Extent) → sized_by (layout_of structs) m.type ≡ o → is_some
+        (and_then o (λ e. and_then (all_sized_by (layout_of structs) (member_types ms)) (λ es. Some (e ∷ es)))) ≡ true
         → (is_complete structs m.type && list_all (λ m. is_complete structs m.type) ms) ≡ true
-=======
-      → (o : Option Extent) → sized_by (layout_of structs) m.type ≡ o → is_some
-          (and_then o (λ e. and_then (all_sized_by (layout_of structs) (member_types ms)) (λ es. Some (e ∷ es)))) ≡ true
-      → (is_complete structs m.type && list_all (λ m. is_complete structs m.type) ms) ≡ true
->>>>>>> a98275d
     go later None s e = never e
     go later (Some x) s e = both _ _ (sized_extent (layout_of structs) m.type (ap is_some s)) (later (rest x (all_sized_by (layout_of structs) (member_types ms)) e))
 
@@ -266,20 +257,16 @@ set_table c k new h n sized = record {
     within : (j : ℕ) (ms : List MemberTree) → struct_of more j ≡ Some ms → new ≡ ms → is_some (layouts_within (suc (defined_structs c.structs)) more j) ≡ true
     within j ms e f =
         let extents = all_extents (layout_of c.structs) (layouts_within (defined_structs c.structs) more)
-            (layouts_grow c.structs more g (defined_structs c.structs) (defined_structs c.structs) (omega arith)) (member_types new) sized in
+        (layouts_grow c.structs more g (defined_structs c.structs) (defined_structs c.structs) (omega arith)) (member_types new) sized in
         ap (λ o. is_some (and_then o (members_layout (layouts_within (defined_structs c.structs) more)))) (e ∙ ap Some (sym f)) ∙ laid
-            (extents_by (layouts_within (defined_structs c.structs) more) (member_types new)) extents
+        (extents_by (layouts_within (defined_structs c.structs) more) (member_types new)) extents
       where
         laid : (o : Option (List Extent)) → is_some o ≡ true → is_some (and_then o (λ es. Some (struct_layout es))) ≡ true
         laid None e = never e
         laid (Some es) e = refl
-<<<<<<< HEAD
 
-    laid_out_here : (j : ℕ) (ms : List MemberTree) → struct_of more j ≡ Some ms → (struct_of c.structs j ≡ Some ms) ⊎ IsNew c.structs k new ms → is_some (layout_of more j) ≡ true
-=======
     laid_out_here : (j : ℕ) (ms : List MemberTree) → struct_of more j ≡ Some ms → (struct_of c.structs j ≡ Some ms) ⊎ IsNew c.structs k new ms → is_some
         (layout_of more j) ≡ true
->>>>>>> a98275d
     laid_out_here j ms e (inl f) = some_grows (layout_of c.structs j) (layout_of more j) (λ l. layout_grows c.structs more g j l) (h.scope.laid_out j ms f)
     laid_out_here j ms e (inr f) = subst (λ d. is_some (layouts_within d more j) ≡ true) (sym f.count) (within j ms e f.is)
 
@@ -294,12 +281,8 @@ place_of_new n tag [] k e f = go (same_bytes tag tag) f
 place_of_new n tag (t ∷ tags) k e f = go (λ e f. place_of_new (n + 1) tag tags k e f) (same_bytes t tag) e f
   where
     go : (place_from (n + 1) tag tags ≡ None → place_from (n + 1) tag (tags ++ tag ∷ []) ≡ Some k → k ≡ n + 1 + length tags)
-<<<<<<< HEAD
-        → (b : Bool) → (if b then Some n else place_from (n + 1) tag tags) ≡ None → (if b then Some n else place_from (n + 1) tag (tags ++ tag ∷ [])) ≡ Some k → k ≡ n + length (t ∷ tags)
-=======
-      → (b : Bool) → (if b then Some n else place_from (n + 1) tag tags) ≡ None → (if b then Some n else place_from (n + 1) tag (tags ++ tag ∷ [])) ≡ Some k → k ≡ n + length
-          (t ∷ tags)
->>>>>>> a98275d
+        → (b : Bool) → (if b then Some n else place_from (n + 1) tag tags) ≡ None → (if b then Some n else place_from (n + 1) tag (tags ++ tag ∷ [])) ≡ Some k → k ≡ n + length
+        (t ∷ tags)
     go later true e f = nothing n (sym e)
     go later false e f = let r = later e f in omega arith
 
@@ -312,16 +295,10 @@ no_members_at c tag h d k = go (tag_place c tag) refl d
     none_there (Some ms) e = never (sym e)
 
     go : (o : Option ℕ) → tag_place c tag ≡ o → is_some (and_then o (struct_of c.structs)) ≡ false
-<<<<<<< HEAD
         → tag_place (if is_some o then c else record c { structs = c.structs ++ None ∷ []; tags = c.tags ++ tag ∷ [] }) tag ≡ Some k
         → struct_of (if is_some o then c else record c { structs = c.structs ++ None ∷ []; tags = c.tags ++ tag ∷ [] }).structs k ≡ None
-    go None e d f = subst (λ j. struct_of (c.structs ++ None ∷ []) j ≡ None) (sym (place_of_new 0 tag c.tags k e f ∙ ap (λ n. 0 + n) h.tags ∙ zero_plus (length c.structs))) (appended_none c.structs)
-=======
-      → tag_place (if is_some o then c else record c { structs = c.structs ++ None ∷ []; tags = c.tags ++ tag ∷ [] }) tag ≡ Some k
-      → struct_of (if is_some o then c else record c { structs = c.structs ++ None ∷ []; tags = c.tags ++ tag ∷ [] }).structs k ≡ None
     go None e d f = subst (λ j. struct_of (c.structs ++ None ∷ []) j ≡ None) (sym (place_of_new 0 tag c.tags k e f ∙ ap (λ n. 0 + n) h.tags ∙ zero_plus (length c.structs)))
         (appended_none c.structs)
->>>>>>> a98275d
       where
         zero_plus : (n : ℕ) → 0 + n ≡ n
         zero_plus n = omega arith

@@ -70,14 +70,14 @@ no_body = refl
 -- int a; int main(void){if(a==0){a=1;return main()+7;}} the end of main returns 0, also where it is called
 called_main :
     outcome (global bases.Int 0 97 one None ∷ main_ (when (op binaries.Equal a (number 0))
-        (c.block (eval (c.set a (number 1)) ∷ c.return (plus (c.e (trees.call main_name trees.no_exprs)) (number 7)) ∷ [])) ∷ []) ∷ [])
+    (c.block (eval (c.set a (number 1)) ∷ c.return (plus (c.e (trees.call main_name trees.no_exprs)) (number 7)) ∷ [])) ∷ []) ∷ [])
     ≡ Some (Ended (Calls 0 ∷ Calls 0 ∷ Returns 0 ∷ Returns 0 ∷ []) 7)
 called_main = refl
 
 -- int main(int a,int b){return a*10+b;} with 4 and 2
 main_with_arguments :
     (program_of (defined bases.Int 0 main_name (parameter bases.Int 0 97 ∷ parameter bases.Int 0 98 ∷ []) (c.return (plus (op binaries.Multiply a (number 10)) b) ∷ []) ∷
-        []) >>= λ u. Some (source_run u (integer 4 ∷ integer 2 ∷ []) [] 1))
+    []) >>= λ u. Some (source_run u (integer 4 ∷ integer 2 ∷ []) [] 1))
     ≡ Some (Ended (Calls 0 ∷ Returns 0 ∷ []) 42)
 main_with_arguments = refl
 
@@ -105,30 +105,19 @@ r_base = bases.Struct (114 ∷ [])
 -- struct t {int n;char m;}; struct t a; struct t b; int main(void){b.n=3;b.m=4;a=b;return a.n*10+a.m;}
 padding_at_the_end :
     outcome (struct_named 116 (member_of bases.Int 110 one ∷ member_of bases.Char 109 one ∷ []) ∷ global t_base 0 97 one None ∷ global t_base 0 98 one None
-<<<<<<< HEAD
-    ∷ main_ (eval (c.set (dot b 110) (number 3)) ∷ eval (c.set (dot b 109) (number 4)) ∷ eval (c.set a b) ∷ c.return (plus (op binaries.Multiply (dot a 110) (number 10)) (dot a 109)) ∷ []) ∷ [])
-=======
-      ∷ main_ (eval (c.set (dot b 110) (number 3)) ∷ eval (c.set (dot b 109) (number 4)) ∷ eval (c.set a b) ∷ c.return
-          (plus (op binaries.Multiply (dot a 110) (number 10)) (dot a 109)) ∷ []) ∷ [])
->>>>>>> a98275d
+    ∷ main_ (eval (c.set (dot b 110) (number 3)) ∷ eval (c.set (dot b 109) (number 4)) ∷ eval (c.set a b) ∷ c.return
+    (plus (op binaries.Multiply (dot a 110) (number 10)) (dot a 109)) ∷ []) ∷ [])
     ≡ ends 34
 padding_at_the_end = refl
 
 -- struct t {int n;char m;}; struct r {char m;struct t n;}; struct r a={1,{2,3}}; int main(void){struct r b={4,{5}};b.n.m=6;a.n=b.n;return ..;}
 structs_in_structs :
-<<<<<<< HEAD
-    outcome (struct_named 116 (member_of bases.Int 110 one ∷ member_of bases.Char 109 one ∷ []) ∷ struct_named 114 (member_of bases.Char 109 one ∷ member_of t_base 110 one ∷ [])
-    ∷ global r_base 0 97 one (Some (listed (valued (number 1) ∷ listed (numbers (2 ∷ 3 ∷ [])) ∷ [])))
-    ∷ main_ (c.local r_base 0 98 one (Some (listed (valued (number 4) ∷ listed (numbers (5 ∷ [])) ∷ []))) ∷ eval (c.set (dot (dot b 110) 109) (number 6)) ∷ eval (c.set (dot a 110) (dot b 110))
-    ∷ c.return (plus (plus (op binaries.Multiply (dot (dot a 110) 110) (number 10)) (dot (dot a 110) 109)) (op binaries.Multiply (dot a 109) (number 100))) ∷ []) ∷ [])
-=======
     outcome (struct_named 116 (member_of bases.Int 110 one ∷ member_of bases.Char 109 one ∷ []) ∷ struct_named 114
-        (member_of bases.Char 109 one ∷ member_of t_base 110 one ∷ [])
-      ∷ global r_base 0 97 one (Some (listed (valued (number 1) ∷ listed (numbers (2 ∷ 3 ∷ [])) ∷ [])))
-      ∷ main_ (c.local r_base 0 98 one (Some (listed (valued (number 4) ∷ listed (numbers (5 ∷ [])) ∷ []))) ∷ eval (c.set (dot (dot b 110) 109) (number 6)) ∷ eval
-          (c.set (dot a 110) (dot b 110))
-      ∷ c.return (plus (plus (op binaries.Multiply (dot (dot a 110) 110) (number 10)) (dot (dot a 110) 109)) (op binaries.Multiply (dot a 109) (number 100))) ∷ []) ∷ [])
->>>>>>> a98275d
+    (member_of bases.Char 109 one ∷ member_of t_base 110 one ∷ [])
+    ∷ global r_base 0 97 one (Some (listed (valued (number 1) ∷ listed (numbers (2 ∷ 3 ∷ [])) ∷ [])))
+    ∷ main_ (c.local r_base 0 98 one (Some (listed (valued (number 4) ∷ listed (numbers (5 ∷ [])) ∷ []))) ∷ eval (c.set (dot (dot b 110) 109) (number 6)) ∷ eval
+    (c.set (dot a 110) (dot b 110))
+    ∷ c.return (plus (plus (op binaries.Multiply (dot (dot a 110) 110) (number 10)) (dot (dot a 110) 109)) (op binaries.Multiply (dot a 109) (number 100))) ∷ []) ∷ [])
     ≡ ends 156
 structs_in_structs = refl
 
@@ -151,7 +140,7 @@ sample =
     ∷ c.while (less a (number 1)) (trees.break (unnumbered 0))
     ∷ trees.do_loop (unnumbered 0) (trees.continue (unnumbered 0)) b
     ∷ trees.for_loop (unnumbered 0) (start_declaration (record
-        { base = bases.Int; variables = record { declarator = c.declarator 0 105 one; initialiser = Some (valued (number 0)) } ∷ [] })) None (Some (c.after a)) (c.return b)
+    { base = bases.Int; variables = record { declarator = c.declarator 0 105 one; initialiser = Some (valued (number 0)) } ∷ [] })) None (Some (c.after a)) (c.return b)
     ∷ c.return (number 7) ∷ [])
     ∷ []
 

@@ -49,15 +49,10 @@ function_table s c f h faultless = record { scope = after_function_scope c f h.s
     parts = none_right (faults_of f.node.id (header_tests c f)) _ faultless
 
     result : Known (result_type c f)
-<<<<<<< HEAD
-    result = result_known c f (first_unbroken (result_tests c f) (main_tests f (header_of c f)) (second_unbroken (keeps rules.DeclaredTwice (may_declare c f)) (result_tests c f ++ main_tests f (header_of c f))
-        (unbroken f.node.id (header_tests c f) (none_left (faults_of f.node.id (header_tests c f)) _ faultless))))
-
-=======
     result = result_known c f (first_unbroken (result_tests c f) (main_tests f (header_of c f))
         (second_unbroken (keeps rules.DeclaredTwice (may_declare c f)) (result_tests c f ++ main_tests f (header_of c f))
-      (unbroken f.node.id (header_tests c f) (none_left (faults_of f.node.id (header_tests c f)) _ faultless))))
->>>>>>> a98275d
+        (unbroken f.node.id (header_tests c f) (none_left (faults_of f.node.id (header_tests c f)) _ faultless))))
+
     inner : IsFileScope (inner_scope c)
     inner = record { names = h.scope.names; members = h.scope.members; laid_out = h.scope.laid_out }
 
@@ -77,8 +72,11 @@ module _ (s₀ : Scope) where
   declaration_known (forward g) c h f = record { tree = record { value = _; is = refl }; table = with_tag_table c g.name h }
   declaration_known (function g) c h f =
       let t = functions_typed (within s₀ c) h.scope g f in
-      record { tree = onward (function_typed (within s₀ c) g g.body) _ (record { value = t.0; is = t.1 })
-          (record { value = _; is = refl }); table = function_table s₀ c g h f }
+      record {
+        tree = onward (function_typed (within s₀ c) g g.body) _ (record { value = t.0; is = t.1 })
+            (record { value = _; is = refl });
+        table = function_table s₀ c g h f;
+      }
   declaration_known (variables d) c h f =
       let k = file_variables_known s₀ d.variables c d.base h.scope f in
       record {
@@ -92,7 +90,7 @@ module _ (s₀ : Scope) where
       let now = declaration_known d c h (none_left (declaration_faults c d) (declarations_faults (after_declaration c d) ds) f) in
       onward (declaration_typed (within s₀ c) d) _ now.tree
       (onward (declarations_typed (within s₀ (after_declaration c d)) ds) _
-          (declarations_known ds (after_declaration c d) now.table (none_right (declaration_faults c d) (declarations_faults (after_declaration c d) ds) f))
+      (declarations_known ds (after_declaration c d) now.table (none_right (declaration_faults c d) (declarations_faults (after_declaration c d) ds) f))
       (record { value = _; is = refl }))
 
 start_table : IsTable start_context

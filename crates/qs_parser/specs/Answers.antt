@@ -18,7 +18,7 @@ pub record ReadsAs (tokens : List Terminal) (ds : List DeclTree) : Type 0 where
   pub low : height ≤ height_limit
   pub are_numbered : ds ≡ numbered_unit unnumbered
 
--- no reading of the tokens is within the limit of height
+-- each reading that the tokens have is higher than the limit; there may be none at all
 abbrev pub HasNoReading : List Terminal → Type 0
 HasNoReading tokens = (height : ℕ) (ds : List DeclTree) → ReadsUnit height tokens ds → height ≤ height_limit → ⊥
 

@@ -13,3 +13,4 @@ pub mod WithoutTokens
 pub mod Units
 pub mod UnitTrees
 pub mod Sameness
+pub mod Begins

@@ -10,7 +10,7 @@ use qs_base::NoMemory;
 pub struct Node {
     /// The number of the node.
     pub id: u32,
-    /// The number of its first token.
+    /// The number of the token at which it stands: its first one, or its name.
     pub token: u32,
 }
 

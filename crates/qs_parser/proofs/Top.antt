@@ -6,12 +6,12 @@ use Rattle.qs_syntax.specs.Trees.{DeclTree}
 use Rattle.qs_syntax.specs.Numbering.{numbered_unit}
 use Rattle.qs_syntax.specs.Nodes.{unit_count}
 use Rattle.qs_syntax.specs.Units.{IsRead, is_well_formed}
-use Rattle.qs_parser.specs.Parse.{Stop}
-use Rattle.qs_parser.specs.ParseStatements.{unit}
+use Rattle.qs_grammar.specs.Parse.{Stop}
+use Rattle.qs_grammar.specs.ParseStatements.{unit}
 use Rattle.qs_parser.specs.Answers.{ReadsAs, HasNoReading}
-use Rattle.qs_parser.proofs.Counted.{counted_unit}
-use Rattle.qs_parser.proofs.UnitsSound.{reads_whole}
-use Rattle.qs_parser.proofs.UnitsComplete.{finds_whole}
+use Rattle.qs_grammar.proofs.Counted.{counted_unit}
+use Rattle.qs_grammar.proofs.UnitsSound.{reads_whole}
+use Rattle.qs_grammar.proofs.UnitsComplete.{finds_whole}
 
 abbrev Gave : List Terminal → List DeclTree → ℕ → Type 0
 Gave ts ds h = unit 126 ts ≡ Ok ((ds, h), [])

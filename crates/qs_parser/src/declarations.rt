@@ -4,7 +4,7 @@ ghost use Rattle.std.specs.Prelude.{◌≡◌, ◌+◌, ◌≤◌, length, [], I
 ghost use Rattle.qs_syntax.specs.Trees as trees;
 ghost use Rattle.qs_syntax.specs.Trees.{initialisers_of};
 ghost use Rattle.qs_syntax.specs.TreeOf.{expr_tree, lengths_tree, declarator_tree, initialiser_tree, variable_tree, declaration_tree, members_tree, parameter_tree};
-ghost use Rattle.qs_parser.specs.ParseDeclarations.{given_lengths, is_empty_brackets, lengths_of, lengths, named, declarator, initialisers, begins_initialiser, initialiser, initialised, variable, variables, declared, declaration, declaration_within, declarators, members, groups, bracketed, with_name, is_void_alone, without_first, parameter, parameters, is_void_head, head};
+ghost use Rattle.qs_grammar.specs.ParseDeclarations.{given_lengths, is_empty_brackets, lengths_of, lengths, named, declarator, initialisers, begins_initialiser, initialiser, initialised, variable, variables, declared, declaration, declaration_within, declarators, members, groups, bracketed, with_name, is_void_alone, without_first, parameter, parameters, is_void_head, head};
 ghost use Rattle.qs_parser.specs.View.{Gives, read_as, listed};
 
 use crate::expressions::{Form, part};

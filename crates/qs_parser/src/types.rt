@@ -1,7 +1,7 @@
 // Types (C11 6.7.2, 6.7.3, 6.7.6, 6.7.7).
 ghost use Rattle.std.specs.Prelude.{◌≡◌, Ok};
-ghost use Rattle.qs_parser.specs.Parse.{skip_consts, after_unsigned, after_signed, tagged, base, type, stars_from, stars, type_name};
-ghost use Rattle.qs_parser.specs.ParseDeclarations.{skip_prefixes, outer_type};
+ghost use Rattle.qs_grammar.specs.Parse.{skip_consts, after_unsigned, after_signed, tagged, base, type, stars_from, stars, type_name};
+ghost use Rattle.qs_grammar.specs.ParseDeclarations.{skip_prefixes, outer_type};
 ghost use Rattle.qs_parser.specs.View.{Gives, base_of, stars_of, type_name_of};
 
 use crate::fault::Halt;

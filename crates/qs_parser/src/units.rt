@@ -1,7 +1,7 @@
 // What stands at file scope (C11 6.9). What is read is at most `room + 2` high.
 ghost use Rattle.std.specs.Prelude.{◌≡◌, ◌+◌, ◌<◌, ◌≤◌, length, [], IfOk, option_map};
 ghost use Rattle.qs_syntax.specs.TreeOf.{decl_tree, stmts_tree};
-ghost use Rattle.qs_parser.specs.ParseStatements.{is_named, struct_of, forward_of, body_of, function_of, typed, external, is_empty, externals, unit};
+ghost use Rattle.qs_grammar.specs.ParseStatements.{is_named, struct_of, forward_of, body_of, function_of, typed, external, is_empty, externals, unit};
 ghost use Rattle.qs_parser.specs.View.{Gives, read_as, listed, parameters_of, function_with, unit_of};
 
 use crate::declarations::{declared, groups, head};

@@ -1,7 +1,7 @@
 use Rattle.std.proofs.Common.{map, arith}
 use Rattle.qs_syntax.specs.TreeOf.{decl_tree}
-use Rattle.qs_parser.specs.Parse.{Unexpected, Deep}
-use Rattle.qs_parser.proofs.UnitsSound.{stops_within}
+use Rattle.qs_grammar.specs.Parse.{Unexpected, Deep}
+use Rattle.qs_grammar.proofs.UnitsSound.{stops_within}
 use Rattle.qs_parser.proofs.Top.{is_read, are_few, reads_as, no_reading}
 use Rattle.qs_parser.proofs.parse.unit_of.Goals as goal
 

@@ -119,6 +119,17 @@ tells_syntactic file status (lexical fault pos h e) (g, q, f) = absurd cc
 tells_syntactic file status (syntactic fault place h e) s = record { content = h.content; holds = h.holds; has = syntax_no_unit h.content fault place h.has }
 tells_syntactic file status (good h none) (g, q, f) = absurd (none.not_syntactic g q f)
 
+tells_place : (file : Option (List ℕ)) (status : Status) → SourceEnds file status → (fault : SyntaxFault) (place : TokenPlace) → status ≡ Source (Syntax fault place) → HoldsWith file source_limit (λ text. HasSyntaxFault text fault place)
+tells_place file status (absent a e) g q f = absurd cc
+tells_place file status (long l e) g q f = absurd cc
+tells_place file status (lexical fault pos h e) g q f = absurd cc
+tells_place file status (syntactic fault place h e) g q f =
+    let both : ◌≡◌ {A = Status} (Source (Syntax fault place)) (Source (Syntax g q)) = sym e ∙ f in
+    let same_fault : fault ≡ g = cc in
+    let same_place : place ≡ q = cc in
+    subst (λ (x : SyntaxFault). HoldsWith file source_limit (λ text. HasSyntaxFault text x q)) same_fault (subst (λ (x : TokenPlace). HoldsWith file source_limit (λ text. HasSyntaxFault text fault x)) same_place h)
+tells_place file status (good h none) g q f = absurd (none.not_syntactic g q f)
+
 -- ---- what the file leads to
 
 leads_missing : (file : Option (List ℕ)) (status : Status) → SourceEnds file status → file ≡ None → status ≡ Missing kinds.Source
@@ -157,4 +168,5 @@ refuses_source file status s = record {
   too_long = (tells_long file status s, leads_long file status s);
   lexical = λ fault pos. (tells_lexical file status s fault pos, leads_lexical file status s fault pos);
   syntactic = (tells_syntactic file status s, leads_syntactic file status s);
+  told = tells_place file status s;
 }

@@ -55,7 +55,7 @@ mutual
   counted_arguments (an_argument {xs = xs} {ys = ys} at r s) = let n = counted r in let m = counted_arguments s in omega (arith, joined xs (terminals.Punctuator at punctuators.Comma ∷ ys))
 
 -- a base is at least one token
-base_some : {ts : List Terminal} {b : Base} → ReadsBase ts b → 1 ≤ length ts
+pub base_some : {ts : List Terminal} {b : Base} → ReadsBase ts b → 1 ≤ length ts
 base_some (a_void at) = omega arith
 base_some (an_int at) = omega arith
 base_some (a_char at) = omega arith
@@ -66,7 +66,7 @@ base_some (a_signed at) = omega arith
 base_some (a_signed_int at bt) = omega arith
 base_some (a_struct at bt x) = omega arith
 
-type_some : {ts : List Terminal} {b : Base} → ReadsType ts b → 1 ≤ length ts
+pub type_some : {ts : List Terminal} {b : Base} → ReadsType ts b → 1 ≤ length ts
 type_some (a_type {xs = xs} {ys = ys} {zs = zs} r s t) = let n = base_some s in omega (arith, joined xs (ys ++ zs), joined ys zs)
 
 counted_given : {h : ℕ} {ts : List Terminal} {es : List ExprTree} → ReadsGiven h ts es → all_count expr_count es ≤ length ts

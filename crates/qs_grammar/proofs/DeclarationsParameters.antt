@@ -41,13 +41,13 @@ type_place (a_type {zs = zs} no_const b c) us = first_place b zs us
 type_place (a_type (a_const at r) b c) us = refl
 
 -- the single token `void`
-abbrev IsVoid : List Terminal → Type 0
+abbrev pub IsVoid : List Terminal → Type 0
 IsVoid l = (at : ℕ) × (l ≡ Keyword at keywords.Void ∷ [])
 
-abbrev IsVoidOrNot : List Terminal → Type 0
+abbrev pub IsVoidOrNot : List Terminal → Type 0
 IsVoidOrNot l = IsVoid l ⊎ ((at : ℕ) → l ≡ Keyword at keywords.Void ∷ [] → ⊥)
 
-void_or_not : (l : List Terminal) → IsVoidOrNot l
+pub void_or_not : (l : List Terminal) → IsVoidOrNot l
 void_or_not [] = inr (λ at e. absurd cc)
 void_or_not (t ∷ u ∷ l) = inr (λ at e. absurd cc)
 void_or_not (t ∷ []) = by_case (is_keyword keywords.Void t) refl
@@ -57,7 +57,7 @@ void_or_not (t ∷ []) = by_case (is_keyword keywords.Void t) refl
     by_case false e = inr (λ at d. let same : t ≡ Keyword at keywords.Void = cc in true≢false (sym (ap (is_keyword keywords.Void) same) ∙ e))
 
 -- a parameter, or `void` with something that ends no parameter behind it
-abbrev IsParameter : ℕ → ParameterTree × ℕ → List Terminal → Type 0
+abbrev pub IsParameter : ℕ → ParameterTree × ℕ → List Terminal → Type 0
 IsParameter m x l = (ReadsParameter x.1 l x.0 × (x.1 ≤ suc m)) ⊎ IsVoid l
 
 module _ (m : ℕ) (start : ℕ) (b : Base) (n : ℕ) (front ys : List Terminal) (t : ReadsType front b) (s : ReadsStars ys n) (same : start ≡ place front) where
@@ -85,7 +85,7 @@ fewer : (ts : List Terminal) → length (without_first ts) ≤ length ts
 fewer [] = at_end
 fewer (t ∷ ts) = omega arith
 
-sound_parameter : (m : ℕ) (ts : List Terminal) → Sound (IsParameter m) [] ts (parameter m ts)
+pub sound_parameter : (m : ℕ) (ts : List Terminal) → Sound (IsParameter m) [] ts (parameter m ts)
 unfolding parameter
 sound_parameter m ts =
     Sound-if (is_void_alone ts) (λ _. Sound-err (fewer ts))
@@ -101,7 +101,7 @@ abbrev AreParameters : ℕ → List ParameterTree → ℕ → List ParameterTree
 AreParameters m done h x l = Closed punctuators.CloseParenthesis ReadsParameters (suc m) done h x l
 
 -- where a parameter was read, `void` does not stand alone
-void_is_refused : (m : ℕ) (ts : List Terminal) (x : ParameterTree × ℕ) (us : List Terminal) → parameter m ts ≡ Ok (x, us) → is_void_alone ts ≡ false
+pub void_is_refused : (m : ℕ) (ts : List Terminal) (x : ParameterTree × ℕ) (us : List Terminal) → parameter m ts ≡ Ok (x, us) → is_void_alone ts ≡ false
 unfolding parameter
 void_is_refused m ts x us e = by_case (is_void_alone ts) e
   where
@@ -110,7 +110,7 @@ void_is_refused m ts x us e = by_case (is_void_alone ts) e
     by_case false e = refl
 
 -- what ends no parameter
-nothing_ends : (at : ℕ) (us : List Terminal) → is_void_alone (Keyword at keywords.Void ∷ us) ≡ false → (starts punctuators.Comma us ≡ false) × (starts punctuators.CloseParenthesis us ≡ false)
+pub nothing_ends : (at : ℕ) (us : List Terminal) → is_void_alone (Keyword at keywords.Void ∷ us) ≡ false → (starts punctuators.Comma us ≡ false) × (starts punctuators.CloseParenthesis us ≡ false)
 nothing_ends at us e = by_case (starts punctuators.Comma us) (starts punctuators.CloseParenthesis us) e
   where
     by_case : (b c : Bool) → cond b true c ≡ false → (b ≡ false) × (c ≡ false)
@@ -136,7 +136,7 @@ sound_parameters m (suc n) done h ts = Sound-part-is _ (sound_parameter m ts) (�
 abbrev pub IsHead : ℕ → List ParameterTree × ℕ → List Terminal → Type 0
 IsHead m x l = Ends punctuators.CloseParenthesis ReadsHead (suc m) x l
 
-void_first : (ts : List Terminal) → is_void_head ts ≡ true → (at : ℕ) × (ts ≡ Keyword at keywords.Void ∷ without_first ts)
+pub void_first : (ts : List Terminal) → is_void_head ts ≡ true → (at : ℕ) × (ts ≡ Keyword at keywords.Void ∷ without_first ts)
 void_first [] e = absurd (true≢false (sym e))
 void_first (t ∷ ts) e = (number_of t, ap (λ u. u ∷ ts) (keyword_is keywords.Void t (both (is_keyword keywords.Void t) (starts punctuators.CloseParenthesis ts) e)))
   where

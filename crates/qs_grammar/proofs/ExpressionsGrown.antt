@@ -1,6 +1,6 @@
 -- With more room an expression is answered in the same way, but for what was too deep.
-use Rattle.std.proofs.Common.{◌≡◌, ℕ, zero, suc, ◌<◌, ◌≤◌, Bool, true, false, cond, List, [], ◌∷◌, ◌++◌, length, Result, Ok, Err, Option, Some, None, refl, sym, ap, subst, ◌∙◌, arith, true≢false}
-use Rattle.std.specs.Prelude.{max, nat_le, ◌==◌, ◌&&◌, ◌||◌, is_some, ◌+◌}
+use Rattle.std.proofs.Common.{◌≡◌, ℕ, zero, suc, ◌<◌, ◌≤◌, Bool, true, false, cond, List, [], ◌∷◌, ◌++◌, length, Option, Some, None, refl, sym, arith, true≢false}
+use Rattle.std.specs.Prelude.{max, nat_le, ◌==◌, ◌&&◌, is_some}
 use Rattle.std.proofs.lemmas.Bool.{le-leb, leb-true, leb-false, or_parts, and_right, ne_eqb}
 use Rattle.qs_syntax.specs.declared.terminal.Terminal.{Terminal}
 use Rattle.qs_syntax.specs.declared.terminal.Terminal.TheVariants.{Name, Keyword, Constant, Text, Punctuator}

@@ -1,29 +1,27 @@
 -- What the parser of types and expressions answers depends on no token behind the one at which it stops.
-use Rattle.std.proofs.Common.{◌≡◌, ℕ, zero, suc, ◌+◌, ◌<◌, ◌≤◌, Bool, true, false, cond, List, [], ◌∷◌, ◌++◌, length, Result, Ok, Err, Option, Some, None, refl, sym, ap, subst, ◌∙◌, arith, inl, inr, length-append}
-use Rattle.std.specs.Prelude.{◌⊎◌, max, nat_le, ◌==◌, ◌&&◌}
+use Rattle.std.proofs.Common.{◌≡◌, ℕ, zero, suc, ◌+◌, ◌<◌, ◌≤◌, Bool, true, false, cond, List, [], ◌∷◌, ◌++◌, length, Result, Ok, Option, Some, None, refl, sym, ap, subst, ◌∙◌, arith, inl, inr}
+use Rattle.std.specs.Prelude.{max, nat_le, ◌==◌, ◌&&◌}
 use Rattle.std.proofs.lemmas.Bool.{leb-false, ne_eqb}
 use Rattle.qs_syntax.specs.declared.terminal.Terminal.{Terminal}
 use Rattle.qs_syntax.specs.declared.terminal.Terminal.TheVariants.{Name, Keyword, Constant, Text, Punctuator}
 use Rattle.qs_base.specs.declared.keyword.Keyword.TheVariants as keywords
 use Rattle.qs_syntax.specs.declared.punctuator.Punctuator as punctuator
 use Rattle.qs_syntax.specs.declared.punctuator.Punctuator.TheVariants as punctuators
-use Rattle.qs_syntax.specs.declared.types.Base.{Base}
 use Rattle.qs_syntax.specs.declared.types.Base.TheVariants as bases
-use Rattle.qs_syntax.specs.declared.types.TypeName.{TypeName}
 use Rattle.qs_syntax.specs.declared.operators.UnaryOperator.{UnaryOperator}
 use Rattle.qs_syntax.specs.declared.operators.BinaryOperator.{BinaryOperator}
 use Rattle.qs_syntax.specs.declared.operators.AssignmentOperator.{AssignmentOperator}
 use Rattle.qs_syntax.specs.declared.operators.Access.{Access}
 use Rattle.qs_syntax.specs.declared.operators.StepOperator.{StepOperator}
 use Rattle.qs_syntax.specs.declared.operators.StepOperator.TheVariants as steps
-use Rattle.qs_syntax.specs.Trees.{unnumbered, ExprTree, expr, constant, text, name, unary, step, cast, sizeof_type, sizeof_expr, binary, assign, conditional, comma, subscript, member, call, exprs_of}
+use Rattle.qs_syntax.specs.Trees.{unnumbered, ExprTree, expr, text, unary, step, sizeof_type, sizeof_expr, comma}
 use Rattle.qs_syntax.specs.Operators.{unary_of, binary_of, assign_of, access_of, number_of}
 use Rattle.qs_syntax.specs.Reads.{Form, Postfix, Unary, Level, Conditional, Assignment, Expression, place}
 use Rattle.qs_grammar.specs.Heads.{is_punctuator, is_keyword, starts, operator_at, begins_type}
 use Rattle.qs_grammar.specs.Parse as parse
 use Rattle.qs_grammar.specs.Parse.{Stop, Unexpected, Deep, Parse, bind, E, unexpected, deep, skip_consts, after_unsigned, after_signed, tagged, base, type, stars_from, stars, type_name, begins_one, begins_cast, beyond, starts_suffix, texts_from, expect}
 use Rattle.qs_grammar.proofs.HeadsLaws.{punctuator_is}
-use Rattle.qs_grammar.proofs.Local.{left, extend, Local, bind-left, Local-bind, Local-look, Local-weak, Local-cons, Local-cond, Local-ok, Local-here, Local-unexpected, Local-deep, Local-unexpected-all, Local-deep-all, Local-above, Local-first, Local-if, Local-starts, Local-operator, Local-place, Local-punctuator, Local-name, Second, Looks, cond-left, Local-two, bind_same, bind_nothing, cond_same, expect_takes, leaves_less, Turns, Local-turns, Local-same, Local-after, after_same}
+use Rattle.qs_grammar.proofs.Local.{left, Local, bind-left, Local-bind, Local-look, Local-weak, Local-cons, Local-cond, Local-ok, Local-here, Local-unexpected, Local-deep, Local-unexpected-all, Local-deep-all, Local-above, Local-if, Local-starts, Local-operator, Local-place, Local-punctuator, Local-name, Looks, cond-left, Local-two, bind_same, bind_nothing, cond_same, expect_takes, leaves_less, Turns, Local-turns, Local-same, Local-after, after_same}
 
 -- ---- types
 
@@ -170,7 +168,7 @@ Local-texts done = record { shrinks = λ ts. omega (arith, texts_shrink done ts)
 
 -- ---- at the limit
 
-begins_one_same : (t : Terminal) (ts us : List Terminal) → begins_one (t ∷ ts) ≡ begins_one (t ∷ us)
+pub begins_one_same : (t : Terminal) (ts us : List Terminal) → begins_one (t ∷ ts) ≡ begins_one (t ∷ us)
 begins_one_same (Name at x) ts us = refl
 begins_one_same (Keyword at k) ts us = refl
 begins_one_same (Constant at n unsigned) ts us = refl

@@ -1,5 +1,5 @@
 -- The tokens before a fault in a type or an expression begin one.
-use Rattle.std.proofs.Common.{◌≡◌, ℕ, zero, suc, ◌+◌, ◌≤◌, Bool, true, false, cond, List, [], ◌∷◌, ◌++◌, length, Result, Ok, Err, Option, Some, None, refl, sym, ap, subst, ◌∙◌, append_assoc, append-nil, arith, true≢false}
+use Rattle.std.proofs.Common.{◌≡◌, ℕ, zero, suc, ◌+◌, ◌≤◌, Bool, true, false, cond, List, [], ◌∷◌, ◌++◌, length, Err, Option, Some, None, refl, sym, ap, subst, ◌∙◌, append_assoc, append-nil, true≢false}
 use Rattle.std.specs.Prelude.{max, nat_le, ◌==◌, ◌&&◌, ◌||◌, is_some}
 use Rattle.std.proofs.lemmas.Bool.{leb-true}
 use Rattle.qs_syntax.specs.declared.terminal.Terminal.{Terminal}
@@ -21,11 +21,11 @@ use Rattle.qs_syntax.specs.Reads.{Form, Postfix, Unary, Level, Conditional, Assi
 use Rattle.qs_grammar.specs.Heads.{is_punctuator, is_keyword, starts, operator_at, begins_type}
 use Rattle.qs_grammar.specs.Parse as parse
 use Rattle.qs_grammar.specs.Parse.{Stop, Unexpected, Deep, Parse, bind, E, unexpected, deep, skip_consts, after_unsigned, after_signed, tagged, base, type, type_name, begins_one, begins_cast, beyond, starts_suffix, expect}
-use Rattle.qs_grammar.proofs.HeadsLaws.{punctuator_is, keyword_is, unary_is, binary_is, assign_is, access_is, operator_is, starts_is}
+use Rattle.qs_grammar.proofs.HeadsLaws.{punctuator_is, keyword_is, unary_is, binary_is, assign_is, access_is, operator_is}
 use Rattle.qs_grammar.proofs.Sound.{Sound}
-use Rattle.qs_grammar.proofs.TypesSound.{Taken, taken_consts, sound_base, sound_type, sound_type_name}
-use Rattle.qs_grammar.proofs.ExpressionsSound.{IsRead, Begun, starting, sound_arguments, sound_primary, sound_suffix, sound_unary, sound_cast_or_unary, sound_climb, sound_assignment, of_level_is, sound_part}
-use Rattle.qs_grammar.proofs.Viable.{OfFronts, of_nothing, of_token, behind_token, behind, Viable, Viable-ok, Viable-unexpected, Viable-deep, Viable-after, Viable-token, Viable-if, Viable-map, Viable-joined, Viable-bind, Viable-bind-is, Viable-then, Viable-done, here, Viable-mark, Viable-keyword, Viable-punctuator, Viable-name, Viable-above, Viable-some}
+use Rattle.qs_grammar.proofs.TypesSound.{Taken, taken_consts, sound_type_name}
+use Rattle.qs_grammar.proofs.ExpressionsSound.{IsRead, Begun, starting, sound_primary, sound_suffix, sound_unary, sound_cast_or_unary, sound_climb, sound_assignment, of_level_is, sound_part}
+use Rattle.qs_grammar.proofs.Viable.{OfFronts, of_nothing, of_token, behind_token, behind, Viable, Viable-ok, Viable-unexpected, Viable-deep, Viable-after, Viable-token, Viable-if, Viable-joined, Viable-bind, Viable-bind-is, Viable-then, Viable-done, here, Viable-mark, Viable-keyword, Viable-punctuator, Viable-name, Viable-above, Viable-some}
 
 -- ---- types
 

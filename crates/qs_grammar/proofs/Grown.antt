@@ -1,11 +1,9 @@
 -- With more room for levels an answer is the same, but for what was too deep. How such laws are put together.
-use Rattle.std.proofs.Common.{◌≡◌, ℕ, zero, suc, ◌≤◌, Bool, true, false, cond, List, [], ◌∷◌, length, Result, Ok, Err, refl, sym, subst, arith, true≢false}
+use Rattle.std.proofs.Common.{◌≡◌, ℕ, ◌≤◌, Bool, true, false, cond, List, Result, Ok, Err, refl, sym, subst, arith, true≢false}
 use Rattle.std.specs.Prelude.{nat_le, ◌==◌}
 use Rattle.std.proofs.lemmas.Bool.{le-leb, leb-true, eqb-true, eq-eqb}
 use Rattle.qs_syntax.specs.declared.terminal.Terminal.{Terminal}
-use Rattle.qs_syntax.specs.declared.punctuator.Punctuator as punctuator
-use Rattle.qs_grammar.specs.Heads.{starts}
-use Rattle.qs_grammar.specs.Parse.{Stop, Unexpected, Deep, Parse, bind, expect, expect_name}
+use Rattle.qs_grammar.specs.Parse.{Stop, Unexpected, Deep, Parse, bind}
 
 abbrev Same : {A : Type 0} → Result (A × List Terminal) Stop → Result (A × List Terminal) Stop → Type 0
 Same (Ok x) s = s ≡ Ok x

@@ -27,3 +27,11 @@ pub mod Grown
 pub mod ExpressionsGrown
 pub mod Viable
 pub mod ExpressionsViable
+pub mod DeclarationsLocal
+pub mod StatementsLocal
+pub mod DeclarationsGrown
+pub mod StatementsGrown
+pub mod DeclarationsViable
+pub mod StatementsViable
+pub mod UnitsViable
+pub mod Exact

@@ -1,12 +1,16 @@
 -- What a parser answers depends on no token behind the one at which it stops. How such laws are put together.
 use Rattle.std.proofs.Common.{◌≡◌, ℕ, zero, suc, ◌+◌, ◌<◌, ◌≤◌, Bool, true, false, cond, List, [], ◌∷◌, ◌++◌, length, Result, Ok, Err, refl, sym, ap, subst, ◌∙◌, arith, inl, inr, length-append}
-use Rattle.std.specs.Prelude.{◌⊎◌, Option, Some, None}
+use Rattle.std.specs.Prelude.{◌⊎◌, Option, ◌&&◌}
 use Rattle.qs_syntax.specs.declared.terminal.Terminal.{Terminal}
 use Rattle.qs_syntax.specs.declared.terminal.Terminal.TheVariants.{Name, Keyword, Constant, Text, Punctuator}
 use Rattle.qs_syntax.specs.declared.punctuator.Punctuator as punctuator
 use Rattle.qs_syntax.specs.Reads.{place}
-use Rattle.qs_grammar.specs.Heads.{is_punctuator, starts, operator_at}
+use Rattle.qs_base.specs.declared.keyword.Keyword as key
+use Rattle.qs_syntax.specs.Operators.{number_of}
+use Rattle.qs_grammar.specs.Heads.{is_punctuator, is_keyword, starts, operator_at}
 use Rattle.qs_grammar.specs.Parse.{Stop, Unexpected, Deep, Parse, bind, unexpected, deep, above, deeper, expect, expect_name}
+use Rattle.qs_grammar.proofs.HeadsLaws.{punctuator_is, keyword_is}
+use Rattle.qs_grammar.proofs.Sound.{Outcome, Sound}
 
 -- how many tokens are left where it ends
 abbrev pub left : {A : Type 0} → Result (A × List Terminal) Stop → ℕ
@@ -207,6 +211,21 @@ module _ {A : Type 0} (b : List Terminal → Bool) (p q : Parse A) (g : Local 0 
   pub Local-two : Local 0 (λ ts. cond (b ts) (p ts) (q ts))
   Local-two = record { shrinks = either_shrinks; stable = stable_all; passes = passes_all }
 
+-- a test that looks further: it stays as it is with more tokens, or all that it decides between is stopped at the end
+pub Local-far : {A : Type 0} (b : List Terminal → Bool) (p q : Parse A) → Local 0 p → Local 0 q
+    → ((ts us : List Terminal) → (b (ts ++ us) ≡ b ts) ⊎ ((left (cond (b ts) (p ts) (q ts)) ≡ 0) × (left (cond (b (ts ++ us)) (p (ts ++ us)) (q (ts ++ us))) ≤ length us))) → Local 0 (λ ts. cond (b ts) (p ts) (q ts))
+Local-far b p q g h far = record { shrinks = λ ts. cond-left (b ts) (p ts) (q ts) (0 + length ts) (g.shrinks ts) (h.shrinks ts); stable = λ ts us some. stable_by ts us some (far ts us); passes = λ ts us none. passes_by ts us none (far ts us) }
+  where
+    stable_by : (ts us : List Terminal) → 0 < left (cond (b ts) (p ts) (q ts)) → (b (ts ++ us) ≡ b ts) ⊎ ((left (cond (b ts) (p ts) (q ts)) ≡ 0) × (left (cond (b (ts ++ us)) (p (ts ++ us)) (q (ts ++ us))) ≤ length us))
+        → cond (b (ts ++ us)) (p (ts ++ us)) (q (ts ++ us)) ≡ extend us (cond (b ts) (p ts) (q ts))
+    stable_by ts us some (inl e) = ap (λ c. cond c (p (ts ++ us)) (q (ts ++ us))) e ∙ (Local-cond (b ts) p q g h).stable ts us some
+    stable_by ts us some (inr e) = absurd (omega (arith, e.0))
+
+    passes_by : (ts us : List Terminal) → left (cond (b ts) (p ts) (q ts)) ≡ 0 → (b (ts ++ us) ≡ b ts) ⊎ ((left (cond (b ts) (p ts) (q ts)) ≡ 0) × (left (cond (b (ts ++ us)) (p (ts ++ us)) (q (ts ++ us))) ≤ length us))
+        → left (cond (b (ts ++ us)) (p (ts ++ us)) (q (ts ++ us))) ≤ length us
+    passes_by ts us none (inl e) = subst (λ c. left (cond c (p (ts ++ us)) (q (ts ++ us))) ≤ length us) (sym e) ((Local-cond (b ts) p q g h).passes ts us none)
+    passes_by ts us none (inr e) = e.1
+
 -- ---- turns
 
 pub bind_same : {A B : Type 0} (r : Result (A × List Terminal) Stop) (f g : A → Parse B) → ((x : A) (us : List Terminal) → r ≡ Ok (x, us) → f x us ≡ g x us) → bind r f ≡ bind r g
@@ -257,7 +276,7 @@ module _ {X A : Type 0} (loop : ℕ → X → Parse A) (body : (X → Parse A) �
   turns_enough (suc n) zero x (u ∷ us) h g = absurd (omega arith)
   turns_enough (suc n) (suc k) x (u ∷ us) h g = t.turn n x (u ∷ us) ∙ t.takes (loop n) (loop k) x (u ∷ us) (λ y vs lt. turns_enough n k y vs (omega arith) (omega arith)) ∙ sym (t.turn k x (u ∷ us))
 
-  Local-turn : (n : ℕ) (x : X) → Local 0 (loop n x)
+  pub Local-turn : (n : ℕ) (x : X) → Local 0 (loop n x)
   Local-turn zero x = t.last x
   Local-turn (suc n) x = Local-same (body (loop n) x) (loop (suc n) x) (λ ts. sym (t.turn n x ts)) (t.further (loop n) (λ y. Local-turn n y) x)
 
@@ -282,3 +301,38 @@ pub after_same : {B : Type 0} (closing separating : punctuator.Punctuator) (all 
     → cond (starts closing ts) (bind (expect closing ts) (λ _ us. Ok (all, us))) (bind (expect separating ts) (λ _ us. p us))
     ≡ cond (starts closing ts) (bind (expect closing ts) (λ _ us. Ok (all, us))) (bind (expect separating ts) (λ _ us. q us))
 after_same closing separating all p q ts same = cond_same (starts closing ts) refl (bind_same (expect separating ts) _ _ (λ x us e. same us (let took = expect_takes separating ts x us e in omega arith)))
+
+-- ---- tests of two tokens
+
+-- a punctuator, and a test of what stands behind it
+pub Looks-mark : {A : Type 0} (k : punctuator.Punctuator) (b rest : List Terminal → Bool) (p q : Parse A) → ((t : Terminal) (ts : List Terminal) → b (t ∷ ts) ≡ (is_punctuator k t && rest ts)) → ((u : Terminal) (ts us : List Terminal) → rest (u ∷ ts) ≡ rest (u ∷ us))
+    → ((at : ℕ) (us : List Terminal) → left (p (Punctuator at k ∷ us)) ≤ length us) → ((at : ℕ) (us : List Terminal) → left (q (Punctuator at k ∷ us)) ≤ length us) → (t : Terminal) → Looks b p q t
+Looks-mark k b rest p q is same f g t = by_case (is_punctuator k t) refl
+  where
+    by_case : (d : Bool) → is_punctuator k t ≡ d → Looks b p q t
+    by_case true e = inr (record {
+      same = λ u ts us. is t (u ∷ ts) ∙ ap (λ c. is_punctuator k t && c) (same u ts us) ∙ sym (is t (u ∷ us));
+      passed = λ us. subst (λ u. left (p (u ∷ us)) ≤ length us) (sym (punctuator_is k t e)) (f (number_of t) us);
+      passed_else = λ us. subst (λ u. left (q (u ∷ us)) ≤ length us) (sym (punctuator_is k t e)) (g (number_of t) us);
+    })
+    by_case false e = inl (λ ts us. is t ts ∙ ap (λ d. d && rest ts) e ∙ sym (ap (λ d. d && rest us) e) ∙ sym (is t us))
+
+-- the same with a keyword
+pub Looks-keyword : {A : Type 0} (k : key.Keyword) (b rest : List Terminal → Bool) (p q : Parse A) → ((t : Terminal) (ts : List Terminal) → b (t ∷ ts) ≡ (is_keyword k t && rest ts)) → ((u : Terminal) (ts us : List Terminal) → rest (u ∷ ts) ≡ rest (u ∷ us))
+    → ((at : ℕ) (us : List Terminal) → left (p (Keyword at k ∷ us)) ≤ length us) → ((at : ℕ) (us : List Terminal) → left (q (Keyword at k ∷ us)) ≤ length us) → (t : Terminal) → Looks b p q t
+Looks-keyword k b rest p q is same f g t = by_case (is_keyword k t) refl
+  where
+    by_case : (d : Bool) → is_keyword k t ≡ d → Looks b p q t
+    by_case true e = inr (record {
+      same = λ u ts us. is t (u ∷ ts) ∙ ap (λ c. is_keyword k t && c) (same u ts us) ∙ sym (is t (u ∷ us));
+      passed = λ us. subst (λ u. left (p (u ∷ us)) ≤ length us) (sym (keyword_is k t e)) (f (number_of t) us);
+      passed_else = λ us. subst (λ u. left (q (u ∷ us)) ≤ length us) (sym (keyword_is k t e)) (g (number_of t) us);
+    })
+    by_case false e = inl (λ ts us. is t ts ∙ ap (λ d. d && rest ts) e ∙ sym (ap (λ d. d && rest us) e) ∙ sym (is t us))
+
+-- what was read as at least a token leaves fewer
+pub sound_takes : {A : Type 0} {R : A → List Terminal → Type 0} (ts : List Terminal) (r : Result (A × List Terminal) Stop) → Sound R [] ts r → ((x : A) (l : List Terminal) → R x l → 0 < length l) → (x : A) (us : List Terminal) → r ≡ Ok (x, us) → length us < length ts
+sound_takes {A} {R} ts r s some x us e = go (subst (Outcome R [] ts) e s.is)
+  where
+    go : (front : List Terminal) × (ts ≡ front ++ us) × R x ([] ++ front) → length us < length ts
+    go (front, split, h) = let more : 0 < length front = some x front h in omega (arith, ap length split, length-append front us)

@@ -102,26 +102,26 @@ module _ {A : Type 0} {R : A → List Terminal → Type 0} where
       by_case false h = Sound-err at_end
 
 -- [ expression ] and the punctuator behind it
-abbrev IsOptional : ℕ → punctuator.Punctuator → Option ExprTree × ℕ → List Terminal → Type 0
+abbrev pub IsOptional : ℕ → punctuator.Punctuator → Option ExprTree × ℕ → List Terminal → Type 0
 IsOptional m k x l = (inside : List Terminal) × (c : ℕ) × (l ≡ inside ++ Punctuator c k ∷ []) × ReadsOptional x.1 inside x.0 × (x.1 ≤ m)
 
-sound_optional : (m : ℕ) (k : punctuator.Punctuator) (ts : List Terminal) → Sound (IsOptional m k) [] ts (optional m k ts)
+pub sound_optional : (m : ℕ) (k : punctuator.Punctuator) (ts : List Terminal) → Sound (IsOptional m k) [] ts (optional m k ts)
 sound_optional m k ts =
     Sound-if (starts k ts)
     (λ _. Sound-punctuator-next k ts _ (λ c us. Sound-ok ([], c, refl, nothing_there, omega arith)))
     (λ _. Sound-part _ (sound_part m Expression ts) (λ e front us r. Sound-punctuator-next k us _ (λ c vs. Sound-ok (front, c, refl, something_there r.0, r.1))))
 
 -- an expression in parentheses
-abbrev IsCondition : ℕ → E → List Terminal → Type 0
+abbrev pub IsCondition : ℕ → E → List Terminal → Type 0
 IsCondition m e l = (inside : List Terminal) × (o : ℕ) × (c : ℕ) × (l ≡ Punctuator o punctuators.OpenParenthesis ∷ (inside ++ Punctuator c punctuators.CloseParenthesis ∷ [])) × Reads Expression e.1 inside e.0 × (e.1 ≤ m)
 
-sound_condition : (m : ℕ) (ts : List Terminal) → Sound (IsCondition m) [] ts (condition m ts)
+pub sound_condition : (m : ℕ) (ts : List Terminal) → Sound (IsCondition m) [] ts (condition m ts)
 sound_condition m ts = Sound-punctuator-next punctuators.OpenParenthesis ts _ (λ o us. Sound-part _ (sound_part m Expression us) (λ e front vs r. Sound-punctuator-next punctuators.CloseParenthesis vs _ (λ c ws. Sound-ok (front, o, c, refl, r.0, r.1))))
 
-abbrev IsStart : ℕ → StartTree × ℕ → List Terminal → Type 0
+abbrev pub IsStart : ℕ → StartTree × ℕ → List Terminal → Type 0
 IsStart m x l = ReadsStart x.1 l x.0 × (x.1 ≤ m)
 
-sound_start : (m : ℕ) (ts : List Terminal) → Sound (IsStart m) [] ts (start_of m ts)
+pub sound_start : (m : ℕ) (ts : List Terminal) → Sound (IsStart m) [] ts (start_of m ts)
 sound_start m ts =
     Sound-if (begins_type ts)
     (λ _. Sound-last _ (sound_declaration_within m ts) (λ d l r. (a_start_declaration r.0, r.1)))
@@ -135,7 +135,7 @@ IsStatement n x l = ReadsStatement x.1 l x.0 × (x.1 ≤ n)
 abbrev pub AllItems : ℕ → List Terminal → List StmtTree → Type 0
 AllItems h l ss = ReadsItems h l (stmts_of ss)
 
-abbrev IsItem : ℕ → S → List Terminal → Type 0
+abbrev pub IsItem : ℕ → S → List Terminal → Type 0
 IsItem m x l = ReadsItem x.1 l x.0 × (x.1 ≤ m)
 
 abbrev pub AreItems : ℕ → List StmtTree → ℕ → List StmtTree × ℕ → List Terminal → Type 0
@@ -165,23 +165,23 @@ block_read m o x l r = go (all_closed punctuators.CloseBrace AllItems m x l r)
     go : Ends punctuators.CloseBrace AllItems m x l → IsStatement (suc m) (block (stmts_of x.0), x.1 + 1) (Punctuator o punctuators.OpenBrace ∷ l)
     go (inside, c, e, q, le) = (rw (e, add-one x.1) (a_block o c q), omega arith)
 
-if_read : (m at : ℕ) (e : E) (s : S) (c ys : List Terminal) → IsCondition m e c → IsStatement m s ys → IsStatement (suc m) (branch (unnumbered at) e.0 s.0 no_else, max e.1 s.1 + 1) (Keyword at keywords.If ∷ (c ++ ys))
+pub if_read : (m at : ℕ) (e : E) (s : S) (c ys : List Terminal) → IsCondition m e c → IsStatement m s ys → IsStatement (suc m) (branch (unnumbered at) e.0 s.0 no_else, max e.1 s.1 + 1) (Keyword at keywords.If ∷ (c ++ ys))
 if_read m at e s c ys (inside, o, p, is, r, le) (q, low) = (rw (is, append_assoc inside (Punctuator p punctuators.CloseParenthesis ∷ []) ys, add-one (max e.1 s.1)) (an_if at o p r q), omega arith)
 
-else_read : (m at n : ℕ) (e : E) (s t : S) (c ys zs : List Terminal) → IsCondition m e c → IsStatement m s ys → is_open s.0 ≡ false → IsStatement m t zs
+pub else_read : (m at n : ℕ) (e : E) (s t : S) (c ys zs : List Terminal) → IsCondition m e c → IsStatement m s ys → is_open s.0 ≡ false → IsStatement m t zs
     → IsStatement (suc m) (branch (unnumbered at) e.0 s.0 (else_by t.0), max e.1 (max s.1 t.1) + 1) (Keyword at keywords.If ∷ (c ++ (ys ++ Keyword n keywords.Else ∷ zs)))
 else_read m at n e s t c ys zs (inside, o, p, is, r, le) (q, low) closed (z, least) =
     (rw (is, append_assoc inside (Punctuator p punctuators.CloseParenthesis ∷ []) (ys ++ Keyword n keywords.Else ∷ zs), add-one (max e.1 (max s.1 t.1))) (an_if_with_else at o p n r q closed z), omega arith)
 
-while_read : (m at : ℕ) (e : E) (s : S) (c ys : List Terminal) → IsCondition m e c → IsStatement m s ys → IsStatement (suc m) (while_loop (unnumbered at) e.0 s.0, max e.1 s.1 + 1) (Keyword at keywords.While ∷ (c ++ ys))
+pub while_read : (m at : ℕ) (e : E) (s : S) (c ys : List Terminal) → IsCondition m e c → IsStatement m s ys → IsStatement (suc m) (while_loop (unnumbered at) e.0 s.0, max e.1 s.1 + 1) (Keyword at keywords.While ∷ (c ++ ys))
 while_read m at e s c ys (inside, o, p, is, r, le) (q, low) = (rw (is, append_assoc inside (Punctuator p punctuators.CloseParenthesis ∷ []) ys, add-one (max e.1 s.1)) (a_while at o p r q), omega arith)
 
-do_read : (m at w n : ℕ) (s : S) (e : E) (xs c : List Terminal) → IsStatement m s xs → IsCondition m e c
+pub do_read : (m at w n : ℕ) (s : S) (e : E) (xs c : List Terminal) → IsStatement m s xs → IsCondition m e c
     → IsStatement (suc m) (do_loop (unnumbered at) s.0 e.0, max s.1 e.1 + 1) (Keyword at keywords.Do ∷ (xs ++ Keyword w keywords.While ∷ (c ++ Punctuator n punctuators.Semicolon ∷ [])))
 do_read m at w n s e xs c (q, low) (inside, o, p, is, r, le) =
     (rw (is, append_assoc inside (Punctuator p punctuators.CloseParenthesis ∷ []) (Punctuator n punctuators.Semicolon ∷ []), add-one (max s.1 e.1)) (a_do at w o p n q r), omega arith)
 
-for_read : (m at o : ℕ) (a : StartTree × ℕ) (e u : Option ExprTree × ℕ) (s : S) (ws xs ys zs : List Terminal) → IsStart m a ws → IsOptional m punctuators.Semicolon e xs → IsOptional m punctuators.CloseParenthesis u ys → IsStatement m s zs
+pub for_read : (m at o : ℕ) (a : StartTree × ℕ) (e u : Option ExprTree × ℕ) (s : S) (ws xs ys zs : List Terminal) → IsStart m a ws → IsOptional m punctuators.Semicolon e xs → IsOptional m punctuators.CloseParenthesis u ys → IsStatement m s zs
     → IsStatement (suc m) (for_loop (unnumbered at) a.0 e.0 u.0 s.0, max a.1 (max e.1 (max u.1 s.1)) + 1) (Keyword at keywords.For ∷ Punctuator o punctuators.OpenParenthesis ∷ (ws ++ (xs ++ (ys ++ zs))))
 for_read m at o a e u s ws xs ys zs (start, l1) (first, n, d1, r1, l2) (second, c, d2, r2, l3) (q, l4) = (
   rw (d1, d2, append_assoc second (Punctuator c punctuators.CloseParenthesis ∷ []) zs, append_assoc first (Punctuator n punctuators.Semicolon ∷ []) (second ++ Punctuator c punctuators.CloseParenthesis ∷ zs), add-one (max a.1 (max e.1 (max u.1 s.1))))
@@ -189,7 +189,7 @@ for_read m at o a e u s ws xs ys zs (start, l1) (first, n, d1, r1, l2) (second, 
   omega arith,
 )
 
-return_read : (m at : ℕ) (e : Option ExprTree × ℕ) (xs : List Terminal) → IsOptional m punctuators.Semicolon e xs → IsStatement (suc m) (return (unnumbered at) e.0, e.1 + 1) (Keyword at keywords.Return ∷ xs)
+pub return_read : (m at : ℕ) (e : Option ExprTree × ℕ) (xs : List Terminal) → IsOptional m punctuators.Semicolon e xs → IsStatement (suc m) (return (unnumbered at) e.0, e.1 + 1) (Keyword at keywords.Return ∷ xs)
 return_read m at e xs (inside, s, d, r, le) = (rw (d, add-one e.1) (a_return at s r), omega arith)
 
 expression_read : (m : ℕ) (ts us : List Terminal) (e : E) (front : List Terminal) → ts ≡ front ++ us → IsRead m Expression e front → (s : ℕ) → IsStatement (suc m) (expression (unnumbered (place ts)) e.0, e.1 + 1) (front ++ Punctuator s punctuators.Semicolon ∷ [])
@@ -198,7 +198,7 @@ expression_read m ts us e front split (r, le) s = (rw (split, place_more r us, a
 -- ---- the functions
 
 module _ (m : ℕ) (inner : Parse S) (takes : (ts : List Terminal) → Takes (inner ts)) (sound : (ts : List Terminal) → Sound (IsStatement m) [] ts (inner ts)) where
-  sound_item : (ts : List Terminal) → Sound (IsItem m) [] ts (item m inner ts)
+  pub sound_item : (ts : List Terminal) → Sound (IsItem m) [] ts (item m inner ts)
   sound_item ts = Sound-if (begins_type ts) (λ _. Sound-last _ (sound_declaration_within m ts) (λ d l r. (a_declared r.0, r.1))) (λ _. Sound-mono (λ x l r. (a_statement r.0, r.1)) (sound ts))
 
   pub sound_items : (n : ℕ) (done : List StmtTree) (h : ℕ) (ts : List Terminal) → Sound (AreItems m done h) [] ts (items m inner n done h ts)
@@ -209,7 +209,7 @@ module _ (m : ℕ) (inner : Parse S) (takes : (ts : List Terminal) → Takes (in
       (λ _. Sound-punctuator-next punctuators.CloseBrace ts _ (λ c us. Sound-ok (no_items m done h c)))
       (λ _. Sound-part _ (sound_item ts) (λ s front us r. Sound-mono (further_item m done h s front r) (sound_items n (done ++ s.0 ∷ []) (max h s.1) us)))
 
-  taken_there : (ts us : List Terminal) (s : S) → inner ts ≡ Ok (s, us) → is_open s.0 ≡ true → NoElse us
+  pub taken_there : (ts us : List Terminal) (s : S) → inner ts ≡ Ok (s, us) → is_open s.0 ≡ true → NoElse us
   taken_there ts us s e = rw e at (takes ts)
 
   sound_after_then : (at : ℕ) (e : E) (s : S) (c ys : List Terminal) → IsCondition m e c → IsStatement m s ys → (ts : List Terminal) → (is_open s.0 ≡ true → NoElse ts)

@@ -197,7 +197,7 @@ finds_external (some_variables (an_outer_declaration {h = h} {xs = xs} {ys = ys}
 -- ---- units
 
 -- an external takes a token at least
-external_takes : {h : ℕ} {ts : List Terminal} {d : DeclTree} → ReadsExternal h ts d → 0 < length ts
+pub external_takes : {h : ℕ} {ts : List Terminal} {d : DeclTree} → ReadsExternal h ts d → 0 < length ts
 external_takes (a_struct_with_members at n o c s x r) = omega arith
 external_takes (a_forward at n s x) = omega arith
 external_takes (a_header {xs = xs} {ys = ys} {zs = zs} n o c s x t q r) =

@@ -34,7 +34,7 @@ prefix_if : (ts us vs : List Terminal) (b : Bool) → (b ≡ true → Taken Read
 prefix_if ts us vs true f g = f refl
 prefix_if ts us vs false f g = g refl
 
-taken_prefixes : (ts : List Terminal) → Taken ReadsPrefixes ts (skip_prefixes ts)
+pub taken_prefixes : (ts : List Terminal) → Taken ReadsPrefixes ts (skip_prefixes ts)
 taken_prefixes [] = record { front = []; split = refl; is = no_prefix }
 taken_prefixes (t ∷ ts) =
     let further = taken_prefixes ts in

@@ -1,13 +1,12 @@
 -- The tokens before a fault begin what is read, and with a token that is too deep they still do. How such laws are put together.
-use Rattle.std.proofs.Common.{◌≡◌, ℕ, suc, ◌≤◌, Bool, true, false, cond, List, [], ◌∷◌, ◌++◌, length, Result, Ok, Err, refl, sym, ap, subst, ◌∙◌, append_assoc, append-nil}
-use Rattle.std.specs.Prelude.{nat_le}
+use Rattle.std.proofs.Common.{◌≡◌, ℕ, suc, Bool, true, false, cond, List, [], ◌∷◌, ◌++◌, length, Result, Ok, Err, refl, sym, ap, subst, ◌∙◌, append_assoc, append-nil}
 use Rattle.qs_syntax.specs.declared.terminal.Terminal.{Terminal}
 use Rattle.qs_syntax.specs.declared.terminal.Terminal.TheVariants.{Name, Keyword, Constant, Text, Punctuator}
 use Rattle.qs_syntax.specs.declared.punctuator.Punctuator as punctuator
 use Rattle.qs_syntax.specs.Operators.{number_of}
 use Rattle.qs_base.specs.declared.keyword.Keyword as key
-use Rattle.qs_grammar.specs.Heads.{is_punctuator, is_keyword}
-use Rattle.qs_grammar.specs.Parse.{Stop, Unexpected, Deep, Parse, bind, unexpected, deep, expect, expect_name}
+use Rattle.qs_grammar.specs.Heads.{is_punctuator, is_keyword, starts}
+use Rattle.qs_grammar.specs.Parse.{Stop, Unexpected, Deep, Parse, bind, unexpected, expect, expect_name}
 use Rattle.qs_grammar.proofs.HeadsLaws.{punctuator_is, keyword_is}
 use Rattle.qs_grammar.proofs.Sound.{Outcome, Sound}
 
@@ -135,6 +134,11 @@ module _ {A : Type 0} {Q : List Terminal → Type 0} where
       by_case : (b : Bool) → (b ≡ true → t ≡ Punctuator (number_of t) m) → Viable Q (t ∷ ts) (bind (cond b (Ok (tt, ts)) (unexpected (t ∷ ts))) f)
       by_case true h = rw (h refl) (Viable-token (go (number_of t) ts))
       by_case false h = Viable-unexpected q
+
+  -- a punctuator that does not stand there
+  pub Viable-no-punctuator : (m : punctuator.Punctuator) (ts : List Terminal) (f : Unit {0} → Parse A) → starts m ts ≡ false → Q [] → Viable Q ts (bind (expect m ts) f)
+  Viable-no-punctuator m [] f e q = Viable-unexpected q
+  Viable-no-punctuator m (t ∷ ts) f e q = rw e (Viable-unexpected q)
 
   pub Viable-name : (ts : List Terminal) (f : ℕ × List ℕ → Parse A) → Q [] → ((at : ℕ) (x : List ℕ) (us : List Terminal) → Viable (λ l. Q (Name at x ∷ l)) us (f (at, x) us)) → Viable Q ts (bind (expect_name ts) f)
   Viable-name [] f q go = Viable-unexpected q

@@ -42,7 +42,7 @@ pub enum Form {
 }
 
 /// The texts that stand side by side, the first given, joined.
-#[tactic(auto, unfolding(crate::specs::Parse::texts_from))]
+#[tactic(auto, unfolding(qs_grammar::specs::Parse::texts_from))]
 fn texts_from<'a>(
     alloc: Global,
     first: &Text,
@@ -82,7 +82,7 @@ pub fn part(
 
 /// An expression of this form.
 #[cycle(parser)]
-#[tactic(auto, unfolding(crate::specs::Parse::expression))]
+#[tactic(auto, unfolding(qs_grammar::specs::Parse::expression))]
 fn expression(
     alloc: Global,
     room: u8,
@@ -194,7 +194,7 @@ fn in_parentheses(
 
 /// An operand without suffixes (C11 6.5.1), or a call.
 #[cycle(parser)]
-#[tactic(auto, unfolding(crate::specs::Parse::primary))]
+#[tactic(auto, unfolding(qs_grammar::specs::Parse::primary))]
 fn primary(alloc: Global, room: u8, tokens: &[Terminal]) -> Result<(Expr, u32, &[Terminal]), Halt>
     ensures gives { Gives (read_as expr_tree) result (primary room (part room) tokens.now) }
     ensures low { IfOk result (λ x. x.1 ≤ room + 1) }
@@ -423,7 +423,7 @@ fn size_of(
 
 /// A unary expression whose first token is a punctuator.
 #[cycle(parser)]
-#[tactic(auto, unfolding(crate::specs::Parse::unary_of_all))]
+#[tactic(auto, unfolding(qs_grammar::specs::Parse::unary_of_all))]
 fn marked<'a>(
     alloc: Global,
     room: u8,
@@ -459,7 +459,7 @@ fn marked<'a>(
 
 /// A unary expression (C11 6.5.3).
 #[cycle(parser)]
-#[tactic(auto, unfolding(crate::specs::Parse::unary_of_all))]
+#[tactic(auto, unfolding(qs_grammar::specs::Parse::unary_of_all))]
 fn unary(alloc: Global, room: u8, tokens: &[Terminal]) -> Result<(Expr, u32, &[Terminal]), Halt>
     ensures gives { Gives (read_as expr_tree) result (unary_of_all room (part room) tokens.now) }
     ensures low { IfOk result (λ x. x.1 ≤ room + 1) }
@@ -574,7 +574,7 @@ fn operations(
 
 /// The operators of the levels up to this, behind an operand.
 #[cycle(parser)]
-#[tactic(auto, unfolding(crate::specs::Parse::climb))]
+#[tactic(auto, unfolding(qs_grammar::specs::Parse::climb))]
 fn climb(
     alloc: Global,
     room: u8,

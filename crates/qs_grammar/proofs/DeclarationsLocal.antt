@@ -102,10 +102,12 @@ Local-closing m = Local-punctuator punctuators.CloseBracket _ (λ _. Local-lengt
 opens_all : (m at : ℕ) (us : List Terminal) → left (all_lengths m (Punctuator at punctuators.OpenBracket ∷ us)) ≤ length us
 unfolding given_lengths
 opens_all m at us =
-    omega (arith,
-    bind-left _ (λ (es : List ExprTree × ℕ). Local-ok {A = LengthsTree × ℕ} (record { is_open = false; given = es.0 }, es.1)) (given_lengths m (suc (length us)) [] 0 (Punctuator at punctuators.OpenBracket ∷ us)),
-    bind-left _ (λ (e : E). Local-punctuator {A = List ExprTree × ℕ} punctuators.CloseBracket _ (λ _. Local-turn _ _ (given_turns m) (length us) (e.0 ∷ [], max 0 e.1))) (part m Conditional us),
-    (Local-part m Conditional).shrinks us)
+    omega (
+      arith,
+      bind-left _ (λ (es : List ExprTree × ℕ). Local-ok {A = LengthsTree × ℕ} (record { is_open = false; given = es.0 }, es.1)) (given_lengths m (suc (length us)) [] 0 (Punctuator at punctuators.OpenBracket ∷ us)),
+      bind-left _ (λ (e : E). Local-punctuator {A = List ExprTree × ℕ} punctuators.CloseBracket _ (λ _. Local-turn _ _ (given_turns m) (length us) (e.0 ∷ [], max 0 e.1))) (part m Conditional us),
+      (Local-part m Conditional).shrinks us,
+    )
 
 pub Local-lengths : (m : ℕ) → Local 0 (lengths m)
 unfolding lengths
@@ -209,10 +211,12 @@ pub declared_left : (m : ℕ) (b : Base) (ts : List Terminal) → left (declared
 unfolding variables variable
 declared_left m b [] = omega arith
 declared_left m b (t ∷ ts) =
-    omega (arith,
-    bind-left _ (λ (vs : List VariableTree × ℕ). Local-ok {A = DeclarationTree × ℕ} (record { base = b; variables = vs.0 }, vs.1)) (variables m (suc (length ts)) [] 0 (t ∷ ts)),
-    bind-left _ (λ (v : VariableTree × ℕ). Local-after {B = List VariableTree × ℕ} punctuators.Semicolon punctuators.Comma (v.0 ∷ [], max 0 v.1) _ (Local-turn _ _ (variables_turns m) (length ts) (v.0 ∷ [], max 0 v.1))) (variable m (t ∷ ts)),
-    bind-left (initialised m) (λ d. Local-initialised m d) (declarator m (t ∷ ts)))
+    omega (
+      arith,
+      bind-left _ (λ (vs : List VariableTree × ℕ). Local-ok {A = DeclarationTree × ℕ} (record { base = b; variables = vs.0 }, vs.1)) (variables m (suc (length ts)) [] 0 (t ∷ ts)),
+      bind-left _ (λ (v : VariableTree × ℕ). Local-after {B = List VariableTree × ℕ} punctuators.Semicolon punctuators.Comma (v.0 ∷ [], max 0 v.1) _ (Local-turn _ _ (variables_turns m) (length ts) (v.0 ∷ [], max 0 v.1))) (variable m (t ∷ ts)),
+      bind-left (initialised m) (λ d. Local-initialised m d) (declarator m (t ∷ ts)),
+    )
 
 pub Local-declaration_within : (n : ℕ) → Local 0 (declaration_within n)
 unfolding declaration_within declaration
@@ -345,9 +349,11 @@ parameter_left m at us = cond-left (is_void_alone (Keyword at keywords.Void ∷ 
 parameters_left : (m at : ℕ) (us : List Terminal) → left (some_parameters m (Keyword at keywords.Void ∷ us)) ≤ length us
 unfolding parameters
 parameters_left m at us =
-    omega (arith,
-    bind-left _ (λ (p : ParameterTree × ℕ). Local-after {B = List ParameterTree × ℕ} punctuators.CloseParenthesis punctuators.Comma (p.0 ∷ [], max 0 p.1) _ (Local-turn _ _ (parameters_turns m) (length us) (p.0 ∷ [], max 0 p.1))) (parameter m (Keyword at keywords.Void ∷ us)),
-    parameter_left m at us)
+    omega (
+      arith,
+      bind-left _ (λ (p : ParameterTree × ℕ). Local-after {B = List ParameterTree × ℕ} punctuators.CloseParenthesis punctuators.Comma (p.0 ∷ [], max 0 p.1) _ (Local-turn _ _ (parameters_turns m) (length us) (p.0 ∷ [], max 0 p.1))) (parameter m (Keyword at keywords.Void ∷ us)),
+      parameter_left m at us,
+    )
 
 pub Local-head : (m : ℕ) → Local 0 (head m)
 unfolding head

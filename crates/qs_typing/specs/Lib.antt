@@ -25,3 +25,4 @@ pub mod TypedOf
 pub mod UnitNodes
 pub mod NodeReferents
 pub mod ByNumber
+pub mod TypeSets

@@ -11,6 +11,7 @@ pub mod Scoping
 pub mod Heads
 pub mod Adding
 pub mod Ends
+pub mod Declaring
 pub mod Defining
 pub mod Counts
 pub mod Blocks

@@ -1,21 +1,25 @@
 // The types that declarations give (C11 6.7), and the rules that their nodes keep.
-ghost use Rattle.std.specs.Prelude.{◌≡◌, ◌+◌, IfOk, length, map, option_map, if◌then◌else◌};
-ghost use Rattle.qs_syntax.specs.TreeOf.{declarator_tree, expr_tree, initialiser_tree, lengths_tree, parameter_tree, variable_tree};
+ghost use Rattle.std.specs.Prelude.{◌≡◌, ◌+◌, IfOk, None, Some, length, map, not, option_map, if◌then◌else◌};
+ghost use Rattle.qs_syntax.specs.TreeOf.{declarator_tree, expr_tree, initialiser_tree, lengths_tree, list_tree, parameter_tree, variable_tree};
 ghost use Rattle.qs_types.specs.Declarations as declarations;
 ghost use Rattle.qs_types.specs.Declarations.{all_typed, element_lengths, first_length, is_length, is_length_typed, lengths_of, object_by};
+ghost use Rattle.qs_types.specs.EnvOf.{env_tree};
 ghost use Rattle.qs_types.specs.Expressions.{type_or_void};
+ghost use Rattle.qs_types.specs.Layout.{is_sized};
 ghost use Rattle.qs_types.specs.Types.{pointer};
 ghost use Rattle.qs_types.specs.TypeOf.{type_tree};
 ghost use Rattle.qs_typing.specs.ContextOf.{context_tree};
-ghost use Rattle.qs_typing.specs.DeclaredOf.{declared_tree, numbers};
+ghost use Rattle.qs_typing.specs.DeclaredOf.{declared_tree, is_incomplete, numbers, sized_by_tests};
 ghost use Rattle.qs_typing.specs.JudgedOf.{test_tree};
 
 use crate::context::{Context, is_void_base};
 use crate::judged::{Test, keeps, violates};
 use crate::lengths::{ArrayLengths, ParameterLengths, arrays};
 use qs_base::NoMemory;
-use qs_syntax::{Base, Declarator, Expr, Initialiser, Lengths, Parameter, Shape, TypeName, Variable};
-use qs_types::{CType, Rule, extent_of, is_complete};
+use qs_syntax::{
+    Base, Declarator, Expr, Initialiser, InitialiserList, Lengths, Parameter, Shape, TypeName, Variable,
+};
+use qs_types::{CType, Env, Rule, extent_of, is_complete};
 use std::alloc::Global;
 
 /// The tests of a node that declares a type, and the type where it breaks none of their rules.
@@ -64,6 +68,50 @@ fn object_type(alloc: Global, element: CType, lengths: &Option<Vec<u32>>) -> Res
     }
 }
 
+/// Whether objects may not have elements of this type, which has this base (C11 6.7p7, 6.7.6.2p1).
+fn is_incomplete(c: &Context, base: &Base, element: &CType) -> bool
+    ensures { result ≡ is_incomplete (context_tree c.now) base.now (type_tree element.now) }
+{
+    is_void_base(base) || c.base_type(base).is_some() && !is_complete(c.structs(), element)
+}
+
+fn is_large(structs: &Env, t: &CType) -> bool
+    ensures { result ≡ not (is_sized (env_tree structs.now) (type_tree t.now)) }
+{
+    extent_of(structs, t).is_none()
+}
+
+fn type_unless(breaks: bool, t: CType) -> Option<CType>
+    ensures { option_map type_tree result ≡ (if breaks then None else Some (type_tree t)) }
+{
+    if breaks { None } else { Some(t) }
+}
+
+/// What declares an object of this type, by the tests on its elements and lengths.
+fn with_size_tests(
+    alloc: Global,
+    structs: &Env,
+    known: bool,
+    incomplete: bool,
+    has_lengths: bool,
+    t: CType,
+) -> Result<Declared, NoMemory>
+    ensures { IfOk result (λ d. declared_tree d ≡ sized_by_tests (env_tree structs.now) known incomplete has_lengths (type_tree t)) }
+{
+    let breaks = !known || (incomplete || !has_lengths);
+    let large = !breaks && is_large(structs, &t);
+    with_tests(
+        alloc,
+        &[
+            keeps(Rule::UnknownTag, known),
+            violates(Rule::IncompleteType, incomplete),
+            keeps(Rule::ArrayLength, has_lengths),
+            violates(Rule::LargeType, large),
+        ],
+        type_unless(breaks || large, t),
+    )
+}
+
 /// What declares a variable or a member of these lengths.
 fn object_declared(
     alloc: Global,
@@ -76,21 +124,10 @@ fn object_declared(
 {
     let known = c.base_type(base).is_some();
     let element = type_or_void(c.starred_type(alloc, base, stars)?);
-    let incomplete = is_void_base(base) || known && !is_complete(c.structs(), &element);
+    let incomplete = is_incomplete(c, base, &element);
     let has_lengths = lengths.is_some();
     let t = object_type(alloc, element, &lengths)?;
-    let fine = known && !incomplete && has_lengths;
-    let large = fine && extent_of(c.structs(), &t).is_none();
-    with_tests(
-        alloc,
-        &[
-            keeps(Rule::UnknownTag, known),
-            violates(Rule::IncompleteType, incomplete),
-            keeps(Rule::ArrayLength, has_lengths),
-            violates(Rule::LargeType, large),
-        ],
-        if fine && !large { Some(t) } else { None },
-    )
+    with_size_tests(alloc, c.structs(), known, incomplete, has_lengths, t)
 }
 
 // ---- variables and members
@@ -172,8 +209,14 @@ fn narrowed(n: usize) -> Result<u32, NoMemory>
     Ok(n as u32)
 }
 
+#[tactic(auto, using(crate::proofs::Declaring::list_counts))]
+fn list_length(l: &InitialiserList) -> Result<u32, NoMemory>
+    ensures { IfOk result (λ n. Some n ≡ declarations.length_by (Some (list_tree l.now))) }
+{
+    narrowed(l.items.len())
+}
+
 /// The length that an initialiser gives (C11 6.7.9p22).
-#[tactic(auto, using(crate::proofs::Counts::count_of))]
 fn length_by(i: &Option<Initialiser>) -> Result<Option<u32>, NoMemory>
     ensures { IfOk result (λ n. n ≡ declarations.length_by (option_map initialiser_tree i.now)) }
 {
@@ -183,7 +226,7 @@ fn length_by(i: &Option<Initialiser>) -> Result<Option<u32>, NoMemory>
             None => Ok(None),
             Some(n) => Ok(Some(text_size(n)?)),
         },
-        Some(Initialiser::List(l)) => Ok(Some(narrowed(l.items.len())?)),
+        Some(Initialiser::List(l)) => Ok(Some(list_length(l)?)),
     }
 }
 

@@ -93,4 +93,3 @@ impl MembersBefore {
         Ok(())
     }
 }
-

@@ -3,6 +3,7 @@ use Rattle.std.specs.Prelude.{ℕ, Bool, not, ◌&&◌, ◌||◌, List, [], ◌�
 use Rattle.std.specs.declared.alloc.Global.{Global}
 use Rattle.qs_syntax.specs.declared.types.Base.{Base}
 use Rattle.qs_types.specs.Types.{TypeTree, Structs}
+use Rattle.qs_types.specs.declared.types.CType.{CType}
 use Rattle.qs_types.specs.declared.rules.Rule.TheVariants as rules
 use Rattle.qs_types.specs.Rules.{Test, keeps, test, breaks_one}
 use Rattle.qs_types.specs.Contexts.{Context, base_type, is_void_base}
@@ -10,14 +11,26 @@ use Rattle.qs_types.specs.Declarations as declarations
 use Rattle.qs_types.specs.Layout.{and_then, is_complete, is_sized}
 use Rattle.qs_types.specs.TypeOf.{type_tree}
 use Rattle.qs_typing.specs.JudgedOf.{test_tree}
+use Rattle.qs_typing.specs.declared.judged.Test as made
 use Rattle.qs_typing.specs.declared.declared_types.Declared.{Declared}
 
+abbrev pub tests_and_type : List made.Test → Option CType → declarations.Declared
+tests_and_type tests of = record { tests = map test_tree tests; type = option_map type_tree of }
+
 abbrev pub declared_tree : Declared → declarations.Declared
-declared_tree d = record { tests = map test_tree d.tests.items; type = option_map type_tree d.of }
+declared_tree d = tests_and_type d.tests.items d.of
+
+-- a type in code, where there is one
+abbrev pub option_type : Option CType → Option TypeTree
+option_type = option_map type_tree
 
 -- lengths, where each has a value
 abbrev pub numbers : Option (Vec ℕ Global) → Option (List ℕ)
 numbers = option_map (λ v. v.items)
+
+-- one length, where it has a value
+abbrev pub one_length : Option ℕ → Option (List ℕ)
+one_length = option_map (λ n. n ∷ [])
 
 -- some lengths and others behind them
 abbrev pub all_lengths : Option (List ℕ) → Option (List ℕ) → Option (List ℕ)

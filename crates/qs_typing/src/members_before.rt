@@ -8,8 +8,8 @@ pub use methods::member_end;
 use qs_base::Name;
 use qs_types::CType;
 
-/// The members before a place of a struct: the names of all, those that have a type, and where the last of
-/// these ends.
+/// The members before a place of a struct: the names of all, those that have a type, and where the
+/// last of these ends.
 #[derive(Drop)]
 pub struct MembersBefore {
     pub names: IndexSet<Name>,

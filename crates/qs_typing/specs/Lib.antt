@@ -18,6 +18,7 @@ pub mod LengthsOf
 pub mod Declares
 pub mod Initialisers
 pub mod Variables
+pub mod VariableWalks
 pub mod Statements
 pub mod MembersOf
 pub mod StructWalks

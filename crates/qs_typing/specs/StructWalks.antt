@@ -7,7 +7,6 @@ use Rattle.qs_syntax.specs.declared.units.Struct.{Struct}
 use Rattle.qs_syntax.specs.TreeOf.{declarator_tree, members_tree, struct_tree}
 use Rattle.qs_types.specs.declared.rules.Rule.TheVariants as rule
 use Rattle.qs_types.specs.declared.types.CType.{CType}
-
 use Rattle.qs_types.specs.EnvOf.{env_tree}
 use Rattle.qs_types.specs.Rules as pure
 use Rattle.qs_types.specs.StructsOf.{member_tree}

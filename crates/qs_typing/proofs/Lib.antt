@@ -9,6 +9,7 @@ pub mod MemberLookups
 pub mod Watched
 pub mod Scoping
 pub mod Heads
+pub mod Headers
 pub mod Adding
 pub mod Ends
 pub mod Declaring
@@ -18,3 +19,4 @@ pub mod Blocks
 pub mod Checked
 pub mod Naming
 pub mod Numbers
+pub mod TypedLaws

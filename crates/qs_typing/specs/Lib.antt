@@ -28,3 +28,4 @@ pub mod Refusals
 pub mod TypedOf
 pub mod UnitNodes
 pub mod NodeReferents
+pub mod ByNumber

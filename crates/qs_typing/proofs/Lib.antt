@@ -12,6 +12,7 @@ pub mod Heads
 pub mod Headers
 pub mod Adding
 pub mod Ends
+pub mod Declaring
 pub mod Defining
 pub mod Counts
 pub mod Blocks

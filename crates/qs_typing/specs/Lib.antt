@@ -14,10 +14,14 @@ pub mod NotedOf
 pub mod UnitWalk
 pub mod WalkOf
 pub mod DeclaredOf
+pub mod LengthsOf
+pub mod Declares
 pub mod Initialisers
 pub mod Variables
+pub mod VariableWalks
 pub mod Statements
 pub mod MembersOf
+pub mod StructWalks
 pub mod Functions
 pub mod NodeTypes
 pub mod Refusals

@@ -1,24 +1,23 @@
 -- A function that breaks no rule has a typed tree.
-use Rattle.std.proofs.Common.{◌≡◌, ℕ, Bool, true, false, not, ◌&&◌, ◌||◌, List, [], ◌∷◌, ◌++◌, Option, Some, None, is_some, filter, flat_map, refl, sym, ap, ◌∙◌, subst, if◌then◌else◌}
-use Rattle.std.specs.List.{list_all}
-use Rattle.qs_syntax.specs.Trees.{ParameterTree, FunctionTree, Stmts}
+use Rattle.std.proofs.Common.{◌≡◌, ℕ, Bool, true, false, not, ◌||◌, List, [], ◌∷◌, ◌++◌, Option, Some, None, is_some, refl, sym, ap, ◌∙◌, subst, if◌then◌else◌}
+use Rattle.qs_syntax.specs.Trees.{FunctionTree, Stmts}
 use Rattle.qs_memory.specs.Partial.{◌>>=◌}
 use Rattle.qs_types.specs.Types.{TypeTree, Structs}
 use Rattle.qs_types.specs.Layout.{and_then}
 use Rattle.qs_types.specs.GivenFunctions.{Signature}
 use Rattle.qs_types.specs.declared.rules.Rule.TheVariants as rules
-use Rattle.qs_types.specs.Rules.{Test, keeps, breaks_one, faults_of}
+use Rattle.qs_types.specs.Rules.{keeps, breaks_one, faults_of}
 use Rattle.qs_types.specs.Contexts.{Entity, local_variable, file_variable, function, given, Binding, Context, lookup, base_type, starred_type, pointers, inner_scope}
-use Rattle.qs_types.specs.Placed.{Local, parameters_locals, statements_locals, addressed, addressed_in, locals_in, is_placed}
-use Rattle.qs_types.specs.Sites.{Site, statements_sites}
+use Rattle.qs_types.specs.Placed.{Local, parameters_locals, statements_locals, addressed_in, locals_in, is_placed}
+use Rattle.qs_types.specs.Sites.{statements_sites}
 use Rattle.qs_types.specs.StatementRules.{statements_faults}
-use Rattle.qs_types.specs.UnitRules.{parameter_types, is_void_pointer, result_type, header_of, all_of, signature_by, may_declare, result_tests, main_tests, header_tests, declared_function, after_function, parameters_faults, with_parameters, body_context, body_faults, function_faults}
+use Rattle.qs_types.specs.UnitRules.{parameter_types, is_void_pointer, result_type, header_of, all_of, signature_by, may_declare, result_tests, main_tests, header_tests, declared_function, after_function, parameters_faults, body_context, function_faults}
 use Rattle.qs_meaning.specs.Typed.{Function}
 use Rattle.qs_meaning.specs.Names.{Locals, Scope, within}
 use Rattle.qs_meaning.specs.Statements.{statements_typed}
 use Rattle.qs_meaning.specs.Units.{nodes_of, placed_among, plain_among, locals_of, scalars_of, sizes_of, parameters_typed, in_body, function_with, function_typed}
 use Rattle.qs_meaning.specs.TypedLaws.{EntityTyped, AllTyped, IsFileScope, FunctionsTyped}
-use Rattle.qs_meaning.proofs.Options.{never, nothing, left, right, Known, known, onward}
+use Rattle.qs_meaning.proofs.Options.{never, right, Known, onward}
 use Rattle.qs_meaning.proofs.Faultless.{none_left, none_right, unbroken, first_unbroken, second_unbroken}
 use Rattle.qs_meaning.proofs.Bindings.{EntityFine, AllFine, Sound}
 use Rattle.qs_meaning.proofs.Initialising.{sites_taken}

@@ -1,6 +1,6 @@
 -- What is known in the examples: char c; int i; unsigned u; int *p; char *t; placed: int x; int a[3]; struct s {char m; int n;} v; struct s *q;
 -- of file scope: int g; char h[2]; functions: int f(char, int *); void k(void); putchar and getchar.
-use Rattle.std.proofs.Common.{ℕ, true, false, List, [], ◌∷◌, Option, Some, None}
+use Rattle.std.proofs.Common.{ℕ, true, List, [], ◌∷◌, Option, Some}
 use Rattle.qs_syntax.specs.Trees.{unnumbered, ExprTree, expr}
 use Rattle.qs_syntax.specs.Trees as trees
 use Rattle.qs_types.specs.Types.{TypeTree, int, unsigned, char, void, pointer, array, struct, Structs}

@@ -1,9 +1,8 @@
 -- What units do that have several declarations, parameters, structs in structs; the trees of their functions; roots.
-use Rattle.std.proofs.Common.{◌≡◌, ℕ, true, false, [], ◌∷◌, List, Option, Some, None, refl}
+use Rattle.std.proofs.Common.{◌≡◌, ℕ, false, [], ◌∷◌, List, Option, Some, None, refl}
 use Rattle.qs_syntax.specs.declared.types.Base.{Base}
 use Rattle.qs_syntax.specs.declared.types.Base.TheVariants as bases
 use Rattle.qs_syntax.specs.declared.operators.BinaryOperator.TheVariants as binaries
-use Rattle.qs_syntax.specs.Numbering.{numbered_unit}
 use Rattle.qs_syntax.specs.Trees.{unnumbered, start_expression, start_declaration, else_by, no_else, stmts_of, UnitTree, DeclTree}
 use Rattle.qs_syntax.specs.Trees as trees
 use Rattle.qs_memory.specs.declared.scalar.Scalar.TheVariants.{Char, Int}
@@ -14,11 +13,11 @@ use Rattle.qs_memory.specs.declared.operation.BinaryOperation.TheVariants.{Arith
 use Rattle.qs_memory.specs.Partial.{◌>>=◌}
 use Rattle.qs_memory.specs.Values.{Value, integer}
 use Rattle.qs_events.specs.Events.{Calls, Returns}
-use Rattle.qs_events.specs.BoundedRun.{BoundedRun, Ended, Undefined}
+use Rattle.qs_events.specs.BoundedRun.{Ended, Undefined}
 use Rattle.qs_events.specs.Runs.{emit, undefined, ended}
 use Rattle.qs_calls.specs.World.{RootRun}
 use Rattle.qs_calls.specs.declared.parameter.Parameter.TheVariants.{Plain, Placed}
-use Rattle.qs_meaning.specs.Typed.{unchanged, converted, as_written, Expr, constant, value, pointer_to, stepped_after, binary, Lvalue, variable, object, set, update, nothing, discard, assign, in_order, evaluate, block, branch, while_loop, do_loop, for_loop, break, continue, return, no_stmts, stmt_and, local, Function, TypedProgram}
+use Rattle.qs_meaning.specs.Typed.{unchanged, converted, as_written, Expr, constant, value, pointer_to, binary, variable, object, set, update, nothing, discard, assign, in_order, evaluate, block, branch, while_loop, do_loop, for_loop, break, continue, return, no_stmts, stmt_and, local, Function, TypedProgram}
 use Rattle.qs_meaning.specs.Runs.{run_of, source_run}
 use Rattle.qs_meaning.proofs.Samples as c
 use Rattle.qs_meaning.proofs.Samples.{number, a, b, i, p, op, plus, less, address, deref, dot, call, text, one, many, int_, pointer_, two_ints, struct_named, member_of, header, main_name, eval, when, parameter, defined, main_, valued, listed, numbers, global}

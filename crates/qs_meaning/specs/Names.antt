@@ -8,7 +8,7 @@ use Rattle.qs_calls.specs.declared.callee.Callee.TheVariants.{Function, PutChar,
 use Rattle.qs_types.specs.GivenFunctions.{Signature, putchar_name}
 use Rattle.qs_types.specs.Contexts.{Entity, local_variable, file_variable, function, given, Context, entity_of}
 use Rattle.qs_types.specs.Placed.{is_one_of}
-use Rattle.qs_meaning.specs.Typed.{Expr, pointer_to, Lvalue, variable, object, Object, local, static}
+use Rattle.qs_meaning.specs.Typed.{pointer_to, Lvalue, variable, object, Object, local, static}
 
 -- the plain variables of a function and its placed locals, with its parameters among them, by the numbers of their nodes
 pub record Locals : Type 0 where

@@ -1,5 +1,5 @@
 -- The typed tree of a unit (C11 6.9), and the memory in which its runs begin.
-use Rattle.std.specs.Prelude.{ℕ, not, Bool, true, List, [], ◌∷◌, ◌++◌, Option, Some, None, length, map, filter, slice_index_or}
+use Rattle.std.specs.Prelude.{ℕ, not, true, List, [], ◌∷◌, ◌++◌, Option, Some, None, length, map, filter, slice_index_or}
 use Rattle.qs_syntax.specs.Sameness.{same_bytes}
 use Rattle.qs_syntax.specs.declared.types.Base.{Base}
 use Rattle.qs_syntax.specs.Trees.{VariableTree, ParameterTree, FunctionTree, DeclTree, structure, forward, function, variables, UnitTree}
@@ -18,9 +18,9 @@ use Rattle.qs_types.specs.StatementRules.{after_variable}
 use Rattle.qs_types.specs.UnitRules.{parameter_types, body_context, after_declaration}
 use Rattle.qs_types.specs.Placed.{Local, addressed_in, locals_in, is_placed}
 use Rattle.qs_types.specs.References.{TextBlock, literal_blocks}
-use Rattle.qs_meaning.specs.Typed.{Expr, pointer_to, Lvalue, variable, object, Object, local, static, Function, StaticBlock, TypedProgram}
+use Rattle.qs_meaning.specs.Typed.{Expr, pointer_to, Lvalue, variable, object, local, Function, StaticBlock, TypedProgram}
 use Rattle.qs_meaning.specs.Conversions.{scalar_of}
-use Rattle.qs_meaning.specs.Names.{Locals, Statics, Scope, within, local_lvalue}
+use Rattle.qs_meaning.specs.Names.{Locals, Scope, within, local_lvalue}
 use Rattle.qs_meaning.specs.InitialValues.{variable_block, text_block}
 use Rattle.qs_meaning.specs.Statements.{statements_typed}
 

@@ -93,6 +93,19 @@ root_ends = refl
 no_such_root : root_run 7 (integer 299 ∷ []) ≡ Some undefined
 no_such_root = refl
 
+-- 6.5.2.2p6: as many arguments as parameters
+too_few_arguments : root_run 0 [] ≡ Some (emit (Calls 0) undefined)
+too_few_arguments = refl
+
+too_many_arguments : root_run 0 (integer 1 ∷ integer 2 ∷ []) ≡ Some (emit (Calls 0) undefined)
+too_many_arguments = refl
+
+-- int main(void){return 0;} with an argument
+argument_of_main :
+    (program_of (main_ (c.return (number 0) ∷ []) ∷ []) >>= λ u. Some (source_run u (integer 4 ∷ []) [] 1))
+    ≡ Some (Undefined (Calls 0 ∷ []))
+argument_of_main = refl
+
 -- ---- structs
 
 abbrev t_base : Base

@@ -180,7 +180,7 @@ module _ (s₀ : Scope) (declared_nodes : List ℕ) where
   local_address : (node : ℕ) → is_one_of node placed ≡ true → Known (address_in (local_lvalue s₀.locals node))
   local_address node e = go (is_one_of node placed) e
     where
-      go : (b : Bool) → b ≡ true → Known (address_in (if b then object (pointer_to (local (place_among node placed))) else variable (place_among node s₀.locals.plain)))
+      go : (b : Bool) → b ≡ true → Known (address_in (if b then object (pointer_to (local (place_among node placed))) else variable (place_among node s₀.locals.variables)))
       go true e = record { value = _; is = refl }
       go false e = never e
 

@@ -17,7 +17,7 @@ use Rattle.qs_types.specs.UnitRules.{with_parameter, after_parameter, parameter_
 use Rattle.qs_meaning.specs.Typed.{variable, object, pointer_to, local}
 use Rattle.qs_meaning.specs.Conversions.{scalar_of}
 use Rattle.qs_meaning.specs.Names.{Locals, Scope, within, place_among}
-use Rattle.qs_meaning.specs.Units.{nodes_of, locals_of, scalars_of, sizes_of, parameter_by, parameter_typed, parameters_typed}
+use Rattle.qs_meaning.specs.Units.{nodes_of, placed_among, scalars_of, sizes_of, parameter_by, parameter_typed, parameters_typed}
 use Rattle.qs_meaning.proofs.Options.{never, left, right, Known, known, onward}
 use Rattle.qs_meaning.proofs.Faultless.{none_left, none_right, unbroken, first_unbroken, second_unbroken, type_known}
 use Rattle.qs_meaning.proofs.Bindings.{Sound, has_types}
@@ -67,8 +67,8 @@ fine_among taken declared placed (x ∷ xs) h k =
     large false e = refl
     large true e = k x.node (kept_first (is_placed taken) x xs (or_right (is_one_of x.node taken) _ e))
 
-pub all_fine : (taken : List ℕ) (xs : List Local) → locals_fine (nodes_of xs) (locals_of taken xs).placed xs ≡ true
-all_fine taken xs = fine_among taken (nodes_of xs) (locals_of taken xs).placed xs (λ n e. e) (λ n e. e)
+pub all_fine : (taken : List ℕ) (xs : List Local) → locals_fine (nodes_of xs) (nodes_of (placed_among taken xs)) xs ≡ true
+all_fine taken xs = fine_among taken (nodes_of xs) (nodes_of (placed_among taken xs)) xs (λ n e. e) (λ n e. e)
 
 -- an operand of `&` that is one of the locals is placed
 addressed_placed : (taken : List ℕ) (n : ℕ) → is_one_of n taken ≡ true → (xs : List Local) →
@@ -114,24 +114,31 @@ each_site declared placed (x ∷ xs) h =
     (each_site declared placed xs (λ n e. h n (one_right n (addressed x.context x.expression) (flat_map (λ (x : Site). addressed x.context x.expression) xs) e)))
 
 pub all_taken : (sites : List Site) (xs : List Local)
-    → sites_taken (nodes_of xs) (locals_of (flat_map (λ (x : Site). addressed x.context x.expression) sites) xs).placed sites ≡ true
+    → sites_taken (nodes_of xs) (nodes_of (placed_among (flat_map (λ (x : Site). addressed x.context x.expression) sites) xs)) sites ≡ true
 all_taken sites xs =
     let taken = flat_map (λ (x : Site). addressed x.context x.expression) sites in
-    each_site (nodes_of xs) (locals_of taken xs).placed sites (λ n e. addressed_placed taken n e xs)
+    each_site (nodes_of xs) (nodes_of (placed_among taken xs)) sites (λ n e. addressed_placed taken n e xs)
 
 -- ---- types and sizes of the locals
+
+typed : (structs : Structs) (o : Option TypeTree) → is_some (and_then o (size_of structs)) ≡ true → Known o
+typed structs None e = never e
+typed structs (Some t) e = record { value = t; is = refl }
 
 pub scalars_known : (structs : Structs) (p : Local → Bool) (xs : List Local) → all_sized structs xs ≡ true → Known (scalars_of (filter p xs))
 scalars_known structs p [] e = record { value = _; is = refl }
 scalars_known structs p (x ∷ xs) e = go (scalars_known structs p xs (right (is_sized_local structs x) _ e)) (p x)
   where
-    typed : (o : Option TypeTree) → is_some (and_then o (size_of structs)) ≡ true → Known o
-    typed None e = never e
-    typed (Some t) e = record { value = t; is = refl }
-
     go : Known (scalars_of (filter p xs)) → (b : Bool) → Known (scalars_of (cond b (x ∷ filter p xs) (filter p xs)))
-    go rest true = onward x.type _ (typed x.type (left _ _ e)) (onward (scalars_of (filter p xs)) _ rest (record { value = _; is = refl }))
+    go rest true = onward x.type _ (typed structs x.type (left _ _ e)) (onward (scalars_of (filter p xs)) _ rest (record { value = _; is = refl }))
     go rest false = rest
+
+-- behind others
+pub scalars_behind : (structs : Structs) (xs ys : List Local) → all_sized structs xs ≡ true → Known (scalars_of ys) → Known (scalars_of (xs ++ ys))
+scalars_behind structs [] ys e k = k
+scalars_behind structs (x ∷ xs) ys e k =
+    onward x.type _ (typed structs x.type (left _ _ e))
+    (onward (scalars_of (xs ++ ys)) _ (scalars_behind structs xs ys (right (is_sized_local structs x) _ e) k) (record { value = _; is = refl }))
 
 pub sizes_known : (structs : Structs) (p : Local → Bool) (xs : List Local) → all_sized structs xs ≡ true → Known (sizes_of structs (filter p xs))
 sizes_known structs p [] e = record { value = _; is = refl }
@@ -301,7 +308,7 @@ parameter_known locals p None e = never e
 parameter_known locals p (Some t) e = go (is_one_of p.node.id locals.placed)
   where
     go : (b : Bool) → Known (parameter_by (scalar_of t) (if b then object (pointer_to (local (place_among p.node.id locals.placed))) else variable
-        (place_among p.node.id locals.plain)))
+        (place_among p.node.id locals.variables)))
     go true = record { value = _; is = refl }
     go false = record { value = _; is = refl }
 

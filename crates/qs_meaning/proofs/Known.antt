@@ -34,7 +34,7 @@ context = record {
 abbrev pub scope : Scope
 scope = record {
   context = context;
-  locals = record { plain = 1 ∷ 2 ∷ 3 ∷ 4 ∷ 5 ∷ 9 ∷ []; placed = 6 ∷ 7 ∷ 8 ∷ [] };
+  locals = record { variables = 1 ∷ 2 ∷ 3 ∷ 4 ∷ 5 ∷ 9 ∷ []; placed = 6 ∷ 7 ∷ 8 ∷ [] };
   statics = record { variables = 10 ∷ 11 ∷ []; texts = 40 ∷ 41 ∷ [] };
   functions = (102 ∷ []) ∷ (107 ∷ []) ∷ [];
 }

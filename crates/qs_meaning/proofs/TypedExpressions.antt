@@ -129,8 +129,8 @@ name_stands s (Some (local_variable node (Some t))) j placed complete file e h =
     at = local_lvalue s.locals node;
     is = refl;
     complete = complete node t refl;
-    large = λ f. local_address (is_one_of node s.locals.placed) (place_among node s.locals.placed) (place_among node s.locals.plain) (placed node t refl f);
-    taken = λ f. local_address (is_one_of node s.locals.placed) (place_among node s.locals.placed) (place_among node s.locals.plain) (left _ _ f);
+    large = λ f. local_address (is_one_of node s.locals.placed) (place_among node s.locals.placed) (place_among node s.locals.variables) (placed node t refl f);
+    taken = λ f. local_address (is_one_of node s.locals.placed) (place_among node s.locals.placed) (place_among node s.locals.variables) (left _ _ f);
   };
 })
 name_stands s (Some (file_variable node None)) j placed complete file e h = nothing j e

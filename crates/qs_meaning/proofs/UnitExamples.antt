@@ -171,14 +171,14 @@ function_tree :
     ≡ Some (record {
       name = 102 ∷ [];
       parameters = Plain 0 ∷ Placed 0 Int ∷ [];
-      variables = Char ∷ Int ∷ [];
+      variables = Char ∷ Int ∷ Int ∷ [];
       blocks = 4 ∷ [];
       body =
           stmt_and (evaluate (discard (pointer_to (local 0))))
           (stmt_and (branch int_b (evaluate (assign (set Char (variable 0) (converted Int Char) int_b))) (block no_stmts))
           (stmt_and (while_loop (binary (Compare Less Signed) as_written (converted Char Int) unchanged char_a (constant Int 1)) break)
           (stmt_and (do_loop continue int_b)
-          (stmt_and (for_loop (in_order (assign (set Int (variable 1) unchanged (constant Int 0))) nothing) None
+          (stmt_and (for_loop (in_order (assign (set Int (variable 2) unchanged (constant Int 0))) nothing) None
           (assign (update Char (variable 0) (Arithmetic Add Signed) (converted Char Int) unchanged (converted Int Char) (constant Int 1)))
           (return (converted Int Char) int_b))
           (stmt_and (return (converted Int Char) (constant Int 7)) no_stmts)))));

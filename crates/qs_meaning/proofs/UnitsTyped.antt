@@ -8,7 +8,7 @@ use Rattle.qs_types.specs.Contexts.{Context, start_context, inner_scope}
 use Rattle.qs_types.specs.Placed.{Local, parameters_locals}
 use Rattle.qs_types.specs.UnitRules.{parameter_types, result_type, header_of, may_declare, result_tests, main_tests, header_tests, parameters_faults, body_faults, function_faults, after_function, after_declaration, declaration_faults, declarations_faults}
 use Rattle.qs_meaning.specs.Names.{Scope, within}
-use Rattle.qs_meaning.specs.Units.{nodes_of, locals_of, function_typed, file_variables_typed, declaration_typed, declarations_typed, start_scope}
+use Rattle.qs_meaning.specs.Units.{nodes_of, placed_among, function_typed, file_variables_typed, declaration_typed, declarations_typed, start_scope}
 use Rattle.qs_meaning.specs.TypedLaws.{IsFileScope, UnitsTyped}
 use Rattle.qs_meaning.proofs.Options.{nothing, Known, onward}
 use Rattle.qs_meaning.proofs.Faultless.{none_left, none_right, unbroken, first_unbroken, second_unbroken}
@@ -30,7 +30,7 @@ after_function_known s c f h faultless = after_function_scope c f h (signature_k
     ls = parameters_locals f.parameters types
 
     s₀ : Scope
-    s₀ = record s { locals = locals_of [] ls }
+    s₀ = record s { locals = record { variables = []; placed = nodes_of (placed_among [] ls) } }
 
     parts : (parameters_faults (inner_scope c) (is_some f.body) f.parameters ++ body_faults c f f.body) ≡ []
     parts = none_right (faults_of f.node.id (header_tests c f)) _ faultless
@@ -45,7 +45,7 @@ after_function_known s c f h faultless = after_function_scope c f h (signature_k
 
     scalar : all_scalar (parameter_types (inner_scope c) f.parameters) ≡ true
     scalar = parameters_scalar s₀ (nodes_of ls) (is_some f.body) f.parameters (inner_scope c) (file_sound s₀ (inner_scope c) (nodes_of ls) inner)
-        (parameters_declared (nodes_of ls) (locals_of [] ls).placed f.parameters (inner_scope c) (all_fine [] ls)) (none_left _ _ parts)
+        (parameters_declared (nodes_of ls) (nodes_of (placed_among [] ls)) f.parameters (inner_scope c) (all_fine [] ls)) (none_left _ _ parts)
 
 -- ---- units
 

@@ -260,6 +260,7 @@ as_many at of unit =
 pub at_place : {A : Type 0} (at : Node → A) (of : Context → ExprTree → A) (unit : UnitTree) (i : ℕ) (node : Node) (x : A) → slice_get (with_nodes at of unit) i ≡ Some (node, x)
     → (slice_get (unit_nodes unit) i ≡ Some node) × (slice_get (of_unit at of unit) i ≡ Some x)
 at_place at of unit i node x e =
-    let both = with_nodes at of unit in
-    (ap (λ l. slice_get l i) (sym (nodes_of_both at of unit)) ∙ slice_get-map (λ p. p.0) both i ∙ ap (option_map (λ p. p.0)) e,
-    ap (λ l. slice_get l i) (sym (values_of_both at of unit)) ∙ slice_get-map (λ p. p.1) both i ∙ ap (option_map (λ p. p.1)) e)
+    let both = with_nodes at of unit in (
+      ap (λ l. slice_get l i) (sym (nodes_of_both at of unit)) ∙ slice_get-map (λ p. p.0) both i ∙ ap (option_map (λ p. p.0)) e,
+      ap (λ l. slice_get l i) (sym (values_of_both at of unit)) ∙ slice_get-map (λ p. p.1) both i ∙ ap (option_map (λ p. p.1)) e,
+    )

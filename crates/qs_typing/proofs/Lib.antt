@@ -20,3 +20,4 @@ pub mod Checked
 pub mod Naming
 pub mod Numbers
 pub mod TypedLaws
+pub mod RefusalExamples

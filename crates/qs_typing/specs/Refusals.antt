@@ -1,17 +1,18 @@
 -- Why a unit is refused: the first cause of some, in their order.
-use Rattle.std.specs.Prelude.{◌≡◌, ◌⊎◌, ℕ, Bool, List, ◌++◌, Option, Some, None, if◌then◌else◌}
+use Rattle.std.specs.Prelude.{◌≡◌, ◌≤◌, ◌⊎◌, ℕ, Bool, List, ◌++◌, Option, Some, None, if◌then◌else◌}
 use Rattle.qs_syntax.specs.Trees.{UnitTree}
 use Rattle.qs_report.specs.declared.fault_texts.LimitKind.{LimitKind}
 use Rattle.qs_report.specs.declared.fault_texts.LimitKind.TheVariants as kinds
-use Rattle.qs_types.specs.Rules.{Fault}
+use Rattle.qs_types.specs.declared.rules.Rule.{Rule}
+use Rattle.qs_types.specs.Rules.{Fault, rule_number}
 use Rattle.qs_types.specs.Limits.{IsWithinLimits, first_past_nodes, node_limit, first_past_functions, function_limit, first_past_parameters, parameter_limit, first_past_globals, global_limit, first_past_locals, local_limit, block_past}
-use Rattle.qs_types.specs.UnitRules.{faults_in}
+use Rattle.qs_types.specs.UnitRules.{faults_in, Violates}
 use Rattle.qs_types.specs.Contexts.{Context, entity_of}
 use Rattle.qs_types.specs.GivenFunctions.{main_name}
 use Rattle.qs_types.specs.WellTyped.{WellTyped, has_main, first_undefined, undefined_from, entity_runs, entity_has_body}
 use Rattle.qs_typing.specs.declared.refusals.TypeFault.{TypeFault}
 use Rattle.qs_typing.specs.declared.refusals.TypeFault.TheVariants as faults
-use Rattle.qs_typing.specs.Findings.{least_with, IsFirst}
+use Rattle.qs_typing.specs.Findings.{least_with}
 use Rattle.qs_typing.specs.UnitWalk.{WalkTree}
 
 abbrev pub first_of : Option TypeFault → Option TypeFault → Option TypeFault
@@ -53,9 +54,15 @@ late_refusal unit =
 abbrev pub first_refusal : UnitTree → Option TypeFault
 first_refusal unit = first_of (early_refusal unit) (late_refusal unit)
 
--- a rule that is told is broken at its node, no node before breaks one, and that node none before it
+-- a node breaks a rule; no node of a lesser number breaks one, and this node none of a lesser number
+pub record IsLeastViolation (unit : UnitTree) (node : ℕ) (rule : Rule) : Type 0 where
+  pub violates : Violates unit node rule
+  pub least_node : (n : ℕ) (r : Rule) → Violates unit n r → node ≤ n
+  pub least_rule : (r : Rule) → Violates unit node r → rule_number rule ≤ rule_number r
+
+-- where a rule is told, it is the least
 abbrev pub IsLeast : UnitTree → TypeFault → Type 0
-IsLeast unit (faults.Rule node rule) = IsFirst (faults_in unit) (record { node = node; rule = rule })
+IsLeast unit (faults.Rule node rule) = IsLeastViolation unit node rule
 IsLeast unit (faults.Limit kind node) = Unit {0}
 IsLeast unit faults.NoMain = Unit {0}
 IsLeast unit (faults.Undefined node) = Unit {0}

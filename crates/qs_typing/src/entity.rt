@@ -48,6 +48,8 @@ pub enum Referent {
     File(u32),
     /// A function of the unit, by its latest header.
     Function(u32),
-    /// `putchar` or `getchar`.
-    Given,
+    /// `putchar`, where it is declared.
+    PutChar,
+    /// `getchar`, where it is declared.
+    GetChar,
 }

@@ -8,7 +8,7 @@ ghost use Rattle.qs_types.specs.TypeOf.{type_tree};
 ghost use Rattle.qs_types.specs.Types.{array, char, int, unsigned};
 ghost use Rattle.qs_typing.specs.ContextOf.{context_tree};
 ghost use Rattle.qs_typing.specs.EntityOf.{entity_tree};
-ghost use Rattle.qs_typing.specs.ExprFindings.{expr_findings, referent, shape_referent};
+ghost use Rattle.qs_typing.specs.ExprFindings.{expr_findings, given_referent, referent, shape_referent};
 ghost use Rattle.qs_typing.specs.Findings.{judged_at, with_findings};
 ghost use Rattle.qs_typing.specs.FoundOf.{found_tree};
 ghost use Rattle.qs_typing.specs.JudgedOf.{judged_tree};
@@ -29,22 +29,33 @@ use crate::operators::{
 use crate::positions::{
     Position, assigned_position, is_misplaced, object_position, operand_position, right_position,
 };
-use qs_base::NoMemory;
+use qs_base::{Name, NoMemory};
 use qs_syntax::{Expr, Shape, Text, UnaryOperator};
 use qs_types::{CType, Rule};
 use std::alloc::Global;
 
 // ---- what names stand for
 
-fn referent(entity: Option<&Entity>) -> Option<Referent>
-    ensures { result ≡ referent (option_map (λ e. entity_tree e.now) entity.entry) }
+/// Which of the functions that are given has this name.
+fn given(x: &Name) -> Referent
+    ensures { result ≡ given_referent x.now }
+{
+    if x.bytes() == b"putchar".as_slice() {
+        Referent::PutChar
+    } else {
+        Referent::GetChar
+    }
+}
+
+fn referent(x: &Name, entity: Option<&Entity>) -> Option<Referent>
+    ensures { result ≡ referent x.now (option_map (λ e. entity_tree e.now) entity.entry) }
 {
     match entity {
         None => None,
         Some(Entity::LocalVariable(node, _)) => Some(Referent::Local(*node)),
         Some(Entity::FileVariable(node, _)) => Some(Referent::File(*node)),
         Some(Entity::Function { node, .. }) => Some(Referent::Function(*node)),
-        Some(Entity::Given(_)) => Some(Referent::Given),
+        Some(Entity::Given(_)) => Some(given(x)),
     }
 }
 
@@ -54,7 +65,7 @@ fn shape_referent(c: &Context, shape: &Shape) -> Option<Referent>
     match shape {
         Shape::Constant(_, _) => None,
         Shape::Text(_) => None,
-        Shape::Name(x) => referent(c.find(x)),
+        Shape::Name(x) => referent(x, c.find(x)),
         Shape::Unary(_, _) => None,
         Shape::Step(_, _) => None,
         Shape::Cast(_, _) => None,
@@ -66,7 +77,7 @@ fn shape_referent(c: &Context, shape: &Shape) -> Option<Referent>
         Shape::Comma(_, _) => None,
         Shape::Subscript(_, _) => None,
         Shape::Member { .. } => None,
-        Shape::Call(f, _) => referent(c.find(f)),
+        Shape::Call(f, _) => referent(f, c.find(f)),
     }
 }
 

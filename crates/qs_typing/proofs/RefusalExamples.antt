@@ -1,0 +1,123 @@
+-- The first cause to refuse a unit.
+use Rattle.std.proofs.Common.{◌≡◌, ℕ, false, List, [], ◌∷◌, Option, Some, None, refl}
+use Rattle.qs_report.specs.declared.fault_texts.LimitKind.TheVariants as kinds
+use Rattle.qs_syntax.specs.declared.operators.BinaryOperator.TheVariants as binaries
+use Rattle.qs_syntax.specs.declared.types.Base.{Base}
+use Rattle.qs_syntax.specs.declared.types.Base.TheVariants as bases
+use Rattle.qs_syntax.specs.Numbering.{numbered_unit}
+use Rattle.qs_syntax.specs.Trees.{unnumbered, ExprTree, expr, ShapeTree, LengthsTree, StmtTree, DeclTree, UnitTree}
+use Rattle.qs_syntax.specs.Trees as trees
+use Rattle.qs_types.specs.declared.rules.Rule.TheVariants as rules
+use Rattle.qs_types.specs.GivenFunctions.{main_name}
+use Rattle.qs_typing.specs.declared.refusals.TypeFault.{TypeFault}
+use Rattle.qs_typing.specs.declared.refusals.TypeFault.TheVariants as faults
+use Rattle.qs_typing.specs.Refusals.{first_refusal}
+
+-- ---- words for the trees
+
+abbrev e : ShapeTree → ExprTree
+e shape = expr (unnumbered 0) shape
+
+abbrev number : ℕ → ExprTree
+number n = e (trees.constant n false)
+
+abbrev a : ExprTree
+a = e (trees.name (97 ∷ []))
+
+abbrev b : ExprTree
+b = e (trees.name (98 ∷ []))
+
+abbrev one : LengthsTree
+one = record { is_open = false; given = [] }
+
+abbrev many : ℕ → LengthsTree
+many n = record { is_open = false; given = number n ∷ [] }
+
+abbrev declared : Base → ℕ → LengthsTree → trees.DeclarationTree
+declared base name lengths = record {
+  base = base;
+  variables = record { declarator = record { node = unnumbered 0; stars = 0; name = name ∷ []; lengths = lengths }; initialiser = None } ∷ [];
+}
+
+abbrev global : Base → ℕ → LengthsTree → DeclTree
+global base name lengths = trees.variables (declared base name lengths)
+
+abbrev local : Base → ℕ → LengthsTree → StmtTree
+local base name lengths = trees.declaration (declared base name lengths)
+
+-- an `int` without a name
+abbrev parameter : trees.ParameterTree
+parameter = record { node = unnumbered 0; type_name = record { base = bases.Int; stars = 0 }; name = None; lengths = one }
+
+abbrev f_name : List ℕ
+f_name = 102 ∷ []
+
+abbrev header : Base → List ℕ → List trees.ParameterTree → DeclTree
+header base name ps = trees.function (record { node = unnumbered 0; result_type = record { base = base; stars = 0 }; name = name; parameters = ps; body = None })
+
+abbrev body : Base → List ℕ → List StmtTree → DeclTree
+body base name ss = trees.function (record { node = unnumbered 0; result_type = record { base = base; stars = 0 }; name = name; parameters = []; body = Some (trees.stmts_of ss) })
+
+-- f();
+abbrev call_f : StmtTree
+call_f = trees.expression (unnumbered 0) (e (trees.call f_name trees.no_exprs))
+
+abbrev refusal : UnitTree → Option TypeFault
+refusal unit = first_refusal (numbered_unit unit)
+
+abbrev returns : ExprTree → StmtTree
+returns v = trees.return (unnumbered 0) (Some v)
+
+-- int main(void){ .. return 0;}
+abbrev main : List StmtTree → DeclTree
+main ss = body bases.Int main_name ss
+
+-- int main(void){return 0;}
+abbrev good : DeclTree
+good = main (returns (number 0) ∷ [])
+
+good_unit : refusal (good ∷ []) ≡ None
+good_unit = refl
+
+-- ---- rules: the least node, and there the least rule
+
+-- int main(void){return a+b;}
+two_nodes : refusal (main (returns (e (trees.binary binaries.Add a b)) ∷ []) ∷ []) ≡ Some (faults.Rule 3 rules.UnknownVariable)
+two_nodes = refl
+
+-- int main(void){int a;void a;return 0;}
+two_rules : refusal (main (local bases.Int 97 one ∷ local bases.Void 97 one ∷ returns (number 0) ∷ []) ∷ []) ≡ Some (faults.Rule 2 rules.DeclaredTwice)
+two_rules = refl
+
+-- ---- the order of causes
+
+-- int f(int,int,int,int,int,int,int,int,int);int main(void){return a;}
+abbrev nine : List trees.ParameterTree
+nine =
+    parameter ∷ parameter ∷ parameter ∷ parameter ∷ parameter
+    ∷ parameter ∷ parameter ∷ parameter ∷ parameter ∷ []
+
+parameters_before_rules : refusal (header bases.Int f_name nine ∷ main (returns a ∷ []) ∷ []) ≡ Some (faults.Limit kinds.Parameters 9)
+parameters_before_rules = refl
+
+-- void f(void){return a;}
+rule_before_main : refusal (body bases.Void f_name (returns a ∷ []) ∷ []) ≡ Some (faults.Rule 2 rules.UnknownVariable)
+rule_before_main = refl
+
+-- void f(void);void g(void){f();}
+main_before_undefined : refusal (header bases.Void f_name [] ∷ body bases.Void (103 ∷ []) (call_f ∷ []) ∷ []) ≡ Some faults.NoMain
+main_before_undefined = refl
+
+-- char a[16777216];char b;void f(void);int main(void){f();return 0;}
+undefined_before_globals : refusal (global bases.Char 97 (many 16777216) ∷ global bases.Char 98 one ∷ header bases.Void f_name [] ∷ main (call_f ∷ returns (number 0) ∷ []) ∷ [])
+    ≡ Some (faults.Undefined 3)
+undefined_before_globals = refl
+
+-- char a[16777216];char b;int main(void){char a[1048577];return 0;}
+globals_before_locals : refusal (global bases.Char 97 (many 16777216) ∷ global bases.Char 98 one ∷ main (local bases.Char 97 (many 1048577) ∷ returns (number 0) ∷ []) ∷ [])
+    ≡ Some (faults.Limit kinds.Globals 2)
+globals_before_locals = refl
+
+-- int main(void){char a[1048577];return 0;}
+locals : refusal (main (local bases.Char 97 (many 1048577) ∷ returns (number 0) ∷ []) ∷ []) ≡ Some (faults.Limit kinds.Locals 1)
+locals = refl

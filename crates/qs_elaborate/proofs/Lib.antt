@@ -1,0 +1,10 @@
+mod Samples
+mod RowExamples
+mod StatementExamples
+mod OutlineExamples
+mod Options
+mod Lists
+mod Values
+mod Quiet
+mod Gives
+mod Branches

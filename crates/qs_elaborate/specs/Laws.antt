@@ -1,0 +1,27 @@
+-- What is promised of core: it runs as the source does.
+use Rattle.std.specs.Prelude.{◌≡◌, ℕ, Bool, true, false, List, [], ◌∷◌}
+use Rattle.qs_memory.specs.Values.{Value}
+use Rattle.qs_calls.specs.World.{World}
+use Rattle.qs_core.specs.Trees.{CoreStmtTree}
+use Rattle.qs_core.specs.Units.{core_run}
+use Rattle.qs_meaning.specs.Typed.{Expr, TypedProgram}
+use Rattle.qs_meaning.specs.Runs.{run_of}
+use Rattle.qs_elaborate.specs.Acting.{acts}
+use Rattle.qs_elaborate.specs.Parts.{Temporaries}
+use Rattle.qs_elaborate.specs.Expressions.{expression_core}
+use Rattle.qs_elaborate.specs.Names.{FunctionNames}
+use Rattle.qs_elaborate.specs.Units.{unit_core}
+
+abbrev pub has_any : List CoreStmtTree → Bool
+has_any [] = false
+has_any (s ∷ ss) = true
+
+-- an expression acts exactly where it has statements
+abbrev pub ActsExactly : Type 0
+ActsExactly = (a : Expr) (ts : Temporaries) → has_any (expression_core a ts).statements ≡ acts a
+
+-- the same result, events, memory and input left, within each bound, for each root, arguments, memory and input
+abbrev pub CoreFollows : Type 0
+CoreFollows =
+    (names : List FunctionNames) (u : TypedProgram) (main root : ℕ) (xs : List Value) (w : World) (n : ℕ)
+    → core_run (unit_core names u main) root xs w n ≡ run_of u root xs w n

@@ -129,6 +129,18 @@ tells_syntactic file status (syntactic fault place h e) s = record { content = h
 tells_syntactic file status (ill_typed fault place h e) (g, q, f) = absurd cc
 tells_syntactic file status (good h none) (g, q, f) = absurd (none.not_syntactic g q f)
 
+tells_place : (file : Option (List ℕ)) (status : Status) → SourceEnds file status → (fault : SyntaxFault) (place : TokenPlace) → status ≡ Source (Syntax fault place) → HoldsWith file source_limit (λ text. HasSyntaxFault text fault place)
+tells_place file status (absent a e) g q f = absurd cc
+tells_place file status (long l e) g q f = absurd cc
+tells_place file status (lexical fault pos h e) g q f = absurd cc
+tells_place file status (syntactic fault place h e) g q f =
+    let both : ◌≡◌ {A = Status} (Source (Syntax fault place)) (Source (Syntax g q)) = sym e ∙ f in
+    let same_fault : fault ≡ g = cc in
+    let same_place : place ≡ q = cc in
+    subst (λ (x : SyntaxFault). HoldsWith file source_limit (λ text. HasSyntaxFault text x q)) same_fault (subst (λ (x : TokenPlace). HoldsWith file source_limit (λ text. HasSyntaxFault text fault x)) same_place h)
+tells_place file status (ill_typed fault place h e) g q f = absurd cc
+tells_place file status (good h none) g q f = absurd (none.not_syntactic g q f)
+
 tells_typing : (file : Option (List ℕ)) (status : Status) → SourceEnds file status → (fault : TypeFault) (place : Option Pos) → status ≡ Source (Typing fault place) → HoldsWith file source_limit (λ text. HasTypeFault text fault place)
 tells_typing file status (absent a e) g q f = absurd cc
 tells_typing file status (long l e) g q f = absurd cc
@@ -193,5 +205,6 @@ refuses_source file status s = record {
   too_long = (tells_long file status s, leads_long file status s);
   lexical = λ fault pos. (tells_lexical file status s fault pos, leads_lexical file status s fault pos);
   syntactic = (tells_syntactic file status s, leads_syntactic file status s);
+  told = tells_place file status s;
   typing = λ fault place. (tells_typing file status s fault place, leads_typing file status s fault place);
 }

@@ -16,10 +16,12 @@ use Rattle.qs_lexer.specs.declared.fault.LexFault.{LexFault}
 use Rattle.qs_lexer.specs.declared.fault.LexFault.TheVariants as faults
 use Rattle.qs_lexer.proofs.OneReading.{not_both, one_list, one_place, one_kind}
 use Rattle.qs_lexer.proofs.TerminalLaws.{as_many}
-use Rattle.qs_parser.specs.Answers.{Answers, HasNoReading, IsRefused, ReadsAs}
+use Rattle.qs_parser.specs.Answers.{Answers, HasFault, HasNoReading, ReadsAs}
+use Rattle.qs_syntax.specs.declared.terminal.Terminal.{Terminal}
+use Rattle.qs_parser.proofs.Top.{unexpected_none, too_deep_none}
 use Rattle.qs_parser.specs.declared.syntax_fault.SyntaxFault.{SyntaxFault}
 use Rattle.qs_parser.specs.declared.syntax_fault.SyntaxFault.TheVariants as syntax
-use Rattle.qs_parser.proofs.UnitsComplete.{one_reading}
+use Rattle.qs_grammar.proofs.UnitsComplete.{one_reading}
 use Rattle.qs_typing.specs.Refusals.{first_refusal}
 use Rattle.qs_typing.specs.declared.refusals.TypeFault.{TypeFault}
 use Rattle.qs_typing.specs.declared.refusals.TypeFault.TheVariants as type_faults
@@ -51,13 +53,19 @@ is_lexical text (faults.WideLiteral found) at pos says e place = has_fault text 
 is_lexical text (faults.Directive found) at pos says e place = has_fault text (faults.Directive found) kinds.Directive found at pos refl says e place
 is_lexical text (faults.OpenText found) at pos says e place = has_fault text (faults.OpenText found) kinds.OpenText found at pos refl says e place
 
-refused_at : (text : List ℕ) (tokens : List Token) (fault : SyntaxFault) (number : ℕ) → Answers (terminals text 0 tokens) (Err fault) → number_of fault ≡ Some number → IsRefused (terminals text 0 tokens) number
-refused_at text tokens syntax.NoMemory number says e = absurd cc
-refused_at text tokens (syntax.Unexpected found) number says e = let same : found ≡ number = cc in subst (λ (k : ℕ). IsRefused (terminals text 0 tokens) k) same says
-refused_at text tokens (syntax.TooDeep found) number says e = let same : found ≡ number = cc in subst (λ (k : ℕ). IsRefused (terminals text 0 tokens) k) same says
+-- a fault names a token or the end, and its tokens have no reading that is low enough
+within_of : (ts : List Terminal) (fault : SyntaxFault) (number : ℕ) → HasFault ts fault → number_of fault ≡ Some number → number ≤ length ts
+within_of ts syntax.NoMemory number has e = absurd cc
+within_of ts (syntax.Unexpected found) number has e = let same : found ≡ number = cc in subst (λ (k : ℕ). k ≤ length ts) same has.within
+within_of ts (syntax.TooDeep found) number has e = let same : found ≡ number = cc in let low : found < length ts = has.within in subst (λ (k : ℕ). k ≤ length ts) same (omega arith)
+
+none_of : (ts : List Terminal) (fault : SyntaxFault) (number : ℕ) → HasFault ts fault → number_of fault ≡ Some number → HasNoReading ts
+none_of ts syntax.NoMemory number has e = absurd cc
+none_of ts (syntax.Unexpected found) number has e = unexpected_none ts found has
+none_of ts (syntax.TooDeep found) number has e = too_deep_none ts found has
 
 pub within_tokens : (text : List ℕ) (tokens : List Token) (fault : SyntaxFault) (number : ℕ) → Answers (terminals text 0 tokens) (Err fault) → number_of fault ≡ Some number → number ≤ length tokens
-within_tokens text tokens fault number says e = subst (λ (k : ℕ). number ≤ k) (as_many text 0 tokens) (refused_at text tokens fault number says e).within
+within_tokens text tokens fault number says e = subst (λ (k : ℕ). number ≤ k) (as_many text 0 tokens) (within_of (terminals text 0 tokens) fault number says e)
 
 pub is_syntactic : (text : List ℕ) (tokens : List Token) (fault : SyntaxFault) (number : ℕ) (place : TokenPlace) → Tokens text tokens → Answers (terminals text 0 tokens) (Err fault) → number_of fault ≡ Some number → IsTokenPlace text tokens number place → RefusesText text (Source (Syntax fault place))
 is_syntactic text tokens fault number place t says e p = has_syntax_fault fault place (record {
@@ -65,7 +73,7 @@ is_syntactic text tokens fault number place t says e p = has_syntax_fault fault 
   are_tokens = t;
   number = number;
   names = e;
-  refused = refused_at text tokens fault number says e;
+  stands = says;
   place_is = p;
 }) refl
 
@@ -134,7 +142,7 @@ no_unit text n u =
     none u.reads.height u.reads.unnumbered u.reads.reads u.reads.low
 
 pub syntax_no_unit : (text : List ℕ) (fault : SyntaxFault) (place : TokenPlace) → HasSyntaxFault text fault place → IsNoUnit text
-syntax_no_unit text fault place f = record { tokens = f.tokens; are_tokens = f.are_tokens; none = f.refused.none }
+syntax_no_unit text fault place f = record { tokens = f.tokens; are_tokens = f.are_tokens; none = none_of (terminals text 0 f.tokens) fault f.number f.stands f.names }
 
 pub lex_or_tokens : (text : List ℕ) (fault : LexFault) (pos : Pos) (tokens : List Token) → HasLexFault text fault pos → Tokens text tokens → ⊥
 lex_or_tokens text fault pos tokens f t = not_both text tokens f.kind f.at t f.stands

@@ -13,7 +13,7 @@ use Rattle.qs_lexer.specs.Terminals.{terminals}
 use Rattle.qs_lexer.specs.declared.fault.FaultKind.{FaultKind}
 use Rattle.qs_lexer.specs.declared.fault.LexFault.{LexFault}
 use Rattle.qs_lexer.specs.declared.fault.LexFault.TheVariants as lexical_faults
-use Rattle.qs_parser.specs.Answers.{ReadsAs, IsRefused, HasNoReading}
+use Rattle.qs_parser.specs.Answers.{ReadsAs, HasFault, HasNoReading}
 use Rattle.qs_parser.specs.declared.syntax_fault.SyntaxFault.{SyntaxFault}
 use Rattle.qs_parser.specs.declared.syntax_fault.SyntaxFault.TheVariants as syntax_faults
 use Rattle.qs_types.specs.WellTyped.{WellTyped}
@@ -93,13 +93,13 @@ number_of syntax_faults.NoMemory = None
 number_of (syntax_faults.Unexpected number) = Some number
 number_of (syntax_faults.TooDeep number) = Some number
 
--- the text has tokens with no reading that isn't too high; the fault names one of them or their end, at this place
+-- the text has tokens, they have this fault, and the token that it names, or their end, stands at this place
 pub record HasSyntaxFault (text : List ℕ) (fault : SyntaxFault) (place : TokenPlace) : Type 0 where
   pub tokens : List Token
   pub are_tokens : Tokens text tokens
   pub number : ℕ
   pub names : number_of fault ≡ Some number
-  pub refused : IsRefused (terminals text 0 tokens) number
+  pub stands : HasFault (terminals text 0 tokens) fault
   pub place_is : IsTokenPlace text tokens number place
 
 -- the text has tokens, and they have no reading that isn't too high
@@ -209,5 +209,7 @@ pub record RefusesSource (file : Option (List ℕ)) (status : Status) : Type 0 w
   pub lexical : (fault : LexFault) (pos : Pos)
       → (status ≡ Source (Lex fault pos)) ↔ HoldsText file (λ text. HasLexFault text fault pos)
   pub syntactic : IsSyntax status ↔ HoldsText file IsNoUnit
+  pub told : (fault : SyntaxFault) (place : TokenPlace)
+      → status ≡ Source (Syntax fault place) → HoldsText file (λ text. HasSyntaxFault text fault place)
   pub typing : (fault : TypeFault) (place : Option Pos)
       → (status ≡ Source (Typing fault place)) ↔ HoldsText file (λ text. HasTypeFault text fault place)

@@ -6,10 +6,10 @@ use Rattle.qs_syntax.specs.declared.terminal.Terminal.{Terminal}
 use Rattle.qs_syntax.specs.declared.punctuator.Punctuator.TheVariants as punctuators
 use Rattle.qs_syntax.specs.Trees.{unnumbered, ExprTree, InitialiserTree, value, list, initialisers_of, VariableTree, DeclaratorTree, MembersTree, ParameterTree}
 use Rattle.qs_syntax.specs.Reads.{Conditional, Assignment, place}
-use Rattle.qs_parser.specs.Heads.{starts}
+use Rattle.qs_grammar.specs.Heads.{starts}
 use Rattle.qs_parser.proofs.CodeExpressions.{map_more}
-use Rattle.qs_parser.specs.Parse.{Parse, bind, unexpected, deep, deeper, expect, part}
-use Rattle.qs_parser.specs.ParseDeclarations.{given_lengths, after_initialiser, initialisers, begins_initialiser, initialiser, after_variable, variable, variables, declaration, declaration_within, declarator, after_member, declarators, members, groups, after_parameter, parameter, parameters}
+use Rattle.qs_grammar.specs.Parse.{Parse, bind, unexpected, deep, deeper, expect, part}
+use Rattle.qs_grammar.specs.ParseDeclarations.{given_lengths, after_initialiser, initialisers, begins_initialiser, initialiser, after_variable, variable, variables, declaration, declaration_within, declarator, after_member, declarators, members, groups, after_parameter, parameter, parameters}
 
 left_turns : (n i : ℕ) → i < n → n - i ≡ suc (n - (i + 1))
 left_turns n i h = omega arith

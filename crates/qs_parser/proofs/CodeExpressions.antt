@@ -6,8 +6,8 @@ use Rattle.qs_syntax.specs.declared.punctuator.Punctuator.TheVariants as punctua
 use Rattle.qs_syntax.specs.Trees.{unnumbered, ExprTree, expr, comma}
 use Rattle.qs_syntax.specs.Reads.{Form, Assignment}
 use Rattle.qs_syntax.specs.Operators.{binary_of}
-use Rattle.qs_parser.specs.Heads.{starts, operator_at}
-use Rattle.qs_parser.specs.Parse.{Parse, Unexpected, Deep, bind, E, unexpected, above, expect, begins_one, starts_suffix, operator_of_level, after_argument, arguments, suffix, suffixes, operation_at, operations, commas, expression, part}
+use Rattle.qs_grammar.specs.Heads.{starts, operator_at}
+use Rattle.qs_grammar.specs.Parse.{Parse, Unexpected, Deep, bind, E, unexpected, above, expect, begins_one, starts_suffix, operator_of_level, after_argument, arguments, suffix, suffixes, operation_at, operations, commas, expression, part}
 
 pub part_more : (n : ℕ) (form : Form) (ts : List Terminal) → 0 < n → part n form ts ≡ expression (n - 1) (part (n - 1)) form ts
 unfolding part

@@ -6,9 +6,9 @@ use Rattle.qs_syntax.specs.declared.operators.BinaryOperator.{BinaryOperator}
 use Rattle.qs_syntax.specs.Trees.{unnumbered, expr, binary}
 use Rattle.qs_syntax.specs.Reads.{Form}
 use Rattle.qs_syntax.specs.Operators.{binary_of}
-use Rattle.qs_parser.specs.Heads.{operator_at}
-use Rattle.qs_parser.specs.Parse.{Parse, Stop, bind, E, deep, operator_of_level, operation_at, operations}
-use Rattle.qs_parser.specs.Operands.{right_operand}
+use Rattle.qs_grammar.specs.Heads.{operator_at}
+use Rattle.qs_grammar.specs.Parse.{Parse, Stop, bind, E, deep, operator_of_level, operation_at, operations}
+use Rattle.qs_grammar.specs.Operands.{right_operand}
 use Rattle.qs_parser.proofs.CodeExpressions.{operations_more, operations_end}
 
 -- what is read behind an operand, with or without an operator

@@ -5,13 +5,13 @@ use Rattle.qs_syntax.specs.declared.terminal.Terminal.{Terminal}
 use Rattle.qs_base.specs.declared.keyword.Keyword.TheVariants as keywords
 use Rattle.qs_syntax.specs.declared.punctuator.Punctuator.TheVariants as punctuators
 use Rattle.qs_syntax.specs.Trees.{unnumbered, StmtTree, branch, no_else, else_by, else_of, DeclTree}
-use Rattle.qs_parser.specs.Heads.{starts, starts_with}
+use Rattle.qs_grammar.specs.Heads.{starts, starts_with}
 use Rattle.qs_parser.specs.View.{Fails}
 use Rattle.qs_parser.specs.declared.fault.Halt.{Halt}
 use Rattle.qs_parser.specs.declared.fault.Halt.TheVariants as halts
 use Rattle.qs_parser.proofs.CodeExpressions.{map_more}
-use Rattle.qs_parser.specs.Parse.{Parse, Stop, E, bind, unexpected, deep, expect}
-use Rattle.qs_parser.specs.ParseStatements.{S, begins_statement, condition, after_then, otherwise, after_if, item, items, statement_at, statement, external, is_empty, externals}
+use Rattle.qs_grammar.specs.Parse.{Parse, Stop, E, bind, unexpected, deep, expect}
+use Rattle.qs_grammar.specs.ParseStatements.{S, begins_statement, condition, after_then, otherwise, after_if, item, items, statement_at, statement, external, is_empty, externals}
 
 left_turns : (n i : ℕ) → i < n → n - i ≡ suc (n - (i + 1))
 left_turns n i h = omega arith

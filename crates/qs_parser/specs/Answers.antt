@@ -1,11 +1,12 @@
 -- What the parser answers.
-use Rattle.std.specs.Prelude.{◌≡◌, ℕ, ◌≤◌, List, length, Result, Ok, Err}
+use Rattle.std.specs.Prelude.{◌≡◌, ℕ, suc, ◌<◌, ◌≤◌, List, length, take, Result, Ok, Err}
 use Rattle.qs_syntax.specs.declared.terminal.Terminal.{Terminal}
 use Rattle.qs_syntax.specs.declared.unit.Unit as unit
 use Rattle.qs_syntax.specs.Trees.{DeclTree}
 use Rattle.qs_syntax.specs.UnitTrees.{unit_tree}
 use Rattle.qs_syntax.specs.Numbering.{numbered_unit}
 use Rattle.qs_syntax.specs.ReadsUnits.{ReadsUnit}
+use Rattle.qs_syntax.specs.Begins.{BeginsUnit, BeginsLowUnit}
 use Rattle.qs_syntax.specs.Units.{height_limit}
 use Rattle.qs_parser.specs.declared.syntax_fault.SyntaxFault.{SyntaxFault}
 use Rattle.qs_parser.specs.declared.syntax_fault.SyntaxFault.TheVariants as faults
@@ -22,13 +23,26 @@ pub record ReadsAs (tokens : List Terminal) (ds : List DeclTree) : Type 0 where
 abbrev pub HasNoReading : List Terminal → Type 0
 HasNoReading tokens = (height : ℕ) (ds : List DeclTree) → ReadsUnit height tokens ds → height ≤ height_limit → ⊥
 
--- the tokens have no reading, and the token with this number is one of them, or their end
-pub record IsRefused (tokens : List Terminal) (number : ℕ) : Type 0 where
-  pub none : HasNoReading tokens
+-- The tokens before the one with this number begin a unit, and with it they begin none. At the end of the tokens the number is how many
+-- they are: they begin a unit and are none.
+pub record IsUnexpected (tokens : List Terminal) (number : ℕ) : Type 0 where
   pub within : number ≤ length tokens
+  pub before : BeginsUnit (take number tokens)
+  pub not_with : number < length tokens → BeginsUnit (take (suc number) tokens) → ⊥
+  pub none : (height : ℕ) (ds : List DeclTree) → ReadsUnit height tokens ds → ⊥
+
+-- the tokens up to the one with this number and with it begin a unit, but none that is low enough
+pub record IsTooDeep (tokens : List Terminal) (number : ℕ) : Type 0 where
+  pub within : number < length tokens
+  pub with : BeginsUnit (take (suc number) tokens)
+  pub none : BeginsLowUnit (take (suc number) tokens) → ⊥
+
+-- the tokens have this fault
+abbrev pub HasFault : List Terminal → SyntaxFault → Type 0
+HasFault tokens faults.NoMemory = Unit {0}
+HasFault tokens (faults.Unexpected number) = IsUnexpected tokens number
+HasFault tokens (faults.TooDeep number) = IsTooDeep tokens number
 
 abbrev pub Answers : List Terminal → Result unit.Unit SyntaxFault → Type 0
 Answers tokens (Ok unit) = ReadsAs tokens (unit_tree unit)
-Answers tokens (Err faults.NoMemory) = Unit {0}
-Answers tokens (Err (faults.Unexpected number)) = IsRefused tokens number
-Answers tokens (Err (faults.TooDeep number)) = IsRefused tokens number
+Answers tokens (Err fault) = HasFault tokens fault

@@ -15,7 +15,7 @@ use Rattle.qs_parser.specs.declared.expressions.Form.TheVariants as variants
 use Rattle.qs_parser.specs.declared.fault.Halt.{Halt}
 use Rattle.qs_parser.specs.declared.fault.Halt.TheVariants as halts
 use Rattle.qs_parser.specs.declared.units.Header.{Header}
-use Rattle.qs_parser.specs.Parse.{Stop, Unexpected, Deep}
+use Rattle.qs_grammar.specs.Parse.{Stop, Unexpected, Deep}
 
 -- What a function answers, seen by `view`, is what the function on lists gives, unless memory runs out.
 abbrev pub Fails : {Y : Type 0} → Halt → Result Y Stop → Type 0

@@ -4,7 +4,7 @@ ghost use Rattle.std.specs.Prelude.{◌≡◌, ◌+◌, ◌≤◌, length, [], I
 ghost use Rattle.qs_syntax.specs.Trees as trees;
 ghost use Rattle.qs_syntax.specs.Trees.{initialisers_of};
 ghost use Rattle.qs_syntax.specs.TreeOf.{expr_tree, lengths_tree, declarator_tree, initialiser_tree, variable_tree, declaration_tree, members_tree, parameter_tree};
-ghost use Rattle.qs_parser.specs.ParseDeclarations.{given_lengths, is_empty_brackets, lengths_of, lengths, named, declarator, initialisers, begins_initialiser, initialiser, initialised, variable, variables, declared, declaration, declaration_within, declarators, members, groups, bracketed, with_name, is_void_alone, without_first, parameter, parameters, is_void_head, head};
+ghost use Rattle.qs_grammar.specs.ParseDeclarations.{given_lengths, is_empty_brackets, lengths_of, lengths, named, declarator, initialisers, begins_initialiser, initialiser, initialised, variable, variables, declared, declaration, declaration_within, declarators, members, groups, bracketed, with_name, is_void_alone, without_first, parameter, parameters, is_void_head, head};
 ghost use Rattle.qs_parser.specs.View.{Gives, read_as, listed};
 
 use crate::expressions::{Form, part};
@@ -72,7 +72,7 @@ fn lengths_of(
 }
 
 /// The brackets behind a name (C11 6.7.6.2).
-#[tactic(auto, unfolding(crate::specs::ParseDeclarations::lengths))]
+#[tactic(auto, unfolding(qs_grammar::specs::ParseDeclarations::lengths))]
 fn lengths(
     alloc: Global,
     room: u8,
@@ -114,7 +114,7 @@ fn named(
 }
 
 /// A name with the stars before it and the brackets behind it (C11 6.7.6).
-#[tactic(auto, unfolding(crate::specs::ParseDeclarations::declarator))]
+#[tactic(auto, unfolding(qs_grammar::specs::ParseDeclarations::declarator))]
 fn declarator(
     alloc: Global,
     room: u8,
@@ -244,7 +244,7 @@ fn initialised(
 }
 
 /// A variable with its initialiser (C11 6.7).
-#[tactic(auto, unfolding(crate::specs::ParseDeclarations::variable))]
+#[tactic(auto, unfolding(qs_grammar::specs::ParseDeclarations::variable))]
 fn variable(
     alloc: Global,
     room: u8,
@@ -298,7 +298,7 @@ pub fn declared(
 }
 
 /// A declaration (C11 6.7).
-#[tactic(auto, unfolding(crate::specs::ParseDeclarations::declaration))]
+#[tactic(auto, unfolding(qs_grammar::specs::ParseDeclarations::declaration))]
 fn declaration(
     alloc: Global,
     room: u8,
@@ -354,7 +354,7 @@ fn declarators(
 }
 
 /// A group of members with their type (C11 6.7.2.1).
-#[tactic(auto, unfolding(crate::specs::ParseDeclarations::members))]
+#[tactic(auto, unfolding(qs_grammar::specs::ParseDeclarations::members))]
 fn members(
     alloc: Global,
     room: u8,
@@ -462,7 +462,7 @@ fn without_first(tokens: &[Terminal]) -> &[Terminal]
 }
 
 /// A parameter (C11 6.7.6.3).
-#[tactic(auto, unfolding(crate::specs::ParseDeclarations::parameter))]
+#[tactic(auto, unfolding(qs_grammar::specs::ParseDeclarations::parameter))]
 fn parameter(
     alloc: Global,
     room: u8,
@@ -518,7 +518,7 @@ fn is_void_head(tokens: &[Terminal]) -> bool
 }
 
 /// The parameters of a header and the parenthesis at their end, behind the first (C11 6.7.6.3).
-#[tactic(auto, unfolding(crate::specs::ParseDeclarations::head))]
+#[tactic(auto, unfolding(qs_grammar::specs::ParseDeclarations::head))]
 pub fn head(
     alloc: Global,
     room: u8,

@@ -5,8 +5,8 @@ ghost use Rattle.std.specs.Prelude.{◌≡◌, ◌+◌, ◌≤◌, length, [], �
 ghost use Rattle.qs_syntax.specs.declared.terminal.Terminal.TheVariants as terminals;
 ghost use Rattle.qs_syntax.specs.TreeOf.{expr_tree};
 ghost use Rattle.qs_syntax.specs.Reads.{Assignment};
-ghost use Rattle.qs_parser.specs.Parse.{texts_from, arguments, call_of, after_name, in_parentheses, primary, index_of, member_of, access_at, suffix, suffixes, postfix, step_of, operator_of, beyond, size_at_limit, size_of, unary_operator_at, unary_of_all, cast_of, cast_or_unary, operations, climb, after_or, after_operand, assignment_of, after_unary, assignment, commas, expression, part};
-ghost use Rattle.qs_parser.specs.Operands.{right_operand};
+ghost use Rattle.qs_grammar.specs.Parse.{texts_from, arguments, call_of, after_name, in_parentheses, primary, index_of, member_of, access_at, suffix, suffixes, postfix, step_of, operator_of, beyond, size_at_limit, size_of, unary_operator_at, unary_of_all, cast_of, cast_or_unary, operations, climb, after_or, after_operand, assignment_of, after_unary, assignment, commas, expression, part};
+ghost use Rattle.qs_grammar.specs.Operands.{right_operand};
 ghost use Rattle.qs_parser.specs.View.{Gives, read_as, listed, texts_of, form_of};
 
 use crate::fault::Halt;
@@ -42,7 +42,7 @@ pub enum Form {
 }
 
 /// The texts that stand side by side, the first given, joined.
-#[tactic(auto, unfolding(crate::specs::Parse::texts_from))]
+#[tactic(auto, unfolding(qs_grammar::specs::Parse::texts_from))]
 fn texts_from<'a>(
     alloc: Global,
     first: &Text,
@@ -82,7 +82,7 @@ pub fn part(
 
 /// An expression of this form.
 #[cycle(parser)]
-#[tactic(auto, unfolding(crate::specs::Parse::expression))]
+#[tactic(auto, unfolding(qs_grammar::specs::Parse::expression))]
 fn expression(
     alloc: Global,
     room: u8,
@@ -194,7 +194,7 @@ fn in_parentheses(
 
 /// An operand without suffixes (C11 6.5.1), or a call.
 #[cycle(parser)]
-#[tactic(auto, unfolding(crate::specs::Parse::primary))]
+#[tactic(auto, unfolding(qs_grammar::specs::Parse::primary))]
 fn primary(alloc: Global, room: u8, tokens: &[Terminal]) -> Result<(Expr, u32, &[Terminal]), Halt>
     ensures gives { Gives (read_as expr_tree) result (primary room (part room) tokens.now) }
     ensures low { IfOk result (λ x. x.1 ≤ room + 1) }
@@ -389,15 +389,12 @@ fn beyond(tokens: &[Terminal]) -> Result<(Expr, u32, &[Terminal]), Halt>
     Err(Halt::Unexpected(tokens.len()))
 }
 
-/// Behind `sizeof`, where no level is left for its operand and no type stands in parentheses.
+/// Behind `sizeof`, where what stands in parentheses would be too deep and no type does.
 fn size_at_limit(tokens: &[Terminal]) -> Result<(Expr, u32, &[Terminal]), Halt>
     ensures gives { Gives (read_as expr_tree) result (size_at_limit tokens.now) }
     ensures low { IfOk result (λ x. x.1 ≤ 0) }
 {
-    if starts(Punctuator::OpenParenthesis, tokens) {
-        return beyond(expect(Punctuator::OpenParenthesis, tokens)?);
-    }
-    beyond(tokens)
+    beyond(expect(Punctuator::OpenParenthesis, tokens)?)
 }
 
 /// The operand of `sizeof`: a type in parentheses, or an expression (C11 6.5.3.4).
@@ -417,13 +414,16 @@ fn size_of(
         let rest = expect(Punctuator::CloseParenthesis, rest)?;
         return Ok((nodes::sizeof_type(at, name), 1, rest));
     }
+    if room <= 1 && starts(Punctuator::OpenParenthesis, tokens) {
+        return size_at_limit(tokens);
+    }
     let (operand, height, rest) = part(alloc, room, Form::Unary, tokens)?;
     Ok((nodes::sizeof_expr(alloc, at, operand)?, height + 1, rest))
 }
 
 /// A unary expression whose first token is a punctuator.
 #[cycle(parser)]
-#[tactic(auto, unfolding(crate::specs::Parse::unary_of_all))]
+#[tactic(auto, unfolding(qs_grammar::specs::Parse::unary_of_all))]
 fn marked<'a>(
     alloc: Global,
     room: u8,
@@ -459,7 +459,7 @@ fn marked<'a>(
 
 /// A unary expression (C11 6.5.3).
 #[cycle(parser)]
-#[tactic(auto, unfolding(crate::specs::Parse::unary_of_all))]
+#[tactic(auto, unfolding(qs_grammar::specs::Parse::unary_of_all))]
 fn unary(alloc: Global, room: u8, tokens: &[Terminal]) -> Result<(Expr, u32, &[Terminal]), Halt>
     ensures gives { Gives (read_as expr_tree) result (unary_of_all room (part room) tokens.now) }
     ensures low { IfOk result (λ x. x.1 ≤ room + 1) }
@@ -469,9 +469,6 @@ fn unary(alloc: Global, room: u8, tokens: &[Terminal]) -> Result<(Expr, u32, &[T
         [Terminal::Keyword(at, _), rest @ ..] => {
             if !starts_with(Keyword::Sizeof, tokens) {
                 return Err(Halt::Unexpected(tokens.len()));
-            }
-            if room == 0 && !begins_cast(rest) {
-                return size_at_limit(rest);
             }
             size_of(alloc, room, *at, rest)
         }
@@ -577,7 +574,7 @@ fn operations(
 
 /// The operators of the levels up to this, behind an operand.
 #[cycle(parser)]
-#[tactic(auto, unfolding(crate::specs::Parse::climb))]
+#[tactic(auto, unfolding(qs_grammar::specs::Parse::climb))]
 fn climb(
     alloc: Global,
     room: u8,

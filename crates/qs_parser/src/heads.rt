@@ -2,8 +2,8 @@
 ghost use Rattle.std.specs.Prelude.{◌≡◌, ◌+◌};
 ghost use Rattle.qs_syntax.specs.Reads.{place};
 ghost use Rattle.qs_syntax.specs.Operators.{access_of, assign_of, binary_of};
-ghost use Rattle.qs_parser.specs.Heads.{is_punctuator, is_keyword, starts, starts_with, operator_at, begins_type};
-ghost use Rattle.qs_parser.specs.Parse.{expect, expect_name, begins_one, begins_cast, starts_suffix, operator_of_level};
+ghost use Rattle.qs_grammar.specs.Heads.{is_punctuator, is_keyword, starts, starts_with, operator_at, begins_type};
+ghost use Rattle.qs_grammar.specs.Parse.{expect, expect_name, begins_one, begins_cast, starts_suffix, operator_of_level};
 ghost use Rattle.qs_parser.specs.View.{Gives, rest_of, name_of};
 
 use crate::fault::Halt;

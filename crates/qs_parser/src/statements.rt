@@ -3,9 +3,9 @@
 ghost use Rattle.std.specs.Prelude.{◌≡◌, ◌+◌, ◌≤◌, ◌||◌, length, [], ◌∷◌, IfOk, option_map};
 ghost use Rattle.qs_base.specs.declared.keyword.Keyword.TheVariants as keywords;
 ghost use Rattle.qs_syntax.specs.Operators.{number_of};
-ghost use Rattle.qs_parser.specs.Heads.{is_keyword};
+ghost use Rattle.qs_grammar.specs.Heads.{is_keyword};
 ghost use Rattle.qs_syntax.specs.TreeOf.{expr_tree, option_tree, start_tree, stmt_tree};
-ghost use Rattle.qs_parser.specs.ParseStatements.{optional, condition, start_of, begins_statement, item, items, in_block, otherwise, after_if, after_while, expect_while, after_do, after_for, after_return, running, plain_statement, keyword_statement, statement_at, statement};
+ghost use Rattle.qs_grammar.specs.ParseStatements.{optional, condition, start_of, begins_statement, item, items, in_block, otherwise, after_if, after_while, expect_while, after_do, after_for, after_return, running, plain_statement, keyword_statement, statement_at, statement};
 ghost use Rattle.qs_parser.specs.View.{Gives, read_as, listed, rest_of};
 
 use crate::declarations::declaration_within;

@@ -1,7 +1,7 @@
 // What stands at file scope (C11 6.9). What is read is at most `room + 2` high.
 ghost use Rattle.std.specs.Prelude.{◌≡◌, ◌+◌, ◌<◌, ◌≤◌, length, [], IfOk, option_map};
 ghost use Rattle.qs_syntax.specs.TreeOf.{decl_tree, stmts_tree};
-ghost use Rattle.qs_parser.specs.ParseStatements.{is_named, struct_of, forward_of, body_of, function_of, typed, external, is_empty, externals, unit};
+ghost use Rattle.qs_grammar.specs.ParseStatements.{is_named, struct_of, forward_of, body_of, function_of, typed, external, is_empty, externals, unit};
 ghost use Rattle.qs_parser.specs.View.{Gives, read_as, listed, parameters_of, function_with, unit_of};
 
 use crate::declarations::{declared, groups, head};
@@ -99,7 +99,7 @@ fn function(header: Header, body: Option<Vec<Stmt>>) -> Decl
 }
 
 /// What stands behind a header's parameters: a semicolon or a body (C11 6.7.6.3, 6.9.1).
-#[tactic(auto, unfolding(crate::specs::ParseStatements::body_of))]
+#[tactic(auto, unfolding(qs_grammar::specs::ParseStatements::body_of))]
 fn body_of(
     alloc: Global,
     room: u8,
@@ -166,7 +166,7 @@ fn typed(
 }
 
 /// A struct, a function or variables (C11 6.9).
-#[tactic(auto, unfolding(crate::specs::ParseStatements::external))]
+#[tactic(auto, unfolding(qs_grammar::specs::ParseStatements::external))]
 fn external(alloc: Global, room: u8, tokens: &[Terminal]) -> Result<(Decl, u32, &[Terminal]), Halt>
     requires fits { room < 255 }
     ensures gives { Gives (read_as decl_tree) result (external room tokens.now) }
@@ -223,7 +223,7 @@ fn externals(
 }
 
 /// All of the tokens as a unit (C11 6.9) that is at most 128 high, not yet numbered, and how high it is.
-#[tactic(auto, unfolding(crate::specs::ParseStatements::unit))]
+#[tactic(auto, unfolding(qs_grammar::specs::ParseStatements::unit))]
 pub fn read_unit(alloc: Global, tokens: &[Terminal]) -> Result<(Vec<Decl>, u32), Halt>
     ensures gives { Gives unit_of result (unit 126 tokens.now) }
     ensures low { IfOk result (λ x. x.1 ≤ 128) }

@@ -1,8 +1,8 @@
-use Rattle.std.proofs.Common.{map, arith}
+use Rattle.std.proofs.Common.{map}
 use Rattle.qs_syntax.specs.TreeOf.{decl_tree}
-use Rattle.qs_parser.specs.Parse.{Unexpected, Deep}
-use Rattle.qs_parser.proofs.UnitsSound.{stops_within}
-use Rattle.qs_parser.proofs.Top.{is_read, are_few, reads_as, no_reading}
+use Rattle.qs_grammar.specs.Parse.{Unexpected, Deep}
+use Rattle.qs_grammar.proofs.UnitsSound.{stops_within}
+use Rattle.qs_parser.proofs.Top.{is_read, are_few, reads_as, is_unexpected, is_too_deep}
 use Rattle.qs_parser.proofs.parse.unit_of.Goals as goal
 
 pub numbered-requires-clause-read : goal.numbered-requires-clause-read
@@ -22,7 +22,7 @@ pub number_of-requires-in-Err-TooDeep-clause-within : goal.number_of-requires-in
 number_of-requires-in-Err-TooDeep-clause-within c = rw c.in-Err-TooDeep.field-0-is (stops_within c.args.tokens.now (Deep c.in-Err-TooDeep.left) (rw c.in-Err-TooDeep.field-0-is at c.in-Err-TooDeep.ensures.gives))
 
 pub returns-in-Err-Unexpected : goal.returns-in-Err-Unexpected
-returns-in-Err-Unexpected c = record { none = no_reading c.args.tokens.now (Unexpected c.in-Err-Unexpected.left) (rw c.in-Err-Unexpected.field-0-is at c.in-Err-Unexpected.ensures.gives); within = omega (arith, c.number_of.ensures) }
+returns-in-Err-Unexpected c = is_unexpected c.args.tokens.now c.in-Err-Unexpected.left _ (rw c.in-Err-Unexpected.field-0-is at c.in-Err-Unexpected.ensures.gives) c.number_of.ensures
 
 pub returns-in-Err-TooDeep : goal.returns-in-Err-TooDeep
-returns-in-Err-TooDeep c = record { none = no_reading c.args.tokens.now (Deep c.in-Err-TooDeep.left) (rw c.in-Err-TooDeep.field-0-is at c.in-Err-TooDeep.ensures.gives); within = omega (arith, c.number_of-in-Err-TooDeep.ensures) }
+returns-in-Err-TooDeep c = is_too_deep c.args.tokens.now c.in-Err-TooDeep.left _ (rw c.in-Err-TooDeep.field-0-is at c.in-Err-TooDeep.ensures.gives) c.number_of-in-Err-TooDeep.ensures

@@ -1,0 +1,149 @@
+-- Punctuators, keywords and operators: the tables fit each other, and what a test of the first token says.
+use Rattle.std.proofs.Common.{◌≡◌, ℕ, ◌<◌, true, false, List, [], ◌∷◌, Option, Some, refl, sym, ap, ◌∙◌, arith}
+use Rattle.std.proofs.lemmas.Bool.{false_from_ne_true}
+use Rattle.qs_syntax.specs.declared.terminal.Terminal.{Terminal}
+use Rattle.qs_syntax.specs.declared.terminal.Terminal.TheVariants.{Name, Keyword, Constant, Text, Punctuator}
+use Rattle.qs_base.specs.declared.keyword.Keyword as key
+use Rattle.qs_syntax.specs.declared.punctuator.Punctuator as punctuator
+use Rattle.qs_syntax.specs.declared.operators.UnaryOperator.{UnaryOperator}
+use Rattle.qs_syntax.specs.declared.operators.BinaryOperator.{BinaryOperator}
+use Rattle.qs_syntax.specs.declared.operators.BinaryOperator.TheVariants as binaries
+use Rattle.qs_syntax.specs.declared.operators.AssignmentOperator.{AssignmentOperator}
+use Rattle.qs_syntax.specs.declared.operators.AssignmentOperator.TheVariants as assigns
+use Rattle.qs_syntax.specs.declared.operators.Access.{Access}
+use Rattle.qs_syntax.specs.declared.operators.Access.TheVariants as accesses
+use Rattle.qs_syntax.specs.Operators.{access_of, assign_of, binary_of, number_of, precedence, punctuator_of_access, punctuator_of_assign, punctuator_of_binary, punctuator_of_unary, unary_of}
+use Rattle.qs_base.proofs.KeywordLaws.{same_keyword_exact}
+use Rattle.qs_syntax.proofs.OperatorLaws.{access_of-punctuator, assign_of-punctuator, binary_of-punctuator, punctuator-access_of, punctuator-assign_of, punctuator-binary_of, punctuator-unary_of, unary_of-punctuator}
+use Rattle.qs_syntax.proofs.PunctuatorLaws.{same_punctuator_exact}
+use Rattle.qs_grammar.specs.Heads.{is_punctuator, is_keyword, starts, starts_with, operator_at}
+use Rattle.qs_grammar.specs.Stops.{punctuator_strength, strength, strength_at}
+
+-- ---- tests of a token
+
+pub punctuator_is : (m : punctuator.Punctuator) (t : Terminal) → is_punctuator m t ≡ true → t ≡ Punctuator (number_of t) m
+punctuator_is m (Name at x) e = absurd cc
+punctuator_is m (Keyword at k) e = absurd cc
+punctuator_is m (Constant at n unsigned) e = absurd cc
+punctuator_is m (Text at bytes) e = absurd cc
+punctuator_is m (Punctuator at n) e = ap (λ k. Punctuator at k) ((same_punctuator_exact n m).0 e)
+
+pub keyword_is : (k : key.Keyword) (t : Terminal) → is_keyword k t ≡ true → t ≡ Keyword (number_of t) k
+keyword_is k (Name at x) e = absurd cc
+keyword_is k (Keyword at l) e = ap (λ j. Keyword at j) ((same_keyword_exact l k).0 e)
+keyword_is k (Constant at n unsigned) e = absurd cc
+keyword_is k (Text at bytes) e = absurd cc
+keyword_is k (Punctuator at m) e = absurd cc
+
+pub is_punctuator_itself : (m : punctuator.Punctuator) (at : ℕ) → is_punctuator m (Punctuator at m) ≡ true
+is_punctuator_itself m at = (same_punctuator_exact m m).1 refl
+
+pub is_keyword_itself : (k : key.Keyword) (at : ℕ) → is_keyword k (Keyword at k) ≡ true
+is_keyword_itself k at = (same_keyword_exact k k).1 refl
+
+-- the first token is this punctuator
+pub starts_is : (m : punctuator.Punctuator) (ts : List Terminal) → starts m ts ≡ true → (at : ℕ) × (us : List Terminal) × (ts ≡ Punctuator at m ∷ us)
+starts_is m [] e = absurd cc
+starts_is m (t ∷ ts) e = (number_of t, ts, ap (λ u. u ∷ ts) (punctuator_is m t e))
+
+pub starts_with_is : (k : key.Keyword) (ts : List Terminal) → starts_with k ts ≡ true → (at : ℕ) × (us : List Terminal) × (ts ≡ Keyword at k ∷ us)
+starts_with_is k [] e = absurd cc
+starts_with_is k (t ∷ ts) e = (number_of t, ts, ap (λ u. u ∷ ts) (keyword_is k t e))
+
+-- ---- a punctuator that binds otherwise than the first token is not the first token
+
+pub starts_strength : (m : punctuator.Punctuator) (ts : List Terminal) → starts m ts ≡ true → strength_at ts ≡ punctuator_strength m
+starts_strength m [] e = absurd cc
+starts_strength m (t ∷ ts) e = ap strength (punctuator_is m t e)
+
+pub not_starts : (m : punctuator.Punctuator) (ts : List Terminal) → punctuator_strength m < strength_at ts → starts m ts ≡ false
+not_starts m ts lt = false_from_ne_true (starts m ts) (λ e. let same : strength_at ts ≡ punctuator_strength m = starts_strength m ts e in absurd (omega arith))
+
+-- ---- unary operators
+
+pub unary_punctuator : (s : UnaryOperator) → unary_of (punctuator_of_unary s) ≡ Some s
+unary_punctuator = unary_of-punctuator
+
+pub unary_is : (m : punctuator.Punctuator) (s : UnaryOperator) → unary_of m ≡ Some s → m ≡ punctuator_of_unary s
+unary_is m s e = sym (punctuator-unary_of m s e)
+
+-- ---- binary operators
+
+pub binary_punctuator : (s : BinaryOperator) → binary_of (punctuator_of_binary s) ≡ Some s
+binary_punctuator = binary_of-punctuator
+
+pub binary_is : (m : punctuator.Punctuator) (s : BinaryOperator) → binary_of m ≡ Some s → m ≡ punctuator_of_binary s
+binary_is m s e = sym (punctuator-binary_of m s e)
+
+pub binary_strength : (s : BinaryOperator) → punctuator_strength (punctuator_of_binary s) ≡ precedence s
+binary_strength binaries.Multiply = refl
+binary_strength binaries.Divide = refl
+binary_strength binaries.Remainder = refl
+binary_strength binaries.Add = refl
+binary_strength binaries.Subtract = refl
+binary_strength binaries.ShiftLeft = refl
+binary_strength binaries.ShiftRight = refl
+binary_strength binaries.Less = refl
+binary_strength binaries.LessEqual = refl
+binary_strength binaries.Greater = refl
+binary_strength binaries.GreaterEqual = refl
+binary_strength binaries.Equal = refl
+binary_strength binaries.NotEqual = refl
+binary_strength binaries.BitAnd = refl
+binary_strength binaries.BitXor = refl
+binary_strength binaries.BitOr = refl
+binary_strength binaries.And = refl
+binary_strength binaries.Or = refl
+
+-- ---- assign operators
+
+pub assign_punctuator : (s : AssignmentOperator) → assign_of (punctuator_of_assign s) ≡ Some s
+assign_punctuator = assign_of-punctuator
+
+pub assign_is : (m : punctuator.Punctuator) (s : AssignmentOperator) → assign_of m ≡ Some s → m ≡ punctuator_of_assign s
+assign_is m s e = sym (punctuator-assign_of m s e)
+
+pub assign_strength : (s : AssignmentOperator) → punctuator_strength (punctuator_of_assign s) ≡ 12
+assign_strength assigns.Plain = refl
+assign_strength assigns.Multiply = refl
+assign_strength assigns.Divide = refl
+assign_strength assigns.Remainder = refl
+assign_strength assigns.Add = refl
+assign_strength assigns.Subtract = refl
+assign_strength assigns.ShiftLeft = refl
+assign_strength assigns.ShiftRight = refl
+assign_strength assigns.BitAnd = refl
+assign_strength assigns.BitXor = refl
+assign_strength assigns.BitOr = refl
+
+-- ---- accesses
+
+pub access_punctuator : (s : Access) → access_of (punctuator_of_access s) ≡ Some s
+access_punctuator = access_of-punctuator
+
+pub access_is : (m : punctuator.Punctuator) (s : Access) → access_of m ≡ Some s → m ≡ punctuator_of_access s
+access_is m s e = sym (punctuator-access_of m s e)
+
+pub access_strength : (s : Access) → punctuator_strength (punctuator_of_access s) ≡ 0
+access_strength accesses.Dot = refl
+access_strength accesses.Arrow = refl
+
+-- ---- the operator that stands first
+
+pub operator_is : {A : Type 0} (of : punctuator.Punctuator → Option A) (punctuator_of : A → punctuator.Punctuator) → ((m : punctuator.Punctuator) (s : A) → of m ≡ Some s → m ≡ punctuator_of s)
+    → (ts : List Terminal) (s : A) → operator_at of ts ≡ Some s → (at : ℕ) × (us : List Terminal) × (ts ≡ Punctuator at (punctuator_of s) ∷ us)
+operator_is of punctuator_of back [] s e = absurd cc
+operator_is of punctuator_of back (Name at x ∷ ts) s e = absurd cc
+operator_is of punctuator_of back (Keyword at k ∷ ts) s e = absurd cc
+operator_is of punctuator_of back (Constant at n unsigned ∷ ts) s e = absurd cc
+operator_is of punctuator_of back (Text at bytes ∷ ts) s e = absurd cc
+operator_is of punctuator_of back (Punctuator at m ∷ ts) s e = (at, ts, ap (λ k. Punctuator at k ∷ ts) (back m s e))
+
+pub binary_at_strength : (ts : List Terminal) (s : BinaryOperator) → operator_at binary_of ts ≡ Some s → strength_at ts ≡ precedence s
+binary_at_strength ts s e = let is = operator_is binary_of punctuator_of_binary binary_is ts s e in ap strength_at is.2 ∙ binary_strength s
+
+pub assign_at_strength : (ts : List Terminal) (s : AssignmentOperator) → operator_at assign_of ts ≡ Some s → strength_at ts ≡ 12
+assign_at_strength ts s e = let is = operator_is assign_of punctuator_of_assign assign_is ts s e in ap strength_at is.2 ∙ assign_strength s
+
+pub access_at_strength : (ts : List Terminal) (s : Access) → operator_at access_of ts ≡ Some s → strength_at ts ≡ 0
+access_at_strength ts s e = let is = operator_is access_of punctuator_of_access access_is ts s e in ap strength_at is.2 ∙ access_strength s

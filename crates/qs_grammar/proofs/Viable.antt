@@ -1,0 +1,158 @@
+-- The tokens before a fault begin what is read, and with a token that is too deep they still do. How such laws are put together.
+use Rattle.std.proofs.Common.{◌≡◌, ℕ, suc, Bool, true, false, cond, List, [], ◌∷◌, ◌++◌, length, Result, Ok, Err, refl, sym, ap, subst, ◌∙◌, append_assoc, append-nil}
+use Rattle.qs_syntax.specs.declared.terminal.Terminal.{Terminal}
+use Rattle.qs_syntax.specs.declared.terminal.Terminal.TheVariants.{Name, Keyword, Constant, Text, Punctuator}
+use Rattle.qs_syntax.specs.declared.punctuator.Punctuator as punctuator
+use Rattle.qs_syntax.specs.Operators.{number_of}
+use Rattle.qs_base.specs.declared.keyword.Keyword as key
+use Rattle.qs_grammar.specs.Heads.{is_punctuator, is_keyword, starts}
+use Rattle.qs_grammar.specs.Parse.{Stop, Unexpected, Deep, Parse, bind, unexpected, expect, expect_name}
+use Rattle.qs_grammar.proofs.HeadsLaws.{punctuator_is, keyword_is}
+use Rattle.qs_grammar.proofs.Sound.{Outcome, Sound}
+
+-- what holds of tokens holds of each front of them
+pub record OfFronts (Q : List Terminal → Type 0) : Type 0 where
+  pub front : (xs ys : List Terminal) → Q (xs ++ ys) → Q xs
+
+pub of_nothing : {Q : List Terminal → Type 0} → OfFronts Q → (xs : List Terminal) → Q xs → Q []
+of_nothing c xs q = c.front [] xs q
+
+pub of_token : {Q : List Terminal → Type 0} → OfFronts Q → (t : Terminal) (xs : List Terminal) → Q (t ∷ xs) → Q (t ∷ [])
+of_token c t xs q = c.front (t ∷ []) xs q
+
+pub behind_token : {Q : List Terminal → Type 0} (t : Terminal) → OfFronts Q → OfFronts (λ l. Q (t ∷ l))
+behind_token t c = record { front = λ xs ys q. c.front (t ∷ xs) ys q }
+
+pub behind : {Q : List Terminal → Type 0} (done : List Terminal) → OfFronts Q → OfFronts (λ l. Q (done ++ l))
+behind {Q} done c = record { front = λ xs ys q. c.front (done ++ xs) ys (subst Q (sym (append_assoc done xs ys)) q) }
+
+abbrev Place : {A : Type 0} → (List Terminal → Type 0) → List Terminal → Result (A × List Terminal) Stop → Type 0
+Place Q ts (Ok x) = Unit {0}
+Place Q ts (Err (Unexpected k)) = (front : List Terminal) × (rest : List Terminal) × (ts ≡ front ++ rest) × (length rest ≡ k) × Q front
+Place Q ts (Err (Deep k)) = (front : List Terminal) × (rest : List Terminal) × (ts ≡ front ++ rest) × (suc (length rest) ≡ k) × Q front
+
+-- where there is a fault, Q holds of the tokens before it, or of those up to and including one that is too deep
+pub record Viable {A : Type 0} (Q : List Terminal → Type 0) (ts : List Terminal) (r : Result (A × List Terminal) Stop) : Type 0 where
+  pub is : Place Q ts r
+
+module _ {A : Type 0} {Q : List Terminal → Type 0} where
+  pub Viable-ok : {x : A × List Terminal} {ts : List Terminal} → Viable Q ts (Ok x)
+  Viable-ok = record { is = tt }
+
+  pub Viable-unexpected : {ts : List Terminal} → Q [] → Viable {A = A} Q ts (Err (Unexpected (length ts)))
+  Viable-unexpected {ts} q = record { is = ([], ts, refl, refl, q) }
+
+  pub Viable-deep : {t : Terminal} {ts : List Terminal} → Q (t ∷ []) → Viable {A = A} Q (t ∷ ts) (Err (Deep (suc (length ts))))
+  Viable-deep {t} {ts} q = record { is = (t ∷ [], ts, refl, refl, q) }
+
+  pub Viable-after : (ts taken us : List Terminal) → ts ≡ taken ++ us → (r : Result (A × List Terminal) Stop) → Viable (λ l. Q (taken ++ l)) us r → Viable Q ts r
+  Viable-after ts taken us e r s = record { is = go r s.is }
+    where
+      go : (r : Result (A × List Terminal) Stop) → Place (λ l. Q (taken ++ l)) us r → Place Q ts r
+      go (Ok x) h = tt
+      go (Err (Unexpected k)) (front, rest, d, n, h) = (taken ++ front, rest, e ∙ ap (λ l. taken ++ l) d ∙ sym (append_assoc taken front rest), n, h)
+      go (Err (Deep k)) (front, rest, d, n, h) = (taken ++ front, rest, e ∙ ap (λ l. taken ++ l) d ∙ sym (append_assoc taken front rest), n, h)
+
+  pub Viable-token : {t : Terminal} {ts : List Terminal} {r : Result (A × List Terminal) Stop} → Viable (λ l. Q (t ∷ l)) ts r → Viable Q (t ∷ ts) r
+  Viable-token {t} {ts} {r} s = Viable-after (t ∷ ts) (t ∷ []) ts refl r s
+
+  pub Viable-if : {ts : List Terminal} {r s : Result (A × List Terminal) Stop} (b : Bool) → (b ≡ true → Viable Q ts r) → (b ≡ false → Viable Q ts s) → Viable Q ts (cond b r s)
+  Viable-if true f g = f refl
+  Viable-if false f g = g refl
+
+module _ {A : Type 0} {P Q : List Terminal → Type 0} where
+  pub Viable-map : {ts : List Terminal} {r : Result (A × List Terminal) Stop} → ((l : List Terminal) → P l → Q l) → Viable P ts r → Viable Q ts r
+  Viable-map {ts} {r} f s = record { is = go r s.is }
+    where
+      go : (r : Result (A × List Terminal) Stop) → Place P ts r → Place Q ts r
+      go (Ok x) h = tt
+      go (Err (Unexpected k)) (front, rest, d, n, h) = (front, rest, d, n, f front h)
+      go (Err (Deep k)) (front, rest, d, n, h) = (front, rest, d, n, f front h)
+
+-- what was read before and what follows, in one
+pub Viable-joined : {A : Type 0} (Q : List Terminal → Type 0) {ts : List Terminal} {r : Result (A × List Terminal) Stop} (done front : List Terminal) → Viable (λ l. Q ((done ++ front) ++ l)) ts r → Viable (λ l. Q (done ++ (front ++ l))) ts r
+Viable-joined Q done front s = Viable-map (λ l q. subst Q (append_assoc done front l) q) s
+
+module _ {A C : Type 0} {R : A → List Terminal → Type 0} {Q : List Terminal → Type 0} where
+  -- a first part, which was read, and what follows
+  pub Viable-bind : {ts : List Terminal} {r : Result (A × List Terminal) Stop} (f : A → Parse C) → Sound R [] ts r → Viable Q ts r
+      → ((x : A) (front us : List Terminal) → R x front → Viable (λ l. Q (front ++ l)) us (f x us)) → Viable Q ts (bind r f)
+  Viable-bind {ts} {r} f sound s go = by_case r sound.is s.is
+    where
+      by_case : (r : Result (A × List Terminal) Stop) → Outcome R [] ts r → Place Q ts r → Viable Q ts (bind r f)
+      by_case (Ok x) (front, e, h) p = Viable-after ts front x.1 e (f x.0 x.1) (go x.0 front x.1 h)
+      by_case (Err (Unexpected k)) h p = record { is = p }
+      by_case (Err (Deep k)) h p = record { is = p }
+
+  -- the same, where what follows knows that the first was read, and how the tokens begin
+  pub Viable-bind-is : {ts : List Terminal} {r : Result (A × List Terminal) Stop} (f : A → Parse C) → Sound R [] ts r → Viable Q ts r
+      → ((x : A) (front us : List Terminal) → r ≡ Ok (x, us) → ts ≡ front ++ us → R x front → Viable (λ l. Q (front ++ l)) us (f x us)) → Viable Q ts (bind r f)
+  Viable-bind-is {ts} {r} f sound s go = by_case r sound.is s.is go
+    where
+      by_case : (r : Result (A × List Terminal) Stop) → Outcome R [] ts r → Place Q ts r → ((x : A) (front us : List Terminal) → r ≡ Ok (x, us) → ts ≡ front ++ us → R x front → Viable (λ l. Q (front ++ l)) us (f x us)) → Viable Q ts (bind r f)
+      by_case (Ok x) (front, e, h) p go = Viable-after ts front x.1 e (f x.0 x.1) (go x.0 front x.1 refl e h)
+      by_case (Err (Unexpected k)) h p go = record { is = p }
+      by_case (Err (Deep k)) h p go = record { is = p }
+
+module _ {A C : Type 0} {R : A → List Terminal → Type 0} (Q : List Terminal → Type 0) where
+  -- the same, where the first speaks of all that was read before
+  pub Viable-then : {done ts : List Terminal} {r : Result (A × List Terminal) Stop} (f : A → Parse C) → Sound R done ts r → Viable (λ l. Q (done ++ l)) ts r
+      → ((x : A) (all us : List Terminal) → R x all → Viable (λ l. Q (all ++ l)) us (f x us)) → Viable (λ l. Q (done ++ l)) ts (bind r f)
+  Viable-then {done} {ts} {r} f sound s go = by_case r sound.is s.is
+    where
+      by_case : (r : Result (A × List Terminal) Stop) → Outcome R done ts r → Place (λ l. Q (done ++ l)) ts r → Viable (λ l. Q (done ++ l)) ts (bind r f)
+      by_case (Ok x) (front, e, h) p = Viable-after ts front x.1 e (f x.0 x.1) (Viable-joined Q done front (go x.0 (done ++ front) x.1 h))
+      by_case (Err (Unexpected k)) h p = record { is = p }
+      by_case (Err (Deep k)) h p = record { is = p }
+
+-- a part behind which nothing is refused
+pub Viable-done : {A C : Type 0} {Q : List Terminal → Type 0} {ts : List Terminal} {r : Result (A × List Terminal) Stop} (g : A → List Terminal → C × List Terminal) → Viable Q ts r → Viable Q ts (bind r (λ x us. Ok (g x us)))
+Viable-done {A} {C} {Q} {ts} {r} g s = by_case r s.is
+  where
+    by_case : (r : Result (A × List Terminal) Stop) → Place Q ts r → Viable Q ts (bind r (λ x us. Ok (g x us)))
+    by_case (Ok x) p = Viable-ok
+    by_case (Err (Unexpected k)) p = record { is = p }
+    by_case (Err (Deep k)) p = record { is = p }
+
+-- nothing more
+pub here : (Q : List Terminal → Type 0) (xs : List Terminal) → Q xs → Q (xs ++ [])
+here Q xs q = subst Q (sym (append-nil xs)) q
+
+-- the token that was looked at
+pub Viable-mark : {A : Type 0} {Q : List Terminal → Type 0} {ts : List Terminal} {r : Result (A × List Terminal) Stop} (m : punctuator.Punctuator) (t : Terminal) → is_punctuator m t ≡ true → Viable Q (Punctuator (number_of t) m ∷ ts) r → Viable Q (t ∷ ts) r
+Viable-mark {Q = Q} {ts = ts} {r = r} m t e v = subst (λ u. Viable Q (u ∷ ts) r) (sym (punctuator_is m t e)) v
+
+pub Viable-keyword : {A : Type 0} {Q : List Terminal → Type 0} {ts : List Terminal} {r : Result (A × List Terminal) Stop} (k : key.Keyword) (t : Terminal) → is_keyword k t ≡ true → Viable Q (Keyword (number_of t) k ∷ ts) r → Viable Q (t ∷ ts) r
+Viable-keyword {Q = Q} {ts = ts} {r = r} k t e v = subst (λ u. Viable Q (u ∷ ts) r) (sym (keyword_is k t e)) v
+
+module _ {A : Type 0} {Q : List Terminal → Type 0} where
+  -- a punctuator that may stand here, and what follows
+  pub Viable-punctuator : (m : punctuator.Punctuator) (ts : List Terminal) (f : Unit {0} → Parse A) → Q [] → ((at : ℕ) (us : List Terminal) → Viable (λ l. Q (Punctuator at m ∷ l)) us (f tt us)) → Viable Q ts (bind (expect m ts) f)
+  Viable-punctuator m [] f q go = Viable-unexpected q
+  Viable-punctuator m (t ∷ ts) f q go = by_case (is_punctuator m t) (λ e. punctuator_is m t e)
+    where
+      by_case : (b : Bool) → (b ≡ true → t ≡ Punctuator (number_of t) m) → Viable Q (t ∷ ts) (bind (cond b (Ok (tt, ts)) (unexpected (t ∷ ts))) f)
+      by_case true h = rw (h refl) (Viable-token (go (number_of t) ts))
+      by_case false h = Viable-unexpected q
+
+  -- a punctuator that does not stand there
+  pub Viable-no-punctuator : (m : punctuator.Punctuator) (ts : List Terminal) (f : Unit {0} → Parse A) → starts m ts ≡ false → Q [] → Viable Q ts (bind (expect m ts) f)
+  Viable-no-punctuator m [] f e q = Viable-unexpected q
+  Viable-no-punctuator m (t ∷ ts) f e q = rw e (Viable-unexpected q)
+
+  pub Viable-name : (ts : List Terminal) (f : ℕ × List ℕ → Parse A) → Q [] → ((at : ℕ) (x : List ℕ) (us : List Terminal) → Viable (λ l. Q (Name at x ∷ l)) us (f (at, x) us)) → Viable Q ts (bind (expect_name ts) f)
+  Viable-name [] f q go = Viable-unexpected q
+  Viable-name (Name at x ∷ ts) f q go = Viable-token (go at x ts)
+  Viable-name (Keyword at k ∷ ts) f q go = Viable-unexpected q
+  Viable-name (Constant at n unsigned ∷ ts) f q go = Viable-unexpected q
+  Viable-name (Text at bytes ∷ ts) f q go = Viable-unexpected q
+  Viable-name (Punctuator at m ∷ ts) f q go = Viable-unexpected q
+
+  -- where the token that stands first needs room
+  pub Viable-above : {t : Terminal} {ts : List Terminal} {r : Result (A × List Terminal) Stop} (b : Bool) → Q (t ∷ []) → Viable Q (t ∷ ts) r → Viable Q (t ∷ ts) (cond b r (Err (Deep (suc (length ts)))))
+  Viable-above true q s = s
+  Viable-above false q s = Viable-deep q
+
+  pub Viable-some : {t : Terminal} {ts : List Terminal} {r : Result (A × List Terminal) Stop} (b : Bool) → Q (t ∷ []) → Viable Q (t ∷ ts) r → Viable Q (t ∷ ts) (cond b (Err (Deep (suc (length ts)))) r)
+  Viable-some true q s = Viable-deep q
+  Viable-some false q s = s

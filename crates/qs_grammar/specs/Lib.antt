@@ -1,0 +1,6 @@
+pub mod Heads
+pub mod Parse
+pub mod ParseDeclarations
+pub mod ParseStatements
+pub mod Stops
+pub mod Operands

@@ -284,3 +284,6 @@ unit_texts unit = (declarations_add start_context unit).texts start_walk
 
 pub unit_typed : (unit : UnitTree) → (unit_walked unit).found.types ≡ unit_types unit
 unit_typed unit = (declarations_add start_context unit).types start_walk
+
+pub unit_addresses : (unit : UnitTree) → (unit_walked unit).found.addressed ≡ flat_map site_addressed (unit_sites unit)
+unit_addresses unit = (declarations_add start_context unit).names start_walk

@@ -1,21 +1,24 @@
 -- The blocks of memory that a walk notes are those that are counted.
-use Rattle.std.proofs.Common.{◌≡◌, ℕ, ◌+◌, Bool, true, false, ◌||◌, List, [], ◌∷◌, ◌++◌, Option, Some, None, length, drop, filter, map, refl, sym, subst, ap, ◌∙◌, append_assoc, append-nil, if◌then◌else◌}
+use Rattle.std.proofs.Common.{◌≡◌, ℕ, ◌+◌, Bool, true, false, ◌&&◌, ◌||◌, List, [], ◌∷◌, ◌++◌, Option, Some, None, is_some, length, drop, filter, map, refl, sym, subst, ap, ◌∙◌, append_assoc, append-nil, if◌then◌else◌}
 use Rattle.std.proofs.lemmas.List.{drop_at}
 use Rattle.qs_syntax.specs.declared.types.Base.{Base}
 use Rattle.qs_syntax.specs.declared.nodes.Node.{Node}
 use Rattle.qs_syntax.specs.Trees.{ExprTree, DeclaratorTree, InitialiserTree, value, list, Initialisers, no_initialisers, initialiser_and, VariableTree, ParameterTree, MembersTree, StartTree, no_start, start_expression, start_declaration, StmtTree, empty, expression, declaration, block, branch, while_loop, do_loop, for_loop, break, continue, return, Stmts, no_stmts, stmt_and, Else, no_else, else_by, StructTree, FunctionTree, DeclTree, structure, forward, function, variables, UnitTree}
 use Rattle.qs_types.specs.Types.{TypeTree, Structs}
+use Rattle.qs_types.specs.declared.rules.Rule.TheVariants as rules
+use Rattle.qs_types.specs.Rules.{Test, test}
+use Rattle.qs_types.specs.Expressions.{type_of}
 use Rattle.qs_types.specs.Contexts.{Context, start_context, inner_scope, inside_loop}
-use Rattle.qs_types.specs.ExpressionFaults.{Position, used, discarded}
+use Rattle.qs_types.specs.ExpressionFaults.{Position, used, discarded, whole}
 use Rattle.qs_types.specs.Declarations.{variable_declared}
 use Rattle.qs_types.specs.InitialiserRules.{option_part}
-use Rattle.qs_types.specs.StatementRules.{after_variable, after_statement, for_context}
-use Rattle.qs_types.specs.UnitRules.{with_tag, Before, no_members, after_member, after_together, after_parameter, after_function, after_declaration, parameter_types, with_parameter, with_parameters, body_context}
+use Rattle.qs_types.specs.StatementRules.{after_variable, variable_tests, condition_tests, for_tests, loop_tests, return_tests, after_statement, for_context}
+use Rattle.qs_types.specs.UnitRules.{with_tag, is_defined, member_tests, parameter_tests, header_tests, result_type, Before, no_members, after_member, after_together, after_parameter, after_function, after_declaration, parameter_types, with_parameter, with_parameters, body_context}
 use Rattle.qs_types.specs.Placed.{Local, addressed_in, is_placed, locals_in, parameters_locals, variables_locals, start_locals, statement_locals, statements_locals, else_locals}
 use Rattle.qs_types.specs.Limits.{Block, type_size, variables_blocks, variable_blocks_from, local_block, local_blocks, local_past, local_past_from, local_limit, block_past, or_else}
 use Rattle.qs_types.specs.Sites.{may_hold}
 use Rattle.qs_typing.specs.Noted.{LocalTree, local_tree, parameters_noted, is_block, local_past_by, body_ended}
-use Rattle.qs_typing.specs.UnitWalk.{WalkTree, node_opened, node_judged, site_walked, expr_walked, option_walked, lengths_walked, initialiser_walked, elements_walked, option_initialiser_walked, variable_walk_noted, variable_walked, variables_walked, start_walked, condition_walked, statement_walked, statements_walked, else_walked, member_walked, together_walked, members_walked, struct_walked, parameter_walked, parameters_walked, with_body_begun, with_body_ended, body_walked, function_walked, declaration_walked, declarations_walked, unit_walked, start_walk}
+use Rattle.qs_typing.specs.UnitWalk.{WalkTree, node_opened, node_judged, option_list_tests, site_walked, expr_walked, option_walked, lengths_walked, initialiser_walked, elements_walked, option_initialiser_walked, variable_walk_noted, variable_walked, variables_walked, start_walked, condition_walked, statement_walked, statements_walked, else_walked, member_walked, together_walked, members_walked, struct_walked, parameter_walked, parameters_walked, with_body_begun, with_body_ended, body_walked, function_walked, declaration_walked, declarations_walked, unit_walked, start_walk}
 use Rattle.qs_typing.proofs.Adding.{Adds, site_addressed, statements_add}
 use Rattle.qs_typing.proofs.Scoping.{statement_inner, start_inner}
 
@@ -49,7 +52,7 @@ with_locals {f = f} {gs = gs} e a = subst (λ l. AddsBlocks f gs l) e a
 then_kept : {f g : WalkTree → WalkTree} {ls : List LocalTree} → AddsBlocks f [] ls → Keeps g → AddsBlocks (λ w. g (f w)) [] ls
 then_kept {ls = ls} a b = with_locals (append-nil ls) (then_blocks a b)
 
-judged_kept : {f : WalkTree → WalkTree} {gs : List Block} {ls : List LocalTree} (node : Node) (ts : List _) → AddsBlocks f gs ls → AddsBlocks (λ w. node_judged node ts (f w)) gs ls
+judged_kept : {f : WalkTree → WalkTree} {gs : List Block} {ls : List LocalTree} (node : Node) (ts : List Test) → AddsBlocks f gs ls → AddsBlocks (λ w. node_judged node ts (f w)) gs ls
 judged_kept node ts a = record { at_file = λ w. a.at_file w; in_body = λ w. a.in_body w; past = λ w. a.past w }
 
 nothing_kept : Keeps (λ w. w)
@@ -71,8 +74,8 @@ lengths_kept c (e ∷ es) = then_blocks (site_kept c used false e) (lengths_kept
 
 mutual
   initialiser_kept : (at_file_scope : Bool) (c : Context) (t : Option TypeTree) (i : InitialiserTree) → Keeps (initialiser_walked at_file_scope c t i)
-  initialiser_kept at_file_scope c t (value e) = site_kept c _ _ e
-  initialiser_kept at_file_scope c t (list node is) = judged_kept node _ (then_blocks opened_kept (elements_kept at_file_scope c t 0 is))
+  initialiser_kept at_file_scope c t (value e) = site_kept c whole (at_file_scope && may_hold t e) e
+  initialiser_kept at_file_scope c t (list node is) = judged_kept node (option_list_tests at_file_scope c t is) (then_blocks opened_kept (elements_kept at_file_scope c t 0 is))
 
   elements_kept : (at_file_scope : Bool) (c : Context) (t : Option TypeTree) (i : ℕ) (is : Initialisers) → Keeps (elements_walked at_file_scope c t i is)
   elements_kept at_file_scope c t i no_initialisers = nothing_kept
@@ -95,7 +98,7 @@ global_noted c node t = record { at_file = λ w. refl; in_body = λ w. sym (appe
 
 local_adds : (c : Context) (base : Base) (v : VariableTree) → AddsBlocks (variable_walked false c base v) [] (local_tree c.structs v.declarator.node.id (variable_declared c base v).type ∷ [])
 local_adds c base v =
-    judged_kept v.declarator.node _
+    judged_kept v.declarator.node (variable_tests false c (after_variable false c base v) base v)
     (then_kept (then_blocks (then_blocks opened_kept (lengths_kept c v.declarator.lengths.given)) (local_noted c v.declarator.node.id (variable_declared c base v).type))
     (option_initialiser_kept false (after_variable false c base v) (variable_declared c base v).type v.initialiser))
 
@@ -108,7 +111,7 @@ with_globals {f = f} {ls = ls} e a = subst (λ l. AddsBlocks f l ls) e a
 
 global_adds : (c : Context) (base : Base) (v : VariableTree) → AddsBlocks (variable_walked true c base v) (global_block c.structs v.declarator.node.id (variable_declared c base v).type ∷ []) []
 global_adds c base v =
-    judged_kept v.declarator.node _
+    judged_kept v.declarator.node (variable_tests true c (after_variable true c base v) base v)
     (then_blocks (then_blocks (then_blocks opened_kept (lengths_kept c v.declarator.lengths.given)) (global_noted c v.declarator.node.id (variable_declared c base v).type))
     (option_initialiser_kept true (after_variable true c base v) (variable_declared c base v).type v.initialiser))
 
@@ -124,7 +127,7 @@ start_blocks c (start_expression e) = site_kept c discarded false e
 start_blocks c (start_declaration d) = locals_add c d.base d.variables
 
 condition_kept : (c : Context) (node : Node) (e : ExprTree) → Keeps (condition_walked c node e)
-condition_kept c node e = judged_kept node _ (site_kept c used false e)
+condition_kept c node e = judged_kept node (condition_tests (type_of c e)) (site_kept c used false e)
 
 map_both : (structs : Structs) (xs ys : List Local) → map (noted_local structs) xs ++ map (noted_local structs) ys ≡ map (noted_local structs) (xs ++ ys)
 map_both structs [] ys = refl
@@ -152,11 +155,11 @@ mutual
       (ap (λ structs. map (noted_local c.structs) (start_locals (inner_scope c) start) ++ map (noted_local structs) (statement_locals (inside_loop (inner_scope (for_context c start))) s)) (for_structs c start)
       ∙ map_both c.structs (start_locals (inner_scope c) start) (statement_locals (inside_loop (inner_scope (for_context c start))) s))
       (then_blocks (then_blocks opened_kept (start_blocks (inner_scope c) start))
-      (then_blocks (judged_kept node _ (then_blocks (option_kept (for_context c start) used e) (option_kept (for_context c start) discarded u)))
+      (then_blocks (judged_kept node (for_tests (for_context c start) start e u) (then_blocks (option_kept (for_context c start) used e) (option_kept (for_context c start) discarded u)))
       (statement_blocks (inside_loop (inner_scope (for_context c start))) s)))
-  statement_blocks c (break node) = judged_kept node _ opened_kept
-  statement_blocks c (continue node) = judged_kept node _ opened_kept
-  statement_blocks c (return node e) = judged_kept node _ (then_blocks opened_kept (option_kept c used e))
+  statement_blocks c (break node) = judged_kept node (loop_tests c) opened_kept
+  statement_blocks c (continue node) = judged_kept node (loop_tests c) opened_kept
+  statement_blocks c (return node e) = judged_kept node (return_tests c c.result e) (then_blocks opened_kept (option_kept c used e))
 
   statements_blocks : (c : Context) (ss : Stmts) → AddsBlocks (statements_walked c ss) [] (map (noted_local c.structs) (statements_locals c ss))
   statements_blocks c no_stmts = nothing_kept
@@ -173,7 +176,7 @@ mutual
 -- ---- structs and headers
 
 member_kept : (c : Context) (before : Before) (base : Base) (d : DeclaratorTree) → Keeps (member_walked c before base d)
-member_kept c before base d = judged_kept d.node _ (then_blocks opened_kept (lengths_kept c d.lengths.given))
+member_kept c before base d = judged_kept d.node (member_tests c before base d) (then_blocks opened_kept (lengths_kept c d.lengths.given))
 
 together_kept : (c : Context) (before : Before) (base : Base) (ds : List DeclaratorTree) → Keeps (together_walked c before base ds)
 together_kept c before base [] = nothing_kept
@@ -184,12 +187,12 @@ members_kept c before [] = nothing_kept
 members_kept c before (m ∷ ms) = then_blocks (together_kept c before m.base m.declarators) (members_kept c (after_together c before m.base m.declarators) ms)
 
 struct_kept : (c : Context) (s : StructTree) → Keeps (struct_walked c s)
-struct_kept c s = then_blocks (judged_kept s.node _ opened_kept) (members_kept (with_tag c s.name) no_members s.members)
+struct_kept c s = then_blocks (judged_kept s.node (test rules.UnknownTag (is_defined c s.name)) opened_kept) (members_kept (with_tag c s.name) no_members s.members)
 
 parameters_kept : (c : Context) (has_body : Bool) (ps : List ParameterTree) → Keeps (parameters_walked c has_body ps)
 parameters_kept c has_body [] = nothing_kept
 parameters_kept c has_body (p ∷ ps) =
-    then_blocks (judged_kept p.node _ (then_blocks opened_kept (lengths_kept c p.lengths.given))) (parameters_kept (after_parameter c p) has_body ps)
+    then_blocks (judged_kept p.node (parameter_tests c has_body p) (then_blocks opened_kept (lengths_kept c p.lengths.given))) (parameters_kept (after_parameter c p) has_body ps)
 
 -- ---- bodies
 
@@ -208,7 +211,7 @@ with_parameters_structs c (p ∷ ps) [] = refl
 with_parameters_structs c (p ∷ ps) (t ∷ ts) = with_parameters_structs (with_parameter c p t p.name) ps ts ∙ with_parameter_structs c p t p.name
 
 body_structs : (c : Context) (f : FunctionTree) → (body_context c f).structs ≡ c.structs
-body_structs c f = with_parameters_structs _ f.parameters (parameter_types (inner_scope c) f.parameters)
+body_structs c f = with_parameters_structs (record (inner_scope (after_function c f)) { result = result_type c f }) f.parameters (parameter_types (inner_scope c) f.parameters)
 
 blocks_are : (structs : Structs) (nodes : List ℕ) (ls : List Local)
     → map (λ l. l.block) (filter (is_block nodes) (map (noted_local structs) ls)) ≡ map (local_block structs) (filter (is_placed nodes) ls)
@@ -280,7 +283,8 @@ body_past c f (Some ss) = let a = statements_blocks (body_context c f) ss in rec
 }
 
 function_past : (c : Context) (f : FunctionTree) → AddsPast (function_walked c f) [] (local_past local_limit c f f.body)
-function_past c f = then_past (past_of (judged_kept f.node _ (then_blocks opened_kept (parameters_kept (inner_scope c) _ f.parameters)))) (body_past c f f.body)
+function_past c f =
+    then_past (past_of (judged_kept f.node (header_tests c f) (then_blocks opened_kept (parameters_kept (inner_scope c) (is_some f.body) f.parameters)))) (body_past c f f.body)
 
 -- ---- units
 

@@ -1,6 +1,8 @@
--- A unit that isn't refused is well typed and within the limits; what a walk shows are the causes of refusals.
-use Rattle.std.proofs.Common.{◌≡◌, ℕ, Bool, true, false, List, [], ◌∷◌, ◌++◌, Option, Some, None, is_some, map, refl, sym, ap, ◌∙◌}
+-- A unit is refused for no cause exactly where it is well typed and within the limits; what a walk shows are the causes.
+use Rattle.std.proofs.Common.{◌≡◌, ◌⊎◌, inl, inr, ℕ, Bool, true, false, List, [], ◌∷◌, ◌++◌, Option, Some, None, is_some, map, refl, sym, ap, ◌∙◌, subst}
 use Rattle.qs_syntax.specs.Trees.{UnitTree}
+use Rattle.qs_report.specs.declared.fault_texts.LimitKind.{LimitKind}
+use Rattle.qs_report.specs.declared.fault_texts.LimitKind.TheVariants as kinds
 use Rattle.qs_types.specs.Contexts.{Context, start_context, entity_of}
 use Rattle.qs_types.specs.GivenFunctions.{main_name}
 use Rattle.qs_types.specs.Limits.{IsWithinLimits, text_block, data_blocks, variable_blocks_from, block_past, first_past_nodes, node_limit, first_past_functions, function_limit, first_past_parameters, parameter_limit, first_past_globals, global_limit, first_past_locals, local_limit}
@@ -8,14 +10,14 @@ use Rattle.qs_types.specs.References.{literal_blocks, unit_calls}
 use Rattle.qs_types.specs.Rules.{Fault, is_any}
 use Rattle.qs_types.specs.UnitRules.{faults_in}
 use Rattle.qs_types.specs.WellTyped.{WellTyped, end_context, has_main, first_undefined, undefined_from, entity_has_body, runs}
-use Rattle.qs_typing.specs.declared.refusals.LimitKind.{LimitKind}
-use Rattle.qs_typing.specs.declared.refusals.LimitKind.TheVariants as kinds
 use Rattle.qs_typing.specs.declared.refusals.TypeFault.{TypeFault}
+use Rattle.qs_typing.specs.declared.refusals.TypeFault.TheVariants as faults
 use Rattle.qs_typing.specs.Findings.{least_with}
-use Rattle.qs_typing.specs.Refusals.{first_of, limit_fault, rule_fault, main_fault, undefined_fault, early_refusal, late_refusal, first_refusal, runs_in, late_by}
+use Rattle.qs_typing.specs.Refusals.{IsAccepted, IsCause, IsLeast, IsTold, first_of, limit_fault, rule_fault, main_fault, undefined_fault, early_refusal, late_refusal, first_refusal, runs_in, late_by}
 use Rattle.qs_typing.specs.UnitWalk.{WalkTree, unit_walked}
 use Rattle.qs_typing.proofs.Adding.{unit_least, unit_called, unit_texts}
 use Rattle.qs_typing.proofs.Blocks.{unit_globals, unit_past}
+use Rattle.qs_typing.proofs.First.{first_found}
 use Rattle.qs_typing.proofs.Watched.{any_least}
 
 -- ---- nothing is refused
@@ -78,7 +80,7 @@ after_main unit h = none_second (main_fault (has_main unit)) (behind_main unit) 
 after_undefined : (unit : UnitTree) → first_refusal unit ≡ None → behind_undefined unit ≡ None
 after_undefined unit h = none_second (undefined_fault (first_undefined unit)) (behind_undefined unit) (after_main unit h)
 
-pub is_well_typed : (unit : UnitTree) → first_refusal unit ≡ None → WellTyped unit
+is_well_typed : (unit : UnitTree) → first_refusal unit ≡ None → WellTyped unit
 is_well_typed unit h = record {
   keeps_rules =
       no_fault (faults_in unit)
@@ -102,13 +104,73 @@ early unit h = none_first (early_refusal unit) (late_refusal unit) h
 after_nodes : (unit : UnitTree) → first_refusal unit ≡ None → first_of (functions_of unit) (parameters_of unit) ≡ None
 after_nodes unit h = none_second (nodes_of unit) (first_of (functions_of unit) (parameters_of unit)) (early unit h)
 
-pub is_within_limits : (unit : UnitTree) → first_refusal unit ≡ None → IsWithinLimits unit
+is_within_limits : (unit : UnitTree) → first_refusal unit ≡ None → IsWithinLimits unit
 is_within_limits unit h = record {
   nodes = no_limit kinds.Nodes (first_past_nodes node_limit unit) (none_first (nodes_of unit) (first_of (functions_of unit) (parameters_of unit)) (early unit h));
   functions = no_limit kinds.Functions (first_past_functions function_limit unit) (none_first (functions_of unit) (parameters_of unit) (after_nodes unit h));
   parameters = no_limit kinds.Parameters (first_past_parameters parameter_limit unit) (none_second (functions_of unit) (parameters_of unit) (after_nodes unit h));
   globals = no_limit kinds.Globals (first_past_globals global_limit unit) (none_first (globals_of unit) (locals_of unit) (after_undefined unit h));
   locals = no_limit kinds.Locals (first_past_locals local_limit unit) (none_second (globals_of unit) (locals_of unit) (after_undefined unit h));
+}
+
+pub is_accepted : (unit : UnitTree) → first_refusal unit ≡ None → IsAccepted unit
+is_accepted unit h = record { well_typed = is_well_typed unit h; within_limits = is_within_limits unit h }
+
+pub nothing_refused : (unit : UnitTree) → IsAccepted unit → first_refusal unit ≡ None
+nothing_refused unit a =
+    let w = a.well_typed in
+    let l = a.within_limits in
+    λ i. first_of
+    (first_of (limit_fault kinds.Nodes (l.nodes i)) (first_of (limit_fault kinds.Functions (l.functions i)) (limit_fault kinds.Parameters (l.parameters i))))
+    (first_of (rule_fault (least_with None (w.keeps_rules i)))
+    (first_of (main_fault (w.main_has_body i))
+    (first_of (undefined_fault (w.calls_have_bodies i))
+    (first_of (limit_fault kinds.Globals (l.globals i)) (limit_fault kinds.Locals (l.locals i))))))
+
+-- ---- a rule that is told is the least
+
+abbrev LeastIn : UnitTree → Option TypeFault → Type 0
+LeastIn unit None = Unit {0}
+LeastIn unit (Some f) = IsLeast unit f
+
+first_least : (unit : UnitTree) (o p : Option TypeFault) → LeastIn unit o → LeastIn unit p → LeastIn unit (first_of o p)
+first_least unit None p a b = b
+first_least unit (Some f) p a b = a
+
+limit_least : (unit : UnitTree) (kind : LimitKind) (o : Option ℕ) → LeastIn unit (limit_fault kind o)
+limit_least unit kind None = tt
+limit_least unit kind (Some n) = tt
+
+main_least : (unit : UnitTree) (b : Bool) → LeastIn unit (main_fault b)
+main_least unit true = tt
+main_least unit false = tt
+
+undefined_least : (unit : UnitTree) (o : Option ℕ) → LeastIn unit (undefined_fault o)
+undefined_least unit None = tt
+undefined_least unit (Some n) = tt
+
+rule_least : (unit : UnitTree) (o : Option Fault) → least_with None (faults_in unit) ≡ o → LeastIn unit (rule_fault o)
+rule_least unit None e = tt
+rule_least unit (Some f) e = first_found (faults_in unit) f e
+
+early_least : (unit : UnitTree) → LeastIn unit (early_refusal unit)
+early_least unit =
+    first_least unit (nodes_of unit) (first_of (functions_of unit) (parameters_of unit)) (limit_least unit kinds.Nodes (first_past_nodes node_limit unit))
+    (first_least unit (functions_of unit) (parameters_of unit) (limit_least unit kinds.Functions (first_past_functions function_limit unit))
+    (limit_least unit kinds.Parameters (first_past_parameters parameter_limit unit)))
+
+late_least : (unit : UnitTree) → LeastIn unit (late_refusal unit)
+late_least unit =
+    first_least unit (rule_of unit) (behind_rule unit) (rule_least unit (least_with None (faults_in unit)) refl)
+    (first_least unit (main_fault (has_main unit)) (behind_main unit) (main_least unit (has_main unit))
+    (first_least unit (undefined_fault (first_undefined unit)) (behind_undefined unit) (undefined_least unit (first_undefined unit))
+    (first_least unit (globals_of unit) (locals_of unit) (limit_least unit kinds.Globals (first_past_globals global_limit unit))
+    (limit_least unit kinds.Locals (first_past_locals local_limit unit)))))
+
+cause_is : (unit : UnitTree) (f : TypeFault) → first_refusal unit ≡ Some f → IsCause unit f
+cause_is unit f e = record {
+  first = e;
+  least = subst (LeastIn unit) e (first_least unit (early_refusal unit) (late_refusal unit) (early_least unit) (late_least unit));
 }
 
 -- ---- what a walk shows
@@ -131,3 +193,19 @@ late_is unit =
 -- the same, where this is known and walked
 pub late_known : (unit : UnitTree) (c : Context) (w : WalkTree) → c ≡ end_context unit → w ≡ unit_walked unit → late_by c w unit ≡ late_refusal unit
 late_known unit c w e h = (λ i. late_by (e i) (h i) unit) ∙ late_is unit
+
+-- ---- what is told
+
+pub early_told : (unit : UnitTree) (f : TypeFault) → Some f ≡ early_refusal unit → IsTold unit f
+early_told unit f e = inr (cause_is unit f (ap (λ o. first_of o (late_refusal unit)) (sym e)))
+
+pub late_told : (unit : UnitTree) (c : Context) (w : WalkTree) (f : TypeFault) → None ≡ early_refusal unit → c ≡ end_context unit → w ≡ unit_walked unit → Some f ≡ late_by c w unit → IsTold unit f
+late_told unit c w f n e h l = inr (cause_is unit f ((λ i. first_of (sym n i) (sym (late_known unit c w e h) i)) ∙ sym l))
+
+pub none_told : (unit : UnitTree) (c : Context) (w : WalkTree) → None ≡ early_refusal unit → c ≡ end_context unit → w ≡ unit_walked unit → None ≡ late_by c w unit → first_refusal unit ≡ None
+none_told unit c w n e h l = (λ i. first_of (sym n i) (sym (late_known unit c w e h) i)) ∙ sym l
+
+-- of a unit that is accepted nothing but want of memory is told
+pub told_of_good : (unit : UnitTree) (f : TypeFault) → IsTold unit f → IsAccepted unit → f ≡ faults.NoMemory
+told_of_good unit f (inl e) a = e
+told_of_good unit f (inr cause) a = absurd (let e : Some f ≡ None = sym cause.first ∙ nothing_refused unit a in cc)

@@ -9,11 +9,14 @@ pub mod MemberLookups
 pub mod Watched
 pub mod Scoping
 pub mod Heads
+pub mod Headers
 pub mod Adding
 pub mod Ends
+pub mod Declaring
 pub mod Defining
 pub mod Counts
 pub mod Blocks
 pub mod Checked
 pub mod Naming
 pub mod Numbers
+pub mod TypedLaws

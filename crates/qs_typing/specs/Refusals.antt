@@ -1,17 +1,17 @@
 -- Why a unit is refused: the first cause of some, in their order.
-use Rattle.std.specs.Prelude.{ℕ, Bool, List, ◌++◌, Option, Some, None, if◌then◌else◌}
+use Rattle.std.specs.Prelude.{◌≡◌, ◌⊎◌, ℕ, Bool, List, ◌++◌, Option, Some, None, if◌then◌else◌}
 use Rattle.qs_syntax.specs.Trees.{UnitTree}
+use Rattle.qs_report.specs.declared.fault_texts.LimitKind.{LimitKind}
+use Rattle.qs_report.specs.declared.fault_texts.LimitKind.TheVariants as kinds
 use Rattle.qs_types.specs.Rules.{Fault}
-use Rattle.qs_types.specs.Limits.{first_past_nodes, node_limit, first_past_functions, function_limit, first_past_parameters, parameter_limit, first_past_globals, global_limit, first_past_locals, local_limit, block_past}
+use Rattle.qs_types.specs.Limits.{IsWithinLimits, first_past_nodes, node_limit, first_past_functions, function_limit, first_past_parameters, parameter_limit, first_past_globals, global_limit, first_past_locals, local_limit, block_past}
 use Rattle.qs_types.specs.UnitRules.{faults_in}
 use Rattle.qs_types.specs.Contexts.{Context, entity_of}
 use Rattle.qs_types.specs.GivenFunctions.{main_name}
-use Rattle.qs_types.specs.WellTyped.{has_main, first_undefined, undefined_from, entity_runs, entity_has_body}
-use Rattle.qs_typing.specs.declared.refusals.LimitKind.{LimitKind}
-use Rattle.qs_typing.specs.declared.refusals.LimitKind.TheVariants as kinds
+use Rattle.qs_types.specs.WellTyped.{WellTyped, has_main, first_undefined, undefined_from, entity_runs, entity_has_body}
 use Rattle.qs_typing.specs.declared.refusals.TypeFault.{TypeFault}
 use Rattle.qs_typing.specs.declared.refusals.TypeFault.TheVariants as faults
-use Rattle.qs_typing.specs.Findings.{least_with}
+use Rattle.qs_typing.specs.Findings.{least_with, IsFirst}
 use Rattle.qs_typing.specs.UnitWalk.{WalkTree}
 
 abbrev pub first_of : Option TypeFault → Option TypeFault → Option TypeFault
@@ -52,6 +52,28 @@ late_refusal unit =
 
 abbrev pub first_refusal : UnitTree → Option TypeFault
 first_refusal unit = first_of (early_refusal unit) (late_refusal unit)
+
+-- a rule that is told is broken at its node, no node before breaks one, and that node none before it
+abbrev pub IsLeast : UnitTree → TypeFault → Type 0
+IsLeast unit (faults.Rule node rule) = IsFirst (faults_in unit) (record { node = node; rule = rule })
+IsLeast unit (faults.Limit kind node) = Unit {0}
+IsLeast unit faults.NoMain = Unit {0}
+IsLeast unit (faults.Undefined node) = Unit {0}
+IsLeast unit faults.NoMemory = Unit {0}
+
+-- a fault is the first cause to refuse a unit
+pub record IsCause (unit : UnitTree) (f : TypeFault) : Type 0 where
+  pub first : first_refusal unit ≡ Some f
+  pub least : IsLeast unit f
+
+-- a fault is told of a unit: its first cause, or that there is no memory
+abbrev pub IsTold : UnitTree → TypeFault → Type 0
+IsTold unit f = (f ≡ faults.NoMemory) ⊎ IsCause unit f
+
+-- a unit is refused for no cause
+pub record IsAccepted (unit : UnitTree) : Type 0 where
+  pub well_typed : WellTyped unit
+  pub within_limits : IsWithinLimits unit
 
 -- ---- by what a walk found and noted, and what is known behind it
 

@@ -1,21 +1,25 @@
 // The types that declarations give (C11 6.7), and the rules that their nodes keep.
-ghost use Rattle.std.specs.Prelude.{◌≡◌, ◌+◌, IfOk, length, map, option_map, if◌then◌else◌};
-ghost use Rattle.qs_syntax.specs.TreeOf.{declarator_tree, expr_tree, initialiser_tree, lengths_tree, parameter_tree, variable_tree};
+ghost use Rattle.std.specs.Prelude.{◌≡◌, ◌+◌, IfOk, None, Some, length, not, option_map, if◌then◌else◌};
+ghost use Rattle.qs_syntax.specs.TreeOf.{expr_tree, initialiser_tree, lengths_tree, list_tree};
 ghost use Rattle.qs_types.specs.Declarations as declarations;
-ghost use Rattle.qs_types.specs.Declarations.{all_typed, element_lengths, first_length, is_length, is_length_typed, lengths_of, object_by};
+ghost use Rattle.qs_types.specs.EnvOf.{env_tree};
 ghost use Rattle.qs_types.specs.Expressions.{type_or_void};
+ghost use Rattle.qs_types.specs.Layout.{is_sized};
 ghost use Rattle.qs_types.specs.Types.{pointer};
 ghost use Rattle.qs_types.specs.TypeOf.{type_tree};
 ghost use Rattle.qs_typing.specs.ContextOf.{context_tree};
-ghost use Rattle.qs_typing.specs.DeclaredOf.{declared_tree, numbers};
-ghost use Rattle.qs_typing.specs.JudgedOf.{test_tree};
+ghost use Rattle.qs_typing.specs.DeclaredOf.{declared_tree, is_incomplete, option_type, tests_and_type};
+ghost use Rattle.qs_typing.specs.Declares.{AreWholeLengths, IsArrayParameter, IsDeclared, IsObject, IsObjectType, IsParameter, IsPlainParameter, IsPointer, IsSizedByTests, IsVariable};
+ghost use Rattle.qs_typing.specs.LengthsOf.{AreTyped, AreValued, ElementsAreTyped, ElementsAreValued, is_length, is_length_typed};
 
 use crate::context::{Context, is_void_base};
 use crate::judged::{Test, keeps, violates};
 use crate::lengths::{ArrayLengths, ParameterLengths, arrays};
 use qs_base::NoMemory;
-use qs_syntax::{Base, Declarator, Expr, Initialiser, Lengths, Parameter, Shape, TypeName, Variable};
-use qs_types::{CType, Rule, extent_of, is_complete};
+use qs_syntax::{
+    Base, Declarator, Expr, Initialiser, InitialiserList, Lengths, Parameter, Shape, TypeName, Variable,
+};
+use qs_types::{CType, Env, Rule, extent_of, is_complete};
 use std::alloc::Global;
 
 /// The tests of a node that declares a type, and the type where it breaks none of their rules.
@@ -38,7 +42,7 @@ pub fn undeclared(alloc: Global) -> Declared
 }
 
 fn with_tests(alloc: Global, tests: &[Test], of: Option<CType>) -> Result<Declared, NoMemory>
-    ensures { IfOk result (λ d. declared_tree d ≡ record { tests = map test_tree tests.now; type = option_map type_tree of }) }
+    ensures { IfOk result (λ d. declared_tree d ≡ tests_and_type tests.now of) }
 {
     Ok(Declared {
         tests: Vec::from_slice(alloc, tests)?,
@@ -56,12 +60,56 @@ fn type_or_void(t: Option<CType>) -> CType
 }
 
 fn object_type(alloc: Global, element: CType, lengths: &Option<Vec<u32>>) -> Result<CType, NoMemory>
-    ensures { IfOk result (λ t. type_tree t ≡ object_by (type_tree element) (numbers lengths.now)) }
+    ensures { IfOk result (IsObjectType element lengths.now) }
 {
     match lengths {
         None => Ok(CType::Void),
         Some(ns) => arrays(alloc, element, ns),
     }
+}
+
+/// Whether objects may not have elements of this type, which has this base (C11 6.7p7, 6.7.6.2p1).
+fn is_incomplete(c: &Context, base: &Base, element: &CType) -> bool
+    ensures { result ≡ is_incomplete (context_tree c.now) base.now (type_tree element.now) }
+{
+    is_void_base(base) || c.base_type(base).is_some() && !is_complete(c.structs(), element)
+}
+
+fn is_large(structs: &Env, t: &CType) -> bool
+    ensures { result ≡ not (is_sized (env_tree structs.now) (type_tree t.now)) }
+{
+    extent_of(structs, t).is_none()
+}
+
+fn type_unless(breaks: bool, t: CType) -> Option<CType>
+    ensures { option_map type_tree result ≡ (if breaks then None else Some (type_tree t)) }
+{
+    if breaks { None } else { Some(t) }
+}
+
+/// What declares an object of this type, by the tests on its elements and lengths.
+fn with_size_tests(
+    alloc: Global,
+    structs: &Env,
+    known: bool,
+    incomplete: bool,
+    has_lengths: bool,
+    t: CType,
+) -> Result<Declared, NoMemory>
+    ensures { IfOk result (IsSizedByTests structs.now known incomplete has_lengths t) }
+{
+    let breaks = !known || (incomplete || !has_lengths);
+    let large = !breaks && is_large(structs, &t);
+    with_tests(
+        alloc,
+        &[
+            keeps(Rule::UnknownTag, known),
+            violates(Rule::IncompleteType, incomplete),
+            keeps(Rule::ArrayLength, has_lengths),
+            violates(Rule::LargeType, large),
+        ],
+        type_unless(breaks || large, t),
+    )
 }
 
 /// What declares a variable or a member of these lengths.
@@ -72,25 +120,14 @@ fn object_declared(
     stars: u32,
     lengths: Option<Vec<u32>>,
 ) -> Result<Declared, NoMemory>
-    ensures { IfOk result (λ d. declared_tree d ≡ declarations.object_declared (context_tree c.now) base.now stars (numbers lengths)) }
+    ensures { IfOk result (IsObject c.now base.now stars lengths) }
 {
     let known = c.base_type(base).is_some();
     let element = type_or_void(c.starred_type(alloc, base, stars)?);
-    let incomplete = is_void_base(base) || known && !is_complete(c.structs(), &element);
+    let incomplete = is_incomplete(c, base, &element);
     let has_lengths = lengths.is_some();
     let t = object_type(alloc, element, &lengths)?;
-    let fine = known && !incomplete && has_lengths;
-    let large = fine && extent_of(c.structs(), &t).is_none();
-    with_tests(
-        alloc,
-        &[
-            keeps(Rule::UnknownTag, known),
-            violates(Rule::IncompleteType, incomplete),
-            keeps(Rule::ArrayLength, has_lengths),
-            violates(Rule::LargeType, large),
-        ],
-        if fine && !large { Some(t) } else { None },
-    )
+    with_size_tests(alloc, c.structs(), known, incomplete, has_lengths, t)
 }
 
 // ---- variables and members
@@ -101,7 +138,7 @@ fn whole_lengths(
     first: Option<u32>,
     given: Option<Vec<u32>>,
 ) -> Result<Option<Vec<u32>>, NoMemory>
-    ensures { IfOk result (λ ns. numbers ns ≡ declarations.whole_lengths (lengths_tree l.now) first (numbers given)) }
+    ensures { IfOk result (AreWholeLengths l.now first given) }
 {
     match given {
         None => Ok(None),
@@ -129,9 +166,9 @@ pub fn declarator_declared(
     first: Option<u32>,
     lengths: ArrayLengths,
 ) -> Result<Declared, NoMemory>
-    requires typed { lengths.all_typed ≡ all_typed (context_tree c.now) (declarator_tree d.now).lengths.given }
-    requires values { numbers lengths.values ≡ lengths_of (context_tree c.now) (declarator_tree d.now).lengths.given }
-    ensures { IfOk result (λ r. declared_tree r ≡ declarations.declared (context_tree c.now) base.now (declarator_tree d.now) first) }
+    requires typed { AreTyped c.now d.now.lengths.given.items lengths }
+    requires values { AreValued c.now d.now.lengths.given.items lengths }
+    ensures { IfOk result (IsDeclared c.now base.now d.now first) }
 {
     if !lengths.all_typed {
         return Ok(undeclared(alloc));
@@ -172,8 +209,14 @@ fn narrowed(n: usize) -> Result<u32, NoMemory>
     Ok(n as u32)
 }
 
+#[tactic(auto, using(crate::proofs::Declaring::list_counts))]
+fn list_length(l: &InitialiserList) -> Result<u32, NoMemory>
+    ensures { IfOk result (λ n. Some n ≡ declarations.length_by (Some (list_tree l.now))) }
+{
+    narrowed(l.items.len())
+}
+
 /// The length that an initialiser gives (C11 6.7.9p22).
-#[tactic(auto, using(crate::proofs::Counts::count_of))]
 fn length_by(i: &Option<Initialiser>) -> Result<Option<u32>, NoMemory>
     ensures { IfOk result (λ n. n ≡ declarations.length_by (option_map initialiser_tree i.now)) }
 {
@@ -183,7 +226,7 @@ fn length_by(i: &Option<Initialiser>) -> Result<Option<u32>, NoMemory>
             None => Ok(None),
             Some(n) => Ok(Some(text_size(n)?)),
         },
-        Some(Initialiser::List(l)) => Ok(Some(narrowed(l.items.len())?)),
+        Some(Initialiser::List(l)) => Ok(Some(list_length(l)?)),
     }
 }
 
@@ -205,9 +248,9 @@ pub fn variable_declared(
     v: &Variable,
     lengths: ArrayLengths,
 ) -> Result<Declared, NoMemory>
-    requires typed { lengths.all_typed ≡ all_typed (context_tree c.now) (declarator_tree v.now.declarator).lengths.given }
-    requires values { numbers lengths.values ≡ lengths_of (context_tree c.now) (declarator_tree v.now.declarator).lengths.given }
-    ensures { IfOk result (λ r. declared_tree r ≡ declarations.variable_declared (context_tree c.now) base.now (variable_tree v.now)) }
+    requires typed { AreTyped c.now v.now.declarator.lengths.given.items lengths }
+    requires values { AreValued c.now v.now.declarator.lengths.given.items lengths }
+    ensures { IfOk result (IsVariable c.now base.now v.now) }
 {
     let first = length_by(&v.initialiser)?;
     declarator_declared(alloc, c, base, &v.declarator, first, lengths)
@@ -222,7 +265,7 @@ fn is_array_parameter(l: &Lengths) -> bool
 }
 
 fn pointer_to(alloc: Global, t: Option<CType>) -> Result<Option<CType>, NoMemory>
-    ensures { IfOk result (λ r. option_map type_tree r ≡ option_map pointer (option_map type_tree t)) }
+    ensures { IfOk result (λ r. option_type r ≡ option_map pointer (option_type t)) }
 {
     match t {
         None => Ok(None),
@@ -237,7 +280,7 @@ fn pointer_declared(
     name: &TypeName,
     lengths: Option<Vec<u32>>,
 ) -> Result<Declared, NoMemory>
-    ensures { IfOk result (λ r. declared_tree r ≡ declarations.pointed (declarations.object_declared (context_tree c.now) name.now.base name.now.stars (numbers lengths))) }
+    ensures { IfOk result (IsPointer c.now name.now lengths) }
 {
     let elements = object_declared(alloc, c, &name.base, name.stars, lengths)?;
     Ok(Declared {
@@ -246,16 +289,17 @@ fn pointer_declared(
     })
 }
 
-/// What a parameter that is written as an array declares, where the lengths of its elements have types.
+/// What a parameter that is written as an array declares, where the lengths of its elements have
+/// types.
 fn array_parameter(
     alloc: Global,
     c: &Context,
     p: &Parameter,
     lengths: ParameterLengths,
 ) -> Result<Declared, NoMemory>
-    requires valid { lengths.first_valid ≡ is_length (context_tree c.now) (first_length (parameter_tree p.now).lengths) }
-    requires values { numbers lengths.rest.values ≡ lengths_of (context_tree c.now) (element_lengths (parameter_tree p.now).lengths) }
-    ensures { IfOk result (λ r. declared_tree r ≡ (if lengths.first_typed then declarations.array_parameter (context_tree c.now) (parameter_tree p.now) else declarations.held_parameter (context_tree c.now) (parameter_tree p.now))) }
+    requires valid { lengths.first_valid ≡ is_length c.now p.now.lengths }
+    requires values { ElementsAreValued c.now p.now.lengths lengths.rest }
+    ensures { IfOk result (IsArrayParameter c.now p.now lengths.first_typed) }
 {
     let ParameterLengths {
         first_typed,
@@ -275,7 +319,7 @@ fn array_parameter(
 }
 
 fn plain_parameter(alloc: Global, c: &Context, p: &Parameter) -> Result<Declared, NoMemory>
-    ensures { IfOk result (λ r. declared_tree r ≡ declarations.plain_parameter (context_tree c.now) (parameter_tree p.now)) }
+    ensures { IfOk result (IsPlainParameter c.now p.now) }
 {
     let known = c.base_type(&p.type_name.base).is_some();
     let is_void = is_void_base(&p.type_name.base);
@@ -297,11 +341,11 @@ pub fn parameter_declared(
     p: &Parameter,
     lengths: ParameterLengths,
 ) -> Result<Declared, NoMemory>
-    requires first { lengths.first_typed ≡ is_length_typed (context_tree c.now) (first_length (parameter_tree p.now).lengths) }
-    requires valid { lengths.first_valid ≡ is_length (context_tree c.now) (first_length (parameter_tree p.now).lengths) }
-    requires typed { lengths.rest.all_typed ≡ all_typed (context_tree c.now) (element_lengths (parameter_tree p.now).lengths) }
-    requires values { numbers lengths.rest.values ≡ lengths_of (context_tree c.now) (element_lengths (parameter_tree p.now).lengths) }
-    ensures { IfOk result (λ r. declared_tree r ≡ declarations.parameter_declared (context_tree c.now) (parameter_tree p.now)) }
+    requires first { lengths.first_typed ≡ is_length_typed c.now p.now.lengths }
+    requires valid { lengths.first_valid ≡ is_length c.now p.now.lengths }
+    requires typed { ElementsAreTyped c.now p.now.lengths lengths.rest }
+    requires values { ElementsAreValued c.now p.now.lengths lengths.rest }
+    ensures { IfOk result (IsParameter c.now p.now) }
 {
     if !is_array_parameter(&p.lengths) {
         return plain_parameter(alloc, c, p);

@@ -1,5 +1,5 @@
 // Functions (C11 6.7.6.3, 6.9.1).
-ghost use Rattle.std.specs.Prelude.{◌≡◌, ◌∷◌, ◌++◌, [], Some, IfOk, OnOk, map, option_map, if◌then◌else◌};
+ghost use Rattle.std.specs.Prelude.{◌≡◌, ◌∷◌, ◌++◌, [], Some, IfOk, OnOk, map, option_map, option_to_list, if◌then◌else◌};
 ghost use Rattle.std.specs.List.{list_all};
 ghost use Rattle.qs_syntax.specs.TreeOf.{function_tree, parameter_tree, stmts_tree};
 ghost use Rattle.qs_types.specs.Contexts.{inner_scope};
@@ -259,6 +259,31 @@ fn is_struct_result(t: &Option<CType>) -> bool
     }
 }
 
+/// The test of a header of `main` (C11 5.1.2.2.1).
+fn main_test(f: &Function, types: &[Option<CType>], to: &Option<CType>) -> Option<Test>
+    ensures { map test_tree (option_to_list result) ≡ rules.main_tests (function_tree f.now) (record { parameters = map (option_map type_tree) types.now; result = option_map type_tree to.now }) }
+{
+    if f.name.bytes() == b"main".as_slice() {
+        Some(keeps(Rule::MainType, is_main_type(types, to)))
+    } else {
+        None
+    }
+}
+
+/// These tests, and one more.
+fn with_test(alloc: Global, tests: &[Test], t: Option<Test>) -> Result<Vec<Test>, NoMemory>
+    ensures { IfOk result (λ ts. map test_tree ts.items ≡ map test_tree tests.now ++ map test_tree (option_to_list t)) }
+{
+    let mut all = Vec::from_slice(alloc, tests)?;
+    match t {
+        None => Ok(all),
+        Some(t) => {
+            all.push(t)?;
+            Ok(all)
+        }
+    }
+}
+
 fn header_tests(
     alloc: Global,
     c: &Context,
@@ -272,15 +297,13 @@ fn header_tests(
 {
     let agrees = agrees_with(c.find_here(&f.name), types, to, f.body.is_some());
     let known = c.base_type(&f.result_type.base).is_some();
-    let mut tests = Vec::new(alloc);
-    tests.push(keeps(Rule::DeclaredTwice, agrees))?;
-    tests.push(keeps(Rule::UnknownTag, known))?;
-    tests.push(violates(Rule::IncompleteType, is_void_pointer(f)))?;
-    tests.push(violates(Rule::SignatureType, is_struct_result(to)))?;
-    if f.name.bytes() == b"main".as_slice() {
-        tests.push(keeps(Rule::MainType, is_main_type(types, to)))?;
-    }
-    Ok(tests)
+    let tests = [
+        keeps(Rule::DeclaredTwice, agrees),
+        keeps(Rule::UnknownTag, known),
+        violates(Rule::IncompleteType, is_void_pointer(f)),
+        violates(Rule::SignatureType, is_struct_result(to)),
+    ];
+    with_test(alloc, &tests, main_test(f, types, to))
 }
 
 // ---- what a header declares

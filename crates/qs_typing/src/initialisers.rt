@@ -1,19 +1,15 @@
 // Initialisers (C11 6.7.9).
-ghost use Rattle.std.specs.Prelude.{◌≡◌, Some, IfOk, OnOk, is_some, option_map};
-ghost use Rattle.qs_syntax.specs.TreeOf.{expr_tree, initialiser_tree, initialisers_tree, list_tree};
-ghost use Rattle.qs_syntax.specs.Trees.{value};
+ghost use Rattle.std.specs.Prelude.{◌≡◌, Some, IfOk, OnOk, option_map, true};
+ghost use Rattle.qs_syntax.specs.TreeOf.{expr_tree};
 ghost use Rattle.qs_types.specs.EnvOf.{env_tree};
 ghost use Rattle.qs_types.specs.Expressions.{type_of};
 ghost use Rattle.qs_types.specs.InitialiserRules as rules;
-ghost use Rattle.qs_types.specs.Layout.{and_then, struct_of};
+ghost use Rattle.qs_types.specs.Layout.{struct_of};
 ghost use Rattle.qs_types.specs.Declarations.{text_of};
 ghost use Rattle.qs_types.specs.Sites.{may_hold};
 ghost use Rattle.qs_types.specs.TypeOf.{type_tree};
 ghost use Rattle.qs_typing.specs.ContextOf.{context_tree};
-ghost use Rattle.qs_typing.specs.EntityOf.{entity_tree};
-ghost use Rattle.qs_typing.specs.Initialisers.{is_char, option_list_fits, option_takes_list};
-ghost use Rattle.qs_typing.specs.UnitWalk.{elements_walked, initialiser_walked};
-ghost use Rattle.qs_typing.specs.WalkOf.{walk_tree};
+ghost use Rattle.qs_typing.specs.Initialisers.{Fills, Initialises, WalksList, WalksValue, all_fit, all_typed, entity_at, fits, fits_as, is_char, is_constant_at, is_typed, is_value_typed, list_fits_at, list_fits_in, option_takes_list, type_at, value_fits};
 
 use crate::context::Context;
 use crate::declared_types::text_length;
@@ -42,7 +38,7 @@ pub struct Fit {
 
 /// The type of a member by its number.
 fn member_at(types: &Env, k: u32, i: usize) -> Option<&CType>
-    ensures { option_map (λ t. type_tree t.now) result ≡ rules.member_at (struct_of (env_tree types.now) k) i }
+    ensures { type_at result ≡ rules.member_at (struct_of (env_tree types.now) k) i }
 {
     match types.structs().get(k as usize) {
         None => None,
@@ -58,7 +54,7 @@ fn member_at(types: &Env, k: u32, i: usize) -> Option<&CType>
 
 /// The type of a part by its number.
 fn part_type<'a>(types: &'a Env, t: &'a CType, i: usize) -> Option<&'a CType>
-    ensures { option_map (λ t. type_tree t.now) result ≡ rules.part_type (env_tree types.now) (type_tree t.now) i }
+    ensures { type_at result ≡ rules.part_type (env_tree types.now) (type_tree t.now) i }
 {
     match t {
         CType::Int => None,
@@ -72,7 +68,7 @@ fn part_type<'a>(types: &'a Env, t: &'a CType, i: usize) -> Option<&'a CType>
 }
 
 fn option_part<'a>(types: &'a Env, t: Option<&'a CType>, i: usize) -> Option<&'a CType>
-    ensures { option_map (λ t. type_tree t.now) result ≡ rules.option_part (env_tree types.now) (option_map (λ t. type_tree t.now) t.entry) i }
+    ensures { type_at result ≡ rules.option_part (env_tree types.now) (type_at t.entry) i }
 {
     match t {
         None => None,
@@ -116,7 +112,7 @@ fn holds_text(t: &CType, e: &Expr) -> bool
 
 /// The same, where there is a type.
 fn may_hold(t: Option<&CType>, e: &Expr) -> bool
-    ensures { result ≡ may_hold (option_map (λ t. type_tree t.now) t.entry) (expr_tree e.now) }
+    ensures { result ≡ may_hold (type_at t.entry) (expr_tree e.now) }
 {
     match t {
         None => false,
@@ -125,7 +121,7 @@ fn may_hold(t: Option<&CType>, e: &Expr) -> bool
 }
 
 fn is_file_variable(entity: Option<&Entity>) -> bool
-    ensures { result ≡ rules.is_file_variable (option_map (λ e. entity_tree e.now) entity.entry) }
+    ensures { result ≡ rules.is_file_variable (entity_at entity.entry) }
 {
     match entity {
         None => false,
@@ -197,7 +193,7 @@ fn is_address(c: &Context, e: &Expr, t: &CType) -> bool
 /// A constant expression, a null constant, a text, or an address (C11 6.7.9p4).
 fn is_constant(c: &Context, e: &Expr, t: &CType) -> bool
     requires { Some (type_tree t.now) ≡ type_of (context_tree c.now) (expr_tree e.now) }
-    ensures { result ≡ rules.is_constant (context_tree c.now) (expr_tree e.now) (type_tree t.now) }
+    ensures { result ≡ is_constant_at c.now e.now t.now }
 {
     constant(c, e, t).is_some()
         || is_null_constant(e)
@@ -208,7 +204,7 @@ fn is_constant(c: &Context, e: &Expr, t: &CType) -> bool
 /// Whether an expression of type `u` fits an object of type `t`.
 fn fits_variable(at_file_scope: bool, c: &Context, t: &CType, e: &Expr, u: CType) -> bool
     requires { Some (type_tree u) ≡ type_of (context_tree c.now) (expr_tree e.now) }
-    ensures { result ≡ rules.fits_variable at_file_scope (context_tree c.now) (type_tree t.now) (expr_tree e.now) (type_tree u) }
+    ensures { result ≡ fits_as at_file_scope c.now t.now e.now u }
 {
     let holds = holds_text(t, e);
     let may_stand = !at_file_scope || is_constant(c, e, &u);
@@ -225,7 +221,7 @@ fn value_fits(
     u: Option<CType>,
 ) -> bool
     requires { option_map type_tree u ≡ type_of (context_tree c.now) (expr_tree e.now) }
-    ensures { result ≡ rules.element_fits at_file_scope (context_tree c.now) (option_map (λ t. type_tree t.now) t.entry) (value (expr_tree e.now)) }
+    ensures { result ≡ value_fits at_file_scope c.now t.entry e.now }
 {
     match t {
         None => true,
@@ -274,7 +270,7 @@ fn count_of_members(types: &Env, k: u32) -> usize
 /// Whether a list of so many initialisers fits, where there is a type.
 #[tactic(auto, using(crate::proofs::Counts::count_of))]
 fn list_fits(types: &Env, t: Option<&CType>, items: &[Initialiser]) -> bool
-    ensures { result ≡ option_list_fits (env_tree types.now) (option_map (λ t. type_tree t.now) t.entry) (initialisers_tree items.now) }
+    ensures { result ≡ list_fits_in types.now t.entry items.now }
 {
     match t {
         None => true,
@@ -283,7 +279,7 @@ fn list_fits(types: &Env, t: Option<&CType>, items: &[Initialiser]) -> bool
 }
 
 fn takes_list_of(t: Option<&CType>) -> bool
-    ensures { result ≡ option_takes_list (option_map (λ t. type_tree t.now) t.entry) }
+    ensures { result ≡ option_takes_list (type_at t.entry) }
 {
     match t {
         None => false,
@@ -301,9 +297,9 @@ pub fn walk_initialiser(
     i: &Initialiser,
     walk: &mut Walk,
 ) -> Result<Fit, NoMemory>
-    ensures typed { IfOk result (λ f. f.is_typed ≡ rules.is_typed (context_tree c.now) (initialiser_tree i.now)) }
-    ensures fits { IfOk result (λ f. f.fits ≡ rules.element_fits at_file_scope (context_tree c.now) (option_map (λ t. type_tree t.now) t.entry) (initialiser_tree i.now)) }
-    ensures walked { OnOk result (walk_tree walk.new ≡ initialiser_walked at_file_scope (context_tree c.now) (option_map (λ t. type_tree t.now) t.entry) (initialiser_tree i.now) (walk_tree walk.old)) }
+    ensures typed { IfOk result (λ f. f.is_typed ≡ is_typed c.now i.now) }
+    ensures fits { IfOk result (λ f. f.fits ≡ fits at_file_scope c.now t.entry i.now) }
+    ensures walked { OnOk result (Initialises at_file_scope c.now t.entry i.now walk.old walk.new) }
 {
     match i {
         Initialiser::Value(e) => walk_value(alloc, at_file_scope, c, t, e, walk),
@@ -320,9 +316,9 @@ pub fn walk_value(
     e: &Expr,
     walk: &mut Walk,
 ) -> Result<Fit, NoMemory>
-    ensures typed { IfOk result (λ f. f.is_typed ≡ is_some (type_of (context_tree c.now) (expr_tree e.now))) }
-    ensures fits { IfOk result (λ f. f.fits ≡ rules.element_fits at_file_scope (context_tree c.now) (option_map (λ t. type_tree t.now) t.entry) (value (expr_tree e.now))) }
-    ensures walked { OnOk result (walk_tree walk.new ≡ initialiser_walked at_file_scope (context_tree c.now) (option_map (λ t. type_tree t.now) t.entry) (value (expr_tree e.now)) (walk_tree walk.old)) }
+    ensures typed { IfOk result (λ f. f.is_typed ≡ is_value_typed c.now e.now) }
+    ensures fits { IfOk result (λ f. f.fits ≡ value_fits at_file_scope c.now t.entry e.now) }
+    ensures walked { OnOk result (WalksValue at_file_scope c.now t.entry e.now walk.old walk.new) }
 {
     let fills_array = at_file_scope && may_hold(t, e);
     let u = walk.site(alloc, c, Position::Whole, fills_array, e)?;
@@ -341,9 +337,9 @@ pub fn walk_list(
     l: &InitialiserList,
     walk: &mut Walk,
 ) -> Result<Fit, NoMemory>
-    ensures typed { IfOk result (λ f. f.is_typed ≡ rules.is_typed (context_tree c.now) (list_tree l.now)) }
-    ensures fits { IfOk result (λ f. f.fits ≡ rules.element_fits at_file_scope (context_tree c.now) (option_map (λ t. type_tree t.now) t.entry) (list_tree l.now)) }
-    ensures walked { OnOk result (walk_tree walk.new ≡ initialiser_walked at_file_scope (context_tree c.now) (option_map (λ t. type_tree t.now) t.entry) (list_tree l.now) (walk_tree walk.old)) }
+    ensures typed { IfOk result (λ f. f.is_typed ≡ true) }
+    ensures fits { IfOk result (λ f. f.fits ≡ list_fits_at at_file_scope c.now t.entry l.now) }
+    ensures walked { OnOk result (WalksList at_file_scope c.now t.entry l.now walk.old walk.new) }
 {
     walk.open()?;
     let elements = walk_elements(alloc, at_file_scope, c, t, &l.items, walk)?;
@@ -366,9 +362,9 @@ fn walk_elements(
     items: &[Initialiser],
     walk: &mut Walk,
 ) -> Result<Fit, NoMemory>
-    ensures typed { IfOk result (λ f. f.is_typed ≡ rules.elements_typed (context_tree c.now) (initialisers_tree items.now)) }
-    ensures fits { IfOk result (λ f. f.fits ≡ rules.elements_fit at_file_scope (context_tree c.now) (option_map (λ t. type_tree t.now) t.entry) 0 (initialisers_tree items.now)) }
-    ensures walked { OnOk result (walk_tree walk.new ≡ elements_walked at_file_scope (context_tree c.now) (option_map (λ t. type_tree t.now) t.entry) 0 (initialisers_tree items.now) (walk_tree walk.old)) }
+    ensures typed { IfOk result (λ f. f.is_typed ≡ all_typed c.now items.now) }
+    ensures fits { IfOk result (λ f. f.fits ≡ all_fit at_file_scope c.now t.entry items.now) }
+    ensures walked { OnOk result (Fills at_file_scope c.now t.entry items.now walk.old walk.new) }
 {
     let mut all = Fit {
         is_typed: true,

@@ -1,14 +1,13 @@
 // Array lengths (C11 6.7.6.2).
-ghost use Rattle.std.specs.Prelude.{◌≡◌, ◌&&◌, ◌∷◌, [], Some, IfOk, OnOk, is_some, map, option_map};
-ghost use Rattle.qs_syntax.specs.TreeOf.{expr_tree, lengths_tree};
+ghost use Rattle.std.specs.Prelude.{◌≡◌, Some, IfOk, OnOk, option_map};
+ghost use Rattle.qs_syntax.specs.TreeOf.{expr_tree};
 ghost use Rattle.qs_types.specs.Constants.{constant_of, length_of, length_within};
-ghost use Rattle.qs_types.specs.Declarations.{all_typed, arrays, element_lengths, first_length, is_length, is_length_typed, lengths_of};
+ghost use Rattle.qs_types.specs.Declarations.{arrays};
 ghost use Rattle.qs_types.specs.Expressions.{type_of};
 ghost use Rattle.qs_types.specs.TypeOf.{type_tree};
 ghost use Rattle.qs_typing.specs.ContextOf.{context_tree};
-ghost use Rattle.qs_typing.specs.DeclaredOf.{all_lengths, numbers};
-ghost use Rattle.qs_typing.specs.UnitWalk.{lengths_walked};
-ghost use Rattle.qs_typing.specs.WalkOf.{walk_tree};
+ghost use Rattle.qs_typing.specs.DeclaredOf.{all_lengths, numbers, one_length};
+ghost use Rattle.qs_typing.specs.LengthsOf.{AreTyped, AreValued, ElementsAreTyped, ElementsAreValued, WalksGiven, WalksLengths, WholeTyped, is_length, is_length_typed};
 
 use crate::constants::{is_built, value};
 use crate::context::Context;
@@ -62,7 +61,7 @@ fn length(c: &Context, e: &Expr, t: &Option<CType>) -> Option<u32>
 }
 
 fn with_length(ns: Option<Vec<u32>>, n: Option<u32>) -> Result<Option<Vec<u32>>, NoMemory>
-    ensures { IfOk result (λ r. numbers r ≡ all_lengths (numbers ns) (option_map (λ n. n ∷ []) n)) }
+    ensures { IfOk result (λ r. numbers r ≡ all_lengths (numbers ns) (one_length n)) }
 {
     match ns {
         None => Ok(None),
@@ -83,9 +82,9 @@ pub fn walk_lengths(
     es: &[Expr],
     walk: &mut Walk,
 ) -> Result<ArrayLengths, NoMemory>
-    ensures typed { IfOk result (λ l. l.all_typed ≡ all_typed (context_tree c.now) (map expr_tree es.now)) }
-    ensures values { IfOk result (λ l. numbers l.values ≡ lengths_of (context_tree c.now) (map expr_tree es.now)) }
-    ensures walked { OnOk result (walk_tree walk.new ≡ lengths_walked (context_tree c.now) (map expr_tree es.now) (walk_tree walk.old)) }
+    ensures typed { IfOk result (AreTyped c.now es.now) }
+    ensures values { IfOk result (AreValued c.now es.now) }
+    ensures walked { OnOk result (WalksLengths c.now es.now walk.old walk.new) }
 {
     let mut all_typed = true;
     let mut values = Some(Vec::new(alloc));
@@ -97,7 +96,8 @@ pub fn walk_lengths(
     Ok(ArrayLengths { all_typed, values })
 }
 
-/// The lengths of a parameter: whether the first has a type and is a length, and those of the elements.
+/// The lengths of a parameter: whether the first has a type and is a length, and those of the
+/// elements.
 #[derive(Drop)]
 pub struct ParameterLengths {
     /// Whether the first has a type.
@@ -115,12 +115,12 @@ pub fn walk_parameter_lengths(
     l: &Lengths,
     walk: &mut Walk,
 ) -> Result<ParameterLengths, NoMemory>
-    ensures first { IfOk result (λ p. p.first_typed ≡ is_length_typed (context_tree c.now) (first_length (lengths_tree l.now))) }
-    ensures valid { IfOk result (λ p. p.first_valid ≡ is_length (context_tree c.now) (first_length (lengths_tree l.now))) }
-    ensures typed { IfOk result (λ p. p.rest.all_typed ≡ all_typed (context_tree c.now) (element_lengths (lengths_tree l.now))) }
-    ensures values { IfOk result (λ p. numbers p.rest.values ≡ lengths_of (context_tree c.now) (element_lengths (lengths_tree l.now))) }
-    ensures whole { IfOk result (λ p. (p.first_typed && p.rest.all_typed) ≡ all_typed (context_tree c.now) (lengths_tree l.now).given) }
-    ensures walked { OnOk result (walk_tree walk.new ≡ lengths_walked (context_tree c.now) (lengths_tree l.now).given (walk_tree walk.old)) }
+    ensures first { IfOk result (λ p. p.first_typed ≡ is_length_typed c.now l.now) }
+    ensures valid { IfOk result (λ p. p.first_valid ≡ is_length c.now l.now) }
+    ensures typed { IfOk result (λ p. ElementsAreTyped c.now l.now p.rest) }
+    ensures values { IfOk result (λ p. ElementsAreValued c.now l.now p.rest) }
+    ensures whole { IfOk result (WholeTyped c.now l.now) }
+    ensures walked { OnOk result (WalksGiven c.now l.now walk.old walk.new) }
 {
     if l.is_open || l.given.is_empty() {
         return Ok(ParameterLengths {
@@ -137,7 +137,8 @@ pub fn walk_parameter_lengths(
     })
 }
 
-/// An array of arrays of the type, of these lengths, the first of which is the outermost (C11 6.7.6.2p3).
+/// An array of arrays of the type, of these lengths, the first of which is the outermost
+/// (C11 6.7.6.2p3).
 pub fn arrays(alloc: Global, of: CType, lengths: &[u32]) -> Result<CType, NoMemory>
     ensures { IfOk result (λ t. type_tree t ≡ arrays (type_tree of) lengths.now) }
 {

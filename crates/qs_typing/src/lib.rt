@@ -36,6 +36,6 @@ pub use expressions::walk_expression;
 pub use found::{Fault, Found};
 pub use noted::{Block, Local, Noted};
 pub use positions::Position;
-pub use refusals::{LimitKind, TypeFault, check};
+pub use refusals::{TypeFault, check};
 pub use typed_unit::TypedUnit;
 pub use walk::Walk;

@@ -4,13 +4,12 @@ ghost use Rattle.std.specs.Prelude.{◌≤◌};
 mod methods;
 
 use indexmap::{IndexMap, IndexSet};
+pub use methods::member_end;
 use qs_base::Name;
 use qs_types::CType;
 
-pub use methods::member_end;
-
-/// The members before a place of a struct: the names of all, those that have a type, and where the last of
-/// these ends.
+/// The members before a place of a struct: the names of all, those that have a type, and where the
+/// last of these ends.
 #[derive(Drop)]
 pub struct MembersBefore {
     pub names: IndexSet<Name>,

@@ -1,19 +1,18 @@
 // The check of a unit.
-ghost use Rattle.std.specs.Prelude.{◌≡◌, ◌++◌, ◌⊎◌, None, Some, IfErr, IfOk, OnOk, map, option_map};
+ghost use Rattle.std.specs.Prelude.{◌≡◌, ◌++◌, IfErr, IfOk, OnOk, map, option_map};
 ghost use Rattle.std.specs.List.{slice_get};
 ghost use Rattle.qs_syntax.specs.TreeOf.{decl_tree, parameter_tree};
 ghost use Rattle.qs_syntax.specs.UnitTrees.{unit_tree};
 ghost use Rattle.qs_types.specs.Contexts.{entity_of};
 ghost use Rattle.qs_types.specs.GivenFunctions.{main_name};
 ghost use Rattle.qs_types.specs.Limits as limits;
-ghost use Rattle.qs_types.specs.UnitRules.{is_name_in, structs_of};
+ghost use Rattle.qs_types.specs.UnitRules.{is_name_in};
 ghost use Rattle.qs_types.specs.WellTyped as well_typed;
 ghost use Rattle.qs_typing.specs.ContextOf.{context_tree};
 ghost use Rattle.qs_typing.specs.EntityOf.{entity_tree};
-ghost use Rattle.qs_typing.specs.NodeTypes.{unit_types};
 ghost use Rattle.qs_typing.specs.NotedOf.{block_tree};
-ghost use Rattle.qs_typing.specs.Refusals.{early_refusal, first_refusal, late_by, limit_fault, runs_in};
-ghost use Rattle.qs_typing.specs.TypedOf.{typed_structs, typed_tree, typed_types};
+ghost use Rattle.qs_typing.specs.Refusals.{IsAccepted, IsTold, early_refusal, late_by, limit_fault, runs_in};
+ghost use Rattle.qs_typing.specs.TypedOf.{typed_tree};
 ghost use Rattle.qs_typing.specs.UnitWalk.{unit_walked};
 ghost use Rattle.qs_typing.specs.WalkOf.{walk_tree};
 ghost use Rattle.qs_typing.specs.declared.refusals.TypeFault.TheVariants as faults;
@@ -26,38 +25,30 @@ use crate::units::walk_declarations;
 use crate::walk::Walk;
 use indexmap::IndexSet;
 use qs_base::{Name, NoMemory};
+use qs_report::LimitKind;
 use qs_syntax::{Decl, Function, Unit};
 use qs_types::Rule;
 use std::alloc::Global;
-
-/// What is counted.
-#[derive(Clone, Copy, PartialEq, Eq, Debug)]
-pub enum LimitKind {
-    /// Nodes.
-    Nodes,
-    /// Names of functions.
-    Functions,
-    /// Parameters of one function.
-    Parameters,
-    /// Bytes of data.
-    Globals,
-    /// Placed bytes of one function.
-    Locals,
-}
+use thiserror::Error;
 
 /// Why a unit is refused, in this order: a limit of nodes, functions or parameters, a rule, no main, a
 /// function without a body, a limit of globals or locals.
-#[derive(Clone, Copy, PartialEq, Eq, Debug)]
+#[derive(Clone, Copy, PartialEq, Eq, Debug, Error)]
 pub enum TypeFault {
-    /// A node breaks a rule.
+    /// The node with this number breaks this rule: no node before it breaks one, nor it one before this.
+    #[error("node {0} breaks a rule")]
     Rule(u32, Rule),
-    /// A count passes its limit at a node.
+    /// What is counted first passes its limit at the node with this number.
+    #[error("a limit is passed at node {1}")]
     Limit(LimitKind, u32),
-    /// No function `main` has a body.
+    /// No function `main` has a body (C11 5.1.2.2.1).
+    #[error("no main")]
     NoMain,
-    /// The function that is declared at a node is called and has no body.
+    /// The function whose first declaration is the node with this number is called and has no body (C11 6.9p5).
+    #[error("the function at node {0} is called and has no body")]
     Undefined(u32),
-    /// There is no memory.
+    /// No memory was found.
+    #[error("out of memory")]
     NoMemory,
 }
 
@@ -252,13 +243,12 @@ fn walk_unit(alloc: Global, unit: &Unit) -> Result<(Context, Walk), NoMemory>
 
 /// The typed unit, where every node keeps the rules and the counts are within their limits; or why the
 /// unit is refused: the first cause in the order of `TypeFault`, or want of memory.
-#[tactic(auto, using(crate::proofs::Checked::late_known))]
+#[tactic(auto, using(crate::proofs::Checked::early_told, crate::proofs::Checked::late_told, crate::proofs::Checked::told_of_good))]
 pub fn check(alloc: Global, unit: &Unit) -> Result<TypedUnit, TypeFault>
-    ensures holds { IfOk result (λ typed. typed_tree typed ≡ unit_tree unit.now) }
-    ensures types { IfOk result (λ typed. typed_types typed ≡ unit_types (unit_tree unit.now)) }
-    ensures structs { IfOk result (λ typed. typed_structs typed ≡ structs_of (unit_tree unit.now)) }
-    ensures accepted { OnOk result (first_refusal (unit_tree unit.now) ≡ None) }
-    ensures refused { IfErr result (λ f. (f ≡ faults.NoMemory) ⊎ (first_refusal (unit_tree unit.now) ≡ Some f)) }
+    ensures unit { IfOk result (λ typed. typed_tree typed ≡ unit_tree unit.now) }
+    ensures accepted { OnOk result (IsAccepted (unit_tree unit.now)) }
+    ensures refused { IfErr result (λ f. IsTold (unit_tree unit.now) f) }
+    ensures good { IsAccepted (unit_tree unit.now) → IfErr result (λ f. f ≡ faults.NoMemory) }
 {
     if let Some(f) = early_fault(alloc, unit)? {
         return Err(f);

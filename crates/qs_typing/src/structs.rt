@@ -1,21 +1,14 @@
 // Structs and their members (C11 6.7.2.1, 6.7.2.3).
-ghost use Rattle.std.specs.Prelude.{◌≡◌, ◌≤◌, ◌++◌, [], None, IfOk, IfSome, OnOk, map, option_map, true, if◌then◌else◌};
-ghost use Rattle.qs_syntax.specs.TreeOf.{declarator_tree, members_tree, struct_tree};
+ghost use Rattle.std.specs.Prelude.{◌≡◌, None, IfOk, IfSome, OnOk};
 ghost use Rattle.std.specs.List.{slice_get};
-ghost use Rattle.qs_types.specs.declared.rules.Rule.TheVariants as rule;
-ghost use Rattle.qs_types.specs.Declarations.{all_typed, lengths_of};
 ghost use Rattle.qs_types.specs.EnvOf.{env_tree};
 ghost use Rattle.qs_types.specs.LayoutLaws.{IsSmall};
-ghost use Rattle.qs_types.specs.Rules.{test};
-ghost use Rattle.qs_types.specs.StructsOf.{member_tree};
-ghost use Rattle.qs_types.specs.TypeOf.{type_tree};
 ghost use Rattle.qs_types.specs.UnitRules as rules;
 ghost use Rattle.qs_typing.specs.ContextOf.{context_tree};
-ghost use Rattle.qs_typing.specs.DeclaredOf.{declared_tree, numbers};
-ghost use Rattle.qs_typing.specs.JudgedOf.{test_tree};
-ghost use Rattle.qs_typing.specs.MembersOf.{before_tree};
-ghost use Rattle.qs_typing.specs.UnitWalk.{member_walked, members_walked, struct_walked, together_walked};
-ghost use Rattle.qs_typing.specs.WalkOf.{walk_tree};
+ghost use Rattle.qs_typing.specs.DeclaredOf.{option_type};
+ghost use Rattle.qs_typing.specs.Declares.{IsMember};
+ghost use Rattle.qs_typing.specs.LengthsOf.{AreTyped, AreValued};
+ghost use Rattle.qs_typing.specs.StructWalks.{AddsDeclared, AddsGroup, AddsMembers, AreMemberTests, DefinesAt, KnowsStruct, WalksGroup, WalksMember, WalksMembers, WalksStruct};
 
 use crate::context::Context;
 use crate::declared_types::{Declared, declarator_declared};
@@ -41,7 +34,7 @@ fn has_room(end: u32, extent: Option<Extent>) -> bool
 }
 
 fn option_extent(structs: &Env, t: &Option<CType>) -> Option<Extent>
-    ensures extent { result ≡ rules.option_extent (env_tree structs.now) (option_map type_tree t.now) }
+    ensures extent { result ≡ rules.option_extent (env_tree structs.now) (option_type t.now) }
     ensures small { IfSome result IsSmall }
 {
     match t {
@@ -59,9 +52,9 @@ fn member_declared(
     d: &Declarator,
     lengths: ArrayLengths,
 ) -> Result<Declared, NoMemory>
-    requires typed { lengths.all_typed ≡ all_typed (context_tree c.now) (declarator_tree d.now).lengths.given }
-    requires values { numbers lengths.values ≡ lengths_of (context_tree c.now) (declarator_tree d.now).lengths.given }
-    ensures { IfOk result (λ r. declared_tree r ≡ rules.member_declared (context_tree c.now) end base.now (declarator_tree d.now)) }
+    requires typed { AreTyped c.now d.now.lengths.given.items lengths }
+    requires values { AreValued c.now d.now.lengths.given.items lengths }
+    ensures { IfOk result (IsMember c.now end base.now d.now) }
 {
     let Declared { tests, of } = declarator_declared(alloc, c, base, d, None, lengths)?;
     let has_room = has_room(end, option_extent(c.structs(), &of));
@@ -79,7 +72,7 @@ fn member_tests(
     declared: &[Test],
     again: bool,
 ) -> Result<Vec<Test>, NoMemory>
-    ensures { IfOk result (λ ts. map test_tree ts.items ≡ (if all_typed then map test_tree declared.now ++ test rule.MemberTwice again else [])) }
+    ensures { IfOk result (λ ts. AreMemberTests all_typed declared.now again ts.items) }
 {
     let mut tests = Vec::new(alloc);
     if !all_typed {
@@ -99,8 +92,8 @@ fn walk_member(
     d: &Declarator,
     walk: &mut Walk,
 ) -> Result<(), NoMemory>
-    ensures before { OnOk result (before_tree before.new ≡ rules.after_member (context_tree c.now) (before_tree before.old) base.now (declarator_tree d.now)) }
-    ensures walked { OnOk result (walk_tree walk.new ≡ member_walked (context_tree c.now) (before_tree before.old) base.now (declarator_tree d.now) (walk_tree walk.old)) }
+    ensures before { OnOk result (AddsDeclared c.now base.now d.now before.old before.new) }
+    ensures walked { OnOk result (WalksMember c.now before.old base.now d.now walk.old walk.new) }
 {
     walk.open()?;
     let lengths = walk_lengths(alloc, c, &d.lengths.given, walk)?;
@@ -121,8 +114,8 @@ fn walk_together(
     ds: &[Declarator],
     walk: &mut Walk,
 ) -> Result<(), NoMemory>
-    ensures before { OnOk result (before_tree before.new ≡ rules.after_together (context_tree c.now) (before_tree before.old) base.now (map declarator_tree ds.now)) }
-    ensures walked { OnOk result (walk_tree walk.new ≡ together_walked (context_tree c.now) (before_tree before.old) base.now (map declarator_tree ds.now) (walk_tree walk.old)) }
+    ensures before { OnOk result (AddsGroup c.now base.now ds.now before.old before.new) }
+    ensures walked { OnOk result (WalksGroup c.now before.old base.now ds.now walk.old walk.new) }
 {
     for d in ds {
         walk_member(alloc, c, before, base, d, walk)?;
@@ -137,8 +130,8 @@ fn walk_members(
     ms: &[Members],
     walk: &mut Walk,
 ) -> Result<(), NoMemory>
-    ensures before { OnOk result (before_tree before.new ≡ rules.after_members (context_tree c.now) (before_tree before.old) (map members_tree ms.now)) }
-    ensures walked { OnOk result (walk_tree walk.new ≡ members_walked (context_tree c.now) (before_tree before.old) (map members_tree ms.now) (walk_tree walk.old)) }
+    ensures before { OnOk result (AddsMembers c.now ms.now before.old before.new) }
+    ensures walked { OnOk result (WalksMembers c.now before.old ms.now walk.old walk.new) }
 {
     for m in ms {
         walk_together(alloc, c, before, &m.base, &m.declarators, walk)?;
@@ -168,14 +161,14 @@ fn has_no_members(c: &Context, k: u32) -> bool
 }
 
 /// Gives the struct with this number these members, if it has none.
-#[tactic(auto, using(crate::proofs::Defining::without_members, crate::proofs::Defining::defined_by))]
+#[tactic(auto, using(crate::proofs::Defining::without_members))]
 fn define_at(
     alloc: Global,
     c: &mut Context,
     members: IndexMap<Name, CType>,
     k: Option<u32>,
 ) -> Result<(), NoMemory>
-    ensures { OnOk result (context_tree c.new ≡ rules.define_at (context_tree c.old) (map member_tree members.entries) k) }
+    ensures { OnOk result (DefinesAt k members.entries c.old c.new) }
 {
     match k {
         None => Ok(()),
@@ -195,8 +188,8 @@ pub fn walk_struct(
     s: &Struct,
     walk: &mut Walk,
 ) -> Result<(), NoMemory>
-    ensures context { OnOk result (context_tree c.new ≡ rules.after_struct (context_tree c.old) (struct_tree s.now)) }
-    ensures walked { OnOk result (walk_tree walk.new ≡ struct_walked (context_tree c.old) (struct_tree s.now) (walk_tree walk.old)) }
+    ensures context { OnOk result (KnowsStruct s.now c.old c.new) }
+    ensures walked { OnOk result (WalksStruct c.old s.now walk.old walk.new) }
 {
     walk.open()?;
     let defined = is_defined(c, &s.name);

@@ -1,7 +1,13 @@
 // A unit with its types.
+ghost use Rattle.std.specs.Prelude.{◌≡◌, map, option_map};
 ghost use Rattle.qs_syntax.specs.UnitTrees.{unit_tree};
+ghost use Rattle.qs_types.specs.EnvOf.{env_tree};
 ghost use Rattle.qs_types.specs.Limits.{IsWithinLimits};
+ghost use Rattle.qs_types.specs.TypeOf.{type_tree};
+ghost use Rattle.qs_types.specs.UnitRules.{structs_of};
 ghost use Rattle.qs_types.specs.WellTyped.{WellTyped};
+ghost use Rattle.qs_typing.specs.NodeReferents.{unit_addressed, unit_referents};
+ghost use Rattle.qs_typing.specs.NodeTypes.{unit_types};
 
 mod methods;
 
@@ -21,4 +27,8 @@ pub struct TypedUnit {
     env: Env,
     ghost well_typed: { WellTyped (unit_tree unit) },
     ghost within_limits: { IsWithinLimits (unit_tree unit) },
+    ghost are_types: { map (option_map type_tree) types.items ≡ unit_types (unit_tree unit) },
+    ghost are_referents: { referents.items ≡ unit_referents (unit_tree unit) },
+    ghost are_addressed: { addressed.items ≡ unit_addressed (unit_tree unit) },
+    ghost are_structs: { env_tree env ≡ structs_of (unit_tree unit) },
 }

@@ -1,20 +1,11 @@
 // Variables (C11 6.7).
-ghost use Rattle.std.specs.Prelude.{◌≡◌, ◌++◌, [], IfOk, OnOk, is_some, map, option_map, if◌then◌else◌};
-ghost use Rattle.qs_syntax.specs.TreeOf.{expr_tree, initialiser_tree, variable_tree};
-ghost use Rattle.qs_syntax.specs.Trees.{value};
-ghost use Rattle.qs_types.specs.Declarations as declarations;
-ghost use Rattle.qs_types.specs.ExpressionFaults.{expr_faults, whole};
-ghost use Rattle.qs_types.specs.Expressions.{type_of};
-ghost use Rattle.qs_types.specs.InitialiserRules.{element_fits, initialiser_tests};
-ghost use Rattle.qs_types.specs.Rules.{is_any};
-ghost use Rattle.qs_types.specs.StatementRules.{after_variable, after_variables, entity_at, holds_back};
-ghost use Rattle.qs_types.specs.TypeOf.{type_tree};
-ghost use Rattle.qs_typing.specs.ContextOf.{context_tree};
+ghost use Rattle.std.specs.Prelude.{◌≡◌, IfOk, OnOk, is_some};
+ghost use Rattle.qs_types.specs.StatementRules.{entity_at};
+ghost use Rattle.qs_typing.specs.DeclaredOf.{option_type};
 ghost use Rattle.qs_typing.specs.EntityOf.{entity_tree};
-ghost use Rattle.qs_typing.specs.JudgedOf.{test_tree};
-ghost use Rattle.qs_typing.specs.UnitWalk.{initialiser_walked, option_initialiser_walked, variable_walked, variables_walked};
-ghost use Rattle.qs_typing.specs.Variables.{again_tests, fit_tests, fits_of};
-ghost use Rattle.qs_typing.specs.WalkOf.{walk_tree};
+ghost use Rattle.qs_typing.specs.Initialisers.{WalksValue, is_value_typed, value_fits};
+ghost use Rattle.qs_typing.specs.VariableWalks.{AreVariableTests, HasDeclaredType, IsTested, KnowsAll, KnowsOne, WalksAll, WalksOne, WalksOption, breaks_rule, holds_back};
+ghost use Rattle.qs_typing.specs.Variables.{fits_of};
 
 use crate::context::Context;
 use crate::declared_types::variable_declared;
@@ -38,7 +29,7 @@ pub struct Initialised {
 }
 
 fn copied(alloc: Global, t: &Option<CType>) -> Result<Option<CType>, NoMemory>
-    ensures { IfOk result (λ r. option_map type_tree r ≡ option_map type_tree t.now) }
+    ensures { IfOk result (λ r. option_type r ≡ option_type t.now) }
 {
     match t {
         None => Ok(None),
@@ -47,7 +38,7 @@ fn copied(alloc: Global, t: &Option<CType>) -> Result<Option<CType>, NoMemory>
 }
 
 fn entity_at(at_file_scope: bool, node: u32, t: Option<CType>) -> Entity
-    ensures { entity_tree result ≡ entity_at at_file_scope node (option_map type_tree t) }
+    ensures { entity_tree result ≡ entity_at at_file_scope node (option_type t) }
 {
     if at_file_scope {
         Entity::FileVariable(node, t)
@@ -65,10 +56,10 @@ fn walk_watched(
     e: &Expr,
     walk: &mut Walk,
 ) -> Result<(Fit, bool), NoMemory>
-    ensures typed { IfOk result (λ r. r.0.is_typed ≡ is_some (type_of (context_tree c.now) (expr_tree e.now))) }
-    ensures fits { IfOk result (λ r. r.0.fits ≡ element_fits at_file_scope (context_tree c.now) (option_map (λ t. type_tree t.now) t.entry) (value (expr_tree e.now))) }
-    ensures broken { IfOk result (λ r. r.1 ≡ is_any (expr_faults (context_tree c.now) whole (expr_tree e.now))) }
-    ensures walked { OnOk result (walk_tree walk.new ≡ initialiser_walked at_file_scope (context_tree c.now) (option_map (λ t. type_tree t.now) t.entry) (value (expr_tree e.now)) (walk_tree walk.old)) }
+    ensures typed { IfOk result (λ r. r.0.is_typed ≡ is_value_typed c.now e.now) }
+    ensures fits { IfOk result (λ r. r.0.fits ≡ value_fits at_file_scope c.now t.entry e.now) }
+    ensures broken { IfOk result (λ r. r.1 ≡ breaks_rule c.now e.now) }
+    ensures walked { OnOk result (WalksValue at_file_scope c.now t.entry e.now walk.old walk.new) }
 {
     let before = walk.found.least;
     walk.found.least = None;
@@ -98,9 +89,9 @@ fn walk_option_initialiser(
     i: &Option<Initialiser>,
     walk: &mut Walk,
 ) -> Result<Initialised, NoMemory>
-    ensures held { IfOk result (λ r. r.holds_back ≡ holds_back (context_tree c.now) (option_map initialiser_tree i.now)) }
-    ensures fits { IfOk result (λ r. fit_tests r.fits ≡ initialiser_tests at_file_scope (context_tree c.now) (option_map type_tree t.now) (option_map initialiser_tree i.now)) }
-    ensures walked { OnOk result (walk_tree walk.new ≡ option_initialiser_walked at_file_scope (context_tree c.now) (option_map type_tree t.now) (option_map initialiser_tree i.now) (walk_tree walk.old)) }
+    ensures held { IfOk result (λ r. r.holds_back ≡ holds_back c.now i.now) }
+    ensures fits { IfOk result (λ r. IsTested at_file_scope c.now t.now i.now r.fits) }
+    ensures walked { OnOk result (WalksOption at_file_scope c.now t.now i.now walk.old walk.new) }
 {
     match i {
         None => Ok(Initialised {
@@ -124,15 +115,15 @@ fn walk_option_initialiser(
     }
 }
 
-/// The tests of a variable: that its name is declared once in its scope, those of its type, and that its
-/// initialiser fits.
+/// The tests of a variable: that its name is declared once in its scope, those of its type, and
+/// that its initialiser fits.
 fn variable_tests(
     alloc: Global,
     again: Option<bool>,
     declared: &[Test],
     initialised: Initialised,
 ) -> Result<Vec<Test>, NoMemory>
-    ensures { IfOk result (λ ts. map test_tree ts.items ≡ (if initialised.holds_back then [] else again_tests again ++ (map test_tree declared.now ++ fit_tests initialised.fits))) }
+    ensures { IfOk result (λ ts. AreVariableTests again declared.now initialised ts.items) }
 {
     let mut tests = Vec::new(alloc);
     if initialised.holds_back {
@@ -156,8 +147,8 @@ fn declare(
     v: &Variable,
     t: &Option<CType>,
 ) -> Result<(), NoMemory>
-    requires { option_map type_tree t.now ≡ (declarations.variable_declared (context_tree c.old) base.now (variable_tree v.now)).type }
-    ensures { OnOk result (context_tree c.new ≡ after_variable at_file_scope (context_tree c.old) base.now (variable_tree v.now)) }
+    requires { HasDeclaredType c.old base.now v.now t.now }
+    ensures { OnOk result (KnowsOne at_file_scope base.now v.now c.old c.new) }
 {
     let name = v.declarator.name.copy(alloc)?;
     let entity = entity_at(at_file_scope, v.declarator.node.id, copied(alloc, t)?);
@@ -173,8 +164,8 @@ pub fn walk_variable(
     v: &Variable,
     walk: &mut Walk,
 ) -> Result<(), NoMemory>
-    ensures context { OnOk result (context_tree c.new ≡ after_variable at_file_scope (context_tree c.old) base.now (variable_tree v.now)) }
-    ensures walked { OnOk result (walk_tree walk.new ≡ variable_walked at_file_scope (context_tree c.old) base.now (variable_tree v.now) (walk_tree walk.old)) }
+    ensures context { OnOk result (KnowsOne at_file_scope base.now v.now c.old c.new) }
+    ensures walked { OnOk result (WalksOne at_file_scope c.old base.now v.now walk.old walk.new) }
 {
     walk.open()?;
     let lengths = walk_lengths(alloc, c, &v.declarator.lengths.given, walk)?;
@@ -207,8 +198,8 @@ pub fn walk_variables(
     vs: &[Variable],
     walk: &mut Walk,
 ) -> Result<(), NoMemory>
-    ensures context { OnOk result (context_tree c.new ≡ after_variables at_file_scope (context_tree c.old) base.now (map variable_tree vs.now)) }
-    ensures walked { OnOk result (walk_tree walk.new ≡ variables_walked at_file_scope (context_tree c.old) base.now (map variable_tree vs.now) (walk_tree walk.old)) }
+    ensures context { OnOk result (KnowsAll at_file_scope base.now vs.now c.old c.new) }
+    ensures walked { OnOk result (WalksAll at_file_scope c.old base.now vs.now walk.old walk.new) }
 {
     for v in vs {
         walk_variable(alloc, at_file_scope, c, base, v, walk)?;

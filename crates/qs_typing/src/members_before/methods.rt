@@ -1,10 +1,7 @@
 // How members are added.
-ghost use Rattle.std.specs.Prelude.{◌≡◌, ◌≤◌, OnOk, option_map, true};
-ghost use Rattle.qs_types.specs.EnvOf.{env_tree};
-ghost use Rattle.qs_types.specs.Layout.{layout_of, sized_by};
-ghost use Rattle.qs_types.specs.TypeOf.{type_tree};
+ghost use Rattle.std.specs.Prelude.{◌≡◌, ◌≤◌, OnOk, Some};
 ghost use Rattle.qs_types.specs.UnitRules as rules;
-ghost use Rattle.qs_typing.specs.MembersOf.{before_tree, with_member_only, with_name_only};
+ghost use Rattle.qs_typing.specs.MembersOf.{AddsMember, AddsName, AddsTyped, HasRoomFor, before_tree};
 
 use super::MembersBefore;
 use indexmap::{IndexMap, IndexSet};
@@ -46,7 +43,7 @@ impl MembersBefore {
     }
 
     fn add_name(&mut self, alloc: Global, name: &Name) -> Result<(), NoMemory>
-        ensures { OnOk result (before_tree self.new ≡ with_name_only (before_tree self.old) name.now) }
+        ensures { OnOk result (AddsName name.now self.old self.new) }
     {
         self.names.insert(name.copy(alloc)?)?;
         Ok(())
@@ -60,8 +57,8 @@ impl MembersBefore {
         name: &Name,
         t: Option<CType>,
     ) -> Result<(), NoMemory>
-        requires { rules.has_room (before_tree self.old).end (rules.option_extent (env_tree structs.now) (option_map type_tree t)) ≡ true }
-        ensures { OnOk result (before_tree self.new ≡ rules.with_member (env_tree structs.now) (before_tree self.old) name.now (option_map type_tree t)) }
+        requires { HasRoomFor structs.now t self.old }
+        ensures { OnOk result (AddsMember structs.now name.now t self.old self.new) }
     {
         self.add_name(alloc, name)?;
         match t {
@@ -78,8 +75,8 @@ impl MembersBefore {
         name: &Name,
         t: CType,
     ) -> Result<(), NoMemory>
-        requires { rules.has_room (before_tree self.old).end (sized_by (layout_of (env_tree structs.now)) (type_tree t)) ≡ true }
-        ensures { OnOk result (before_tree self.new ≡ with_member_only (env_tree structs.now) (before_tree self.old) name.now (type_tree t)) }
+        requires { HasRoomFor structs.now (Some t) self.old }
+        ensures { OnOk result (AddsTyped structs.now name.now t self.old self.new) }
     {
         if self.has_member(name) {
             return Ok(());
@@ -93,4 +90,3 @@ impl MembersBefore {
         Ok(())
     }
 }
-

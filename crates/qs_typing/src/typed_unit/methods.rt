@@ -1,15 +1,18 @@
 // How typed units are made and asked.
-ghost use Rattle.std.specs.Prelude.{◌≡◌, None, map, option_map};
+ghost use Rattle.std.specs.Prelude.{◌≡◌, map, option_map};
 ghost use Rattle.qs_syntax.specs.UnitTrees.{unit_tree};
 ghost use Rattle.qs_types.specs.EnvOf.{env_tree};
-ghost use Rattle.qs_types.specs.Limits.{IsWithinLimits};
+ghost use Rattle.qs_types.specs.Expressions.{type_of};
 ghost use Rattle.qs_types.specs.TypeOf.{type_tree};
 ghost use Rattle.qs_types.specs.UnitRules.{structs_of};
-ghost use Rattle.qs_types.specs.WellTyped.{WellTyped, end_context};
+ghost use Rattle.qs_types.specs.WellTyped.{end_context};
+ghost use Rattle.qs_typing.specs.ByNumber.{IsByNumber};
 ghost use Rattle.qs_typing.specs.ContextOf.{context_tree};
-ghost use Rattle.qs_typing.specs.NodeTypes.{unit_types};
-ghost use Rattle.qs_typing.specs.Refusals.{first_refusal};
-ghost use Rattle.qs_typing.specs.TypedOf.{typed_structs, typed_tree, typed_types};
+ghost use Rattle.qs_typing.specs.ExprFindings.{referent_of};
+ghost use Rattle.qs_typing.specs.NodeReferents.{no_referent, unit_addressed, unit_referents};
+ghost use Rattle.qs_typing.specs.NodeTypes.{no_type, unit_types};
+ghost use Rattle.qs_typing.specs.Refusals.{IsAccepted};
+ghost use Rattle.qs_typing.specs.TypedOf.{typed_tree};
 ghost use Rattle.qs_typing.specs.UnitWalk.{unit_walked};
 ghost use Rattle.qs_typing.specs.WalkOf.{walk_tree};
 
@@ -21,15 +24,13 @@ use qs_syntax::Unit;
 use qs_types::{CType, Env};
 
 impl TypedUnit {
-    /// A unit that isn't refused, with what was found in it and what is known behind it.
-    #[tactic(auto, using(crate::proofs::Checked::is_well_typed, crate::proofs::Checked::is_within_limits, crate::proofs::Adding::unit_typed))]
+    /// A unit that is accepted, with what was found in it and what is known behind it.
+    #[tactic(auto, using(crate::proofs::TypedLaws::types_are, crate::proofs::TypedLaws::referents_are, crate::proofs::TypedLaws::addressed_are, crate::proofs::TypedLaws::structs_are))]
     pub fn new(unit: Unit, c: Context, walk: Walk) -> TypedUnit
-        requires kept { first_refusal (unit_tree unit) ≡ None }
+        requires accepted { IsAccepted (unit_tree unit) }
         requires known { context_tree c ≡ end_context (unit_tree unit) }
         requires walked { walk_tree walk ≡ unit_walked (unit_tree unit) }
-        ensures unit { typed_tree result ≡ unit_tree unit }
-        ensures types { typed_types result ≡ unit_types (unit_tree unit) }
-        ensures structs { typed_structs result ≡ structs_of (unit_tree unit) }
+        ensures { typed_tree result ≡ unit_tree unit }
     {
         let Walk { found, .. } = walk;
         TypedUnit {
@@ -50,37 +51,39 @@ impl TypedUnit {
 
     /// The type of each expression at the number of its node, None at every other number.
     pub fn types(&self) -> &[Option<CType>]
-        ensures { map (option_map type_tree) result.now ≡ typed_types self.now }
+        ensures types { map (option_map type_tree) result.now ≡ unit_types (typed_tree self.now) }
+        ensures by_number { IsByNumber no_type type_of (typed_tree self.now) (map (option_map type_tree) result.now) }
     {
         &self.types
     }
 
     /// The structs of the unit.
     pub fn env(&self) -> &Env
-        ensures { env_tree result.now ≡ typed_structs self.now }
+        ensures { env_tree result.now ≡ structs_of (typed_tree self.now) }
     {
         &self.env
     }
 
-    /// What each name and call stands for, at the number of its node.
-    pub fn referents(&self) -> &[Option<Referent>] {
+    /// What each name and call stands for, at the number of its node (C11 6.2.1).
+    pub fn referents(&self) -> &[Option<Referent>]
+        ensures referents { result.now ≡ unit_referents (typed_tree self.now) }
+        ensures by_number { IsByNumber no_referent referent_of (typed_tree self.now) result.now }
+    {
         &self.referents
     }
 
-    /// The declarations whose names are operands of `&`, by the numbers of their nodes.
-    pub fn addressed(&self) -> &[u32] {
+    /// The locals and parameters whose names are operands of `&`, below `sizeof` too, by the numbers of the
+    /// nodes of their declarations, in the order of the text.
+    pub fn addressed(&self) -> &[u32]
+        ensures { result.now ≡ unit_addressed (typed_tree self.now) }
+    {
         &self.addressed
     }
 
-    /// It keeps the rules, its `main` has a body, and so has each function that is called.
-    pub fn well_typed(&self)
-        ensures { WellTyped (typed_tree self.now) }
-    {
-    }
-
-    /// Its counts are within their limits.
-    pub fn within_limits(&self)
-        ensures { IsWithinLimits (typed_tree self.now) }
+    /// It keeps the rules, its `main` has a body, and so has each function that is called; its counts are
+    /// within their limits.
+    pub fn is_accepted(&self)
+        ensures { IsAccepted (typed_tree self.now) }
     {
     }
 }

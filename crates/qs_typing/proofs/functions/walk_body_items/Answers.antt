@@ -1,4 +1,5 @@
 use Rattle.std.proofs.Common.{◌≡◌, OnOk, length, map, option_map, arith, ap, ◌∙◌, subst}
+use Rattle.std.proofs.lemmas.Result.{on_ok_weaker}
 use Rattle.qs_syntax.specs.TreeOf.{parameter_tree, stmts_tree}
 use Rattle.qs_types.specs.Contexts.{inner_scope}
 use Rattle.qs_types.specs.TypeOf.{type_tree}
@@ -20,11 +21,13 @@ leave_scope-requires c =
 
 pub returns-clause-context : goal.returns-clause-context
 returns-clause-context c =
-    items_end (context_tree c.args.c.now) (context_tree c.enter_scope-around.new.self) (context_tree c.set_result-before.new.self) (context_tree c.declare_parameters.new.c)
+    on_ok_weaker c.end_body.result
+    (λ _. items_end (context_tree c.args.c.now) (context_tree c.enter_scope-around.new.self) (context_tree c.set_result-before.new.self) (context_tree c.declare_parameters.new.c)
     (context_tree c.walk_statements.new.c) (context_tree c.set_result.new.self) (context_tree c.leave_scope.new.self) c.enter_scope-around.result (option_map type_tree c.set_result-before.result)
     (option_map type_tree c.args.to) (map parameter_tree c.args.ps.now) (map (option_map type_tree) c.args.types.now) (stmts_tree c.args.items.now)
     c.enter_scope-around.ensures.around c.enter_scope-around.ensures.inside c.set_result-before.ensures.before c.set_result-before.ensures.set c.in_ok-declare_parameters.ensures
-    c.in_ok-walk_statements.ensures.context c.set_result.ensures.set c.leave_scope.ensures
+    c.in_ok-walk_statements.ensures.context c.set_result.ensures.set c.leave_scope.ensures)
+    c.end_body.ensures
 
 pub returns-clause-walked : goal.returns-clause-walked
 returns-clause-walked c =

@@ -6,7 +6,7 @@ use Rattle.qs_typing.proofs.lengths.arrays.Given as goal
 abbrev pub invariant-loop-i : goal.invariant-loop-i
 invariant-loop-i l = record {
   left : l.i ≤ length l.lengths;
-  arrays : arrays (type_tree l.of) l.lengths ≡ arrays (type_tree l.t) (take l.i l.lengths);
+  arrays : arrays (type_tree l.fn.of) l.lengths ≡ arrays (type_tree l.t) (take l.i l.lengths);
 }
 
 abbrev pub decreases-loop-i : goal.decreases-loop-i

@@ -1,4 +1,4 @@
--- Each type fault of a unit names one of its nodes, or none; and a unit that keeps the rules and limits has none.
+-- Each type fault of a unit names one of its nodes, or none.
 use Rattle.std.proofs.Common.{◌≡◌, ℕ, zero, suc, ◌+◌, ◌<◌, ◌≤◌, ◌==◌, nat_lt, Bool, true, false, not, ◌&&◌, ◌||◌, if◌then◌else◌, List, [], ◌∷◌, ◌++◌, length, map, flat_map, filter, Option, Some, None, is_some, slice_get, refl, ap, subst, sym, ◌∙◌, arith}
 use Rattle.std.proofs.lemmas.Bool.Decides.{nat_tests}
 use Rattle.qs_syntax.specs.declared.nodes.Node.{Node}
@@ -21,12 +21,12 @@ use Rattle.qs_types.specs.Rules.{test}
 use Rattle.qs_types.specs.Sites.{Site, site, sites, option_sites, declarator_sites, declarators_sites, may_hold, initialiser_sites, elements_sites, option_initialiser_sites, variable_sites, variables_sites, start_sites, statement_sites, statements_sites, else_sites, members_sites, parameters_sites, body_sites, declaration_sites, declarations_sites, unit_sites}
 use Rattle.qs_types.specs.References.{TextBlock, expr_texts, shape_texts, exprs_texts, site_texts, literal_blocks, unit_calls}
 use Rattle.qs_types.specs.Placed.{Local, variables_locals, start_locals, statement_locals, statements_locals, else_locals, parameters_locals, locals_in, is_placed, addressed_in, placed_in}
-use Rattle.qs_types.specs.WellTyped.{WellTyped, undefined_from, runs, first_undefined, has_main}
-use Rattle.qs_types.specs.Limits.{IsWithinLimits, or_else, node_limit, first_past_nodes, function_limit, header_past, first_past_functions, parameter_limit, node_of_parameter, first_past_parameters, Block, block_end, block_past, variables_blocks, variable_blocks_from, text_block, data_blocks, global_limit, first_past_globals, local_block, local_blocks, local_past, local_past_from, local_limit, first_past_locals}
+use Rattle.qs_types.specs.WellTyped.{undefined_from, runs, first_undefined, has_main}
+use Rattle.qs_types.specs.Limits.{or_else, node_limit, first_past_nodes, function_limit, header_past, first_past_functions, parameter_limit, node_of_parameter, first_past_parameters, Block, block_end, block_past, variables_blocks, variable_blocks_from, text_block, data_blocks, global_limit, first_past_globals, local_block, local_blocks, local_past, local_past_from, local_limit, first_past_locals}
 use Rattle.qs_typing.specs.Findings.{is_before, lesser, least_with}
 use Rattle.qs_typing.specs.Refusals.{first_of, limit_fault, rule_fault, main_fault, undefined_fault, early_refusal, late_refusal, first_refusal}
-use Rattle.qs_typing.specs.declared.refusals.LimitKind.{LimitKind}
-use Rattle.qs_typing.specs.declared.refusals.LimitKind.TheVariants as kinds
+use Rattle.qs_report.specs.declared.fault_texts.LimitKind.{LimitKind}
+use Rattle.qs_report.specs.declared.fault_texts.LimitKind.TheVariants as kinds
 use Rattle.qs_typing.specs.declared.refusals.TypeFault.{TypeFault}
 use Rattle.qs_typing.specs.declared.refusals.TypeFault.TheVariants as faults
 use Rattle.qs_parser.specs.Answers.{ReadsAs}
@@ -696,13 +696,3 @@ named_low count (Some f) fault number h e names =
 pub named_is_low : (ls : List Terminal) (ds : UnitTree) (fault : TypeFault) (number : ℕ) → ReadsAs ls ds → first_refusal ds ≡ Some fault → node_of fault ≡ Some number → number < unit_count ds
 named_is_low ls ds fault number r h names =
     named_low (unit_count ds) (first_refusal ds) fault number (refusal_named (λ n. n < unit_count ds) ds (past_is_low node_limit (unit_count ds)) (all_ids_low ls ds r)) h names
-
--- ---- a unit that keeps the rules and limits isn't refused
-
-none_first : (f g : Option TypeFault) → f ≡ None → g ≡ None → first_of f g ≡ None
-none_first f g p q = (λ i. first_of (p i) (q i))
-
-pub kept_is_accepted : (ds : UnitTree) → WellTyped ds → IsWithinLimits ds → first_refusal ds ≡ None
-kept_is_accepted ds w l = none_first (early_refusal ds) (late_refusal ds)
-    (λ i. first_of (limit_fault kinds.Nodes (l.nodes i)) (first_of (limit_fault kinds.Functions (l.functions i)) (limit_fault kinds.Parameters (l.parameters i))))
-    (λ i. first_of (rule_fault (least_with None (w.keeps_rules i))) (first_of (main_fault (w.main_has_body i)) (first_of (undefined_fault (w.calls_have_bodies i)) (first_of (limit_fault kinds.Globals (l.globals i)) (limit_fault kinds.Locals (l.locals i))))))

@@ -22,19 +22,19 @@ use Rattle.qs_parser.proofs.Top.{unexpected_none, too_deep_none}
 use Rattle.qs_parser.specs.declared.syntax_fault.SyntaxFault.{SyntaxFault}
 use Rattle.qs_parser.specs.declared.syntax_fault.SyntaxFault.TheVariants as syntax
 use Rattle.qs_grammar.proofs.UnitsComplete.{one_reading}
-use Rattle.qs_typing.specs.Refusals.{first_refusal}
+use Rattle.qs_typing.specs.Refusals.{IsAccepted, IsCause, IsTold, first_refusal}
 use Rattle.qs_typing.specs.declared.refusals.TypeFault.{TypeFault}
 use Rattle.qs_typing.specs.declared.refusals.TypeFault.TheVariants as type_faults
-use Rattle.qs_typing.proofs.Checked.{is_well_typed, is_within_limits}
+use Rattle.qs_typing.proofs.Checked.{nothing_refused}
 use Rattle.qs_ports.specs.StoreView.{StoreView}
 use Rattle.qs_driver.specs.Limits.{source_limit}
 use Rattle.qs_driver.specs.Files.{WasRead}
-use Rattle.qs_driver.specs.Source.{IsPlaceOf, IsStartOf, IsTokenPlace, IsNodeStart, IsNodePlace, byte_of, number_of, node_of, HasLexFault, HasSyntaxFault, HasTypeFault, IsNoUnit, IsUnit, IsTypedUnit, IsRefusedWith, RefusesText, has_lex_fault, has_syntax_fault, has_type_fault, lacks_memory, LacksSource, lex_fault, syntax_fault, type_fault, no_memory}
+use Rattle.qs_driver.specs.Source.{IsPlaceOf, IsStartOf, IsTokenPlace, IsNodeStart, IsNodePlace, byte_of, number_of, node_of, HasLexFault, HasSyntaxFault, HasTypeFault, IsNoUnit, IsUnit, IsTypedUnit, RefusesText, has_lex_fault, has_syntax_fault, has_type_fault, lacks_memory, LacksSource, lex_fault, syntax_fault, type_fault, no_memory}
 use Rattle.qs_driver.specs.declared.status.Status.{Status}
 use Rattle.qs_driver.specs.declared.status.Status.TheVariants.{Source}
 use Rattle.qs_driver.specs.declared.status.SourceFault.TheVariants.{Lex, Syntax, Typing}
 use Rattle.qs_driver.specs.declared.status.TokenPlace.{TokenPlace}
-use Rattle.qs_driver.proofs.FaultNodes.{kept_is_accepted, named_is_low}
+use Rattle.qs_driver.proofs.FaultNodes.{named_is_low}
 use Rattle.qs_driver.proofs.NodeTokens.{token_is_low}
 
 -- ---- what is answered of a text
@@ -83,21 +83,17 @@ abbrev pub unit_of : (text : List ℕ) (tokens : List Token) (trees : List DeclT
 unit_of text tokens trees t r = record { tokens = tokens; are_tokens = t; trees = trees; reads = r }
 
 -- the unit isn't refused
-pub is_typed : (text : List ℕ) (tokens : List Token) (trees : List DeclTree) → Tokens text tokens → ReadsAs (terminals text 0 tokens) trees → first_refusal trees ≡ None → IsTypedUnit text
-is_typed text tokens trees t r h = record {
-  unit = unit_of text tokens trees t r;
-  well_typed = is_well_typed trees h;
-  within_limits = is_within_limits trees h;
-}
+pub is_typed : (text : List ℕ) (tokens : List Token) (trees : List DeclTree) → Tokens text tokens → ReadsAs (terminals text 0 tokens) trees → IsAccepted trees → IsTypedUnit text
+is_typed text tokens trees t r a = record { unit = unit_of text tokens trees t r; well_typed = a.well_typed; within_limits = a.within_limits }
 
 -- the fault isn't want of memory
-pub is_first : (trees : List DeclTree) (fault : TypeFault) → (fault ≡ type_faults.NoMemory → ⊥) → IsRefusedWith trees fault → first_refusal trees ≡ Some fault
-is_first trees fault other (inl e) = absurd (other e)
-is_first trees fault other (inr h) = h
+pub is_cause : (trees : List DeclTree) (fault : TypeFault) → (fault ≡ type_faults.NoMemory → ⊥) → IsTold trees fault → IsCause trees fault
+is_cause trees fault other (inl e) = absurd (other e)
+is_cause trees fault other (inr c) = c
 
 -- a node's number is below the count of nodes, and that of its token below the count of tokens
-pub node_is_there : (text : List ℕ) (tokens : List Token) (trees : List DeclTree) (fault : TypeFault) (number : ℕ) → ReadsAs (terminals text 0 tokens) trees → first_refusal trees ≡ Some fault → node_of fault ≡ Some number → number < unit_count trees
-node_is_there text tokens trees fault number r h names = named_is_low (terminals text 0 tokens) trees fault number r h names
+pub node_is_there : (text : List ℕ) (tokens : List Token) (trees : List DeclTree) (fault : TypeFault) (number : ℕ) → ReadsAs (terminals text 0 tokens) trees → IsCause trees fault → node_of fault ≡ Some number → number < unit_count trees
+node_is_there text tokens trees fault number r c names = named_is_low (terminals text 0 tokens) trees fault number r c.first names
 
 pub token_is_there : (text : List ℕ) (tokens : List Token) (trees : List DeclTree) (number token : ℕ) → ReadsAs (terminals text 0 tokens) trees → slice_get (unit_nodes trees) number ≡ Some (record { id = number; token = token }) → token < length tokens
 token_is_there text tokens trees number token r is = token_is_low text tokens trees number (record { id = number; token = token }) r is
@@ -113,25 +109,25 @@ place_of_node : (text : List ℕ) (tokens : List Token) (trees : List DeclTree) 
 place_of_node text tokens trees None number pos e s = absurd cc
 place_of_node text tokens trees (Some found) number pos e s = let same : found ≡ number = cc in subst (λ (k : ℕ). IsNodeStart text tokens trees k pos) (sym same) s
 
-pub is_ill_typed_at : (text : List ℕ) (tokens : List Token) (trees : List DeclTree) (fault : TypeFault) (number : ℕ) (pos : Pos) → Tokens text tokens → ReadsAs (terminals text 0 tokens) trees → first_refusal trees ≡ Some fault → node_of fault ≡ Some number → IsNodeStart text tokens trees number pos → RefusesText text (Source (Typing fault (Some pos)))
-is_ill_typed_at text tokens trees fault number pos t r h names s = has_type_fault fault (Some pos) (record {
+pub is_ill_typed_at : (text : List ℕ) (tokens : List Token) (trees : List DeclTree) (fault : TypeFault) (number : ℕ) (pos : Pos) → Tokens text tokens → ReadsAs (terminals text 0 tokens) trees → IsCause trees fault → node_of fault ≡ Some number → IsNodeStart text tokens trees number pos → RefusesText text (Source (Typing fault (Some pos)))
+is_ill_typed_at text tokens trees fault number pos t r c names s = has_type_fault fault (Some pos) (record {
   unit = unit_of text tokens trees t r;
-  first = h;
+  cause = c;
   place_is = place_of_node text tokens trees (node_of fault) number pos names s;
 }) refl
 
-no_main : (text : List ℕ) (tokens : List Token) (trees : List DeclTree) → Tokens text tokens → ReadsAs (terminals text 0 tokens) trees → IsRefusedWith trees type_faults.NoMain → RefusesText text (Source (Typing type_faults.NoMain None))
-no_main text tokens trees t r refused = has_type_fault type_faults.NoMain None (record {
+no_main : (text : List ℕ) (tokens : List Token) (trees : List DeclTree) → Tokens text tokens → ReadsAs (terminals text 0 tokens) trees → IsTold trees type_faults.NoMain → RefusesText text (Source (Typing type_faults.NoMain None))
+no_main text tokens trees t r told = has_type_fault type_faults.NoMain None (record {
   unit = unit_of text tokens trees t r;
-  first = is_first trees type_faults.NoMain (λ e. cc) refused;
+  cause = is_cause trees type_faults.NoMain (λ e. cc) told;
   place_is = tt;
 }) refl
 
-pub has_no_main : (text : List ℕ) (tokens : List Token) (trees : List DeclTree) (fault : TypeFault) → fault ≡ type_faults.NoMain → Tokens text tokens → ReadsAs (terminals text 0 tokens) trees → IsRefusedWith trees fault → RefusesText text (Source (Typing fault None))
-has_no_main text tokens trees fault e t r refused =
+pub has_no_main : (text : List ℕ) (tokens : List Token) (trees : List DeclTree) (fault : TypeFault) → fault ≡ type_faults.NoMain → Tokens text tokens → ReadsAs (terminals text 0 tokens) trees → IsTold trees fault → RefusesText text (Source (Typing fault None))
+has_no_main text tokens trees fault e t r told =
     let P : TypeFault → Type 0 = λ f. RefusesText text (Source (Typing f None)) in
-    let Q : TypeFault → Type 0 = λ f. IsRefusedWith trees f in
-    subst P (sym e) (no_main text tokens trees t r (subst Q e refused))
+    let Q : TypeFault → Type 0 = λ f. IsTold trees f in
+    subst P (sym e) (no_main text tokens trees t r (subst Q e told))
 
 -- ---- a text has one fault, or is a unit
 
@@ -183,14 +179,14 @@ lex_or_unit text fault pos f u = lex_or_tokens text fault pos u.tokens f u.are_t
 
 pub ill_typed_or_typed : (text : List ℕ) (fault : TypeFault) (place : Option Pos) → HasTypeFault text fault place → IsTypedUnit text → ⊥
 ill_typed_or_typed text fault place f u =
-    let none : first_refusal u.unit.trees ≡ None = kept_is_accepted u.unit.trees u.well_typed u.within_limits in
+    let none : first_refusal u.unit.trees ≡ None = nothing_refused u.unit.trees (record { well_typed = u.well_typed; within_limits = u.within_limits }) in
     let e : first_refusal f.unit.trees ≡ None = ap first_refusal (same_trees text f.unit u.unit) ∙ none in
-    let h = f.first in
+    let h = f.cause.first in
     cc
 
 pub same_type_fault : (text : List ℕ) (f g : TypeFault) (p q : Option Pos) → HasTypeFault text f p → HasTypeFault text g q → f ≡ g
 same_type_fault text f g p q a b =
-    let e : ◌≡◌ {A = Option TypeFault} (Some f) (Some g) = sym a.first ∙ ap first_refusal (same_trees text a.unit b.unit) ∙ b.first in
+    let e : ◌≡◌ {A = Option TypeFault} (Some f) (Some g) = sym a.cause.first ∙ ap first_refusal (same_trees text a.unit b.unit) ∙ b.cause.first in
     cc
 
 same_start : (text : List ℕ) (tokens : List Token) (trees : List DeclTree) (number : ℕ) (p q : Pos) → IsNodeStart text tokens trees number p → IsNodeStart text tokens trees number q → p ≡ q

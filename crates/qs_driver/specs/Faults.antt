@@ -10,14 +10,10 @@ use Rattle.qs_image.specs.declared.fault.ImageFault.TheVariants as fault
 use Rattle.qs_machine.specs.declared.answers.Cause.{Cause}
 use Rattle.qs_machine.specs.declared.answers.Cause.TheVariants as cause
 use Rattle.qs_types.specs.Rules.{rule_number}
-use Rattle.qs_typing.specs.declared.refusals.LimitKind as counted
-use Rattle.qs_typing.specs.declared.refusals.LimitKind.TheVariants as counts
 use Rattle.qs_typing.specs.declared.refusals.TypeFault.{TypeFault}
 use Rattle.qs_typing.specs.declared.refusals.TypeFault.TheVariants as typing
 use Rattle.qs_report.specs.Lines.{line}
 use Rattle.qs_report.specs.Lines as lines
-use Rattle.qs_report.specs.declared.fault_texts.LimitKind.{LimitKind}
-use Rattle.qs_report.specs.declared.fault_texts.LimitKind.TheVariants as limits
 use Rattle.qs_report.specs.declared.fault_texts.FaultText.{FaultText}
 use Rattle.qs_report.specs.declared.fault_texts.FaultText.TheVariants as texts
 use Rattle.qs_driver.specs.Names.{Names, file_name}
@@ -76,18 +72,10 @@ syntax_text syntax.NoMemory place = texts.NoMemory
 syntax_text (syntax.Unexpected number) place = unexpected_text place
 syntax_text (syntax.TooDeep number) place = texts.TooDeep (pos_of place)
 
--- what is counted, and has passed its limit
-abbrev pub limit_kind : counted.LimitKind → LimitKind
-limit_kind counts.Nodes = limits.Nodes
-limit_kind counts.Functions = limits.Functions
-limit_kind counts.Parameters = limits.Parameters
-limit_kind counts.Globals = limits.Globals
-limit_kind counts.Locals = limits.Locals
-
 -- what is wrong with the types of a source, at the place of the node that the fault names
 abbrev pub placed_text : TypeFault → Pos → FaultText
 placed_text (typing.Rule node rule) pos = texts.Rule pos (rule_number rule)
-placed_text (typing.Limit kind node) pos = texts.Limit pos (limit_kind kind)
+placed_text (typing.Limit kind node) pos = texts.Limit pos kind
 placed_text typing.NoMain pos = texts.NoMain
 placed_text (typing.Undefined node) pos = texts.NoBody pos
 placed_text typing.NoMemory pos = texts.NoMemory

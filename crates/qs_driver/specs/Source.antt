@@ -1,5 +1,5 @@
 -- A source that a command reads: its text, or why it is refused.
-use Rattle.std.specs.Prelude.{◌≡◌, ◌⊎◌, ◌↔◌, ℕ, List, length, IsTrue, Option, Some, None, Result, Ok, Err, Vec, slice_get}
+use Rattle.std.specs.Prelude.{◌≡◌, ◌↔◌, ℕ, List, length, IsTrue, Option, Some, None, Result, Ok, Err, Vec, slice_get}
 use Rattle.std.specs.declared.alloc.Global.{Global}
 use Rattle.qs_base.specs.Positions.{line_at, column_at}
 use Rattle.qs_base.specs.declared.places.Pos.{Pos}
@@ -18,7 +18,7 @@ use Rattle.qs_parser.specs.declared.syntax_fault.SyntaxFault.{SyntaxFault}
 use Rattle.qs_parser.specs.declared.syntax_fault.SyntaxFault.TheVariants as syntax_faults
 use Rattle.qs_types.specs.WellTyped.{WellTyped}
 use Rattle.qs_types.specs.Limits.{IsWithinLimits}
-use Rattle.qs_typing.specs.Refusals.{first_refusal}
+use Rattle.qs_typing.specs.Refusals.{IsCause}
 use Rattle.qs_typing.specs.declared.refusals.TypeFault.{TypeFault}
 use Rattle.qs_typing.specs.declared.refusals.TypeFault.TheVariants as type_faults
 use Rattle.qs_ports.specs.StoreView.{StoreView}
@@ -123,10 +123,10 @@ node_of type_faults.NoMain = None
 node_of (type_faults.Undefined node) = Some node
 node_of type_faults.NoMemory = None
 
--- the text is a unit with this type fault first; the node that it names, where it names one, stands at this place
+-- the text is a unit that this type fault is the first cause to refuse; the node that it names, where it names one, stands at this place
 pub record HasTypeFault (text : List ℕ) (fault : TypeFault) (place : Option Pos) : Type 0 where
   pub unit : IsUnit text
-  pub first : first_refusal unit.trees ≡ Some fault
+  pub cause : IsCause unit.trees fault
   pub place_is : IsNodePlace text unit.tokens unit.trees (node_of fault) place
 
 -- the text is a unit that keeps the typing rules and is within the limits
@@ -144,10 +144,6 @@ pub data RefusesText (text : List ℕ) (status : Status) : Type 0 where
   has_type_fault : (fault : TypeFault) (place : Option Pos) → HasTypeFault text fault place
       → status ≡ Source (Typing fault place) → RefusesText text status
   lacks_memory : status ≡ NoMemory → RefusesText text status
-
--- the type fault that comes first in these trees, or want of memory
-abbrev pub IsRefusedWith : List DeclTree → TypeFault → Type 0
-IsRefusedWith trees fault = (fault ≡ type_faults.NoMemory) ⊎ (first_refusal trees ≡ Some fault)
 
 -- the answer of `check_text`
 abbrev pub ChecksText : List ℕ → Result Unit Status → Type 0

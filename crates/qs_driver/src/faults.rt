@@ -2,7 +2,7 @@
 ghost use Rattle.std.specs.Prelude.{◌≡◌};
 ghost use Rattle.qs_ports.specs.SinkView.{PutsAll};
 ghost use Rattle.qs_report.specs.Lines.{HasItsNumbers};
-ghost use Rattle.qs_driver.specs.Faults.{status_line, image_text, lex_text, limit_kind, named_line, placed_text, pos_of, syntax_text, trap_text, typing_text, unexpected_text};
+ghost use Rattle.qs_driver.specs.Faults.{status_line, image_text, lex_text, named_line, placed_text, pos_of, syntax_text, trap_text, typing_text, unexpected_text};
 ghost use Rattle.qs_driver.specs.Names.{names_in};
 
 use crate::names::{FileNames, file_name};
@@ -13,8 +13,8 @@ use qs_lexer::LexFault;
 use qs_machine::Cause;
 use qs_parser::SyntaxFault;
 use qs_ports::{Sink, SinkFault};
-use qs_report::{FaultText, LimitKind, put_arg_count, put_arg_range, put_fault, put_two};
-use qs_typing::{LimitKind as Counted, TypeFault};
+use qs_report::{FaultText, put_arg_count, put_arg_range, put_fault, put_two};
+use qs_typing::TypeFault;
 
 fn image_text(fault: ImageFault) -> FaultText
     ensures is { result ≡ image_text fault }
@@ -94,25 +94,13 @@ fn syntax_text(fault: SyntaxFault, place: TokenPlace) -> FaultText
     }
 }
 
-fn limit_kind(kind: Counted) -> LimitKind
-    ensures { result ≡ limit_kind kind }
-{
-    match kind {
-        Counted::Nodes => LimitKind::Nodes,
-        Counted::Functions => LimitKind::Functions,
-        Counted::Parameters => LimitKind::Parameters,
-        Counted::Globals => LimitKind::Globals,
-        Counted::Locals => LimitKind::Locals,
-    }
-}
-
 fn placed_text(fault: TypeFault, pos: Pos) -> FaultText
     ensures is { result ≡ placed_text fault pos }
     ensures numbered { HasItsNumbers result }
 {
     match fault {
         TypeFault::Rule(_, rule) => FaultText::Rule(pos, rule.number()),
-        TypeFault::Limit(kind, _) => FaultText::Limit(pos, limit_kind(kind)),
+        TypeFault::Limit(kind, _) => FaultText::Limit(pos, kind),
         TypeFault::NoMain => FaultText::NoMain,
         TypeFault::Undefined(_) => FaultText::NoBody(pos),
         TypeFault::NoMemory => FaultText::NoMemory,

@@ -6,9 +6,9 @@ ghost use Rattle.qs_lexer.specs.Results.{SaysFault};
 ghost use Rattle.qs_lexer.specs.Tokens.{Tokens};
 ghost use Rattle.qs_lexer.specs.Terminals.{terminals};
 ghost use Rattle.qs_parser.specs.Answers.{Answers, ReadsAs};
-ghost use Rattle.qs_typing.specs.Refusals.{first_refusal};
+ghost use Rattle.qs_typing.specs.Refusals.{IsCause, IsTold};
 ghost use Rattle.qs_driver.specs.Limits.{source_limit};
-ghost use Rattle.qs_driver.specs.Source.{byte_of, node_of, number_of, ChecksText, IsNodeStart, IsPlaceOf, IsRefusedWith, IsTokenPlace, ReadsSource, RefusesText};
+ghost use Rattle.qs_driver.specs.Source.{byte_of, node_of, number_of, ChecksText, IsNodeStart, IsPlaceOf, IsTokenPlace, ReadsSource, RefusesText};
 
 use crate::files::read_file;
 use crate::limits::SOURCE_LIMIT;
@@ -111,7 +111,7 @@ fn ill_typed_at(text: &[u8], tokens: &[Token], unit: &Unit, fault: TypeFault, no
     requires short { length text.now < 2 ^ 31 }
     requires tokens { Tokens text.now tokens.now }
     requires reads { ReadsAs (terminals text.now 0 tokens.now) (unit_tree unit.now) }
-    requires first { first_refusal (unit_tree unit.now) ≡ Some fault }
+    requires cause { IsCause (unit_tree unit.now) fault }
     requires names { node_of fault ≡ Some node }
     ensures { RefusesText text.now result }
 {
@@ -124,7 +124,7 @@ fn ill_typed(text: &[u8], tokens: &[Token], unit: &Unit, fault: TypeFault) -> St
     requires short { length text.now < 2 ^ 31 }
     requires tokens { Tokens text.now tokens.now }
     requires reads { ReadsAs (terminals text.now 0 tokens.now) (unit_tree unit.now) }
-    requires refused { IsRefusedWith (unit_tree unit.now) fault }
+    requires told { IsTold (unit_tree unit.now) fault }
     ensures { RefusesText text.now result }
 {
     match fault {

@@ -50,7 +50,7 @@ pub enum SourceFault {
     Syntax(SyntaxFault, TokenPlace),
     /// It is a unit with this type fault first: a limit that is passed, a rule that is broken, no `main`, or a function
     /// without a body; the place is that of the node which the fault names, and `no main` names none.
-    #[error("ill typed")]
+    #[error("{0}")]
     Typing(TypeFault, Option<Pos>),
     /// It isn't `int main(void){`, pieces `putchar(K);`, `return K;}`.
     #[error("not in the first form")]

@@ -13,5 +13,6 @@ mod ExpressionExamples
 mod PlacedExamples
 mod ValueExamples
 mod HeldBackExamples
+mod FaultExamples
 mod LimitExamples
 mod ReferenceExamples

@@ -1,12 +1,12 @@
 -- The node at which each count passes its limit, at small limits and at those of the language.
-use Rattle.std.proofs.Common.{◌≡◌, ℕ, true, false, List, [], ◌∷◌, Some, None, refl}
+use Rattle.std.proofs.Common.{◌≡◌, ℕ, true, false, List, [], ◌∷◌, Some, None, replicate, refl}
 use Rattle.qs_syntax.specs.declared.operators.UnaryOperator.TheVariants as unaries
 use Rattle.qs_syntax.specs.declared.types.Base.TheVariants as bases
-use Rattle.qs_syntax.specs.Trees.{ExprTree, unnumbered, UnitTree, initialisers_of}
+use Rattle.qs_syntax.specs.Trees.{ExprTree, ParameterTree, unnumbered, UnitTree, initialisers_of}
 use Rattle.qs_syntax.specs.Trees as trees
 use Rattle.qs_syntax.specs.Numbering.{numbered_unit}
 use Rattle.qs_types.specs.GivenFunctions.{putchar_name}
-use Rattle.qs_types.specs.Limits.{first_past_nodes, first_past_functions, first_past_parameters, first_past_globals, global_limit, first_past_locals, local_limit}
+use Rattle.qs_types.specs.Limits.{node_limit, first_past_nodes, function_limit, first_past_functions, parameter_limit, first_past_parameters, first_past_globals, global_limit, first_past_locals, local_limit}
 use Rattle.qs_types.specs.WellTyped.{first_undefined, has_main}
 use Rattle.qs_types.proofs.RuleTrees.{e, number, a, call_f, one, many, global, local, valued, parameter, header, body, g, eval, f_name}
 
@@ -51,6 +51,25 @@ parameters_at = refl
 
 parameters_past : first_past_parameters 2 parameters ≡ Some 5
 parameters_past = refl
+
+-- ---- the numbers of the language
+
+node_limit_is : node_limit ≡ 10000
+node_limit_is = refl
+
+function_limit_is : function_limit ≡ 512
+function_limit_is = refl
+
+abbrev int_parameters : ℕ → List ParameterTree
+int_parameters n = replicate n (parameter bases.Int 0 None)
+
+-- void f(int,int,int,int,int,int,int,int);
+eight_parameters : first_past_parameters parameter_limit (numbered_unit (header bases.Void f_name (int_parameters 8) ∷ [])) ≡ None
+eight_parameters = refl
+
+-- void f(int,int,int,int,int,int,int,int,int);
+nine_parameters : first_past_parameters parameter_limit (numbered_unit (header bases.Void f_name (int_parameters 9) ∷ [])) ≡ Some 9
+nine_parameters = refl
 
 -- ---- data
 

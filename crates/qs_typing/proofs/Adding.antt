@@ -1,5 +1,5 @@
 -- What a walk adds to what was found and noted before: the faults of the parts that it goes over, and what stands in their expressions.
-use Rattle.std.proofs.Common.{◌≡◌, ℕ, ◌+◌, Bool, true, false, ◌&&◌, List, [], ◌∷◌, ◌++◌, Option, Some, None, is_some, length, drop, map, flat_map, refl, sym, subst, ap, ◌∙◌, append_assoc, append-nil, if◌then◌else◌}
+use Rattle.std.proofs.Common.{◌≡◌, ℕ, ◌+◌, Bool, true, false, ◌&&◌, List, [], ◌∷◌, ◌++◌, Option, Some, None, is_some, map, flat_map, refl, sym, subst, ap, ◌∙◌, append_assoc, append-nil}
 use Rattle.qs_syntax.specs.declared.types.Base.{Base}
 use Rattle.qs_syntax.specs.declared.nodes.Node.{Node}
 use Rattle.qs_syntax.specs.Trees.{ExprTree, DeclaratorTree, InitialiserTree, value, list, Initialisers, no_initialisers, initialiser_and, VariableTree, ParameterTree, MembersTree, StartTree, no_start, start_expression, start_declaration, StmtTree, empty, expression, declaration, block, branch, while_loop, do_loop, for_loop, break, continue, return, Stmts, no_stmts, stmt_and, Else, no_else, else_by, StructTree, FunctionTree, DeclTree, structure, forward, function, variables, UnitTree}
@@ -15,7 +15,7 @@ use Rattle.qs_types.specs.StatementRules.{after_variable, after_statement, for_c
 use Rattle.qs_types.specs.UnitRules as units
 use Rattle.qs_types.specs.UnitRules.{with_tag, is_defined, Before, no_members, after_member, after_together, after_parameter, after_declaration, body_context, member_faults, together_faults, members_faults, struct_faults, parameters_faults, body_faults, function_faults, declaration_faults, declarations_faults, faults_in}
 use Rattle.qs_types.specs.Placed.{addressed}
-use Rattle.qs_types.specs.References.{TextBlock, expr_calls, site_texts}
+use Rattle.qs_types.specs.References.{expr_calls, site_texts}
 use Rattle.qs_types.specs.Limits.{text_block}
 use Rattle.qs_types.specs.Sites.{Site, site, sites, option_sites, may_hold, declarator_sites, declarators_sites, initialiser_sites, elements_sites, option_initialiser_sites, variable_sites, variables_sites, start_sites, statement_sites, statements_sites, else_sites, members_sites, parameters_sites, body_sites, declaration_sites, declarations_sites, unit_sites}
 use Rattle.qs_typing.specs.Findings.{least_with}

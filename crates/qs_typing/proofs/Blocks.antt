@@ -1,9 +1,9 @@
 -- The blocks of memory that a walk notes are those that are counted.
-use Rattle.std.proofs.Common.{◌≡◌, ℕ, ◌+◌, Bool, true, false, ◌&&◌, ◌||◌, List, [], ◌∷◌, ◌++◌, Option, Some, None, is_some, length, drop, filter, map, refl, sym, subst, ap, ◌∙◌, append_assoc, append-nil, if◌then◌else◌}
+use Rattle.std.proofs.Common.{◌≡◌, ℕ, ◌+◌, Bool, true, false, ◌&&◌, List, [], ◌∷◌, ◌++◌, Option, Some, None, is_some, length, drop, filter, map, refl, sym, subst, ap, ◌∙◌, append_assoc, append-nil, if◌then◌else◌}
 use Rattle.std.proofs.lemmas.List.{drop_at}
 use Rattle.qs_syntax.specs.declared.types.Base.{Base}
 use Rattle.qs_syntax.specs.declared.nodes.Node.{Node}
-use Rattle.qs_syntax.specs.Trees.{ExprTree, DeclaratorTree, InitialiserTree, value, list, Initialisers, no_initialisers, initialiser_and, VariableTree, ParameterTree, MembersTree, StartTree, no_start, start_expression, start_declaration, StmtTree, empty, expression, declaration, block, branch, while_loop, do_loop, for_loop, break, continue, return, Stmts, no_stmts, stmt_and, Else, no_else, else_by, StructTree, FunctionTree, DeclTree, structure, forward, function, variables, UnitTree}
+use Rattle.qs_syntax.specs.Trees.{ExprTree, DeclaratorTree, InitialiserTree, value, list, Initialisers, no_initialisers, initialiser_and, VariableTree, ParameterTree, MembersTree, StartTree, no_start, start_expression, start_declaration, StmtTree, empty, expression, declaration, block, branch, while_loop, do_loop, for_loop, break, continue, return, Stmts, no_stmts, stmt_and, Else, no_else, else_by, StructTree, FunctionTree, structure, forward, function, variables, UnitTree}
 use Rattle.qs_types.specs.Types.{TypeTree, Structs}
 use Rattle.qs_types.specs.declared.rules.Rule.TheVariants as rules
 use Rattle.qs_types.specs.Rules.{Test, test}
@@ -15,11 +15,11 @@ use Rattle.qs_types.specs.InitialiserRules.{option_part}
 use Rattle.qs_types.specs.StatementRules.{after_variable, variable_tests, condition_tests, for_tests, loop_tests, return_tests, after_statement, for_context}
 use Rattle.qs_types.specs.UnitRules.{with_tag, is_defined, member_tests, parameter_tests, header_tests, result_type, Before, no_members, after_member, after_together, after_parameter, after_function, after_declaration, parameter_types, with_parameter, with_parameters, body_context}
 use Rattle.qs_types.specs.Placed.{Local, addressed_in, is_placed, locals_in, parameters_locals, variables_locals, start_locals, statement_locals, statements_locals, else_locals}
-use Rattle.qs_types.specs.Limits.{Block, type_size, variables_blocks, variable_blocks_from, local_block, local_blocks, local_past, local_past_from, local_limit, block_past, or_else}
+use Rattle.qs_types.specs.Limits.{Block, type_size, variables_blocks, variable_blocks_from, local_block, local_past, local_past_from, local_limit, block_past, or_else}
 use Rattle.qs_types.specs.Sites.{may_hold}
-use Rattle.qs_typing.specs.Noted.{LocalTree, local_tree, parameters_noted, is_block, local_past_by, body_ended}
-use Rattle.qs_typing.specs.UnitWalk.{WalkTree, node_opened, node_judged, option_list_tests, site_walked, expr_walked, option_walked, lengths_walked, initialiser_walked, elements_walked, option_initialiser_walked, variable_walk_noted, variable_walked, variables_walked, start_walked, condition_walked, statement_walked, statements_walked, else_walked, member_walked, together_walked, members_walked, struct_walked, parameter_walked, parameters_walked, with_body_begun, with_body_ended, body_walked, function_walked, declaration_walked, declarations_walked, unit_walked, start_walk}
-use Rattle.qs_typing.proofs.Adding.{Adds, site_addressed, statements_add}
+use Rattle.qs_typing.specs.Noted.{LocalTree, local_tree, parameters_noted, is_block, local_past_by}
+use Rattle.qs_typing.specs.UnitWalk.{WalkTree, node_opened, node_judged, option_list_tests, site_walked, option_walked, lengths_walked, initialiser_walked, elements_walked, option_initialiser_walked, variable_walk_noted, variable_walked, variables_walked, start_walked, condition_walked, statement_walked, statements_walked, else_walked, member_walked, together_walked, members_walked, struct_walked, parameters_walked, with_body_begun, body_walked, function_walked, declarations_walked, unit_walked, start_walk}
+use Rattle.qs_typing.proofs.Adding.{statements_add}
 use Rattle.qs_typing.proofs.Scoping.{statement_inner, start_inner}
 
 abbrev noted_local : Structs → Local → LocalTree

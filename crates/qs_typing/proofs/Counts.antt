@@ -1,7 +1,6 @@
 -- How many initialisers a list has.
-use Rattle.std.proofs.Common.{◌≡◌, suc, List, [], ◌∷◌, length, map, refl, ap, ◌∙◌}
-use Rattle.qs_syntax.specs.Trees.{InitialiserTree, initialisers_of}
-use Rattle.qs_syntax.specs.TreeOf.{initialiser_tree, initialisers_tree}
+use Rattle.std.proofs.Common.{◌≡◌, suc, List, [], ◌∷◌, length, refl, ap}
+use Rattle.qs_syntax.specs.TreeOf.{initialisers_tree}
 use Rattle.qs_syntax.specs.declared.declarations.Initialiser.{Initialiser}
 use Rattle.qs_types.specs.Declarations.{initialisers_count}
 

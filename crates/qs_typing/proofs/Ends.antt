@@ -1,7 +1,7 @@
 -- Parameters without types: nothing is declared, and nothing is noted.
-use Rattle.std.proofs.Common.{◌≡◌, List, [], ◌∷◌, Option, refl}
+use Rattle.std.proofs.Common.{◌≡◌, List, [], ◌∷◌, refl}
 use Rattle.qs_syntax.specs.Trees.{ParameterTree}
-use Rattle.qs_types.specs.Types.{TypeTree, Structs}
+use Rattle.qs_types.specs.Types.{Structs}
 use Rattle.qs_types.specs.Contexts.{Context}
 use Rattle.qs_types.specs.UnitRules.{with_parameters}
 use Rattle.qs_typing.specs.Noted.{parameters_noted}

@@ -6,7 +6,7 @@ use Rattle.qs_types.specs.declared.rules.Rule.TheVariants as rules
 use Rattle.qs_types.specs.Rules.{Test}
 use Rattle.qs_types.specs.Contexts.{Context, base_type, inner_scope, lookup}
 use Rattle.qs_types.specs.Expressions.{type_or_void}
-use Rattle.qs_types.specs.UnitRules.{Header, agrees_with, is_void_pointer, main_tests, after_function, header_tests, parameter_types, result_type}
+use Rattle.qs_types.specs.UnitRules.{agrees_with, is_void_pointer, main_tests, after_function, header_tests, parameter_types, result_type}
 use Rattle.qs_typing.specs.Functions.{items_walked}
 use Rattle.qs_typing.specs.UnitWalk.{WalkTree, node_opened, node_judged, parameters_walked, body_walked, function_walked}
 

@@ -5,8 +5,8 @@ use Rattle.std.proofs.lemmas.List.{map-append, length-map}
 use Rattle.std.proofs.lemmas.Option.{slice_get-map}
 use Rattle.qs_syntax.specs.declared.types.Base.{Base}
 use Rattle.qs_syntax.specs.declared.nodes.Node.{Node}
-use Rattle.qs_syntax.specs.Trees.{ExprTree, DeclaratorTree, InitialiserTree, value, list, Initialisers, no_initialisers, initialiser_and, VariableTree, ParameterTree, MembersTree, StartTree, no_start, start_expression, start_declaration, StmtTree, empty, expression, declaration, block, branch, while_loop, do_loop, for_loop, break, continue, return, Stmts, no_stmts, stmt_and, Else, no_else, else_by, StructTree, FunctionTree, DeclTree, structure, forward, function, variables, UnitTree}
-use Rattle.qs_syntax.specs.Nodes.{all_nodes, option_nodes, expr_nodes, lengths_nodes, declarator_nodes, initialiser_nodes, initialisers_nodes, variable_nodes, parameter_nodes, members_nodes, start_nodes, stmt_nodes, stmts_nodes, else_nodes, decl_nodes, unit_nodes}
+use Rattle.qs_syntax.specs.Trees.{ExprTree, DeclaratorTree, InitialiserTree, value, list, Initialisers, no_initialisers, initialiser_and, VariableTree, ParameterTree, MembersTree, StartTree, no_start, start_expression, start_declaration, StmtTree, empty, expression, declaration, block, branch, while_loop, do_loop, for_loop, break, continue, return, Stmts, no_stmts, stmt_and, Else, no_else, else_by, FunctionTree, DeclTree, structure, forward, function, variables, UnitTree}
+use Rattle.qs_syntax.specs.Nodes.{all_nodes, option_nodes, expr_nodes, declarator_nodes, initialiser_nodes, initialisers_nodes, variable_nodes, parameter_nodes, members_nodes, start_nodes, stmt_nodes, stmts_nodes, else_nodes, decl_nodes, unit_nodes}
 use Rattle.qs_types.specs.Contexts.{Context, start_context, inner_scope, inside_loop}
 use Rattle.qs_types.specs.StatementRules.{after_variable, after_statement, for_context}
 use Rattle.qs_types.specs.UnitRules.{with_tag, after_parameter, body_context, after_declaration}
@@ -260,6 +260,7 @@ as_many at of unit =
 pub at_place : {A : Type 0} (at : Node → A) (of : Context → ExprTree → A) (unit : UnitTree) (i : ℕ) (node : Node) (x : A) → slice_get (with_nodes at of unit) i ≡ Some (node, x)
     → (slice_get (unit_nodes unit) i ≡ Some node) × (slice_get (of_unit at of unit) i ≡ Some x)
 at_place at of unit i node x e =
-    let both = with_nodes at of unit in
-    (ap (λ l. slice_get l i) (sym (nodes_of_both at of unit)) ∙ slice_get-map (λ p. p.0) both i ∙ ap (option_map (λ p. p.0)) e,
-    ap (λ l. slice_get l i) (sym (values_of_both at of unit)) ∙ slice_get-map (λ p. p.1) both i ∙ ap (option_map (λ p. p.1)) e)
+    let both = with_nodes at of unit in (
+      ap (λ l. slice_get l i) (sym (nodes_of_both at of unit)) ∙ slice_get-map (λ p. p.0) both i ∙ ap (option_map (λ p. p.0)) e,
+      ap (λ l. slice_get l i) (sym (values_of_both at of unit)) ∙ slice_get-map (λ p. p.1) both i ∙ ap (option_map (λ p. p.1)) e,
+    )

@@ -1,5 +1,5 @@
 -- What a walk over a unit found stands by the numbers of the nodes.
-use Rattle.std.proofs.Common.{◌≡◌, ℕ, List, Option, Some, map, option_map, length, sym, ap, ◌∙◌}
+use Rattle.std.proofs.Common.{◌≡◌, ℕ, List, Some, option_map, length, sym, ap, ◌∙◌}
 use Rattle.std.specs.List.{slice_get}
 use Rattle.std.proofs.lemmas.Option.{slice_get-map}
 use Rattle.qs_syntax.specs.declared.nodes.Node.{Node}

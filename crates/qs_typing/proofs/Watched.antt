@@ -1,5 +1,5 @@
 -- An expression is walked apart from what was found before, to see whether a rule is broken in it.
-use Rattle.std.proofs.Common.{◌≡◌, Bool, List, [], ◌∷◌, Option, Some, None, is_some, option_map, option_to_list, true, refl, sym, ap, ◌∙◌}
+use Rattle.std.proofs.Common.{◌≡◌, Bool, List, [], ◌∷◌, Option, Some, None, is_some, option_map, true, refl, sym, ap, ◌∙◌}
 use Rattle.qs_syntax.specs.Trees.{ExprTree, value}
 use Rattle.qs_types.specs.Types.{TypeTree}
 use Rattle.qs_types.specs.Contexts.{Context}

@@ -1,5 +1,5 @@
 -- Declared types in code, as the definitions see them.
-use Rattle.std.specs.Prelude.{ℕ, Bool, not, ◌&&◌, ◌||◌, List, [], ◌∷◌, ◌++◌, Option, Some, None, Vec, is_some, map, option_map}
+use Rattle.std.specs.Prelude.{ℕ, Bool, not, ◌&&◌, ◌||◌, List, [], ◌∷◌, ◌++◌, Option, Some, Vec, is_some, map, option_map}
 use Rattle.std.specs.declared.alloc.Global.{Global}
 use Rattle.qs_syntax.specs.declared.types.Base.{Base}
 use Rattle.qs_types.specs.Types.{TypeTree, Structs}

@@ -1,5 +1,5 @@
 -- What nodes in code declare, as the definitions say.
-use Rattle.std.specs.Prelude.{◌≡◌, ℕ, Bool, List, Option, None, Vec, map, if◌then◌else◌}
+use Rattle.std.specs.Prelude.{◌≡◌, ℕ, Bool, Option, Vec, if◌then◌else◌}
 use Rattle.std.specs.declared.alloc.Global.{Global}
 use Rattle.qs_syntax.specs.declared.types.Base.{Base}
 use Rattle.qs_syntax.specs.declared.types.TypeName.{TypeName}

@@ -1,5 +1,5 @@
 -- Array lengths in code, as the definitions see them.
-use Rattle.std.specs.Prelude.{◌≡◌, ℕ, Bool, ◌&&◌, List, map}
+use Rattle.std.specs.Prelude.{◌≡◌, Bool, ◌&&◌, List, map}
 use Rattle.qs_syntax.specs.declared.expressions.Expr.{Expr}
 use Rattle.qs_syntax.specs.declared.declarations.Lengths.{Lengths}
 use Rattle.qs_syntax.specs.TreeOf.{expr_tree, lengths_tree}

@@ -29,3 +29,4 @@ pub mod TypedOf
 pub mod UnitNodes
 pub mod NodeReferents
 pub mod ByNumber
+pub mod TypeSets

@@ -1,5 +1,5 @@
 -- What a walk over a unit notes of it besides types and faults: what is called, and the blocks of memory that it asks for.
-use Rattle.std.specs.Prelude.{ℕ, Bool, true, false, not, List, [], ◌∷◌, ◌++◌, Option, Some, None, map, filter, drop, ◌||◌, if◌then◌else◌}
+use Rattle.std.specs.Prelude.{ℕ, Bool, true, false, List, [], ◌∷◌, ◌++◌, Option, None, map, filter, ◌||◌, if◌then◌else◌}
 use Rattle.qs_syntax.specs.Trees.{ExprTree, ParameterTree}
 use Rattle.qs_types.specs.Types.{TypeTree, Structs}
 use Rattle.qs_types.specs.Layout.{rounded_up}

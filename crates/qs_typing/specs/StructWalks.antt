@@ -1,5 +1,5 @@
 -- How walks in code go over structs and their members, as the definitions say.
-use Rattle.std.specs.Prelude.{◌≡◌, ℕ, Bool, List, [], ◌++◌, Option, map, option_map, if◌then◌else◌}
+use Rattle.std.specs.Prelude.{◌≡◌, ℕ, Bool, List, [], ◌++◌, Option, map, if◌then◌else◌}
 use Rattle.qs_syntax.specs.declared.types.Base.{Base}
 use Rattle.qs_syntax.specs.declared.declarations.Declarator.{Declarator}
 use Rattle.qs_syntax.specs.declared.declarations.Members.{Members}
@@ -7,7 +7,6 @@ use Rattle.qs_syntax.specs.declared.units.Struct.{Struct}
 use Rattle.qs_syntax.specs.TreeOf.{declarator_tree, members_tree, struct_tree}
 use Rattle.qs_types.specs.declared.rules.Rule.TheVariants as rule
 use Rattle.qs_types.specs.declared.types.CType.{CType}
-use Rattle.qs_types.specs.EnvOf.{env_tree}
 use Rattle.qs_types.specs.Rules as pure
 use Rattle.qs_types.specs.StructsOf.{member_tree}
 use Rattle.qs_types.specs.UnitRules as rules
@@ -16,7 +15,6 @@ use Rattle.qs_typing.specs.declared.judged.Test.{Test}
 use Rattle.qs_typing.specs.declared.members_before.MembersBefore.{MembersBefore}
 use Rattle.qs_typing.specs.declared.walk.Walk.{Walk}
 use Rattle.qs_typing.specs.ContextOf.{context_tree}
-use Rattle.qs_typing.specs.DeclaredOf.{option_type}
 use Rattle.qs_typing.specs.JudgedOf.{test_tree}
 use Rattle.qs_typing.specs.MembersOf.{before_tree}
 use Rattle.qs_typing.specs.UnitWalk.{member_walked, members_walked, struct_walked, together_walked}

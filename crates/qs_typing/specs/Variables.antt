@@ -1,8 +1,8 @@
 -- What the code of variables hands on: whether an initialiser fits, and faults that were found before.
-use Rattle.std.specs.Prelude.{Bool, true, false, ◌&&◌, List, [], Option, Some, None, option_to_list, if◌then◌else◌}
+use Rattle.std.specs.Prelude.{Bool, ◌&&◌, List, [], Option, Some, None, option_to_list, if◌then◌else◌}
 use Rattle.qs_types.specs.declared.rules.Rule.TheVariants as rules
 use Rattle.qs_types.specs.Rules.{Test, test, keeps, Fault}
-use Rattle.qs_typing.specs.Findings.{FoundTree, least_with}
+use Rattle.qs_typing.specs.Findings.{least_with}
 use Rattle.qs_typing.specs.UnitWalk.{WalkTree}
 
 -- the test that a name is declared once in its scope, and the one that an initialiser fits, where they are made

@@ -17,7 +17,8 @@ use crate::judged::{Test, keeps, violates};
 use crate::lengths::{ArrayLengths, ParameterLengths, arrays};
 use qs_base::NoMemory;
 use qs_syntax::{
-    Base, Declarator, Expr, Initialiser, InitialiserList, Lengths, Parameter, Shape, TypeName, Variable,
+    Base, Declarator, Expr, Initialiser, InitialiserList, Lengths, Parameter, Shape, TypeName,
+    Variable,
 };
 use qs_types::{CType, Env, Rule, extent_of, is_complete};
 use std::alloc::Global;

@@ -218,11 +218,13 @@ fn agrees_with(
         None => true,
         Some(Entity::LocalVariable(_, _)) => false,
         Some(Entity::FileVariable(_, _)) => false,
-        Some(Entity::Function {
-            signature,
-            has_body: earlier,
-            ..
-        }) => option_agrees(signature, types, to) && !(*earlier && has_body),
+        Some(
+            Entity::Function {
+                signature,
+                has_body: earlier,
+                ..
+            },
+        ) => option_agrees(signature, types, to) && !(*earlier && has_body),
         Some(Entity::Given(s)) => agrees(s, types, to) && !has_body,
     }
 }
@@ -386,9 +388,12 @@ fn declared_function(
             signature,
             has_body,
         }),
-        Some(Entity::Function {
-            has_body: earlier, ..
-        }) => Ok(Entity::Function {
+        Some(
+            Entity::Function {
+                has_body: earlier,
+                ..
+            },
+        ) => Ok(Entity::Function {
             node,
             signature,
             has_body: *earlier || has_body,
@@ -410,13 +415,7 @@ fn declare_function(
 {
     let signature = signature_by(alloc, types, to)?;
     let has_body = f.body.is_some();
-    let entity = declared_function(
-        alloc,
-        c.find_here(&f.name),
-        f.node.id,
-        signature,
-        has_body,
-    )?;
+    let entity = declared_function(alloc, c.find_here(&f.name), f.node.id, signature, has_body)?;
     c.declare(alloc, f.name.copy(alloc)?, entity)
 }
 

@@ -8,6 +8,7 @@ ghost use Rattle.qs_types.specs.UnitRules.{structs_of};
 ghost use Rattle.qs_types.specs.WellTyped.{WellTyped};
 ghost use Rattle.qs_typing.specs.NodeReferents.{unit_addressed, unit_referents};
 ghost use Rattle.qs_typing.specs.NodeTypes.{unit_types};
+ghost use Rattle.qs_typing.specs.TypeSets.{structs_prop, types_prop};
 
 mod methods;
 
@@ -27,8 +28,8 @@ pub struct TypedUnit {
     env: Env,
     ghost well_typed: { WellTyped (unit_tree unit) },
     ghost within_limits: { IsWithinLimits (unit_tree unit) },
-    ghost are_types: { map (option_map type_tree) types.items ≡ unit_types (unit_tree unit) },
+    ghost are_types: { map (option_map type_tree) types.items ≡ unit_types (unit_tree unit) } by { types_prop (map (option_map type_tree) types.items) (unit_types (unit_tree unit)) },
     ghost are_referents: { referents.items ≡ unit_referents (unit_tree unit) },
     ghost are_addressed: { addressed.items ≡ unit_addressed (unit_tree unit) },
-    ghost are_structs: { env_tree env ≡ structs_of (unit_tree unit) },
+    ghost are_structs: { env_tree env ≡ structs_of (unit_tree unit) } by { structs_prop (env_tree env) (structs_of (unit_tree unit)) },
 }

@@ -84,6 +84,5 @@ impl TypedUnit {
     /// within their limits.
     pub fn is_accepted(&self)
         ensures { IsAccepted (typed_tree self.now) }
-    {
-    }
+    {}
 }

@@ -1,4 +1,4 @@
-use Rattle.std.proofs.Common.{◌≡◌, ◌⊎◌, inl, inr, ℕ, ◌<◌, ◌≤◌, Bool, true, false, nat_le, List, [], ◌∷◌, Option, length, map, option_map, drop, refl, sym, ap, ◌∙◌, arith}
+use Rattle.std.proofs.Common.{◌≡◌, ◌⊎◌, inl, inr, ℕ, ◌<◌, ◌≤◌, true, false, nat_le, List, [], ◌∷◌, Option, length, map, option_map, drop, refl, sym, ap, ◌∙◌, arith}
 use Rattle.std.proofs.lemmas.List.{drop_all, length-map, length-drop}
 use Rattle.std.proofs.lemmas.Bool.{cases_lt}
 use Rattle.std.proofs.lemmas.Bool.Decides.{nat_tests}
@@ -38,8 +38,8 @@ none_left us i = by (cases_lt i (length us))
 pub returns-then-i-ts : goal.returns-then-i-ts
 returns-then-i-ts c =
     elim c.loop-i-test.branch [
-      then-loop-i-test+else-i-us w ↦ sym (c.loop-i.invariant.may ∙ others_end c.args.ts.now c.args.us.now c.loop-i.i (omega arith) (omega arith))
-    | else-loop-i-test w ↦ absurd (omega arith)
+      | then-loop-i-test+else-i-us w ↦ sym (c.loop-i.invariant.may ∙ others_end c.args.ts.now c.args.us.now c.loop-i.i (omega arith) (omega arith))
+      | else-loop-i-test w ↦ absurd (omega arith)
     ]
 
 pub returns : goal.returns

@@ -18,8 +18,8 @@ returns c =
     let types = map (option_map type_tree) (drop i c.args.types.now) in
     let ends = λ (e : parameters_noted structs left types ≡ []). sym (c.loop-i.invariant ∙ ap (λ l. noted ++ l) e ∙ append-nil noted) in
     elim c.loop-i-test.branch [
-      then-loop-i-test+else-i-types w ↦
-      ends (ap (λ l. parameters_noted structs left (map (option_map type_tree) l)) (drop_all i c.args.types.now (omega arith)) ∙ none_noted structs left)
-    | else-loop-i-test w ↦
-      ends (ap (λ l. parameters_noted structs (map parameter_tree l) types) (drop_all i c.args.ps.now (omega arith)))
+      | then-loop-i-test+else-i-types w ↦
+          ends (ap (λ l. parameters_noted structs left (map (option_map type_tree) l)) (drop_all i c.args.types.now (omega arith)) ∙ none_noted structs left)
+      | else-loop-i-test w ↦
+          ends (ap (λ l. parameters_noted structs (map parameter_tree l) types) (drop_all i c.args.ps.now (omega arith)))
     ]

@@ -78,8 +78,8 @@ returns-clause-walked c =
     let body : f.body ≡ Some (stmts_tree c.deref-in-Some-3.result.now) =
     ap (option_map (λ b. stmts_tree b.items)) c.in-Some.is ∙ ap (λ l. Some (stmts_tree l)) (sym c.deref-in-Some-3.ensures.value) in
     let walked : items_walked (context_tree c.declare_function.new.c) (map parameter_tree c.deref-in-Some.result.now) (map (option_map type_tree) c.deref-in-Some-2.result.now)
-        (option_map type_tree c.in_ok-to.to) (stmts_tree c.deref-in-Some-3.result.now) (walk_tree c.judge.new.self)
-        ≡ function_walked context f (walk_tree c.args.walk.now) =
+    (option_map type_tree c.in_ok-to.to) (stmts_tree c.deref-in-Some-3.result.now) (walk_tree c.judge.new.self)
+    ≡ function_walked context f (walk_tree c.args.walk.now) =
     body_is context (context_tree c.declare_function.new.c) f (map parameter_tree c.deref-in-Some.result.now)
     (map (option_map type_tree) c.deref-in-Some-2.result.now) (option_map type_tree c.in_ok-to.to) (stmts_tree c.deref-in-Some-3.result.now) (walk_tree c.args.walk.now) (walk_tree c.judge.new.self)
     (c.in_ok-declare_function.ensures ∙ ap (λ d. after_function d f) left) (ap (map parameter_tree) c.deref-in-Some.ensures.value) types (c.in_ok-to.ensures ∙ ap (λ d. result_type d f) left) body

@@ -1,4 +1,4 @@
-use Rattle.std.proofs.Common.{◌≡◌, ◌-◌, ◌≤◌, ◌&&◌, drop, length, option_map}
+use Rattle.std.proofs.Common.{◌≡◌, ◌-◌, ◌&&◌, drop, length, option_map}
 use Rattle.qs_syntax.specs.TreeOf.{initialisers_tree}
 use Rattle.qs_types.specs.InitialiserRules.{elements_fit, elements_typed}
 use Rattle.qs_types.specs.TypeOf.{type_tree}

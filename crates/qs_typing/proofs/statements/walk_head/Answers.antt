@@ -1,4 +1,4 @@
-use Rattle.std.proofs.Common.{◌≡◌, map, option_map, option_to_list}
+use Rattle.std.proofs.Common.{map, option_map, option_to_list}
 use Rattle.qs_syntax.specs.TreeOf.{option_tree}
 use Rattle.qs_types.specs.TypeOf.{type_tree}
 use Rattle.qs_typing.specs.ContextOf.{context_tree}

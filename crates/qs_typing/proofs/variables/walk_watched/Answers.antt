@@ -1,4 +1,4 @@
-use Rattle.std.proofs.Common.{◌≡◌, sym, ◌∙◌, option_map}
+use Rattle.std.proofs.Common.{sym, ◌∙◌, option_map}
 use Rattle.qs_syntax.specs.TreeOf.{expr_tree}
 use Rattle.qs_types.specs.TypeOf.{type_tree}
 use Rattle.qs_typing.specs.ContextOf.{context_tree}

@@ -1,0 +1,43 @@
+-- Types have a test of sameness that is exact, so that an equation between them, or between lists of them, has at most one proof.
+use Rattle.std.proofs.Common.{◌≡◌, Bool, true, false, ◌&&◌, ◌==◌, List, Option, refl, sym, ap, ◌∙◌}
+use Rattle.std.proofs.Props.{props}
+use Rattle.std.proofs.lemmas.Bool.Decides.{Decides-eqb}
+use Rattle.std.specs.Cmp.{first_so, second_so}
+use mathlib.Core.HLevel.{hedberg}
+use Rattle.qs_types.specs.Types.{TypeTree, int, unsigned, char, void, pointer, array, struct, Structs, same_type}
+
+same_self : (t : TypeTree) → same_type t t ≡ true
+same_self int = refl
+same_self unsigned = refl
+same_self char = refl
+same_self void = refl
+same_self (pointer t) = same_self t
+same_self (array t n) = ap (λ b. b && same_type t t) ((Decides-eqb n n).1 refl) ∙ same_self t
+same_self (struct k) = (Decides-eqb k k).1 refl
+
+same_is : (t u : TypeTree) → same_type t u ≡ true → t ≡ u
+same_is int int h = refl
+same_is unsigned unsigned h = refl
+same_is char char h = refl
+same_is void void h = refl
+same_is (pointer t) (pointer u) h = ap pointer (same_is t u h)
+same_is (array t n) (array u m) h =
+    λ i. array (same_is t u (second_so (n == m) (same_type t u) h) i) ((Decides-eqb n m).0 (first_so (n == m) (same_type t u) h) i)
+same_is (struct k) (struct j) h = ap struct ((Decides-eqb k j).0 h)
+same_is _ _ h = absurd (cc)
+
+type_decided : Discrete TypeTree
+type_decided t u = by (same_type t u) refl
+  where
+    by : (b : Bool) → same_type t u ≡ b → Dec (t ≡ u)
+    by true e = yes (same_is t u e)
+    by false e = no (λ p. let differ : true ≡ false = sym (same_self t) ∙ ap (same_type t) p ∙ e in absurd (cc))
+
+type_set : IsSet TypeTree
+type_set = hedberg type_decided
+
+pub types_prop : (ts us : List (Option TypeTree)) → IsProp (ts ≡ us)
+types_prop ts us = hlevel (props, type_set)
+
+pub structs_prop : (structs others : Structs) → IsProp (structs ≡ others)
+structs_prop structs others = hlevel (props, type_set)

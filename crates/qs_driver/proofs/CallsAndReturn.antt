@@ -1,22 +1,22 @@
 -- A unit whose `main` only calls putchar with constants and returns one keeps all rules, and is within all limits.
-use Rattle.std.proofs.Common.{◌≡◌, ℕ, zero, suc, ◌+◌, ◌≤◌, Bool, true, false, not, ◌&&◌, if◌then◌else◌, List, [], ◌∷◌, ◌++◌, map, flat_map, Option, Some, None, nat_lt, refl, ap, sym, ◌∙◌, subst, arith}
+use Rattle.std.proofs.Common.{◌≡◌, ℕ, suc, ◌+◌, ◌≤◌, Bool, true, false, ◌&&◌, if◌then◌else◌, [], ◌∷◌, ◌++◌, map, flat_map, Some, None, nat_lt, refl, ap, ◌∙◌, arith}
 use Rattle.std.proofs.lemmas.Bool.Decides.{nat_tests}
 use Rattle.std.proofs.lemmas.List.{append-nil}
 use Rattle.qs_syntax.specs.declared.nodes.Node.{Node}
 use Rattle.qs_syntax.specs.declared.types.Base.TheVariants as bases
 use Rattle.qs_syntax.specs.declared.types.TypeName.{TypeName}
-use Rattle.qs_syntax.specs.Trees.{expr, constant, call, no_exprs, expr_and, Stmts, no_stmts, stmt_and, expression, return, FunctionTree, DeclTree, function, UnitTree}
+use Rattle.qs_syntax.specs.Trees.{expr, constant, call, no_exprs, expr_and, Stmts, no_stmts, stmt_and, expression, return, FunctionTree, function, UnitTree}
 use Rattle.qs_syntax.specs.Nodes.{stmts_count, unit_count}
 use Rattle.qs_syntax.specs.Numbering.{Relabelling, relabel_stmts}
 use Rattle.qs_types.specs.Contexts.{Context, start_context}
 use Rattle.qs_types.specs.GivenFunctions.{putchar_name, main_name}
 use Rattle.qs_types.specs.StatementRules.{statements_faults}
-use Rattle.qs_types.specs.UnitRules.{is_name_in, faults_in, body_context}
-use Rattle.qs_types.specs.Sites.{Site, statements_sites}
-use Rattle.qs_types.specs.References.{TextBlock, site_texts, unit_calls}
-use Rattle.qs_types.specs.Placed.{statements_locals, placed_in}
-use Rattle.qs_types.specs.WellTyped.{WellTyped, first_undefined}
-use Rattle.qs_types.specs.Limits.{IsWithinLimits, first_past_nodes, node_limit, Block, block_past, text_block, global_limit, first_past_locals, local_limit}
+use Rattle.qs_types.specs.UnitRules.{is_name_in, body_context}
+use Rattle.qs_types.specs.Sites.{statements_sites}
+use Rattle.qs_types.specs.References.{site_texts, unit_calls}
+use Rattle.qs_types.specs.Placed.{statements_locals}
+use Rattle.qs_types.specs.WellTyped.{WellTyped}
+use Rattle.qs_types.specs.Limits.{IsWithinLimits, first_past_nodes, node_limit, block_past, text_block, global_limit, first_past_locals, local_limit}
 
 -- so many calls of putchar, and the return
 pub data CallsAndReturn : ℕ → Stmts → Type 0 where

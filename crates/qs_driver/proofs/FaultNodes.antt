@@ -1,24 +1,24 @@
 -- Each type fault of a unit names one of its nodes, or none.
-use Rattle.std.proofs.Common.{◌≡◌, ℕ, zero, suc, ◌+◌, ◌<◌, ◌≤◌, ◌==◌, nat_lt, Bool, true, false, not, ◌&&◌, ◌||◌, if◌then◌else◌, List, [], ◌∷◌, ◌++◌, length, map, flat_map, filter, Option, Some, None, is_some, slice_get, refl, ap, subst, sym, ◌∙◌, arith}
+use Rattle.std.proofs.Common.{◌≡◌, ℕ, zero, suc, ◌+◌, ◌<◌, nat_lt, Bool, true, false, not, ◌&&◌, if◌then◌else◌, List, [], ◌∷◌, ◌++◌, length, map, flat_map, filter, Option, Some, None, is_some, slice_get, refl, ap, subst, ◌∙◌, arith}
 use Rattle.std.proofs.lemmas.Bool.Decides.{nat_tests}
 use Rattle.qs_syntax.specs.declared.nodes.Node.{Node}
 use Rattle.qs_syntax.specs.declared.types.Base.{Base}
 use Rattle.qs_syntax.specs.declared.terminal.Terminal.{Terminal}
 use Rattle.qs_syntax.specs.Trees.{ExprTree, expr, ShapeTree, Exprs, no_exprs, expr_and, DeclaratorTree, InitialiserTree, value, list, Initialisers, no_initialisers, initialiser_and, VariableTree, ParameterTree, MembersTree, StartTree, no_start, start_expression, start_declaration, StmtTree, empty, expression, declaration, block, branch, while_loop, do_loop, for_loop, break, continue, return, Stmts, no_stmts, stmt_and, Else, no_else, else_by, StructTree, FunctionTree, DeclTree, structure, forward, function, variables, UnitTree}
 use Rattle.qs_syntax.specs.Trees as trees
-use Rattle.qs_syntax.specs.Nodes.{all_nodes, option_nodes, expr_nodes, shape_nodes, exprs_nodes, lengths_nodes, declarator_nodes, initialiser_nodes, initialisers_nodes, variable_nodes, declaration_nodes, parameter_nodes, members_nodes, start_nodes, stmt_nodes, stmts_nodes, else_nodes, struct_nodes, function_nodes, decl_nodes, unit_nodes, unit_count}
+use Rattle.qs_syntax.specs.Nodes.{all_nodes, option_nodes, expr_nodes, shape_nodes, exprs_nodes, declarator_nodes, initialiser_nodes, initialisers_nodes, variable_nodes, declaration_nodes, parameter_nodes, members_nodes, start_nodes, stmt_nodes, stmts_nodes, else_nodes, struct_nodes, function_nodes, decl_nodes, unit_nodes, unit_count}
 use Rattle.qs_types.specs.Types.{TypeTree, Structs}
 use Rattle.qs_types.specs.Rules.{Test, Fault, faults_of}
 use Rattle.qs_types.specs.Contexts.{Context, start_context, inner_scope, inside_loop}
 use Rattle.qs_types.specs.ExpressionFaults.{Position, used, discarded, whole, operand_position, assigned_position, object_position, right_position, own_tests, position_tests, node_faults, expr_faults, part_faults, all_faults}
 use Rattle.qs_types.specs.Expressions.{type_of, shape_judged}
 use Rattle.qs_types.specs.Declarations.{lengths_faults, variable_declared}
-use Rattle.qs_types.specs.InitialiserRules.{list_tests, initialiser_faults, elements_faults, option_part, holds_text}
+use Rattle.qs_types.specs.InitialiserRules.{list_tests, initialiser_faults, elements_faults, option_part}
 use Rattle.qs_types.specs.StatementRules.{after_variable, after_statement, for_context, variable_tests, option_initialiser_faults, variable_faults, variables_faults, condition_tests, condition_faults, option_used, option_discarded, return_tests, loop_tests, for_tests, for_faults, start_faults, statement_faults, statements_faults, else_faults}
 use Rattle.qs_types.specs.UnitRules.{Before, no_members, with_tag, after_member, after_together, member_tests, member_faults, together_faults, members_faults, struct_faults, is_defined, header_tests, parameter_tests, parameters_faults, after_parameter, parameter_types, body_context, body_faults, function_faults, after_declaration, declaration_faults, declarations_faults, faults_in, is_name_in}
 use Rattle.qs_types.specs.declared.rules.Rule.TheVariants as rules
 use Rattle.qs_types.specs.Rules.{test}
-use Rattle.qs_types.specs.Sites.{Site, site, sites, option_sites, declarator_sites, declarators_sites, may_hold, initialiser_sites, elements_sites, option_initialiser_sites, variable_sites, variables_sites, start_sites, statement_sites, statements_sites, else_sites, members_sites, parameters_sites, body_sites, declaration_sites, declarations_sites, unit_sites}
+use Rattle.qs_types.specs.Sites.{Site, site, sites, option_sites, declarator_sites, declarators_sites, initialiser_sites, elements_sites, option_initialiser_sites, variable_sites, variables_sites, start_sites, statement_sites, statements_sites, else_sites, members_sites, parameters_sites, body_sites, declaration_sites, declarations_sites, unit_sites}
 use Rattle.qs_types.specs.References.{TextBlock, expr_texts, shape_texts, exprs_texts, site_texts, literal_blocks, unit_calls}
 use Rattle.qs_types.specs.Placed.{Local, variables_locals, start_locals, statement_locals, statements_locals, else_locals, parameters_locals, locals_in, is_placed, addressed_in, placed_in}
 use Rattle.qs_types.specs.WellTyped.{undefined_from, runs, first_undefined, has_main}
@@ -28,7 +28,6 @@ use Rattle.qs_typing.specs.Refusals.{first_of, limit_fault, rule_fault, main_fau
 use Rattle.qs_report.specs.declared.fault_texts.LimitKind.{LimitKind}
 use Rattle.qs_report.specs.declared.fault_texts.LimitKind.TheVariants as kinds
 use Rattle.qs_typing.specs.declared.refusals.TypeFault.{TypeFault}
-use Rattle.qs_typing.specs.declared.refusals.TypeFault.TheVariants as faults
 use Rattle.qs_parser.specs.Answers.{ReadsAs}
 use Rattle.qs_driver.specs.Source.{node_of}
 use Rattle.qs_driver.proofs.NodeTokens.{Each, each_both, all_ids_low}

@@ -1,5 +1,5 @@
 -- What is wrong with a text.
-use Rattle.std.proofs.Common.{◌≡◌, ◌⊎◌, inl, inr, ℕ, ◌<◌, ◌≤◌, List, length, get_or, Option, Some, None, Err, slice_get, refl, ap, subst, sym, ◌∙◌, arith}
+use Rattle.std.proofs.Common.{◌≡◌, inl, inr, ℕ, ◌<◌, ◌≤◌, List, length, get_or, Option, Some, None, Err, slice_get, refl, ap, subst, sym, ◌∙◌, arith}
 use Rattle.std.proofs.lemmas.Option.{slice_get-get_or, same_Some}
 use Rattle.qs_base.specs.declared.places.Pos.{Pos}
 use Rattle.qs_syntax.specs.declared.tokens.Token.{Token}
@@ -29,7 +29,7 @@ use Rattle.qs_typing.proofs.Checked.{nothing_refused}
 use Rattle.qs_ports.specs.StoreView.{StoreView}
 use Rattle.qs_driver.specs.Limits.{source_limit}
 use Rattle.qs_driver.specs.Files.{WasRead}
-use Rattle.qs_driver.specs.Source.{IsPlaceOf, IsStartOf, IsTokenPlace, IsNodeStart, IsNodePlace, byte_of, number_of, node_of, HasLexFault, HasSyntaxFault, HasTypeFault, IsNoUnit, IsUnit, IsTypedUnit, RefusesText, has_lex_fault, has_syntax_fault, has_type_fault, lacks_memory, LacksSource, lex_fault, syntax_fault, type_fault, no_memory}
+use Rattle.qs_driver.specs.Source.{IsPlaceOf, IsTokenPlace, IsNodeStart, IsNodePlace, byte_of, number_of, node_of, HasLexFault, HasSyntaxFault, HasTypeFault, IsNoUnit, IsUnit, IsTypedUnit, RefusesText, has_lex_fault, has_syntax_fault, has_type_fault, lacks_memory, LacksSource, lex_fault, syntax_fault, type_fault, no_memory}
 use Rattle.qs_driver.specs.declared.status.Status.{Status}
 use Rattle.qs_driver.specs.declared.status.Status.TheVariants.{Source}
 use Rattle.qs_driver.specs.declared.status.SourceFault.TheVariants.{Lex, Syntax, Typing}

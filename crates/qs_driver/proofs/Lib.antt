@@ -1,7 +1,10 @@
 pub mod FilesLaws
 pub mod ArgumentsLaws
 pub mod FormLexed
+pub mod CallsAndReturn
 pub mod FormUnits
+pub mod NodeTokens
+pub mod FaultNodes
 pub mod SourceLaws
 pub mod SourceFollows
 pub mod StepsLaws

@@ -3,20 +3,21 @@ use Rattle.std.proofs.Common.{◌≡◌, ◌≢◌, ◌⊎◌, ◌∙◌, ℕ, L
 use Rattle.qs_base.specs.declared.places.Pos.{Pos}
 use Rattle.qs_lexer.specs.declared.fault.LexFault.{LexFault}
 use Rattle.qs_parser.specs.declared.syntax_fault.SyntaxFault.{SyntaxFault}
+use Rattle.qs_typing.specs.declared.refusals.TypeFault.{TypeFault}
 use Rattle.qs_ports.specs.StoreView.{StoreView}
 use Rattle.qs_driver.specs.Limits.{source_limit}
 use Rattle.qs_driver.specs.Files.{HoldsContent, HoldsWith, IsTooLong}
 use Rattle.qs_driver.specs.Files as files
-use Rattle.qs_driver.specs.Source.{HasLexFault, HasSyntaxFault, IsNoUnit, IsUnit, IsSyntax, LacksSource, IsOfSource, missing_source, long_source, ill_spelled, no_reading, RefusesSource}
+use Rattle.qs_driver.specs.Source.{HasLexFault, HasSyntaxFault, HasTypeFault, IsNoUnit, IsTypedUnit, IsSyntax, LacksSource, IsOfSource, missing_source, long_source, ill_spelled, no_reading, RefusesSource}
 use Rattle.qs_driver.specs.Source as source
 use Rattle.qs_driver.specs.Promises.{StoreHeld}
 use Rattle.qs_driver.specs.declared.status.Status.{Status}
 use Rattle.qs_driver.specs.declared.status.Status.TheVariants.{Source, Missing, NoMemory}
-use Rattle.qs_driver.specs.declared.status.SourceFault.TheVariants.{TooLong, Lex, Syntax}
+use Rattle.qs_driver.specs.declared.status.SourceFault.TheVariants.{TooLong, Lex, Syntax, Typing}
 use Rattle.qs_driver.specs.declared.status.TokenPlace.{TokenPlace}
 use Rattle.qs_driver.specs.declared.status.FileKind.TheVariants as kinds
 use Rattle.qs_driver.proofs.FilesLaws.{held_with, held_long}
-use Rattle.qs_driver.proofs.SourceLaws.{no_unit, syntax_no_unit, lex_or_tokens, same_lex_fault, same_lex_place}
+use Rattle.qs_driver.proofs.SourceLaws.{no_unit, syntax_no_unit, lex_or_tokens, lex_or_unit, same_lex_fault, same_lex_place, ill_typed_or_typed, same_type_fault, same_type_place}
 
 -- ---- a file is in one state
 
@@ -48,13 +49,15 @@ pub record IsNoRefusal (status : Status) : Type 0 where
   pub not_long : status ≢ Source (TooLong kinds.Source)
   pub not_lexical : (fault : LexFault) (pos : Pos) → status ≢ Source (Lex fault pos)
   pub not_syntactic : (fault : SyntaxFault) (place : TokenPlace) → status ≢ Source (Syntax fault place)
+  pub not_typing : (fault : TypeFault) (place : Option Pos) → status ≢ Source (Typing fault place)
 
 pub data SourceEnds (file : Option (List ℕ)) (status : Status) : Type 0 where
   absent : file ≡ None → status ≡ Missing kinds.Source → SourceEnds file status
   long : IsTooLong file source_limit → status ≡ Source (TooLong kinds.Source) → SourceEnds file status
   lexical : (fault : LexFault) (pos : Pos) → HoldsWith file source_limit (λ text. HasLexFault text fault pos) → status ≡ Source (Lex fault pos) → SourceEnds file status
   syntactic : (fault : SyntaxFault) (place : TokenPlace) → HoldsWith file source_limit (λ text. HasSyntaxFault text fault place) → status ≡ Source (Syntax fault place) → SourceEnds file status
-  good : HoldsWith file source_limit IsUnit → IsNoRefusal status → SourceEnds file status
+  ill_typed : (fault : TypeFault) (place : Option Pos) → HoldsWith file source_limit (λ text. HasTypeFault text fault place) → status ≡ Source (Typing fault place) → SourceEnds file status
+  good : HoldsWith file source_limit IsTypedUnit → IsNoRefusal status → SourceEnds file status
 
 pub source_ends : (v w : StoreView) (name : List ℕ) (status : Status) → StoreHeld v w → IsTrue v.told → LacksSource v w name status → SourceEnds (v.files name) status ⊎ (status ≡ NoMemory)
 source_ends v w name status n told (source.unread (files.missing m e)) = inl (absent (m.absent told) e)
@@ -63,6 +66,7 @@ source_ends v w name status n told (source.unread (files.too_long l e)) = inl (l
 source_ends v w name status n told (source.unread (files.no_memory u e)) = inr e
 source_ends v w name status n told (source.lex_fault fault pos u f e) = inl (lexical fault pos (held_with f told) e)
 source_ends v w name status n told (source.syntax_fault fault place u f e) = inl (syntactic fault place (held_with f told) e)
+source_ends v w name status n told (source.type_fault fault place u f e) = inl (ill_typed fault place (held_with f told) e)
 source_ends v w name status n told (source.no_memory u e) = inr e
 
 -- the status is one of those at which a source is refused
@@ -73,16 +77,18 @@ source_own v w name status n (source.unread (files.too_long l e)) = inl (subst I
 source_own v w name status n (source.unread (files.no_memory u e)) = inr e
 source_own v w name status n (source.lex_fault fault pos u f e) = inl (subst IsOfSource (sym e) (ill_spelled fault pos))
 source_own v w name status n (source.syntax_fault fault place u f e) = inl (subst IsOfSource (sym e) (no_reading fault place))
+source_own v w name status n (source.type_fault fault place u f e) = inl (subst IsOfSource (sym e) (source.ill_typed fault place))
 source_own v w name status n (source.no_memory u e) = inr e
 
--- a source that is refused is no unit
-pub source_no_unit : (v w : StoreView) (name : List ℕ) (status : Status) → StoreHeld v w → LacksSource v w name status → (IsTrue v.told → HoldsWith (v.files name) source_limit IsUnit → ⊥) ⊎ (status ≡ NoMemory)
+-- a source that is refused is no typed unit
+pub source_no_unit : (v w : StoreView) (name : List ℕ) (status : Status) → StoreHeld v w → LacksSource v w name status → (IsTrue v.told → HoldsWith (v.files name) source_limit IsTypedUnit → ⊥) ⊎ (status ≡ NoMemory)
 source_no_unit v w name status n (source.unread (files.missing m e)) = inl (λ told h. not_absent (v.files name) h.content (m.absent told) h.holds.there)
 source_no_unit v w name status n (source.unread (files.unreadable f e)) = absurd (n f.failed.rose)
 source_no_unit v w name status n (source.unread (files.too_long l e)) = inl (λ told h. not_long (v.files name) source_limit h.content h.holds (held_long l told))
 source_no_unit v w name status n (source.unread (files.no_memory u e)) = inr e
-source_no_unit v w name status n (source.lex_fault fault pos u f e) = inl (λ told h. not_two (v.files name) source_limit (λ text. HasLexFault text fault pos) IsUnit (λ text a b. lex_or_tokens text fault pos b.tokens a b.are_tokens) (held_with f told) h)
-source_no_unit v w name status n (source.syntax_fault fault place u f e) = inl (λ told h. not_two (v.files name) source_limit (λ text. HasSyntaxFault text fault place) IsUnit (λ text a b. no_unit text (syntax_no_unit text fault place a) b) (held_with f told) h)
+source_no_unit v w name status n (source.lex_fault fault pos u f e) = inl (λ told h. not_two (v.files name) source_limit (λ text. HasLexFault text fault pos) IsTypedUnit (λ text a b. lex_or_unit text fault pos a b.unit) (held_with f told) h)
+source_no_unit v w name status n (source.syntax_fault fault place u f e) = inl (λ told h. not_two (v.files name) source_limit (λ text. HasSyntaxFault text fault place) IsTypedUnit (λ text a b. no_unit text (syntax_no_unit text fault place a) b.unit) (held_with f told) h)
+source_no_unit v w name status n (source.type_fault fault place u f e) = inl (λ told h. not_two (v.files name) source_limit (λ text. HasTypeFault text fault place) IsTypedUnit (λ text a b. ill_typed_or_typed text fault place a b) (held_with f told) h)
 source_no_unit v w name status n (source.no_memory u e) = inr e
 
 -- ---- what the status tells of the file
@@ -92,6 +98,7 @@ tells_missing file status (absent a e) f = a
 tells_missing file status (long l e) f = absurd cc
 tells_missing file status (lexical fault pos h e) f = absurd cc
 tells_missing file status (syntactic fault place h e) f = absurd cc
+tells_missing file status (ill_typed fault place h e) f = absurd cc
 tells_missing file status (good h none) f = absurd (none.not_missing f)
 
 tells_long : (file : Option (List ℕ)) (status : Status) → SourceEnds file status → status ≡ Source (TooLong kinds.Source) → IsTooLong file source_limit
@@ -99,6 +106,7 @@ tells_long file status (absent a e) f = absurd cc
 tells_long file status (long l e) f = l
 tells_long file status (lexical fault pos h e) f = absurd cc
 tells_long file status (syntactic fault place h e) f = absurd cc
+tells_long file status (ill_typed fault place h e) f = absurd cc
 tells_long file status (good h none) f = absurd (none.not_long f)
 
 tells_lexical : (file : Option (List ℕ)) (status : Status) → SourceEnds file status → (fault : LexFault) (pos : Pos) → status ≡ Source (Lex fault pos) → HoldsWith file source_limit (λ text. HasLexFault text fault pos)
@@ -110,6 +118,7 @@ tells_lexical file status (lexical fault pos h e) g q f =
     let same_place : pos ≡ q = cc in
     subst (λ (x : LexFault). HoldsWith file source_limit (λ text. HasLexFault text x q)) same_fault (subst (λ (x : Pos). HoldsWith file source_limit (λ text. HasLexFault text fault x)) same_place h)
 tells_lexical file status (syntactic fault place h e) g q f = absurd cc
+tells_lexical file status (ill_typed fault place h e) g q f = absurd cc
 tells_lexical file status (good h none) g q f = absurd (none.not_lexical g q f)
 
 tells_syntactic : (file : Option (List ℕ)) (status : Status) → SourceEnds file status → IsSyntax status → HoldsWith file source_limit IsNoUnit
@@ -117,6 +126,7 @@ tells_syntactic file status (absent a e) (g, q, f) = absurd cc
 tells_syntactic file status (long l e) (g, q, f) = absurd cc
 tells_syntactic file status (lexical fault pos h e) (g, q, f) = absurd cc
 tells_syntactic file status (syntactic fault place h e) s = record { content = h.content; holds = h.holds; has = syntax_no_unit h.content fault place h.has }
+tells_syntactic file status (ill_typed fault place h e) (g, q, f) = absurd cc
 tells_syntactic file status (good h none) (g, q, f) = absurd (none.not_syntactic g q f)
 
 tells_place : (file : Option (List ℕ)) (status : Status) → SourceEnds file status → (fault : SyntaxFault) (place : TokenPlace) → status ≡ Source (Syntax fault place) → HoldsWith file source_limit (λ text. HasSyntaxFault text fault place)
@@ -128,7 +138,20 @@ tells_place file status (syntactic fault place h e) g q f =
     let same_fault : fault ≡ g = cc in
     let same_place : place ≡ q = cc in
     subst (λ (x : SyntaxFault). HoldsWith file source_limit (λ text. HasSyntaxFault text x q)) same_fault (subst (λ (x : TokenPlace). HoldsWith file source_limit (λ text. HasSyntaxFault text fault x)) same_place h)
+tells_place file status (ill_typed fault place h e) g q f = absurd cc
 tells_place file status (good h none) g q f = absurd (none.not_syntactic g q f)
+
+tells_typing : (file : Option (List ℕ)) (status : Status) → SourceEnds file status → (fault : TypeFault) (place : Option Pos) → status ≡ Source (Typing fault place) → HoldsWith file source_limit (λ text. HasTypeFault text fault place)
+tells_typing file status (absent a e) g q f = absurd cc
+tells_typing file status (long l e) g q f = absurd cc
+tells_typing file status (lexical fault pos h e) g q f = absurd cc
+tells_typing file status (syntactic fault place h e) g q f = absurd cc
+tells_typing file status (ill_typed fault place h e) g q f =
+    let both : ◌≡◌ {A = Status} (Source (Typing fault place)) (Source (Typing g q)) = sym e ∙ f in
+    let same_fault : fault ≡ g = cc in
+    let same_place : place ≡ q = cc in
+    subst (λ (x : TypeFault). HoldsWith file source_limit (λ text. HasTypeFault text x q)) same_fault (subst (λ (x : Option Pos). HoldsWith file source_limit (λ text. HasTypeFault text fault x)) same_place h)
+tells_typing file status (good h none) g q f = absurd (none.not_typing g q f)
 
 -- ---- what the file leads to
 
@@ -137,6 +160,7 @@ leads_missing file status (absent a e) x = e
 leads_missing file status (long l e) x = absurd (not_absent file l.content x l.there)
 leads_missing file status (lexical fault pos h e) x = absurd (not_absent file h.content x h.holds.there)
 leads_missing file status (syntactic fault place h e) x = absurd (not_absent file h.content x h.holds.there)
+leads_missing file status (ill_typed fault place h e) x = absurd (not_absent file h.content x h.holds.there)
 leads_missing file status (good h none) x = absurd (not_absent file h.content x h.holds.there)
 
 leads_long : (file : Option (List ℕ)) (status : Status) → SourceEnds file status → IsTooLong file source_limit → status ≡ Source (TooLong kinds.Source)
@@ -144,6 +168,7 @@ leads_long file status (absent a e) x = absurd (not_absent file x.content a x.th
 leads_long file status (long l e) x = e
 leads_long file status (lexical fault pos h e) x = absurd (not_long file source_limit h.content h.holds x)
 leads_long file status (syntactic fault place h e) x = absurd (not_long file source_limit h.content h.holds x)
+leads_long file status (ill_typed fault place h e) x = absurd (not_long file source_limit h.content h.holds x)
 leads_long file status (good h none) x = absurd (not_long file source_limit h.content h.holds x)
 
 leads_lexical : (file : Option (List ℕ)) (status : Status) → SourceEnds file status → (fault : LexFault) (pos : Pos) → HoldsWith file source_limit (λ text. HasLexFault text fault pos) → status ≡ Source (Lex fault pos)
@@ -153,14 +178,26 @@ leads_lexical file status (lexical fault pos h e) g q x =
     let there : HasLexFault x.content fault pos = subst (λ (text : List ℕ). HasLexFault text fault pos) (one_content file source_limit h.content x.content h.holds x.holds) h.has in
     e ∙ ap (λ y. Source (Lex y pos)) (same_lex_fault x.content fault g pos q there x.has) ∙ ap (λ y. Source (Lex g y)) (same_lex_place x.content fault g pos q there x.has)
 leads_lexical file status (syntactic fault place h e) g q x = absurd (not_two file source_limit (λ text. HasSyntaxFault text fault place) (λ text. HasLexFault text g q) (λ text a b. lex_or_tokens text g q a.tokens b a.are_tokens) h x)
-leads_lexical file status (good h none) g q x = absurd (not_two file source_limit IsUnit (λ text. HasLexFault text g q) (λ text a b. lex_or_tokens text g q a.tokens b a.are_tokens) h x)
+leads_lexical file status (ill_typed fault place h e) g q x = absurd (not_two file source_limit (λ text. HasTypeFault text fault place) (λ text. HasLexFault text g q) (λ text a b. lex_or_unit text g q b a.unit) h x)
+leads_lexical file status (good h none) g q x = absurd (not_two file source_limit IsTypedUnit (λ text. HasLexFault text g q) (λ text a b. lex_or_unit text g q b a.unit) h x)
 
 leads_syntactic : (file : Option (List ℕ)) (status : Status) → SourceEnds file status → HoldsWith file source_limit IsNoUnit → IsSyntax status
 leads_syntactic file status (absent a e) x = absurd (not_absent file x.content a x.holds.there)
 leads_syntactic file status (long l e) x = absurd (not_long file source_limit x.content x.holds l)
 leads_syntactic file status (lexical fault pos h e) x = absurd (not_two file source_limit (λ text. HasLexFault text fault pos) IsNoUnit (λ text a b. lex_or_tokens text fault pos b.tokens a b.are_tokens) h x)
 leads_syntactic file status (syntactic fault place h e) x = (fault, place, e)
-leads_syntactic file status (good h none) x = absurd (not_two file source_limit IsNoUnit IsUnit no_unit x h)
+leads_syntactic file status (ill_typed fault place h e) x = absurd (not_two file source_limit IsNoUnit (λ text. HasTypeFault text fault place) (λ text a b. no_unit text a b.unit) x h)
+leads_syntactic file status (good h none) x = absurd (not_two file source_limit IsNoUnit IsTypedUnit (λ text a b. no_unit text a b.unit) x h)
+
+leads_typing : (file : Option (List ℕ)) (status : Status) → SourceEnds file status → (fault : TypeFault) (place : Option Pos) → HoldsWith file source_limit (λ text. HasTypeFault text fault place) → status ≡ Source (Typing fault place)
+leads_typing file status (absent a e) g q x = absurd (not_absent file x.content a x.holds.there)
+leads_typing file status (long l e) g q x = absurd (not_long file source_limit x.content x.holds l)
+leads_typing file status (lexical fault pos h e) g q x = absurd (not_two file source_limit (λ text. HasLexFault text fault pos) (λ text. HasTypeFault text g q) (λ text a b. lex_or_unit text fault pos a b.unit) h x)
+leads_typing file status (syntactic fault place h e) g q x = absurd (not_two file source_limit (λ text. HasSyntaxFault text fault place) (λ text. HasTypeFault text g q) (λ text a b. no_unit text (syntax_no_unit text fault place a) b.unit) h x)
+leads_typing file status (ill_typed fault place h e) g q x =
+    let there : HasTypeFault x.content fault place = subst (λ (text : List ℕ). HasTypeFault text fault place) (one_content file source_limit h.content x.content h.holds x.holds) h.has in
+    e ∙ ap (λ y. Source (Typing y place)) (same_type_fault x.content fault g place q there x.has) ∙ ap (λ y. Source (Typing g y)) (same_type_place x.content fault g place q there x.has)
+leads_typing file status (good h none) g q x = absurd (not_two file source_limit IsTypedUnit (λ text. HasTypeFault text g q) (λ text a b. ill_typed_or_typed text g q b a) h x)
 
 pub refuses_source : (file : Option (List ℕ)) (status : Status) → SourceEnds file status → RefusesSource file status
 refuses_source file status s = record {
@@ -169,4 +206,5 @@ refuses_source file status s = record {
   lexical = λ fault pos. (tells_lexical file status s fault pos, leads_lexical file status s fault pos);
   syntactic = (tells_syntactic file status s, leads_syntactic file status s);
   told = tells_place file status s;
+  typing = λ fault place. (tells_typing file status s fault place, leads_typing file status s fault place);
 }

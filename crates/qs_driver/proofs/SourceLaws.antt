@@ -1,7 +1,12 @@
 -- What is wrong with a text.
-use Rattle.std.proofs.Common.{◌≡◌, ℕ, ◌<◌, ◌≤◌, List, length, Some, Err, refl, ap, subst, sym, ◌∙◌, arith}
+use Rattle.std.proofs.Common.{◌≡◌, inl, inr, ℕ, ◌<◌, ◌≤◌, List, length, get_or, Option, Some, None, Err, slice_get, refl, ap, subst, sym, ◌∙◌, arith}
+use Rattle.std.proofs.lemmas.Option.{slice_get-get_or, same_Some}
 use Rattle.qs_base.specs.declared.places.Pos.{Pos}
 use Rattle.qs_syntax.specs.declared.tokens.Token.{Token}
+use Rattle.qs_syntax.specs.declared.nodes.Node.{Node}
+use Rattle.qs_syntax.specs.Nodes.{unit_count, unit_nodes}
+use Rattle.qs_syntax.specs.Numbering.{numbered_unit}
+use Rattle.qs_syntax.specs.Trees.{DeclTree}
 use Rattle.qs_lexer.specs.Terminals.{terminals}
 use Rattle.qs_lexer.specs.Tokens.{Tokens, LexFaultAt}
 use Rattle.qs_lexer.specs.Results.{SaysFault, fault_at}
@@ -11,19 +16,26 @@ use Rattle.qs_lexer.specs.declared.fault.LexFault.{LexFault}
 use Rattle.qs_lexer.specs.declared.fault.LexFault.TheVariants as faults
 use Rattle.qs_lexer.proofs.OneReading.{not_both, one_list, one_place, one_kind}
 use Rattle.qs_lexer.proofs.TerminalLaws.{as_many}
-use Rattle.qs_parser.specs.Answers.{Answers, HasFault, HasNoReading}
+use Rattle.qs_parser.specs.Answers.{Answers, HasFault, HasNoReading, ReadsAs}
 use Rattle.qs_syntax.specs.declared.terminal.Terminal.{Terminal}
 use Rattle.qs_parser.proofs.Top.{unexpected_none, too_deep_none}
 use Rattle.qs_parser.specs.declared.syntax_fault.SyntaxFault.{SyntaxFault}
 use Rattle.qs_parser.specs.declared.syntax_fault.SyntaxFault.TheVariants as syntax
+use Rattle.qs_grammar.proofs.UnitsComplete.{one_reading}
+use Rattle.qs_typing.specs.Refusals.{IsAccepted, IsCause, IsTold, first_refusal}
+use Rattle.qs_typing.specs.declared.refusals.TypeFault.{TypeFault}
+use Rattle.qs_typing.specs.declared.refusals.TypeFault.TheVariants as type_faults
+use Rattle.qs_typing.proofs.Checked.{nothing_refused}
 use Rattle.qs_ports.specs.StoreView.{StoreView}
 use Rattle.qs_driver.specs.Limits.{source_limit}
 use Rattle.qs_driver.specs.Files.{WasRead}
-use Rattle.qs_driver.specs.Source.{IsPlaceOf, IsTokenPlace, byte_of, number_of, HasLexFault, HasSyntaxFault, IsNoUnit, IsUnit, RefusesText, has_lex_fault, has_syntax_fault, lacks_memory, LacksSource, lex_fault, syntax_fault, no_memory}
+use Rattle.qs_driver.specs.Source.{IsPlaceOf, IsTokenPlace, IsNodeStart, IsNodePlace, byte_of, number_of, node_of, HasLexFault, HasSyntaxFault, HasTypeFault, IsNoUnit, IsUnit, IsTypedUnit, RefusesText, has_lex_fault, has_syntax_fault, has_type_fault, lacks_memory, LacksSource, lex_fault, syntax_fault, type_fault, no_memory}
 use Rattle.qs_driver.specs.declared.status.Status.{Status}
 use Rattle.qs_driver.specs.declared.status.Status.TheVariants.{Source}
-use Rattle.qs_driver.specs.declared.status.SourceFault.TheVariants.{Lex, Syntax}
+use Rattle.qs_driver.specs.declared.status.SourceFault.TheVariants.{Lex, Syntax, Typing}
 use Rattle.qs_driver.specs.declared.status.TokenPlace.{TokenPlace}
+use Rattle.qs_driver.proofs.FaultNodes.{named_is_low}
+use Rattle.qs_driver.proofs.NodeTokens.{token_is_low}
 
 -- ---- what is answered of a text
 
@@ -65,6 +77,58 @@ is_syntactic text tokens fault number place t says e p = has_syntax_fault fault 
   place_is = p;
 }) refl
 
+-- ---- what is answered of a unit
+
+abbrev pub unit_of : (text : List ℕ) (tokens : List Token) (trees : List DeclTree) → Tokens text tokens → ReadsAs (terminals text 0 tokens) trees → IsUnit text
+unit_of text tokens trees t r = record { tokens = tokens; are_tokens = t; trees = trees; reads = r }
+
+-- the unit isn't refused
+pub is_typed : (text : List ℕ) (tokens : List Token) (trees : List DeclTree) → Tokens text tokens → ReadsAs (terminals text 0 tokens) trees → IsAccepted trees → IsTypedUnit text
+is_typed text tokens trees t r a = record { unit = unit_of text tokens trees t r; well_typed = a.well_typed; within_limits = a.within_limits }
+
+-- the fault isn't want of memory
+pub is_cause : (trees : List DeclTree) (fault : TypeFault) → (fault ≡ type_faults.NoMemory → ⊥) → IsTold trees fault → IsCause trees fault
+is_cause trees fault other (inl e) = absurd (other e)
+is_cause trees fault other (inr c) = c
+
+-- a node's number is below the count of nodes, and that of its token below the count of tokens
+pub node_is_there : (text : List ℕ) (tokens : List Token) (trees : List DeclTree) (fault : TypeFault) (number : ℕ) → ReadsAs (terminals text 0 tokens) trees → IsCause trees fault → node_of fault ≡ Some number → number < unit_count trees
+node_is_there text tokens trees fault number r c names = named_is_low (terminals text 0 tokens) trees fault number r c.first names
+
+pub token_is_there : (text : List ℕ) (tokens : List Token) (trees : List DeclTree) (number token : ℕ) → ReadsAs (terminals text 0 tokens) trees → slice_get (unit_nodes trees) number ≡ Some (record { id = number; token = token }) → token < length tokens
+token_is_there text tokens trees number token r is = token_is_low text tokens trees number (record { id = number; token = token }) r is
+
+pub starts_there : (text : List ℕ) (tokens : List Token) (trees : List DeclTree) (number token : ℕ) (d : Token) (pos : Pos) → slice_get (unit_nodes trees) number ≡ Some (record { id = number; token = token }) → token < length tokens → IsPlaceOf text (get_or tokens token d).start pos → IsNodeStart text tokens trees number pos
+starts_there text tokens trees number token d pos is there place = record {
+  node = record { id = number; token = token };
+  is = is;
+  start = record { token = get_or tokens token d; is = slice_get-get_or tokens token d there; place = place };
+}
+
+place_of_node : (text : List ℕ) (tokens : List Token) (trees : List DeclTree) (named : Option ℕ) (number : ℕ) (pos : Pos) → named ≡ Some number → IsNodeStart text tokens trees number pos → IsNodePlace text tokens trees named (Some pos)
+place_of_node text tokens trees None number pos e s = absurd cc
+place_of_node text tokens trees (Some found) number pos e s = let same : found ≡ number = cc in subst (λ (k : ℕ). IsNodeStart text tokens trees k pos) (sym same) s
+
+pub is_ill_typed_at : (text : List ℕ) (tokens : List Token) (trees : List DeclTree) (fault : TypeFault) (number : ℕ) (pos : Pos) → Tokens text tokens → ReadsAs (terminals text 0 tokens) trees → IsCause trees fault → node_of fault ≡ Some number → IsNodeStart text tokens trees number pos → RefusesText text (Source (Typing fault (Some pos)))
+is_ill_typed_at text tokens trees fault number pos t r c names s = has_type_fault fault (Some pos) (record {
+  unit = unit_of text tokens trees t r;
+  cause = c;
+  place_is = place_of_node text tokens trees (node_of fault) number pos names s;
+}) refl
+
+no_main : (text : List ℕ) (tokens : List Token) (trees : List DeclTree) → Tokens text tokens → ReadsAs (terminals text 0 tokens) trees → IsTold trees type_faults.NoMain → RefusesText text (Source (Typing type_faults.NoMain None))
+no_main text tokens trees t r told = has_type_fault type_faults.NoMain None (record {
+  unit = unit_of text tokens trees t r;
+  cause = is_cause trees type_faults.NoMain (λ e. cc) told;
+  place_is = tt;
+}) refl
+
+pub has_no_main : (text : List ℕ) (tokens : List Token) (trees : List DeclTree) (fault : TypeFault) → fault ≡ type_faults.NoMain → Tokens text tokens → ReadsAs (terminals text 0 tokens) trees → IsTold trees fault → RefusesText text (Source (Typing fault None))
+has_no_main text tokens trees fault e t r told =
+    let P : TypeFault → Type 0 = λ f. RefusesText text (Source (Typing f None)) in
+    let Q : TypeFault → Type 0 = λ f. IsTold trees f in
+    subst P (sym e) (no_main text tokens trees t r (subst Q e told))
+
 -- ---- a text has one fault, or is a unit
 
 pub no_unit : (text : List ℕ) → IsNoUnit text → IsUnit text → ⊥
@@ -99,9 +163,58 @@ same_lex_place text f g p q a b =
     let at : a.at ≡ b.at = one_place text a.kind b.kind a.at b.at a.stands b.stands in
     same_pos text b.at p q (subst (λ (k : ℕ). IsPlaceOf text k p) at a.place) b.place
 
+-- ---- a text is one unit
+
+same_tokens : (text : List ℕ) (a b : IsUnit text) → a.tokens ≡ b.tokens
+same_tokens text a b = one_list text a.tokens b.tokens a.are_tokens b.are_tokens
+
+same_trees : (text : List ℕ) (a b : IsUnit text) → a.trees ≡ b.trees
+same_trees text a b =
+    let read : ReadsAs (terminals text 0 b.tokens) a.trees = subst (λ (ts : List Token). ReadsAs (terminals text 0 ts) a.trees) (same_tokens text a b) a.reads in
+    let one = one_reading (terminals text 0 b.tokens) read.unnumbered b.reads.unnumbered read.height b.reads.height read.reads b.reads.reads in
+    read.are_numbered ∙ ap numbered_unit one.0 ∙ sym b.reads.are_numbered
+
+pub lex_or_unit : (text : List ℕ) (fault : LexFault) (pos : Pos) → HasLexFault text fault pos → IsUnit text → ⊥
+lex_or_unit text fault pos f u = lex_or_tokens text fault pos u.tokens f u.are_tokens
+
+pub ill_typed_or_typed : (text : List ℕ) (fault : TypeFault) (place : Option Pos) → HasTypeFault text fault place → IsTypedUnit text → ⊥
+ill_typed_or_typed text fault place f u =
+    let none : first_refusal u.unit.trees ≡ None = nothing_refused u.unit.trees (record { well_typed = u.well_typed; within_limits = u.within_limits }) in
+    let e : first_refusal f.unit.trees ≡ None = ap first_refusal (same_trees text f.unit u.unit) ∙ none in
+    let h = f.cause.first in
+    cc
+
+pub same_type_fault : (text : List ℕ) (f g : TypeFault) (p q : Option Pos) → HasTypeFault text f p → HasTypeFault text g q → f ≡ g
+same_type_fault text f g p q a b =
+    let e : ◌≡◌ {A = Option TypeFault} (Some f) (Some g) = sym a.cause.first ∙ ap first_refusal (same_trees text a.unit b.unit) ∙ b.cause.first in
+    cc
+
+same_start : (text : List ℕ) (tokens : List Token) (trees : List DeclTree) (number : ℕ) (p q : Pos) → IsNodeStart text tokens trees number p → IsNodeStart text tokens trees number q → p ≡ q
+same_start text tokens trees number p q a b =
+    let node : a.node ≡ b.node = same_Some a.node b.node (sym a.is ∙ b.is) in
+    let token : a.start.token ≡ b.start.token = same_Some a.start.token b.start.token (sym a.start.is ∙ ap (λ (n : Node). slice_get tokens n.token) node ∙ b.start.is) in
+    same_pos text b.start.token.start p q (subst (λ (t : Token). IsPlaceOf text t.start p) token a.start.place) b.start.place
+
+same_node_place : (text : List ℕ) (tokens : List Token) (trees : List DeclTree) (named : Option ℕ) (p q : Option Pos) → IsNodePlace text tokens trees named p → IsNodePlace text tokens trees named q → p ≡ q
+same_node_place text tokens trees None None None a b = refl
+same_node_place text tokens trees None None (Some q) a b = absurd b
+same_node_place text tokens trees None (Some p) q a b = absurd a
+same_node_place text tokens trees (Some number) None q a b = absurd a
+same_node_place text tokens trees (Some number) (Some p) None a b = absurd b
+same_node_place text tokens trees (Some number) (Some p) (Some q) a b = ap Some (same_start text tokens trees number p q a b)
+
+pub same_type_place : (text : List ℕ) (f g : TypeFault) (p q : Option Pos) → HasTypeFault text f p → HasTypeFault text g q → p ≡ q
+same_type_place text f g p q a b =
+    let P : List Token → Type 0 = λ ts. IsNodePlace text ts a.unit.trees (node_of f) p in
+    let Q : List DeclTree → Type 0 = λ ds. IsNodePlace text b.unit.tokens ds (node_of f) p in
+    let R : TypeFault → Type 0 = λ x. IsNodePlace text b.unit.tokens b.unit.trees (node_of x) p in
+    same_node_place text b.unit.tokens b.unit.trees (node_of g) p q
+    (subst R (same_type_fault text f g p q a b) (subst Q (same_trees text a.unit b.unit) (subst P (same_tokens text a.unit b.unit) a.place_is))) b.place_is
+
 -- ---- a source in the store
 
 pub text_refused : (v w : StoreView) (name text : List ℕ) (status : Status) → WasRead v w name source_limit text → RefusesText text status → LacksSource v w name status
 text_refused v w name text status read (has_lex_fault fault pos f e) = lex_fault fault pos read.untouched (record { content = text; read_as = read.read_as; has = f }) e
 text_refused v w name text status read (has_syntax_fault fault place f e) = syntax_fault fault place read.untouched (record { content = text; read_as = read.read_as; has = f }) e
+text_refused v w name text status read (has_type_fault fault place f e) = type_fault fault place read.untouched (record { content = text; read_as = read.read_as; has = f }) e
 text_refused v w name text status read (lacks_memory e) = no_memory read.untouched e

@@ -1,5 +1,5 @@
 -- The line that tells a status.
-use Rattle.std.specs.Prelude.{ℕ, List, [], ◌∷◌, codes}
+use Rattle.std.specs.Prelude.{ℕ, List, [], ◌∷◌, Option, Some, None, codes}
 use Rattle.qs_base.specs.declared.places.Pos.{Pos}
 use Rattle.qs_lexer.specs.declared.fault.LexFault.{LexFault}
 use Rattle.qs_lexer.specs.declared.fault.LexFault.TheVariants as lexical
@@ -9,6 +9,9 @@ use Rattle.qs_image.specs.declared.fault.ImageFault.{ImageFault}
 use Rattle.qs_image.specs.declared.fault.ImageFault.TheVariants as fault
 use Rattle.qs_machine.specs.declared.answers.Cause.{Cause}
 use Rattle.qs_machine.specs.declared.answers.Cause.TheVariants as cause
+use Rattle.qs_types.specs.Rules.{rule_number}
+use Rattle.qs_typing.specs.declared.refusals.TypeFault.{TypeFault}
+use Rattle.qs_typing.specs.declared.refusals.TypeFault.TheVariants as typing
 use Rattle.qs_report.specs.Lines.{line}
 use Rattle.qs_report.specs.Lines as lines
 use Rattle.qs_report.specs.declared.fault_texts.FaultText.{FaultText}
@@ -16,7 +19,7 @@ use Rattle.qs_report.specs.declared.fault_texts.FaultText.TheVariants as texts
 use Rattle.qs_driver.specs.Names.{Names, file_name}
 use Rattle.qs_driver.specs.declared.status.Status.{Status}
 use Rattle.qs_driver.specs.declared.status.Status.TheVariants.{Done, Source, Words, Missing, StoreFailed, Image, Trapped, StepLimit, StackTooLarge, SinkFailed, NoMemory}
-use Rattle.qs_driver.specs.declared.status.SourceFault.TheVariants.{TooLong, Lex, Syntax, NotFirstForm}
+use Rattle.qs_driver.specs.declared.status.SourceFault.TheVariants.{TooLong, Lex, Syntax, Typing, NotFirstForm}
 use Rattle.qs_driver.specs.declared.status.TokenPlace.{TokenPlace}
 use Rattle.qs_driver.specs.declared.status.TokenPlace.TheVariants.{At, End}
 use Rattle.qs_driver.specs.declared.status.WordsFault.TheVariants.{Usage, SameName, ArgCount, ArgRange}
@@ -69,6 +72,19 @@ syntax_text syntax.NoMemory place = texts.NoMemory
 syntax_text (syntax.Unexpected number) place = unexpected_text place
 syntax_text (syntax.TooDeep number) place = texts.TooDeep (pos_of place)
 
+-- what is wrong with the types of a source, at the place of the node that the fault names
+abbrev pub placed_text : TypeFault → Pos → FaultText
+placed_text (typing.Rule node rule) pos = texts.Rule pos (rule_number rule)
+placed_text (typing.Limit kind node) pos = texts.Limit pos kind
+placed_text typing.NoMain pos = texts.NoMain
+placed_text (typing.Undefined node) pos = texts.NoBody pos
+placed_text typing.NoMemory pos = texts.NoMemory
+
+-- that there is no main names no node, and every other fault names one
+abbrev pub typing_text : TypeFault → Option Pos → FaultText
+typing_text fault None = texts.NoMain
+typing_text fault (Some pos) = placed_text fault pos
+
 -- the line of a fault that names this file, or none
 abbrev pub named_line : List ℕ → FaultText → List ℕ
 named_line file text = lines.fault_line file [] text
@@ -79,6 +95,7 @@ status_line names Done = []
 status_line names (Source (TooLong kind)) = named_line (file_name names kind) texts.TooLong
 status_line names (Source (Lex fault pos)) = named_line names.source (lex_text fault pos)
 status_line names (Source (Syntax fault place)) = named_line names.source (syntax_text fault place)
+status_line names (Source (Typing fault place)) = named_line names.source (typing_text fault place)
 status_line names (Source NotFirstForm) = line (names.source ∷ codes ": not in the first form" ∷ [])
 status_line names (Words Usage) = named_line [] texts.Usage
 status_line names (Words SameName) = named_line names.output texts.SameName

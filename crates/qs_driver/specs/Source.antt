@@ -3,7 +3,9 @@ use Rattle.std.specs.Prelude.{◌≡◌, ◌↔◌, ℕ, List, length, IsTrue, O
 use Rattle.std.specs.declared.alloc.Global.{Global}
 use Rattle.qs_base.specs.Positions.{line_at, column_at}
 use Rattle.qs_base.specs.declared.places.Pos.{Pos}
+use Rattle.qs_syntax.specs.declared.nodes.Node.{Node}
 use Rattle.qs_syntax.specs.declared.tokens.Token.{Token}
+use Rattle.qs_syntax.specs.Nodes.{unit_nodes}
 use Rattle.qs_syntax.specs.Trees.{DeclTree}
 use Rattle.qs_lexer.specs.Tokens.{Tokens, LexFaultAt}
 use Rattle.qs_lexer.specs.Results.{fault_at}
@@ -14,12 +16,17 @@ use Rattle.qs_lexer.specs.declared.fault.LexFault.TheVariants as lexical_faults
 use Rattle.qs_parser.specs.Answers.{ReadsAs, HasFault, HasNoReading}
 use Rattle.qs_parser.specs.declared.syntax_fault.SyntaxFault.{SyntaxFault}
 use Rattle.qs_parser.specs.declared.syntax_fault.SyntaxFault.TheVariants as syntax_faults
+use Rattle.qs_types.specs.WellTyped.{WellTyped}
+use Rattle.qs_types.specs.Limits.{IsWithinLimits}
+use Rattle.qs_typing.specs.Refusals.{IsCause}
+use Rattle.qs_typing.specs.declared.refusals.TypeFault.{TypeFault}
+use Rattle.qs_typing.specs.declared.refusals.TypeFault.TheVariants as type_faults
 use Rattle.qs_ports.specs.StoreView.{StoreView}
 use Rattle.qs_driver.specs.Limits.{source_limit}
 use Rattle.qs_driver.specs.Files.{IsUntouched, HoldsWith, IsTooLong, WasRead, WasReadWith, CannotRead}
 use Rattle.qs_driver.specs.declared.status.Status.{Status}
 use Rattle.qs_driver.specs.declared.status.Status.TheVariants.{Source, Missing, NoMemory}
-use Rattle.qs_driver.specs.declared.status.SourceFault.TheVariants.{TooLong, Lex, Syntax}
+use Rattle.qs_driver.specs.declared.status.SourceFault.TheVariants.{TooLong, Lex, Syntax, Typing}
 use Rattle.qs_driver.specs.declared.status.TokenPlace.{TokenPlace}
 use Rattle.qs_driver.specs.declared.status.TokenPlace.TheVariants.{At, End}
 use Rattle.qs_driver.specs.declared.status.FileKind.TheVariants as kinds
@@ -46,6 +53,19 @@ pub record IsEndOf (text : List ℕ) (tokens : List Token) (number : ℕ) (pos :
 abbrev pub IsTokenPlace : List ℕ → List Token → ℕ → TokenPlace → Type 0
 IsTokenPlace text tokens number (At pos) = IsStartOf text tokens number pos
 IsTokenPlace text tokens number (End pos) = IsEndOf text tokens number pos
+
+-- the node with this number stands at a token that starts at this line and column
+pub record IsNodeStart (text : List ℕ) (tokens : List Token) (trees : List DeclTree) (number : ℕ) (pos : Pos) : Type 0 where
+  pub node : Node
+  pub is : slice_get (unit_nodes trees) number ≡ Some node
+  pub start : IsStartOf text tokens node.token pos
+
+-- the place of the node that is named, and none where none is named
+abbrev pub IsNodePlace : List ℕ → List Token → List DeclTree → Option ℕ → Option Pos → Type 0
+IsNodePlace text tokens trees (Some number) (Some pos) = IsNodeStart text tokens trees number pos
+IsNodePlace text tokens trees (Some number) None = ⊥
+IsNodePlace text tokens trees None (Some pos) = ⊥
+IsNodePlace text tokens trees None None = Unit {0}
 
 -- ---- a text
 
@@ -95,17 +115,39 @@ pub record IsUnit (text : List ℕ) : Type 0 where
   pub trees : List DeclTree
   pub reads : ReadsAs (terminals text 0 tokens) trees
 
--- why a text isn't known to be a unit, and the status at that
+-- the number of the node that a type fault names
+abbrev pub node_of : TypeFault → Option ℕ
+node_of (type_faults.Rule node rule) = Some node
+node_of (type_faults.Limit kind node) = Some node
+node_of type_faults.NoMain = None
+node_of (type_faults.Undefined node) = Some node
+node_of type_faults.NoMemory = None
+
+-- the text is a unit that this type fault is the first cause to refuse; the node that it names, where it names one, stands at this place
+pub record HasTypeFault (text : List ℕ) (fault : TypeFault) (place : Option Pos) : Type 0 where
+  pub unit : IsUnit text
+  pub cause : IsCause unit.trees fault
+  pub place_is : IsNodePlace text unit.tokens unit.trees (node_of fault) place
+
+-- the text is a unit that keeps the typing rules and is within the limits
+pub record IsTypedUnit (text : List ℕ) : Type 0 where
+  pub unit : IsUnit text
+  pub well_typed : WellTyped unit.trees
+  pub within_limits : IsWithinLimits unit.trees
+
+-- why a text isn't known to be a typed unit, and the status at that
 pub data RefusesText (text : List ℕ) (status : Status) : Type 0 where
   has_lex_fault : (fault : LexFault) (pos : Pos) → HasLexFault text fault pos
       → status ≡ Source (Lex fault pos) → RefusesText text status
   has_syntax_fault : (fault : SyntaxFault) (place : TokenPlace) → HasSyntaxFault text fault place
       → status ≡ Source (Syntax fault place) → RefusesText text status
+  has_type_fault : (fault : TypeFault) (place : Option Pos) → HasTypeFault text fault place
+      → status ≡ Source (Typing fault place) → RefusesText text status
   lacks_memory : status ≡ NoMemory → RefusesText text status
 
 -- the answer of `check_text`
 abbrev pub ChecksText : List ℕ → Result Unit Status → Type 0
-ChecksText text (Ok u) = IsUnit text
+ChecksText text (Ok u) = IsTypedUnit text
 ChecksText text (Err status) = RefusesText text status
 
 -- ---- a source in the store
@@ -118,10 +160,10 @@ HoldsText file Property = HoldsWith file source_limit Property
 abbrev pub ReadsText : StoreView → List ℕ → (List ℕ → Type 0) → Type 0
 ReadsText before name Property = WasReadWith before name source_limit Property
 
--- the source was read, it is a unit, and no file changed
+-- the source was read, it is a typed unit, and no file changed
 pub record HasSource (before after : StoreView) (name text : List ℕ) : Type 0 where
   pub read : WasRead before after name source_limit text
-  pub unit : IsUnit text
+  pub typed : IsTypedUnit text
 
 -- Why there is no source to go on with, and the status at that.
 pub data LacksSource (before after : StoreView) (name : List ℕ) (status : Status) : Type 0 where
@@ -132,6 +174,9 @@ pub data LacksSource (before after : StoreView) (name : List ℕ) (status : Stat
   syntax_fault : (fault : SyntaxFault) (place : TokenPlace) → IsUntouched before after
       → ReadsText before name (λ text. HasSyntaxFault text fault place)
       → status ≡ Source (Syntax fault place) → LacksSource before after name status
+  type_fault : (fault : TypeFault) (place : Option Pos) → IsUntouched before after
+      → ReadsText before name (λ text. HasTypeFault text fault place)
+      → status ≡ Source (Typing fault place) → LacksSource before after name status
   no_memory : IsUntouched before after → status ≡ NoMemory → LacksSource before after name status
 
 -- the answer of `read_source`
@@ -147,6 +192,7 @@ pub data IsOfSource : Status → Type 0 where
   long_source : IsOfSource (Source (TooLong kinds.Source))
   ill_spelled : (fault : LexFault) (pos : Pos) → IsOfSource (Source (Lex fault pos))
   no_reading : (fault : SyntaxFault) (place : TokenPlace) → IsOfSource (Source (Syntax fault place))
+  ill_typed : (fault : TypeFault) (place : Option Pos) → IsOfSource (Source (Typing fault place))
 
 -- some syntax fault is answered
 abbrev pub IsSyntax : Status → Type 0
@@ -161,3 +207,5 @@ pub record RefusesSource (file : Option (List ℕ)) (status : Status) : Type 0 w
   pub syntactic : IsSyntax status ↔ HoldsText file IsNoUnit
   pub told : (fault : SyntaxFault) (place : TokenPlace)
       → status ≡ Source (Syntax fault place) → HoldsText file (λ text. HasSyntaxFault text fault place)
+  pub typing : (fault : TypeFault) (place : Option Pos)
+      → (status ≡ Source (Typing fault place)) ↔ HoldsText file (λ text. HasTypeFault text fault place)

@@ -2,7 +2,7 @@
 ghost use Rattle.std.specs.Prelude.{◌≡◌};
 ghost use Rattle.qs_ports.specs.SinkView.{PutsAll};
 ghost use Rattle.qs_report.specs.Lines.{HasItsNumbers};
-ghost use Rattle.qs_driver.specs.Faults.{status_line, image_text, lex_text, named_line, pos_of, syntax_text, trap_text, unexpected_text};
+ghost use Rattle.qs_driver.specs.Faults.{status_line, image_text, lex_text, named_line, placed_text, pos_of, syntax_text, trap_text, typing_text, unexpected_text};
 ghost use Rattle.qs_driver.specs.Names.{names_in};
 
 use crate::names::{FileNames, file_name};
@@ -14,6 +14,7 @@ use qs_machine::Cause;
 use qs_parser::SyntaxFault;
 use qs_ports::{Sink, SinkFault};
 use qs_report::{FaultText, put_arg_count, put_arg_range, put_fault, put_two};
+use qs_typing::TypeFault;
 
 fn image_text(fault: ImageFault) -> FaultText
     ensures is { result ≡ image_text fault }
@@ -93,6 +94,29 @@ fn syntax_text(fault: SyntaxFault, place: TokenPlace) -> FaultText
     }
 }
 
+fn placed_text(fault: TypeFault, pos: Pos) -> FaultText
+    ensures is { result ≡ placed_text fault pos }
+    ensures numbered { HasItsNumbers result }
+{
+    match fault {
+        TypeFault::Rule(_, rule) => FaultText::Rule(pos, rule.number()),
+        TypeFault::Limit(kind, _) => FaultText::Limit(pos, kind),
+        TypeFault::NoMain => FaultText::NoMain,
+        TypeFault::Undefined(_) => FaultText::NoBody(pos),
+        TypeFault::NoMemory => FaultText::NoMemory,
+    }
+}
+
+fn typing_text(fault: TypeFault, place: Option<Pos>) -> FaultText
+    ensures is { result ≡ typing_text fault place }
+    ensures numbered { HasItsNumbers result }
+{
+    match place {
+        Some(pos) => placed_text(fault, pos),
+        None => FaultText::NoMain,
+    }
+}
+
 // Puts the line of a fault that names this file, or none.
 fn put_text<K: Sink>(log: &mut K, file: &str, text: FaultText) -> Result<(), SinkFault>
     requires { HasItsNumbers text }
@@ -129,6 +153,7 @@ fn put_source_fault<K: Sink>(
         SourceFault::TooLong(kind) => put_text(log, file_name(names, kind), FaultText::TooLong),
         SourceFault::Lex(fault, pos) => put_text(log, names.source, lex_text(fault, pos)),
         SourceFault::Syntax(fault, place) => put_text(log, names.source, syntax_text(fault, place)),
+        SourceFault::Typing(fault, place) => put_text(log, names.source, typing_text(fault, place)),
         SourceFault::NotFirstForm => {
             put_two(log, names.source.as_bytes(), b": not in the first form")
         }

@@ -1,11 +1,14 @@
 // A source that a command reads: its text, or why it is refused.
-ghost use Rattle.std.specs.Prelude.{◌≡◌, ◌≤◌, ◌<◌, ◌^◌, length};
+ghost use Rattle.std.specs.Prelude.{◌≡◌, ◌≤◌, ◌<◌, ◌^◌, length, Some};
+ghost use Rattle.qs_syntax.specs.Nodes.{unit_count};
+ghost use Rattle.qs_syntax.specs.UnitTrees.{unit_tree};
 ghost use Rattle.qs_lexer.specs.Results.{SaysFault};
 ghost use Rattle.qs_lexer.specs.Tokens.{Tokens};
 ghost use Rattle.qs_lexer.specs.Terminals.{terminals};
-ghost use Rattle.qs_parser.specs.Answers.{Answers};
+ghost use Rattle.qs_parser.specs.Answers.{Answers, ReadsAs};
+ghost use Rattle.qs_typing.specs.Refusals.{IsCause, IsTold};
 ghost use Rattle.qs_driver.specs.Limits.{source_limit};
-ghost use Rattle.qs_driver.specs.Source.{byte_of, number_of, ChecksText, IsPlaceOf, IsTokenPlace, ReadsSource, RefusesText};
+ghost use Rattle.qs_driver.specs.Source.{byte_of, node_of, number_of, ChecksText, IsNodeStart, IsPlaceOf, IsTokenPlace, ReadsSource, RefusesText};
 
 use crate::files::read_file;
 use crate::limits::SOURCE_LIMIT;
@@ -14,7 +17,8 @@ use qs_base::{Pos, position};
 use qs_lexer::{LexFault, tokens};
 use qs_parser::{SyntaxFault, unit};
 use qs_ports::Store;
-use qs_syntax::Token;
+use qs_syntax::{Token, Unit};
+use qs_typing::{TypeFault, check};
 use std::alloc::Global;
 
 /// The place of the byte `at`, or of the end where the text has no such byte.
@@ -91,7 +95,61 @@ fn syntactic(text: &[u8], tokens: &[Token], fault: SyntaxFault) -> Status
     }
 }
 
-/// Tests that a text is a unit. It is lexed and parsed.
+/// The place of the node with this number: where its token starts.
+fn node_place(text: &[u8], tokens: &[Token], unit: &Unit, node: u32) -> Pos
+    requires short { length text.now < 2 ^ 31 }
+    requires reads { ReadsAs (terminals text.now 0 tokens.now) (unit_tree unit.now) }
+    requires there { node < unit_count (unit_tree unit.now) }
+    ensures { IsNodeStart text.now tokens.now (unit_tree unit.now) node result }
+{
+    let token = tokens[unit.token_of(node) as usize];
+    place(text, token.start as usize)
+}
+
+/// The status of a text that is this unit, where its first type fault names this node.
+fn ill_typed_at(text: &[u8], tokens: &[Token], unit: &Unit, fault: TypeFault, node: u32) -> Status
+    requires short { length text.now < 2 ^ 31 }
+    requires tokens { Tokens text.now tokens.now }
+    requires reads { ReadsAs (terminals text.now 0 tokens.now) (unit_tree unit.now) }
+    requires cause { IsCause (unit_tree unit.now) fault }
+    requires names { node_of fault ≡ Some node }
+    ensures { RefusesText text.now result }
+{
+    let pos = node_place(text, tokens, unit, node);
+    Status::Source(SourceFault::Typing(fault, Some(pos)))
+}
+
+/// The status of a text that is this unit and has this type fault.
+fn ill_typed(text: &[u8], tokens: &[Token], unit: &Unit, fault: TypeFault) -> Status
+    requires short { length text.now < 2 ^ 31 }
+    requires tokens { Tokens text.now tokens.now }
+    requires reads { ReadsAs (terminals text.now 0 tokens.now) (unit_tree unit.now) }
+    requires told { IsTold (unit_tree unit.now) fault }
+    ensures { RefusesText text.now result }
+{
+    match fault {
+        TypeFault::Rule(node, _) => ill_typed_at(text, tokens, unit, fault, node),
+        TypeFault::Limit(_, node) => ill_typed_at(text, tokens, unit, fault, node),
+        TypeFault::NoMain => Status::Source(SourceFault::Typing(fault, None)),
+        TypeFault::Undefined(node) => ill_typed_at(text, tokens, unit, fault, node),
+        TypeFault::NoMemory => Status::NoMemory,
+    }
+}
+
+/// Tests that the unit that a text is read as keeps the typing rules and is within the limits.
+fn check_unit(alloc: Global, text: &[u8], tokens: &[Token], unit: &Unit) -> Result<(), Status>
+    requires short { length text.now < 2 ^ 31 }
+    requires tokens { Tokens text.now tokens.now }
+    requires reads { ReadsAs (terminals text.now 0 tokens.now) (unit_tree unit.now) }
+    ensures { ChecksText text.now result }
+{
+    match check(alloc, unit) {
+        Ok(_typed) => Ok(()),
+        Err(fault) => Err(ill_typed(text, tokens, unit, fault)),
+    }
+}
+
+/// Tests that a text is a typed unit. It is lexed, parsed and typed.
 fn check_text(alloc: Global, text: &[u8]) -> Result<(), Status>
     requires limit { length text.now ≤ source_limit }
     ensures { ChecksText text.now result }
@@ -101,12 +159,12 @@ fn check_text(alloc: Global, text: &[u8]) -> Result<(), Status>
         Err(fault) => return Err(lexical(text, fault)),
     };
     match unit(alloc, text, &tokens) {
-        Ok(_unit) => Ok(()),
+        Ok(unit) => check_unit(alloc, text, &tokens, &unit),
         Err(fault) => Err(syntactic(text, &tokens, fault)),
     }
 }
 
-/// The text of a source that is a unit.
+/// The text of a source that is a typed unit.
 pub fn read_source<S: Store>(alloc: Global, store: &mut S, name: &str) -> Result<Vec<u8>, Status>
     ensures { ReadsSource (S.view store.old) (S.view store.new) name.now result }
 {

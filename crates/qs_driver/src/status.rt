@@ -10,6 +10,7 @@ use qs_lexer::LexFault;
 use qs_machine::Cause;
 use qs_parser::SyntaxFault;
 use qs_ports::WriteFault;
+use qs_typing::TypeFault;
 use std::alloc::AllocFailed;
 use thiserror::Error;
 
@@ -47,6 +48,10 @@ pub enum SourceFault {
     /// Its tokens are no unit, or one that is too high; the fault names a token, which stands at this place.
     #[error("{0}")]
     Syntax(SyntaxFault, TokenPlace),
+    /// It is a unit with this type fault first: a limit that is passed, a rule that is broken, no `main`, or a function
+    /// without a body; the place is that of the node which the fault names, and `no main` names none.
+    #[error("{0}")]
+    Typing(TypeFault, Option<Pos>),
     /// It isn't `int main(void){`, pieces `putchar(K);`, `return K;}`.
     #[error("not in the first form")]
     NotFirstForm,

@@ -13,6 +13,8 @@ mod files;
 #[cfg(test)]
 mod images;
 #[cfg(test)]
+mod lines;
+#[cfg(test)]
 mod names;
 #[cfg(test)]
 mod polynomials;

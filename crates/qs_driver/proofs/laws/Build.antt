@@ -31,7 +31,7 @@ no_source b v w status differ l = meant.refused differ status (meant.no_source l
 pub no_program : (b : BuildWords) (v w : StoreView) (text : List ℕ) (status : Status) → b.source ≢ b.out → HasSource v w b.source text → LacksProgram text status → Builds b v w (Err status)
 no_program b v w text status differ s (meant.no_program none e) = meant.refused differ status (meant.other_form (record {
   untouched = s.read.untouched;
-  text = record { content = text; read_as = s.read.read_as; has = record { unit = s.unit; no_form = none } };
+  text = record { content = text; read_as = s.read.read_as; has = record { typed = s.typed; no_form = none } };
 }) e) refl
 no_program b v w text status differ s (meant.lacks_memory e) = meant.refused differ status (meant.no_memory s.read.untouched e) refl
 

@@ -5,7 +5,7 @@ use Rattle.qs_compile.specs.FirstForm.{Program, IsFirstForm}
 use Rattle.qs_driver.specs.Limits.{source_limit}
 use Rattle.qs_driver.specs.Due.{Due}
 use Rattle.qs_driver.specs.Files.{HoldsWith}
-use Rattle.qs_driver.specs.Source.{IsUnit, IsOfSource, missing_source, long_source, ill_spelled, no_reading}
+use Rattle.qs_driver.specs.Source.{IsTypedUnit, IsOfSource, missing_source, long_source, ill_spelled, no_reading, ill_typed}
 use Rattle.qs_driver.specs.Promises.{StoreHeld, SaysStoreFailed}
 use Rattle.qs_driver.specs.commands.Build.{BuildWords, build, CannotBuild, IsDueToBuild, HasBuilt, HasOtherForm, HoldsProgram, IsGood, Accepts, Refuses, IsOfBuild}
 use Rattle.qs_driver.specs.commands.Build as meant
@@ -14,7 +14,7 @@ use Rattle.qs_driver.specs.declared.status.Status.TheVariants.{Done, Source, Wor
 use Rattle.qs_driver.specs.declared.status.SourceFault.TheVariants.{NotFirstForm}
 use Rattle.qs_driver.specs.declared.status.WordsFault.TheVariants.{SameName}
 use Rattle.qs_driver.specs.declared.status.FileKind.TheVariants as kinds
-use Rattle.qs_driver.proofs.FormUnits.{first_form_is_unit}
+use Rattle.qs_driver.proofs.FormUnits.{first_form_is_typed}
 use Rattle.qs_driver.proofs.FilesLaws.{held_with}
 use Rattle.qs_driver.proofs.SourceFollows.{IsNoRefusal, SourceEnds, good, source_ends, source_own, source_no_unit, refuses_source, not_two}
 use Rattle.qs_driver.proofs.laws.Follows.{Follows, not_risen, not_untouched, source_shows}
@@ -31,12 +31,12 @@ build_ends b v w due (meant.built differ h) = built differ h.program (held_with 
 build_ends b v w due (meant.named_twice e u d) = same e (ap (λ x. x.status) d)
 build_ends b v w due (meant.refused differ status c d) = let P : Status → Type 0 = λ s. CannotBuild b v w s in cannot differ (subst P (sym (ap (λ x. x.status) d)) c)
 
--- a program is a unit, and has no other form
-as_unit : (b : BuildWords) (v : StoreView) (p : Program) → HoldsProgram (v.files b.source) p → HoldsWith (v.files b.source) source_limit IsUnit
-as_unit b v p h = record { content = h.content; holds = h.holds; has = first_form_is_unit h.content p h.has }
+-- a program is a typed unit, and has no other form
+as_unit : (b : BuildWords) (v : StoreView) (p : Program) → HoldsProgram (v.files b.source) p → HoldsWith (v.files b.source) source_limit IsTypedUnit
+as_unit b v p h = record { content = h.content; holds = h.holds; has = first_form_is_typed h.content p h.has }
 
-other_as_unit : (b : BuildWords) (v : StoreView) → HoldsWith (v.files b.source) source_limit HasOtherForm → HoldsWith (v.files b.source) source_limit IsUnit
-other_as_unit b v h = record { content = h.content; holds = h.holds; has = h.has.unit }
+other_as_unit : (b : BuildWords) (v : StoreView) → HoldsWith (v.files b.source) source_limit HasOtherForm → HoldsWith (v.files b.source) source_limit IsTypedUnit
+other_as_unit b v h = record { content = h.content; holds = h.holds; has = h.has.typed }
 
 not_other : (b : BuildWords) (v : StoreView) (p : Program) → HoldsWith (v.files b.source) source_limit HasOtherForm → HoldsProgram (v.files b.source) p → ⊥
 not_other b v p o h = not_two (v.files b.source) source_limit HasOtherForm (λ text. IsFirstForm text p) (λ text a f. a.no_form p f) o h
@@ -81,12 +81,14 @@ no_words_fault missing_source e = cc
 no_words_fault long_source e = cc
 no_words_fault (ill_spelled fault pos) e = cc
 no_words_fault (no_reading fault place) e = cc
+no_words_fault (ill_typed fault place) e = cc
 
 no_form_fault : {status : Status} → IsOfSource status → status ≡ Source NotFirstForm → ⊥
 no_form_fault missing_source e = cc
 no_form_fault long_source e = cc
 no_form_fault (ill_spelled fault pos) e = cc
 no_form_fault (no_reading fault place) e = cc
+no_form_fault (ill_typed fault place) e = cc
 
 never_same : (b : BuildWords) (v w : StoreView) (status : Status) → StoreHeld v w → CannotBuild b v w status → status ≡ Words SameName → ⊥
 never_same b v w status n (meant.no_source l) f = elim (source_own v w b.source status n l) [
@@ -109,10 +111,10 @@ leads_same b v w status (cannot differ c) s = absurd (differ s)
 
 -- a status at which no source is refused
 done_is_none : (status : Status) → status ≡ Done → IsNoRefusal status
-done_is_none status e = record { not_missing = λ f. cc; not_long = λ f. cc; not_lexical = λ fault pos f. cc; not_syntactic = λ fault place f. cc }
+done_is_none status e = record { not_missing = λ f. cc; not_long = λ f. cc; not_lexical = λ fault pos f. cc; not_syntactic = λ fault place f. cc; not_typing = λ fault place f. cc }
 
 form_is_none : (status : Status) → status ≡ Source NotFirstForm → IsNoRefusal status
-form_is_none status e = record { not_missing = λ f. cc; not_long = λ f. cc; not_lexical = λ fault pos f. cc; not_syntactic = λ fault place f. cc }
+form_is_none status e = record { not_missing = λ f. cc; not_long = λ f. cc; not_lexical = λ fault pos f. cc; not_syntactic = λ fault place f. cc; not_typing = λ fault place f. cc }
 
 cannot_source : (b : BuildWords) (v w : StoreView) (status : Status) → StoreHeld v w → status ≢ NoMemory → IsTrue v.told → CannotBuild b v w status → SourceEnds (v.files b.source) status
 cannot_source b v w status n m told (meant.no_source l) = elim (source_ends v w b.source status n told l) [

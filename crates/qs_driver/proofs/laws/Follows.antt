@@ -42,4 +42,5 @@ pub source_shows : (v w : StoreView) (name : List ℕ) (status : Status) → Lac
 source_shows v w name status (source.unread u) r = unread_shows v w name _ _ status u r
 source_shows v w name status (source.lex_fault fault pos u f e) r = absurd (not_untouched v w u r)
 source_shows v w name status (source.syntax_fault fault place u f e) r = absurd (not_untouched v w u r)
+source_shows v w name status (source.type_fault fault place u f e) r = absurd (not_untouched v w u r)
 source_shows v w name status (source.no_memory u e) r = absurd (not_untouched v w u r)

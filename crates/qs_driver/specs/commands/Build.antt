@@ -12,7 +12,7 @@ use Rattle.qs_driver.specs.Lines.{cost_lines}
 use Rattle.qs_driver.specs.Steps.{on_out}
 use Rattle.qs_driver.specs.Due.{Due, refusal, IsRefusal}
 use Rattle.qs_driver.specs.Files.{IsUntouched}
-use Rattle.qs_driver.specs.Source.{HoldsText, ReadsText, IsUnit, IsOfSource, LacksSource, RefusesSource}
+use Rattle.qs_driver.specs.Source.{HoldsText, ReadsText, IsTypedUnit, IsOfSource, LacksSource, RefusesSource}
 use Rattle.qs_driver.specs.Task.{Task}
 use Rattle.qs_driver.specs.declared.commands.build.BuildOrder.{BuildOrder}
 use Rattle.qs_driver.specs.declared.status.Status.{Status}
@@ -44,9 +44,9 @@ names_of b = record no_names { source = b.source; output = b.out }
 abbrev pub HoldsProgram : Option (List ℕ) → Program → Type 0
 HoldsProgram file program = HoldsText file (λ text. IsFirstForm text program)
 
--- the text is a unit, and no program of the first form
+-- the text is a typed unit, and no program of the first form
 pub record HasOtherForm (text : List ℕ) : Type 0 where
-  pub unit : IsUnit text
+  pub typed : IsTypedUnit text
   pub no_form : (program : Program) → IsFirstForm text program → ⊥
 
 -- the bytes are those of an image that was built from the program and does what the program does
@@ -84,7 +84,7 @@ pub record CouldNotWrite (b : BuildWords) (before after : StoreView) : Type 0 wh
   pub part : IsCutShort before after b.out bytes
   pub failed : HasFailed before after
 
--- the text that was read as the source's is a unit and no program of the first form; no file changed
+-- the text that was read as the source's is a typed unit and no program of the first form; no file changed
 pub record HasOtherSource (b : BuildWords) (before after : StoreView) : Type 0 where
   pub untouched : IsUntouched before after
   pub text : ReadsText before b.source HasOtherForm

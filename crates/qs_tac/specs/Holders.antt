@@ -1,6 +1,6 @@
 -- What holds the values of temporaries while a function runs: temporaries themselves, or places in its
 -- frame and in registers. A run is the same for all of them, but for what they hold.
-use Rattle.std.specs.Prelude.{ℕ, ◌==◌, ◌&&◌, ◌||◌, nat_le, Bool, true, false, if◌then◌else◌, List, [], ◌∷◌, Option, None}
+use Rattle.std.specs.Prelude.{ℕ, ◌==◌, ◌&&◌, ◌||◌, nat_le, Bool, true, false, if◌then◌else◌, List, [], ◌∷◌, Option, Some, None}
 use Rattle.qs_memory.specs.Values.{Value}
 use Rattle.qs_calls.specs.World.{Environment, with_value}
 use Rattle.qs_tac.specs.declared.places.Place.{Place}
@@ -62,6 +62,6 @@ abbrev pub places : (parameters : ℕ → List ℕ) → (at : ℕ → ℕ → Pl
 places parameters at = record {
   enter = λ f e. placed_values (at f) e (parameters f);
   read = λ f file t. file (at f t);
-  write = λ f file t v. with_place file (at f t) (Option.Some v);
+  write = λ f file t v. with_place file (at f t) (Some v);
   keep = kept;
 }

@@ -10,7 +10,7 @@ use Rattle.qs_calls.specs.declared.parameter.Parameter.TheVariants.{Plain, Place
 use Rattle.qs_tac.specs.Trees.{TacFunctionTree, TacUnitTree}
 use Rattle.qs_tac.specs.Holders.{Holder, temporaries, places}
 use Rattle.qs_tac.specs.Steps.{enters, steps}
-use Rattle.qs_tac.specs.declared.places.Place.{Place}
+use Rattle.qs_tac.specs.Places.{PlacesTree, place_in}
 
 -- the first step enters the root function
 abbrev pub run :
@@ -34,7 +34,7 @@ abbrev pub plain_of : Option TacFunctionTree → List ℕ
 plain_of None = []
 plain_of (Some f) = plain f.parameters
 
--- where the values of each function stand, by the numbers of function and temporary
+-- the places of each function stand by its number
 abbrev pub placed_run :
-    TacUnitTree → (at : ℕ → ℕ → Place) → (root : ℕ) → (arguments : List Value) → World → (m : ℕ) → RootRun
-placed_run u at = run (places (λ f. plain_of (slice_get u.functions f)) at) u
+    TacUnitTree → List PlacesTree → (root : ℕ) → (arguments : List Value) → World → (m : ℕ) → RootRun
+placed_run u ps = run (places (λ f. plain_of (slice_get u.functions f)) (place_in ps)) u

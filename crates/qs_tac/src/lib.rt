@@ -6,10 +6,13 @@ mod instruction;
 mod laws;
 mod operands;
 mod places;
+mod unit;
 mod units;
+mod uses;
 
 pub use instruction::Instruction;
 pub use laws::linear_code_grows;
 pub use operands::{Address, Condition, Operand};
 pub use places::{Place, Places};
+pub use unit::TacUnit;
 pub use units::{TacData, TacFunction};

@@ -1,1 +1,2 @@
 pub mod RelationLaws
+mod StepExamples

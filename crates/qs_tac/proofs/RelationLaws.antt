@@ -1,12 +1,11 @@
 -- A step keeps each relation of runs that events keep. That runs grow with their steps is an instance.
-use Rattle.std.proofs.Common.{◌≡◌, ℕ, zero, suc, ◌≤◌, List, [], ◌∷◌, Option, Some, None, refl, arith}
+use Rattle.std.proofs.Common.{ℕ, zero, suc, ◌≤◌, List, [], ◌∷◌, Option, Some, None, refl, arith}
 use Rattle.std.specs.List.{slice_get}
 use Rattle.qs_memory.specs.Values.{Value}
 use Rattle.qs_memory.specs.Memory.{Memory, release}
 use Rattle.qs_events.specs.Events.{Returns}
 use Rattle.qs_events.specs.Runs.{Within}
-use Rattle.qs_calls.specs.World.{World, with_memory, Return, leaves}
-use Rattle.qs_calls.specs.Calls.{CallsOf, activate}
+use Rattle.qs_calls.specs.World.{World, with_memory, leaves}
 use Rattle.qs_calls.specs.Relations.{Relation, Keeps, ReturnsRelated, CallsRelated}
 use Rattle.qs_calls.proofs.RelationLaws.{given_related, invoke_related, activate_related, within_keeps}
 use Rattle.qs_tac.specs.Trees.{InstructionTree, move, unary, binary, convert, member, load, store}

@@ -1,7 +1,7 @@
 -- What holds of every unit of linear code: temporaries, blocks, functions and places of instructions have
 -- numbers below their counts, each call has as many arguments as its callee has parameters, and constants,
 -- offsets and sizes are in range.
-use Rattle.std.specs.Prelude.{ℕ, ◌+◌, ◌*◌, ◌^◌, ◌==◌, ◌&&◌, nat_lt, nat_le, Bool, true, false, List, [], ◌∷◌, length, Option, Some, None}
+use Rattle.std.specs.Prelude.{ℕ, ◌+◌, ◌*◌, ◌^◌, ◌==◌, ◌&&◌, nat_lt, nat_le, Bool, true, false, List, length, Option, Some, None}
 use Rattle.std.specs.List.{slice_get, list_all}
 use Rattle.qs_memory.specs.Memory.{BlankTree, zeros, nulls, repeated, nothing, joined}
 use Rattle.qs_memory.specs.declared.operation.BinaryOperation.{BinaryOperation}

@@ -1,8 +1,7 @@
 -- How many values a function has, and a bound on the words of its machine code. Each line of the bound
 -- counts what the instruction is made of where every value stands in a slot that is out of the reach of an
 -- immediate, and every offset is.
-use Rattle.std.specs.Prelude.{ℕ, ◌+◌, ◌*◌, List, [], ◌∷◌, length, sum_by, Option, Some, None}
-use Rattle.qs_memory.specs.declared.operation.UnaryOperation.{UnaryOperation}
+use Rattle.std.specs.Prelude.{ℕ, ◌+◌, ◌*◌, length, sum_by, Option, Some, None}
 use Rattle.qs_memory.specs.declared.operation.BinaryOperation.{BinaryOperation}
 use Rattle.qs_memory.specs.declared.operation.BinaryOperation.TheVariants as binaries
 use Rattle.qs_calls.specs.declared.callee.Callee.{Callee}

@@ -1,5 +1,5 @@
 -- Linear code as plain data: what its instructions and units are, without addresses and capacities.
-use Rattle.std.specs.Prelude.{ℕ, Bool, List, Option}
+use Rattle.std.specs.Prelude.{ℕ, List, Option}
 use Rattle.qs_memory.specs.Memory.{BlankTree}
 use Rattle.qs_memory.specs.declared.scalar.Scalar.{Scalar}
 use Rattle.qs_memory.specs.declared.operation.UnaryOperation.{UnaryOperation}

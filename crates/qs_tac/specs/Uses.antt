@@ -1,5 +1,5 @@
 -- The temporaries that an instruction reads, and the one that it writes.
-use Rattle.std.specs.Prelude.{ℕ, List, [], ◌∷◌, ◌++◌, Option, Some, None}
+use Rattle.std.specs.Prelude.{ℕ, List, [], ◌∷◌, ◌++◌, flat_map, Option, Some, None}
 use Rattle.qs_tac.specs.Trees.{InstructionTree, move, unary, binary, convert, member, load, store}
 use Rattle.qs_tac.specs.Trees.{copy, fill, call, jump, branch, return}
 use Rattle.qs_tac.specs.declared.operands.Operand.{Operand}
@@ -16,8 +16,7 @@ read_by (Local i) = []
 read_by (Data i) = []
 
 abbrev pub read_by_all : List Operand → List ℕ
-read_by_all [] = []
-read_by_all (o ∷ others) = read_by o ++ read_by_all others
+read_by_all = flat_map read_by
 
 abbrev pub read_by_option : Option Operand → List ℕ
 read_by_option None = []

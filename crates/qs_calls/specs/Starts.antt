@@ -20,7 +20,7 @@ pub record Signature : Type 0 where
   pub result_type : Option Scalar
 
 -- a block that is there from the beginning: a file-scope variable, or a string literal
-pub record DataBlock : Type 0 where
+pub record DataExtent : Type 0 where
   pub size : ℕ
   pub is_writable : Bool
 
@@ -28,7 +28,7 @@ pub record DataBlock : Type 0 where
 -- number of its place
 pub record Interface : Type 0 where
   pub functions : List Signature
-  pub data_blocks : List DataBlock
+  pub data_blocks : List DataExtent
 
 -- 7.21.7.6, 7.21.7.8: the functions that the environment gives have types as well
 abbrev pub signature_of : Interface → Callee → Option Signature
@@ -36,6 +36,11 @@ signature_of unit (Function f) = slice_get unit.functions f.0
 signature_of unit PutChar =
     Some (record { parameters = scalars.Int ∷ []; result_type = Some scalars.Int })
 signature_of unit GetChar = Some (record { parameters = []; result_type = Some scalars.Int })
+
+-- where there is no function there is no result
+abbrev pub result_type_of : Option Signature → Option Scalar
+result_type_of None = None
+result_type_of (Some f) = f.result_type
 
 -- ---- values of types
 
@@ -59,15 +64,15 @@ ResultIsOf m (Some s) (Some v) = IsOf m s v
 
 -- ---- memories
 
-pub record IsDataBlock (m : Memory) (block : ℕ) (d : DataBlock) : Type 0 where
+pub record IsDataExtent (m : Memory) (block : ℕ) (d : DataExtent) : Type 0 where
   pub size : (block_at m block).size ≡ d.size
   pub writable : (block_at m block).is_writable ≡ d.is_writable
 
 -- the first blocks are these data; one that was released may still not be accessed
-pub record BeginsWith (data_blocks : List DataBlock) (m : Memory) : Type 0 where
+pub record BeginsWith (data_blocks : List DataExtent) (m : Memory) : Type 0 where
   pub count : length data_blocks ≤ length m
   pub each :
-      (block : ℕ) (d : DataBlock) → slice_get data_blocks block ≡ Some d → IsDataBlock m block d
+      (block : ℕ) (d : DataExtent) → slice_get data_blocks block ≡ Some d → IsDataExtent m block d
 
 -- a sound memory that begins with the unit's data, and an input of bytes
 pub record IsReady (unit : Interface) (w : World) : Type 0 where

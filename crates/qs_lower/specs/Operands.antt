@@ -37,32 +37,32 @@ on_constant f o = constant o >>= λ n. Some (Constant (f n))
 -- ---- conversions of operands
 
 -- 6.3.1.1p2, 6.3.1.3: to `int` and to `unsigned`
-abbrev pub as_integer : Operand → Option Operand
-as_integer (Temporary t) = Some (Integer t)
-as_integer (Integer t) = Some (Integer t)
-as_integer (Constant n) = Some (Constant n)
-as_integer Null = None
-as_integer (Local i) = None
-as_integer (Data i) = None
+abbrev pub integer_operand : Operand → Option Operand
+integer_operand (Temporary t) = Some (Integer t)
+integer_operand (Integer t) = Some (Integer t)
+integer_operand (Constant n) = Some (Constant n)
+integer_operand Null = None
+integer_operand (Local i) = None
+integer_operand (Data i) = None
 
 -- 6.3.2.3: to another type of pointer
-abbrev pub as_pointer : Operand → Option Operand
-as_pointer (Temporary t) = None
-as_pointer (Integer t) = None
-as_pointer (Constant n) = None
-as_pointer Null = Some Null
-as_pointer (Local i) = Some (Local i)
-as_pointer (Data i) = Some (Data i)
+abbrev pub pointer_operand : Operand → Option Operand
+pointer_operand (Temporary t) = None
+pointer_operand (Integer t) = None
+pointer_operand (Constant n) = None
+pointer_operand Null = Some Null
+pointer_operand (Local i) = Some (Local i)
+pointer_operand (Data i) = Some (Data i)
 
 abbrev pub converted : Scalar → Operand → Option Operand
 converted scalars.Char o = on_constant (λ n. n % 2 ^ 8) o
-converted scalars.Int o = as_integer o
-converted scalars.Unsigned o = as_integer o
-converted scalars.Pointer o = as_pointer o
+converted scalars.Int o = integer_operand o
+converted scalars.Unsigned o = integer_operand o
+converted scalars.Pointer o = pointer_operand o
 
 -- 6.5.3.3
 abbrev pub unary_of : UnaryOperation → Operand → Option Operand
-unary_of (unaries.Plus s) o = as_integer o
+unary_of (unaries.Plus s) o = integer_operand o
 unary_of (unaries.Minus s) o = on_constant minus o
 unary_of (unaries.Complement s) o = on_constant complement o
 unary_of unaries.Not o = None

@@ -1,5 +1,8 @@
 -- The code of statements.
 use Rattle.std.specs.Prelude.{ℕ, ◌+◌, ◌&&◌, ◌||◌, max, Bool, true, false, if◌then◌else◌, List, [], ◌∷◌, ◌++◌, map, Option, Some, None}
+use Rattle.qs_memory.specs.Memory.{BlankTree}
+use Rattle.qs_memory.specs.declared.scalar.Scalar.{Scalar}
+use Rattle.qs_calls.specs.declared.callee.Callee.{Callee}
 use Rattle.qs_core.specs.Trees as core
 use Rattle.qs_core.specs.Trees.{CoreExprTree, CoreStmtTree, CoreStmts, no_stmts, stmt_and}
 use Rattle.qs_core.specs.declared.numbers.Target.{Target}
@@ -131,10 +134,12 @@ target_of v (targets.Temporary k) = v + k
 abbrev pub of_assign : (x t : ℕ) → ExprCode → StmtCode
 of_assign x t e = straight e.size e.used (e.into x t)
 
-abbrev pub of_store : (t : ℕ) → (instruction : (to : ExprCode) → (value : ExprCode) → InstructionTree) → ExprCode → ExprCode → StmtCode
-of_store t instruction p e =
+abbrev pub of_store : (t : ℕ) → Scalar → (to value : ExprCode) → StmtCode
+of_store t s p e =
     straight (p.base_size + size_of e + 1) (max p.base_used (p.base_own + used_by e))
-    (λ at. p.base_code t at ++ (code_of e (t + p.base_own) (at + p.base_size) ++ instruction p e ∷ []))
+    (λ at.
+    p.base_code t at
+    ++ (code_of e (t + p.base_own) (at + p.base_size) ++ store s (address_of p t) (operand_of e (t + p.base_own)) ∷ []))
 
 abbrev pub of_copy : (t size alignment : ℕ) → ExprCode → ExprCode → StmtCode
 of_copy t size alignment p q =
@@ -144,11 +149,11 @@ of_copy t size alignment p q =
     ++ (q.base_code (t + p.base_own) (at + p.base_size)
     ++ copy size alignment (address_of p t) (address_of q (t + p.base_own)) ∷ []))
 
-abbrev pub of_fill : (t : ℕ) → (instruction : InstructionTree) → ExprCode → StmtCode
-of_fill t instruction p = straight (p.base_size + 1) p.base_used (λ at. p.base_code t at ++ instruction ∷ [])
+abbrev pub of_fill : (t : ℕ) → BlankTree → ExprCode → StmtCode
+of_fill t blank p = straight (p.base_size + 1) p.base_used (λ at. p.base_code t at ++ fill blank (address_of p t) ∷ [])
 
-abbrev pub of_call : (t : ℕ) → (instruction : InstructionTree) → List ExprCode → StmtCode
-of_call t instruction es = straight (all_size es + 1) (all_used es) (λ at. all_code es t at ++ instruction ∷ [])
+abbrev pub of_call : (t : ℕ) → (x : Option ℕ) → Callee → List ExprCode → StmtCode
+of_call t x f es = straight (all_size es + 1) (all_used es) (λ at. all_code es t at ++ call x f (all_operands es t) ∷ [])
 
 abbrev pub taken_by : (variables : ℕ) → Option ℕ → Option ℕ
 taken_by v None = None
@@ -329,12 +334,10 @@ abbrev mutual
   stmt_code v t core.skip = by_way to_next
   stmt_code v t (core.seq ss) = stmts_code v t ss
   stmt_code v t (core.assign x e) = of_assign (target_of v x) t (lowered v e)
-  stmt_code v t (core.store s a b) =
-      of_store t (λ p e. store s (address_of p t) (operand_of e (t + p.base_own))) (lowered v a) (lowered v b)
+  stmt_code v t (core.store s a b) = of_store t s (lowered v a) (lowered v b)
   stmt_code v t (core.copy size alignment a b) = of_copy t size alignment (lowered v a) (lowered v b)
-  stmt_code v t (core.fill blank a) = of_fill t (fill blank (address_of (lowered v a) t)) (lowered v a)
-  stmt_code v t (core.call x f es) =
-      of_call t (call (taken_by v x) f (all_operands (map (lowered v) es) t)) (map (lowered v) es)
+  stmt_code v t (core.fill blank a) = of_fill t blank (lowered v a)
+  stmt_code v t (core.call x f es) = of_call t (taken_by v x) f (map (lowered v) es)
   stmt_code v t (core.branch e a b) = of_branch t (lowered v e) (stmt_code v t a) (stmt_code v t b)
   stmt_code v t (core.loop body step) = of_loop t (stmt_code v t body) (stmt_code v t step)
   stmt_code v t core.break = by_way to_break

@@ -102,9 +102,20 @@ tested e =
 
 abbrev pub no_code : ExprCode
 no_code = record {
-  simple = None; size = 0; into = λ x t at. []; used = 0;
-  base_size = 0; base_code = λ t at. []; base = Temporary; offset = 0; base_own = 0; base_used = 0;
-  known = None; test_size = λ met unmet. 0; test = λ met unmet t at. []; test_used = 0;
+  simple = None;
+  size = 0;
+  into = λ x t at. [];
+  used = 0;
+  base_size = 0;
+  base_code = λ t at. [];
+  base = Temporary;
+  offset = 0;
+  base_own = 0;
+  base_used = 0;
+  known = None;
+  test_size = λ met unmet. 0;
+  test = λ met unmet t at. [];
+  test_used = 0;
 }
 
 abbrev pub by_operand : Operand → ExprCode

@@ -111,7 +111,10 @@ redirected a w = record {
 abbrev pub straight : (size used : ℕ) → (code : (at : ℕ) → List InstructionTree) → StmtCode
 straight size used code = record {
   part = record { size = λ y. size + exit_size y.next; code = λ x at. code at ++ exit_code x.next; entry = entered_first };
-  used = used; way = None; ends = false; tested = None;
+  used = used;
+  way = None;
+  ends = false;
+  tested = None;
 }
 
 abbrev pub leaves : Way → Bool
@@ -122,7 +125,10 @@ leaves to_continue = true
 abbrev pub by_way : Way → StmtCode
 by_way w = record {
   part = going w;
-  used = 0; way = Some w; ends = leaves w; tested = None;
+  used = 0;
+  way = Some w;
+  ends = leaves w;
+  tested = None;
 }
 
 -- ---- assignments, stores, copies, fills, calls, returns; t is the first temporary that is free
@@ -162,13 +168,19 @@ taken_by v (Some k) = Some (v + k)
 abbrev pub of_return : (t : ℕ) → ExprCode → StmtCode
 of_return t e = record {
   part = record { size = λ y. size_of e + 1; code = λ x at. code_of e t at ++ return (Some (operand_of e t)) ∷ []; entry = entered_first };
-  used = used_by e; way = None; ends = true; tested = None;
+  used = used_by e;
+  way = None;
+  ends = true;
+  tested = None;
 }
 
 abbrev pub of_plain_return : StmtCode
 of_plain_return = record {
   part = record { size = λ y. 1; code = λ x at. return None ∷ []; entry = entered_first };
-  used = 0; way = None; ends = true; tested = None;
+  used = 0;
+  way = None;
+  ends = true;
+  tested = None;
 }
 
 -- ---- several statements
@@ -180,7 +192,10 @@ tested_behind a (Some b) = Some (record b { front = joined a b.front })
 abbrev pub of_joined : StmtCode → StmtCode → StmtCode
 of_joined a b = record {
   part = joined a.part b.part;
-  used = max a.used b.used; way = None; ends = a.ends || b.ends; tested = tested_behind a.part b.tested;
+  used = max a.used b.used;
+  way = None;
+  ends = a.ends || b.ends;
+  tested = tested_behind a.part b.tested;
 }
 
 -- what stands behind a break or a continue is never reached
@@ -323,7 +338,10 @@ loop_part t (Some d) body step = if d.is_idle && is_next step.way then body_alon
 abbrev pub of_loop : (t : ℕ) → StmtCode → StmtCode → StmtCode
 of_loop t body step = record {
   part = loop_part t body.tested body.part step;
-  used = max body.used step.used; way = None; ends = false; tested = None;
+  used = max body.used step.used;
+  way = None;
+  ends = false;
+  tested = None;
 }
 
 -- ---- statements

@@ -1,0 +1,5 @@
+pub mod SizeLaws
+pub mod StmtSizeLaws
+pub mod Real
+pub mod OperandLaws
+mod LowerExamples

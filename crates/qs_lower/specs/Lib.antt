@@ -1,0 +1,6 @@
+pub mod Exits
+pub mod Operands
+pub mod Expressions
+pub mod Statements
+pub mod Units
+pub mod Laws

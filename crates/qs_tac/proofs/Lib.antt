@@ -1,0 +1,2 @@
+pub mod RelationLaws
+mod StepExamples

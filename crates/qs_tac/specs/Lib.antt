@@ -1,0 +1,12 @@
+pub mod Trees
+pub mod TreeOf
+pub mod Uses
+pub mod Holders
+pub mod Values
+pub mod Steps
+pub mod Units
+pub mod Places
+pub mod Fits
+pub mod Sizes
+pub mod Laws
+pub mod UnitTrees

@@ -1,0 +1,49 @@
+-- The values that instructions take.
+use Rattle.std.specs.Prelude.{ℕ, ◌+◌, not, Bool, List, [], ◌∷◌, Option, Some}
+use Rattle.qs_memory.specs.Partial.{◌>>=◌}
+use Rattle.qs_memory.specs.Values.{Pointer, null, into, Value, integer, address, as_integer, as_pointer}
+use Rattle.qs_memory.specs.Integers.{compares}
+use Rattle.qs_memory.specs.Memory.{Memory}
+use Rattle.qs_memory.specs.Pointers.{member_of, truth, compares_pointers}
+use Rattle.qs_memory.specs.Operations.{on_integers, on_pointers}
+use Rattle.qs_tac.specs.Holders.{Holder}
+use Rattle.qs_tac.specs.declared.operands.Operand.{Operand}
+use Rattle.qs_tac.specs.declared.operands.Operand.TheVariants.{Temporary, Integer, Constant, Null, Local, Data}
+use Rattle.qs_tac.specs.declared.operands.Address.{Address}
+use Rattle.qs_tac.specs.declared.operands.Condition.{Condition}
+use Rattle.qs_tac.specs.declared.operands.Condition.TheVariants.{NotZero, Zero, Compare, ComparePointers}
+
+-- a function that runs: the place of its next instruction, the number of the first block of its call, and
+-- the values of its temporaries
+pub record Activation (S : Type 0) : Type 0 where
+  pub function : ℕ
+  pub at : ℕ
+  pub first_block : ℕ
+  pub held : S
+
+-- the unit's data are the first blocks of every memory. UNDEFINED 1 (6.3.2.1p2): a temporary without a
+-- value; UNDEFINED too: an integer is asked for where a pointer stands, which no typed program meets
+abbrev pub operand : {S : Type 0} → Holder S → Operand → Activation S → Option Value
+operand h (Temporary t) a = h.read a.function a.held t
+operand h (Integer t) a = h.read a.function a.held t >>= λ v. as_integer v >>= λ n. Some (integer n)
+operand h (Constant n) a = Some (integer n)
+operand h Null a = Some (address null)
+operand h (Local i) a = Some (address (into (a.first_block + i) 0))
+operand h (Data i) a = Some (address (into i 0))
+
+abbrev pub operands : {S : Type 0} → Holder S → List Operand → Activation S → Option (List Value)
+operands h [] a = Some []
+operands h (o ∷ others) a = operand h o a >>= λ v. operands h others a >>= λ vs. Some (v ∷ vs)
+
+-- 6.5.2.3: a pointer to the member at the offset
+abbrev pub pointer : {S : Type 0} → Holder S → Address → Activation S → Memory → Option Pointer
+pointer h p a m = operand h p.base a >>= λ v. as_pointer v >>= λ q. member_of m q p.offset
+
+-- 6.5.8, 6.5.9; 6.8.4.1p2
+abbrev pub holds : {S : Type 0} → Holder S → Condition → Activation S → Memory → Option Bool
+holds h (NotZero o) a m = operand h o a >>= λ v. truth m v
+holds h (Zero o) a m = operand h o a >>= λ v. truth m v >>= λ b. Some (not b)
+holds h (Compare op s o p) a m =
+    operand h o a >>= λ v. operand h p a >>= λ w. on_integers (λ x y. Some (compares op s x y)) v w
+holds h (ComparePointers op o p) a m =
+    operand h o a >>= λ v. operand h p a >>= λ w. on_pointers (compares_pointers op m) v w

@@ -1,0 +1,43 @@
+// What instructions take.
+
+use qs_memory::{Comparison, Signedness};
+
+/// A value that an instruction takes as it stands.
+#[derive(Clone, Copy, PartialEq, Eq, Debug)]
+pub enum Operand {
+    /// the value of the temporary with this number
+    Temporary(u32),
+    /// the integer in the temporary with this number, as an `int` and as an `unsigned`: both see the
+    /// same 32 bits, and a `char` is one of each (C11 6.3.1.1p2, 6.3.1.3)
+    Integer(u32),
+    /// an integer, as its 32 bits
+    Constant(u32),
+    /// a null pointer
+    Null,
+    /// a pointer to the start of the block with this number among those that the call makes
+    Local(u32),
+    /// a pointer to the start of the block with this number among the unit's data
+    Data(u32),
+}
+
+/// Where an access begins: a pointer, and so many bytes behind it (C11 6.5.2.3).
+#[derive(Clone, Copy, PartialEq, Eq, Debug)]
+pub struct Address {
+    /// the pointer
+    pub base: Operand,
+    /// the bytes
+    pub offset: u32,
+}
+
+/// When a branch is taken.
+#[derive(Clone, Copy, PartialEq, Eq, Debug)]
+pub enum Condition {
+    /// the scalar differs from 0
+    NotZero(Operand),
+    /// the scalar equals 0
+    Zero(Operand),
+    /// of two integers of this type
+    Compare(Comparison, Signedness, Operand, Operand),
+    /// of two pointers
+    ComparePointers(Comparison, Operand, Operand),
+}

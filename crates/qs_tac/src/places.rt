@@ -1,0 +1,17 @@
+// Where the values of a function stand.
+
+/// Where a value stands.
+#[derive(Clone, Copy, PartialEq, Eq, Debug)]
+pub enum Place {
+    /// in the slot with this number of the function's frame
+    Slot(u32),
+    /// in the register with this number
+    Register(u32),
+}
+
+/// A place for each temporary of a function.
+#[derive(Drop)]
+pub struct Places {
+    /// by the temporary's number
+    pub at: Vec<Place>,
+}

@@ -1,0 +1,120 @@
+// What instructions read and write.
+ghost use Rattle.std.specs.Prelude.{◌≡◌, ◌++◌, option_to_list};
+ghost use Rattle.std.specs.List.{slice_get};
+ghost use Rattle.qs_tac.specs.TreeOf.{instruction_tree};
+ghost use Rattle.qs_tac.specs.Uses.{read_by, read_by_all, read_by_option, read_by_condition, reads, writes};
+
+use crate::instruction::Instruction;
+use crate::operands::{Condition, Operand};
+
+impl Operand {
+    /// The temporary that the operand reads, if it reads one.
+    pub fn temporary(&self) -> Option<u32>
+        ensures { option_to_list result ≡ read_by self.now }
+    {
+        match self {
+            Operand::Temporary(t) => Some(*t),
+            Operand::Integer(t) => Some(*t),
+            Operand::Constant(_) => None,
+            Operand::Null => None,
+            Operand::Local(_) => None,
+            Operand::Data(_) => None,
+        }
+    }
+}
+
+fn read_by_one(a: &Operand, k: usize) -> Option<u32>
+    ensures { result ≡ slice_get (read_by a.now) k }
+{
+    if k == 0 { a.temporary() } else { None }
+}
+
+fn read_by_two(a: &Operand, b: &Operand, k: usize) -> Option<u32>
+    ensures { result ≡ slice_get (read_by a.now ++ read_by b.now) k }
+{
+    match a.temporary() {
+        Some(t) => {
+            if k == 0 {
+                Some(t)
+            } else {
+                read_by_one(b, k - 1)
+            }
+        }
+        None => read_by_one(b, k),
+    }
+}
+
+fn read_by_each(operands: &[Operand], k: usize) -> Option<u32>
+    ensures { result ≡ slice_get (read_by_all operands.now) k }
+{
+    let mut left = k;
+    for a in operands {
+        if let Some(t) = a.temporary() {
+            if left == 0 {
+                return Some(t);
+            }
+            left -= 1;
+        }
+    }
+    None
+}
+
+impl Condition {
+    /// The k-th of the temporaries that the condition reads, from 0.
+    pub fn read_at(&self, k: usize) -> Option<u32>
+        ensures { result ≡ slice_get (read_by_condition self.now) k }
+    {
+        match self {
+            Condition::NotZero(a) => read_by_one(a, k),
+            Condition::Zero(a) => read_by_one(a, k),
+            Condition::Compare(_, _, a, b) => read_by_two(a, b, k),
+            Condition::ComparePointers(_, a, b) => read_by_two(a, b, k),
+        }
+    }
+}
+
+impl Instruction {
+    /// The k-th of the temporaries that the instruction reads, from 0, in the order of its operands; one
+    /// that is read twice counts twice.
+    pub fn read_at(&self, k: usize) -> Option<u32>
+        ensures { result ≡ slice_get (reads (instruction_tree self.now)) k }
+    {
+        match self {
+            Instruction::Move(_, a) => read_by_one(a, k),
+            Instruction::Unary(_, _, a) => read_by_one(a, k),
+            Instruction::Binary(_, _, a, b) => read_by_two(a, b, k),
+            Instruction::Convert(_, _, a) => read_by_one(a, k),
+            Instruction::Member(_, p) => read_by_one(&p.base, k),
+            Instruction::Load(_, _, p) => read_by_one(&p.base, k),
+            Instruction::Store(_, p, a) => read_by_two(&p.base, a, k),
+            Instruction::Copy(_, _, p, q) => read_by_two(&p.base, &q.base, k),
+            Instruction::Fill(_, p) => read_by_one(&p.base, k),
+            Instruction::Call(_, _, arguments) => read_by_each(arguments, k),
+            Instruction::Jump(_) => None,
+            Instruction::Branch(c, _) => c.read_at(k),
+            Instruction::Return(None) => None,
+            Instruction::Return(Some(a)) => read_by_one(a, k),
+        }
+    }
+
+    /// The temporary that the instruction writes, if it writes one.
+    pub fn written(&self) -> Option<u32>
+        ensures { result ≡ writes (instruction_tree self.now) }
+    {
+        match self {
+            Instruction::Move(x, _) => Some(*x),
+            Instruction::Unary(_, x, _) => Some(*x),
+            Instruction::Binary(_, x, _, _) => Some(*x),
+            Instruction::Convert(_, x, _) => Some(*x),
+            Instruction::Member(x, _) => Some(*x),
+            Instruction::Load(_, x, _) => Some(*x),
+            Instruction::Store(_, _, _) => None,
+            Instruction::Copy(_, _, _, _) => None,
+            Instruction::Fill(_, _) => None,
+            Instruction::Call(x, _, _) => *x,
+            Instruction::Jump(_) => None,
+            Instruction::Branch(_, _) => None,
+            Instruction::Return(_) => None,
+        }
+    }
+}

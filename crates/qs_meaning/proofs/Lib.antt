@@ -22,3 +22,5 @@ mod FileVariables
 mod StructTables
 mod UnitsTyped
 mod InitialMemory
+mod TypedValues
+mod RangeLaws

@@ -5,6 +5,7 @@
 mod laws;
 
 pub use laws::{
-    calls_follow, functions_typed, initial_memory_is_sound, main_grows, runs_grow,
+    bodies_stay_in_range, calls_follow, calls_stay_in_range, expressions_have_types,
+    functions_typed, initial_memory_is_sound, main_grows, runs_grow, runs_leave_sound,
     typed_where_types, units_typed,
 };

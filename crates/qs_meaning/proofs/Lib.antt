@@ -24,3 +24,4 @@ mod UnitsTyped
 mod InitialMemory
 mod TypedValues
 mod RangeLaws
+mod StepNeeds

@@ -18,3 +18,4 @@ pub mod InitialLaws
 pub mod Interfaces
 pub mod Fits
 pub mod Ranges
+pub mod StepLaws

@@ -2,6 +2,7 @@
 ghost use Rattle.qs_meaning.specs.InitialLaws.{InitialMemoryIsSound};
 ghost use Rattle.qs_meaning.specs.Laws.{CallsFollow, MainGrows, RunsGrow};
 ghost use Rattle.qs_meaning.specs.Ranges.{BodiesStayInRange, CallsStayInRange, ExpressionsHaveTypes, RunsLeaveSound};
+ghost use Rattle.qs_meaning.specs.StepLaws.{StepsOnTypesAreDefined};
 ghost use Rattle.qs_meaning.specs.TypedLaws.{FunctionsTyped, TypedWhereTypes, UnitsTyped};
 
 /// A greater bound keeps the run of a function that has ended or is undefined, and goes on from
@@ -60,4 +61,9 @@ pub fn bodies_stay_in_range()
 /// What a run of such a unit leaves is sound, and its result is of the function's type.
 pub fn runs_leave_sound()
     ensures { RunsLeaveSound }
+{}
+
+/// On values of the types that it takes a step is undefined for one of the nine reasons alone.
+pub fn steps_on_types_are_defined()
+    ensures { StepsOnTypesAreDefined }
 {}

@@ -7,5 +7,5 @@ mod laws;
 pub use laws::{
     bodies_stay_in_range, calls_follow, calls_stay_in_range, expressions_have_types,
     functions_typed, initial_memory_is_sound, main_grows, runs_grow, runs_leave_sound,
-    typed_where_types, units_typed,
+    steps_on_types_are_defined, typed_where_types, units_typed,
 };

@@ -3,6 +3,7 @@ use Rattle.std.proofs.Common.{◌≡◌, ℕ, zero, suc, ◌+◌, ◌-◌, ◌%�
 use Rattle.std.specs.Prelude.{All}
 use Rattle.std.specs.List.{slice_get, list_all}
 use Rattle.std.proofs.lemmas.Bool.Decides.{nat_tests}
+use Rattle.std.proofs.lemmas.List.{length-map}
 use Rattle.std.proofs.lemmas.List.Elements.{All-head, All-tail}
 use Rattle.std.proofs.lemmas.Option.{slice_get-map}
 use Rattle.qs_memory.specs.Partial.{◌>>=◌}
@@ -14,7 +15,7 @@ use Rattle.qs_memory.specs.Operations.{apply_unary}
 use Rattle.qs_memory.specs.Soundness.{IsSoundPointer, ComesAfter}
 use Rattle.qs_memory.specs.declared.scalar.Scalar.{Scalar}
 use Rattle.qs_memory.specs.declared.scalar.Scalar.TheVariants as scalars
-use Rattle.qs_memory.proofs.Options.{followed}
+use Rattle.qs_memory.proofs.Options.{some_same, followed}
 use Rattle.qs_memory.proofs.BlockLaws.{after_make, after_release, after_same, after_next, blocks_are_fresh}
 use Rattle.qs_memory.proofs.StepLaws.{memory_goes_on}
 use Rattle.qs_memory.proofs.SoundLaws.{soundness_is_kept}
@@ -23,19 +24,21 @@ use Rattle.qs_events.specs.Runs.{emit, short, given, has_ended, ending_of, Left}
 use Rattle.qs_calls.specs.World.{World, with_memory, RootRun, Return, leaves, Environment, no_values, with_value}
 use Rattle.qs_calls.specs.Calls.{CallsOf, take_byte, get_char, put_char, invoke, Entered, pass}
 use Rattle.qs_calls.specs.Relations.{Relation, Keeps}
-use Rattle.qs_calls.specs.Starts.{Signature, Interface, signature_of, result_type_of, IsOf, AreOf, ResultIsOf, IsReady, Takes, IsReturn}
+use Rattle.qs_calls.specs.Starts.{Signature, DataExtent, Interface, IsDataExtent, signature_of, result_type_of, IsOf, AreOf, ResultIsOf, IsReady, Takes, IsReturn}
 use Rattle.qs_calls.proofs.StartLaws.{is_of_later, are_of_later, result_is_of_later, ready_later}
 use Rattle.qs_calls.specs.declared.callee.Callee.{Callee}
 use Rattle.qs_calls.specs.declared.callee.Callee.TheVariants as callees
 use Rattle.qs_calls.specs.declared.parameter.Parameter.{Parameter}
 use Rattle.qs_calls.specs.declared.parameter.Parameter.TheVariants.{Plain, Placed}
-use Rattle.qs_meaning.specs.Typed.{Conversion, unchanged, Object, local, static, Expr, constant, value, pointer_to, member, called, stepped_after, unary, cast, binary, logical_and, logical_or, conditional, assigned, sequence, Lvalue, variable, object, Arguments, no_arguments, argument_and, Assignment, set, update, Effect, nothing, discard, assign, perform, copy, fill, in_order, Stmt, evaluate, block, branch, while_loop, do_loop, for_loop, break, continue, return, return_nothing, Stmts, no_stmts, stmt_and, Function}
-use Rattle.qs_meaning.specs.Interfaces.{types_of, signature, interface_of}
+use Rattle.qs_meaning.specs.Typed.{Conversion, unchanged, Object, local, static, Expr, constant, value, pointer_to, member, called, stepped_after, unary, cast, binary, logical_and, logical_or, conditional, assigned, sequence, Lvalue, variable, object, Arguments, no_arguments, argument_and, Assignment, set, update, Effect, nothing, discard, assign, perform, copy, fill, in_order, Stmt, evaluate, block, branch, while_loop, do_loop, for_loop, break, continue, return, return_nothing, Stmts, no_stmts, stmt_and, Function, StaticBlock}
+use Rattle.qs_meaning.specs.Interfaces.{types_of, signature, data_extent, interface_of}
 use Rattle.qs_meaning.specs.Fits.{type_after, assigned_type, type_of, is_pointer, is_type, conversion_fits, is_null, takes_operands, object_there, taken, becomes, result_fits, expr_fits, lvalue_fits, arguments_fit, assignment_fits, effect_fits, returned_fits, option_fits, stmt_fits, stmts_fit, place_fits, parameters_placed, end_fits, function_fits}
 use Rattle.qs_meaning.specs.States.{Next, Here, choose, test, convert_by, pointer_at, Place, in_variable, in_object, read, write}
 use Rattle.qs_meaning.specs.Meaning.{operation_value, updated_value, step_amount, expression, lvalue, arguments, assignment, effect, Targets, in_loop, turns, condition, for_condition, statement, statements}
 use Rattle.qs_meaning.specs.Runs.{result_at_end, calls_within}
-use Rattle.qs_meaning.specs.Ranges.{VariablesAreOf, IsMoment, NextInRange, ValueInRange, ReturnsInRange, TargetsInRange, result_at, CallsInRange, ExpressionsHaveTypes, CallsStayInRange, BodiesStayInRange, RunsLeaveSound}
+use Rattle.qs_meaning.specs.Ranges.{VariablesAreOf, IsMoment, NextInRange, ValueInRange, ReturnsInRange, TargetsInRange, result_at, CallsInRange, ExpressionsHaveTypes, CallsStayInRange, BodiesStayInRange, RunsLeaveSound, InitialMemoryIsReady}
+use Rattle.qs_meaning.specs.Units.{block_of}
+use Rattle.qs_meaning.proofs.InitialMemory.{initial_memory_is_sound}
 use Rattle.qs_meaning.proofs.TypedValues.{both_hold, scalar_same, type_is, all_at, number_is_of, converted_is_of, unary_is_of, operation_is_of, updated_is_of, variables_later, no_values_are_of, with_value_are_of, moment_later, moment_stepped, moment_assigned, now, onward_from, PlaceIsOf, read_is_of}
 
 module _ (R : Relation) (keeps : Keeps R) (shorts : R short short) (i : Interface) where
@@ -507,3 +510,22 @@ runs_leave_sound u root xs w n left fits may is =
   where
     ended_same : (x y : Left Value Memory) → has_ended x ≡ has_ended y → x ≡ y
     ended_same x y h = cc
+
+-- ---- the memory in which a run of main begins
+
+extents_there : (bs : List StaticBlock) (b : ℕ) (d : DataExtent) → slice_get (map data_extent bs) b ≡ Some d → IsDataExtent (map block_of bs) b d
+extents_there [] b d h = cc
+extents_there (x ∷ xs) zero d h =
+    let same = some_same (data_extent x) d h in
+    subst (λ (z : DataExtent). IsDataExtent (map block_of (x ∷ xs)) zero z) same (record { size = refl; writable = refl })
+extents_there (x ∷ xs) (suc b) d h = let r = extents_there xs b d h in record { size = r.size; writable = r.writable }
+
+pub initial_memory_is_ready : InitialMemoryIsReady
+initial_memory_is_ready unit u input bytes typed are = record {
+  sound = initial_memory_is_sound unit u bytes typed;
+  data_blocks = record {
+    count = let m = length-map u.blocks data_extent in let n = length-map u.blocks block_of in omega arith;
+    each = extents_there u.blocks;
+  };
+  input = are;
+}

@@ -1,6 +1,7 @@
 -- Values of their types, at every moment of a run of a unit whose tree fits.
-use Rattle.std.specs.Prelude.{◌≡◌, ℕ, ◌+◌, ◌≤◌, true, List, length, Option, Some}
+use Rattle.std.specs.Prelude.{◌≡◌, ℕ, ◌+◌, ◌<◌, All, ◌≤◌, true, List, length, Option, Some}
 use Rattle.std.specs.List.{slice_get}
+use Rattle.qs_syntax.specs.Trees.{UnitTree}
 use Rattle.qs_memory.specs.Values.{Value}
 use Rattle.qs_memory.specs.Memory.{Memory}
 use Rattle.qs_memory.specs.Soundness.{ComesAfter}
@@ -15,7 +16,9 @@ use Rattle.qs_meaning.specs.Interfaces.{interface_of}
 use Rattle.qs_meaning.specs.Fits.{type_of, expr_fits, stmts_fit, program_fits}
 use Rattle.qs_meaning.specs.States.{Next, Here}
 use Rattle.qs_meaning.specs.Meaning.{Targets, expression, statements}
-use Rattle.qs_meaning.specs.Runs.{calls_within, run_of}
+use Rattle.qs_meaning.specs.Runs.{calls_within, run_of, start_world}
+use Rattle.qs_meaning.specs.Units.{typed_of}
+use Rattle.qs_meaning.specs.InitialLaws.{texts_are_bytes}
 
 -- ---- moments
 
@@ -95,3 +98,9 @@ RunsLeaveSound =
     (u : TypedProgram) (root : ℕ) (xs : List Value) (w : World) (n : ℕ) (left : Left Value Memory)
     → program_fits u ≡ true → MayStart (interface_of u) root xs w → ending_of (run_of u root xs w n) ≡ has_ended left
     → IsReturn (interface_of u) (result_at (interface_of u) root) w.memory left.result (record { memory = left.memory; input = left.input })
+
+-- the memory in which a run of main begins is such a memory
+abbrev pub InitialMemoryIsReady : Type 0
+InitialMemoryIsReady =
+    (unit : UnitTree) (u : TypedProgram) (input : List ℕ) → texts_are_bytes unit ≡ true → typed_of unit ≡ Some u
+    → All (λ byte. byte < 256) input → IsReady (interface_of u) (start_world u input)

@@ -1,7 +1,8 @@
 // The laws of the runs of a source. Each is the contract of an empty function.
 ghost use Rattle.qs_meaning.specs.InitialLaws.{InitialMemoryIsSound};
 ghost use Rattle.qs_meaning.specs.Laws.{CallsFollow, MainGrows, RunsGrow};
-ghost use Rattle.qs_meaning.specs.Ranges.{BodiesStayInRange, CallsStayInRange, ExpressionsHaveTypes, RunsLeaveSound};
+ghost use Rattle.qs_meaning.specs.Ranges.{BodiesStayInRange, CallsStayInRange, ExpressionsHaveTypes};
+ghost use Rattle.qs_meaning.specs.Ranges.{InitialMemoryIsReady, RunsLeaveSound};
 ghost use Rattle.qs_meaning.specs.StepLaws.{StepsOnTypesAreDefined};
 ghost use Rattle.qs_meaning.specs.TypedLaws.{FunctionsTyped, TypedWhereTypes, UnitsTyped};
 
@@ -66,4 +67,9 @@ pub fn runs_leave_sound()
 /// On values of the types that it takes a step is undefined for one of the nine reasons alone.
 pub fn steps_on_types_are_defined()
     ensures { StepsOnTypesAreDefined }
+{}
+
+/// A run of `main` begins in a memory from which it may start, on every input of bytes.
+pub fn initial_memory_is_ready()
+    ensures { InitialMemoryIsReady }
 {}

@@ -25,3 +25,4 @@ mod InitialMemory
 mod TypedValues
 mod RangeLaws
 mod StepNeeds
+mod FitExamples

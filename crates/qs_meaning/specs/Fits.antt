@@ -88,6 +88,14 @@ takes_operands (operations.Move direction s element) t u = is_pointer t && same_
 takes_operands (operations.Difference element) t u = is_pointer t && is_pointer u
 takes_operands (operations.ComparePointers op) t u = is_pointer t && is_pointer u
 
+-- 6.5.2.4p2: the amount 1 of a step, which is a value of each integer type
+abbrev pub amount_type : BinaryOperation → Scalar
+amount_type (operations.Arithmetic op s) = integer_type s
+amount_type (operations.Compare op s) = integer_type s
+amount_type (operations.Move direction s element) = integer_type s
+amount_type (operations.Difference element) = scalars.Int
+amount_type (operations.ComparePointers op) = scalars.Int
+
 abbrev pub takes_in_order : Order → BinaryOperation → (left right : Scalar) → Bool
 takes_in_order as_written operation t u = takes_operands operation t u
 takes_in_order exchanged operation t u = takes_operands operation u t
@@ -128,7 +136,7 @@ abbrev mutual
   expr_fits i g (member offset a) = expr_fits i g a && is_pointer (type_of a)
   expr_fits i g (called s f es) = arguments_fit i g (taken (signature_of i f)) es && result_fits (signature_of i f) s
   expr_fits i g (stepped_after s l operation left back) =
-      lvalue_fits i g s l && (conversion_fits left s false && (takes_operands operation (type_after left s) scalars.Int
+      lvalue_fits i g s l && (conversion_fits left s false && (takes_operands operation (type_after left s) (amount_type operation)
       && (conversion_fits back (binary_type operation) false && same_scalar (type_after back (binary_type operation)) s)))
   expr_fits i g (unary operation c a) =
       expr_fits i g a && (conversion_fits c (type_of a) (is_null a) && takes_operand operation (type_after c (type_of a)))

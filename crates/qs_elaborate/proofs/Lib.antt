@@ -4,7 +4,12 @@ mod StatementExamples
 mod OutlineExamples
 mod Options
 mod Lists
+mod Late
 mod Values
 mod Quiet
 mod Gives
 mod Branches
+mod Writes
+mod Expressions
+mod Statements
+mod Units

@@ -1,1 +1,3 @@
 pub mod RelationLaws
+pub mod StartLaws
+mod CallExamples

@@ -1,3 +1,4 @@
 pub mod World
 pub mod Calls
 pub mod Relations
+pub mod Starts

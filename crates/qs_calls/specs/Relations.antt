@@ -1,5 +1,5 @@
--- Relations of runs that events keep. A meaning by continuations keeps each of them; that runs grow with their bound, and that a call is
--- the call alone and then what follows, are instances.
+-- Relations of runs that events keep. A meaning by continuations keeps each of them; that runs grow
+-- with their bound, and that a call is the call alone and then what follows, are instances.
 use Rattle.std.specs.Prelude.{ℕ, List, Option}
 use Rattle.qs_memory.specs.Values.{Value}
 use Rattle.qs_events.specs.Events.{Event}
@@ -20,7 +20,11 @@ ReturnsRelated R k j = (result : Option Value) (w : World) → R (k result w) (j
 
 -- calls keep it, whatever follows them
 abbrev pub CallsRelated : Relation → CallsOf → CallsOf → Type 0
-CallsRelated R c d = (f : ℕ) (arguments : List Value) (k j : Return) → ReturnsRelated R k j → (w : World) → R (c f arguments k w) (d f arguments j w)
+CallsRelated R c d =
+    (f : ℕ) (arguments : List Value) (k j : Return) → ReturnsRelated R k j
+    → (w : World) → R (c f arguments k w) (d f arguments j w)
 
 abbrev pub BodiesRelated : Relation → Body → Body → Type 0
-BodiesRelated R b c = (first : ℕ) (k j : Return) → ReturnsRelated R k j → (e : Environment) (w : World) → R (b first k e w) (c first j e w)
+BodiesRelated R b c =
+    (first : ℕ) (k j : Return) → ReturnsRelated R k j
+    → (e : Environment) (w : World) → R (b first k e w) (c first j e w)

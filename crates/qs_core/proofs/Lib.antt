@@ -1,7 +1,9 @@
 pub mod RelationLaws
+pub mod FitLaws
 pub mod TypeLaws
 pub mod RangeLaws
 pub mod InitialLaws
 pub mod OutlineLaws
+mod FitExamples
 mod OutlineExamples
 mod RunExamples

@@ -1,5 +1,5 @@
 -- Outlines by hand.
-use Rattle.std.proofs.Common.{◌≡◌, ℕ, Bool, true, List, [], ◌∷◌, ◌++◌, codes, decimal, Option, Some, None, refl, ap, ◌∙◌, arith}
+use Rattle.std.proofs.Common.{◌≡◌, ℕ, true, List, [], ◌∷◌, ◌++◌, codes, decimal, Some, None, refl, ap, ◌∙◌, arith}
 use Rattle.std.proofs.lemmas.Fmt.{decimal_digit, decimal_step}
 use Rattle.qs_memory.specs.declared.scalar.Scalar.TheVariants as scalars
 use Rattle.qs_memory.specs.declared.operation.Signedness.TheVariants.{Signed, Unsigned}
@@ -7,10 +7,11 @@ use Rattle.qs_memory.specs.declared.operation.Arithmetic.TheVariants as arithmet
 use Rattle.qs_memory.specs.declared.operation.Comparison.TheVariants as comparisons
 use Rattle.qs_memory.specs.declared.operation.UnaryOperation.TheVariants as unaries
 use Rattle.qs_memory.specs.declared.operation.BinaryOperation.TheVariants as binaries
-use Rattle.qs_calls.specs.declared.callee.Callee.TheVariants.{Function, PutChar, GetChar}
-use Rattle.qs_calls.specs.declared.parameter.Parameter.TheVariants.{Plain, Placed}
-use Rattle.qs_core.specs.declared.places.Target.TheVariants as targets
-use Rattle.qs_core.specs.Trees.{CoreExprTree, literal, null_pointer, variable, temporary, address_of, load, member, unary, binary, conversion, conjunction, disjunction, choice, CoreStmtTree, skip, seq, assign, store, copy, fill, call, branch, loop, break, continue, return, CoreStmts, no_stmts, stmt_and, stmts_of, CoreFunctionTree, CoreUnitTree}
+use Rattle.qs_calls.specs.declared.callee.Callee.TheVariants.{Function}
+use Rattle.qs_calls.specs.declared.parameter.Parameter.TheVariants.{Plain}
+use Rattle.qs_base.specs.Names.{is_name}
+use Rattle.qs_base.specs.Keywords.{is_keyword, keyword_of}
+use Rattle.qs_core.specs.Trees.{CoreExprTree, literal, null_pointer, variable, temporary, load, unary, binary, conversion, logical_and, logical_or, conditional, skip, call, branch, return, stmts_of, CoreFunctionTree, CoreUnitTree}
 use Rattle.qs_core.specs.Fits.{unit_fits}
 use Rattle.qs_core.specs.Terms.{told_term, told_condition}
 use Rattle.qs_core.specs.Outline.{outline}
@@ -80,6 +81,7 @@ abbrev pub whole : CoreUnitTree
 whole = record { functions = f ∷ main ∷ []; main = 1; data_blocks = [] }
 
 it_fits : unit_fits whole ≡ true
+unfolding is_name is_keyword keyword_of
 it_fits = refl
 
 its_outline :
@@ -153,14 +155,14 @@ greater = simp d3 refl
 at_least : told_condition f (binary (binaries.Compare comparisons.GreaterOrEqual Unsigned) n (number 3)) ≡ codes "(le 3 n)"
 at_least = simp d3 refl
 
-both_hold : told_condition f (conjunction n (unary unaries.Not (binary (binaries.Compare comparisons.NotEqual Unsigned) n (number 3)))) ≡ codes "(and (ne n 0) (not (ne n 3)))"
+both_hold : told_condition f (logical_and n (unary unaries.Not (binary (binaries.Compare comparisons.NotEqual Unsigned) n (number 3)))) ≡ codes "(and (ne n 0) (not (ne n 3)))"
 both_hold = simp (d0, d3) refl
 
-one_without : told_condition f (disjunction n (load scalars.Int null_pointer)) ≡ codes "?"
+one_without : told_condition f (logical_or n (load scalars.Int null_pointer)) ≡ codes "?"
 one_without = refl
 
 a_compared_comparison : told_condition f (binary (binaries.Compare comparisons.Equal Signed) (binary (binaries.Compare comparisons.Less Unsigned) n (number 3)) (literal scalars.Int 1)) ≡ codes "?"
 a_compared_comparison = refl
 
-a_choice : told_condition f (choice n n n) ≡ codes "?"
+a_choice : told_condition f (conditional n n n) ≡ codes "?"
 a_choice = refl

@@ -1,5 +1,5 @@
 -- The count of a list of statements.
-use Rattle.std.proofs.Common.{◌≡◌, ℕ, ◌+◌, List, [], ◌∷◌, length, map, refl, ap, ◌∙◌, arith}
+use Rattle.std.proofs.Common.{◌≡◌, ◌+◌, List, [], ◌∷◌, length, map, refl, ap, ◌∙◌, arith}
 use Rattle.qs_core.specs.Trees.{stmts_of}
 use Rattle.qs_core.specs.TreeOf.{core_stmt}
 use Rattle.qs_core.specs.Outline.{count_of}

@@ -1,21 +1,23 @@
 -- Runs of small units, computed from the definition.
-use Rattle.std.proofs.Common.{◌≡◌, ℕ, Bool, true, false, List, [], ◌∷◌, codes, Option, Some, None, refl}
+use Rattle.std.proofs.Common.{◌≡◌, ℕ, true, false, List, [], ◌∷◌, codes, Option, Some, None, refl}
 use Rattle.qs_memory.specs.Values.{Value, integer, address}
 use Rattle.qs_memory.specs.Memory.{Memory, zeros}
 use Rattle.qs_memory.specs.declared.scalar.Scalar.TheVariants as scalars
-use Rattle.qs_memory.specs.declared.operation.Signedness.TheVariants.{Signed, Unsigned}
-use Rattle.qs_memory.specs.declared.operation.Direction.TheVariants.{Up, Down}
+use Rattle.qs_memory.specs.declared.operation.Signedness.TheVariants.{Signed}
+use Rattle.qs_memory.specs.declared.operation.Direction.TheVariants.{Up}
 use Rattle.qs_memory.specs.declared.operation.Comparison.TheVariants as comparisons
 use Rattle.qs_memory.specs.declared.operation.BinaryOperation.TheVariants as binaries
-use Rattle.qs_events.specs.Events.{Event, Calls, Returns, Takes, TakesEnd, Puts}
-use Rattle.qs_events.specs.Runs.{Run, events_of, Ending, has_ended, is_undefined, is_short, ending_of, Left}
+use Rattle.qs_events.specs.Events.{Calls, Returns, Takes, TakesEnd, Puts}
+use Rattle.qs_events.specs.Runs.{emit, undefined, events_of, Ending, has_ended, is_undefined, is_short, ending_of, Left}
 use Rattle.qs_events.specs.Weights.{run_weight}
 use Rattle.qs_calls.specs.World.{RootRun}
 use Rattle.qs_calls.specs.declared.callee.Callee.TheVariants.{Function, PutChar, GetChar}
-use Rattle.qs_core.specs.declared.places.Place.TheVariants.{Local, Data}
-use Rattle.qs_core.specs.declared.places.Target.TheVariants as targets
-use Rattle.qs_core.specs.Trees.{CoreExprTree, literal, variable, temporary, address_of, load, binary, CoreStmtTree, skip, seq, assign, store, fill, call, branch, loop, break, return, stmts_of, bytes, CoreFunctionTree, DataBlockTree, CoreUnitTree}
-use Rattle.qs_core.specs.Units.{main_run}
+use Rattle.qs_core.specs.declared.numbers.BlockId.TheVariants.{Local, Data}
+use Rattle.qs_core.specs.declared.numbers.Target.TheVariants as targets
+use Rattle.qs_base.specs.Names.{is_name}
+use Rattle.qs_base.specs.Keywords.{is_keyword, keyword_of}
+use Rattle.qs_core.specs.Trees.{CoreExprTree, literal, variable, temporary, address_of, load, binary, CoreStmtTree, skip, seq, assign, store, fill, call, branch, loop, break, return, stmts_of, bytes, CoreFunctionTree, CoreUnitTree}
+use Rattle.qs_core.specs.Units.{core_run, main_run}
 use Rattle.qs_core.specs.Fits.{unit_fits}
 use Rattle.qs_core.proofs.OutlineExamples.{whole}
 
@@ -51,7 +53,18 @@ calls_before_the_bound = refl
 recursion_weighs : run_weight (λ f. 16) (main_run whole (integer 2 ∷ []) [] 4) ≡ 64
 recursion_weighs = refl
 
--- ---- one main, with one `int` variable c, one temporary, a block of 8 bytes and the text "A"
+-- ---- a main with one `int` variable c, one temporary, a block of 8 bytes and the text "A", and a function that ends without its result
+
+abbrev quiet : CoreFunctionTree
+quiet = record {
+  name = codes "quiet";
+  parameters = [];
+  variables = [];
+  temporaries = [];
+  blocks = [];
+  result_type = Some scalars.Int;
+  body = stmts_of [];
+}
 
 abbrev main_with : List CoreStmtTree → CoreUnitTree
 main_with body = record {
@@ -63,7 +76,7 @@ main_with body = record {
     blocks = 8 ∷ [];
     result_type = Some scalars.Int;
     body = stmts_of body;
-  } ∷ [];
+  } ∷ quiet ∷ [];
   main = 0;
   data_blocks = record { is_writable = false; pieces = bytes (65 ∷ 0 ∷ []) ∷ [] } ∷ [];
 }
@@ -92,6 +105,7 @@ copies = main_with (
     ∷ [])
 
 it_fits : unit_fits copies ≡ true
+unfolding is_name is_keyword keyword_of
 it_fits = refl
 
 input_is_copied : events_of (main_run copies [] (104 ∷ 105 ∷ []) 3) ≡ Calls 0 ∷ Takes 104 ∷ Puts 104 ∷ Takes 105 ∷ Puts 105 ∷ TakesEnd ∷ Returns 0 ∷ []
@@ -125,8 +139,8 @@ a_text_is_not_written = refl
 an_unset_variable : end_of (main_run (main_with (return (Some c) ∷ [])) [] [] 1) ≡ is_undefined
 an_unset_variable = refl
 
--- main calls itself, and takes the result of a call that ends without one: the event of the return comes first
-no_result_is_used : events_of (main_run (main_with (branch (load scalars.Char (address_of (Data 0))) (seq (stmts_of [])) skip ∷ call (Some 0) (Function (record { 0 = 1 })) [] ∷ return (Some (int 0)) ∷ [])) [] [] 2) ≡ Calls 0 ∷ Calls 1 ∷ Returns 1 ∷ []
+-- the event of the return comes first
+no_result_is_used : events_of (main_run (main_with (call (Some 0) (Function (record { 0 = 1 })) [] ∷ return (Some (int 0)) ∷ [])) [] [] 2) ≡ Calls 0 ∷ Calls 1 ∷ Returns 1 ∷ []
 no_result_is_used = refl
 
 no_result_is_undefined : end_of (main_run (main_with (call (Some 0) (Function (record { 0 = 1 })) [] ∷ return (Some (int 0)) ∷ [])) [] [] 2) ≡ is_undefined
@@ -134,3 +148,12 @@ no_result_is_undefined = refl
 
 a_result_that_nobody_uses : end_of (main_run (main_with (call None (Function (record { 0 = 1 })) [] ∷ return (Some (int 0)) ∷ [])) [] [] 2) ≡ has_ended (Some 0)
 a_result_that_nobody_uses = refl
+
+-- ---- roots
+
+-- no function has the number 2
+an_unknown_root : core_run copies 2 [] (record { memory = []; input = [] }) 1 ≡ undefined
+an_unknown_root = refl
+
+a_surplus_argument : core_run copies 1 (integer 1 ∷ []) (record { memory = []; input = [] }) 1 ≡ emit (Calls 1) undefined
+a_surplus_argument = refl

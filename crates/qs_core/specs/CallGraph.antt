@@ -1,9 +1,9 @@
 -- Which functions call which.
-use Rattle.std.specs.Prelude.{◌≡◌, ℕ, ◌<◌, Bool, false, List, [], ◌∷◌, ◌++◌, length, Contains, Option}
+use Rattle.std.specs.Prelude.{◌≡◌, ℕ, ◌<◌, Bool, false, List, [], ◌∷◌, ◌++◌, length, Contains, Option, Some, None}
+use Rattle.std.specs.List.{slice_get}
 use Rattle.qs_calls.specs.declared.callee.Callee.{Callee}
 use Rattle.qs_calls.specs.declared.callee.Callee.TheVariants.{Function, PutChar, GetChar}
-use Rattle.qs_core.specs.Trees.{CoreStmtTree, skip, seq, assign, store, copy, fill, call, branch, loop, break, continue, return, CoreStmts, no_stmts, stmt_and, CoreUnitTree}
-use Rattle.qs_core.specs.Units.{function_at}
+use Rattle.qs_core.specs.Trees.{CoreStmtTree, skip, seq, assign, store, copy, fill, call, branch, loop, break, continue, return, CoreStmts, no_stmts, stmt_and, CoreFunctionTree, CoreUnitTree}
 
 -- the functions with a body that a statement calls, in the order of the text
 abbrev pub callee : Callee → List ℕ
@@ -30,9 +30,13 @@ abbrev mutual
   all_callees no_stmts = []
   all_callees (stmt_and s ss) = callees s ++ all_callees ss
 
+abbrev pub callees_of : Option CoreFunctionTree → List ℕ
+callees_of None = []
+callees_of (Some f) = all_callees f.body
+
 -- f calls g
 abbrev pub Calls : CoreUnitTree → (f g : ℕ) → Type 0
-Calls u f g = Contains (all_callees (function_at u f).body) g
+Calls u f g = Contains (callees_of (slice_get u.functions f)) g
 
 -- calls lead from one function to the other, or the two are the same
 pub data Leads (u : CoreUnitTree) : (f g : ℕ) → Type 0 where

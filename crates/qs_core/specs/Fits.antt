@@ -1,86 +1,59 @@
--- What holds of every unit of core: numbers are below their counts, types agree, breaks and continues stand in loops, and the temporary that
--- takes a call's result occurs in none of its arguments.
-use Rattle.std.specs.Prelude.{ℕ, ◌+◌, ◌==◌, ◌&&◌, ◌||◌, not, nat_lt, nat_le, Bool, true, false, List, [], ◌∷◌, length, map, Option, Some, None, option_map}
+-- What holds of every unit of core: numbers are below their counts, operations are on operands of
+-- the types that they take, breaks and continues stand where there is a loop for them, and the
+-- temporary that takes a call's result occurs in none of its arguments.
+use Rattle.std.specs.Prelude.{ℕ, ◌+◌, ◌==◌, ◌&&◌, ◌||◌, not, nat_lt, nat_le, Bool, true, false, List, [], ◌∷◌, length, map}
+use Rattle.std.specs.Prelude.{Option, Some, None, codes, bytes_eq}
 use Rattle.std.specs.List.{slice_get, list_all}
-use Rattle.qs_memory.specs.Values.{Value, integer, width, has_type}
-use Rattle.qs_memory.specs.Memory.{BlankTree}
+use Rattle.qs_base.specs.Names.{is_name}
+use Rattle.qs_memory.specs.Values.{integer, width, has_type}
 use Rattle.qs_memory.specs.declared.scalar.Scalar.{Scalar}
 use Rattle.qs_memory.specs.declared.scalar.Scalar.TheVariants as scalars
-use Rattle.qs_calls.specs.declared.callee.Callee.{Callee}
-use Rattle.qs_calls.specs.declared.callee.Callee.TheVariants.{Function, PutChar, GetChar}
+use Rattle.qs_calls.specs.Starts.{Signature, signature_of}
 use Rattle.qs_calls.specs.declared.parameter.Parameter.{Parameter}
 use Rattle.qs_calls.specs.declared.parameter.Parameter.TheVariants.{Plain, Placed}
-use Rattle.qs_core.specs.declared.places.Place.{Place}
-use Rattle.qs_core.specs.declared.places.Place.TheVariants.{Local, Data}
-use Rattle.qs_core.specs.declared.places.Target.{Target}
-use Rattle.qs_core.specs.declared.places.Target.TheVariants as targets
-use Rattle.qs_core.specs.Trees.{CoreExprTree, literal, null_pointer, variable, temporary, address_of, load, member, unary, binary, conversion, conjunction, disjunction, choice, CoreStmtTree, skip, seq, assign, store, copy, fill, call, branch, loop, break, continue, return, CoreStmts, no_stmts, stmt_and, CoreParameterTree, CoreFunctionTree, PieceTree, blank, bytes, pointer, DataBlockTree, CoreUnitTree}
+use Rattle.qs_core.specs.declared.numbers.BlockId.{BlockId}
+use Rattle.qs_core.specs.declared.numbers.BlockId.TheVariants.{Local, Data}
+use Rattle.qs_core.specs.Trees.{CoreExprTree, literal, null_pointer, variable, temporary, address_of, load, member}
+use Rattle.qs_core.specs.Trees.{unary, binary, conversion, logical_and, logical_or, conditional}
+use Rattle.qs_core.specs.Trees.{CoreStmtTree, skip, seq, assign, store, copy, fill, call, branch, loop, break, continue, return}
+use Rattle.qs_core.specs.Trees.{CoreStmts, no_stmts, stmt_and, CoreParameterTree, CoreVariableTree, CoreFunctionTree}
+use Rattle.qs_core.specs.Trees.{PieceTree, blank, bytes, pointer, DataBlockTree, CoreUnitTree}
 use Rattle.qs_core.specs.Expressions.{type_of}
-use Rattle.qs_core.specs.Units.{function_at, data_block}
-
--- ---- types
-
-abbrev pub same_scalar : Scalar → Scalar → Bool
-same_scalar scalars.Char scalars.Char = true
-same_scalar scalars.Char scalars.Int = false
-same_scalar scalars.Char scalars.Unsigned = false
-same_scalar scalars.Char scalars.Pointer = false
-same_scalar scalars.Int scalars.Char = false
-same_scalar scalars.Int scalars.Int = true
-same_scalar scalars.Int scalars.Unsigned = false
-same_scalar scalars.Int scalars.Pointer = false
-same_scalar scalars.Unsigned scalars.Char = false
-same_scalar scalars.Unsigned scalars.Int = false
-same_scalar scalars.Unsigned scalars.Unsigned = true
-same_scalar scalars.Unsigned scalars.Pointer = false
-same_scalar scalars.Pointer scalars.Char = false
-same_scalar scalars.Pointer scalars.Int = false
-same_scalar scalars.Pointer scalars.Unsigned = false
-same_scalar scalars.Pointer scalars.Pointer = true
-
--- there is a type, and it is this one
-abbrev pub is_type : Option Scalar → Scalar → Bool
-is_type None s = false
-is_type (Some t) s = same_scalar t s
-
-abbrev pub variable_type : CoreFunctionTree → ℕ → Option Scalar
-variable_type f x = option_map (λ v. v.scalar) (slice_get f.variables x)
-
-abbrev pub temporary_type : CoreFunctionTree → ℕ → Option Scalar
-temporary_type f k = slice_get f.temporaries k
-
-abbrev pub target_type : CoreFunctionTree → Target → Option Scalar
-target_type f (targets.Variable x) = variable_type f x
-target_type f (targets.Temporary k) = temporary_type f k
-
-abbrev pub parameter_type : CoreFunctionTree → Parameter → Option Scalar
-parameter_type f (Plain x) = variable_type f x
-parameter_type f (Placed i s) = Some s
+use Rattle.qs_core.specs.Units.{data_block}
+use Rattle.qs_core.specs.Scalars.{same_scalar, same_scalars, is_type, is_pointer, is_promoted}
+use Rattle.qs_core.specs.Operands.{unary_takes, binary_takes, conversion_takes}
+use Rattle.qs_core.specs.Interfaces.{variable_type, temporary_type, target_type, parameter_types, interface_of}
 
 -- ---- expressions
 
-abbrev pub place_fits : CoreUnitTree → CoreFunctionTree → Place → Bool
-place_fits u f (Local i) = nat_lt i (length f.blocks)
-place_fits u f (Data i) = nat_lt i (length u.data_blocks)
+abbrev pub block_fits : CoreUnitTree → CoreFunctionTree → BlockId → Bool
+block_fits u f (Local i) = nat_lt i (length f.blocks)
+block_fits u f (Data i) = nat_lt i (length u.data_blocks)
 
 abbrev pub expr_fits : CoreUnitTree → CoreFunctionTree → CoreExprTree → Bool
 expr_fits u f (literal s n) = has_type s (integer n)
 expr_fits u f null_pointer = true
 expr_fits u f (variable s x) = is_type (variable_type f x) s
 expr_fits u f (temporary s k) = is_type (temporary_type f k) s
-expr_fits u f (address_of place) = place_fits u f place
-expr_fits u f (load s a) = expr_fits u f a
-expr_fits u f (member offset a) = expr_fits u f a
-expr_fits u f (unary op a) = expr_fits u f a
-expr_fits u f (binary op a b) = expr_fits u f a && expr_fits u f b
-expr_fits u f (conversion s a) = expr_fits u f a
-expr_fits u f (conjunction a b) = expr_fits u f a && expr_fits u f b
-expr_fits u f (disjunction a b) = expr_fits u f a && expr_fits u f b
-expr_fits u f (choice c a b) = expr_fits u f c && expr_fits u f a && expr_fits u f b && same_scalar (type_of a) (type_of b)
+expr_fits u f (address_of b) = block_fits u f b
+expr_fits u f (load s a) = expr_fits u f a && is_pointer (type_of a)
+expr_fits u f (member offset a) = expr_fits u f a && is_pointer (type_of a)
+expr_fits u f (unary op a) = expr_fits u f a && unary_takes op (type_of a)
+expr_fits u f (binary op a b) =
+    expr_fits u f a && expr_fits u f b && binary_takes op (type_of a) (type_of b)
+expr_fits u f (conversion s a) = expr_fits u f a && conversion_takes s (type_of a)
+expr_fits u f (logical_and a b) = expr_fits u f a && expr_fits u f b
+expr_fits u f (logical_or a b) = expr_fits u f a && expr_fits u f b
+-- 6.5.15p3, p5: both have the type of the whole
+expr_fits u f (conditional c a b) =
+    expr_fits u f c && expr_fits u f a && expr_fits u f b && same_scalar (type_of a) (type_of b)
 
 abbrev pub exprs_fit : CoreUnitTree → CoreFunctionTree → List CoreExprTree → Bool
 exprs_fit u f [] = true
 exprs_fit u f (e ∷ es) = expr_fits u f e && exprs_fit u f es
+
+abbrev pub pointer_fits : CoreUnitTree → CoreFunctionTree → CoreExprTree → Bool
+pointer_fits u f a = expr_fits u f a && is_pointer (type_of a)
 
 -- whether the temporary occurs in an expression
 abbrev pub mentions : (temporary : ℕ) → CoreExprTree → Bool
@@ -88,15 +61,15 @@ mentions k (literal s n) = false
 mentions k null_pointer = false
 mentions k (variable s x) = false
 mentions k (temporary s j) = j == k
-mentions k (address_of place) = false
+mentions k (address_of b) = false
 mentions k (load s a) = mentions k a
 mentions k (member offset a) = mentions k a
 mentions k (unary op a) = mentions k a
 mentions k (binary op a b) = mentions k a || mentions k b
 mentions k (conversion s a) = mentions k a
-mentions k (conjunction a b) = mentions k a || mentions k b
-mentions k (disjunction a b) = mentions k a || mentions k b
-mentions k (choice c a b) = mentions k c || mentions k a || mentions k b
+mentions k (logical_and a b) = mentions k a || mentions k b
+mentions k (logical_or a b) = mentions k a || mentions k b
+mentions k (conditional c a b) = mentions k c || mentions k a || mentions k b
 
 abbrev pub any_mentions : (temporary : ℕ) → List CoreExprTree → Bool
 any_mentions k [] = false
@@ -104,74 +77,105 @@ any_mentions k (e ∷ es) = mentions k e || any_mentions k es
 
 -- ---- calls
 
--- as many arguments as parameters, each of the type of its parameter
-abbrev pub arguments_fit : CoreFunctionTree → List Parameter → List CoreExprTree → Bool
-arguments_fit g [] [] = true
-arguments_fit g [] (e ∷ es) = false
-arguments_fit g (p ∷ ps) [] = false
-arguments_fit g (p ∷ ps) (e ∷ es) = is_type (parameter_type g p) (type_of e) && arguments_fit g ps es
-
-abbrev pub one_int : List CoreExprTree → Bool
-one_int [] = false
-one_int (e ∷ []) = same_scalar (type_of e) scalars.Int
-one_int (e ∷ d ∷ es) = false
-
-abbrev pub no_arguments : List CoreExprTree → Bool
-no_arguments [] = true
-no_arguments (e ∷ es) = false
-
-abbrev pub callee_fits : CoreUnitTree → Callee → List CoreExprTree → Bool
-callee_fits u (Function g) es = nat_lt g.0 (length u.functions) && arguments_fit (function_at u g.0) (map (λ p. p.place) (function_at u g.0).parameters) es
-callee_fits u PutChar es = one_int es
-callee_fits u GetChar es = no_arguments es
-
-abbrev pub result_type_of : CoreUnitTree → Callee → Option Scalar
-result_type_of u (Function g) = (function_at u g.0).result_type
-result_type_of u PutChar = Some scalars.Int
-result_type_of u GetChar = Some scalars.Int
-
--- the temporary that takes the result has its type, and isn't in the arguments
-abbrev pub taken_fits : CoreFunctionTree → (result : Option Scalar) → (temporary : ℕ) → Bool
+-- the temporary that takes a result has its type
+abbrev pub taken_fits : CoreFunctionTree → (result_type : Option Scalar) → (temporary : ℕ) → Bool
 taken_fits f None k = false
 taken_fits f (Some s) k = is_type (temporary_type f k) s
 
-abbrev pub destination_fits : CoreFunctionTree → (result : Option Scalar) → Option ℕ → List CoreExprTree → Bool
-destination_fits f result None es = true
-destination_fits f result (Some k) es = taken_fits f result k && not (any_mentions k es)
+-- and isn't in the arguments
+abbrev pub destination_fits :
+    CoreFunctionTree → (result_type : Option Scalar) → Option ℕ → List CoreExprTree → Bool
+destination_fits f result_type None es = true
+destination_fits f result_type (Some k) es = taken_fits f result_type k && not (any_mentions k es)
+
+-- 6.5.2.2p2: as many arguments as parameters, each of the type of its parameter
+abbrev pub call_fits :
+    CoreFunctionTree → Option ℕ → Option Signature → List CoreExprTree → Bool
+call_fits f x None es = false
+call_fits f x (Some g) es =
+    same_scalars (map type_of es) g.parameters && destination_fits f g.result_type x es
 
 -- ---- statements
 
+-- 6.8.6.4p1
 abbrev pub returned_fits : CoreUnitTree → CoreFunctionTree → Option CoreExprTree → Bool
 returned_fits u f None = true
 returned_fits u f (Some e) = expr_fits u f e && is_type f.result_type (type_of e)
 
 abbrev mutual
-  pub stmt_fits : CoreUnitTree → CoreFunctionTree → (in_loop : Bool) → CoreStmtTree → Bool
-  stmt_fits u f in_loop skip = true
-  stmt_fits u f in_loop (seq ss) = stmts_fit u f in_loop ss
-  stmt_fits u f in_loop (assign x e) = expr_fits u f e && is_type (target_type f x) (type_of e)
-  stmt_fits u f in_loop (store s a b) = expr_fits u f a && expr_fits u f b && same_scalar (type_of b) s
-  stmt_fits u f in_loop (copy size alignment a b) = expr_fits u f a && expr_fits u f b
-  stmt_fits u f in_loop (fill b a) = expr_fits u f a
-  stmt_fits u f in_loop (call x g es) = exprs_fit u f es && callee_fits u g es && destination_fits f (result_type_of u g) x es
-  stmt_fits u f in_loop (branch e a b) = expr_fits u f e && stmt_fits u f in_loop a && stmt_fits u f in_loop b
-  stmt_fits u f in_loop (loop body step) = stmt_fits u f true body && stmt_fits u f true step
-  stmt_fits u f in_loop break = in_loop
-  stmt_fits u f in_loop continue = in_loop
-  stmt_fits u f in_loop (return e) = returned_fits u f e
+  -- where a break, and a continue, may stand
+  pub stmt_fits :
+      CoreUnitTree → CoreFunctionTree → (may_break may_continue : Bool) → CoreStmtTree → Bool
+  stmt_fits u f b c skip = true
+  stmt_fits u f b c (seq ss) = stmts_fit u f b c ss
+  stmt_fits u f b c (assign x e) = expr_fits u f e && is_type (target_type f x) (type_of e)
+  stmt_fits u f b c (store s to e) =
+      pointer_fits u f to && expr_fits u f e && same_scalar (type_of e) s
+  stmt_fits u f b c (copy size alignment to from) =
+      pointer_fits u f to && pointer_fits u f from && nat_le 1 alignment
+  stmt_fits u f b c (fill contents to) = pointer_fits u f to
+  stmt_fits u f b c (call x g es) =
+      exprs_fit u f es && call_fits f x (signature_of (interface_of u) g) es
+  stmt_fits u f b c (branch e s t) =
+      expr_fits u f e && stmt_fits u f b c s && stmt_fits u f b c t
+  -- a continue goes to the step, so none stands in the step itself
+  stmt_fits u f b c (loop body step) =
+      stmt_fits u f true true body && stmt_fits u f true false step
+  stmt_fits u f b c break = b
+  stmt_fits u f b c continue = c
+  stmt_fits u f b c (return e) = returned_fits u f e
 
-  pub stmts_fit : CoreUnitTree → CoreFunctionTree → (in_loop : Bool) → CoreStmts → Bool
-  stmts_fit u f in_loop no_stmts = true
-  stmts_fit u f in_loop (stmt_and s ss) = stmt_fits u f in_loop s && stmts_fit u f in_loop ss
+  pub stmts_fit :
+      CoreUnitTree → CoreFunctionTree → (may_break may_continue : Bool) → CoreStmts → Bool
+  stmts_fit u f b c no_stmts = true
+  stmts_fit u f b c (stmt_and s ss) = stmt_fits u f b c s && stmts_fit u f b c ss
 
--- ---- units
+-- ---- names
 
-abbrev pub parameter_fits : CoreFunctionTree → Parameter → Bool
-parameter_fits f (Plain x) = nat_lt x (length f.variables)
-parameter_fits f (Placed i s) = nat_lt i (length f.blocks)
+-- no two are the same
+abbrev pub differ : {A : Type 0} → (same : A → A → Bool) → List A → Bool
+differ same [] = true
+differ same (x ∷ xs) = list_all (λ y. not (same x y)) xs && differ same xs
+
+-- a variable is told by its name and by which of the variables of that name it is, from 1
+abbrev pub same_variable : CoreVariableTree → CoreVariableTree → Bool
+same_variable v w = bytes_eq v.name w.name && v.ordinal == w.ordinal
+
+abbrev pub is_named : CoreVariableTree → Bool
+is_named v = is_name v.name && nat_le 1 v.ordinal
+
+-- ---- functions
+
+-- a block of this size is one for a value of the type
+abbrev pub is_room : Option ℕ → Scalar → Bool
+is_room None s = false
+is_room (Some size) s = size == width s
+
+-- a plain parameter is the variable of its own number; for a placed one that variable isn't used
+abbrev pub place_fits : (blocks : List ℕ) → (number : ℕ) → Scalar → Parameter → Bool
+place_fits blocks i s (Plain x) = x == i
+place_fits blocks i s (Placed k t) = same_scalar t s && is_room (slice_get blocks k) t
+
+-- a parameter is the first variable of its name
+abbrev pub parameter_fits :
+    (blocks : List ℕ) → (number : ℕ) → CoreParameterTree → CoreVariableTree → Bool
+parameter_fits blocks i p v =
+    bytes_eq p.name v.name && v.ordinal == 1 && place_fits blocks i v.scalar p.place
+
+-- parameters from this number on, and variables
+abbrev pub parameters_fit :
+    (blocks : List ℕ) → (number : ℕ) → List CoreParameterTree → List CoreVariableTree → Bool
+parameters_fit blocks i [] vs = true
+parameters_fit blocks i (p ∷ ps) [] = false
+parameters_fit blocks i (p ∷ ps) (v ∷ vs) =
+    parameter_fits blocks i p v && parameters_fit blocks (i + 1) ps vs
 
 abbrev pub function_fits : CoreUnitTree → CoreFunctionTree → Bool
-function_fits u f = list_all (λ p. parameter_fits f p.place) f.parameters && stmts_fit u f false f.body
+function_fits u f =
+    is_name f.name && list_all is_named f.variables && differ same_variable f.variables
+    && parameters_fit f.blocks 0 f.parameters f.variables && stmts_fit u f false false f.body
+
+-- ---- data
 
 -- a pointer among the data is into a block of data or just past its end
 abbrev pub is_in_data : Option DataBlockTree → (offset : ℕ) → Bool
@@ -186,5 +190,20 @@ piece_fits u (pointer block offset) = is_in_data (slice_get u.data_blocks block)
 abbrev pub data_fits : CoreUnitTree → DataBlockTree → Bool
 data_fits u d = list_all (piece_fits u) d.pieces
 
+-- ---- units
+
+-- 5.1.2.2.1
+abbrev pub main_name : List ℕ
+main_name = codes "main"
+
+-- main returns `int`, and takes `int` and `unsigned` alone
+abbrev pub is_main : Option CoreFunctionTree → Bool
+is_main None = false
+is_main (Some f) =
+    bytes_eq f.name main_name && is_type f.result_type scalars.Int
+    && list_all is_promoted (parameter_types f)
+
 abbrev pub unit_fits : CoreUnitTree → Bool
-unit_fits u = list_all (function_fits u) u.functions && nat_lt u.main (length u.functions) && list_all (data_fits u) u.data_blocks
+unit_fits u =
+    list_all (function_fits u) u.functions && differ bytes_eq (map (λ f. f.name) u.functions)
+    && is_main (slice_get u.functions u.main) && list_all (data_fits u) u.data_blocks

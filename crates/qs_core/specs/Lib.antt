@@ -3,6 +3,9 @@ pub mod TreeOf
 pub mod Expressions
 pub mod Statements
 pub mod Units
+pub mod Scalars
+pub mod Operands
+pub mod Interfaces
 pub mod Terms
 pub mod Outline
 pub mod CallGraph

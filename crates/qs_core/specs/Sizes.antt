@@ -2,7 +2,7 @@
 use Rattle.std.specs.Prelude.{ℕ, ◌+◌, max, List, [], ◌∷◌, length, Option, Some, None}
 use Rattle.qs_calls.specs.declared.parameter.Parameter.{Parameter}
 use Rattle.qs_calls.specs.declared.parameter.Parameter.TheVariants.{Plain, Placed}
-use Rattle.qs_core.specs.Trees.{CoreExprTree, literal, null_pointer, variable, temporary, address_of, load, member, unary, binary, conversion, conjunction, disjunction, choice, CoreStmtTree, skip, seq, assign, store, copy, fill, call, branch, loop, break, continue, return, CoreStmts, no_stmts, stmt_and, CoreParameterTree, CoreFunctionTree}
+use Rattle.qs_core.specs.Trees.{CoreExprTree, literal, null_pointer, variable, temporary, address_of, load, member, unary, binary, conversion, logical_and, logical_or, conditional, CoreStmtTree, skip, seq, assign, store, copy, fill, call, branch, loop, break, continue, return, CoreStmts, no_stmts, stmt_and, CoreParameterTree, CoreFunctionTree}
 
 -- how many values an expression's own value adds: variables and temporaries stand already
 abbrev pub own : CoreExprTree → ℕ
@@ -10,15 +10,15 @@ own (literal s n) = 1
 own null_pointer = 1
 own (variable s x) = 0
 own (temporary s k) = 0
-own (address_of place) = 1
+own (address_of b) = 1
 own (load s a) = 1
 own (member offset a) = 1
 own (unary op a) = 1
 own (binary op a b) = 1
 own (conversion s a) = 1
-own (conjunction a b) = 1
-own (disjunction a b) = 1
-own (choice c a b) = 1
+own (logical_and a b) = 1
+own (logical_or a b) = 1
+own (conditional c a b) = 1
 
 -- how many values are held at once, at most, while an expression is computed from left to right
 abbrev pub held : CoreExprTree → ℕ
@@ -26,15 +26,15 @@ held (literal s n) = 1
 held null_pointer = 1
 held (variable s x) = 0
 held (temporary s k) = 0
-held (address_of place) = 1
+held (address_of b) = 1
 held (load s a) = max 1 (held a)
 held (member offset a) = max 1 (held a)
 held (unary op a) = max 1 (held a)
 held (binary op a b) = max 1 (max (held a) (own a + held b))
 held (conversion s a) = max 1 (held a)
-held (conjunction a b) = max 1 (max (held a) (held b))
-held (disjunction a b) = max 1 (max (held a) (held b))
-held (choice c a b) = max 1 (max (held c) (max (held a) (held b)))
+held (logical_and a b) = max 1 (max (held a) (held b))
+held (logical_or a b) = max 1 (max (held a) (held b))
+held (conditional c a b) = max 1 (max (held c) (max (held a) (held b)))
 
 abbrev pub held_by_all : List CoreExprTree → ℕ
 held_by_all [] = 0

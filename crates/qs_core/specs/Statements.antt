@@ -1,5 +1,5 @@
--- What a statement does, by what follows it: next, after a break, after a continue, and after a return. Each run of a loop makes at most
--- a number of turns; what calls do is given.
+-- What a statement does, by what follows it: next, after a break, after a continue, and after a
+-- return. Each run of a loop makes at most a number of turns; what calls do is given.
 use Rattle.std.specs.Prelude.{ℕ, zero, suc, if◌then◌else◌, Option, Some, None}
 use Rattle.qs_memory.specs.Values.{Pointer, Value, as_pointer}
 use Rattle.qs_memory.specs.Memory as memory
@@ -7,8 +7,8 @@ use Rattle.qs_memory.specs.Pointers.{truth}
 use Rattle.qs_events.specs.Runs.{short, given}
 use Rattle.qs_calls.specs.World.{World, with_memory, RootRun, Return, with_value}
 use Rattle.qs_calls.specs.Calls.{CallsOf, invoke, used}
-use Rattle.qs_core.specs.declared.places.Target.{Target}
-use Rattle.qs_core.specs.declared.places.Target.TheVariants as targets
+use Rattle.qs_core.specs.declared.numbers.Target.{Target}
+use Rattle.qs_core.specs.declared.numbers.Target.TheVariants as targets
 use Rattle.qs_core.specs.Trees.{CoreExprTree, CoreStmtTree, skip, seq, assign, store, copy, fill, call, branch, loop, break, continue, return, CoreStmts, no_stmts, stmt_and}
 use Rattle.qs_core.specs.Expressions.{Locals, value, values}
 
@@ -33,7 +33,8 @@ assigned (targets.Temporary k) l v = record l { temporaries = with_value l.tempo
 -- 6.5.2.2: where a call's result goes
 abbrev pub take_result : Option ℕ → Continuation → Locals → Return
 take_result None next l result w = next l w
-take_result (Some k) next l result w = used result (λ v. next (assigned (targets.Temporary k) l v) w)
+take_result (Some k) next l result w =
+    used result (λ v. next (assigned (targets.Temporary k) l v) w)
 
 -- goes on with the pointer that an expression's value is
 abbrev pub given_pointer : CoreExprTree → Locals → World → (Pointer → RootRun) → RootRun
@@ -46,10 +47,12 @@ repeated (suc n) turn l w = turn (repeated n turn) l w
 
 -- what follows the step of a loop, and its body
 abbrev pub after_step : Continuations → Continuation → Continuations
-after_step k again = record { next = again; on_break = k.next; on_continue = again; on_return = k.on_return }
+after_step k again =
+    record { next = again; on_break = k.next; on_continue = again; on_return = k.on_return }
 
 abbrev pub after_body : Continuations → Continuation → Continuations
-after_body k step = record { next = step; on_break = k.next; on_continue = step; on_return = k.on_return }
+after_body k step =
+    record { next = step; on_break = k.next; on_continue = step; on_return = k.on_return }
 
 abbrev mutual
   pub runs : CoreStmtTree → Context → Continuations → Continuation
@@ -57,14 +60,21 @@ abbrev mutual
   runs (seq ss) c k l w = runs_all ss c k l w
   runs (assign x e) c k l w = given (value e l w.memory) (λ v. k.next (assigned x l v) w)
   runs (store s a b) c k l w =
-      given_pointer a l w (λ p. given (value b l w.memory) (λ v. given (memory.store s w.memory p v) (λ m. k.next l (with_memory w m))))
+      given_pointer a l w (λ p. given (value b l w.memory)
+      (λ v. given (memory.store s w.memory p v) (λ m. k.next l (with_memory w m))))
   runs (copy size alignment a b) c k l w =
-      given_pointer a l w (λ p. given_pointer b l w (λ q. given (memory.copy size alignment w.memory p q) (λ m. k.next l (with_memory w m))))
-  runs (fill blank a) c k l w = given_pointer a l w (λ p. given (memory.fill blank w.memory p) (λ m. k.next l (with_memory w m)))
-  runs (call x f arguments) c k l w = given (values arguments l w.memory) (λ vs. invoke f c.calls vs (take_result x k.next l) w)
+      given_pointer a l w (λ p. given_pointer b l w
+      (λ q. given (memory.copy size alignment w.memory p q) (λ m. k.next l (with_memory w m))))
+  runs (fill blank a) c k l w =
+      given_pointer a l w (λ p. given (memory.fill blank w.memory p)
+      (λ m. k.next l (with_memory w m)))
+  runs (call x f arguments) c k l w =
+      given (values arguments l w.memory) (λ vs. invoke f c.calls vs (take_result x k.next l) w)
   runs (branch e a b) c k l w =
-      given (value e l w.memory) (λ v. given (truth w.memory v) (λ yes. if yes then runs a c k l w else runs b c k l w))
-  runs (loop body step) c k l w = repeated c.turns (λ again. runs body c (after_body k (runs step c (after_step k again)))) l w
+      given (value e l w.memory) (λ v. given (truth w.memory v)
+      (λ yes. if yes then runs a c k l w else runs b c k l w))
+  runs (loop body step) c k l w =
+      repeated c.turns (λ again. runs body c (after_body k (runs step c (after_step k again)))) l w
   runs break c k l w = k.on_break l w
   runs continue c k l w = k.on_continue l w
   runs (return None) c k l w = k.on_return None w

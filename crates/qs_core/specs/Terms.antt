@@ -1,6 +1,6 @@
 -- Terms and conditions of expressions: what derivations of stack bounds, and the outline, say of them. A term is over whole numbers without
 -- bound; not every expression has one.
-use Rattle.std.specs.Prelude.{ℕ, ◌%◌, ◌^◌, ◌==◌, ◌&&◌, nat_le, nat_lt, Bool, true, false, if◌then◌else◌, List, [], ◌∷◌, ◌++◌, slice_index_or, codes, decimal}
+use Rattle.std.specs.Prelude.{ℕ, ◌%◌, ◌^◌, ◌==◌, ◌&&◌, nat_le, Bool, true, false, if◌then◌else◌, List, [], ◌++◌, slice_index_or, codes, decimal}
 use Rattle.std.specs.Fmt.{signed_decimal}
 use Rattle.qs_base.specs.Words.{signed}
 use Rattle.qs_memory.specs.declared.scalar.Scalar.{Scalar}
@@ -15,8 +15,9 @@ use Rattle.qs_memory.specs.declared.operation.UnaryOperation.{UnaryOperation}
 use Rattle.qs_memory.specs.declared.operation.UnaryOperation.TheVariants as unaries
 use Rattle.qs_memory.specs.declared.operation.BinaryOperation.{BinaryOperation}
 use Rattle.qs_memory.specs.declared.operation.BinaryOperation.TheVariants as binaries
-use Rattle.qs_core.specs.Trees.{CoreExprTree, literal, null_pointer, variable, temporary, address_of, load, member, unary, binary, conversion, conjunction, disjunction, choice, CoreVariableTree, CoreFunctionTree}
+use Rattle.qs_core.specs.Trees.{CoreExprTree, literal, null_pointer, variable, temporary, address_of, load, member, unary, binary, conversion, logical_and, logical_or, conditional, CoreVariableTree, CoreFunctionTree}
 use Rattle.qs_core.specs.Expressions.{type_of}
+use Rattle.qs_core.specs.Scalars.{is_integer}
 
 -- ---- names
 
@@ -38,12 +39,6 @@ temporary_text k = codes "$" ++ decimal k
 
 -- ---- which expressions have terms
 
-abbrev pub is_integer : Scalar → Bool
-is_integer scalars.Char = true
-is_integer scalars.Int = true
-is_integer scalars.Unsigned = true
-is_integer scalars.Pointer = false
-
 abbrev pub is_unsigned : Signedness → Bool
 is_unsigned Signed = false
 is_unsigned Unsigned = true
@@ -54,30 +49,30 @@ is_literal_from least greatest (literal s n) = nat_le least n && nat_le n greate
 is_literal_from least greatest null_pointer = false
 is_literal_from least greatest (variable s x) = false
 is_literal_from least greatest (temporary s k) = false
-is_literal_from least greatest (address_of place) = false
+is_literal_from least greatest (address_of b) = false
 is_literal_from least greatest (load s a) = false
 is_literal_from least greatest (member offset a) = false
 is_literal_from least greatest (unary op a) = false
 is_literal_from least greatest (binary op a b) = false
 is_literal_from least greatest (conversion s a) = false
-is_literal_from least greatest (conjunction a b) = false
-is_literal_from least greatest (disjunction a b) = false
-is_literal_from least greatest (choice c a b) = false
+is_literal_from least greatest (logical_and a b) = false
+is_literal_from least greatest (logical_or a b) = false
+is_literal_from least greatest (conditional c a b) = false
 
 abbrev pub literal_number : CoreExprTree → ℕ
 literal_number (literal s n) = n
 literal_number null_pointer = 0
 literal_number (variable s x) = 0
 literal_number (temporary s k) = 0
-literal_number (address_of place) = 0
+literal_number (address_of b) = 0
 literal_number (load s a) = 0
 literal_number (member offset a) = 0
 literal_number (unary op a) = 0
 literal_number (binary op a b) = 0
 literal_number (conversion s a) = 0
-literal_number (conjunction a b) = 0
-literal_number (disjunction a b) = 0
-literal_number (choice c a b) = 0
+literal_number (logical_and a b) = 0
+literal_number (logical_or a b) = 0
+literal_number (conditional c a b) = 0
 
 -- a divisor, and a count
 abbrev pub is_divisor : CoreExprTree → Bool
@@ -118,15 +113,15 @@ has_term (literal s n) = is_integer s
 has_term null_pointer = false
 has_term (variable s x) = is_integer s
 has_term (temporary s k) = is_integer s
-has_term (address_of place) = false
+has_term (address_of b) = false
 has_term (load s a) = false
 has_term (member offset a) = false
 has_term (unary op a) = unary_has_term op && has_term a
 has_term (binary op a b) = binary_has_term op (has_term b) b && has_term a
 has_term (conversion s a) = is_integer s && has_term a
-has_term (conjunction a b) = false
-has_term (disjunction a b) = false
-has_term (choice c a b) = false
+has_term (logical_and a b) = false
+has_term (logical_or a b) = false
+has_term (conditional c a b) = false
 
 -- ---- their terms, where they have one
 
@@ -220,15 +215,15 @@ term_text f (literal s n) = number_text s n
 term_text f null_pointer = []
 term_text f (variable s x) = variable_text f x
 term_text f (temporary s k) = temporary_text k
-term_text f (address_of place) = []
+term_text f (address_of b) = []
 term_text f (load s a) = []
 term_text f (member offset a) = []
 term_text f (unary op a) = unary_text op (term_text f a)
 term_text f (binary op a b) = binary_text op (term_text f a) (term_text f b) (literal_number b)
 term_text f (conversion s a) = conversion_text (type_of a) s (term_text f a)
-term_text f (conjunction a b) = []
-term_text f (disjunction a b) = []
-term_text f (choice c a b) = []
+term_text f (logical_and a b) = []
+term_text f (logical_or a b) = []
+term_text f (conditional c a b) = []
 
 -- ---- conditions
 
@@ -244,7 +239,7 @@ has_condition (literal s n) = is_integer s
 has_condition null_pointer = false
 has_condition (variable s x) = is_integer s
 has_condition (temporary s k) = is_integer s
-has_condition (address_of place) = false
+has_condition (address_of b) = false
 has_condition (load s a) = false
 has_condition (member offset a) = false
 has_condition (unary (unaries.Plus s) a) = has_term a
@@ -254,9 +249,9 @@ has_condition (unary unaries.Not a) = has_condition a
 has_condition (unary unaries.Truth a) = false
 has_condition (binary op a b) = binary_has_condition op (has_term (binary op a b)) (has_term a && has_term b)
 has_condition (conversion s a) = has_term (conversion s a)
-has_condition (conjunction a b) = has_condition a && has_condition b
-has_condition (disjunction a b) = has_condition a && has_condition b
-has_condition (choice c a b) = false
+has_condition (logical_and a b) = has_condition a && has_condition b
+has_condition (logical_or a b) = has_condition a && has_condition b
+has_condition (conditional c a b) = false
 
 abbrev pub comparison_text : Comparison → (t u : List ℕ) → List ℕ
 comparison_text comparisons.Less t u = applied_to_both (codes "lt") t u
@@ -282,7 +277,7 @@ condition_text f (literal s n) = nonzero_text (term_text f (literal s n))
 condition_text f null_pointer = []
 condition_text f (variable s x) = nonzero_text (term_text f (variable s x))
 condition_text f (temporary s k) = nonzero_text (term_text f (temporary s k))
-condition_text f (address_of place) = []
+condition_text f (address_of b) = []
 condition_text f (load s a) = []
 condition_text f (member offset a) = []
 condition_text f (unary (unaries.Plus s) a) = nonzero_text (term_text f (unary (unaries.Plus s) a))
@@ -292,9 +287,9 @@ condition_text f (unary unaries.Not a) = applied (codes "not") (condition_text f
 condition_text f (unary unaries.Truth a) = []
 condition_text f (binary op a b) = binary_condition op (term_text f (binary op a b)) (term_text f a) (term_text f b)
 condition_text f (conversion s a) = nonzero_text (term_text f (conversion s a))
-condition_text f (conjunction a b) = applied_to_both (codes "and") (condition_text f a) (condition_text f b)
-condition_text f (disjunction a b) = applied_to_both (codes "or") (condition_text f a) (condition_text f b)
-condition_text f (choice c a b) = []
+condition_text f (logical_and a b) = applied_to_both (codes "and") (condition_text f a) (condition_text f b)
+condition_text f (logical_or a b) = applied_to_both (codes "or") (condition_text f a) (condition_text f b)
+condition_text f (conditional c a b) = []
 
 -- the term or condition, or `?` where there is none
 abbrev pub told_term : CoreFunctionTree → CoreExprTree → List ℕ

@@ -1,7 +1,7 @@
 -- The trees that the program's values stand for.
-use Rattle.std.specs.Prelude.{List, Option, map, option_map}
+use Rattle.std.specs.Prelude.{ℕ, List, Option, map, option_map}
 use Rattle.qs_memory.specs.BlankOf.{blank_tree}
-use Rattle.qs_core.specs.Trees.{CoreExprTree, literal, null_pointer, variable, temporary, address_of, load, member, unary, binary, conversion, conjunction, disjunction, choice, CoreStmtTree, skip, seq, assign, store, copy, fill, call, branch, loop, break, continue, return, stmts_of, CoreParameterTree, CoreVariableTree, CoreFunctionTree, PieceTree, blank, bytes, pointer, DataBlockTree}
+use Rattle.qs_core.specs.Trees.{CoreExprTree, literal, null_pointer, variable, temporary, address_of, load, member, unary, binary, conversion, logical_and, logical_or, conditional, CoreStmtTree, skip, seq, assign, store, copy, fill, call, branch, loop, break, continue, return, stmts_of, CoreParameterTree, CoreVariableTree, CoreFunctionTree, PieceTree, blank, bytes, pointer, DataBlockTree, CoreUnitTree}
 use Rattle.qs_core.specs.declared.expressions.CoreExpr.{CoreExpr, CoreExpr-F, fold-CoreExpr}
 use Rattle.qs_core.specs.declared.expressions.Operands.{Operands, Operands-F, fold-Operands}
 use Rattle.qs_core.specs.declared.statements.CoreStmt.{CoreStmt, CoreStmt-F, fold-CoreStmt}
@@ -22,15 +22,15 @@ expr_step (CoreExpr-F.Literal s n) = literal s n
 expr_step CoreExpr-F.Null = null_pointer
 expr_step (CoreExpr-F.Variable s x) = variable s x
 expr_step (CoreExpr-F.Temporary s k) = temporary s k
-expr_step (CoreExpr-F.Address place) = address_of place
+expr_step (CoreExpr-F.Address b) = address_of b
 expr_step (CoreExpr-F.Load s a) = load s a.value
 expr_step (CoreExpr-F.Member offset a) = member offset a.value
 expr_step (CoreExpr-F.Unary op a) = unary op a.value
 expr_step (CoreExpr-F.Binary op p) = binary op p.value.left p.value.right
 expr_step (CoreExpr-F.Convert s a) = conversion s a.value
-expr_step (CoreExpr-F.And p) = conjunction p.value.left p.value.right
-expr_step (CoreExpr-F.Or p) = disjunction p.value.left p.value.right
-expr_step (CoreExpr-F.Choice c a b) = choice c.value a.value b.value
+expr_step (CoreExpr-F.And p) = logical_and p.value.left p.value.right
+expr_step (CoreExpr-F.Or p) = logical_or p.value.left p.value.right
+expr_step (CoreExpr-F.Conditional c a b) = conditional c.value a.value b.value
 
 abbrev pub operands_step : Operands-F CoreExprTree OperandsTree → OperandsTree
 operands_step p = record { left = p.left; right = p.right }
@@ -93,3 +93,10 @@ piece_tree (pieces.Address block offset) = pointer block offset
 
 abbrev pub data_block_tree : DataBlock → DataBlockTree
 data_block_tree d = record { is_writable = d.is_writable; pieces = map piece_tree d.pieces.items }
+
+abbrev pub unit_from : List CoreFunction → (main : ℕ) → List DataBlock → CoreUnitTree
+unit_from functions main data_blocks = record {
+  functions = map function_tree functions;
+  main = main;
+  data_blocks = map data_block_tree data_blocks;
+}

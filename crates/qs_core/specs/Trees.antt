@@ -1,4 +1,5 @@
--- Core as plain data: what its expressions, statements and units are, without addresses and capacities.
+-- Core as plain data: what its expressions, statements and units are, without addresses and
+-- capacities.
 use Rattle.std.specs.Prelude.{ℕ, Bool, List, [], ◌∷◌, Option}
 use Rattle.qs_memory.specs.Memory.{BlankTree}
 use Rattle.qs_memory.specs.declared.scalar.Scalar.{Scalar}
@@ -6,8 +7,8 @@ use Rattle.qs_memory.specs.declared.operation.UnaryOperation.{UnaryOperation}
 use Rattle.qs_memory.specs.declared.operation.BinaryOperation.{BinaryOperation}
 use Rattle.qs_calls.specs.declared.callee.Callee.{Callee}
 use Rattle.qs_calls.specs.declared.parameter.Parameter.{Parameter}
-use Rattle.qs_core.specs.declared.places.Place.{Place}
-use Rattle.qs_core.specs.declared.places.Target.{Target}
+use Rattle.qs_core.specs.declared.numbers.BlockId.{BlockId}
+use Rattle.qs_core.specs.declared.numbers.Target.{Target}
 
 -- pure expressions
 pub data CoreExprTree : Type 0 where
@@ -18,7 +19,7 @@ pub data CoreExprTree : Type 0 where
   variable : Scalar → ℕ → CoreExprTree
   temporary : Scalar → ℕ → CoreExprTree
   -- a pointer to the start of a block
-  address_of : Place → CoreExprTree
+  address_of : BlockId → CoreExprTree
   -- the value of this type that is pointed to
   load : Scalar → CoreExprTree → CoreExprTree
   -- a pointer to the member at this offset
@@ -27,9 +28,9 @@ pub data CoreExprTree : Type 0 where
   binary : BinaryOperation → CoreExprTree → CoreExprTree → CoreExprTree
   conversion : Scalar → CoreExprTree → CoreExprTree
   -- `&&`, `||` and `?:`
-  conjunction : CoreExprTree → CoreExprTree → CoreExprTree
-  disjunction : CoreExprTree → CoreExprTree → CoreExprTree
-  choice : CoreExprTree → CoreExprTree → CoreExprTree → CoreExprTree
+  logical_and : CoreExprTree → CoreExprTree → CoreExprTree
+  logical_or : CoreExprTree → CoreExprTree → CoreExprTree
+  conditional : CoreExprTree → CoreExprTree → CoreExprTree → CoreExprTree
 
 mutual
   pub data CoreStmtTree : Type 0 where
@@ -62,7 +63,8 @@ pub record CoreParameterTree : Type 0 where
   pub name : List ℕ
   pub place : Parameter
 
--- a scalar variable whose address is never taken: the one with this number, from 1, among those of the function with its name
+-- a scalar variable whose address is never taken: the one with this number, from 1, among those of
+-- the function with its name
 pub record CoreVariableTree : Type 0 where
   pub name : List ℕ
   pub ordinal : ℕ
@@ -77,7 +79,8 @@ pub record CoreFunctionTree : Type 0 where
   pub result_type : Option Scalar
   pub body : CoreStmts
 
--- what a block of data begins with, piece by piece: zeros and null pointers, bytes, a pointer into a block of data
+-- what a block of data begins with, piece by piece: zeros and null pointers, bytes, a pointer into
+-- a block of data
 pub data PieceTree : Type 0 where
   blank : BlankTree → PieceTree
   bytes : List ℕ → PieceTree

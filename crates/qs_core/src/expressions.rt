@@ -1,6 +1,6 @@
 // Expressions of core. They have no side effects.
 
-use crate::places::Place;
+use crate::numbers::BlockId;
 use qs_memory::{BinaryOperation, Scalar, UnaryOperation};
 
 /// A pure expression. Its conversions are explicit, and sizes and offsets are numbers.
@@ -16,7 +16,7 @@ pub enum CoreExpr {
     /// the temporary of this type with this number
     Temporary(Scalar, u32),
     /// a pointer to the start of a block
-    Address(Place),
+    Address(BlockId),
     /// the value of this type that the pointer points to
     Load(Scalar, Box<CoreExpr>),
     /// a pointer to the member at this offset of the object that the pointer points to
@@ -32,7 +32,7 @@ pub enum CoreExpr {
     /// `||`
     Or(Box<Operands>),
     /// `?:`
-    Choice(Box<CoreExpr>, Box<CoreExpr>, Box<CoreExpr>),
+    Conditional(Box<CoreExpr>, Box<CoreExpr>, Box<CoreExpr>),
 }
 
 /// Two operands.

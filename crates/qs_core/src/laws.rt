@@ -1,6 +1,6 @@
 // The laws of core. Each is the contract of an empty function.
 ghost use Rattle.qs_core.specs.Laws.{CoreGrows, CallsAlone};
-ghost use Rattle.qs_core.specs.Ranges.{BodiesStayInRange, CallsStayInRange, InitialMemoryIsReady, ValuesHaveTypes};
+ghost use Rattle.qs_core.specs.Ranges.{BodiesStayInRange, CallsStayInRange, ExpressionsHaveTypes, InitialMemoryIsReady, RunsLeaveSound};
 
 /// A greater bound keeps what has ended or is undefined, and extends the trace of what is short.
 pub fn core_grows()
@@ -13,8 +13,8 @@ pub fn calls_alone()
 {}
 
 /// The value of an expression has the expression's type.
-pub fn values_have_types()
-    ensures { ValuesHaveTypes }
+pub fn expressions_have_types()
+    ensures { ExpressionsHaveTypes }
 {}
 
 /// Each moment of a call is in range: every variable's value is in the range of its type, and what would
@@ -28,7 +28,12 @@ pub fn bodies_stay_in_range()
     ensures { BodiesStayInRange }
 {}
 
-/// The memory that main starts from is sound, and is the unit's data.
+/// What a run leaves is sound, and its result is one of the function's type: another run may start there.
+pub fn runs_leave_sound()
+    ensures { RunsLeaveSound }
+{}
+
+/// The memory that main starts from is sound, and its blocks are the unit's data.
 pub fn initial_memory_is_ready()
     ensures { InitialMemoryIsReady }
 {}

@@ -5,8 +5,8 @@
 mod expressions;
 mod laws;
 mod names;
+mod numbers;
 mod outline;
-mod places;
 mod statements;
 mod term_text;
 mod terms;
@@ -16,11 +16,11 @@ mod units;
 
 pub use expressions::{CoreExpr, Operands};
 pub use laws::{
-    bodies_stay_in_range, calls_alone, calls_stay_in_range, core_grows, initial_memory_is_ready,
-    values_have_types,
+    bodies_stay_in_range, calls_alone, calls_stay_in_range, core_grows, expressions_have_types,
+    initial_memory_is_ready, runs_leave_sound,
 };
+pub use numbers::{BlockId, Target};
 pub use outline::print_outline;
-pub use places::{Place, Target};
 pub use statements::CoreStmt;
 pub use types::type_of;
 pub use unit::CoreUnit;

@@ -7,7 +7,7 @@ ghost use Rattle.qs_core.specs.Outline as spec;
 
 use crate::expressions::CoreExpr;
 use crate::names::{put, put_count, put_temporary, put_variable};
-use crate::places::Target;
+use crate::numbers::Target;
 use crate::statements::CoreStmt;
 use crate::term_text::{put_told_condition, put_told_term};
 use crate::unit::CoreUnit;

@@ -1,7 +1,7 @@
 // Statements of core.
 
 use crate::expressions::CoreExpr;
-use crate::places::Target;
+use crate::numbers::Target;
 use qs_calls::Callee;
 use qs_memory::{Blank, Scalar};
 

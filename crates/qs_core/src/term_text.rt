@@ -276,7 +276,7 @@ pub fn put_term(out: &mut Vec<u8>, f: &CoreFunction, e: &CoreExpr) -> Result<(),
         CoreExpr::Convert(s, a) => put_conversion(out, f, type_of(a), *s, a),
         CoreExpr::And(_) => Ok(()),
         CoreExpr::Or(_) => Ok(()),
-        CoreExpr::Choice(_, _, _) => Ok(()),
+        CoreExpr::Conditional(_, _, _) => Ok(()),
     }
 }
 
@@ -394,7 +394,7 @@ pub fn put_condition(out: &mut Vec<u8>, f: &CoreFunction, e: &CoreExpr) -> Resul
         CoreExpr::Convert(_, _) => put_nonzero(out, f, e),
         CoreExpr::And(p) => put_both_conditions(out, f, b"and", p),
         CoreExpr::Or(p) => put_both_conditions(out, f, b"or", p),
-        CoreExpr::Choice(_, _, _) => Ok(()),
+        CoreExpr::Conditional(_, _, _) => Ok(()),
     }
 }
 

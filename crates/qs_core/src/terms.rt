@@ -1,6 +1,7 @@
 // Which expressions have terms and conditions.
 ghost use Rattle.std.specs.Prelude.{◌≡◌};
 ghost use Rattle.qs_core.specs.TreeOf.{core_expr};
+ghost use Rattle.qs_core.specs.Scalars.{is_integer};
 ghost use Rattle.qs_core.specs.Terms as spec;
 
 use crate::expressions::CoreExpr;
@@ -9,7 +10,7 @@ use qs_memory::{Arithmetic, BinaryOperation, Scalar, Signedness, UnaryOperation}
 // ---- which expressions have terms
 
 fn is_integer(s: Scalar) -> bool
-    ensures { result ≡ spec.is_integer s }
+    ensures { result ≡ is_integer s }
 {
     match s {
         Scalar::Char => true,
@@ -44,7 +45,7 @@ fn is_literal_from(least: u32, greatest: u32, e: &CoreExpr) -> bool
         CoreExpr::Convert(_, _) => false,
         CoreExpr::And(_) => false,
         CoreExpr::Or(_) => false,
-        CoreExpr::Choice(_, _, _) => false,
+        CoreExpr::Conditional(_, _, _) => false,
     }
 }
 
@@ -65,7 +66,7 @@ pub fn literal_number(e: &CoreExpr) -> u32
         CoreExpr::Convert(_, _) => 0,
         CoreExpr::And(_) => 0,
         CoreExpr::Or(_) => 0,
-        CoreExpr::Choice(_, _, _) => 0,
+        CoreExpr::Conditional(_, _, _) => 0,
     }
 }
 
@@ -146,7 +147,7 @@ pub fn has_term(e: &CoreExpr) -> bool
         CoreExpr::Convert(s, a) => is_integer(*s) && has_term(a),
         CoreExpr::And(_) => false,
         CoreExpr::Or(_) => false,
-        CoreExpr::Choice(_, _, _) => false,
+        CoreExpr::Conditional(_, _, _) => false,
     }
 }
 
@@ -185,6 +186,6 @@ pub fn has_condition(e: &CoreExpr) -> bool
         CoreExpr::Convert(_, _) => has_term(e),
         CoreExpr::And(p) => has_condition(&p.left) && has_condition(&p.right),
         CoreExpr::Or(p) => has_condition(&p.left) && has_condition(&p.right),
-        CoreExpr::Choice(_, _, _) => false,
+        CoreExpr::Conditional(_, _, _) => false,
     }
 }

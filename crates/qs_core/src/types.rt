@@ -1,7 +1,8 @@
 // The types of expressions.
 ghost use Rattle.std.specs.Prelude.{◌≡◌};
 ghost use Rattle.qs_core.specs.TreeOf.{core_expr};
-ghost use Rattle.qs_core.specs.Expressions.{integer_type, unary_type, binary_type, type_of};
+ghost use Rattle.qs_memory.specs.Operations.{integer_type, unary_type, binary_type};
+ghost use Rattle.qs_core.specs.Expressions.{type_of};
 
 use crate::expressions::CoreExpr;
 use qs_memory::{BinaryOperation, Scalar, Signedness, UnaryOperation};
@@ -56,6 +57,6 @@ pub fn type_of(e: &CoreExpr) -> Scalar
         CoreExpr::Convert(s, _) => *s,
         CoreExpr::And(_) => Scalar::Int,
         CoreExpr::Or(_) => Scalar::Int,
-        CoreExpr::Choice(_, a, _) => type_of(a),
+        CoreExpr::Conditional(_, a, _) => type_of(a),
     }
 }

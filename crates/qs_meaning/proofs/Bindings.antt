@@ -1,5 +1,5 @@
 -- What holds of all names where an expression of a body stands, and that the expression then has a typed tree.
-use Rattle.std.proofs.Common.{◌≡◌, ℕ, ◌==◌, Bool, true, false, not, ◌&&◌, ◌||◌, List, [], ◌∷◌, ◌++◌, Option, Some, None, is_some, refl, sym, ap, ◌∙◌, subst, if◌then◌else◌}
+use Rattle.std.proofs.Common.{◌≡◌, ℕ, Bool, true, false, not, ◌&&◌, ◌||◌, List, [], ◌∷◌, ◌++◌, Option, Some, None, refl, ap, ◌∙◌, subst, if◌then◌else◌}
 use Rattle.std.specs.List.{list_all}
 use Rattle.std.proofs.lemmas.List.Folds.{list_all-append}
 use Rattle.qs_syntax.specs.Sameness.{same_bytes}
@@ -7,15 +7,13 @@ use Rattle.qs_syntax.specs.declared.operators.UnaryOperator.{UnaryOperator}
 use Rattle.qs_syntax.specs.declared.operators.UnaryOperator.TheVariants as unaries
 use Rattle.qs_syntax.specs.Trees.{ExprTree, expr, ShapeTree, Exprs, no_exprs, expr_and}
 use Rattle.qs_syntax.specs.Trees as trees
-use Rattle.qs_memory.specs.Partial.{◌>>=◌}
-use Rattle.qs_types.specs.Types.{TypeTree, MemberTree, Structs, is_scalar}
-use Rattle.qs_types.specs.Layout.{is_complete, struct_of, layout_of}
+use Rattle.qs_types.specs.Types.{TypeTree, Structs, is_scalar}
+use Rattle.qs_types.specs.Layout.{is_complete}
 use Rattle.qs_types.specs.GivenFunctions.{Signature}
-use Rattle.qs_types.specs.Contexts.{Entity, local_variable, file_variable, function, given, Binding, Context, lookup, entity_of}
+use Rattle.qs_types.specs.Contexts.{Entity, local_variable, file_variable, function, given, Binding, lookup, entity_of}
 use Rattle.qs_types.specs.Expressions.{type_of}
 use Rattle.qs_types.specs.ExpressionFaults.{Position, expr_faults}
 use Rattle.qs_types.specs.Placed.{is_one_of, local_node, named_local, operand_of, addressed, shape_addressed, all_addressed}
-use Rattle.qs_meaning.specs.Forms.{Form, TypedExpr}
 use Rattle.qs_meaning.specs.Names.{Scope}
 use Rattle.qs_meaning.specs.Expressions.{typed}
 use Rattle.qs_meaning.specs.TypedLaws.{IsReady, are_placed}

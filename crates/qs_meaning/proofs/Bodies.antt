@@ -3,33 +3,29 @@ use Rattle.std.proofs.Common.{◌≡◌, ℕ, Bool, true, false, not, ◌&&◌, 
 use Rattle.std.specs.List.{list_all}
 use Rattle.std.proofs.lemmas.List.Folds.{list_all-append}
 use Rattle.qs_syntax.specs.declared.types.Base.{Base}
-use Rattle.qs_syntax.specs.declared.nodes.Node.{Node}
 use Rattle.qs_syntax.specs.Trees.{ExprTree, DeclaratorTree, InitialiserTree, VariableTree, StartTree, no_start, start_expression, start_declaration, StmtTree, empty, expression, declaration, block, branch, while_loop, do_loop, for_loop, break, continue, return, Stmts, no_stmts, stmt_and, Else, no_else, else_by}
 use Rattle.qs_syntax.specs.Trees as trees
-use Rattle.qs_memory.specs.Partial.{◌>>=◌}
 use Rattle.qs_types.specs.declared.extent.Extent.{Extent}
 use Rattle.qs_types.specs.Types.{TypeTree, int, unsigned, char, void, pointer, array, struct, is_scalar, Structs}
 use Rattle.qs_types.specs.Layout.{and_then, StructLayout, Layouts, array_extent, struct_extent, extent_by, extent_within, sized_by, is_sized, is_complete, extent_of, size_of, layout_of}
 use Rattle.qs_types.specs.declared.rules.Rule.TheVariants as rules
-use Rattle.qs_types.specs.Rules.{Test, keeps, breaks_one, Fault, faults_of, is_any}
+use Rattle.qs_types.specs.Rules.{Test, keeps, breaks_one, faults_of, is_any}
 use Rattle.qs_types.specs.Contexts.{local_variable, Context, inner_scope, inside_loop}
 use Rattle.qs_types.specs.Expressions.{type_of}
-use Rattle.qs_types.specs.ExpressionFaults.{used, discarded, whole, Position, expr_faults}
+use Rattle.qs_types.specs.ExpressionFaults.{used, discarded, whole, expr_faults}
 use Rattle.qs_types.specs.Declarations.{all_typed, lengths_faults, lengths_of, whole_lengths, element_tests, object_type, size_tests, with_size_tests, object_declared, Declared, undeclared, declared, length_by, variable_declared}
-use Rattle.qs_types.specs.InitialiserRules.{is_typed, fits, initialiser_tests, initialiser_faults}
-use Rattle.qs_types.specs.StatementRules.{after_variable, after_variables, holds_back, again_tests, variable_tests, variable_faults, option_initialiser_faults, variables_faults, condition_tests, condition_faults, option_used, option_discarded, return_tests, after_start, start_faults, after_statement, for_context, loop_tests, for_tests, for_faults, statement_faults, statements_faults, else_faults}
+use Rattle.qs_types.specs.InitialiserRules.{is_typed, initialiser_tests, initialiser_faults}
+use Rattle.qs_types.specs.StatementRules.{after_variable, after_variables, holds_back, again_tests, variable_tests, variable_faults, option_initialiser_faults, variables_faults, condition_tests, condition_faults, option_used, option_discarded, return_tests, after_start, start_faults, after_statement, for_context, for_tests, for_faults, statement_faults, statements_faults, else_faults}
 use Rattle.qs_types.specs.Placed.{addressed, Local, is_one_of, is_no_scalar, variables_locals, start_locals, statement_locals, statements_locals, else_locals}
-use Rattle.qs_types.specs.Sites.{Site, site, option_sites, declarator_sites, initialiser_sites, option_initialiser_sites, variable_sites, variables_sites, start_sites, statement_sites, statements_sites, else_sites}
-use Rattle.qs_meaning.specs.Typed.{Lvalue, variable, object, pointer_to, Effect, Stmt, local}
-use Rattle.qs_meaning.specs.Forms.{lvalue}
+use Rattle.qs_types.specs.Sites.{site, option_sites, declarator_sites, option_initialiser_sites, variable_sites, variables_sites, start_sites, statement_sites, statements_sites, else_sites}
+use Rattle.qs_meaning.specs.Typed.{variable, object, pointer_to, local}
 use Rattle.qs_meaning.specs.Names.{Scope, within, local_lvalue, place_among}
 use Rattle.qs_meaning.specs.Expressions.{typed}
-use Rattle.qs_meaning.specs.Initialisers.{local_set}
 use Rattle.qs_meaning.specs.Statements.{initialised, variable_typed, variables_typed, effect_typed, option_effect, condition_typed, option_condition, start_typed, return_typed, statement_typed, statements_typed, else_typed}
 use Rattle.qs_meaning.specs.Forms.{address_in}
-use Rattle.qs_meaning.proofs.Options.{never, left, right, all_left, all_right, Known, known, onward, goes}
+use Rattle.qs_meaning.proofs.Options.{never, left, right, all_left, all_right, Known, onward, goes}
 use Rattle.qs_meaning.proofs.Faultless.{HasTypes, none_left, none_right, unbroken, first_unbroken, second_unbroken, type_known, type_of_known}
-use Rattle.qs_meaning.proofs.Bindings.{AllFine, IsFine, EntityFine, Sound, has_types, are_taken, typed_known}
+use Rattle.qs_meaning.proofs.Bindings.{IsFine, EntityFine, Sound, has_types, are_taken, typed_known}
 use Rattle.qs_meaning.proofs.Initialising.{sites_taken, sites_left, sites_right, local_set_known}
 
 -- ---- types within the limit are complete
@@ -184,7 +180,7 @@ module _ (s₀ : Scope) (declared_nodes : List ℕ) where
   local_address : (node : ℕ) → is_one_of node placed ≡ true → Known (address_in (local_lvalue s₀.locals node))
   local_address node e = go (is_one_of node placed) e
     where
-      go : (b : Bool) → b ≡ true → Known (address_in (if b then object (pointer_to (local (place_among node placed))) else variable (place_among node s₀.locals.plain)))
+      go : (b : Bool) → b ≡ true → Known (address_in (if b then object (pointer_to (local (place_among node placed))) else variable (place_among node s₀.locals.variables)))
       go true e = record { value = _; is = refl }
       go false e = never e
 

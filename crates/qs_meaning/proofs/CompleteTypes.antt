@@ -1,21 +1,22 @@
 -- What complete types have: sizes, operations on pointers to them, offsets of members, parts, blanks.
-use Rattle.std.proofs.Common.{◌≡◌, ◌<◌, ◌⊎◌, inl, inr, ℕ, zero, suc, ◌+◌, Bool, true, false, not, ◌&&◌, ◌||◌, nat_lt, List, [], ◌∷◌, Option, Some, None, is_some, length, map, refl, sym, ap, ◌∙◌, subst, arith, if◌then◌else◌}
+use Rattle.std.proofs.Common.{◌≡◌, ◌<◌, ◌≤◌, ◌⊎◌, inl, inr, ℕ, zero, suc, ◌+◌, Bool, true, false, ◌&&◌, ◌||◌, nat_lt, nat_le, List, [], ◌∷◌, Option, Some, None, is_some, length, refl, sym, ap, ◌∙◌, subst, arith, if◌then◌else◌}
 use Rattle.std.specs.List.{slice_get, list_all}
+use Rattle.std.proofs.lemmas.Bool.Decides.{nat_tests}
 use Rattle.std.proofs.lemmas.Option.{slice_get-get_or, slice_get_within}
+use Rattle.qs_syntax.specs.Trees.{Initialisers}
 use Rattle.qs_syntax.specs.Sameness.{same_bytes}
-use Rattle.qs_syntax.specs.declared.operators.BinaryOperator.{BinaryOperator}
-use Rattle.qs_syntax.specs.declared.operators.BinaryOperator.TheVariants as binaries
 use Rattle.qs_memory.specs.Partial.{◌>>=◌}
 use Rattle.qs_types.specs.declared.extent.Extent.{Extent}
 use Rattle.qs_types.specs.Types.{TypeTree, int, unsigned, char, void, pointer, array, struct, MemberTree, Structs, is_integer, is_pointer, is_struct, is_scalar, same_type, referenced}
 use Rattle.qs_types.specs.Layout.{and_then, StructLayout, Layouts, array_extent, struct_extent, extent_of, extents_by, extent_by, size_of, is_complete, offsets_from, rounded_up, struct_layout, member_types, struct_of, members_layout, layouts_within, defined_structs, layout_of, offset_of}
 use Rattle.qs_types.specs.Expressions.{both_integers, is_object_pointer, may_add, may_subtract, member_in, member_type}
-use Rattle.qs_types.specs.InitialiserRules.{member_at, part_type}
+use Rattle.qs_types.specs.Declarations.{initialisers_count}
+use Rattle.qs_types.specs.InitialiserRules.{member_at, part_type, takes_list, count_of_members, count_of_parts, list_fits}
 use Rattle.qs_meaning.specs.Blanks.{Blanks, blank_by, members_blank, struct_blank, blanks_within, blank_of}
 use Rattle.qs_meaning.specs.Initialisers.{part_offset}
-use Rattle.qs_meaning.specs.Operations.{Operated, element_size, summed, subtracted}
+use Rattle.qs_meaning.specs.Operations.{element_size, summed, subtracted}
 use Rattle.qs_meaning.specs.Expressions.{member_number, member_offset}
-use Rattle.qs_meaning.proofs.Options.{never, left, right, either, nothing, same, Went, went, goes, Known, known, is_known, onward}
+use Rattle.qs_meaning.proofs.Options.{never, left, right, either, nothing, same, went, goes, Known, known, onward}
 
 -- ---- types
 
@@ -290,6 +291,33 @@ part_known structs laid_out members unsigned i c e = never e
 part_known structs laid_out members char i c e = never e
 part_known structs laid_out members void i c e = never e
 part_known structs laid_out members (pointer t) i c e = never e
+
+-- a number below the count of parts is that of a part
+pub part_there : (structs : Structs) (t : TypeTree) (i : ℕ) → i < count_of_parts structs t → is_some (part_type structs t i) ≡ true
+part_there structs (array t n) i h = ap (λ b. is_some (if b then Some t else None)) (is_below i n h)
+  where
+    is_below : (i n : ℕ) → i < n → nat_lt i n ≡ true
+    is_below i n h = grind (arith, nat_tests)
+part_there structs (struct k) i h = go (struct_of structs k) h
+  where
+    go : (o : Option (List MemberTree)) → i < count_of_members o → is_some (member_at o i) ≡ true
+    go None h = absurd (omega arith)
+    go (Some ms) h = ap (λ o. is_some (and_then o (λ (m : MemberTree). Some m.type))) (slice_get-get_or ms i (record { name = []; type = int }) h)
+part_there structs int i h = absurd (omega arith)
+part_there structs unsigned i h = absurd (omega arith)
+part_there structs char i h = absurd (omega arith)
+part_there structs void i h = absurd (omega arith)
+part_there structs (pointer t) i h = absurd (omega arith)
+
+-- a list that fits is for an object with parts, and has no more elements than those
+pub fits_takes : (structs : Structs) (t : TypeTree) (is : Initialisers) → list_fits structs t is ≡ true → takes_list t ≡ true
+fits_takes structs t is h = left (takes_list t) _ h
+
+pub fits_count : (structs : Structs) (t : TypeTree) (is : Initialisers) → list_fits structs t is ≡ true → 0 + initialisers_count is ≤ count_of_parts structs t
+fits_count structs t is h = at_most (initialisers_count is) (count_of_parts structs t) (right (takes_list t) _ h)
+  where
+    at_most : (m n : ℕ) → nat_le m n ≡ true → 0 + m ≤ n
+    at_most m n h = grind (arith, nat_tests)
 
 -- ---- blanks
 

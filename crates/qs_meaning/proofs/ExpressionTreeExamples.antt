@@ -1,5 +1,5 @@
 -- The typed trees of expressions, one for each form and each conversion, computed from the definition.
-use Rattle.std.proofs.Common.{◌≡◌, ℕ, true, false, [], ◌∷◌, Option, Some, None, refl}
+use Rattle.std.proofs.Common.{◌≡◌, ℕ, [], ◌∷◌, None, refl}
 use Rattle.qs_syntax.specs.declared.operators.UnaryOperator.TheVariants as unaries
 use Rattle.qs_syntax.specs.declared.operators.StepOperator.TheVariants as steps
 use Rattle.qs_syntax.specs.declared.operators.BinaryOperator.TheVariants as binaries
@@ -10,19 +10,19 @@ use Rattle.qs_memory.specs.declared.scalar.Scalar.TheVariants.{Char, Int, Unsign
 use Rattle.qs_memory.specs.declared.operation.Signedness.TheVariants as signs
 use Rattle.qs_memory.specs.declared.operation.Direction.TheVariants.{Up, Down}
 use Rattle.qs_memory.specs.declared.operation.UnaryOperation.TheVariants.{Plus, Minus, Complement, Not}
-use Rattle.qs_memory.specs.declared.operation.Arithmetic.TheVariants.{Add, Subtract, Multiply, Divide, Remainder, ShiftLeft, ShiftRight, And, Or, Xor}
+use Rattle.qs_memory.specs.declared.operation.Arithmetic.TheVariants.{Add, Subtract, Multiply, Divide, ShiftLeft, ShiftRight, And}
 use Rattle.qs_memory.specs.declared.operation.Comparison.TheVariants.{Less, Equal, NotEqual}
 use Rattle.qs_memory.specs.declared.operation.BinaryOperation.{BinaryOperation}
 use Rattle.qs_memory.specs.declared.operation.BinaryOperation.TheVariants.{Arithmetic, Compare, Move, Difference, ComparePointers}
 use Rattle.qs_types.specs.Types.{int, unsigned, char, void, pointer, array, struct}
-use Rattle.qs_meaning.specs.Typed.{unchanged, converted, as_written, exchanged, Expr, constant, value, pointer_to, member, called, stepped_after, unary, cast, binary, logical_and, logical_or, conditional, assigned, sequence, variable, object, no_arguments, argument_and, set, update, discard, assign, perform, copy, local, static}
+use Rattle.qs_meaning.specs.Typed.{unchanged, converted, as_written, exchanged, Expr, constant, value, pointer_to, member, stepped_after, unary, cast, binary, logical_and, logical_or, conditional, variable, object, no_arguments, argument_and, set, update, discard, assign, perform, local, static}
 use Rattle.qs_calls.specs.declared.callee.Callee.{Callee}
 use Rattle.qs_calls.specs.declared.callee.Callee.TheVariants.{Function, PutChar, GetChar}
 use Rattle.qs_meaning.specs.Forms.{lvalue, result, call, assignment, step, struct_assignment, comma}
 use Rattle.qs_meaning.specs.Expressions.{typed}
 use Rattle.qs_meaning.proofs.Samples as c
 use Rattle.qs_meaning.proofs.Samples.{e, number, natural, op, address, deref, at, dot, arrow}
-use Rattle.qs_meaning.proofs.Known.{scope, is, u, t, x, v, g, h, text_at}
+use Rattle.qs_meaning.proofs.Known.{scope, is, u, x, v, h, text_at}
 
 -- ---- words
 

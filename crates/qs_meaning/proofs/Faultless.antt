@@ -1,6 +1,5 @@
 -- Where no rule is broken in an expression, and all names have types, it has a type.
-use Rattle.std.proofs.Common.{◌≡◌, ◌⊎◌, inl, inr, ℕ, Bool, true, false, not, ◌&&◌, ◌||◌, List, [], ◌∷◌, ◌++◌, Option, Some, None, is_some, refl, sym, ap, ◌∙◌, subst, if◌then◌else◌}
-use Rattle.qs_syntax.specs.declared.nodes.Node.{Node}
+use Rattle.std.proofs.Common.{◌≡◌, ℕ, Bool, true, false, ◌||◌, List, [], ◌∷◌, ◌++◌, Option, Some, None, refl, sym, ap, ◌∙◌, subst, if◌then◌else◌}
 use Rattle.qs_syntax.specs.Trees.{ExprTree, expr, ShapeTree, Exprs, no_exprs, expr_and}
 use Rattle.qs_syntax.specs.Trees as trees
 use Rattle.qs_types.specs.Types.{TypeTree}
@@ -8,9 +7,9 @@ use Rattle.qs_types.specs.Layout.{and_then}
 use Rattle.qs_types.specs.GivenFunctions.{Signature}
 use Rattle.qs_types.specs.Rules.{Test, breaks_one, type_unless, Fault, faults_of}
 use Rattle.qs_types.specs.Contexts.{Entity, local_variable, file_variable, function, given, Context, entity_of}
-use Rattle.qs_types.specs.Expressions.{Judged, name_judged, call_judged, type_of, shape_judged, types_of}
-use Rattle.qs_types.specs.ExpressionFaults.{Position, used, discarded, whole, operand_position, object_position, right_position, own_tests, position_tests, node_faults, expr_faults, part_faults, all_faults}
-use Rattle.qs_meaning.proofs.Options.{never, nothing, Known}
+use Rattle.qs_types.specs.Expressions.{name_judged, call_judged, type_of, shape_judged, types_of}
+use Rattle.qs_types.specs.ExpressionFaults.{Position, used, discarded, whole, operand_position, assigned_position, object_position, right_position, own_tests, position_tests, node_faults, expr_faults, part_faults, all_faults}
+use Rattle.qs_meaning.proofs.Options.{never, Known}
 
 -- ---- lists without elements
 
@@ -118,8 +117,8 @@ module _ (c : Context) (has : HasTypes c) where
         next_known (type_of c a) _ (type_of_known a used (none_left _ _ h))
         (next_known (type_of c b) _ (type_of_known b used (none_right (expr_faults c used a) _ h)) (record { value = _; is = refl }))
     shape_known (trees.assign operator a b) p h =
-        next_known (type_of c a) _ (type_of_known a whole (none_left _ _ h))
-        (next_known (type_of c b) _ (type_of_known b whole (none_right (expr_faults c whole a) _ h)) (record { value = _; is = refl }))
+        next_known (type_of c a) _ (type_of_known a (assigned_position operator) (none_left _ _ h))
+        (next_known (type_of c b) _ (type_of_known b (assigned_position operator) (none_right (expr_faults c (assigned_position operator) a) _ h)) (record { value = _; is = refl }))
     shape_known (trees.conditional d a b) p h =
         let rest = none_right (expr_faults c used d) _ h in
         next_known (type_of c d) _ (type_of_known d used (none_left _ _ h)) (next_known (type_of c a) _ (type_of_known a used (none_left _ _ rest))

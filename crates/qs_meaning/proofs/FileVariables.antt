@@ -1,38 +1,33 @@
 -- Where a variable of file scope breaks no rule, it has a block.
-use Rattle.std.proofs.Common.{◌≡◌, ◌⊎◌, inl, inr, ℕ, ◌+◌, ◌==◌, Bool, true, false, not, ◌&&◌, ◌||◌, List, [], ◌∷◌, ◌++◌, Option, Some, None, is_some, refl, sym, ap, ◌∙◌, subst, if◌then◌else◌}
-use Rattle.std.specs.List.{list_all}
-use Rattle.qs_syntax.specs.declared.operators.UnaryOperator.{UnaryOperator}
+use Rattle.std.proofs.Common.{◌≡◌, ◌≤◌, ◌⊎◌, inl, inr, ℕ, suc, ◌+◌, Bool, true, false, ◌&&◌, ◌||◌, List, [], ◌∷◌, ◌++◌, Option, Some, None, is_some, refl, sym, ap, ◌∙◌, subst, arith, if◌then◌else◌}
 use Rattle.qs_syntax.specs.declared.operators.UnaryOperator.TheVariants as unaries
 use Rattle.qs_syntax.specs.declared.types.Base.{Base}
 use Rattle.qs_syntax.specs.Trees.{ExprTree, expr, ShapeTree, InitialiserTree, Initialisers, no_initialisers, initialiser_and, VariableTree}
 use Rattle.qs_syntax.specs.Trees as trees
-use Rattle.qs_memory.specs.Partial.{◌>>=◌}
 use Rattle.qs_memory.specs.Values.{null}
-use Rattle.qs_memory.specs.Memory.{Cell, BlankTree, blank_cells}
-use Rattle.qs_types.specs.Types.{TypeTree, int, unsigned, char, void, pointer, array, struct, is_integer, is_pointer, is_array, is_scalar, same_type, Structs}
+use Rattle.qs_memory.specs.Memory.{Cell, blank_cells}
+use Rattle.qs_types.specs.Types.{TypeTree, int, unsigned, char, void, pointer, array, struct, is_integer, is_pointer, is_array, same_type, Structs}
 use Rattle.qs_types.specs.Layout.{and_then, is_complete}
 use Rattle.qs_types.specs.Conversions.{decayed}
-use Rattle.qs_types.specs.Rules.{Test, keeps, breaks_one, Fault, faults_of}
+use Rattle.qs_types.specs.Rules.{keeps, breaks_one, faults_of}
 use Rattle.qs_types.specs.declared.rules.Rule.TheVariants as rules
 use Rattle.qs_types.specs.Contexts.{Entity, local_variable, file_variable, function, given, Context, entity_of}
-use Rattle.qs_types.specs.Expressions.{is_lvalue, is_null_constant, both_integers, same_pointers, is_assignable, is_object_pointer, unary_judged, Judged, type_of}
+use Rattle.qs_types.specs.Expressions.{is_null_constant, is_assignable, unary_judged, Judged, type_of}
 use Rattle.qs_types.specs.Constants.{is_built, value_of, constant_of}
 use Rattle.qs_types.specs.ExpressionFaults.{whole, expr_faults}
-use Rattle.qs_types.specs.Declarations.{text_of, lengths_faults, all_typed, length_by, variable_declared}
-use Rattle.qs_types.specs.InitialiserRules.{part_type, holds_text, is_file_variable, names_file_variable, is_address, is_constant, fits_variable, fits_typed, takes_list, element_fits, elements_fit, elements_typed, list_tests, initialiser_faults, elements_faults, is_typed, fits, initialiser_tests}
-use Rattle.qs_types.specs.StatementRules.{holds_back, after_variable, after_variables, again_tests, variable_tests, variable_faults, option_initialiser_faults, variables_faults}
-use Rattle.qs_meaning.specs.Typed.{StaticBlock}
-use Rattle.qs_meaning.specs.Conversions.{scalar_of}
+use Rattle.qs_types.specs.Declarations.{text_of, initialisers_count, lengths_faults, length_by, variable_declared}
+use Rattle.qs_types.specs.InitialiserRules.{part_type, holds_text, is_file_variable, names_file_variable, is_address, is_constant, fits_variable, fits_typed, takes_list, count_of_parts, element_fits, elements_fit, elements_typed, list_tests, initialiser_faults, elements_faults, is_typed, fits, initialiser_tests}
+use Rattle.qs_types.specs.StatementRules.{after_variable, after_variables, again_tests, variable_tests, variable_faults, option_initialiser_faults, variables_faults}
 use Rattle.qs_meaning.specs.Names.{Scope, within}
 use Rattle.qs_meaning.specs.Blanks.{blank_of}
 use Rattle.qs_meaning.specs.Initialisers.{part_offset, Piece, pieces, pieces_from}
-use Rattle.qs_meaning.specs.InitialValues.{entity_pointer, named_pointer, address_constant, pointer_constant, constant_cells, array_cells, piece_cells, pieces_over, written_over, initial_cells, variable_block}
+use Rattle.qs_meaning.specs.InitialValues.{entity_pointer, named_pointer, address_constant, pointer_constant, piece_cells, pieces_over, written_over, initial_cells, variable_block}
 use Rattle.qs_meaning.specs.Units.{file_variable_typed, file_variables_typed}
 use Rattle.qs_meaning.specs.TypedLaws.{EntityTyped, IsFileScope}
-use Rattle.qs_meaning.proofs.Options.{never, nothing, left, right, either, Known, known, onward, goes, went}
-use Rattle.qs_meaning.proofs.CompleteTypes.{part_known, blank_known}
+use Rattle.qs_meaning.proofs.Options.{never, left, right, either, Known, known, onward, goes, went}
+use Rattle.qs_meaning.proofs.CompleteTypes.{part_known, part_there, fits_takes, fits_count, blank_known}
 use Rattle.qs_meaning.proofs.Faultless.{HasTypes, none_left, none_right, unbroken, first_unbroken, second_unbroken, type_of_known}
-use Rattle.qs_meaning.proofs.Bindings.{Sound, has_types}
+use Rattle.qs_meaning.proofs.Bindings.{has_types}
 use Rattle.qs_meaning.proofs.TypedExpressions.{unless}
 use Rattle.qs_meaning.proofs.Bodies.{DeclaredAs, declared_known, lengths_typed, not_held_back}
 use Rattle.qs_meaning.proofs.FunctionsTyped.{file_sound}
@@ -295,10 +290,6 @@ module _ (s : Scope) (h : IsFileScope s.context) where
   all_elements_typed (initialiser_and (trees.list node inner) is) u i f =
       all_elements_typed is u (i + 1) (none_right (initialiser_faults true s.context (part_type structs u i) (trees.list node inner)) _ f)
 
-  part_there : (o : Option TypeTree) (i : InitialiserTree) → element_fits true s.context o i ≡ true → is_some o ≡ true
-  part_there None i e = never e
-  part_there (Some t) i e = refl
-
   elements_kept : (typed takes fits : Bool) → typed ≡ true → takes ≡ true → breaks_one (if typed && takes then keeps rules.InitialiserType fits else []) ≡ false → fits ≡ true
   elements_kept true true true e f k = refl
   elements_kept true true false e f k = never (sym k)
@@ -323,19 +314,22 @@ module _ (s : Scope) (h : IsFileScope s.context) where
         let inner = none_right (faults_of node.id (list_tests true s.context u is)) (elements_faults true s.context (Some u) 0 is) f in
         let tests = unbroken node.id (list_tests true s.context u is)
         (none_left (faults_of node.id (list_tests true s.context u is)) (elements_faults true s.context (Some u) 0 is) f) in
-        elements_celled is u offset 0 complete (elements_kept (elements_typed s.context is) (takes_list u) (elements_fit true s.context u 0 is)
-        (all_elements_typed is u 0 inner) fits tests) inner
+        elements_celled is u offset 0 complete (fits_count structs u is fits)
+        (elements_kept (elements_typed s.context is) (takes_list u) (elements_fit true s.context (Some u) 0 is) (all_elements_typed is u 0 inner)
+        (fits_takes structs u is fits) tests) inner
 
-    elements_celled : (is : Initialisers) (u : TypeTree) (offset i : ℕ) → is_complete structs u ≡ true → elements_fit true s.context u i is ≡ true
+    elements_celled : (is : Initialisers) (u : TypeTree) (offset i : ℕ) → is_complete structs u ≡ true
+        → i + initialisers_count is ≤ count_of_parts structs u → elements_fit true s.context (Some u) i is ≡ true
         → elements_faults true s.context (Some u) i is ≡ [] → Celled (pieces_from structs u offset i is)
-    elements_celled no_initialisers u offset i complete fits f = record { list = []; is = refl; cells = tt }
-    elements_celled (initialiser_and first is) u offset i complete fits f =
-        let fits_first = left _ _ fits in
-        let p = part_known structs h.laid_out h.members u i complete (part_there (part_type structs u i) first fits_first) in
+    elements_celled no_initialisers u offset i complete room fits f = record { list = []; is = refl; cells = tt }
+    elements_celled (initialiser_and first is) u offset i complete room fits f =
+        let fits_first : element_fits true s.context (part_type structs u i) first ≡ true = left _ _ fits in
+        let r : i + suc (initialisers_count is) ≤ count_of_parts structs u = room in
+        let p = part_known structs h.laid_out h.members u i complete (part_there structs u i (omega arith)) in
         let now = initialiser_celled first p.type (offset + p.offset.value) p.complete
         (subst (λ o. element_fits true s.context o first ≡ true) p.is fits_first)
         (subst (λ o. initialiser_faults true s.context o first ≡ []) p.is (none_left _ _ f)) in
-        let later = elements_celled is u offset (i + 1) complete (right (element_fits true s.context (part_type structs u i) first) _ fits)
+        let later = elements_celled is u offset (i + 1) complete (omega arith) (right (element_fits true s.context (part_type structs u i) first) _ fits)
         (none_right (initialiser_faults true s.context (part_type structs u i) first) _ f) in
         record {
           list = now.list ++ later.list;

@@ -1,26 +1,26 @@
 -- Where a function breaks no rule, it has a typed tree.
-use Rattle.std.proofs.Common.{◌≡◌, ℕ, ◌==◌, Bool, true, false, cond, not, ◌&&◌, ◌||◌, List, [], ◌∷◌, ◌++◌, Option, Some, None, is_some, filter, flat_map, map, refl, sym, ap, ◌∙◌, subst, if◌then◌else◌}
+use Rattle.std.proofs.Common.{◌≡◌, ℕ, ◌==◌, Bool, true, false, cond, not, ◌&&◌, ◌||◌, List, [], ◌∷◌, ◌++◌, Option, Some, None, is_some, filter, flat_map, option_map, refl, sym, ap, ◌∙◌, subst, if◌then◌else◌}
 use Rattle.std.specs.List.{list_all}
 use Rattle.std.proofs.lemmas.Bool.{eqb-true, eq-eqb}
-use Rattle.qs_syntax.specs.Trees.{ExprTree, ParameterTree, FunctionTree, Stmts}
-use Rattle.qs_memory.specs.declared.scalar.Scalar.{Scalar}
+use Rattle.qs_syntax.specs.Trees.{ExprTree, LengthsTree, ParameterTree}
 use Rattle.qs_memory.specs.Partial.{◌>>=◌}
 use Rattle.qs_types.specs.Types.{TypeTree, int, unsigned, char, void, pointer, array, struct, is_scalar, Structs}
 use Rattle.qs_types.specs.Layout.{and_then, size_of, is_complete}
 use Rattle.qs_types.specs.declared.rules.Rule.TheVariants as rules
-use Rattle.qs_types.specs.Rules.{Test, test, keeps, breaks_one, type_unless, Fault, faults_of}
-use Rattle.qs_types.specs.Contexts.{Entity, local_variable, Context, with_name, inner_scope}
-use Rattle.qs_types.specs.Declarations.{Declared, declared_by, undeclared, all_typed, lengths_faults, is_array_parameter, array_parameter, array_parameter_tests, parameter_element, plain_parameter, parameter_declared, size_tests}
+use Rattle.qs_types.specs.Rules.{Test, test, breaks_one, faults_of}
+use Rattle.qs_types.specs.Contexts.{Context}
+use Rattle.qs_types.specs.Expressions.{type_of}
+use Rattle.qs_types.specs.Declarations.{declared_by, undeclared, all_typed, lengths_faults, is_array_parameter, lengths_of, object_type, first_in, behind_first, first_length, element_lengths, is_length_typed, is_length, array_parameter, held_parameter, plain_parameter, parameter_declared}
 use Rattle.qs_types.specs.Placed.{Local, is_one_of, is_no_scalar, is_placed, addressed, parameters_locals}
 use Rattle.qs_types.specs.Sites.{Site}
 use Rattle.qs_types.specs.UnitRules.{with_parameter, after_parameter, parameter_types, with_parameters, signature_tests, parameter_tests, parameters_faults, is_name_declared}
-use Rattle.qs_meaning.specs.Typed.{Lvalue, variable, object, pointer_to, local}
+use Rattle.qs_meaning.specs.Typed.{variable, object, pointer_to, local}
 use Rattle.qs_meaning.specs.Conversions.{scalar_of}
-use Rattle.qs_meaning.specs.Names.{Locals, Scope, within, local_lvalue, place_among}
-use Rattle.qs_meaning.specs.Units.{nodes_of, placed_among, plain_among, locals_of, scalars_of, sizes_of, parameter_by, parameter_typed, parameters_typed}
-use Rattle.qs_meaning.proofs.Options.{never, left, right, Known, known, onward, goes}
+use Rattle.qs_meaning.specs.Names.{Locals, Scope, within, place_among}
+use Rattle.qs_meaning.specs.Units.{nodes_of, placed_among, scalars_of, sizes_of, parameter_by, parameter_typed, parameters_typed}
+use Rattle.qs_meaning.proofs.Options.{never, left, right, Known, known, onward}
 use Rattle.qs_meaning.proofs.Faultless.{none_left, none_right, unbroken, first_unbroken, second_unbroken, type_known}
-use Rattle.qs_meaning.proofs.Bindings.{EntityFine, IsFine, Sound, has_types, are_taken}
+use Rattle.qs_meaning.proofs.Bindings.{Sound, has_types}
 use Rattle.qs_meaning.proofs.Initialising.{sites_taken}
 use Rattle.qs_meaning.proofs.Bodies.{is_fine_local, locals_fine, is_sized_local, all_sized, lengths_typed}
 
@@ -67,8 +67,8 @@ fine_among taken declared placed (x ∷ xs) h k =
     large false e = refl
     large true e = k x.node (kept_first (is_placed taken) x xs (or_right (is_one_of x.node taken) _ e))
 
-pub all_fine : (taken : List ℕ) (xs : List Local) → locals_fine (nodes_of xs) (locals_of taken xs).placed xs ≡ true
-all_fine taken xs = fine_among taken (nodes_of xs) (locals_of taken xs).placed xs (λ n e. e) (λ n e. e)
+pub all_fine : (taken : List ℕ) (xs : List Local) → locals_fine (nodes_of xs) (nodes_of (placed_among taken xs)) xs ≡ true
+all_fine taken xs = fine_among taken (nodes_of xs) (nodes_of (placed_among taken xs)) xs (λ n e. e) (λ n e. e)
 
 -- an operand of `&` that is one of the locals is placed
 addressed_placed : (taken : List ℕ) (n : ℕ) → is_one_of n taken ≡ true → (xs : List Local) →
@@ -114,24 +114,31 @@ each_site declared placed (x ∷ xs) h =
     (each_site declared placed xs (λ n e. h n (one_right n (addressed x.context x.expression) (flat_map (λ (x : Site). addressed x.context x.expression) xs) e)))
 
 pub all_taken : (sites : List Site) (xs : List Local)
-    → sites_taken (nodes_of xs) (locals_of (flat_map (λ (x : Site). addressed x.context x.expression) sites) xs).placed sites ≡ true
+    → sites_taken (nodes_of xs) (nodes_of (placed_among (flat_map (λ (x : Site). addressed x.context x.expression) sites) xs)) sites ≡ true
 all_taken sites xs =
     let taken = flat_map (λ (x : Site). addressed x.context x.expression) sites in
-    each_site (nodes_of xs) (locals_of taken xs).placed sites (λ n e. addressed_placed taken n e xs)
+    each_site (nodes_of xs) (nodes_of (placed_among taken xs)) sites (λ n e. addressed_placed taken n e xs)
 
 -- ---- types and sizes of the locals
+
+typed : (structs : Structs) (o : Option TypeTree) → is_some (and_then o (size_of structs)) ≡ true → Known o
+typed structs None e = never e
+typed structs (Some t) e = record { value = t; is = refl }
 
 pub scalars_known : (structs : Structs) (p : Local → Bool) (xs : List Local) → all_sized structs xs ≡ true → Known (scalars_of (filter p xs))
 scalars_known structs p [] e = record { value = _; is = refl }
 scalars_known structs p (x ∷ xs) e = go (scalars_known structs p xs (right (is_sized_local structs x) _ e)) (p x)
   where
-    typed : (o : Option TypeTree) → is_some (and_then o (size_of structs)) ≡ true → Known o
-    typed None e = never e
-    typed (Some t) e = record { value = t; is = refl }
-
     go : Known (scalars_of (filter p xs)) → (b : Bool) → Known (scalars_of (cond b (x ∷ filter p xs) (filter p xs)))
-    go rest true = onward x.type _ (typed x.type (left _ _ e)) (onward (scalars_of (filter p xs)) _ rest (record { value = _; is = refl }))
+    go rest true = onward x.type _ (typed structs x.type (left _ _ e)) (onward (scalars_of (filter p xs)) _ rest (record { value = _; is = refl }))
     go rest false = rest
+
+-- behind others
+pub scalars_behind : (structs : Structs) (xs ys : List Local) → all_sized structs xs ≡ true → Known (scalars_of ys) → Known (scalars_of (xs ++ ys))
+scalars_behind structs [] ys e k = k
+scalars_behind structs (x ∷ xs) ys e k =
+    onward x.type _ (typed structs x.type (left _ _ e))
+    (onward (scalars_of (xs ++ ys)) _ (scalars_behind structs xs ys (right (is_sized_local structs x) _ e) k) (record { value = _; is = refl }))
 
 pub sizes_known : (structs : Structs) (p : Local → Bool) (xs : List Local) → all_sized structs xs ≡ true → Known (sizes_of structs (filter p xs))
 sizes_known structs p [] e = record { value = _; is = refl }
@@ -175,15 +182,44 @@ scalar_complete structs (struct k) e = never e
 declared_by_known : (ts : List Test) (t : TypeTree) → breaks_one ts ≡ false → Known (declared_by ts t).type
 declared_by_known ts t e = record { value = t; is = type_known ts t e }
 
+-- where all lengths have types, those of the elements and the first one do
+elements_typed : (c : Context) (l : LengthsTree) → all_typed c l.given ≡ true → all_typed c (element_lengths l) ≡ true
+elements_typed c l e = go l.is_open l.given e
+  where
+    go : (b : Bool) (es : List ExprTree) → all_typed c es ≡ true → all_typed c (if b then es else behind_first es) ≡ true
+    go true es e = e
+    go false [] e = refl
+    go false (x ∷ es) e = right (is_some (type_of c x)) _ e
+
+first_typed : (c : Context) (l : LengthsTree) → all_typed c l.given ≡ true → is_length_typed c (first_length l) ≡ true
+first_typed c l e = go l.is_open l.given e
+  where
+    go : (b : Bool) (es : List ExprTree) → all_typed c es ≡ true → is_length_typed c (if b then None else first_in es) ≡ true
+    go true es e = refl
+    go false [] e = refl
+    go false (x ∷ es) e = left _ _ e
+
 parameter_type_known : (c : Context) (p : ParameterTree) → all_typed c p.lengths.given ≡ true → breaks_one (parameter_declared c p).tests ≡ false → Known
     (parameter_declared c p).type
-parameter_type_known c p e h = go (all_typed c p.lengths.given) (is_array_parameter p.lengths) e h
+parameter_type_known c p e h =
+    go (is_array_parameter p.lengths) (all_typed c (element_lengths p.lengths)) (is_length_typed c (first_length p.lengths)) (elements_typed c p.lengths e)
+    (first_typed c p.lengths e) h
   where
-    go : (b a : Bool) → b ≡ true → breaks_one (if b then (if a then array_parameter c p else plain_parameter c p) else undeclared).tests ≡ false
-        → Known (if b then (if a then array_parameter c p else plain_parameter c p) else undeclared).type
-    go true true e h = record { value = pointer (parameter_element c p); is = type_known (array_parameter c p).tests (pointer (parameter_element c p)) h }
-    go true false e h = record { value = _; is = type_known (plain_parameter c p).tests _ h }
-    go false a e h = never e
+    lengths : Option (List ℕ)
+    lengths = if is_length c (first_length p.lengths) then lengths_of c (element_lengths p.lengths) else None
+
+    element : TypeTree
+    element = object_type c p.type_name.base p.type_name.stars lengths
+
+    go : (is_array typed first_is_typed : Bool) → typed ≡ true → first_is_typed ≡ true
+        → breaks_one
+        (if not is_array then plain_parameter c p else if not typed then undeclared else if first_is_typed then array_parameter c p else held_parameter c p).tests
+        ≡ false
+        → Known (if not is_array then plain_parameter c p else if not typed then undeclared else if first_is_typed then array_parameter c p else held_parameter c p).type
+    go false typed first e f h = record { value = _; is = type_known (plain_parameter c p).tests _ h }
+    go true true true e f h = record { value = pointer element; is = ap (option_map pointer) (type_known (array_parameter c p).tests element h) }
+    go true true false e f h = never f
+    go true false first e f h = never e
 
 first_scalar : (t : TypeTree) (b : Bool) → (not (is_scalar t && b) || false) ≡ false → is_scalar t ≡ true
 first_scalar t b e = go (is_scalar t) e
@@ -272,7 +308,7 @@ parameter_known locals p None e = never e
 parameter_known locals p (Some t) e = go (is_one_of p.node.id locals.placed)
   where
     go : (b : Bool) → Known (parameter_by (scalar_of t) (if b then object (pointer_to (local (place_among p.node.id locals.placed))) else variable
-        (place_among p.node.id locals.plain)))
+        (place_among p.node.id locals.variables)))
     go true = record { value = _; is = refl }
     go false = record { value = _; is = refl }
 

@@ -1,29 +1,28 @@
 -- A function that breaks no rule has a typed tree.
-use Rattle.std.proofs.Common.{◌≡◌, ℕ, Bool, true, false, not, ◌&&◌, ◌||◌, List, [], ◌∷◌, ◌++◌, Option, Some, None, is_some, filter, flat_map, refl, sym, ap, ◌∙◌, subst, if◌then◌else◌}
-use Rattle.std.specs.List.{list_all}
-use Rattle.qs_syntax.specs.Trees.{ParameterTree, FunctionTree, Stmts}
+use Rattle.std.proofs.Common.{◌≡◌, ℕ, Bool, true, false, not, ◌||◌, List, [], ◌∷◌, ◌++◌, Option, Some, None, is_some, refl, sym, ap, ◌∙◌, subst, if◌then◌else◌}
+use Rattle.qs_syntax.specs.Trees.{FunctionTree, Stmts}
 use Rattle.qs_memory.specs.Partial.{◌>>=◌}
 use Rattle.qs_types.specs.Types.{TypeTree, Structs}
 use Rattle.qs_types.specs.Layout.{and_then}
 use Rattle.qs_types.specs.GivenFunctions.{Signature}
 use Rattle.qs_types.specs.declared.rules.Rule.TheVariants as rules
-use Rattle.qs_types.specs.Rules.{Test, keeps, breaks_one, faults_of}
+use Rattle.qs_types.specs.Rules.{keeps, breaks_one, faults_of}
 use Rattle.qs_types.specs.Contexts.{Entity, local_variable, file_variable, function, given, Binding, Context, lookup, base_type, starred_type, pointers, inner_scope}
-use Rattle.qs_types.specs.Placed.{Local, parameters_locals, statements_locals, addressed, addressed_in, locals_in, is_placed}
-use Rattle.qs_types.specs.Sites.{Site, statements_sites}
+use Rattle.qs_types.specs.Placed.{Local, parameters_locals, statements_locals, addressed_in, is_placed}
+use Rattle.qs_types.specs.Sites.{statements_sites}
 use Rattle.qs_types.specs.StatementRules.{statements_faults}
-use Rattle.qs_types.specs.UnitRules.{parameter_types, is_void_pointer, result_type, header_of, all_of, signature_by, may_declare, result_tests, main_tests, header_tests, declared_function, after_function, parameters_faults, with_parameters, body_context, body_faults, function_faults}
+use Rattle.qs_types.specs.UnitRules.{parameter_types, is_void_pointer, result_type, header_of, all_of, signature_by, may_declare, result_tests, main_tests, header_tests, declared_function, after_function, parameters_faults, body_context, function_faults}
 use Rattle.qs_meaning.specs.Typed.{Function}
 use Rattle.qs_meaning.specs.Names.{Locals, Scope, within}
 use Rattle.qs_meaning.specs.Statements.{statements_typed}
-use Rattle.qs_meaning.specs.Units.{nodes_of, placed_among, plain_among, locals_of, scalars_of, sizes_of, parameters_typed, in_body, function_with, function_typed}
+use Rattle.qs_meaning.specs.Units.{nodes_of, placed_among, plain_among, variables_among, locals_of, parameters_in, scalars_of, sizes_of, parameters_typed, in_body, function_with, function_typed}
 use Rattle.qs_meaning.specs.TypedLaws.{EntityTyped, AllTyped, IsFileScope, FunctionsTyped}
-use Rattle.qs_meaning.proofs.Options.{never, nothing, left, right, Known, known, onward}
+use Rattle.qs_meaning.proofs.Options.{never, right, Known, onward}
 use Rattle.qs_meaning.proofs.Faultless.{none_left, none_right, unbroken, first_unbroken, second_unbroken}
 use Rattle.qs_meaning.proofs.Bindings.{EntityFine, AllFine, Sound}
 use Rattle.qs_meaning.proofs.Initialising.{sites_taken}
 use Rattle.qs_meaning.proofs.Bodies.{locals_fine, locals_left, locals_right, all_sized, sized_together, Stands, all_known, body_sized}
-use Rattle.qs_meaning.proofs.Functions.{all_fine, all_taken, scalars_known, sizes_known, is_scalar_type, all_scalar, parameters_scalar, with_parameters_sound, same_result, same_structs_with, parameters_known, parameters_sized, parameters_declared}
+use Rattle.qs_meaning.proofs.Functions.{all_fine, all_taken, scalars_known, scalars_behind, sizes_known, is_scalar_type, all_scalar, parameters_scalar, with_parameters_sound, same_result, same_structs_with, parameters_known, parameters_sized, parameters_declared}
 
 -- ---- names at file scope
 
@@ -111,14 +110,20 @@ module _ (s : Scope) (h : IsFileScope s.context) (f : FunctionTree) (body : Stmt
   abbrev c : Context
   c = s.context
 
+  abbrev parameters : List Local
+  parameters = parameters_in c whole
+
+  abbrev in_statements : List Local
+  in_statements = statements_locals (body_context c whole) body
+
   abbrev ls : List Local
-  ls = locals_in c whole body
+  ls = parameters ++ in_statements
 
   abbrev operands : List ℕ
   operands = addressed_in c whole body
 
   abbrev locals : Locals
-  locals = locals_of operands ls
+  locals = locals_of operands parameters in_statements
 
   abbrev s₀ : Scope
   s₀ = record s { locals = locals }
@@ -176,18 +181,22 @@ module _ (s : Scope) (h : IsFileScope s.context) (f : FunctionTree) (body : Stmt
   body_taken : sites_taken (nodes_of ls) locals.placed (statements_sites (body_context c whole) body) ≡ true
   body_taken = all_taken (statements_sites (body_context c whole) body) ls
 
-  sized : all_sized c.structs ls ≡ true
-  unfolding at_body
-  sized = sized_together c.structs (parameters_locals f.parameters types) (statements_locals (body_context c whole) body)
-      (parameters_sized c.structs f.parameters (inner_scope c) scalar)
-      (subst (λ z. all_sized z (statements_locals (body_context c whole) body) ≡ true) (same_structs_with f.parameters types at_body)
-      (body_sized s₀ (nodes_of ls) body (body_context c whole) stands body_faultless body_taken body_fine))
+  all_parameters_sized : all_sized c.structs parameters ≡ true
+  all_parameters_sized = parameters_sized c.structs f.parameters (inner_scope c) scalar
 
-  pub function_known : Known (function_with s whole body operands ls)
+  statements_sized : all_sized c.structs in_statements ≡ true
+  unfolding at_body
+  statements_sized = subst (λ z. all_sized z in_statements ≡ true) (same_structs_with f.parameters types at_body)
+      (body_sized s₀ (nodes_of ls) body (body_context c whole) stands body_faultless body_taken body_fine)
+
+  pub function_known : Known (function_with s whole body operands parameters in_statements)
   function_known =
       onward (parameters_typed locals f.parameters types) _ (parameters_known locals f.parameters (inner_scope c) scalar)
-      (onward (scalars_of (plain_among operands ls)) _ (scalars_known c.structs (λ (l : Local). not (is_placed operands l)) ls sized)
-      (onward (sizes_of c.structs (placed_among operands ls)) _ (sizes_known c.structs (is_placed operands) ls sized)
+      (onward (scalars_of (variables_among operands parameters in_statements)) _
+      (scalars_behind c.structs parameters (plain_among operands in_statements) all_parameters_sized
+      (scalars_known c.structs (λ (l : Local). not (is_placed operands l)) in_statements statements_sized))
+      (onward (sizes_of c.structs (placed_among operands ls)) _
+      (sizes_known c.structs (is_placed operands) ls (sized_together c.structs parameters in_statements all_parameters_sized statements_sized))
       (onward (statements_typed (in_body s whole locals) body) _ (all_known s₀ (nodes_of ls) body (body_context c whole) stands body_faultless body_taken body_fine)
       (record { value = _; is = refl }))))
 

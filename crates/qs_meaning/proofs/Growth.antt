@@ -1,5 +1,5 @@
 -- A greater bound keeps what has ended, and a call is the run of the function alone and then what follows.
-use Rattle.std.proofs.Common.{◌≡◌, ℕ, zero, suc, ◌≤◌, List, Option, Some, None, refl, arith, slice_get}
+use Rattle.std.proofs.Common.{ℕ, zero, suc, ◌≤◌, List, refl, arith, slice_get}
 use Rattle.qs_events.specs.Runs.{Within}
 use Rattle.qs_calls.specs.World.{Return, leaves}
 use Rattle.qs_calls.specs.Relations.{CallsRelated}

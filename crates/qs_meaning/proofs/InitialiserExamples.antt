@@ -2,20 +2,20 @@
 use Rattle.std.proofs.Common.{◌≡◌, ℕ, true, false, List, [], ◌∷◌, ◌++◌, Option, Some, None, refl}
 use Rattle.qs_syntax.specs.declared.types.Base.TheVariants as bases
 use Rattle.qs_syntax.specs.Numbering.{numbered_unit}
-use Rattle.qs_syntax.specs.Trees.{UnitTree, StmtTree, InitialiserTree}
+use Rattle.qs_syntax.specs.Trees.{UnitTree, InitialiserTree}
 use Rattle.qs_memory.specs.declared.scalar.Scalar.TheVariants.{Char, Int, Unsigned, Pointer}
 use Rattle.qs_memory.specs.Partial.{◌>>=◌}
 use Rattle.qs_memory.specs.Values.{null, into}
 use Rattle.qs_memory.specs.Memory.{nothing as blank_nothing, Cell, byte, part, BlankTree, zeros, nulls, repeated, joined}
-use Rattle.qs_types.specs.Types.{TypeTree, int, unsigned, char, pointer, array, struct}
-use Rattle.qs_meaning.specs.Typed.{unchanged, converted, Expr, constant, value, pointer_to, member, Effect, nothing, assign, set, update, copy, fill, in_order, variable, object, local, static, StaticBlock, TypedProgram}
+use Rattle.qs_types.specs.Types.{TypeTree, int, char, pointer, array, struct}
+use Rattle.qs_meaning.specs.Typed.{unchanged, converted, Expr, constant, value, pointer_to, member, Effect, nothing, assign, set, copy, fill, in_order, variable, object, local, static, StaticBlock, TypedProgram}
 use Rattle.qs_meaning.specs.Forms.{lvalue}
 use Rattle.qs_meaning.specs.Blanks.{blank_of}
 use Rattle.qs_meaning.specs.Initialisers.{local_set}
 use Rattle.qs_meaning.specs.Units.{typed_of}
 use Rattle.qs_meaning.proofs.Samples as c
 use Rattle.qs_meaning.proofs.Samples.{number, numbers, valued, listed, global, one, many, open_length, struct_s, s_base, text, named, address, main_, eval}
-use Rattle.qs_meaning.proofs.Known.{structs, scope, u, x, v, text_at}
+use Rattle.qs_meaning.proofs.Known.{structs, scope, u, v, text_at}
 
 -- ---- blanks (6.7.9p10)
 

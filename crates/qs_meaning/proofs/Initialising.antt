@@ -1,28 +1,27 @@
 -- Where an initialiser of a local breaks no rule, it has a typed tree.
-use Rattle.std.proofs.Common.{◌≡◌, ◌⊎◌, inl, inr, ℕ, ◌+◌, Bool, true, false, not, ◌&&◌, ◌||◌, List, [], ◌∷◌, ◌++◌, Option, Some, None, is_some, refl, sym, ap, ◌∙◌, subst, if◌then◌else◌}
+use Rattle.std.proofs.Common.{◌≡◌, ◌≤◌, ℕ, suc, ◌+◌, Bool, true, false, ◌&&◌, ◌||◌, List, [], ◌∷◌, ◌++◌, Option, Some, None, is_some, refl, sym, ap, subst, arith, if◌then◌else◌}
 use Rattle.std.specs.List.{list_all}
 use Rattle.qs_syntax.specs.Trees.{ExprTree, expr, ShapeTree, InitialiserTree, Initialisers, no_initialisers, initialiser_and}
 use Rattle.qs_syntax.specs.Trees as trees
-use Rattle.qs_memory.specs.Partial.{◌>>=◌}
 use Rattle.qs_types.specs.Types.{TypeTree, int, unsigned, char, void, pointer, array, struct, is_array, is_struct, is_scalar, same_type, Structs}
-use Rattle.qs_types.specs.Layout.{and_then, is_complete}
+use Rattle.qs_types.specs.Layout.{is_complete}
 use Rattle.qs_types.specs.Conversions.{decayed}
-use Rattle.qs_types.specs.Rules.{Test, keeps, breaks_one, Fault, faults_of}
+use Rattle.qs_types.specs.Rules.{keeps, breaks_one, faults_of}
 use Rattle.qs_types.specs.declared.rules.Rule.TheVariants as rules
 use Rattle.qs_types.specs.Expressions.{is_lvalue, is_assignable, type_of}
 use Rattle.qs_types.specs.ExpressionFaults.{whole, expr_faults}
-use Rattle.qs_types.specs.Declarations.{text_of}
-use Rattle.qs_types.specs.InitialiserRules.{part_type, holds_text, fits_variable, fits_typed, takes_list, element_fits, elements_fit, elements_typed, list_tests, initialiser_faults, elements_faults, is_typed, fits}
+use Rattle.qs_types.specs.Declarations.{text_of, initialisers_count}
+use Rattle.qs_types.specs.InitialiserRules.{part_type, holds_text, fits_variable, fits_typed, takes_list, count_of_parts, element_fits, elements_fit, elements_typed, list_tests, initialiser_faults, elements_faults, fits}
 use Rattle.qs_types.specs.Placed.{addressed}
 use Rattle.qs_types.specs.Sites.{Site, initialiser_sites, elements_sites}
-use Rattle.qs_meaning.specs.Typed.{Expr, member, Lvalue, object, Effect, in_order}
-use Rattle.qs_meaning.specs.Forms.{Form, lvalue, TypedExpr, lvalue_of, address_in, address_of}
+use Rattle.qs_meaning.specs.Typed.{Expr, member, Lvalue, object}
+use Rattle.qs_meaning.specs.Forms.{lvalue, address_in, address_of}
 use Rattle.qs_meaning.specs.Names.{Scope}
 use Rattle.qs_meaning.specs.Expressions.{typed, plain_form}
 use Rattle.qs_meaning.specs.Blanks.{blank_of}
-use Rattle.qs_meaning.specs.Initialisers.{part_offset, Piece, pieces, pieces_from, text_set, assigned_set, piece_set, pieces_set, filled, object_set, local_set}
-use Rattle.qs_meaning.proofs.Options.{never, left, right, either, all_left, all_right, Known, known, onward, goes}
-use Rattle.qs_meaning.proofs.CompleteTypes.{part_known, blank_known}
+use Rattle.qs_meaning.specs.Initialisers.{part_offset, Piece, pieces, pieces_from, text_set, assigned_set, piece_set, pieces_set, object_set, local_set}
+use Rattle.qs_meaning.proofs.Options.{never, left, right, all_left, all_right, Known, known, onward, goes}
+use Rattle.qs_meaning.proofs.CompleteTypes.{part_known, part_there, fits_takes, fits_count, blank_known}
 use Rattle.qs_meaning.proofs.Faultless.{none_left, none_right, unbroken, type_of_known}
 use Rattle.qs_meaning.proofs.TypedExpressions.{TypedBy, address_known, assigned_known}
 use Rattle.qs_meaning.proofs.Bindings.{Sound, are_taken, has_types, Expressed, expressed}
@@ -150,10 +149,6 @@ module _ (s : Scope) (declared : List ℕ) (sound : Sound s declared) where
   all_elements_typed (initialiser_and (trees.list node inner) is) u i h =
       all_elements_typed is u (i + 1) (none_right (initialiser_faults false s.context (part_type structs u i) (trees.list node inner)) _ h)
 
-  part_there : (o : Option TypeTree) (i : InitialiserTree) → element_fits false s.context o i ≡ true → is_some o ≡ true
-  part_there None i e = never e
-  part_there (Some t) i e = refl
-
   -- a list that breaks no rule has elements that fit
   elements_kept : (typed takes fits : Bool) → typed ≡ true → takes ≡ true → breaks_one (if typed && takes then keeps rules.InitialiserType fits else []) ≡ false → fits ≡ true
   elements_kept true true true e f h = refl
@@ -172,23 +167,26 @@ module _ (s : Scope) (declared : List ℕ) (sound : Sound s declared) where
         let inner = none_right (faults_of node.id (list_tests false s.context u is)) (elements_faults false s.context (Some u) 0 is) h in
         let tests = unbroken node.id (list_tests false s.context u is)
         (none_left (faults_of node.id (list_tests false s.context u is)) (elements_faults false s.context (Some u) 0 is) h) in
-        elements_pieced is base u offset 0 complete (elements_kept (elements_typed s.context is) (takes_list u) (elements_fit false s.context u 0 is)
-        (all_elements_typed is u 0 inner) fits tests) inner taken
+        elements_pieced is base u offset 0 complete (fits_count structs u is fits)
+        (elements_kept (elements_typed s.context is) (takes_list u) (elements_fit false s.context (Some u) 0 is) (all_elements_typed is u 0 inner)
+        (fits_takes structs u is fits) tests) inner taken
 
-    elements_pieced : (is : Initialisers) (base : Expr) (u : TypeTree) (offset i : ℕ) → is_complete structs u ≡ true → elements_fit false s.context u i is ≡ true
+    elements_pieced : (is : Initialisers) (base : Expr) (u : TypeTree) (offset i : ℕ) → is_complete structs u ≡ true
+        → i + initialisers_count is ≤ count_of_parts structs u → elements_fit false s.context (Some u) i is ≡ true
         → elements_faults false s.context (Some u) i is ≡ [] → sites_taken declared s.locals.placed (elements_sites false s.context (Some u) i is) ≡ true
         → Pieced base (pieces_from structs u offset i is)
-    elements_pieced no_initialisers base u offset i complete fits h taken = record { list = []; is = refl; set = tt }
-    elements_pieced (initialiser_and first is) base u offset i complete fits h taken =
-        let fits_first = left _ _ fits in
-        let p = part_known structs sound.laid_out sound.members u i complete (part_there (part_type structs u i) first fits_first) in
+    elements_pieced no_initialisers base u offset i complete room fits h taken = record { list = []; is = refl; set = tt }
+    elements_pieced (initialiser_and first is) base u offset i complete room fits h taken =
+        let fits_first : element_fits false s.context (part_type structs u i) first ≡ true = left _ _ fits in
+        let r : i + suc (initialisers_count is) ≤ count_of_parts structs u = room in
+        let p = part_known structs sound.laid_out sound.members u i complete (part_there structs u i (omega arith)) in
         let now = initialiser_pieced first base p.type (offset + p.offset.value) p.complete
         (subst (λ o. element_fits false s.context o first ≡ true) p.is fits_first)
         (subst (λ o. initialiser_faults false s.context o first ≡ []) p.is (none_left _ _ h))
         (subst (λ o. sites_taken declared s.locals.placed (initialiser_sites false s.context o first) ≡ true) p.is
         (sites_left declared s.locals.placed (initialiser_sites false s.context (part_type structs u i) first)
         (elements_sites false s.context (Some u) (i + 1) is) taken)) in
-        let later = elements_pieced is base u offset (i + 1) complete (right (element_fits false s.context (part_type structs u i) first) _ fits)
+        let later = elements_pieced is base u offset (i + 1) complete (omega arith) (right (element_fits false s.context (part_type structs u i) first) _ fits)
         (none_right (initialiser_faults false s.context (part_type structs u i) first) _ h)
         (sites_right declared s.locals.placed (initialiser_sites false s.context (part_type structs u i) first)
         (elements_sites false s.context (Some u) (i + 1) is) taken) in
@@ -225,7 +223,7 @@ module _ (s : Scope) (declared : List ℕ) (sound : Sound s declared) where
       → fits false s.context t i ≡ true
       → initialiser_faults false s.context (Some t) i ≡ [] → sites_taken declared s.locals.placed (initialiser_sites false s.context (Some t) i) ≡ true
       → Known (local_set s (record { type = t; form = lvalue l }) i)
-  local_set_known t l (trees.list node is) complete large fits h taken = object_known t l (trees.list node is) complete (large (takes_list_large t fits)) fits h taken
+  local_set_known t l (trees.list node is) complete large fits h taken = object_known t l (trees.list node is) complete (large (takes_list_large t (fits_takes structs t is fits))) fits h taken
   local_set_known t l (trees.value e) complete large fits h taken = go t complete large fits h taken
     where
       go : (t : TypeTree) → is_complete structs t ≡ true → (is_scalar t ≡ false → Known (address_in l)) → fits_typed (type_of s.context e)

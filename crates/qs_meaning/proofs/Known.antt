@@ -1,6 +1,6 @@
 -- What is known in the examples: char c; int i; unsigned u; int *p; char *t; placed: int x; int a[3]; struct s {char m; int n;} v; struct s *q;
 -- of file scope: int g; char h[2]; functions: int f(char, int *); void k(void); putchar and getchar.
-use Rattle.std.proofs.Common.{ℕ, true, false, List, [], ◌∷◌, Option, Some, None}
+use Rattle.std.proofs.Common.{ℕ, true, List, [], ◌∷◌, Option, Some}
 use Rattle.qs_syntax.specs.Trees.{unnumbered, ExprTree, expr}
 use Rattle.qs_syntax.specs.Trees as trees
 use Rattle.qs_types.specs.Types.{TypeTree, int, unsigned, char, void, pointer, array, struct, Structs}
@@ -34,7 +34,7 @@ context = record {
 abbrev pub scope : Scope
 scope = record {
   context = context;
-  locals = record { plain = 1 ∷ 2 ∷ 3 ∷ 4 ∷ 5 ∷ 9 ∷ []; placed = 6 ∷ 7 ∷ 8 ∷ [] };
+  locals = record { variables = 1 ∷ 2 ∷ 3 ∷ 4 ∷ 5 ∷ 9 ∷ []; placed = 6 ∷ 7 ∷ 8 ∷ [] };
   statics = record { variables = 10 ∷ 11 ∷ []; texts = 40 ∷ 41 ∷ [] };
   functions = (102 ∷ []) ∷ (107 ∷ []) ∷ [];
 }

@@ -21,3 +21,4 @@ mod FunctionsTyped
 mod FileVariables
 mod StructTables
 mod UnitsTyped
+mod InitialMemory

@@ -1,10 +1,10 @@
 -- What whole sources do, for the examples: their runs from the initial memory, without arguments and input, within a bound that suffices.
 use Rattle.std.proofs.Common.{ℕ, List, [], ◌∷◌, Option, Some, None}
-use Rattle.qs_syntax.specs.Trees.{StmtTree, UnitTree, DeclTree}
+use Rattle.qs_syntax.specs.Trees.{StmtTree, UnitTree}
 use Rattle.qs_syntax.specs.Numbering.{numbered_unit}
 use Rattle.qs_memory.specs.Partial.{◌>>=◌}
-use Rattle.qs_events.specs.Events.{Event, Calls, Returns}
-use Rattle.qs_events.specs.BoundedRun.{BoundedRun, Ended, Undefined, Short}
+use Rattle.qs_events.specs.Events.{Calls, Returns}
+use Rattle.qs_events.specs.BoundedRun.{BoundedRun, Ended, Undefined}
 use Rattle.qs_types.specs.Rules.{Fault}
 use Rattle.qs_types.specs.UnitRules.{faults_in}
 use Rattle.qs_meaning.specs.Typed.{TypedProgram}

@@ -1,5 +1,5 @@
 -- The meaning keeps every relation between runs that events and undefined steps keep: runs with related ends, calls and turns are related.
-use Rattle.std.proofs.Common.{◌≡◌, ℕ, zero, suc, Bool, true, false, List, [], ◌∷◌, Option, Some, None}
+use Rattle.std.proofs.Common.{ℕ, Bool, true, false, List, Option, Some, None}
 use Rattle.qs_memory.specs.declared.scalar.Scalar.{Scalar}
 use Rattle.qs_memory.specs.Partial.{◌>>=◌}
 use Rattle.qs_memory.specs.Values.{Value, address, as_pointer}
@@ -11,8 +11,8 @@ use Rattle.qs_calls.specs.World.{World, with_memory, Environment, with_value}
 use Rattle.qs_calls.specs.Calls.{CallsOf}
 use Rattle.qs_calls.specs.Relations.{Relation, Keeps, ReturnsRelated, CallsRelated, BodiesRelated}
 use Rattle.qs_calls.proofs.RelationLaws.{given_related, invoke_related}
-use Rattle.qs_meaning.specs.Typed.{Conversion, unchanged, Expr, constant, value, pointer_to, member, called, stepped_after, unary, cast, binary, logical_and, logical_or, conditional, assigned, sequence, Lvalue, variable, object, Arguments, no_arguments, argument_and, Assignment, set, update, Effect, nothing, discard, assign, perform, copy, fill, in_order, Stmt, evaluate, block, branch, while_loop, do_loop, for_loop, break, continue, return, return_nothing, Stmts, no_stmts, stmt_and, Function}
-use Rattle.qs_meaning.specs.States.{Next, Here, choose, test, convert_by, conversion_then, Place, in_variable, in_object, read, write}
+use Rattle.qs_meaning.specs.Typed.{unchanged, Expr, constant, value, pointer_to, member, called, stepped_after, unary, cast, binary, logical_and, logical_or, conditional, assigned, sequence, Lvalue, variable, object, Arguments, no_arguments, argument_and, Assignment, set, update, Effect, nothing, discard, assign, perform, copy, fill, in_order, Stmt, evaluate, block, branch, while_loop, do_loop, for_loop, break, continue, return, return_nothing, Stmts, no_stmts, stmt_and, Function}
+use Rattle.qs_meaning.specs.States.{Next, Here, choose, test, convert_by, Place, in_variable, in_object, read, write}
 use Rattle.qs_meaning.specs.Meaning.{operation_value, updated_value, step_amount, expression, lvalue, arguments, assignment, effect, Targets, in_loop, turns, condition, for_condition, statement, statements}
 use Rattle.qs_meaning.specs.Runs.{body_of}
 

@@ -1,14 +1,14 @@
 -- What whole sources do, computed from the definition: order of evaluation, loops, calls, scopes, input and output, bounds.
-use Rattle.std.proofs.Common.{◌≡◌, ℕ, [], ◌∷◌, Option, Some, None, refl}
+use Rattle.std.proofs.Common.{◌≡◌, ℕ, [], ◌∷◌, Some, None, refl}
 use Rattle.qs_syntax.specs.declared.types.Base.TheVariants as bases
 use Rattle.qs_syntax.specs.declared.operators.BinaryOperator.TheVariants as binaries
 use Rattle.qs_syntax.specs.declared.operators.AssignmentOperator.TheVariants as assigns
 use Rattle.qs_syntax.specs.Trees.{unnumbered, no_start, start_declaration, else_by, DeclTree, StmtTree, ExprTree}
 use Rattle.qs_syntax.specs.Trees as trees
 use Rattle.qs_events.specs.Events.{Calls, Returns, Takes, TakesEnd, Puts}
-use Rattle.qs_events.specs.BoundedRun.{Ended, Undefined, Short}
-use Rattle.qs_meaning.proofs.Samples.{e, number, natural, a, b, c, i, p, op, plus, less, set, update, minus, address, deref, at, comma, after, cast, call, putchar, getchar, one, many, declarator, local, global, int_, array_, eval, return, block, when, while, parameter, defined, main_, valued, listed, numbers}
-use Rattle.qs_meaning.proofs.Outcomes.{outcome, outcome_within, of_main, ends, stuck}
+use Rattle.qs_events.specs.BoundedRun.{Ended, Short}
+use Rattle.qs_meaning.proofs.Samples.{number, natural, a, b, c, i, p, op, plus, less, set, update, minus, address, deref, at, comma, after, cast, call, putchar, getchar, one, many, declarator, local, global, int_, eval, return, block, when, while, parameter, defined, main_, valued, listed, numbers}
+use Rattle.qs_meaning.proofs.Outcomes.{outcome, outcome_within, of_main, ends}
 
 -- ---- arithmetic (6.2.5p9, 6.5.5, 6.5.7)
 

@@ -1,16 +1,15 @@
 -- What is known at file scope goes on holding where structs are declared and defined.
-use Rattle.std.proofs.Common.{◌≡◌, ◌≤◌, ◌⊎◌, inl, inr, ℕ, zero, suc, ◌+◌, Bool, true, false, not, ◌&&◌, ◌||◌, List, [], ◌∷◌, ◌++◌, Option, Some, None, is_some, length, slice_set, refl, sym, ap, ◌∙◌, subst, arith, if◌then◌else◌}
-use Rattle.std.specs.List.{slice_get, list_all}
-use Rattle.qs_syntax.specs.Sameness.{same_bytes}
+use Rattle.std.proofs.Common.{◌≡◌, ◌≤◌, ◌⊎◌, inl, inr, ℕ, zero, suc, Bool, true, false, ◌&&◌, List, [], ◌∷◌, ◌++◌, Option, Some, None, is_some, slice_set, refl, sym, ap, ◌∙◌, subst, arith, if◌then◌else◌}
+use Rattle.std.specs.List.{list_all, slice_get}
 use Rattle.qs_syntax.specs.Trees.{StructTree}
 use Rattle.qs_types.specs.declared.extent.Extent.{Extent}
 use Rattle.qs_types.specs.Types.{TypeTree, int, unsigned, char, void, pointer, array, struct, MemberTree, Structs}
 use Rattle.qs_types.specs.Types as types
 use Rattle.qs_types.specs.Layout.{and_then, StructLayout, Layouts, array_extent, struct_extent, struct_layout, extent_by, extents_by, member_types, struct_of, members_layout, layouts_within, defined_structs, layout_of, is_complete, sized_by, all_sized_by, layout_within, sized_layout, with_members}
-use Rattle.qs_types.specs.Contexts.{Entity, local_variable, file_variable, function, given, Binding, Context, place_from, tag_place}
-use Rattle.qs_types.specs.UnitRules.{with_tag, no_members, after_members, is_defined, define_at, after_struct}
+use Rattle.qs_types.specs.Contexts.{Entity, local_variable, file_variable, function, given, Binding, Context, tag_place}
+use Rattle.qs_types.specs.UnitRules.{with_tag, no_members, after_members, has_no_members, define_at, after_struct}
 use Rattle.qs_meaning.specs.TypedLaws.{EntityTyped, AllTyped, IsFileScope}
-use Rattle.qs_meaning.proofs.Options.{never, nothing, same, left, right, Known, known, Went, went}
+use Rattle.qs_meaning.proofs.Options.{never, nothing, same, left, right, known, went}
 use Rattle.qs_meaning.proofs.Bodies.{sized_extent}
 
 -- ---- a table that goes on: structs that have members keep them
@@ -103,40 +102,24 @@ appended_count [] = refl
 appended_count (None ∷ xs) = appended_count xs
 appended_count (Some ms ∷ xs) = ap suc (appended_count xs)
 
-appended_none : (structs : Structs) → struct_of (structs ++ None ∷ []) (length structs) ≡ None
-appended_none [] = refl
-appended_none (x ∷ xs) = appended_none xs
-
 appended_goes_on : (structs : Structs) → GoesOn structs (structs ++ None ∷ [])
 appended_goes_on structs = record { keeps = appended_keeps structs; count = let e = appended_count structs in omega arith }
 
--- at file scope, and each struct has a tag
-pub record IsTable (c : Context) : Type 0 where
-  pub scope : IsFileScope c
-  pub tags : length c.tags ≡ length c.structs
-
-appended_scope : (c : Context) (tag : List ℕ) → IsTable c → IsTable (record c { structs = c.structs ++ None ∷ []; tags = c.tags ++ tag ∷ [] })
+appended_scope : (c : Context) (tag : List ℕ) → IsFileScope c → IsFileScope (record c { structs = c.structs ++ None ∷ []; tags = c.tags ++ tag ∷ [] })
 appended_scope c tag h = record {
-  scope = record {
-    names = names_grow c.structs (c.structs ++ None ∷ []) g (c.inner ++ c.outer) h.scope.names;
-    members = λ k ms e. members_grow c.structs (c.structs ++ None ∷ []) g ms (h.scope.members k ms (appended_back c.structs k ms e));
-    laid_out = λ k ms e. some_grows (layout_of c.structs k) (layout_of (c.structs ++ None ∷ []) k) (λ l f. layout_grows c.structs (c.structs ++ None ∷ []) g k l f)
-        (h.scope.laid_out k ms (appended_back c.structs k ms e));
-  };
-  tags = length_one c.tags tag ∙ ap suc h.tags ∙ sym (length_one c.structs None);
+  names = names_grow c.structs (c.structs ++ None ∷ []) g (c.inner ++ c.outer) h.names;
+  members = λ k ms e. members_grow c.structs (c.structs ++ None ∷ []) g ms (h.members k ms (appended_back c.structs k ms e));
+  laid_out = λ k ms e. some_grows (layout_of c.structs k) (layout_of (c.structs ++ None ∷ []) k) (λ l f. layout_grows c.structs (c.structs ++ None ∷ []) g k l f)
+      (h.laid_out k ms (appended_back c.structs k ms e));
 }
   where
     g : GoesOn c.structs (c.structs ++ None ∷ [])
     g = appended_goes_on c.structs
 
-    length_one : {A : Type 0} (xs : List A) (x : A) → length (xs ++ x ∷ []) ≡ suc (length xs)
-    length_one [] x = refl
-    length_one (y ∷ xs) x = ap suc (length_one xs x)
-
-pub with_tag_table : (c : Context) (tag : List ℕ) → IsTable c → IsTable (with_tag c tag)
-with_tag_table c tag h = go (is_some (tag_place c tag))
+pub with_tag_known : (c : Context) (tag : List ℕ) → IsFileScope c → IsFileScope (with_tag c tag)
+with_tag_known c tag h = go (is_some (tag_place c tag))
   where
-    go : (b : Bool) → IsTable (if b then c else record c { structs = c.structs ++ None ∷ []; tags = c.tags ++ tag ∷ [] })
+    go : (b : Bool) → IsFileScope (if b then c else record c { structs = c.structs ++ None ∷ []; tags = c.tags ++ tag ∷ [] })
     go true = h
     go false = appended_scope c tag h
 
@@ -185,11 +168,6 @@ set_count [] k new n = omega arith
 set_count (x ∷ xs) zero new n = let e = first_count x xs new n in omega arith
 set_count (x ∷ xs) (suc k) new n = count_both x xs (slice_set xs k (Some new)) (set_count xs k new n)
 
-set_length : (structs : Structs) (k : ℕ) (new : List MemberTree) → length (slice_set structs k (Some new)) ≡ length structs
-set_length [] k new = refl
-set_length (x ∷ xs) zero new = refl
-set_length (x ∷ xs) (suc k) new = ap suc (set_length xs k new)
-
 all_extents : (layouts more : Layouts) → Grown layouts more → (ts : List TypeTree) → is_some (all_sized_by layouts ts) ≡ true → is_some (extents_by more ts) ≡ true
 all_extents layouts more g [] e = refl
 all_extents layouts more g (t ∷ ts) e = go (λ f. all_extents layouts more g ts f) (sized_by layouts t) refl e
@@ -233,15 +211,12 @@ sized_members structs (m ∷ ms) e = go (λ f. sized_members structs ms f) (size
     go later (Some x) s e = both _ _ (sized_extent (layout_of structs) m.type (ap is_some s)) (later (rest x (all_sized_by (layout_of structs) (member_types ms)) e))
 
 -- a struct without members gets members that have sizes
-set_table : (c : Context) (k : ℕ) (new : List MemberTree) → IsTable c → struct_of c.structs k ≡ None → is_some (all_sized_by (layout_of c.structs) (member_types new)) ≡ true
-    → IsTable (record c { structs = slice_set c.structs k (Some new) })
-set_table c k new h n sized = record {
-  scope = record {
-    names = names_grow c.structs more g (c.inner ++ c.outer) h.scope.names;
-    members = λ j ms e. members_here j ms (set_back c.structs k new n j ms e);
-    laid_out = λ j ms e. laid_out_here j ms e (set_back c.structs k new n j ms e);
-  };
-  tags = h.tags ∙ sym (set_length c.structs k new);
+set_known : (c : Context) (k : ℕ) (new : List MemberTree) → IsFileScope c → struct_of c.structs k ≡ None → is_some (all_sized_by (layout_of c.structs) (member_types new)) ≡ true
+    → IsFileScope (record c { structs = slice_set c.structs k (Some new) })
+set_known c k new h n sized = record {
+  names = names_grow c.structs more g (c.inner ++ c.outer) h.names;
+  members = λ j ms e. members_here j ms (set_back c.structs k new n j ms e);
+  laid_out = λ j ms e. laid_out_here j ms e (set_back c.structs k new n j ms e);
 }
   where
     more : Structs
@@ -251,7 +226,7 @@ set_table c k new h n sized = record {
     g = record { keeps = set_keeps c.structs k new n; count = set_count c.structs k new n }
 
     members_here : (j : ℕ) (ms : List MemberTree) → (struct_of c.structs j ≡ Some ms) ⊎ IsNew c.structs k new ms → list_all (λ m. is_complete more m.type) ms ≡ true
-    members_here j ms (inl e) = members_grow c.structs more g ms (h.scope.members j ms e)
+    members_here j ms (inl e) = members_grow c.structs more g ms (h.members j ms e)
     members_here j ms (inr f) = subst (λ z. list_all (λ m. is_complete more m.type) z ≡ true) f.is (members_grow c.structs more g new (sized_members c.structs new sized))
 
     within : (j : ℕ) (ms : List MemberTree) → struct_of more j ≡ Some ms → new ≡ ms → is_some (layouts_within (suc (defined_structs c.structs)) more j) ≡ true
@@ -267,60 +242,36 @@ set_table c k new h n sized = record {
 
     laid_out_here : (j : ℕ) (ms : List MemberTree) → struct_of more j ≡ Some ms → (struct_of c.structs j ≡ Some ms) ⊎ IsNew c.structs k new ms → is_some
         (layout_of more j) ≡ true
-    laid_out_here j ms e (inl f) = some_grows (layout_of c.structs j) (layout_of more j) (λ l. layout_grows c.structs more g j l) (h.scope.laid_out j ms f)
+    laid_out_here j ms e (inl f) = some_grows (layout_of c.structs j) (layout_of more j) (λ l. layout_grows c.structs more g j l) (h.laid_out j ms f)
     laid_out_here j ms e (inr f) = subst (λ d. is_some (layouts_within d more j) ≡ true) (sym f.count) (within j ms e f.is)
 
 -- ---- definitions of structs
 
-place_of_new : (n : ℕ) (tag : List ℕ) (tags : List (List ℕ)) (k : ℕ) → place_from n tag tags ≡ None → place_from n tag (tags ++ tag ∷ []) ≡ Some k → k ≡ n + length tags
-place_of_new n tag [] k e f = go (same_bytes tag tag) f
+-- a struct that is declared and has no members gets these
+define_known : (c : Context) (new : List MemberTree) (o : Option ℕ) → IsFileScope c → IsFileScope (define_at c new o)
+define_known c new None h = h
+define_known c new (Some k) h = given_members (has_no_members (slice_get c.structs k)) refl
   where
-    go : (b : Bool) → (if b then Some n else None) ≡ Some k → k ≡ n + 0
-    go true f = let e = same n k f in omega arith
-    go false f = nothing k f
-place_of_new n tag (t ∷ tags) k e f = go (λ e f. place_of_new (n + 1) tag tags k e f) (same_bytes t tag) e f
-  where
-    go : (place_from (n + 1) tag tags ≡ None → place_from (n + 1) tag (tags ++ tag ∷ []) ≡ Some k → k ≡ n + 1 + length tags)
-        → (b : Bool) → (if b then Some n else place_from (n + 1) tag tags) ≡ None → (if b then Some n else place_from (n + 1) tag (tags ++ tag ∷ [])) ≡ Some k → k ≡ n + length
-        (t ∷ tags)
-    go later true e f = nothing n (sym e)
-    go later false e f = let r = later e f in omega arith
+    without : (o : Option types.StructTree) → has_no_members o ≡ true → and_then o (λ s. s) ≡ None
+    without None e = never e
+    without (Some None) e = refl
+    without (Some (Some ms)) e = never e
 
-no_members_at : (c : Context) (tag : List ℕ) → IsTable c → is_defined c tag ≡ false → (k : ℕ) → tag_place (with_tag c tag) tag ≡ Some k → struct_of
-    (with_tag c tag).structs k ≡ None
-no_members_at c tag h d k = go (tag_place c tag) refl d
-  where
-    none_there : (o : types.StructTree) → is_some o ≡ false → o ≡ None
-    none_there None e = refl
-    none_there (Some ms) e = never (sym e)
-
-    go : (o : Option ℕ) → tag_place c tag ≡ o → is_some (and_then o (struct_of c.structs)) ≡ false
-        → tag_place (if is_some o then c else record c { structs = c.structs ++ None ∷ []; tags = c.tags ++ tag ∷ [] }) tag ≡ Some k
-        → struct_of (if is_some o then c else record c { structs = c.structs ++ None ∷ []; tags = c.tags ++ tag ∷ [] }).structs k ≡ None
-    go None e d f = subst (λ j. struct_of (c.structs ++ None ∷ []) j ≡ None) (sym (place_of_new 0 tag c.tags k e f ∙ ap (λ n. 0 + n) h.tags ∙ zero_plus (length c.structs)))
-        (appended_none c.structs)
-      where
-        zero_plus : (n : ℕ) → 0 + n ≡ n
-        zero_plus n = omega arith
-    go (Some j) e d f = subst (λ z. struct_of c.structs z ≡ None) (same j k (sym e ∙ f)) (none_there (struct_of c.structs j) d)
-
-define_table : (c : Context) (new : List MemberTree) (o : Option ℕ) → IsTable c → ((k : ℕ) → o ≡ Some k → struct_of c.structs k ≡ None) → IsTable (define_at c new o)
-define_table c new None h n = h
-define_table c new (Some k) h n = go (is_some (sized_layout (layout_of c.structs) (member_types new))) refl
-  where
     part : (o : Option (List Extent)) → is_some (and_then o (λ es. layout_within (struct_layout es))) ≡ true → is_some o ≡ true
     part None e = never e
     part (Some es) e = refl
 
-    go : (b : Bool) → is_some (sized_layout (layout_of c.structs) (member_types new)) ≡ b → IsTable (record c { structs = with_members b c.structs k new })
-    go false e = record { scope = record { names = h.scope.names; members = h.scope.members; laid_out = h.scope.laid_out }; tags = h.tags }
-    go true e = set_table c k new h (n k refl) (part (all_sized_by (layout_of c.structs) (member_types new)) e)
+    laid : (b : Bool) → is_some (sized_layout (layout_of c.structs) (member_types new)) ≡ b → struct_of c.structs k ≡ None
+        → IsFileScope (record c { structs = with_members b c.structs k new })
+    laid false e n = record { names = h.names; members = h.members; laid_out = h.laid_out }
+    laid true e n = set_known c k new h n (part (all_sized_by (layout_of c.structs) (member_types new)) e)
 
-pub after_struct_table : (c : Context) (s : StructTree) → IsTable c → IsTable (after_struct c s)
-after_struct_table c s h = go (is_defined c s.name) refl
-  where
-    go : (b : Bool) → is_defined c s.name ≡ b
-        → IsTable (if b then c else define_at (with_tag c s.name) (after_members (with_tag c s.name) no_members s.members).members (tag_place (with_tag c s.name) s.name))
-    go true e = h
-    go false e = define_table (with_tag c s.name) (after_members (with_tag c s.name) no_members s.members).members (tag_place (with_tag c s.name) s.name)
-        (with_tag_table c s.name h) (no_members_at c s.name h e)
+    given_members : (b : Bool) → has_no_members (slice_get c.structs k) ≡ b
+        → IsFileScope (if b then record c { structs = with_members (is_some (sized_layout (layout_of c.structs) (member_types new))) c.structs k new } else c)
+    given_members true e = laid (is_some (sized_layout (layout_of c.structs) (member_types new))) refl (without (slice_get c.structs k) e)
+    given_members false e = h
+
+pub after_struct_known : (c : Context) (s : StructTree) → IsFileScope c → IsFileScope (after_struct c s)
+after_struct_known c s h =
+    define_known (with_tag c s.name) (after_members (with_tag c s.name) no_members s.members).members (tag_place (with_tag c s.name) s.name)
+    (with_tag_known c s.name h)

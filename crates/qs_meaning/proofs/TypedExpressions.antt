@@ -1,6 +1,5 @@
 -- Where an expression has a type, it has a typed tree.
-use Rattle.std.proofs.Common.{◌≡◌, ◌⊎◌, inl, inr, ℕ, suc, ◌+◌, ◌==◌, Bool, true, false, not, ◌&&◌, ◌||◌, List, [], ◌∷◌, ◌++◌, Option, Some, None, is_some, length, refl, sym, ap, ◌∙◌, subst, arith, if◌then◌else◌}
-use Rattle.std.specs.List.{list_all}
+use Rattle.std.proofs.Common.{◌≡◌, ◌⊎◌, inl, inr, ℕ, suc, ◌==◌, Bool, true, false, not, ◌&&◌, ◌||◌, List, [], ◌∷◌, Option, Some, None, is_some, length, refl, sym, ap, ◌∙◌, subst, arith, if◌then◌else◌}
 use Rattle.std.proofs.lemmas.Bool.{eqb-true}
 use Rattle.qs_syntax.specs.declared.nodes.Node.{Node}
 use Rattle.qs_syntax.specs.declared.operators.UnaryOperator.{UnaryOperator}
@@ -20,21 +19,19 @@ use Rattle.qs_types.specs.declared.extent.Extent.{Extent}
 use Rattle.qs_types.specs.Types.{TypeTree, int, unsigned, char, void, pointer, array, struct, is_integer, is_pointer, is_array, is_struct, is_scalar, same_type, referenced, Structs}
 use Rattle.qs_types.specs.Layout.{and_then, extent_of, size_of, is_complete}
 use Rattle.qs_types.specs.Conversions.{decayed}
-use Rattle.qs_types.specs.GivenFunctions.{Signature, putchar_name}
 use Rattle.qs_types.specs.Rules.{Test, keeps, breaks_one, type_unless}
 use Rattle.qs_types.specs.declared.rules.Rule.TheVariants as rules
-use Rattle.qs_types.specs.Contexts.{Entity, local_variable, file_variable, function, given, Context, entity_of, named_type, is_void_base}
-use Rattle.qs_types.specs.Expressions.{is_lvalue, is_lvalue_shape, is_assignable, both_integers, is_object_pointer, may_add, Judged, judged, unary_judged, step_judged, cast_judged, size_judged, type_or_void, binary_judged, conditional_judged, assign_judged, may_assign, may_combine, may_move, sum_type, subscript_judged, member_type, found_member, member_judged, name_judged, call_judged, type_of, shape_judged, types_of}
+use Rattle.qs_types.specs.Contexts.{Entity, local_variable, file_variable, function, given, entity_of, named_type, is_void_base}
+use Rattle.qs_types.specs.Expressions.{is_lvalue, is_lvalue_shape, is_assignable, both_integers, is_object_pointer, may_add, Judged, judged, unary_judged, step_judged, cast_judged, type_or_void, binary_judged, conditional_judged, assign_judged, may_assign, may_combine, sum_type, subscript_judged, member_type, member_judged, name_judged, call_judged, type_of, shape_judged, types_of}
 use Rattle.qs_types.specs.Placed.{is_one_of, local_node, named_local, operand_of, addressed, shape_addressed, all_addressed}
 use Rattle.qs_meaning.specs.Typed.{Expr, pointer_to, Lvalue, variable, object, Object, local, static, Arguments, no_arguments}
-use Rattle.qs_calls.specs.declared.callee.Callee.TheVariants.{Function}
 use Rattle.qs_meaning.specs.Typed as typed_trees
 use Rattle.qs_meaning.specs.Operations.{Operated, operation_of}
-use Rattle.qs_meaning.specs.Forms.{Form, lvalue, result, TypedExpr, lvalue_of, address_in, address_of, type_in_use, value_in_use}
-use Rattle.qs_meaning.specs.Names.{Locals, Scope, place_among, local_lvalue, entity_lvalue, with_parameters, Designator, entity_designated, designated}
-use Rattle.qs_meaning.specs.Expressions.{object_at, operated, operator_value, subscript_form, arguments_of, call_form, member_offset, dot_form, arrow_form, member_form, set_form, struct_form, plain_form, compound_form, assign_form, one, step_after_form, step_form, address_form, unary_form, size_form, operator_form, binary_form, typed, form_of, all_typed}
+use Rattle.qs_meaning.specs.Forms.{Form, lvalue, TypedExpr, lvalue_of, address_in, address_of, type_in_use, value_in_use}
+use Rattle.qs_meaning.specs.Names.{Scope, place_among, local_lvalue, entity_lvalue, Designator, entity_designated}
+use Rattle.qs_meaning.specs.Expressions.{object_at, operated, operator_value, arguments_of, call_form, member_offset, member_form, set_form, struct_form, plain_form, compound_form, assign_form, one, step_after_form, step_form, unary_form, size_form, operator_form, binary_form, typed, form_of, all_typed}
 use Rattle.qs_meaning.specs.TypedLaws.{IsReady, are_placed, TypedWhereTypes}
-use Rattle.qs_meaning.proofs.Options.{never, left, right, either, all_left, all_right, nothing, same, Went, went, goes, Known, known, is_known, onward}
+use Rattle.qs_meaning.proofs.Options.{never, left, right, either, all_left, all_right, nothing, same, went, goes, Known, known, onward}
 use Rattle.qs_meaning.proofs.CompleteTypes.{struct_is_large, same_is_struct, summed_known, subtracted_known, member_offset_known, member_complete, has_members_is_large}
 
 -- ---- tests that aren't broken
@@ -132,8 +129,8 @@ name_stands s (Some (local_variable node (Some t))) j placed complete file e h =
     at = local_lvalue s.locals node;
     is = refl;
     complete = complete node t refl;
-    large = λ f. local_address (is_one_of node s.locals.placed) (place_among node s.locals.placed) (place_among node s.locals.plain) (placed node t refl f);
-    taken = λ f. local_address (is_one_of node s.locals.placed) (place_among node s.locals.placed) (place_among node s.locals.plain) (left _ _ f);
+    large = λ f. local_address (is_one_of node s.locals.placed) (place_among node s.locals.placed) (place_among node s.locals.variables) (placed node t refl f);
+    taken = λ f. local_address (is_one_of node s.locals.placed) (place_among node s.locals.placed) (place_among node s.locals.variables) (left _ _ f);
   };
 })
 name_stands s (Some (file_variable node None)) j placed complete file e h = nothing j e

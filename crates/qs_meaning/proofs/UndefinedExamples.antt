@@ -1,13 +1,12 @@
 -- Where runs are undefined: for each of the nine cases sources that just aren't, sources that just are, and sources that are so only in one
 -- order of their operands. Each is computed from the definition, from the tree of the source on.
-use Rattle.std.proofs.Common.{◌≡◌, ℕ, [], ◌∷◌, Option, Some, None, refl}
+use Rattle.std.proofs.Common.{◌≡◌, [], ◌∷◌, Some, None, refl}
 use Rattle.qs_syntax.specs.declared.types.Base.TheVariants as bases
 use Rattle.qs_syntax.specs.declared.operators.BinaryOperator.TheVariants.{Subtract, Divide, Remainder, ShiftLeft, ShiftRight, Less, Equal}
-use Rattle.qs_syntax.specs.declared.operators.UnaryOperator.TheVariants as unaries
 use Rattle.qs_syntax.specs.Trees.{ExprTree, DeclTree, UnitTree, StmtTree}
 use Rattle.qs_events.specs.Events.{Calls, Returns}
-use Rattle.qs_events.specs.BoundedRun.{BoundedRun, Ended, Undefined}
-use Rattle.qs_meaning.proofs.Samples.{number, natural, a, b, c, p, q, op, plus, set, minus, address, deref, at, dot, arrow, comma, cast, call, text, one, many, local, int_, pointer_, array_, s_base, struct_s, eval, return, block, when, parameter, defined, main_, valued}
+use Rattle.qs_events.specs.BoundedRun.{Ended, Undefined}
+use Rattle.qs_meaning.proofs.Samples.{number, natural, a, b, p, q, op, plus, set, minus, address, deref, at, dot, arrow, comma, cast, call, text, one, many, local, int_, pointer_, array_, s_base, struct_s, eval, return, block, when, parameter, defined, main_, valued}
 use Rattle.qs_meaning.proofs.Outcomes.{outcome, of_main, ends, stuck}
 
 -- ---- 1: a read meets a cell or a variable that is unset, or cells of another kind

@@ -1,9 +1,8 @@
 -- What units do that have several declarations, parameters, structs in structs; the trees of their functions; roots.
-use Rattle.std.proofs.Common.{◌≡◌, ℕ, true, false, [], ◌∷◌, List, Option, Some, None, refl}
+use Rattle.std.proofs.Common.{◌≡◌, ℕ, false, [], ◌∷◌, List, Option, Some, None, refl}
 use Rattle.qs_syntax.specs.declared.types.Base.{Base}
 use Rattle.qs_syntax.specs.declared.types.Base.TheVariants as bases
 use Rattle.qs_syntax.specs.declared.operators.BinaryOperator.TheVariants as binaries
-use Rattle.qs_syntax.specs.Numbering.{numbered_unit}
 use Rattle.qs_syntax.specs.Trees.{unnumbered, start_expression, start_declaration, else_by, no_else, stmts_of, UnitTree, DeclTree}
 use Rattle.qs_syntax.specs.Trees as trees
 use Rattle.qs_memory.specs.declared.scalar.Scalar.TheVariants.{Char, Int}
@@ -14,11 +13,11 @@ use Rattle.qs_memory.specs.declared.operation.BinaryOperation.TheVariants.{Arith
 use Rattle.qs_memory.specs.Partial.{◌>>=◌}
 use Rattle.qs_memory.specs.Values.{Value, integer}
 use Rattle.qs_events.specs.Events.{Calls, Returns}
-use Rattle.qs_events.specs.BoundedRun.{BoundedRun, Ended, Undefined}
+use Rattle.qs_events.specs.BoundedRun.{Ended, Undefined}
 use Rattle.qs_events.specs.Runs.{emit, undefined, ended}
 use Rattle.qs_calls.specs.World.{RootRun}
 use Rattle.qs_calls.specs.declared.parameter.Parameter.TheVariants.{Plain, Placed}
-use Rattle.qs_meaning.specs.Typed.{unchanged, converted, as_written, Expr, constant, value, pointer_to, stepped_after, binary, Lvalue, variable, object, set, update, nothing, discard, assign, in_order, evaluate, block, branch, while_loop, do_loop, for_loop, break, continue, return, no_stmts, stmt_and, local, Function, TypedProgram}
+use Rattle.qs_meaning.specs.Typed.{unchanged, converted, as_written, Expr, constant, value, pointer_to, binary, variable, object, set, update, nothing, discard, assign, in_order, evaluate, block, branch, while_loop, do_loop, for_loop, break, continue, return, no_stmts, stmt_and, local, Function, TypedProgram}
 use Rattle.qs_meaning.specs.Runs.{run_of, source_run}
 use Rattle.qs_meaning.proofs.Samples as c
 use Rattle.qs_meaning.proofs.Samples.{number, a, b, i, p, op, plus, less, address, deref, dot, call, text, one, many, int_, pointer_, two_ints, struct_named, member_of, header, main_name, eval, when, parameter, defined, main_, valued, listed, numbers, global}
@@ -94,6 +93,19 @@ root_ends = refl
 no_such_root : root_run 7 (integer 299 ∷ []) ≡ Some undefined
 no_such_root = refl
 
+-- 6.5.2.2p6: as many arguments as parameters
+too_few_arguments : root_run 0 [] ≡ Some (emit (Calls 0) undefined)
+too_few_arguments = refl
+
+too_many_arguments : root_run 0 (integer 1 ∷ integer 2 ∷ []) ≡ Some (emit (Calls 0) undefined)
+too_many_arguments = refl
+
+-- int main(void){return 0;} with an argument
+argument_of_main :
+    (program_of (main_ (c.return (number 0) ∷ []) ∷ []) >>= λ u. Some (source_run u (integer 4 ∷ []) [] 1))
+    ≡ Some (Undefined (Calls 0 ∷ []))
+argument_of_main = refl
+
 -- ---- structs
 
 abbrev t_base : Base
@@ -159,14 +171,14 @@ function_tree :
     ≡ Some (record {
       name = 102 ∷ [];
       parameters = Plain 0 ∷ Placed 0 Int ∷ [];
-      variables = Char ∷ Int ∷ [];
+      variables = Char ∷ Int ∷ Int ∷ [];
       blocks = 4 ∷ [];
       body =
           stmt_and (evaluate (discard (pointer_to (local 0))))
           (stmt_and (branch int_b (evaluate (assign (set Char (variable 0) (converted Int Char) int_b))) (block no_stmts))
           (stmt_and (while_loop (binary (Compare Less Signed) as_written (converted Char Int) unchanged char_a (constant Int 1)) break)
           (stmt_and (do_loop continue int_b)
-          (stmt_and (for_loop (in_order (assign (set Int (variable 1) unchanged (constant Int 0))) nothing) None
+          (stmt_and (for_loop (in_order (assign (set Int (variable 2) unchanged (constant Int 0))) nothing) None
           (assign (update Char (variable 0) (Arithmetic Add Signed) (converted Char Int) unchanged (converted Int Char) (constant Int 1)))
           (return (converted Int Char) int_b))
           (stmt_and (return (converted Int Char) (constant Int 7)) no_stmts)))));

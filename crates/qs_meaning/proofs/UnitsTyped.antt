@@ -1,40 +1,27 @@
 -- A well typed unit has a typed tree.
-use Rattle.std.proofs.Common.{◌≡◌, ℕ, Bool, true, false, List, [], ◌∷◌, ◌++◌, Option, Some, None, is_some, length, refl, sym, ap, ◌∙◌, subst}
-use Rattle.qs_syntax.specs.declared.types.Base.{Base}
-use Rattle.qs_syntax.specs.Trees.{VariableTree, FunctionTree, DeclTree, structure, forward, function, variables, UnitTree}
-use Rattle.qs_memory.specs.Partial.{◌>>=◌}
-use Rattle.qs_types.specs.Types.{TypeTree, MemberTree}
+use Rattle.std.proofs.Common.{◌≡◌, true, List, [], ◌∷◌, ◌++◌, Option, is_some, refl}
+use Rattle.qs_syntax.specs.Trees.{FunctionTree, DeclTree, structure, forward, function, variables, UnitTree}
+use Rattle.qs_types.specs.Types.{TypeTree}
 use Rattle.qs_types.specs.declared.rules.Rule.TheVariants as rules
 use Rattle.qs_types.specs.Rules.{keeps, faults_of}
 use Rattle.qs_types.specs.Contexts.{Context, start_context, inner_scope}
-use Rattle.qs_types.specs.StatementRules.{after_variable, after_variables}
 use Rattle.qs_types.specs.Placed.{Local, parameters_locals}
-use Rattle.qs_types.specs.UnitRules.{parameter_types, result_type, header_of, may_declare, result_tests, main_tests, header_tests, parameters_faults, body_faults, function_faults, after_function, after_declaration, declaration_faults, declarations_faults, faults_in}
-use Rattle.qs_types.specs.WellTyped.{WellTyped}
-use Rattle.qs_meaning.specs.Typed.{TypedProgram}
-use Rattle.qs_meaning.specs.Names.{Locals, Scope, within}
-use Rattle.qs_meaning.specs.Units.{nodes_of, locals_of, function_typed, file_variables_typed, declaration_typed, declarations_typed, start_scope, typed_of}
+use Rattle.qs_types.specs.UnitRules.{parameter_types, result_type, header_of, may_declare, result_tests, main_tests, header_tests, parameters_faults, body_faults, function_faults, after_function, after_declaration, declaration_faults, declarations_faults}
+use Rattle.qs_meaning.specs.Names.{Scope, within}
+use Rattle.qs_meaning.specs.Units.{nodes_of, placed_among, function_typed, file_variables_typed, declaration_typed, declarations_typed, start_scope}
 use Rattle.qs_meaning.specs.TypedLaws.{IsFileScope, UnitsTyped}
 use Rattle.qs_meaning.proofs.Options.{nothing, Known, onward}
 use Rattle.qs_meaning.proofs.Faultless.{none_left, none_right, unbroken, first_unbroken, second_unbroken}
 use Rattle.qs_meaning.proofs.Functions.{all_fine, all_scalar, parameters_scalar, parameters_declared}
 use Rattle.qs_meaning.proofs.FunctionsTyped.{file_sound, result_known, signature_known, after_function_scope, functions_typed}
 use Rattle.qs_meaning.proofs.FileVariables.{file_variables_known}
-use Rattle.qs_meaning.proofs.StructTables.{IsTable, with_tag_table, after_struct_table}
+use Rattle.qs_meaning.proofs.StructTables.{with_tag_known, after_struct_known}
 
 -- ---- behind declarations
 
-same_tags : (base : Base) (vs : List VariableTree) (c : Context) → (after_variables true c base vs).tags ≡ c.tags
-same_tags base [] c = refl
-same_tags base (v ∷ vs) c = same_tags base vs (after_variable true c base v)
-
-same_structs : (base : Base) (vs : List VariableTree) (c : Context) → (after_variables true c base vs).structs ≡ c.structs
-same_structs base [] c = refl
-same_structs base (v ∷ vs) c = same_structs base vs (after_variable true c base v)
-
 -- the header of a function that breaks no rule
-function_table : (s : Scope) (c : Context) (f : FunctionTree) → IsTable c → function_faults c f ≡ [] → IsTable (after_function c f)
-function_table s c f h faultless = record { scope = after_function_scope c f h.scope (signature_known c f scalar result); tags = h.tags }
+after_function_known : (s : Scope) (c : Context) (f : FunctionTree) → IsFileScope c → function_faults c f ≡ [] → IsFileScope (after_function c f)
+after_function_known s c f h faultless = after_function_scope c f h (signature_known c f scalar result)
   where
     types : List (Option TypeTree)
     types = parameter_types (inner_scope c) f.parameters
@@ -43,7 +30,7 @@ function_table s c f h faultless = record { scope = after_function_scope c f h.s
     ls = parameters_locals f.parameters types
 
     s₀ : Scope
-    s₀ = record s { locals = locals_of [] ls }
+    s₀ = record s { locals = record { variables = []; placed = nodes_of (placed_among [] ls) } }
 
     parts : (parameters_faults (inner_scope c) (is_some f.body) f.parameters ++ body_faults c f f.body) ≡ []
     parts = none_right (faults_of f.node.id (header_tests c f)) _ faultless
@@ -54,50 +41,50 @@ function_table s c f h faultless = record { scope = after_function_scope c f h.s
         (unbroken f.node.id (header_tests c f) (none_left (faults_of f.node.id (header_tests c f)) _ faultless))))
 
     inner : IsFileScope (inner_scope c)
-    inner = record { names = h.scope.names; members = h.scope.members; laid_out = h.scope.laid_out }
+    inner = record { names = h.names; members = h.members; laid_out = h.laid_out }
 
     scalar : all_scalar (parameter_types (inner_scope c) f.parameters) ≡ true
     scalar = parameters_scalar s₀ (nodes_of ls) (is_some f.body) f.parameters (inner_scope c) (file_sound s₀ (inner_scope c) (nodes_of ls) inner)
-        (parameters_declared (nodes_of ls) (locals_of [] ls).placed f.parameters (inner_scope c) (all_fine [] ls)) (none_left _ _ parts)
+        (parameters_declared (nodes_of ls) (nodes_of (placed_among [] ls)) f.parameters (inner_scope c) (all_fine [] ls)) (none_left _ _ parts)
 
 -- ---- units
 
 module _ (s₀ : Scope) where
   record Declared (c : Context) (d : DeclTree) : Type 0 where
     tree : Known (declaration_typed (within s₀ c) d)
-    table : IsTable (after_declaration c d)
+    scope : IsFileScope (after_declaration c d)
 
-  declaration_known : (d : DeclTree) (c : Context) → IsTable c → declaration_faults c d ≡ [] → Declared c d
-  declaration_known (structure s) c h f = record { tree = record { value = _; is = refl }; table = after_struct_table c s h }
-  declaration_known (forward g) c h f = record { tree = record { value = _; is = refl }; table = with_tag_table c g.name h }
+  declaration_known : (d : DeclTree) (c : Context) → IsFileScope c → declaration_faults c d ≡ [] → Declared c d
+  declaration_known (structure s) c h f = record { tree = record { value = _; is = refl }; scope = after_struct_known c s h }
+  declaration_known (forward g) c h f = record { tree = record { value = _; is = refl }; scope = with_tag_known c g.name h }
   declaration_known (function g) c h f =
-      let t = functions_typed (within s₀ c) h.scope g f in
+      let t = functions_typed (within s₀ c) h g f in
       record {
         tree = onward (function_typed (within s₀ c) g g.body) _ (record { value = t.0; is = t.1 })
             (record { value = _; is = refl });
-        table = function_table s₀ c g h f;
+        scope = after_function_known s₀ c g h f;
       }
   declaration_known (variables d) c h f =
-      let k = file_variables_known s₀ d.variables c d.base h.scope f in
+      let k = file_variables_known s₀ d.variables c d.base h f in
       record {
         tree = onward (file_variables_typed (within s₀ c) d.base d.variables) _ k.blocks (record { value = _; is = refl });
-        table = record { scope = k.scope; tags = ap length (same_tags d.base d.variables c) ∙ h.tags ∙ sym (ap length (same_structs d.base d.variables c)) };
+        scope = k.scope;
       }
 
-  declarations_known : (ds : UnitTree) (c : Context) → IsTable c → declarations_faults c ds ≡ [] → Known (declarations_typed (within s₀ c) ds)
+  declarations_known : (ds : UnitTree) (c : Context) → IsFileScope c → declarations_faults c ds ≡ [] → Known (declarations_typed (within s₀ c) ds)
   declarations_known [] c h f = record { value = _; is = refl }
   declarations_known (d ∷ ds) c h f =
       let now = declaration_known d c h (none_left (declaration_faults c d) (declarations_faults (after_declaration c d) ds) f) in
       onward (declaration_typed (within s₀ c) d) _ now.tree
       (onward (declarations_typed (within s₀ (after_declaration c d)) ds) _
-      (declarations_known ds (after_declaration c d) now.table (none_right (declaration_faults c d) (declarations_faults (after_declaration c d) ds) f))
+      (declarations_known ds (after_declaration c d) now.scope (none_right (declaration_faults c d) (declarations_faults (after_declaration c d) ds) f))
       (record { value = _; is = refl }))
 
-start_table : IsTable start_context
-start_table = record { scope = record { names = (tt, (tt, tt)); members = λ k ms e. nothing ms e; laid_out = λ k ms e. nothing ms e }; tags = refl }
+start_known : IsFileScope start_context
+start_known = record { names = (tt, (tt, tt)); members = λ k ms e. nothing ms e; laid_out = λ k ms e. nothing ms e }
 
 pub units_typed : UnitsTyped
 units_typed unit w =
-    let u = declarations_known (start_scope unit) unit start_context start_table w.keeps_rules in
+    let u = declarations_known (start_scope unit) unit start_context start_known w.keeps_rules in
     let t = onward (declarations_typed (start_scope unit) unit) _ u (record { value = _; is = refl }) in
     (t.value, t.is)

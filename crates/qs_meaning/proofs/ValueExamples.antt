@@ -1,5 +1,5 @@
 -- What values are on the way, not only modulo 256: conversions, comparisons, operators, results of calls.
-use Rattle.std.proofs.Common.{◌≡◌, ℕ, [], ◌∷◌, List, Option, Some, None, refl}
+use Rattle.std.proofs.Common.{◌≡◌, ℕ, [], ◌∷◌, Option, Some, None, refl}
 use Rattle.qs_syntax.specs.declared.types.Base.TheVariants as bases
 use Rattle.qs_syntax.specs.declared.operators.UnaryOperator.TheVariants as unaries
 use Rattle.qs_syntax.specs.declared.operators.StepOperator.TheVariants as steps
@@ -10,8 +10,8 @@ use Rattle.qs_syntax.specs.declared.operators.AssignmentOperator.TheVariants as 
 use Rattle.qs_syntax.specs.Trees.{ExprTree, StmtTree}
 use Rattle.qs_syntax.specs.Trees as trees
 use Rattle.qs_events.specs.Events.{Calls, Returns, TakesEnd, Puts}
-use Rattle.qs_events.specs.BoundedRun.{BoundedRun, Ended, Undefined}
-use Rattle.qs_meaning.proofs.Samples.{e, number, natural, a, b, c, p, op, plus, set, update, minus, cast, call, putchar, getchar, at, one, many, local, int_, pointer_, array_, eval, return, defined, main_}
+use Rattle.qs_events.specs.BoundedRun.{BoundedRun, Ended}
+use Rattle.qs_meaning.proofs.Samples.{e, number, natural, a, c, p, op, plus, set, update, minus, cast, call, putchar, getchar, one, local, int_, pointer_, array_, eval, return, defined, main_}
 use Rattle.qs_meaning.proofs.Outcomes.{outcome, of_main, ends}
 
 abbrev times : ExprTree → ℕ → ExprTree

@@ -1,6 +1,6 @@
 -- The typed tree of an expression (C11 6.5). What type an expression has is said by the typing rules; here it is said what stands in the
 -- typed tree, and there is nothing only where nothing can be written.
-use Rattle.std.specs.Prelude.{ℕ, zero, suc, ◌+◌, Bool, true, false, List, [], ◌∷◌, Option, Some, None, if◌then◌else◌}
+use Rattle.std.specs.Prelude.{ℕ, ◌+◌, Bool, false, List, [], ◌∷◌, Option, Some, None, if◌then◌else◌}
 use Rattle.qs_syntax.specs.Sameness.{same_bytes}
 use Rattle.qs_syntax.specs.declared.nodes.Node.{Node}
 use Rattle.qs_syntax.specs.declared.operators.UnaryOperator.{UnaryOperator}
@@ -21,7 +21,7 @@ use Rattle.qs_memory.specs.declared.operation.UnaryOperation.{UnaryOperation}
 use Rattle.qs_memory.specs.declared.operation.UnaryOperation.TheVariants.{Plus, Minus, Complement, Not}
 use Rattle.qs_memory.specs.Partial.{◌>>=◌}
 use Rattle.qs_types.specs.declared.extent.Extent.{Extent}
-use Rattle.qs_types.specs.Types.{TypeTree, int, unsigned, char, void, pointer, array, struct, is_pointer, is_struct, referenced, MemberTree, Structs}
+use Rattle.qs_types.specs.Types.{TypeTree, int, struct, is_struct, referenced, MemberTree, Structs}
 use Rattle.qs_types.specs.Layout.{extent_of, size_of, offset_of, struct_of}
 use Rattle.qs_types.specs.Conversions.{promoted, common}
 use Rattle.qs_types.specs.Contexts.{named_type}

@@ -1,6 +1,6 @@
 -- What the blocks of a unit hold when a run begins (C11 5.1.2, 6.4.5p6, 6.7.9): the file-scope variables with their initial values, and the
 -- texts.
-use Rattle.std.specs.Prelude.{ℕ, ◌+◌, ◌==◌, Bool, true, false, List, [], ◌∷◌, ◌++◌, Option, Some, None, length, map, take, drop, if◌then◌else◌}
+use Rattle.std.specs.Prelude.{ℕ, ◌+◌, true, false, List, [], ◌∷◌, ◌++◌, Option, Some, None, length, map, take, drop, if◌then◌else◌}
 use Rattle.qs_syntax.specs.declared.operators.UnaryOperator.{UnaryOperator}
 use Rattle.qs_syntax.specs.declared.operators.UnaryOperator.TheVariants as unaries
 use Rattle.qs_syntax.specs.Trees.{ExprTree, expr, ShapeTree, InitialiserTree}
@@ -9,7 +9,7 @@ use Rattle.qs_memory.specs.declared.scalar.Scalar.TheVariants as scalars
 use Rattle.qs_memory.specs.Partial.{◌>>=◌}
 use Rattle.qs_memory.specs.Values.{Pointer, null, into, width}
 use Rattle.qs_memory.specs.Memory.{Cell, byte, bytes_of, parts_of, blank_cells}
-use Rattle.qs_types.specs.Types.{TypeTree, int, unsigned, char, void, pointer, array, struct, is_pointer, is_array}
+use Rattle.qs_types.specs.Types.{TypeTree, array, is_pointer, is_array}
 use Rattle.qs_types.specs.Contexts.{Entity, local_variable, file_variable, function, given, entity_of}
 use Rattle.qs_types.specs.Expressions.{is_null_constant}
 use Rattle.qs_types.specs.Constants.{constant_of}

@@ -1,14 +1,14 @@
 -- Initialisers (C11 6.7.9): which expression initialises which part of an object, and what the declaration of a local does.
-use Rattle.std.specs.Prelude.{ℕ, ◌+◌, ◌*◌, Bool, true, false, List, [], ◌∷◌, ◌++◌, Option, Some, None, length, min, if◌then◌else◌}
+use Rattle.std.specs.Prelude.{ℕ, ◌+◌, ◌*◌, List, [], ◌∷◌, ◌++◌, Option, Some, None, length, min, if◌then◌else◌}
 use Rattle.qs_syntax.specs.Trees.{ExprTree, InitialiserTree, Initialisers, no_initialisers, initialiser_and}
 use Rattle.qs_syntax.specs.Trees as trees
-use Rattle.qs_types.specs.Types.{TypeTree, int, unsigned, char, void, pointer, array, struct, is_array, Structs}
+use Rattle.qs_types.specs.Types.{TypeTree, array, struct, is_array, Structs}
 use Rattle.qs_memory.specs.Partial.{◌>>=◌}
 use Rattle.qs_types.specs.Layout.{size_of, offset_of}
 use Rattle.qs_types.specs.Declarations.{text_of}
 use Rattle.qs_types.specs.InitialiserRules.{part_type}
-use Rattle.qs_meaning.specs.Typed.{Expr, member, Lvalue, object, Effect, nothing, copy, fill, in_order}
-use Rattle.qs_meaning.specs.Forms.{Form, lvalue, TypedExpr, address_of, effect_of}
+use Rattle.qs_meaning.specs.Typed.{Expr, member, object, Effect, nothing, copy, fill, in_order}
+use Rattle.qs_meaning.specs.Forms.{lvalue, TypedExpr, address_of, effect_of}
 use Rattle.qs_meaning.specs.Names.{Scope}
 use Rattle.qs_meaning.specs.Expressions.{typed, plain_form}
 use Rattle.qs_meaning.specs.Blanks.{blank_of}

@@ -14,3 +14,4 @@ pub mod Meaning
 pub mod Runs
 pub mod Laws
 pub mod TypedLaws
+pub mod InitialLaws

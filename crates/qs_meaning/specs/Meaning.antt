@@ -1,7 +1,6 @@
 -- The meaning of expressions and statements (C11 6.5, 6.8): what is done, in order, and what follows. Operands, arguments and the sides of
 -- an assignment are evaluated left to right.
 use Rattle.std.specs.Prelude.{ℕ, zero, suc, List, [], ◌∷◌, Option, Some, None}
-use Rattle.qs_memory.specs.declared.scalar.Scalar.{Scalar}
 use Rattle.qs_memory.specs.declared.operation.BinaryOperation.{BinaryOperation}
 use Rattle.qs_memory.specs.Partial.{◌>>=◌}
 use Rattle.qs_memory.specs.Values.{Value, integer, address, as_pointer}

@@ -8,11 +8,12 @@ use Rattle.qs_calls.specs.declared.callee.Callee.TheVariants.{Function, PutChar,
 use Rattle.qs_types.specs.GivenFunctions.{Signature, putchar_name}
 use Rattle.qs_types.specs.Contexts.{Entity, local_variable, file_variable, function, given, Context, entity_of}
 use Rattle.qs_types.specs.Placed.{is_one_of}
-use Rattle.qs_meaning.specs.Typed.{Expr, pointer_to, Lvalue, variable, object, Object, local, static}
+use Rattle.qs_meaning.specs.Typed.{pointer_to, Lvalue, variable, object, Object, local, static}
 
--- the plain variables of a function and its placed locals, with its parameters among them, by the numbers of their nodes
+-- the variables of a function, which are its parameters and then its plain locals, and the locals and parameters that are placed, by the
+-- numbers of their nodes. A placed parameter is a block, and its variable is used by nobody.
 pub record Locals : Type 0 where
-  pub plain : List ℕ
+  pub variables : List ℕ
   pub placed : List ℕ
 
 -- what has a block from the beginning: file-scope variables and texts, by the numbers of their nodes
@@ -44,7 +45,7 @@ place_among node nodes = place_where (λ n. n == node) nodes
 -- a placed local is a block of the call, any other a variable of the call
 abbrev pub local_lvalue : Locals → ℕ → Lvalue
 local_lvalue locals node =
-    if is_one_of node locals.placed then object (pointer_to (local (place_among node locals.placed))) else variable (place_among node locals.plain)
+    if is_one_of node locals.placed then object (pointer_to (local (place_among node locals.placed))) else variable (place_among node locals.variables)
 
 abbrev pub file_variable_object : Statics → ℕ → Object
 file_variable_object statics node = static (place_among node statics.variables)

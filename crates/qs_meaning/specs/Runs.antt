@@ -1,11 +1,10 @@
 -- Calls, and the runs of a unit within a bound n: each run of a loop makes at most n turns, and calls nest at most n deep (C11 5.1.2.2,
 -- 6.5.2.2, 6.9.1).
-use Rattle.std.specs.Prelude.{ℕ, zero, suc, ◌+◌, ◌%◌, ◌^◌, Bool, List, [], ◌∷◌, Option, Some, None, slice_get, if◌then◌else◌}
-use Rattle.qs_memory.specs.Values.{Value, integer, address}
-use Rattle.qs_memory.specs.Memory.{Memory}
+use Rattle.std.specs.Prelude.{ℕ, zero, suc, ◌+◌, Bool, List, [], ◌∷◌, Option, Some, None, slice_get, if◌then◌else◌}
+use Rattle.qs_memory.specs.Values.{Value, integer}
 use Rattle.qs_events.specs.BoundedRun.{BoundedRun}
-use Rattle.qs_events.specs.Runs.{undefined, short, given, Left, bounded}
-use Rattle.qs_calls.specs.World.{World, RootRun, Return, leaves}
+use Rattle.qs_events.specs.Runs.{undefined, short, given, bounded}
+use Rattle.qs_calls.specs.World.{World, RootRun, Return, leaves, status_of}
 use Rattle.qs_calls.specs.Calls.{CallsOf, Frame, Body, activate}
 use Rattle.qs_meaning.specs.Typed.{Function, TypedProgram}
 use Rattle.qs_meaning.specs.States.{Next}
@@ -48,15 +47,6 @@ run_of unit root xs w n = calls_within unit.functions n n root xs leaves w
 abbrev pub main_from : ℕ → List Function → Option ℕ
 main_from k [] = None
 main_from k (g ∷ gs) = if g.is_main then Some k else main_from (k + 1) gs
-
--- main's result modulo 256
-abbrev pub status_of_result : Option Value → ℕ
-status_of_result None = 0
-status_of_result (Some (integer n)) = n % 2 ^ 8
-status_of_result (Some (address p)) = 0
-
-abbrev pub status_of : Left Value Memory → ℕ
-status_of end = status_of_result end.result
 
 abbrev pub start_world : TypedProgram → (input : List ℕ) → World
 start_world unit input = record { memory = initial_memory unit; input = input }

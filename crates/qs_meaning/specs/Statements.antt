@@ -1,5 +1,5 @@
 -- The typed tree of a statement (C11 6.8) and of a declaration in a block (6.7).
-use Rattle.std.specs.Prelude.{ℕ, Bool, false, List, [], ◌∷◌, Option, Some, None}
+use Rattle.std.specs.Prelude.{ℕ, false, List, [], ◌∷◌, Option, Some, None}
 use Rattle.qs_syntax.specs.declared.types.Base.{Base}
 use Rattle.qs_syntax.specs.Trees.{ExprTree, InitialiserTree, VariableTree, StartTree, no_start, start_expression, start_declaration, StmtTree, Else, no_else, else_by}
 use Rattle.qs_syntax.specs.Trees as trees
@@ -10,7 +10,7 @@ use Rattle.qs_types.specs.Declarations.{variable_declared}
 use Rattle.qs_types.specs.StatementRules.{after_variable, after_statement, for_context}
 use Rattle.qs_meaning.specs.Typed.{Expr, Effect, nothing, in_order, Stmt, evaluate, block, branch, while_loop, do_loop, for_loop, break, continue, return, return_nothing, Stmts, no_stmts, stmt_and}
 use Rattle.qs_meaning.specs.Conversions.{conversion}
-use Rattle.qs_meaning.specs.Forms.{lvalue, TypedExpr, type_in_use, value_in_use, effect_in_use}
+use Rattle.qs_meaning.specs.Forms.{lvalue, type_in_use, value_in_use, effect_in_use}
 use Rattle.qs_meaning.specs.Names.{Scope, within, local_lvalue}
 use Rattle.qs_meaning.specs.Expressions.{typed}
 use Rattle.qs_meaning.specs.Initialisers.{local_set}

@@ -1,7 +1,6 @@
 -- What a run of the source goes through, and what may follow a step of it (C11 5.1.2.3, 6.2.4).
-use Rattle.std.specs.Prelude.{ℕ, ◌+◌, Bool, true, false, Option, Some, None}
+use Rattle.std.specs.Prelude.{ℕ, ◌+◌, Bool, true, false, Option, Some}
 use Rattle.qs_memory.specs.declared.scalar.Scalar.{Scalar}
-use Rattle.qs_memory.specs.Partial.{◌>>=◌}
 use Rattle.qs_memory.specs.Values.{Pointer, into, Value, convert}
 use Rattle.qs_memory.specs.Memory.{load, store}
 use Rattle.qs_memory.specs.Pointers.{truth}

@@ -59,7 +59,7 @@ mutual
     -- 6.5.17
     sequence : Effect → Expr → Expr
 
-  -- 6.3.2.1p1: a plain variable, by its place among those of the function, or an object in memory, by its address
+  -- 6.3.2.1p1: a plain variable, by its number among those of the function, or an object in memory, by its address
   pub data Lvalue : Type 0 where
     variable : ℕ → Lvalue
     object : (address : Expr) → Lvalue
@@ -110,7 +110,8 @@ mutual
 
 -- ---- functions (6.9.1)
 
--- the types of the plain variables and the sizes of the placed locals, both with the parameters among them and in the order of the text
+-- the types of the variables, which are the parameters, placed ones too, and then the plain locals, and the sizes of the placed locals and
+-- parameters, both in the order of the text
 pub record Function : Type 0 where
   pub name : List ℕ
   pub parameters : List Parameter

@@ -1,5 +1,5 @@
 -- What is promised of the typed trees of expressions: where an expression has a type, it has a typed tree.
-use Rattle.std.specs.Prelude.{◌≡◌, ℕ, Bool, true, false, List, [], ◌∷◌, ◌++◌, Option, Some, None, is_some}
+use Rattle.std.specs.Prelude.{◌≡◌, ℕ, Bool, true, false, List, [], ◌∷◌, ◌++◌, Some, None, is_some}
 use Rattle.std.specs.List.{list_all}
 use Rattle.qs_syntax.specs.Trees.{ExprTree, FunctionTree, UnitTree}
 use Rattle.qs_types.specs.Types.{TypeTree, MemberTree, Structs, is_scalar}

@@ -1,5 +1,5 @@
 -- The typed tree of a unit (C11 6.9), and the memory in which its runs begin.
-use Rattle.std.specs.Prelude.{ℕ, not, Bool, true, List, [], ◌∷◌, ◌++◌, Option, Some, None, length, map, filter, slice_index_or}
+use Rattle.std.specs.Prelude.{ℕ, not, true, List, [], ◌∷◌, ◌++◌, Option, Some, None, length, map, filter, slice_index_or}
 use Rattle.qs_syntax.specs.Sameness.{same_bytes}
 use Rattle.qs_syntax.specs.declared.types.Base.{Base}
 use Rattle.qs_syntax.specs.Trees.{VariableTree, ParameterTree, FunctionTree, DeclTree, structure, forward, function, variables, UnitTree}
@@ -12,15 +12,15 @@ use Rattle.qs_memory.specs.Memory.{unset, Block, Memory}
 use Rattle.qs_types.specs.Types.{TypeTree, Structs}
 use Rattle.qs_types.specs.Layout.{size_of}
 use Rattle.qs_types.specs.GivenFunctions.{main_name}
-use Rattle.qs_types.specs.Contexts.{start_context, inner_scope}
+use Rattle.qs_types.specs.Contexts.{Context, start_context, inner_scope}
 use Rattle.qs_types.specs.Declarations.{variable_declared}
 use Rattle.qs_types.specs.StatementRules.{after_variable}
 use Rattle.qs_types.specs.UnitRules.{parameter_types, body_context, after_declaration}
-use Rattle.qs_types.specs.Placed.{Local, addressed_in, locals_in, is_placed}
+use Rattle.qs_types.specs.Placed.{Local, addressed_in, parameters_locals, statements_locals, is_placed}
 use Rattle.qs_types.specs.References.{TextBlock, literal_blocks}
-use Rattle.qs_meaning.specs.Typed.{Expr, pointer_to, Lvalue, variable, object, Object, local, static, Function, StaticBlock, TypedProgram}
+use Rattle.qs_meaning.specs.Typed.{Expr, pointer_to, Lvalue, variable, object, local, Function, StaticBlock, TypedProgram}
 use Rattle.qs_meaning.specs.Conversions.{scalar_of}
-use Rattle.qs_meaning.specs.Names.{Locals, Statics, Scope, within, local_lvalue}
+use Rattle.qs_meaning.specs.Names.{Locals, Scope, within, local_lvalue}
 use Rattle.qs_meaning.specs.InitialValues.{variable_block, text_block}
 use Rattle.qs_meaning.specs.Statements.{statements_typed}
 
@@ -35,10 +35,24 @@ placed_among addressed ls = filter (is_placed addressed) ls
 abbrev pub plain_among : (addressed : List ℕ) → List Local → List Local
 plain_among addressed ls = filter (λ (l : Local). not (is_placed addressed l)) ls
 
-abbrev pub locals_of : (addressed : List ℕ) → List Local → Locals
-locals_of addressed ls = record { plain = nodes_of (plain_among addressed ls); placed = nodes_of (placed_among addressed ls) }
+-- the k-th parameter has the k-th variable, placed ones too, and the plain locals have those that follow
+abbrev pub variables_among : (addressed : List ℕ) → (parameters locals : List Local) → List Local
+variables_among addressed parameters locals = parameters ++ plain_among addressed locals
 
--- the types of plain variables
+abbrev pub locals_of : (addressed : List ℕ) → (parameters locals : List Local) → Locals
+locals_of addressed parameters locals = record {
+  variables = nodes_of (variables_among addressed parameters locals);
+  placed = nodes_of (placed_among addressed (parameters ++ locals));
+}
+
+abbrev pub parameters_in : Context → FunctionTree → List Local
+parameters_in c f = parameters_locals f.parameters (parameter_types (inner_scope c) f.parameters)
+
+-- the locals of a function; the context is that before its header
+abbrev pub function_locals : Context → FunctionTree → trees.Stmts → Locals
+function_locals c f body = locals_of (addressed_in c f body) (parameters_in c f) (statements_locals (body_context c f) body)
+
+-- the types of variables
 abbrev pub scalars_of : List Local → Option (List Scalar)
 scalars_of [] = Some []
 scalars_of (l ∷ ls) = l.type >>= λ t. scalars_of ls >>= λ rest. Some (scalar_of t ∷ rest)
@@ -72,13 +86,13 @@ parameters_typed locals (p ∷ ps) (t ∷ ts) = parameter_typed locals p t >>= �
 abbrev pub in_body : Scope → FunctionTree → Locals → Scope
 in_body s f locals = record s { context = body_context s.context f; locals = locals }
 
--- the function, where these are its locals, and the operands of `&` among them
-abbrev pub function_with : Scope → FunctionTree → trees.Stmts → (addressed : List ℕ) → List Local → Option Function
-function_with s f body addressed ls =
-    parameters_typed (locals_of addressed ls) f.parameters (parameter_types (inner_scope s.context) f.parameters) >>= λ parameters.
-    scalars_of (plain_among addressed ls) >>= λ scalars.
-    sizes_of s.context.structs (placed_among addressed ls) >>= λ sizes.
-    statements_typed (in_body s f (locals_of addressed ls)) body >>= λ statements.
+-- the function, where these are its parameters, the locals of its body, and the operands of `&` among them
+abbrev pub function_with : Scope → FunctionTree → trees.Stmts → (addressed : List ℕ) → (parameters locals : List Local) → Option Function
+function_with s f body addressed ps ls =
+    parameters_typed (locals_of addressed ps ls) f.parameters (parameter_types (inner_scope s.context) f.parameters) >>= λ parameters.
+    scalars_of (variables_among addressed ps ls) >>= λ scalars.
+    sizes_of s.context.structs (placed_among addressed (ps ++ ls)) >>= λ sizes.
+    statements_typed (in_body s f (locals_of addressed ps ls)) body >>= λ statements.
     Some (record {
       name = f.name;
       parameters = parameters;
@@ -90,7 +104,9 @@ function_with s f body addressed ls =
 
 abbrev pub function_typed : Scope → FunctionTree → Option trees.Stmts → Option (List Function)
 function_typed s f None = Some []
-function_typed s f (Some body) = function_with s f body (addressed_in s.context f body) (locals_in s.context f body) >>= λ g. Some (g ∷ [])
+function_typed s f (Some body) =
+    function_with s f body (addressed_in s.context f body) (parameters_in s.context f) (statements_locals (body_context s.context f) body)
+    >>= λ g. Some (g ∷ [])
 
 -- ---- file scope (6.9.2)
 
@@ -147,7 +163,7 @@ functions_in (variables d ∷ ds) = functions_in ds
 abbrev pub start_scope : UnitTree → Scope
 start_scope unit = record {
   context = start_context;
-  locals = record { plain = []; placed = [] };
+  locals = record { variables = []; placed = [] };
   statics = record { variables = file_variables_in unit; texts = map (λ (t : TextBlock). t.node) (literal_blocks unit) };
   functions = functions_in unit;
 }

@@ -1,4 +1,5 @@
 // The laws of the runs of a source. Each is the contract of an empty function.
+ghost use Rattle.qs_meaning.specs.InitialLaws.{InitialMemoryIsSound};
 ghost use Rattle.qs_meaning.specs.Laws.{CallsFollow, MainGrows, RunsGrow};
 ghost use Rattle.qs_meaning.specs.TypedLaws.{FunctionsTyped, TypedWhereTypes, UnitsTyped};
 
@@ -31,4 +32,10 @@ pub fn functions_typed()
 /// A well typed unit has a typed tree.
 pub fn units_typed()
     ensures { UnitsTyped }
+{}
+
+/// The memory in which a run begins is sound: bytes are below 256, and pointers are null or into
+/// blocks that are there, inside them or just past their end.
+pub fn initial_memory_is_sound()
+    ensures { InitialMemoryIsSound }
 {}

@@ -5,5 +5,6 @@
 mod laws;
 
 pub use laws::{
-    calls_follow, functions_typed, main_grows, runs_grow, typed_where_types, units_typed,
+    calls_follow, functions_typed, initial_memory_is_sound, main_grows, runs_grow,
+    typed_where_types, units_typed,
 };

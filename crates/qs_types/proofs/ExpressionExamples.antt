@@ -139,6 +139,10 @@ outside_loop_kept = refl
 misplaced_value_broken : found (struct_s ∷ global s_base 0 97 one None ∷ g (eval (a) ∷ []) ∷ []) ≡ fault 5 rules.MisplacedValue
 misplaced_value_broken = refl
 
+-- struct s{..};struct s a;void g(void){a+=b;}
+misplaced_value_broken_2 : found (struct_s ∷ global s_base 0 97 one None ∷ g (eval (e (trees.assign assigns.Add (a) (b))) ∷ []) ∷ []) ≡ record { node = 6; rule = rules.MisplacedValue } ∷ record { node = 7; rule = rules.UnknownVariable } ∷ []
+misplaced_value_broken_2 = refl
+
 -- struct s {int m;};struct s a;void g(void){a=a;}
 misplaced_value_kept : found (struct_s ∷ global s_base 0 97 one None ∷ g (eval (e (trees.assign assigns.Plain (a) (a))) ∷ []) ∷ []) ≡ []
 misplaced_value_kept = refl
@@ -152,7 +156,7 @@ initialiser_type_kept : found (global bases.Char 0 97 (many (number 2)) (valued 
 initialiser_type_kept = refl
 
 -- int a[1]={1,2};
-initialiser_type_broken_2 : found (global bases.Int 0 97 (many (number 1)) (listed (trees.value (number 1) ∷ trees.value (number 2) ∷ [])) ∷ []) ≡ fault 2 rules.InitialiserType
+initialiser_type_broken_2 : found (global bases.Int 0 97 (many (number 1)) (listed (trees.value (number 1) ∷ trees.value (number 2) ∷ [])) ∷ []) ≡ fault 0 rules.InitialiserType
 initialiser_type_broken_2 = refl
 
 -- int a=b where b is a variable: int b;int a=b;

@@ -1,5 +1,5 @@
 -- Which rules wait for the types of a node's parts, and which parts of a struct, a list or a header are at fault.
-use Rattle.std.proofs.Common.{◌≡◌, false, List, [], ◌∷◌, None, refl}
+use Rattle.std.proofs.Common.{◌≡◌, false, List, [], ◌∷◌, None, Some, refl}
 use Rattle.qs_syntax.specs.declared.operators.BinaryOperator.TheVariants as binaries
 use Rattle.qs_syntax.specs.declared.types.Base.TheVariants as bases
 use Rattle.qs_syntax.specs.Trees.{unnumbered, structure, DeclTree, DeclaratorTree, LengthsTree, initialisers_of}
@@ -64,12 +64,12 @@ member_itself_large = refl
 -- ---- lists
 
 -- int a[1]={1,2};
-list_too_long : found (global bases.Int 0 97 (many (number 1)) (listed (trees.value (number 1) ∷ trees.value (number 2) ∷ [])) ∷ []) ≡ fault 2 rules.InitialiserType
+list_too_long : found (global bases.Int 0 97 (many (number 1)) (listed (trees.value (number 1) ∷ trees.value (number 2) ∷ [])) ∷ []) ≡ fault 0 rules.InitialiserType
 list_too_long = refl
 
 -- int a[1][1]={{1,2}};
 inner_too_long : found (global bases.Int 0 97 (record { is_open = false; given = number 1 ∷ number 1 ∷ [] }) (listed (trees.list (unnumbered 0) (initialisers_of (trees.value (number 1) ∷ trees.value (number 2) ∷ [])) ∷ [])) ∷ [])
-    ≡ fault 4 rules.InitialiserType
+    ≡ fault 3 rules.InitialiserType
 inner_too_long = refl
 
 -- int a={1};
@@ -80,7 +80,32 @@ list_for_scalar = refl
 list_in_list : found (global bases.Int 0 97 (many (number 1)) (listed (trees.list (unnumbered 0) (initialisers_of (trees.value (number 1) ∷ [])) ∷ [])) ∷ []) ≡ fault 2 rules.InitialiserType
 list_in_list = refl
 
+-- struct s {int m;};struct s a={1,2};
+struct_list_too_long : found (struct_s ∷ global s_base 0 97 one (listed (trees.value (number 1) ∷ trees.value (number 2) ∷ [])) ∷ []) ≡ fault 2 rules.InitialiserType
+struct_list_too_long = refl
+
+-- int a[2]={1};
+list_shorter : found (global bases.Int 0 97 (many (number 2)) (listed (trees.value (number 1) ∷ [])) ∷ []) ≡ []
+list_shorter = refl
+
 -- ---- headers with a part that has no type
+
+abbrev array_parameter : List trees.ExprTree → trees.ParameterTree
+array_parameter lengths = record { node = unnumbered 0; type_name = record { base = bases.Int; stars = 0 }; name = Some (97 ∷ []); lengths = record { is_open = false; given = lengths } }
+
+-- int main(int a[x]);
+first_length_without_type : found (header bases.Int main_name (array_parameter (x ∷ []) ∷ []) ∷ [])
+    ≡ record { node = 0; rule = rules.MainType } ∷ record { node = 2; rule = rules.UnknownVariable } ∷ []
+first_length_without_type = refl
+
+-- int main(int a[1][x]);
+inner_length_without_type : found (header bases.Int main_name (array_parameter (number 1 ∷ x ∷ []) ∷ []) ∷ []) ≡ fault 3 rules.UnknownVariable
+inner_length_without_type = refl
+
+-- int f(int);int f(int a[x]);
+pointer_after_all : found (header bases.Int f_name (parameter bases.Int 0 None ∷ []) ∷ header bases.Int f_name (array_parameter (x ∷ []) ∷ []) ∷ [])
+    ≡ record { node = 2; rule = rules.DeclaredTwice } ∷ record { node = 4; rule = rules.UnknownVariable } ∷ []
+pointer_after_all = refl
 
 -- int f(int);int f(struct s);
 part_without_type : found (header bases.Int f_name (parameter bases.Int 0 None ∷ []) ∷ header bases.Int f_name (parameter s_base 0 None ∷ []) ∷ []) ≡ fault 3 rules.UnknownTag

@@ -9,6 +9,7 @@ use Rattle.qs_types.specs.declared.rules.Rule.TheVariants as rules
 use Rattle.qs_types.specs.Contexts.{given, start_context, entity_of}
 use Rattle.qs_types.specs.GivenFunctions.{putchar_name, putchar_type}
 use Rattle.qs_types.specs.Placed.{addressed_in}
+
 use Rattle.qs_types.proofs.RuleTrees.{found, fault, e, number, a, one, local, parameter, g, eval}
 
 abbrev addressed_by : FunctionTree → Option Stmts → List ℕ

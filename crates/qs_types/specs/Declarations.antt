@@ -1,5 +1,5 @@
 -- The types that declarations give (C11 6.7), and the rules that their nodes keep.
-use Rattle.std.specs.Prelude.{ℕ, suc, ◌+◌, Bool, true, false, not, ◌&&◌, ◌||◌, List, [], ◌∷◌, ◌++◌, Option, Some, None, is_some, length, if◌then◌else◌}
+use Rattle.std.specs.Prelude.{ℕ, suc, ◌+◌, Bool, true, false, not, ◌&&◌, ◌||◌, List, [], ◌∷◌, ◌++◌, Option, Some, None, is_some, length, option_map, if◌then◌else◌}
 use Rattle.qs_syntax.specs.declared.types.Base.{Base}
 use Rattle.qs_syntax.specs.Trees.{ExprTree, expr, ShapeTree, LengthsTree, DeclaratorTree, InitialiserTree, Initialisers, no_initialisers, initialiser_and, VariableTree, ParameterTree}
 use Rattle.qs_syntax.specs.Trees as trees
@@ -56,9 +56,12 @@ abbrev pub whole_lengths : LengthsTree → (first : Option ℕ) → Option (List
 whole_lengths l first None = None
 whole_lengths l first (Some ns) = if l.is_open then and_then first (λ n. Some (n ∷ ns)) else Some ns
 
+abbrev pub object_by : (element : TypeTree) → Option (List ℕ) → TypeTree
+object_by element None = void
+object_by element (Some ns) = arrays element ns
+
 abbrev pub object_type : Context → Base → ℕ → Option (List ℕ) → TypeTree
-object_type c base stars None = void
-object_type c base stars (Some ns) = arrays (type_or_void (starred_type c base stars)) ns
+object_type c base stars ns = object_by (type_or_void (starred_type c base stars)) ns
 
 abbrev pub size_tests : Context → List Test → TypeTree → List Test
 size_tests c before t = test rules.LargeType (not (breaks_one before) && not (is_sized c.structs t))
@@ -102,25 +105,43 @@ is_any (e ∷ es) = true
 abbrev pub is_array_parameter : LengthsTree → Bool
 is_array_parameter l = l.is_open || is_any l.given
 
--- the lengths of the elements: the first is that of the parameter
-abbrev pub element_lengths : LengthsTree → Option (List ℕ) → Option (List ℕ)
-element_lengths l None = None
-element_lengths l (Some []) = Some []
-element_lengths l (Some (n ∷ ns)) = if l.is_open then Some (n ∷ ns) else Some ns
+abbrev pub first_in : List ExprTree → Option ExprTree
+first_in [] = None
+first_in (e ∷ es) = Some e
 
-abbrev pub array_parameter_tests : Context → ParameterTree → List Test
-array_parameter_tests c p =
-    element_tests c p.type_name.base p.type_name.stars ++ keeps rules.ArrayLength (is_some (lengths_of c p.lengths.given))
+abbrev pub behind_first : List ExprTree → List ExprTree
+behind_first [] = []
+behind_first (e ∷ es) = es
 
--- the elements of a parameter that is written as an array
-abbrev pub parameter_element : Context → ParameterTree → TypeTree
-parameter_element c p = object_type c p.type_name.base p.type_name.stars (element_lengths p.lengths (lengths_of c p.lengths.given))
+-- the first length, which is the parameter's, and those of its elements
+abbrev pub first_length : LengthsTree → Option ExprTree
+first_length l = if l.is_open then None else first_in l.given
+
+abbrev pub element_lengths : LengthsTree → List ExprTree
+element_lengths l = if l.is_open then l.given else behind_first l.given
+
+abbrev pub is_length_typed : Context → Option ExprTree → Bool
+is_length_typed c None = true
+is_length_typed c (Some e) = is_some (type_of c e)
+
+abbrev pub is_length : Context → Option ExprTree → Bool
+is_length c None = true
+is_length c (Some e) = is_some (length_of c e)
 
 -- 6.7.6.3p7: a parameter written as an array is a pointer to its elements, which have a size
+abbrev pub pointed : Declared → Declared
+pointed d = record d { type = option_map pointer d.type }
+
+-- where the first length has no type nothing is tested, but the parameter is a pointer still
+abbrev pub untested : Declared → Declared
+untested d = record d { tests = [] }
+
 abbrev pub array_parameter : Context → ParameterTree → Declared
 array_parameter c p =
-    declared_by (array_parameter_tests c p ++ size_tests c (array_parameter_tests c p) (parameter_element c p))
-    (pointer (parameter_element c p))
+    pointed (object_declared c p.type_name.base p.type_name.stars (if is_length c (first_length p.lengths) then lengths_of c (element_lengths p.lengths) else None))
+
+abbrev pub held_parameter : Context → ParameterTree → Declared
+held_parameter c p = untested (pointed (object_declared c p.type_name.base p.type_name.stars (lengths_of c (element_lengths p.lengths))))
 
 -- the tag is known, and `void` is not the base; that the type is a scalar is a rule of its own
 abbrev pub plain_parameter : Context → ParameterTree → Declared
@@ -130,4 +151,6 @@ plain_parameter c p =
 
 abbrev pub parameter_declared : Context → ParameterTree → Declared
 parameter_declared c p =
-    if all_typed c p.lengths.given then (if is_array_parameter p.lengths then array_parameter c p else plain_parameter c p) else undeclared
+    if not (is_array_parameter p.lengths) then plain_parameter c p else
+    if not (all_typed c (element_lengths p.lengths)) then undeclared else
+    if is_length_typed c (first_length p.lengths) then array_parameter c p else held_parameter c p

@@ -3,6 +3,8 @@ use Rattle.std.specs.Prelude.{Bool, true, false, not, ◌&&◌, ◌||◌, List, 
 use Rattle.qs_syntax.specs.declared.nodes.Node.{Node}
 use Rattle.qs_syntax.specs.declared.operators.UnaryOperator.{UnaryOperator}
 use Rattle.qs_syntax.specs.declared.operators.UnaryOperator.TheVariants as unaries
+use Rattle.qs_syntax.specs.declared.operators.AssignmentOperator.{AssignmentOperator}
+use Rattle.qs_syntax.specs.declared.operators.AssignmentOperator.TheVariants as assigns
 use Rattle.qs_syntax.specs.declared.operators.Access.{Access}
 use Rattle.qs_syntax.specs.declared.operators.Access.TheVariants as accesses
 use Rattle.qs_syntax.specs.Trees.{ExprTree, expr, ShapeTree, Exprs, no_exprs, expr_and}
@@ -37,6 +39,20 @@ operand_position unaries.Plus = used
 operand_position unaries.Minus = used
 operand_position unaries.Complement = used
 operand_position unaries.Not = used
+
+-- both operands; only those of `=` may be structs
+abbrev pub assigned_position : AssignmentOperator → Position
+assigned_position assigns.Plain = whole
+assigned_position assigns.Multiply = used
+assigned_position assigns.Divide = used
+assigned_position assigns.Remainder = used
+assigned_position assigns.Add = used
+assigned_position assigns.Subtract = used
+assigned_position assigns.ShiftLeft = used
+assigned_position assigns.ShiftRight = used
+assigned_position assigns.BitAnd = used
+assigned_position assigns.BitXor = used
+assigned_position assigns.BitOr = used
 
 abbrev pub object_position : Access → Position
 object_position accesses.Dot = whole
@@ -89,7 +105,7 @@ abbrev mutual
   part_faults c p (trees.sizeof_type n) = []
   part_faults c p (trees.sizeof_expr a) = expr_faults c whole a
   part_faults c p (trees.binary operator a b) = expr_faults c used a ++ expr_faults c used b
-  part_faults c p (trees.assign operator a b) = expr_faults c whole a ++ expr_faults c whole b
+  part_faults c p (trees.assign operator a b) = expr_faults c (assigned_position operator) a ++ expr_faults c (assigned_position operator) b
   part_faults c p (trees.conditional d a b) = expr_faults c used d ++ (expr_faults c used a ++ expr_faults c used b)
   part_faults c p (trees.comma a b) = expr_faults c discarded a ++ expr_faults c (right_position p) b
   part_faults c p (trees.subscript a b) = expr_faults c used a ++ expr_faults c used b

@@ -3,6 +3,7 @@ use Rattle.std.specs.Prelude.{ℕ, ◌+◌, nat_lt, nat_le, Bool, true, false, n
 use Rattle.std.specs.List.{slice_get}
 use Rattle.qs_syntax.specs.Trees.{ExprTree, expr, ShapeTree, InitialiserTree, Initialisers, no_initialisers, initialiser_and}
 use Rattle.qs_syntax.specs.Trees as trees
+use Rattle.qs_syntax.specs.declared.operators.UnaryOperator.{UnaryOperator}
 use Rattle.qs_syntax.specs.declared.operators.UnaryOperator.TheVariants as unaries
 use Rattle.qs_types.specs.Types.{TypeTree, char, array, struct, MemberTree, Structs, same_type, is_scalar, is_struct, is_array}
 use Rattle.qs_types.specs.Layout.{and_then, struct_of}
@@ -12,7 +13,7 @@ use Rattle.qs_types.specs.Rules.{Test, keeps, Fault, faults_of}
 use Rattle.qs_types.specs.Contexts.{Context, Entity, local_variable, file_variable, function, given, entity_of}
 use Rattle.qs_types.specs.Expressions.{type_of, is_lvalue, is_null_constant, is_assignable}
 use Rattle.qs_types.specs.Constants.{constant_of}
-use Rattle.qs_types.specs.Declarations.{text_of}
+use Rattle.qs_types.specs.Declarations.{text_of, initialisers_count}
 use Rattle.qs_types.specs.ExpressionFaults.{whole, expr_faults}
 
 -- ---- parts of an object (6.7.9p17)
@@ -45,10 +46,14 @@ abbrev pub names_file_variable : Context → ExprTree → Bool
 names_file_variable c (expr node (trees.name x)) = is_file_variable (entity_of c x)
 names_file_variable c (expr node _) = false
 
+abbrev pub is_address_of : Context → UnaryOperator → ExprTree → Bool
+is_address_of c unaries.Address a = names_file_variable c a
+is_address_of c _ a = false
+
 -- the name of an array at file scope, or `&` of a variable there
 abbrev pub is_address : Context → ExprTree → (t : TypeTree) → Bool
 is_address c (expr node (trees.name x)) t = is_array t && is_file_variable (entity_of c x)
-is_address c (expr node (trees.unary unaries.Address a)) t = names_file_variable c a
+is_address c (expr node (trees.unary operator a)) t = is_address_of c operator a
 is_address c (expr node _) t = false
 
 -- 6.7.9p4: a constant expression, a null constant, a text, or an address
@@ -82,17 +87,34 @@ fits_typed (Some u) fits = fits u
 abbrev pub takes_list : TypeTree → Bool
 takes_list t = is_array t || is_struct t
 
--- an initialiser of a part of type t fits, what stands in an inner list aside; no part is left where there is no type
-abbrev pub element_fits : Bool → Context → Option TypeTree → InitialiserTree → Bool
-element_fits at_file_scope c None i = false
-element_fits at_file_scope c (Some t) (trees.value e) = fits_typed (type_of c e) (fits_variable at_file_scope c t e)
-element_fits at_file_scope c (Some t) (trees.list node is) = takes_list t
+abbrev pub count_of_members : Option (List MemberTree) → ℕ
+count_of_members None = 0
+count_of_members (Some ms) = length ms
 
--- the elements of a list from number i on
-abbrev pub elements_fit : Bool → Context → TypeTree → ℕ → Initialisers → Bool
+-- how many parts an object has
+abbrev pub count_of_parts : Structs → TypeTree → ℕ
+count_of_parts structs (array t n) = n
+count_of_parts structs (struct k) = count_of_members (struct_of structs k)
+count_of_parts structs _ = 0
+
+-- a list for an array or a struct is no longer than that
+abbrev pub list_fits : Structs → TypeTree → Initialisers → Bool
+list_fits structs t is = takes_list t && nat_le (initialisers_count is) (count_of_parts structs t)
+
+-- an initialiser of a part of type t fits, what stands in an inner list aside; what is past the end is let pass, since the list is too long
+abbrev pub element_fits : Bool → Context → Option TypeTree → InitialiserTree → Bool
+element_fits at_file_scope c None i = true
+element_fits at_file_scope c (Some t) (trees.value e) = fits_typed (type_of c e) (fits_variable at_file_scope c t e)
+element_fits at_file_scope c (Some t) (trees.list node is) = list_fits c.structs t is
+
+abbrev pub option_part : Structs → Option TypeTree → ℕ → Option TypeTree
+option_part structs t i = and_then t (λ t. part_type structs t i)
+
+-- the elements of a list for an object of this type, from number i on
+abbrev pub elements_fit : Bool → Context → Option TypeTree → ℕ → Initialisers → Bool
 elements_fit at_file_scope c t i no_initialisers = true
 elements_fit at_file_scope c t i (initialiser_and first is) =
-    element_fits at_file_scope c (part_type c.structs t i) first && elements_fit at_file_scope c t (i + 1) is
+    element_fits at_file_scope c (option_part c.structs t i) first && elements_fit at_file_scope c t (i + 1) is
 
 -- whether the expressions that stand in the list itself have types
 abbrev pub elements_typed : Context → Initialisers → Bool
@@ -102,7 +124,7 @@ elements_typed c (initialiser_and (trees.list node inner) is) = elements_typed c
 
 -- the test of a list for an object of type t
 abbrev pub list_tests : Bool → Context → TypeTree → Initialisers → List Test
-list_tests at_file_scope c t is = if elements_typed c is && takes_list t then keeps rules.InitialiserType (elements_fit at_file_scope c t 0 is) else []
+list_tests at_file_scope c t is = if elements_typed c is && takes_list t then keeps rules.InitialiserType (elements_fit at_file_scope c (Some t) 0 is) else []
 
 -- the faults in the parts of an initialiser; the types of inner lists are those of the parts, where there are such
 abbrev mutual
@@ -115,7 +137,7 @@ abbrev mutual
   pub elements_faults : Bool → Context → Option TypeTree → ℕ → Initialisers → List Fault
   elements_faults at_file_scope c t i no_initialisers = []
   elements_faults at_file_scope c t i (initialiser_and first is) =
-      initialiser_faults at_file_scope c (and_then t (λ t. part_type c.structs t i)) first ++ elements_faults at_file_scope c t (i + 1) is
+      initialiser_faults at_file_scope c (option_part c.structs t i) first ++ elements_faults at_file_scope c t (i + 1) is
 
 -- ---- the test of a variable of type t
 
@@ -125,7 +147,7 @@ is_typed c (trees.list node is) = true
 
 abbrev pub fits : Bool → Context → TypeTree → InitialiserTree → Bool
 fits at_file_scope c t (trees.value e) = fits_typed (type_of c e) (fits_variable at_file_scope c t e)
-fits at_file_scope c t (trees.list node is) = takes_list t
+fits at_file_scope c t (trees.list node is) = list_fits c.structs t is
 
 abbrev pub initialiser_tests : Bool → Context → Option TypeTree → Option InitialiserTree → List Test
 initialiser_tests at_file_scope c t None = []

@@ -6,7 +6,8 @@ use Rattle.qs_syntax.specs.Nodes.{unit_count}
 use Rattle.qs_syntax.specs.declared.types.Base.{Base}
 use Rattle.qs_syntax.specs.Trees.{VariableTree, ParameterTree, FunctionTree, Stmts, structure, forward, function, variables, UnitTree}
 use Rattle.qs_types.specs.Types.{TypeTree, Structs}
-use Rattle.qs_types.specs.Layout.{size_of, rounded_up}
+use Rattle.qs_types.specs.declared.extent.Extent.{Extent}
+use Rattle.qs_types.specs.Layout.{and_then, layout_of, sized_by, rounded_up}
 use Rattle.qs_types.specs.Contexts.{Context, start_context}
 use Rattle.qs_types.specs.Declarations.{variable_declared}
 use Rattle.qs_types.specs.StatementRules.{after_variable}
@@ -37,7 +38,7 @@ header_past limit names (structure s ∷ ds) = header_past limit names ds
 header_past limit names (forward f ∷ ds) = header_past limit names ds
 header_past limit names (function f ∷ ds) =
     if is_name_in f.name names then header_past limit names ds else
-    if nat_lt limit (length names + 1) then Some f.node.id else header_past limit (f.name ∷ names) ds
+    if nat_lt limit (length names + 1) then Some f.node.id else header_past limit (names ++ f.name ∷ []) ds
 header_past limit names (variables d ∷ ds) = header_past limit names ds
 
 abbrev pub first_past_functions : (limit : ℕ) → UnitTree → Option ℕ
@@ -78,13 +79,13 @@ abbrev pub block_past : (limit end : ℕ) → List Block → Option ℕ
 block_past limit end [] = None
 block_past limit end (b ∷ bs) = if nat_lt limit (block_end end b) then Some b.node else block_past limit (block_end end b) bs
 
-abbrev pub size_or_none : Option ℕ → ℕ
-size_or_none None = 0
-size_or_none (Some n) = n
+abbrev pub extent_size : Option Extent → ℕ
+extent_size None = 0
+extent_size (Some e) = e.size
 
+-- the size of a declared type
 abbrev pub type_size : Structs → Option TypeTree → ℕ
-type_size structs None = 0
-type_size structs (Some t) = size_or_none (size_of structs t)
+type_size structs t = extent_size (and_then t (sized_by (layout_of structs)))
 
 -- ---- data: the variables of file scope in the order of their declarations, and then the texts that are blocks
 

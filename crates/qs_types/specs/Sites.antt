@@ -3,10 +3,9 @@ use Rattle.std.specs.Prelude.{ℕ, ◌+◌, Bool, true, false, ◌&&◌, List, [
 use Rattle.qs_syntax.specs.declared.types.Base.{Base}
 use Rattle.qs_syntax.specs.Trees.{ExprTree, DeclaratorTree, InitialiserTree, value, list, Initialisers, no_initialisers, initialiser_and, VariableTree, ParameterTree, MembersTree, StartTree, no_start, start_expression, start_declaration, StmtTree, empty, expression, declaration, block, branch, while_loop, do_loop, for_loop, break, continue, return, Stmts, no_stmts, stmt_and, Else, no_else, else_by, FunctionTree, DeclTree, structure, forward, function, variables, UnitTree}
 use Rattle.qs_types.specs.Types.{TypeTree}
-use Rattle.qs_types.specs.Layout.{and_then}
 use Rattle.qs_types.specs.Contexts.{Context, start_context, inner_scope, inside_loop}
 use Rattle.qs_types.specs.Declarations.{text_of, variable_declared}
-use Rattle.qs_types.specs.InitialiserRules.{part_type, holds_text}
+use Rattle.qs_types.specs.InitialiserRules.{option_part, holds_text}
 use Rattle.qs_types.specs.StatementRules.{after_variable, after_statement, for_context}
 use Rattle.qs_types.specs.UnitRules.{with_tag, after_parameter, body_context, after_declaration}
 
@@ -50,7 +49,7 @@ abbrev mutual
   pub elements_sites : Bool → Context → Option TypeTree → ℕ → Initialisers → List Site
   elements_sites at_file_scope c t i no_initialisers = []
   elements_sites at_file_scope c t i (initialiser_and first is) =
-      initialiser_sites at_file_scope c (and_then t (λ t. part_type c.structs t i)) first ++ elements_sites at_file_scope c t (i + 1) is
+      initialiser_sites at_file_scope c (option_part c.structs t i) first ++ elements_sites at_file_scope c t (i + 1) is
 
 abbrev pub option_initialiser_sites : Bool → Context → Option TypeTree → Option InitialiserTree → List Site
 option_initialiser_sites at_file_scope c t None = []

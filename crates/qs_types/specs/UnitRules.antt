@@ -1,6 +1,6 @@
 -- Which nodes of a unit break which rules (C11 6.9).
 use Rattle.std.specs.Prelude.{◌≡◌, ℕ, ◌+◌, ◌==◌, nat_le, Bool, true, false, not, ◌&&◌, ◌||◌, List, [], ◌∷◌, ◌++◌, Option, Some, None, is_some, if◌then◌else◌}
-use Rattle.std.specs.List.{list_all}
+use Rattle.std.specs.List.{list_all, list_any, slice_get}
 use Rattle.qs_syntax.specs.Sameness.{same_bytes}
 use Rattle.qs_syntax.specs.declared.types.Base.{Base}
 use Rattle.qs_syntax.specs.Trees.{DeclaratorTree, ParameterTree, MembersTree, StructTree, FunctionTree, Stmts, DeclTree, structure, forward, function, variables, UnitTree}
@@ -13,7 +13,7 @@ use Rattle.qs_types.specs.Rules.{same_rule, Test, test, keeps, Fault, faults_of}
 use Rattle.qs_types.specs.Contexts.{Entity, local_variable, file_variable, given, Binding, Context, start_context, lookup, tag_place, base_type, starred_type, is_void_base, with_name, inner_scope, is_declared_here}
 use Rattle.qs_types.specs.Contexts as contexts
 use Rattle.qs_types.specs.GivenFunctions.{Signature, main_name}
-use Rattle.qs_types.specs.Expressions.{type_or_void}
+use Rattle.qs_types.specs.Expressions.{type_or_void, member_in}
 use Rattle.qs_types.specs.Declarations.{Declared, declared, parameter_declared, lengths_faults, all_typed}
 use Rattle.qs_types.specs.StatementRules.{variables_faults, after_variables, statements_faults}
 
@@ -55,27 +55,29 @@ abbrev pub member_declared : Context → (end : ℕ) → Base → DeclaratorTree
 member_declared c end base d = with_room_tests c end (declared c base d None)
 
 abbrev pub is_name_in : List ℕ → List (List ℕ) → Bool
-is_name_in x [] = false
-is_name_in x (y ∷ ys) = same_bytes y x || is_name_in x ys
+is_name_in x names = list_any (same_bytes x) names
 
 abbrev pub end_behind : (end : ℕ) → Option Extent → ℕ
 end_behind end None = end
 end_behind end (Some e) = member_end end e
 
-abbrev pub with_member : (again : Bool) → List MemberTree → List ℕ → Option TypeTree → List MemberTree
-with_member again members x None = members
-with_member again members x (Some t) = if again then members else members ++ record { name = x; type = t } ∷ []
+abbrev pub is_member : List ℕ → List MemberTree → Bool
+is_member x members = is_some (member_in x members)
 
--- a member of a name that was declared before doesn't count
-abbrev pub with_member_of : Context → Before → List ℕ → Option TypeTree → Before
-with_member_of c before x t = record {
-  names = x ∷ before.names;
-  members = with_member (is_name_in x before.names) before.members x t;
-  end = if is_name_in x before.names then before.end else end_behind before.end (option_extent c.structs t);
+abbrev pub with_name_once : List (List ℕ) → List ℕ → List (List ℕ)
+with_name_once names x = if is_name_in x names then names else names ++ x ∷ []
+
+-- behind a member; one whose name stands already among the members with a type doesn't count
+abbrev pub with_member : Structs → Before → List ℕ → Option TypeTree → Before
+with_member structs before x None = record before { names = with_name_once before.names x }
+with_member structs before x (Some t) = record {
+  names = with_name_once before.names x;
+  members = if is_member x before.members then before.members else before.members ++ record { name = x; type = t } ∷ [];
+  end = if is_member x before.members then before.end else end_behind before.end (sized_by (layout_of structs) t);
 }
 
 abbrev pub after_member : Context → Before → Base → DeclaratorTree → Before
-after_member c before base d = with_member_of c before d.name (member_declared c before.end base d).type
+after_member c before base d = with_member c.structs before d.name (member_declared c before.end base d).type
 
 abbrev pub after_together : Context → Before → Base → List DeclaratorTree → Before
 after_together c before base [] = before
@@ -88,14 +90,22 @@ after_members c before (m ∷ ms) = after_members c (after_together c before m.b
 abbrev pub is_defined : Context → List ℕ → Bool
 is_defined c tag = is_some (and_then (tag_place c tag) (struct_of c.structs))
 
+-- a struct that is declared and has no members
+abbrev pub has_no_members : Option (Option (List MemberTree)) → Bool
+has_no_members None = false
+has_no_members (Some None) = true
+has_no_members (Some (Some ms)) = false
+
+-- a struct that has no members gets these: it is defined once
 abbrev pub define_at : Context → List MemberTree → Option ℕ → Context
 define_at c ms None = c
-define_at c ms (Some k) = record c { structs = with_members (is_some (sized_layout (layout_of c.structs) (member_types ms))) c.structs k ms }
+define_at c ms (Some k) =
+    if has_no_members (slice_get c.structs k)
+    then record c { structs = with_members (is_some (sized_layout (layout_of c.structs) (member_types ms))) c.structs k ms }
+    else c
 
--- a struct is defined once
 abbrev pub after_struct : Context → StructTree → Context
-after_struct c s =
-    if is_defined c s.name then c else define_at (with_tag c s.name) (after_members (with_tag c s.name) no_members s.members).members (tag_place (with_tag c s.name) s.name)
+after_struct c s = define_at (with_tag c s.name) (after_members (with_tag c s.name) no_members s.members).members (tag_place (with_tag c s.name) s.name)
 
 abbrev pub member_tests : Context → Before → Base → DeclaratorTree → List Test
 member_tests c before base d =

@@ -6,3 +6,14 @@ pub mod Walks
 pub mod Aligned
 pub mod TreeLaws
 pub mod MemberLookups
+pub mod Watched
+pub mod Scoping
+pub mod Heads
+pub mod Adding
+pub mod Ends
+pub mod Defining
+pub mod Counts
+pub mod Blocks
+pub mod Checked
+pub mod Naming
+pub mod Numbers

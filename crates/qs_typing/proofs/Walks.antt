@@ -9,7 +9,7 @@ use Rattle.qs_types.specs.Rules.{Test, Fault, faults_of}
 use Rattle.qs_types.specs.Contexts.{Context}
 use Rattle.qs_types.specs.Expressions.{Judged, type_of, shape_judged}
 use Rattle.qs_types.specs.Layout.{and_then}
-use Rattle.qs_types.specs.ExpressionFaults.{Position, used, discarded, whole, operand_position, object_position, right_position, position_tests, own_tests}
+use Rattle.qs_types.specs.ExpressionFaults.{Position, used, discarded, whole, operand_position, assigned_position, object_position, right_position, position_tests, own_tests}
 use Rattle.qs_types.specs.Placed.{operand_of, named_local}
 use Rattle.qs_typing.specs.declared.entity.Referent.{Referent}
 use Rattle.qs_typing.specs.Findings.{FoundTree, Findings, least_with, judged_at, with_findings, both}
@@ -102,8 +102,9 @@ mutual
       expr_walked c used b (walked c used a f) ∙ ap (λ g. with_findings g (expr_findings c used b)) (expr_walked c used a f)
       ∙ in_turn f (expr_findings c used a) (expr_findings c used b)
   shape_walked c p (trees.assign operator a b) f =
-      expr_walked c whole b (walked c whole a f) ∙ ap (λ g. with_findings g (expr_findings c whole b)) (expr_walked c whole a f)
-      ∙ in_turn f (expr_findings c whole a) (expr_findings c whole b)
+      expr_walked c (assigned_position operator) b (walked c (assigned_position operator) a f)
+      ∙ ap (λ g. with_findings g (expr_findings c (assigned_position operator) b)) (expr_walked c (assigned_position operator) a f)
+      ∙ in_turn f (expr_findings c (assigned_position operator) a) (expr_findings c (assigned_position operator) b)
   shape_walked c p (trees.conditional d a b) f =
       expr_walked c used b (walked c used a (walked c used d f)) ∙ ap (λ g. with_findings g (expr_findings c used b)) (expr_walked c used a (walked c used d f))
       ∙ in_turn (walked c used d f) (expr_findings c used a) (expr_findings c used b)

@@ -5,7 +5,7 @@ use Rattle.qs_syntax.specs.Trees as trees
 use Rattle.qs_types.specs.Types.{TypeTree}
 use Rattle.qs_types.specs.Contexts.{Context}
 use Rattle.qs_types.specs.Expressions.{type_of, shape_judged}
-use Rattle.qs_types.specs.ExpressionFaults.{Position, used, discarded, whole, operand_position, object_position, right_position, position_tests, own_tests}
+use Rattle.qs_types.specs.ExpressionFaults.{Position, used, discarded, whole, operand_position, assigned_position, object_position, right_position, position_tests, own_tests}
 use Rattle.qs_types.specs.Placed.{operand_of, named_local}
 use Rattle.qs_typing.specs.declared.entity.Referent.{Referent}
 use Rattle.qs_typing.specs.Findings.{FoundTree, judged_at}
@@ -38,7 +38,7 @@ abbrev mutual
   parts_walked c p (trees.sizeof_type n) f = f
   parts_walked c p (trees.sizeof_expr a) f = walked c whole a f
   parts_walked c p (trees.binary operator a b) f = walked c used b (walked c used a f)
-  parts_walked c p (trees.assign operator a b) f = walked c whole b (walked c whole a f)
+  parts_walked c p (trees.assign operator a b) f = walked c (assigned_position operator) b (walked c (assigned_position operator) a f)
   parts_walked c p (trees.conditional d a b) f = walked c used b (walked c used a (walked c used d f))
   parts_walked c p (trees.comma a b) f = walked c (right_position p) b (walked c discarded a f)
   parts_walked c p (trees.subscript a b) f = walked c used b (walked c used a f)

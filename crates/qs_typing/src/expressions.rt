@@ -26,7 +26,9 @@ use crate::names::{judge_call, judge_cast, judge_name, judge_object, judge_size}
 use crate::operators::{
     judge_binary, judge_comma, judge_conditional, judge_step, judge_subscript, judge_unary,
 };
-use crate::positions::{Position, is_misplaced, object_position, operand_position, right_position};
+use crate::positions::{
+    Position, assigned_position, is_misplaced, object_position, operand_position, right_position,
+};
 use qs_base::NoMemory;
 use qs_syntax::{Expr, Shape, Text, UnaryOperator};
 use qs_types::{CType, Rule};
@@ -257,8 +259,9 @@ fn walk_parts(
             left,
             right,
         } => {
-            let t = walk(alloc, c, left, Position::Whole, found)?;
-            let u = walk(alloc, c, right, Position::Whole, found)?;
+            let p = assigned_position(*operator);
+            let t = walk(alloc, c, left, p, found)?;
+            let u = walk(alloc, c, right, p, found)?;
             judge_assign(alloc, c.structs(), *operator, left, t, right, u)
         }
         Shape::Conditional {

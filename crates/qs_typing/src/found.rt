@@ -79,7 +79,8 @@ impl Found {
         Ok(())
     }
 
-    fn note_fault(&mut self, f: Fault)
+    /// Notes a fault.
+    pub fn note_fault(&mut self, f: Fault)
         ensures { found_tree self.new ≡ with_fault (fault_tree f) (found_tree self.old) }
     {
         self.least = match self.least {

@@ -1,12 +1,12 @@
 // Where expressions stand.
 ghost use Rattle.std.specs.Prelude.{◌≡◌};
 ghost use Rattle.qs_syntax.specs.TreeOf.{shape_tree};
-ghost use Rattle.qs_types.specs.ExpressionFaults.{is_discarded, is_whole, operand_position, object_position, right_position, is_call, is_assignment, is_misplaced};
+ghost use Rattle.qs_types.specs.ExpressionFaults.{is_discarded, is_whole, operand_position, assigned_position, object_position, right_position, is_call, is_assignment, is_misplaced};
 ghost use Rattle.qs_types.specs.TypeOf.{type_tree};
 ghost use Rattle.qs_typing.specs.PositionOf.{position_tree};
 
 use crate::types::{is_struct, is_void};
-use qs_syntax::{Access, Shape, UnaryOperator};
+use qs_syntax::{Access, AssignmentOperator, Shape, UnaryOperator};
 use qs_types::CType;
 
 /// Where an expression stands.
@@ -51,6 +51,25 @@ pub fn operand_position(operator: UnaryOperator) -> Position
         UnaryOperator::Minus => Position::Used,
         UnaryOperator::Complement => Position::Used,
         UnaryOperator::Not => Position::Used,
+    }
+}
+
+/// The position of the operands of an assignment.
+pub fn assigned_position(operator: AssignmentOperator) -> Position
+    ensures { position_tree result ≡ assigned_position operator }
+{
+    match operator {
+        AssignmentOperator::Plain => Position::Whole,
+        AssignmentOperator::Multiply => Position::Used,
+        AssignmentOperator::Divide => Position::Used,
+        AssignmentOperator::Remainder => Position::Used,
+        AssignmentOperator::Add => Position::Used,
+        AssignmentOperator::Subtract => Position::Used,
+        AssignmentOperator::ShiftLeft => Position::Used,
+        AssignmentOperator::ShiftRight => Position::Used,
+        AssignmentOperator::BitAnd => Position::Used,
+        AssignmentOperator::BitXor => Position::Used,
+        AssignmentOperator::BitOr => Position::Used,
     }
 }
 

@@ -112,6 +112,13 @@ impl Context {
         &self.structs
     }
 
+    /// The structs alone.
+    pub fn into_structs(self) -> Env
+        ensures { env_tree result ≡ (context_tree self).structs }
+    {
+        self.structs
+    }
+
     /// What a name stands for (C11 6.2.1p4).
     pub fn find(&self, name: &Name) -> Option<&Entity>
         ensures { option_map (λ e. entity_tree e.now) result ≡ entity_of (context_tree self.now) name.now }

@@ -2,7 +2,7 @@
 
 /// A block whose address is taken.
 #[derive(Clone, Copy, PartialEq, Eq, Debug)]
-pub enum Place {
+pub enum BlockId {
     /// the block with this number among those that the call makes
     Local(u32),
     /// the block with this number among the unit's data

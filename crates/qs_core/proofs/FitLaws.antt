@@ -1,0 +1,104 @@
+-- What the tests of a unit say.
+use Rattle.std.proofs.Common.{◌≡◌, ℕ, zero, suc, ◌&&◌, Bool, true, false, List, [], ◌∷◌, map, Option, Some, None, refl, ap}
+use Rattle.std.specs.Prelude.{bytes_eq}
+use Rattle.std.specs.List.{slice_get, list_all}
+use Rattle.qs_base.specs.Names.{is_name}
+use Rattle.qs_memory.specs.declared.scalar.Scalar.{Scalar}
+use Rattle.qs_memory.specs.declared.scalar.Scalar.TheVariants as scalars
+use Rattle.qs_core.specs.Trees.{CoreFunctionTree, CoreUnitTree}
+use Rattle.qs_core.specs.Scalars.{same_scalar, same_scalars, is_type}
+use Rattle.qs_core.specs.Fits.{stmts_fit, differ, same_variable, is_named, parameters_fit, function_fits, is_main, data_fits, unit_fits}
+
+pub both : (a b : Bool) → (a && b) ≡ true → (a ≡ true) × (b ≡ true)
+both true true h = (refl, refl)
+both true false h = cc
+both false b h = cc
+
+-- ---- types
+
+pub scalar_same : (s t : Scalar) → same_scalar s t ≡ true → s ≡ t
+scalar_same scalars.Char scalars.Char h = refl
+scalar_same scalars.Char scalars.Int h = cc
+scalar_same scalars.Char scalars.Unsigned h = cc
+scalar_same scalars.Char scalars.Pointer h = cc
+scalar_same scalars.Int scalars.Char h = cc
+scalar_same scalars.Int scalars.Int h = refl
+scalar_same scalars.Int scalars.Unsigned h = cc
+scalar_same scalars.Int scalars.Pointer h = cc
+scalar_same scalars.Unsigned scalars.Char h = cc
+scalar_same scalars.Unsigned scalars.Int h = cc
+scalar_same scalars.Unsigned scalars.Unsigned h = refl
+scalar_same scalars.Unsigned scalars.Pointer h = cc
+scalar_same scalars.Pointer scalars.Char h = cc
+scalar_same scalars.Pointer scalars.Int h = cc
+scalar_same scalars.Pointer scalars.Unsigned h = cc
+scalar_same scalars.Pointer scalars.Pointer h = refl
+
+pub scalars_same : (ss ts : List Scalar) → same_scalars ss ts ≡ true → ss ≡ ts
+scalars_same [] [] h = refl
+scalars_same [] (t ∷ ts) h = cc
+scalars_same (s ∷ ss) [] h = cc
+scalars_same (s ∷ ss) (t ∷ ts) h =
+    let two = both (same_scalar s t) (same_scalars ss ts) h in
+    let first = scalar_same s t two.0 in
+    let others = scalars_same ss ts two.1 in
+    cc
+
+pub type_is : (o : Option Scalar) (s : Scalar) → is_type o s ≡ true → o ≡ Some s
+type_is None s h = cc
+type_is (Some t) s h = ap Some (scalar_same t s h)
+
+-- ---- lists
+
+pub all_at :
+    {A : Type 0} → (test : A → Bool) (xs : List A) (i : ℕ) (x : A) → list_all test xs ≡ true
+    → slice_get xs i ≡ Some x → test x ≡ true
+all_at test [] i x all is = cc
+all_at test (y ∷ xs) zero x all is = let first = (both (test y) (list_all test xs) all).0 in cc
+all_at test (y ∷ xs) (suc i) x all is =
+    all_at test xs i x (both (test y) (list_all test xs) all).1 is
+
+-- ---- functions and units
+
+pub record FunctionFits (u : CoreUnitTree) (f : CoreFunctionTree) : Type 0 where
+  pub name : is_name f.name ≡ true
+  pub named : list_all is_named f.variables ≡ true
+  pub different : differ same_variable f.variables ≡ true
+  pub parameters : parameters_fit f.blocks 0 f.parameters f.variables ≡ true
+  pub body : stmts_fit u f false false f.body ≡ true
+
+pub function_parts :
+    (u : CoreUnitTree) (f : CoreFunctionTree) → function_fits u f ≡ true → FunctionFits u f
+function_parts u f h =
+    let body = both _ (stmts_fit u f false false f.body) h in
+    let parameters = both _ (parameters_fit f.blocks 0 f.parameters f.variables) body.0 in
+    let different = both _ (differ same_variable f.variables) parameters.0 in
+    let names = both (is_name f.name) (list_all is_named f.variables) different.0 in
+    record {
+      name = names.0;
+      named = names.1;
+      different = different.1;
+      parameters = parameters.1;
+      body = body.1;
+    }
+
+pub record UnitFits (u : CoreUnitTree) : Type 0 where
+  pub functions : list_all (function_fits u) u.functions ≡ true
+  pub different : differ bytes_eq (map (λ f. f.name) u.functions) ≡ true
+  pub main : is_main (slice_get u.functions u.main) ≡ true
+  pub data_blocks : list_all (data_fits u) u.data_blocks ≡ true
+
+pub unit_parts : (u : CoreUnitTree) → unit_fits u ≡ true → UnitFits u
+unit_parts u h =
+    let data_blocks = both _ (list_all (data_fits u) u.data_blocks) h in
+    let main = both _ (is_main (slice_get u.functions u.main)) data_blocks.0 in
+    let names = both (list_all (function_fits u) u.functions)
+    (differ bytes_eq (map (λ f. f.name) u.functions)) main.0 in
+    record { functions = names.0; different = names.1; main = main.1; data_blocks = data_blocks.1 }
+
+pub function_at_fits :
+    (u : CoreUnitTree) → unit_fits u ≡ true → (number : ℕ) (f : CoreFunctionTree)
+    → slice_get u.functions number ≡ Some f → FunctionFits u f
+function_at_fits u fits number f is =
+    function_parts u f (all_at (function_fits u) u.functions number f
+    (unit_parts u fits).functions is)

@@ -1,0 +1,88 @@
+use Rattle.std.proofs.Common.{◌≡◌, Option, Box, Global, OnOk, sym, ap, ◌∙◌, subst}
+use Rattle.qs_syntax.specs.Trees.{StmtTree, do_loop, for_loop}
+use Rattle.qs_syntax.specs.TreeOf.{expr_tree, option_tree, start_tree, stmt_step, stmt_tree, stmts_tree}
+use Rattle.qs_syntax.specs.declared.expressions.Expr.{Expr}
+use Rattle.qs_syntax.specs.declared.nodes.Node.{Node}
+use Rattle.qs_syntax.specs.declared.statements.Start.{Start}
+use Rattle.qs_syntax.specs.declared.statements.Stmt.{Stmt, Stmt-F, Do, For, fold-roll-Stmt}
+use Rattle.qs_syntax.specs.declared.statements.Stmt.TheVariants.{rolls-Do, rolls-For}
+use Rattle.qs_types.specs.Contexts.{inner_scope, inside_loop}
+use Rattle.qs_types.specs.StatementRules.{after_statement}
+use Rattle.qs_typing.specs.ContextOf.{context_tree}
+use Rattle.qs_typing.specs.UnitWalk.{condition_walked, statement_walked}
+use Rattle.qs_typing.specs.WalkOf.{walk_tree}
+use Rattle.qs_typing.proofs.Scoping.{part_ends, part_leaves, block_ends, block_leaves, body_ends, body_leaves, for_ends, for_leaves}
+use Rattle.qs_typing.proofs.statements.+stmt.Goals as goal
+
+-- ---- a part of a statement
+
+pub walk_part-leave_scope-requires : goal.walk_part-leave_scope-requires
+walk_part-leave_scope-requires t c =
+    part_leaves (context_tree c.args.c.now) (context_tree c.enter_scope-around.new.self) (context_tree c.walk_statement.new.c) c.enter_scope-around.result (stmt_tree c.args.s.now)
+    c.enter_scope-around.ensures.around c.enter_scope-around.ensures.inside c.in_ok-walk_statement.ensures.context
+
+pub walk_part-returns-clause-context : goal.walk_part-returns-clause-context
+walk_part-returns-clause-context t c =
+    part_ends (context_tree c.args.c.now) (context_tree c.enter_scope-around.new.self) (context_tree c.walk_statement.new.c) (context_tree c.leave_scope.new.self)
+    c.enter_scope-around.result (stmt_tree c.args.s.now)
+    c.enter_scope-around.ensures.around c.enter_scope-around.ensures.inside c.in_ok-walk_statement.ensures.context c.leave_scope.ensures
+
+-- ---- a block
+
+pub walk_block-leave_scope-requires : goal.walk_block-leave_scope-requires
+walk_block-leave_scope-requires t c =
+    block_leaves (context_tree c.args.c.now) (context_tree c.enter_scope-around.new.self) (context_tree c.walk_statements.new.c) c.enter_scope-around.result (stmts_tree c.args.items.now)
+    c.enter_scope-around.ensures.around c.enter_scope-around.ensures.inside c.in_ok-walk_statements.ensures.context
+
+pub walk_block-returns-clause-context : goal.walk_block-returns-clause-context
+walk_block-returns-clause-context t c =
+    block_ends (context_tree c.args.c.now) (context_tree c.enter_scope-around.new.self) (context_tree c.walk_statements.new.c) (context_tree c.leave_scope.new.self)
+    c.enter_scope-around.result (stmts_tree c.args.items.now)
+    c.enter_scope-around.ensures.around c.enter_scope-around.ensures.inside c.in_ok-walk_statements.ensures.context c.leave_scope.ensures
+
+-- ---- the body of a loop
+
+pub walk_body-leave_scope-requires : goal.walk_body-leave_scope-requires
+walk_body-leave_scope-requires t c =
+    body_leaves (context_tree c.args.c.now) (context_tree c.enter_scope-around.new.self) (context_tree c.set_loop.new.self) (context_tree c.walk_statement.new.c) (context_tree c.set_loop-2.new.self)
+    c.enter_scope-around.result c.in_loop-before.result (stmt_tree c.args.s.now)
+    c.enter_scope-around.ensures.around c.in_loop-before.ensures c.enter_scope-around.ensures.inside c.set_loop.ensures c.in_ok-walk_statement.ensures.context c.set_loop-2.ensures
+
+pub walk_body-returns-clause-context : goal.walk_body-returns-clause-context
+walk_body-returns-clause-context t c =
+    body_ends (context_tree c.args.c.now) (context_tree c.enter_scope-around.new.self) (context_tree c.set_loop.new.self) (context_tree c.walk_statement.new.c) (context_tree c.set_loop-2.new.self)
+    (context_tree c.leave_scope.new.self) c.enter_scope-around.result c.in_loop-before.result (stmt_tree c.args.s.now)
+    c.enter_scope-around.ensures.around c.in_loop-before.ensures c.enter_scope-around.ensures.inside c.set_loop.ensures c.in_ok-walk_statement.ensures.context c.set_loop-2.ensures
+    c.leave_scope.ensures
+
+-- ---- statements
+
+do_of : (n : Node) (b : Box Stmt Global) (e : Expr) → stmt_tree (Do n b e) ≡ do_loop n (stmt_tree b.value) (expr_tree e)
+do_of n b e = ap stmt_tree (sym (rolls-Do n b e)) ∙ fold-roll-Stmt StmtTree stmt_step (Stmt-F.Do n b e)
+
+for_of : (n : Node) (start : Start) (e u : Option Expr) (b : Box Stmt Global) → stmt_tree (For n start e u b) ≡ for_loop n (start_tree start) (option_tree e) (option_tree u) (stmt_tree b.value)
+for_of n start e u b = ap stmt_tree (sym (rolls-For n start e u b)) ∙ fold-roll-Stmt StmtTree stmt_step (Stmt-F.For n start e u b)
+
+pub walk_statement-leave_scope-requires : goal.walk_statement-leave_scope-requires
+walk_statement-leave_scope-requires t c =
+    for_leaves (context_tree c.args.c.now) (context_tree c.enter_scope-around.new.self) (context_tree c.walk_start.new.c) (context_tree c.walk_body-in-For.new.c)
+    c.enter_scope-around.result (start_tree c.in-For.start)
+    c.enter_scope-around.ensures.around c.enter_scope-around.ensures.inside c.in_ok-start_typed-in-For.ensures.context c.in_ok-walk_body-in-For.ensures.context
+
+pub walk_statement-returns-in_ok-walk_body-in-For-clause-context : goal.walk_statement-returns-in_ok-walk_body-in-For-clause-context
+walk_statement-returns-in_ok-walk_body-in-For-clause-context t c =
+    let context = context_tree c.args.c.now in
+    for_ends context (context_tree c.enter_scope-around.new.self) (context_tree c.walk_start.new.c) (context_tree c.walk_body-in-For.new.c) (context_tree c.leave_scope.new.self)
+    c.enter_scope-around.result (start_tree c.in-For.start)
+    c.enter_scope-around.ensures.around c.enter_scope-around.ensures.inside c.in_ok-start_typed-in-For.ensures.context c.in_ok-walk_body-in-For.ensures.context c.leave_scope.ensures
+    ∙ sym (ap (λ x. after_statement context (stmt_tree x)) c.in-For.is ∙ ap (after_statement context) (for_of c.in-For.node c.in-For.start c.in-For.condition c.in-For.step c.in-For.body))
+
+pub walk_statement-returns-in_ok-walk_body-in-Do-clause-walked : goal.walk_statement-returns-in_ok-walk_body-in-Do-clause-walked
+walk_statement-returns-in_ok-walk_body-in-Do-clause-walked t c =
+    let context = context_tree c.args.c.now in
+    let before = walk_tree c.args.walk.now in
+    let body = c.in_ok-walk_body-in-Do.ensures.walked ∙ (λ i. statement_walked (inside_loop (inner_scope context)) (stmt_tree (c.deref-in-Do.ensures i)) (c.in_ok-open-in-Do.ensures i)) in
+    subst (λ w. OnOk c.walk_condition-in-Do.result (walk_tree c.walk_condition-in-Do.new.walk ≡ w))
+    ((λ i. condition_walked (c.in_ok-walk_body-in-Do.ensures.context i) c.in-Do.node (expr_tree c.in-Do.condition) (body i))
+    ∙ sym (ap (λ x. statement_walked context (stmt_tree x) before) c.in-Do.is ∙ ap (λ x. statement_walked context x before) (do_of c.in-Do.node c.in-Do.body c.in-Do.condition)))
+    c.walk_condition-in-Do.ensures

@@ -1,0 +1,15 @@
+-- What the names of a unit stand for, by the numbers of their nodes.
+use Rattle.std.specs.Prelude.{List, Option, None}
+use Rattle.qs_syntax.specs.declared.nodes.Node.{Node}
+use Rattle.qs_syntax.specs.Trees.{UnitTree}
+use Rattle.qs_typing.specs.declared.entity.Referent.{Referent}
+use Rattle.qs_typing.specs.ExprFindings.{referent_of}
+use Rattle.qs_typing.specs.UnitNodes.{of_unit}
+
+-- a node that is no expression names nothing
+abbrev pub no_referent : Node → Option Referent
+no_referent node = None
+
+-- of each node in the order of the text, which is that of their numbers: of the name of a variable and of a call what it stands for
+abbrev pub unit_referents : UnitTree → List (Option Referent)
+unit_referents = of_unit no_referent referent_of

@@ -1,0 +1,22 @@
+-- What is noted in code, as the definitions see it.
+use Rattle.std.specs.Prelude.{map}
+use Rattle.qs_types.specs.Limits as limits
+use Rattle.qs_typing.specs.declared.noted.Block.{Block}
+use Rattle.qs_typing.specs.declared.noted.Local.{Local}
+use Rattle.qs_typing.specs.declared.noted.Noted.{Noted}
+use Rattle.qs_typing.specs.Noted.{LocalTree, NotedTree}
+
+abbrev pub block_tree : Block → limits.Block
+block_tree b = record { node = b.node; size = b.size }
+
+abbrev pub local_tree : Local → LocalTree
+local_tree l = record { block = block_tree l.block; is_object = l.is_object }
+
+abbrev pub noted_tree : Noted → NotedTree
+noted_tree n = record {
+  calls = n.calls.items;
+  texts = map block_tree n.texts.items;
+  globals = map block_tree n.globals.items;
+  locals = map local_tree n.locals.items;
+  local_past = n.local_past;
+}

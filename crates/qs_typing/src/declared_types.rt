@@ -1,0 +1,313 @@
+// The types that declarations give (C11 6.7), and the rules that their nodes keep.
+ghost use Rattle.std.specs.Prelude.{◌≡◌, ◌+◌, IfOk, length, map, option_map, if◌then◌else◌};
+ghost use Rattle.qs_syntax.specs.TreeOf.{declarator_tree, expr_tree, initialiser_tree, lengths_tree, parameter_tree, variable_tree};
+ghost use Rattle.qs_types.specs.Declarations as declarations;
+ghost use Rattle.qs_types.specs.Declarations.{all_typed, element_lengths, first_length, is_length, is_length_typed, lengths_of, object_by};
+ghost use Rattle.qs_types.specs.Expressions.{type_or_void};
+ghost use Rattle.qs_types.specs.Types.{pointer};
+ghost use Rattle.qs_types.specs.TypeOf.{type_tree};
+ghost use Rattle.qs_typing.specs.ContextOf.{context_tree};
+ghost use Rattle.qs_typing.specs.DeclaredOf.{declared_tree, numbers};
+ghost use Rattle.qs_typing.specs.JudgedOf.{test_tree};
+
+use crate::context::{Context, is_void_base};
+use crate::judged::{Test, keeps, violates};
+use crate::lengths::{ArrayLengths, ParameterLengths, arrays};
+use qs_base::NoMemory;
+use qs_syntax::{Base, Declarator, Expr, Initialiser, Lengths, Parameter, Shape, TypeName, Variable};
+use qs_types::{CType, Rule, extent_of, is_complete};
+use std::alloc::Global;
+
+/// The tests of a node that declares a type, and the type where it breaks none of their rules.
+#[derive(Drop)]
+pub struct Declared {
+    /// The tests.
+    pub tests: Vec<Test>,
+    /// The type.
+    pub of: Option<CType>,
+}
+
+/// A length has no type: the node breaks no rule, and there is no type.
+pub fn undeclared(alloc: Global) -> Declared
+    ensures { declared_tree result ≡ declarations.undeclared }
+{
+    Declared {
+        tests: Vec::new(alloc),
+        of: None,
+    }
+}
+
+fn with_tests(alloc: Global, tests: &[Test], of: Option<CType>) -> Result<Declared, NoMemory>
+    ensures { IfOk result (λ d. declared_tree d ≡ record { tests = map test_tree tests.now; type = option_map type_tree of }) }
+{
+    Ok(Declared {
+        tests: Vec::from_slice(alloc, tests)?,
+        of,
+    })
+}
+
+fn type_or_void(t: Option<CType>) -> CType
+    ensures { type_tree result ≡ type_or_void (option_map type_tree t) }
+{
+    match t {
+        None => CType::Void,
+        Some(t) => t,
+    }
+}
+
+fn object_type(alloc: Global, element: CType, lengths: &Option<Vec<u32>>) -> Result<CType, NoMemory>
+    ensures { IfOk result (λ t. type_tree t ≡ object_by (type_tree element) (numbers lengths.now)) }
+{
+    match lengths {
+        None => Ok(CType::Void),
+        Some(ns) => arrays(alloc, element, ns),
+    }
+}
+
+/// What declares a variable or a member of these lengths.
+fn object_declared(
+    alloc: Global,
+    c: &Context,
+    base: &Base,
+    stars: u32,
+    lengths: Option<Vec<u32>>,
+) -> Result<Declared, NoMemory>
+    ensures { IfOk result (λ d. declared_tree d ≡ declarations.object_declared (context_tree c.now) base.now stars (numbers lengths)) }
+{
+    let known = c.base_type(base).is_some();
+    let element = type_or_void(c.starred_type(alloc, base, stars)?);
+    let incomplete = is_void_base(base) || known && !is_complete(c.structs(), &element);
+    let has_lengths = lengths.is_some();
+    let t = object_type(alloc, element, &lengths)?;
+    let fine = known && !incomplete && has_lengths;
+    let large = fine && extent_of(c.structs(), &t).is_none();
+    with_tests(
+        alloc,
+        &[
+            keeps(Rule::UnknownTag, known),
+            violates(Rule::IncompleteType, incomplete),
+            keeps(Rule::ArrayLength, has_lengths),
+            violates(Rule::LargeType, large),
+        ],
+        if fine && !large { Some(t) } else { None },
+    )
+}
+
+// ---- variables and members
+
+/// The lengths with the first, where the brackets are empty, from elsewhere.
+fn whole_lengths(
+    l: &Lengths,
+    first: Option<u32>,
+    given: Option<Vec<u32>>,
+) -> Result<Option<Vec<u32>>, NoMemory>
+    ensures { IfOk result (λ ns. numbers ns ≡ declarations.whole_lengths (lengths_tree l.now) first (numbers given)) }
+{
+    match given {
+        None => Ok(None),
+        Some(mut ns) => {
+            if !l.is_open {
+                return Ok(Some(ns));
+            }
+            match first {
+                None => Ok(None),
+                Some(n) => {
+                    ns.insert(0, n)?;
+                    Ok(Some(ns))
+                }
+            }
+        }
+    }
+}
+
+/// What a declarator declares, where its lengths are these.
+pub fn declarator_declared(
+    alloc: Global,
+    c: &Context,
+    base: &Base,
+    d: &Declarator,
+    first: Option<u32>,
+    lengths: ArrayLengths,
+) -> Result<Declared, NoMemory>
+    requires typed { lengths.all_typed ≡ all_typed (context_tree c.now) (declarator_tree d.now).lengths.given }
+    requires values { numbers lengths.values ≡ lengths_of (context_tree c.now) (declarator_tree d.now).lengths.given }
+    ensures { IfOk result (λ r. declared_tree r ≡ declarations.declared (context_tree c.now) base.now (declarator_tree d.now) first) }
+{
+    if !lengths.all_typed {
+        return Ok(undeclared(alloc));
+    }
+    let ns = whole_lengths(&d.lengths, first, lengths.values)?;
+    object_declared(alloc, c, base, d.stars, ns)
+}
+
+/// The bytes of a text.
+pub fn text_length(e: &Expr) -> Option<usize>
+    ensures { result ≡ option_map length (declarations.text_of (expr_tree e.now)) }
+{
+    match &e.shape {
+        Shape::Constant(_, _) => None,
+        Shape::Text(text) => Some(text.bytes().len()),
+        Shape::Name(_) => None,
+        Shape::Unary(_, _) => None,
+        Shape::Step(_, _) => None,
+        Shape::Cast(_, _) => None,
+        Shape::SizeofType(_) => None,
+        Shape::SizeofExpr(_) => None,
+        Shape::Binary { .. } => None,
+        Shape::Assign { .. } => None,
+        Shape::Conditional { .. } => None,
+        Shape::Comma(_, _) => None,
+        Shape::Subscript(_, _) => None,
+        Shape::Member { .. } => None,
+        Shape::Call(_, _) => None,
+    }
+}
+
+fn narrowed(n: usize) -> Result<u32, NoMemory>
+    ensures { IfOk result (λ m. m ≡ n) }
+{
+    if n > u32::MAX as usize {
+        return Err(NoMemory);
+    }
+    Ok(n as u32)
+}
+
+/// The length that an initialiser gives (C11 6.7.9p22).
+#[tactic(auto, using(crate::proofs::Counts::count_of))]
+fn length_by(i: &Option<Initialiser>) -> Result<Option<u32>, NoMemory>
+    ensures { IfOk result (λ n. n ≡ declarations.length_by (option_map initialiser_tree i.now)) }
+{
+    match i {
+        None => Ok(None),
+        Some(Initialiser::Value(e)) => match text_length(e) {
+            None => Ok(None),
+            Some(n) => Ok(Some(text_size(n)?)),
+        },
+        Some(Initialiser::List(l)) => Ok(Some(narrowed(l.items.len())?)),
+    }
+}
+
+/// The bytes of a text with its last zero.
+fn text_size(n: usize) -> Result<u32, NoMemory>
+    ensures { IfOk result (λ m. m ≡ n + 1) }
+{
+    if n >= u32::MAX as usize {
+        return Err(NoMemory);
+    }
+    Ok(n as u32 + 1)
+}
+
+/// What a variable declares, where its lengths are these.
+pub fn variable_declared(
+    alloc: Global,
+    c: &Context,
+    base: &Base,
+    v: &Variable,
+    lengths: ArrayLengths,
+) -> Result<Declared, NoMemory>
+    requires typed { lengths.all_typed ≡ all_typed (context_tree c.now) (declarator_tree v.now.declarator).lengths.given }
+    requires values { numbers lengths.values ≡ lengths_of (context_tree c.now) (declarator_tree v.now.declarator).lengths.given }
+    ensures { IfOk result (λ r. declared_tree r ≡ declarations.variable_declared (context_tree c.now) base.now (variable_tree v.now)) }
+{
+    let first = length_by(&v.initialiser)?;
+    declarator_declared(alloc, c, base, &v.declarator, first, lengths)
+}
+
+// ---- parameters (6.7.6.3)
+
+fn is_array_parameter(l: &Lengths) -> bool
+    ensures { result ≡ declarations.is_array_parameter (lengths_tree l.now) }
+{
+    l.is_open || !l.given.is_empty()
+}
+
+fn pointer_to(alloc: Global, t: Option<CType>) -> Result<Option<CType>, NoMemory>
+    ensures { IfOk result (λ r. option_map type_tree r ≡ option_map pointer (option_map type_tree t)) }
+{
+    match t {
+        None => Ok(None),
+        Some(t) => Ok(Some(CType::Pointer(Box::new(alloc, t)?))),
+    }
+}
+
+/// What a pointer to elements of these lengths declares.
+fn pointer_declared(
+    alloc: Global,
+    c: &Context,
+    name: &TypeName,
+    lengths: Option<Vec<u32>>,
+) -> Result<Declared, NoMemory>
+    ensures { IfOk result (λ r. declared_tree r ≡ declarations.pointed (declarations.object_declared (context_tree c.now) name.now.base name.now.stars (numbers lengths))) }
+{
+    let elements = object_declared(alloc, c, &name.base, name.stars, lengths)?;
+    Ok(Declared {
+        tests: elements.tests,
+        of: pointer_to(alloc, elements.of)?,
+    })
+}
+
+/// What a parameter that is written as an array declares, where the lengths of its elements have types.
+fn array_parameter(
+    alloc: Global,
+    c: &Context,
+    p: &Parameter,
+    lengths: ParameterLengths,
+) -> Result<Declared, NoMemory>
+    requires valid { lengths.first_valid ≡ is_length (context_tree c.now) (first_length (parameter_tree p.now).lengths) }
+    requires values { numbers lengths.rest.values ≡ lengths_of (context_tree c.now) (element_lengths (parameter_tree p.now).lengths) }
+    ensures { IfOk result (λ r. declared_tree r ≡ (if lengths.first_typed then declarations.array_parameter (context_tree c.now) (parameter_tree p.now) else declarations.held_parameter (context_tree c.now) (parameter_tree p.now))) }
+{
+    let ParameterLengths {
+        first_typed,
+        first_valid,
+        rest,
+    } = lengths;
+    let ArrayLengths { values, .. } = rest;
+    if first_typed {
+        let values = if first_valid { values } else { None };
+        return pointer_declared(alloc, c, &p.type_name, values);
+    }
+    let Declared { of, .. } = pointer_declared(alloc, c, &p.type_name, values)?;
+    Ok(Declared {
+        tests: Vec::new(alloc),
+        of,
+    })
+}
+
+fn plain_parameter(alloc: Global, c: &Context, p: &Parameter) -> Result<Declared, NoMemory>
+    ensures { IfOk result (λ r. declared_tree r ≡ declarations.plain_parameter (context_tree c.now) (parameter_tree p.now)) }
+{
+    let known = c.base_type(&p.type_name.base).is_some();
+    let is_void = is_void_base(&p.type_name.base);
+    let t = type_or_void(c.named_type(alloc, &p.type_name)?);
+    with_tests(
+        alloc,
+        &[
+            keeps(Rule::UnknownTag, known),
+            violates(Rule::IncompleteType, is_void),
+        ],
+        if known && !is_void { Some(t) } else { None },
+    )
+}
+
+/// What a parameter declares, where its lengths are these.
+pub fn parameter_declared(
+    alloc: Global,
+    c: &Context,
+    p: &Parameter,
+    lengths: ParameterLengths,
+) -> Result<Declared, NoMemory>
+    requires first { lengths.first_typed ≡ is_length_typed (context_tree c.now) (first_length (parameter_tree p.now).lengths) }
+    requires valid { lengths.first_valid ≡ is_length (context_tree c.now) (first_length (parameter_tree p.now).lengths) }
+    requires typed { lengths.rest.all_typed ≡ all_typed (context_tree c.now) (element_lengths (parameter_tree p.now).lengths) }
+    requires values { numbers lengths.rest.values ≡ lengths_of (context_tree c.now) (element_lengths (parameter_tree p.now).lengths) }
+    ensures { IfOk result (λ r. declared_tree r ≡ declarations.parameter_declared (context_tree c.now) (parameter_tree p.now)) }
+{
+    if !is_array_parameter(&p.lengths) {
+        return plain_parameter(alloc, c, p);
+    }
+    if !lengths.rest.all_typed {
+        return Ok(undeclared(alloc));
+    }
+    array_parameter(alloc, c, p, lengths)
+}

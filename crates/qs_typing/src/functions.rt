@@ -1,0 +1,484 @@
+// Functions (C11 6.7.6.3, 6.9.1).
+ghost use Rattle.std.specs.Prelude.{◌≡◌, ◌∷◌, ◌++◌, [], Some, IfOk, OnOk, map, option_map, if◌then◌else◌};
+ghost use Rattle.std.specs.List.{list_all};
+ghost use Rattle.qs_syntax.specs.TreeOf.{function_tree, parameter_tree, stmts_tree};
+ghost use Rattle.qs_types.specs.Contexts.{inner_scope};
+ghost use Rattle.qs_types.specs.declared.rules.Rule.TheVariants as rule;
+ghost use Rattle.qs_types.specs.Declarations as declarations;
+ghost use Rattle.qs_types.specs.EnvOf.{env_tree};
+ghost use Rattle.qs_types.specs.Expressions.{type_or_void};
+ghost use Rattle.qs_types.specs.Rules.{test};
+ghost use Rattle.qs_types.specs.Types.{is_struct};
+ghost use Rattle.qs_types.specs.TypeOf.{type_tree};
+ghost use Rattle.qs_types.specs.UnitRules as rules;
+ghost use Rattle.qs_typing.specs.ContextOf.{context_tree};
+ghost use Rattle.qs_typing.specs.EntityOf.{entity_tree, signature_tree};
+ghost use Rattle.qs_typing.specs.JudgedOf.{test_tree};
+ghost use Rattle.qs_typing.specs.Functions.{after_parameters, items_walked};
+ghost use Rattle.qs_typing.specs.Noted.{parameters_noted};
+ghost use Rattle.qs_typing.specs.NotedOf.{local_tree};
+ghost use Rattle.qs_typing.specs.PartsOf.{types_tree};
+ghost use Rattle.qs_typing.specs.UnitWalk.{function_walked, parameter_walked, parameters_walked};
+ghost use Rattle.qs_typing.specs.WalkOf.{walk_tree};
+
+use crate::context::{Context, is_void_base};
+use crate::declared_types::{Declared, parameter_declared};
+use crate::entity::{Entity, Signature};
+use crate::judged::{Test, keeps, violates};
+use crate::lengths::walk_parameter_lengths;
+use crate::noted::{Local, local_of};
+use crate::statements::walk_statements;
+use crate::types::{is_scalar, is_struct};
+use crate::walk::Walk;
+use qs_base::{Name, NoMemory};
+use qs_syntax::{Function, Parameter, Stmt};
+use qs_types::{CType, Env, Rule};
+use std::alloc::Global;
+
+// ---- parameters
+
+fn copied(alloc: Global, t: &Option<CType>) -> Result<Option<CType>, NoMemory>
+    ensures { IfOk result (λ r. option_map type_tree r ≡ option_map type_tree t.now) }
+{
+    match t {
+        None => Ok(None),
+        Some(t) => Ok(Some(t.copy(alloc)?)),
+    }
+}
+
+fn is_name_declared(c: &Context, name: &Option<Name>) -> bool
+    ensures { result ≡ rules.is_name_declared (context_tree c.now) name.now }
+{
+    match name {
+        None => false,
+        Some(x) => c.is_declared_here(x),
+    }
+}
+
+/// The test that the parameter is a scalar, and has a name where there is a body.
+fn signature_test(p: &Parameter, has_body: bool, t: &Option<CType>) -> Test
+    ensures { test_tree result ∷ [] ≡ rules.signature_tests (parameter_tree p.now) has_body (option_map type_tree t.now) }
+{
+    match t {
+        None => violates(Rule::SignatureType, has_body && p.name.is_none()),
+        Some(t) => {
+            let named = !has_body || p.name.is_some();
+            keeps(Rule::SignatureType, is_scalar(t) && named)
+        }
+    }
+}
+
+fn parameter_tests(
+    alloc: Global,
+    all_typed: bool,
+    again: bool,
+    declared: &[Test],
+    signature: Test,
+) -> Result<Vec<Test>, NoMemory>
+    ensures { IfOk result (λ ts. map test_tree ts.items ≡ (if all_typed then test rule.DeclaredTwice again ++ (map test_tree declared.now ++ test_tree signature ∷ []) else [])) }
+{
+    let mut tests = Vec::new(alloc);
+    if !all_typed {
+        return Ok(tests);
+    }
+    tests.push(violates(Rule::DeclaredTwice, again))?;
+    tests.extend_from_slice(declared)?;
+    tests.push(signature)?;
+    Ok(tests)
+}
+
+/// Declares a parameter of this type, where it has a name.
+fn declare_parameter(
+    alloc: Global,
+    c: &mut Context,
+    p: &Parameter,
+    t: &Option<CType>,
+) -> Result<(), NoMemory>
+    ensures { OnOk result (context_tree c.new ≡ rules.with_parameter (context_tree c.old) (parameter_tree p.now) (option_map type_tree t.now) p.now.name) }
+{
+    match &p.name {
+        None => Ok(()),
+        Some(x) => {
+            let entity = Entity::LocalVariable(p.node.id, copied(alloc, t)?);
+            c.declare(alloc, x.copy(alloc)?, entity)
+        }
+    }
+}
+
+/// Walks over a parameter, and gives its type.
+fn walk_parameter(
+    alloc: Global,
+    c: &mut Context,
+    has_body: bool,
+    p: &Parameter,
+    walk: &mut Walk,
+) -> Result<Option<CType>, NoMemory>
+    ensures typed { IfOk result (λ t. option_map type_tree t ≡ (declarations.parameter_declared (context_tree c.old) (parameter_tree p.now)).type) }
+    ensures context { OnOk result (context_tree c.new ≡ rules.after_parameter (context_tree c.old) (parameter_tree p.now)) }
+    ensures walked { OnOk result (walk_tree walk.new ≡ parameter_walked (context_tree c.old) has_body (parameter_tree p.now) (walk_tree walk.old)) }
+{
+    walk.open()?;
+    let lengths = walk_parameter_lengths(alloc, c, &p.lengths, walk)?;
+    let all_typed = lengths.first_typed && lengths.rest.all_typed;
+    let Declared { tests, of } = parameter_declared(alloc, c, p, lengths)?;
+    let again = is_name_declared(c, &p.name);
+    let signature = signature_test(p, has_body, &of);
+    let tests = parameter_tests(alloc, all_typed, again, &tests, signature)?;
+    walk.judge(p.node, &tests);
+    declare_parameter(alloc, c, p, &of)?;
+    Ok(of)
+}
+
+/// Walks over parameters, and gives their types.
+fn walk_parameters(
+    alloc: Global,
+    c: &mut Context,
+    has_body: bool,
+    ps: &[Parameter],
+    walk: &mut Walk,
+) -> Result<Vec<Option<CType>>, NoMemory>
+    ensures typed { IfOk result (λ ts. map (option_map type_tree) ts.items ≡ rules.parameter_types (context_tree c.old) (map parameter_tree ps.now)) }
+    ensures context { OnOk result (context_tree c.new ≡ after_parameters (context_tree c.old) (map parameter_tree ps.now)) }
+    ensures walked { OnOk result (walk_tree walk.new ≡ parameters_walked (context_tree c.old) has_body (map parameter_tree ps.now) (walk_tree walk.old)) }
+{
+    let mut types = Vec::new(alloc);
+    for p in ps {
+        types.push(walk_parameter(alloc, c, has_body, p, walk)?)?;
+    }
+    Ok(types)
+}
+
+// ---- headers
+
+fn is_void_pointer(f: &Function) -> bool
+    ensures { result ≡ rules.is_void_pointer (function_tree f.now) }
+{
+    is_void_base(&f.result_type.base) && f.result_type.stars != 0
+}
+
+fn result_type(alloc: Global, c: &Context, f: &Function) -> Result<Option<CType>, NoMemory>
+    ensures { IfOk result (λ t. option_map type_tree t ≡ rules.result_type (context_tree c.now) (function_tree f.now)) }
+{
+    if is_void_pointer(f) {
+        return Ok(None);
+    }
+    c.named_type(alloc, &f.result_type)
+}
+
+fn may_be(t: &CType, u: &Option<CType>) -> bool
+    ensures { result ≡ rules.may_be (type_tree t.now) (option_map type_tree u.now) }
+{
+    match u {
+        None => true,
+        Some(u) => t.same(u),
+    }
+}
+
+fn may_all_be(ts: &[CType], us: &[Option<CType>]) -> bool
+    ensures { result ≡ rules.may_all_be (map type_tree ts.now) (map (option_map type_tree) us.now) }
+{
+    let mut i = 0;
+    while i < ts.len() && i < us.len() {
+        if !may_be(&ts[i], &us[i]) {
+            return false;
+        }
+        i += 1;
+    }
+    if i < ts.len() {
+        return false;
+    }
+    i >= us.len()
+}
+
+fn agrees(s: &Signature, types: &[Option<CType>], to: &Option<CType>) -> bool
+    ensures { result ≡ rules.agree (Some (signature_tree s.now)) (record { parameters = map (option_map type_tree) types.now; result = option_map type_tree to.now }) }
+{
+    may_be(&s.result, to) && may_all_be(&s.parameters, types)
+}
+
+fn option_agrees(s: &Option<Signature>, types: &[Option<CType>], to: &Option<CType>) -> bool
+    ensures { result ≡ rules.agree (option_map signature_tree s.now) (record { parameters = map (option_map type_tree) types.now; result = option_map type_tree to.now }) }
+{
+    match s {
+        None => true,
+        Some(s) => agrees(s, types, to),
+    }
+}
+
+/// Whether a header agrees with what was declared under its name before (C11 6.7p3).
+fn agrees_with(
+    entity: Option<&Entity>,
+    types: &[Option<CType>],
+    to: &Option<CType>,
+    has_body: bool,
+) -> bool
+    ensures { result ≡ rules.agrees_with (option_map (λ e. entity_tree e.now) entity.entry) (record { parameters = map (option_map type_tree) types.now; result = option_map type_tree to.now }) has_body }
+{
+    match entity {
+        None => true,
+        Some(Entity::LocalVariable(_, _)) => false,
+        Some(Entity::FileVariable(_, _)) => false,
+        Some(Entity::Function {
+            signature,
+            has_body: earlier,
+            ..
+        }) => option_agrees(signature, types, to) && !(*earlier && has_body),
+        Some(Entity::Given(s)) => agrees(s, types, to) && !has_body,
+    }
+}
+
+fn is_main_parameter(t: &Option<CType>) -> bool
+    ensures { result ≡ rules.is_main_parameter (option_map type_tree t.now) }
+{
+    may_be(&CType::Int, t) || may_be(&CType::Unsigned, t)
+}
+
+fn are_main_parameters(types: &[Option<CType>]) -> bool
+    ensures { result ≡ list_all rules.is_main_parameter (map (option_map type_tree) types.now) }
+{
+    for t in types {
+        if !is_main_parameter(t) {
+            return false;
+        }
+    }
+    true
+}
+
+fn is_main_type(types: &[Option<CType>], to: &Option<CType>) -> bool
+    ensures { result ≡ rules.is_main_type (record { parameters = map (option_map type_tree) types.now; result = option_map type_tree to.now }) }
+{
+    may_be(&CType::Int, to) && are_main_parameters(types)
+}
+
+fn is_struct_result(t: &Option<CType>) -> bool
+    ensures { result ≡ is_struct (type_or_void (option_map type_tree t.now)) }
+{
+    match t {
+        None => false,
+        Some(t) => is_struct(t),
+    }
+}
+
+fn header_tests(
+    alloc: Global,
+    c: &Context,
+    f: &Function,
+    types: &[Option<CType>],
+    to: &Option<CType>,
+) -> Result<Vec<Test>, NoMemory>
+    requires types { map (option_map type_tree) types.now ≡ rules.parameter_types (inner_scope (context_tree c.now)) (function_tree f.now).parameters }
+    requires to { option_map type_tree to.now ≡ rules.result_type (context_tree c.now) (function_tree f.now) }
+    ensures { IfOk result (λ ts. map test_tree ts.items ≡ rules.header_tests (context_tree c.now) (function_tree f.now)) }
+{
+    let agrees = agrees_with(c.find_here(&f.name), types, to, f.body.is_some());
+    let known = c.base_type(&f.result_type.base).is_some();
+    let mut tests = Vec::new(alloc);
+    tests.push(keeps(Rule::DeclaredTwice, agrees))?;
+    tests.push(keeps(Rule::UnknownTag, known))?;
+    tests.push(violates(Rule::IncompleteType, is_void_pointer(f)))?;
+    tests.push(violates(Rule::SignatureType, is_struct_result(to)))?;
+    if f.name.bytes() == b"main".as_slice() {
+        tests.push(keeps(Rule::MainType, is_main_type(types, to)))?;
+    }
+    Ok(tests)
+}
+
+// ---- what a header declares
+
+/// The types of the parameters, if each has one.
+fn all_of(alloc: Global, types: &[Option<CType>]) -> Result<Option<Vec<CType>>, NoMemory>
+    ensures { IfOk result (λ ts. types_tree ts ≡ rules.all_of (map (option_map type_tree) types.now)) }
+{
+    let mut all = Vec::new(alloc);
+    for t in types {
+        match t {
+            None => return Ok(None),
+            Some(t) => all.push(t.copy(alloc)?)?,
+        }
+    }
+    Ok(Some(all))
+}
+
+fn signature_by(
+    alloc: Global,
+    types: &[Option<CType>],
+    to: &Option<CType>,
+) -> Result<Option<Signature>, NoMemory>
+    ensures { IfOk result (λ s. option_map signature_tree s ≡ rules.signature_by (record { parameters = map (option_map type_tree) types.now; result = option_map type_tree to.now })) }
+{
+    match all_of(alloc, types)? {
+        None => Ok(None),
+        Some(parameters) => match to {
+            None => Ok(None),
+            Some(t) => Ok(Some(Signature {
+                parameters,
+                result: t.copy(alloc)?,
+            })),
+        },
+    }
+}
+
+fn copied_types(alloc: Global, ts: &[CType]) -> Result<Vec<CType>, NoMemory>
+    ensures { IfOk result (λ us. map type_tree us.items ≡ map type_tree ts.now) }
+{
+    let mut us = Vec::new(alloc);
+    for t in ts {
+        us.push(t.copy(alloc)?)?;
+    }
+    Ok(us)
+}
+
+fn copied_signature(alloc: Global, s: &Signature) -> Result<Signature, NoMemory>
+    ensures { IfOk result (λ r. signature_tree r ≡ signature_tree s.now) }
+{
+    Ok(Signature {
+        parameters: copied_types(alloc, &s.parameters)?,
+        result: s.result.copy(alloc)?,
+    })
+}
+
+/// What a header declares: a body that was given before stays, and so does a function that is given.
+fn declared_function(
+    alloc: Global,
+    entity: Option<&Entity>,
+    node: u32,
+    signature: Option<Signature>,
+    has_body: bool,
+) -> Result<Entity, NoMemory>
+    ensures { IfOk result (λ e. entity_tree e ≡ rules.declared_function (option_map (λ e. entity_tree e.now) entity.entry) node (option_map signature_tree signature) has_body) }
+{
+    match entity {
+        None => Ok(Entity::Function {
+            node,
+            signature,
+            has_body,
+        }),
+        Some(Entity::LocalVariable(_, _)) => Ok(Entity::Function {
+            node,
+            signature,
+            has_body,
+        }),
+        Some(Entity::FileVariable(_, _)) => Ok(Entity::Function {
+            node,
+            signature,
+            has_body,
+        }),
+        Some(Entity::Function {
+            has_body: earlier, ..
+        }) => Ok(Entity::Function {
+            node,
+            signature,
+            has_body: *earlier || has_body,
+        }),
+        Some(Entity::Given(s)) => Ok(Entity::Given(copied_signature(alloc, s)?)),
+    }
+}
+
+fn declare_function(
+    alloc: Global,
+    c: &mut Context,
+    f: &Function,
+    types: &[Option<CType>],
+    to: &Option<CType>,
+) -> Result<(), NoMemory>
+    requires types { map (option_map type_tree) types.now ≡ rules.parameter_types (inner_scope (context_tree c.old)) (function_tree f.now).parameters }
+    requires to { option_map type_tree to.now ≡ rules.result_type (context_tree c.old) (function_tree f.now) }
+    ensures { OnOk result (context_tree c.new ≡ rules.after_function (context_tree c.old) (function_tree f.now)) }
+{
+    let signature = signature_by(alloc, types, to)?;
+    let has_body = f.body.is_some();
+    let entity = declared_function(
+        alloc,
+        c.find_here(&f.name),
+        f.node.id,
+        signature,
+        has_body,
+    )?;
+    c.declare(alloc, f.name.copy(alloc)?, entity)
+}
+
+// ---- bodies
+
+#[tactic(auto, using(crate::proofs::Ends::no_types))]
+fn declare_parameters(
+    alloc: Global,
+    c: &mut Context,
+    ps: &[Parameter],
+    types: &[Option<CType>],
+) -> Result<(), NoMemory>
+    ensures { OnOk result (context_tree c.new ≡ rules.with_parameters (context_tree c.old) (map parameter_tree ps.now) (map (option_map type_tree) types.now)) }
+{
+    let mut i = 0;
+    while i < ps.len() && i < types.len() {
+        declare_parameter(alloc, c, &ps[i], &types[i])?;
+        i += 1;
+    }
+    Ok(())
+}
+
+#[tactic(auto, using(crate::proofs::Ends::none_noted))]
+fn parameters_noted(
+    alloc: Global,
+    structs: &Env,
+    ps: &[Parameter],
+    types: &[Option<CType>],
+) -> Result<Vec<Local>, NoMemory>
+    ensures { IfOk result (λ ls. map local_tree ls.items ≡ parameters_noted (env_tree structs.now) (map parameter_tree ps.now) (map (option_map type_tree) types.now)) }
+{
+    let mut locals = Vec::new(alloc);
+    let mut i = 0;
+    while i < ps.len() && i < types.len() {
+        locals.push(local_of(structs, ps[i].node.id, &types[i]))?;
+        i += 1;
+    }
+    Ok(locals)
+}
+
+/// Walks over the body of a function with parameters of these types and this result.
+fn walk_body_items(
+    alloc: Global,
+    c: &mut Context,
+    ps: &[Parameter],
+    types: &[Option<CType>],
+    to: Option<CType>,
+    items: &[Stmt],
+    walk: &mut Walk,
+) -> Result<(), NoMemory>
+    ensures context { OnOk result (context_tree c.new ≡ context_tree c.old) }
+    ensures walked { OnOk result (walk_tree walk.new ≡ items_walked (context_tree c.old) (map parameter_tree ps.now) (map (option_map type_tree) types.now) (option_map type_tree to) (stmts_tree items.now) (walk_tree walk.old)) }
+{
+    let locals = parameters_noted(alloc, c.structs(), ps, types)?;
+    walk.begin_body(locals);
+    let start = walk.found.addressed.len();
+    let around = c.enter_scope();
+    let before = c.set_result(to);
+    declare_parameters(alloc, c, ps, types)?;
+    walk_statements(alloc, c, items, walk)?;
+    c.set_result(before);
+    c.leave_scope(around);
+    walk.end_body(alloc, start)
+}
+
+/// Walks over a function, which is known behind its header.
+pub fn walk_function(
+    alloc: Global,
+    c: &mut Context,
+    f: &Function,
+    walk: &mut Walk,
+) -> Result<(), NoMemory>
+    ensures context { OnOk result (context_tree c.new ≡ rules.after_function (context_tree c.old) (function_tree f.now)) }
+    ensures walked { OnOk result (walk_tree walk.new ≡ function_walked (context_tree c.old) (function_tree f.now) (walk_tree walk.old)) }
+{
+    walk.open()?;
+    let around = c.enter_scope();
+    let types = walk_parameters(alloc, c, f.body.is_some(), &f.parameters, walk)?;
+    c.leave_scope(around);
+    let to = result_type(alloc, c, f)?;
+    let tests = header_tests(alloc, c, f, &types, &to)?;
+    walk.judge(f.node, &tests);
+    declare_function(alloc, c, f, &types, &to)?;
+    match &f.body {
+        None => Ok(()),
+        Some(items) => walk_body_items(alloc, c, &f.parameters, &types, to, items, walk),
+    }
+}

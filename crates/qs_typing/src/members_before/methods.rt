@@ -1,0 +1,96 @@
+// How members are added.
+ghost use Rattle.std.specs.Prelude.{◌≡◌, ◌≤◌, OnOk, option_map, true};
+ghost use Rattle.qs_types.specs.EnvOf.{env_tree};
+ghost use Rattle.qs_types.specs.Layout.{layout_of, sized_by};
+ghost use Rattle.qs_types.specs.TypeOf.{type_tree};
+ghost use Rattle.qs_types.specs.UnitRules as rules;
+ghost use Rattle.qs_typing.specs.MembersOf.{before_tree, with_member_only, with_name_only};
+
+use super::MembersBefore;
+use indexmap::{IndexMap, IndexSet};
+use qs_base::{Name, NoMemory};
+use qs_types::{CType, Env, Extent, extent_of};
+use std::alloc::Global;
+
+/// Where a member ends that lies behind this end.
+pub fn member_end(end: u32, extent: Extent) -> u64
+    requires { 1 ≤ extent.alignment }
+    ensures { result ≡ rules.member_end end extent }
+{
+    let alignment = u64::from(extent.alignment);
+    (u64::from(end) + (alignment - 1)) / alignment * alignment + u64::from(extent.size)
+}
+
+impl MembersBefore {
+    /// No member.
+    pub fn new(alloc: Global) -> MembersBefore
+        ensures { before_tree result ≡ rules.no_members }
+    {
+        MembersBefore {
+            names: IndexSet::new(alloc),
+            members: IndexMap::new(alloc),
+            end: 0,
+        }
+    }
+
+    pub fn has_name(&self, name: &Name) -> bool
+        ensures { result ≡ rules.is_name_in name.now (before_tree self.now).names }
+    {
+        self.names.contains(name)
+    }
+
+    fn has_member(&self, name: &Name) -> bool
+        ensures { result ≡ rules.is_member name.now (before_tree self.now).members }
+    {
+        self.members.get(name).is_some()
+    }
+
+    fn add_name(&mut self, alloc: Global, name: &Name) -> Result<(), NoMemory>
+        ensures { OnOk result (before_tree self.new ≡ with_name_only (before_tree self.old) name.now) }
+    {
+        self.names.insert(name.copy(alloc)?)?;
+        Ok(())
+    }
+
+    /// Adds a member of this type, if it has one; it has room.
+    pub fn add(
+        &mut self,
+        alloc: Global,
+        structs: &Env,
+        name: &Name,
+        t: Option<CType>,
+    ) -> Result<(), NoMemory>
+        requires { rules.has_room (before_tree self.old).end (rules.option_extent (env_tree structs.now) (option_map type_tree t)) ≡ true }
+        ensures { OnOk result (before_tree self.new ≡ rules.with_member (env_tree structs.now) (before_tree self.old) name.now (option_map type_tree t)) }
+    {
+        self.add_name(alloc, name)?;
+        match t {
+            None => Ok(()),
+            Some(t) => self.add_member(alloc, structs, name, t),
+        }
+    }
+
+    #[tactic(auto, using(crate::proofs::Defining::appended))]
+    fn add_member(
+        &mut self,
+        alloc: Global,
+        structs: &Env,
+        name: &Name,
+        t: CType,
+    ) -> Result<(), NoMemory>
+        requires { rules.has_room (before_tree self.old).end (sized_by (layout_of (env_tree structs.now)) (type_tree t)) ≡ true }
+        ensures { OnOk result (before_tree self.new ≡ with_member_only (env_tree structs.now) (before_tree self.old) name.now (type_tree t)) }
+    {
+        if self.has_member(name) {
+            return Ok(());
+        }
+        let end = match extent_of(structs, &t) {
+            None => self.end,
+            Some(extent) => member_end(self.end, extent) as u32,
+        };
+        self.members.insert(name.copy(alloc)?, t)?;
+        self.end = end;
+        Ok(())
+    }
+}
+

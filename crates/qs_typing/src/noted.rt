@@ -1,0 +1,185 @@
+// What is noted of a unit besides types and faults: what is called, and the blocks of memory.
+ghost use Rattle.std.specs.Prelude.{◌≡◌, ◌≤◌, IfOk, OnOk, filter, map, option_map};
+ghost use Rattle.qs_types.specs.EnvOf.{env_tree};
+ghost use Rattle.qs_types.specs.Limits.{block_past, extent_size, or_else, type_size};
+ghost use Rattle.qs_types.specs.Placed.{is_no_scalar, is_one_of};
+ghost use Rattle.qs_types.specs.TypeOf.{type_tree};
+ghost use Rattle.qs_typing.specs.Noted as noted;
+ghost use Rattle.qs_typing.specs.NotedOf.{block_tree, local_tree, noted_tree};
+
+use crate::types::is_scalar;
+use qs_base::{Name, NoMemory};
+use qs_types::{CType, Env, extent_of};
+use std::alloc::Global;
+
+/// The most placed bytes of a function.
+pub const LOCAL_LIMIT: u32 = 1_048_576;
+
+/// The most bytes of data.
+pub const GLOBAL_LIMIT: u32 = 16_777_216;
+
+/// A block of memory: the node that declares it, and how many bytes it takes.
+#[derive(Clone, Copy, PartialEq, Eq, Debug)]
+pub struct Block {
+    /// The node.
+    pub node: u32,
+    /// The bytes.
+    pub size: u32,
+}
+
+/// A local or parameter.
+#[derive(Clone, Copy, PartialEq, Eq, Debug)]
+pub struct Local {
+    /// Its block, where it has one.
+    pub block: Block,
+    /// Whether it is no scalar.
+    pub is_object: bool,
+}
+
+/// The names that are called, the texts that are blocks, the variables of file scope, the locals of the
+/// function so far, and the local at which the placed locals of a function first passed their limit.
+#[derive(Drop)]
+pub struct Noted {
+    pub calls: Vec<Name>,
+    pub texts: Vec<Block>,
+    pub globals: Vec<Block>,
+    pub locals: Vec<Local>,
+    pub local_past: Option<u32>,
+}
+
+/// The size of a declared type, 0 where there is none.
+fn type_size(structs: &Env, t: &Option<CType>) -> u32
+    ensures size { result ≡ type_size (env_tree structs.now) (option_map type_tree t.now) }
+    ensures small { result ≤ 16777216 }
+{
+    match t {
+        None => 0,
+        Some(t) => match extent_of(structs, t) {
+            None => 0,
+            Some(extent) => extent.size,
+        },
+    }
+}
+
+fn is_no_scalar(t: &Option<CType>) -> bool
+    ensures { result ≡ is_no_scalar (option_map type_tree t.now) }
+{
+    match t {
+        None => false,
+        Some(t) => !is_scalar(t),
+    }
+}
+
+/// A local or parameter of a declared type.
+pub fn local_of(structs: &Env, node: u32, t: &Option<CType>) -> Local
+    ensures { local_tree result ≡ noted.local_tree (env_tree structs.now) node (option_map type_tree t.now) }
+{
+    let size = type_size(structs, t);
+    Local {
+        block: Block {
+            node,
+            size: (size + 3) / 4 * 4,
+        },
+        is_object: is_no_scalar(t),
+    }
+}
+
+/// The first block that ends past the limit, where each begins at the least multiple of 4 behind the
+/// one before.
+pub fn block_past(limit: u32, blocks: &[Block]) -> Option<u32>
+    ensures { result ≡ block_past limit 0 (map block_tree blocks.now) }
+{
+    let mut end: u64 = 0;
+    for b in blocks {
+        end = (end + 3) / 4 * 4 + u64::from(b.size);
+        if end > u64::from(limit) {
+            return Some(b.node);
+        }
+    }
+    None
+}
+
+fn is_one_of(n: u32, nodes: &[u32]) -> bool
+    ensures { result ≡ is_one_of n nodes.now }
+{
+    for m in nodes {
+        if *m == n {
+            return true;
+        }
+    }
+    false
+}
+
+/// The blocks of the locals that are no scalars, or that are among these nodes.
+fn placed(alloc: Global, nodes: &[u32], locals: &[Local]) -> Result<Vec<Block>, NoMemory>
+    ensures { IfOk result (λ bs. map block_tree bs.items ≡ map (λ l. l.block) (filter (noted.is_block nodes.now) (map local_tree locals.now))) }
+{
+    let mut blocks = Vec::new(alloc);
+    for l in locals {
+        if is_one_of(l.block.node, nodes) || l.is_object {
+            blocks.push(l.block)?;
+        }
+    }
+    Ok(blocks)
+}
+
+impl Noted {
+    /// Nothing yet.
+    pub fn new(alloc: Global) -> Noted
+        ensures { noted_tree result ≡ noted.nothing_noted }
+    {
+        Noted {
+            calls: Vec::new(alloc),
+            texts: Vec::new(alloc),
+            globals: Vec::new(alloc),
+            locals: Vec::new(alloc),
+            local_past: None,
+        }
+    }
+
+    /// Notes a variable of this declared type.
+    pub fn note_variable(
+        &mut self,
+        at_file_scope: bool,
+        structs: &Env,
+        node: u32,
+        t: &Option<CType>,
+    ) -> Result<(), NoMemory>
+        ensures { OnOk result (noted_tree self.new ≡ noted.variable_noted at_file_scope (env_tree structs.now) node (option_map type_tree t.now) (noted_tree self.old)) }
+    {
+        if at_file_scope {
+            let size = type_size(structs, t);
+            self.globals.push(Block { node, size })?;
+        } else {
+            self.locals.push(local_of(structs, node, t))?;
+        }
+        Ok(())
+    }
+
+    /// Begins a body, where these are its parameters.
+    pub fn begin_body(&mut self, parameters: Vec<Local>)
+        ensures { noted_tree self.new ≡ noted.body_begun (map local_tree parameters.items) (noted_tree self.old) }
+    {
+        self.locals = parameters;
+    }
+
+    /// Ends a body, where the names of these declarations are operands of `&`.
+    pub fn end_body(&mut self, alloc: Global, nodes: &[u32]) -> Result<(), NoMemory>
+        ensures { OnOk result (noted_tree self.new ≡ noted.body_ended nodes.now (noted_tree self.old)) }
+    {
+        let blocks = placed(alloc, nodes, &self.locals)?;
+        let past = block_past(LOCAL_LIMIT, &blocks);
+        self.locals = Vec::new(alloc);
+        self.local_past = or_else(self.local_past, past);
+        Ok(())
+    }
+}
+
+pub fn or_else(first: Option<u32>, other: Option<u32>) -> Option<u32>
+    ensures { result ≡ or_else first other }
+{
+    match first {
+        None => other,
+        Some(n) => Some(n),
+    }
+}

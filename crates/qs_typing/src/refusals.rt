@@ -1,0 +1,272 @@
+// The check of a unit.
+ghost use Rattle.std.specs.Prelude.{◌≡◌, ◌++◌, ◌⊎◌, None, Some, IfErr, IfOk, OnOk, map, option_map};
+ghost use Rattle.std.specs.List.{slice_get};
+ghost use Rattle.qs_syntax.specs.TreeOf.{decl_tree, parameter_tree};
+ghost use Rattle.qs_syntax.specs.UnitTrees.{unit_tree};
+ghost use Rattle.qs_types.specs.Contexts.{entity_of};
+ghost use Rattle.qs_types.specs.GivenFunctions.{main_name};
+ghost use Rattle.qs_types.specs.Limits as limits;
+ghost use Rattle.qs_types.specs.UnitRules.{is_name_in, structs_of};
+ghost use Rattle.qs_types.specs.WellTyped as well_typed;
+ghost use Rattle.qs_typing.specs.ContextOf.{context_tree};
+ghost use Rattle.qs_typing.specs.EntityOf.{entity_tree};
+ghost use Rattle.qs_typing.specs.NodeTypes.{unit_types};
+ghost use Rattle.qs_typing.specs.NotedOf.{block_tree};
+ghost use Rattle.qs_typing.specs.Refusals.{early_refusal, first_refusal, late_by, limit_fault, runs_in};
+ghost use Rattle.qs_typing.specs.TypedOf.{typed_structs, typed_tree, typed_types};
+ghost use Rattle.qs_typing.specs.UnitWalk.{unit_walked};
+ghost use Rattle.qs_typing.specs.WalkOf.{walk_tree};
+ghost use Rattle.qs_typing.specs.declared.refusals.TypeFault.TheVariants as faults;
+
+use crate::context::Context;
+use crate::entity::Entity;
+use crate::noted::{Block, GLOBAL_LIMIT, Noted, block_past};
+use crate::typed_unit::TypedUnit;
+use crate::units::walk_declarations;
+use crate::walk::Walk;
+use indexmap::IndexSet;
+use qs_base::{Name, NoMemory};
+use qs_syntax::{Decl, Function, Unit};
+use qs_types::Rule;
+use std::alloc::Global;
+
+/// What is counted.
+#[derive(Clone, Copy, PartialEq, Eq, Debug)]
+pub enum LimitKind {
+    /// Nodes.
+    Nodes,
+    /// Names of functions.
+    Functions,
+    /// Parameters of one function.
+    Parameters,
+    /// Bytes of data.
+    Globals,
+    /// Placed bytes of one function.
+    Locals,
+}
+
+/// Why a unit is refused, in this order: a limit of nodes, functions or parameters, a rule, no main, a
+/// function without a body, a limit of globals or locals.
+#[derive(Clone, Copy, PartialEq, Eq, Debug)]
+pub enum TypeFault {
+    /// A node breaks a rule.
+    Rule(u32, Rule),
+    /// A count passes its limit at a node.
+    Limit(LimitKind, u32),
+    /// No function `main` has a body.
+    NoMain,
+    /// The function that is declared at a node is called and has no body.
+    Undefined(u32),
+    /// There is no memory.
+    NoMemory,
+}
+
+impl From<NoMemory> for TypeFault {
+    ghost use Rattle.qs_typing.specs.declared.refusals.TypeFault.TheVariants as faults;
+    ghost use Rattle.std.specs.Prelude.{◌≡◌};
+
+    ghost from_gives = { λ e r. r ≡ faults.NoMemory };
+
+    fn from(_fault: NoMemory) -> TypeFault {
+        TypeFault::NoMemory
+    }
+}
+
+/// The most nodes of a unit.
+const NODE_LIMIT: u32 = 10_000;
+
+/// The most names of functions.
+const FUNCTION_LIMIT: usize = 512;
+
+/// The most parameters of a function.
+const PARAMETER_LIMIT: usize = 8;
+
+fn first_past_nodes(unit: &Unit) -> Option<u32>
+    ensures { result ≡ limits.first_past_nodes limits.node_limit (unit_tree unit.now) }
+{
+    if unit.nodes() > NODE_LIMIT {
+        Some(NODE_LIMIT)
+    } else {
+        None
+    }
+}
+
+fn first_past_functions(alloc: Global, ds: &[Decl]) -> Result<Option<u32>, NoMemory>
+    ensures { IfOk result (λ n. n ≡ limits.first_past_functions limits.function_limit (map decl_tree ds.now)) }
+{
+    let mut names: IndexSet<Name> = IndexSet::new(alloc);
+    for d in ds {
+        if let Decl::Function(f) = d {
+            let is_new = names.insert(f.name.copy(alloc)?)?;
+            if is_new && names.len() > FUNCTION_LIMIT {
+                return Ok(Some(f.node.id));
+            }
+        }
+    }
+    Ok(None)
+}
+
+fn ninth_parameter(f: &Function) -> Option<u32>
+    ensures { result ≡ limits.node_of_parameter (slice_get (map parameter_tree f.now.parameters.items) limits.parameter_limit) }
+{
+    match f.parameters.get(PARAMETER_LIMIT) {
+        None => None,
+        Some(p) => Some(p.node.id),
+    }
+}
+
+fn first_past_parameters(ds: &[Decl]) -> Option<u32>
+    ensures { result ≡ limits.first_past_parameters limits.parameter_limit (map decl_tree ds.now) }
+{
+    for d in ds {
+        if let Decl::Function(f) = d {
+            if let Some(node) = ninth_parameter(f) {
+                return Some(node);
+            }
+        }
+    }
+    None
+}
+
+fn first_past_globals(alloc: Global, noted: &Noted) -> Result<Option<u32>, NoMemory>
+    ensures { IfOk result (λ n. n ≡ limits.block_past limits.global_limit 0 (map block_tree noted.now.globals.items ++ map block_tree noted.now.texts.items)) }
+{
+    let mut blocks: Vec<Block> = Vec::from_slice(alloc, &noted.globals)?;
+    blocks.extend_from_slice(&noted.texts)?;
+    Ok(block_past(GLOBAL_LIMIT, &blocks))
+}
+
+fn has_body(entity: Option<&Entity>) -> bool
+    ensures { result ≡ well_typed.entity_has_body (option_map (λ e. entity_tree e.now) entity.entry) }
+{
+    match entity {
+        None => false,
+        Some(Entity::LocalVariable(_, _)) => false,
+        Some(Entity::FileVariable(_, _)) => false,
+        Some(Entity::Function { has_body, .. }) => *has_body,
+        Some(Entity::Given(_)) => false,
+    }
+}
+
+fn runs(entity: Option<&Entity>) -> bool
+    ensures { result ≡ well_typed.entity_runs (option_map (λ e. entity_tree e.now) entity.entry) }
+{
+    match entity {
+        None => false,
+        Some(Entity::LocalVariable(_, _)) => false,
+        Some(Entity::FileVariable(_, _)) => false,
+        Some(Entity::Function { has_body, .. }) => *has_body,
+        Some(Entity::Given(_)) => true,
+    }
+}
+
+fn is_called(x: &Name, calls: &[Name]) -> bool
+    ensures { result ≡ is_name_in x.now calls.now }
+{
+    for y in calls {
+        if *x == *y {
+            return true;
+        }
+    }
+    false
+}
+
+/// The first declaration of a function that is called and doesn't run.
+fn first_undefined(c: &Context, calls: &[Name], ds: &[Decl]) -> Option<u32>
+    ensures { result ≡ well_typed.undefined_from (runs_in (context_tree c.now)) calls.now (map decl_tree ds.now) }
+{
+    for d in ds {
+        if let Decl::Function(f) = d {
+            if is_called(&f.name, calls) && !runs(c.find(&f.name)) {
+                return Some(f.node.id);
+            }
+        }
+    }
+    None
+}
+
+fn limit(kind: LimitKind, node: Option<u32>) -> Option<TypeFault>
+    ensures { result ≡ limit_fault kind node }
+{
+    match node {
+        None => None,
+        Some(node) => Some(TypeFault::Limit(kind, node)),
+    }
+}
+
+/// The first limit that is passed before the rules are looked at.
+fn early_fault(alloc: Global, unit: &Unit) -> Result<Option<TypeFault>, NoMemory>
+    ensures { IfOk result (λ f. f ≡ early_refusal (unit_tree unit.now)) }
+{
+    if let Some(node) = first_past_nodes(unit) {
+        return Ok(limit(LimitKind::Nodes, Some(node)));
+    }
+    if let Some(node) = first_past_functions(alloc, unit.declarations())? {
+        return Ok(limit(LimitKind::Functions, Some(node)));
+    }
+    let node = first_past_parameters(unit.declarations());
+    Ok(limit(LimitKind::Parameters, node))
+}
+
+fn has_main(alloc: Global, c: &Context) -> Result<bool, NoMemory>
+    ensures { IfOk result (λ b. b ≡ well_typed.entity_has_body (entity_of (context_tree c.now) main_name)) }
+{
+    let main = Name::new(alloc, b"main")?;
+    Ok(has_body(c.find(&main)))
+}
+
+/// The first cause of a refusal that a walk shows, where this is known behind it.
+fn late_fault(
+    alloc: Global,
+    unit: &Unit,
+    c: &Context,
+    walk: &Walk,
+) -> Result<Option<TypeFault>, NoMemory>
+    ensures { IfOk result (λ f. f ≡ late_by (context_tree c.now) (walk_tree walk.now) (unit_tree unit.now)) }
+{
+    if let Some(f) = walk.found.least {
+        return Ok(Some(TypeFault::Rule(f.node, f.rule)));
+    }
+    if !has_main(alloc, c)? {
+        return Ok(Some(TypeFault::NoMain));
+    }
+    if let Some(node) = first_undefined(c, &walk.noted.calls, unit.declarations()) {
+        return Ok(Some(TypeFault::Undefined(node)));
+    }
+    if let Some(node) = first_past_globals(alloc, &walk.noted)? {
+        return Ok(Some(TypeFault::Limit(LimitKind::Globals, node)));
+    }
+    Ok(limit(LimitKind::Locals, walk.noted.local_past))
+}
+
+/// A walk over a unit, and what is known behind it.
+fn walk_unit(alloc: Global, unit: &Unit) -> Result<(Context, Walk), NoMemory>
+    ensures context { IfOk result (λ r. context_tree r.0 ≡ well_typed.end_context (unit_tree unit.now)) }
+    ensures walked { IfOk result (λ r. walk_tree r.1 ≡ unit_walked (unit_tree unit.now)) }
+{
+    let mut c = Context::new(alloc)?;
+    let mut walk = Walk::new(alloc);
+    walk_declarations(alloc, &mut c, unit.declarations(), &mut walk)?;
+    Ok((c, walk))
+}
+
+/// The typed unit, where every node keeps the rules and the counts are within their limits; or why the
+/// unit is refused: the first cause in the order of `TypeFault`, or want of memory.
+#[tactic(auto, using(crate::proofs::Checked::late_known))]
+pub fn check(alloc: Global, unit: &Unit) -> Result<TypedUnit, TypeFault>
+    ensures holds { IfOk result (λ typed. typed_tree typed ≡ unit_tree unit.now) }
+    ensures types { IfOk result (λ typed. typed_types typed ≡ unit_types (unit_tree unit.now)) }
+    ensures structs { IfOk result (λ typed. typed_structs typed ≡ structs_of (unit_tree unit.now)) }
+    ensures accepted { OnOk result (first_refusal (unit_tree unit.now) ≡ None) }
+    ensures refused { IfErr result (λ f. (f ≡ faults.NoMemory) ⊎ (first_refusal (unit_tree unit.now) ≡ Some f)) }
+{
+    if let Some(f) = early_fault(alloc, unit)? {
+        return Err(f);
+    }
+    let (c, walk) = walk_unit(alloc, unit)?;
+    if let Some(f) = late_fault(alloc, unit, &c, &walk)? {
+        return Err(f);
+    }
+    let copy = unit.copy(alloc)?;
+    Ok(TypedUnit::new(copy, c, walk))
+}

@@ -1,0 +1,165 @@
+// What is noted of an expression: the names that are called in it, and its texts.
+ghost use Rattle.std.specs.Prelude.{◌≡◌, ◌++◌, ◌∷◌, [], OnOk, map};
+ghost use Rattle.qs_syntax.specs.TreeOf.{expr_tree, exprs_tree, shape_tree};
+ghost use Rattle.qs_types.specs.Limits.{text_block};
+ghost use Rattle.qs_types.specs.References.{expr_calls, expr_texts, exprs_calls, exprs_texts, shape_calls, shape_texts};
+ghost use Rattle.qs_typing.specs.NotedOf.{block_tree, noted_tree};
+ghost use Rattle.qs_typing.specs.Noted.{site_noted};
+
+use crate::noted::{Block, Noted};
+use qs_base::{Name, NoMemory};
+use qs_syntax::{Expr, Shape, Text};
+use std::alloc::Global;
+
+// ---- calls
+
+#[cycle(note_calls)]
+fn note_calls(alloc: Global, e: &Expr, calls: &mut Vec<Name>) -> Result<(), NoMemory>
+    ensures { OnOk result (calls.new.items ≡ calls.old.items ++ expr_calls (expr_tree e.now)) }
+{
+    note_shape_calls(alloc, &e.shape, calls)
+}
+
+#[cycle(note_calls)]
+fn note_shape_calls(alloc: Global, shape: &Shape, calls: &mut Vec<Name>) -> Result<(), NoMemory>
+    ensures { OnOk result (calls.new.items ≡ calls.old.items ++ shape_calls (shape_tree shape.now)) }
+{
+    match shape {
+        Shape::Constant(_, _) => Ok(()),
+        Shape::Text(_) => Ok(()),
+        Shape::Name(_) => Ok(()),
+        Shape::Unary(_, a) => note_calls(alloc, a, calls),
+        Shape::Step(_, a) => note_calls(alloc, a, calls),
+        Shape::Cast(_, a) => note_calls(alloc, a, calls),
+        Shape::SizeofType(_) => Ok(()),
+        Shape::SizeofExpr(a) => note_calls(alloc, a, calls),
+        Shape::Binary { left, right, .. } => {
+            note_calls(alloc, left, calls)?;
+            note_calls(alloc, right, calls)
+        }
+        Shape::Assign { left, right, .. } => {
+            note_calls(alloc, left, calls)?;
+            note_calls(alloc, right, calls)
+        }
+        Shape::Conditional {
+            condition,
+            then,
+            otherwise,
+        } => {
+            note_calls(alloc, condition, calls)?;
+            note_calls(alloc, then, calls)?;
+            note_calls(alloc, otherwise, calls)
+        }
+        Shape::Comma(a, b) => {
+            note_calls(alloc, a, calls)?;
+            note_calls(alloc, b, calls)
+        }
+        Shape::Subscript(a, b) => {
+            note_calls(alloc, a, calls)?;
+            note_calls(alloc, b, calls)
+        }
+        Shape::Member { object, .. } => note_calls(alloc, object, calls),
+        Shape::Call(f, es) => {
+            calls.push(f.copy(alloc)?)?;
+            note_all_calls(alloc, es, calls)
+        }
+    }
+}
+
+#[cycle(note_calls)]
+fn note_all_calls(alloc: Global, es: &[Expr], calls: &mut Vec<Name>) -> Result<(), NoMemory>
+    ensures { OnOk result (calls.new.items ≡ calls.old.items ++ exprs_calls (exprs_tree es.now)) }
+{
+    for e in es {
+        note_calls(alloc, e, calls)?;
+    }
+    Ok(())
+}
+
+// ---- texts
+
+fn note_text(node: u32, text: &Text, texts: &mut Vec<Block>) -> Result<(), NoMemory>
+    ensures { OnOk result (map block_tree texts.new.items ≡ map block_tree texts.old.items ++ text_block (record { node = node; bytes = text.now }) ∷ []) }
+{
+    let len = text.bytes().len();
+    if len >= u32::MAX as usize {
+        return Err(NoMemory);
+    }
+    let size = len as u32 + 1;
+    texts.push(Block { node, size })?;
+    Ok(())
+}
+
+#[cycle(note_texts)]
+fn note_texts(e: &Expr, texts: &mut Vec<Block>) -> Result<(), NoMemory>
+    ensures { OnOk result (map block_tree texts.new.items ≡ map block_tree texts.old.items ++ map text_block (expr_texts (expr_tree e.now))) }
+{
+    note_shape_texts(e.node.id, &e.shape, texts)
+}
+
+#[cycle(note_texts)]
+fn note_shape_texts(node: u32, shape: &Shape, texts: &mut Vec<Block>) -> Result<(), NoMemory>
+    ensures { OnOk result (map block_tree texts.new.items ≡ map block_tree texts.old.items ++ map text_block (shape_texts node (shape_tree shape.now))) }
+{
+    match shape {
+        Shape::Constant(_, _) => Ok(()),
+        Shape::Text(text) => note_text(node, text, texts),
+        Shape::Name(_) => Ok(()),
+        Shape::Unary(_, a) => note_texts(a, texts),
+        Shape::Step(_, a) => note_texts(a, texts),
+        Shape::Cast(_, a) => note_texts(a, texts),
+        Shape::SizeofType(_) => Ok(()),
+        Shape::SizeofExpr(a) => note_texts(a, texts),
+        Shape::Binary { left, right, .. } => {
+            note_texts(left, texts)?;
+            note_texts(right, texts)
+        }
+        Shape::Assign { left, right, .. } => {
+            note_texts(left, texts)?;
+            note_texts(right, texts)
+        }
+        Shape::Conditional {
+            condition,
+            then,
+            otherwise,
+        } => {
+            note_texts(condition, texts)?;
+            note_texts(then, texts)?;
+            note_texts(otherwise, texts)
+        }
+        Shape::Comma(a, b) => {
+            note_texts(a, texts)?;
+            note_texts(b, texts)
+        }
+        Shape::Subscript(a, b) => {
+            note_texts(a, texts)?;
+            note_texts(b, texts)
+        }
+        Shape::Member { object, .. } => note_texts(object, texts),
+        Shape::Call(_, es) => note_all_texts(es, texts),
+    }
+}
+
+#[cycle(note_texts)]
+fn note_all_texts(es: &[Expr], texts: &mut Vec<Block>) -> Result<(), NoMemory>
+    ensures { OnOk result (map block_tree texts.new.items ≡ map block_tree texts.old.items ++ map text_block (exprs_texts (exprs_tree es.now))) }
+{
+    for e in es {
+        note_texts(e, texts)?;
+    }
+    Ok(())
+}
+
+impl Noted {
+    /// Notes an expression that is no part of another; it may be a text that only fills an array of
+    /// file scope.
+    pub fn note_site(&mut self, alloc: Global, fills_array: bool, e: &Expr) -> Result<(), NoMemory>
+        ensures { OnOk result (noted_tree self.new ≡ site_noted fills_array (expr_tree e.now) (noted_tree self.old)) }
+    {
+        note_calls(alloc, e, &mut self.calls)?;
+        if !fills_array {
+            note_texts(e, &mut self.texts)?;
+        }
+        Ok(())
+    }
+}

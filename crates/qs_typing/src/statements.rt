@@ -1,0 +1,345 @@
+// Statements (C11 6.8).
+ghost use Rattle.std.specs.Prelude.{◌≡◌, IfOk, OnOk, map, option_map, option_to_list};
+ghost use Rattle.qs_syntax.specs.TreeOf.{else_tree, expr_tree, option_tree, start_tree, stmt_tree, stmts_tree};
+ghost use Rattle.qs_syntax.specs.Trees.{return};
+ghost use Rattle.qs_types.specs.Contexts.{inner_scope, inside_loop};
+ghost use Rattle.qs_types.specs.Expressions.{type_of};
+ghost use Rattle.qs_types.specs.Layout.{and_then};
+ghost use Rattle.qs_types.specs.StatementRules as rules;
+ghost use Rattle.qs_types.specs.TypeOf.{type_tree};
+ghost use Rattle.qs_typing.specs.ContextOf.{context_tree};
+ghost use Rattle.qs_typing.specs.JudgedOf.{test_tree};
+ghost use Rattle.qs_typing.specs.PositionOf.{position_tree};
+ghost use Rattle.qs_typing.specs.Statements.{after_statements, head_tests_by, head_walked, return_tests_by, typed_by};
+ghost use Rattle.qs_typing.specs.UnitWalk as walks;
+ghost use Rattle.qs_typing.specs.WalkOf.{walk_tree};
+
+use crate::context::Context;
+use crate::judged::{Test, keeps};
+use crate::operands::is_assignable;
+use crate::positions::Position;
+use crate::types::{decayed, is_scalar, is_void};
+use crate::variables::walk_variables;
+use crate::walk::Walk;
+use qs_base::NoMemory;
+use qs_syntax::{Expr, Node, Start, Stmt};
+use qs_types::{CType, Rule};
+use std::alloc::Global;
+
+// ---- expressions in statements
+
+/// The test of a condition of this type (C11 6.8.4.1p1, 6.8.5p2).
+fn condition_test(t: Option<CType>) -> Option<Test>
+    ensures { map test_tree (option_to_list result) ≡ rules.condition_tests (option_map type_tree t) }
+{
+    match t {
+        None => None,
+        Some(t) => Some(keeps(Rule::TruthOperand, is_scalar(&decayed(t)))),
+    }
+}
+
+fn judge_option(node: Node, t: Option<Test>, walk: &mut Walk)
+    ensures { walk_tree walk.new ≡ walks.node_judged node (map test_tree (option_to_list t)) (walk_tree walk.old) }
+{
+    match t {
+        None => walk.judge(node, &[]),
+        Some(t) => walk.judge(node, &[t]),
+    }
+}
+
+fn walk_condition(
+    alloc: Global,
+    c: &Context,
+    node: Node,
+    e: &Expr,
+    walk: &mut Walk,
+) -> Result<(), NoMemory>
+    ensures { OnOk result (walk_tree walk.new ≡ walks.condition_walked (context_tree c.now) node (expr_tree e.now) (walk_tree walk.old)) }
+{
+    let t = walk.expression(alloc, c, Position::Used, e)?;
+    judge_option(node, condition_test(t), walk);
+    Ok(())
+}
+
+/// Walks over an expression, where there is one.
+fn walk_option(
+    alloc: Global,
+    c: &Context,
+    p: Position,
+    e: &Option<Expr>,
+    walk: &mut Walk,
+) -> Result<Option<CType>, NoMemory>
+    ensures typed { IfOk result (λ t. option_map type_tree t ≡ and_then (option_tree e.now) (type_of (context_tree c.now))) }
+    ensures walked { OnOk result (walk_tree walk.new ≡ walks.option_walked (context_tree c.now) (position_tree p) (option_tree e.now) (walk_tree walk.old)) }
+{
+    match e {
+        None => Ok(None),
+        Some(e) => walk.expression(alloc, c, p, e),
+    }
+}
+
+fn returns(to: &CType, e: &Expr, t: Option<CType>) -> Option<Test>
+    ensures { map test_tree (option_to_list result) ≡ rules.returns (type_tree to.now) (expr_tree e.now) (option_map type_tree t) }
+{
+    match t {
+        None => None,
+        Some(t) => {
+            let fits = !is_void(to) && is_assignable(to, e, &decayed(t));
+            Some(keeps(Rule::ReturnedType, fits))
+        }
+    }
+}
+
+/// The test of a `return` of an expression of type `t` (C11 6.8.6.4p1).
+fn return_test(to: Option<&CType>, e: &Option<Expr>, t: Option<CType>) -> Option<Test>
+    ensures { map test_tree (option_to_list result) ≡ return_tests_by (option_map (λ t. type_tree t.now) to.entry) (option_tree e.now) (option_map type_tree t) }
+{
+    match to {
+        None => None,
+        Some(to) => match e {
+            None => Some(keeps(Rule::ReturnedType, is_void(to))),
+            Some(e) => returns(to, e, t),
+        },
+    }
+}
+
+fn walk_return(
+    alloc: Global,
+    c: &Context,
+    node: Node,
+    e: &Option<Expr>,
+    walk: &mut Walk,
+) -> Result<(), NoMemory>
+    ensures { OnOk result (walk_tree walk.new ≡ walks.statement_walked (context_tree c.now) (return node (option_tree e.now)) (walk_tree walk.old)) }
+{
+    walk.open()?;
+    let t = walk_option(alloc, c, Position::Used, e, walk)?;
+    judge_option(node, return_test(c.result(), e, t), walk);
+    Ok(())
+}
+
+fn judge_jump(c: &Context, node: Node, walk: &mut Walk) -> Result<(), NoMemory>
+    ensures { OnOk result (walk_tree walk.new ≡ walks.node_judged node (rules.loop_tests (context_tree c.now)) (walks.node_opened (walk_tree walk.old))) }
+{
+    walk.open()?;
+    walk.judge(node, &[keeps(Rule::OutsideLoop, c.in_loop())]);
+    Ok(())
+}
+
+// ---- what a `for` begins with
+
+/// Walks over what a `for` begins with, and tells whether it has a type.
+fn walk_start(
+    alloc: Global,
+    c: &mut Context,
+    start: &Start,
+    walk: &mut Walk,
+) -> Result<bool, NoMemory>
+    ensures typed { IfOk result (λ b. b ≡ rules.start_typed (context_tree c.new) (start_tree start.now)) }
+    ensures context { OnOk result (context_tree c.new ≡ rules.after_start (context_tree c.old) (start_tree start.now)) }
+    ensures walked { OnOk result (walk_tree walk.new ≡ walks.start_walked (context_tree c.old) (start_tree start.now) (walk_tree walk.old)) }
+{
+    match start {
+        Start::Nothing => Ok(true),
+        Start::Expression(e) => {
+            let t = walk.expression(alloc, c, Position::Discarded, e)?;
+            Ok(t.is_some())
+        }
+        Start::Declaration(d) => {
+            walk_variables(alloc, false, c, &d.base, &d.variables, walk)?;
+            Ok(true)
+        }
+    }
+}
+
+/// Whether an expression of type `t` has a type, where it is there.
+fn is_typed(e: &Option<Expr>, t: &Option<CType>) -> bool
+    ensures { result ≡ typed_by (option_tree e.now) (option_map type_tree t.now) }
+{
+    match e {
+        None => true,
+        Some(_) => t.is_some(),
+    }
+}
+
+/// The test of a `for` whose condition has the type `t` and whose step the type `u`.
+fn head_test(
+    start_typed: bool,
+    step: &Option<Expr>,
+    u: &Option<CType>,
+    t: Option<CType>,
+) -> Option<Test>
+    ensures { map test_tree (option_to_list result) ≡ head_tests_by start_typed (option_tree step.now) (option_map type_tree u.now) (option_map type_tree t) }
+{
+    if start_typed && is_typed(step, u) {
+        condition_test(t)
+    } else {
+        None
+    }
+}
+
+/// Walks over the condition and the step of a `for`.
+fn walk_head(
+    alloc: Global,
+    c: &Context,
+    node: Node,
+    start_typed: bool,
+    condition: &Option<Expr>,
+    step: &Option<Expr>,
+    walk: &mut Walk,
+) -> Result<(), NoMemory>
+    ensures { OnOk result (walk_tree walk.new ≡ head_walked (context_tree c.now) node start_typed (option_tree condition.now) (option_tree step.now) (walk_tree walk.old)) }
+{
+    let t = walk_option(alloc, c, Position::Used, condition, walk)?;
+    let u = walk_option(alloc, c, Position::Discarded, step, walk)?;
+    judge_option(node, head_test(start_typed, step, &u, t), walk);
+    Ok(())
+}
+
+// ---- statements
+
+/// Walks over a statement; a declaration is known behind it.
+#[cycle(stmt)]
+pub fn walk_statement(
+    alloc: Global,
+    c: &mut Context,
+    s: &Stmt,
+    walk: &mut Walk,
+) -> Result<(), NoMemory>
+    ensures context { OnOk result (context_tree c.new ≡ rules.after_statement (context_tree c.old) (stmt_tree s.now)) }
+    ensures walked { OnOk result (walk_tree walk.new ≡ walks.statement_walked (context_tree c.old) (stmt_tree s.now) (walk_tree walk.old)) }
+{
+    match s {
+        Stmt::Empty(_) => walk.open(),
+        Stmt::Expression(_, e) => {
+            walk.open()?;
+            walk.expression(alloc, c, Position::Discarded, e)?;
+            Ok(())
+        }
+        Stmt::Declaration(d) => walk_variables(alloc, false, c, &d.base, &d.variables, walk),
+        Stmt::Block(items) => walk_block(alloc, c, items, walk),
+        Stmt::If {
+            node,
+            condition,
+            then,
+            otherwise,
+        } => {
+            walk.open()?;
+            walk_condition(alloc, c, *node, condition, walk)?;
+            walk_part(alloc, c, then, walk)?;
+            walk_else(alloc, c, otherwise, walk)
+        }
+        Stmt::While {
+            node,
+            condition,
+            body,
+        } => {
+            walk.open()?;
+            walk_condition(alloc, c, *node, condition, walk)?;
+            walk_body(alloc, c, body, walk)
+        }
+        Stmt::Do {
+            node,
+            body,
+            condition,
+        } => {
+            walk.open()?;
+            walk_body(alloc, c, body, walk)?;
+            walk_condition(alloc, c, *node, condition, walk)
+        }
+        Stmt::For {
+            node,
+            start,
+            condition,
+            step,
+            body,
+        } => {
+            walk.open()?;
+            let around = c.enter_scope();
+            let start_typed = walk_start(alloc, c, start, walk)?;
+            walk_head(alloc, c, *node, start_typed, condition, step, walk)?;
+            walk_body(alloc, c, body, walk)?;
+            c.leave_scope(around);
+            Ok(())
+        }
+        Stmt::Break(node) => judge_jump(c, *node, walk),
+        Stmt::Continue(node) => judge_jump(c, *node, walk),
+        Stmt::Return(node, e) => walk_return(alloc, c, *node, e, walk),
+    }
+}
+
+/// Walks over a statement that is a part of another, which is a scope (C11 6.8.4p3).
+#[cycle(stmt)]
+fn walk_part(alloc: Global, c: &mut Context, s: &Stmt, walk: &mut Walk) -> Result<(), NoMemory>
+    ensures context { OnOk result (context_tree c.new ≡ context_tree c.old) }
+    ensures walked { OnOk result (walk_tree walk.new ≡ walks.statement_walked (inner_scope (context_tree c.old)) (stmt_tree s.now) (walk_tree walk.old)) }
+{
+    let around = c.enter_scope();
+    walk_statement(alloc, c, s, walk)?;
+    c.leave_scope(around);
+    Ok(())
+}
+
+/// Walks over the body of a loop (C11 6.8.5p5).
+#[cycle(stmt)]
+fn walk_body(alloc: Global, c: &mut Context, s: &Stmt, walk: &mut Walk) -> Result<(), NoMemory>
+    ensures context { OnOk result (context_tree c.new ≡ context_tree c.old) }
+    ensures walked { OnOk result (walk_tree walk.new ≡ walks.statement_walked (inside_loop (inner_scope (context_tree c.old))) (stmt_tree s.now) (walk_tree walk.old)) }
+{
+    let before = c.in_loop();
+    let around = c.enter_scope();
+    c.set_loop(true);
+    walk_statement(alloc, c, s, walk)?;
+    c.set_loop(before);
+    c.leave_scope(around);
+    Ok(())
+}
+
+#[cycle(stmt)]
+fn walk_else(
+    alloc: Global,
+    c: &mut Context,
+    s: &Option<Box<Stmt>>,
+    walk: &mut Walk,
+) -> Result<(), NoMemory>
+    ensures context { OnOk result (context_tree c.new ≡ context_tree c.old) }
+    ensures walked { OnOk result (walk_tree walk.new ≡ walks.else_walked (context_tree c.old) (else_tree s.now) (walk_tree walk.old)) }
+{
+    match s {
+        None => Ok(()),
+        Some(s) => walk_part(alloc, c, s, walk),
+    }
+}
+
+#[cycle(stmt)]
+fn walk_block(
+    alloc: Global,
+    c: &mut Context,
+    items: &[Stmt],
+    walk: &mut Walk,
+) -> Result<(), NoMemory>
+    ensures context { OnOk result (context_tree c.new ≡ context_tree c.old) }
+    ensures walked { OnOk result (walk_tree walk.new ≡ walks.statements_walked (inner_scope (context_tree c.old)) (stmts_tree items.now) (walk_tree walk.old)) }
+{
+    let around = c.enter_scope();
+    walk_statements(alloc, c, items, walk)?;
+    c.leave_scope(around);
+    Ok(())
+}
+
+/// Walks over the items of a block.
+#[cycle(stmt)]
+pub fn walk_statements(
+    alloc: Global,
+    c: &mut Context,
+    items: &[Stmt],
+    walk: &mut Walk,
+) -> Result<(), NoMemory>
+    ensures context { OnOk result (context_tree c.new ≡ after_statements (context_tree c.old) (stmts_tree items.now)) }
+    ensures walked { OnOk result (walk_tree walk.new ≡ walks.statements_walked (context_tree c.old) (stmts_tree items.now) (walk_tree walk.old)) }
+{
+    for s in items {
+        walk_statement(alloc, c, s, walk)?;
+    }
+    Ok(())
+}

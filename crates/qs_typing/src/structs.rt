@@ -1,0 +1,209 @@
+// Structs and their members (C11 6.7.2.1, 6.7.2.3).
+ghost use Rattle.std.specs.Prelude.{◌≡◌, ◌≤◌, ◌++◌, [], None, IfOk, IfSome, OnOk, map, option_map, true, if◌then◌else◌};
+ghost use Rattle.qs_syntax.specs.TreeOf.{declarator_tree, members_tree, struct_tree};
+ghost use Rattle.std.specs.List.{slice_get};
+ghost use Rattle.qs_types.specs.declared.rules.Rule.TheVariants as rule;
+ghost use Rattle.qs_types.specs.Declarations.{all_typed, lengths_of};
+ghost use Rattle.qs_types.specs.EnvOf.{env_tree};
+ghost use Rattle.qs_types.specs.LayoutLaws.{IsSmall};
+ghost use Rattle.qs_types.specs.Rules.{test};
+ghost use Rattle.qs_types.specs.StructsOf.{member_tree};
+ghost use Rattle.qs_types.specs.TypeOf.{type_tree};
+ghost use Rattle.qs_types.specs.UnitRules as rules;
+ghost use Rattle.qs_typing.specs.ContextOf.{context_tree};
+ghost use Rattle.qs_typing.specs.DeclaredOf.{declared_tree, numbers};
+ghost use Rattle.qs_typing.specs.JudgedOf.{test_tree};
+ghost use Rattle.qs_typing.specs.MembersOf.{before_tree};
+ghost use Rattle.qs_typing.specs.UnitWalk.{member_walked, members_walked, struct_walked, together_walked};
+ghost use Rattle.qs_typing.specs.WalkOf.{walk_tree};
+
+use crate::context::Context;
+use crate::declared_types::{Declared, declarator_declared};
+use crate::judged::{Test, keeps, violates};
+use crate::lengths::{ArrayLengths, walk_lengths};
+use crate::members_before::{MembersBefore, member_end};
+use crate::walk::Walk;
+use indexmap::IndexMap;
+use qs_base::{Name, NoMemory};
+use qs_syntax::{Base, Declarator, Members, Struct};
+use qs_types::{CType, Env, Extent, Rule, SIZE_LIMIT, extent_of};
+use std::alloc::Global;
+
+/// Whether a member of this extent has room behind this end.
+fn has_room(end: u32, extent: Option<Extent>) -> bool
+    requires { IfSome extent IsSmall }
+    ensures { result ≡ rules.has_room end extent }
+{
+    match extent {
+        None => true,
+        Some(extent) => member_end(end, extent) <= u64::from(SIZE_LIMIT),
+    }
+}
+
+fn option_extent(structs: &Env, t: &Option<CType>) -> Option<Extent>
+    ensures extent { result ≡ rules.option_extent (env_tree structs.now) (option_map type_tree t.now) }
+    ensures small { IfSome result IsSmall }
+{
+    match t {
+        None => None,
+        Some(t) => extent_of(structs, t),
+    }
+}
+
+/// What a member declares behind this end.
+fn member_declared(
+    alloc: Global,
+    c: &Context,
+    end: u32,
+    base: &Base,
+    d: &Declarator,
+    lengths: ArrayLengths,
+) -> Result<Declared, NoMemory>
+    requires typed { lengths.all_typed ≡ all_typed (context_tree c.now) (declarator_tree d.now).lengths.given }
+    requires values { numbers lengths.values ≡ lengths_of (context_tree c.now) (declarator_tree d.now).lengths.given }
+    ensures { IfOk result (λ r. declared_tree r ≡ rules.member_declared (context_tree c.now) end base.now (declarator_tree d.now)) }
+{
+    let Declared { tests, of } = declarator_declared(alloc, c, base, d, None, lengths)?;
+    let has_room = has_room(end, option_extent(c.structs(), &of));
+    let mut tests = tests;
+    tests.push(keeps(Rule::LargeType, has_room))?;
+    Ok(Declared {
+        tests,
+        of: if has_room { of } else { None },
+    })
+}
+
+fn member_tests(
+    alloc: Global,
+    all_typed: bool,
+    declared: &[Test],
+    again: bool,
+) -> Result<Vec<Test>, NoMemory>
+    ensures { IfOk result (λ ts. map test_tree ts.items ≡ (if all_typed then map test_tree declared.now ++ test rule.MemberTwice again else [])) }
+{
+    let mut tests = Vec::new(alloc);
+    if !all_typed {
+        return Ok(tests);
+    }
+    tests.extend_from_slice(declared)?;
+    tests.push(violates(Rule::MemberTwice, again))?;
+    Ok(tests)
+}
+
+/// Walks over a member behind others.
+fn walk_member(
+    alloc: Global,
+    c: &Context,
+    before: &mut MembersBefore,
+    base: &Base,
+    d: &Declarator,
+    walk: &mut Walk,
+) -> Result<(), NoMemory>
+    ensures before { OnOk result (before_tree before.new ≡ rules.after_member (context_tree c.now) (before_tree before.old) base.now (declarator_tree d.now)) }
+    ensures walked { OnOk result (walk_tree walk.new ≡ member_walked (context_tree c.now) (before_tree before.old) base.now (declarator_tree d.now) (walk_tree walk.old)) }
+{
+    walk.open()?;
+    let lengths = walk_lengths(alloc, c, &d.lengths.given, walk)?;
+    let all_typed = lengths.all_typed;
+    let declared = member_declared(alloc, c, before.end, base, d, lengths)?;
+    let again = before.has_name(&d.name);
+    let tests = member_tests(alloc, all_typed, &declared.tests, again)?;
+    walk.judge(d.node, &tests);
+    before.add(alloc, c.structs(), &d.name, declared.of)
+}
+
+/// Walks over members that are declared together.
+fn walk_together(
+    alloc: Global,
+    c: &Context,
+    before: &mut MembersBefore,
+    base: &Base,
+    ds: &[Declarator],
+    walk: &mut Walk,
+) -> Result<(), NoMemory>
+    ensures before { OnOk result (before_tree before.new ≡ rules.after_together (context_tree c.now) (before_tree before.old) base.now (map declarator_tree ds.now)) }
+    ensures walked { OnOk result (walk_tree walk.new ≡ together_walked (context_tree c.now) (before_tree before.old) base.now (map declarator_tree ds.now) (walk_tree walk.old)) }
+{
+    for d in ds {
+        walk_member(alloc, c, before, base, d, walk)?;
+    }
+    Ok(())
+}
+
+fn walk_members(
+    alloc: Global,
+    c: &Context,
+    before: &mut MembersBefore,
+    ms: &[Members],
+    walk: &mut Walk,
+) -> Result<(), NoMemory>
+    ensures before { OnOk result (before_tree before.new ≡ rules.after_members (context_tree c.now) (before_tree before.old) (map members_tree ms.now)) }
+    ensures walked { OnOk result (walk_tree walk.new ≡ members_walked (context_tree c.now) (before_tree before.old) (map members_tree ms.now) (walk_tree walk.old)) }
+{
+    for m in ms {
+        walk_together(alloc, c, before, &m.base, &m.declarators, walk)?;
+    }
+    Ok(())
+}
+
+fn is_defined(c: &Context, tag: &Name) -> bool
+    ensures { result ≡ rules.is_defined (context_tree c.now) tag.now }
+{
+    match c.tag_place(tag) {
+        None => false,
+        Some(k) => match c.structs().structs().get(k as usize) {
+            None => false,
+            Some(structure) => structure.members.is_some(),
+        },
+    }
+}
+
+fn has_no_members(c: &Context, k: u32) -> bool
+    ensures { result ≡ rules.has_no_members (slice_get (context_tree c.now).structs k) }
+{
+    match c.structs().structs().get(k as usize) {
+        None => false,
+        Some(structure) => structure.members.is_none(),
+    }
+}
+
+/// Gives the struct with this number these members, if it has none.
+#[tactic(auto, using(crate::proofs::Defining::without_members, crate::proofs::Defining::defined_by))]
+fn define_at(
+    alloc: Global,
+    c: &mut Context,
+    members: IndexMap<Name, CType>,
+    k: Option<u32>,
+) -> Result<(), NoMemory>
+    ensures { OnOk result (context_tree c.new ≡ rules.define_at (context_tree c.old) (map member_tree members.entries) k) }
+{
+    match k {
+        None => Ok(()),
+        Some(k) => {
+            if has_no_members(c, k) {
+                c.define(alloc, k, members)?;
+            }
+            Ok(())
+        }
+    }
+}
+
+/// Walks over a struct, which is known to its members, and defined behind them.
+pub fn walk_struct(
+    alloc: Global,
+    c: &mut Context,
+    s: &Struct,
+    walk: &mut Walk,
+) -> Result<(), NoMemory>
+    ensures context { OnOk result (context_tree c.new ≡ rules.after_struct (context_tree c.old) (struct_tree s.now)) }
+    ensures walked { OnOk result (walk_tree walk.new ≡ struct_walked (context_tree c.old) (struct_tree s.now) (walk_tree walk.old)) }
+{
+    walk.open()?;
+    let defined = is_defined(c, &s.name);
+    walk.judge(s.node, &[violates(Rule::UnknownTag, defined)]);
+    c.with_tag(s.name.copy(alloc)?)?;
+    let mut before = MembersBefore::new(alloc);
+    walk_members(alloc, c, &mut before, &s.members, walk)?;
+    let place = c.tag_place(&s.name);
+    define_at(alloc, c, before.members, place)
+}

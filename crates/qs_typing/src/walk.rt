@@ -1,0 +1,134 @@
+// A walk over a unit.
+ghost use Rattle.std.specs.Prelude.{◌≡◌, IfOk, OnOk, map, option_map};
+ghost use Rattle.qs_syntax.specs.TreeOf.{expr_tree};
+ghost use Rattle.qs_types.specs.Expressions.{type_of};
+ghost use Rattle.qs_types.specs.TypeOf.{type_tree};
+ghost use Rattle.qs_typing.specs.ContextOf.{context_tree};
+ghost use Rattle.qs_typing.specs.JudgedOf.{test_tree};
+ghost use Rattle.qs_typing.specs.PositionOf.{position_tree};
+ghost use Rattle.qs_typing.specs.FoundOf.{fault_tree};
+ghost use Rattle.qs_typing.specs.NotedOf.{local_tree};
+ghost use Rattle.qs_typing.specs.UnitWalk.{expr_walked, node_judged, node_opened, site_walked, start_walk, variable_walk_noted, with_body_begun, with_body_ended};
+ghost use Rattle.qs_typing.specs.Variables.{with_least_before};
+ghost use Rattle.qs_typing.specs.WalkOf.{walk_tree};
+
+use crate::context::Context;
+use crate::expressions::walk_expression;
+use crate::found::{Fault, Found};
+use crate::judged::Test;
+use crate::noted::{Local, Noted};
+use crate::positions::Position;
+use qs_base::NoMemory;
+use qs_syntax::{Expr, Node};
+use qs_types::CType;
+use std::alloc::Global;
+
+/// What is found and noted so far.
+#[derive(Drop)]
+pub struct Walk {
+    /// The types and the least fault.
+    pub found: Found,
+    /// What is called, and the blocks of memory.
+    pub noted: Noted,
+}
+
+impl Walk {
+    /// Nothing yet.
+    pub fn new(alloc: Global) -> Walk
+        ensures { walk_tree result ≡ start_walk }
+    {
+        Walk {
+            found: Found::new(alloc),
+            noted: Noted::new(alloc),
+        }
+    }
+
+    /// Makes a place for a node that is no expression.
+    pub fn open(&mut self) -> Result<(), NoMemory>
+        ensures { OnOk result (walk_tree self.new ≡ node_opened (walk_tree self.old)) }
+    {
+        self.found.open(None)?;
+        Ok(())
+    }
+
+    /// Notes the rules that a node breaks.
+    pub fn judge(&mut self, node: Node, tests: &[Test])
+        ensures { walk_tree self.new ≡ node_judged node (map test_tree tests.now) (walk_tree self.old) }
+    {
+        self.found.judge(node.id, tests);
+    }
+
+    /// The type of an expression that is no part of another. It may be a text that only fills an array
+    /// of file scope.
+    pub fn site(
+        &mut self,
+        alloc: Global,
+        c: &Context,
+        p: Position,
+        fills_array: bool,
+        e: &Expr,
+    ) -> Result<Option<CType>, NoMemory>
+        ensures typed { IfOk result (λ t. option_map type_tree t ≡ type_of (context_tree c.now) (expr_tree e.now)) }
+        ensures walked { OnOk result (walk_tree self.new ≡ site_walked (context_tree c.now) (position_tree p) fills_array (expr_tree e.now) (walk_tree self.old)) }
+    {
+        let t = walk_expression(alloc, c, e, p, &mut self.found)?;
+        self.noted.note_site(alloc, fills_array, e)?;
+        Ok(t)
+    }
+
+    /// The type of an expression that is no part of another.
+    pub fn expression(
+        &mut self,
+        alloc: Global,
+        c: &Context,
+        p: Position,
+        e: &Expr,
+    ) -> Result<Option<CType>, NoMemory>
+        ensures typed { IfOk result (λ t. option_map type_tree t ≡ type_of (context_tree c.now) (expr_tree e.now)) }
+        ensures walked { OnOk result (walk_tree self.new ≡ expr_walked (context_tree c.now) (position_tree p) (expr_tree e.now) (walk_tree self.old)) }
+    {
+        self.site(alloc, c, p, false, e)
+    }
+
+    /// Notes a variable of this declared type.
+    pub fn note_variable(
+        &mut self,
+        at_file_scope: bool,
+        c: &Context,
+        node: Node,
+        t: &Option<CType>,
+    ) -> Result<(), NoMemory>
+        ensures { OnOk result (walk_tree self.new ≡ variable_walk_noted at_file_scope (context_tree c.now) node.id (option_map type_tree t.now) (walk_tree self.old)) }
+    {
+        self.noted
+            .note_variable(at_file_scope, c.structs(), node.id, t)
+    }
+
+    /// Adds the least fault that was found before.
+    pub fn join(&mut self, before: Option<Fault>)
+        ensures { walk_tree self.new ≡ with_least_before (option_map fault_tree before) (walk_tree self.old) }
+    {
+        let found = self.found.least;
+        self.found.least = before;
+        if let Some(f) = found {
+            self.found.note_fault(f);
+        }
+    }
+
+    /// Begins a body with these parameters.
+    pub fn begin_body(&mut self, parameters: Vec<Local>)
+        ensures { walk_tree self.new ≡ with_body_begun (map local_tree parameters.items) (walk_tree self.old) }
+    {
+        self.noted.begin_body(parameters);
+    }
+
+    /// Ends a body, before which the names of so many declarations were operands of `&`.
+    pub fn end_body(&mut self, alloc: Global, start: usize) -> Result<(), NoMemory>
+        ensures { OnOk result (walk_tree self.new ≡ with_body_ended start (walk_tree self.old)) }
+    {
+        if start > self.found.addressed.len() {
+            return self.noted.end_body(alloc, &[]);
+        }
+        self.noted.end_body(alloc, &self.found.addressed[start..])
+    }
+}

@@ -19,11 +19,11 @@ use Rattle.qs_core.specs.Trees as core
 use Rattle.qs_core.specs.Expressions.{values}
 use Rattle.qs_meaning.specs.Typed.{Conversion, Order, Object, local, static, Expr, constant, value, pointer_to, member, called, stepped_after, unary, cast, binary, logical_and, logical_or, conditional, assigned, sequence, Lvalue, variable, object, Arguments, no_arguments, argument_and, Assignment, set, update, Effect, nothing, discard, assign, perform, copy, fill, in_order}
 use Rattle.qs_meaning.specs.States.{Next, Here, convert_by, pointer_at}
-use Rattle.qs_elaborate.proofs.Late.{operation_value, expression, lvalue, arguments, assignment, effect}
+use Rattle.qs_meaning.specs.Meaning.{operation_value, expression, lvalue, arguments, assignment, effect}
 use Rattle.qs_elaborate.specs.Literals.{converted_core}
 use Rattle.qs_elaborate.specs.Acting.{acts, arguments_act}
 use Rattle.qs_elaborate.specs.Parts.{Temporaries, next_number, Valued, saved_if, joined, plain}
-use Rattle.qs_elaborate.specs.Expressions.{place_of, operation_core, ValuedAll, argument_before, call_valued, call_listed, write_valued, write_discarded, discarded, copied, expression_core, lvalue_core, arguments_core, assignment_core, effect_core}
+use Rattle.qs_elaborate.specs.Expressions.{block_of, operation_core, ValuedAll, argument_before, call_valued, call_listed, write_valued, write_discarded, discarded, copied, expression_core, lvalue_core, arguments_core, assignment_core, effect_core}
 use Rattle.qs_elaborate.proofs.Options.{given_and, given_same, and_assoc, and_same, and_swap, copy_is}
 use Rattle.qs_elaborate.proofs.Lists.{run_list, then_next, run-append, with-same, kept_same, kept_with, next_is}
 use Rattle.qs_elaborate.proofs.Values.{converted_is, operation_is}
@@ -129,7 +129,7 @@ module _ (h : Here) where
 
   -- ---- expressions
 
-  object_is : (o : Object) (v t : Environment) (w : World) → worth h (core.address_of (place_of o)) v t w ≡ Some (address (pointer_at o h.first_block))
+  object_is : (o : Object) (v t : Environment) (w : World) → worth h (core.address_of (block_of o)) v t w ≡ Some (address (pointer_at o h.first_block))
   object_is (local k) v t w = refl
   object_is (static k) v t w = refl
 
@@ -138,7 +138,7 @@ module _ (h : Here) where
     expression_gives (constant s n) ts = pure_gives h (next_number ts) (worth h (core.literal s n)) (expression (constant s n) h) (λ v t r w k. refl) (λ k v t w. refl)
     expression_gives (value s l) ts = read_gives h (next_number ts) s (lvalue_core l ts) (lvalue l h) (lvalue_gives l ts)
     expression_gives (pointer_to o) ts =
-        pure_gives h (next_number ts) (worth h (core.address_of (place_of o))) (expression (pointer_to o) h) (λ v t r w k. object_is o v r w ∙ sym (object_is o v t w)) (λ k v t w. ap (λ o. given o (λ x. k x v w)) (object_is o v t w))
+        pure_gives h (next_number ts) (worth h (core.address_of (block_of o))) (expression (pointer_to o) h) (λ v t r w k. object_is o v r w ∙ sym (object_is o v t w)) (λ k v t w. ap (λ o. given o (λ x. k x v w)) (object_is o v t w))
     expression_gives (member offset a) ts = member_gives (next_number ts) offset (expression_core a ts) (expression a h) (expression_gives a ts)
     expression_gives (called s f es) ts = called_gives (next_number ts) s f (arguments_core es ts) (arguments es h) (arguments_give es ts)
     expression_gives (stepped_after s l operation left back) ts = step_gives h (next_number ts) s operation left back (lvalue_core l ts) (lvalue l h) (lvalue_gives l ts)

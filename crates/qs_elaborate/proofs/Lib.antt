@@ -4,7 +4,6 @@ mod StatementExamples
 mod OutlineExamples
 mod Options
 mod Lists
-mod Late
 mod Values
 mod Quiet
 mod Gives
@@ -13,3 +12,4 @@ mod Writes
 mod Expressions
 mod Statements
 mod Units
+mod Data

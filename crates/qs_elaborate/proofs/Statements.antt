@@ -8,7 +8,7 @@ use Rattle.qs_core.specs.Trees as core
 use Rattle.qs_core.specs.Statements.{Continuation, Continuations, after_step, after_body, repeated, runs}
 use Rattle.qs_meaning.specs.Typed.{Expr, Effect, Stmt, evaluate, block, branch, while_loop, do_loop, for_loop, break, continue, return, return_nothing, Stmts, no_stmts, stmt_and}
 use Rattle.qs_meaning.specs.States.{Next, Here, test}
-use Rattle.qs_elaborate.proofs.Late.{expression, effect, Targets, in_loop, turns, condition, statement, statements}
+use Rattle.qs_meaning.specs.Meaning.{expression, effect, Targets, in_loop, turns, condition, statement, statements}
 use Rattle.qs_elaborate.specs.Literals.{converted_core}
 use Rattle.qs_elaborate.specs.Parts.{Temporaries, next_number, Valued, Listed, one_statement}
 use Rattle.qs_elaborate.specs.Expressions.{expression_core, effect_core}

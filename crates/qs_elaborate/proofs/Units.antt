@@ -1,7 +1,8 @@
 -- Elaboration keeps runs: bodies, calls and roots.
-use Rattle.std.proofs.Common.{◌≡◌, ℕ, zero, suc, Bool, true, false, List, [], ◌∷◌, ◌++◌, refl, ap, ◌∙◌, map, slice_get}
+use Rattle.std.proofs.Common.{◌≡◌, ℕ, zero, suc, Bool, true, false, List, [], ◌∷◌, ◌++◌, refl, sym, ap, ◌∙◌, map, slice_get}
 use Rattle.std.proofs.Math.Path.{fun_ext}
 use Rattle.qs_memory.specs.Values.{Value}
+use Rattle.qs_memory.specs.Memory.{Memory}
 use Rattle.qs_events.specs.Runs.{given}
 use Rattle.qs_calls.specs.World.{World, RootRun, Return, leaves, Environment, no_values}
 use Rattle.qs_calls.specs.Calls.{CallsOf, Frame, Body, activate}
@@ -13,9 +14,11 @@ use Rattle.qs_core.specs.Units as core
 use Rattle.qs_meaning.specs.Typed.{Function, TypedProgram}
 use Rattle.qs_meaning.specs.States.{Here}
 use Rattle.qs_meaning.specs.Runs.{result_at_end, frame_of}
-use Rattle.qs_elaborate.proofs.Late as source
+use Rattle.qs_meaning.specs.Runs as source
 use Rattle.qs_elaborate.specs.Names.{FunctionNames}
 use Rattle.qs_elaborate.specs.Units.{named_parameters, end_of_body, body_core, function_core, no_names, functions_core, unit_core}
+use Rattle.qs_elaborate.specs.Laws.{CoreFollows, MainFollows}
+use Rattle.qs_elaborate.proofs.Data.{memory_kept}
 use Rattle.qs_elaborate.proofs.Lists.{run_list, then_next, run-append, runs_of}
 use Rattle.qs_elaborate.proofs.Gives.{context}
 use Rattle.qs_elaborate.proofs.Statements.{statements_follow}
@@ -79,10 +82,16 @@ found [] (g ∷ gs) (suc f) k j same = found [] gs f k j same
 found (n ∷ names) (g ∷ gs) zero k j same = same n g
 found (n ∷ names) (g ∷ gs) (suc f) k j same = found names gs f k j same
 
-calls_follow : (names : List FunctionNames) (u : TypedProgram) (main turns depth f : ℕ) (xs : List Value) (k : Return) (w : World) → source.core_calls_within (unit_core names u main) turns depth f xs k w ≡ source.calls_within u.functions turns depth f xs k w
+calls_follow : (names : List FunctionNames) (u : TypedProgram) (main turns depth f : ℕ) (xs : List Value) (k : Return) (w : World) → core.calls_within (unit_core names u main) turns depth f xs k w ≡ source.calls_within u.functions turns depth f xs k w
 calls_follow names u main turns zero f xs k w = refl
 calls_follow names u main turns (suc depth) f xs k w =
     found names u.functions f _ _ (λ n g. call_follows n g turns _ _ (calls_follow names u main turns depth) f xs k w)
 
-pub core_follows : (names : List FunctionNames) (u : TypedProgram) (main root : ℕ) (xs : List Value) (w : World) (n : ℕ) → source.core_run (unit_core names u main) root xs w n ≡ source.run_of u root xs w n
+pub core_follows : CoreFollows
 core_follows names u main root xs w n = calls_follow names u main n n root xs leaves w
+
+pub main_follows : MainFollows
+main_follows names u main xs input n is whole =
+    ap (λ (m : Memory). core.core_run (unit_core names u main) main xs (record { memory = m; input = input }) n) (memory_kept u.blocks whole)
+    ∙ core_follows names u main main xs (source.start_world u input) n
+    ∙ ap (λ o. given o (λ root. source.run_of u root xs (source.start_world u input) n)) (sym is)

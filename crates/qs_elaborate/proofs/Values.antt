@@ -11,7 +11,7 @@ use Rattle.qs_core.specs.Trees.{CoreExprTree, literal, null_pointer}
 use Rattle.qs_core.specs.Expressions.{Locals, value}
 use Rattle.qs_meaning.specs.Typed.{Conversion, unchanged, converted, Order, as_written, exchanged}
 use Rattle.qs_meaning.specs.States.{convert_by}
-use Rattle.qs_elaborate.proofs.Late.{in_their_order, operation_value, updated_value}
+use Rattle.qs_meaning.specs.Meaning.{in_their_order, operation_value, updated_value}
 use Rattle.qs_elaborate.specs.Literals.{literal_value, literal_of, folded, converted_core}
 use Rattle.qs_elaborate.specs.Expressions.{operation_core, updated_core}
 use Rattle.qs_elaborate.specs.Expressions as core_of

@@ -13,8 +13,8 @@ use Rattle.qs_core.specs.Expressions.{type_of}
 use Rattle.qs_core.specs.Statements.{Continuations, runs}
 use Rattle.qs_meaning.specs.Typed.{Conversion, unchanged}
 use Rattle.qs_meaning.specs.States.{Next, Here, convert_by, conversion_then}
-use Rattle.qs_elaborate.proofs.Late.{Place, in_variable, in_object, read, write}
-use Rattle.qs_elaborate.proofs.Late.{updated_value, step_amount}
+use Rattle.qs_meaning.specs.States.{Place, in_variable, in_object, read, write}
+use Rattle.qs_meaning.specs.Meaning.{updated_value, step_amount}
 use Rattle.qs_elaborate.specs.Literals.{literal_value, is_literal, converted_core}
 use Rattle.qs_elaborate.specs.Parts.{Temporaries, next_number, keep, Valued, in_temporary, saved, saved_if, Location, plain, pointed, Located, at_address, with_saved_address, address_saved_if, value_at, value_read, written}
 use Rattle.qs_elaborate.specs.Expressions.{updated_core, Written, set_core, update_core, write_discarded, write_at, write_valued, step_valued}

@@ -101,9 +101,11 @@ module _ (R : Relation) (keeps : Keeps R) (shorts : R short short) (i : Interfac
     write_in_range : (s : Scalar) (p : Place) (y : Value) (k j : Next) (start : Memory) (v : Environment) (w : World) → PlaceIsOf i g first s p → IsOf w.memory s y → At start v w
         → ((v' : Environment) (w' : World) → At start v' w' → ComesAfter w.memory w'.memory → R (k v' w') (j v' w')) → R (write s p y k v w) (write s p y j v w)
     write_in_range s (in_variable x) y k j start v w place of is h = h (with_value v x y) w (moment_assigned i g first start v w x s y place of is) (after_same w.memory)
-    write_in_range s (in_object p) y k j start v w place of is h = given_in_range (blocks.store s w.memory p y) _ _ (λ n stored.
-        let on = memory_goes_on.store s w.memory n p y stored in
-        h v (with_memory w n) (moment_stepped i g first start v w n is on (soundness_is_kept.store s w.memory n p y is.range.ready.sound of.sound stored)) on)
+    write_in_range s (in_object a) y k j start v w place of is h = given_in_range (as_pointer a >>= λ p. blocks.store s w.memory p y) _ _ (λ n e.
+        let p = followed (as_pointer a) (λ p. blocks.store s w.memory p y) n e in
+        let on = memory_goes_on.store s w.memory n p.value y p.then in
+        let sound = soundness_is_kept.store s w.memory n p.value y is.range.ready.sound of.sound p.then in
+        h v (with_memory w n) (moment_stepped i g first start v w n is on sound) on)
 
     truth_number : (n : Memory) (b : ℕ) → b < 2 → IsOf n scalars.Int (integer b)
     truth_number n b small = number_is_of n scalars.Int b (grind (arith, nat_tests))
@@ -230,7 +232,7 @@ module _ (R : Relation) (keeps : Keeps R) (shorts : R short short) (i : Interfac
       lvalue_in_range (variable x) s fit start k j h v w is = h (in_variable x) v w is (type_is (slice_get g.variables x) s fit)
       lvalue_in_range (object a) s fit start k j h v w is =
           let two = both_hold (expr_fits i g a) _ fit in
-          expression_in_range a two.0 start _ _ (λ x v w is of. given_in_range (as_pointer x) _ _ (λ p e. h (in_object p) v w is tt)) v w is
+          expression_in_range a two.0 start _ _ (λ x v w is of. h (in_object x) v w is tt) v w is
 
       arguments_in_range : (types : List Scalar) (es : Arguments) → arguments_fit i g types es ≡ true → (start : Memory) (k j : List Value → Next)
           → ((xs : List Value) (v : Environment) (w : World) → At start v w → AreOf w.memory types xs → R (k xs v w) (j xs v w))
@@ -241,11 +243,11 @@ module _ (R : Relation) (keeps : Keeps R) (shorts : R short short) (i : Interfac
       arguments_in_range (s ∷ types) (argument_and e a es) fit start k j h v w is =
           let two = both_hold (expr_fits i g a && becomes e a s) _ fit in
           let one = both_hold (expr_fits i g a) _ two.0 in
-          expression_in_range a one.0 start _ _ (λ x v w is of. given_in_range (convert_by e x) _ _ (λ y f.
-          arguments_in_range types es two.1 w.memory _ _ (λ ys v' w' is' are.
+          expression_in_range a one.0 start _ _ (λ x v w is of.
+          arguments_in_range types es two.1 w.memory _ _ (λ ys v' w' is' are. given_in_range (convert_by e x) _ _ (λ y f.
           h (y ∷ ys) v' w' (onward_from i g first start w.memory v' w' is.after is')
-          (is_of_later w.memory w'.memory s y is'.after (becomes_is_of w.memory a e s x y one.1 of f), are))
-          v w (now i g first start v w is))) v w is
+          (becomes_is_of w'.memory a e s x y one.1 (is_of_later w.memory w'.memory (type_of a) x is'.after of) f, are)))
+          v w (now i g first start v w is)) v w is
 
       assignment_in_range : (a : Assignment) → assignment_fits i g a ≡ true → (start : Memory) (k j : Value → Next) → Values start (assigned_type a) k j
           → Nexts start (assignment a here k) (assignment a there j)

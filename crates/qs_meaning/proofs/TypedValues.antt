@@ -3,8 +3,8 @@ use Rattle.std.proofs.Common.{◌≡◌, ℕ, zero, suc, ◌==◌, ◌&&◌, Boo
 use Rattle.std.specs.List.{slice_get, list_all}
 use Rattle.std.proofs.lemmas.Bool.Decides.{nat_tests}
 use Rattle.qs_memory.specs.Partial.{◌>>=◌}
-use Rattle.qs_memory.specs.Values.{Value, integer, has_type}
-use Rattle.qs_memory.specs.Memory.{Memory}
+use Rattle.qs_memory.specs.Values.{Value, integer, as_pointer, has_type}
+use Rattle.qs_memory.specs.Memory.{Memory, load}
 use Rattle.qs_memory.specs.Operations.{apply_unary, apply_binary, unary_type, binary_type}
 use Rattle.qs_memory.specs.Soundness.{IsSoundValue, IsSound, ComesAfter}
 use Rattle.qs_memory.specs.declared.scalar.Scalar.{Scalar}
@@ -167,5 +167,9 @@ module _ (i : Interface) (g : Function) (first : ℕ) where
   pub read_is_of : (s : Scalar) (p : Place) (start : Memory) (v : Environment) (w : World) (x : Value) → PlaceIsOf s p → IsMoment i g first start v w
       → read s p v w ≡ Some x → IsOf w.memory s x
   read_is_of s (in_variable n) start v w x is h e = h.range.variables.each n s x is e
-  read_is_of s (in_object p) start v w x is h e =
-      record { typed = values_have_types.loaded s w.memory p x h.range.ready.sound e; sound = values_are_sound.loaded s w.memory p x h.range.ready.sound e }
+  read_is_of s (in_object a) start v w x is h e =
+      let f = followed (as_pointer a) (load s w.memory) x e in
+      record {
+        typed = values_have_types.loaded s w.memory f.value x h.range.ready.sound f.then;
+        sound = values_are_sound.loaded s w.memory f.value x h.range.ready.sound f.then;
+      }

@@ -1,0 +1,15 @@
+mod Samples
+mod RowExamples
+mod StatementExamples
+mod OutlineExamples
+mod Options
+mod Lists
+mod Values
+mod Quiet
+mod Gives
+mod Branches
+mod Writes
+mod Expressions
+mod Statements
+mod Units
+mod Data

@@ -1,0 +1,9 @@
+pub mod Literals
+pub mod Acting
+pub mod Parts
+pub mod Expressions
+pub mod Statements
+pub mod Names
+pub mod Data
+pub mod Units
+pub mod Laws

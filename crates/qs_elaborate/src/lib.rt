@@ -1,0 +1,6 @@
+//! From the typed tree of a unit to core: definitions and their laws.
+#![tactic(auto)]
+
+mod laws;
+
+pub use laws::{acts_exactly, core_follows, main_follows};

@@ -120,7 +120,7 @@ module _ (h : Here) where
 
   -- ---- the three operators
 
-  pub and_gives : (z : Bool) (m : ℕ) (g : Valued) (first : Source Value) → GivesValued h m g first → (b : Valued) (second : Source Value) → GivesValued h (next_number g.temporaries) b second → (z ≡ false → b.statements ≡ []) → GivesValued h m (if z then and_branching g b else joined core.conjunction g b) (λ k. first (λ x. test x (truth_source second k) (k (integer 0))))
+  pub and_gives : (z : Bool) (m : ℕ) (g : Valued) (first : Source Value) → GivesValued h m g first → (b : Valued) (second : Source Value) → GivesValued h (next_number g.temporaries) b second → (z ≡ false → b.statements ≡ []) → GivesValued h m (if z then and_branching g b else joined core.logical_and g b) (λ k. first (λ x. test x (truth_source second k) (k (integer 0))))
   and_gives true m g first a b second gb none =
       let le = a.more in
       let le' = gb.more in
@@ -133,7 +133,7 @@ module _ (h : Here) where
       quiet_branches m g first a b.statements (next_number b.temporaries) (none refl) gb.more (worth h (truth_core b.value)) (λ v t w. Some (of_truth false)) (truth_source second) (λ k. k (integer 0))
       t.steady (λ v t s w k. refl) (pure_value h (next_number g.temporaries) b.statements (next_number b.temporaries) (worth h (truth_core b.value)) (truth_source second) t (none refl)) (λ k v t w. refl)
 
-  pub or_gives : (z : Bool) (m : ℕ) (g : Valued) (first : Source Value) → GivesValued h m g first → (b b' : Valued) (second : Source Value) → GivesValued h (next_number (with_temporary g.temporaries scalars.Int)) b second → GivesValued h (next_number g.temporaries) b' second → (z ≡ false → b'.statements ≡ []) → GivesValued h m (if z then or_branching g b else joined core.disjunction g b') (λ k. first (λ x. test x (k (integer 1)) (truth_source second k)))
+  pub or_gives : (z : Bool) (m : ℕ) (g : Valued) (first : Source Value) → GivesValued h m g first → (b b' : Valued) (second : Source Value) → GivesValued h (next_number (with_temporary g.temporaries scalars.Int)) b second → GivesValued h (next_number g.temporaries) b' second → (z ≡ false → b'.statements ≡ []) → GivesValued h m (if z then or_branching g b else joined core.logical_or g b') (λ k. first (λ x. test x (k (integer 1)) (truth_source second k)))
   or_gives true m g first a b b' second gb gb' none =
       let le = a.more in
       let le' = gb.more in

@@ -8,3 +8,8 @@ mod Values
 mod Quiet
 mod Gives
 mod Branches
+mod Writes
+mod Expressions
+mod Statements
+mod Units
+mod Data

@@ -10,7 +10,7 @@ use Rattle.qs_memory.specs.declared.operation.BinaryOperation.{BinaryOperation}
 use Rattle.qs_memory.specs.declared.operation.BinaryOperation.TheVariants.{Arithmetic, Move}
 use Rattle.qs_calls.specs.declared.callee.Callee.{Callee}
 use Rattle.qs_calls.specs.declared.callee.Callee.TheVariants.{Function, PutChar}
-use Rattle.qs_core.specs.declared.places.Place.TheVariants.{Local, Data}
+use Rattle.qs_core.specs.declared.numbers.BlockId.TheVariants.{Local, Data}
 use Rattle.qs_core.specs.Trees.{CoreExprTree, literal, null_pointer, temporary, address_of, load, conversion, CoreStmtTree, skip, store, stmts_of}
 use Rattle.qs_core.specs.Trees as core
 use Rattle.qs_meaning.specs.Typed.{unchanged, converted, as_written, exchanged, local, static, Expr, constant, value, pointer_to, member, called, stepped_after, unary, cast, binary, logical_and, logical_or, conditional, assigned, sequence, variable, object, no_arguments, argument_and, set, update, nothing, discard, assign, perform, copy, fill, in_order}
@@ -306,17 +306,17 @@ copy_behind_call = refl
 -- ---- `&&`, `||`, `?:`
 
 -- x&&y, x||y, x?y:1
-and_operator : expression_core (logical_and x y) [] ≡ gives [] (core.conjunction core_x core_y) []
+and_operator : expression_core (logical_and x y) [] ≡ gives [] (core.logical_and core_x core_y) []
 and_operator = refl
 
-or_operator : expression_core (logical_or x y) [] ≡ gives [] (core.disjunction core_x core_y) []
+or_operator : expression_core (logical_or x y) [] ≡ gives [] (core.logical_or core_x core_y) []
 or_operator = refl
 
-choice_operator : expression_core (conditional Int x (converted Char Int) unchanged c (number 1)) [] ≡ gives [] (core.choice core_x (conversion Int core_c) (core_number 1)) []
+choice_operator : expression_core (conditional Int x (converted Char Int) unchanged c (number 1)) [] ≡ gives [] (core.conditional core_x (conversion Int core_c) (core_number 1)) []
 choice_operator = refl
 
 -- f()&&x: the statements of the first operand stand before the operator
-and_behind_call : expression_core (logical_and f x) [] ≡ gives (calls_f 0 ∷ []) (core.conjunction (int_temporary 0) core_x) (Int ∷ [])
+and_behind_call : expression_core (logical_and f x) [] ≡ gives (calls_f 0 ∷ []) (core.logical_and (int_temporary 0) core_x) (Int ∷ [])
 and_behind_call = refl
 
 -- x&&f(): the temporary is written behind those of f()

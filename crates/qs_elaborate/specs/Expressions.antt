@@ -6,11 +6,11 @@ use Rattle.qs_memory.specs.declared.operation.UnaryOperation.TheVariants.{Truth}
 use Rattle.qs_memory.specs.declared.operation.BinaryOperation.{BinaryOperation}
 use Rattle.qs_memory.specs.declared.operation.BinaryOperation.TheVariants.{Arithmetic, Compare, Move, Difference, ComparePointers}
 use Rattle.qs_calls.specs.declared.callee.Callee.{Callee}
-use Rattle.qs_core.specs.declared.places.Place.{Place}
-use Rattle.qs_core.specs.declared.places.Place.TheVariants.{Local, Data}
+use Rattle.qs_core.specs.declared.numbers.BlockId.{BlockId}
+use Rattle.qs_core.specs.declared.numbers.BlockId.TheVariants.{Local, Data}
 use Rattle.qs_core.specs.Trees.{CoreExprTree, CoreStmtTree}
 use Rattle.qs_core.specs.Trees as core
-use Rattle.qs_core.specs.Expressions.{integer_type}
+use Rattle.qs_memory.specs.Operations.{integer_type}
 use Rattle.qs_meaning.specs.Typed.{Conversion, unchanged, Order, as_written, exchanged, Object, local, static, Expr, constant, value, pointer_to, member, called, stepped_after, unary, cast, binary, logical_and, logical_or, conditional, assigned, sequence, Lvalue, variable, object, Arguments, no_arguments, argument_and, Assignment, set, update, Effect, nothing, discard, assign, perform, copy, fill, in_order}
 use Rattle.qs_elaborate.specs.Literals.{converted_core}
 use Rattle.qs_elaborate.specs.Acting.{acts, arguments_act}
@@ -19,9 +19,9 @@ use Rattle.qs_elaborate.specs.Parts.{Temporaries, next_number, with_temporary, k
 -- ---- operations
 
 -- the unit's blocks are the first ones of the memory
-abbrev pub place_of : Object → Place
-place_of (local k) = Local k
-place_of (static k) = Data k
+abbrev pub block_of : Object → BlockId
+block_of (local k) = Local k
+block_of (static k) = Data k
 
 abbrev pub in_their_order : BinaryOperation → Order → (a b : CoreExprTree) → CoreExprTree
 in_their_order operation as_written a b = core.binary operation a b
@@ -121,7 +121,7 @@ choice_branching s second third c a b =
 abbrev pub choice_joined : (second third : Conversion) → (c a b : Valued) → Valued
 choice_joined second third c a b = record {
   statements = c.statements ++ (a.statements ++ b.statements);
-  value = core.choice c.value (converted_core second a.value) (converted_core third b.value);
+  value = core.conditional c.value (converted_core second a.value) (converted_core third b.value);
   temporaries = b.temporaries;
 }
 
@@ -202,7 +202,7 @@ abbrev mutual
   pub expression_core : Expr → Temporaries → Valued
   expression_core (constant s n) ts = pure (core.literal s n) ts
   expression_core (value s l) ts = value_read s (lvalue_core l ts)
-  expression_core (pointer_to o) ts = pure (core.address_of (place_of o)) ts
+  expression_core (pointer_to o) ts = pure (core.address_of (block_of o)) ts
   expression_core (member offset a) ts = with_value (core.member offset) (expression_core a ts)
   expression_core (called s f es) ts = call_valued s f (arguments_core es ts)
   expression_core (stepped_after s l operation left back) ts = step_valued s operation left back (lvalue_core l ts)
@@ -214,11 +214,11 @@ abbrev mutual
   expression_core (logical_and a b) ts =
       let first = expression_core a ts in
       if acts b then and_branching first (expression_core b first.temporaries)
-      else joined core.conjunction first (expression_core b first.temporaries)
+      else joined core.logical_and first (expression_core b first.temporaries)
   expression_core (logical_or a b) ts =
       let first = expression_core a ts in
       if acts b then or_branching first (expression_core b (with_temporary first.temporaries scalars.Int))
-      else joined core.disjunction first (expression_core b first.temporaries)
+      else joined core.logical_or first (expression_core b first.temporaries)
   expression_core (conditional s a second third b c) ts =
       let first = expression_core a ts in
       let met = expression_core b first.temporaries in

@@ -3,7 +3,7 @@ use Rattle.std.specs.Prelude.{Bool, Option, Some, None, is_some}
 use Rattle.qs_memory.specs.declared.scalar.Scalar.{Scalar}
 use Rattle.qs_memory.specs.Partial.{◌>>=◌}
 use Rattle.qs_memory.specs.Values.{Value, integer, address, null, convert}
-use Rattle.qs_core.specs.Trees.{CoreExprTree, literal, null_pointer, variable, temporary, address_of, load, member, unary, binary, conversion, conjunction, disjunction, choice}
+use Rattle.qs_core.specs.Trees.{CoreExprTree, literal, null_pointer, variable, temporary, address_of, load, member, unary, binary, conversion, logical_and, logical_or, conditional}
 use Rattle.qs_meaning.specs.Typed.{Conversion, unchanged, converted}
 
 -- the value of a literal
@@ -18,9 +18,9 @@ literal_value (member offset a) = None
 literal_value (unary operation a) = None
 literal_value (binary operation a b) = None
 literal_value (conversion s a) = None
-literal_value (conjunction a b) = None
-literal_value (disjunction a b) = None
-literal_value (choice c a b) = None
+literal_value (logical_and a b) = None
+literal_value (logical_or a b) = None
+literal_value (conditional c a b) = None
 
 abbrev pub is_literal : CoreExprTree → Bool
 is_literal a = is_some (literal_value a)

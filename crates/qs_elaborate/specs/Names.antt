@@ -5,10 +5,9 @@ use Rattle.qs_syntax.specs.Trees.{VariableTree, ParameterTree, StartTree, no_sta
 use Rattle.qs_memory.specs.declared.scalar.Scalar.{Scalar}
 use Rattle.qs_types.specs.Types.{TypeTree, int, unsigned, char, void, pointer, array, struct}
 use Rattle.qs_types.specs.Contexts.{Context, start_context}
-use Rattle.qs_types.specs.Placed.{addressed_in, locals_in}
 use Rattle.qs_types.specs.UnitRules.{result_type, after_declaration}
 use Rattle.qs_meaning.specs.Conversions.{scalar_of}
-use Rattle.qs_meaning.specs.Units.{locals_of}
+use Rattle.qs_meaning.specs.Units.{function_locals}
 
 -- ---- what a function declares, in the order of the text
 
@@ -75,14 +74,11 @@ name_at node earlier (d ∷ ds) =
 
 -- ---- functions
 
--- the parameters in order, and the plain variables by their numbers
+-- the parameters in order, and the variables by their numbers
 pub record FunctionNames : Type 0 where
   pub parameters : List (List ℕ)
   pub variables : List VariableName
   pub result_type : Option Scalar
-
-abbrev pub plain_nodes : Context → FunctionTree → Stmts → List ℕ
-plain_nodes c f body = (locals_of (addressed_in c f body) (locals_in c f body)).plain
 
 -- 6.3.2.2: void is the type of no value
 abbrev pub result_scalar : Option TypeTree → Option Scalar
@@ -98,7 +94,7 @@ result_scalar (Some (struct k)) = None
 abbrev pub body_names : Context → FunctionTree → Stmts → FunctionNames
 body_names c f body = record {
   parameters = map (λ (p : ParameterTree). parameter_name p.name) f.parameters;
-  variables = map (λ node. name_at node [] (function_declares f body)) (plain_nodes c f body);
+  variables = map (λ node. name_at node [] (function_declares f body)) (function_locals c f body).variables;
   result_type = result_scalar (result_type c f);
 }
 

@@ -1,7 +1,7 @@
 -- What expressions give in core: a list of statements, a value, and the temporaries of the function so far.
 use Rattle.std.specs.Prelude.{ℕ, Bool, true, false, List, [], ◌∷◌, ◌++◌, length, if◌then◌else◌}
 use Rattle.qs_memory.specs.declared.scalar.Scalar.{Scalar}
-use Rattle.qs_core.specs.declared.places.Target.TheVariants.{Variable, Temporary}
+use Rattle.qs_core.specs.declared.numbers.Target.TheVariants.{Variable, Temporary}
 use Rattle.qs_core.specs.Trees.{CoreExprTree, variable, temporary, load, CoreStmtTree, skip, seq, assign, store, stmts_of}
 use Rattle.qs_core.specs.Expressions.{type_of}
 use Rattle.qs_elaborate.specs.Literals.{is_literal}

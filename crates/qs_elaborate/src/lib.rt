@@ -3,4 +3,4 @@
 
 mod laws;
 
-pub use laws::acts_exactly;
+pub use laws::{acts_exactly, core_follows, main_follows};

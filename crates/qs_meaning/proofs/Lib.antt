@@ -22,3 +22,7 @@ mod FileVariables
 mod StructTables
 mod UnitsTyped
 mod InitialMemory
+mod TypedValues
+mod RangeLaws
+mod StepNeeds
+mod FitExamples

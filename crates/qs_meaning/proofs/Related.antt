@@ -39,7 +39,7 @@ module _ (R : Relation) where
 
     write_related : (s : Scalar) (p : Place) (y : Value) (k l : Next) → NextRelated k l → NextRelated (write s p y k) (write s p y l)
     write_related s (in_variable x) y k l h v w = h (with_value v x y) w
-    write_related s (in_object p) y k l h v w = given_related R keeps (store s w.memory p y) _ _ (λ m. h v (with_memory w m))
+    write_related s (in_object a) y k l h v w = given_related R keeps (as_pointer a >>= λ p. store s w.memory p y) _ _ (λ m. h v (with_memory w m))
 
     -- a call seen with two bounds
     module _ (m n : ℕ) (turns_related : TurnsRelated m n) (c d : CallsOf) (calls_related : CallsRelated R c d) (first_block : ℕ) where
@@ -80,13 +80,13 @@ module _ (R : Relation) where
 
         lvalue_related : (a : Lvalue) (k l : Place → Next) → ((p : Place) → NextRelated (k p) (l p)) → NextRelated (lvalue a here k) (lvalue a there l)
         lvalue_related (variable x) k l h v w = h _ v w
-        lvalue_related (object a) k l h v w = expression_related a _ _ (λ x v w. given_related R keeps (as_pointer x) _ _ (λ p. h _ v w)) v w
+        lvalue_related (object a) k l h v w = expression_related a _ _ (λ x. h (in_object x)) v w
 
         arguments_related : (es : Arguments) (k l : List Value → Next) → ((xs : List Value) → NextRelated (k xs) (l xs)) → NextRelated (arguments es here k)
             (arguments es there l)
         arguments_related no_arguments k l h v w = h _ v w
         arguments_related (argument_and i a es) k l h v w =
-            expression_related a _ _ (λ x v w. given_related R keeps (convert_by i x) _ _ (λ y. arguments_related es _ _ (λ ys. h _) v w)) v w
+            expression_related a _ _ (λ x. arguments_related es _ _ (λ ys v w. given_related R keeps (convert_by i x) _ _ (λ y. h _ v w))) v w
 
         assignment_related : (a : Assignment) (k l : Value → Next) → ((x : Value) → NextRelated (k x) (l x)) → NextRelated (assignment a here k) (assignment a there l)
         assignment_related (set s a i b) k l h v w =

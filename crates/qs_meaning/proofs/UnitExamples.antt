@@ -21,7 +21,7 @@ use Rattle.qs_meaning.specs.Typed.{unchanged, converted, as_written, Expr, const
 use Rattle.qs_meaning.specs.Runs.{run_of, source_run}
 use Rattle.qs_meaning.proofs.Samples as c
 use Rattle.qs_meaning.proofs.Samples.{number, a, b, i, p, op, plus, less, address, deref, dot, call, text, one, many, int_, pointer_, two_ints, struct_named, member_of, header, main_name, eval, when, parameter, defined, main_, valued, listed, numbers, global}
-use Rattle.qs_meaning.proofs.Outcomes.{program_of, outcome, of_main, ends}
+use Rattle.qs_meaning.proofs.Outcomes.{typed_program, program_of, outcome, of_main, ends}
 
 -- ---- statements and declarations
 
@@ -63,7 +63,9 @@ header_before_body : outcome (header bases.Int 0 (102 ∷ []) [] ∷ main_ (c.re
 header_before_body = refl
 
 -- int f(void); int main(void){f();return 3;} is not well typed; its run is undefined at the call
-no_body : outcome (header bases.Int 0 (102 ∷ []) [] ∷ main_ (eval (call 102 []) ∷ c.return (number 3) ∷ []) ∷ []) ≡ Some (Undefined (Calls 0 ∷ []))
+no_body :
+    (typed_program (header bases.Int 0 (102 ∷ []) [] ∷ main_ (eval (call 102 []) ∷ c.return (number 3) ∷ []) ∷ []) >>= λ u. Some (source_run u [] [] 3))
+    ≡ Some (Undefined (Calls 0 ∷ []))
 no_body = refl
 
 -- int a; int main(void){if(a==0){a=1;return main()+7;}} the end of main returns 0, also where it is called
@@ -170,6 +172,7 @@ function_tree :
     first_function (program_of sample)
     ≡ Some (record {
       name = 102 ∷ [];
+      result = Some Char;
       parameters = Plain 0 ∷ Placed 0 Int ∷ [];
       variables = Char ∷ Int ∷ Int ∷ [];
       blocks = 4 ∷ [];

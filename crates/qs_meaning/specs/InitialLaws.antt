@@ -18,7 +18,7 @@ consists_of_bytes t = list_all is_byte t.bytes
 abbrev pub has_bytes : Site → Bool
 has_bytes s = list_all consists_of_bytes (expr_texts s.expression)
 
--- the texts of a unit consist of bytes, as they do in each unit that is read
+-- the texts of a unit consist of bytes, as those among the tokens of a unit that is read do
 abbrev pub texts_are_bytes : UnitTree → Bool
 texts_are_bytes unit = list_all has_bytes (unit_sites unit)
 

@@ -15,3 +15,7 @@ pub mod Runs
 pub mod Laws
 pub mod TypedLaws
 pub mod InitialLaws
+pub mod Interfaces
+pub mod Fits
+pub mod Ranges
+pub mod StepLaws

@@ -75,12 +75,12 @@ abbrev mutual
   -- 6.3.2.1p1
   pub lvalue : Lvalue → Here → (Place → Next) → Next
   lvalue (variable x) h next = next (in_variable x)
-  lvalue (object a) h next = expression a h (λ x v w. given (as_pointer x) (λ p. next (in_object p) v w))
+  lvalue (object a) h next = expression a h (λ x. next (in_object x))
 
-  -- 6.5.2.2p4, p7
+  -- 6.5.2.2p4, p7: each is converted to the type of its parameter when all are evaluated
   pub arguments : Arguments → Here → (List Value → Next) → Next
   arguments no_arguments h next = next []
-  arguments (argument_and c a es) h next = expression a h (λ x. conversion_then c x (λ y. arguments es h (λ ys. next (y ∷ ys))))
+  arguments (argument_and c a es) h next = expression a h (λ x. arguments es h (λ ys. conversion_then c x (λ y. next (y ∷ ys))))
 
   pub assignment : Assignment → Here → (Value → Next) → Next
   -- 6.5.16.1p2: the left side, the right side, the write

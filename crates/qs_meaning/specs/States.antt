@@ -1,7 +1,8 @@
 -- What a run of the source goes through, and what may follow a step of it (C11 5.1.2.3, 6.2.4).
 use Rattle.std.specs.Prelude.{ℕ, ◌+◌, Bool, true, false, Option, Some}
 use Rattle.qs_memory.specs.declared.scalar.Scalar.{Scalar}
-use Rattle.qs_memory.specs.Values.{Pointer, into, Value, convert}
+use Rattle.qs_memory.specs.Partial.{◌>>=◌}
+use Rattle.qs_memory.specs.Values.{Pointer, into, Value, as_pointer, convert}
 use Rattle.qs_memory.specs.Memory.{load, store}
 use Rattle.qs_memory.specs.Pointers.{truth}
 use Rattle.qs_events.specs.Runs.{given}
@@ -47,13 +48,13 @@ pointer_at (static k) first_block = into k 0
 -- what an lvalue designates (6.3.2.1p1)
 pub data Place : Type 0 where
   in_variable : ℕ → Place
-  in_object : Pointer → Place
+  in_object : (address : Value) → Place
 
 -- UNDEFINED 1 (6.3.2.1p2): a plain variable that has no value
 abbrev pub read : Scalar → Place → Environment → World → Option Value
 read s (in_variable x) v w = v x
-read s (in_object p) v w = load s w.memory p
+read s (in_object a) v w = as_pointer a >>= load s w.memory
 
 abbrev pub write : Scalar → Place → Value → Next → Next
 write s (in_variable x) y next v w = next (with_value v x y) w
-write s (in_object p) y next v w = given (store s w.memory p y) (λ m. next v (with_memory w m))
+write s (in_object a) y next v w = given (as_pointer a >>= λ p. store s w.memory p y) (λ m. next v (with_memory w m))

@@ -110,10 +110,11 @@ mutual
 
 -- ---- functions (6.9.1)
 
--- the types of the variables, which are the parameters, placed ones too, and then the plain locals, and the sizes of the placed locals and
--- parameters, both in the order of the text
+-- the type of the result, where there is one; the types of the variables, which are the parameters, placed ones too, and then the plain
+-- locals; and the sizes of the placed locals and parameters; both in the order of the text
 pub record Function : Type 0 where
   pub name : List ℕ
+  pub result : Option Scalar
   pub parameters : List Parameter
   pub variables : List Scalar
   pub blocks : List ℕ

@@ -9,13 +9,13 @@ use Rattle.qs_memory.specs.Partial.{◌>>=◌}
 use Rattle.qs_calls.specs.declared.parameter.Parameter.{Parameter}
 use Rattle.qs_calls.specs.declared.parameter.Parameter.TheVariants.{Plain, Placed}
 use Rattle.qs_memory.specs.Memory.{unset, Block, Memory}
-use Rattle.qs_types.specs.Types.{TypeTree, Structs}
+use Rattle.qs_types.specs.Types.{TypeTree, int, unsigned, char, void, pointer, array, struct, Structs}
 use Rattle.qs_types.specs.Layout.{size_of}
 use Rattle.qs_types.specs.GivenFunctions.{main_name}
 use Rattle.qs_types.specs.Contexts.{Context, start_context, inner_scope}
 use Rattle.qs_types.specs.Declarations.{variable_declared}
 use Rattle.qs_types.specs.StatementRules.{after_variable}
-use Rattle.qs_types.specs.UnitRules.{parameter_types, body_context, after_declaration}
+use Rattle.qs_types.specs.UnitRules.{parameter_types, result_type, body_context, after_declaration}
 use Rattle.qs_types.specs.Placed.{Local, addressed_in, parameters_locals, statements_locals, is_placed}
 use Rattle.qs_types.specs.References.{TextBlock, literal_blocks}
 use Rattle.qs_meaning.specs.Typed.{Expr, pointer_to, Lvalue, variable, object, local, Function, StaticBlock, TypedProgram}
@@ -83,6 +83,17 @@ parameters_typed locals (p ∷ ps) (t ∷ ts) = parameter_typed locals p t >>= �
 
 -- ---- functions (6.9.1); the scope is that before the header
 
+-- 6.9.1p3: void is no type of values
+abbrev pub result_scalar : Option TypeTree → Option Scalar
+result_scalar None = None
+result_scalar (Some int) = Some (scalar_of int)
+result_scalar (Some unsigned) = Some (scalar_of unsigned)
+result_scalar (Some char) = Some (scalar_of char)
+result_scalar (Some void) = None
+result_scalar (Some (pointer t)) = Some (scalar_of (pointer t))
+result_scalar (Some (array t n)) = Some (scalar_of (array t n))
+result_scalar (Some (struct k)) = Some (scalar_of (struct k))
+
 abbrev pub in_body : Scope → FunctionTree → Locals → Scope
 in_body s f locals = record s { context = body_context s.context f; locals = locals }
 
@@ -95,6 +106,7 @@ function_with s f body addressed ps ls =
     statements_typed (in_body s f (locals_of addressed ps ls)) body >>= λ statements.
     Some (record {
       name = f.name;
+      result = result_scalar (result_type s.context f);
       parameters = parameters;
       variables = scalars;
       blocks = sizes;

@@ -1,6 +1,9 @@
 // The laws of the runs of a source. Each is the contract of an empty function.
 ghost use Rattle.qs_meaning.specs.InitialLaws.{InitialMemoryIsSound};
 ghost use Rattle.qs_meaning.specs.Laws.{CallsFollow, MainGrows, RunsGrow};
+ghost use Rattle.qs_meaning.specs.Ranges.{BodiesStayInRange, CallsStayInRange, ExpressionsHaveTypes};
+ghost use Rattle.qs_meaning.specs.Ranges.{InitialMemoryIsReady, RunsLeaveSound};
+ghost use Rattle.qs_meaning.specs.StepLaws.{StepsOnTypesAreDefined};
 ghost use Rattle.qs_meaning.specs.TypedLaws.{FunctionsTyped, TypedWhereTypes, UnitsTyped};
 
 /// A greater bound keeps the run of a function that has ended or is undefined, and goes on from
@@ -38,4 +41,35 @@ pub fn units_typed()
 /// blocks that are there, inside them or just past their end.
 pub fn initial_memory_is_sound()
     ensures { InitialMemoryIsSound }
+{}
+
+/// In a unit whose tree fits, the values that an expression has are of its type.
+pub fn expressions_have_types()
+    ensures { ExpressionsHaveTypes }
+{}
+
+/// At every moment of a call in such a unit, from where it may start, variables have values of their
+/// types and the memory is sound.
+pub fn calls_stay_in_range()
+    ensures { CallsStayInRange }
+{}
+
+/// So they do at every moment of a body.
+pub fn bodies_stay_in_range()
+    ensures { BodiesStayInRange }
+{}
+
+/// What a run of such a unit leaves is sound, and its result is of the function's type.
+pub fn runs_leave_sound()
+    ensures { RunsLeaveSound }
+{}
+
+/// On values of the types that it takes a step is undefined for one of the nine reasons alone.
+pub fn steps_on_types_are_defined()
+    ensures { StepsOnTypesAreDefined }
+{}
+
+/// A run of `main` begins in a memory from which it may start, on every input of bytes.
+pub fn initial_memory_is_ready()
+    ensures { InitialMemoryIsReady }
 {}

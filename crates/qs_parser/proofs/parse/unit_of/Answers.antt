@@ -22,7 +22,7 @@ pub number_of-requires-in-Err-TooDeep-clause-within : goal.number_of-requires-in
 number_of-requires-in-Err-TooDeep-clause-within c = rw c.in-Err-TooDeep.field-0-is (stops_within c.args.tokens.now (Deep c.in-Err-TooDeep.left) (rw c.in-Err-TooDeep.field-0-is at c.in-Err-TooDeep.ensures.gives))
 
 pub returns-in-Err-Unexpected : goal.returns-in-Err-Unexpected
-returns-in-Err-Unexpected c = is_unexpected c.args.tokens.now c.in-Err-Unexpected.left _ (rw c.in-Err-Unexpected.field-0-is at c.in-Err-Unexpected.ensures.gives) c.number_of.ensures
+returns-in-Err-Unexpected c = is_unexpected c.args.tokens.now c.in-Err-Unexpected.left _ (rw c.in-Err-Unexpected.field-0-is at c.in-Err-Unexpected.ensures.gives) (rw c.in-Err-Unexpected.field-0-is at c.number_of.ensures)
 
 pub returns-in-Err-TooDeep : goal.returns-in-Err-TooDeep
-returns-in-Err-TooDeep c = is_too_deep c.args.tokens.now c.in-Err-TooDeep.left _ (rw c.in-Err-TooDeep.field-0-is at c.in-Err-TooDeep.ensures.gives) c.number_of-in-Err-TooDeep.ensures
+returns-in-Err-TooDeep c = is_too_deep c.args.tokens.now c.in-Err-TooDeep.left _ (rw c.in-Err-TooDeep.field-0-is at c.in-Err-TooDeep.ensures.gives) (rw c.in-Err-TooDeep.field-0-is at c.number_of-in-Err-TooDeep.ensures)

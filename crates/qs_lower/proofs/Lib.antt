@@ -1,5 +1,0 @@
-pub mod SizeLaws
-pub mod StmtSizeLaws
-pub mod Real
-pub mod OperandLaws
-mod LowerExamples

@@ -1,6 +1,0 @@
-pub mod Exits
-pub mod Operands
-pub mod Expressions
-pub mod Statements
-pub mod Units
-pub mod Laws

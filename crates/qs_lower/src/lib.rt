@@ -1,2 +1,0 @@
-//! From core to linear code.
-#![tactic(auto)]

@@ -19,3 +19,5 @@ mod FitStatements
 mod FitData
 mod FitUnits
 mod FitNames
+mod FitDeclared
+mod FitNamed

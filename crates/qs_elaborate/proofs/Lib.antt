@@ -1,4 +1,3 @@
-mod Samples
 mod RowExamples
 mod StatementExamples
 mod OutlineExamples
@@ -13,3 +12,12 @@ mod Expressions
 mod Statements
 mod Units
 mod Data
+mod FitParts
+mod FitOperands
+mod FitExpressions
+mod FitStatements
+mod FitData
+mod FitUnits
+mod FitNames
+mod FitDeclared
+mod FitNamed

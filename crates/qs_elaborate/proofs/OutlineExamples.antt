@@ -15,8 +15,8 @@ use Rattle.qs_calls.specs.declared.parameter.Parameter.TheVariants.{Plain}
 use Rattle.qs_core.specs.Trees.{CoreExprTree, literal, variable, temporary, binary, CoreStmtTree, skip, call, branch, loop, break, return, stmts_of, CoreUnitTree}
 use Rattle.qs_core.specs.Outline.{outline}
 use Rattle.qs_elaborate.specs.Units.{core_of}
-use Rattle.qs_elaborate.proofs.Samples.{number, natural, named, plus, op, putchar, eval, when, while, defined, parameter, main_, main_name}
-use Rattle.qs_elaborate.proofs.Samples as c
+use Rattle.qs_meaning.proofs.Samples.{number, natural, named, plus, op, putchar, eval, when, while, defined, parameter, main_, main_name}
+use Rattle.qs_meaning.proofs.Samples as c
 
 d0 : decimal 0 ≡ codes "0"
 d0 = decimal_digit 0 (omega arith)

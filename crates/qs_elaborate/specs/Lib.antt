@@ -7,3 +7,4 @@ pub mod Names
 pub mod Data
 pub mod Units
 pub mod Laws
+pub mod FitLaws

@@ -1,6 +1,8 @@
 //! From the typed tree of a unit to core: definitions and their laws.
 #![tactic(auto)]
 
+mod fit_laws;
 mod laws;
 
+pub use fit_laws::core_fits;
 pub use laws::{acts_exactly, core_follows, main_follows};

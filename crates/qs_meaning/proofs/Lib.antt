@@ -1,4 +1,4 @@
-mod Samples
+pub mod Samples
 mod Known
 mod ExpressionTreeExamples
 mod InitialiserExamples

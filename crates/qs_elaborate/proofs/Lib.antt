@@ -13,3 +13,12 @@ mod Expressions
 mod Statements
 mod Units
 mod Data
+mod SizeFacts
+mod SizeParts
+mod SizeValues
+mod SizeFunctions
+mod WordFacts
+mod WordParts
+mod WordValues
+mod WordFunctions
+mod SizeExamples

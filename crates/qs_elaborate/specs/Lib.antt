@@ -7,3 +7,5 @@ pub mod Names
 pub mod Data
 pub mod Units
 pub mod Laws
+pub mod Counts
+pub mod SizeLaws

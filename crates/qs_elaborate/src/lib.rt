@@ -3,4 +3,6 @@
 
 mod laws;
 
-pub use laws::{acts_exactly, core_follows, main_follows};
+pub use laws::{
+    acts_exactly, core_follows, main_follows, unit_words_are_few, values_are_few, words_are_few,
+};

@@ -22,3 +22,4 @@ mod WordParts
 mod WordValues
 mod WordFunctions
 mod SizeExamples
+mod CountExamples

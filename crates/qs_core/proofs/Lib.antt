@@ -9,3 +9,4 @@ mod TermExamples
 mod OutlineExamples
 mod RunExamples
 mod CallGraphExamples
+mod SizeExamples

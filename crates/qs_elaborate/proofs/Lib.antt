@@ -21,3 +21,13 @@ mod FitUnits
 mod FitNames
 mod FitDeclared
 mod FitNamed
+mod SizeFacts
+mod SizeParts
+mod SizeValues
+mod SizeFunctions
+mod WordFacts
+mod WordParts
+mod WordValues
+mod WordFunctions
+mod SizeExamples
+mod CountExamples

@@ -8,3 +8,5 @@ pub mod Data
 pub mod Units
 pub mod Laws
 pub mod FitLaws
+pub mod Counts
+pub mod SizeLaws

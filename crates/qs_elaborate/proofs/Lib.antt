@@ -21,3 +21,4 @@ mod FitUnits
 mod FitNames
 mod FitDeclared
 mod FitNamed
+mod FitRules

@@ -50,11 +50,11 @@ after_function_known s c f h faultless = after_function_scope c f h (signature_k
 -- ---- units
 
 module _ (s₀ : Scope) where
-  record Declared (c : Context) (d : DeclTree) : Type 0 where
-    tree : Known (declaration_typed (within s₀ c) d)
-    scope : IsFileScope (after_declaration c d)
+  pub record Declared (c : Context) (d : DeclTree) : Type 0 where
+    pub tree : Known (declaration_typed (within s₀ c) d)
+    pub scope : IsFileScope (after_declaration c d)
 
-  declaration_known : (d : DeclTree) (c : Context) → IsFileScope c → declaration_faults c d ≡ [] → Declared c d
+  pub declaration_known : (d : DeclTree) (c : Context) → IsFileScope c → declaration_faults c d ≡ [] → Declared c d
   declaration_known (structure s) c h f = record { tree = record { value = _; is = refl }; scope = after_struct_known c s h }
   declaration_known (forward g) c h f = record { tree = record { value = _; is = refl }; scope = with_tag_known c g.name h }
   declaration_known (function g) c h f =
@@ -80,7 +80,7 @@ module _ (s₀ : Scope) where
       (declarations_known ds (after_declaration c d) now.scope (none_right (declaration_faults c d) (declarations_faults (after_declaration c d) ds) f))
       (record { value = _; is = refl }))
 
-start_known : IsFileScope start_context
+pub start_known : IsFileScope start_context
 start_known = record { names = (tt, (tt, tt)); members = λ k ms e. nothing ms e; laid_out = λ k ms e. nothing ms e }
 
 pub units_typed : UnitsTyped

@@ -39,7 +39,7 @@ scalars_count (l ∷ ls) ss h =
     let rest = followed (scalars_of ls) _ ss t.then in
     ap (λ (xs : List Scalar). length xs) (sym (some_same (scalar_of t.value ∷ rest.value) ss rest.then)) ∙ ap (λ (n : ℕ). suc n) (scalars_count ls rest.value rest.first)
 
-parameters_count : (locals : Locals) (ps : List ParameterTree) (ts : List (Option TypeTree)) (qs : List Parameter) → parameters_typed locals ps ts ≡ Some qs → length qs ≡ length ps
+pub parameters_count : (locals : Locals) (ps : List ParameterTree) (ts : List (Option TypeTree)) (qs : List Parameter) → parameters_typed locals ps ts ≡ Some qs → length qs ≡ length ps
 parameters_count locals [] [] qs h = ap (λ (xs : List Parameter). length xs) (sym (some_same [] qs h))
 parameters_count locals [] (t ∷ ts) qs h = cc
 parameters_count locals (p ∷ ps) [] qs h = cc

@@ -122,7 +122,7 @@ module _ (s₀ : Scope) (declared_nodes : List ℕ) where
 abbrev pub has_body_here : Context → List ℕ → Bool
 has_body_here c x = entity_has_body (lookup x c.inner)
 
-tag_inner : (c : Context) (tag : List ℕ) → (with_tag c tag).inner ≡ c.inner
+pub tag_inner : (c : Context) (tag : List ℕ) → (with_tag c tag).inner ≡ c.inner
 tag_inner c tag = by_test (is_some (contexts.tag_place c tag))
   where
     by_test : (b : Bool) → (if b then c else record c { structs = c.structs ++ None ∷ []; tags = c.tags ++ tag ∷ [] }).inner ≡ c.inner
@@ -137,7 +137,7 @@ defined_inner c ms (Some k) = by_test _ _
     by_test true structs = refl
     by_test false structs = refl
 
-struct_inner : (c : Context) (s : StructTree) → (after_struct c s).inner ≡ c.inner
+pub struct_inner : (c : Context) (s : StructTree) → (after_struct c s).inner ≡ c.inner
 struct_inner c s =
     defined_inner (with_tag c s.name) (after_members (with_tag c s.name) no_members s.members).members (contexts.tag_place (with_tag c s.name) s.name) ∙ tag_inner c s.name
 

@@ -22,3 +22,5 @@ mod FitNames
 mod FitDeclared
 mod FitNamed
 mod FitRules
+mod FitMain
+mod FitCore

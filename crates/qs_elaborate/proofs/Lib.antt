@@ -24,3 +24,5 @@ mod FitNamed
 mod FitRules
 mod FitMain
 mod FitCore
+mod UnitExamples
+mod NumberingExamples

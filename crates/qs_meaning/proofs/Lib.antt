@@ -26,3 +26,8 @@ mod TypedValues
 mod RangeLaws
 mod StepNeeds
 mod FitExamples
+mod FitConversions
+mod FitForms
+mod FitTypes
+mod FitLeaves
+mod FitSmall

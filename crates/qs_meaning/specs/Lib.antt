@@ -17,5 +17,6 @@ pub mod TypedLaws
 pub mod InitialLaws
 pub mod Interfaces
 pub mod Fits
+pub mod FitLaws
 pub mod Ranges
 pub mod StepLaws

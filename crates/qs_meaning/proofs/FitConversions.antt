@@ -368,19 +368,19 @@ summed_fits structs o n m (back an_unsigned (a_pointer a)) h k e = summed_back s
 summed_fits structs o n m (back a_char (a_pointer a)) h k e = summed_back structs a o n m a_char k e
 
 pub data Subtracted (t u : TypeTree) : Type 0 where
-  numbers : Integer t → Integer u → Subtracted t u
-  front : Pointing t → Integer u → Subtracted t u
-  pointers : Pointing t → Pointing u → Subtracted t u
+  two_numbers : Integer t → Integer u → Subtracted t u
+  from_pointer : Pointing t → Integer u → Subtracted t u
+  two_pointers : Pointing t → Pointing u → Subtracted t u
 
 pub subtracts : (structs : Structs) (t u : TypeTree) → may_subtract structs t u ≡ true → Subtracted t u
 subtracts structs t u e = go (either (both_integers t u) _ e)
   where
     second : is_pointer t ≡ true → (is_integer u ≡ true) ⊎ (same_type t u ≡ true) → Subtracted t u
-    second p (inl h) = front (pointing t p) (integer u h)
-    second p (inr h) = pointers (pointing t p) (same_pointing t u p h)
+    second p (inl h) = from_pointer (pointing t p) (integer u h)
+    second p (inr h) = two_pointers (pointing t p) (same_pointing t u p h)
 
     go : (both_integers t u ≡ true) ⊎ ((is_object_pointer structs t && (is_integer u || same_type t u)) ≡ true) → Subtracted t u
-    go (inl h) = numbers (integer t (left _ _ h)) (integer u (right (is_integer t) _ h))
+    go (inl h) = two_numbers (integer t (left _ _ h)) (integer u (right (is_integer t) _ h))
     go (inr h) = second (left _ _ (left _ _ h)) (either (is_integer u) _ (right (is_object_pointer structs t) _ h))
 
 subtracted_front : {u : TypeTree} (structs : Structs) (a : TypeTree) (o : Operated) → Integer u → Elements structs (pointer a) → subtracted structs (pointer a) u ≡ Some o
@@ -402,13 +402,13 @@ difference_front a a_char = refl
 
 pub subtracted_fits : {t u : TypeTree} (structs : Structs) (o : Operated) (n m : Bool) → Subtracted t u → Elements structs t → subtracted structs t u ≡ Some o
     → ResultFits o t u n m (difference_type t u)
-subtracted_fits {t = t} {u = u} structs o n m (numbers i j) h e =
+subtracted_fits {t = t} {u = u} structs o n m (two_numbers i j) h e =
     subst (λ (z : Operated). ResultFits z t u n m (difference_type t u)) (some_same _ o (sym (numbers_subtracted structs i j) ∙ e))
     (record { fits = plain _ t u n m (combined_fits arithmetics.Subtract i j); result = ap scalar_of (sym (difference_numbers i j)) })
-subtracted_fits {u = u} structs o n m (front (a_pointer a) j) h e =
+subtracted_fits {u = u} structs o n m (from_pointer (a_pointer a) j) h e =
     let p = subtracted_front structs a o j h e in
     record { fits = plain o (pointer a) u n m p.0; result = ap scalar_of (p.1 ∙ sym (difference_front a j)) }
-subtracted_fits structs o n m (pointers (a_pointer a) (a_pointer b)) h e =
+subtracted_fits structs o n m (two_pointers (a_pointer a) (a_pointer b)) h e =
     let w = followed (size_of structs a) _ o e in
     subst (λ (z : Operated). ResultFits z (pointer a) (pointer b) n m int) (some_same _ o w.then)
     (record { fits = plain _ (pointer a) (pointer b) n m (apart_fits w.value a b (h w.value w.first)); result = refl })

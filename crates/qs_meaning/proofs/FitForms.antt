@@ -20,7 +20,7 @@ use Rattle.qs_meaning.specs.Fits.{type_after, assigned_type, is_type, conversion
 use Rattle.qs_meaning.specs.Fits as fitting
 use Rattle.qs_meaning.proofs.Options.{never, left, right, either, nothing, same}
 use Rattle.qs_meaning.proofs.TypedValues.{scalar_same}
-use Rattle.qs_meaning.proofs.FitConversions.{both, same_self, same_as, scalar_decayed, Integer, an_int, an_unsigned, a_char, Pointing, a_pointer, integer, pointing, scalar_kind, same_pointing, may_convert, conversion_taken, conversion_type, integers_convert, pointers_convert, null_converts, Alike, integers, pointers, right_null, left_null}
+use Rattle.qs_meaning.proofs.FitConversions.{both, same_self, same_as, scalar_decayed, Integer, an_int, an_unsigned, a_char, Pointing, a_pointer, integer, pointing, scalar_kind, same_pointing, may_convert, conversion_taken, conversion_type, integers_convert, pointers_convert, null_converts, Alike, integers, pointers, right_null, left_null, Added, numbers, front, back, Subtracted, two_numbers, from_pointer, two_pointers}
 
 -- ---- what fits
 
@@ -273,3 +273,13 @@ alike_second (integers i j) = integer_solid j
 alike_second (pointers p q) = pointing_solid q
 alike_second (right_null p j e) = integer_solid j
 alike_second (left_null i q e) = pointing_solid q
+
+pub added_solid : {t u : TypeTree} → Added t u → (is_void t ≡ false) × (is_void u ≡ false)
+added_solid (numbers i j) = (integer_solid i, integer_solid j)
+added_solid (front p j) = (pointing_solid p, integer_solid j)
+added_solid (back i p) = (integer_solid i, pointing_solid p)
+
+pub subtracted_solid : {t u : TypeTree} → Subtracted t u → (is_void t ≡ false) × (is_void u ≡ false)
+subtracted_solid (two_numbers i j) = (integer_solid i, integer_solid j)
+subtracted_solid (from_pointer p j) = (pointing_solid p, integer_solid j)
+subtracted_solid (two_pointers p q) = (pointing_solid p, pointing_solid q)

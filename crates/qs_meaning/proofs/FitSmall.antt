@@ -132,7 +132,7 @@ module _ (structs : Structs) where
       times : (n : ℕ) → nat_le n size_limit ≡ true → nat_le (1 * n) size_limit ≡ true
       times n h = let e : 1 * n ≡ n = omega arith in subst (λ z. nat_le z size_limit ≡ true) (sym e) h
 
-      sized : (b : Bool) → b ≡ true → is_some (if b then Some (record { size = 1 * n; alignment = 1 }) else None) ≡ true
+      sized : (b : Bool) → b ≡ true → is_some {T = Extent} (if b then Some (record { size = 1 * n; alignment = 1 }) else None) ≡ true
       sized true e = refl
       sized false e = never e
 

@@ -60,20 +60,21 @@ strict [] = one_one
 strict (e ∷ es) = greater e.alignment (strictest es) (strict es)
 
 -- how the struct with this number is laid out
-pub record LaidAs (structs : Structs) (k : ℕ) (l : StructLayout) : Type 0 where
+pub record LaidAs (structs : Structs) (bound k : ℕ) (l : StructLayout) : Type 0 where
   pub members : List MemberTree
   pub of : struct_of structs k ≡ Some members
   pub depth : ℕ
+  pub below : depth ≤ bound
   pub extents : List Extent
   pub are : extents_by (layouts_within depth structs) (member_types members) ≡ Some extents
   pub is : struct_layout extents ≡ l
 
-pub laid_as : (structs : Structs) (depth k : ℕ) (l : StructLayout) → layouts_within depth structs k ≡ Some l → LaidAs structs k l
+pub laid_as : (structs : Structs) (depth k : ℕ) (l : StructLayout) → layouts_within depth structs k ≡ Some l → LaidAs structs depth k l
 laid_as structs zero k l p = nothing l p
 laid_as structs (suc depth) k l p =
     let m = went (struct_of structs k) (members_layout (layouts_within depth structs)) l p in
     let w = went (extents_by (layouts_within depth structs) (member_types m.value)) (λ es. Some (struct_layout es)) l m.gave in
-    record { members = m.value; of = m.had; depth = depth; extents = w.value; are = w.had; is = same _ l w.gave }
+    record { members = m.value; of = m.had; depth = depth; below = omega arith; extents = w.value; are = w.had; is = same _ l w.gave }
 
 pub layouts_positive : (depth : ℕ) (structs : Structs) → PositiveLayouts (layouts_within depth structs)
 layouts_positive depth structs k l p = let a = laid_as structs depth k l p in subst (λ (z : StructLayout). 1 ≤ z.alignment) a.is (strict a.extents)
@@ -109,7 +110,7 @@ offset_within structs k i o l p q =
     let a = laid_as structs (defined_structs structs) k l p in
     go a (subst (λ (z : StructLayout). slice_get z.offsets i ≡ Some o) (sym a.is) q)
   where
-    go : (a : LaidAs structs k l) → slice_get (offsets_from 0 a.extents) i ≡ Some o → o ≤ l.size
+    go : (a : LaidAs structs (defined_structs structs) k l) → slice_get (offsets_from 0 a.extents) i ≡ Some o → o ≤ l.size
     go a q =
         let f = offset_in a.extents 0 i o (extents_positive (layouts_within a.depth structs) (layouts_positive a.depth structs) (member_types a.members) a.extents a.are) q in
         let r = rounded_above (end_from 0 a.extents) (strictest a.extents) (strict a.extents) in

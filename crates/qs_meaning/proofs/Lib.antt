@@ -31,3 +31,5 @@ mod FitForms
 mod FitTypes
 mod FitLeaves
 mod FitSmall
+mod FitExpressions
+mod FitLayouts

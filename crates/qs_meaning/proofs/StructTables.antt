@@ -18,10 +18,10 @@ pub record GoesOn (structs more : Structs) : Type 0 where
   pub keeps : (k : ℕ) (ms : List MemberTree) → struct_of structs k ≡ Some ms → struct_of more k ≡ Some ms
   pub count : defined_structs structs ≤ defined_structs more
 
-abbrev Grown : Layouts → Layouts → Type 0
+abbrev pub Grown : Layouts → Layouts → Type 0
 Grown layouts more = (k : ℕ) (l : StructLayout) → layouts k ≡ Some l → more k ≡ Some l
 
-extent_grows : (layouts more : Layouts) → Grown layouts more → (t : TypeTree) (e : Extent) → extent_by layouts t ≡ Some e → extent_by more t ≡ Some e
+pub extent_grows : (layouts more : Layouts) → Grown layouts more → (t : TypeTree) (e : Extent) → extent_by layouts t ≡ Some e → extent_by more t ≡ Some e
 extent_grows layouts more g int e h = h
 extent_grows layouts more g unsigned e h = h
 extent_grows layouts more g char e h = h
@@ -34,7 +34,7 @@ extent_grows layouts more g (struct k) e h =
     let w = went (layouts k) (λ (l : StructLayout). Some (struct_extent l)) e h in
     ap (λ o. and_then o (λ (l : StructLayout). Some (struct_extent l))) (g k w.value w.had) ∙ w.gave
 
-extents_grow : (layouts more : Layouts) → Grown layouts more → (ts : List TypeTree) (es : List Extent) → extents_by layouts ts ≡ Some es → extents_by more ts ≡ Some es
+pub extents_grow : (layouts more : Layouts) → Grown layouts more → (ts : List TypeTree) (es : List Extent) → extents_by layouts ts ≡ Some es → extents_by more ts ≡ Some es
 extents_grow layouts more g [] es h = h
 extents_grow layouts more g (t ∷ ts) es h =
     let w = went (extent_by layouts t) (λ e. and_then (extents_by layouts ts) (λ es. Some (e ∷ es))) es h in
@@ -42,7 +42,7 @@ extents_grow layouts more g (t ∷ ts) es h =
     ap (λ o. and_then o (λ e. and_then (extents_by more ts) (λ es. Some (e ∷ es)))) (extent_grows layouts more g t w.value w.had)
     ∙ ap (λ o. and_then o (λ es. Some (w.value ∷ es))) (extents_grow layouts more g ts v.value v.had) ∙ v.gave
 
-layouts_grow : (structs more : Structs) → GoesOn structs more → (d e : ℕ) → d ≤ e → Grown (layouts_within d structs) (layouts_within e more)
+pub layouts_grow : (structs more : Structs) → GoesOn structs more → (d e : ℕ) → d ≤ e → Grown (layouts_within d structs) (layouts_within e more)
 layouts_grow structs more g zero e le k l h = nothing l h
 layouts_grow structs more g (suc d) zero le k l h = absurd (omega arith)
 layouts_grow structs more g (suc d) (suc e) le k l h =
@@ -53,13 +53,13 @@ layouts_grow structs more g (suc d) (suc e) le k l h =
     (member_types w.value) v.value v.had)
     ∙ v.gave
 
-layout_grows : (structs more : Structs) → GoesOn structs more → Grown (layout_of structs) (layout_of more)
+pub layout_grows : (structs more : Structs) → GoesOn structs more → Grown (layout_of structs) (layout_of more)
 layout_grows structs more g = layouts_grow structs more g (defined_structs structs) (defined_structs more) g.count
 
-some_grows : {A : Type 0} (o p : Option A) → ((x : A) → o ≡ Some x → p ≡ Some x) → is_some o ≡ true → is_some p ≡ true
+pub some_grows : {A : Type 0} (o p : Option A) → ((x : A) → o ≡ Some x → p ≡ Some x) → is_some o ≡ true → is_some p ≡ true
 some_grows o p g e = let k = known o e in ap is_some (g k.value k.is)
 
-complete_grows : (structs more : Structs) → GoesOn structs more → (t : TypeTree) → is_complete structs t ≡ true → is_complete more t ≡ true
+pub complete_grows : (structs more : Structs) → GoesOn structs more → (t : TypeTree) → is_complete structs t ≡ true → is_complete more t ≡ true
 complete_grows structs more g t e =
     some_grows (extent_by (layout_of structs) t) (extent_by (layout_of more) t) (extent_grows (layout_of structs) (layout_of more) (layout_grows structs more g) t) e
 

@@ -52,7 +52,7 @@ use Rattle.qs_meaning.proofs.TypedExpressions.{kept, unbroken_left, unbroken_rig
 use Rattle.qs_meaning.proofs.FitConversions.{both, same_self, same_as, Integer, an_int, an_unsigned, a_char, Pointing, a_pointer, integer, pointing, scalar_kind, may_convert, conversion_type, pointers_convert, OperatedFits, PlainFits, plain, combined_fits, Shifts, shifted_fits, Alike, compared_fits, shared, Elements, added, ResultFits, summed_fits, subtracts, subtracted_fits, UpdateFits, combined_update, shifted_update, summed_update, subtracted_update, summed_amount, subtracted_amount, conversion_taken}
 use Rattle.qs_meaning.proofs.FitForms.{Has, CallFits, AssignmentFits, FormFits, integer_solid, pointing_solid, scalar_solid, object_has, pointer_object, lvalue_there, address_there, in_use, effect_there, conversion_there, becomes_there, IsNull, null_value, MaybeNull, Assignable, integers_assignable, pointers_assignable, null_assignable, assignable, alike, alike_first, alike_second, added_solid, subtracted_solid}
 use Rattle.qs_meaning.proofs.FitTypes.{is_small, SmallTable, IsRoom, size_room, room, elements, alignment_positive, is_least, member_offset_small, small_decayed}
-use Rattle.qs_meaning.proofs.FitLeaves.{is_sure, shape_sure, all_sure, is_short, EntityFits, scalar_signature}
+use Rattle.qs_meaning.proofs.FitLeaves.{is_sure, shape_sure, all_sure, is_short, places, EntityFits, scalar_signature}
 use Rattle.qs_meaning.proofs.FitSmall.{Place, starred_small, type_small}
 
 -- ---- operations by the rules on their operands (6.5.5 to 6.5.12)
@@ -221,7 +221,7 @@ object_kept true b e h = kept b h
 object_kept false b e h = never e
 
 -- the first of two where the second one fails
-first_of : (b : Bool) → (b || false) ≡ true → b ≡ true
+pub first_of : (b : Bool) → (b || false) ≡ true → b ≡ true
 first_of true e = refl
 first_of false e = never e
 
@@ -588,7 +588,7 @@ module _ (i : Interface) (g : Function) (called : List ℕ → Bool) (there : Te
   small : (e : ExprTree) (a : TypedExpr) → is_sure called there e ≡ true → typed s e ≡ Some a → is_small types a.type ≡ true
   small e a sure h = type_small i g called there s c place short e a.type sure (typed_type s e a h)
 
-  name_there : (x : List ℕ) (o : Option Entity) (j : Judged) (form : Form) → ((e : Entity) → o ≡ Some e → EntityFits i g called s types x e)
+  name_there : (x : List ℕ) (o : Option Entity) (j : Judged) (form : Form) → ((e : Entity) → o ≡ Some e → EntityFits i g called (places s) types x e)
       → name_judged o ≡ Some j → breaks_one j.tests ≡ false → ((o >>= entity_lvalue s) >>= λ l. Some (lvalue l)) ≡ Some form → FormFits i g j.type form
   name_there x None j form fit e r h = nothing form h
   name_there x (Some (local_variable node None)) j form fit e r h = nothing j e
@@ -631,7 +631,7 @@ module _ (i : Interface) (g : Function) (called : List ℕ → Bool) (there : Te
       (arguments_there ts es list later.value h.2 (right (is_assignable t x (type_in_use a)) _ r) later.first))
 
   call_there : (f : List ℕ) (o : Option Entity) (es : Exprs) (us : List TypeTree) (list : List TypedExpr) (j : Judged) (form : Form)
-      → ((e : Entity) → o ≡ Some e → EntityFits i g called s types f e) → called f ≡ true → Good es list → us ≡ map (λ (a : TypedExpr). a.type) list
+      → ((e : Entity) → o ≡ Some e → EntityFits i g called (places s) types f e) → called f ≡ true → Good es list → us ≡ map (λ (a : TypedExpr). a.type) list
       → call_judged o es us ≡ Some j → breaks_one j.tests ≡ false
       → ((o >>= entity_designated s f) >>= λ (d : Designator). arguments_of d.parameters list >>= λ converted. Some (call d.callee converted)) ≡ Some form
       → FormFits i g j.type form

@@ -18,7 +18,7 @@ use Rattle.qs_types.specs.References.{TextBlock, expr_calls, exprs_calls, shape_
 use Rattle.qs_types.specs.Sites.{Site}
 use Rattle.qs_meaning.specs.Typed as typed_trees
 use Rattle.qs_meaning.specs.Conversions.{scalar_of}
-use Rattle.qs_meaning.specs.Names.{Scope, local_lvalue, file_variable_object, text_object, function_number}
+use Rattle.qs_meaning.specs.Names.{Locals, Statics, Scope, local_lvalue, file_variable_object, text_object, function_number}
 use Rattle.qs_meaning.specs.Units.{result_scalar}
 use Rattle.qs_meaning.specs.Fits.{lvalue_fits, object_there}
 use Rattle.qs_meaning.specs.FitLaws.{has_words, shape_has_words, all_have_words}
@@ -102,13 +102,22 @@ is_short t = nat_le (length t.bytes + 1) size_limit
 
 -- ---- names
 
+-- where the variables and the functions of a scope are
+pub record Places : Type 0 where
+  pub locals : Locals
+  pub statics : Statics
+  pub functions : List (List ℕ)
+
+abbrev pub places : Scope → Places
+places s = record { locals = s.locals; statics = s.statics; functions = s.functions }
+
 -- the signature of a function as runs see it
 abbrev pub scalar_signature : Signature → starts.Signature
 scalar_signature s = record { parameters = map scalar_of s.parameters; result_type = result_scalar (Some s.result) }
 
 -- what is known of a name in a function: the types are small, locals are among those of the function, variables of file scope among the
 -- unit's blocks, and functions that are called among the unit's functions, with their types
-abbrev pub EntityFits : Interface → typed_trees.Function → (called : List ℕ → Bool) → Scope → Structs → List ℕ → Entity → Type 0
+abbrev pub EntityFits : Interface → typed_trees.Function → (called : List ℕ → Bool) → Places → Structs → List ℕ → Entity → Type 0
 EntityFits i g called s structs x (local_variable node None) = ⊥
 EntityFits i g called s structs x (local_variable node (Some t)) = (lvalue_fits i g (scalar_of t) (local_lvalue s.locals node) ≡ true) × (is_small structs t ≡ true)
 EntityFits i g called s structs x (file_variable node None) = ⊥
@@ -120,11 +129,11 @@ EntityFits i g called s structs x (function node (Some signature) body) =
 EntityFits i g called s structs x (given signature) =
     (signature_of i (if same_bytes x putchar_name then PutChar else GetChar) ≡ Some (scalar_signature signature)) × (is_small structs signature.result ≡ true)
 
-abbrev pub AllFit : Interface → typed_trees.Function → (called : List ℕ → Bool) → Scope → Structs → List Binding → Type 0
+abbrev pub AllFit : Interface → typed_trees.Function → (called : List ℕ → Bool) → Places → Structs → List Binding → Type 0
 AllFit i g called s structs [] = Unit {0}
 AllFit i g called s structs (b ∷ bs) = EntityFits i g called s structs b.name b.entity × AllFit i g called s structs bs
 
-module _ (i : Interface) (g : typed_trees.Function) (called : List ℕ → Bool) (s : Scope) (structs : Structs) where
+module _ (i : Interface) (g : typed_trees.Function) (called : List ℕ → Bool) (s : Places) (structs : Structs) where
   pub entity_found : (bs : List Binding) (x : List ℕ) (e : Entity) → AllFit i g called s structs bs → lookup x bs ≡ Some e → EntityFits i g called s structs x e
   entity_found [] x e h p = nothing e p
   entity_found (b ∷ bs) x e h p = go (λ q. entity_found bs x e h.1 q) (same_bytes b.name x) refl p

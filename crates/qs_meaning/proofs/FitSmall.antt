@@ -32,7 +32,7 @@ use Rattle.qs_meaning.proofs.Options.{never, left, right, nothing, same, went, K
 use Rattle.qs_meaning.proofs.TypedExpressions.{unless}
 use Rattle.qs_meaning.proofs.FitConversions.{both}
 use Rattle.qs_meaning.proofs.FitTypes.{is_small, SmallTable, small_referenced, small_decayed, member_small, is_least}
-use Rattle.qs_meaning.proofs.FitLeaves.{is_sure, shape_sure, all_sure, is_short, EntityFits}
+use Rattle.qs_meaning.proofs.FitLeaves.{is_sure, shape_sure, all_sure, is_short, places, EntityFits}
 
 -- ---- named types
 
@@ -140,7 +140,7 @@ module _ (structs : Structs) where
 
 -- what holds of the names and structs where an expression stands
 pub record Place (i : Interface) (g : Function) (called : List ℕ → Bool) (s : Scope) (c : Context) : Type 0 where
-  pub entities : (x : List ℕ) (e : Entity) → entity_of c x ≡ Some e → EntityFits i g called s c.structs x e
+  pub entities : (x : List ℕ) (e : Entity) → entity_of c x ≡ Some e → EntityFits i g called (places s) c.structs x e
   pub table : SmallTable c.structs
 
 module _ (i : Interface) (g : Function) (called : List ℕ → Bool) (there : TextBlock → Bool) (s : Scope) (c : Context) (place : Place i g called s c)
@@ -151,7 +151,7 @@ module _ (i : Interface) (g : Function) (called : List ℕ → Bool) (there : Te
   small_at : (k j : Judged) → Some k ≡ Some j → Small k.type → Small j.type
   small_at k j e h = subst (λ (z : Judged). Small z.type) (same k j e) h
 
-  name_small : (x : List ℕ) (o : Option Entity) (j : Judged) → ((e : Entity) → o ≡ Some e → EntityFits i g called s c.structs x e) → name_judged o ≡ Some j → Small j.type
+  name_small : (x : List ℕ) (o : Option Entity) (j : Judged) → ((e : Entity) → o ≡ Some e → EntityFits i g called (places s) c.structs x e) → name_judged o ≡ Some j → Small j.type
   name_small x None j fit e = small_at _ j e refl
   name_small x (Some (local_variable node None)) j fit e = nothing j e
   name_small x (Some (local_variable node (Some t))) j fit e = small_at _ j e (fit (local_variable node (Some t)) refl).1
@@ -160,7 +160,7 @@ module _ (i : Interface) (g : Function) (called : List ℕ → Bool) (there : Te
   name_small x (Some (function node signature body)) j fit e = small_at _ j e refl
   name_small x (Some (given signature)) j fit e = small_at _ j e refl
 
-  call_small : (x : List ℕ) (o : Option Entity) (es : Exprs) (us : List TypeTree) (j : Judged) → ((e : Entity) → o ≡ Some e → EntityFits i g called s c.structs x e)
+  call_small : (x : List ℕ) (o : Option Entity) (es : Exprs) (us : List TypeTree) (j : Judged) → ((e : Entity) → o ≡ Some e → EntityFits i g called (places s) c.structs x e)
       → call_judged o es us ≡ Some j → Small j.type
   call_small x None es us j fit e = small_at _ j e refl
   call_small x (Some (local_variable node t)) es us j fit e = small_at _ j e refl

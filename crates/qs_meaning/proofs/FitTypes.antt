@@ -3,7 +3,7 @@ use Rattle.std.proofs.Common.{◌≡◌, ◌≤◌, ◌<◌, ℕ, zero, suc, ◌
 use Rattle.std.specs.List.{slice_get, list_all}
 use Rattle.std.proofs.lemmas.Bool.Decides.{nat_tests}
 use Rattle.std.proofs.lemmas.Nat.{mod_below, div-add-mod'}
-use Rattle.std.proofs.Math.Nat.{mul-le-mul_left}
+use Rattle.std.proofs.Math.Nat.{mul-le-mul_left, mul-le-mul_right}
 use Rattle.qs_syntax.specs.Sameness.{same_bytes}
 use Rattle.qs_types.specs.declared.extent.Extent.{Extent}
 use Rattle.qs_types.specs.Types.{TypeTree, int, unsigned, char, void, pointer, array, struct, MemberTree, Structs, referenced}
@@ -202,6 +202,19 @@ room structs table (array t n) s e p =
 room structs table (struct k) s e p =
     let w = went (layout_of structs k) (λ l. Some (struct_extent l)) e p in
     subst (λ (z : Extent). IsRoom z.size) (same _ e w.gave) (table.sizes k w.value w.had)
+
+-- an array has no more elements than bytes
+pub array_length : (structs : Structs) → SmallTable structs → (t : TypeTree) (n : ℕ) → is_small structs (array t n) ≡ true → n ≤ 16777216
+array_length structs table t n s =
+    let k : Known (sized_by (layout_of structs) (array t n)) = known _ (right (nat_le 1 n) _ (left _ _ s)) in
+    let most = sized_most (layout_of structs) t n k.value k.is in
+    let w = went (extent_of structs t) (λ element. Some (array_extent element n)) k.value (sized_is (layout_of structs) (array t n) k.value k.is) in
+    let element = (room structs table t (right (nat_le 1 n && is_sized structs (array t n)) _ s) w.value w.had).least in
+    let whole : w.value.size * n ≡ k.value.size = ap (λ (z : Extent). z.size) (same _ k.value w.gave) in
+    at_most w.value.size n element (subst (λ z. z ≤ 16777216) (sym whole) most)
+  where
+    at_most : (a n : ℕ) → 1 ≤ a → a * n ≤ 16777216 → n ≤ 16777216
+    at_most a n h k = let m : 1 * n ≤ a * n = mul-le-mul_right n h in omega arith
 
 pub size_room : (structs : Structs) → SmallTable structs → (t : TypeTree) → is_small structs t ≡ true → (n : ℕ) → size_of structs t ≡ Some n → IsRoom n
 size_room structs table t s n p =

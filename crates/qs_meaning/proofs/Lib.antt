@@ -33,3 +33,8 @@ mod FitLeaves
 mod FitSmall
 mod FitExpressions
 mod FitLayouts
+mod FitInitialisers
+mod FitDeclared
+mod FitStatements
+mod FitLocals
+mod FitFunctions

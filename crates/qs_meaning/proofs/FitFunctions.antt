@@ -1,5 +1,5 @@
 -- The typed tree of a function fits, and has the signature that its header gives.
-use Rattle.std.proofs.Common.{◌≡◌, ◌≤◌, ◌<◌, ◌⊎◌, inl, inr, ℕ, zero, suc, ◌+◌, ◌==◌, nat_lt, nat_le, Bool, true, false, not, ◌&&◌, ◌||◌, List, [], ◌∷◌, ◌++◌, length, map, filter, Option, Some, None, is_some, option_map, refl, sym, ap, ◌∙◌, subst, arith, if◌then◌else◌}
+use Rattle.std.proofs.Common.{◌≡◌, ◌≤◌, ◌<◌, ◌⊎◌, inl, inr, ℕ, zero, suc, ◌+◌, ◌==◌, nat_lt, nat_le, Bool, true, false, cond, not, ◌&&◌, ◌||◌, List, [], ◌∷◌, ◌++◌, length, map, filter, Option, Some, None, is_some, option_map, refl, sym, ap, ◌∙◌, subst, arith, if◌then◌else◌}
 use Rattle.std.specs.List.{list_all, slice_get}
 use Rattle.std.proofs.lemmas.Bool.{eq-eqb}
 use Rattle.std.proofs.lemmas.List.{map-append, length-append}
@@ -80,7 +80,7 @@ module _ (i : Interface) (g : typed_trees.Function) (called : List ℕ → Bool)
   in_function x (function node (Some signature) body) h = h
   in_function x (given signature) h = h
 
-  all_in_function : (bs : List Binding) → AllFile i called p.statics p.functions structs bs → AllFit i g called p structs bs
+  pub all_in_function : (bs : List Binding) → AllFile i called p.statics p.functions structs bs → AllFit i g called p structs bs
   all_in_function [] h = tt
   all_in_function (b ∷ bs) h = (in_function b.name b.entity h.0, all_in_function bs h.1)
 
@@ -91,7 +91,7 @@ pointed_small : (structs : Structs) (o : Option TypeTree) (t : TypeTree) → ((u
 pointed_small structs None t h e = nothing t e
 pointed_small structs (Some u) t h e = subst (λ z. is_small structs z ≡ true) (same _ t e) (h u refl)
 
-parameter_small : (c : Context) (p : ParameterTree) (t : TypeTree) → (parameter_declared c p).type ≡ Some t → is_small c.structs t ≡ true
+pub parameter_small : (c : Context) (p : ParameterTree) (t : TypeTree) → (parameter_declared c p).type ≡ Some t → is_small c.structs t ≡ true
 parameter_small c p t e =
     go (is_array_parameter p.lengths) (all_typed c (element_lengths p.lengths)) (is_length_typed c (first_length p.lengths)) e
   where
@@ -123,7 +123,7 @@ after_structs c p = go p.name
     go None = refl
     go (Some x) = refl
 
-parameters_small : (ps : List ParameterTree) (c : Context) → SmallLocals c.structs (parameters_locals ps (parameter_types c ps))
+pub parameters_small : (ps : List ParameterTree) (c : Context) → SmallLocals c.structs (parameters_locals ps (parameter_types c ps))
 parameters_small [] c = tt
 parameters_small (p ∷ ps) c = (
   λ t e. parameter_small c p t e,
@@ -132,12 +132,12 @@ parameters_small (p ∷ ps) c = (
 
 -- ---- lists of locals
 
-small_in : (structs : Structs) (ls : List Local) (l : Local) → SmallLocals structs ls → In l ls → (t : TypeTree) → l.type ≡ Some t → is_small structs t ≡ true
+pub small_in : (structs : Structs) (ls : List Local) (l : Local) → SmallLocals structs ls → In l ls → (t : TypeTree) → l.type ≡ Some t → is_small structs t ≡ true
 small_in structs [] l h m t e = absurd m
 small_in structs (x ∷ xs) l h (inl s) t e = h.0 t (ap (λ (z : Local). z.type) s ∙ e)
 small_in structs (x ∷ xs) l h (inr m) t e = small_in structs xs l h.1 m t e
 
-sizes_small : (structs : Structs) → SmallTable structs → (ls : List Local) (sizes : List ℕ) → ((l : Local) → In l ls → (t : TypeTree) → l.type ≡ Some t → is_small structs t ≡ true)
+pub sizes_small : (structs : Structs) → SmallTable structs → (ls : List Local) (sizes : List ℕ) → ((l : Local) → In l ls → (t : TypeTree) → l.type ≡ Some t → is_small structs t ≡ true)
     → sizes_of structs ls ≡ Some sizes → are_small sizes ≡ true
 sizes_small structs table [] sizes h e = subst (λ z. are_small z ≡ true) (same [] sizes e) refl
 sizes_small structs table (l ∷ ls) sizes h e =
@@ -148,7 +148,7 @@ sizes_small structs table (l ∷ ls) sizes h e =
     (both _ _ (is_least n.value largest_size (size_room structs table t.value (h l (inl refl) t.value t.first) n.value t.then).most)
     (sizes_small structs table ls rest.value (λ x m t e. h x (inr m) t e) rest.first))
 
-in_filtered : (p : Local → Bool) (l : Local) (xs : List Local) → In l (filter p xs) → In l xs
+pub in_filtered : (p : Local → Bool) (l : Local) (xs : List Local) → In l (filter p xs) → In l xs
 in_filtered p l [] h = absurd h
 in_filtered p l (x ∷ xs) h = go (p x) (λ k. in_filtered p l xs k) h
   where
@@ -171,14 +171,14 @@ scalar_width structs (struct k) e = never e
 is_itself : (n : ℕ) → is_size (Some n) n ≡ true
 is_itself n = eq-eqb n n refl
 
-parameter_place : (structs : Structs) (g : typed_trees.Function) (t : TypeTree) (k : ℕ) (l : Lvalue) (p : Parameter) → LocalPlace structs g t l → ((x : ℕ) → l ≡ variable x → x ≡ k)
+pub parameter_place : (structs : Structs) (g : typed_trees.Function) (t : TypeTree) (k : ℕ) (l : Lvalue) (p : Parameter) → LocalPlace structs g t l → ((x : ℕ) → l ≡ variable x → x ≡ k)
     → is_scalar t ≡ true → parameter_by (scalar_of t) l ≡ Some p → place_fits g.blocks k (scalar_of t) p ≡ true
 parameter_place structs g t k _ p (in_variable x) h s e = subst (λ z. place_fits g.blocks k (scalar_of t) z ≡ true) (same _ p e) (eq-eqb x k (h x refl))
 parameter_place structs g t k _ p (in_block j room) h s e =
     subst (λ z. place_fits g.blocks k (scalar_of t) z ≡ true) (same _ p e)
     (both _ _ (same_self (scalar_of t)) (subst (λ o. is_size o (width (scalar_of t)) ≡ true) (sym (room ∙ scalar_width structs t s)) (is_itself (width (scalar_of t)))))
 
-variable_place : (locals : Locals) (node x : ℕ) → local_lvalue locals node ≡ variable x → x ≡ place_among node locals.variables
+pub variable_place : (locals : Locals) (node x : ℕ) → local_lvalue locals node ≡ variable x → x ≡ place_among node locals.variables
 variable_place locals node x e = go (is_one_of node locals.placed) e
   where
     no : (p : Expr) (x : ℕ) → object p ≡ variable x → ⊥
@@ -192,6 +192,76 @@ variable_place locals node x e = go (is_one_of node locals.placed) e
     go true e = absurd (no _ x e)
     go false e = same_variable _ x e
 
-known_scalar : (o : Option TypeTree) → is_scalar_type o ≡ true → (t : TypeTree) × (o ≡ Some t) × (is_scalar t ≡ true)
-known_scalar None e = never e
-known_scalar (Some t) e = (t, refl, e)
+-- ---- functions with a body
+
+abbrev pub body_locals : Scope → FunctionTree → Stmts → List Local
+body_locals s f body = statements_locals (body_context s.context f) body
+
+abbrev pub operands_in : Scope → FunctionTree → Stmts → List ℕ
+operands_in s f body = addressed_in s.context f body
+
+abbrev pub locals_in : Scope → FunctionTree → Stmts → Locals
+locals_in s f body = locals_of (operands_in s f body) (parameters_in s.context f) (body_locals s f body)
+
+-- what the function is made of
+pub record Made (s : Scope) (f : FunctionTree) (body : Stmts) (g : typed_trees.Function) : Type 0 where
+  pub parameters : List Parameter
+  pub scalars : List Scalar
+  pub sizes : List ℕ
+  pub statements : typed_trees.Stmts
+  pub typed_parameters : parameters_typed (locals_in s f body) f.parameters (parameter_types (inner_scope s.context) f.parameters) ≡ Some parameters
+  pub of_variables : scalars_of (variables_among (operands_in s f body) (parameters_in s.context f) (body_locals s f body)) ≡ Some scalars
+  pub of_blocks : sizes_of s.context.structs (placed_among (operands_in s f body) (parameters_in s.context f ++ body_locals s f body)) ≡ Some sizes
+  pub typed_body : statements_typed (in_body s f (locals_in s f body)) body ≡ Some statements
+  pub is : g ≡ record {
+    name = f.name;
+    result = result_scalar (result_type s.context f);
+    parameters = parameters;
+    variables = scalars;
+    blocks = sizes;
+    body = statements;
+    is_main = same_bytes f.name main_name;
+  }
+
+pub made : (s : Scope) (f : FunctionTree) (body : Stmts) (g : typed_trees.Function)
+    → function_with s f body (operands_in s f body) (parameters_in s.context f) (body_locals s f body) ≡ Some g → Made s f body g
+made s f body g is =
+    let ps = followed (parameters_typed (locals_in s f body) f.parameters (parameter_types (inner_scope s.context) f.parameters)) _ g is in
+    let vs = followed (scalars_of (variables_among (operands_in s f body) (parameters_in s.context f) (body_locals s f body))) _ g ps.then in
+    let ns = followed (sizes_of s.context.structs (placed_among (operands_in s f body) (parameters_in s.context f ++ body_locals s f body))) _ g vs.then in
+    let ss = followed (statements_typed (in_body s f (locals_in s f body)) body) _ g ns.then in
+    record {
+      parameters = ps.value;
+      scalars = vs.value;
+      sizes = ns.value;
+      statements = ss.value;
+      typed_parameters = ps.first;
+      of_variables = vs.first;
+      of_blocks = ns.first;
+      typed_body = ss.first;
+      is = sym (same _ g ss.then);
+    }
+
+taken_types : (locals : Locals) (ps : List ParameterTree) (ts : List (Option TypeTree)) (us : List TypeTree) (rest : List Local) (params : List Parameter) (scs : List Scalar)
+    → all_of ts ≡ Some us → scalars_of (parameters_locals ps ts ++ rest) ≡ Some scs → parameters_typed locals ps ts ≡ Some params → types_of params scs ≡ map scalar_of us
+taken_types locals [] [] us rest params scs e a b = subst (λ z. types_of z scs ≡ map scalar_of us) (same _ params b) (ap (map scalar_of) (same _ us e))
+taken_types locals [] (t ∷ ts) us rest params scs e a b = nothing params b
+taken_types locals (p ∷ ps) [] us rest params scs e a b = nothing params b
+taken_types locals (p ∷ ps) (None ∷ ts) us rest params scs e a b = nothing us e
+taken_types locals (p ∷ ps) (Some t ∷ ts) us rest params scs e a b =
+    let x = followed (parameter_typed locals p (Some t)) _ params b in
+    let xs = followed (parameters_typed locals ps ts) _ params x.then in
+    let later = followed (scalars_of (parameters_locals ps ts ++ rest)) _ scs a in
+    let w = went (all_of ts) (λ ts. Some (t ∷ ts)) us e in
+    subst (λ z. types_of z scs ≡ map scalar_of us) (same _ params xs.then)
+    (subst (λ z. types_of (x.value ∷ xs.value) z ≡ map scalar_of us) (same _ scs later.then)
+    (ap (λ z. scalar_of t ∷ z) (taken_types locals ps ts w.value rest xs.value later.value w.had later.first xs.first) ∙ ap (map scalar_of) (same _ us w.gave)))
+
+pub signature_there : (s : Scope) (f : FunctionTree) (body : Stmts) (g : typed_trees.Function) → Made s f body g → (sig : Signature) → signature_by (header_of s.context f) ≡ Some sig
+    → signature g ≡ scalar_signature sig
+signature_there s f body g m sig e =
+    let us = went (all_of (parameter_types (inner_scope s.context) f.parameters)) (λ ts. and_then (result_type s.context f) (λ t. Some (record { parameters = ts; result = t }))) sig e in
+    let t = went (result_type s.context f) (λ t. Some (record { parameters = us.value; result = t })) sig us.gave in
+    let types = taken_types (locals_in s f body) f.parameters (parameter_types (inner_scope s.context) f.parameters) us.value
+    (plain_among (operands_in s f body) (body_locals s f body)) m.parameters m.scalars us.had m.of_variables m.typed_parameters in
+    ap signature m.is ∙ ((λ j. record { parameters = types j; result_type = result_scalar (t.had j) }) ∙ ap scalar_signature (same _ sig t.gave))

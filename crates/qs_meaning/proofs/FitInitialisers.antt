@@ -46,8 +46,9 @@ pub data LocalPlace (structs : Structs) (g : Function) (t : TypeTree) : Lvalue �
   in_variable : (x : ℕ) → LocalPlace structs g t (variable x)
   in_block : (k : ℕ) → slice_get g.blocks k ≡ size_of structs t → LocalPlace structs g t (object (pointer_to (local k)))
 
+-- an expression that isn't a text which only fills an array of file scope
 abbrev pub site_sure : (called : List ℕ → Bool) → (there : TextBlock → Bool) → Site → Bool
-site_sure called there s = is_sure called there s.expression
+site_sure called there s = s.fills_array || is_sure called there s.expression
 
 with_true : (a b : Bool) → ((a && true) || b) ≡ true → (a || b) ≡ true
 with_true true b e = refl

@@ -38,3 +38,8 @@ mod FitDeclared
 mod FitStatements
 mod FitLocals
 mod FitFunctions
+mod FitBodies
+mod FitTables
+mod FitSignatures
+mod FitSites
+mod FitUnits

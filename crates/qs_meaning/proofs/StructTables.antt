@@ -86,12 +86,12 @@ names_grow structs more g (b ∷ bs) h = (entity_grows structs more g b.entity h
 
 -- ---- a tag that is new
 
-appended_keeps : (structs : Structs) (k : ℕ) (ms : List MemberTree) → struct_of structs k ≡ Some ms → struct_of (structs ++ None ∷ []) k ≡ Some ms
+pub appended_keeps : (structs : Structs) (k : ℕ) (ms : List MemberTree) → struct_of structs k ≡ Some ms → struct_of (structs ++ None ∷ []) k ≡ Some ms
 appended_keeps [] k ms e = nothing ms e
 appended_keeps (x ∷ xs) zero ms e = e
 appended_keeps (x ∷ xs) (suc k) ms e = appended_keeps xs k ms e
 
-appended_back : (structs : Structs) (k : ℕ) (ms : List MemberTree) → struct_of (structs ++ None ∷ []) k ≡ Some ms → struct_of structs k ≡ Some ms
+pub appended_back : (structs : Structs) (k : ℕ) (ms : List MemberTree) → struct_of (structs ++ None ∷ []) k ≡ Some ms → struct_of structs k ≡ Some ms
 appended_back [] zero ms e = nothing ms e
 appended_back [] (suc k) ms e = nothing ms e
 appended_back (x ∷ xs) zero ms e = e
@@ -102,7 +102,7 @@ appended_count [] = refl
 appended_count (None ∷ xs) = appended_count xs
 appended_count (Some ms ∷ xs) = ap suc (appended_count xs)
 
-appended_goes_on : (structs : Structs) → GoesOn structs (structs ++ None ∷ [])
+pub appended_goes_on : (structs : Structs) → GoesOn structs (structs ++ None ∷ [])
 appended_goes_on structs = record { keeps = appended_keeps structs; count = let e = appended_count structs in omega arith }
 
 appended_scope : (c : Context) (tag : List ℕ) → IsFileScope c → IsFileScope (record c { structs = c.structs ++ None ∷ []; tags = c.tags ++ tag ∷ [] })
@@ -125,7 +125,7 @@ with_tag_known c tag h = go (is_some (tag_place c tag))
 
 -- ---- a struct that gets members
 
-set_keeps : (structs : Structs) (k : ℕ) (new : List MemberTree) → struct_of structs k ≡ None → (j : ℕ) (ms : List MemberTree) → struct_of structs j ≡ Some ms → struct_of
+pub set_keeps : (structs : Structs) (k : ℕ) (new : List MemberTree) → struct_of structs k ≡ None → (j : ℕ) (ms : List MemberTree) → struct_of structs j ≡ Some ms → struct_of
     (slice_set structs k (Some new)) j ≡ Some ms
 set_keeps [] k new n j ms e = nothing ms e
 set_keeps (x ∷ xs) zero new n zero ms e = nothing ms (sym n ∙ e)
@@ -134,9 +134,9 @@ set_keeps (x ∷ xs) (suc k) new n zero ms e = e
 set_keeps (x ∷ xs) (suc k) new n (suc j) ms e = set_keeps xs k new n j ms e
 
 -- what has members then had them, or is the struct that got them
-record IsNew (structs : Structs) (k : ℕ) (new ms : List MemberTree) : Type 0 where
-  is : new ≡ ms
-  count : defined_structs (slice_set structs k (Some new)) ≡ suc (defined_structs structs)
+pub record IsNew (structs : Structs) (k : ℕ) (new ms : List MemberTree) : Type 0 where
+  pub is : new ≡ ms
+  pub count : defined_structs (slice_set structs k (Some new)) ≡ suc (defined_structs structs)
 
 first_count : (x : types.StructTree) (xs : Structs) (new : List MemberTree) → x ≡ None → defined_structs (Some new ∷ xs) ≡ suc (defined_structs (x ∷ xs))
 first_count None xs new n = refl
@@ -146,7 +146,7 @@ later_count : (x : types.StructTree) (xs ys : Structs) → defined_structs ys �
 later_count None xs ys e = e
 later_count (Some ms) xs ys e = ap suc e
 
-set_back : (structs : Structs) (k : ℕ) (new : List MemberTree) → struct_of structs k ≡ None → (j : ℕ) (ms : List MemberTree) → struct_of
+pub set_back : (structs : Structs) (k : ℕ) (new : List MemberTree) → struct_of structs k ≡ None → (j : ℕ) (ms : List MemberTree) → struct_of
     (slice_set structs k (Some new)) j ≡ Some ms
     → (struct_of structs j ≡ Some ms) ⊎ IsNew structs k new ms
 set_back [] k new n j ms e = nothing ms e
@@ -163,7 +163,7 @@ count_both : (x : types.StructTree) (xs ys : Structs) → defined_structs xs ≤
 count_both None xs ys e = e
 count_both (Some ms) xs ys e = let f = e in omega arith
 
-set_count : (structs : Structs) (k : ℕ) (new : List MemberTree) → struct_of structs k ≡ None → defined_structs structs ≤ defined_structs (slice_set structs k (Some new))
+pub set_count : (structs : Structs) (k : ℕ) (new : List MemberTree) → struct_of structs k ≡ None → defined_structs structs ≤ defined_structs (slice_set structs k (Some new))
 set_count [] k new n = omega arith
 set_count (x ∷ xs) zero new n = let e = first_count x xs new n in omega arith
 set_count (x ∷ xs) (suc k) new n = count_both x xs (slice_set xs k (Some new)) (set_count xs k new n)

@@ -1,4 +1,5 @@
 // The laws of the runs of a source. Each is the contract of an empty function.
+ghost use Rattle.qs_meaning.specs.FitLaws.{TypedUnitsFit};
 ghost use Rattle.qs_meaning.specs.InitialLaws.{InitialMemoryIsSound};
 ghost use Rattle.qs_meaning.specs.Laws.{CallsFollow, MainGrows, RunsGrow};
 ghost use Rattle.qs_meaning.specs.Ranges.{BodiesStayInRange, CallsStayInRange, ExpressionsHaveTypes};
@@ -35,6 +36,12 @@ pub fn functions_typed()
 /// A well typed unit has a typed tree.
 pub fn units_typed()
     ensures { UnitsTyped }
+{}
+
+/// The typed tree of a well typed unit within the limits fits, where the unit is as those that are
+/// read.
+pub fn typed_units_fit()
+    ensures { TypedUnitsFit }
 {}
 
 /// The memory in which a run begins is sound: bytes are below 256, and pointers are null or into

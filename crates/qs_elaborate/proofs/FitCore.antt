@@ -34,13 +34,14 @@ use Rattle.qs_meaning.specs.Runs.{main_from}
 use Rattle.qs_meaning.specs.Statements.{statements_typed}
 use Rattle.qs_meaning.specs.Units.{nodes_of, placed_among, plain_among, variables_among, locals_of, parameters_in, scalars_of, sizes_of, parameters_typed, in_body, function_with, function_typed, no_functions, no_blocks, file_variables_typed, declaration_typed, declarations_typed, name_with_body, functions_in, start_scope, typed_of}
 use Rattle.qs_meaning.specs.TypedLaws.{IsFileScope}
-use Rattle.qs_meaning.specs.FitLaws.{are_different, IsAsRead, TypedUnitsFit}
+use Rattle.qs_meaning.specs.FitLaws.{are_different, IsAsRead}
 use Rattle.qs_meaning.proofs.Options.{Known}
 use Rattle.qs_meaning.proofs.Faultless.{none_left, none_right, unbroken, first_unbroken, second_unbroken}
 use Rattle.qs_meaning.proofs.Functions.{all_fine, parameters_declared}
 use Rattle.qs_meaning.proofs.FunctionsTyped.{file_sound, result_known}
 use Rattle.qs_meaning.proofs.UnitsTyped.{declaration_known, start_known, units_typed}
 use Rattle.qs_meaning.proofs.InitialMemory.{initial_memory_is_sound}
+use Rattle.qs_meaning.proofs.FitUnits.{typed_units_fit}
 use Rattle.qs_elaborate.specs.Names.{parameter_name, FunctionNames, body_names, function_names, declaration_names, declarations_names, names_in}
 use Rattle.qs_elaborate.specs.Units.{unit_core, core_of}
 use Rattle.qs_elaborate.specs.FitLaws.{IsNamed, AreNamed, functions_differ, is_main_function, body_has_names, declaration_has_names, has_names, AreBlocks, HasWholeBlocks, BlocksAreWhole, HasCore, UnitsHaveCores}
@@ -239,7 +240,7 @@ main_at ns gs whole k g is marked = ap is_main_function is ∙ found ns gs whole
 -- ---- units
 
 pub units_have_cores : UnitsHaveCores
-units_have_cores fitting whole unit read names texts well limits =
+units_have_cores whole unit read names texts well limits =
     let t = units_typed unit well in
     let u = t.0 in
     let d = followed (declarations_typed (start_scope unit) unit) _ u t.1 in
@@ -257,7 +258,7 @@ units_have_cores fitting whole unit read names texts well limits =
       tree = t.1;
       is = ap (λ (o : Option TypedProgram). o >>= λ (u : TypedProgram). main_from 0 u.functions >>= λ main. Some (unit_core (names_in unit) u main)) t.1
           ∙ ap (λ (o : Option ℕ). o >>= λ main. Some (unit_core (names_in unit) u main)) main_is;
-      fits = core_fits (names_in unit) u m.place (fitting unit u read well limits t.1) (all_named (names_in unit) u.functions functions.whole)
+      fits = core_fits (names_in unit) u m.place (typed_units_fit unit u read well limits t.1) (all_named (names_in unit) u.functions functions.whole)
           (ap (differ bytes_eq) functions.called ∙ apart) (main_at (names_in unit) u.functions functions.whole m.place m.main m.there m.marked)
           (record { whole = blocks.whole; small = blocks.small; sound = initial_memory_is_sound unit u texts t.1 });
       follows = λ root xs w n. core_follows (names_in unit) u m.place root xs w n;

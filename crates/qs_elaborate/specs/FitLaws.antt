@@ -19,7 +19,7 @@ use Rattle.qs_meaning.specs.Interfaces.{types_of}
 use Rattle.qs_meaning.specs.Units.{typed_of, initial_memory}
 use Rattle.qs_meaning.specs.Runs.{run_of, main_run}
 use Rattle.qs_meaning.specs.InitialLaws.{texts_are_bytes}
-use Rattle.qs_meaning.specs.FitLaws.{IsAsRead, TypedUnitsFit}
+use Rattle.qs_meaning.specs.FitLaws.{IsAsRead}
 use Rattle.qs_meaning.specs.Fits.{are_small, program_fits}
 use Rattle.qs_elaborate.specs.Names.{Declared, FunctionNames, function_declares}
 use Rattle.qs_elaborate.specs.Units.{named_parameters, named_variables, no_names, unit_core, core_of}
@@ -112,5 +112,4 @@ pub record HasCore (unit : UnitTree) : Type 0 where
 -- so has each well typed unit that is as units that are read are
 abbrev pub UnitsHaveCores : Type 0
 UnitsHaveCores =
-    TypedUnitsFit → BlocksAreWhole → (unit : UnitTree) → IsAsRead unit → has_names unit ≡ true → texts_are_bytes unit ≡ true → WellTyped unit → IsWithinLimits unit
-    → HasCore unit
+    BlocksAreWhole → (unit : UnitTree) → IsAsRead unit → has_names unit ≡ true → texts_are_bytes unit ≡ true → WellTyped unit → IsWithinLimits unit → HasCore unit

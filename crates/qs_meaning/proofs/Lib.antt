@@ -42,4 +42,4 @@ mod FitBodies
 mod FitTables
 mod FitSignatures
 mod FitSites
-mod FitUnits
+pub mod FitUnits

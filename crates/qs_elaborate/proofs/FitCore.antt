@@ -1,5 +1,5 @@
 -- A well typed unit has a core, which fits and runs as the unit does.
-use Rattle.std.proofs.Common.{◌≡◌, ℕ, zero, suc, ◌+◌, ◌&&◌, ◌||◌, not, Bool, true, false, List, [], ◌∷◌, ◌++◌, length, map, Option, Some, None, is_some, refl, sym, ap, ◌∙◌, subst, arith, if◌then◌else◌}
+use Rattle.std.proofs.Common.{◌≡◌, ℕ, zero, suc, ◌||◌, Bool, true, false, List, [], ◌∷◌, ◌++◌, map, Option, Some, None, is_some, refl, sym, ap, ◌∙◌, subst, arith, if◌then◌else◌}
 use Rattle.std.specs.Prelude.{bytes_eq}
 use Rattle.std.specs.List.{slice_get, list_all, list_any}
 use Rattle.std.proofs.lemmas.Slice.Eq.{bytes_eq-Decides}
@@ -7,14 +7,10 @@ use Rattle.std.proofs.lemmas.List.{map-append}
 use Rattle.qs_syntax.specs.Sameness.{same_bytes}
 use Rattle.qs_syntax.proofs.Exact.{bytes_exact}
 use Rattle.qs_syntax.specs.declared.nodes.Node.{Node}
-use Rattle.qs_syntax.specs.Trees.{ParameterTree, Stmts, FunctionTree, DeclTree, structure, forward, function, variables, UnitTree}
+use Rattle.qs_syntax.specs.Trees.{Stmts, FunctionTree, DeclTree, structure, forward, function, variables, UnitTree}
 use Rattle.qs_syntax.specs.Nodes.{function_nodes, decl_nodes, unit_nodes}
 use Rattle.qs_memory.specs.Partial.{◌>>=◌}
-use Rattle.qs_memory.specs.declared.scalar.Scalar.{Scalar}
-use Rattle.qs_memory.specs.declared.scalar.Scalar.TheVariants as scalars
 use Rattle.qs_memory.proofs.Options.{some_same, followed}
-use Rattle.qs_core.specs.Scalars.{is_promoted}
-use Rattle.qs_core.specs.Trees.{CoreUnitTree}
 use Rattle.qs_core.specs.Fits as fits
 use Rattle.qs_core.specs.Fits.{differ}
 use Rattle.qs_core.proofs.FitLaws.{both}
@@ -25,16 +21,14 @@ use Rattle.qs_types.specs.Rules.{keeps, breaks_one, faults_of}
 use Rattle.qs_types.specs.GivenFunctions.{main_name}
 use Rattle.qs_types.specs.Contexts.{Context, start_context, inner_scope}
 use Rattle.qs_types.specs.Placed.{Local, parameters_locals, addressed_in, statements_locals}
-use Rattle.qs_types.specs.UnitRules.{is_name_in, parameter_types, result_type, body_context, header_of, may_declare, result_tests, main_tests, header_tests, is_main_parameter, is_main_type, may_be, parameters_faults, body_faults, function_faults, after_declaration, declaration_faults, declarations_faults}
-use Rattle.qs_types.specs.Limits.{IsWithinLimits}
-use Rattle.qs_types.specs.WellTyped.{WellTyped}
-use Rattle.qs_meaning.specs.Typed.{Function, StaticBlock, TypedProgram}
+use Rattle.qs_types.specs.UnitRules.{is_name_in, parameter_types, result_type, body_context, header_of, may_declare, result_tests, main_tests, header_tests, is_main_type, may_be, parameters_faults, body_faults, function_faults, after_declaration, declaration_faults, declarations_faults}
+use Rattle.qs_meaning.specs.Typed.{Function, TypedProgram}
 use Rattle.qs_meaning.specs.Names.{Scope, within}
 use Rattle.qs_meaning.specs.Runs.{main_from}
 use Rattle.qs_meaning.specs.Statements.{statements_typed}
-use Rattle.qs_meaning.specs.Units.{nodes_of, placed_among, plain_among, variables_among, locals_of, parameters_in, scalars_of, sizes_of, parameters_typed, in_body, function_with, function_typed, no_functions, no_blocks, file_variables_typed, declaration_typed, declarations_typed, name_with_body, functions_in, start_scope, typed_of}
+use Rattle.qs_meaning.specs.Units.{nodes_of, placed_among, plain_among, variables_among, locals_of, parameters_in, scalars_of, sizes_of, parameters_typed, in_body, function_with, function_typed, file_variables_typed, declaration_typed, declarations_typed, name_with_body, functions_in, start_scope}
 use Rattle.qs_meaning.specs.TypedLaws.{IsFileScope}
-use Rattle.qs_meaning.specs.FitLaws.{are_different, IsAsRead}
+use Rattle.qs_meaning.specs.FitLaws.{are_different}
 use Rattle.qs_meaning.proofs.Options.{Known}
 use Rattle.qs_meaning.proofs.Faultless.{none_left, none_right, unbroken, first_unbroken, second_unbroken}
 use Rattle.qs_meaning.proofs.Functions.{all_fine, parameters_declared}
@@ -42,14 +36,14 @@ use Rattle.qs_meaning.proofs.FunctionsTyped.{file_sound, result_known}
 use Rattle.qs_meaning.proofs.UnitsTyped.{declaration_known, start_known, units_typed}
 use Rattle.qs_meaning.proofs.InitialMemory.{initial_memory_is_sound}
 use Rattle.qs_meaning.proofs.FitUnits.{typed_units_fit}
-use Rattle.qs_elaborate.specs.Names.{parameter_name, FunctionNames, body_names, function_names, declaration_names, declarations_names, names_in}
-use Rattle.qs_elaborate.specs.Units.{unit_core, core_of}
-use Rattle.qs_elaborate.specs.FitLaws.{IsNamed, AreNamed, functions_differ, is_main_function, body_has_names, declaration_has_names, has_names, AreBlocks, HasWholeBlocks, BlocksAreWhole, HasCore, UnitsHaveCores}
+use Rattle.qs_elaborate.specs.Names.{FunctionNames, body_names, function_names, declaration_names, declarations_names, names_in}
+use Rattle.qs_elaborate.specs.Units.{unit_core}
+use Rattle.qs_elaborate.specs.FitLaws.{IsNamed, AreNamed, is_main_function, body_has_names, declaration_has_names, UnitsHaveCores}
 use Rattle.qs_elaborate.proofs.FitParts.{together}
-use Rattle.qs_elaborate.proofs.FitDeclared.{IsPart, part_self, part_behind, part_front, part_different, ids}
+use Rattle.qs_elaborate.proofs.FitDeclared.{part_self, part_behind, part_front, part_different, ids}
 use Rattle.qs_elaborate.proofs.FitNamed.{parameters_count, parameters_differ, named_function}
 use Rattle.qs_elaborate.proofs.FitRules.{parameters_new, main_type_kept, bodies_differ}
-use Rattle.qs_elaborate.proofs.FitMain.{int_result, parameters_promoted, main_given, FoundMain, main_found}
+use Rattle.qs_elaborate.proofs.FitMain.{int_result, parameters_promoted, main_given, main_found}
 use Rattle.qs_elaborate.proofs.FitUnits.{core_fits}
 use Rattle.qs_elaborate.proofs.Units.{core_follows, main_follows}
 
@@ -196,9 +190,9 @@ module _ (s₀ : Scope) where
       let split = map-append (λ (n : Node). n.id) (decl_nodes d) (unit_nodes ds) in
       let apart = subst (λ (xs : List ℕ). are_different xs ≡ true) split nodes in
       let first_apart = part_different (ids (decl_nodes d)) (ids (decl_nodes d) ++ ids (unit_nodes ds))
-          (part_front (ids (decl_nodes d)) (ids (decl_nodes d)) (ids (unit_nodes ds)) (part_self (ids (decl_nodes d)))) apart in
+      (part_front (ids (decl_nodes d)) (ids (decl_nodes d)) (ids (unit_nodes ds)) (part_self (ids (decl_nodes d)))) apart in
       let rest_apart = part_different (ids (unit_nodes ds)) (ids (decl_nodes d) ++ ids (unit_nodes ds))
-          (part_behind (ids (unit_nodes ds)) (ids (decl_nodes d)) (ids (unit_nodes ds)) (part_self (ids (unit_nodes ds)))) apart in
+      (part_behind (ids (unit_nodes ds)) (ids (decl_nodes d)) (ids (unit_nodes ds)) (part_self (ids (unit_nodes ds)))) apart in
       let now = followed (declaration_typed (within s₀ c) d) _ p k in
       let rest = followed (declarations_typed (within s₀ (after_declaration c d)) ds) _ p now.then in
       let here = declaration_gives (within s₀ c) h d own two.0 first_apart now.value now.first in

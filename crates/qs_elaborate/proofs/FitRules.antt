@@ -1,5 +1,5 @@
 -- What a unit that breaks no rule says of its names: parameters have different ones, functions with bodies too, and there is a main.
-use Rattle.std.proofs.Common.{◌≡◌, ◌⊎◌, inl, inr, ℕ, ◌+◌, ◌==◌, ◌&&◌, ◌||◌, not, Bool, true, false, List, [], ◌∷◌, ◌++◌, append-nil, map, Option, Some, None, is_some, refl, sym, ap, ◌∙◌, subst, if◌then◌else◌}
+use Rattle.std.proofs.Common.{◌≡◌, ℕ, ◌&&◌, ◌||◌, not, Bool, true, false, List, [], ◌∷◌, ◌++◌, append-nil, map, Option, Some, None, is_some, refl, sym, ap, ◌∙◌, subst, if◌then◌else◌}
 use Rattle.std.specs.Prelude.{bytes_eq}
 use Rattle.std.specs.List.{list_all}
 use Rattle.std.proofs.lemmas.Slice.Eq.{bytes_eq-Decides}
@@ -12,14 +12,14 @@ use Rattle.qs_core.proofs.FitLaws.{both}
 use Rattle.qs_types.specs.Types.{TypeTree, is_scalar, MemberTree, Structs}
 use Rattle.qs_types.specs.declared.rules.Rule.{Rule}
 use Rattle.qs_types.specs.declared.rules.Rule.TheVariants as rules
-use Rattle.qs_types.specs.Rules.{Test, test, keeps, breaks_one, faults_of}
+use Rattle.qs_types.specs.Rules.{test, keeps, breaks_one, faults_of}
 use Rattle.qs_types.specs.Contexts.{Entity, local_variable, file_variable, given, Binding, Context, lookup, is_declared_here, with_name, inner_scope}
 use Rattle.qs_types.specs.Contexts as contexts
 use Rattle.qs_types.specs.GivenFunctions.{Signature}
 use Rattle.qs_types.specs.Declarations.{all_typed, lengths_faults, variable_declared, parameter_declared}
 use Rattle.qs_types.specs.InitialiserRules.{initialiser_tests}
 use Rattle.qs_types.specs.StatementRules.{after_variable, after_variables, again_tests, variable_tests, option_initialiser_faults, variable_faults, variables_faults}
-use Rattle.qs_types.specs.UnitRules.{after_parameter, with_parameter, parameter_types, header_of, Header, agree, agrees_with, may_declare, result_tests, main_tests, header_tests, declared_function, signature_by, after_function, is_name_declared, signature_tests, parameter_tests, parameters_faults, body_faults, function_faults, with_tag, no_members, after_members, define_at, after_struct, after_declaration, declaration_faults, declarations_faults}
+use Rattle.qs_types.specs.UnitRules.{after_parameter, with_parameter, header_of, Header, agree, agrees_with, may_declare, result_tests, main_tests, header_tests, declared_function, signature_by, after_function, is_name_declared, signature_tests, parameter_tests, parameters_faults, function_faults, with_tag, no_members, after_members, define_at, after_struct, after_declaration, declaration_faults, declarations_faults}
 use Rattle.qs_types.specs.WellTyped.{entity_has_body}
 use Rattle.qs_meaning.specs.Names.{Scope, within}
 use Rattle.qs_meaning.specs.Units.{name_with_body, functions_in}
@@ -88,12 +88,12 @@ module _ (s₀ : Scope) (declared_nodes : List ℕ) where
       let lengths = lengths_typed c (has_types (within s₀ c) declared_nodes h) p.lengths.given (none_right (faults_of p.node.id (parameter_tests c true p)) _ f) in
       let others = (parameter_declared c p).tests ++ signature_tests p true (parameter_declared c p).type in
       let own = tests_in (all_typed c p.lengths.given) (test rules.DeclaredTwice (is_name_declared c p.name) ++ others) lengths
-          (unbroken p.node.id (parameter_tests c true p) (none_left (faults_of p.node.id (parameter_tests c true p)) _ f)) in
+      (unbroken p.node.id (parameter_tests c true p) (none_left (faults_of p.node.id (parameter_tests c true p)) _ f)) in
       let again = unbroken_test rules.DeclaredTwice (is_name_declared c p.name) (first_unbroken (test rules.DeclaredTwice (is_name_declared c p.name)) others own) in
       let later = second_unbroken (test rules.DeclaredTwice (is_name_declared c p.name)) others own in
       let t = parameter_type_known c p lengths (first_unbroken (parameter_declared c p).tests (signature_tests p true (parameter_declared c p).type) later) in
       let signature = subst (λ (o : Option TypeTree). breaks_one (signature_tests p true o) ≡ false) t.is
-          (second_unbroken (parameter_declared c p).tests (signature_tests p true (parameter_declared c p).type) later) in
+      (second_unbroken (parameter_declared c p).tests (signature_tests p true (parameter_declared c p).type) later) in
       let named = both (is_scalar t.value) _ (kept_test rules.SignatureType (is_scalar t.value && is_some p.name) signature) in
       together named.1 (no_test (is_name_declared c p.name) again)
 
@@ -106,7 +106,7 @@ module _ (s₀ : Scope) (declared_nodes : List ℕ) where
       let scalar = parameter_scalar s₀ declared_nodes true c h p mine in
       let two = both _ (are_declared s₀ declared_nodes ps) d in
       let rest = parameters_new ps (after_parameter c p) (with_parameter_sound s₀ declared_nodes c h p (parameter_declared c p).type scalar two.0 p.name) two.1
-          (none_right (faults_of p.node.id (parameter_tests c true p) ++ lengths_faults c p.lengths.given) _ f) in
+      (none_right (faults_of p.node.id (parameter_tests c true p) ++ lengths_faults c p.lengths.given) _ f) in
       by_name p.name own rest
     where
       by_name : (o : Option (List ℕ)) → (is_some o && not (is_name_declared c o)) ≡ true
@@ -201,14 +201,14 @@ module _ (s₀ : Scope) where
       let after = after_variable true c base v in
       let tests = variable_tests true c after base v in
       let parts = none_right (faults_of v.declarator.node.id tests)
-          (lengths_faults c v.declarator.lengths.given ++ option_initialiser_faults true after (variable_declared c base v).type v.initialiser) own in
+      (lengths_faults c v.declarator.lengths.given ++ option_initialiser_faults true after (variable_declared c base v).type v.initialiser) own in
       let initialiser = none_right (lengths_faults c v.declarator.lengths.given)
-          (option_initialiser_faults true after (variable_declared c base v).type v.initialiser) parts in
+      (option_initialiser_faults true after (variable_declared c base v).type v.initialiser) parts in
       let typed_lengths = lengths_typed c (has_types (within s₀ c) [] (file_sound s₀ c [] h)) v.declarator.lengths.given (none_left _ _ parts) in
       let others = (variable_declared c base v).tests ++ initialiser_tests true after (variable_declared c base v).type v.initialiser in
       let whole_tests = ap (λ b. breaks_one (if b then [] else again_tests c v ++ others))
-          (sym (not_held_back true after (variable_declared c base v).type v.initialiser initialiser))
-          ∙ unbroken v.declarator.node.id tests (none_left (faults_of v.declarator.node.id tests) _ own) in
+      (sym (not_held_back true after (variable_declared c base v).type v.initialiser initialiser))
+      ∙ unbroken v.declarator.node.id tests (none_left (faults_of v.declarator.node.id tests) _ own) in
       unbroken_test rules.DeclaredTwice (is_declared_here c v.declarator.name)
       (tests_in (all_typed c v.declarator.lengths.given) (test rules.DeclaredTwice (is_declared_here c v.declarator.name)) typed_lengths
       (first_unbroken (again_tests c v) others whole_tests))
@@ -301,7 +301,8 @@ module _ (s₀ : Scope) where
           by_body None e = (still (functions_in ds) rest.0, rest.1)
           by_body (Some body) e =
               let may = may_be_declared c g own in
-              let has = ap (λ (o : Option Stmts). is_some o) e in
-              (together (no_test (has_body_here c g.name) (body_is_new (lookup g.name c.inner) (header_of c g) (ap (agrees_with (lookup g.name c.inner) (header_of c g)) (sym has) ∙ may)))
-              (still (functions_in ds) rest.0),
-              together (others_differ g.name (after_function c g) (own_known g c may has) (functions_in ds) rest.0) rest.1)
+              let has = ap (λ (o : Option Stmts). is_some o) e in (
+                together (no_test (has_body_here c g.name) (body_is_new (lookup g.name c.inner) (header_of c g) (ap (agrees_with (lookup g.name c.inner) (header_of c g)) (sym has) ∙ may)))
+                    (still (functions_in ds) rest.0),
+                together (others_differ g.name (after_function c g) (own_known g c may has) (functions_in ds) rest.0) rest.1,
+              )

@@ -65,34 +65,35 @@ abbrev returns : CoreExprTree → CoreStmtTree
 returns e = return (Some e)
 
 -- the fifth x is the array, the sixth is placed
-seven_in_core :
-    function_of 0 seven_variables
-    ≡ Some (record {
-      name = codes "main";
-      parameters = record { name = codes "x"; place = Plain 0 } ∷ [];
-      variables =
-          int_named (codes "x") 1
-          ∷ int_named (codes "x") 2
-          ∷ int_named (codes "x") 3
-          ∷ int_named (codes "x") 4
-          ∷ int_named (codes "y") 1
-          ∷ int_named (codes "x") 7
-          ∷ [];
-      temporaries = Pointer ∷ [];
-      blocks = 8 ∷ 4 ∷ [];
-      result_type = Some Int;
-      body = stmts_of (
-          written Int (plain 1) (core_number 1)
-          ∷ written Int (plain 2) (core_number 2)
-          ∷ loop (branch (int_variable 2) skip break) (written Int (plain 2) (binary (Arithmetic Subtract signs.Signed) (int_variable 2) (core_number 1)))
-          ∷ branch (int_variable 0) (written Int (plain 3) (core_number 3)) (store Int (binary (Move Up signs.Signed 4) (address_of (Local 0)) (core_number 0)) (core_number 1))
-          ∷ store Int (address_of (Local 1)) (core_number 4)
-          ∷ keep 0 (address_of (Local 1))
-          ∷ written Int (plain 5) (core_number 5)
-          ∷ returns (int_variable 0)
-          ∷ returns (core_number 0)
-          ∷ []);
-    })
+abbrev pub core_seven : CoreFunctionTree
+core_seven = record {
+  name = codes "main";
+  parameters = record { name = codes "x"; place = Plain 0 } ∷ [];
+  variables =
+      int_named (codes "x") 1
+      ∷ int_named (codes "x") 2
+      ∷ int_named (codes "x") 3
+      ∷ int_named (codes "x") 4
+      ∷ int_named (codes "y") 1
+      ∷ int_named (codes "x") 7
+      ∷ [];
+  temporaries = Pointer ∷ [];
+  blocks = 8 ∷ 4 ∷ [];
+  result_type = Some Int;
+  body = stmts_of (
+      written Int (plain 1) (core_number 1)
+      ∷ written Int (plain 2) (core_number 2)
+      ∷ loop (branch (int_variable 2) skip break) (written Int (plain 2) (binary (Arithmetic Subtract signs.Signed) (int_variable 2) (core_number 1)))
+      ∷ branch (int_variable 0) (written Int (plain 3) (core_number 3)) (store Int (binary (Move Up signs.Signed 4) (address_of (Local 0)) (core_number 0)) (core_number 1))
+      ∷ store Int (address_of (Local 1)) (core_number 4)
+      ∷ keep 0 (address_of (Local 1))
+      ∷ written Int (plain 5) (core_number 5)
+      ∷ returns (int_variable 0)
+      ∷ returns (core_number 0)
+      ∷ []);
+}
+
+seven_in_core : function_of 0 seven_variables ≡ Some core_seven
 seven_in_core = refl
 
 -- ---- initialisers; behind struct s{char m;int n;}; int f(void){return 1;}

@@ -43,3 +43,6 @@ mod FitTables
 mod FitSignatures
 mod FitSites
 mod FitUnits
+mod Shapes
+mod FitData
+mod FitBlocks

@@ -36,6 +36,7 @@ use Rattle.qs_meaning.proofs.FunctionsTyped.{file_sound, result_known}
 use Rattle.qs_meaning.proofs.UnitsTyped.{declaration_known, start_known, units_typed}
 use Rattle.qs_meaning.proofs.InitialMemory.{initial_memory_is_sound}
 use Rattle.qs_meaning.proofs.FitUnits.{typed_units_fit}
+use Rattle.qs_meaning.proofs.FitBlocks.{typed_data_is_whole}
 use Rattle.qs_elaborate.specs.Names.{FunctionNames, body_names, function_names, declaration_names, declarations_names, names_in}
 use Rattle.qs_elaborate.specs.Units.{unit_core}
 use Rattle.qs_elaborate.specs.FitLaws.{IsNamed, AreNamed, is_main_function, body_has_names, declaration_has_names, UnitsHaveCores}
@@ -234,7 +235,7 @@ main_at ns gs whole k g is marked = ap is_main_function is ∙ found ns gs whole
 -- ---- units
 
 pub units_have_cores : UnitsHaveCores
-units_have_cores whole unit read names texts well limits =
+units_have_cores unit read names texts well limits =
     let t = units_typed unit well in
     let u = t.0 in
     let d = followed (declarations_typed (start_scope unit) unit) _ u t.1 in
@@ -242,7 +243,7 @@ units_have_cores whole unit read names texts well limits =
     let gives = declarations_give (start_scope unit) unit start_context start_known well.keeps_rules names read.numbers d.value d.first in
     let functions = subst (λ (gs : List Function). GivesFunctions (names_in unit) (functions_in unit) gs) same gives in
     let apart = (bodies_differ (start_scope unit) unit start_context start_known well.keeps_rules).1 in
-    let blocks = whole unit u read well limits t.1 in
+    let blocks = typed_data_is_whole unit u read well limits t.1 in
     let among = main_among (names_in unit) u.functions functions.whole (ap (is_name_in main_name) functions.called ∙ main_given unit well.main_has_body) in
     let m = main_found u.functions 0 among in
     let main_is : main_from 0 u.functions ≡ Some m.place = m.is ∙ ap Some (omega arith) in
@@ -254,7 +255,7 @@ units_have_cores whole unit read names texts well limits =
           ∙ ap (λ (o : Option ℕ). o >>= λ main. Some (unit_core (names_in unit) u main)) main_is;
       fits = core_fits (names_in unit) u m.place (typed_units_fit unit u read well limits t.1) (all_named (names_in unit) u.functions functions.whole)
           (ap (differ bytes_eq) functions.called ∙ apart) (main_at (names_in unit) u.functions functions.whole m.place m.main m.there m.marked)
-          (record { whole = blocks.whole; small = blocks.small; sound = initial_memory_is_sound unit u texts t.1 });
+          (record { are_whole = blocks; sound = initial_memory_is_sound unit u texts t.1 });
       follows = λ root xs w n. core_follows (names_in unit) u m.place root xs w n;
       main_follows = λ xs input n. main_follows (names_in unit) u m.place xs input n main_is blocks.whole;
     }

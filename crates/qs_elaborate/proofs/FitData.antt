@@ -18,7 +18,7 @@ use Rattle.qs_meaning.specs.Units.{block_of, initial_memory}
 use Rattle.qs_elaborate.specs.Names.{FunctionNames}
 use Rattle.qs_elaborate.specs.Data.{with_byte, with_null_before, with_null, with_pointer, pieces_behind, data_core}
 use Rattle.qs_elaborate.specs.Units.{unit_core}
-use Rattle.qs_elaborate.specs.Laws.{AreWhole, no_cells, byte_before, pointer_before}
+use Rattle.qs_meaning.specs.Whole.{AreWhole, no_cells, byte_before, pointer_before}
 use Rattle.qs_elaborate.specs.FitLaws.{AreBlocks}
 use Rattle.qs_elaborate.proofs.Data.{cells_kept}
 use Rattle.qs_elaborate.proofs.FitParts.{together}
@@ -61,7 +61,7 @@ module _ (names : List FunctionNames) (p : TypedProgram) (main : ℕ) (blocks : 
 
   -- the size of a block in core is that of its cells
   size_kept : (k : ℕ) (b : StaticBlock) → slice_get p.blocks k ≡ Some b → (data_block (data_core b)).size ≡ length b.cells
-  size_kept k b is = ap (λ (cells : List Cell). length cells) (cells_kept b.cells (whole_at p.blocks blocks.whole k b is))
+  size_kept k b is = ap (λ (cells : List Cell). length cells) (cells_kept b.cells (whole_at p.blocks blocks.are_whole.whole k b is))
 
   core_at : (k : ℕ) (b : StaticBlock) → slice_get p.blocks k ≡ Some b → slice_get (map data_core p.blocks) k ≡ Some (data_core b)
   core_at k b is = slice_get-map data_core p.blocks k ∙ ap (option_map data_core) is
@@ -118,9 +118,9 @@ module _ (names : List FunctionNames) (p : TypedProgram) (main : ℕ) (blocks : 
       let live : IsLive (initial_memory p) k = subst (λ (c : Block). c.is_live ≡ true) (sym at) refl in
       let cells = each_cell (IsSoundCell (initial_memory p)) b.cells (λ o lt.
       subst (λ (c : Block). IsSoundCell (initial_memory p) (c.cells o)) at (blocks.sound.cells k o live (subst (λ (c : Block). o < c.size) (sym at) lt))) in
-      let small = all_at (λ n. nat_le n largest_size) (map (λ (c : StaticBlock). length c.cells) p.blocks) k (length b.cells) blocks.small
+      let small = all_at (λ n. nat_le n largest_size) (map (λ (c : StaticBlock). length c.cells) p.blocks) k (length b.cells) blocks.are_whole.small
       (slice_get-map (λ (c : StaticBlock). length c.cells) p.blocks k ∙ ap (option_map (λ (c : StaticBlock). length c.cells)) is) in
-      together (pieces_fit b.cells (whole_at p.blocks blocks.whole k b is) cells) (ap (λ (n : ℕ). nat_le n largest_size) (size_kept k b is) ∙ small)
+      together (pieces_fit b.cells (whole_at p.blocks blocks.are_whole.whole k b is) cells) (ap (λ (n : ℕ). nat_le n largest_size) (size_kept k b is) ∙ small)
 
   pub blocks_fit : list_all (data_fits unit) unit.data_blocks ≡ true
   blocks_fit = all_blocks (data_fits unit) p.blocks block_fits

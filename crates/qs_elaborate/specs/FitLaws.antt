@@ -1,5 +1,5 @@
 -- What is promised of core as a unit: it fits.
-use Rattle.std.specs.Prelude.{◌≡◌, ℕ, ◌==◌, ◌&&◌, Bool, true, false, All, List, [], ◌∷◌, length, map, Option, Some, None, bytes_eq}
+use Rattle.std.specs.Prelude.{◌≡◌, ℕ, ◌==◌, ◌&&◌, Bool, true, false, List, [], ◌∷◌, map, Option, Some, None, bytes_eq}
 use Rattle.std.specs.List.{slice_get, list_all}
 use Rattle.qs_base.specs.Names.{is_name}
 use Rattle.qs_syntax.specs.Trees.{Stmts, FunctionTree, DeclTree, structure, forward, function, variables, UnitTree}
@@ -20,10 +20,10 @@ use Rattle.qs_meaning.specs.Units.{typed_of, initial_memory}
 use Rattle.qs_meaning.specs.Runs.{run_of, main_run}
 use Rattle.qs_meaning.specs.InitialLaws.{texts_are_bytes}
 use Rattle.qs_meaning.specs.FitLaws.{IsAsRead}
-use Rattle.qs_meaning.specs.Fits.{are_small, program_fits}
+use Rattle.qs_meaning.specs.Whole.{DataIsWhole}
+use Rattle.qs_meaning.specs.Fits.{program_fits}
 use Rattle.qs_elaborate.specs.Names.{Declared, FunctionNames, function_declares}
 use Rattle.qs_elaborate.specs.Units.{named_parameters, named_variables, no_names, unit_core, core_of}
-use Rattle.qs_elaborate.specs.Laws.{AreWhole}
 
 -- ---- names
 
@@ -74,10 +74,9 @@ has_names unit = list_all declaration_has_names unit
 
 -- ---- blocks
 
--- the blocks of a unit are bytes and whole pointers, into blocks or just past their ends, and none is too large
+-- the blocks of a unit are bytes and whole pointers, none is too large, and each pointer is into a block or just past its end
 pub record AreBlocks (u : TypedProgram) : Type 0 where
-  pub whole : All (λ b. AreWhole b.cells) u.blocks
-  pub small : are_small (map (λ b. length b.cells) u.blocks) ≡ true
+  pub are_whole : DataIsWhole u
   pub sound : IsSound (initial_memory u)
 
 -- ---- what is promised
@@ -90,14 +89,6 @@ CoreFits =
     → unit_fits (unit_core names u main) ≡ true
 
 -- ---- units that are read
-
--- the blocks of a well typed unit are bytes and whole pointers, and none is larger than the largest type
-pub record HasWholeBlocks (u : TypedProgram) : Type 0 where
-  pub whole : All (λ b. AreWhole b.cells) u.blocks
-  pub small : are_small (map (λ b. length b.cells) u.blocks) ≡ true
-
-abbrev pub BlocksAreWhole : Type 0
-BlocksAreWhole = (unit : UnitTree) (u : TypedProgram) → IsAsRead unit → WellTyped unit → IsWithinLimits unit → typed_of unit ≡ Some u → HasWholeBlocks u
 
 -- a unit has a core, which fits, and which runs as the unit's typed tree does
 pub record HasCore (unit : UnitTree) : Type 0 where
@@ -112,4 +103,4 @@ pub record HasCore (unit : UnitTree) : Type 0 where
 -- so has each well typed unit that is as units that are read are
 abbrev pub UnitsHaveCores : Type 0
 UnitsHaveCores =
-    BlocksAreWhole → (unit : UnitTree) → IsAsRead unit → has_names unit ≡ true → texts_are_bytes unit ≡ true → WellTyped unit → IsWithinLimits unit → HasCore unit
+    (unit : UnitTree) → IsAsRead unit → has_names unit ≡ true → texts_are_bytes unit ≡ true → WellTyped unit → IsWithinLimits unit → HasCore unit

@@ -7,8 +7,8 @@ pub fn core_fits()
     ensures { CoreFits }
 {}
 
-/// A well typed unit has a core, which fits and runs as the unit does. A premise is a law of typed trees: that the
-/// blocks of those of well typed units are bytes and whole pointers.
+/// A well typed unit has a core, which fits and runs as the unit does. So core_follows and main_follows are
+/// said of the core that each such unit has, from every root and from main.
 pub fn units_have_cores()
     ensures { UnitsHaveCores }
 {}

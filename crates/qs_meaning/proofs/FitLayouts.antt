@@ -57,12 +57,12 @@ laid structs k l p =
     positive_strict (e ∷ es) h = greater e.alignment (strictest es) (positive_strict es h.1)
 
 -- the extent of the member with this number
-record At (layouts : Layouts) (es : List Extent) (i : ℕ) (t : TypeTree) : Type 0 where
-  extent : Extent
-  stands : slice_get es i ≡ Some extent
-  is : extent_by layouts t ≡ Some extent
+pub record At (layouts : Layouts) (es : List Extent) (i : ℕ) (t : TypeTree) : Type 0 where
+  pub extent : Extent
+  pub stands : slice_get es i ≡ Some extent
+  pub is : extent_by layouts t ≡ Some extent
 
-extent_at : (layouts : Layouts) (ms : List MemberTree) (es : List Extent) → extents_by layouts (member_types ms) ≡ Some es → (i : ℕ) (m : MemberTree) → slice_get ms i ≡ Some m
+pub extent_at : (layouts : Layouts) (ms : List MemberTree) (es : List Extent) → extents_by layouts (member_types ms) ≡ Some es → (i : ℕ) (m : MemberTree) → slice_get ms i ≡ Some m
     → At layouts es i m.type
 extent_at layouts [] es p i m e = options.nothing m e
 extent_at layouts (x ∷ ms) es p zero m e =
@@ -172,7 +172,7 @@ module _ (structs : Structs) where
   abbrev LengthsBy : Blanks → Type 0
   LengthsBy blanks = (k : ℕ) (b : BlankTree) (l : StructLayout) → blanks k ≡ Some b → layout_of structs k ≡ Some l → length (blank_cells b) ≡ l.size
 
-  blank_length : (blanks : Blanks) → LengthsBy blanks → (t : TypeTree) (b : BlankTree) (e : Extent) → blank_by blanks t ≡ Some b → extent_of structs t ≡ Some e
+  pub blank_length : (blanks : Blanks) → LengthsBy blanks → (t : TypeTree) (b : BlankTree) (e : Extent) → blank_by blanks t ≡ Some b → extent_of structs t ≡ Some e
       → length (blank_cells b) ≡ e.size
   blank_length blanks h int b e p q = subst (λ z. length (blank_cells z) ≡ e.size) (same _ b p) (ap (λ (z : Extent). z.size) (same _ e q))
   blank_length blanks h unsigned b e p q = subst (λ z. length (blank_cells z) ≡ e.size) (same _ b p) (ap (λ (z : Extent). z.size) (same _ e q))
@@ -227,7 +227,7 @@ module _ (structs : Structs) where
           let c = zeros_length (offset - at) in
           omega arith
 
-  blanks_length : (depth : ℕ) → LengthsBy (blanks_within depth structs)
+  pub blanks_length : (depth : ℕ) → LengthsBy (blanks_within depth structs)
   blanks_length zero k b l p q = options.nothing b p
   blanks_length (suc depth) k b l p q =
       let ms = followed (struct_of structs k) _ b p in

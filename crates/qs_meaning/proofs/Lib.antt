@@ -43,3 +43,6 @@ mod FitTables
 mod FitSignatures
 mod FitSites
 pub mod FitUnits
+mod Shapes
+mod FitData
+pub mod FitBlocks

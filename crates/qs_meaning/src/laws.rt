@@ -6,6 +6,7 @@ ghost use Rattle.qs_meaning.specs.Ranges.{BodiesStayInRange, CallsStayInRange, E
 ghost use Rattle.qs_meaning.specs.Ranges.{InitialMemoryIsReady, RunsLeaveSound};
 ghost use Rattle.qs_meaning.specs.StepLaws.{StepsOnTypesAreDefined};
 ghost use Rattle.qs_meaning.specs.TypedLaws.{FunctionsTyped, TypedWhereTypes, UnitsTyped};
+ghost use Rattle.qs_meaning.specs.Whole.{TypedDataIsWhole};
 
 /// A greater bound keeps the run of a function that has ended or is undefined, and goes on from
 /// where it is short.
@@ -42,6 +43,12 @@ pub fn units_typed()
 /// read.
 pub fn typed_units_fit()
     ensures { TypedUnitsFit }
+{}
+
+/// The blocks that such a unit begins with hold bytes and whole pointers, and none is larger than a
+/// type may be.
+pub fn typed_data_is_whole()
+    ensures { TypedDataIsWhole }
 {}
 
 /// The memory in which a run begins is sound: bytes are below 256, and pointers are null or into

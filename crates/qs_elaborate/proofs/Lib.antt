@@ -26,3 +26,4 @@ mod FitMain
 mod FitCore
 mod UnitExamples
 mod NumberingExamples
+mod WriteExamples

@@ -114,7 +114,7 @@ abbrev mutual
       pointer_fits u f to && expr_fits u f e && same_scalar (type_of e) s
   stmt_fits u f b c (copy size alignment to from) =
       pointer_fits u f to && pointer_fits u f from && nat_le 1 alignment
-    && nat_le size largest_size
+      && nat_le size largest_size
   stmt_fits u f b c (fill contents to) =
       pointer_fits u f to && nat_le (blank_size contents) largest_size
   stmt_fits u f b c (call x g es) =

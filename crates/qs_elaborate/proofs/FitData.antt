@@ -1,15 +1,15 @@
 -- Blocks of data fit: bytes are below 256, pointers into blocks or just past their ends.
-use Rattle.std.proofs.Common.{◌≡◌, ℕ, zero, suc, ◌+◌, ◌<◌, ◌≤◌, nat_lt, nat_le, Bool, true, List, [], ◌∷◌, ◌++◌, All, length, map, slice_index_or, Option, Some, None, option_map, refl, sym, ap, ◌∙◌, subst, arith}
+use Rattle.std.proofs.Common.{◌≡◌, ℕ, zero, suc, ◌<◌, ◌≤◌, nat_le, Bool, true, List, [], ◌∷◌, All, length, map, slice_index_or, Option, Some, option_map, refl, sym, ap, ◌∙◌, subst, arith}
 use Rattle.std.specs.List.{slice_get, list_all}
 use Rattle.std.proofs.lemmas.Bool.Decides.{nat_tests}
 use Rattle.std.proofs.lemmas.Option.{slice_get-map}
 use Rattle.std.proofs.lemmas.List.{length-map}
 use Rattle.qs_memory.specs.Values.{Pointer, null, into}
-use Rattle.qs_memory.specs.Memory.{Cell, unset, byte, part, parts_of, BlankTree, zeros, nulls, repeated, nothing, joined, Block, Memory, block_at}
+use Rattle.qs_memory.specs.Memory.{Cell, unset, BlankTree, zeros, nulls, repeated, nothing, joined, Block, block_at}
 use Rattle.qs_memory.specs.Soundness.{IsLive, IsSoundInto, IsSoundPointer, IsSoundCell}
 use Rattle.qs_memory.proofs.CellLaws.{Each}
 use Rattle.qs_core.specs.Trees.{PieceTree, blank, bytes, pointer, DataBlockTree, CoreUnitTree}
-use Rattle.qs_core.specs.Units.{cells_of_pieces, data_block}
+use Rattle.qs_core.specs.Units.{data_block}
 use Rattle.qs_core.specs.Operands.{largest_size}
 use Rattle.qs_core.specs.Fits.{is_in_data, piece_fits, data_fits}
 use Rattle.qs_core.proofs.FitLaws.{both, all_at}
@@ -18,7 +18,7 @@ use Rattle.qs_meaning.specs.Units.{block_of, initial_memory}
 use Rattle.qs_elaborate.specs.Names.{FunctionNames}
 use Rattle.qs_elaborate.specs.Data.{with_byte, with_null_before, with_null, with_pointer, pieces_behind, data_core}
 use Rattle.qs_elaborate.specs.Units.{unit_core}
-use Rattle.qs_elaborate.specs.Laws.{AreWhole, no_cells, byte_before, pointer_before}
+use Rattle.qs_meaning.specs.Whole.{AreWhole, no_cells, byte_before, pointer_before}
 use Rattle.qs_elaborate.specs.FitLaws.{AreBlocks}
 use Rattle.qs_elaborate.proofs.Data.{cells_kept}
 use Rattle.qs_elaborate.proofs.FitParts.{together}
@@ -61,7 +61,7 @@ module _ (names : List FunctionNames) (p : TypedProgram) (main : ℕ) (blocks : 
 
   -- the size of a block in core is that of its cells
   size_kept : (k : ℕ) (b : StaticBlock) → slice_get p.blocks k ≡ Some b → (data_block (data_core b)).size ≡ length b.cells
-  size_kept k b is = ap (λ (cells : List Cell). length cells) (cells_kept b.cells (whole_at p.blocks blocks.whole k b is))
+  size_kept k b is = ap (λ (cells : List Cell). length cells) (cells_kept b.cells (whole_at p.blocks blocks.are_whole.whole k b is))
 
   core_at : (k : ℕ) (b : StaticBlock) → slice_get p.blocks k ≡ Some b → slice_get (map data_core p.blocks) k ≡ Some (data_core b)
   core_at k b is = slice_get-map data_core p.blocks k ∙ ap (option_map data_core) is
@@ -73,7 +73,7 @@ module _ (names : List FunctionNames) (p : TypedProgram) (main : ℕ) (blocks : 
       let found = found_block p.blocks k (omega (arith, long, made)) in
       let at = static_at p.blocks k found.block found.is in
       let inside : offset ≤ length found.block.cells =
-          subst (λ (c : Block). offset ≤ c.size) at (h.in_range (subst (λ (c : Block). c.is_live ≡ true) (sym at) refl)) in
+      subst (λ (c : Block). offset ≤ c.size) at (h.in_range (subst (λ (c : Block). c.is_live ≡ true) (sym at) refl)) in
       ap (λ (o : Option DataBlockTree). is_in_data o offset) (core_at k found.block found.is)
       ∙ ap (nat_le offset) (size_kept k found.block found.is) ∙ grind (arith, nat_tests, inside)
 
@@ -117,10 +117,10 @@ module _ (names : List FunctionNames) (p : TypedProgram) (main : ℕ) (blocks : 
       let at = static_at p.blocks k b is in
       let live : IsLive (initial_memory p) k = subst (λ (c : Block). c.is_live ≡ true) (sym at) refl in
       let cells = each_cell (IsSoundCell (initial_memory p)) b.cells (λ o lt.
-          subst (λ (c : Block). IsSoundCell (initial_memory p) (c.cells o)) at (blocks.sound.cells k o live (subst (λ (c : Block). o < c.size) (sym at) lt))) in
-      let small = all_at (λ n. nat_le n largest_size) (map (λ (c : StaticBlock). length c.cells) p.blocks) k (length b.cells) blocks.small
-          (slice_get-map (λ (c : StaticBlock). length c.cells) p.blocks k ∙ ap (option_map (λ (c : StaticBlock). length c.cells)) is) in
-      together (pieces_fit b.cells (whole_at p.blocks blocks.whole k b is) cells) (ap (λ (n : ℕ). nat_le n largest_size) (size_kept k b is) ∙ small)
+      subst (λ (c : Block). IsSoundCell (initial_memory p) (c.cells o)) at (blocks.sound.cells k o live (subst (λ (c : Block). o < c.size) (sym at) lt))) in
+      let small = all_at (λ n. nat_le n largest_size) (map (λ (c : StaticBlock). length c.cells) p.blocks) k (length b.cells) blocks.are_whole.small
+      (slice_get-map (λ (c : StaticBlock). length c.cells) p.blocks k ∙ ap (option_map (λ (c : StaticBlock). length c.cells)) is) in
+      together (pieces_fit b.cells (whole_at p.blocks blocks.are_whole.whole k b is) cells) (ap (λ (n : ℕ). nat_le n largest_size) (size_kept k b is) ∙ small)
 
   pub blocks_fit : list_all (data_fits unit) unit.data_blocks ≡ true
   blocks_fit = all_blocks (data_fits unit) p.blocks block_fits

@@ -1,15 +1,14 @@
 -- What a function declares stands among its nodes in order, and its variables are among what it declares.
-use Rattle.std.proofs.Common.{◌≡◌, ℕ, ◌==◌, ◌&&◌, ◌||◌, not, Bool, true, false, cond, List, [], ◌∷◌, ◌++◌, map, filter, Option, Some, None, refl, sym, ap, ◌∙◌, subst, if◌then◌else◌}
+use Rattle.std.proofs.Common.{◌≡◌, ℕ, ◌==◌, ◌||◌, not, Bool, true, false, cond, List, [], ◌∷◌, ◌++◌, map, filter, Option, Some, refl, sym, ap, ◌∙◌, subst}
 use Rattle.std.proofs.lemmas.List.{map-append}
 use Rattle.qs_syntax.specs.declared.types.Base.{Base}
 use Rattle.qs_syntax.specs.declared.nodes.Node.{Node}
 use Rattle.qs_syntax.specs.Trees.{VariableTree, ParameterTree, StartTree, no_start, start_expression, start_declaration, StmtTree, empty, expression, declaration, block, branch, while_loop, do_loop, for_loop, break, continue, return, Stmts, no_stmts, stmt_and, Else, no_else, else_by, FunctionTree}
 use Rattle.qs_syntax.specs.Nodes.{all_nodes, option_nodes, expr_nodes, lengths_nodes, initialiser_nodes, variable_nodes, parameter_nodes, start_nodes, stmt_nodes, stmts_nodes, else_nodes, function_nodes}
-use Rattle.qs_types.specs.Types.{TypeTree}
 use Rattle.qs_types.specs.Contexts.{Context, inner_scope, inside_loop}
 use Rattle.qs_types.specs.StatementRules.{after_variable, after_statement, for_context}
 use Rattle.qs_types.specs.UnitRules.{parameter_types, after_parameter}
-use Rattle.qs_types.specs.Placed.{Local, is_one_of, is_placed, variables_locals, start_locals, statement_locals, statements_locals, else_locals, parameters_locals}
+use Rattle.qs_types.specs.Placed.{Local, is_one_of, variables_locals, start_locals, statement_locals, statements_locals, else_locals, parameters_locals}
 use Rattle.qs_core.proofs.FitLaws.{both}
 use Rattle.qs_meaning.specs.Units.{nodes_of}
 use Rattle.qs_meaning.specs.FitLaws.{are_different}

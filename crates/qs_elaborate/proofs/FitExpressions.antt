@@ -1,9 +1,8 @@
 -- What an expression gives in core fits, where the expression does: each form, by induction.
-use Rattle.std.proofs.Common.{◌≡◌, ℕ, ◌==◌, nat_le, ◌&&◌, ◌||◌, Bool, true, false, List, [], ◌∷◌, ◌++◌, Option, Some, None, is_some, refl, sym, ap, ◌∙◌, subst, arith, if◌then◌else◌}
+use Rattle.std.proofs.Common.{◌≡◌, ℕ, nat_le, ◌&&◌, ◌||◌, Bool, true, false, List, [], ◌∷◌, ◌++◌, Option, Some, None, is_some, refl, sym, ap, ◌∙◌, subst, arith, if◌then◌else◌}
 use Rattle.std.specs.List.{slice_get}
 use Rattle.std.proofs.lemmas.Bool.Decides.{nat_tests}
 use Rattle.qs_memory.specs.Values.{integer, has_type}
-use Rattle.qs_memory.specs.Memory.{blank_cells}
 use Rattle.qs_memory.specs.Operations.{integer_type, binary_type}
 use Rattle.qs_memory.specs.declared.scalar.Scalar.{Scalar}
 use Rattle.qs_memory.specs.declared.scalar.Scalar.TheVariants as scalars
@@ -22,17 +21,16 @@ use Rattle.qs_core.specs.Interfaces.{variable_type}
 use Rattle.qs_core.specs.Interfaces as core_interfaces
 use Rattle.qs_core.specs.Fits as fits
 use Rattle.qs_core.proofs.FitLaws.{both, all_at}
-use Rattle.qs_meaning.specs.Typed.{Conversion, unchanged, Order, as_written, Object, local, static, Expr, constant, value, pointer_to, member, called, stepped_after, unary, cast, binary, logical_and, logical_or, conditional, assigned, sequence, Lvalue, variable, object, Arguments, no_arguments, argument_and, Assignment, set, update, Effect, nothing, discard, assign, perform, copy, fill, in_order, Function}
+use Rattle.qs_meaning.specs.Typed.{Conversion, unchanged, Object, local, static, Expr, constant, value, pointer_to, member, called, stepped_after, unary, cast, binary, logical_and, logical_or, conditional, assigned, sequence, Lvalue, variable, object, Arguments, no_arguments, argument_and, Assignment, set, update, Effect, nothing, discard, assign, perform, copy, fill, in_order, Function}
 use Rattle.qs_meaning.specs.Conversions as meaning
 use Rattle.qs_meaning.specs.Fits.{type_after, assigned_type, type_of, is_null, takes_operands, amount_type, object_there, expr_fits, lvalue_fits, arguments_fit, assignment_fits, effect_fits, conversion_fits, becomes, result_fits, taken, is_whole_local}
 use Rattle.qs_meaning.specs.Fits as source
-use Rattle.qs_elaborate.specs.Literals.{literal_value, converted_core}
+use Rattle.qs_elaborate.specs.Literals.{literal_value}
 use Rattle.qs_elaborate.specs.Acting.{acts, arguments_act}
-use Rattle.qs_elaborate.specs.Parts.{Temporaries, next_number, with_temporary, keep, Valued, Listed, saved_if, joined, Located, address_saved_if, value_at, value_read, in_turn, before, plain}
-use Rattle.qs_elaborate.specs.Expressions.{block_of, operation_core, updated_core, step_amount, step_valued, and_branching, or_branching, choice_branching, choice_joined, write_discarded, expression_core, lvalue_core, arguments_core, assignment_core, effect_core}
-use Rattle.qs_elaborate.specs.Expressions as elaborated
-use Rattle.qs_elaborate.proofs.FitParts.{together, blank_length, same_from, same_types, same_type_test, points, pointer_type, unary_same, binary_same, Extends, extends_self, extends_then, extends_with, found_last, found_later, holding, AllFit, none_fit, later_fit, both_fit, one_more_fits, expr_kept, converted_type, converted_fits, ordered_fits, ordered_type}
-use Rattle.qs_elaborate.proofs.FitOperands.{ValuedFits, pure_fits, valued_with, saved_fits, operand_fits, operand_more, ConvertedFits, converted_valued, becomes_fits, ListedFits, then_fits, location_fits, LocatedFits, location_kept, address_fits, place_fits, read_fits, written_fits, operation_fits, joined_fits, WrittenFits, write_alone, write_used, set_fits, updated_fits, AllValuedFit, argument_fits, call_used, call_alone, and_fits, or_fits, choice_fits, choice_joined_fits}
+use Rattle.qs_elaborate.specs.Parts.{Temporaries, next_number, with_temporary, Valued, Listed, saved_if, joined, Located, address_saved_if, value_at, value_read, in_turn, before}
+use Rattle.qs_elaborate.specs.Expressions.{block_of, operation_core, updated_core, step_amount, step_valued, and_branching, or_branching, choice_branching, choice_joined, expression_core, lvalue_core, arguments_core, assignment_core, effect_core}
+use Rattle.qs_elaborate.proofs.FitParts.{together, blank_length, same_from, same_types, points, pointer_type, unary_same, extends_self, extends_then, extends_with, found_last, found_later, holding, none_fit, both_fit, expr_kept, ordered_type}
+use Rattle.qs_elaborate.proofs.FitOperands.{ValuedFits, pure_fits, valued_with, saved_fits, operand_fits, operand_more, converted_valued, ListedFits, then_fits, LocatedFits, location_kept, address_fits, place_fits, read_fits, written_fits, operation_fits, joined_fits, WrittenFits, write_alone, write_used, set_fits, updated_fits, AllValuedFit, argument_fits, call_used, call_alone, and_fits, or_fits, choice_fits, choice_joined_fits}
 
 -- a function in core has the variables, blocks and result that it has in the source, and its unit the functions
 pub record IsAlike (u : CoreUnitTree) (f : CoreFunctionTree) (i : Interface) (g : Function) : Type 0 where
@@ -76,12 +74,14 @@ module _ (u : CoreUnitTree) (f : CoreFunctionTree) where
       let new_core = updated_core op left unchanged back (core.temporary s k) (step_amount op) in
       record {
         more = extends_then h.more next;
-        statements = both_fit u f l.temporaries us l.statements _ h.statements next (record { fit = λ b c later e.
-            together
-            (together (expr_kept u f l.temporaries later (extends_then next e) (value_at s l.location) read.value)
-            (ap (λ (o : Option Scalar). is_type o (core_expressions.type_of (value_at s l.location))) (found_later l.temporaries s e) ∙ same_from (sym read.type)))
-            (together (written_fits u f later b c s l.location new_core (location_kept u f l.temporaries later (extends_then next e) s l.location h.location)
-            (expr_kept u f us later e new_core new.value) (new.type ∙ same_types last.1)) refl) });
+        statements = both_fit u f l.temporaries us l.statements _ h.statements next (record {
+          fit = λ b c later e.
+              together
+              (together (expr_kept u f l.temporaries later (extends_then next e) (value_at s l.location) read.value)
+              (ap (λ (o : Option Scalar). is_type o (core_expressions.type_of (value_at s l.location))) (found_later l.temporaries s e) ∙ same_from (sym read.type)))
+              (together (written_fits u f later b c s l.location new_core (location_kept u f l.temporaries later (extends_then next e) s l.location h.location)
+              (expr_kept u f us later e new_core new.value) (new.type ∙ same_types last.1)) refl);
+        });
         value = stands;
         type = refl;
         zero = λ e. cc;

@@ -1,13 +1,11 @@
 -- The functions of a typed unit have names of the language, by which their variables differ.
-use Rattle.std.proofs.Common.{◌≡◌, ℕ, suc, ◌+◌, ◌==◌, ◌≤◌, ◌&&◌, not, Bool, true, false, List, [], ◌∷◌, ◌++◌, length, map, filter, Option, Some, None, refl, sym, ap, ◌∙◌, subst, arith}
+use Rattle.std.proofs.Common.{◌≡◌, ℕ, suc, ◌==◌, not, Bool, true, List, [], ◌∷◌, ◌++◌, length, map, Option, Some, refl, sym, ap, ◌∙◌, subst, arith}
 use Rattle.std.specs.List.{list_all}
 use Rattle.std.proofs.lemmas.List.{map-append, length-map, length-append}
 use Rattle.qs_base.specs.Names.{is_name}
 use Rattle.qs_syntax.specs.Sameness.{same_bytes}
-use Rattle.qs_syntax.specs.declared.nodes.Node.{Node}
-use Rattle.qs_syntax.specs.Trees.{ParameterTree, Stmts, FunctionTree, DeclTree, structure, forward, function, variables, UnitTree}
-use Rattle.qs_syntax.specs.Nodes.{function_nodes, decl_nodes, unit_nodes}
-use Rattle.qs_memory.specs.Partial.{◌>>=◌}
+use Rattle.qs_syntax.specs.Trees.{ParameterTree, Stmts, FunctionTree}
+use Rattle.qs_syntax.specs.Nodes.{function_nodes}
 use Rattle.qs_memory.specs.declared.scalar.Scalar.{Scalar}
 use Rattle.qs_memory.proofs.Options.{some_same, followed}
 use Rattle.qs_calls.specs.declared.parameter.Parameter.{Parameter}
@@ -15,20 +13,19 @@ use Rattle.qs_core.specs.Fits.{differ}
 use Rattle.qs_core.proofs.FitLaws.{both}
 use Rattle.qs_types.specs.Types.{TypeTree}
 use Rattle.qs_types.specs.Contexts.{Context, inner_scope}
-use Rattle.qs_types.specs.UnitRules.{parameter_types, body_context, after_declaration}
-use Rattle.qs_types.specs.Placed.{Local, is_placed, is_one_of, addressed_in, statements_locals}
-use Rattle.qs_meaning.specs.Typed.{Function, StaticBlock, TypedProgram}
+use Rattle.qs_types.specs.UnitRules.{parameter_types, body_context}
+use Rattle.qs_types.specs.Placed.{Local, is_placed, addressed_in, statements_locals}
+use Rattle.qs_meaning.specs.Typed.{Function}
 use Rattle.qs_meaning.specs.Conversions.{scalar_of}
-use Rattle.qs_meaning.specs.Names.{Locals, Scope, within}
+use Rattle.qs_meaning.specs.Names.{Locals, Scope}
 use Rattle.qs_meaning.specs.Statements.{statements_typed}
-use Rattle.qs_meaning.specs.Units.{nodes_of, placed_among, plain_among, variables_among, locals_of, parameters_in, scalars_of, sizes_of, parameter_typed, parameters_typed, in_body, function_with, function_typed, no_functions, no_blocks, file_variables_typed, declaration_typed, declarations_typed}
+use Rattle.qs_meaning.specs.Units.{nodes_of, placed_among, plain_among, variables_among, locals_of, parameters_in, scalars_of, sizes_of, parameter_typed, parameters_typed, in_body, function_with}
 use Rattle.qs_meaning.specs.FitLaws.{are_different}
-use Rattle.qs_elaborate.specs.Names.{Declared, VariableName, name_at, parameter_name, declared_parameter, statements_declare, function_declares, FunctionNames, body_names, function_names, declaration_names, declarations_names, count_of}
-use Rattle.qs_elaborate.specs.Units.{named_parameters, named_variables, no_names}
-use Rattle.qs_elaborate.specs.FitLaws.{are_first, IsNamed, AreNamed, has_name, body_has_names, declaration_has_names}
-use Rattle.qs_elaborate.proofs.FitParts.{together}
+use Rattle.qs_elaborate.specs.Names.{Declared, parameter_name, declared_parameter, statements_declare, function_declares, body_names, count_of}
+use Rattle.qs_elaborate.specs.Units.{named_parameters, named_variables}
+use Rattle.qs_elaborate.specs.FitLaws.{are_first, IsNamed, body_has_names}
 use Rattle.qs_elaborate.proofs.FitNames.{nodes_declared, naming, all_named, all_apart, first_named}
-use Rattle.qs_elaborate.proofs.FitDeclared.{IsPart, part_self, part_behind, part_front, part_both, part_in, part_different, ids, function_among, parameters_are, locals_are, filtered_part}
+use Rattle.qs_elaborate.proofs.FitDeclared.{IsPart, part_self, part_front, part_both, part_in, part_different, ids, function_among, parameters_are, locals_are, filtered_part}
 
 -- ---- as many as there are
 
@@ -39,7 +36,7 @@ scalars_count (l ∷ ls) ss h =
     let rest = followed (scalars_of ls) _ ss t.then in
     ap (λ (xs : List Scalar). length xs) (sym (some_same (scalar_of t.value ∷ rest.value) ss rest.then)) ∙ ap (λ (n : ℕ). suc n) (scalars_count ls rest.value rest.first)
 
-parameters_count : (locals : Locals) (ps : List ParameterTree) (ts : List (Option TypeTree)) (qs : List Parameter) → parameters_typed locals ps ts ≡ Some qs → length qs ≡ length ps
+pub parameters_count : (locals : Locals) (ps : List ParameterTree) (ts : List (Option TypeTree)) (qs : List Parameter) → parameters_typed locals ps ts ≡ Some qs → length qs ≡ length ps
 parameters_count locals [] [] qs h = ap (λ (xs : List Parameter). length xs) (sym (some_same [] qs h))
 parameters_count locals [] (t ∷ ts) qs h = cc
 parameters_count locals (p ∷ ps) [] qs h = cc

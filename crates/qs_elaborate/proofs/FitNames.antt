@@ -1,5 +1,5 @@
 -- The names of a function's variables tell them apart.
-use Rattle.std.proofs.Common.{◌≡◌, ℕ, zero, suc, ◌+◌, ◌<◌, ◌≤◌, ◌==◌, ◌&&◌, ◌||◌, not, nat_le, Bool, true, false, cond, List, [], ◌∷◌, ◌++◌, length, map, filter, Option, Some, None, refl, sym, ap, ◌∙◌, subst, arith, if◌then◌else◌}
+use Rattle.std.proofs.Common.{◌≡◌, ℕ, ◌+◌, ◌<◌, ◌≤◌, ◌==◌, ◌&&◌, ◌||◌, not, nat_le, Bool, true, false, cond, List, [], ◌∷◌, ◌++◌, length, map, filter, refl, sym, ap, ◌∙◌, subst, arith, if◌then◌else◌}
 use Rattle.std.specs.Prelude.{bytes_eq}
 use Rattle.std.specs.List.{list_all}
 use Rattle.std.proofs.lemmas.Bool.Decides.{nat_tests, Decides-eqb}
@@ -9,7 +9,6 @@ use Rattle.qs_syntax.specs.Sameness.{same_bytes}
 use Rattle.qs_syntax.proofs.Exact.{bytes_exact}
 use Rattle.qs_memory.specs.declared.scalar.Scalar.{Scalar}
 use Rattle.qs_calls.specs.declared.parameter.Parameter.{Parameter}
-use Rattle.qs_core.specs.Trees.{CoreVariableTree}
 use Rattle.qs_core.specs.Fits.{differ, same_variable, is_named}
 use Rattle.qs_core.proofs.FitLaws.{both}
 use Rattle.qs_types.specs.Placed.{is_one_of}
@@ -167,9 +166,6 @@ module _ (naming : ℕ → VariableName) where
   abbrev pub IsNaming : (earlier here later : List Declared) → Type 0
   IsNaming earlier here later = (n : ℕ) → is_one_of n (nodes_declared here) ≡ true → naming n ≡ name_at n earlier (here ++ later)
 
-  none_before : (x : List ℕ) → List Declared → Bool
-  none_before x earlier = count_of x earlier == 0
-
   abbrev new_names : (earlier here : List Declared) → Bool
   new_names earlier here = list_all (λ (d : Declared). count_of d.name earlier == 0) here
 
@@ -194,8 +190,8 @@ module _ (naming : ℕ → VariableName) where
       let first = both (count_of d.name earlier == 0) _ new in
       let names = both (list_all (λ y. not (same_bytes d.name y)) (map (λ (e : Declared). e.name) here)) _ apart in
       let at : naming d.node ≡ record { name = d.name; ordinal = count_of d.name earlier + 1 } =
-          is d.node (ap (λ b. b || is_one_of d.node (nodes_declared here)) (node_self d.node))
-          ∙ ap (λ b. found b d earlier (name_at d.node (d ∷ earlier) (here ++ later))) (node_self d.node) in
+      is d.node (ap (λ b. b || is_one_of d.node (nodes_declared here)) (node_self d.node))
+      ∙ ap (λ b. found b d earlier (name_at d.node (d ∷ earlier) (here ++ later))) (node_self d.node) in
       let none : count_of d.name earlier ≡ 0 = same_node _ _ first.0 in
       let number : count_of d.name earlier + 1 ≡ 1 = omega arith in
       together

@@ -1,32 +1,28 @@
 -- Operands, places, writes, calls and branches fit, where their parts do.
-use Rattle.std.proofs.Common.{◌≡◌, ℕ, ◌&&◌, not, Bool, true, false, List, [], ◌∷◌, ◌++◌, length, map, Option, Some, None, is_some, refl, sym, ap, ◌∙◌, subst, if◌then◌else◌}
+use Rattle.std.proofs.Common.{◌≡◌, ℕ, ◌&&◌, not, Bool, true, false, List, [], ◌∷◌, ◌++◌, map, Option, Some, None, is_some, refl, sym, ap, ◌∙◌, subst, if◌then◌else◌}
 use Rattle.std.specs.List.{slice_get}
 use Rattle.qs_memory.specs.Values.{Value, integer}
-use Rattle.qs_memory.specs.Memory.{BlankTree}
-use Rattle.qs_memory.specs.Operations.{unary_type, binary_type}
+use Rattle.qs_memory.specs.Operations.{binary_type}
 use Rattle.qs_memory.specs.declared.scalar.Scalar.{Scalar}
 use Rattle.qs_memory.specs.declared.scalar.Scalar.TheVariants as scalars
-use Rattle.qs_memory.specs.declared.operation.UnaryOperation.{UnaryOperation}
 use Rattle.qs_memory.specs.declared.operation.BinaryOperation.{BinaryOperation}
 use Rattle.qs_calls.specs.Starts.{Signature, signature_of}
 use Rattle.qs_calls.specs.declared.callee.Callee.{Callee}
 use Rattle.qs_core.specs.Trees.{CoreExprTree, CoreStmtTree, stmts_of, CoreFunctionTree, CoreUnitTree}
 use Rattle.qs_core.specs.Trees as core
 use Rattle.qs_core.specs.Expressions.{type_of}
-use Rattle.qs_core.specs.Scalars.{same_scalar, is_type, is_pointer}
-use Rattle.qs_core.specs.Operands.{unary_takes}
+use Rattle.qs_core.specs.Scalars.{is_type}
 use Rattle.qs_core.specs.Interfaces.{variable_type, interface_of}
 use Rattle.qs_core.specs.Fits.{expr_fits, exprs_fit, pointer_fits, any_mentions, taken_fits, call_fits, stmt_fits, stmts_fit}
 use Rattle.qs_core.proofs.FitLaws.{both, scalar_same}
-use Rattle.qs_meaning.specs.Typed.{Conversion, unchanged, Order, as_written}
+use Rattle.qs_meaning.specs.Typed.{Conversion, Order, as_written}
 use Rattle.qs_meaning.specs.Conversions as meaning
 use Rattle.qs_meaning.specs.Fits as source
 use Rattle.qs_meaning.specs.Fits.{type_after}
 use Rattle.qs_elaborate.specs.Literals.{literal_value, is_literal, converted_core}
 use Rattle.qs_elaborate.specs.Parts.{Temporaries, next_number, with_temporary, keep, Valued, Listed, in_temporary, saved, saved_if, joined, Location, plain, pointed, Located, at_address, with_saved_address, address_saved_if, value_at, value_read, written}
-use Rattle.qs_elaborate.specs.Expressions.{operation_core, updated_core, step_amount, ValuedAll, argument_before, call_valued, call_listed, branch_with, truth_core, truth_literal, and_branching, or_branching, choice_branching, choice_joined, Written, set_core, update_core, write_discarded, write_at, write_valued, step_valued, listed, discarded, copied}
-use Rattle.qs_elaborate.specs.Expressions as elaborated
-use Rattle.qs_elaborate.proofs.FitParts.{together, same_from, all_same_from, same_types, same_type_test, points, unary_same, Extends, extends_self, extends_then, extends_with, found_last, found_later, list_append, one_fits, holding, AllFit, none_fit, later_fit, both_fit, one_more_fits, expr_kept, exprs_kept, none_mentioned, converted_type, converted_fits, ordered_fits, ordered_type}
+use Rattle.qs_elaborate.specs.Expressions.{operation_core, ValuedAll, argument_before, call_valued, call_listed, branch_with, truth_core, truth_literal, and_branching, or_branching, choice_branching, choice_joined, Written, set_core, write_discarded, write_at, write_valued}
+use Rattle.qs_elaborate.proofs.FitParts.{together, same_from, all_same_from, same_types, points, Extends, extends_self, extends_then, extends_with, found_last, found_later, list_append, one_fits, holding, AllFit, none_fit, both_fit, one_more_fits, expr_kept, exprs_kept, none_mentioned, converted_type, converted_fits, ordered_fits}
 
 module _ (u : CoreUnitTree) (f : CoreFunctionTree) where
   -- ---- one value
@@ -211,10 +207,12 @@ module _ (u : CoreUnitTree) (f : CoreFunctionTree) where
       let in_it = λ (later : Temporaries) (k : Extends (with_temporary us s) later). ap (λ (o : Option Scalar). is_type o s) (found_later us s k) ∙ same_from refl in
       record {
         more = extends_then on next;
-        statements = both_fit u f us (with_temporary us s) ss _ h next (record { fit = λ b c later k.
-            together
-            (together (expr_kept u f us later (extends_then next k) a fit) (subst (λ (t : Scalar). is_type (slice_get later (next_number us)) t ≡ true) (sym e) (in_it later k)))
-            (together (written_fits later b c s (pointed p) (core.temporary s (next_number us)) (location_kept us later (extends_then next k) s (pointed p) place) (in_it later k) refl) refl) });
+        statements = both_fit u f us (with_temporary us s) ss _ h next (record {
+          fit = λ b c later k.
+              together
+              (together (expr_kept u f us later (extends_then next k) a fit) (subst (λ (t : Scalar). is_type (slice_get later (next_number us)) t ≡ true) (sym e) (in_it later k)))
+              (together (written_fits later b c s (pointed p) (core.temporary s (next_number us)) (location_kept us later (extends_then next k) s (pointed p) place) (in_it later k) refl) refl);
+        });
         value = ap (λ (o : Option Scalar). is_type o s) (found_last us s) ∙ same_from refl;
         type = refl;
         zero = λ e. cc;

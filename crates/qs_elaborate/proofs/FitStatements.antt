@@ -1,5 +1,5 @@
 -- What a statement gives in core fits, where the statement does.
-use Rattle.std.proofs.Common.{◌≡◌, ◌&&◌, Bool, true, false, List, [], ◌∷◌, ◌++◌, Option, Some, None, refl, sym, ap, ◌∙◌, subst}
+use Rattle.std.proofs.Common.{◌≡◌, Bool, true, false, List, [], ◌∷◌, Option, Some, None, refl, sym, ap, ◌∙◌}
 use Rattle.qs_memory.specs.declared.scalar.Scalar.{Scalar}
 use Rattle.qs_calls.specs.Starts.{Interface}
 use Rattle.qs_core.specs.Trees.{CoreStmtTree, stmts_of, CoreFunctionTree, CoreUnitTree}
@@ -8,14 +8,14 @@ use Rattle.qs_core.specs.Expressions as core_expressions
 use Rattle.qs_core.specs.Scalars.{is_type}
 use Rattle.qs_core.specs.Fits as fits
 use Rattle.qs_core.proofs.FitLaws.{both}
-use Rattle.qs_meaning.specs.Typed.{Conversion, Expr, Effect, Stmt, evaluate, block, branch, while_loop, do_loop, for_loop, break, continue, return, return_nothing, Stmts, no_stmts, stmt_and, Function}
+use Rattle.qs_meaning.specs.Typed.{Conversion, Expr, Stmt, evaluate, block, branch, while_loop, do_loop, for_loop, break, continue, return, return_nothing, Stmts, no_stmts, stmt_and, Function}
 use Rattle.qs_meaning.specs.Fits.{type_of, is_null, becomes, expr_fits, effect_fits, option_fits, stmt_fits, stmts_fit}
 use Rattle.qs_meaning.specs.Fits as source
 use Rattle.qs_elaborate.specs.Literals.{converted_core}
 use Rattle.qs_elaborate.specs.Parts.{Temporaries, Valued, Listed, in_turn, one_statement}
 use Rattle.qs_elaborate.specs.Expressions.{expression_core, effect_core}
-use Rattle.qs_elaborate.specs.Statements.{tested, branched, looped, guarded, return_listed, statement_core, statements_core}
-use Rattle.qs_elaborate.proofs.FitParts.{together, same_from, Extends, extends_self, extends_then, list_append, one_fits, holding, AllFit, expr_kept}
+use Rattle.qs_elaborate.specs.Statements.{tested, looped, guarded, return_listed, statement_core, statements_core}
+use Rattle.qs_elaborate.proofs.FitParts.{together, same_from, Extends, extends_self, extends_then, list_append, one_fits, holding, expr_kept}
 use Rattle.qs_elaborate.proofs.FitOperands.{ValuedFits, becomes_fits, ListedFits}
 use Rattle.qs_elaborate.proofs.FitExpressions.{IsAlike, expression_fits, effect_fits_too}
 

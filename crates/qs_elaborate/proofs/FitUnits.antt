@@ -1,10 +1,9 @@
 -- The core of a program that fits is a unit that fits.
-use Rattle.std.proofs.Common.{◌≡◌, ℕ, zero, suc, ◌+◌, ◌==◌, ◌&&◌, not, ◌||◌, nat_lt, Bool, true, false, List, [], ◌∷◌, ◌++◌, length, map, Option, Some, None, option_map, refl, sym, ap, ◌∙◌, subst, arith}
+use Rattle.std.proofs.Common.{◌≡◌, ℕ, zero, suc, ◌+◌, ◌==◌, ◌&&◌, not, ◌||◌, nat_lt, Bool, true, false, List, [], ◌∷◌, map, Option, Some, None, refl, sym, ap, ◌∙◌, subst}
 use Rattle.std.specs.Prelude.{bytes_eq}
 use Rattle.std.specs.List.{slice_get, list_all}
 use Rattle.std.proofs.lemmas.List.{length-map}
 use Rattle.std.proofs.lemmas.Option.{slice_get-map}
-use Rattle.qs_base.specs.Names.{is_name}
 use Rattle.qs_memory.specs.Values.{width}
 use Rattle.qs_memory.specs.declared.scalar.Scalar.{Scalar}
 use Rattle.qs_memory.specs.declared.scalar.Scalar.TheVariants as scalars
@@ -13,23 +12,21 @@ use Rattle.qs_calls.specs.declared.callee.Callee.{Callee}
 use Rattle.qs_calls.specs.declared.callee.Callee.TheVariants as callees
 use Rattle.qs_calls.specs.declared.parameter.Parameter.{Parameter}
 use Rattle.qs_calls.specs.declared.parameter.Parameter.TheVariants.{Plain, Placed}
-use Rattle.qs_core.specs.Trees.{CoreStmtTree, stmts_of, CoreParameterTree, CoreVariableTree, CoreFunctionTree, CoreUnitTree}
-use Rattle.qs_core.specs.Trees as core
+use Rattle.qs_core.specs.Trees.{stmts_of, CoreParameterTree, CoreVariableTree, CoreFunctionTree, CoreUnitTree}
 use Rattle.qs_core.specs.Scalars.{is_type, is_promoted}
 use Rattle.qs_core.specs.Interfaces as core_interfaces
 use Rattle.qs_core.specs.Fits as fits
-use Rattle.qs_core.proofs.FitLaws.{both, scalar_same, type_is}
+use Rattle.qs_core.proofs.FitLaws.{both}
 use Rattle.qs_meaning.specs.Typed.{Function, TypedProgram, Object, local, static}
 use Rattle.qs_meaning.specs.Interfaces as source_interfaces
 use Rattle.qs_meaning.specs.Fits as source
-use Rattle.qs_elaborate.specs.Parts.{Temporaries}
 use Rattle.qs_elaborate.specs.Expressions.{block_of}
 use Rattle.qs_elaborate.specs.Names.{FunctionNames, VariableName}
 use Rattle.qs_elaborate.specs.Units.{named_parameters, named_variables, end_of_body, body_core, function_core, no_names, functions_core, unit_core}
-use Rattle.qs_elaborate.specs.FitLaws.{are_first, IsNamed, AreNamed, functions_differ, is_main_function, AreBlocks, CoreFits}
+use Rattle.qs_elaborate.specs.FitLaws.{are_first, IsNamed, AreNamed, is_main_function, CoreFits}
 use Rattle.qs_elaborate.proofs.FitParts.{together, same_from, same_types, same_type_test, list_append, extends_self}
 use Rattle.qs_elaborate.proofs.FitExpressions.{IsAlike}
-use Rattle.qs_elaborate.proofs.FitStatements.{StatementFits, statements_fit_too}
+use Rattle.qs_elaborate.proofs.FitStatements.{statements_fit_too}
 use Rattle.qs_elaborate.proofs.FitData.{blocks_fit}
 use Rattle.qs_elaborate.proofs.Units.{places_are}
 

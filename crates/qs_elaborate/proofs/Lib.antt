@@ -31,3 +31,9 @@ mod WordValues
 mod WordFunctions
 mod SizeExamples
 mod CountExamples
+mod FitRules
+mod FitMain
+mod FitCore
+mod UnitExamples
+mod NumberingExamples
+mod WriteExamples

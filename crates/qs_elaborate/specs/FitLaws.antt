@@ -1,20 +1,29 @@
 -- What is promised of core as a unit: it fits.
-use Rattle.std.specs.Prelude.{◌≡◌, ℕ, ◌==◌, ◌&&◌, Bool, true, false, All, List, [], ◌∷◌, length, map, Option, Some, None, bytes_eq}
+use Rattle.std.specs.Prelude.{◌≡◌, ℕ, ◌==◌, ◌&&◌, Bool, true, false, List, [], ◌∷◌, map, Option, Some, None, bytes_eq}
 use Rattle.std.specs.List.{slice_get, list_all}
 use Rattle.qs_base.specs.Names.{is_name}
 use Rattle.qs_syntax.specs.Trees.{Stmts, FunctionTree, DeclTree, structure, forward, function, variables, UnitTree}
+use Rattle.qs_memory.specs.Values.{Value}
 use Rattle.qs_memory.specs.Soundness.{IsSound}
 use Rattle.qs_memory.specs.declared.scalar.Scalar.TheVariants as scalars
-use Rattle.qs_core.specs.Trees.{CoreParameterTree, CoreVariableTree}
+use Rattle.qs_calls.specs.World.{World}
+use Rattle.qs_types.specs.Limits.{IsWithinLimits}
+use Rattle.qs_types.specs.WellTyped.{WellTyped}
+use Rattle.qs_core.specs.Trees.{CoreParameterTree, CoreVariableTree, CoreUnitTree}
+use Rattle.qs_core.specs.Units.{core_run}
+use Rattle.qs_core.specs.Units as core_units
 use Rattle.qs_core.specs.Scalars.{is_type, is_promoted}
 use Rattle.qs_core.specs.Fits.{differ, same_variable, is_named, main_name, unit_fits}
 use Rattle.qs_meaning.specs.Typed.{Function, TypedProgram}
 use Rattle.qs_meaning.specs.Interfaces.{types_of}
-use Rattle.qs_meaning.specs.Units.{initial_memory}
-use Rattle.qs_meaning.specs.Fits.{are_small, program_fits}
+use Rattle.qs_meaning.specs.Units.{typed_of, initial_memory}
+use Rattle.qs_meaning.specs.Runs.{run_of, main_run}
+use Rattle.qs_meaning.specs.InitialLaws.{texts_are_bytes}
+use Rattle.qs_meaning.specs.FitLaws.{IsAsRead}
+use Rattle.qs_meaning.specs.Whole.{DataIsWhole}
+use Rattle.qs_meaning.specs.Fits.{program_fits}
 use Rattle.qs_elaborate.specs.Names.{Declared, FunctionNames, function_declares}
-use Rattle.qs_elaborate.specs.Units.{named_parameters, named_variables, no_names, unit_core}
-use Rattle.qs_elaborate.specs.Laws.{AreWhole}
+use Rattle.qs_elaborate.specs.Units.{named_parameters, named_variables, no_names, unit_core, core_of}
 
 -- ---- names
 
@@ -65,10 +74,9 @@ has_names unit = list_all declaration_has_names unit
 
 -- ---- blocks
 
--- the blocks of a unit are bytes and whole pointers, into blocks or just past their ends, and none is too large
+-- the blocks of a unit are bytes and whole pointers, none is too large, and each pointer is into a block or just past its end
 pub record AreBlocks (u : TypedProgram) : Type 0 where
-  pub whole : All (λ b. AreWhole b.cells) u.blocks
-  pub small : are_small (map (λ b. length b.cells) u.blocks) ≡ true
+  pub are_whole : DataIsWhole u
   pub sound : IsSound (initial_memory u)
 
 -- ---- what is promised
@@ -79,3 +87,20 @@ CoreFits =
     (names : List FunctionNames) (u : TypedProgram) (main : ℕ) → program_fits u ≡ true → AreNamed names u.functions
     → functions_differ u.functions ≡ true → is_main_function (slice_get u.functions main) ≡ true → AreBlocks u
     → unit_fits (unit_core names u main) ≡ true
+
+-- ---- units that are read
+
+-- a unit has a core, which fits, and which runs as the unit's typed tree does
+pub record HasCore (unit : UnitTree) : Type 0 where
+  pub core : CoreUnitTree
+  pub typed : TypedProgram
+  pub tree : typed_of unit ≡ Some typed
+  pub is : core_of unit ≡ Some core
+  pub fits : unit_fits core ≡ true
+  pub follows : (root : ℕ) (xs : List Value) (w : World) (n : ℕ) → core_run core root xs w n ≡ run_of typed root xs w n
+  pub main_follows : (xs : List Value) (input : List ℕ) (n : ℕ) → core_units.main_run core xs input n ≡ main_run typed xs input n
+
+-- so has each well typed unit that is as units that are read are
+abbrev pub UnitsHaveCores : Type 0
+UnitsHaveCores =
+    (unit : UnitTree) → IsAsRead unit → has_names unit ≡ true → texts_are_bytes unit ≡ true → WellTyped unit → IsWithinLimits unit → HasCore unit

@@ -1,8 +1,14 @@
 // The laws of core as a unit. Each is the contract of an empty function.
-ghost use Rattle.qs_elaborate.specs.FitLaws.{CoreFits};
+ghost use Rattle.qs_elaborate.specs.FitLaws.{CoreFits, UnitsHaveCores};
 
 /// The core of a typed tree that fits, with names for its functions and variables, is a unit of core that
 /// fits: operations are on operands of the types that they take, and what is numbered is there.
 pub fn core_fits()
     ensures { CoreFits }
+{}
+
+/// A well typed unit has a core, which fits and runs as the unit does. So core_follows and main_follows are
+/// said of the core that each such unit has, from every root and from main.
+pub fn units_have_cores()
+    ensures { UnitsHaveCores }
 {}

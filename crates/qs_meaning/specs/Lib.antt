@@ -18,5 +18,6 @@ pub mod InitialLaws
 pub mod Interfaces
 pub mod Fits
 pub mod FitLaws
+pub mod Whole
 pub mod Ranges
 pub mod StepLaws

@@ -46,3 +46,4 @@ mod FitUnits
 mod Shapes
 mod FitData
 mod FitBlocks
+mod FitReadings

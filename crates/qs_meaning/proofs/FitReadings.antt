@@ -1,5 +1,5 @@
 -- A unit that is read is as the laws on typed trees ask: its nodes have different numbers, its constants are words, and its lists are filled.
-use Rattle.std.proofs.Common.{◌≡◌, ◌≤◌, ◌<◌, ℕ, suc, ◌+◌, ◌==◌, ◌^◌, nat_lt, Bool, true, false, not, ◌&&◌, ◌||◌, List, [], ◌∷◌, ◌++◌, map, Option, Some, None, refl, sym, ap, ◌∙◌, subst, arith, if◌then◌else◌}
+use Rattle.std.proofs.Common.{◌≡◌, ◌<◌, ℕ, ◌+◌, ◌==◌, ◌^◌, nat_lt, Bool, true, false, not, ◌||◌, List, [], ◌∷◌, ◌++◌, Option, Some, refl, sym, ap, ◌∙◌, subst, arith, if◌then◌else◌}
 use Rattle.std.specs.List.{list_all}
 use Rattle.std.proofs.lemmas.Bool.Decides.{nat_tests}
 use Rattle.std.proofs.lemmas.List.Folds.{list_all-append}
@@ -13,7 +13,7 @@ use Rattle.qs_syntax.specs.Units.{is_well_formed, Reading}
 use Rattle.qs_syntax.specs.Trees.{ExprTree, Exprs, LengthsTree, DeclaratorTree, InitialiserTree, Initialisers, VariableTree, DeclarationTree, ParameterTree, MembersTree, StartTree, StmtTree, Stmts, FunctionTree, DeclTree, UnitTree}
 use Rattle.qs_syntax.specs.Trees as trees
 use Rattle.qs_syntax.specs.Nodes.{all_count, option_count, start_count, stmt_count, expr_count, declarator_count, variable_count, parameter_count, members_count, decl_count, unit_nodes}
-use Rattle.qs_syntax.specs.Numbering.{relabel_nodes, relabel_all, relabel_option, relabel_expr, relabel_exprs, relabel_lengths, relabel_declarator, relabel_initialiser, relabel_initialisers, relabel_variable, relabel_declaration, relabel_parameter, relabel_members, relabel_start, relabel_stmt, relabel_stmts, relabel_function, relabel_decl, numbered, numbered_unit}
+use Rattle.qs_syntax.specs.Numbering.{relabel_nodes, relabel_all, relabel_option, relabel_expr, relabel_exprs, relabel_lengths, relabel_declarator, relabel_initialiser, relabel_initialisers, relabel_variable, relabel_parameter, relabel_members, relabel_start, relabel_stmt, relabel_stmts, relabel_function, relabel_decl, numbered}
 use Rattle.qs_syntax.specs.Reads.{Form, Reads, ReadsArguments, place, a_name, an_empty_call, a_call, a_constant, a_text, in_parentheses, an_index, a_member, an_increment_after, a_decrement_after, a_postfix, an_increment, a_decrement, an_operator, a_size_of_type, a_size_of_value, a_cast, an_operand, stronger, an_operation, a_plain_level, a_choice, a_plain_conditional, an_assignment, a_plain_assignment, a_comma, a_last_argument, an_argument}
 use Rattle.qs_syntax.specs.ReadsDeclarations.{ReadsGiven, no_length, a_length, ReadsLengths, are_given, first_open, ReadsDeclarator, a_declarator, ReadsInitialiser, a_value, a_list, ReadsInitialisers, a_last_initialiser, a_last_with_comma, an_initialiser, ReadsVariable, an_unset_variable, a_set_variable, ReadsVariables, a_last_variable, a_variable, ReadsDeclaration, a_declaration, ReadsOuterDeclaration, an_outer_declaration, ReadsDeclarators, a_last_member, ReadsMembers, a_group, ReadsAllMembers, a_last_group, a_further_group, ReadsParameter, a_named_parameter, an_unnamed_parameter, ReadsParameters, a_last_parameter, a_parameter, ReadsHead, no_parameter, a_void_head, some_parameters}
 use Rattle.qs_syntax.specs.ReadsDeclarations as declarations
@@ -22,14 +22,13 @@ use Rattle.qs_syntax.specs.ReadsUnits.{ReadsExternal, a_struct_with_members, a_f
 use Rattle.qs_syntax.proofs.NodeLaws.{unit_at}
 use Rattle.qs_types.specs.Types.{TypeTree}
 use Rattle.qs_types.specs.Contexts.{Context, start_context, inner_scope, inside_loop}
-use Rattle.qs_types.specs.Declarations.{variable_declared}
 use Rattle.qs_types.specs.InitialiserRules.{option_part}
 use Rattle.qs_types.specs.Placed.{is_one_of}
 use Rattle.qs_types.specs.StatementRules.{after_variable, after_statement, for_context}
-use Rattle.qs_types.specs.Sites.{Site, site, sites, option_sites, declarator_sites, declarators_sites, initialiser_sites, elements_sites, option_initialiser_sites, variable_sites, variables_sites, start_sites, statement_sites, statements_sites, members_sites, parameters_sites, declaration_sites, declarations_sites, unit_sites}
-use Rattle.qs_types.specs.UnitRules.{with_tag, after_parameter, body_context, after_declaration}
+use Rattle.qs_types.specs.Sites.{Site, site, sites, option_sites, declarator_sites, declarators_sites, initialiser_sites, elements_sites, variable_sites, variables_sites, start_sites, statement_sites, statements_sites, members_sites, parameters_sites, declaration_sites, declarations_sites}
+use Rattle.qs_types.specs.UnitRules.{with_tag, body_context, after_declaration}
 use Rattle.qs_meaning.specs.FitLaws.{are_different, numbers_differ, has_words, all_have_words, constants_are_words, is_filled, variables_filled, start_filled, statement_filled, statements_filled, has_declarators, members_filled, declaration_filled, lists_are_filled, IsAsRead, ReadIsAsRead}
-use Rattle.qs_meaning.proofs.Options.{never, left, right, all_left, all_right}
+use Rattle.qs_meaning.proofs.Options.{left, right, all_left, all_right}
 use Rattle.qs_meaning.proofs.FitConversions.{both}
 use Rattle.qs_meaning.proofs.FitLocals.{ids}
 

@@ -42,8 +42,8 @@ mod FitBodies
 mod FitTables
 mod FitSignatures
 mod FitSites
-mod FitUnits
+pub mod FitUnits
 mod Shapes
 mod FitData
-mod FitBlocks
-mod FitReadings
+pub mod FitBlocks
+pub mod FitReadings

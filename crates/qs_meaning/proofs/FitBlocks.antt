@@ -1,17 +1,15 @@
 -- The blocks that are there when a run begins hold bytes and whole pointers, and none is larger than a type may be.
-use Rattle.std.proofs.Common.{◌≡◌, ◌≤◌, ◌<◌, ℕ, suc, ◌+◌, nat_le, Bool, true, false, ◌&&◌, ◌||◌, List, [], ◌∷◌, ◌++◌, length, map, All, Option, Some, None, is_some, refl, sym, ap, ◌∙◌, subst, arith, if◌then◌else◌}
+use Rattle.std.proofs.Common.{◌≡◌, ℕ, ◌+◌, nat_le, Bool, true, false, List, [], ◌∷◌, ◌++◌, length, map, All, Option, Some, None, is_some, refl, sym, ap, ◌∙◌, subst, arith, if◌then◌else◌}
 use Rattle.std.specs.List.{list_all}
-use Rattle.std.proofs.lemmas.Bool.Decides.{nat_tests}
 use Rattle.std.proofs.lemmas.List.{length-append, length-map}
 use Rattle.std.proofs.lemmas.List.Elements.{All-nil, All-cons}
 use Rattle.qs_syntax.specs.declared.types.Base.{Base}
 use Rattle.qs_syntax.specs.Trees.{InitialiserTree, VariableTree, DeclTree, structure, forward, function, variables, UnitTree}
 use Rattle.qs_syntax.specs.Trees as trees
-use Rattle.qs_memory.specs.Partial.{◌>>=◌}
 use Rattle.qs_memory.specs.Memory.{Cell, byte, BlankTree, blank_cells}
 use Rattle.qs_memory.proofs.Options.{followed}
 use Rattle.qs_types.specs.Types.{TypeTree, Structs}
-use Rattle.qs_types.specs.Layout.{size_of, defined_structs, size_limit}
+use Rattle.qs_types.specs.Layout.{defined_structs}
 use Rattle.qs_types.specs.Rules.{keeps, breaks_one, faults_of}
 use Rattle.qs_types.specs.declared.rules.Rule.TheVariants as rules
 use Rattle.qs_types.specs.Contexts.{Context, start_context}
@@ -20,18 +18,16 @@ use Rattle.qs_types.specs.Declarations.{lengths_faults, variable_declared}
 use Rattle.qs_types.specs.InitialiserRules.{element_fits, initialiser_faults, is_typed, initialiser_tests}
 use Rattle.qs_types.specs.InitialiserRules as initialising
 use Rattle.qs_types.specs.StatementRules.{after_variable, after_variables, again_tests, variable_tests, variable_faults, option_initialiser_faults, variables_faults}
-use Rattle.qs_types.specs.UnitRules.{with_tag, after_struct, after_declaration, declaration_faults, declarations_faults}
+use Rattle.qs_types.specs.UnitRules.{after_declaration, declaration_faults, declarations_faults}
 use Rattle.qs_types.specs.References.{TextBlock, literal_blocks}
-use Rattle.qs_types.specs.Limits.{IsWithinLimits}
-use Rattle.qs_types.specs.WellTyped.{WellTyped}
 use Rattle.qs_meaning.specs.Typed.{StaticBlock, TypedProgram}
 use Rattle.qs_meaning.specs.Names.{Scope, within}
 use Rattle.qs_meaning.specs.Blanks.{blank_of}
 use Rattle.qs_meaning.specs.Initialisers.{pieces}
-use Rattle.qs_meaning.specs.InitialValues.{text_cells, pieces_over, initial_cells, variable_block, text_block}
-use Rattle.qs_meaning.specs.Units.{function_typed, file_variable_typed, file_variables_typed, declaration_typed, declarations_typed, start_scope, typed_of}
+use Rattle.qs_meaning.specs.InitialValues.{text_cells, initial_cells, variable_block, text_block}
+use Rattle.qs_meaning.specs.Units.{function_typed, file_variable_typed, file_variables_typed, declaration_typed, declarations_typed, start_scope}
 use Rattle.qs_meaning.specs.Fits.{are_small, largest_size}
-use Rattle.qs_meaning.specs.FitLaws.{is_filled, variables_filled, declaration_filled, IsAsRead}
+use Rattle.qs_meaning.specs.FitLaws.{is_filled, variables_filled, declaration_filled}
 use Rattle.qs_meaning.specs.TypedLaws.{IsFileScope}
 use Rattle.qs_meaning.specs.Whole.{AreWhole, DataIsWhole, TypedDataIsWhole}
 use Rattle.qs_meaning.proofs.Options.{never, left, right, nothing, same}
@@ -41,14 +37,14 @@ use Rattle.qs_meaning.proofs.Bodies.{not_held_back}
 use Rattle.qs_meaning.proofs.FunctionsTyped.{file_sound}
 use Rattle.qs_meaning.proofs.UnitsTyped.{start_known}
 use Rattle.qs_meaning.proofs.FitConversions.{both}
-use Rattle.qs_meaning.proofs.FitTypes.{is_small, SmallTable, size_room, is_least}
+use Rattle.qs_meaning.proofs.FitTypes.{SmallTable, size_room, is_least}
 use Rattle.qs_meaning.proofs.FitLeaves.{is_short}
 use Rattle.qs_meaning.proofs.FitDeclared.{SizedType, variable_small}
-use Rattle.qs_meaning.proofs.FitTables.{After, tag_after, struct_after}
+use Rattle.qs_meaning.proofs.FitTables.{tag_after, struct_after}
 use Rattle.qs_meaning.proofs.FitSignatures.{file_after, variable_after}
 use Rattle.qs_meaning.proofs.FitSites.{literals_short}
 use Rattle.qs_meaning.proofs.FitData.{shape_width, over_there, pieces_written}
-use Rattle.qs_meaning.proofs.Shapes.{width, bytes, shape_of, Conforms, are_whole, conforms_length, blank_conforms, text_conforms, whole_part}
+use Rattle.qs_meaning.proofs.Shapes.{bytes, shape_of, Conforms, are_whole, conforms_length, blank_conforms, text_conforms, whole_part}
 
 -- ---- blocks
 
@@ -163,8 +159,11 @@ module _ (s₀ : Scope) where
       let here = block_good after (has_types (within s₀ after) [] (file_sound s₀ after [] scope)) table t.value (variable_small c base v t.value (left _ _ filled) t.first) v.initialiser now.value
       (subst (λ o. breaks_one (initialiser_tests true after o v.initialiser) ≡ false) t.first own_tests)
       (subst (λ o. option_initialiser_faults true after o v.initialiser ≡ []) t.first initialiser) t.then in
-      subst AreGood (same _ bs later.then) (here, variables_good vs after base later.value scope table
-      (none_right (variable_faults true c after base v) (variables_faults true after base vs) f) (right (is_filled v.initialiser) _ filled) later.first)
+      subst AreGood (same _ bs later.then) (
+        here,
+        variables_good vs after base later.value scope table
+            (none_right (variable_faults true c after base v) (variables_faults true after base vs) f) (right (is_filled v.initialiser) _ filled) later.first,
+      )
 
   -- ---- declarations
 

@@ -1,57 +1,44 @@
 -- The typed tree of a function that breaks no rule fits.
-use Rattle.std.proofs.Common.{◌≡◌, ◌≤◌, ◌<◌, ◌⊎◌, inl, inr, ℕ, zero, suc, ◌+◌, ◌==◌, nat_lt, nat_le, Bool, true, false, cond, not, ◌&&◌, ◌||◌, List, [], ◌∷◌, ◌++◌, length, map, filter, Option, Some, None, is_some, option_map, refl, sym, ap, ◌∙◌, subst, arith, if◌then◌else◌}
+use Rattle.std.proofs.Common.{◌≡◌, ◌⊎◌, inl, inr, ℕ, ◌+◌, nat_lt, Bool, true, false, not, ◌||◌, List, [], ◌∷◌, ◌++◌, length, Option, Some, None, is_some, refl, sym, ap, ◌∙◌, subst, arith, if◌then◌else◌}
 use Rattle.std.specs.List.{list_all, slice_get}
-use Rattle.std.proofs.lemmas.Bool.{eq-eqb}
-use Rattle.std.proofs.lemmas.List.{map-append, length-append}
+use Rattle.std.proofs.lemmas.List.{length-append}
 use Rattle.qs_syntax.specs.Sameness.{same_bytes}
-use Rattle.qs_syntax.specs.declared.nodes.Node.{Node}
 use Rattle.qs_syntax.specs.Trees.{ParameterTree, FunctionTree, Stmts}
 use Rattle.qs_syntax.specs.Nodes.{all_nodes, parameter_nodes, stmts_nodes}
-use Rattle.qs_memory.specs.Partial.{◌>>=◌}
-use Rattle.qs_memory.specs.Values.{width}
 use Rattle.qs_memory.specs.declared.scalar.Scalar.{Scalar}
 use Rattle.qs_memory.specs.declared.scalar.Scalar.TheVariants as scalars
 use Rattle.qs_memory.proofs.Options.{followed}
-use Rattle.qs_calls.specs.declared.callee.Callee.TheVariants.{Function, PutChar, GetChar}
 use Rattle.qs_calls.specs.declared.parameter.Parameter.{Parameter}
-use Rattle.qs_calls.specs.declared.parameter.Parameter.TheVariants.{Plain, Placed}
-use Rattle.qs_calls.specs.Starts.{Interface, signature_of}
-use Rattle.qs_types.specs.Types.{TypeTree, int, unsigned, char, void, pointer, array, struct, is_scalar, same_type, Structs}
-use Rattle.qs_types.specs.Layout.{and_then, size_of}
-use Rattle.qs_types.specs.GivenFunctions.{Signature, putchar_name, main_name}
-use Rattle.qs_types.specs.Rules.{Test, keeps, breaks_one, test}
+use Rattle.qs_calls.specs.Starts.{Interface}
+use Rattle.qs_types.specs.Types.{TypeTree, int, unsigned, char, void, pointer, array, struct, is_scalar, Structs}
+use Rattle.qs_types.specs.GivenFunctions.{main_name}
+use Rattle.qs_types.specs.Rules.{keeps, breaks_one}
 use Rattle.qs_types.specs.declared.rules.Rule.TheVariants as rules
-use Rattle.qs_types.specs.Contexts.{Entity, local_variable, file_variable, function, given, Binding, Context, inner_scope, starred_type, is_void_base, base_type}
-use Rattle.qs_types.specs.Expressions.{type_or_void}
-use Rattle.qs_types.specs.Declarations.{Declared, undeclared, all_typed, lengths_of, object_declared, element_lengths, first_length, is_length, is_length_typed, is_array_parameter, array_parameter, held_parameter, plain_parameter, parameter_declared}
+use Rattle.qs_types.specs.Contexts.{Binding, Context, inner_scope}
 use Rattle.qs_types.specs.StatementRules.{statements_faults}
-use Rattle.qs_types.specs.UnitRules.{with_parameter, after_parameter, parameter_types, with_parameters, result_type, header_of, all_of, signature_by, is_main_type, may_be, main_tests, result_tests, header_tests, may_declare, parameters_faults, after_function, body_context, body_faults, function_faults}
+use Rattle.qs_types.specs.UnitRules.{with_parameter, parameter_types, with_parameters, result_type, header_of, is_main_type, may_be, main_tests, result_tests, may_declare, parameters_faults, after_function, body_context, body_faults, function_faults}
 use Rattle.qs_types.specs.Placed.{Local, is_one_of, is_placed, parameters_locals, statements_locals, addressed_in}
 use Rattle.qs_types.specs.References.{TextBlock}
-use Rattle.qs_types.specs.Sites.{Site, statements_sites}
+use Rattle.qs_types.specs.Sites.{statements_sites}
 use Rattle.qs_meaning.specs.Typed.{Expr, pointer_to, Lvalue, variable, object, local}
 use Rattle.qs_meaning.specs.Typed as typed_trees
-use Rattle.qs_meaning.specs.Conversions.{scalar_of, same_scalar}
-use Rattle.qs_meaning.specs.Names.{Locals, Statics, Scope, place_among, local_lvalue, function_number}
-use Rattle.qs_meaning.specs.Statements.{statements_typed}
-use Rattle.qs_meaning.specs.Units.{nodes_of, placed_among, plain_among, variables_among, locals_of, parameters_in, scalars_of, sizes_of, parameter_in_object, parameter_by, parameter_typed, parameters_typed, result_scalar, in_body, function_with}
-use Rattle.qs_meaning.specs.Interfaces.{types_of, signature}
-use Rattle.qs_meaning.specs.Fits.{is_type, lvalue_fits, is_size, place_fits, parameters_placed, end_fits, stmts_fit, are_small, largest_size, function_fits}
+use Rattle.qs_meaning.specs.Conversions.{scalar_of}
+use Rattle.qs_meaning.specs.Names.{Locals, Scope, place_among, local_lvalue}
+use Rattle.qs_meaning.specs.Units.{nodes_of, placed_among, plain_among, variables_among, parameters_in, scalars_of, parameter_typed, parameters_typed, result_scalar}
+use Rattle.qs_meaning.specs.Fits.{is_type, lvalue_fits, parameters_placed, end_fits, stmts_fit, are_small, function_fits}
 use Rattle.qs_meaning.specs.FitLaws.{are_different, statements_filled}
 use Rattle.qs_meaning.specs.TypedLaws.{IsFileScope}
-use Rattle.qs_meaning.proofs.Options.{never, left, right, nothing, same, went, Known}
-use Rattle.qs_meaning.proofs.Faultless.{none_left, none_right, first_unbroken, second_unbroken}
-use Rattle.qs_meaning.proofs.TypedExpressions.{kept, unless}
-use Rattle.qs_meaning.proofs.Functions.{is_scalar_type, all_scalar, same_result, same_structs_with}
-use Rattle.qs_meaning.proofs.UnitsTyped.{header_parts, header_unbroken, header_result, header_scalar, header_signature}
+use Rattle.qs_meaning.proofs.Options.{never, left, right, nothing, same, Known}
+use Rattle.qs_meaning.proofs.Faultless.{none_right, second_unbroken}
+use Rattle.qs_meaning.proofs.TypedExpressions.{kept}
+use Rattle.qs_meaning.proofs.Functions.{all_scalar, same_result, same_structs_with}
+use Rattle.qs_meaning.proofs.UnitsTyped.{header_parts, header_unbroken, header_result, header_scalar}
 use Rattle.qs_meaning.proofs.FitConversions.{both, same_self}
-use Rattle.qs_meaning.proofs.FitTypes.{is_small, SmallTable, IsRoom, size_room, is_least}
-use Rattle.qs_meaning.proofs.FitLeaves.{is_short, Places, places, scalar_signature, EntityFits, AllFit}
-use Rattle.qs_meaning.proofs.FitSmall.{starred_small}
+use Rattle.qs_meaning.proofs.FitTypes.{SmallTable}
+use Rattle.qs_meaning.proofs.FitLeaves.{is_short, places, AllFit}
 use Rattle.qs_meaning.proofs.FitInitialisers.{LocalPlace, in_variable, in_block, site_sure}
-use Rattle.qs_meaning.proofs.FitDeclared.{SizedType, AllPositive, lengths_positive, object_small}
 use Rattle.qs_meaning.proofs.FitStatements.{LocalIs, LocalsAre, InBody, statements_there}
-use Rattle.qs_meaning.proofs.FitLocals.{Sub, sub_same, sub_append, sub_map, sub_filter, sub_different, In, in_left, in_right, in_either, in_filter, node_in, not_among, scalar_at, SizeAt, size_at, below_length, place_behind, ids, among_both, parameters_among, statements_among, SmallLocals, small_both, statements_small}
+use Rattle.qs_meaning.proofs.FitLocals.{sub_same, sub_append, sub_map, sub_filter, sub_different, In, in_left, in_right, in_either, in_filter, node_in, not_among, scalar_at, SizeAt, size_at, below_length, place_behind, ids, among_both, parameters_among, statements_among, SmallLocals, small_both, statements_small}
 use Rattle.qs_meaning.proofs.FitFunctions.{AllFile, all_in_function, parameters_small, small_in, sizes_small, in_filtered, parameter_place, variable_place, locals_in, Made}
 
 module _ (i : Interface) (called : List ℕ → Bool) (there : TextBlock → Bool) (s : Scope)
@@ -134,7 +121,7 @@ module _ (i : Interface) (called : List ℕ → Bool) (there : TextBlock → Boo
       as_block false p at = never p
       as_block true p at = (
         both _ _ (subst (λ z. nat_lt (place_among l.node locals.placed) (length z) ≡ true) (sym blocks_are)
-        (below_length made.sizes (place_among l.node locals.placed) at.size at.stands)) refl,
+            (below_length made.sizes (place_among l.node locals.placed) at.size at.stands)) refl,
         in_block (place_among l.node locals.placed) (ap (λ z. slice_get z (place_among l.node locals.placed)) blocks_are ∙ (at.stands ∙ sym at.is)),
       )
 

@@ -1,6 +1,5 @@
 -- Conversions and operations of the typed tree take values of the types that they are for.
-use Rattle.std.proofs.Common.{◌≡◌, ◌⊎◌, inl, inr, ℕ, Bool, true, false, ◌&&◌, ◌||◌, Option, Some, None, refl, sym, ap, ◌∙◌, subst, if◌then◌else◌}
-use Rattle.qs_memory.specs.Partial.{◌>>=◌}
+use Rattle.std.proofs.Common.{◌≡◌, ◌⊎◌, inl, inr, ℕ, Bool, true, false, ◌&&◌, ◌||◌, Some, refl, sym, ap, ◌∙◌, subst, if◌then◌else◌}
 use Rattle.qs_memory.specs.declared.scalar.Scalar.{Scalar}
 use Rattle.qs_memory.specs.declared.scalar.Scalar.TheVariants as scalars
 use Rattle.qs_memory.specs.declared.operation.Signedness.{Signedness}
@@ -13,12 +12,12 @@ use Rattle.qs_memory.specs.declared.operation.Comparison.{Comparison}
 use Rattle.qs_memory.specs.Operations.{integer_type, binary_type}
 use Rattle.qs_memory.proofs.Options.{some_same, followed}
 use Rattle.qs_types.specs.Types.{TypeTree, int, unsigned, char, void, pointer, array, struct, is_integer, is_pointer, is_scalar, referenced, same_type, Structs}
-use Rattle.qs_types.specs.Layout.{size_of, is_complete}
-use Rattle.qs_types.specs.Conversions.{decayed, promoted, arithmetic, common}
+use Rattle.qs_types.specs.Layout.{size_of}
+use Rattle.qs_types.specs.Conversions.{decayed, arithmetic, common}
 use Rattle.qs_types.specs.Expressions.{both_integers, is_object_pointer, may_add, may_subtract, difference_type}
-use Rattle.qs_meaning.specs.Typed.{Conversion, unchanged, converted, as_written}
+use Rattle.qs_meaning.specs.Typed.{unchanged, converted, as_written}
 use Rattle.qs_meaning.specs.Conversions.{scalar_of, same_scalar, conversion}
-use Rattle.qs_meaning.specs.Operations.{Operated, signedness, combined, shifted, compared, moved, moved_from_left, apart, summed, subtracted}
+use Rattle.qs_meaning.specs.Operations.{Operated, combined, shifted, compared, moved, moved_from_left, apart, summed, subtracted}
 use Rattle.qs_meaning.specs.Fits.{type_after, converts, conversion_fits, is_promoted, takes_second, is_element, takes_operands, takes_in_order, amount_type}
 use Rattle.qs_meaning.proofs.Options.{never, left, right, either}
 use Rattle.qs_meaning.proofs.TypedValues.{scalar_same}

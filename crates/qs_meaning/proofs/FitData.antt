@@ -1,61 +1,34 @@
 -- The blocks that are there when a run begins have the shapes of their types.
-use Rattle.std.proofs.Common.{◌≡◌, ◌≤◌, ◌<◌, ℕ, zero, suc, ◌+◌, ◌-◌, ◌*◌, nat_lt, nat_le, Bool, true, false, ◌&&◌, ◌||◌, List, [], ◌∷◌, ◌++◌, length, map, take, All, Option, Some, None, is_some, refl, sym, ap, ◌∙◌, subst, arith, if◌then◌else◌}
-use Rattle.std.specs.List.{list_all, slice_get}
+use Rattle.std.proofs.Common.{◌≡◌, ◌≤◌, ◌<◌, ℕ, zero, suc, ◌+◌, ◌-◌, ◌*◌, nat_lt, Bool, true, false, ◌&&◌, ◌||◌, List, [], ◌∷◌, ◌++◌, length, Option, Some, None, is_some, refl, sym, ap, ◌∙◌, subst, arith, if◌then◌else◌}
+use Rattle.std.specs.List.{slice_get}
 use Rattle.std.proofs.lemmas.Bool.Decides.{nat_tests}
-use Rattle.std.proofs.lemmas.List.Elements.{All-nil, All-cons}
-use Rattle.qs_syntax.specs.declared.types.Base.{Base}
 use Rattle.qs_syntax.specs.Trees.{ExprTree, InitialiserTree, Initialisers, no_initialisers, initialiser_and, VariableTree, DeclTree, structure, forward, function, variables, UnitTree}
 use Rattle.qs_syntax.specs.Trees as trees
-use Rattle.qs_memory.specs.Partial.{◌>>=◌}
-use Rattle.qs_memory.specs.Values.{Pointer, width as scalar_width}
-use Rattle.qs_memory.specs.Memory.{Cell, byte, bytes_of, parts_of, BlankTree, zeros, nulls, repeated, joined, blank_cells}
-use Rattle.qs_memory.specs.Memory as memory
-use Rattle.qs_memory.specs.declared.scalar.Scalar.TheVariants as scalars
+use Rattle.qs_memory.specs.Memory.{Cell, BlankTree, zeros, joined, blank_cells}
 use Rattle.qs_memory.proofs.Options.{followed}
 use Rattle.qs_types.specs.declared.extent.Extent.{Extent}
 use Rattle.qs_types.specs.Types.{TypeTree, int, unsigned, char, void, pointer, array, struct, MemberTree, Structs}
-use Rattle.qs_types.specs.Layout.{and_then, StructLayout, extent_by, extents_by, rounded_up, offsets_from, end_from, member_types, struct_of, layout_of, extent_of, size_of, size_limit}
+use Rattle.qs_types.specs.Layout.{and_then, StructLayout, extents_by, rounded_up, offsets_from, member_types, struct_of, layout_of, extent_of, size_of}
 use Rattle.qs_types.specs.Rules.{keeps, breaks_one, faults_of}
 use Rattle.qs_types.specs.declared.rules.Rule.TheVariants as rules
-use Rattle.qs_types.specs.Contexts.{Context, start_context}
+use Rattle.qs_types.specs.Contexts.{Context}
 use Rattle.qs_types.specs.Expressions.{type_of}
 use Rattle.qs_types.specs.ExpressionFaults.{whole, expr_faults}
 use Rattle.qs_types.specs.Constants.{constant_of}
-use Rattle.qs_types.specs.Declarations.{text_of, lengths_faults, variable_declared}
-use Rattle.qs_types.specs.InitialiserRules.{member_at, part_type, holds_text, fits_variable, fits_typed, takes_list, element_fits, elements_fit, elements_typed, list_tests, initialiser_faults, elements_faults, is_typed, initialiser_tests}
-use Rattle.qs_types.specs.InitialiserRules as initialising
-use Rattle.qs_types.specs.StatementRules.{after_variable, after_variables, again_tests, variable_tests, variable_faults, option_initialiser_faults, variables_faults}
-use Rattle.qs_types.specs.UnitRules.{with_tag, after_struct, after_function, after_declaration, declaration_faults, declarations_faults}
-use Rattle.qs_types.specs.References.{TextBlock, literal_blocks}
-use Rattle.qs_types.specs.Limits.{IsWithinLimits}
-use Rattle.qs_types.specs.WellTyped.{WellTyped}
-use Rattle.qs_meaning.specs.Typed.{StaticBlock, TypedProgram}
-use Rattle.qs_meaning.specs.Names.{Scope, within}
-use Rattle.qs_meaning.specs.Blanks.{Blanks, blank_by, members_blank, struct_blank, blanks_within, blank_of}
+use Rattle.qs_types.specs.Declarations.{text_of}
+use Rattle.qs_types.specs.InitialiserRules.{member_at, part_type, holds_text, fits_variable, fits_typed, takes_list, element_fits, elements_fit, elements_typed, list_tests, initialiser_faults, elements_faults}
+use Rattle.qs_meaning.specs.Names.{Scope}
+use Rattle.qs_meaning.specs.Blanks.{Blanks, blank_by, members_blank, blanks_within}
 use Rattle.qs_meaning.specs.Initialisers.{part_offset, Piece, pieces, pieces_from}
-use Rattle.qs_meaning.specs.InitialValues.{pointer_width, pointer_constant, text_cells, piece_cells, written_over, pieces_over, initial_cells, variable_block, text_block}
-use Rattle.qs_meaning.specs.Units.{function_typed, file_variable_typed, file_variables_typed, declaration_typed, declarations_typed, start_scope, typed_of}
-use Rattle.qs_meaning.specs.Fits.{are_small, largest_size}
-use Rattle.qs_meaning.specs.FitLaws.{is_filled, variables_filled, declaration_filled, IsAsRead}
-use Rattle.qs_meaning.specs.TypedLaws.{IsFileScope}
-use Rattle.qs_meaning.specs.Whole.{AreWhole, no_cells, byte_before, DataIsWhole, TypedDataIsWhole}
+use Rattle.qs_meaning.specs.InitialValues.{pointer_constant, text_cells, piece_cells, written_over, pieces_over}
 use Rattle.qs_meaning.proofs.Options.{never, left, right, same, went, Known, known}
 use Rattle.qs_meaning.proofs.Options as options
 use Rattle.qs_meaning.proofs.CompleteTypes.{fits_takes}
-use Rattle.qs_meaning.proofs.Faultless.{HasTypes, none_left, none_right, unbroken, first_unbroken, second_unbroken, type_of_known}
-use Rattle.qs_meaning.proofs.Bindings.{has_types}
-use Rattle.qs_meaning.proofs.Bodies.{lengths_typed, not_held_back}
-use Rattle.qs_meaning.proofs.FunctionsTyped.{file_sound}
-use Rattle.qs_meaning.proofs.UnitsTyped.{start_known}
+use Rattle.qs_meaning.proofs.Faultless.{HasTypes, none_left, none_right, unbroken, type_of_known}
 use Rattle.qs_meaning.proofs.FitConversions.{both}
-use Rattle.qs_meaning.proofs.FitTypes.{AllPositive, is_small, SmallTable, size_room, is_least, rounded_above}
-use Rattle.qs_meaning.proofs.FitLayouts.{Laid, laid, PartFits, part_fits, blank_length, blanks_length}
-use Rattle.qs_meaning.proofs.FitLeaves.{is_short}
-use Rattle.qs_meaning.proofs.FitDeclared.{SizedType, variable_small}
-use Rattle.qs_meaning.proofs.FitTables.{After, tag_after, struct_after}
-use Rattle.qs_meaning.proofs.FitSignatures.{file_after, variable_after}
-use Rattle.qs_meaning.proofs.FitSites.{literals_short}
-use Rattle.qs_meaning.proofs.Shapes.{Slot, a_byte, a_pointer, width, copies, bytes, shape_of, Conforms, none, with_byte, with_pointer, are_whole, conforms_length, blank_conforms, number_conforms, Bytes, text_conforms, taken_bytes, Part, whole_part, part_next, part_at, part_front, part_behind, part_copy, part_bytes, over_conforms}
+use Rattle.qs_meaning.proofs.FitTypes.{AllPositive, rounded_above}
+use Rattle.qs_meaning.proofs.FitLayouts.{laid, blank_length, blanks_length}
+use Rattle.qs_meaning.proofs.Shapes.{Slot, a_pointer, width, copies, bytes, shape_of, Conforms, none, with_pointer, conforms_length, blank_conforms, number_conforms, text_conforms, taken_bytes, Part, part_next, part_at, part_front, part_behind, part_copy, part_bytes, over_conforms}
 
 -- ---- the shapes of parts
 

@@ -1,19 +1,19 @@
 -- Declared types are small, and have sizes.
-use Rattle.std.proofs.Common.{◌≡◌, ◌≤◌, ℕ, zero, suc, ◌+◌, ◌==◌, ◌^◌, nat_lt, nat_le, Bool, true, false, not, ◌&&◌, ◌||◌, List, [], ◌∷◌, ◌++◌, length, Option, Some, None, is_some, refl, sym, ap, ◌∙◌, subst, arith, if◌then◌else◌}
+use Rattle.std.proofs.Common.{◌≡◌, ◌≤◌, ℕ, zero, suc, ◌+◌, ◌==◌, ◌^◌, nat_lt, Bool, true, false, not, ◌&&◌, ◌||◌, List, [], ◌∷◌, ◌++◌, length, Option, Some, None, is_some, refl, sym, ap, subst, arith, if◌then◌else◌}
 use Rattle.qs_syntax.specs.declared.types.Base.{Base}
 use Rattle.qs_syntax.specs.Trees.{ExprTree, expr, ShapeTree, LengthsTree, DeclaratorTree, InitialiserTree, Initialisers, no_initialisers, initialiser_and, VariableTree}
 use Rattle.qs_syntax.specs.Trees as trees
 use Rattle.qs_types.specs.declared.extent.Extent.{Extent}
-use Rattle.qs_types.specs.Types.{TypeTree, unsigned, void, array, same_type, Structs}
-use Rattle.qs_types.specs.Layout.{and_then, Layouts, array_extent, extent_within, layout_of, extent_of, size_of, sized_by, is_sized}
-use Rattle.qs_types.specs.Rules.{Test, keeps, breaks_one, type_unless}
+use Rattle.qs_types.specs.Types.{TypeTree, unsigned, array, same_type, Structs}
+use Rattle.qs_types.specs.Layout.{and_then, array_extent, extent_within, layout_of, size_of, sized_by, is_sized}
+use Rattle.qs_types.specs.Rules.{keeps, breaks_one}
 use Rattle.qs_types.specs.declared.rules.Rule.TheVariants as rules
 use Rattle.qs_types.specs.Contexts.{Context, starred_type}
 use Rattle.qs_types.specs.Expressions.{type_or_void, type_of}
 use Rattle.qs_types.specs.Constants.{constant_of, length_within, length_of}
-use Rattle.qs_types.specs.Declarations.{all_typed, lengths_of, arrays, whole_lengths, object_by, element_tests, object_type, size_tests, with_size_tests, object_declared, undeclared, declared, initialisers_count, text_of, length_by, variable_declared}
+use Rattle.qs_types.specs.Declarations.{all_typed, lengths_of, arrays, whole_lengths, element_tests, object_type, size_tests, object_declared, undeclared, declared, initialisers_count, text_of, length_by, variable_declared}
 use Rattle.qs_meaning.specs.FitLaws.{is_filled}
-use Rattle.qs_meaning.proofs.Options.{never, left, right, nothing, same, went, Known, known}
+use Rattle.qs_meaning.proofs.Options.{never, nothing, same, went, Known, known}
 use Rattle.qs_meaning.proofs.Faultless.{first_unbroken, second_unbroken}
 use Rattle.qs_meaning.proofs.TypedExpressions.{unless}
 use Rattle.qs_meaning.proofs.FitConversions.{both}

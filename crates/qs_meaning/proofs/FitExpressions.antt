@@ -1,5 +1,5 @@
 -- The typed tree of an expression fits.
-use Rattle.std.proofs.Common.{◌≡◌, ◌≤◌, ◌<◌, ◌⊎◌, inl, inr, ℕ, ◌+◌, ◌^◌, nat_lt, nat_le, ◌==◌, Bool, true, false, not, ◌&&◌, ◌||◌, List, [], ◌∷◌, ◌++◌, map, length, Option, Some, None, is_some, refl, sym, ap, ◌∙◌, subst, arith, if◌then◌else◌}
+use Rattle.std.proofs.Common.{◌≡◌, ◌≤◌, ◌⊎◌, inl, inr, ℕ, ◌+◌, ◌^◌, nat_lt, nat_le, ◌==◌, Bool, true, false, not, ◌&&◌, ◌||◌, List, [], ◌∷◌, ◌++◌, map, length, Option, Some, None, is_some, refl, sym, ap, ◌∙◌, subst, arith}
 use Rattle.std.proofs.lemmas.Bool.Decides.{nat_tests}
 use Rattle.qs_syntax.specs.declared.nodes.Node.{Node}
 use Rattle.qs_syntax.specs.declared.types.TypeName.{TypeName}
@@ -20,7 +20,6 @@ use Rattle.qs_memory.specs.Operations.{integer_type, unary_type, binary_type}
 use Rattle.qs_memory.specs.declared.operation.Signedness.{Signedness}
 use Rattle.qs_memory.specs.declared.operation.UnaryOperation.{UnaryOperation}
 use Rattle.qs_memory.specs.declared.operation.UnaryOperation.TheVariants as operations
-use Rattle.qs_memory.specs.declared.scalar.Scalar.{Scalar}
 use Rattle.qs_memory.specs.declared.scalar.Scalar.TheVariants as scalars
 use Rattle.qs_memory.specs.declared.operation.Arithmetic.{Arithmetic}
 use Rattle.qs_memory.specs.declared.operation.Arithmetic.TheVariants as arithmetics
@@ -28,30 +27,28 @@ use Rattle.qs_memory.specs.declared.operation.Comparison.{Comparison}
 use Rattle.qs_memory.specs.declared.operation.Comparison.TheVariants as comparisons
 use Rattle.qs_memory.proofs.Options.{some_same, followed}
 use Rattle.qs_calls.specs.Starts.{Interface}
-use Rattle.qs_types.specs.declared.extent.Extent.{Extent}
 use Rattle.qs_types.specs.Types.{TypeTree, int, unsigned, char, void, pointer, array, struct, is_integer, is_pointer, is_array, is_struct, is_scalar, is_void, same_type, referenced, Structs}
-use Rattle.qs_types.specs.Layout.{and_then, extent_of, size_of, is_complete}
-use Rattle.qs_types.specs.Conversions.{decayed, promoted, arithmetic, common}
+use Rattle.qs_types.specs.Layout.{and_then, extent_of, size_of}
+use Rattle.qs_types.specs.Conversions.{promoted, arithmetic, common}
 use Rattle.qs_types.specs.Rules.{breaks_one, type_unless, test, keeps}
 use Rattle.qs_types.specs.declared.rules.Rule.TheVariants as rules
 use Rattle.qs_types.specs.Contexts.{Entity, local_variable, file_variable, function, given, Context, entity_of, named_type, is_void_base}
 use Rattle.qs_types.specs.Expressions.{is_lvalue, is_null_constant, is_assignable, both_integers, is_object_pointer, may_add, may_cast, may_choose, alike_pointers, sum_type, Judged, judged, unary_judged, step_judged, cast_judged, type_or_void, binary_judged, conditional_judged, assign_judged, may_assign, may_combine, may_move, subscript_judged, member_type, member_judged, name_judged, call_judged, type_of, shape_judged, types_of}
 use Rattle.qs_types.specs.Expressions as expressions
 use Rattle.qs_types.specs.References.{TextBlock}
-use Rattle.qs_meaning.specs.Typed.{Expr, constant, pointer_to, member, stepped_after, unary, cast, binary, conditional, Lvalue, object, Arguments, no_arguments, argument_and, update, set, Function}
+use Rattle.qs_meaning.specs.Typed.{Expr, member, stepped_after, unary, Lvalue, object, Arguments, update, Function}
 use Rattle.qs_meaning.specs.Conversions.{scalar_of, same_scalar, conversion}
-use Rattle.qs_meaning.specs.Operations.{Operated, operation_of, combined, shifted, compared, summed, subtracted, signedness}
-use Rattle.qs_meaning.specs.Forms.{Form, lvalue, result, call, TypedExpr, lvalue_of, address_of, type_in_use, value_in_use, effect_in_use}
-use Rattle.qs_meaning.specs.Names.{Scope, entity_lvalue, Designator, entity_designated, text_object, file_variable_object}
-use Rattle.qs_meaning.specs.Expressions.{object_at, operated, operator_value, arguments_of, call_form, member_offset, member_form, set_form, struct_form, plain_form, updated, compound_form, assign_form, one, after_form, step_after_form, step_form, unary_form, size_form, cast_form, beside_zero, operator_form, binary_form, subscript_form, conditional_form, comma_form, typed, form_of, all_typed}
-use Rattle.qs_meaning.specs.Units.{result_scalar}
+use Rattle.qs_meaning.specs.Operations.{Operated, operation_of, combined, shifted, compared, signedness}
+use Rattle.qs_meaning.specs.Forms.{Form, lvalue, call, TypedExpr, lvalue_of, address_of, type_in_use, value_in_use}
+use Rattle.qs_meaning.specs.Names.{Scope, entity_lvalue, Designator, entity_designated, text_object}
+use Rattle.qs_meaning.specs.Expressions.{operated, operator_value, arguments_of, member_offset, member_form, set_form, struct_form, plain_form, compound_form, assign_form, one, step_after_form, step_form, unary_form, size_form, cast_form, beside_zero, operator_form, binary_form, subscript_form, conditional_form, typed, form_of, all_typed}
 use Rattle.qs_meaning.specs.Fits as fitting
 use Rattle.qs_meaning.specs.Fits.{type_after, conversion_fits, takes_operand, is_null, takes_operands, takes_in_order, amount_type, expr_fits, lvalue_fits, arguments_fit, effect_fits, object_there, largest_size, is_element}
-use Rattle.qs_meaning.proofs.Options.{never, left, right, either, nothing, same, went, Known, known}
+use Rattle.qs_meaning.proofs.Options.{never, left, right, either, nothing, same, went}
 use Rattle.qs_meaning.proofs.TypedExpressions.{kept, unbroken_left, unbroken_right, not_true, unless}
-use Rattle.qs_meaning.proofs.FitConversions.{both, same_self, same_as, Integer, an_int, an_unsigned, a_char, Pointing, a_pointer, integer, pointing, scalar_kind, may_convert, conversion_type, pointers_convert, OperatedFits, PlainFits, plain, combined_fits, Shifts, shifted_fits, Alike, compared_fits, shared, Elements, added, ResultFits, summed_fits, subtracts, subtracted_fits, UpdateFits, combined_update, shifted_update, summed_update, subtracted_update, summed_amount, subtracted_amount, conversion_taken}
-use Rattle.qs_meaning.proofs.FitForms.{Has, CallFits, AssignmentFits, FormFits, integer_solid, pointing_solid, scalar_solid, object_has, pointer_object, lvalue_there, address_there, in_use, effect_there, conversion_there, becomes_there, IsNull, null_value, MaybeNull, Assignable, integers_assignable, pointers_assignable, null_assignable, assignable, alike, alike_first, alike_second, added_solid, subtracted_solid}
-use Rattle.qs_meaning.proofs.FitTypes.{is_small, SmallTable, IsRoom, size_room, room, elements, alignment_positive, is_least, member_offset_small, small_decayed}
+use Rattle.qs_meaning.proofs.FitConversions.{both, same_self, same_as, Integer, an_int, an_unsigned, a_char, Pointing, a_pointer, integer, pointing, scalar_kind, may_convert, conversion_type, plain, combined_fits, Shifts, shifted_fits, Alike, compared_fits, shared, Elements, added, ResultFits, summed_fits, subtracts, subtracted_fits, UpdateFits, combined_update, shifted_update, summed_update, subtracted_update, summed_amount, subtracted_amount, conversion_taken}
+use Rattle.qs_meaning.proofs.FitForms.{Has, AssignmentFits, FormFits, integer_solid, pointing_solid, scalar_solid, pointer_object, lvalue_there, address_there, in_use, effect_there, conversion_there, becomes_there, null_value, MaybeNull, Assignable, integers_assignable, pointers_assignable, null_assignable, assignable, alike, alike_first, alike_second, added_solid, subtracted_solid}
+use Rattle.qs_meaning.proofs.FitTypes.{is_small, SmallTable, size_room, room, elements, alignment_positive, is_least, member_offset_small, small_decayed}
 use Rattle.qs_meaning.proofs.FitLeaves.{is_sure, shape_sure, all_sure, is_short, places, EntityFits, scalar_signature}
 use Rattle.qs_meaning.proofs.FitSmall.{Place, starred_small, type_small}
 
@@ -363,7 +360,7 @@ module _ (i : Interface) (g : Function) where
         let size = (room structs table (struct k) refl x.value x.first).most in
         form_is _ _ form from.then (
           both _ _ (both _ _ p.fits (same_as _ _ p.type)) (both _ _ (both _ _ q.fits (same_as _ _ q.type))
-          (both _ _ (is_least 1 x.value.alignment (alignment_positive structs (struct k) x.value x.first)) (is_least x.value.size largest_size size))),
+              (both _ _ (is_least 1 x.value.alignment (alignment_positive structs (struct k) x.value x.first)) (is_least x.value.size largest_size size))),
           p,
           refl,
         )

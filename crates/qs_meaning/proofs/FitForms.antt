@@ -1,5 +1,5 @@
 -- Forms whose values, and whose effects, fit.
-use Rattle.std.proofs.Common.{◌≡◌, ◌⊎◌, inl, inr, ℕ, Bool, true, false, ◌&&◌, ◌||◌, List, Option, Some, None, is_some, refl, sym, ap, ◌∙◌, subst}
+use Rattle.std.proofs.Common.{◌≡◌, ◌⊎◌, inl, inr, Bool, true, false, ◌&&◌, ◌||◌, Option, Some, is_some, refl, sym, ap, ◌∙◌, subst}
 use Rattle.qs_syntax.specs.Trees.{ExprTree, expr, ShapeTree}
 use Rattle.qs_syntax.specs.Trees as trees
 use Rattle.qs_memory.specs.declared.scalar.Scalar.{Scalar}
@@ -7,12 +7,12 @@ use Rattle.qs_memory.specs.declared.scalar.Scalar.TheVariants as scalars
 use Rattle.qs_memory.proofs.Options.{some_same}
 use Rattle.qs_calls.specs.declared.callee.Callee.{Callee}
 use Rattle.qs_calls.specs.Starts.{Signature, Interface, signature_of}
-use Rattle.qs_types.specs.Types.{TypeTree, int, unsigned, char, void, pointer, array, struct, is_integer, is_pointer, is_void, is_scalar, same_type}
+use Rattle.qs_types.specs.Types.{TypeTree, int, unsigned, char, void, pointer, array, struct, is_integer, is_pointer, is_void, is_scalar}
 use Rattle.qs_types.specs.Conversions.{decayed}
 use Rattle.qs_types.specs.Expressions.{is_null_constant, both_integers, same_pointers, is_assignable, alike_pointers}
-use Rattle.qs_meaning.specs.Typed.{Expr, constant, value, called, assigned, sequence, Lvalue, variable, object, Arguments, Assignment, Effect, discard, assign, perform, copy, in_order, Function}
+use Rattle.qs_meaning.specs.Typed.{Expr, called, Lvalue, variable, object, Arguments, Assignment, copy, Function}
 use Rattle.qs_meaning.specs.Conversions.{scalar_of, same_scalar, conversion}
-use Rattle.qs_meaning.specs.Forms.{Form, lvalue, result, call, assignment, step, struct_assignment, comma, TypedExpr, lvalue_of, address_in, address_of, value_in, value_of, effect_of, type_in_use, value_in_use, effect_in_use}
+use Rattle.qs_meaning.specs.Forms.{Form, lvalue, result, call, assignment, step, struct_assignment, comma, TypedExpr, lvalue_of, address_in, address_of, value_in, value_of, effect_of, type_in_use, value_in_use}
 use Rattle.qs_meaning.specs.Names.{Scope}
 use Rattle.qs_meaning.specs.Expressions.{typed}
 use Rattle.qs_meaning.specs.Units.{result_scalar}

@@ -1,16 +1,15 @@
 -- What initialises a local fits.
-use Rattle.std.proofs.Common.{◌≡◌, ◌≤◌, ◌<◌, ◌⊎◌, inl, inr, ℕ, suc, ◌+◌, min, nat_le, Bool, true, false, ◌&&◌, ◌||◌, List, [], ◌∷◌, ◌++◌, length, Option, Some, None, is_some, refl, sym, ap, ◌∙◌, subst, arith, if◌then◌else◌}
+use Rattle.std.proofs.Common.{◌≡◌, ◌≤◌, ℕ, ◌+◌, min, nat_le, Bool, true, false, ◌&&◌, ◌||◌, List, [], ◌∷◌, ◌++◌, length, Option, Some, None, is_some, refl, sym, ap, ◌∙◌, subst, arith, if◌then◌else◌}
 use Rattle.std.specs.List.{slice_get, list_all}
 use Rattle.std.proofs.lemmas.Bool.Decides.{nat_tests}
 use Rattle.qs_syntax.specs.Trees.{ExprTree, expr, ShapeTree, InitialiserTree, Initialisers, no_initialisers, initialiser_and}
 use Rattle.qs_syntax.specs.Trees as trees
-use Rattle.qs_memory.specs.Partial.{◌>>=◌}
 use Rattle.qs_memory.specs.Memory.{blank_cells}
 use Rattle.qs_memory.specs.declared.scalar.Scalar.TheVariants as scalars
-use Rattle.qs_memory.proofs.Options.{some_same, followed}
+use Rattle.qs_memory.proofs.Options.{followed}
 use Rattle.qs_calls.specs.Starts.{Interface}
-use Rattle.qs_types.specs.Types.{TypeTree, int, unsigned, char, void, pointer, array, struct, is_array, is_struct, is_scalar, same_type, Structs}
-use Rattle.qs_types.specs.Layout.{size_of, is_sized}
+use Rattle.qs_types.specs.Types.{TypeTree, int, unsigned, char, void, pointer, array, struct, is_array, is_struct, same_type, Structs}
+use Rattle.qs_types.specs.Layout.{size_of}
 use Rattle.qs_types.specs.Conversions.{decayed}
 use Rattle.qs_types.specs.Rules.{keeps, breaks_one, faults_of}
 use Rattle.qs_types.specs.declared.rules.Rule.TheVariants as rules
@@ -18,28 +17,27 @@ use Rattle.qs_types.specs.Contexts.{Context}
 use Rattle.qs_types.specs.Expressions.{type_of, is_lvalue, is_assignable}
 use Rattle.qs_types.specs.ExpressionFaults.{whole, expr_faults}
 use Rattle.qs_types.specs.Declarations.{text_of}
-use Rattle.qs_types.specs.InitialiserRules.{part_type, fits_variable, fits_typed, takes_list, list_fits, element_fits, elements_fit, elements_typed, list_tests, initialiser_faults, elements_faults}
+use Rattle.qs_types.specs.InitialiserRules.{part_type, fits_variable, fits_typed, takes_list, element_fits, elements_fit, elements_typed, list_tests, initialiser_faults, elements_faults}
 use Rattle.qs_types.specs.References.{TextBlock}
 use Rattle.qs_types.specs.Sites.{Site, initialiser_sites, elements_sites}
-use Rattle.qs_meaning.specs.Typed.{Expr, pointer_to, member, Lvalue, variable, object, Object, local, Function, Effect, copy, fill, in_order}
-use Rattle.qs_meaning.specs.Typed as typed_trees
+use Rattle.qs_meaning.specs.Typed.{Expr, pointer_to, member, Lvalue, variable, object, local, Function, Effect}
 use Rattle.qs_meaning.specs.Conversions.{scalar_of}
-use Rattle.qs_meaning.specs.Forms.{Form, lvalue, TypedExpr, address_in, address_of, type_in_use, value_in_use, effect_of}
+use Rattle.qs_meaning.specs.Forms.{lvalue, TypedExpr, address_of}
 use Rattle.qs_meaning.specs.Names.{Scope, text_object}
 use Rattle.qs_meaning.specs.Expressions.{typed, plain_form}
 use Rattle.qs_meaning.specs.Blanks.{blank_of}
-use Rattle.qs_meaning.specs.Initialisers.{part_offset, Piece, pieces, pieces_from, text_room, text_set, assigned_set, piece_set, pieces_set, filled, object_set, local_set}
+use Rattle.qs_meaning.specs.Initialisers.{part_offset, Piece, pieces, pieces_from, text_room, text_set, assigned_set, piece_set, pieces_set, object_set, local_set}
 use Rattle.qs_meaning.specs.Fits.{lvalue_fits, effect_fits, object_there, is_size, is_whole_local, largest_size}
-use Rattle.qs_meaning.proofs.Options.{never, left, right, nothing, same, all_left, all_right, Known, known}
+use Rattle.qs_meaning.proofs.Options.{never, left, right, nothing, same, all_left, all_right}
 use Rattle.qs_meaning.proofs.CompleteTypes.{fits_takes}
 use Rattle.qs_meaning.proofs.Faultless.{HasTypes, none_left, none_right, unbroken, type_of_known}
 use Rattle.qs_meaning.proofs.FitConversions.{both, same_as}
-use Rattle.qs_meaning.proofs.FitForms.{Has, FormFits, address_there, pointer_object, effect_there, null_value}
-use Rattle.qs_meaning.proofs.FitTypes.{is_small, SmallTable, IsRoom, size_room, is_least, array_length}
-use Rattle.qs_meaning.proofs.FitLayouts.{PartFits, part_fits, blank_size}
+use Rattle.qs_meaning.proofs.FitForms.{Has, address_there, pointer_object, effect_there, null_value}
+use Rattle.qs_meaning.proofs.FitTypes.{is_small, size_room, is_least, array_length}
+use Rattle.qs_meaning.proofs.FitLayouts.{part_fits, blank_size}
 use Rattle.qs_meaning.proofs.FitLeaves.{is_sure, is_short}
 use Rattle.qs_meaning.proofs.FitSmall.{Place}
-use Rattle.qs_meaning.proofs.FitExpressions.{plain_there, typed_type, expression_there, first_of}
+use Rattle.qs_meaning.proofs.FitExpressions.{plain_there, typed_type, expression_there}
 
 -- a local is a variable of its call, or a block that has the size of its type
 pub data LocalPlace (structs : Structs) (g : Function) (t : TypeTree) : Lvalue → Type 0 where

@@ -1,23 +1,21 @@
 -- The parts of an object lie in it, and its blank has its size.
-use Rattle.std.proofs.Common.{◌≡◌, ◌≤◌, ◌<◌, ℕ, zero, suc, ◌+◌, ◌-◌, ◌*◌, nat_lt, max, Bool, true, false, ◌&&◌, List, [], ◌∷◌, ◌++◌, length, Option, Some, None, refl, sym, ap, ◌∙◌, subst, arith, if◌then◌else◌}
+use Rattle.std.proofs.Common.{◌≡◌, ◌≤◌, ℕ, zero, suc, ◌+◌, ◌-◌, ◌*◌, nat_lt, max, Bool, true, false, List, [], ◌∷◌, ◌++◌, length, Some, None, refl, sym, ap, ◌∙◌, subst, arith, if◌then◌else◌}
 use Rattle.std.specs.List.{slice_get, list_all}
 use Rattle.std.proofs.lemmas.Bool.Decides.{nat_tests}
 use Rattle.std.proofs.lemmas.List.{length-append}
 use Rattle.std.proofs.Math.Nat.{mul-le-mul_left, mul-suc}
-use Rattle.qs_memory.specs.Partial.{◌>>=◌}
-use Rattle.qs_memory.specs.Values.{null}
-use Rattle.qs_memory.specs.Memory.{Cell, byte, parts_of, BlankTree, zeros, nulls, repeated, nothing, joined, times, blank_cells}
-use Rattle.qs_memory.proofs.Options.{some_same, followed}
+use Rattle.qs_memory.specs.Memory.{Cell, byte, BlankTree, times, blank_cells}
+use Rattle.qs_memory.proofs.Options.{followed}
 use Rattle.qs_types.specs.declared.extent.Extent.{Extent}
 use Rattle.qs_types.specs.Types.{TypeTree, int, unsigned, char, void, pointer, array, struct, MemberTree, Structs}
-use Rattle.qs_types.specs.Layout.{and_then, StructLayout, Layouts, scalar_extent, array_extent, struct_extent, extent_by, extents_by, rounded_up, offsets_from, end_from, strictest, struct_layout, member_types, struct_of, layouts_within, defined_structs, layout_of, extent_of, size_of, offset_of, is_sized}
+use Rattle.qs_types.specs.Layout.{and_then, StructLayout, Layouts, array_extent, struct_extent, extent_by, extents_by, rounded_up, offsets_from, end_from, strictest, struct_layout, member_types, struct_of, layouts_within, defined_structs, layout_of, extent_of, size_of}
 use Rattle.qs_types.specs.InitialiserRules.{member_at, part_type}
 use Rattle.qs_meaning.specs.Blanks.{Blanks, blank_by, members_blank, struct_blank, blanks_within, blank_of}
 use Rattle.qs_meaning.specs.Initialisers.{part_offset}
 use Rattle.qs_meaning.proofs.Options.{left, right, same, went}
 use Rattle.qs_meaning.proofs.Options as options
-use Rattle.qs_meaning.proofs.StructTables.{GoesOn, extents_grow, layouts_grow}
-use Rattle.qs_meaning.proofs.FitTypes.{AllPositive, PositiveLayouts, LaidAs, laid_as, layouts_positive, extents_positive, rounded_above, ends_behind, is_small, SmallTable}
+use Rattle.qs_meaning.proofs.StructTables.{extents_grow, layouts_grow}
+use Rattle.qs_meaning.proofs.FitTypes.{AllPositive, laid_as, layouts_positive, extents_positive, rounded_above, ends_behind, is_small, SmallTable}
 
 -- ---- structs by the extents of their members
 

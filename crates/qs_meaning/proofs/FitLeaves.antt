@@ -1,10 +1,8 @@
 -- The constants, texts and called functions in an expression, and what is known of them and of the names that it uses.
-use Rattle.std.proofs.Common.{◌≡◌, ◌≤◌, ◌<◌, ℕ, ◌+◌, ◌*◌, ◌^◌, nat_lt, nat_le, Bool, true, false, ◌&&◌, List, [], ◌∷◌, ◌++◌, map, length, Option, Some, None, is_some, refl, sym, ap, ◌∙◌, subst, arith, if◌then◌else◌}
+use Rattle.std.proofs.Common.{◌≡◌, ℕ, ◌+◌, ◌^◌, nat_lt, nat_le, Bool, true, false, ◌&&◌, List, [], ◌∷◌, ◌++◌, map, length, Option, Some, None, refl, subst, if◌then◌else◌}
 use Rattle.std.specs.List.{list_all}
-use Rattle.std.proofs.lemmas.Bool.Decides.{nat_tests}
 use Rattle.qs_syntax.specs.Sameness.{same_bytes}
 use Rattle.qs_syntax.proofs.Exact.{bytes_exact}
-use Rattle.qs_syntax.specs.declared.nodes.Node.{Node}
 use Rattle.qs_syntax.specs.Trees.{ExprTree, expr, ShapeTree, Exprs, no_exprs, expr_and}
 use Rattle.qs_syntax.specs.Trees as trees
 use Rattle.qs_calls.specs.declared.callee.Callee.TheVariants.{Function, PutChar, GetChar}
@@ -13,16 +11,15 @@ use Rattle.qs_calls.specs.Starts as starts
 use Rattle.qs_types.specs.Types.{TypeTree, Structs}
 use Rattle.qs_types.specs.Layout.{size_limit}
 use Rattle.qs_types.specs.GivenFunctions.{Signature, putchar_name}
-use Rattle.qs_types.specs.Contexts.{Entity, local_variable, file_variable, function, given, Binding, Context, lookup, entity_of}
+use Rattle.qs_types.specs.Contexts.{Entity, local_variable, file_variable, function, given, Binding, Context, lookup}
 use Rattle.qs_types.specs.References.{TextBlock, expr_calls, exprs_calls, shape_calls, expr_texts, exprs_texts, shape_texts}
-use Rattle.qs_types.specs.Sites.{Site}
 use Rattle.qs_meaning.specs.Typed as typed_trees
 use Rattle.qs_meaning.specs.Conversions.{scalar_of}
-use Rattle.qs_meaning.specs.Names.{Locals, Statics, Scope, local_lvalue, file_variable_object, text_object, function_number}
+use Rattle.qs_meaning.specs.Names.{Locals, Statics, Scope, local_lvalue, file_variable_object, function_number}
 use Rattle.qs_meaning.specs.Units.{result_scalar}
 use Rattle.qs_meaning.specs.Fits.{lvalue_fits, object_there}
 use Rattle.qs_meaning.specs.FitLaws.{has_words, shape_has_words, all_have_words}
-use Rattle.qs_meaning.proofs.Options.{never, left, right, all_left, all_right, nothing, same, Known}
+use Rattle.qs_meaning.proofs.Options.{left, right, all_left, all_right, nothing, same, Known}
 use Rattle.qs_meaning.proofs.Faultless.{HasTypes}
 use Rattle.qs_meaning.proofs.FitConversions.{both}
 use Rattle.qs_meaning.proofs.FitTypes.{is_small}

@@ -1,19 +1,17 @@
 -- A function keeps its types from its first header to the end of the unit, and the function with its body has them.
-use Rattle.std.proofs.Common.{◌≡◌, ◌⊎◌, inl, inr, ℕ, suc, ◌+◌, ◌==◌, Bool, true, false, not, ◌&&◌, ◌||◌, List, [], ◌∷◌, ◌++◌, map, Option, Some, None, is_some, refl, sym, ap, ◌∙◌, subst, arith, if◌then◌else◌}
-use Rattle.std.specs.List.{list_all, slice_get}
+use Rattle.std.proofs.Common.{◌≡◌, ℕ, suc, ◌+◌, ◌==◌, Bool, true, false, not, ◌||◌, List, [], ◌∷◌, ◌++◌, map, Option, Some, None, is_some, refl, sym, ap, ◌∙◌, subst, arith, if◌then◌else◌}
+use Rattle.std.specs.List.{slice_get}
 use Rattle.std.proofs.lemmas.Bool.{eqb-true}
-use Rattle.std.proofs.lemmas.List.{map-append}
 use Rattle.qs_syntax.specs.Sameness.{same_bytes}
 use Rattle.qs_syntax.proofs.Exact.{bytes_exact}
 use Rattle.qs_syntax.specs.declared.types.Base.{Base}
 use Rattle.qs_syntax.specs.Trees.{StructTree, VariableTree, FunctionTree, Stmts, DeclTree, structure, forward, function, variables, UnitTree}
-use Rattle.qs_memory.specs.Partial.{◌>>=◌}
 use Rattle.qs_memory.proofs.Options.{followed}
 use Rattle.qs_calls.specs.Starts as starts
 use Rattle.qs_types.specs.WellTyped.{entity_has_body}
 use Rattle.qs_types.specs.Types.{MemberTree, TypeTree, int, unsigned, char, void, pointer, array, struct, same_type}
 use Rattle.qs_types.specs.GivenFunctions.{Signature}
-use Rattle.qs_types.specs.Rules.{Fault, keeps, test, breaks_one, faults_of}
+use Rattle.qs_types.specs.Rules.{Fault, test, breaks_one, faults_of}
 use Rattle.qs_types.specs.declared.rules.Rule.TheVariants as rules
 use Rattle.qs_types.specs.Layout.{and_then, layout_of, member_types, sized_layout, with_members}
 use Rattle.qs_types.specs.Contexts.{Entity, local_variable, file_variable, given, Binding, Context, lookup, inner_scope, tag_place, is_declared_here}
@@ -21,25 +19,23 @@ use Rattle.qs_types.specs.Contexts as contexts
 use Rattle.qs_types.specs.Declarations.{all_typed, lengths_faults, variable_declared}
 use Rattle.qs_types.specs.InitialiserRules.{initialiser_tests}
 use Rattle.qs_types.specs.StatementRules.{after_variable, after_variables, again_tests, variable_tests, variable_faults, option_initialiser_faults, variables_faults}
-use Rattle.qs_types.specs.UnitRules.{with_tag, no_members, after_members, has_no_members, define_at, after_struct, body_context, Header, header_of, all_of, signature_by, may_be, may_all_be, agree, agrees_with, may_declare, result_tests, main_tests, header_tests, declared_function, after_function, function_faults, after_declaration, declaration_faults, declarations_faults, context_after}
+use Rattle.qs_types.specs.UnitRules.{with_tag, no_members, after_members, has_no_members, define_at, after_struct, body_context, Header, header_of, all_of, signature_by, may_be, may_all_be, agree, agrees_with, may_declare, declared_function, after_function, function_faults, after_declaration, declaration_faults, declarations_faults, context_after}
 use Rattle.qs_types.specs.Placed.{statements_locals, addressed_in}
-use Rattle.qs_types.specs.UnitRules as unit_rules
-use Rattle.qs_meaning.specs.Typed.{Function, StaticBlock, TypedProgram}
+use Rattle.qs_meaning.specs.Typed.{Function, TypedProgram}
 use Rattle.qs_meaning.specs.Names.{Scope, within, function_number}
 use Rattle.qs_meaning.specs.Interfaces.{signature}
 use Rattle.qs_meaning.specs.TypedLaws.{IsFileScope}
 use Rattle.qs_meaning.specs.Units.{parameters_in, function_with, function_typed, file_variables_typed, declaration_typed, declarations_typed, name_with_body, functions_in}
 use Rattle.qs_meaning.proofs.Options.{never, left, right, nothing, same, went, Known}
-use Rattle.qs_meaning.proofs.Faultless.{none_left, none_right, unbroken, first_unbroken, second_unbroken}
+use Rattle.qs_meaning.proofs.Faultless.{none_left, none_right, unbroken, first_unbroken}
 use Rattle.qs_meaning.proofs.Bindings.{has_types}
 use Rattle.qs_meaning.proofs.Bodies.{lengths_typed, not_held_back}
-use Rattle.qs_meaning.proofs.TypedExpressions.{kept}
 use Rattle.qs_meaning.proofs.FunctionsTyped.{file_sound}
 use Rattle.qs_meaning.proofs.StructTables.{with_tag_known, after_struct_known}
 use Rattle.qs_meaning.proofs.FileVariables.{file_variables_known}
 use Rattle.qs_meaning.proofs.UnitsTyped.{header_unbroken, header_signature, after_function_known}
 use Rattle.qs_meaning.proofs.FitLeaves.{scalar_signature}
-use Rattle.qs_meaning.proofs.FitFunctions.{Made, made, signature_there}
+use Rattle.qs_meaning.proofs.FitFunctions.{made, signature_there}
 
 -- ---- types that agree
 

@@ -1,11 +1,11 @@
 -- The expressions of a unit that is read and within the limits: constants, texts and called functions are known.
-use Rattle.std.proofs.Common.{◌≡◌, ◌≤◌, ◌<◌, ℕ, suc, ◌+◌, nat_lt, nat_le, ◌==◌, Bool, true, false, not, ◌&&◌, ◌||◌, List, [], ◌∷◌, ◌++◌, length, map, flat_map, Option, Some, None, refl, sym, ap, ◌∙◌, subst, arith, if◌then◌else◌}
-use Rattle.std.specs.List.{list_all, list_any}
+use Rattle.std.proofs.Common.{◌≡◌, ℕ, ◌+◌, nat_lt, nat_le, ◌==◌, Bool, true, false, ◌&&◌, ◌||◌, List, [], ◌∷◌, ◌++◌, length, map, flat_map, Some, None, refl, arith, if◌then◌else◌}
+use Rattle.std.specs.List.{list_all}
 use Rattle.std.proofs.lemmas.Bool.{eq-eqb}
 use Rattle.std.proofs.lemmas.Bool.Decides.{nat_tests}
 use Rattle.qs_syntax.specs.Sameness.{same_bytes}
 use Rattle.qs_syntax.proofs.Exact.{bytes_exact}
-use Rattle.qs_syntax.specs.Trees.{ExprTree, UnitTree}
+use Rattle.qs_syntax.specs.Trees.{UnitTree}
 use Rattle.qs_types.specs.Layout.{rounded_up}
 use Rattle.qs_types.specs.Limits.{Block, block_end, block_past, global_limit, text_block, variable_blocks_from, data_blocks, first_past_globals, word_size}
 use Rattle.qs_types.specs.Contexts.{start_context}

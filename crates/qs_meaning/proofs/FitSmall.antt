@@ -1,10 +1,7 @@
 -- The types of expressions are small, where those of names, members and texts are.
-use Rattle.std.proofs.Common.{◌≡◌, ◌≤◌, ℕ, zero, suc, ◌+◌, ◌*◌, nat_le, Bool, true, false, ◌&&◌, ◌||◌, List, [], ◌∷◌, length, Option, Some, None, is_some, refl, sym, ap, ◌∙◌, subst, arith, if◌then◌else◌}
-use Rattle.std.specs.List.{list_all}
-use Rattle.std.proofs.lemmas.Bool.Decides.{nat_tests}
+use Rattle.std.proofs.Common.{◌≡◌, ◌≤◌, ℕ, zero, suc, ◌+◌, ◌*◌, nat_le, Bool, true, false, ◌&&◌, ◌||◌, List, [], length, Option, Some, None, is_some, refl, sym, subst, arith, if◌then◌else◌}
 use Rattle.qs_syntax.specs.declared.types.Base.{Base}
 use Rattle.qs_syntax.specs.declared.types.Base.TheVariants as bases
-use Rattle.qs_syntax.specs.declared.types.TypeName.{TypeName}
 use Rattle.qs_syntax.specs.declared.operators.UnaryOperator.{UnaryOperator}
 use Rattle.qs_syntax.specs.declared.operators.UnaryOperator.TheVariants as unaries
 use Rattle.qs_syntax.specs.declared.operators.BinaryOperator.{BinaryOperator}
@@ -17,22 +14,21 @@ use Rattle.qs_syntax.specs.Trees.{ExprTree, expr, ShapeTree, Exprs, no_exprs, ex
 use Rattle.qs_syntax.specs.Trees as trees
 use Rattle.qs_calls.specs.Starts.{Interface}
 use Rattle.qs_types.specs.declared.extent.Extent.{Extent}
-use Rattle.qs_types.specs.Types.{TypeTree, int, unsigned, char, void, pointer, array, struct, Structs, is_pointer, same_type, referenced}
-use Rattle.qs_types.specs.Layout.{and_then, is_complete, is_sized, size_limit}
+use Rattle.qs_types.specs.Types.{TypeTree, int, unsigned, char, array, struct, Structs, is_pointer, same_type, referenced}
+use Rattle.qs_types.specs.Layout.{and_then, is_complete, size_limit}
 use Rattle.qs_types.specs.Conversions.{decayed, promoted, arithmetic, common}
-use Rattle.qs_types.specs.GivenFunctions.{Signature}
 use Rattle.qs_types.specs.Rules.{keeps, type_unless}
 use Rattle.qs_types.specs.declared.rules.Rule.TheVariants as rules
-use Rattle.qs_types.specs.Contexts.{Entity, local_variable, file_variable, function, given, Context, entity_of, tag_place, base_type, pointers, starred_type, named_type}
-use Rattle.qs_types.specs.Expressions.{Judged, judged, unary_judged, step_judged, cast_judged, type_or_void, sum_type, difference_type, binary_judged, conditional_judged, assign_judged, subscript_judged, member_type, member_judged, name_judged, call_judged, type_of, shape_judged, types_of}
+use Rattle.qs_types.specs.Contexts.{Entity, local_variable, file_variable, function, given, Context, entity_of, tag_place, base_type, pointers, starred_type}
+use Rattle.qs_types.specs.Expressions.{Judged, judged, unary_judged, step_judged, cast_judged, type_or_void, sum_type, binary_judged, conditional_judged, assign_judged, subscript_judged, member_type, member_judged, name_judged, call_judged, type_of, shape_judged, types_of}
 use Rattle.qs_types.specs.References.{TextBlock}
 use Rattle.qs_meaning.specs.Typed.{Function}
 use Rattle.qs_meaning.specs.Names.{Scope}
-use Rattle.qs_meaning.proofs.Options.{never, left, right, nothing, same, went, Known}
+use Rattle.qs_meaning.proofs.Options.{never, left, right, nothing, same, went}
 use Rattle.qs_meaning.proofs.TypedExpressions.{unless}
 use Rattle.qs_meaning.proofs.FitConversions.{both}
 use Rattle.qs_meaning.proofs.FitTypes.{is_small, SmallTable, small_referenced, small_decayed, member_small, is_least}
-use Rattle.qs_meaning.proofs.FitLeaves.{is_sure, shape_sure, all_sure, is_short, places, EntityFits}
+use Rattle.qs_meaning.proofs.FitLeaves.{is_sure, shape_sure, is_short, places, EntityFits}
 
 -- ---- named types
 

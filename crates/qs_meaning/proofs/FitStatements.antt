@@ -1,21 +1,18 @@
 -- The typed tree of a statement fits.
-use Rattle.std.proofs.Common.{◌≡◌, ◌≤◌, ℕ, Bool, true, false, not, ◌&&◌, ◌||◌, List, [], ◌∷◌, ◌++◌, Option, Some, None, is_some, refl, sym, ap, ◌∙◌, subst, if◌then◌else◌}
-use Rattle.std.specs.List.{list_all, slice_get}
+use Rattle.std.proofs.Common.{◌≡◌, ℕ, Bool, true, false, not, ◌&&◌, List, [], ◌∷◌, ◌++◌, Option, Some, None, is_some, refl, sym, ap, ◌∙◌, subst, if◌then◌else◌}
+use Rattle.std.specs.List.{list_all}
 use Rattle.qs_syntax.specs.declared.nodes.Node.{Node}
 use Rattle.qs_syntax.specs.declared.types.Base.{Base}
 use Rattle.qs_syntax.specs.Trees.{ExprTree, InitialiserTree, VariableTree, StartTree, no_start, start_expression, start_declaration, StmtTree, empty, expression, declaration, block, branch, while_loop, do_loop, for_loop, break, continue, return, Stmts, no_stmts, stmt_and, Else, no_else, else_by}
 use Rattle.qs_syntax.specs.Trees as trees
-use Rattle.qs_memory.specs.Partial.{◌>>=◌}
 use Rattle.qs_memory.proofs.Options.{followed}
 use Rattle.qs_calls.specs.Starts.{Interface}
-use Rattle.qs_types.specs.Types.{TypeTree, is_scalar, is_void, Structs}
-use Rattle.qs_types.specs.Layout.{size_of}
-use Rattle.qs_types.specs.Conversions.{decayed}
+use Rattle.qs_types.specs.Types.{TypeTree, is_void, Structs}
 use Rattle.qs_types.specs.Rules.{Test, keeps, breaks_one, faults_of}
 use Rattle.qs_types.specs.declared.rules.Rule.TheVariants as rules
 use Rattle.qs_types.specs.Contexts.{local_variable, Context, inner_scope, inside_loop}
-use Rattle.qs_types.specs.Expressions.{is_assignable, type_of}
-use Rattle.qs_types.specs.ExpressionFaults.{used, discarded, whole, expr_faults}
+use Rattle.qs_types.specs.Expressions.{type_of}
+use Rattle.qs_types.specs.ExpressionFaults.{whole}
 use Rattle.qs_types.specs.Declarations.{lengths_faults, variable_declared}
 use Rattle.qs_types.specs.InitialiserRules.{element_fits, is_typed, initialiser_tests, initialiser_faults}
 use Rattle.qs_types.specs.InitialiserRules as initialising
@@ -23,29 +20,28 @@ use Rattle.qs_types.specs.StatementRules.{after_variable, after_variables, again
 use Rattle.qs_types.specs.StatementRules as rule_starts
 use Rattle.qs_types.specs.Placed.{Local, variables_locals, start_locals, statement_locals, statements_locals, else_locals}
 use Rattle.qs_types.specs.References.{TextBlock}
-use Rattle.qs_types.specs.Sites.{Site, site, option_sites, declarator_sites, option_initialiser_sites, initialiser_sites, variable_sites, variables_sites, start_sites, statement_sites, statements_sites, else_sites}
+use Rattle.qs_types.specs.Sites.{Site, site, option_sites, declarator_sites, option_initialiser_sites, variable_sites, variables_sites, start_sites, statement_sites, statements_sites, else_sites}
 use Rattle.qs_meaning.specs.Typed.{Expr, Effect, Stmt, Function}
 use Rattle.qs_meaning.specs.Typed as typed_trees
 use Rattle.qs_meaning.specs.Conversions.{scalar_of, conversion}
-use Rattle.qs_meaning.specs.Forms.{Form, lvalue, TypedExpr, type_in_use, value_in_use, effect_in_use}
+use Rattle.qs_meaning.specs.Forms.{TypedExpr, type_in_use, value_in_use}
 use Rattle.qs_meaning.specs.Names.{Scope, within, local_lvalue, text_object}
 use Rattle.qs_meaning.specs.Expressions.{typed}
-use Rattle.qs_meaning.specs.Initialisers.{local_set}
 use Rattle.qs_meaning.specs.Units.{result_scalar}
 use Rattle.qs_meaning.specs.Statements.{initialised, variable_typed, variables_typed, effect_typed, option_effect, condition_typed, option_condition, start_typed, return_typed, statement_typed, statements_typed, else_typed}
-use Rattle.qs_meaning.specs.Fits.{is_null, becomes, expr_fits, lvalue_fits, effect_fits, object_there, returned_fits, option_fits, stmt_fits, stmts_fit}
+use Rattle.qs_meaning.specs.Fits.{is_null, expr_fits, lvalue_fits, effect_fits, object_there, returned_fits, option_fits, stmt_fits, stmts_fit}
 use Rattle.qs_meaning.specs.FitLaws.{is_filled, variables_filled, start_filled, statement_filled, statements_filled, else_filled}
-use Rattle.qs_meaning.proofs.Options.{never, left, right, nothing, same, all_left, all_right, Known}
-use Rattle.qs_meaning.proofs.Faultless.{HasTypes, none_left, none_right, unbroken, first_unbroken, second_unbroken, type_of_known}
+use Rattle.qs_meaning.proofs.Options.{never, left, right, same, all_left, all_right}
+use Rattle.qs_meaning.proofs.Faultless.{HasTypes, none_left, none_right, unbroken, second_unbroken, type_of_known}
 use Rattle.qs_meaning.proofs.TypedExpressions.{kept}
 use Rattle.qs_meaning.proofs.Bodies.{not_held_back}
 use Rattle.qs_meaning.proofs.FitConversions.{both}
-use Rattle.qs_meaning.proofs.FitForms.{Has, FormFits, result_of, scalar_solid, in_use, effect_there, becomes_there, null_value, assignable}
+use Rattle.qs_meaning.proofs.FitForms.{FormFits, result_of, scalar_solid, in_use, effect_there, becomes_there, null_value, assignable}
 use Rattle.qs_meaning.proofs.FitTypes.{is_small, SmallTable}
 use Rattle.qs_meaning.proofs.FitLeaves.{is_sure, is_short, places, EntityFits, AllFit, entity_found, names_typed}
 use Rattle.qs_meaning.proofs.FitSmall.{Place}
 use Rattle.qs_meaning.proofs.FitExpressions.{typed_type, expression_there}
-use Rattle.qs_meaning.proofs.FitInitialisers.{LocalPlace, in_variable, in_block, site_sure, local_there}
+use Rattle.qs_meaning.proofs.FitInitialisers.{LocalPlace, site_sure, local_there}
 use Rattle.qs_meaning.proofs.FitDeclared.{SizedType, variable_small}
 
 module _ (i : Interface) (g : Function) (called : List ℕ → Bool) (there : TextBlock → Bool) (s₀ : Scope) (structs : Structs) (table : SmallTable structs)

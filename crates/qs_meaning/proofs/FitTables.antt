@@ -1,5 +1,5 @@
 -- What is small stays so where structs are declared and defined.
-use Rattle.std.proofs.Common.{◌≡◌, ◌≤◌, ◌⊎◌, inl, inr, ℕ, suc, ◌+◌, nat_le, max, Bool, true, false, not, ◌&&◌, ◌||◌, List, [], ◌∷◌, ◌++◌, Option, Some, None, is_some, slice_set, refl, sym, ap, ◌∙◌, subst, arith, if◌then◌else◌}
+use Rattle.std.proofs.Common.{◌≡◌, ◌≤◌, ◌⊎◌, inl, inr, ℕ, ◌+◌, nat_le, max, Bool, true, false, ◌&&◌, List, [], ◌∷◌, ◌++◌, Option, Some, None, is_some, slice_set, refl, sym, ap, ◌∙◌, subst, arith, if◌then◌else◌}
 use Rattle.std.specs.List.{list_all, slice_get}
 use Rattle.std.proofs.lemmas.Bool.Decides.{nat_tests}
 use Rattle.std.proofs.lemmas.List.Folds.{list_all-append}
@@ -8,16 +8,16 @@ use Rattle.qs_syntax.specs.Trees.{DeclaratorTree, MembersTree, StructTree}
 use Rattle.qs_types.specs.declared.extent.Extent.{Extent}
 use Rattle.qs_types.specs.Types.{TypeTree, int, unsigned, char, void, pointer, array, struct, MemberTree, Structs}
 use Rattle.qs_types.specs.Types as types
-use Rattle.qs_types.specs.Layout.{and_then, StructLayout, Layouts, array_extent, struct_extent, struct_layout, extent_by, extents_by, extent_of, end_from, rounded_up, strictest, member_types, struct_of, layouts_within, defined_structs, layout_of, size_limit, extent_within, layout_within, sized_by, all_sized_by, sized_layout, is_sized, with_members}
-use Rattle.qs_types.specs.Rules.{Test, keeps, test, breaks_one, faults_of}
+use Rattle.qs_types.specs.Layout.{and_then, StructLayout, Layouts, array_extent, struct_extent, struct_layout, extents_by, extent_of, end_from, rounded_up, strictest, member_types, struct_of, defined_structs, layout_of, size_limit, extent_within, layout_within, sized_by, all_sized_by, sized_layout, is_sized, with_members}
+use Rattle.qs_types.specs.Rules.{Test, test, breaks_one, faults_of}
 use Rattle.qs_types.specs.declared.rules.Rule.TheVariants as rules
 use Rattle.qs_types.specs.Contexts.{Context, tag_place}
-use Rattle.qs_types.specs.Declarations.{all_typed, lengths_faults, Declared, declared}
+use Rattle.qs_types.specs.Declarations.{all_typed, Declared, declared}
 use Rattle.qs_types.specs.UnitRules.{with_tag, Before, no_members, has_room, option_extent, with_room_tests, member_declared, is_name_in, is_member, with_member, after_member, after_together, after_members, is_defined, has_no_members, define_at, after_struct, member_tests, member_faults, together_faults, members_faults, struct_faults}
 use Rattle.qs_meaning.specs.FitLaws.{has_declarators, members_filled}
 use Rattle.qs_meaning.specs.Names.{Scope, within}
 use Rattle.qs_meaning.specs.TypedLaws.{IsFileScope}
-use Rattle.qs_meaning.proofs.Options.{never, left, right, nothing, same, went, Known, known}
+use Rattle.qs_meaning.proofs.Options.{never, left, right, nothing, same, went, known}
 use Rattle.qs_meaning.proofs.Faultless.{none_left, none_right, unbroken, first_unbroken, second_unbroken}
 use Rattle.qs_meaning.proofs.TypedExpressions.{kept}
 use Rattle.qs_meaning.proofs.Bindings.{has_types}
@@ -25,8 +25,8 @@ use Rattle.qs_meaning.proofs.Bodies.{declared_known, lengths_typed}
 use Rattle.qs_meaning.proofs.FunctionsTyped.{file_sound}
 use Rattle.qs_meaning.proofs.StructTables.{GoesOn, Grown, extents_grow, layout_grows, some_grows, appended_back, appended_goes_on, set_keeps, IsNew, set_back, set_count, with_tag_known}
 use Rattle.qs_meaning.proofs.FitConversions.{both}
-use Rattle.qs_meaning.proofs.FitTypes.{is_small, IsRoom, SmallTable, sized_is, room, AllPositive, extents_positive, layouts_positive, rounded_above, ends_behind, laid_as}
-use Rattle.qs_meaning.proofs.FitLayouts.{Laid, laid}
+use Rattle.qs_meaning.proofs.FitTypes.{is_small, IsRoom, SmallTable, sized_is, room, extents_positive, layouts_positive, rounded_above, ends_behind, laid_as}
+use Rattle.qs_meaning.proofs.FitLayouts.{laid}
 use Rattle.qs_meaning.proofs.FitDeclared.{declared_small}
 
 -- ---- types

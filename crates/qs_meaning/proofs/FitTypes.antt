@@ -1,5 +1,5 @@
 -- Sizes, alignments and offsets of types whose arrays have elements and are within the limit of sizes.
-use Rattle.std.proofs.Common.{◌≡◌, ◌≤◌, ◌<◌, ℕ, zero, suc, ◌+◌, ◌-◌, ◌*◌, ◌/◌, nat_le, max, Bool, true, false, ◌&&◌, List, [], ◌∷◌, Option, Some, None, is_some, refl, sym, ap, ◌∙◌, subst, arith, if◌then◌else◌}
+use Rattle.std.proofs.Common.{◌≡◌, ◌≤◌, ℕ, zero, suc, ◌+◌, ◌-◌, ◌*◌, nat_le, max, Bool, true, false, ◌&&◌, List, [], ◌∷◌, Some, None, refl, sym, ap, ◌∙◌, subst, arith, if◌then◌else◌}
 use Rattle.std.specs.List.{slice_get, list_all}
 use Rattle.std.proofs.lemmas.Bool.Decides.{nat_tests}
 use Rattle.std.proofs.lemmas.Nat.{mod_below, div-add-mod'}
@@ -7,14 +7,13 @@ use Rattle.std.proofs.Math.Nat.{mul-le-mul_left, mul-le-mul_right}
 use Rattle.qs_syntax.specs.Sameness.{same_bytes}
 use Rattle.qs_types.specs.declared.extent.Extent.{Extent}
 use Rattle.qs_types.specs.Types.{TypeTree, int, unsigned, char, void, pointer, array, struct, MemberTree, Structs, referenced}
-use Rattle.qs_types.specs.Layout.{and_then, StructLayout, Layouts, scalar_extent, array_extent, struct_extent, extent_by, extents_by, rounded_up, offsets_from, end_from, strictest, struct_layout, member_types, struct_of, members_layout, layouts_within, defined_structs, layout_of, extent_of, size_of, offset_of, size_limit, extent_within, sized_by, is_sized}
+use Rattle.qs_types.specs.Layout.{and_then, StructLayout, Layouts, array_extent, struct_extent, extent_by, extents_by, rounded_up, offsets_from, end_from, strictest, struct_layout, member_types, struct_of, members_layout, layouts_within, defined_structs, layout_of, extent_of, size_of, offset_of, size_limit, extent_within, sized_by, is_sized}
 use Rattle.qs_types.specs.Conversions.{decayed}
 use Rattle.qs_types.specs.Expressions.{member_in, member_type}
-use Rattle.qs_memory.specs.Partial.{◌>>=◌}
-use Rattle.qs_memory.proofs.Options.{some_same, followed}
+use Rattle.qs_memory.proofs.Options.{followed}
 use Rattle.qs_meaning.specs.Expressions.{member_number, member_offset}
-use Rattle.qs_meaning.specs.Fits.{largest_size, is_element}
-use Rattle.qs_meaning.proofs.Options.{never, left, right, nothing, same, went, Known, known}
+use Rattle.qs_meaning.specs.Fits.{largest_size}
+use Rattle.qs_meaning.proofs.Options.{left, right, nothing, same, went, Known, known}
 use Rattle.qs_meaning.proofs.FitConversions.{both, Elements}
 
 -- ---- alignments

@@ -1,6 +1,6 @@
 -- The typed tree of a well typed unit fits.
-use Rattle.std.proofs.Common.{◌≡◌, ◌≤◌, ◌<◌, ℕ, ◌+◌, nat_lt, ◌==◌, Bool, true, false, not, ◌&&◌, ◌||◌, List, [], ◌∷◌, ◌++◌, length, map, Option, Some, None, is_some, refl, sym, ap, ◌∙◌, subst, arith, if◌then◌else◌}
-use Rattle.std.specs.List.{list_all, slice_get}
+use Rattle.std.proofs.Common.{◌≡◌, ◌<◌, ℕ, ◌+◌, nat_lt, ◌==◌, Bool, true, false, not, ◌&&◌, ◌||◌, List, [], ◌∷◌, ◌++◌, length, map, Option, Some, None, is_some, refl, sym, ap, ◌∙◌, subst, arith, if◌then◌else◌}
+use Rattle.std.specs.List.{list_all}
 use Rattle.std.proofs.lemmas.Bool.{eq-eqb}
 use Rattle.std.proofs.lemmas.Bool.Decides.{nat_tests}
 use Rattle.std.proofs.lemmas.List.{map-append, length-append, length-map}
@@ -11,7 +11,6 @@ use Rattle.qs_syntax.specs.declared.nodes.Node.{Node}
 use Rattle.qs_syntax.specs.declared.types.Base.{Base}
 use Rattle.qs_syntax.specs.Trees.{VariableTree, FunctionTree, Stmts, DeclTree, structure, forward, function, variables, UnitTree}
 use Rattle.qs_syntax.specs.Nodes.{all_nodes, option_nodes, parameter_nodes, stmts_nodes, decl_nodes, unit_nodes}
-use Rattle.qs_memory.specs.Partial.{◌>>=◌}
 use Rattle.qs_memory.proofs.Options.{followed}
 use Rattle.qs_calls.specs.declared.callee.Callee.TheVariants as callees
 use Rattle.qs_calls.specs.Starts.{Interface, signature_of}
@@ -23,17 +22,17 @@ use Rattle.qs_types.specs.Contexts as contexts
 use Rattle.qs_types.specs.Declarations.{variable_declared}
 use Rattle.qs_types.specs.Expressions.{type_or_void}
 use Rattle.qs_types.specs.StatementRules.{after_variable, after_variables, variable_faults, variables_faults}
-use Rattle.qs_types.specs.UnitRules.{with_tag, after_struct, is_void_pointer, result_type, header_of, all_of, signature_by, is_name_in, declared_function, after_function, body_context, function_faults, after_declaration, declaration_faults, declarations_faults, context_after}
+use Rattle.qs_types.specs.UnitRules.{with_tag, after_struct, is_void_pointer, result_type, header_of, all_of, signature_by, declared_function, after_function, body_context, function_faults, after_declaration, declaration_faults, declarations_faults, context_after}
 use Rattle.qs_types.specs.Placed.{is_one_of, statements_locals, addressed_in}
 use Rattle.qs_types.specs.References.{TextBlock, literal_blocks, unit_calls}
-use Rattle.qs_types.specs.Sites.{Site, statements_sites, parameters_sites, body_sites, declaration_sites, declarations_sites, unit_sites}
+use Rattle.qs_types.specs.Sites.{Site, parameters_sites, body_sites, declaration_sites, declarations_sites}
 use Rattle.qs_types.specs.Limits.{IsWithinLimits}
 use Rattle.qs_types.specs.WellTyped.{entity_has_body, entity_runs, runs, undefined_from, WellTyped}
 use Rattle.qs_meaning.specs.Typed.{Function, StaticBlock, TypedProgram}
 use Rattle.qs_meaning.specs.Names.{Statics, Scope, within, place_among, function_number}
 use Rattle.qs_meaning.specs.InitialValues.{text_block}
-use Rattle.qs_meaning.specs.Interfaces.{signature, data_extent, interface_of}
-use Rattle.qs_meaning.specs.Units.{parameters_in, function_with, function_typed, file_variable_typed, file_variables_typed, declaration_typed, declarations_typed, file_variables_in, start_scope, typed_of}
+use Rattle.qs_meaning.specs.Interfaces.{data_extent, interface_of}
+use Rattle.qs_meaning.specs.Units.{parameters_in, function_with, function_typed, file_variable_typed, file_variables_typed, declaration_typed, declarations_typed, file_variables_in, start_scope}
 use Rattle.qs_meaning.specs.Fits.{function_fits, program_fits}
 use Rattle.qs_meaning.specs.FitLaws.{are_different, is_filled, variables_filled, body_filled, declaration_filled, IsAsRead, TypedUnitsFit}
 use Rattle.qs_meaning.specs.TypedLaws.{IsFileScope}
@@ -48,7 +47,7 @@ use Rattle.qs_meaning.proofs.FitSmall.{starred_small}
 use Rattle.qs_meaning.proofs.FitInitialisers.{site_sure}
 use Rattle.qs_meaning.proofs.FitDeclared.{variable_small}
 use Rattle.qs_meaning.proofs.FitLocals.{sub_front, sub_back, sub_same, sub_different, ids}
-use Rattle.qs_meaning.proofs.FitFunctions.{FileFits, AllFile, Made, made}
+use Rattle.qs_meaning.proofs.FitFunctions.{FileFits, AllFile, made}
 use Rattle.qs_meaning.proofs.FitBodies.{function_there}
 use Rattle.qs_meaning.proofs.FitTables.{After, tag_after, struct_after}
 use Rattle.qs_meaning.proofs.FitSignatures.{file_after, variable_after, Declared, persists, found}

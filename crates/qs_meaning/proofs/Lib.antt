@@ -46,3 +46,4 @@ pub mod FitUnits
 mod Shapes
 mod FitData
 pub mod FitBlocks
+pub mod FitReadings

@@ -5,6 +5,7 @@ use Rattle.qs_syntax.specs.declared.nodes.Node.{Node}
 use Rattle.qs_syntax.specs.Trees.{ExprTree, expr, ShapeTree, Exprs, no_exprs, expr_and, DeclaratorTree, InitialiserTree, value, list, Initialisers, no_initialisers, initialiser_and, VariableTree, MembersTree, StartTree, no_start, start_expression, start_declaration, StmtTree, empty, expression, declaration, block, branch, while_loop, do_loop, for_loop, break, continue, return, Stmts, no_stmts, stmt_and, Else, no_else, else_by, DeclTree, structure, forward, function, variables, UnitTree}
 use Rattle.qs_syntax.specs.Trees as trees
 use Rattle.qs_syntax.specs.Nodes.{unit_nodes}
+use Rattle.qs_syntax.specs.Units.{IsRead}
 use Rattle.qs_types.specs.Placed.{is_one_of}
 use Rattle.qs_types.specs.Sites.{Site, unit_sites}
 use Rattle.qs_types.specs.Limits.{IsWithinLimits}
@@ -123,3 +124,7 @@ pub record IsAsRead (unit : UnitTree) : Type 0 where
 abbrev pub TypedUnitsFit : Type 0
 TypedUnitsFit =
     (unit : UnitTree) (u : TypedProgram) → IsAsRead unit → WellTyped unit → IsWithinLimits unit → typed_of unit ≡ Some u → program_fits u ≡ true
+
+-- a unit that is read from tokens is such a unit
+abbrev pub ReadIsAsRead : Type 0
+ReadIsAsRead = (unit : UnitTree) → IsRead unit → IsAsRead unit

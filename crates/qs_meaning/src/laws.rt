@@ -1,5 +1,5 @@
 // The laws of the runs of a source. Each is the contract of an empty function.
-ghost use Rattle.qs_meaning.specs.FitLaws.{TypedUnitsFit};
+ghost use Rattle.qs_meaning.specs.FitLaws.{ReadIsAsRead, TypedUnitsFit};
 ghost use Rattle.qs_meaning.specs.InitialLaws.{InitialMemoryIsSound};
 ghost use Rattle.qs_meaning.specs.Laws.{CallsFollow, MainGrows, RunsGrow};
 ghost use Rattle.qs_meaning.specs.Ranges.{BodiesStayInRange, CallsStayInRange, ExpressionsHaveTypes};
@@ -37,6 +37,12 @@ pub fn functions_typed()
 /// A well typed unit has a typed tree.
 pub fn units_typed()
     ensures { UnitsTyped }
+{}
+
+/// A unit that is read from tokens has nodes with different numbers, constants below 2^32, and no
+/// empty list of initialisers or members.
+pub fn read_is_as_read()
+    ensures { ReadIsAsRead }
 {}
 
 /// The typed tree of a well typed unit within the limits fits, where the unit is as those that are

@@ -8,7 +8,7 @@ use Rattle.qs_events.specs.Runs.{Within}
 use Rattle.qs_calls.specs.World.{World, with_memory, leaves}
 use Rattle.qs_calls.specs.Relations.{Relation, Keeps, ReturnsRelated, CallsRelated}
 use Rattle.qs_calls.proofs.RelationLaws.{given_related, invoke_related, activate_related, within_keeps}
-use Rattle.qs_tac.specs.Trees.{InstructionTree, move, unary, binary, convert, member, load, store}
+use Rattle.qs_tac.specs.Trees.{InstructionTree, move, unary, binary, convert, address_of, load, store}
 use Rattle.qs_tac.specs.Trees.{copy, fill, call, jump, branch, return, TacUnitTree}
 use Rattle.qs_tac.specs.Holders.{Holder}
 use Rattle.qs_tac.specs.Values.{Activation, operand, operands, holds}
@@ -53,7 +53,7 @@ module _ (R : Relation) (keeps : Keeps R) (same : (result : Option Value) (w : W
   step_related k j r (Some (unary op x o)) a w stack = gives_related k j r x _ a w stack
   step_related k j r (Some (binary op x o p)) a w stack = gives_related k j r x _ a w stack
   step_related k j r (Some (convert s x o)) a w stack = gives_related k j r x _ a w stack
-  step_related k j r (Some (member x p)) a w stack = gives_related k j r x _ a w stack
+  step_related k j r (Some (address_of x p)) a w stack = gives_related k j r x _ a w stack
   step_related k j r (Some (load s x p)) a w stack = gives_related k j r x _ a w stack
   step_related k j r (Some (store s p o)) a w stack = memory_related k j r _ a w stack
   step_related k j r (Some (copy size alignment p q)) a w stack = memory_related k j r _ a w stack

@@ -214,16 +214,19 @@ module _ (u : TacUnitTree) (ps : List PlacesTree) (accepted : AreAccepted u ps) 
   operands_same b (o ∷ os) = both_bind _ _ _ _ (operand_same b o) (λ v. ap (λ r. r >>= λ vs. Some (v ∷ vs)) (operands_same b os))
 
   indexed_same :
-      (b : Both) (index : Option Index) (v : Value) (m : Memory)
-      → indexed placed index v (in_slots b) m ≡ indexed temporaries index v (in_temporaries b) m
-  indexed_same b None v m = refl
-  indexed_same b (Some index) v m =
-      ap (λ o. o >>= λ n. apply_binary (binaries.Move Up index.signedness index.element) m v n) (operand_same b index.count)
+      (b : Both) (index : Option Index) (q : Pointer) (m : Memory)
+      → indexed placed index q (in_slots b) m ≡ indexed temporaries index q (in_temporaries b) m
+  indexed_same b None q m = refl
+  indexed_same b (Some index) q m =
+      ap
+      (λ o. o >>= λ n. apply_binary (binaries.Move Up index.signedness index.element) m (address q) n >>= λ v.
+      as_pointer v >>= λ r. member_of m r index.offset)
+      (operand_same b index.count)
 
   pointer_same : (b : Both) (p : Address) (m : Memory) → pointer placed p (in_slots b) m ≡ pointer temporaries p (in_temporaries b) m
   pointer_same b p m =
       both_bind _ _ _ _ (operand_same b p.base)
-      (λ v. ap (λ o. o >>= λ x. as_pointer x >>= λ q. member_of m q p.offset) (indexed_same b p.index v m))
+      (λ v. bind_same (as_pointer v) _ _ (λ q. bind_same (member_of m q p.offset) _ _ (λ r. indexed_same b p.index r m)))
 
   holds_same : (b : Both) (c : Condition) (m : Memory) → holds placed c (in_slots b) m ≡ holds temporaries c (in_temporaries b) m
   holds_same b (NotZero o) m = ap (λ r. r >>= λ v. truth m v) (operand_same b o)

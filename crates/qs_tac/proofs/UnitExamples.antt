@@ -26,12 +26,12 @@ use Rattle.qs_tac.specs.Uses.{reads, writes}
 use Rattle.qs_tac.specs.Sizes.{values, words, instruction_words}
 use Rattle.qs_tac.proofs.StepExamples.{function_of, unit_of, result_of, at_local, behind, returns}
 
--- element i of what begins at the base, and there the byte at the offset
+-- an element of what begins at the base, and there the byte at the offset
 abbrev element : (base count : Operand) → (size offset : ℕ) → Address
 element base count size offset = record {
   base = base;
-  index = Some (record { count = count; signedness = Signed; element = size });
-  offset = offset;
+  offset = 0;
+  index = Some (record { count = count; signedness = Signed; element = size; offset = offset });
 }
 
 -- ---- operands and addresses
@@ -57,11 +57,16 @@ a_member_of_an_element :
     ≡ has_ended (Some 5)
 a_member_of_an_element = refl
 
--- a count of -1, from the end
+-- a count of -1 behind the member at the end
+abbrev before_the_end : Address
+before_the_end = record {
+  base = Local 0;
+  offset = 8;
+  index = Some (record { count = Constant 4294967295; signedness = Signed; element = 4; offset = 0 });
+}
+
 an_element_before :
-    result_of (
-    address_of 1 (at_local 8) ∷ store scalars.Int (element (Temporary 1) (Constant 4294967295) 4 0) (Constant 5)
-    ∷ load scalars.Int 2 (at_local 4) ∷ returns (Temporary 2) ∷ [])
+    result_of (store scalars.Int before_the_end (Constant 5) ∷ load scalars.Int 2 (at_local 4) ∷ returns (Temporary 2) ∷ [])
     ≡ has_ended (Some 5)
 an_element_before = refl
 
@@ -157,7 +162,7 @@ words_of_instructions :
     ∷ binary (binaries.Difference 4) 0 (Temporary 1) (Local 0)
     ∷ convert scalars.Char 0 (Data 0)
     ∷ address_of 0 (at_local 4096)
-    ∷ load scalars.Int 0 (record { base = Data 0; index = None; offset = 4096 })
+    ∷ load scalars.Int 0 (record { base = Data 0; offset = 4096; index = None })
     ∷ load scalars.Int 0 (element (Temporary 1) (Temporary 2) 4 2047)
     ∷ load scalars.Int 0 (behind 1 2048)
     ∷ store scalars.Char (behind 1 0) (Byte 2)

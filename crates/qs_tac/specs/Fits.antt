@@ -58,7 +58,7 @@ option_fits u f (Some o) = operand_fits u f o
 
 abbrev pub index_fits : TacUnitTree → TacFunctionTree → Option Index → Bool
 index_fits u f None = true
-index_fits u f (Some index) = operand_fits u f index.count && is_element index.element
+index_fits u f (Some index) = operand_fits u f index.count && is_element index.element && is_word index.offset
 
 abbrev pub address_fits : TacUnitTree → TacFunctionTree → Address → Bool
 address_fits u f p = operand_fits u f p.base && index_fits u f p.index && is_word p.offset

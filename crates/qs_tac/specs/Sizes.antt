@@ -53,8 +53,13 @@ abbrev pub index_words : Option Index → ℕ
 index_words None = 0
 index_words (Some index) = operand_words index.count + 4
 
+abbrev pub index_offset : Option Index → ℕ
+index_offset None = 0
+index_offset (Some index) = index.offset
+
+-- both offsets are one number
 abbrev pub address_words : Address → ℕ
-address_words p = base_words p.base + index_words p.index + offset_words p.base p.offset
+address_words p = base_words p.base + index_words p.index + offset_words p.base (p.offset + index_offset p.index)
 
 -- a comparison may take another word to turn its answer round; LUI and ADDI give the size of an element,
 -- with MUL or DIV and ADD or SUB

@@ -40,16 +40,18 @@ abbrev pub operands : {S : Type 0} → Holder S → List Operand → Activation 
 operands h [] a = Some []
 operands h (o ∷ others) a = operand h o a >>= λ v. operands h others a >>= λ vs. Some (v ∷ vs)
 
--- 6.5.6p8: a pointer so many elements behind another
-abbrev pub indexed : {S : Type 0} → Holder S → Option Index → Value → Activation S → Memory → Option Value
-indexed h None v a m = Some v
-indexed h (Some index) v a m =
-    operand h index.count a >>= λ n. apply_binary (binaries.Move Up index.signedness index.element) m v n
+-- 6.5.6p8, 6.5.2.3: a pointer so many elements behind another, and there to the member at the offset
+abbrev pub indexed : {S : Type 0} → Holder S → Option Index → Pointer → Activation S → Memory → Option Pointer
+indexed h None q a m = Some q
+indexed h (Some index) q a m =
+    operand h index.count a >>= λ n.
+    apply_binary (binaries.Move Up index.signedness index.element) m (address q) n >>= λ v.
+    as_pointer v >>= λ r. member_of m r index.offset
 
--- 6.5.2.1, 6.5.2.3: a pointer to the element, and there to the member at the offset
+-- 6.5.2.1, 6.5.2.3: a pointer to the member at the offset, and there to the element
 abbrev pub pointer : {S : Type 0} → Holder S → Address → Activation S → Memory → Option Pointer
 pointer h p a m =
-    operand h p.base a >>= λ v. indexed h p.index v a m >>= λ w. as_pointer w >>= λ q. member_of m q p.offset
+    operand h p.base a >>= λ v. as_pointer v >>= λ q. member_of m q p.offset >>= λ r. indexed h p.index r a m
 
 -- 6.5.8, 6.5.9; 6.8.4.1p2
 abbrev pub holds : {S : Type 0} → Holder S → Condition → Activation S → Memory → Option Bool

@@ -23,7 +23,7 @@ pub enum Operand {
     Data(u32),
 }
 
-/// How many elements an address stands behind its base (C11 6.5.6p8).
+/// How many elements an address stands behind another (C11 6.5.6p8), and how far behind that.
 #[derive(Clone, Copy, PartialEq, Eq, Debug)]
 pub struct Index {
     /// how many
@@ -32,17 +32,20 @@ pub struct Index {
     pub signedness: Signedness,
     /// the size of an element in bytes
     pub element: u32,
+    /// the bytes behind the element's start
+    pub offset: u32,
 }
 
-/// Where an access begins: a pointer, elements behind it (C11 6.5.2.1), and then bytes (C11 6.5.2.3).
+/// Where an access begins: a pointer, so many bytes behind it (C11 6.5.2.3), and an element there
+/// (C11 6.5.2.1).
 #[derive(Clone, Copy, PartialEq, Eq, Debug)]
 pub struct Address {
     /// the pointer
     pub base: Operand,
-    /// the elements, where there are some
-    pub index: Option<Index>,
     /// the bytes
     pub offset: u32,
+    /// the element, where there is one
+    pub index: Option<Index>,
 }
 
 /// When a branch is taken.

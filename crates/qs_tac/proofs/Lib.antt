@@ -1,2 +1,4 @@
 pub mod RelationLaws
-mod StepExamples
+pub mod PlacesLaws
+pub mod StepExamples
+mod UnitExamples

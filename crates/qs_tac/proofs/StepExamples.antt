@@ -18,7 +18,7 @@ use Rattle.qs_memory.specs.Memory.{make}
 use Rattle.std.specs.Prelude.{length}
 use Rattle.qs_calls.specs.declared.callee.Callee.TheVariants.{Function, PutChar, GetChar}
 use Rattle.qs_calls.specs.declared.parameter.Parameter.TheVariants.{Plain, Placed}
-use Rattle.qs_tac.specs.Trees.{InstructionTree, move, unary, binary, convert, member, load, store, copy, fill, call, jump, branch, return}
+use Rattle.qs_tac.specs.Trees.{InstructionTree, move, unary, binary, convert, address_of, load, store, copy, fill, call, jump, branch, return}
 use Rattle.qs_tac.specs.Trees.{TacFunctionTree, TacUnitTree}
 use Rattle.qs_tac.specs.Holders.{temporaries}
 use Rattle.qs_tac.specs.Steps.{ends}
@@ -27,7 +27,8 @@ use Rattle.qs_tac.specs.Places.{all_slots}
 use Rattle.qs_tac.specs.declared.places.Place.TheVariants.{Register}
 use Rattle.qs_tac.specs.Fits.{unit_fits}
 use Rattle.qs_tac.specs.declared.operands.Operand.{Operand}
-use Rattle.qs_tac.specs.declared.operands.Operand.TheVariants.{Temporary, Integer, Constant, Null, Local, Data}
+use Rattle.qs_tac.specs.declared.operands.Operand.TheVariants.{Temporary, Integer, Byte, Constant, Null, Local, Data}
+use Rattle.qs_tac.specs.declared.operands.Index.{Index}
 use Rattle.qs_tac.specs.declared.operands.Address.{Address}
 use Rattle.qs_tac.specs.declared.operands.Condition.TheVariants.{NotZero, Zero, Compare, ComparePointers}
 
@@ -53,26 +54,26 @@ with_input input = record {
 }
 
 -- one function with the parameter 0, four temporaries and a block of 8 bytes
-abbrev function_of : List InstructionTree → TacFunctionTree
+abbrev pub function_of : List InstructionTree → TacFunctionTree
 function_of code = record { parameters = Plain 0 ∷ []; temporaries = 4; blocks = 8 ∷ []; code = code }
 
-abbrev unit_of : List InstructionTree → TacUnitTree
+abbrev pub unit_of : List InstructionTree → TacUnitTree
 unit_of code = record { functions = function_of code ∷ []; main = 0; data_blocks = record { size = 2; is_writable = false } ∷ [] }
 
 -- what it returns where the parameter is 7, within 16 steps
-abbrev result_of : List InstructionTree → Ending (Option ℕ)
+abbrev pub result_of : List InstructionTree → Ending (Option ℕ)
 result_of code = end_of (tac_run (unit_of code) 0 (integer 7 ∷ []) (with_input []) 16)
 
 abbrev events_with : (input : List ℕ) → List InstructionTree → List Event
 events_with input code = events_of (tac_run (unit_of code) 0 (integer 7 ∷ []) (with_input input) 16)
 
-abbrev at_local : (offset : ℕ) → Address
-at_local offset = record { base = Local 0; offset = offset }
+abbrev pub at_local : (offset : ℕ) → Address
+at_local offset = record { base = Local 0; offset = offset; index = None }
 
-abbrev behind : (t offset : ℕ) → Address
-behind t offset = record { base = Temporary t; offset = offset }
+abbrev pub behind : (t offset : ℕ) → Address
+behind t offset = record { base = Temporary t; offset = offset; index = None }
 
-abbrev returns : Operand → InstructionTree
+abbrev pub returns : Operand → InstructionTree
 returns o = return (Some o)
 
 -- ---- operands
@@ -134,14 +135,14 @@ a_conversion = refl
 
 -- the pointer to offset 4 is one element of 4 bytes behind the one to the start
 a_member :
-    result_of (member 1 (at_local 4) ∷ binary (binaries.Difference 4) 2 (Temporary 1) (Local 0) ∷ returns (Temporary 2) ∷ [])
+    result_of (address_of 1 (at_local 4) ∷ binary (binaries.Difference 4) 2 (Temporary 1) (Local 0) ∷ returns (Temporary 2) ∷ [])
     ≡ has_ended (Some 1)
 a_member = refl
 
-a_member_past_the_end : result_of (member 1 (at_local 9) ∷ returns (Constant 0) ∷ []) ≡ is_undefined
+a_member_past_the_end : result_of (address_of 1 (at_local 9) ∷ returns (Constant 0) ∷ []) ≡ is_undefined
 a_member_past_the_end = refl
 
-a_member_of_null : result_of (member 1 (record { base = Null; offset = 0 }) ∷ returns (Constant 0) ∷ []) ≡ is_undefined
+a_member_of_null : result_of (address_of 1 (record { base = Null; offset = 0; index = None }) ∷ returns (Constant 0) ∷ []) ≡ is_undefined
 a_member_of_null = refl
 
 a_pointer_is_moved :
@@ -152,7 +153,7 @@ a_pointer_is_moved :
     ≡ has_ended (Some 9)
 a_pointer_is_moved = refl
 
-a_load_of_data : result_of (load scalars.Char 1 (record { base = Data 0; offset = 0 }) ∷ returns (Temporary 1) ∷ []) ≡ has_ended (Some 65)
+a_load_of_data : result_of (load scalars.Char 1 (record { base = Data 0; offset = 0; index = None }) ∷ returns (Temporary 1) ∷ []) ≡ has_ended (Some 65)
 a_load_of_data = refl
 
 a_load_of_what_is_unset : result_of (load scalars.Int 1 (at_local 0) ∷ returns (Constant 0) ∷ []) ≡ is_undefined
@@ -164,7 +165,7 @@ a_store = refl
 a_store_past_the_end : result_of (store scalars.Int (at_local 8) (Temporary 0) ∷ returns (Constant 0) ∷ []) ≡ is_undefined
 a_store_past_the_end = refl
 
-a_store_into_a_text : result_of (store scalars.Char (record { base = Data 0; offset = 0 }) (Constant 66) ∷ returns (Constant 0) ∷ []) ≡ is_undefined
+a_store_into_a_text : result_of (store scalars.Char (record { base = Data 0; offset = 0; index = None }) (Constant 66) ∷ returns (Constant 0) ∷ []) ≡ is_undefined
 a_store_into_a_text = refl
 
 a_copy :

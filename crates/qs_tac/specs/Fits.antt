@@ -1,4 +1,4 @@
--- What holds of every unit of linear code: temporaries, blocks, functions and places of instructions have
+-- What holds of every unit of linear code: temporaries, blocks, functions and indices of instructions have
 -- numbers below their counts, each call has as many arguments as its callee has parameters, and constants,
 -- offsets and sizes are in range.
 use Rattle.std.specs.Prelude.{ℕ, ◌+◌, ◌*◌, ◌^◌, ◌==◌, ◌&&◌, nat_lt, nat_le, Bool, true, false, List, length, Option, Some, None}
@@ -10,11 +10,12 @@ use Rattle.qs_calls.specs.declared.callee.Callee.{Callee}
 use Rattle.qs_calls.specs.declared.callee.Callee.TheVariants.{Function, PutChar, GetChar}
 use Rattle.qs_calls.specs.declared.parameter.Parameter.{Parameter}
 use Rattle.qs_calls.specs.declared.parameter.Parameter.TheVariants.{Plain, Placed}
-use Rattle.qs_tac.specs.Trees.{InstructionTree, move, unary, binary, convert, member, load, store}
+use Rattle.qs_tac.specs.Trees.{InstructionTree, move, unary, binary, convert, address_of, load, store}
 use Rattle.qs_tac.specs.Trees.{copy, fill, call, jump, branch, return, TacFunctionTree, TacUnitTree}
 use Rattle.qs_tac.specs.declared.units.TacData.{TacData}
 use Rattle.qs_tac.specs.declared.operands.Operand.{Operand}
-use Rattle.qs_tac.specs.declared.operands.Operand.TheVariants.{Temporary, Integer, Constant, Null, Local, Data}
+use Rattle.qs_tac.specs.declared.operands.Operand.TheVariants.{Temporary, Integer, Byte, Constant, Null, Local, Data}
+use Rattle.qs_tac.specs.declared.operands.Index.{Index}
 use Rattle.qs_tac.specs.declared.operands.Address.{Address}
 use Rattle.qs_tac.specs.declared.operands.Condition.{Condition}
 use Rattle.qs_tac.specs.declared.operands.Condition.TheVariants.{NotZero, Zero, Compare, ComparePointers}
@@ -45,6 +46,7 @@ blank_size (joined b c) = blank_size b + blank_size c
 abbrev pub operand_fits : TacUnitTree → TacFunctionTree → Operand → Bool
 operand_fits u f (Temporary t) = nat_lt t f.temporaries
 operand_fits u f (Integer t) = nat_lt t f.temporaries
+operand_fits u f (Byte t) = nat_lt t f.temporaries
 operand_fits u f (Constant n) = is_word n
 operand_fits u f Null = true
 operand_fits u f (Local i) = nat_lt i (length f.blocks)
@@ -54,8 +56,12 @@ abbrev pub option_fits : TacUnitTree → TacFunctionTree → Option Operand → 
 option_fits u f None = true
 option_fits u f (Some o) = operand_fits u f o
 
+abbrev pub index_fits : TacUnitTree → TacFunctionTree → Option Index → Bool
+index_fits u f None = true
+index_fits u f (Some index) = operand_fits u f index.count && is_element index.element && is_word index.offset
+
 abbrev pub address_fits : TacUnitTree → TacFunctionTree → Address → Bool
-address_fits u f p = operand_fits u f p.base && is_word p.offset
+address_fits u f p = operand_fits u f p.base && index_fits u f p.index && is_word p.offset
 
 abbrev pub condition_fits : TacUnitTree → TacFunctionTree → Condition → Bool
 condition_fits u f (NotZero o) = operand_fits u f o
@@ -91,7 +97,7 @@ instruction_fits u f (unary op x o) = nat_lt x f.temporaries && operand_fits u f
 instruction_fits u f (binary op x o p) =
     nat_lt x f.temporaries && operand_fits u f o && operand_fits u f p && operation_fits op
 instruction_fits u f (convert s x o) = nat_lt x f.temporaries && operand_fits u f o
-instruction_fits u f (member x p) = nat_lt x f.temporaries && address_fits u f p
+instruction_fits u f (address_of x p) = nat_lt x f.temporaries && address_fits u f p
 instruction_fits u f (load s x p) = nat_lt x f.temporaries && address_fits u f p
 instruction_fits u f (store s p o) = address_fits u f p && operand_fits u f o
 instruction_fits u f (copy size alignment p q) =

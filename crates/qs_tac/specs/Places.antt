@@ -32,7 +32,7 @@ is_for_steps r = nat_le 5 r && nat_le r 7 || nat_le 28 r && nat_le r 31
 
 -- each temporary has a slot of its own: the only places for now
 pub record Accepted (f : TacFunctionTree) (p : PlacesTree) : Type 0 where
-  pub own_slots : p ≡ all_slots f
+  pub own_slots : p.at ≡ (all_slots f).at
 
 -- where a temporary stands; no temporary has a number from the length of the list on
 abbrev pub place_of : PlacesTree → (temporary : ℕ) → Place

@@ -11,7 +11,7 @@ use Rattle.qs_events.specs.Events.{Returns}
 use Rattle.qs_events.specs.Runs.{emit, undefined, short, given}
 use Rattle.qs_calls.specs.World.{World, with_memory, RootRun, Return, leaves}
 use Rattle.qs_calls.specs.Calls.{CallsOf, invoke, Frame, Body, activate, used}
-use Rattle.qs_tac.specs.Trees.{InstructionTree, move, unary, binary, convert, member, load, store}
+use Rattle.qs_tac.specs.Trees.{InstructionTree, move, unary, binary, convert, address_of, load, store}
 use Rattle.qs_tac.specs.Trees.{copy, fill, call, jump, branch, return, TacFunctionTree, TacUnitTree}
 use Rattle.qs_tac.specs.Holders.{Holder}
 use Rattle.qs_tac.specs.Values.{Activation, operand, operands, pointer, holds}
@@ -27,8 +27,8 @@ Next S = Activation S → World → (stack : List (Waiting S)) → RootRun
 
 -- ---- within a function
 
-abbrev pub going_to : {S : Type 0} → (place : ℕ) → Activation S → Activation S
-going_to place a = record a { at = place }
+abbrev pub going_to : {S : Type 0} → (index : ℕ) → Activation S → Activation S
+going_to index a = record a { at = index }
 
 abbrev pub onward : {S : Type 0} → Activation S → Activation S
 onward a = going_to (a.at + 1) a
@@ -92,7 +92,7 @@ step h u (Some (binary op x o p)) next a w stack =
     gives h next x (operand h o a >>= λ v. operand h p a >>= λ y. apply_binary op w.memory v y) a w stack
 step h u (Some (convert s x o)) next a w stack =
     gives h next x (operand h o a >>= λ v. values.convert s v) a w stack
-step h u (Some (member x p)) next a w stack =
+step h u (Some (address_of x p)) next a w stack =
     gives h next x (pointer h p a w.memory >>= λ q. Some (address q)) a w stack
 step h u (Some (load s x p)) next a w stack =
     gives h next x (pointer h p a w.memory >>= λ q. memory.load s w.memory q) a w stack

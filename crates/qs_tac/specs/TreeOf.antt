@@ -1,7 +1,7 @@
 -- The trees that the program's values stand for.
 use Rattle.std.specs.Prelude.{map}
 use Rattle.qs_memory.specs.BlankOf.{blank_tree}
-use Rattle.qs_tac.specs.Trees.{InstructionTree, move, unary, binary, convert, member, load, store}
+use Rattle.qs_tac.specs.Trees.{InstructionTree, move, unary, binary, convert, address_of, load, store}
 use Rattle.qs_tac.specs.Trees.{copy, fill, call, jump, branch, return, TacFunctionTree}
 use Rattle.qs_tac.specs.declared.instruction.Instruction.{Instruction}
 use Rattle.qs_tac.specs.declared.instruction.Instruction.TheVariants as instructions
@@ -12,7 +12,7 @@ instruction_tree (instructions.Move x a) = move x a
 instruction_tree (instructions.Unary op x a) = unary op x a
 instruction_tree (instructions.Binary op x a b) = binary op x a b
 instruction_tree (instructions.Convert s x a) = convert s x a
-instruction_tree (instructions.Member x p) = member x p
+instruction_tree (instructions.AddressOf x p) = address_of x p
 instruction_tree (instructions.Load s x p) = load s x p
 instruction_tree (instructions.Store s p a) = store s p a
 instruction_tree (instructions.Copy size alignment p q) = copy size alignment p q

@@ -11,14 +11,14 @@ use Rattle.qs_tac.specs.declared.operands.Address.{Address}
 use Rattle.qs_tac.specs.declared.operands.Condition.{Condition}
 use Rattle.qs_tac.specs.declared.units.TacData.{TacData}
 
--- x is the temporary that is written, `to` of a jump the place of an instruction
+-- x is the temporary that is written, `to` of a jump the index of an instruction
 pub data InstructionTree : Type 0 where
   move : (x : ℕ) → Operand → InstructionTree
   unary : UnaryOperation → (x : ℕ) → Operand → InstructionTree
   binary : BinaryOperation → (x : ℕ) → (left right : Operand) → InstructionTree
   convert : Scalar → (x : ℕ) → Operand → InstructionTree
-  -- a pointer to what begins at the address
-  member : (x : ℕ) → Address → InstructionTree
+  -- a pointer to the address
+  address_of : (x : ℕ) → Address → InstructionTree
   load : Scalar → (x : ℕ) → Address → InstructionTree
   -- of this type, to an address, a value
   store : Scalar → (to : Address) → (value : Operand) → InstructionTree

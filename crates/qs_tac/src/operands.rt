@@ -7,9 +7,12 @@ use qs_memory::{Comparison, Signedness};
 pub enum Operand {
     /// the value of the temporary with this number
     Temporary(u32),
-    /// the integer in the temporary with this number, as an `int` and as an `unsigned`: both see the
-    /// same 32 bits, and a `char` is one of each (C11 6.3.1.1p2, 6.3.1.3)
+    /// the integer in the temporary with this number; as an `int` and as an `unsigned` it has the same
+    /// 32 bits, and each `char` is an `int` (C11 6.3.1.1p2, 6.3.1.3)
     Integer(u32),
+    /// the low 8 bits of the integer in the temporary with this number: what it is as a `char`
+    /// (C11 6.3.1.3p2)
+    Byte(u32),
     /// an integer, as its 32 bits
     Constant(u32),
     /// a null pointer
@@ -20,13 +23,29 @@ pub enum Operand {
     Data(u32),
 }
 
-/// Where an access begins: a pointer, and so many bytes behind it (C11 6.5.2.3).
+/// How many elements an address stands behind another (C11 6.5.6p8), and how far behind that.
+#[derive(Clone, Copy, PartialEq, Eq, Debug)]
+pub struct Index {
+    /// how many
+    pub count: Operand,
+    /// whether the count is an `int` or an `unsigned`
+    pub signedness: Signedness,
+    /// the size of an element in bytes
+    pub element: u32,
+    /// the bytes behind the element's start
+    pub offset: u32,
+}
+
+/// Where an access begins: a pointer, so many bytes behind it (C11 6.5.2.3), and an element there
+/// (C11 6.5.2.1).
 #[derive(Clone, Copy, PartialEq, Eq, Debug)]
 pub struct Address {
     /// the pointer
     pub base: Operand,
     /// the bytes
     pub offset: u32,
+    /// the element, where there is one
+    pub index: Option<Index>,
 }
 
 /// When a branch is taken.

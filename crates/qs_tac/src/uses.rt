@@ -1,11 +1,11 @@
 // What instructions read and write.
-ghost use Rattle.std.specs.Prelude.{◌≡◌, ◌++◌, option_to_list};
+ghost use Rattle.std.specs.Prelude.{◌≡◌, ◌++◌, length, option_to_list};
 ghost use Rattle.std.specs.List.{slice_get};
 ghost use Rattle.qs_tac.specs.TreeOf.{instruction_tree};
-ghost use Rattle.qs_tac.specs.Uses.{read_by, read_by_all, read_by_option, read_by_condition, reads, writes};
+ghost use Rattle.qs_tac.specs.Uses.{read_by, read_by_address, read_by_all, read_by_option, read_by_condition, reads, writes};
 
 use crate::instruction::Instruction;
-use crate::operands::{Condition, Operand};
+use crate::operands::{Address, Condition, Operand};
 
 impl Operand {
     /// The temporary that the operand reads, if it reads one.
@@ -15,6 +15,7 @@ impl Operand {
         match self {
             Operand::Temporary(t) => Some(*t),
             Operand::Integer(t) => Some(*t),
+            Operand::Byte(t) => Some(*t),
             Operand::Constant(_) => None,
             Operand::Null => None,
             Operand::Local(_) => None,
@@ -59,6 +60,51 @@ fn read_by_each(operands: &[Operand], k: usize) -> Option<u32>
     None
 }
 
+impl Address {
+    /// How many temporaries the address reads.
+    pub fn reads(&self) -> usize
+        ensures { result ≡ length (read_by_address self.now) }
+    {
+        let base = usize::from(self.base.temporary().is_some());
+        match &self.index {
+            None => base,
+            Some(index) => base + usize::from(index.count.temporary().is_some()),
+        }
+    }
+
+    /// The k-th of the temporaries that the address reads, from 0.
+    pub fn read_at(&self, k: usize) -> Option<u32>
+        ensures { result ≡ slice_get (read_by_address self.now) k }
+    {
+        match &self.index {
+            None => read_by_one(&self.base, k),
+            Some(index) => read_by_two(&self.base, &index.count, k),
+        }
+    }
+}
+
+fn read_by_access(p: &Address, a: &Operand, k: usize) -> Option<u32>
+    ensures { result ≡ slice_get (read_by_address p.now ++ read_by a.now) k }
+{
+    let before = p.reads();
+    if k < before {
+        p.read_at(k)
+    } else {
+        read_by_one(a, k - before)
+    }
+}
+
+fn read_by_both(p: &Address, q: &Address, k: usize) -> Option<u32>
+    ensures { result ≡ slice_get (read_by_address p.now ++ read_by_address q.now) k }
+{
+    let before = p.reads();
+    if k < before {
+        p.read_at(k)
+    } else {
+        q.read_at(k - before)
+    }
+}
+
 impl Condition {
     /// The k-th of the temporaries that the condition reads, from 0.
     pub fn read_at(&self, k: usize) -> Option<u32>
@@ -84,11 +130,11 @@ impl Instruction {
             Instruction::Unary(_, _, a) => read_by_one(a, k),
             Instruction::Binary(_, _, a, b) => read_by_two(a, b, k),
             Instruction::Convert(_, _, a) => read_by_one(a, k),
-            Instruction::Member(_, p) => read_by_one(&p.base, k),
-            Instruction::Load(_, _, p) => read_by_one(&p.base, k),
-            Instruction::Store(_, p, a) => read_by_two(&p.base, a, k),
-            Instruction::Copy(_, _, p, q) => read_by_two(&p.base, &q.base, k),
-            Instruction::Fill(_, p) => read_by_one(&p.base, k),
+            Instruction::AddressOf(_, p) => p.read_at(k),
+            Instruction::Load(_, _, p) => p.read_at(k),
+            Instruction::Store(_, p, a) => read_by_access(p, a, k),
+            Instruction::Copy { to, from, .. } => read_by_both(to, from, k),
+            Instruction::Fill(_, p) => p.read_at(k),
             Instruction::Call(_, _, arguments) => read_by_each(arguments, k),
             Instruction::Jump(_) => None,
             Instruction::Branch(c, _) => c.read_at(k),
@@ -106,10 +152,10 @@ impl Instruction {
             Instruction::Unary(_, x, _) => Some(*x),
             Instruction::Binary(_, x, _, _) => Some(*x),
             Instruction::Convert(_, x, _) => Some(*x),
-            Instruction::Member(x, _) => Some(*x),
+            Instruction::AddressOf(x, _) => Some(*x),
             Instruction::Load(_, x, _) => Some(*x),
             Instruction::Store(_, _, _) => None,
-            Instruction::Copy(_, _, _, _) => None,
+            Instruction::Copy { .. } => None,
             Instruction::Fill(_, _) => None,
             Instruction::Call(x, _, _) => *x,
             Instruction::Jump(_) => None,

@@ -1,0 +1,198 @@
+-- Which units fit, what their instructions read and write, and how many values and words functions have.
+use Rattle.std.proofs.Common.{◌≡◌, ℕ, Bool, true, false, List, [], ◌∷◌, map, Option, Some, None, refl}
+use Rattle.qs_memory.specs.Memory.{zeros, repeated}
+use Rattle.qs_memory.specs.declared.scalar.Scalar.TheVariants as scalars
+use Rattle.qs_memory.specs.declared.operation.Signedness.TheVariants.{Signed, Unsigned}
+use Rattle.qs_memory.specs.declared.operation.Direction.TheVariants.{Up, Down}
+use Rattle.qs_memory.specs.declared.operation.Arithmetic.TheVariants as arithmetics
+use Rattle.qs_memory.specs.declared.operation.Comparison.TheVariants as comparisons
+use Rattle.qs_memory.specs.declared.operation.UnaryOperation.TheVariants as unaries
+use Rattle.qs_memory.specs.declared.operation.BinaryOperation.TheVariants as binaries
+use Rattle.qs_events.specs.Runs.{has_ended, is_undefined}
+use Rattle.qs_calls.specs.declared.callee.Callee.TheVariants.{Function, PutChar, GetChar}
+use Rattle.qs_calls.specs.declared.parameter.Parameter.TheVariants.{Plain, Placed}
+use Rattle.qs_tac.specs.Trees.{InstructionTree, move, unary, binary, convert, address_of, load, store, copy, fill, call, jump, branch, return}
+use Rattle.qs_tac.specs.Trees.{TacFunctionTree, TacUnitTree}
+use Rattle.qs_tac.specs.declared.operands.Operand.{Operand}
+use Rattle.qs_tac.specs.declared.operands.Operand.TheVariants.{Temporary, Integer, Byte, Constant, Null, Local, Data}
+use Rattle.qs_tac.specs.declared.operands.Index.{Index}
+use Rattle.qs_tac.specs.declared.operands.Address.{Address}
+use Rattle.qs_tac.specs.declared.operands.Condition.TheVariants.{NotZero, Zero, Compare, ComparePointers}
+use Rattle.qs_tac.specs.declared.places.Place.TheVariants.{Slot, Register}
+use Rattle.qs_tac.specs.Holders.{is_saved_register}
+use Rattle.qs_tac.specs.Places.{all_slots, Accepted, is_for_steps}
+use Rattle.qs_tac.specs.Fits.{unit_fits}
+use Rattle.qs_tac.specs.Uses.{reads, writes}
+use Rattle.qs_tac.specs.Sizes.{values, words, instruction_words}
+use Rattle.qs_tac.proofs.StepExamples.{function_of, unit_of, result_of, at_local, behind, returns}
+
+-- an element of what begins at the base, and there the byte at the offset
+abbrev element : (base count : Operand) → (size offset : ℕ) → Address
+element base count size offset = record {
+  base = base;
+  offset = 0;
+  index = Some (record { count = count; signedness = Signed; element = size; offset = offset });
+}
+
+-- ---- operands and addresses
+
+-- 263 as a `char` is 7
+a_byte : result_of (move 1 (Constant 263) ∷ returns (Byte 1) ∷ []) ≡ has_ended (Some 7)
+a_byte = refl
+
+a_byte_of_a_pointer : result_of (move 1 (Local 0) ∷ returns (Byte 1) ∷ []) ≡ is_undefined
+a_byte_of_a_pointer = refl
+
+a_byte_without_a_value : result_of (returns (Byte 1) ∷ []) ≡ is_undefined
+a_byte_without_a_value = refl
+
+-- the block has 8 bytes, and the parameter is 7
+an_element :
+    result_of (store scalars.Char (element (Local 0) (Temporary 0) 1 0) (Constant 5) ∷ load scalars.Char 1 (at_local 7) ∷ returns (Temporary 1) ∷ [])
+    ≡ has_ended (Some 5)
+an_element = refl
+
+a_member_of_an_element :
+    result_of (store scalars.Char (element (Local 0) (Constant 1) 4 3) (Constant 5) ∷ load scalars.Char 1 (at_local 7) ∷ returns (Temporary 1) ∷ [])
+    ≡ has_ended (Some 5)
+a_member_of_an_element = refl
+
+-- a count of -1 behind the member at the end
+abbrev before_the_end : Address
+before_the_end = record {
+  base = Local 0;
+  offset = 8;
+  index = Some (record { count = Constant 4294967295; signedness = Signed; element = 4; offset = 0 });
+}
+
+an_element_before :
+    result_of (store scalars.Int before_the_end (Constant 5) ∷ load scalars.Int 2 (at_local 4) ∷ returns (Temporary 2) ∷ [])
+    ≡ has_ended (Some 5)
+an_element_before = refl
+
+an_element_past_the_end : result_of (load scalars.Char 1 (element (Local 0) (Constant 9) 1 0) ∷ returns (Constant 0) ∷ []) ≡ is_undefined
+an_element_past_the_end = refl
+
+an_element_of_null : result_of (load scalars.Char 1 (element Null (Constant 1) 1 0) ∷ returns (Constant 0) ∷ []) ≡ is_undefined
+an_element_of_null = refl
+
+an_element_without_a_count : result_of (address_of 1 (element (Local 0) (Temporary 2) 1 0) ∷ returns (Constant 0) ∷ []) ≡ is_undefined
+an_element_without_a_count = refl
+
+-- ---- which units fit
+
+abbrev is_unit : List InstructionTree → Bool
+is_unit code = unit_fits (unit_of code)
+
+it_fits : is_unit (move 3 (Byte 3) ∷ load scalars.Int 0 (element (Local 0) (Integer 3) 16777216 4294967295) ∷ jump 2 ∷ []) ≡ true
+it_fits = refl
+
+a_target_past_the_end : is_unit (jump 1 ∷ []) ≡ false
+a_target_past_the_end = refl
+
+a_branch_past_the_end : is_unit (branch (Zero Null) 1 ∷ []) ≡ false
+a_branch_past_the_end = refl
+
+a_temporary_that_is_not_there : is_unit (move 4 (Constant 0) ∷ []) ≡ false
+a_temporary_that_is_not_there = refl
+
+a_byte_that_is_not_there : is_unit (returns (Byte 4) ∷ []) ≡ false
+a_byte_that_is_not_there = refl
+
+a_block_that_is_not_there : is_unit (returns (Local 1) ∷ []) ≡ false
+a_block_that_is_not_there = refl
+
+data_that_are_not_there : is_unit (returns (Data 1) ∷ []) ≡ false
+data_that_are_not_there = refl
+
+a_constant_out_of_range : is_unit (returns (Constant 4294967296) ∷ []) ≡ false
+a_constant_out_of_range = refl
+
+an_offset_out_of_range : is_unit (address_of 0 (at_local 4294967296) ∷ []) ≡ false
+an_offset_out_of_range = refl
+
+an_element_of_no_bytes : is_unit (address_of 0 (element (Local 0) (Constant 0) 0 0) ∷ []) ≡ false
+an_element_of_no_bytes = refl
+
+a_move_among_elements_of_no_bytes : is_unit (binary (binaries.Move Down Signed 0) 0 (Local 0) (Constant 0) ∷ []) ≡ false
+a_move_among_elements_of_no_bytes = refl
+
+a_count_that_is_not_there : is_unit (address_of 0 (element (Local 0) (Temporary 4) 1 0) ∷ []) ≡ false
+a_count_that_is_not_there = refl
+
+an_argument_too_many : is_unit (call None (Function (record { 0 = 0 })) (Constant 0 ∷ Constant 0 ∷ []) ∷ []) ≡ false
+an_argument_too_many = refl
+
+a_copy_without_alignment : is_unit (copy 4 0 (at_local 0) (at_local 4) ∷ []) ≡ false
+a_copy_without_alignment = refl
+
+a_fill_that_is_too_large : is_unit (fill (repeated 65536 (zeros 65536)) (at_local 0) ∷ []) ≡ false
+a_fill_that_is_too_large = refl
+
+-- ---- what is read and written
+
+reads_of_an_access : reads (store scalars.Int (element (Temporary 1) (Integer 2) 4 0) (Byte 3)) ≡ 1 ∷ 2 ∷ 3 ∷ []
+reads_of_an_access = refl
+
+reads_of_a_copy : reads (copy 4 4 (element (Temporary 1) (Constant 2) 4 0) (element (Local 0) (Temporary 3) 4 0)) ≡ 1 ∷ 3 ∷ []
+reads_of_a_copy = refl
+
+reads_of_a_call : reads (call (Some 0) PutChar (Temporary 2 ∷ [])) ≡ 2 ∷ []
+reads_of_a_call = refl
+
+reads_of_a_condition : reads (branch (Compare comparisons.Less Signed (Temporary 2) (Temporary 2)) 0) ≡ 2 ∷ 2 ∷ []
+reads_of_a_condition = refl
+
+writes_of_instructions :
+    map writes (call (Some 2) GetChar [] ∷ call None GetChar [] ∷ store scalars.Int (at_local 0) (Temporary 1) ∷ load scalars.Int 3 (at_local 0) ∷ [])
+    ≡ Some 2 ∷ None ∷ None ∷ Some 3 ∷ []
+writes_of_instructions = refl
+
+-- ---- sizes
+
+its_values : values (function_of []) ≡ 4
+its_values = refl
+
+words_of_instructions :
+    map instruction_words (
+    move 0 (Constant 1)
+    ∷ unary (unaries.Minus Signed) 0 (Byte 1)
+    ∷ binary (binaries.Arithmetic arithmetics.Add Signed) 0 (Temporary 1) (Temporary 2)
+    ∷ binary (binaries.Compare comparisons.Less Signed) 0 (Temporary 1) Null
+    ∷ binary (binaries.Difference 4) 0 (Temporary 1) (Local 0)
+    ∷ convert scalars.Char 0 (Data 0)
+    ∷ address_of 0 (at_local 4096)
+    ∷ load scalars.Int 0 (record { base = Data 0; offset = 4096; index = None })
+    ∷ load scalars.Int 0 (element (Temporary 1) (Temporary 2) 4 2047)
+    ∷ load scalars.Int 0 (behind 1 2048)
+    ∷ store scalars.Char (behind 1 0) (Byte 2)
+    ∷ copy 8 4 (at_local 0) (behind 1 0)
+    ∷ fill (zeros 8) (at_local 0)
+    ∷ call (Some 0) (Function (record { 0 = 0 })) (Temporary 1 ∷ Constant 2 ∷ [])
+    ∷ call None PutChar (Temporary 1 ∷ [])
+    ∷ jump 0
+    ∷ branch (Zero (Temporary 1)) 0
+    ∷ branch (Compare comparisons.Less Signed (Temporary 1) (Constant 2)) 0
+    ∷ return None
+    ∷ return (Some (Temporary 1))
+    ∷ [])
+    ≡ 5 ∷ 8 ∷ 10 ∷ 9 ∷ 13 ∷ 6 ∷ 6 ∷ 5 ∷ 14 ∷ 9 ∷ 8 ∷ 15 ∷ 12 ∷ 9 ∷ 5 ∷ 1 ∷ 5 ∷ 7 ∷ 17 ∷ 20 ∷ []
+words_of_instructions = refl
+
+-- 16 to begin, 3 for the parameter, 17 to end
+its_words : words (function_of (return None ∷ [])) ≡ 36
+its_words = refl
+
+-- ---- places
+
+its_slots : (all_slots (function_of [])).at ≡ Slot 0 ∷ Slot 1 ∷ Slot 2 ∷ Slot 3 ∷ []
+its_slots = refl
+
+slots_are_accepted : Accepted (function_of []) (record { at = Slot 0 ∷ Slot 1 ∷ Slot 2 ∷ Slot 3 ∷ [] })
+slots_are_accepted = record { own_slots = refl }
+
+saved_registers : map is_saved_register (7 ∷ 8 ∷ 9 ∷ 10 ∷ 17 ∷ 18 ∷ 27 ∷ 28 ∷ []) ≡ false ∷ true ∷ true ∷ false ∷ false ∷ true ∷ true ∷ false ∷ []
+saved_registers = refl
+
+registers_for_steps : map is_for_steps (4 ∷ 5 ∷ 7 ∷ 8 ∷ 27 ∷ 28 ∷ 31 ∷ 32 ∷ []) ≡ false ∷ true ∷ true ∷ false ∷ false ∷ true ∷ true ∷ false ∷ []
+registers_for_steps = refl

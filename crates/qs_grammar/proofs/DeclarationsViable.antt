@@ -27,14 +27,14 @@ use Rattle.qs_grammar.proofs.DeclarationsMembers.{sound_members}
 use Rattle.qs_grammar.proofs.DeclarationsParameters.{IsVoidOrNot, void_or_not, IsParameter, sound_parameter, void_is_refused, nothing_ends}
 use Rattle.qs_grammar.proofs.ExpressionsViable.{viable_base, viable_type, Has, number, one, one_begun, viable_part}
 use Rattle.qs_grammar.proofs.ExpressionsBegin.{high}
-use Rattle.qs_grammar.proofs.Viable.{OfFronts, behind_token, behind, Both, under, some_room, Viable, Viable-ok, Viable-unexpected, Viable-deep, Viable-after, Viable-token, Viable-if, Viable-bind, Viable-bind-is, Viable-done, here, Viable-mark, Viable-keyword, Viable-punctuator, Viable-no-punctuator, Viable-name, Viable-some}
+use Rattle.qs_grammar.proofs.Viable.{Claims, OfFronts, behind_token, behind, Both, under, some_room, Viable, Viable-ok, Viable-unexpected, Viable-deep, Viable-after, Viable-token, Viable-if, Viable-bind, Viable-bind-is, Viable-done, here, Viable-mark, Viable-keyword, Viable-punctuator, Viable-no-punctuator, Viable-name, Viable-some}
 
 abbrev pub mark : punctuator.Punctuator → Terminal
 mark k = Punctuator 0 k
 
 -- ---- types
 
-pub viable_outer_type : (Q : Bool → List Terminal → Type 0) → OfFronts Q → ((xs : List Terminal) (b : Base) → ReadsOuterType xs b → Q true xs) → (ts : List Terminal) → Viable Q ts (outer_type ts)
+pub viable_outer_type : (Q : Claims) → OfFronts Q → ((xs : List Terminal) (b : Base) → ReadsOuterType xs b → Q true xs) → (ts : List Terminal) → Viable Q ts (outer_type ts)
 unfolding outer_type
 viable_outer_type Q c w ts =
     let before : Taken ReadsPrefixes ts (skip_prefixes ts) = taken_prefixes ts in
@@ -84,10 +84,10 @@ AreLengths h xs = (l : LengthsTree) × ReadsLengths h xs l
 one_length : (o : ℕ) → AreGiven (max 1 0) (Punctuator o punctuators.OpenBracket ∷ (number ++ mark punctuators.CloseBracket ∷ []))
 one_length o = (_, a_length o 0 (one Conditional refl).1 no_length)
 
-length_begun : (m : ℕ) (Q : Bool → List Terminal → Type 0) → OfFronts Q → ((h : ℕ) (xs : List Terminal) → AreGiven h xs → Both Q m h xs) → (o : ℕ) (h : ℕ) (xs : List Terminal) → Has Conditional h xs → Both Q m h (Punctuator o punctuators.OpenBracket ∷ xs)
+length_begun : (m : ℕ) (Q : Claims) → OfFronts Q → ((h : ℕ) (xs : List Terminal) → AreGiven h xs → Both Q m h xs) → (o : ℕ) (h : ℕ) (xs : List Terminal) → Has Conditional h xs → Both Q m h (Punctuator o punctuators.OpenBracket ∷ xs)
 length_begun m Q c w o h xs s = under c (Punctuator o punctuators.OpenBracket ∷ xs) (mark punctuators.CloseBracket ∷ []) m (max h 0) (w (max h 0) _ (_, a_length o 0 s.1 no_length)) m h (λ le. omega arith)
 
-viable_given : (m n : ℕ) (done : List ExprTree) (h : ℕ) (Q : Bool → List Terminal → Type 0) → OfFronts Q → ((h : ℕ) (xs : List Terminal) → AreGiven h xs → Both Q m h xs) → (ts : List Terminal)
+viable_given : (m n : ℕ) (done : List ExprTree) (h : ℕ) (Q : Claims) → OfFronts Q → ((h : ℕ) (xs : List Terminal) → AreGiven h xs → Both Q m h xs) → (ts : List Terminal)
     → (starts punctuators.OpenBracket ts ≡ true → (o : ℕ) → Q true (Punctuator o punctuators.OpenBracket ∷ [])) → Viable Q ts (given_lengths m n done h ts)
 unfolding given_lengths
 viable_given m zero done h Q c w ts bracket = Viable-ok
@@ -103,7 +103,7 @@ viable_given m (suc n) done h Q c w ts bracket =
     (λ _ a. inside.front true (Punctuator a punctuators.OpenBracket ∷ []) (number ++ mark punctuators.CloseBracket ∷ []) ((further (max 1 0) _ (one_length a)).1 (omega arith)))))))
     (λ _. Viable-ok)
 
-module _ (m : ℕ) (Q : Bool → List Terminal → Type 0) (c : OfFronts Q) (w : (h : ℕ) (xs : List Terminal) → AreLengths h xs → Both Q m h xs) where
+module _ (m : ℕ) (Q : Claims) (c : OfFronts Q) (w : (h : ℕ) (xs : List Terminal) → AreLengths h xs → Both Q m h xs) where
   opened : (o k : ℕ) (h : ℕ) (xs : List Terminal) → AreGiven h xs → Both Q m h (Punctuator o punctuators.OpenBracket ∷ Punctuator k punctuators.CloseBracket ∷ xs)
   opened o k h xs s = w h _ (_, first_open o k s.1)
 
@@ -145,7 +145,7 @@ IsDeclarator h xs = (d : DeclaratorTree) × ReadsDeclarator h xs d
 pub a_name : IsDeclarator 0 (Name 0 [] ∷ [])
 a_name = (_, a_declarator 0 [] no_star (are_given no_length))
 
-module _ (m : ℕ) (Q : Bool → List Terminal → Type 0) (c : OfFronts Q) (w : (h : ℕ) (xs : List Terminal) → IsDeclarator h xs → Both Q m h xs) where
+module _ (m : ℕ) (Q : Claims) (c : OfFronts Q) (w : (h : ℕ) (xs : List Terminal) → IsDeclarator h xs → Both Q m h xs) where
   viable_named : (n : ℕ) (front : List Terminal) → ReadsStars front n → (ts : List Terminal) → Viable (λ b l. Q b (front ++ l)) ts (named m n ts)
   viable_named n front s ts =
       Viable-name ts _ ((behind front c).front true [] (Name 0 [] ∷ []) ((w 0 _ (_, a_declarator 0 [] s (are_given no_length))).1 (omega arith)))
@@ -159,11 +159,11 @@ module _ (m : ℕ) (Q : Bool → List Terminal → Type 0) (c : OfFronts Q) (w :
 
 module _ (closing : punctuator.Punctuator) (n : ℕ) (One All : ℕ → List Terminal → Type 0) (last : (h : ℕ) (xs : List Terminal) → One h xs → All h xs)
     (further : (h k : ℕ) (xs ys : List Terminal) (at : ℕ) → One h xs → All k ys → All (max h k) (xs ++ Punctuator at punctuators.Comma ∷ ys)) (shortest : List Terminal) (least : All 1 shortest) (room : 0 < n) where
-  abbrev pub Closes : (Bool → List Terminal → Type 0) → Type 0
+  abbrev pub Closes : Claims → Type 0
   Closes Q = (h : ℕ) (xs : List Terminal) → All h xs → Both Q n h (xs ++ mark closing ∷ [])
 
-  pub viable_after : {B : Type 0} (all : B) (others : Parse B) (g : ℕ) (front : List Terminal) → One g front → g ≤ n → (Q : Bool → List Terminal → Type 0) → OfFronts Q → Closes Q
-      → ((P : Bool → List Terminal → Type 0) → OfFronts P → Closes P → P true [] → (ts : List Terminal) → Viable P ts (others ts))
+  pub viable_after : {B : Type 0} (all : B) (others : Parse B) (g : ℕ) (front : List Terminal) → One g front → g ≤ n → (Q : Claims) → OfFronts Q → Closes Q
+      → ((P : Claims) → OfFronts P → Closes P → P true [] → (ts : List Terminal) → Viable P ts (others ts))
       → (us : List Terminal) → Viable (λ b l. Q b (front ++ l)) us (cond (starts closing us) (bind (expect closing us) (λ _ vs. Ok (all, vs))) (bind (expect punctuators.Comma us) (λ _ vs. others vs)))
   viable_after all others g front r fits Q c w again us =
       let q : Q true (front ++ []) = here Q front (c.front true front (mark closing ∷ []) ((w g front (last g front r)).1 fits)) in
@@ -187,8 +187,8 @@ an_init : IsInit 1 number
 an_init = (_, a_value (one Assignment refl).1)
 
 module _ (n : ℕ) (one : Parse (InitialiserTree × ℕ)) (sound : (ts : List Terminal) → Sound (IsInitialiser n) [] ts (one ts))
-    (viable : (Q : Bool → List Terminal → Type 0) → OfFronts Q → ((h : ℕ) (xs : List Terminal) → IsInit h xs → Both Q n h xs) → Q true [] → (ts : List Terminal) → Viable Q ts (one ts)) where
-  viable_initialisers : (turns : ℕ) (done : List InitialiserTree) (h : ℕ) (Q : Bool → List Terminal → Type 0) → OfFronts Q → ((h : ℕ) (xs : List Terminal) → AreInits h xs → Both Q n h (xs ++ mark punctuators.CloseBrace ∷ [])) → Q true [] → (ts : List Terminal)
+    (viable : (Q : Claims) → OfFronts Q → ((h : ℕ) (xs : List Terminal) → IsInit h xs → Both Q n h xs) → Q true [] → (ts : List Terminal) → Viable Q ts (one ts)) where
+  viable_initialisers : (turns : ℕ) (done : List InitialiserTree) (h : ℕ) (Q : Claims) → OfFronts Q → ((h : ℕ) (xs : List Terminal) → AreInits h xs → Both Q n h (xs ++ mark punctuators.CloseBrace ∷ [])) → Q true [] → (ts : List Terminal)
       → Viable Q ts (initialisers one turns done h ts)
   unfolding initialisers
   viable_initialisers zero done h Q c w low ts = Viable-unexpected low
@@ -211,7 +211,7 @@ module _ (n : ℕ) (one : Parse (InitialiserTree × ℕ)) (sound : (ts : List Te
 one_list : (at : ℕ) → IsInit 2 (Punctuator at punctuators.OpenBrace ∷ (number ++ mark punctuators.CloseBrace ∷ []))
 one_list at = (_, a_list at 0 (a_last_initialiser an_init.1))
 
-viable_initialiser : (n : ℕ) (Q : Bool → List Terminal → Type 0) → OfFronts Q → ((h : ℕ) (xs : List Terminal) → IsInit h xs → Both Q n h xs) → Q true [] → (ts : List Terminal) → Viable Q ts (initialiser n ts)
+viable_initialiser : (n : ℕ) (Q : Claims) → OfFronts Q → ((h : ℕ) (xs : List Terminal) → IsInit h xs → Both Q n h xs) → Q true [] → (ts : List Terminal) → Viable Q ts (initialiser n ts)
 unfolding initialiser
 viable_initialiser zero Q c w low [] = Viable-unexpected low
 viable_initialiser zero Q c w low (t ∷ ts) = Viable-if (begins_initialiser (t ∷ ts)) (λ e. Viable-deep low (begun (is_punctuator punctuators.OpenBrace t) (λ d. punctuator_is punctuators.OpenBrace t d) e)) (λ _. Viable-unexpected low)
@@ -243,7 +243,7 @@ only_variable h xs r = (_, a_last_variable r.1)
 pub one_variable : AreVariables 1 (Name 0 [] ∷ [])
 one_variable = (_, a_last_variable (an_unset_variable a_name.1))
 
-module _ (m : ℕ) (Q : Bool → List Terminal → Type 0) (c : OfFronts Q) (w : (h : ℕ) (xs : List Terminal) → IsVariable h xs → Both Q (suc m) h xs) where
+module _ (m : ℕ) (Q : Claims) (c : OfFronts Q) (w : (h : ℕ) (xs : List Terminal) → IsVariable h xs → Both Q (suc m) h xs) where
   viable_initialised : (d : DeclaratorTree × ℕ) (front : List Terminal) → ReadsDeclarator d.1 front d.0 → d.1 ≤ m → (ts : List Terminal) → Viable (λ b l. Q b (front ++ l)) ts (initialised m d ts)
   viable_initialised d front r fits [] = Viable-ok
   viable_initialised d front r fits (t ∷ ts) =
@@ -265,7 +265,7 @@ module _ (m : ℕ) (Q : Bool → List Terminal → Type 0) (c : OfFronts Q) (w :
 further_variable : (h k : ℕ) (xs ys : List Terminal) (at : ℕ) → IsVariable h xs → AreVariables k ys → AreVariables (max h k) (xs ++ Punctuator at punctuators.Comma ∷ ys)
 further_variable h k xs ys at r s = (_, a_variable at r.1 s.1)
 
-viable_variables : (m n : ℕ) (done : List VariableTree) (h : ℕ) (Q : Bool → List Terminal → Type 0) → OfFronts Q → ((h : ℕ) (xs : List Terminal) → AreVariables h xs → Both Q (suc m) h (xs ++ mark punctuators.Semicolon ∷ [])) → Q true [] → (ts : List Terminal) → Viable Q ts (variables m n done h ts)
+viable_variables : (m n : ℕ) (done : List VariableTree) (h : ℕ) (Q : Claims) → OfFronts Q → ((h : ℕ) (xs : List Terminal) → AreVariables h xs → Both Q (suc m) h (xs ++ mark punctuators.Semicolon ∷ [])) → Q true [] → (ts : List Terminal) → Viable Q ts (variables m n done h ts)
 unfolding variables
 viable_variables m zero done h Q c w low ts = Viable-unexpected low
 viable_variables m (suc n) done h Q c w low ts =
@@ -274,13 +274,13 @@ viable_variables m (suc n) done h Q c w low ts =
     (λ P d u l vs. viable_variables m n (done ++ v.0 ∷ []) (max h v.1) P d u l vs) us)
 
 -- behind a type
-pub viable_declared : (m : ℕ) (b : Base) (Q : Bool → List Terminal → Type 0) → OfFronts Q → ((h : ℕ) (xs : List Terminal) → AreVariables h xs → Both Q (suc m) h (xs ++ mark punctuators.Semicolon ∷ [])) → Q true [] → (ts : List Terminal) → Viable Q ts (declared m b ts)
+pub viable_declared : (m : ℕ) (b : Base) (Q : Claims) → OfFronts Q → ((h : ℕ) (xs : List Terminal) → AreVariables h xs → Both Q (suc m) h (xs ++ mark punctuators.Semicolon ∷ [])) → Q true [] → (ts : List Terminal) → Viable Q ts (declared m b ts)
 viable_declared m b Q c w low ts = Viable-done _ (viable_variables m (length ts) [] 0 Q c w low ts)
 
 abbrev pub IsDeclaration : ℕ → List Terminal → Type 0
 IsDeclaration h xs = (d : DeclarationTree) × ReadsDeclaration h xs d
 
-module _ (n : ℕ) (Q : Bool → List Terminal → Type 0) (c : OfFronts Q) (w : (h : ℕ) (xs : List Terminal) → IsDeclaration h xs → Both Q n h xs) where
+module _ (n : ℕ) (Q : Claims) (c : OfFronts Q) (w : (h : ℕ) (xs : List Terminal) → IsDeclaration h xs → Both Q n h xs) where
   behind_type : (xs : List Terminal) (b : Base) → ReadsType xs b → (h : ℕ) (ys : List Terminal) → AreVariables h ys → Both Q n h (xs ++ (ys ++ mark punctuators.Semicolon ∷ []))
   behind_type xs b t h ys s = w h _ (_, a_declaration 0 t s.1)
 
@@ -291,7 +291,7 @@ module _ (n : ℕ) (Q : Bool → List Terminal → Type 0) (c : OfFronts Q) (w :
   low_typed : 0 < n → (xs : List Terminal) (b : Base) → ReadsType xs b → Q true xs
   low_typed some xs b t = c.front true xs _ ((behind_type xs b t 1 _ one_variable).1 (omega arith))
 
-pub viable_declaration_within : (n : ℕ) (Q : Bool → List Terminal → Type 0) → OfFronts Q → ((h : ℕ) (xs : List Terminal) → IsDeclaration h xs → Both Q n h xs) → Q true [] → (t : Terminal) (ts : List Terminal) → begins_type (t ∷ ts) ≡ true
+pub viable_declaration_within : (n : ℕ) (Q : Claims) → OfFronts Q → ((h : ℕ) (xs : List Terminal) → IsDeclaration h xs → Both Q n h xs) → Q true [] → (t : Terminal) (ts : List Terminal) → begins_type (t ∷ ts) ≡ true
     → Viable Q (t ∷ ts) (declaration_within n (t ∷ ts))
 unfolding declaration_within declaration
 viable_declaration_within zero Q c w low t ts e = let by = type_begun t ts e in Viable-deep low (c.front false (t ∷ []) by.0 (any_typed 0 Q c w (t ∷ by.0) by.1 by.2))
@@ -319,7 +319,7 @@ further_member h k xs ys at (j, e, (d, r)) s = rw e (_, a_member at r s.1)
 one_member : AreDeclarators 1 (Name 0 [] ∷ [])
 one_member = (_, a_last_member a_name.1)
 
-viable_declarators : (m n : ℕ) (done : List DeclaratorTree) (h : ℕ) (Q : Bool → List Terminal → Type 0) → OfFronts Q → ((h : ℕ) (xs : List Terminal) → AreDeclarators h xs → Both Q (suc m) h (xs ++ mark punctuators.Semicolon ∷ [])) → Q true [] → (ts : List Terminal)
+viable_declarators : (m n : ℕ) (done : List DeclaratorTree) (h : ℕ) (Q : Claims) → OfFronts Q → ((h : ℕ) (xs : List Terminal) → AreDeclarators h xs → Both Q (suc m) h (xs ++ mark punctuators.Semicolon ∷ [])) → Q true [] → (ts : List Terminal)
     → Viable Q ts (declarators m n done h ts)
 unfolding declarators
 viable_declarators m zero done h Q c w low ts = Viable-unexpected low
@@ -335,7 +335,7 @@ AreMembers h xs = (g : MembersTree) × ReadsMembers h xs g
 abbrev pub AreGroups : ℕ → List Terminal → Type 0
 AreGroups h xs = (gs : List MembersTree) × ReadsAllMembers h xs gs
 
-module _ (m : ℕ) (Q : Bool → List Terminal → Type 0) (c : OfFronts Q) (w : (h : ℕ) (xs : List Terminal) → AreMembers h xs → Both Q (suc m) h xs) where
+module _ (m : ℕ) (Q : Claims) (c : OfFronts Q) (w : (h : ℕ) (xs : List Terminal) → AreMembers h xs → Both Q (suc m) h xs) where
   group_begun : (xs : List Terminal) (b : Base) → ReadsType xs b → (h : ℕ) (ys : List Terminal) → AreDeclarators h ys → Both Q (suc m) h (xs ++ (ys ++ mark punctuators.Semicolon ∷ []))
   group_begun xs b t h ys s = w h _ (_, a_group 0 t s.1)
 
@@ -352,7 +352,7 @@ module _ (m : ℕ) (Q : Bool → List Terminal → Type 0) (c : OfFronts Q) (w :
 pub a_member_group : AreGroups 1 (Keyword 0 keywords.Int ∷ Name 0 [] ∷ mark punctuators.Semicolon ∷ [])
 a_member_group = (_, a_last_group (a_group {xs = Keyword 0 keywords.Int ∷ []} {ys = Name 0 [] ∷ []} 0 (plain_type (an_int 0)) one_member.1))
 
-pub viable_groups : (m n : ℕ) (done : List MembersTree) (h : ℕ) (Q : Bool → List Terminal → Type 0) → OfFronts Q → ((h : ℕ) (xs : List Terminal) → AreGroups h xs → Both Q (suc m) h (xs ++ mark punctuators.CloseBrace ∷ [])) → Q true [] → (ts : List Terminal)
+pub viable_groups : (m n : ℕ) (done : List MembersTree) (h : ℕ) (Q : Claims) → OfFronts Q → ((h : ℕ) (xs : List Terminal) → AreGroups h xs → Both Q (suc m) h (xs ++ mark punctuators.CloseBrace ∷ [])) → Q true [] → (ts : List Terminal)
     → Viable Q ts (groups m n done h ts)
 unfolding groups
 viable_groups m zero done h Q c w low ts = Viable-unexpected low
@@ -386,7 +386,7 @@ further_parameter h k xs ys at r s = (_, a_parameter at r.1 s.1)
 void_pointer : (at : ℕ) → IsOneParameter 1 (Keyword at keywords.Void ∷ mark punctuators.Star ∷ [])
 void_pointer at = (_, an_unnamed_parameter {xs = Keyword at keywords.Void ∷ []} {ys = mark punctuators.Star ∷ []} {zs = []} (plain_type (a_void at)) (a_star 0 no_const no_star) (are_given no_length) (λ n e. absurd cc))
 
-module _ (m : ℕ) (Q : Bool → List Terminal → Type 0) (c : OfFronts Q) (w : (h : ℕ) (xs : List Terminal) → IsOneParameter h xs → Both Q (suc m) h xs) where
+module _ (m : ℕ) (Q : Claims) (c : OfFronts Q) (w : (h : ℕ) (xs : List Terminal) → IsOneParameter h xs → Both Q (suc m) h xs) where
   void_begun : (at : ℕ) → Q true (Keyword at keywords.Void ∷ [])
   void_begun at = c.front true (Keyword at keywords.Void ∷ []) (mark punctuators.Star ∷ []) ((w 1 _ (void_pointer at)).1 (omega arith))
 
@@ -394,7 +394,7 @@ module _ (m : ℕ) (Q : Bool → List Terminal → Type 0) (c : OfFronts Q) (w :
   any_void at = c.front false (Keyword at keywords.Void ∷ []) (mark punctuators.Star ∷ []) (w 1 _ (void_pointer at)).0
 
   module _ (start : ℕ) (b : Base) (n : ℕ) (front ys : List Terminal) (t : ReadsType front b) (s : ReadsStars ys n) where
-    abbrev Behind : Bool → List Terminal → Type 0
+    abbrev Behind : Claims
     Behind q l = Q q (front ++ (ys ++ l))
 
     unnamed : (h : ℕ) (xs : List Terminal) → AreLengths h xs → Both Behind m h xs
@@ -433,10 +433,10 @@ module _ (m : ℕ) (Q : Bool → List Terminal → Type 0) (c : OfFronts Q) (w :
       void_alone [] e = absurd cc
       void_alone (t ∷ ts) e = Viable-keyword keywords.Void t (and_parts (is_keyword keywords.Void t) _ e).0 (Viable-token (Viable-unexpected (void_begun (number_of t))))
 
-abbrev AllParameters : ℕ → (Bool → List Terminal → Type 0) → Type 0
+abbrev AllParameters : ℕ → Claims → Type 0
 AllParameters m Q = (h : ℕ) (xs : List Terminal) → AreParameters h xs → Both Q (suc m) h (xs ++ mark punctuators.CloseParenthesis ∷ [])
 
-viable_parameters : (m n : ℕ) (done : List ParameterTree) (h : ℕ) (Q : Bool → List Terminal → Type 0) → OfFronts Q → AllParameters m Q → Q true [] → (ts : List Terminal) → Viable Q ts (parameters m n done h ts)
+viable_parameters : (m n : ℕ) (done : List ParameterTree) (h : ℕ) (Q : Claims) → OfFronts Q → AllParameters m Q → Q true [] → (ts : List Terminal) → Viable Q ts (parameters m n done h ts)
 unfolding parameters
 viable_parameters m zero done h Q c w low ts = Viable-unexpected low
 viable_parameters m (suc n) done h Q c w low ts =
@@ -445,7 +445,7 @@ viable_parameters m (suc n) done h Q c w low ts =
     one_there : (h : ℕ) (xs : List Terminal) → IsOneParameter h xs → Both Q (suc m) h xs
     one_there h xs s = under c xs (mark punctuators.CloseParenthesis ∷ []) (suc m) h (w h xs (only_parameter h xs s)) (suc m) h (λ le. le)
 
-    by_case : (p : ParameterTree × ℕ) → ((P : Bool → List Terminal → Type 0) → OfFronts P → AllParameters m P → P true [] → (vs : List Terminal) → Viable P vs (parameters m n (done ++ p.0 ∷ []) (max h p.1) vs))
+    by_case : (p : ParameterTree × ℕ) → ((P : Claims) → OfFronts P → AllParameters m P → P true [] → (vs : List Terminal) → Viable P vs (parameters m n (done ++ p.0 ∷ []) (max h p.1) vs))
         → (front us : List Terminal) → parameter m ts ≡ Ok (p, us) → ts ≡ front ++ us → IsParameter m p front → Viable (λ b l. Q b (front ++ l)) us (after_parameter (parameters m n) (done ++ p.0 ∷ []) (max h p.1) us)
     by_case p others front us read split (inl r) =
         viable_after punctuators.CloseParenthesis (suc m) IsOneParameter AreParameters only_parameter further_parameter _ (only_parameter 1 _ (void_pointer 0)) (omega arith) (done ++ p.0 ∷ [], max h p.1) (parameters m n (done ++ p.0 ∷ []) (max h p.1)) p.1 front (p.0, r.0) r.1 Q c w others us
@@ -460,7 +460,7 @@ viable_parameters m (suc n) done h Q c w low ts =
 abbrev pub IsHead : ℕ → List Terminal → Type 0
 IsHead h xs = (ps : List ParameterTree) × ReadsHead h xs ps
 
-pub viable_head : (m : ℕ) (Q : Bool → List Terminal → Type 0) → OfFronts Q → ((h : ℕ) (xs : List Terminal) → IsHead h xs → Both Q (suc m) h (xs ++ mark punctuators.CloseParenthesis ∷ [])) → (ts : List Terminal) → Viable Q ts (head m ts)
+pub viable_head : (m : ℕ) (Q : Claims) → OfFronts Q → ((h : ℕ) (xs : List Terminal) → IsHead h xs → Both Q (suc m) h (xs ++ mark punctuators.CloseParenthesis ∷ [])) → (ts : List Terminal) → Viable Q ts (head m ts)
 unfolding head
 viable_head m Q c w ts =
     let low : Q true [] = c.front true [] (mark punctuators.CloseParenthesis ∷ []) ((w 0 [] ([], no_parameter)).1 (omega arith)) in

@@ -12,13 +12,13 @@ use Rattle.qs_grammar.proofs.UnitsComplete.{finds_unit}
 use Rattle.qs_grammar.proofs.Local.{left, extend, Local, zero_or_more}
 use Rattle.qs_grammar.proofs.StatementsLocal.{Local-unit}
 use Rattle.qs_grammar.proofs.StatementsGrown.{unexpected_in_all}
-use Rattle.qs_grammar.proofs.Viable.{OfFronts, Both}
+use Rattle.qs_grammar.proofs.Viable.{Claims, OfFronts, Both}
 use Rattle.qs_grammar.proofs.UnitsViable.{IsSomeUnit, viable_unit}
 
 -- ---- what begins a unit
 
 -- a unit of some height, or one that is low enough
-abbrev pub Begins : Bool → List Terminal → Type 0
+abbrev pub Begins : Claims
 Begins false = BeginsUnit
 Begins true = BeginsLowUnit
 

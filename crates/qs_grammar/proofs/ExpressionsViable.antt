@@ -26,11 +26,11 @@ use Rattle.qs_grammar.proofs.Sound.{Sound}
 use Rattle.qs_grammar.proofs.TypesSound.{Taken, taken_consts, sound_type_name}
 use Rattle.qs_grammar.proofs.ExpressionsSound.{IsRead, Begun, starting, sound_primary, sound_suffix, sound_unary, sound_cast_or_unary, sound_climb, sound_assignment, of_level_is, sound_part}
 use Rattle.qs_grammar.proofs.ExpressionsBegin.{high}
-use Rattle.qs_grammar.proofs.Viable.{OfFronts, behind_token, behind, Both, under, Viable, Viable-ok, Viable-unexpected, Viable-deep, Viable-after, Viable-token, Viable-if, Viable-joined, Viable-bind, Viable-bind-is, Viable-then, Viable-done, here, Viable-mark, Viable-keyword, Viable-punctuator, Viable-name, Viable-above, Viable-some}
+use Rattle.qs_grammar.proofs.Viable.{Claims, OfFronts, behind_token, behind, Both, under, Viable, Viable-ok, Viable-unexpected, Viable-deep, Viable-after, Viable-token, Viable-if, Viable-joined, Viable-bind, Viable-bind-is, Viable-then, Viable-done, here, Viable-mark, Viable-keyword, Viable-punctuator, Viable-name, Viable-above, Viable-some}
 
 -- ---- types
 
-module _ (Q : Bool → List Terminal → Type 0) (c : OfFronts Q) (w : (xs : List Terminal) (b : Base) → ReadsBase xs b → Q true xs) where
+module _ (Q : Claims) (c : OfFronts Q) (w : (xs : List Terminal) (b : Base) → ReadsBase xs b → Q true xs) where
   viable_tagged : (at : ℕ) (ts : List Terminal) → Viable (λ b l. Q b (Keyword at keywords.Struct ∷ l)) ts (tagged ts)
   viable_tagged at ts = Viable-name ts _ (c.front true (Keyword at keywords.Struct ∷ []) (Name 0 [] ∷ []) (w _ _ (a_struct at 0 []))) (λ n x us. Viable-ok)
 
@@ -55,14 +55,14 @@ module _ (Q : Bool → List Terminal → Type 0) (c : OfFronts Q) (w : (xs : Lis
       (λ _. Viable-if (is_keyword keywords.Signed t) (λ _. viable_signed t ts)
       (λ _. Viable-if (is_keyword keywords.Struct t) (λ e. Viable-keyword keywords.Struct t e (Viable-token (viable_tagged (number_of t) ts))) (λ _. Viable-unexpected base_begins))))))
 
-pub viable_type : (Q : Bool → List Terminal → Type 0) → OfFronts Q → ((xs : List Terminal) (b : Base) → ReadsType xs b → Q true xs) → (ts : List Terminal) → Viable Q ts (type ts)
+pub viable_type : (Q : Claims) → OfFronts Q → ((xs : List Terminal) (b : Base) → ReadsType xs b → Q true xs) → (ts : List Terminal) → Viable Q ts (type ts)
 unfolding type
 viable_type Q c w ts =
     let before : Taken ReadsConsts ts (skip_consts ts) = taken_consts ts in
     Viable-after ts before.front (skip_consts ts) before.split _
     (Viable-done (λ b us. (b, skip_consts us)) (viable_base (λ b l. Q b (before.front ++ l)) (behind before.front c) (λ xs b r. subst (λ l. Q true (before.front ++ l)) (append-nil xs) (w (before.front ++ (xs ++ [])) b (a_type before.is r no_const))) (skip_consts ts)))
 
-pub viable_type_name : (Q : Bool → List Terminal → Type 0) → OfFronts Q → ((xs : List Terminal) (t : TypeName) → ReadsTypeName xs t → Q true xs) → (ts : List Terminal) → Viable Q ts (type_name ts)
+pub viable_type_name : (Q : Claims) → OfFronts Q → ((xs : List Terminal) (t : TypeName) → ReadsTypeName xs t → Q true xs) → (ts : List Terminal) → Viable Q ts (type_name ts)
 unfolding type_name
 viable_type_name Q c w ts = Viable-done (λ b us. (record { base = b; stars = (parse.stars us).0 }, (parse.stars us).1)) (viable_type Q c (λ xs b r. subst (Q true) (append-nil xs) (w (xs ++ []) _ (a_type_name r no_star))) ts)
 
@@ -184,18 +184,18 @@ pub one_begun : (form : Form) → is_part form ≡ true → (t : Terminal) (ts :
 one_begun form part t ts e = let by = unary_by t ts e in (by.0, from_unary form part by.1)
 
 -- where no level is left
-pub viable_beyond : {A : Type 0} (form : Form) → is_part form ≡ true → (Q : Bool → List Terminal → Type 0) → OfFronts Q → ((h : ℕ) (xs : List Terminal) → Has form h xs → Q false xs) → Q true [] → (ts : List Terminal) → Viable {A = A} Q ts (beyond ts)
+pub viable_beyond : {A : Type 0} (form : Form) → is_part form ≡ true → (Q : Claims) → OfFronts Q → ((h : ℕ) (xs : List Terminal) → Has form h xs → Q false xs) → Q true [] → (ts : List Terminal) → Viable {A = A} Q ts (beyond ts)
 viable_beyond form part Q c w low [] = Viable-unexpected low
 viable_beyond form part Q c w low (t ∷ ts) =
     Viable-if (begins_one (t ∷ ts)) (λ e. let by = one_begun form part t ts e in Viable-deep low (c.front false (t ∷ []) by.0 (w by.1.0 (t ∷ by.0) (by.1.1, by.1.2)))) (λ _. Viable-unexpected low)
 
 -- what is said of one that is h high, where at most n is low enough
-abbrev pub Wants : Form → ℕ → (Bool → List Terminal → Type 0) → Type 0
+abbrev pub Wants : Form → ℕ → Claims → Type 0
 Wants form n Q = (h : ℕ) (xs : List Terminal) → Has form h xs → Both Q n h xs
 
 module _ (m : ℕ) (p : Form → Parse E) (sound : (form : Form) (ts : List Terminal) → Sound (IsRead m form) [] ts (p form ts))
-    (viable : (form : Form) → is_part form ≡ true → (Q : Bool → List Terminal → Type 0) → OfFronts Q → Wants form m Q → Q true [] → (ts : List Terminal) → Viable Q ts (p form ts)) where
-  viable_arguments : (n : ℕ) (es : List ExprTree) (h : ℕ) (Q : Bool → List Terminal → Type 0) → OfFronts Q → ((h : ℕ) (xs : List Terminal) → HaveAll h xs → Both Q m h (xs ++ Punctuator 0 punctuators.CloseParenthesis ∷ [])) → Q true [] → (ts : List Terminal)
+    (viable : (form : Form) → is_part form ≡ true → (Q : Claims) → OfFronts Q → Wants form m Q → Q true [] → (ts : List Terminal) → Viable Q ts (p form ts)) where
+  viable_arguments : (n : ℕ) (es : List ExprTree) (h : ℕ) (Q : Claims) → OfFronts Q → ((h : ℕ) (xs : List Terminal) → HaveAll h xs → Both Q m h (xs ++ Punctuator 0 punctuators.CloseParenthesis ∷ [])) → Q true [] → (ts : List Terminal)
       → Viable Q ts (parse.arguments m p n es h ts)
   unfolding parse.arguments
   viable_arguments zero es h Q c w low ts = Viable-unexpected low
@@ -216,7 +216,7 @@ module _ (m : ℕ) (p : Form → Parse E) (sound : (form : Form) (ts : List Term
       begun : (h : ℕ) (xs : List Terminal) → Has Assignment h xs → Both Q m h xs
       begun h xs s = under c xs (Punctuator 0 punctuators.CloseParenthesis ∷ []) m h (w h xs (_, a_last_argument s.1)) m h (λ le. le)
 
-  module _ (Q : Bool → List Terminal → Type 0) (c : OfFronts Q) (w : Wants Postfix (m + 1) Q) where
+  module _ (Q : Claims) (c : OfFronts Q) (w : Wants Postfix (m + 1) Q) where
     viable_call : (at o : ℕ) (f : List ℕ) (ts : List Terminal) → Viable (λ b l. Q b (Name at f ∷ Punctuator o punctuators.OpenParenthesis ∷ l)) ts (parse.call_of m p at f ts)
     viable_call at o f ts =
         let opened : Q true (Name at f ∷ Punctuator o punctuators.OpenParenthesis ∷ []) = c.front true (Name at f ∷ Punctuator o punctuators.OpenParenthesis ∷ []) (Punctuator 0 punctuators.CloseParenthesis ∷ []) ((w 1 _ (_, an_empty_call at o 0 f)).1 (omega arith)) in
@@ -325,7 +325,7 @@ module _ (m : ℕ) (p : Form → Parse E) (sound : (form : Form) (ts : List Term
 
   -- ---- unary
 
-  module _ (Q : Bool → List Terminal → Type 0) (c : OfFronts Q) (w : Wants Unary (m + 1) Q) where
+  module _ (Q : Claims) (c : OfFronts Q) (w : Wants Unary (m + 1) Q) where
     unary_yet : Q true []
     unary_yet = c.front true [] number ((w 1 number (one Unary refl)).1 (omega arith))
 
@@ -346,7 +346,7 @@ module _ (m : ℕ) (p : Form → Parse E) (sound : (form : Form) (ts : List Term
         (viable_marked (Punctuator at (punctuator_of_unary operator)) (Level 0) refl (λ h xs s. (_, an_operator operator at s.1)) _ ts)
 
     module _ (at : ℕ) where
-      abbrev Sized : Bool → List Terminal → Type 0
+      abbrev Sized : Claims
       Sized b l = Q b (Keyword at keywords.Sizeof ∷ l)
 
       sized : OfFronts Sized
@@ -393,7 +393,7 @@ module _ (m : ℕ) (p : Form → Parse E) (sound : (form : Form) (ts : List Term
 
   -- ---- casts
 
-  module _ (Q : Bool → List Terminal → Type 0) (c : OfFronts Q) (w : Wants (Level 0) (m + 1) Q) where
+  module _ (Q : Claims) (c : OfFronts Q) (w : Wants (Level 0) (m + 1) Q) where
     cast_begun : 0 < m → (o : ℕ) (xs : List Terminal) (t : TypeName) → ReadsTypeName xs t → Q true (Punctuator o punctuators.OpenParenthesis ∷ xs)
     cast_begun some o xs t r = c.front true (Punctuator o punctuators.OpenParenthesis ∷ xs) (Punctuator 0 punctuators.CloseParenthesis ∷ number) ((w 2 _ (_, a_cast o 0 r (one (Level 0) refl).1)).1 (omega arith))
 
@@ -426,7 +426,7 @@ module _ (m : ℕ) (p : Form → Parse E) (sound : (form : Form) (ts : List Term
   plus_one : (form : Form) (k : ℕ) (xs : List Terminal) → Has form (suc k) xs → Has form (k + 1) xs
   plus_one form k xs s = subst (λ n. Has form n xs) (sym (add-one k)) s
 
-  module _ (j start : ℕ) (Q : Bool → List Terminal → Type 0) (c : OfFronts Q) (w : Wants (Level (suc j)) (m + 1) Q) where
+  module _ (j start : ℕ) (Q : Claims) (c : OfFronts Q) (w : Wants (Level (suc j)) (m + 1) Q) where
     module _ (done : List Terminal) (g : ℕ) (d : Has (Level (suc j)) g done) (some : 0 < g) (operator : BinaryOperator) (at : ℕ) (level : precedence operator ≡ suc j) where
       operation_begun : (h : ℕ) (xs : List Terminal) → Has (Level j) h xs → Both Q (m + 1) (suc (max g h)) (done ++ Punctuator at (punctuator_of_binary operator) ∷ xs)
       operation_begun h xs s = w (suc (max g h)) _ (_, an_operation operator at level d.1 s.1)
@@ -464,7 +464,7 @@ module _ (m : ℕ) (p : Form → Parse E) (sound : (form : Form) (ts : List Term
     viable_operations zero a done d low ts = Viable-ok
     viable_operations (suc n) a done d low ts = viable_operation_at a done d low ts (parse.operations m p n j start) (λ b all us s le. viable_operations n b all s le us) (parse.of_level m p j (operator_at binary_of ts)) refl
 
-  viable_climb : (j start : ℕ) (a : E) (done : List Terminal) → Begun (m + 1) (Level 0) start a done → (Q : Bool → List Terminal → Type 0) → OfFronts Q → Wants (Level j) (m + 1) Q → (ts : List Terminal)
+  viable_climb : (j start : ℕ) (a : E) (done : List Terminal) → Begun (m + 1) (Level 0) start a done → (Q : Claims) → OfFronts Q → Wants (Level j) (m + 1) Q → (ts : List Terminal)
       → Viable (λ b l. Q b (done ++ l)) ts (parse.climb m p j start a ts)
   unfolding parse.climb
   viable_climb zero start a done r Q c w ts = Viable-ok
@@ -474,7 +474,7 @@ module _ (m : ℕ) (p : Form → Parse E) (sound : (form : Form) (ts : List Term
 
   -- ---- conditional, assignment, comma
 
-  module _ (start : ℕ) (Q : Bool → List Terminal → Type 0) (c : OfFronts Q) (w : Wants Conditional (m + 1) Q) where
+  module _ (start : ℕ) (Q : Claims) (c : OfFronts Q) (w : Wants Conditional (m + 1) Q) where
     choice_begun : (done : List Terminal) (g : ℕ) → Has (Level 10) g done → 0 < g → g ≤ m → (o : ℕ) (h : ℕ) (xs : List Terminal) → Has Expression h xs → Both Q m h (done ++ Punctuator o punctuators.Question ∷ xs)
     choice_begun done g d some fits o h xs s = under (behind done c) (Punctuator o punctuators.Question ∷ xs) (Punctuator 0 punctuators.Colon ∷ number) (m + 1) (suc (max g (max h 1))) (w (suc (max g (max h 1))) _ (_, a_choice o 0 d.1 s.1 (one Conditional refl).1)) m h (λ le. omega arith)
 
@@ -506,7 +506,7 @@ module _ (m : ℕ) (p : Form → Parse E) (sound : (form : Form) (ts : List Term
     viable_after_operand a done r ts =
         Viable-then Q (parse.after_or m p start) (sound_climb m p sound 10 start a done r ts) (viable_climb 10 start a done r Q c (λ h xs s. w h xs (s.0, a_plain_level s.1)) ts) (λ b all us q. viable_after_or b all (b.0, q.0) q.1 us)
 
-  module _ (Q : Bool → List Terminal → Type 0) (c : OfFronts Q) (w : Wants Assignment (m + 1) Q) where
+  module _ (Q : Claims) (c : OfFronts Q) (w : Wants Assignment (m + 1) Q) where
     viable_assignment_of : (start : ℕ) (a : E) (done : List Terminal) → Begun (m + 1) Unary start a done → (ts : List Terminal) (o : Option AssignmentOperator) → operator_at assign_of ts ≡ o
         → Viable (λ b l. Q b (done ++ l)) ts (parse.assignment_of m p start a o ts)
     viable_assignment_of start a done r ts None e = viable_after_operand start Q c (λ h xs s. w h xs (s.0, a_plain_conditional s.1)) a done (an_operand r.0, r.1, r.2) ts
@@ -532,7 +532,7 @@ module _ (m : ℕ) (p : Form → Parse E) (sound : (form : Form) (ts : List Term
         (λ _. Viable-bind-is _ (sound_unary m p sound ts) (viable_unary Q c (λ h xs s. w h xs (from_cast Assignment refl h xs s)) ts)
         (λ a front us read e r. viable_assignment_of (place ts) a front (starting m p sound Unary ts front us a e r) us (operator_at assign_of us) refl))
 
-  module _ (start : ℕ) (Q : Bool → List Terminal → Type 0) (c : OfFronts Q) (w : Wants Expression (m + 1) Q) where
+  module _ (start : ℕ) (Q : Claims) (c : OfFronts Q) (w : Wants Expression (m + 1) Q) where
     comma_node : (done : List Terminal) (g : ℕ) → Has Expression g done → (at : ℕ) (h : ℕ) (xs : List Terminal) → Has Assignment h xs → Both Q (m + 1) (suc (max g h)) (done ++ Punctuator at punctuators.Comma ∷ xs)
     comma_node done g d at h xs s = w (suc (max g h)) _ (_, a_comma at d.1 s.1)
 
@@ -558,7 +558,7 @@ module _ (m : ℕ) (p : Form → Parse E) (sound : (form : Form) (ts : List Term
         first : starts punctuators.Comma (t ∷ ts) ≡ true → Q false (done ++ t ∷ [])
         first e = subst (λ u. Q false (done ++ u ∷ [])) (sym (punctuator_is punctuators.Comma t e)) ((behind done c).front false (Punctuator (number_of t) punctuators.Comma ∷ []) number (comma_node done a.1 d (number_of t) 1 number (one Assignment refl)).0)
 
-  viable_expression : (form : Form) (Q : Bool → List Terminal → Type 0) → OfFronts Q → Wants form (m + 1) Q → (ts : List Terminal) → Viable Q ts (parse.expression m p form ts)
+  viable_expression : (form : Form) (Q : Claims) → OfFronts Q → Wants form (m + 1) Q → (ts : List Terminal) → Viable Q ts (parse.expression m p form ts)
   unfolding parse.expression
   viable_expression Postfix Q c w ts = viable_postfix Q c w ts
   viable_expression Unary Q c w ts = viable_unary Q c w ts
@@ -572,7 +572,7 @@ module _ (m : ℕ) (p : Form → Parse E) (sound : (form : Form) (ts : List Term
       Viable-bind-is _ (sound_assignment m p sound ts) (viable_assignment Q c (λ h xs s. w h xs (s.0, a_plain_assignment s.1)) ts)
       (λ a front us read e r. viable_commas (place ts) Q c w (length us) a front (a.0, a_plain_assignment r.0) r.1 us)
 
-pub viable_part : (n : ℕ) (form : Form) → is_part form ≡ true → (Q : Bool → List Terminal → Type 0) → OfFronts Q → Wants form n Q → Q true [] → (ts : List Terminal) → Viable Q ts (parse.part n form ts)
+pub viable_part : (n : ℕ) (form : Form) → is_part form ≡ true → (Q : Claims) → OfFronts Q → Wants form n Q → Q true [] → (ts : List Terminal) → Viable Q ts (parse.part n form ts)
 unfolding parse.part
 viable_part zero form part Q c w low ts = viable_beyond form part Q c (λ h xs s. (w h xs s).0) low ts
 viable_part (suc n) form part Q c w low ts =

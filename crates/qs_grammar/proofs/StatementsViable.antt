@@ -23,7 +23,7 @@ use Rattle.qs_grammar.proofs.ExpressionsSound.{sound_part}
 use Rattle.qs_grammar.proofs.StatementsSound.{NoElse, Takes, takes_statement, IsOptional, sound_optional, IsCondition, sound_condition, IsStart, sound_start, IsStatement, if_read, else_read, while_read, do_read, for_read, return_read, sound_item, taken_there, sound_statement}
 use Rattle.qs_grammar.proofs.ExpressionsViable.{Has, number, one, one_begun, viable_part}
 use Rattle.qs_grammar.proofs.DeclarationsViable.{mark, viable_declaration_within}
-use Rattle.qs_grammar.proofs.Viable.{OfFronts, behind_token, behind, Both, under, Viable, Viable-ok, Viable-unexpected, Viable-deep, Viable-token, Viable-if, Viable-bind, Viable-bind-is, Viable-done, here, Viable-mark, Viable-keyword, Viable-punctuator, Viable-some}
+use Rattle.qs_grammar.proofs.Viable.{Claims, OfFronts, behind_token, behind, Both, under, Viable, Viable-ok, Viable-unexpected, Viable-deep, Viable-token, Viable-if, Viable-bind, Viable-bind-is, Viable-done, here, Viable-mark, Viable-keyword, Viable-punctuator, Viable-some}
 
 -- ---- parts of statements
 
@@ -45,7 +45,7 @@ lower_option m k e xs (inside, at, is, r, low) = (e.0, (inside, at, is, r, omega
 option_fits : (m : ℕ) (k : punctuator.Punctuator) (e : Option ExprTree × ℕ) (xs : List Terminal) → IsOptional m k e xs → e.1 ≤ m
 option_fits m k e xs (inside, at, is, r, low) = low
 
-viable_optional : (m : ℕ) (k : punctuator.Punctuator) (Q : Bool → List Terminal → Type 0) → OfFronts Q → ((h : ℕ) (xs : List Terminal) → IsOption k h xs → Both Q m h xs) → (ts : List Terminal) → Viable Q ts (optional m k ts)
+viable_optional : (m : ℕ) (k : punctuator.Punctuator) (Q : Claims) → OfFronts Q → ((h : ℕ) (xs : List Terminal) → IsOption k h xs → Both Q m h xs) → (ts : List Terminal) → Viable Q ts (optional m k ts)
 viable_optional m k Q c w ts =
     let low : Q true [] = c.front true [] (mark k ∷ []) ((w 0 _ (an_option k 0)).1 (omega arith)) in
     Viable-if (starts k ts)
@@ -74,7 +74,7 @@ lower_test m e xs (inside, o, k, is, r, low) = (e.0, (inside, o, k, is, r, omega
 test_fits : (m : ℕ) (e : E) (xs : List Terminal) → IsCondition m e xs → e.1 ≤ m
 test_fits m e xs (inside, o, k, is, r, low) = low
 
-viable_condition : (m : ℕ) (Q : Bool → List Terminal → Type 0) → OfFronts Q → ((h : ℕ) (xs : List Terminal) → IsTest h xs → Both Q m h xs) → 0 < m → (ts : List Terminal) → Viable Q ts (condition m ts)
+viable_condition : (m : ℕ) (Q : Claims) → OfFronts Q → ((h : ℕ) (xs : List Terminal) → IsTest h xs → Both Q m h xs) → 0 < m → (ts : List Terminal) → Viable Q ts (condition m ts)
 viable_condition m Q c w some ts =
     Viable-punctuator punctuators.OpenParenthesis ts _ (c.front true [] _ ((w 1 _ one_test).1 (omega arith)))
     (λ o us. Viable-bind _ (sound_part m Expression us)
@@ -90,7 +90,7 @@ IsBeginning h xs = (a : StartTree) × ReadsStart h xs a
 no_beginning : (at : ℕ) → IsBeginning 0 (Punctuator at punctuators.Semicolon ∷ [])
 no_beginning at = (_, no_start_at_all at)
 
-viable_start : (m : ℕ) (Q : Bool → List Terminal → Type 0) → OfFronts Q → ((h : ℕ) (xs : List Terminal) → IsBeginning h xs → Both Q m h xs) → (ts : List Terminal) → Viable Q ts (start_of m ts)
+viable_start : (m : ℕ) (Q : Claims) → OfFronts Q → ((h : ℕ) (xs : List Terminal) → IsBeginning h xs → Both Q m h xs) → (ts : List Terminal) → Viable Q ts (start_of m ts)
 viable_start m Q c w ts =
     Viable-if (begins_type ts) (declared_there ts)
     (λ _. Viable-if (starts punctuators.Semicolon ts)
@@ -148,15 +148,15 @@ expression_one : (h : ℕ) (xs : List Terminal) → Has Expression h xs → IsSt
 expression_one h xs s = (_, an_expression 0 s.1)
 
 module _ (m : ℕ) (inner : Parse S) (takes : (ts : List Terminal) → Takes (inner ts)) (sound : (ts : List Terminal) → Sound (IsStatement m) [] ts (inner ts))
-    (viable : (Q : Bool → List Terminal → Type 0) → OfFronts Q → ((h : ℕ) (xs : List Terminal) → IsStmt h xs → Both Q m h xs) → Q true [] → (ts : List Terminal) → Viable Q ts (inner ts)) where
-  viable_item : (Q : Bool → List Terminal → Type 0) → OfFronts Q → ((h : ℕ) (xs : List Terminal) → IsOneItem h xs → Both Q m h xs) → Q true [] → (ts : List Terminal) → Viable Q ts (item m inner ts)
+    (viable : (Q : Claims) → OfFronts Q → ((h : ℕ) (xs : List Terminal) → IsStmt h xs → Both Q m h xs) → Q true [] → (ts : List Terminal) → Viable Q ts (inner ts)) where
+  viable_item : (Q : Claims) → OfFronts Q → ((h : ℕ) (xs : List Terminal) → IsOneItem h xs → Both Q m h xs) → Q true [] → (ts : List Terminal) → Viable Q ts (item m inner ts)
   viable_item Q c w low ts = Viable-if (begins_type ts) (declared_there ts) (λ _. viable Q c (λ h xs s. w h xs (_, a_statement s.1)) low ts)
     where
       declared_there : (ts : List Terminal) → begins_type ts ≡ true → Viable {A = S} Q ts (bind (declaration_within m ts) (λ d us. Ok ((trees.declaration d.0, d.1), us)))
       declared_there [] e = absurd cc
       declared_there (t ∷ ts) e = Viable-done _ (viable_declaration_within m Q c (λ h xs s. w h xs (_, a_declared s.1)) low t ts e)
 
-  pub viable_items : (n : ℕ) (done : List StmtTree) (h : ℕ) (Q : Bool → List Terminal → Type 0) → OfFronts Q → ((h : ℕ) (xs : List Terminal) → AreStmts h xs → Both Q m h (xs ++ mark punctuators.CloseBrace ∷ [])) → (ts : List Terminal) → Viable Q ts (items m inner n done h ts)
+  pub viable_items : (n : ℕ) (done : List StmtTree) (h : ℕ) (Q : Claims) → OfFronts Q → ((h : ℕ) (xs : List Terminal) → AreStmts h xs → Both Q m h (xs ++ mark punctuators.CloseBrace ∷ [])) → (ts : List Terminal) → Viable Q ts (items m inner n done h ts)
   unfolding items
   viable_items zero done h Q c w ts = Viable-unexpected (c.front true [] (mark punctuators.CloseBrace ∷ []) ((w 0 [] (_, no_item)).1 (omega arith)))
   viable_items (suc n) done h Q c w ts =
@@ -172,7 +172,7 @@ module _ (m : ℕ) (inner : Parse S) (takes : (ts : List Terminal) → Takes (in
       begun : (h : ℕ) (xs : List Terminal) → IsOneItem h xs → Both Q m h xs
       begun h xs s = under c xs (mark punctuators.CloseBrace ∷ []) m (max h 0) (subst (λ l. Both Q m (max h 0) l) (append_assoc xs [] (mark punctuators.CloseBrace ∷ [])) (w (max h 0) (xs ++ []) (_, an_item s.1 no_item))) m h (λ le. omega arith)
 
-  module _ (Q : Bool → List Terminal → Type 0) (c : OfFronts Q) (w : (h : ℕ) (xs : List Terminal) → IsStmt h xs → Both Q (suc m) h xs) where
+  module _ (Q : Claims) (c : OfFronts Q) (w : (h : ℕ) (xs : List Terminal) → IsStmt h xs → Both Q (suc m) h xs) where
     viable_block : (at : ℕ) (ts : List Terminal) → Viable (λ b l. Q b (Punctuator at punctuators.OpenBrace ∷ l)) ts (in_block m inner ts)
     viable_block at ts = Viable-done _ (viable_items (length ts) [] 0 _ (behind_token (Punctuator at punctuators.OpenBrace) c) (λ h xs i. let both = w (suc h) _ (_, a_block at 0 i.1) in (both.0, λ le. both.1 (omega arith))) ts)
 
@@ -218,7 +218,7 @@ module _ (m : ℕ) (inner : Parse S) (takes : (ts : List Terminal) → Takes (in
           body_begun e cs test fits h ys s = let both = w _ _ (while_one at e.1 h cs ys test s) in (both.0, λ le. both.1 (omega arith))
 
       module _ (at : ℕ) where
-        abbrev Doing : Bool → List Terminal → Type 0
+        abbrev Doing : Claims
         Doing b l = Q b (Keyword at keywords.Do ∷ l)
 
         doing : OfFronts Doing
@@ -247,7 +247,7 @@ module _ (m : ℕ) (inner : Parse S) (takes : (ts : List Terminal) → Takes (in
             (λ e cs ws r. Viable-punctuator punctuators.Semicolon ws _ (here (λ b l. Doing b (xs ++ Keyword v keywords.While ∷ l)) cs ((tested v s.1 e.1 xs cs body fits (lower_test m e cs r)).1 (test_fits m e cs r))) (λ k ys. Viable-ok))))
 
       module _ (at o : ℕ) where
-        abbrev Turning : Bool → List Terminal → Type 0
+        abbrev Turning : Claims
         Turning b l = Q b (Keyword at keywords.For ∷ Punctuator o punctuators.OpenParenthesis ∷ l)
 
         turning : OfFronts Turning
@@ -349,7 +349,7 @@ statement_begun t ts e =
     (λ d. by_keyword keywords.Return t d _ _ (return_one (number_of t) 0 _ (an_option punctuators.Semicolon 0)))))))))))
     e
 
-pub viable_statement : (n : ℕ) (Q : Bool → List Terminal → Type 0) → OfFronts Q → ((h : ℕ) (xs : List Terminal) → IsStmt h xs → Both Q n h xs) → Q true [] → (ts : List Terminal) → Viable Q ts (statement n ts)
+pub viable_statement : (n : ℕ) (Q : Claims) → OfFronts Q → ((h : ℕ) (xs : List Terminal) → IsStmt h xs → Both Q n h xs) → Q true [] → (ts : List Terminal) → Viable Q ts (statement n ts)
 unfolding statement
 viable_statement zero Q c w low [] = Viable-unexpected low
 viable_statement zero Q c w low (t ∷ ts) =

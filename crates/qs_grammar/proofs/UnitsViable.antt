@@ -22,7 +22,7 @@ use Rattle.qs_grammar.proofs.StatementsSound.{takes_statement, sound_statement}
 use Rattle.qs_grammar.proofs.UnitsSound.{sound_outer_type, sound_external}
 use Rattle.qs_grammar.proofs.DeclarationsViable.{mark, viable_outer_type, AreVariables, one_variable, viable_declared, AreGroups, a_member_group, viable_groups, IsHead, viable_head}
 use Rattle.qs_grammar.proofs.StatementsViable.{AreStmts, viable_items, viable_statement}
-use Rattle.qs_grammar.proofs.Viable.{OfFronts, behind_token, behind, Both, under, Viable, Viable-ok, Viable-unexpected, Viable-after, Viable-token, Viable-if, Viable-bind, Viable-done, here, Viable-keyword, Viable-punctuator, Viable-name}
+use Rattle.qs_grammar.proofs.Viable.{Claims, OfFronts, behind_token, behind, Both, under, Viable, Viable-ok, Viable-unexpected, Viable-after, Viable-token, Viable-if, Viable-bind, Viable-done, here, Viable-keyword, Viable-punctuator, Viable-name}
 
 abbrev pub IsOne : ℕ → List Terminal → Type 0
 IsOne h xs = (d : DeclTree) × ReadsExternal h xs d
@@ -31,14 +31,14 @@ IsOne h xs = (d : DeclTree) × ReadsExternal h xs d
 a_variable : IsOne 1 (Keyword 0 keywords.Int ∷ Name 0 [] ∷ mark punctuators.Semicolon ∷ [])
 a_variable = (_, some_variables (an_outer_declaration {xs = Keyword 0 keywords.Int ∷ []} {ys = Name 0 [] ∷ []} 0 (an_outer_type {xs = []} {ys = Keyword 0 keywords.Int ∷ []} {zs = []} no_prefix (an_int 0) no_const) one_variable.1))
 
-module _ (k : ℕ) (Q : Bool → List Terminal → Type 0) (c : OfFronts Q) (w : (h : ℕ) (xs : List Terminal) → IsOne h xs → Both Q (suc (suc k)) h xs) where
+module _ (k : ℕ) (Q : Claims) (c : OfFronts Q) (w : (h : ℕ) (xs : List Terminal) → IsOne h xs → Both Q (suc (suc k)) h xs) where
   external_due : Q true []
   external_due = c.front true [] _ ((w 1 _ a_variable).1 (omega arith))
 
   -- ---- structs
 
   module _ (at n : ℕ) (x : List ℕ) where
-    abbrev Tagged : Bool → List Terminal → Type 0
+    abbrev Tagged : Claims
     Tagged b l = Q b (Keyword at keywords.Struct ∷ Name n x ∷ l)
 
     tagged : OfFronts Tagged
@@ -78,7 +78,7 @@ module _ (k : ℕ) (Q : Bool → List Terminal → Type 0) (c : OfFronts Q) (w :
     declared_one h ys s = w h _ (_, some_variables (an_outer_declaration 0 t s.1))
 
     module _ (m : ℕ) (ys : List Terminal) (r : ReadsStars ys m) where
-      abbrev Starred : Bool → List Terminal → Type 0
+      abbrev Starred : Claims
       Starred b l = Q b (front ++ (ys ++ l))
 
       starred : OfFronts Starred
@@ -93,7 +93,7 @@ module _ (k : ℕ) (Q : Bool → List Terminal → Type 0) (c : OfFronts Q) (w :
       named_begun : (n : ℕ) (x : List ℕ) → Starred true (Name n x ∷ [])
       named_begun n x = starred.front true (Name n x ∷ []) _ ((headed n 0 0 x 0 [] ([], no_parameter)).1 (omega arith))
 
-      abbrev Headed : (n o : ℕ) → List ℕ → List Terminal → Bool → List Terminal → Type 0
+      abbrev Headed : (n o : ℕ) → List ℕ → List Terminal → Claims
       Headed n o x l b more = Starred b (Name n x ∷ Punctuator o punctuators.OpenParenthesis ∷ (l ++ more))
 
       body_one : (n o j i : ℕ) (x : List ℕ) (g : ℕ) (zs : List Terminal) → IsHead g zs → g ≤ suc k → (h : ℕ) (ws : List Terminal) → AreStmts h ws
@@ -149,7 +149,7 @@ module _ (k : ℕ) (Q : Bool → List Terminal → Type 0) (c : OfFronts Q) (w :
 abbrev pub IsSomeUnit : ℕ → List Terminal → Type 0
 IsSomeUnit h xs = (ds : List DeclTree) × ReadsUnit h xs ds
 
-viable_externals : (k n : ℕ) (done : List DeclTree) (h : ℕ) (Q : Bool → List Terminal → Type 0) → OfFronts Q → ((h : ℕ) (xs : List Terminal) → IsSomeUnit h xs → Both Q (suc (suc k)) h xs) → (ts : List Terminal) → Viable Q ts (externals k n done h ts)
+viable_externals : (k n : ℕ) (done : List DeclTree) (h : ℕ) (Q : Claims) → OfFronts Q → ((h : ℕ) (xs : List Terminal) → IsSomeUnit h xs → Both Q (suc (suc k)) h xs) → (ts : List Terminal) → Viable Q ts (externals k n done h ts)
 unfolding externals
 viable_externals k zero done h Q c w ts = Viable-unexpected (c.front true [] _ ((w 1 _ (_, a_last_external a_variable.1)).1 (omega arith)))
 viable_externals k (suc n) done h Q c w ts =
@@ -158,6 +158,6 @@ viable_externals k (suc n) done h Q c w ts =
     Viable-if (is_empty us) (λ _. Viable-ok)
     (λ _. viable_externals k n (done ++ d.0 ∷ []) (max h d.1) (λ b l. Q b (front ++ l)) (behind front c) (λ j xs s. let both = w (max d.1 j) _ (_, an_external r.0 s.1) in (both.0, λ le. both.1 (omega arith))) us))
 
-pub viable_unit : (k : ℕ) (Q : Bool → List Terminal → Type 0) → OfFronts Q → ((h : ℕ) (xs : List Terminal) → IsSomeUnit h xs → Both Q (suc (suc k)) h xs) → (ts : List Terminal) → Viable Q ts (unit k ts)
+pub viable_unit : (k : ℕ) (Q : Claims) → OfFronts Q → ((h : ℕ) (xs : List Terminal) → IsSomeUnit h xs → Both Q (suc (suc k)) h xs) → (ts : List Terminal) → Viable Q ts (unit k ts)
 unfolding unit
 viable_unit k Q c w ts = viable_externals k (length ts) [] 0 Q c w ts

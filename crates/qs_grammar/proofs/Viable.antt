@@ -17,37 +17,37 @@ abbrev pub Claims : Type 1
 Claims = Bool → List Terminal → Type 0
 
 -- what holds of tokens holds of each front of them
-pub record OfFronts (Q : Bool → List Terminal → Type 0) : Type 0 where
+pub record OfFronts (Q : Claims) : Type 0 where
   pub front : (b : Bool) (xs ys : List Terminal) → Q b (xs ++ ys) → Q b xs
 
-pub behind_token : {Q : Bool → List Terminal → Type 0} (t : Terminal) → OfFronts Q → OfFronts (λ b l. Q b (t ∷ l))
+pub behind_token : {Q : Claims} (t : Terminal) → OfFronts Q → OfFronts (λ b l. Q b (t ∷ l))
 behind_token t c = record { front = λ b xs ys q. c.front b (t ∷ xs) ys q }
 
-pub behind : {Q : Bool → List Terminal → Type 0} (done : List Terminal) → OfFronts Q → OfFronts (λ b l. Q b (done ++ l))
+pub behind : {Q : Claims} (done : List Terminal) → OfFronts Q → OfFronts (λ b l. Q b (done ++ l))
 behind {Q} done c = record { front = λ b xs ys q. c.front b (done ++ xs) ys (subst (Q b) (sym (append_assoc done xs ys)) q) }
 
 -- what tokens of height h begin, where what is at most n high is low enough
-abbrev pub Both : (Bool → List Terminal → Type 0) → ℕ → ℕ → List Terminal → Type 0
+abbrev pub Both : Claims → ℕ → ℕ → List Terminal → Type 0
 Both Q n h xs = Q false xs × (h ≤ n → Q true xs)
 
 -- a front of what is k high, where it is a part that is h high
-pub under : {Q : Bool → List Terminal → Type 0} (c : OfFronts Q) (xs ys : List Terminal) (n k : ℕ) → Both Q n k (xs ++ ys) → (m h : ℕ) → (h ≤ m → k ≤ n) → Both Q m h xs
+pub under : {Q : Claims} (c : OfFronts Q) (xs ys : List Terminal) (n k : ℕ) → Both Q n k (xs ++ ys) → (m h : ℕ) → (h ≤ m → k ≤ n) → Both Q m h xs
 under c xs ys n k q m h bound = (c.front false xs ys q.0, λ le. c.front true xs ys (q.1 (bound le)))
 
 pub some_room : (m : ℕ) → (m == 0) ≡ false → 0 < m
 some_room zero e = absurd cc
 some_room (suc m) e = omega arith
 
-abbrev Place : {A : Type 0} → (Bool → List Terminal → Type 0) → List Terminal → Result (A × List Terminal) Stop → Type 0
+abbrev Place : {A : Type 0} → Claims → List Terminal → Result (A × List Terminal) Stop → Type 0
 Place Q ts (Ok x) = Unit {0}
 Place Q ts (Err (Unexpected k)) = (front : List Terminal) × (rest : List Terminal) × (ts ≡ front ++ rest) × (length rest ≡ k) × Q true front
 Place Q ts (Err (Deep k)) = (front : List Terminal) × (t : Terminal) × (rest : List Terminal) × (ts ≡ front ++ t ∷ rest) × (suc (length rest) ≡ k) × Q true front × Q false (front ++ t ∷ [])
 
 -- where there is a fault, the tokens before it begin something low, and with one that is too deep they still begin something
-pub record Viable {A : Type 0} (Q : Bool → List Terminal → Type 0) (ts : List Terminal) (r : Result (A × List Terminal) Stop) : Type 0 where
+pub record Viable {A : Type 0} (Q : Claims) (ts : List Terminal) (r : Result (A × List Terminal) Stop) : Type 0 where
   pub is : Place Q ts r
 
-module _ {A : Type 0} {Q : Bool → List Terminal → Type 0} where
+module _ {A : Type 0} {Q : Claims} where
   pub Viable-ok : {x : A × List Terminal} {ts : List Terminal} → Viable Q ts (Ok x)
   Viable-ok = record { is = tt }
 
@@ -73,7 +73,7 @@ module _ {A : Type 0} {Q : Bool → List Terminal → Type 0} where
   Viable-if true f g = f refl
   Viable-if false f g = g refl
 
-module _ {A : Type 0} {P Q : Bool → List Terminal → Type 0} where
+module _ {A : Type 0} {P Q : Claims} where
   pub Viable-map : {ts : List Terminal} {r : Result (A × List Terminal) Stop} → ((b : Bool) (l : List Terminal) → P b l → Q b l) → Viable P ts r → Viable Q ts r
   Viable-map {ts} {r} f s = record { is = go r s.is }
     where
@@ -83,10 +83,10 @@ module _ {A : Type 0} {P Q : Bool → List Terminal → Type 0} where
       go (Err (Deep k)) (front, t, rest, d, n, low, any) = (front, t, rest, d, n, f true front low, f false (front ++ t ∷ []) any)
 
 -- what was read before and what follows, in one
-pub Viable-joined : {A : Type 0} (Q : Bool → List Terminal → Type 0) {ts : List Terminal} {r : Result (A × List Terminal) Stop} (done front : List Terminal) → Viable (λ b l. Q b ((done ++ front) ++ l)) ts r → Viable (λ b l. Q b (done ++ (front ++ l))) ts r
+pub Viable-joined : {A : Type 0} (Q : Claims) {ts : List Terminal} {r : Result (A × List Terminal) Stop} (done front : List Terminal) → Viable (λ b l. Q b ((done ++ front) ++ l)) ts r → Viable (λ b l. Q b (done ++ (front ++ l))) ts r
 Viable-joined Q done front s = Viable-map (λ b l q. subst (Q b) (append_assoc done front l) q) s
 
-module _ {A C : Type 0} {R : A → List Terminal → Type 0} {Q : Bool → List Terminal → Type 0} where
+module _ {A C : Type 0} {R : A → List Terminal → Type 0} {Q : Claims} where
   -- a first part, which was read, and what follows
   pub Viable-bind : {ts : List Terminal} {r : Result (A × List Terminal) Stop} (f : A → Parse C) → Sound R [] ts r → Viable Q ts r
       → ((x : A) (front us : List Terminal) → R x front → Viable (λ b l. Q b (front ++ l)) us (f x us)) → Viable Q ts (bind r f)
@@ -107,7 +107,7 @@ module _ {A C : Type 0} {R : A → List Terminal → Type 0} {Q : Bool → List 
       by_case (Err (Unexpected k)) h p go = record { is = p }
       by_case (Err (Deep k)) h p go = record { is = p }
 
-module _ {A C : Type 0} {R : A → List Terminal → Type 0} (Q : Bool → List Terminal → Type 0) where
+module _ {A C : Type 0} {R : A → List Terminal → Type 0} (Q : Claims) where
   -- the same, where the first speaks of all that was read before
   pub Viable-then : {done ts : List Terminal} {r : Result (A × List Terminal) Stop} (f : A → Parse C) → Sound R done ts r → Viable (λ b l. Q b (done ++ l)) ts r
       → ((x : A) (all us : List Terminal) → R x all → Viable (λ b l. Q b (all ++ l)) us (f x us)) → Viable (λ b l. Q b (done ++ l)) ts (bind r f)
@@ -119,7 +119,7 @@ module _ {A C : Type 0} {R : A → List Terminal → Type 0} (Q : Bool → List 
       by_case (Err (Deep k)) h p = record { is = p }
 
 -- a part behind which nothing is refused
-pub Viable-done : {A C : Type 0} {Q : Bool → List Terminal → Type 0} {ts : List Terminal} {r : Result (A × List Terminal) Stop} (g : A → List Terminal → C × List Terminal) → Viable Q ts r → Viable Q ts (bind r (λ x us. Ok (g x us)))
+pub Viable-done : {A C : Type 0} {Q : Claims} {ts : List Terminal} {r : Result (A × List Terminal) Stop} (g : A → List Terminal → C × List Terminal) → Viable Q ts r → Viable Q ts (bind r (λ x us. Ok (g x us)))
 Viable-done {A} {C} {Q} {ts} {r} g s = by_case r s.is
   where
     by_case : (r : Result (A × List Terminal) Stop) → Place Q ts r → Viable Q ts (bind r (λ x us. Ok (g x us)))
@@ -128,17 +128,17 @@ Viable-done {A} {C} {Q} {ts} {r} g s = by_case r s.is
     by_case (Err (Deep k)) p = record { is = p }
 
 -- nothing more
-pub here : (Q : Bool → List Terminal → Type 0) (xs : List Terminal) → Q true xs → Q true (xs ++ [])
+pub here : (Q : Claims) (xs : List Terminal) → Q true xs → Q true (xs ++ [])
 here Q xs q = subst (Q true) (sym (append-nil xs)) q
 
 -- the token that was looked at
-pub Viable-mark : {A : Type 0} {Q : Bool → List Terminal → Type 0} {ts : List Terminal} {r : Result (A × List Terminal) Stop} (m : punctuator.Punctuator) (t : Terminal) → is_punctuator m t ≡ true → Viable Q (Punctuator (number_of t) m ∷ ts) r → Viable Q (t ∷ ts) r
+pub Viable-mark : {A : Type 0} {Q : Claims} {ts : List Terminal} {r : Result (A × List Terminal) Stop} (m : punctuator.Punctuator) (t : Terminal) → is_punctuator m t ≡ true → Viable Q (Punctuator (number_of t) m ∷ ts) r → Viable Q (t ∷ ts) r
 Viable-mark {Q = Q} {ts = ts} {r = r} m t e v = subst (λ u. Viable Q (u ∷ ts) r) (sym (punctuator_is m t e)) v
 
-pub Viable-keyword : {A : Type 0} {Q : Bool → List Terminal → Type 0} {ts : List Terminal} {r : Result (A × List Terminal) Stop} (k : key.Keyword) (t : Terminal) → is_keyword k t ≡ true → Viable Q (Keyword (number_of t) k ∷ ts) r → Viable Q (t ∷ ts) r
+pub Viable-keyword : {A : Type 0} {Q : Claims} {ts : List Terminal} {r : Result (A × List Terminal) Stop} (k : key.Keyword) (t : Terminal) → is_keyword k t ≡ true → Viable Q (Keyword (number_of t) k ∷ ts) r → Viable Q (t ∷ ts) r
 Viable-keyword {Q = Q} {ts = ts} {r = r} k t e v = subst (λ u. Viable Q (u ∷ ts) r) (sym (keyword_is k t e)) v
 
-module _ {A : Type 0} {Q : Bool → List Terminal → Type 0} where
+module _ {A : Type 0} {Q : Claims} where
   -- a punctuator that may stand here, and what follows
   pub Viable-punctuator : (m : punctuator.Punctuator) (ts : List Terminal) (f : Unit {0} → Parse A) → Q true [] → ((at : ℕ) (us : List Terminal) → Viable (λ b l. Q b (Punctuator at m ∷ l)) us (f tt us)) → Viable Q ts (bind (expect m ts) f)
   Viable-punctuator m [] f q go = Viable-unexpected q

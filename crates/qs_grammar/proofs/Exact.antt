@@ -79,7 +79,7 @@ not_both x s r p q = cc
 -- ---- no reading
 
 -- no tokens that go on with those up to the unexpected one are a unit
-no_unit : (k : ℕ) (front rest : List Terminal) → unit k (front ++ rest) ≡ Err (Unexpected (suc (length rest))) → BeginsUnit front → ⊥
+pub no_unit : (k : ℕ) (front rest : List Terminal) → unit k (front ++ rest) ≡ Err (Unexpected (suc (length rest))) → BeginsUnit front → ⊥
 no_unit k front rest e b =
     not_both ((b.ds, b.height), []) (Unexpected (suc (length b.rest))) (unit (max k b.height) (front ++ b.rest))
     (finds_unit (max k b.height) b.height (front ++ b.rest) b.ds b.reads (omega arith))

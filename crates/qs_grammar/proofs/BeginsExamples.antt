@@ -1,5 +1,5 @@
 -- Small lists that begin a unit, or none: each is shown, or computed by the parser.
-use Rattle.std.proofs.Common.{◌≡◌, ℕ, zero, suc, Bool, false, Err, List, [], ◌∷◌, ◌++◌, length, refl, arith, ◌==◌}
+use Rattle.std.proofs.Common.{◌≡◌, ℕ, zero, suc, false, Ok, Err, Some, List, [], ◌∷◌, ◌++◌, length, refl, arith, ◌==◌}
 use Rattle.std.proofs.lemmas.Bool.{eqb-true, false_from_ne_true}
 use Rattle.qs_syntax.specs.declared.terminal.Terminal.{Terminal}
 use Rattle.qs_syntax.specs.declared.terminal.Terminal.TheVariants.{Name, Keyword, Punctuator}
@@ -8,13 +8,15 @@ use Rattle.qs_syntax.specs.declared.punctuator.Punctuator.TheVariants as punctua
 use Rattle.qs_syntax.specs.ReadsTypes.{no_prefix, no_const, an_int, an_outer_type, no_star}
 use Rattle.qs_syntax.specs.ReadsDeclarations.{no_length, are_given, a_declarator, an_unset_variable, a_last_variable, an_outer_declaration}
 use Rattle.qs_syntax.specs.ReadsUnits.{some_variables, ReadsUnit, a_last_external}
-use Rattle.qs_syntax.specs.Trees.{DeclTree}
+use Rattle.qs_syntax.specs.declared.types.Base.TheVariants as bases
+use Rattle.qs_syntax.specs.Trees.{unnumbered, expr, name, empty, branch, else_by, no_stmts, stmt_and, DeclTree, function}
 use Rattle.qs_syntax.specs.Begins.{BeginsUnit, BeginsLowUnit}
 use Rattle.qs_syntax.specs.Reads.{Form, Assignment, Expression}
 use Rattle.qs_grammar.specs.Heads.{begins_type}
-use Rattle.qs_grammar.specs.Parse.{Stop, Unexpected, Deep, Parse, E, stars, primary, unary_of_all, expression, part}
-use Rattle.qs_grammar.specs.ParseDeclarations.{outer_type, given_lengths, lengths, declarator, initialiser, variable, variables}
-use Rattle.qs_grammar.specs.ParseStatements.{external, externals, unit}
+use Rattle.qs_grammar.specs.Parse.{Stop, Unexpected, Deep, Parse, E, stars, primary, suffixes, unary_of_all, operations, climb, commas, expression, part}
+use Rattle.qs_grammar.specs.ParseDeclarations.{outer_type, given_lengths, lengths, declarator, initialiser, variable, variables, head}
+use Rattle.qs_grammar.specs.ParseStatements.{items, statement, external, externals, unit}
+use Rattle.qs_grammar.proofs.UnitsSound.{reads_whole}
 use Rattle.qs_grammar.proofs.Exact.{no_unit}
 
 -- int
@@ -33,8 +35,11 @@ a_parenthesis = Punctuator 2 punctuators.CloseParenthesis
 
 -- `int x;` is a unit of height 1
 pub a_declaration : (ds : List DeclTree) × ReadsUnit 1 (an_int_token ∷ a_name ∷ a_mark 2 ∷ []) ds
-a_declaration = (_, a_last_external (some_variables (an_outer_declaration {xs = an_int_token ∷ []} {ys = a_name ∷ []} 2 (an_outer_type {xs = []} {ys = an_int_token ∷ []} {zs = []} no_prefix (an_int 0) no_const)
-    (a_last_variable (an_unset_variable (a_declarator {xs = []} {ys = []} 1 (120 ∷ []) no_star (are_given no_length)))))))
+a_declaration = (
+  _,
+  a_last_external (some_variables (an_outer_declaration {xs = an_int_token ∷ []} {ys = a_name ∷ []} 2 (an_outer_type {xs = []} {ys = an_int_token ∷ []} {zs = []} no_prefix (an_int 0) no_const)
+      (a_last_variable (an_unset_variable (a_declarator {xs = []} {ys = []} 1 (120 ∷ []) no_star (are_given no_length)))))),
+)
 
 -- `int` begins it, and so does all of it
 pub type_begins : BeginsUnit (an_int_token ∷ [])
@@ -104,3 +109,34 @@ name_is_unexpected = refl
 pub parenthesis_is_unexpected : unit 126 (an_int_token ∷ a_name ∷ a_parenthesis ∷ []) ≡ Err (Unexpected 1)
 unfolding unit externals external outer_type stars variables variable declarator lengths given_lengths
 parenthesis_is_unexpected = refl
+
+-- int x(){if(x);else;
+abbrev pub an_if : List Terminal
+an_if =
+    an_int_token ∷ a_name ∷ Punctuator 2 punctuators.OpenParenthesis ∷ Punctuator 3 punctuators.CloseParenthesis ∷ Punctuator 4 punctuators.OpenBrace ∷ Keyword 5 keywords.If ∷ Punctuator 6 punctuators.OpenParenthesis ∷ Name 7 (120 ∷ [])
+    ∷ Punctuator 8 punctuators.CloseParenthesis ∷ a_mark 9 ∷ Keyword 10 keywords.Else ∷ a_mark 11 ∷ []
+
+an_if_is_read : unit 126 (an_if ++ Punctuator 12 punctuators.CloseBrace ∷ []) ≡ Ok (
+  (
+    function (record {
+      node = unnumbered 0;
+      result_type = record { base = bases.Int; stars = 0 };
+      name = 120 ∷ [];
+      parameters = [];
+      body = Some (stmt_and (branch (unnumbered 5) (expr (unnumbered 7) (name (120 ∷ []))) (empty (unnumbered 9)) (else_by (empty (unnumbered 11)))) no_stmts);
+    }) ∷ [],
+    4,
+  ),
+  [],
+)
+unfolding unit externals external outer_type stars head items statement part expression primary suffixes unary_of_all operations climb commas
+an_if_is_read = refl
+
+-- with a brace behind it, it is a unit
+pub an_if_reads : (ds : List DeclTree) × ReadsUnit 4 (an_if ++ Punctuator 12 punctuators.CloseBrace ∷ []) ds
+an_if_reads = (_, (reads_whole (an_if ++ Punctuator 12 punctuators.CloseBrace ∷ []) _ 4 an_if_is_read).0)
+
+-- a second `else` is told
+pub else_is_unexpected : unit 126 (an_if ++ Keyword 12 keywords.Else ∷ []) ≡ Err (Unexpected 1)
+unfolding unit externals external outer_type stars head items statement part expression primary suffixes unary_of_all operations climb commas
+else_is_unexpected = refl

@@ -1,5 +1,5 @@
 -- The tokens before a fault in a statement begin one.
-use Rattle.std.proofs.Common.{◌≡◌, ℕ, zero, suc, ◌+◌, ◌<◌, ◌≤◌, max, Bool, true, false, true≢false, cond, List, [], ◌∷◌, ◌++◌, length, Ok, Option, Some, None, refl, sym, subst, ◌∙◌, append_assoc, arith, ◌==◌}
+use Rattle.std.proofs.Common.{◌≡◌, ℕ, zero, suc, ◌+◌, ◌<◌, ◌≤◌, max, Bool, true, false, true≢false, cond, List, [], ◌∷◌, ◌++◌, length, Ok, Option, Some, None, refl, sym, subst, ◌∙◌, append_assoc, arith}
 use Rattle.std.specs.Prelude.{◌||◌}
 use Rattle.std.proofs.lemmas.Bool.{false_from_ne_true}
 use Rattle.qs_syntax.specs.declared.terminal.Terminal.{Terminal}
@@ -20,7 +20,7 @@ use Rattle.qs_grammar.specs.ParseStatements.{S, optional, condition, start_of, b
 use Rattle.qs_grammar.proofs.HeadsLaws.{punctuator_is, keyword_is}
 use Rattle.qs_grammar.proofs.Sound.{Sound}
 use Rattle.qs_grammar.proofs.ExpressionsSound.{sound_part}
-use Rattle.qs_grammar.proofs.StatementsSound.{NoElse, Takes, takes_statement, IsOptional, sound_optional, IsCondition, sound_condition, IsStart, sound_start, IsStatement, if_read, else_read, while_read, do_read, for_read, return_read, sound_item, taken_there, sound_statement}
+use Rattle.qs_grammar.proofs.StatementsSound.{NoElse, Takes, takes_statement, IsOptional, sound_optional, IsCondition, sound_condition, sound_start, IsStatement, if_read, else_read, while_read, do_read, for_read, return_read, sound_item, taken_there, sound_statement}
 use Rattle.qs_grammar.proofs.ExpressionsViable.{Has, number, one, one_begun, viable_part}
 use Rattle.qs_grammar.proofs.DeclarationsViable.{mark, viable_declaration_within}
 use Rattle.qs_grammar.proofs.Viable.{Claims, OfFronts, behind_token, behind, Both, under, Viable, Viable-ok, Viable-unexpected, Viable-deep, Viable-token, Viable-if, Viable-bind, Viable-bind-is, Viable-done, here, Viable-mark, Viable-keyword, Viable-punctuator, Viable-some}

@@ -1,5 +1,5 @@
 -- The tokens before a fault in a unit begin one.
-use Rattle.std.proofs.Common.{ℕ, zero, suc, ◌+◌, ◌≤◌, max, Bool, true, false, List, [], ◌∷◌, ◌++◌, length, sym, subst, append_assoc, arith, ◌&&◌}
+use Rattle.std.proofs.Common.{ℕ, zero, suc, ◌+◌, ◌≤◌, max, true, List, [], ◌∷◌, ◌++◌, length, sym, subst, append_assoc, arith, ◌&&◌}
 use Rattle.std.proofs.lemmas.Bool.{and_parts}
 use Rattle.qs_syntax.specs.declared.terminal.Terminal.{Terminal}
 use Rattle.qs_syntax.specs.declared.terminal.Terminal.TheVariants.{Name, Keyword, Punctuator}
@@ -100,7 +100,7 @@ module _ (k : ℕ) (Q : Claims) (c : OfFronts Q) (w : (h : ℕ) (xs : List Termi
           → Both (Headed n o x (zs ++ Punctuator j punctuators.CloseParenthesis ∷ [])) k h (Punctuator i punctuators.OpenBrace ∷ (ws ++ mark punctuators.CloseBrace ∷ []))
       body_one n o j i x g zs s fits h ws u =
           let both = subst (λ l. Both Starred (suc (suc k)) (suc (max g (suc h))) (Name n x ∷ Punctuator o punctuators.OpenParenthesis ∷ l)) (sym (append_assoc zs (Punctuator j punctuators.CloseParenthesis ∷ []) (Punctuator i punctuators.OpenBrace ∷ (ws ++ mark punctuators.CloseBrace ∷ []))))
-              (w (suc (max g (suc h))) _ (_, a_definition n o j i 0 x t r s.1 u.1)) in
+          (w (suc (max g (suc h))) _ (_, a_definition n o j i 0 x t r s.1 u.1)) in
           (both.0, λ le. both.1 (omega arith))
 
       viable_body : (start n o j : ℕ) (x : List ℕ) (zs : List Terminal) (ps : List ParameterTree × ℕ) → ReadsHead ps.1 zs ps.0 → ps.1 ≤ suc k → (ts : List Terminal) → Viable (Headed n o x (zs ++ Punctuator j punctuators.CloseParenthesis ∷ [])) ts (body_of k start b m x ps ts)

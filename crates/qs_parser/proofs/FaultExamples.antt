@@ -1,11 +1,12 @@
 -- Small lists with a fault, and which number it has.
 use Rattle.std.proofs.Common.{List, [], ◌∷◌, ◌++◌, refl, arith}
 use Rattle.qs_syntax.specs.declared.terminal.Terminal.{Terminal}
-use Rattle.qs_syntax.specs.declared.terminal.Terminal.TheVariants.{Punctuator}
+use Rattle.qs_syntax.specs.declared.terminal.Terminal.TheVariants.{Keyword, Punctuator}
+use Rattle.qs_base.specs.declared.keyword.Keyword.TheVariants as keywords
 use Rattle.qs_syntax.specs.declared.punctuator.Punctuator.TheVariants as punctuators
 use Rattle.qs_syntax.specs.Begins.{BeginsUnit, BeginsLowUnit}
 use Rattle.qs_parser.specs.Answers.{IsUnexpected, IsTooDeep}
-use Rattle.qs_grammar.proofs.BeginsExamples.{an_int_token, a_name, a_mark, a_parenthesis, a_declaration, parenthesis_is_unexpected, name_is_unexpected, nested, nested_is_deep}
+use Rattle.qs_grammar.proofs.BeginsExamples.{an_int_token, a_name, a_mark, a_parenthesis, a_declaration, parenthesis_is_unexpected, name_is_unexpected, nested, nested_is_deep, an_if, an_if_reads, else_is_unexpected}
 use Rattle.qs_parser.proofs.Top.{is_unexpected, is_too_deep}
 
 -- `int x )`: the parenthesis is unexpected, and the name is not
@@ -54,3 +55,10 @@ too_deep_before_unexpected = is_too_deep then_bracket 2 129 (nested_is_deep (Pun
 
 bracket_is_not_told : IsUnexpected then_bracket 130 → ⊥
 bracket_is_not_told fault = begins_none_that_is_low fault.before
+
+-- `int x(){if(x);else;else`: the second `else` is unexpected, and the first is not
+second_else_unexpected : IsUnexpected (an_if ++ Keyword 12 keywords.Else ∷ []) 12
+second_else_unexpected = is_unexpected (an_if ++ Keyword 12 keywords.Else ∷ []) 1 12 else_is_unexpected refl
+
+first_else_expected : IsUnexpected (an_if ++ Keyword 12 keywords.Else ∷ []) 10 → ⊥
+first_else_expected fault = fault.not_with (omega arith) (record { rest = a_mark 11 ∷ Punctuator 12 punctuators.CloseBrace ∷ []; height = 4; ds = an_if_reads.0; reads = an_if_reads.1 })

@@ -17,7 +17,7 @@ numbered-requires-clause-few c = are_few c.args.tokens.now (map decl_tree c.in-O
 pub returns-in_ok-numbered-in-Ok : goal.returns-in_ok-numbered-in-Ok
 returns-in_ok-numbered-in-Ok c =
     let reads : ReadsAs c.args.tokens.now (unit_tree c.in_ok-numbered-in-Ok.field-0) =
-        reads_as c.args.tokens.now (map decl_tree c.in-Ok.unnumbered.items) (map decl_tree c.in_ok-numbered-in-Ok.field-0.declarations.items) c.in-Ok._height c.in-Ok.ensures.gives c.in_ok-numbered-in-Ok.ensures in
+    reads_as c.args.tokens.now (map decl_tree c.in-Ok.unnumbered.items) (map decl_tree c.in_ok-numbered-in-Ok.field-0.declarations.items) c.in-Ok._height c.in-Ok.ensures.gives c.in_ok-numbered-in-Ok.ensures in
     record { answers = reads; decides = decided c.args.tokens.now (Ok c.in_ok-numbered-in-Ok.field-0) reads }
 
 pub number_of-requires-clause-within : goal.number_of-requires-clause-within
@@ -29,11 +29,11 @@ number_of-requires-in-Err-TooDeep-clause-within c = rw c.in-Err-TooDeep.field-0-
 pub returns-in-Err-Unexpected : goal.returns-in-Err-Unexpected
 returns-in-Err-Unexpected c =
     let stands : IsUnexpected c.args.tokens.now c.number_of.result =
-        is_unexpected c.args.tokens.now c.in-Err-Unexpected.left _ (rw c.in-Err-Unexpected.field-0-is at c.in-Err-Unexpected.ensures.gives) (rw c.in-Err-Unexpected.field-0-is at c.number_of.ensures) in
+    is_unexpected c.args.tokens.now c.in-Err-Unexpected.left _ (rw c.in-Err-Unexpected.field-0-is at c.in-Err-Unexpected.ensures.gives) (rw c.in-Err-Unexpected.field-0-is at c.number_of.ensures) in
     record { answers = stands; decides = decided c.args.tokens.now (Err (faults.Unexpected c.number_of.result)) stands }
 
 pub returns-in-Err-TooDeep : goal.returns-in-Err-TooDeep
 returns-in-Err-TooDeep c =
     let stands : IsTooDeep c.args.tokens.now c.number_of-in-Err-TooDeep.result =
-        is_too_deep c.args.tokens.now c.in-Err-TooDeep.left _ (rw c.in-Err-TooDeep.field-0-is at c.in-Err-TooDeep.ensures.gives) (rw c.in-Err-TooDeep.field-0-is at c.number_of-in-Err-TooDeep.ensures) in
+    is_too_deep c.args.tokens.now c.in-Err-TooDeep.left _ (rw c.in-Err-TooDeep.field-0-is at c.in-Err-TooDeep.ensures.gives) (rw c.in-Err-TooDeep.field-0-is at c.number_of-in-Err-TooDeep.ensures) in
     record { answers = stands; decides = decided c.args.tokens.now (Err (faults.TooDeep c.number_of-in-Err-TooDeep.result)) stands }

@@ -1,4 +1,4 @@
--- The tokens before a fault in a type or an expression begin one.
+-- The tokens before a fault in a type or an expression begin one that is low enough.
 use Rattle.std.proofs.Common.{◌≡◌, ℕ, zero, suc, ◌+◌, ◌<◌, ◌≤◌, Bool, true, false, cond, List, [], ◌∷◌, ◌++◌, length, Err, Ok, Option, Some, None, refl, sym, ap, subst, ◌∙◌, append_assoc, append-nil, add-one, arith, true≢false}
 use Rattle.std.specs.Prelude.{max, nat_le, ◌==◌, ◌&&◌, ◌||◌, is_some}
 use Rattle.qs_syntax.specs.declared.terminal.Terminal.{Terminal}

@@ -1,4 +1,4 @@
--- The tokens before a fault in a unit begin one.
+-- The tokens before a fault in a unit begin one that is low enough.
 use Rattle.std.proofs.Common.{ℕ, zero, suc, ◌+◌, ◌≤◌, max, true, List, [], ◌∷◌, ◌++◌, length, sym, subst, append_assoc, arith, ◌&&◌}
 use Rattle.std.proofs.lemmas.Bool.{and_parts}
 use Rattle.qs_syntax.specs.declared.terminal.Terminal.{Terminal}

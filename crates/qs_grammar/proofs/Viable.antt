@@ -1,4 +1,5 @@
--- The tokens before a fault begin what is read, and with a token that is too deep they still do. How such laws are put together.
+-- The tokens before a fault begin what is read and is low enough, and with a token that is too deep they still begin something. How such
+-- laws are put together.
 use Rattle.std.proofs.lemmas.Bool.{leb-true}
 use Rattle.std.specs.Prelude.{nat_le, ◌==◌}
 use Rattle.std.proofs.Common.{◌≡◌, ℕ, zero, arith, ◌<◌, ◌≤◌, suc, Bool, true, false, cond, List, [], ◌∷◌, ◌++◌, length, Result, Ok, Err, refl, sym, ap, subst, ◌∙◌, append_assoc, append-nil}

@@ -6,6 +6,8 @@ mod LayoutSteps
 pub mod Declaring
 mod LayoutExamples
 pub mod RuleLaws
+pub mod LimitLaws
+pub mod Violations
 mod ConstantTypes
 mod RuleTrees
 mod DeclarationExamples

@@ -11,6 +11,7 @@ pub mod PartsOf
 pub mod PositionOf
 pub mod Noted
 pub mod NotedOf
+pub mod Sets
 pub mod UnitWalk
 pub mod WalkOf
 pub mod DeclaredOf

@@ -6,12 +6,12 @@ ghost use Rattle.qs_syntax.specs.UnitTrees.{unit_tree};
 ghost use Rattle.qs_types.specs.Contexts.{entity_of};
 ghost use Rattle.qs_types.specs.GivenFunctions.{main_name};
 ghost use Rattle.qs_types.specs.Limits as limits;
-ghost use Rattle.qs_types.specs.UnitRules.{is_name_in};
 ghost use Rattle.qs_types.specs.WellTyped as well_typed;
 ghost use Rattle.qs_typing.specs.ContextOf.{context_tree};
 ghost use Rattle.qs_typing.specs.EntityOf.{entity_tree};
 ghost use Rattle.qs_typing.specs.NotedOf.{block_tree};
 ghost use Rattle.qs_typing.specs.Refusals.{IsAccepted, IsTold, early_refusal, late_by, limit_fault, runs_in};
+ghost use Rattle.qs_typing.specs.Sets.{names_once};
 ghost use Rattle.qs_typing.specs.TypedOf.{typed_tree};
 ghost use Rattle.qs_typing.specs.UnitWalk.{unit_walked};
 ghost use Rattle.qs_typing.specs.WalkOf.{walk_tree};
@@ -151,29 +151,42 @@ fn runs(entity: Option<&Entity>) -> bool
     }
 }
 
-fn is_called(x: &Name, calls: &[Name]) -> bool
-    ensures { result ≡ is_name_in x.now calls.now }
+/// These names, each once.
+fn set_of(alloc: Global, names: &[Name]) -> Result<IndexSet<Name>, NoMemory>
+    ensures { IfOk result (λ set. set.keys ≡ names_once names.now) }
 {
-    for y in calls {
-        if *x == *y {
-            return true;
-        }
+    let mut set: IndexSet<Name> = IndexSet::new(alloc);
+    for x in names {
+        set.insert(x.copy(alloc)?)?;
     }
-    false
+    Ok(set)
 }
 
 /// The first declaration of a function that is called and doesn't run.
-fn first_undefined(c: &Context, calls: &[Name], ds: &[Decl]) -> Option<u32>
-    ensures { result ≡ well_typed.undefined_from (runs_in (context_tree c.now)) calls.now (map decl_tree ds.now) }
+fn undefined_from(c: &Context, calls: &IndexSet<Name>, ds: &[Decl]) -> Option<u32>
+    ensures { result ≡ well_typed.undefined_from (runs_in (context_tree c.now)) calls.now.keys (map decl_tree ds.now) }
 {
     for d in ds {
         if let Decl::Function(f) = d {
-            if is_called(&f.name, calls) && !runs(c.find(&f.name)) {
+            if calls.contains(&f.name) && !runs(c.find(&f.name)) {
                 return Some(f.node.id);
             }
         }
     }
     None
+}
+
+#[tactic(auto, using(crate::proofs::Sets::undefined_once))]
+fn first_undefined(
+    alloc: Global,
+    c: &Context,
+    calls: &[Name],
+    ds: &[Decl],
+) -> Result<Option<u32>, NoMemory>
+    ensures { IfOk result (λ n. n ≡ well_typed.undefined_from (runs_in (context_tree c.now)) calls.now (map decl_tree ds.now)) }
+{
+    let calls = set_of(alloc, calls)?;
+    Ok(undefined_from(c, &calls, ds))
 }
 
 fn limit(kind: LimitKind, node: Option<u32>) -> Option<TypeFault>
@@ -221,7 +234,7 @@ fn late_fault(
     if !has_main(alloc, c)? {
         return Ok(Some(TypeFault::NoMain));
     }
-    if let Some(node) = first_undefined(c, &walk.noted.calls, unit.declarations()) {
+    if let Some(node) = first_undefined(alloc, c, &walk.noted.calls, unit.declarations())? {
         return Ok(Some(TypeFault::Undefined(node)));
     }
     if let Some(node) = first_past_globals(alloc, &walk.noted)? {

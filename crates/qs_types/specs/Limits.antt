@@ -72,11 +72,14 @@ abbrev pub node_of_parameter : Option ParameterTree → Option ℕ
 node_of_parameter None = None
 node_of_parameter (Some p) = Some p.node.id
 
+abbrev pub parameter_past : (limit : ℕ) → FunctionTree → Option ℕ
+parameter_past limit f = node_of_parameter (slice_get f.parameters limit)
+
 abbrev pub first_past_parameters : (limit : ℕ) → UnitTree → Option ℕ
 first_past_parameters limit [] = None
 first_past_parameters limit (structure s ∷ ds) = first_past_parameters limit ds
 first_past_parameters limit (forward f ∷ ds) = first_past_parameters limit ds
-first_past_parameters limit (function f ∷ ds) = or_else (node_of_parameter (slice_get f.parameters limit)) (first_past_parameters limit ds)
+first_past_parameters limit (function f ∷ ds) = or_else (parameter_past limit f) (first_past_parameters limit ds)
 first_past_parameters limit (variables d ∷ ds) = first_past_parameters limit ds
 
 -- ---- blocks of memory: each begins at a multiple of 4

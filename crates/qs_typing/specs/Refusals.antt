@@ -111,10 +111,13 @@ pub record IsAccepted (unit : UnitTree) : Type 0 where
 abbrev pub runs_in : Context → List ℕ → Bool
 runs_in c f = entity_runs (entity_of c f)
 
+abbrev pub has_main_in : Context → Bool
+has_main_in c = entity_has_body (entity_of c main_name)
+
 abbrev pub late_by : Context → WalkTree → UnitTree → Option TypeFault
 late_by c w unit =
     first_of (rule_fault w.found.least)
-    (first_of (main_fault (entity_has_body (entity_of c main_name)))
+    (first_of (main_fault (has_main_in c))
     (first_of (undefined_fault (undefined_from (runs_in c) w.noted.calls unit))
     (first_of (limit_fault kinds.Globals (block_past global_limit 0 (w.noted.globals ++ w.noted.texts)))
     (limit_fault kinds.Locals w.noted.local_past))))

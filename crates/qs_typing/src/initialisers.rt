@@ -26,7 +26,7 @@ use qs_types::{CType, Env, Rule};
 use std::alloc::Global;
 
 /// Whether an initialiser has a type, and whether it fits.
-#[derive(Clone, Copy, PartialEq, Eq, Debug)]
+#[derive(Clone, Copy)]
 pub struct Fit {
     /// Whether it has a type; a list counts as having one.
     pub is_typed: bool,

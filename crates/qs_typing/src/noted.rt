@@ -6,6 +6,7 @@ ghost use Rattle.qs_types.specs.Placed.{is_no_scalar};
 ghost use Rattle.qs_types.specs.TypeOf.{type_tree};
 ghost use Rattle.qs_typing.specs.Noted as noted;
 ghost use Rattle.qs_typing.specs.NotedOf.{ArePlaced, block_tree, local_tree, noted_tree};
+ghost use Rattle.qs_typing.specs.Noting.{BeginsBody, EndsBody, IsLocal, NotesVariable};
 ghost use Rattle.qs_typing.specs.Sets.{nodes_once};
 
 use crate::types::is_scalar;
@@ -21,7 +22,7 @@ pub const LOCAL_LIMIT: u32 = 1_048_576;
 pub const GLOBAL_LIMIT: u32 = 16_777_216;
 
 /// A block of memory: the node that declares it, and how many bytes it takes.
-#[derive(Clone, Copy, PartialEq, Eq, Debug)]
+#[derive(Clone, Copy)]
 pub struct Block {
     /// The node.
     pub node: u32,
@@ -30,7 +31,7 @@ pub struct Block {
 }
 
 /// A local or parameter.
-#[derive(Clone, Copy, PartialEq, Eq, Debug)]
+#[derive(Clone, Copy)]
 pub struct Local {
     /// Its block, where it has one.
     pub block: Block,
@@ -74,7 +75,7 @@ fn is_no_scalar(t: &Option<CType>) -> bool
 
 /// A local or parameter of a declared type.
 pub fn local_of(structs: &Env, node: u32, t: &Option<CType>) -> Local
-    ensures { local_tree result ≡ noted.local_tree (env_tree structs.now) node (option_map type_tree t.now) }
+    ensures { IsLocal structs.now node t.now result }
 {
     let size = type_size(structs, t);
     Local {
@@ -155,7 +156,7 @@ impl Noted {
         node: u32,
         t: &Option<CType>,
     ) -> Result<(), NoMemory>
-        ensures { OnOk result (noted_tree self.new ≡ noted.variable_noted at_file_scope (env_tree structs.now) node (option_map type_tree t.now) (noted_tree self.old)) }
+        ensures { OnOk result (NotesVariable at_file_scope structs.now node t.now self.old self.new) }
     {
         if at_file_scope {
             let size = type_size(structs, t);
@@ -168,7 +169,7 @@ impl Noted {
 
     /// Begins a body, where these are its parameters.
     pub fn begin_body(&mut self, parameters: Vec<Local>)
-        ensures { noted_tree self.new ≡ noted.body_begun (map local_tree parameters.items) (noted_tree self.old) }
+        ensures { BeginsBody parameters.items self.old self.new }
     {
         self.locals = parameters;
     }
@@ -176,7 +177,7 @@ impl Noted {
     /// Ends a body, where the names of these declarations are operands of `&`.
     #[tactic(auto, using(crate::proofs::Sets::placed_past))]
     pub fn end_body(&mut self, alloc: Global, nodes: &[u32]) -> Result<(), NoMemory>
-        ensures { OnOk result (noted_tree self.new ≡ noted.body_ended nodes.now (noted_tree self.old)) }
+        ensures { OnOk result (EndsBody nodes.now self.old self.new) }
     {
         let nodes = set_of(alloc, nodes)?;
         let blocks = placed(alloc, &nodes, &self.locals)?;

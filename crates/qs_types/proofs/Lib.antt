@@ -18,3 +18,4 @@ mod HeldBackExamples
 mod FaultExamples
 mod LimitExamples
 mod ReferenceExamples
+mod RecordedExamples

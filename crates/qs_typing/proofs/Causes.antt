@@ -1,5 +1,5 @@
 -- A unit is refused for the first of the causes that there are, in their order, and for none exactly where there is none.
-use Rattle.std.proofs.Common.{◌≡◌, ◌≤◌, ◌⊎◌, inl, inr, ℕ, suc, ◌==◌, nat_lt, Bool, true, false, ◌&&◌, ◌||◌, List, [], ◌∷◌, Option, Some, None, refl, sym, ap, ◌∙◌, subst, arith, if◌then◌else◌}
+use Rattle.std.proofs.Common.{◌≡◌, ◌≤◌, ◌⊎◌, inl, inr, ℕ, suc, ◌==◌, nat_lt, Bool, true, false, ◌&&◌, ◌||◌, [], Option, Some, None, refl, sym, ap, ◌∙◌, subst, arith, if◌then◌else◌}
 use Rattle.std.proofs.lemmas.Bool.Decides.{nat_tests}
 use Rattle.qs_syntax.specs.Trees.{UnitTree}
 use Rattle.qs_report.specs.declared.fault_texts.LimitKind.{LimitKind}
@@ -12,7 +12,7 @@ use Rattle.qs_types.proofs.RuleLaws.{numbers_differ}
 use Rattle.qs_typing.specs.declared.refusals.TypeFault.{TypeFault}
 use Rattle.qs_typing.specs.declared.refusals.TypeFault.TheVariants as faults
 use Rattle.qs_typing.specs.Findings.{least_with, IsFirst}
-use Rattle.qs_typing.specs.Refusals.{IsCause, HasCause, IsLeastViolation, first_of, first_past, limit_place, place_of, limit_fault, rule_fault, main_fault, undefined_fault, early_refusal, late_refusal, first_refusal}
+use Rattle.qs_typing.specs.Refusals.{IsCause, HasCause, IsLeastViolation, first_of, first_past, limit_place, place_of, limit_fault, rule_fault, main_fault, undefined_fault, late_refusal, first_refusal}
 use Rattle.qs_typing.proofs.First.{first_found, none_found}
 
 -- ---- the causes of one place

@@ -1,19 +1,18 @@
 -- A unit is refused for no cause exactly where it is well typed and within the limits; what a walk shows are the causes.
-use Rattle.std.proofs.Common.{◌≡◌, ◌⊎◌, inl, inr, ℕ, Bool, true, false, List, [], ◌∷◌, ◌++◌, Option, Some, None, is_some, map, refl, sym, ap, ◌∙◌}
+use Rattle.std.proofs.Common.{◌≡◌, inl, inr, ℕ, Bool, true, false, List, [], ◌∷◌, ◌++◌, Option, Some, None, is_some, refl, sym, ap, ◌∙◌}
 use Rattle.qs_syntax.specs.Trees.{UnitTree}
 use Rattle.qs_report.specs.declared.fault_texts.LimitKind.{LimitKind}
 use Rattle.qs_report.specs.declared.fault_texts.LimitKind.TheVariants as kinds
-use Rattle.qs_types.specs.Contexts.{Context, start_context, entity_of}
-use Rattle.qs_types.specs.GivenFunctions.{main_name}
-use Rattle.qs_types.specs.Limits.{IsWithinLimits, text_block, data_blocks, variable_blocks_from, block_past, first_past_nodes, node_limit, first_past_functions, function_limit, first_past_parameters, parameter_limit, first_past_globals, global_limit, first_past_locals, local_limit}
-use Rattle.qs_types.specs.References.{literal_blocks, unit_calls}
+use Rattle.qs_types.specs.Contexts.{Context, start_context}
+use Rattle.qs_types.specs.Limits.{IsWithinLimits, data_blocks, variable_blocks_from, block_past, first_past_nodes, node_limit, first_past_functions, function_limit, first_past_parameters, parameter_limit, first_past_globals, global_limit, first_past_locals, local_limit}
+use Rattle.qs_types.specs.References.{unit_calls}
 use Rattle.qs_types.specs.Rules.{Fault, is_any}
 use Rattle.qs_types.specs.UnitRules.{faults_in}
-use Rattle.qs_types.specs.WellTyped.{WellTyped, end_context, has_main, first_undefined, undefined_from, entity_has_body, runs}
+use Rattle.qs_types.specs.WellTyped.{WellTyped, end_context, has_main, first_undefined, undefined_from, runs}
 use Rattle.qs_typing.specs.declared.refusals.TypeFault.{TypeFault}
 use Rattle.qs_typing.specs.declared.refusals.TypeFault.TheVariants as faults
 use Rattle.qs_typing.specs.Findings.{least_with}
-use Rattle.qs_typing.specs.Refusals.{IsAccepted, IsTold, first_of, limit_fault, rule_fault, main_fault, undefined_fault, early_refusal, late_refusal, first_refusal, runs_in, late_by}
+use Rattle.qs_typing.specs.Refusals.{IsAccepted, IsTold, first_of, limit_fault, rule_fault, main_fault, undefined_fault, early_refusal, late_refusal, first_refusal, late_by}
 use Rattle.qs_typing.specs.UnitWalk.{WalkTree, unit_walked}
 use Rattle.qs_typing.proofs.Adding.{unit_least, unit_called, unit_texts}
 use Rattle.qs_typing.proofs.Blocks.{unit_globals, unit_past}

@@ -1,5 +1,5 @@
 -- How walks in code go over statements, as the definitions say.
-use Rattle.std.specs.Prelude.{◌≡◌, Bool, List, Option, Box, map, option_map, option_to_list}
+use Rattle.std.specs.Prelude.{◌≡◌, Bool, List, Option, Box, map, option_to_list}
 use Rattle.std.specs.Borrow.{Bor}
 use Rattle.std.specs.declared.alloc.Global.{Global}
 use Rattle.qs_syntax.specs.declared.expressions.Expr.{Expr}

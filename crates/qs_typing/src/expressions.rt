@@ -22,10 +22,10 @@ use crate::names::{judge_call, judge_cast, judge_name, judge_object, judge_size}
 use crate::operators::{
     judge_binary, judge_comma, judge_conditional, judge_step, judge_subscript, judge_unary,
 };
-use crate::types::copied;
 use crate::positions::{
     Position, assigned_position, is_misplaced, object_position, operand_position, right_position,
 };
+use crate::types::copied;
 use qs_base::{Name, NoMemory};
 use qs_syntax::{Expr, Shape, Text, UnaryOperator};
 use qs_types::{CType, Rule};

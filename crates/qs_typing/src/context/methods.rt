@@ -111,10 +111,11 @@ impl Context {
     }
 
     /// The structs alone.
-    pub fn into_structs(self) -> Env
-        ensures { env_tree result ≡ (context_tree self).structs }
+    pub fn into_structs(self) -> (Env, IndexSet<Name>)
+        ensures structs { env_tree result.0 ≡ (context_tree self).structs }
+        ensures tags { result.1.keys ≡ (context_tree self).tags }
     {
-        self.structs
+        (self.structs, self.tags)
     }
 
     /// What a name stands for (C11 6.2.1p4).

@@ -7,9 +7,10 @@ use Rattle.qs_syntax.specs.declared.nodes.Node.{Node}
 use Rattle.qs_syntax.specs.declared.statements.Start.{Start}
 use Rattle.qs_syntax.specs.declared.statements.Stmt.{Stmt}
 use Rattle.qs_syntax.specs.TreeOf.{else_tree, expr_tree, option_tree, start_tree, stmt_tree, stmts_tree}
-use Rattle.qs_syntax.specs.Trees.{return}
+use Rattle.qs_syntax.specs.Trees.{while_loop, do_loop, for_loop, return}
 use Rattle.qs_types.specs.declared.types.CType.{CType}
 use Rattle.qs_types.specs.Contexts.{inner_scope, inside_loop}
+use Rattle.qs_types.specs.ExpressionFaults.{discarded}
 use Rattle.qs_types.specs.Expressions.{type_of}
 use Rattle.qs_types.specs.Layout.{and_then}
 use Rattle.qs_types.specs.StatementRules as rules
@@ -108,3 +109,21 @@ KnowsStatements items before after = context_tree after ≡ after_statements (co
 
 abbrev pub WalksStatements : Context → List Stmt → (before after : Walk) → Type 0
 WalksStatements c items before after = walk_tree after ≡ walks.statements_walked (context_tree c) (stmts_tree items) (walk_tree before)
+
+abbrev pub WalksDiscarded : Context → Expr → (before after : Walk) → Type 0
+WalksDiscarded c e before after = walk_tree after ≡ walks.expr_walked (context_tree c) discarded (expr_tree e) (walks.node_opened (walk_tree before))
+
+-- ---- loops
+
+abbrev pub WalksWhile : Context → Node → Expr → Stmt → (before after : Walk) → Type 0
+WalksWhile c node e s before after =
+    walk_tree after ≡ walks.statement_walked (context_tree c) (while_loop node (expr_tree e) (stmt_tree s)) (walk_tree before)
+
+abbrev pub WalksDo : Context → Node → Stmt → Expr → (before after : Walk) → Type 0
+WalksDo c node s e before after =
+    walk_tree after ≡ walks.statement_walked (context_tree c) (do_loop node (stmt_tree s) (expr_tree e)) (walk_tree before)
+
+abbrev pub WalksFor : Context → Node → Start → (condition step : Option Expr) → Stmt → (before after : Walk) → Type 0
+WalksFor c node start condition step s before after =
+    walk_tree after
+    ≡ walks.statement_walked (context_tree c) (for_loop node (start_tree start) (option_tree condition) (option_tree step) (stmt_tree s)) (walk_tree before)

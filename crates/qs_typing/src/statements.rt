@@ -11,7 +11,7 @@ ghost use Rattle.qs_typing.specs.ContextOf.{context_tree};
 ghost use Rattle.qs_typing.specs.JudgedOf.{test_tree};
 ghost use Rattle.qs_typing.specs.PositionOf.{position_tree};
 ghost use Rattle.qs_typing.specs.Statements.{after_statements, head_tests_by, head_walked, return_tests_by, typed_by};
-ghost use Rattle.qs_typing.specs.StatementWalks.{IsConditionTest, IsHeadTest, IsOptionType, IsReturnTest, IsReturned, IsStartTyped, JudgesJump, JudgesOne, KnowsStart, KnowsStatement, KnowsStatements, WalksBlock, WalksBody, WalksCondition, WalksElse, WalksHead, WalksOption, WalksPart, WalksReturn, WalksStart, WalksStatement, WalksStatements};
+ghost use Rattle.qs_typing.specs.StatementWalks.{WalksDiscarded, WalksDo, WalksFor, WalksWhile, IsConditionTest, IsHeadTest, IsOptionType, IsReturnTest, IsReturned, IsStartTyped, JudgesJump, JudgesOne, KnowsStart, KnowsStatement, KnowsStatements, WalksBlock, WalksBody, WalksCondition, WalksElse, WalksHead, WalksOption, WalksPart, WalksReturn, WalksStart, WalksStatement, WalksStatements};
 ghost use Rattle.qs_typing.specs.UnitWalk as walks;
 ghost use Rattle.qs_typing.specs.WalkOf.{walk_tree};
 
@@ -119,6 +119,14 @@ fn walk_return(
     Ok(())
 }
 
+fn walk_discarded(alloc: Global, c: &Context, e: &Expr, walk: &mut Walk) -> Result<(), NoMemory>
+    ensures { OnOk result (WalksDiscarded c.now e.now walk.old walk.new) }
+{
+    walk.open()?;
+    walk.expression(alloc, c, Position::Discarded, e)?;
+    Ok(())
+}
+
 fn judge_jump(c: &Context, node: Node, walk: &mut Walk) -> Result<(), NoMemory>
     ensures { OnOk result (JudgesJump c.now node walk.old walk.new) }
 {
@@ -212,11 +220,7 @@ pub fn walk_statement(
 {
     match s {
         Stmt::Empty(_) => walk.open(),
-        Stmt::Expression(_, e) => {
-            walk.open()?;
-            walk.expression(alloc, c, Position::Discarded, e)?;
-            Ok(())
-        }
+        Stmt::Expression(_, e) => walk_discarded(alloc, c, e, walk),
         Stmt::Declaration(d) => walk_variables(alloc, false, c, &d.base, &d.variables, walk),
         Stmt::Block(items) => walk_block(alloc, c, items, walk),
         Stmt::If {
@@ -234,39 +238,83 @@ pub fn walk_statement(
             node,
             condition,
             body,
-        } => {
-            walk.open()?;
-            walk_condition(alloc, c, *node, condition, walk)?;
-            walk_body(alloc, c, body, walk)
-        }
+        } => walk_while(alloc, c, *node, body, condition, walk),
         Stmt::Do {
             node,
             body,
             condition,
-        } => {
-            walk.open()?;
-            walk_body(alloc, c, body, walk)?;
-            walk_condition(alloc, c, *node, condition, walk)
-        }
+        } => walk_do(alloc, c, *node, body, condition, walk),
         Stmt::For {
             node,
             start,
             condition,
             step,
             body,
-        } => {
-            walk.open()?;
-            let around = c.enter_scope();
-            let start_typed = walk_start(alloc, c, start, walk)?;
-            walk_head(alloc, c, *node, start_typed, condition, step, walk)?;
-            walk_body(alloc, c, body, walk)?;
-            c.leave_scope(around);
-            Ok(())
-        }
+        } => walk_for(alloc, c, *node, start, condition, step, body, walk),
         Stmt::Break(node) => judge_jump(c, *node, walk),
         Stmt::Continue(node) => judge_jump(c, *node, walk),
         Stmt::Return(node, e) => walk_return(alloc, c, *node, e, walk),
     }
+}
+
+/// Walks over a `while` (C11 6.8.5.1).
+#[cycle(stmt)]
+fn walk_while(
+    alloc: Global,
+    c: &mut Context,
+    node: Node,
+    body: &Stmt,
+    condition: &Expr,
+    walk: &mut Walk,
+) -> Result<(), NoMemory>
+    ensures context { OnOk result (context_tree c.new ≡ context_tree c.old) }
+    ensures walked { OnOk result (WalksWhile c.old node condition.now body.now walk.old walk.new) }
+{
+    walk.open()?;
+    walk_condition(alloc, c, node, condition, walk)?;
+    walk_body(alloc, c, body, walk)
+}
+
+/// Walks over a `do` (C11 6.8.5.2).
+#[cycle(stmt)]
+fn walk_do(
+    alloc: Global,
+    c: &mut Context,
+    node: Node,
+    body: &Stmt,
+    condition: &Expr,
+    walk: &mut Walk,
+) -> Result<(), NoMemory>
+    ensures context { OnOk result (context_tree c.new ≡ context_tree c.old) }
+    ensures walked { OnOk result (WalksDo c.old node body.now condition.now walk.old walk.new) }
+{
+    walk.open()?;
+    walk_body(alloc, c, body, walk)?;
+    walk_condition(alloc, c, node, condition, walk)
+}
+
+/// Walks over a `for`, which is a scope (C11 6.8.5.3).
+#[cycle(stmt)]
+fn walk_for(
+    alloc: Global,
+    c: &mut Context,
+    node: Node,
+    start: &Start,
+    condition: &Option<Expr>,
+    step: &Option<Expr>,
+    body: &Stmt,
+    walk: &mut Walk,
+) -> Result<(), NoMemory>
+    ensures context { OnOk result (context_tree c.new ≡ context_tree c.old) }
+    ensures walked { OnOk result (WalksFor c.old node start.now condition.now step.now body.now walk.old walk.new) }
+{
+    walk.open()?;
+    let around = c.enter_scope();
+    let start_typed = walk_start(alloc, c, start, walk)?;
+    walk_head(alloc, c, node, start_typed, condition, step, walk)?;
+    walk_body(alloc, c, body, walk)?;
+    c.leave_scope(around);
+    Ok(())
 }
 
 /// Walks over a statement that is a part of another, which is a scope (C11 6.8.4p3).

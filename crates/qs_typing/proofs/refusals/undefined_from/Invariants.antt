@@ -3,9 +3,9 @@ use Rattle.qs_syntax.specs.TreeOf.{decl_tree}
 use Rattle.qs_types.specs.WellTyped.{undefined_from}
 use Rattle.qs_typing.specs.ContextOf.{context_tree}
 use Rattle.qs_typing.specs.Refusals.{runs_in}
-use Rattle.qs_typing.proofs.refusals.first_undefined.Given as goal
+use Rattle.qs_typing.proofs.refusals.undefined_from.Given as goal
 
 abbrev pub invariant-loop-d : goal.invariant-loop-d
 invariant-loop-d l =
-    undefined_from (runs_in (context_tree l.c)) l.calls (map decl_tree l.ds)
-    ≡ undefined_from (runs_in (context_tree l.c)) l.calls (map decl_tree (drop l.d-index l.ds))
+    undefined_from (runs_in (context_tree l.c)) l.calls.keys (map decl_tree l.ds)
+    ≡ undefined_from (runs_in (context_tree l.c)) l.calls.keys (map decl_tree (drop l.d-index l.ds))

@@ -27,3 +27,4 @@ mod FitCore
 mod UnitExamples
 mod NumberingExamples
 mod WriteExamples
+mod FitReads

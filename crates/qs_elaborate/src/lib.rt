@@ -4,5 +4,5 @@
 mod fit_laws;
 mod laws;
 
-pub use fit_laws::{core_fits, units_have_cores};
+pub use fit_laws::{core_fits, read_units_have_names, units_have_cores};
 pub use laws::{acts_exactly, core_follows, main_follows};

@@ -1,13 +1,15 @@
 -- A well typed unit has a core, which fits and runs as the unit does.
-use Rattle.std.proofs.Common.{◌≡◌, ℕ, zero, suc, ◌||◌, Bool, true, false, List, [], ◌∷◌, ◌++◌, map, Option, Some, None, is_some, refl, sym, ap, ◌∙◌, subst, arith, if◌then◌else◌}
+use Rattle.std.proofs.Common.{◌≡◌, ℕ, zero, suc, ◌&&◌, ◌||◌, not, Bool, true, false, List, [], ◌∷◌, ◌++◌, map, Option, Some, None, is_some, refl, sym, ap, ◌∙◌, subst, arith, if◌then◌else◌}
 use Rattle.std.specs.Prelude.{bytes_eq}
 use Rattle.std.specs.List.{slice_get, list_all, list_any}
 use Rattle.std.proofs.lemmas.Slice.Eq.{bytes_eq-Decides}
 use Rattle.std.proofs.lemmas.List.{map-append}
+use Rattle.std.proofs.lemmas.List.Folds.{list_all-append}
+use Rattle.qs_base.specs.Names.{is_name}
 use Rattle.qs_syntax.specs.Sameness.{same_bytes}
 use Rattle.qs_syntax.proofs.Exact.{bytes_exact}
 use Rattle.qs_syntax.specs.declared.nodes.Node.{Node}
-use Rattle.qs_syntax.specs.Trees.{Stmts, FunctionTree, DeclTree, structure, forward, function, variables, UnitTree}
+use Rattle.qs_syntax.specs.Trees.{ParameterTree, Stmts, FunctionTree, DeclTree, structure, forward, function, variables, UnitTree}
 use Rattle.qs_syntax.specs.Nodes.{function_nodes, decl_nodes, unit_nodes}
 use Rattle.qs_memory.specs.Partial.{◌>>=◌}
 use Rattle.qs_memory.proofs.Options.{some_same, followed}
@@ -21,7 +23,7 @@ use Rattle.qs_types.specs.Rules.{keeps, breaks_one, faults_of}
 use Rattle.qs_types.specs.GivenFunctions.{main_name}
 use Rattle.qs_types.specs.Contexts.{Context, start_context, inner_scope}
 use Rattle.qs_types.specs.Placed.{Local, parameters_locals, addressed_in, statements_locals}
-use Rattle.qs_types.specs.UnitRules.{is_name_in, parameter_types, result_type, body_context, header_of, may_declare, result_tests, main_tests, header_tests, is_main_type, may_be, parameters_faults, body_faults, function_faults, after_declaration, declaration_faults, declarations_faults}
+use Rattle.qs_types.specs.UnitRules.{is_name_in, is_name_declared, parameter_types, result_type, body_context, header_of, may_declare, result_tests, main_tests, header_tests, is_main_type, may_be, parameters_faults, body_faults, function_faults, after_declaration, declaration_faults, declarations_faults}
 use Rattle.qs_meaning.specs.Typed.{Function, TypedProgram}
 use Rattle.qs_meaning.specs.Names.{Scope, within}
 use Rattle.qs_meaning.specs.Runs.{main_from}
@@ -37,18 +39,30 @@ use Rattle.qs_meaning.proofs.UnitsTyped.{declaration_known, start_known, units_t
 use Rattle.qs_meaning.proofs.InitialMemory.{initial_memory_is_sound}
 use Rattle.qs_meaning.proofs.FitUnits.{typed_units_fit}
 use Rattle.qs_meaning.proofs.FitBlocks.{typed_data_is_whole}
-use Rattle.qs_elaborate.specs.Names.{FunctionNames, body_names, function_names, declaration_names, declarations_names, names_in}
+use Rattle.qs_elaborate.specs.Names.{parameter_name, declared_parameter, statements_declare, function_declares, FunctionNames, body_names, function_names, declaration_names, declarations_names, names_in}
 use Rattle.qs_elaborate.specs.Units.{unit_core}
-use Rattle.qs_elaborate.specs.FitLaws.{IsNamed, AreNamed, is_main_function, body_has_names, declaration_has_names, UnitsHaveCores}
+use Rattle.qs_elaborate.specs.FitLaws.{IsNamed, AreNamed, is_main_function, has_name, option_has_name, parameter_has_name, body_has_names, declaration_has_names, UnitsHaveCores}
 use Rattle.qs_elaborate.proofs.FitParts.{together}
 use Rattle.qs_elaborate.proofs.FitDeclared.{part_self, part_behind, part_front, part_different, ids}
 use Rattle.qs_elaborate.proofs.FitNamed.{parameters_count, parameters_differ, named_function}
-use Rattle.qs_elaborate.proofs.FitRules.{parameters_new, main_type_kept, bodies_differ}
+use Rattle.qs_elaborate.proofs.FitRules.{is_new, parameters_new, main_type_kept, bodies_differ}
 use Rattle.qs_elaborate.proofs.FitMain.{int_result, parameters_promoted, main_given, main_found}
 use Rattle.qs_elaborate.proofs.FitUnits.{core_fits}
 use Rattle.qs_elaborate.proofs.Units.{core_follows, main_follows}
 
 -- ---- functions
+
+-- the parameters of a body have names
+all_have_names : (c : Context) (ps : List ParameterTree) → list_all parameter_has_name ps ≡ true → list_all (is_new c) ps ≡ true → list_all has_name (map declared_parameter ps) ≡ true
+all_have_names c [] h k = refl
+all_have_names c (p ∷ ps) h k =
+    let named = both (parameter_has_name p) _ h in
+    let new = both (is_new c p) _ k in
+    together (by_name p.name named.0 new.0) (all_have_names c ps named.1 new.1)
+  where
+    by_name : (o : Option (List ℕ)) → option_has_name o ≡ true → (is_some o && not (is_name_declared c o)) ≡ true → is_name (parameter_name o) ≡ true
+    by_name None h k = cc
+    by_name (Some x) h k = h
 
 -- a function has names, and the marks and types of main where that is its name
 record IsWhole (n : FunctionNames) (g : Function) : Type 0 where
@@ -80,11 +94,17 @@ module _ (s : Scope) (h : IsFileScope s.context) (f : FunctionTree) (body : Stmt
   parts : (parameters_faults (inner_scope c) (is_some f.body) f.parameters ++ body_faults c f f.body) ≡ []
   parts = none_right (faults_of f.node.id (header_tests c f)) _ faultless
 
-  names_apart : parameters_differ f ≡ true
-  names_apart =
-      (parameters_new s₀ (nodes_of ls) f.parameters (inner_scope c) (file_sound s₀ (inner_scope c) (nodes_of ls) inner)
+  new : (list_all (is_new (inner_scope c)) f.parameters ≡ true) × (parameters_differ f ≡ true)
+  new =
+      parameters_new s₀ (nodes_of ls) f.parameters (inner_scope c) (file_sound s₀ (inner_scope c) (nodes_of ls) inner)
       (parameters_declared (nodes_of ls) (nodes_of (placed_among [] ls)) f.parameters (inner_scope c) (all_fine [] ls))
-      (subst (λ b. parameters_faults (inner_scope c) b f.parameters ≡ []) (ap (λ (o : Option Stmts). is_some o) is) (none_left _ _ parts))).1
+      (subst (λ b. parameters_faults (inner_scope c) b f.parameters ≡ []) (ap (λ (o : Option Stmts). is_some o) is) (none_left _ _ parts))
+
+  whole_names : body_has_names f (Some body) ≡ true → (is_name f.name && list_all has_name (function_declares f body)) ≡ true
+  whole_names h =
+      let two = both (is_name f.name && list_all parameter_has_name f.parameters) _ h in
+      let own = both (is_name f.name) _ two.0 in
+      together own.0 (list_all-append has_name (map declared_parameter f.parameters) (statements_declare body) ∙ together (all_have_names (inner_scope c) f.parameters own.1 new.0) two.1)
 
   result : Known (result_type c f)
   result = result_known c f (first_unbroken (result_tests c f) (main_tests f (header_of c f))
@@ -103,7 +123,7 @@ module _ (s : Scope) (h : IsFileScope s.context) (f : FunctionTree) (body : Stmt
       let b = followed (statements_typed (in_body s f (locals_of operands parameters in_statements)) body) _ g z.then in
       let same = some_same _ g b.then in
       record {
-        named = named_function s f body is names nodes names_apart g k;
+        named = named_function s f body is (whole_names names) nodes new.1 g k;
         marked = subst (λ (g : Function). g.is_main ≡ same_bytes g.name main_name) same refl;
         main = subst (λ (g : Function). same_bytes g.name main_name ≡ true → is_main_function (Some g) ≡ true) same (λ e.
             let tested = main_tested rules.MainType (same_bytes f.name main_name) (is_main_type (header_of c f)) e (main_type_kept c f faultless) in

@@ -1,5 +1,5 @@
 -- The functions of a typed unit have names of the language, by which their variables differ.
-use Rattle.std.proofs.Common.{◌≡◌, ℕ, suc, ◌==◌, not, Bool, true, List, [], ◌∷◌, ◌++◌, length, map, Option, Some, refl, sym, ap, ◌∙◌, subst, arith}
+use Rattle.std.proofs.Common.{◌≡◌, ◌&&◌, ℕ, suc, ◌==◌, not, Bool, true, List, [], ◌∷◌, ◌++◌, length, map, Option, Some, refl, sym, ap, ◌∙◌, subst, arith}
 use Rattle.std.specs.List.{list_all}
 use Rattle.std.proofs.lemmas.List.{map-append, length-map, length-append}
 use Rattle.qs_base.specs.Names.{is_name}
@@ -23,7 +23,7 @@ use Rattle.qs_meaning.specs.Units.{nodes_of, placed_among, plain_among, variable
 use Rattle.qs_meaning.specs.FitLaws.{are_different}
 use Rattle.qs_elaborate.specs.Names.{Declared, parameter_name, declared_parameter, statements_declare, function_declares, body_names, count_of}
 use Rattle.qs_elaborate.specs.Units.{named_parameters, named_variables}
-use Rattle.qs_elaborate.specs.FitLaws.{are_first, IsNamed, body_has_names}
+use Rattle.qs_elaborate.specs.FitLaws.{are_first, IsNamed, has_name}
 use Rattle.qs_elaborate.proofs.FitNames.{nodes_declared, naming, all_named, all_apart, first_named}
 use Rattle.qs_elaborate.proofs.FitDeclared.{IsPart, part_self, part_front, part_both, part_in, part_different, ids, function_among, parameters_are, locals_are, filtered_part}
 
@@ -59,7 +59,7 @@ parameters_differ f = differ same_bytes (map (λ (p : ParameterTree). parameter_
 
 -- ---- one function
 
-module _ (s : Scope) (f : FunctionTree) (body : Stmts) (is : f.body ≡ Some body) (names : body_has_names f (Some body) ≡ true) (nodes : are_different (ids (function_nodes f)) ≡ true) (apart : parameters_differ f ≡ true) where
+module _ (s : Scope) (f : FunctionTree) (body : Stmts) (is : f.body ≡ Some body) (names : (is_name f.name && list_all has_name (function_declares f body)) ≡ true) (nodes : are_different (ids (function_nodes f)) ≡ true) (apart : parameters_differ f ≡ true) where
   abbrev c : Context
   c = s.context
 

@@ -37,3 +37,4 @@ mod FitCore
 mod UnitExamples
 mod NumberingExamples
 mod WriteExamples
+mod FitReads

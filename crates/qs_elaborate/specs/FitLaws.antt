@@ -2,7 +2,8 @@
 use Rattle.std.specs.Prelude.{◌≡◌, ℕ, ◌==◌, ◌&&◌, Bool, true, false, List, [], ◌∷◌, map, Option, Some, None, bytes_eq}
 use Rattle.std.specs.List.{slice_get, list_all}
 use Rattle.qs_base.specs.Names.{is_name}
-use Rattle.qs_syntax.specs.Trees.{Stmts, FunctionTree, DeclTree, structure, forward, function, variables, UnitTree}
+use Rattle.qs_syntax.specs.Trees.{ParameterTree, Stmts, FunctionTree, DeclTree, structure, forward, function, variables, UnitTree}
+use Rattle.qs_syntax.specs.Units.{Reading}
 use Rattle.qs_memory.specs.Values.{Value}
 use Rattle.qs_memory.specs.Soundness.{IsSound}
 use Rattle.qs_memory.specs.declared.scalar.Scalar.TheVariants as scalars
@@ -22,7 +23,7 @@ use Rattle.qs_meaning.specs.InitialLaws.{texts_are_bytes}
 use Rattle.qs_meaning.specs.FitLaws.{IsAsRead}
 use Rattle.qs_meaning.specs.Whole.{DataIsWhole}
 use Rattle.qs_meaning.specs.Fits.{program_fits}
-use Rattle.qs_elaborate.specs.Names.{Declared, FunctionNames, function_declares}
+use Rattle.qs_elaborate.specs.Names.{Declared, statements_declare, FunctionNames}
 use Rattle.qs_elaborate.specs.Units.{named_parameters, named_variables, no_names, unit_core, core_of}
 
 -- ---- names
@@ -59,9 +60,17 @@ is_main_function (Some g) =
 abbrev pub has_name : Declared → Bool
 has_name d = is_name d.name
 
+-- a parameter of a body has a name (6.9.1p5), that of a header may have none
+abbrev pub option_has_name : Option (List ℕ) → Bool
+option_has_name None = true
+option_has_name (Some x) = is_name x
+
+abbrev pub parameter_has_name : ParameterTree → Bool
+parameter_has_name p = option_has_name p.name
+
 abbrev pub body_has_names : FunctionTree → Option Stmts → Bool
 body_has_names f None = true
-body_has_names f (Some body) = is_name f.name && list_all has_name (function_declares f body)
+body_has_names f (Some body) = is_name f.name && list_all parameter_has_name f.parameters && list_all has_name (statements_declare body)
 
 abbrev pub declaration_has_names : DeclTree → Bool
 declaration_has_names (structure d) = true
@@ -104,3 +113,7 @@ pub record HasCore (unit : UnitTree) : Type 0 where
 abbrev pub UnitsHaveCores : Type 0
 UnitsHaveCores =
     (unit : UnitTree) → IsAsRead unit → has_names unit ≡ true → texts_are_bytes unit ≡ true → WellTyped unit → IsWithinLimits unit → HasCore unit
+
+-- the names of a unit that is read are names of the language
+abbrev pub ReadUnitsHaveNames : Type 0
+ReadUnitsHaveNames = (unit : UnitTree) → Reading unit → has_names unit ≡ true

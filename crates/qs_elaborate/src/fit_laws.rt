@@ -1,5 +1,5 @@
 // The laws of core as a unit. Each is the contract of an empty function.
-ghost use Rattle.qs_elaborate.specs.FitLaws.{CoreFits, UnitsHaveCores};
+ghost use Rattle.qs_elaborate.specs.FitLaws.{CoreFits, ReadUnitsHaveNames, UnitsHaveCores};
 
 /// The core of a typed tree that fits, with names for its functions and variables, is a unit of core that
 /// fits: operations are on operands of the types that they take, and what is numbered is there.
@@ -11,4 +11,9 @@ pub fn core_fits()
 /// said of the core that each such unit has, from every root and from main.
 pub fn units_have_cores()
     ensures { UnitsHaveCores }
+{}
+
+/// The names of a unit that is read are names of the language.
+pub fn read_units_have_names()
+    ensures { ReadUnitsHaveNames }
 {}

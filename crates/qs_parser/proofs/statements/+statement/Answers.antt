@@ -1,0 +1,18 @@
+use Rattle.std.proofs.Common.{arith}
+use Rattle.qs_parser.proofs.CodeStatements.{item_steps}
+use Rattle.qs_parser.proofs.statements.+statement.Goals as goal
+
+pub items-returns-then-starts-clause-gives : goal.items-returns-then-starts-clause-gives
+items-returns-then-starts-clause-gives t c = grind (arith, item_steps)
+
+pub items-returns-in_err-behind-clause-gives : goal.items-returns-in_err-behind-clause-gives
+items-returns-in_err-behind-clause-gives t c = grind (arith, item_steps)
+
+pub items-returns-in_err-found-clause-gives : goal.items-returns-in_err-found-clause-gives
+items-returns-in_err-found-clause-gives t c = grind (arith, item_steps)
+
+pub items-returns-clause-gives : goal.items-returns-clause-gives
+items-returns-clause-gives t c = grind (arith, item_steps)
+
+pub items-loop-preserved : goal.items-loop-preserved
+items-loop-preserved t c = record { same = grind (arith, item_steps); low = grind (arith, item_steps) }

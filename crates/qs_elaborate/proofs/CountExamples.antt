@@ -8,8 +8,8 @@ use Rattle.qs_syntax.specs.Trees.{UnitTree}
 use Rattle.qs_memory.specs.Partial.{◌>>=◌}
 use Rattle.qs_meaning.specs.Typed.{TypedProgram}
 use Rattle.qs_meaning.specs.Units.{typed_of}
-use Rattle.qs_elaborate.proofs.Samples.{number, natural, named, plus, op, eval, when, defined, parameter, main_, main_name, at, deref, after, set, update, valued, listed, local, one, many, int_, array_, pointer_}
-use Rattle.qs_elaborate.proofs.Samples as c
+use Rattle.qs_meaning.proofs.Samples.{number, natural, named, plus, op, eval, when, defined, parameter, main_, main_name, at, deref, after, set, update, valued, listed, local, one, many, int_, array_, pointer_}
+use Rattle.qs_meaning.proofs.Samples as c
 use Rattle.qs_elaborate.specs.Counts.{expressions_in, nodes_in}
 
 -- in each function

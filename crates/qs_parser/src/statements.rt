@@ -7,6 +7,7 @@ ghost use Rattle.qs_grammar.specs.Heads.{is_keyword};
 ghost use Rattle.qs_syntax.specs.TreeOf.{expr_tree, option_tree, start_tree, stmt_tree};
 ghost use Rattle.qs_grammar.specs.ParseStatements.{optional, condition, start_of, begins_statement, item, items, in_block, otherwise, after_if, after_while, expect_while, after_do, after_for, after_return, running, plain_statement, keyword_statement, statement_at, statement};
 ghost use Rattle.qs_parser.specs.View.{Gives, read_as, boxed_tree, second_tree, listed, rest_of};
+ghost use Rattle.qs_parser.specs.Turns.{step_tree, turn_tree, step_and_body, turn_of};
 
 use crate::declarations::declaration_within;
 use crate::expressions::{Form, followed, part};
@@ -318,6 +319,44 @@ fn after_do(
     Ok((node, height.max(high) + 1, rest))
 }
 
+/// What each turn of a `for` evaluates and executes (C11 6.8.5.3).
+struct Turn {
+    condition: Option<Expr>,
+    step: Option<Expr>,
+    body: Box<Stmt>,
+}
+
+/// The step of a `for`, the parenthesis behind it, and the body.
+#[cycle(statement)]
+fn step_and_body(
+    alloc: Global,
+    room: u8,
+    tokens: &[Terminal],
+) -> Result<((Option<Expr>, Box<Stmt>), u32, &[Terminal]), Halt>
+    ensures gives { Gives (read_as step_tree) result (step_and_body room (statement room) tokens.now) }
+    ensures low { IfOk result (λ x. x.1 ≤ room) }
+{
+    let (step, height, rest) = optional(alloc, room, Punctuator::CloseParenthesis, tokens)?;
+    let (body, high, rest) = boxed(alloc, room, rest)?;
+    Ok(((step, body), height.max(high), rest))
+}
+
+/// What stands behind what a `for` begins with.
+#[cycle(statement)]
+fn turn_of(alloc: Global, room: u8, tokens: &[Terminal]) -> Result<(Turn, u32, &[Terminal]), Halt>
+    ensures gives { Gives (read_as turn_tree) result (turn_of room (statement room) tokens.now) }
+    ensures low { IfOk result (λ x. x.1 ≤ room) }
+{
+    let (condition, height, rest) = optional(alloc, room, Punctuator::Semicolon, tokens)?;
+    let ((step, body), high, rest) = step_and_body(alloc, room, rest)?;
+    let turn = Turn {
+        condition,
+        step,
+        body,
+    };
+    Ok((turn, height.max(high), rest))
+}
+
 /// `for`, behind its keyword (C11 6.8.5.3).
 #[cycle(statement)]
 fn after_for(
@@ -330,13 +369,18 @@ fn after_for(
     ensures low { IfOk result (λ x. x.1 ≤ room + 1) }
 {
     let rest = expect(Punctuator::OpenParenthesis, tokens)?;
-    let (start, start_height, rest) = start_of(alloc, room, rest)?;
-    let (condition, condition_height, rest) = optional(alloc, room, Punctuator::Semicolon, rest)?;
-    let (step, step_height, rest) = optional(alloc, room, Punctuator::CloseParenthesis, rest)?;
-    let (body, body_height, rest) = boxed(alloc, room, rest)?;
-    let height = start_height.max(condition_height.max(step_height.max(body_height)));
+    let (start, height, rest) = start_of(alloc, room, rest)?;
+    let (turn, high, rest) = match turn_of(alloc, room, rest) {
+        Ok(read) => read,
+        Err(halt) => return Err(halt),
+    };
+    let Turn {
+        condition,
+        step,
+        body,
+    } = turn;
     let node = nodes::for_loop(at, start, condition, step, body);
-    Ok((node, height + 1, rest))
+    Ok((node, height.max(high) + 1, rest))
 }
 
 /// A statement that begins with a word, or an expression. The tokens are the first and the rest.

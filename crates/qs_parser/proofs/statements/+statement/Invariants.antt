@@ -30,6 +30,12 @@ decreases-after_while l = 64 * l.room + 2
 abbrev pub decreases-after_do : goal.decreases-after_do
 decreases-after_do l = 64 * l.room + 2
 
+abbrev pub decreases-step_and_body : goal.decreases-step_and_body
+decreases-step_and_body l = 64 * l.room + 2
+
+abbrev pub decreases-turn_of : goal.decreases-turn_of
+decreases-turn_of l = 64 * l.room + 3
+
 abbrev pub decreases-after_for : goal.decreases-after_for
 decreases-after_for l = 64 * l.room + 4
 

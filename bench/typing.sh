@@ -11,10 +11,10 @@ each() { awk -v count="$1" -v piece="$2" 'BEGIN { for (i = 0; i < count; i++) { 
 
 in_main() { printf 'int main(void){' && "$@" && printf 'return 0;}'; }
 
-uses() { each $(($1 / 5)) 'int a%;' && each $(($1 / 5)) 'a%=%;'; }
+uses() { each $(($1 / 5)) 'int a%;' && each $(($1 / 5 - 10)) 'a%=%;'; }
 addresses() { each $(($1 / 2)) 'int a%;' && each $(($1 / 8)) '&a%;'; }
-members() { each $(($1 / 6)) 'x.m%=1;'; }
-calls() { each $(($1 / 2 - 100)) 'f0();'; }
+members() { each $(($1 / 6 - 10)) 'x.m%=1;'; }
+calls() { each $(($1 / 2 - 600)) 'f0();'; }
 
 # blocks within blocks to the limit of height, each with a variable that hides the outer ones
 blocks() {
@@ -41,7 +41,7 @@ unit_of() {
     structs) printf 'struct s0{int m;};' && each $(($2 / 3 - 100)) 'struct t%{struct s0 m;struct s0 k;};' && in_main true ;;
     chain) printf 'struct s0{int m;};' && chain $(($2 / 3 - 100)) && in_main true ;;
     members) printf 'struct s{' && each $(($2 / 6)) 'int m%;' && printf '};struct s x;' && in_main members "$2" ;;
-    functions) each $(($2 < 4000 ? $2 / 4 : 1000)) 'void f%(void){}' && in_main calls "$2" ;;
+    functions) each 500 'void f%(void){}' && in_main calls "$2" ;;
     program) each $(($2 / 62)) 'int find%(int*p,int n,int k){int lo;int hi;int m;lo=0;hi=n;while(lo<hi){m=lo+(hi-lo)/2;if(p[m]==k)return m;if(p[m]<k)lo=m+1;else hi=m;}return -1;}' && in_main true ;;
   esac
 }

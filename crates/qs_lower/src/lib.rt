@@ -1,0 +1,2 @@
+//! From core to linear code.
+#![tactic(auto)]

@@ -1,1 +1,2 @@
+pub mod ThreadLaws
 mod LowerExamples

@@ -26,7 +26,8 @@ use Rattle.qs_tac.specs.declared.operands.Operand.TheVariants.{Temporary, Intege
 use Rattle.qs_tac.specs.declared.operands.Index.{Index}
 use Rattle.qs_tac.specs.declared.operands.Address.{Address}
 use Rattle.qs_tac.specs.declared.operands.Condition.TheVariants.{NotZero, Zero, Compare, ComparePointers}
-use Rattle.qs_lower.specs.Units.{function_code, lower_function, lower_unit}
+use Rattle.qs_lower.specs.Threads.{threaded}
+use Rattle.qs_lower.specs.Units.{function_code, straight_function, lower_unit}
 
 -- ---- a function with the variables `int x, y; char c; struct s *p;`, one temporary and a block of 8 bytes: its
 -- variables are the temporaries 0 to 3, its temporary is 4, and 5 is the first that is free
@@ -45,7 +46,7 @@ function_of body = record {
 }
 
 abbrev code : List CoreStmtTree → List InstructionTree
-code body = function_code (function_of body)
+code body = threaded (function_code (function_of body))
 
 abbrev int : ℕ → CoreExprTree
 int n = core.literal scalars.Int n
@@ -291,7 +292,7 @@ a_call : code (core.call (Some 0) (Function (record { 0 = 1 })) (x ∷ core.bina
     ∷ return (Some (Temporary 4)) ∷ []
 a_call = refl
 
-the_temporaries_of_two_parts : (lower_function (function_of (sets 0 (core.binary add (core.binary add x y) (core.binary add y (int 2))) ∷ []))).temporaries ≡ 7
+the_temporaries_of_two_parts : (straight_function (function_of (sets 0 (core.binary add (core.binary add x y) (core.binary add y (int 2))) ∷ []))).temporaries ≡ 7
 the_temporaries_of_two_parts = refl
 
 -- ---- runs: those of core and of its linear code

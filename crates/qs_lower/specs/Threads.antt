@@ -2,7 +2,7 @@
 use Rattle.std.specs.Prelude.{ℕ, zero, suc, List, length, map, Option, Some, None, unwrap_or}
 use Rattle.std.specs.List.{slice_get}
 use Rattle.qs_tac.specs.Trees.{InstructionTree, move, unary, binary, convert, address_of, load, store}
-use Rattle.qs_tac.specs.Trees.{copy, fill, call, jump, branch, return}
+use Rattle.qs_tac.specs.Trees.{copy, fill, call, jump, branch, return, TacFunctionTree, TacUnitTree}
 
 -- the index to which an instruction jumps in any case
 abbrev pub leads_to : Option InstructionTree → Option ℕ
@@ -47,3 +47,9 @@ retargeted f (return o) = return o
 
 abbrev pub threaded : List InstructionTree → List InstructionTree
 threaded code = map (retargeted (follow code (length code))) code
+
+abbrev pub threaded_function : TacFunctionTree → TacFunctionTree
+threaded_function f = record f { code = threaded f.code }
+
+abbrev pub threaded_unit : TacUnitTree → TacUnitTree
+threaded_unit u = record u { functions = map threaded_function u.functions }

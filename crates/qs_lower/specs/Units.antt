@@ -6,7 +6,7 @@ use Rattle.qs_tac.specs.Trees.{InstructionTree, return, TacFunctionTree, TacUnit
 use Rattle.qs_tac.specs.declared.units.TacData.{TacData}
 use Rattle.qs_lower.specs.Exits.{falls, goes}
 use Rattle.qs_lower.specs.Statements.{next_falls, StmtCode, stmts_code}
-use Rattle.qs_lower.specs.Threads.{threaded}
+use Rattle.qs_lower.specs.Threads.{threaded_unit}
 
 -- the first temporary that is neither a variable nor a temporary of core
 abbrev pub free_from : CoreFunctionTree → ℕ
@@ -21,17 +21,15 @@ end_code true = []
 end_code false = return None ∷ []
 
 -- no break and no continue stands outside every loop
-abbrev pub straight_code : CoreFunctionTree → List InstructionTree
-straight_code f =
+abbrev pub function_code : CoreFunctionTree → List InstructionTree
+function_code f =
     let b = body_code f in
     let end = b.part.size next_falls in
     b.part.code (record { next = falls end; on_break = goes (end + 1); on_continue = goes (end + 1) }) 0 ++ end_code b.ends
 
-abbrev pub function_code : CoreFunctionTree → List InstructionTree
-function_code f = threaded (straight_code f)
-
-abbrev pub lower_function : CoreFunctionTree → TacFunctionTree
-lower_function f = record {
+-- before its jumps are threaded
+abbrev pub straight_function : CoreFunctionTree → TacFunctionTree
+straight_function f = record {
   parameters = map (λ p. p.place) f.parameters;
   temporaries = free_from f + (body_code f).used;
   blocks = f.blocks;
@@ -41,5 +39,9 @@ lower_function f = record {
 abbrev pub lower_data : DataBlockTree → TacData
 lower_data d = record { size = (data_block d).size; is_writable = d.is_writable }
 
+abbrev pub straight_unit : CoreUnitTree → TacUnitTree
+straight_unit u =
+    record { functions = map straight_function u.functions; main = u.main; data_blocks = map lower_data u.data_blocks }
+
 abbrev pub lower_unit : CoreUnitTree → TacUnitTree
-lower_unit u = record { functions = map lower_function u.functions; main = u.main; data_blocks = map lower_data u.data_blocks }
+lower_unit u = threaded_unit (straight_unit u)

@@ -1,2 +1,6 @@
 pub mod ThreadLaws
+pub mod SizeLaws
+pub mod StmtSizeLaws
+pub mod Real
+pub mod OperandLaws
 mod LowerExamples

@@ -3,4 +3,5 @@ pub mod SizeLaws
 pub mod StmtSizeLaws
 pub mod Real
 pub mod OperandLaws
+pub mod ExprReal
 mod LowerExamples

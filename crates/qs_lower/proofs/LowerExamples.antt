@@ -78,13 +78,13 @@ sets n e = core.assign (targets.Variable n) e
 abbrev counts : CoreStmtTree
 counts = sets 0 (core.binary add x (int 1))
 
-abbrev at_pointer : (offset : ℕ) → Address
+abbrev at_pointer : (offset : Option ℕ) → Address
 at_pointer offset = record { base = Temporary 3; offset = offset; index = None }
 
-abbrev at_local : (offset : ℕ) → Address
+abbrev at_local : (offset : Option ℕ) → Address
 at_local offset = record { base = Local 0; offset = offset; index = None }
 
-abbrev element : (base count : Operand) → (before size offset : ℕ) → Address
+abbrev element : (base count : Operand) → (before : Option ℕ) → (size : ℕ) → (offset : Option ℕ) → Address
 element base count before size offset = record {
   base = base;
   offset = before;
@@ -129,37 +129,37 @@ a_byte = refl
 
 -- ---- addresses: offsets are folded
 
-a_member_of_a_member : code (sets 0 (core.load scalars.Int (core.member 4 (core.member 8 p))) ∷ []) ≡ load scalars.Int 0 (at_pointer 12) ∷ return None ∷ []
+a_member_of_a_member : code (sets 0 (core.load scalars.Int (core.member 4 (core.member 8 p))) ∷ []) ≡ load scalars.Int 0 (at_pointer (Some 12)) ∷ return None ∷ []
 a_member_of_a_member = refl
 
 an_element :
     code (core.store scalars.Int (core.binary (binaries.Move Up Signed 4) local (int 1)) x ∷ [])
-    ≡ store scalars.Int (at_local 4) (Temporary 0) ∷ return None ∷ []
+    ≡ store scalars.Int (at_local (Some 4)) (Temporary 0) ∷ return None ∷ []
 an_element = refl
 
 a_member_of_an_element :
     code (sets 0 (core.load scalars.Int (core.member 4 (core.binary (binaries.Move Up Signed 8) p y))) ∷ [])
-    ≡ load scalars.Int 0 (element (Temporary 3) (Temporary 1) 0 8 4) ∷ return None ∷ []
+    ≡ load scalars.Int 0 (element (Temporary 3) (Temporary 1) None 8 (Some 4)) ∷ return None ∷ []
 a_member_of_an_element = refl
 
 an_element_of_a_member :
     code (sets 0 (core.load scalars.Int (core.binary (binaries.Move Up Signed 4) (core.member 8 p) y)) ∷ [])
-    ≡ load scalars.Int 0 (element (Temporary 3) (Temporary 1) 8 4 0) ∷ return None ∷ []
+    ≡ load scalars.Int 0 (element (Temporary 3) (Temporary 1) (Some 8) 4 None) ∷ return None ∷ []
 an_element_of_a_member = refl
 
 -- an address has one index: the pointer to the row is computed
 an_element_of_a_row :
     code (sets 0 (core.load scalars.Int (core.binary (binaries.Move Up Signed 4) (core.binary (binaries.Move Up Signed 40) p x) y)) ∷ [])
-    ≡ address_of 5 (element (Temporary 3) (Temporary 0) 0 40 0) ∷ load scalars.Int 0 (element (Temporary 5) (Temporary 1) 0 4 0) ∷ return None ∷ []
+    ≡ address_of 5 (element (Temporary 3) (Temporary 0) None 40 None) ∷ load scalars.Int 0 (element (Temporary 5) (Temporary 1) None 4 None) ∷ return None ∷ []
 an_element_of_a_row = refl
 
-a_stored_byte : code (core.store scalars.Char p (core.conversion scalars.Char x) ∷ []) ≡ store scalars.Char (at_pointer 0) (Byte 0) ∷ return None ∷ []
+a_stored_byte : code (core.store scalars.Char p (core.conversion scalars.Char x) ∷ []) ≡ store scalars.Char (at_pointer None) (Byte 0) ∷ return None ∷ []
 a_stored_byte = refl
 
 -- p[-1] is no constant offset, since it may leave the object where a sum of offsets doesn't
 an_element_before :
     code (sets 0 (core.load scalars.Int (core.binary (binaries.Move Up Signed 4) p (core.unary (unaries.Minus Signed) (int 1)))) ∷ [])
-    ≡ load scalars.Int 0 (element (Temporary 3) (Constant 4294967295) 0 4 0) ∷ return None ∷ []
+    ≡ load scalars.Int 0 (element (Temporary 3) (Constant 4294967295) None 4 None) ∷ return None ∷ []
 an_element_before = refl
 
 -- ---- what is known isn't computed

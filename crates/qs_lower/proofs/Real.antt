@@ -1,13 +1,13 @@
--- What the code of a part has to do: from its first place it makes the run that the part means, whatever follows.
--- These are the claims of the induction over trees; each is one family of lemmas, a lemma a constructor.
-use Rattle.std.proofs.Common.{◌≡◌, ℕ, ◌+◌, ◌-◌, ◌<◌, ◌≤◌, Bool, true, false, List, [], ◌∷◌, length, Option, Some, None}
+-- What the code of a part has to do: from its first instruction it makes the run that the part means, whatever
+-- follows. These are the claims of the induction over trees.
+use Rattle.std.proofs.Common.{◌≡◌, ℕ, suc, ◌+◌, ◌-◌, ◌<◌, ◌≤◌, Bool, true, false, if◌then◌else◌, List, [], ◌∷◌, ◌++◌, length, Option, Some, None, refl, sym, ap, ◌∙◌, subst, arith}
 use Rattle.std.specs.List.{slice_get}
 use Rattle.qs_memory.specs.Partial.{◌>>=◌}
 use Rattle.qs_memory.specs.Values.{Pointer, Value, as_pointer}
 use Rattle.qs_memory.specs.Memory.{Memory}
-use Rattle.qs_memory.specs.Pointers.{member_of, truth}
-use Rattle.qs_events.specs.Runs.{given}
-use Rattle.qs_calls.specs.World.{World, RootRun, Return, Environment}
+use Rattle.qs_memory.specs.Pointers.{truth}
+use Rattle.qs_events.specs.Runs.{undefined, given}
+use Rattle.qs_calls.specs.World.{World, with_memory, RootRun, Return, Environment, with_value}
 use Rattle.qs_calls.specs.Calls.{CallsOf}
 use Rattle.qs_core.specs.Trees.{CoreExprTree, CoreStmtTree, CoreFunctionTree}
 use Rattle.qs_core.specs.Expressions.{Locals, value}
@@ -15,10 +15,10 @@ use Rattle.qs_core.specs.Statements.{Continuation, Continuations, Context, runs}
 use Rattle.qs_tac.specs.Trees.{InstructionTree, TacUnitTree}
 use Rattle.qs_tac.specs.Holders.{temporaries}
 use Rattle.qs_tac.specs.Values.{Activation, operand, pointer}
-use Rattle.qs_tac.specs.Steps.{Waiting, enters, resume, steps}
+use Rattle.qs_tac.specs.Steps.{Waiting, Next, gives, enters, resume, step, instruction_at, steps}
 use Rattle.qs_tac.specs.declared.operands.Operand.{Operand}
 use Rattle.qs_lower.specs.Exits.{Exit, falls, goes, is_fall}
-use Rattle.qs_lower.specs.Expressions.{ExprCode, address_at}
+use Rattle.qs_lower.specs.Expressions.{ExprCode, size_of, code_of, operand_of, own, address_at}
 use Rattle.qs_lower.specs.Statements.{Exits, falls_of, Part, StmtCode}
 
 abbrev pub Act : Type 0
@@ -27,10 +27,40 @@ Act = Activation Environment
 abbrev pub Stack : Type 0
 Stack = List (Waiting Environment)
 
--- the instructions stand in the code at this place
+-- the instructions stand in the code from this index on
 abbrev pub HasAt : (code : List InstructionTree) → (at : ℕ) → List InstructionTree → Type 0
 HasAt code at [] = Unit {0}
 HasAt code at (i ∷ is) = (slice_get code at ≡ Some i) × HasAt code (at + 1) is
+
+pub has_left : (code : List InstructionTree) (at : ℕ) (xs ys : List InstructionTree) → HasAt code at (xs ++ ys) → HasAt code at xs
+has_left code at [] ys h = tt
+has_left code at (i ∷ xs) ys h = (h.0, has_left code (at + 1) xs ys h.1)
+
+pub has_right :
+    (code : List InstructionTree) (at n : ℕ) (xs ys : List InstructionTree) → length xs ≡ n → HasAt code at (xs ++ ys)
+    → HasAt code (at + n) ys
+has_right code at n [] ys e h = let same : at ≡ at + n = omega (arith, e) in subst (λ (k : ℕ). HasAt code k ys) same h
+has_right code at n (i ∷ xs) ys e h =
+    let less : length xs ≡ n - 1 = omega (arith, e) in
+    let same : at + 1 + (n - 1) ≡ at + n = omega (arith, e) in
+    subst (λ (k : ℕ). HasAt code k ys) same (has_right code (at + 1) (n - 1) xs ys less h.1)
+
+-- temporaries below t are as they were
+abbrev pub Kept : (t : ℕ) → (before after : Environment) → Type 0
+Kept t before after = (x : ℕ) → x < t → after x ≡ before x
+
+-- and all but one
+abbrev pub KeptBut : (x t : ℕ) → (before after : Environment) → Type 0
+KeptBut x t before after = (y : ℕ) → y < t → (y ≡ x → ⊥) → after y ≡ before y
+
+pub kept_all : (t : ℕ) (e : Environment) → Kept t e e
+kept_all t e x h = refl
+
+pub kept_then : (t s : ℕ) (a b c : Environment) → t ≤ s → Kept t a b → Kept s b c → Kept t a c
+kept_then t s a b c le h k x lt = k x (omega (arith, le, lt)) ∙ h x lt
+
+pub kept_below : (t s : ℕ) (a b : Environment) → t ≤ s → Kept s a b → Kept t a b
+kept_below t s a b le h x lt = h x (omega (arith, le, lt))
 
 module _ (u : TacUnitTree) where
   -- from here the code makes the run, in d steps or more
@@ -38,6 +68,34 @@ module _ (u : TacUnitTree) where
     pub taken : ℕ
     pub enough : d ≤ taken
     pub gives : steps temporaries u taken a w stack ≡ o
+
+  pub real_less : (c d : ℕ) (a : Act) (w : World) (stack : Stack) (o : RootRun) → c ≤ d → Real d a w stack o → Real c a w stack o
+  real_less c d a w stack o le r = record { taken = r.taken; enough = omega (arith, le, r.enough); gives = r.gives }
+
+  -- a step leads there
+  abbrev pub Leads : (a : Act) → World → Stack → (b : Act) → World → Stack → Type 0
+  Leads a w stack b v rest = (j : ℕ) → steps temporaries u (suc j) a w stack ≡ steps temporaries u j b v rest
+
+  pub real_step :
+      (d : ℕ) (a b : Act) (w v : World) (stack rest : Stack) (o : RootRun) → Leads a w stack b v rest
+      → Real (d - 1) b v rest o → Real d a w stack o
+  real_step d a b w v stack rest o leads r =
+      record { taken = suc r.taken; enough = omega (arith, r.enough); gives = leads r.taken ∙ r.gives }
+
+  -- or the run is undefined
+  pub real_fault :
+      (d : ℕ) (a : Act) (w : World) (stack : Stack) → ((j : ℕ) → steps temporaries u (suc j) a w stack ≡ undefined)
+      → Real d a w stack undefined
+  real_fault d a w stack faults = record { taken = suc d; enough = omega arith; gives = faults d }
+
+  -- what the next step may do
+  pub real_given :
+      {A : Type 0} (d : ℕ) (a : Act) (w : World) (stack : Stack) (r : RootRun) (o : Option A) (b : A → Act) (v : A → World)
+      → ((j : ℕ) → steps temporaries u (suc j) a w stack ≡ given o (λ x. steps temporaries u j (b x) (v x) stack))
+      → (o ≡ None → r ≡ undefined) → ((x : A) → o ≡ Some x → Real (d - 1) (b x) (v x) stack r) → Real d a w stack r
+  real_given d a w stack r None b v leads none some =
+      subst (λ (s : RootRun). Real d a w stack s) (sym (none refl)) (real_fault d a w stack leads)
+  real_given d a w stack r (Some x) b v leads none some = real_step d a (b x) w (v x) stack stack r leads (some x refl)
 
   -- a return goes on with the run that k says
   abbrev pub Resumes : (d : ℕ) → Stack → Return → Type 0
@@ -52,22 +110,18 @@ module _ (u : TacUnitTree) where
       → (j : ℕ) × (d ≤ j) × (enters temporaries u (steps temporaries u j) stack f arguments k w ≡ c f arguments k w)
 
   module _ (f : CoreFunctionTree) (code : List InstructionTree) (function : ℕ) (stack : Stack) where
-    -- a moment of the function at this place
+    -- a moment of the function at this index
     abbrev pub moment : (at first : ℕ) → Environment → Act
     moment at first e = record { function = function; at = at; first_block = first; held = e }
+
+    -- the code is that of the function
+    abbrev pub IsCode : Type 0
+    IsCode = (at first : ℕ) (e : Environment) → instruction_at u (moment at first e) ≡ slice_get code at
 
     -- the variables are the first temporaries of linear code, and core's temporaries follow
     pub record Agree (l : Locals) (e : Environment) : Type 0 where
       pub variables : (x : ℕ) → x < length f.variables → e x ≡ l.variables x
       pub temporaries : (k : ℕ) → k < length f.temporaries → e (length f.variables + k) ≡ l.temporaries k
-
-    -- temporaries below t are as they were
-    abbrev pub Kept : (t : ℕ) → (before after : Environment) → Type 0
-    Kept t before after = (x : ℕ) → x < t → after x ≡ before x
-
-    -- and all but one
-    abbrev pub KeptBut : (x t : ℕ) → (before after : Environment) → Type 0
-    KeptBut x t before after = (y : ℕ) → y < t → (y ≡ x → ⊥) → after y ≡ before y
 
     abbrev pub free : ℕ
     free = length f.variables + length f.temporaries
@@ -77,50 +131,67 @@ module _ (u : TacUnitTree) where
     -- the value, into a temporary
     abbrev pub IntoReal : CoreExprTree → ExprCode → Type 0
     IntoReal s c =
-        (d x t at : ℕ) (l : Locals) (e : Environment) (w : World) (k : Value → RootRun) → free ≤ t → Agree l e
-        → HasAt code at (c.into x t at)
-        → ((v : Value) (after : Environment) → KeptBut x t e after → after x ≡ Some v → Real d (moment (at + c.size) l.first_block after) w stack (k v))
-        → Real d (moment at l.first_block e) w stack (given (value s l w.memory) k)
+        (d x t at : ℕ) (l : Locals) (e : Environment) (w : World) (r : RootRun) → free ≤ t → Agree l e
+        → HasAt code at (c.into x t at) → (value s l w.memory ≡ None → r ≡ undefined)
+        → ((v : Value) (after : Environment) → value s l w.memory ≡ Some v → KeptBut x t e after → after x ≡ Some v
+        → Real d (moment (at + c.size) l.first_block after) w stack r)
+        → Real d (moment at l.first_block e) w stack r
 
     -- the operand that it is, where it is one
     abbrev pub SimpleReal : CoreExprTree → ExprCode → Type 0
     SimpleReal s c =
-        (o : Operand) (at : ℕ) (l : Locals) (e : Environment) (m : Memory) → c.simple ≡ Some o → Agree l e
+        (o : Operand) → c.simple ≡ Some o → (at : ℕ) (l : Locals) (e : Environment) (m : Memory) → Agree l e
         → operand temporaries o (moment at l.first_block e) ≡ value s l m
 
-    -- an access is undefined wherever the pointer isn't into its block
-    abbrev pub Checks : {A : Type 0} → Memory → (Pointer → Option A) → Type 0
-    Checks m access = (q : Pointer) → (member_of m q 0 >>= access) ≡ access q
-
-    -- an access at the address
-    abbrev pub BaseReal : CoreExprTree → ExprCode → Type 1
-    BaseReal s c =
-        (A : Type 0) (d t at : ℕ) (l : Locals) (e : Environment) (w : World) (access : Pointer → Option A) (k : A → RootRun)
-        → free ≤ t → Agree l e → Checks w.memory access → HasAt code at (c.base_code t at)
+    -- the operand, with its code
+    abbrev pub OperandReal : CoreExprTree → ExprCode → Type 0
+    OperandReal s c =
+        (d t at : ℕ) (l : Locals) (e : Environment) (w : World) (r : RootRun) → free ≤ t → Agree l e
+        → HasAt code at (code_of c t at) → (value s l w.memory ≡ None → r ≡ undefined)
         → ((after : Environment) → Kept t e after
-        → Real d (moment (at + c.base_size) l.first_block after) w stack
-        (given (pointer temporaries (address_at c t) (moment (at + c.base_size) l.first_block after) w.memory >>= access) k))
-        → Real d (moment at l.first_block e) w stack (given (value s l w.memory >>= as_pointer >>= access) k)
+        → ((i : ℕ) (later : Environment) → Kept (t + own c) after later
+        → operand temporaries (operand_of c t) (moment i l.first_block later) ≡ value s l w.memory)
+        → Real d (moment (at + size_of c) l.first_block after) w stack r)
+        → Real d (moment at l.first_block e) w stack r
 
-    -- Where an exit goes, and where the code that falls ends, it goes on as k says. A jump is a step more.
+    -- the pointer that it is, as an address
+    abbrev pub BaseReal : CoreExprTree → ExprCode → Type 0
+    BaseReal s c =
+        (d t at : ℕ) (l : Locals) (e : Environment) (w : World) (r : RootRun) → free ≤ t → Agree l e
+        → HasAt code at (c.base_code t at) → ((value s l w.memory >>= as_pointer) ≡ None → r ≡ undefined)
+        → ((after : Environment) → Kept t e after
+        → ((i : ℕ) (later : Environment) → Kept (t + c.base_own) after later
+        → pointer temporaries (address_at c t) (moment i l.first_block later) w.memory ≡ (value s l w.memory >>= as_pointer))
+        → Real d (moment (at + c.base_size) l.first_block after) w stack r)
+        → Real d (moment at l.first_block e) w stack r
+
+    -- Where an exit goes, and where the code that falls ends, it goes on. A jump is a step more.
     abbrev pub Goes : (Next : (d at : ℕ) → Type 0) → (d : ℕ) → Exit → (end : ℕ) → Type 0
     Goes Next d (falls p) end = Next d end × Next (d - 1) p
     Goes Next d (goes p) end = Next (d - 1) p
 
+    abbrev pub by_answer : Bool → (met unmet : Exit) → Exit
+    by_answer true met unmet = met
+    by_answer false met unmet = unmet
+
     -- the test: each exit goes on with its answer
     abbrev pub TestReal : CoreExprTree → ExprCode → Type 0
     TestReal s c =
-        (d t at : ℕ) (met unmet : Exit) (l : Locals) (e : Environment) (w : World) (k : Bool → RootRun) → free ≤ t → Agree l e
-        → HasAt code at (c.test met unmet t at)
-        → ((after : Environment) → Kept t e after
-        → Goes (λ d p. Real d (moment p l.first_block after) w stack (k true)) d met (at + c.test_size (is_fall met) (is_fall unmet)))
-        → ((after : Environment) → Kept t e after
-        → Goes (λ d p. Real d (moment p l.first_block after) w stack (k false)) d unmet (at + c.test_size (is_fall met) (is_fall unmet)))
-        → Real d (moment at l.first_block e) w stack (given (value s l w.memory >>= truth w.memory) k)
+        (d t at : ℕ) (met unmet : Exit) (l : Locals) (e : Environment) (w : World) (r : RootRun) → free ≤ t → Agree l e
+        → HasAt code at (c.test met unmet t at) → ((value s l w.memory >>= truth w.memory) ≡ None → r ≡ undefined)
+        → ((b : Bool) (after : Environment) → (value s l w.memory >>= truth w.memory) ≡ Some b → Kept t e after
+        → Goes (λ d p. Real d (moment p l.first_block after) w stack r) d (by_answer b met unmet) (at + c.test_size (is_fall met) (is_fall unmet)))
+        → Real d (moment at l.first_block e) w stack r
+
+    -- the answer, where it is known
+    abbrev pub KnownReal : CoreExprTree → ExprCode → Type 0
+    KnownReal s c =
+        (b : Bool) → c.known ≡ Some b → (at : ℕ) (l : Locals) (e : Environment) (m : Memory) → Agree l e
+        → (value s l m >>= truth m) ≡ Some b
 
     -- ---- statements
 
-    -- a place from which the code goes on as k says
+    -- an index from which the code goes on as k says
     abbrev pub Ready : Continuation → (d at : ℕ) → Type 0
     Ready k d at = (l : Locals) (e : Environment) (w : World) → Agree l e → Real d (moment at l.first_block e) w stack (k l w)
 
@@ -130,7 +201,7 @@ module _ (u : TacUnitTree) where
       pub on_continue : Goes (Ready k.on_continue) d x.on_continue end
       pub on_return : Resumes d stack k.on_return
 
-    -- Both the place where the code stands and its entry go on as the statement says, where calls do what c says of
+    -- Both the index where the code stands and its entry go on as the statement says, where calls do what c says of
     -- them, and loops make no more turns than there are steps.
     pub record StmtReal (c : Context) (s : CoreStmtTree) (p : Part) : Type 0 where
       pub stands :

@@ -18,7 +18,7 @@ use Rattle.qs_tac.specs.declared.operands.Condition.TheVariants as conditions
 use Rattle.qs_lower.specs.Exits.{Exit, falls, goes, is_fall, settled, exit_size, exit_code, branch_size, branch_code}
 use Rattle.qs_tac.specs.Fits.{is_word}
 use Rattle.qs_lower.specs.Operands.{converted, truth_of, truth_operand, unary_of, folded, gives_integer, gives_truth, is_idle, constant_step}
-use Rattle.qs_lower.specs.Expressions.{IndexCode, ExprCode, simple_size, size_of, simple_code, code_of, simple_operand, operand_of, own, used_by, based, known_size, known_code, tested, no_code, by_operand, by_value, number_of, by_test, of_load, behind_parts, behind, unindexed, indexed_by, with_address, by_address, of_member, of_element, of_unary_value, with_test, of_truth, of_plus, of_compound, simple_or, of_unary, of_conversion, pair_size, pair_code, of_binary_value, with_condition, of_operation, stepped_or, of_binary, of_both_tests, of_either_test, of_choice, of_and, of_or, of_conditional, lowered, all_size, all_code}
+use Rattle.qs_lower.specs.Expressions.{IndexCode, ExprCode, simple_size, size_of, simple_code, code_of, simple_operand, operand_of, own, used_by, based, known_size, known_code, tested, no_code, by_operand, by_value, number_of, by_test, of_load, further, behind_parts, behind, unindexed, indexed_by, with_address, by_address, of_member, of_element, of_unary_value, with_test, of_truth, of_plus, of_compound, simple_or, of_unary, of_conversion, pair_size, pair_code, of_binary_value, with_condition, of_operation, stepped_or, of_binary, of_both_tests, of_either_test, of_choice, of_and, of_or, of_conditional, lowered, all_size, all_code}
 
 pub one_more : (a : List InstructionTree) (i : InstructionTree) (n : ℕ) → length a ≡ n → length (a ++ i ∷ []) ≡ n + 1
 one_more a i n h = length-append a (i ∷ []) ∙ ap (λ n. n + 1) h
@@ -98,12 +98,12 @@ if_sized false c d h k = k
 behind_parts_sized : (o : Option IndexCode) (p : ExprCode) (bytes : ℕ) → Sized p → Sized (behind_parts o p bytes)
 behind_parts_sized None p bytes h =
     let b = based_sized p h in
-    if_sized (is_word (p.offset + bytes)) _ _
+    if_sized (is_word (further p.offset bytes)) _ _
     (record { into = h.into; base = h.base; test = h.test })
     (record { into = b.into; base = b.base; test = b.test })
 behind_parts_sized (Some i) p bytes h =
     let b = based_sized p h in
-    if_sized (is_word (i.offset + bytes)) _ _
+    if_sized (is_word (further i.offset bytes)) _ _
     (record { into = h.into; base = h.base; test = h.test })
     (record { into = b.into; base = b.base; test = b.test })
 

@@ -1,6 +1,6 @@
 -- The code of expressions. Each expression has code in three forms: for its value, for the address that it is,
 -- and for the test of a condition that it is.
-use Rattle.std.specs.Prelude.{ℕ, ◌+◌, ◌==◌, not, max, Bool, true, false, if◌then◌else◌, List, [], ◌∷◌, ◌++◌, map, Option, Some, None}
+use Rattle.std.specs.Prelude.{ℕ, ◌+◌, ◌==◌, not, max, Bool, true, false, if◌then◌else◌, List, [], ◌∷◌, ◌++◌, map, Option, Some, None, unwrap_or}
 use Rattle.qs_memory.specs.Partial.{◌>>=◌}
 use Rattle.qs_memory.specs.declared.scalar.Scalar.{Scalar}
 use Rattle.qs_memory.specs.declared.operation.UnaryOperation.{UnaryOperation}
@@ -27,7 +27,7 @@ pub record IndexCode : Type 0 where
   pub count : (t : ℕ) → Operand
   pub signedness : Signedness
   pub element : ℕ
-  pub offset : ℕ
+  pub offset : Option ℕ
 
 -- t is the first temporary that is free, and `at` the index of the code's first instruction
 pub record ExprCode : Type 0 where
@@ -42,7 +42,7 @@ pub record ExprCode : Type 0 where
   pub base_size : ℕ
   pub base_code : (t at : ℕ) → List InstructionTree
   pub base : (t : ℕ) → Operand
-  pub offset : ℕ
+  pub offset : Option ℕ
   pub index : Option IndexCode
   pub base_own : ℕ
   pub base_used : ℕ
@@ -84,7 +84,7 @@ used_by e = simple_size e.simple (max 1 e.used)
 
 -- as an address without an offset
 abbrev pub based : ExprCode → ExprCode
-based e = record e { base_size = size_of e; base_code = code_of e; base = operand_of e; offset = 0; index = None; base_own = own e; base_used = used_by e }
+based e = record e { base_size = size_of e; base_code = code_of e; base = operand_of e; offset = None; index = None; base_own = own e; base_used = used_by e }
 
 -- as a condition, by its value: a constant is known
 abbrev pub known_size : Option Bool → ℕ → (met unmet : Bool) → ℕ
@@ -118,7 +118,7 @@ no_code = record {
   base_size = 0;
   base_code = λ t at. [];
   base = Temporary;
-  offset = 0;
+  offset = None;
   index = None;
   base_own = 0;
   base_used = 0;
@@ -160,12 +160,16 @@ abbrev pub of_load : Scalar → ExprCode → ExprCode
 of_load s p = by_value (p.base_size + 1) p.base_used (λ x t at. p.base_code t at ++ load s x (address_at p t) ∷ [])
 
 -- the address so many bytes behind another one; where the sum of the offsets is no word, the pointer is computed first
+abbrev pub further : Option ℕ → (bytes : ℕ) → ℕ
+further offset bytes = unwrap_or offset 0 + bytes
+
 abbrev pub behind_parts : Option IndexCode → ExprCode → (bytes : ℕ) → ExprCode
 behind_parts None p bytes =
-    if is_word (p.offset + bytes) then record p { offset = p.offset + bytes } else record (based p) { offset = bytes }
+    let sum = further p.offset bytes in
+    if is_word sum then record p { offset = Some sum } else record (based p) { offset = Some bytes }
 behind_parts (Some i) p bytes =
-    if is_word (i.offset + bytes) then record p { index = Some (record i { offset = i.offset + bytes }) }
-    else record (based p) { offset = bytes }
+    let sum = further i.offset bytes in
+    if is_word sum then record p { index = Some (record i { offset = Some sum }) } else record (based p) { offset = Some bytes }
 
 abbrev pub behind : ExprCode → (bytes : ℕ) → ExprCode
 behind p bytes = behind_parts p.index p bytes
@@ -179,7 +183,7 @@ abbrev pub indexed_by : Signedness → (element : ℕ) → ExprCode → ExprCode
 indexed_by s element p b = record p {
   base_size = p.base_size + size_of b;
   base_code = λ t at. p.base_code t at ++ code_of b (t + p.base_own) (at + p.base_size);
-  index = Some (record { count = λ t. operand_of b (t + p.base_own); signedness = s; element = element; offset = 0 });
+  index = Some (record { count = λ t. operand_of b (t + p.base_own); signedness = s; element = element; offset = None });
   base_own = p.base_own + own b;
   base_used = max p.base_used (p.base_own + used_by b);
 }

@@ -9,7 +9,7 @@ use Rattle.qs_memory.specs.Memory as memory
 use Rattle.qs_memory.specs.Memory.{Memory, store, make, release}
 use Rattle.qs_memory.specs.Operations.{apply_unary, apply_binary, on_integers, on_pointers}
 use Rattle.qs_memory.specs.Integers.{compares}
-use Rattle.qs_memory.specs.Pointers.{member_of, truth, compares_pointers}
+use Rattle.qs_memory.specs.Pointers.{truth, compares_pointers}
 use Rattle.qs_memory.specs.declared.scalar.Scalar.TheVariants as scalars
 use Rattle.qs_memory.specs.declared.operation.Direction.TheVariants.{Up}
 use Rattle.qs_memory.specs.declared.operation.BinaryOperation.TheVariants as binaries
@@ -33,7 +33,7 @@ use Rattle.qs_tac.specs.declared.places.Place.{Place}
 use Rattle.qs_tac.specs.declared.places.Place.TheVariants.{Slot}
 use Rattle.qs_tac.specs.Holders.{Holder, temporaries, File, with_place, placed_values, kept, places}
 use Rattle.qs_tac.specs.Places.{PlacesTree, slots_from, all_slots, Accepted, place_of, no_places, place_in}
-use Rattle.qs_tac.specs.Values.{Activation, operand, operands, indexed, pointer, holds}
+use Rattle.qs_tac.specs.Values.{Activation, operand, operands, member_at, indexed, pointer, holds}
 use Rattle.qs_tac.specs.Steps.{Waiting, Next, gives, leaves_memory, take_result, resume, begins, frame_of, enters, ends, waits, step, instruction_at, steps}
 use Rattle.qs_tac.specs.Units.{run, tac_run, plain, plain_of, placed_run}
 use Rattle.qs_tac.specs.Laws.{AreAccepted, PlacesKeepRuns}
@@ -220,13 +220,13 @@ module _ (u : TacUnitTree) (ps : List PlacesTree) (accepted : AreAccepted u ps) 
   indexed_same b (Some index) q m =
       ap
       (λ o. o >>= λ n. apply_binary (binaries.Move Up index.signedness index.element) m (address q) n >>= λ v.
-      as_pointer v >>= λ r. member_of m r index.offset)
+      as_pointer v >>= λ r. member_at m index.offset r)
       (operand_same b index.count)
 
   pointer_same : (b : Both) (p : Address) (m : Memory) → pointer placed p (in_slots b) m ≡ pointer temporaries p (in_temporaries b) m
   pointer_same b p m =
       both_bind _ _ _ _ (operand_same b p.base)
-      (λ v. bind_same (as_pointer v) _ _ (λ q. bind_same (member_of m q p.offset) _ _ (λ r. indexed_same b p.index r m)))
+      (λ v. bind_same (as_pointer v) _ _ (λ q. bind_same (member_at m p.offset q) _ _ (λ r. indexed_same b p.index r m)))
 
   holds_same : (b : Both) (c : Condition) (m : Memory) → holds placed c (in_slots b) m ≡ holds temporaries c (in_temporaries b) m
   holds_same b (NotZero o) m = ap (λ r. r >>= λ v. truth m v) (operand_same b o)

@@ -68,10 +68,10 @@ abbrev events_with : (input : List ℕ) → List InstructionTree → List Event
 events_with input code = events_of (tac_run (unit_of code) 0 (integer 7 ∷ []) (with_input input) 16)
 
 abbrev pub at_local : (offset : ℕ) → Address
-at_local offset = record { base = Local 0; offset = offset; index = None }
+at_local offset = record { base = Local 0; offset = Some offset; index = None }
 
 abbrev pub behind : (t offset : ℕ) → Address
-behind t offset = record { base = Temporary t; offset = offset; index = None }
+behind t offset = record { base = Temporary t; offset = Some offset; index = None }
 
 abbrev pub returns : Operand → InstructionTree
 returns o = return (Some o)
@@ -142,7 +142,7 @@ a_member = refl
 a_member_past_the_end : result_of (address_of 1 (at_local 9) ∷ returns (Constant 0) ∷ []) ≡ is_undefined
 a_member_past_the_end = refl
 
-a_member_of_null : result_of (address_of 1 (record { base = Null; offset = 0; index = None }) ∷ returns (Constant 0) ∷ []) ≡ is_undefined
+a_member_of_null : result_of (address_of 1 (record { base = Null; offset = Some 0; index = None }) ∷ returns (Constant 0) ∷ []) ≡ is_undefined
 a_member_of_null = refl
 
 a_pointer_is_moved :
@@ -153,7 +153,7 @@ a_pointer_is_moved :
     ≡ has_ended (Some 9)
 a_pointer_is_moved = refl
 
-a_load_of_data : result_of (load scalars.Char 1 (record { base = Data 0; offset = 0; index = None }) ∷ returns (Temporary 1) ∷ []) ≡ has_ended (Some 65)
+a_load_of_data : result_of (load scalars.Char 1 (record { base = Data 0; offset = Some 0; index = None }) ∷ returns (Temporary 1) ∷ []) ≡ has_ended (Some 65)
 a_load_of_data = refl
 
 a_load_of_what_is_unset : result_of (load scalars.Int 1 (at_local 0) ∷ returns (Constant 0) ∷ []) ≡ is_undefined
@@ -165,7 +165,7 @@ a_store = refl
 a_store_past_the_end : result_of (store scalars.Int (at_local 8) (Temporary 0) ∷ returns (Constant 0) ∷ []) ≡ is_undefined
 a_store_past_the_end = refl
 
-a_store_into_a_text : result_of (store scalars.Char (record { base = Data 0; offset = 0; index = None }) (Constant 66) ∷ returns (Constant 0) ∷ []) ≡ is_undefined
+a_store_into_a_text : result_of (store scalars.Char (record { base = Data 0; offset = Some 0; index = None }) (Constant 66) ∷ returns (Constant 0) ∷ []) ≡ is_undefined
 a_store_into_a_text = refl
 
 a_copy :

@@ -30,8 +30,8 @@ use Rattle.qs_tac.proofs.StepExamples.{function_of, unit_of, result_of, at_local
 abbrev element : (base count : Operand) → (size offset : ℕ) → Address
 element base count size offset = record {
   base = base;
-  offset = 0;
-  index = Some (record { count = count; signedness = Signed; element = size; offset = offset });
+  offset = None;
+  index = Some (record { count = count; signedness = Signed; element = size; offset = Some offset });
 }
 
 -- ---- operands and addresses
@@ -61,8 +61,8 @@ a_member_of_an_element = refl
 abbrev before_the_end : Address
 before_the_end = record {
   base = Local 0;
-  offset = 8;
-  index = Some (record { count = Constant 4294967295; signedness = Signed; element = 4; offset = 0 });
+  offset = Some 8;
+  index = Some (record { count = Constant 4294967295; signedness = Signed; element = 4; offset = None });
 }
 
 an_element_before :
@@ -72,6 +72,10 @@ an_element_before = refl
 
 an_element_past_the_end : result_of (load scalars.Char 1 (element (Local 0) (Constant 9) 1 0) ∷ returns (Constant 0) ∷ []) ≡ is_undefined
 an_element_past_the_end = refl
+
+-- a pointer alone isn't into an object
+the_address_of_null : result_of (address_of 1 (record { base = Null; offset = None; index = None }) ∷ branch (Zero (Temporary 1)) 2 ∷ returns (Constant 3) ∷ []) ≡ has_ended (Some 3)
+the_address_of_null = refl
 
 an_element_of_null : result_of (load scalars.Char 1 (element Null (Constant 1) 1 0) ∷ returns (Constant 0) ∷ []) ≡ is_undefined
 an_element_of_null = refl
@@ -162,7 +166,7 @@ words_of_instructions :
     ∷ binary (binaries.Difference 4) 0 (Temporary 1) (Local 0)
     ∷ convert scalars.Char 0 (Data 0)
     ∷ address_of 0 (at_local 4096)
-    ∷ load scalars.Int 0 (record { base = Data 0; offset = 4096; index = None })
+    ∷ load scalars.Int 0 (record { base = Data 0; offset = Some 4096; index = None })
     ∷ load scalars.Int 0 (element (Temporary 1) (Temporary 2) 4 2047)
     ∷ load scalars.Int 0 (behind 1 2048)
     ∷ store scalars.Char (behind 1 0) (Byte 2)

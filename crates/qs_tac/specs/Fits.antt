@@ -56,12 +56,16 @@ abbrev pub option_fits : TacUnitTree → TacFunctionTree → Option Operand → 
 option_fits u f None = true
 option_fits u f (Some o) = operand_fits u f o
 
+abbrev pub offset_fits : Option ℕ → Bool
+offset_fits None = true
+offset_fits (Some n) = is_word n
+
 abbrev pub index_fits : TacUnitTree → TacFunctionTree → Option Index → Bool
 index_fits u f None = true
-index_fits u f (Some index) = operand_fits u f index.count && is_element index.element && is_word index.offset
+index_fits u f (Some index) = operand_fits u f index.count && is_element index.element && offset_fits index.offset
 
 abbrev pub address_fits : TacUnitTree → TacFunctionTree → Address → Bool
-address_fits u f p = operand_fits u f p.base && index_fits u f p.index && is_word p.offset
+address_fits u f p = operand_fits u f p.base && index_fits u f p.index && offset_fits p.offset
 
 abbrev pub condition_fits : TacUnitTree → TacFunctionTree → Condition → Bool
 condition_fits u f (NotZero o) = operand_fits u f o

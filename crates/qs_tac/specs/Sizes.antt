@@ -1,6 +1,6 @@
 -- How many values a function has, and a bound on the words of its machine code: what each instruction is
 -- made of where every slot is out of the reach of an immediate. Registers that a function saves are in reach.
-use Rattle.std.specs.Prelude.{ℕ, ◌+◌, ◌*◌, nat_lt, if◌then◌else◌, length, sum_by, Option, Some, None}
+use Rattle.std.specs.Prelude.{ℕ, ◌+◌, ◌*◌, nat_lt, if◌then◌else◌, length, sum_by, Option, Some, None, unwrap_or}
 use Rattle.qs_memory.specs.declared.operation.BinaryOperation.{BinaryOperation}
 use Rattle.qs_memory.specs.declared.operation.BinaryOperation.TheVariants as binaries
 use Rattle.qs_calls.specs.declared.callee.Callee.{Callee}
@@ -55,11 +55,11 @@ index_words (Some index) = operand_words index.count + 4
 
 abbrev pub index_offset : Option Index → ℕ
 index_offset None = 0
-index_offset (Some index) = index.offset
+index_offset (Some index) = unwrap_or index.offset 0
 
 -- both offsets are one number
 abbrev pub address_words : Address → ℕ
-address_words p = base_words p.base + index_words p.index + offset_words p.base (p.offset + index_offset p.index)
+address_words p = base_words p.base + index_words p.index + offset_words p.base (unwrap_or p.offset 0 + index_offset p.index)
 
 -- a comparison may take another word to turn its answer round; LUI and ADDI give the size of an element,
 -- with MUL or DIV and ADD or SUB

@@ -40,18 +40,23 @@ abbrev pub operands : {S : Type 0} → Holder S → List Operand → Activation 
 operands h [] a = Some []
 operands h (o ∷ others) a = operand h o a >>= λ v. operands h others a >>= λ vs. Some (v ∷ vs)
 
+-- 6.5.2.3p3, p4: a pointer to the member at the offset, where one is taken
+abbrev pub member_at : Memory → (offset : Option ℕ) → Pointer → Option Pointer
+member_at m None q = Some q
+member_at m (Some offset) q = member_of m q offset
+
 -- 6.5.6p8, 6.5.2.3: a pointer so many elements behind another, and there to the member at the offset
 abbrev pub indexed : {S : Type 0} → Holder S → Option Index → Pointer → Activation S → Memory → Option Pointer
 indexed h None q a m = Some q
 indexed h (Some index) q a m =
     operand h index.count a >>= λ n.
     apply_binary (binaries.Move Up index.signedness index.element) m (address q) n >>= λ v.
-    as_pointer v >>= λ r. member_of m r index.offset
+    as_pointer v >>= λ r. member_at m index.offset r
 
 -- 6.5.2.1, 6.5.2.3: a pointer to the member at the offset, and there to the element
 abbrev pub pointer : {S : Type 0} → Holder S → Address → Activation S → Memory → Option Pointer
 pointer h p a m =
-    operand h p.base a >>= λ v. as_pointer v >>= λ q. member_of m q p.offset >>= λ r. indexed h p.index r a m
+    operand h p.base a >>= λ v. as_pointer v >>= λ q. member_at m p.offset q >>= λ r. indexed h p.index r a m
 
 -- 6.5.8, 6.5.9; 6.8.4.1p2
 abbrev pub holds : {S : Type 0} → Holder S → Condition → Activation S → Memory → Option Bool

@@ -23,7 +23,7 @@ pub enum Operand {
     Data(u32),
 }
 
-/// How many elements an address stands behind another (C11 6.5.6p8), and how far behind that.
+/// How many elements an address stands behind another (C11 6.5.6p8), and which member it is there.
 #[derive(Clone, Copy, PartialEq, Eq, Debug)]
 pub struct Index {
     /// how many
@@ -32,18 +32,18 @@ pub struct Index {
     pub signedness: Signedness,
     /// the size of an element in bytes
     pub element: u32,
-    /// the bytes behind the element's start
-    pub offset: u32,
+    /// the offset of the member, in bytes, where one is taken
+    pub offset: Option<u32>,
 }
 
-/// Where an access begins: a pointer, so many bytes behind it (C11 6.5.2.3), and an element there
-/// (C11 6.5.2.1).
+/// Where an access begins: a pointer, a member of what it points to (C11 6.5.2.3), and an element there
+/// (C11 6.5.2.1). Where a member or an element is taken, the pointer has to be into a live object.
 #[derive(Clone, Copy, PartialEq, Eq, Debug)]
 pub struct Address {
     /// the pointer
     pub base: Operand,
-    /// the bytes
-    pub offset: u32,
+    /// the offset of the member, in bytes, where one is taken
+    pub offset: Option<u32>,
     /// the element, where there is one
     pub index: Option<Index>,
 }

@@ -19,7 +19,10 @@ use Rattle.qs_events.specs.Runs.{undefined, given}
 use Rattle.qs_calls.specs.World.{World, RootRun, Environment, with_value}
 use Rattle.qs_core.specs.Trees.{CoreExprTree, CoreFunctionTree}
 use Rattle.qs_core.specs.Expressions.{Locals, value}
-use Rattle.qs_tac.specs.Trees.{InstructionTree, move, jump, branch, TacUnitTree}
+use Rattle.qs_memory.specs.Memory as memory
+use Rattle.qs_memory.specs.declared.scalar.Scalar.{Scalar}
+use Rattle.qs_core.specs.Trees as core
+use Rattle.qs_tac.specs.Trees.{InstructionTree, move, load, jump, branch, TacUnitTree}
 use Rattle.qs_tac.specs.Holders.{temporaries}
 use Rattle.qs_tac.specs.Values.{Activation, operand, pointer, member_at, indexed, holds}
 use Rattle.qs_tac.specs.Steps.{Waiting, Next, going_to, gives, step, instruction_at, steps}
@@ -29,8 +32,8 @@ use Rattle.qs_tac.specs.declared.operands.Condition.{Condition}
 use Rattle.qs_tac.specs.declared.operands.Condition.TheVariants.{NotZero, Zero, Compare, ComparePointers}
 use Rattle.qs_lower.specs.Exits.{Exit, falls, goes, is_fall, exit_size, exit_code, opposite_comparison, opposite, branch_size, branch_code}
 use Rattle.qs_lower.specs.Operands.{truth_of}
-use Rattle.qs_lower.specs.Expressions.{ExprCode, simple_size, size_of, simple_code, code_of, simple_operand, operand_of, own, based, known_size, known_code, tested, no_code, by_operand, by_value, address_at}
-use Rattle.qs_lower.proofs.SizeLaws.{Sized, code_length}
+use Rattle.qs_lower.specs.Expressions.{ExprCode, simple_size, size_of, simple_code, code_of, simple_operand, operand_of, own, based, known_size, known_code, tested, no_code, by_operand, by_value, address_at, of_load}
+use Rattle.qs_lower.proofs.SizeLaws.{one_more, Sized, code_length, operand_sized, by_value_sized}
 use Rattle.qs_lower.proofs.OperandLaws.{known_truth}
 use Rattle.qs_lower.proofs.Real.{Act, Stack, HasAt, has_left, has_right, Kept, KeptBut, kept_all, kept_then, kept_below, Real, real_less, Leads, real_step, real_fault, real_given, moment, IsCode, Agree, free, IntoReal, SimpleReal, OperandReal, BaseReal, Goes, by_answer, TestReal, KnownReal}
 
@@ -230,3 +233,180 @@ module _ (u : TacUnitTree) (f : CoreFunctionTree) (code : List InstructionTree) 
           → Makes (d - 1) (if b then y else (at + 1)) first e w r
       answered true g = g
       answered false g = jump_real (d - 1) (at + 1) n first e w r has.1.0 (real_less u (d - 1 - 1) (d - 1) _ w stack r (omega arith) g)
+
+  -- ---- what a value alone gives: an operand, an address, a test
+
+  ends_moved :
+      (d : ℕ) (x : Exit) (i j first : ℕ) (e : Environment) (w : World) (r : RootRun) → i ≡ j → Ends d x i first e w r
+      → Ends d x j first e w r
+  ends_moved d x i j first e w r same h = subst (λ (k : ℕ). Ends d x k first e w r) same h
+
+  abbrev Into : CoreExprTree → ExprCode → Type 0
+  Into s c = IntoReal u f code function stack s c
+
+  abbrev Simple : CoreExprTree → ExprCode → Type 0
+  Simple s c = SimpleReal u f code function stack s c
+
+  abbrev AsOperand : CoreExprTree → ExprCode → Type 0
+  AsOperand s c = OperandReal u f code function stack s c
+
+  abbrev AsBase : CoreExprTree → ExprCode → Type 0
+  AsBase s c = BaseReal u f code function stack s c
+
+  abbrev AsTest : CoreExprTree → ExprCode → Type 0
+  AsTest s c = TestReal u f code function stack s c
+
+  abbrev AsKnown : CoreExprTree → ExprCode → Type 0
+  AsKnown s c = KnownReal u f code function stack s c
+
+  not_itself : (x t : ℕ) → x < t → x ≡ t → ⊥
+  not_itself x t lt same = absurd (omega (arith, lt, same))
+
+  operand_from : (s : CoreExprTree) (c : ExprCode) → Into s c → Simple s c → (o : Option Operand) → c.simple ≡ o → AsOperand s (record c { simple = o })
+  operand_from s c into simple None is d t at l e w r le agree has none next =
+      into d t t at l e w r le agree has none
+      (λ v after gives but holds.
+      next after (λ x lt. but x lt (not_itself x t lt))
+      (λ i later kept. kept t (omega arith) ∙ holds ∙ sym gives))
+  operand_from s c into simple (Some o) is d t at l e w r le agree has none next =
+      moved d (at + 0) at l.first_block e w r (omega arith)
+      (next e (kept_all t e)
+      (λ i later kept. simple o is i l later w.memory (agree_kept t l e later le agree (kept_below t (t + 0) e later (omega arith) kept))))
+
+  pub operand_real : (s : CoreExprTree) (c : ExprCode) → Into s c → Simple s c → AsOperand s c
+  operand_real s c into simple = operand_from s c into simple c.simple refl
+
+  base_from : (s : CoreExprTree) (c : ExprCode) → AsOperand s c → AsBase s (based c)
+  base_from s c operand_is d t at l e w r le agree has none next =
+      operand_is d t at l e w r le agree has (λ h. none (none_bind (value s l w.memory) as_pointer h))
+      (λ after kept same.
+      next after kept
+      (λ i later k.
+      ap (λ o. o >>= λ v. as_pointer v >>= λ q. Some q) (same i later k)
+      ∙ plain_pointer (value s l w.memory)))
+    where
+      plain_pointer : (o : Option Value) → (o >>= λ v. as_pointer v >>= λ q. Some q) ≡ (o >>= as_pointer)
+      plain_pointer None = refl
+      plain_pointer (Some v) = bind_some (as_pointer v)
+
+  known_from : (s : CoreExprTree) (c : ExprCode) → Simple s c → (o : Option Operand) → c.simple ≡ o → (b : Bool) → (o >>= truth_of) ≡ Some b
+      → (at : ℕ) (l : Locals) (e : Environment) (m : Memory) → Agrees l e → (value s l m >>= truth m) ≡ Some b
+  known_from s c simple None is b known at l e m agree = absurd (cc)
+  known_from s c simple (Some o) is b known at l e m agree =
+      ap (λ v. v >>= truth m) (sym (simple o is at l e m agree))
+      ∙ known_truth temporaries (at_moment at l.first_block e) m o b known
+
+  test_from :
+      (s : CoreExprTree) (c : ExprCode) → Sized c → AsOperand s c → (known : Option Bool)
+      → ((b : Bool) → known ≡ Some b → (at : ℕ) (l : Locals) (e : Environment) (m : Memory) → Agrees l e → (value s l m >>= truth m) ≡ Some b)
+      → AsTest s (record c {
+        test_size = known_size known (size_of c);
+        test = λ met unmet t at. known_code known (code_of c t at) (NotZero (operand_of c t)) met unmet;
+      })
+  test_from s c size operand_is None answer d t at met unmet l e w r le agree has none next =
+      operand_is d t at l e w r le agree (has_left code at (code_of c t at) _ has) (λ h. none (none_bind (value s l w.memory) (truth w.memory) h))
+      (λ after kept same.
+      branches_real d (at + size_of c) l.first_block (NotZero (operand_of c t)) met unmet after w r (value s l w.memory >>= truth w.memory)
+      (has_right code at (size_of c) (code_of c t at) _ (code_length c size.into t at) has)
+      (ap (λ v. v >>= truth w.memory) (same (at + size_of c) after (kept_all (t + own c) after)))
+      none
+      (λ b h. ends_moved d (by_answer u f code function stack b met unmet) _ _ l.first_block after w r (omega arith) (next b after h kept)))
+  test_from s c size operand_is (Some true) answer d t at met unmet l e w r le agree has none next =
+      exit_real d at l.first_block met e w r has (next true e (answer true refl at l e w.memory agree) (kept_all t e))
+  test_from s c size operand_is (Some false) answer d t at met unmet l e w r le agree has none next =
+      exit_real d at l.first_block unmet e w r has (next false e (answer false refl at l e w.memory agree) (kept_all t e))
+
+  -- all that is claimed of an expression's code
+  pub record Correct (s : CoreExprTree) (c : ExprCode) : Type 0 where
+    pub sized : Sized c
+    pub into : Into s c
+    pub simple : Simple s c
+    pub base : AsBase s c
+    pub test : AsTest s c
+    pub known : AsKnown s c
+
+  pub as_operand : (s : CoreExprTree) (c : ExprCode) → Correct s c → AsOperand s c
+  as_operand s c h = operand_real s c h.into h.simple
+
+  -- from a value alone
+  value_correct : (s : CoreExprTree) (c : ExprCode) → Sized c → Sized (tested (based c)) → Into s c → Simple s c → Correct s (tested (based c))
+  value_correct s c size sized into simple =
+      let o = operand_real s c into simple in
+      record {
+        sized = sized;
+        into = into;
+        simple = simple;
+        base = base_from s c o;
+        test = test_from s c size o (c.simple >>= truth_of) (λ b h. known_from s c simple c.simple refl b h);
+        known = λ b h. known_from s c simple c.simple refl b h;
+      }
+
+  -- ---- an instruction that gives the value, behind code
+
+  with_itself : (e : Environment) (x : ℕ) (v : Value) → with_value e x v x ≡ Some v
+  with_itself e x v = let here : (x == x) ≡ true = grind (arith, nat_tests) in ap (λ b. if b then Some v else e x) here
+
+  with_other : (e : Environment) (x y : ℕ) (v : Value) → (y ≡ x → ⊥) → with_value e x v y ≡ e y
+  with_other e x y v other = shown (y == x) refl
+    where
+      shown : (b : Bool) → (y == x) ≡ b → (if b then Some v else e y) ≡ e y
+      shown true h = absurd (other (grind (arith, nat_tests, h)))
+      shown false h = refl
+
+  finish :
+      (i : InstructionTree) (d x t n at : ℕ) (l : Locals) (e after : Environment) (w : World) (r : RootRun) (o want : Option Value)
+      → o ≡ want → slice_get code (at + n) ≡ Some i → Gives i x (at + n) l.first_block after w o → Kept t e after
+      → (want ≡ None → r ≡ undefined)
+      → ((v : Value) (later : Environment) → want ≡ Some v → KeptBut x t e later → later x ≡ Some v → Makes d (at + (n + 1)) l.first_block later w r)
+      → Makes d (at + n) l.first_block after w r
+  finish i d x t n at l e after w r o want same has law kept none next =
+      gives_real i d x (at + n) l.first_block after w r o has law (λ h. none (sym same ∙ h))
+      (λ v h. moved d (at + (n + 1)) (at + n + 1) l.first_block (with_value after x v) w r (omega arith)
+      (next v (with_value after x v) (sym same ∙ h) (λ y lt other. with_other after x y v other ∙ kept y lt) (with_itself after x v)))
+
+  last_at : (at n : ℕ) (xs : List InstructionTree) (i : InstructionTree) → length xs ≡ n → HasAt code at (xs ++ i ∷ []) → slice_get code (at + n) ≡ Some i
+  last_at at n xs i size has = (has_right code at n xs (i ∷ []) size has).0
+
+  -- ---- operands as they are
+
+  operand_correct : (s : CoreExprTree) (o : Operand)
+      → ((at : ℕ) (l : Locals) (e : Environment) (m : Memory) → Agrees l e → operand temporaries o (at_moment at l.first_block e) ≡ value s l m)
+      → Correct s (by_operand o)
+  operand_correct s o is =
+      value_correct s (record no_code { simple = Some o; size = 1; into = λ x t at. move x o ∷ [] })
+      (record { into = λ x t at. refl; base = λ t at. refl; test = λ x y t at. refl })
+      (operand_sized o)
+      (λ d x t at l e w r le agree has none next.
+      moved d (at + 0) at l.first_block e w r (omega arith)
+      (finish (move x o) d x t 0 at l e e w r (operand temporaries o (at_moment (at + 0) l.first_block e)) (value s l w.memory)
+      (is (at + 0) l e w.memory agree)
+      (ap (slice_get code) (omega arith) ∙ has.0)
+      (λ next. refl) (kept_all t e) none next))
+      (λ p same at l e m agree. ap (λ (q : Operand). operand temporaries q (at_moment at l.first_block e)) (sym (some_same o p same)) ∙ is at l e m agree)
+
+  -- ---- values by code
+
+  by_value_correct :
+      (s : CoreExprTree) (size used : ℕ) (into : (x t at : ℕ) → List InstructionTree) → ((x t at : ℕ) → length (into x t at) ≡ size)
+      → Into s (record no_code { size = size; into = into; used = used }) → Correct s (by_value size used into)
+  by_value_correct s size used into long real =
+      value_correct s (record no_code { size = size; into = into; used = used })
+      (record { into = long; base = λ t at. refl; test = λ x y t at. refl })
+      (by_value_sized size used into long) real (λ o h. absurd (cc))
+
+  load_correct : (s : Scalar) (a : CoreExprTree) (p : ExprCode) → Correct a p → Correct (core.load s a) (of_load s p)
+  load_correct s a p h =
+      by_value_correct (core.load s a) (p.base_size + 1) p.base_used _ (λ x t at. one_more _ _ _ (h.sized.base t at))
+      (λ d x t at l e w r le agree has none next.
+      h.base d t at l e w r le agree (has_left code at (p.base_code t at) _ has)
+      (λ k. none (load_same (value a l w.memory) s w.memory ∙ none_bind _ _ k))
+      (λ after kept same.
+      finish (load s x (address_at p t)) d x t p.base_size at l e after w r _ (value (core.load s a) l w.memory)
+      (ap (λ o. o >>= λ q. memory.load s w.memory q) (same (at + p.base_size) after (kept_all (t + p.base_own) after))
+      ∙ sym (load_same (value a l w.memory) s w.memory))
+      (last_at at p.base_size (p.base_code t at) _ (h.sized.base t at) has)
+      (λ next. refl) kept none next))
+    where
+      load_same : (o : Option Value) (s : Scalar) (m : Memory) → (o >>= λ v. as_pointer v >>= λ q. memory.load s m q) ≡ ((o >>= as_pointer) >>= λ q. memory.load s m q)
+      load_same None s m = refl
+      load_same (Some v) s m = refl

@@ -70,25 +70,25 @@ value_sized c h = record {
   test = λ x y t at. known_length (c.simple >>= truth_of) (code_of c t at) _ x y (size_of c) (code_length c h t at);
 }
 
-based_sized : (c : ExprCode) → Sized c → Sized (based c)
+pub based_sized : (c : ExprCode) → Sized c → Sized (based c)
 based_sized c s = record { into = s.into; base = code_length c s.into; test = s.test }
 
-operand_sized : (o : Operand) → Sized (by_operand o)
+pub operand_sized : (o : Operand) → Sized (by_operand o)
 operand_sized o = value_sized (record no_code { simple = Some o; size = 1; into = λ x t at. move x o ∷ [] }) (λ x t at. refl)
 
-by_value_sized : (size used : ℕ) (into : (x t at : ℕ) → List InstructionTree) → ((x t at : ℕ) → length (into x t at) ≡ size) → Sized (by_value size used into)
+pub by_value_sized : (size used : ℕ) (into : (x t at : ℕ) → List InstructionTree) → ((x t at : ℕ) → length (into x t at) ≡ size) → Sized (by_value size used into)
 by_value_sized size used into h = value_sized (record no_code { size = size; into = into; used = used }) h
 
 -- a list of tests
-abbrev TestSized : (test_size : (met unmet : Bool) → ℕ) → (test : (met unmet : Exit) → (t at : ℕ) → List InstructionTree) → Type 0
+abbrev pub TestSized : (test_size : (met unmet : Bool) → ℕ) → (test : (met unmet : Exit) → (t at : ℕ) → List InstructionTree) → Type 0
 TestSized n test = (x y : Exit) (t at : ℕ) → length (test x y t at) ≡ n (is_fall x) (is_fall y)
 
-by_test_sized : (used : ℕ) (n : (met unmet : Bool) → ℕ) (test : (met unmet : Exit) → (t at : ℕ) → List InstructionTree) → TestSized n test → Sized (by_test used n test)
+pub by_test_sized : (used : ℕ) (n : (met unmet : Bool) → ℕ) (test : (met unmet : Exit) → (t at : ℕ) → List InstructionTree) → TestSized n test → Sized (by_test used n test)
 by_test_sized used n test h =
     let v = by_value_sized (n true false + 3) used (number_of n test) (λ x t at. both _ _ (n true false) 3 (h _ _ t at) refl) in
     record { into = v.into; base = v.base; test = h }
 
-load_sized : (s : Scalar) (p : ExprCode) → Sized p → Sized (of_load s p)
+pub load_sized : (s : Scalar) (p : ExprCode) → Sized p → Sized (of_load s p)
 load_sized s p h = by_value_sized _ _ _ (λ x t at. one_more _ _ _ (h.base t at))
 
 if_sized : (b : Bool) (c d : ExprCode) → Sized c → Sized d → Sized (if b then c else d)
@@ -107,37 +107,37 @@ behind_parts_sized (Some i) p bytes h =
     (record { into = h.into; base = h.base; test = h.test })
     (record { into = b.into; base = b.base; test = b.test })
 
-behind_sized : (p : ExprCode) (bytes : ℕ) → Sized p → Sized (behind p bytes)
+pub behind_sized : (p : ExprCode) (bytes : ℕ) → Sized p → Sized (behind p bytes)
 behind_sized p bytes h = behind_parts_sized p.index p bytes h
 
-unindexed_sized : (o : Option IndexCode) (p : ExprCode) → Sized p → Sized (unindexed o p)
+pub unindexed_sized : (o : Option IndexCode) (p : ExprCode) → Sized p → Sized (unindexed o p)
 unindexed_sized None p h = h
 unindexed_sized (Some i) p h = based_sized p h
 
-address_sized : (p : ExprCode) → Sized p → Sized (by_address p)
+pub address_sized : (p : ExprCode) → Sized p → Sized (by_address p)
 address_sized p h =
     let v = by_value_sized (p.base_size + 1) p.base_used _ (λ x t at. one_more _ _ _ (h.base t at)) in
     record { into = v.into; base = h.base; test = v.test }
 
-element_sized : (s : Signedness) (element : ℕ) (a b : ExprCode) → Sized a → Sized b → Sized (of_element s element a b)
+pub element_sized : (s : Signedness) (element : ℕ) (a b : ExprCode) → Sized a → Sized b → Sized (of_element s element a b)
 element_sized s element a b h k =
     let p = unindexed_sized a.index a h in
     address_sized (indexed_by s element (unindexed a.index a) b)
     (record { into = p.into; base = λ t at. both _ _ _ _ (p.base t at) (code_length b k.into _ _); test = p.test })
 
-unary_value_sized : (op : UnaryOperation) (a : ExprCode) → Sized a → Sized (of_unary_value op a)
+pub unary_value_sized : (op : UnaryOperation) (a : ExprCode) → Sized a → Sized (of_unary_value op a)
 unary_value_sized op a h = by_value_sized _ _ _ (λ x t at. one_more _ _ _ (code_length a h.into t at))
 
-with_test_sized :
+pub with_test_sized :
     (c : ExprCode) (n : (met unmet : Bool) → ℕ) (test : (met unmet : Exit) → (t at : ℕ) → List InstructionTree) (used : ℕ)
     → Sized c → TestSized n test → Sized (with_test c n test used)
 with_test_sized c n test used s h = record { into = s.into; base = s.base; test = h }
 
-truth_sized : (j : Bool) (a : ExprCode) → Sized a → Sized (of_truth j a)
+pub truth_sized : (j : Bool) (a : ExprCode) → Sized a → Sized (of_truth j a)
 truth_sized true a h = h
 truth_sized false a h = with_test_sized _ _ _ _ (unary_value_sized unaries.Truth a h) h.test
 
-plus_sized : (i : Bool) (s : Signedness) (a : ExprCode) → Sized a → Sized (of_plus i s a)
+pub plus_sized : (i : Bool) (s : Signedness) (a : ExprCode) → Sized a → Sized (of_plus i s a)
 plus_sized true s a h = h
 plus_sized false s a h = unary_value_sized (unaries.Plus s) a h
 
@@ -149,7 +149,7 @@ compound_sized unaries.Not i j a h =
     with_test_sized _ _ _ _ (unary_value_sized unaries.Not a h) (λ x y t at. h.test y x t at)
 compound_sized unaries.Truth i j a h = truth_sized j a h
 
-simple_or_sized : (o : Option Operand) (c : ExprCode) → Sized c → Sized (simple_or o c)
+pub simple_or_sized : (o : Option Operand) (c : ExprCode) → Sized c → Sized (simple_or o c)
 simple_or_sized None c h = h
 simple_or_sized (Some o) c h = operand_sized o
 
@@ -158,13 +158,13 @@ conversion_sized s i a h =
     simple_or_sized (a.simple >>= converted s) _
     (if_sized i a _ h (by_value_sized _ _ _ (λ x t at. one_more _ _ _ (code_length a h.into t at))))
 
-pair_length : (a b : ExprCode) → Sized a → Sized b → (t at : ℕ) → length (pair_code a b t at) ≡ pair_size a b
+pub pair_length : (a b : ExprCode) → Sized a → Sized b → (t at : ℕ) → length (pair_code a b t at) ≡ pair_size a b
 pair_length a b h k t at = both _ _ _ _ (code_length a h.into t at) (code_length b k.into _ _)
 
-binary_value_sized : (op : BinaryOperation) (a b : ExprCode) → Sized a → Sized b → Sized (of_binary_value op a b)
+pub binary_value_sized : (op : BinaryOperation) (a b : ExprCode) → Sized a → Sized b → Sized (of_binary_value op a b)
 binary_value_sized op a b h k = by_value_sized _ _ _ (λ x t at. one_more _ _ _ (pair_length a b h k t at))
 
-condition_sized : (c : ExprCode) (f : Operand → Operand → Condition) (a b : ExprCode) → Sized c → Sized a → Sized b → Sized (with_condition c f a b)
+pub condition_sized : (c : ExprCode) (f : Operand → Operand → Condition) (a b : ExprCode) → Sized c → Sized a → Sized b → Sized (with_condition c f a b)
 condition_sized c f a b s h k =
     with_test_sized c _ _ _ s (λ x y t at. both _ _ _ _ (pair_length a b h k t at) (branch_length _ x y))
 
@@ -180,13 +180,13 @@ stepped_sized : (o : Option ℕ) (a c : ExprCode) → Sized a → Sized c → Si
 stepped_sized None a c h k = k
 stepped_sized (Some bytes) a c h k = address_sized _ (behind_sized a bytes h)
 
-both_tests_sized : (a b : ExprCode) → Sized a → Sized b → Sized (of_both_tests a b)
+pub both_tests_sized : (a b : ExprCode) → Sized a → Sized b → Sized (of_both_tests a b)
 both_tests_sized a b h k = by_test_sized _ _ _ (λ x y t at. both _ _ _ _ (h.test _ _ t at) (k.test x y t _))
 
-either_test_sized : (a b : ExprCode) → Sized a → Sized b → Sized (of_either_test a b)
+pub either_test_sized : (a b : ExprCode) → Sized a → Sized b → Sized (of_either_test a b)
 either_test_sized a b h k = by_test_sized _ _ _ (λ x y t at. both _ _ _ _ (h.test _ _ t at) (k.test x y t _))
 
-choice_sized : (c a b : ExprCode) → Sized c → Sized a → Sized b → Sized (of_choice c a b)
+pub choice_sized : (c a b : ExprCode) → Sized c → Sized a → Sized b → Sized (of_choice c a b)
 choice_sized c a b g h k =
     by_value_sized _ _ _
     (λ x t at.

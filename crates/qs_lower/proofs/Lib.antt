@@ -3,5 +3,6 @@ pub mod SizeLaws
 pub mod StmtSizeLaws
 pub mod Real
 pub mod OperandLaws
+pub mod AddressLaws
 pub mod ExprReal
 mod LowerExamples

@@ -2,6 +2,8 @@
 use Rattle.std.proofs.Common.{◌≡◌, ℕ, zero, suc, ◌+◌, ◌<◌, Bool, true, false, List, [], ◌∷◌, Option, Some, None, refl, sym, ap, ◌∙◌, subst, arith}
 use Rattle.std.specs.Prelude.{◌==◌, ◌&&◌, ◌%◌, ◌^◌, nat_lt, not, if◌then◌else◌, ℤ, pos, ◌-ℤ◌, int_div, int_rem}
 use Rattle.std.proofs.lemmas.Bool.Decides.{nat_tests}
+use Rattle.std.proofs.lemmas.Nat.{and_comm, or_comm, xor_comm}
+use Rattle.std.proofs.Math.Nat.{mul_comm}
 use Rattle.std.specs.Ordering.{int_eq}
 use Rattle.qs_base.specs.Words.{wrap}
 use Rattle.qs_memory.specs.Partial.{◌>>=◌, only_if}
@@ -14,6 +16,8 @@ use Rattle.qs_memory.specs.Operations.{apply_unary, apply_binary, of_truth}
 use Rattle.qs_memory.specs.declared.scalar.Scalar.{Scalar}
 use Rattle.qs_memory.specs.declared.scalar.Scalar.TheVariants as scalars
 use Rattle.qs_memory.specs.declared.operation.Signedness.{Signedness}
+use Rattle.qs_memory.specs.declared.operation.Arithmetic.{Arithmetic}
+use Rattle.qs_memory.specs.declared.operation.Arithmetic.TheVariants as arithmetics
 use Rattle.qs_memory.specs.declared.operation.UnaryOperation.{UnaryOperation}
 use Rattle.qs_memory.specs.declared.operation.UnaryOperation.TheVariants as unaries
 use Rattle.qs_memory.specs.declared.operation.BinaryOperation.{BinaryOperation}
@@ -26,7 +30,7 @@ use Rattle.qs_tac.specs.Holders.{Holder}
 use Rattle.qs_tac.specs.Values.{Activation, operand}
 use Rattle.qs_tac.specs.declared.operands.Operand.{Operand}
 use Rattle.qs_tac.specs.declared.operands.Operand.TheVariants.{Temporary, Integer, Byte, Constant, Null, Local, Data}
-use Rattle.qs_lower.specs.Operands.{converted, truth_of, truth_operand, unary_of, binary_of, folded, gives_integer, gives_truth, unary_gives_truth, operation_gives_truth, gives_pointer, operation_gives_integer, is_idle}
+use Rattle.qs_lower.specs.Operands.{converted, truth_of, truth_operand, unary_of, binary_of, folded, gives_integer, gives_truth, unary_gives_truth, operation_gives_truth, gives_pointer, operation_gives_integer, commutes, is_idle}
 use Rattle.qs_lower.specs.Operands as operands
 
 pub some_same : {A : Type 0} → (a b : A) → Some a ≡ Some b → a ≡ b
@@ -437,3 +441,40 @@ pub plus_stays :
     (e : CoreExprTree) → gives_integer e ≡ true → (l : Locals) (m : Memory) (s : Signedness)
     → (value e l m >>= λ v. apply_unary (unaries.Plus s) m v) ≡ value e l m
 plus_stays e h l m s = integer_stays (value e l m) (gives_integer_is e h l m)
+
+-- ---- operations whose operands may change places
+
+calculated_alike : (op : Arithmetic) (s : Signedness) → commutes (binaries.Arithmetic op s) ≡ true → (x y : ℕ) → calculate op s y x ≡ calculate op s x y
+calculated_alike arithmetics.Add s h x y = let same : y + x ≡ x + y = omega arith in ap (λ n. Some (n % 2 ^ 32)) same
+calculated_alike arithmetics.Subtract s h x y = absurd (cc)
+calculated_alike arithmetics.Multiply s h x y = ap (λ n. Some (n % 2 ^ 32)) (mul_comm y x)
+calculated_alike arithmetics.Divide s h x y = absurd (cc)
+calculated_alike arithmetics.Remainder s h x y = absurd (cc)
+calculated_alike arithmetics.ShiftLeft s h x y = absurd (cc)
+calculated_alike arithmetics.ShiftRight s h x y = absurd (cc)
+calculated_alike arithmetics.And s h x y = ap Some (and_comm y x)
+calculated_alike arithmetics.Or s h x y = ap Some (or_comm y x)
+calculated_alike arithmetics.Xor s h x y = ap Some (xor_comm y x)
+
+arithmetic_alike :
+    (op : Arithmetic) (s : Signedness) (m : Memory) → commutes (binaries.Arithmetic op s) ≡ true → (v w : Value)
+    → apply_binary (binaries.Arithmetic op s) m w v ≡ apply_binary (binaries.Arithmetic op s) m v w
+arithmetic_alike op s m h (integer x) (integer y) = ap (λ o. o >>= λ n. Some (integer n)) (calculated_alike op s h x y)
+arithmetic_alike op s m h (integer x) (address q) = refl
+arithmetic_alike op s m h (address p) (integer y) = refl
+arithmetic_alike op s m h (address p) (address q) = refl
+
+applied_alike : (op : BinaryOperation) (m : Memory) → commutes op ≡ true → (v w : Value) → apply_binary op m w v ≡ apply_binary op m v w
+applied_alike (binaries.Arithmetic op s) m h v w = arithmetic_alike op s m h v w
+applied_alike (binaries.Compare op s) m h v w = absurd (cc)
+applied_alike (binaries.Move direction s element) m h v w = absurd (cc)
+applied_alike (binaries.Difference element) m h v w = absurd (cc)
+applied_alike (binaries.ComparePointers op) m h v w = absurd (cc)
+
+pub swapped :
+    (op : BinaryOperation) → commutes op ≡ true → (m : Memory) (left right : Option Value)
+    → (right >>= λ v. left >>= λ y. apply_binary op m v y) ≡ (left >>= λ v. right >>= λ y. apply_binary op m v y)
+swapped op h m None None = refl
+swapped op h m None (Some w) = refl
+swapped op h m (Some v) None = refl
+swapped op h m (Some v) (Some w) = applied_alike op m h v w

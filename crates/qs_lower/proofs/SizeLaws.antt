@@ -119,11 +119,13 @@ address_sized p h =
     let v = by_value_sized (p.base_size + 1) p.base_used _ (λ x t at. one_more _ _ _ (h.base t at)) in
     record { into = v.into; base = h.base; test = v.test }
 
+pub indexed_sized : (s : Signedness) (element : ℕ) (p q : ExprCode) → Sized p → Sized q → Sized (indexed_by s element p q)
+indexed_sized s element p q h k = record { into = h.into; base = λ t at. both _ _ _ _ (h.base t at) (code_length q k.into _ _); test = h.test }
+
 pub element_sized : (s : Signedness) (element : ℕ) (a b : ExprCode) → Sized a → Sized b → Sized (of_element s element a b)
 element_sized s element a b h k =
-    let p = unindexed_sized a.index a h in
     address_sized (indexed_by s element (unindexed a.index a) b)
-    (record { into = p.into; base = λ t at. both _ _ _ _ (p.base t at) (code_length b k.into _ _); test = p.test })
+    (indexed_sized s element (unindexed a.index a) b (unindexed_sized a.index a h) k)
 
 pub unary_value_sized : (op : UnaryOperation) (a : ExprCode) → Sized a → Sized (of_unary_value op a)
 unary_value_sized op a h = by_value_sized _ _ _ (λ x t at. one_more _ _ _ (code_length a h.into t at))

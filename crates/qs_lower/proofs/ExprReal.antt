@@ -18,7 +18,7 @@ use Rattle.qs_memory.proofs.Options.{some_same}
 use Rattle.qs_events.specs.Runs.{undefined, given}
 use Rattle.qs_calls.specs.World.{World, RootRun, Environment, with_value}
 use Rattle.qs_core.specs.Trees.{CoreExprTree, CoreFunctionTree}
-use Rattle.qs_core.specs.Expressions.{Locals, value}
+use Rattle.qs_core.specs.Expressions.{Locals, value, truth_value}
 use Rattle.qs_memory.specs.Memory as memory
 use Rattle.qs_memory.specs.declared.scalar.Scalar.{Scalar}
 use Rattle.qs_core.specs.Trees as core
@@ -38,12 +38,12 @@ use Rattle.qs_tac.specs.declared.operands.Operand.{Operand}
 use Rattle.qs_tac.specs.declared.operands.Operand.TheVariants.{Temporary, Constant}
 use Rattle.qs_tac.specs.declared.operands.Condition.{Condition}
 use Rattle.qs_tac.specs.declared.operands.Condition.TheVariants.{NotZero, Zero, Compare, ComparePointers}
-use Rattle.qs_lower.specs.Exits.{Exit, falls, goes, is_fall, exit_size, exit_code, opposite_comparison, opposite, branch_size, branch_code}
+use Rattle.qs_lower.specs.Exits.{Exit, falls, goes, is_fall, place_of, settled, exit_size, exit_code, opposite_comparison, opposite, branch_size, branch_code}
 use Rattle.qs_lower.specs.Operands.{converted, truth_of, unary_of, gives_integer, gives_truth, gives_pointer, is_idle, swaps}
-use Rattle.qs_lower.specs.Expressions.{IndexCode, ExprCode, simple_size, size_of, simple_code, code_of, simple_operand, operand_of, own, based, known_size, known_code, tested, no_code, by_operand, by_value, index_at, address_at, of_load, further, behind_parts, indexed_by, by_address, used_by, of_unary_value, with_test, of_plus, of_compound, simple_or, of_unary, of_conversion, unindexed, pair_size, pair_code, pair_used, binary_instruction, of_binary_value, with_condition, of_element, of_operation}
+use Rattle.qs_lower.specs.Expressions.{IndexCode, ExprCode, simple_size, size_of, simple_code, code_of, simple_operand, operand_of, own, based, known_size, known_code, tested, no_code, by_operand, by_value, index_at, address_at, of_load, further, behind_parts, indexed_by, by_address, used_by, of_unary_value, with_test, of_plus, of_compound, simple_or, of_unary, of_conversion, unindexed, pair_size, pair_code, pair_used, binary_instruction, of_binary_value, with_condition, of_element, of_operation, number_of, by_test, both_size, of_both_tests, either_size, of_either_test, of_choice, of_and, of_or, of_conditional, stepped_or, of_binary, lowered}
 use Rattle.qs_lower.specs.Expressions as lower
-use Rattle.qs_lower.proofs.SizeLaws.{both, one_more, branch_length, pair_length, based_sized, unindexed_sized, indexed_sized, Sized, code_length, operand_sized, by_value_sized, address_sized, TestSized, with_test_sized}
-use Rattle.qs_lower.proofs.OperandLaws.{and_left, swapped, known_truth, converted_right, unary_right, gives_truth_is, gives_pointer_is, truth_again, idle_stays, plus_stays}
+use Rattle.qs_lower.proofs.SizeLaws.{by_test_sized, both_tests_sized, either_test_sized, choice_sized, sized, both, one_more, branch_length, pair_length, based_sized, unindexed_sized, indexed_sized, Sized, code_length, operand_sized, by_value_sized, address_sized, TestSized, with_test_sized}
+use Rattle.qs_lower.proofs.OperandLaws.{TruthOrNone, and_left, swapped, known_truth, converted_right, unary_right, gives_truth_is, gives_pointer_is, truth_again, idle_stays, plus_stays}
 use Rattle.qs_lower.proofs.AddressLaws.{bind_some, bind_bind, bind_same, pointer_value, further_member, element_same}
 use Rattle.qs_lower.proofs.Real.{Act, Stack, HasAt, has_left, has_right, Kept, KeptBut, kept_all, kept_then, kept_below, Real, real_less, Leads, real_step, real_fault, real_given, moment, IsCode, Agree, free, IntoReal, SimpleReal, OperandReal, BaseReal, Goes, by_answer, TestReal, KnownReal}
 
@@ -842,3 +842,133 @@ module _ (u : TacUnitTree) (f : CoreFunctionTree) (code : List InstructionTree) 
       condition_correct (core.binary (binaries.ComparePointers op) a b) a b _ c k (ComparePointers op) (λ m. on_pointers (compares_pointers op m))
       (binary_value_correct (binaries.ComparePointers op) a b c k h g) h g (λ o i at first e m. refl)
       (λ l m. pointers_truth m op (value a l m) (value b l m))
+
+  -- ---- `&&`, `||`, `?:`
+
+  ends_less : (c d : ℕ) (x : Exit) (end first : ℕ) (e : Environment) (w : World) (r : RootRun) → c ≤ d → Ends d x end first e w r → Ends c x end first e w r
+  ends_less c d (falls p) end first e w r le h = (real_less u c d _ w stack r le h.0, real_less u (c - 1) (d - 1) _ w stack r (omega (arith, le)) h.1)
+  ends_less c d (goes p) end first e w r le h = real_less u (c - 1) (d - 1) _ w stack r (omega (arith, le)) h
+
+  settled_ends : (d : ℕ) (x : Exit) (end first : ℕ) (e : Environment) (w : World) (r : RootRun) → Ends d x end first e w r → Makes (d - 1) (place_of x) first e w r
+  settled_ends d (falls p) end first e w r h = h.1
+  settled_ends d (goes p) end first e w r h = h
+
+  kept_but : (x t : ℕ) (a b c : Environment) → Kept t a b → KeptBut x t b c → KeptBut x t a c
+  kept_but x t a b c h k y lt other = k y lt other ∙ h y lt
+
+  -- a number that is its own truth
+  is_its_truth : (m : Memory) (o : Option Value) → TruthOrNone o → o ≡ ((o >>= truth m) >>= λ b. Some (of_truth b))
+  is_its_truth m o h = sym (truth_again m o h) ∙ sym (bind_bind o (truth m) (λ b. Some (of_truth b)))
+
+  number_real :
+      (s : CoreExprTree) (n : (met unmet : Bool) → ℕ) (test : (met unmet : Exit) → (t at : ℕ) → List InstructionTree) → gives_truth s ≡ true
+      → TestSized n test → AsTest s (record no_code { test_size = n; test = test })
+      → Into s (record no_code { size = n true false + 3; into = number_of n test })
+  number_real s n test is size real d x t at l e w r le agree has none next =
+      real d t at (falls (at + n true false)) (goes (at + n true false + 2)) l e w r le agree (has_left code at _ _ has)
+      (λ k. none (is_its_truth w.memory (value s l w.memory) (gives_truth_is s is l w.memory) ∙ none_bind _ _ k))
+      (λ b after h kept. numbered b after (is_its_truth w.memory (value s l w.memory) (gives_truth_is s is l w.memory) ∙ ap (λ o. o >>= λ b. Some (of_truth b)) h) kept)
+    where
+      behind : HasAt code (at + n true false) (move x (Constant 1) ∷ jump (at + n true false + 2 + 1) ∷ move x (Constant 0) ∷ [])
+      behind = has_right code at (n true false) (test (falls (at + n true false)) (goes (at + n true false + 2)) t at) _ (size _ _ t at) has
+      ended : (c : ℕ) (v : Value) (later : Environment) → c ≤ d → value s l w.memory ≡ Some v → KeptBut x t e later → later x ≡ Some v
+          → Makes c (at + (n true false + 3)) l.first_block later w r
+      ended c v later less gives but holds = real_less u c d _ w stack r less (next v later gives but holds)
+      set_one : (c : ℕ) (after : Environment) → c ≤ d → value s l w.memory ≡ Some (integer 1) → Kept t e after → Makes c (at + n true false) l.first_block after w r
+      set_one c after less gives kept =
+          finish (move x (Constant 1)) c x t (n true false) at l e after w r (Some (integer 1)) (Some (integer 1)) refl behind.0 (λ next. refl) kept (λ k. absurd (cc))
+          (λ v later same but holds.
+          jump_real c (at + (n true false + 1)) (at + n true false + 2 + 1) l.first_block later w r
+          (ap (slice_get code) (omega arith) ∙ behind.1.0)
+          (moved (c - 1) (at + (n true false + 3)) (at + n true false + 2 + 1) l.first_block later w r (omega arith)
+          (ended (c - 1) v later (omega (arith, less)) (gives ∙ same) but holds)))
+      set_zero : (c : ℕ) (after : Environment) → c ≤ d → value s l w.memory ≡ Some (integer 0) → Kept t e after → Makes c (at + n true false + 2) l.first_block after w r
+      set_zero c after less gives kept =
+          moved c (at + (n true false + 2)) (at + n true false + 2) l.first_block after w r (omega arith)
+          (finish (move x (Constant 0)) c x t (n true false + 2) at l e after w r (Some (integer 0)) (Some (integer 0)) refl
+          (ap (slice_get code) (omega arith) ∙ behind.1.1.0) (λ next. refl) kept (λ k. absurd (cc))
+          (λ v later same but holds.
+          moved c (at + (n true false + 3)) (at + (n true false + 2 + 1)) l.first_block later w r (omega arith)
+          (ended c v later less (gives ∙ same) but holds)))
+      numbered :
+          (b : Bool) (after : Environment) → value s l w.memory ≡ Some (of_truth b) → Kept t e after
+          → Ends d (by_answer u f code function stack b (falls (at + n true false)) (goes (at + n true false + 2))) (at + n true false) l.first_block after w r
+      numbered true after gives kept = (set_one d after (omega arith) gives kept, set_one (d - 1) after (omega arith) gives kept)
+      numbered false after gives kept = set_zero (d - 1) after (omega arith) gives kept
+
+  by_test_correct :
+      (s : CoreExprTree) (used : ℕ) (n : (met unmet : Bool) → ℕ) (test : (met unmet : Exit) → (t at : ℕ) → List InstructionTree) → gives_truth s ≡ true
+      → TestSized n test → AsTest s (record no_code { test_size = n; test = test }) → Correct s (by_test used n test)
+  by_test_correct s used n test is size real =
+      let v = by_value_correct s (n true false + 3) used (number_of n test) (λ x t at. both _ _ (n true false) 3 (size _ _ t at) refl)
+              (number_real s n test is size real) in
+      record { sized = by_test_sized used n test size; into = v.into; simple = v.simple; base = v.base; test = real; known = v.known }
+
+  and_truth :
+      (m : Memory) (o p : Option Value)
+      → ((o >>= λ v. truth m v >>= λ yes. if yes then (p >>= λ w. truth_value m w) else Some (of_truth false)) >>= truth m)
+      ≡ ((o >>= truth m) >>= λ yes. if yes then (p >>= truth m) else Some false)
+  and_truth m None p = refl
+  and_truth m (Some v) p = of_answer (truth m v)
+    where
+      of_answer :
+          (o : Option Bool)
+          → ((o >>= λ yes. if yes then (p >>= λ w. truth_value m w) else Some (of_truth false)) >>= truth m)
+          ≡ (o >>= λ yes. if yes then (p >>= truth m) else Some false)
+      of_answer None = refl
+      of_answer (Some true) = truth_of_unary m (λ b. b) p ∙ bind_some (p >>= truth m)
+      of_answer (Some false) = refl
+
+  or_truth :
+      (m : Memory) (o p : Option Value)
+      → ((o >>= λ v. truth m v >>= λ yes. if yes then Some (of_truth true) else (p >>= λ w. truth_value m w)) >>= truth m)
+      ≡ ((o >>= truth m) >>= λ yes. if yes then Some true else (p >>= truth m))
+  or_truth m None p = refl
+  or_truth m (Some v) p = of_answer (truth m v)
+    where
+      of_answer :
+          (o : Option Bool)
+          → ((o >>= λ said. if said then Some (of_truth true) else (p >>= λ w. truth_value m w)) >>= truth m)
+          ≡ (o >>= λ said. if said then Some true else (p >>= truth m))
+      of_answer None = refl
+      of_answer (Some true) = refl
+      of_answer (Some false) = truth_of_unary m (λ b. b) p ∙ bind_some (p >>= truth m)
+
+  abbrev and_answer : (a b : CoreExprTree) → Locals → Memory → Option Bool
+  and_answer a b l m = (value a l m >>= truth m) >>= λ said. if said then (value b l m >>= truth m) else Some false
+
+  both_tests_correct : (a b : CoreExprTree) (c k : ExprCode) → Correct a c → Correct b k → Correct (core.logical_and a b) (of_both_tests c k)
+  both_tests_correct a b c k h g =
+      by_test_correct (core.logical_and a b) _ (both_size c k) _ refl (λ x y t at. both _ _ _ _ (h.sized.test _ _ t at) (g.sized.test x y t _))
+      (λ d t at met unmet l e w r le agree has none next.
+      h.test d t at (falls (at + c.test_size true false)) (settled unmet) l e w r le agree (has_left code at _ _ has)
+      (λ n. none (and_truth w.memory (value a l w.memory) (value b l w.memory) ∙ none_bind _ _ n))
+      (λ said after is kept.
+      asked said d t at met unmet l e after w r le (agree_kept t l e after le agree kept)
+      (has_right code at (c.test_size true false) (c.test (falls (at + c.test_size true false)) (settled unmet) t at) _ (h.sized.test _ _ t at) has)
+      (λ n. none (and_truth w.memory (value a l w.memory) (value b l w.memory) ∙ n))
+      (and_is said l w.memory is) kept
+      (λ x last i kl. next x last (and_truth w.memory (value a l w.memory) (value b l w.memory) ∙ i) kl)))
+    where
+      and_is : (said : Bool) (l : Locals) (m : Memory) → (value a l m >>= truth m) ≡ Some said → and_answer a b l m ≡ (if said then (value b l m >>= truth m) else Some false)
+      and_is said l m is = ap (λ o. o >>= λ said. if said then (value b l m >>= truth m) else Some false) is
+      asked :
+          (said : Bool) (d t at : ℕ) (met unmet : Exit) (l : Locals) (e after : Environment) (w : World) (r : RootRun) → first_free ≤ t → Agrees l after
+          → HasAt code (at + c.test_size true false) (k.test met unmet t (at + c.test_size true false))
+          → (and_answer a b l w.memory ≡ None → r ≡ undefined)
+          → and_answer a b l w.memory ≡ (if said then (value b l w.memory >>= truth w.memory) else Some false) → Kept t e after
+          → ((x : Bool) (last : Environment) → and_answer a b l w.memory ≡ Some x → Kept t e last
+          → Ends d (by_answer u f code function stack x met unmet) (at + both_size c k (is_fall met) (is_fall unmet)) l.first_block last w r)
+          → Ends d (by_answer u f code function stack said (falls (at + c.test_size true false)) (settled unmet)) (at + c.test_size true false) l.first_block after w r
+      asked true d t at met unmet l e after w r le agree has none is kept next =
+          (from d (omega arith), from (d - 1) (omega arith))
+        where
+          from : (i : ℕ) → i ≤ d → Makes i (at + c.test_size true false) l.first_block after w r
+          from i less =
+              g.test i t (at + c.test_size true false) met unmet l after w r le agree has (λ n. none (is ∙ n))
+              (λ x last h2 kept2.
+              ends_moved i (by_answer u f code function stack x met unmet) _ _ l.first_block last w r (omega arith)
+              (ends_less i d (by_answer u f code function stack x met unmet) _ l.first_block last w r less
+              (next x last (is ∙ h2) (kept_then t t e after last (omega arith) kept kept2))))
+      asked false d t at met unmet l e after w r le agree has none is kept next =
+          settled_ends d unmet _ l.first_block after w r (next false after is kept)

@@ -972,3 +972,124 @@ module _ (u : TacUnitTree) (f : CoreFunctionTree) (code : List InstructionTree) 
               (next x last (is ∙ h2) (kept_then t t e after last (omega arith) kept kept2))))
       asked false d t at met unmet l e after w r le agree has none is kept next =
           settled_ends d unmet _ l.first_block after w r (next false after is kept)
+
+  abbrev or_answer : (a b : CoreExprTree) → Locals → Memory → Option Bool
+  or_answer a b l m = (value a l m >>= truth m) >>= λ said. if said then Some true else (value b l m >>= truth m)
+
+  either_test_correct : (a b : CoreExprTree) (c k : ExprCode) → Correct a c → Correct b k → Correct (core.logical_or a b) (of_either_test c k)
+  either_test_correct a b c k h g =
+      by_test_correct (core.logical_or a b) _ (either_size c k) _ refl (λ x y t at. both _ _ _ _ (h.sized.test _ _ t at) (g.sized.test x y t _))
+      (λ d t at met unmet l e w r le agree has none next.
+      h.test d t at (settled met) (falls (at + c.test_size false true)) l e w r le agree (has_left code at _ _ has)
+      (λ n. none (or_truth w.memory (value a l w.memory) (value b l w.memory) ∙ none_bind _ _ n))
+      (λ said after is kept.
+      asked said d t at met unmet l e after w r le (agree_kept t l e after le agree kept)
+      (has_right code at (c.test_size false true) (c.test (settled met) (falls (at + c.test_size false true)) t at) _ (h.sized.test _ _ t at) has)
+      (λ n. none (or_truth w.memory (value a l w.memory) (value b l w.memory) ∙ n))
+      (or_is said l w.memory is) kept
+      (λ x last i kl. next x last (or_truth w.memory (value a l w.memory) (value b l w.memory) ∙ i) kl)))
+    where
+      or_is : (said : Bool) (l : Locals) (m : Memory) → (value a l m >>= truth m) ≡ Some said → or_answer a b l m ≡ (if said then Some true else (value b l m >>= truth m))
+      or_is said l m is = ap (λ o. o >>= λ said. if said then Some true else (value b l m >>= truth m)) is
+      asked :
+          (said : Bool) (d t at : ℕ) (met unmet : Exit) (l : Locals) (e after : Environment) (w : World) (r : RootRun) → first_free ≤ t → Agrees l after
+          → HasAt code (at + c.test_size false true) (k.test met unmet t (at + c.test_size false true))
+          → (or_answer a b l w.memory ≡ None → r ≡ undefined)
+          → or_answer a b l w.memory ≡ (if said then Some true else (value b l w.memory >>= truth w.memory)) → Kept t e after
+          → ((x : Bool) (last : Environment) → or_answer a b l w.memory ≡ Some x → Kept t e last
+          → Ends d (by_answer u f code function stack x met unmet) (at + either_size c k (is_fall met) (is_fall unmet)) l.first_block last w r)
+          → Ends d (by_answer u f code function stack said (settled met) (falls (at + c.test_size false true))) (at + c.test_size false true) l.first_block after w r
+      asked false d t at met unmet l e after w r le agree has none is kept next =
+          (from d (omega arith), from (d - 1) (omega arith))
+        where
+          from : (i : ℕ) → i ≤ d → Makes i (at + c.test_size false true) l.first_block after w r
+          from i less =
+              g.test i t (at + c.test_size false true) met unmet l after w r le agree has (λ n. none (is ∙ n))
+              (λ x last h2 kept2.
+              ends_moved i (by_answer u f code function stack x met unmet) _ _ l.first_block last w r (omega arith)
+              (ends_less i d (by_answer u f code function stack x met unmet) _ l.first_block last w r less
+              (next x last (is ∙ h2) (kept_then t t e after last (omega arith) kept kept2))))
+      asked true d t at met unmet l e after w r le agree has none is kept next =
+          settled_ends d met _ l.first_block after w r (next true after is kept)
+
+  -- where the first operand is known
+  known_answer : {A : Type 0} (a : CoreExprTree) (l : Locals) (m : Memory) (b : Bool) (g : Bool → Option A) → (value a l m >>= truth m) ≡ Some b
+      → (value a l m >>= λ v. truth m v >>= g) ≡ g b
+  known_answer a l m b g is = sym (bind_bind (value a l m) (truth m) g) ∙ ap (λ o. o >>= g) is
+
+  and_correct : (a b : CoreExprTree) (c k : ExprCode) → Correct a c → Correct b k → Correct (core.logical_and a b) (of_and c.known (gives_truth b) c k)
+  and_correct a b c k h g = by_known c.known refl
+    where
+      by_known : (o : Option Bool) → c.known ≡ o → Correct (core.logical_and a b) (of_and o (gives_truth b) c k)
+      by_known None is = both_tests_correct a b c k h g
+      by_known (Some true) is =
+          same_value (Unary unaries.Truth b) (core.logical_and a b) _
+          (λ at l e m agree. known_answer a l m true _ (h.known true is at l e m agree)) (truth_correct b k g)
+      by_known (Some false) is =
+          operand_correct (core.logical_and a b) (Constant 0) (λ at l e m agree. sym (known_answer a l m false _ (h.known false is at l e m agree)))
+
+  or_correct : (a b : CoreExprTree) (c k : ExprCode) → Correct a c → Correct b k → Correct (core.logical_or a b) (of_or c.known (gives_truth b) c k)
+  or_correct a b c k h g = by_known c.known refl
+    where
+      by_known : (o : Option Bool) → c.known ≡ o → Correct (core.logical_or a b) (of_or o (gives_truth b) c k)
+      by_known None is = either_test_correct a b c k h g
+      by_known (Some false) is =
+          same_value (Unary unaries.Truth b) (core.logical_or a b) _
+          (λ at l e m agree. known_answer a l m false _ (h.known false is at l e m agree)) (truth_correct b k g)
+      by_known (Some true) is =
+          operand_correct (core.logical_or a b) (Constant 1) (λ at l e m agree. sym (known_answer a l m true _ (h.known true is at l e m agree)))
+
+  -- one of two values
+  choice_real :
+      (q a b : CoreExprTree) (c k j : ExprCode) → Correct q c → Correct a k → Correct b j
+      → Into (core.conditional q a b) (of_choice c k j)
+  choice_real q a b c k j h g i d x t at l e w r le agree has none next =
+      h.test d t at (falls (at + c.test_size true false)) (goes (at + c.test_size true false + k.size + 1)) l e w r le agree (has_left code at _ _ has)
+      (λ no. none (law ∙ none_bind _ _ no))
+      (λ said after is kept. chosen said after (law ∙ ap (λ o. o >>= λ said. if said then value a l w.memory else value b l w.memory) is) kept)
+    where
+      law : value (core.conditional q a b) l w.memory ≡ ((value q l w.memory >>= truth w.memory) >>= λ said. if said then value a l w.memory else value b l w.memory)
+      law = sym (bind_bind (value q l w.memory) (truth w.memory) _)
+      behind : HasAt code (at + c.test_size true false) (k.into x t (at + c.test_size true false) ++ jump (at + c.test_size true false + k.size + 1 + j.size) ∷ j.into x t (at + c.test_size true false + k.size + 1))
+      behind = has_right code at (c.test_size true false) (c.test (falls (at + c.test_size true false)) (goes (at + c.test_size true false + k.size + 1)) t at) _ (h.sized.test _ _ t at) has
+      second : HasAt code (at + c.test_size true false + k.size) (jump (at + c.test_size true false + k.size + 1 + j.size) ∷ j.into x t (at + c.test_size true false + k.size + 1))
+      second = has_right code (at + c.test_size true false) k.size (k.into x t (at + c.test_size true false)) _ (g.sized.into x t _) behind
+      ended : (y : ℕ) (v : Value) (later : Environment) → y ≤ d → value (core.conditional q a b) l w.memory ≡ Some v → KeptBut x t e later → later x ≡ Some v
+          → Makes y (at + (c.test_size true false + k.size + 1 + j.size)) l.first_block later w r
+      ended y v later less gives but holds = real_less u y d _ w stack r less (next v later gives but holds)
+      first_value : (y : ℕ) (after : Environment) → y ≤ d → value (core.conditional q a b) l w.memory ≡ value a l w.memory → Kept t e after
+          → Makes y (at + c.test_size true false) l.first_block after w r
+      first_value y after less same kept =
+          g.into y x t (at + c.test_size true false) l after w r le (agree_kept t l e after le agree kept)
+          (has_left code (at + c.test_size true false) (k.into x t (at + c.test_size true false)) _ behind)
+          (λ no. none (same ∙ no))
+          (λ v later is but holds.
+          jump_real y (at + c.test_size true false + k.size) (at + c.test_size true false + k.size + 1 + j.size) l.first_block later w r second.0
+          (moved (y - 1) (at + (c.test_size true false + k.size + 1 + j.size)) (at + c.test_size true false + k.size + 1 + j.size) l.first_block later w r (omega arith)
+          (ended (y - 1) v later (omega (arith, less)) (same ∙ is) (kept_but x t e after later kept but) holds)))
+      second_value : (y : ℕ) (after : Environment) → y ≤ d → value (core.conditional q a b) l w.memory ≡ value b l w.memory → Kept t e after
+          → Makes y (at + c.test_size true false + k.size + 1) l.first_block after w r
+      second_value y after less same kept =
+          i.into y x t (at + c.test_size true false + k.size + 1) l after w r le (agree_kept t l e after le agree kept) second.1
+          (λ no. none (same ∙ no))
+          (λ v later is but holds.
+          moved y (at + (c.test_size true false + k.size + 1 + j.size)) (at + c.test_size true false + k.size + 1 + j.size) l.first_block later w r (omega arith)
+          (ended y v later less (same ∙ is) (kept_but x t e after later kept but) holds))
+      chosen :
+          (said : Bool) (after : Environment) → value (core.conditional q a b) l w.memory ≡ (if said then value a l w.memory else value b l w.memory) → Kept t e after
+          → Ends d (by_answer u f code function stack said (falls (at + c.test_size true false)) (goes (at + c.test_size true false + k.size + 1))) (at + c.test_size true false) l.first_block after w r
+      chosen true after same kept = (first_value d after (omega arith) same kept, first_value (d - 1) after (omega arith) same kept)
+      chosen false after same kept = second_value (d - 1) after (omega arith) same kept
+
+  conditional_correct :
+      (q a b : CoreExprTree) (c k j : ExprCode) → Correct q c → Correct a k → Correct b j
+      → Correct (core.conditional q a b) (of_conditional c.known c k j)
+  conditional_correct q a b c k j h g i = by_known c.known refl
+    where
+      by_known : (o : Option Bool) → c.known ≡ o → Correct (core.conditional q a b) (of_conditional o c k j)
+      by_known None is =
+          by_value_correct (core.conditional q a b) _ _ _ (choice_sized c k j h.sized g.sized i.sized).into (choice_real q a b c k j h g i)
+      by_known (Some true) is =
+          same_value a (core.conditional q a b) k (λ at l e m agree. known_answer q l m true _ (h.known true is at l e m agree)) g
+      by_known (Some false) is =
+          same_value b (core.conditional q a b) j (λ at l e m agree. known_answer q l m false _ (h.known false is at l e m agree)) i

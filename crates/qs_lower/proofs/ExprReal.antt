@@ -4,12 +4,18 @@ use Rattle.std.specs.List.{slice_get}
 use Rattle.qs_memory.specs.Partial.{◌>>=◌}
 use Rattle.qs_memory.specs.Values.{Pointer, Value, integer, address, as_integer, as_pointer}
 use Rattle.qs_memory.specs.Memory.{Memory}
-use Rattle.std.specs.Prelude.{◌==◌, nat_lt, nat_le}
+use Rattle.std.specs.Prelude.{◌==◌, ◌&&◌, ◌^◌, nat_lt, nat_le, ℤ, pos, ◌-ℤ◌, ◌*ℤ◌}
+use Rattle.std.proofs.Math.IntN.{pos-*ℤ-pos}
+use Rattle.qs_memory.specs.declared.operation.Signedness.TheVariants.{Signed, Unsigned}
+use Rattle.qs_core.specs.declared.numbers.BlockId.{BlockId}
+use Rattle.qs_core.specs.declared.numbers.BlockId.TheVariants as ids
+use Rattle.qs_core.specs.Expressions.{block_pointer}
+use Rattle.qs_memory.specs.Pointers as pointers
 use Rattle.std.proofs.lemmas.Bool.Decides.{nat_tests}
 use Rattle.qs_memory.specs.Partial.{only_if}
 use Rattle.qs_memory.specs.Memory.{target}
 use Rattle.qs_memory.specs.Pointers.{member_of, truth, in_one_block, equal, compares_pointers}
-use Rattle.qs_memory.specs.Integers.{is_less, compares}
+use Rattle.qs_memory.specs.Integers.{reading, is_less, compares}
 use Rattle.qs_memory.specs.declared.operation.Signedness.{Signedness}
 use Rattle.qs_memory.specs.Operations.{apply_unary, apply_binary, of_truth, on_integers, on_pointers}
 use Rattle.qs_memory.specs.declared.operation.Comparison.{Comparison}
@@ -35,15 +41,15 @@ use Rattle.qs_tac.specs.Steps.{Waiting, Next, going_to, gives, step, instruction
 use Rattle.qs_tac.specs.declared.operands.Index.{Index}
 use Rattle.qs_tac.specs.Fits.{is_word}
 use Rattle.qs_tac.specs.declared.operands.Operand.{Operand}
-use Rattle.qs_tac.specs.declared.operands.Operand.TheVariants.{Temporary, Constant}
+use Rattle.qs_tac.specs.declared.operands.Operand.TheVariants.{Temporary, Integer, Byte, Constant, Null, Local, Data}
 use Rattle.qs_tac.specs.declared.operands.Condition.{Condition}
 use Rattle.qs_tac.specs.declared.operands.Condition.TheVariants.{NotZero, Zero, Compare, ComparePointers}
 use Rattle.qs_lower.specs.Exits.{Exit, falls, goes, is_fall, place_of, settled, exit_size, exit_code, opposite_comparison, opposite, branch_size, branch_code}
-use Rattle.qs_lower.specs.Operands.{converted, truth_of, unary_of, gives_integer, gives_truth, gives_pointer, is_idle, swaps}
-use Rattle.qs_lower.specs.Expressions.{IndexCode, ExprCode, simple_size, size_of, simple_code, code_of, simple_operand, operand_of, own, based, known_size, known_code, tested, no_code, by_operand, by_value, index_at, address_at, of_load, further, behind_parts, indexed_by, by_address, used_by, of_unary_value, with_test, of_plus, of_compound, simple_or, of_unary, of_conversion, unindexed, pair_size, pair_code, pair_used, binary_instruction, of_binary_value, with_condition, of_element, of_operation, number_of, by_test, both_size, of_both_tests, either_size, of_either_test, of_choice, of_and, of_or, of_conditional, stepped_or, of_binary, lowered}
+use Rattle.qs_lower.specs.Operands.{converted, truth_of, unary_of, gives_integer, gives_truth, gives_pointer, is_idle, is_upward, constant_step, folded, block_operand, swaps}
+use Rattle.qs_lower.specs.Expressions.{IndexCode, ExprCode, simple_size, size_of, simple_code, code_of, simple_operand, operand_of, own, based, known_size, known_code, tested, no_code, by_operand, by_value, index_at, address_at, of_load, further, behind_parts, behind, indexed_by, by_address, used_by, of_unary_value, with_test, of_plus, of_compound, simple_or, of_unary, of_conversion, unindexed, pair_size, pair_code, pair_used, binary_instruction, of_binary_value, with_condition, of_element, of_operation, number_of, by_test, both_size, of_both_tests, either_size, of_either_test, of_choice, of_and, of_or, of_conditional, stepped_or, of_binary, lowered}
 use Rattle.qs_lower.specs.Expressions as lower
-use Rattle.qs_lower.proofs.SizeLaws.{by_test_sized, both_tests_sized, either_test_sized, choice_sized, sized, both, one_more, branch_length, pair_length, based_sized, unindexed_sized, indexed_sized, Sized, code_length, operand_sized, by_value_sized, address_sized, TestSized, with_test_sized}
-use Rattle.qs_lower.proofs.OperandLaws.{TruthOrNone, and_left, swapped, known_truth, converted_right, unary_right, gives_truth_is, gives_pointer_is, truth_again, idle_stays, plus_stays}
+use Rattle.qs_lower.proofs.SizeLaws.{behind_sized, by_test_sized, both_tests_sized, either_test_sized, choice_sized, sized, both, one_more, branch_length, pair_length, based_sized, unindexed_sized, indexed_sized, Sized, code_length, operand_sized, by_value_sized, address_sized, TestSized, with_test_sized}
+use Rattle.qs_lower.proofs.OperandLaws.{TruthOrNone, and_left, folded_right, swapped, known_truth, converted_right, unary_right, gives_truth_is, gives_pointer_is, truth_again, idle_stays, plus_stays}
 use Rattle.qs_lower.proofs.AddressLaws.{bind_some, bind_bind, bind_same, pointer_value, further_member, element_same}
 use Rattle.qs_lower.proofs.Real.{Act, Stack, HasAt, has_left, has_right, Kept, KeptBut, kept_all, kept_then, kept_below, Real, real_less, Leads, real_step, real_fault, real_given, moment, IsCode, Agree, free, IntoReal, SimpleReal, OperandReal, BaseReal, Goes, by_answer, TestReal, KnownReal}
 
@@ -427,7 +433,9 @@ module _ (u : TacUnitTree) (f : CoreFunctionTree) (code : List InstructionTree) 
 
   -- the pointer so many bytes behind another
   abbrev IsBehind : (s behind_it : CoreExprTree) → (bytes : ℕ) → Type 0
-  IsBehind s r bytes = (l : Locals) (m : Memory) → (value r l m >>= as_pointer) ≡ ((value s l m >>= as_pointer) >>= λ q. member_of m q bytes)
+  IsBehind s r bytes =
+      (at : ℕ) (l : Locals) (e : Environment) (m : Memory) → Agrees l e
+      → (value r l m >>= as_pointer) ≡ ((value s l m >>= as_pointer) >>= λ q. member_of m q bytes)
 
   rebase :
       (s s2 : CoreExprTree) (bytes : ℕ) (p : ExprCode) (o : Option ℕ) (ix : Option IndexCode) → IsBehind s s2 bytes → AsBase s p
@@ -436,10 +444,11 @@ module _ (u : TacUnitTree) (f : CoreFunctionTree) (code : List InstructionTree) 
       → AsBase s2 (record p { offset = o; index = ix })
   rebase s s2 bytes p o ix is base shifts d t at l e w r le agree has none next =
       base d t at l e w r le agree has
-      (λ h. none (is l w.memory ∙ none_bind _ _ h))
+      (λ h. none (is at l e w.memory agree ∙ none_bind _ _ h))
       (λ after kept same.
       next after kept
-      (λ i later k. shifts t i l later w.memory ∙ ap (λ q. q >>= λ x. member_of w.memory x bytes) (same i later k) ∙ sym (is l w.memory)))
+      (λ i later k.
+      shifts t i l later w.memory ∙ ap (λ q. q >>= λ x. member_of w.memory x bytes) (same i later k) ∙ sym (is at l e w.memory agree)))
 
   -- the parts of an address
   abbrev parts : Operand → Option ℕ → Option Index → (i : ℕ) → Locals → Environment → Memory → Option Pointer
@@ -1093,3 +1102,137 @@ module _ (u : TacUnitTree) (f : CoreFunctionTree) (code : List InstructionTree) 
           same_value a (core.conditional q a b) k (λ at l e m agree. known_answer q l m true _ (h.known true is at l e m agree)) g
       by_known (Some false) is =
           same_value b (core.conditional q a b) j (λ at l e m agree. known_answer q l m false _ (h.known false is at l e m agree)) i
+
+  -- ---- constant steps
+
+  upward : (s : Signedness) (n : ℕ) → is_upward s n ≡ true → reading s n ≡ pos n
+  upward Signed n h = ap (λ b. if b then pos n else pos n -ℤ pos (2 ^ 32)) h
+  upward Unsigned n h = refl
+
+  up_by_constant :
+      (s : Signedness) (element n : ℕ) (m : Memory) (v : Option Value) → is_upward s n ≡ true
+      → ((v >>= λ x. Some (integer n) >>= λ y. apply_binary (binaries.Move Up s element) m x y) >>= as_pointer)
+      ≡ ((v >>= as_pointer) >>= λ q. member_of m q (n * element))
+  up_by_constant s element n m None h = refl
+  up_by_constant s element n m (Some (integer i)) h = refl
+  up_by_constant s element n m (Some (address p)) h =
+      ap (λ i. (pointers.moved m p (i *ℤ pos element) >>= λ q. Some (address q)) >>= as_pointer) (upward s n h)
+      ∙ ap (λ i. (pointers.moved m p i >>= λ q. Some (address q)) >>= as_pointer) (pos-*ℤ-pos n element)
+      ∙ bind_bind (pointers.moved m p (pos (n * element))) _ _
+      ∙ bind_some (pointers.moved m p (pos (n * element)))
+
+  only_if_same : (b : Bool) (x y : ℕ) → only_if b (Some x) ≡ Some y → (b ≡ true) × (x ≡ y)
+  only_if_same true x y h = (refl, some_same x y h)
+  only_if_same false x y h = absurd (cc)
+
+  step_constant :
+      (s : Signedness) (element : ℕ) (o : Operand) (bytes : ℕ) → constant_step (binaries.Move Up s element) (Some o) ≡ Some bytes
+      → (n : ℕ) × (o ≡ Constant n) × (is_upward s n ≡ true) × (n * element ≡ bytes)
+  step_constant s element (Constant n) bytes h =
+      let parts = only_if_same (is_upward s n && is_word (n * element)) (n * element) bytes h in
+      (n, refl, and_left _ _ parts.0, parts.1)
+  step_constant s element (Temporary t) bytes h = absurd (cc)
+  step_constant s element (Integer t) bytes h = absurd (cc)
+  step_constant s element (Byte t) bytes h = absurd (cc)
+  step_constant s element Null bytes h = absurd (cc)
+  step_constant s element (Local i) bytes h = absurd (cc)
+  step_constant s element (Data i) bytes h = absurd (cc)
+
+  step_correct :
+      (s : Signedness) (element : ℕ) (a b : CoreExprTree) (c k : ExprCode) → Correct a c → Correct b k → (o : Operand) → k.simple ≡ Some o
+      → (bytes : ℕ) → constant_step (binaries.Move Up s element) (Some o) ≡ Some bytes
+      → Correct (core.binary (binaries.Move Up s element) a b) (by_address (behind c bytes))
+  step_correct s element a b c k h g o is bytes step =
+      let n = step_constant s element o bytes step in
+      address_correct (core.binary (binaries.Move Up s element) a b) (behind c bytes) refl (behind_sized c bytes h.sized)
+      (behind_base a (core.binary (binaries.Move Up s element) a b) bytes c
+      (λ at l e m agree.
+      ap (λ y. (value a l m >>= λ x. y >>= λ z. apply_binary (binaries.Move Up s element) m x z) >>= as_pointer)
+      (sym (g.simple o is at l e m agree) ∙ ap (λ (p : Operand). operand temporaries p (at_moment at l.first_block e)) n.1)
+      ∙ up_by_constant s element n.0 m (value a l m) n.2
+      ∙ ap (λ i. (value a l m >>= as_pointer) >>= λ q. member_of m q i) n.3)
+      h c.index refl)
+
+  stepped_correct :
+      (op : BinaryOperation) (a b : CoreExprTree) (c k : ExprCode) → Correct a c → Correct b k → (o : Option ℕ)
+      → constant_step op k.simple ≡ o → Correct (core.binary op a b) (stepped_or o c (of_operation op c k))
+  stepped_correct op a b c k h g None is = operation_correct op a b c k h g
+  stepped_correct (binaries.Move Up s element) a b c k h g (Some bytes) is = by_operand_of k.simple refl is
+    where
+      by_operand_of :
+          (o : Option Operand) → k.simple ≡ o → constant_step (binaries.Move Up s element) o ≡ Some bytes
+          → Correct (core.binary (binaries.Move Up s element) a b) (by_address (behind c bytes))
+      by_operand_of None simple step = absurd (cc)
+      by_operand_of (Some o) simple step = step_correct s element a b c k h g o simple bytes step
+  stepped_correct (binaries.Move Down s element) a b c k h g (Some bytes) is = absurd (cc)
+  stepped_correct (binaries.Arithmetic op s) a b c k h g (Some bytes) is = absurd (cc)
+  stepped_correct (binaries.Compare op s) a b c k h g (Some bytes) is = absurd (cc)
+  stepped_correct (binaries.Difference element) a b c k h g (Some bytes) is = absurd (cc)
+  stepped_correct (binaries.ComparePointers op) a b c k h g (Some bytes) is = absurd (cc)
+
+  folded_from :
+      (op : BinaryOperation) (a b : CoreExprTree) (c k : ExprCode) → Correct a c → Correct b k → (o p : Option Operand) → c.simple ≡ o → k.simple ≡ p
+      → (q : Operand) → folded op o p ≡ Some q → (at : ℕ) (l : Locals) (e : Environment) (m : Memory) → Agrees l e
+      → operand temporaries q (at_moment at l.first_block e) ≡ value (core.binary op a b) l m
+  folded_from op a b c k h g None p hs gs q is at l e m agree = absurd (cc)
+  folded_from op a b c k h g (Some o) None hs gs q is at l e m agree = absurd (cc)
+  folded_from op a b c k h g (Some o) (Some p) hs gs q is at l e m agree =
+      folded_right temporaries (at_moment at l.first_block e) op m o p q is
+      ∙ both_same _ _ _ _ (apply_binary op m) (h.simple o hs at l e m agree) (g.simple p gs at l e m agree)
+
+  binary_correct : (op : BinaryOperation) (a b : CoreExprTree) (c k : ExprCode) → Correct a c → Correct b k → Correct (core.binary op a b) (of_binary op c k)
+  binary_correct op a b c k h g =
+      simple_or_correct (core.binary op a b) (folded op c.simple k.simple) _ (folded_from op a b c k h g c.simple k.simple refl refl)
+      (stepped_correct op a b c k h g (constant_step op k.simple) refl)
+
+  -- ---- expressions
+
+  -- its variables and temporaries are there
+  abbrev pub IsThere : CoreExprTree → Type 0
+  IsThere (core.literal s n) = Unit {0}
+  IsThere core.null_pointer = Unit {0}
+  IsThere (core.variable s x) = x < length f.variables
+  IsThere (core.temporary s k) = k < length f.temporaries
+  IsThere (core.address_of b) = Unit {0}
+  IsThere (core.load s a) = IsThere a
+  IsThere (core.member offset a) = IsThere a
+  IsThere (core.unary op a) = IsThere a
+  IsThere (core.binary op a b) = IsThere a × IsThere b
+  IsThere (core.conversion s a) = IsThere a
+  IsThere (core.logical_and a b) = IsThere a × IsThere b
+  IsThere (core.logical_or a b) = IsThere a × IsThere b
+  IsThere (core.conditional c a b) = IsThere c × IsThere a × IsThere b
+
+  block_right : (b : BlockId) (at : ℕ) (l : Locals) (e : Environment) → operand temporaries (block_operand b) (at_moment at l.first_block e) ≡ Some (address (block_pointer b l))
+  block_right (ids.Local i) at l e = refl
+  block_right (ids.Data i) at l e = refl
+
+  abbrev code_for : CoreExprTree → ExprCode
+  code_for s = lowered (length f.variables) s
+
+  pub correct : (s : CoreExprTree) → IsThere s → Correct s (code_for s)
+  correct (core.literal s n) h = operand_correct (core.literal s n) (Constant n) (λ at l e m agree. refl)
+  correct core.null_pointer h = operand_correct core.null_pointer Null (λ at l e m agree. refl)
+  correct (core.variable s x) h = operand_correct (core.variable s x) (Temporary x) (λ at l e m agree. agree.variables x h)
+  correct (core.temporary s k) h = operand_correct (core.temporary s k) (Temporary (length f.variables + k)) (λ at l e m agree. agree.temporaries k h)
+  correct (core.address_of b) h = operand_correct (core.address_of b) (block_operand b) (λ at l e m agree. block_right b at l e)
+  correct (core.load s a) h = load_correct s a (code_for a) (correct a h)
+  correct (core.member offset a) h =
+      let c = correct a h in
+      address_correct (core.member offset a) (behind (code_for a) offset) refl (behind_sized (code_for a) offset c.sized)
+      (behind_base a (core.member offset a) offset (code_for a) (λ at l e m agree. member_same m offset (value a l m)) c (code_for a).index refl)
+    where
+      member_same :
+          (m : Memory) (offset : ℕ) (o : Option Value)
+          → ((o >>= λ v. as_pointer v >>= λ p. member_of m p offset >>= λ q. Some (address q)) >>= as_pointer) ≡ ((o >>= as_pointer) >>= λ q. member_of m q offset)
+      member_same m offset None = refl
+      member_same m offset (Some v) =
+          bind_bind (as_pointer v) _ _
+          ∙ bind_same (as_pointer v) _ _ (λ p. bind_bind (member_of m p offset) _ _ ∙ bind_some (member_of m p offset))
+  correct (core.unary op a) h = unary_correct op a (code_for a) (correct a h)
+  correct (core.binary op a b) h = binary_correct op a b (code_for a) (code_for b) (correct a h.0) (correct b h.1)
+  correct (core.conversion s a) h = conversion_correct s a (code_for a) (correct a h)
+  correct (core.logical_and a b) h = and_correct a b (code_for a) (code_for b) (correct a h.0) (correct b h.1)
+  correct (core.logical_or a b) h = or_correct a b (code_for a) (code_for b) (correct a h.0) (correct b h.1)
+  correct (core.conditional c a b) h =
+      conditional_correct c a b (code_for c) (code_for a) (code_for b) (correct c h.0) (correct a h.1) (correct b h.2)

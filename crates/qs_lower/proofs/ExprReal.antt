@@ -53,7 +53,7 @@ use Rattle.qs_lower.proofs.OperandLaws.{TruthOrNone, and_left, folded_right, swa
 use Rattle.qs_lower.proofs.AddressLaws.{bind_some, bind_bind, bind_same, pointer_value, further_member, element_same}
 use Rattle.qs_lower.proofs.Real.{Act, Stack, HasAt, has_left, has_right, Kept, KeptBut, kept_all, kept_then, kept_below, Real, real_less, Leads, real_step, real_fault, real_given, moment, IsCode, Agree, free, IntoReal, SimpleReal, OperandReal, BaseReal, Goes, by_answer, TestReal, KnownReal}
 
-none_bind : {A B : Type 0} (o : Option A) (f : A → Option B) → o ≡ None → (o >>= f) ≡ None
+pub none_bind : {A B : Type 0} (o : Option A) (f : A → Option B) → o ≡ None → (o >>= f) ≡ None
 none_bind o f h = ap (λ p. p >>= f) h
 
 -- ---- opposite conditions
@@ -121,16 +121,16 @@ abbrev no_pointer : Pointer → Option Pointer
 no_pointer x = None
 
 module _ (u : TacUnitTree) (f : CoreFunctionTree) (code : List InstructionTree) (function : ℕ) (stack : Stack) (is_code : IsCode u f code function stack) where
-  abbrev at_moment : (at first : ℕ) → Environment → Act
+  abbrev pub at_moment : (at first : ℕ) → Environment → Act
   at_moment at first e = moment u f code function stack at first e
 
-  abbrev Makes : (d at first : ℕ) → Environment → World → RootRun → Type 0
+  abbrev pub Makes : (d at first : ℕ) → Environment → World → RootRun → Type 0
   Makes d at first e w r = Real u d (at_moment at first e) w stack r
 
-  abbrev Agrees : Locals → Environment → Type 0
+  abbrev pub Agrees : Locals → Environment → Type 0
   Agrees l e = Agree u f code function stack l e
 
-  abbrev first_free : ℕ
+  abbrev pub first_free : ℕ
   first_free = free u f code function stack
 
   pub moved : (d i j first : ℕ) (e : Environment) (w : World) (r : RootRun) → i ≡ j → Makes d i first e w r → Makes d j first e w r
@@ -142,7 +142,7 @@ module _ (u : TacUnitTree) (f : CoreFunctionTree) (code : List InstructionTree) 
     temporaries = λ k lt. kept (length f.variables + k) (omega (arith, le, lt)) ∙ agree.temporaries k lt;
   }
 
-  at_instruction :
+  pub at_instruction :
       (j at first : ℕ) (e : Environment) (w : World) (i : InstructionTree) → slice_get code at ≡ Some i
       → steps temporaries u (suc j) (at_moment at first e) w stack
       ≡ step temporaries u (Some i) (steps temporaries u j) (at_moment at first e) w stack
@@ -152,12 +152,12 @@ module _ (u : TacUnitTree) (f : CoreFunctionTree) (code : List InstructionTree) 
   -- ---- single instructions
 
   -- one that gives a temporary a value
-  abbrev Gives : (i : InstructionTree) → (x : ℕ) → (at first : ℕ) → Environment → World → Option Value → Type 0
+  abbrev pub Gives : (i : InstructionTree) → (x : ℕ) → (at first : ℕ) → Environment → World → Option Value → Type 0
   Gives i x at first e w o =
       (next : Next Environment)
       → step temporaries u (Some i) next (at_moment at first e) w stack ≡ gives temporaries next x o (at_moment at first e) w stack
 
-  gives_real :
+  pub gives_real :
       (i : InstructionTree) (d x at first : ℕ) (e : Environment) (w : World) (r : RootRun) (o : Option Value)
       → slice_get code at ≡ Some i → Gives i x at first e w o → (o ≡ None → r ≡ undefined)
       → ((v : Value) → o ≡ Some v → Makes d (at + 1) first (with_value e x v) w r) → Makes d at first e w r
@@ -168,7 +168,7 @@ module _ (u : TacUnitTree) (f : CoreFunctionTree) (code : List InstructionTree) 
       none
       (λ v is. real_less u (d - 1) d _ w stack r (omega arith) (some v is))
 
-  jump_real :
+  pub jump_real :
       (d at to first : ℕ) (e : Environment) (w : World) (r : RootRun) → slice_get code at ≡ Some (jump to)
       → Makes (d - 1) to first e w r → Makes d at first e w r
   jump_real d at to first e w r has real =
@@ -188,7 +188,7 @@ module _ (u : TacUnitTree) (f : CoreFunctionTree) (code : List InstructionTree) 
 
   -- ---- exits
 
-  abbrev Ends : (d : ℕ) → Exit → (end first : ℕ) → Environment → World → RootRun → Type 0
+  abbrev pub Ends : (d : ℕ) → Exit → (end first : ℕ) → Environment → World → RootRun → Type 0
   Ends d x end first e w r = Goes u f code function stack (λ c p. Makes c p first e w r) d x end
 
   pub exit_real :
@@ -251,27 +251,27 @@ module _ (u : TacUnitTree) (f : CoreFunctionTree) (code : List InstructionTree) 
 
   -- ---- what a value alone gives: an operand, an address, a test
 
-  ends_moved :
+  pub ends_moved :
       (d : ℕ) (x : Exit) (i j first : ℕ) (e : Environment) (w : World) (r : RootRun) → i ≡ j → Ends d x i first e w r
       → Ends d x j first e w r
   ends_moved d x i j first e w r same h = subst (λ (k : ℕ). Ends d x k first e w r) same h
 
-  abbrev Into : CoreExprTree → ExprCode → Type 0
+  abbrev pub Into : CoreExprTree → ExprCode → Type 0
   Into s c = IntoReal u f code function stack s c
 
-  abbrev Simple : CoreExprTree → ExprCode → Type 0
+  abbrev pub Simple : CoreExprTree → ExprCode → Type 0
   Simple s c = SimpleReal u f code function stack s c
 
-  abbrev AsOperand : CoreExprTree → ExprCode → Type 0
+  abbrev pub AsOperand : CoreExprTree → ExprCode → Type 0
   AsOperand s c = OperandReal u f code function stack s c
 
-  abbrev AsBase : CoreExprTree → ExprCode → Type 0
+  abbrev pub AsBase : CoreExprTree → ExprCode → Type 0
   AsBase s c = BaseReal u f code function stack s c
 
-  abbrev AsTest : CoreExprTree → ExprCode → Type 0
+  abbrev pub AsTest : CoreExprTree → ExprCode → Type 0
   AsTest s c = TestReal u f code function stack s c
 
-  abbrev AsKnown : CoreExprTree → ExprCode → Type 0
+  abbrev pub AsKnown : CoreExprTree → ExprCode → Type 0
   AsKnown s c = KnownReal u f code function stack s c
 
   not_itself : (x t : ℕ) → x < t → x ≡ t → ⊥
@@ -717,7 +717,7 @@ module _ (u : TacUnitTree) (f : CoreFunctionTree) (code : List InstructionTree) 
 
   -- ---- two operands
 
-  pair_real :
+  pub pair_real :
       (s s2 : CoreExprTree) (a b : ExprCode) → Correct s a → Correct s2 b
       → (d t at : ℕ) (l : Locals) (e : Environment) (w : World) (r : RootRun) → first_free ≤ t → Agrees l e
       → HasAt code at (pair_code a b t at) → (value s l w.memory ≡ None → r ≡ undefined) → (value s2 l w.memory ≡ None → r ≡ undefined)
@@ -854,11 +854,11 @@ module _ (u : TacUnitTree) (f : CoreFunctionTree) (code : List InstructionTree) 
 
   -- ---- `&&`, `||`, `?:`
 
-  ends_less : (c d : ℕ) (x : Exit) (end first : ℕ) (e : Environment) (w : World) (r : RootRun) → c ≤ d → Ends d x end first e w r → Ends c x end first e w r
+  pub ends_less : (c d : ℕ) (x : Exit) (end first : ℕ) (e : Environment) (w : World) (r : RootRun) → c ≤ d → Ends d x end first e w r → Ends c x end first e w r
   ends_less c d (falls p) end first e w r le h = (real_less u c d _ w stack r le h.0, real_less u (c - 1) (d - 1) _ w stack r (omega (arith, le)) h.1)
   ends_less c d (goes p) end first e w r le h = real_less u (c - 1) (d - 1) _ w stack r (omega (arith, le)) h
 
-  settled_ends : (d : ℕ) (x : Exit) (end first : ℕ) (e : Environment) (w : World) (r : RootRun) → Ends d x end first e w r → Makes (d - 1) (place_of x) first e w r
+  pub settled_ends : (d : ℕ) (x : Exit) (end first : ℕ) (e : Environment) (w : World) (r : RootRun) → Ends d x end first e w r → Makes (d - 1) (place_of x) first e w r
   settled_ends d (falls p) end first e w r h = h.1
   settled_ends d (goes p) end first e w r h = h
 
@@ -1207,7 +1207,7 @@ module _ (u : TacUnitTree) (f : CoreFunctionTree) (code : List InstructionTree) 
   block_right (ids.Local i) at l e = refl
   block_right (ids.Data i) at l e = refl
 
-  abbrev code_for : CoreExprTree → ExprCode
+  abbrev pub code_for : CoreExprTree → ExprCode
   code_for s = lowered (length f.variables) s
 
   pub correct : (s : CoreExprTree) → IsThere s → Correct s (code_for s)

@@ -5,4 +5,5 @@ pub mod Real
 pub mod OperandLaws
 pub mod AddressLaws
 pub mod ExprReal
+pub mod PlainReal
 mod LowerExamples

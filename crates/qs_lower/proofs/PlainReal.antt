@@ -10,7 +10,7 @@ use Rattle.qs_memory.specs.Memory as memory
 use Rattle.qs_memory.specs.declared.scalar.Scalar.{Scalar}
 use Rattle.qs_memory.proofs.Options.{some_same}
 use Rattle.qs_events.specs.Runs.{undefined, given}
-use Rattle.qs_calls.specs.World.{World, with_memory, RootRun, Environment, with_value}
+use Rattle.qs_calls.specs.World.{World, with_memory, RootRun, Return, Environment, no_values, with_value}
 use Rattle.qs_core.specs.Trees as core
 use Rattle.qs_core.specs.Trees.{CoreExprTree, CoreStmtTree, CoreFunctionTree}
 use Rattle.qs_core.specs.declared.numbers.Target.{Target}
@@ -20,12 +20,12 @@ use Rattle.qs_core.specs.Statements.{Continuation, Continuations, Context, assig
 use Rattle.qs_tac.specs.Trees.{InstructionTree, store, copy, fill, return, TacUnitTree}
 use Rattle.qs_tac.specs.Holders.{temporaries}
 use Rattle.qs_tac.specs.Values.{Activation, operand, pointer}
-use Rattle.qs_tac.specs.Steps.{Waiting, Next, leaves_memory, step, steps}
+use Rattle.qs_tac.specs.Steps.{Waiting, Next, leaves_memory, ends, step, steps}
 use Rattle.qs_lower.specs.Exits.{Exit, falls, goes, is_fall, exit_size, exit_code}
 use Rattle.qs_lower.specs.Expressions.{ExprCode, size_of, code_of, operand_of, own, address_at}
 use Rattle.qs_lower.specs.Statements.{Exits, falls_of, Part, StmtCode, straight, target_of,  of_assign, of_store, of_copy, of_fill}
 use Rattle.qs_lower.proofs.SizeLaws.{both, one_more, code_length}
-use Rattle.qs_lower.proofs.Real.{Act, Stack, HasAt, has_left, has_right, Kept, KeptBut, kept_all, kept_then, kept_below, Real, real_less, real_given, moment, IsCode, Agree, free, Goes, Ready, AllReady, StmtReal}
+use Rattle.qs_lower.proofs.Real.{Act, Stack, HasAt, has_left, has_right, Kept, KeptBut, kept_all, kept_then, kept_below, Real, real_less, real_given, Resumes, CallsReal, entering, moment, IsCode, Agree, free, Goes}
 use Rattle.qs_lower.proofs.ExprReal as expr
 
 pub given_none : {A : Type 0} (o : Option A) (g : A → RootRun) → o ≡ None → given o g ≡ undefined
@@ -50,7 +50,7 @@ given_pair None i g k = refl
 given_pair (Some a) None g k = refl
 given_pair (Some a) (Some b) g k = refl
 
-module _ (u : TacUnitTree) (f : CoreFunctionTree) (code : List InstructionTree) (function : ℕ) (stack : Stack) (is_code : IsCode u f code function stack) (c : Context) where
+module _ (u : TacUnitTree) (f : CoreFunctionTree) (code : List InstructionTree) (function : ℕ) (stack : Stack) (is_code : IsCode u f code function stack) (c : Context) (first depth : ℕ) (calls_real : CallsReal u depth c.calls) where
   abbrev Correct : CoreExprTree → ExprCode → Type 0
   Correct s e = expr.Correct u f code function stack is_code s e
 
@@ -66,14 +66,37 @@ module _ (u : TacUnitTree) (f : CoreFunctionTree) (code : List InstructionTree) 
   abbrev first_free : ℕ
   first_free = free u f code function stack
 
+  -- an index from which the code goes on as k says, in an activation whose first block has the number `first`
   abbrev pub IsReady : Continuation → (d at : ℕ) → Type 0
-  IsReady k d at = Ready u f code function stack k d at
+  IsReady k d at = (l : Locals) (e : Environment) (w : World) → l.first_block ≡ first → Agrees l e → Makes d at l.first_block e w (k l w)
 
-  abbrev pub AreReady : (d : ℕ) → Exits → (end : ℕ) → Continuations → Type 0
-  AreReady d x end k = AllReady u f code function stack d x end k
+  -- the function ends
+  abbrev pub Returns : (d : ℕ) → Return → Type 0
+  Returns d k =
+      (result : Option Value) (w : World)
+      → (j : ℕ) × (d ≤ j) × (ends temporaries (steps temporaries u j) (at_moment 0 first no_values) stack result w ≡ k result w)
 
-  abbrev pub IsReal : CoreStmtTree → Part → Type 0
-  IsReal s p = StmtReal u f code function stack c s p
+  abbrev pub GoesOn : Continuation → (d : ℕ) → Exit → (end : ℕ) → Type 0
+  GoesOn k d x end = Goes u f code function stack (IsReady k) d x end
+
+  pub record AreReady (d : ℕ) (x : Exits) (end : ℕ) (k : Continuations) : Type 0 where
+    pub next : GoesOn k.next d x.next end
+    pub on_break : GoesOn k.on_break d x.on_break end
+    pub on_continue : GoesOn k.on_continue d x.on_continue end
+    pub on_return : Returns d k.on_return
+
+  -- loops make no more turns than there are steps, and calls nest no deeper
+  abbrev pub IsBounded : ℕ → Type 0
+  IsBounded d = (d ≤ c.turns) × (d ≤ depth)
+
+  -- Both the index where the code stands and its entry go on as the statement says.
+  pub record IsReal (s : CoreStmtTree) (p : Part) : Type 0 where
+    pub stands :
+        (d at : ℕ) (x : Exits) (k : Continuations) → IsBounded d → HasAt code at (p.code x at)
+        → AreReady d x (at + p.size (falls_of x)) k → IsReady (runs s c k) d at
+    pub entered :
+        (d at : ℕ) (x : Exits) (k : Continuations) → IsBounded d → HasAt code at (p.code x at)
+        → AreReady d x (at + p.size (falls_of x)) k → IsReady (runs s c k) d (p.entry at)
 
   -- ---- instructions that change the memory
 
@@ -93,27 +116,27 @@ module _ (u : TacUnitTree) (f : CoreFunctionTree) (code : List InstructionTree) 
   -- an exit behind code
   pub exit_ready :
       (k : Continuation) (d at : ℕ) (x : Exit) → HasAt code at (exit_code x)
-      → Goes u f code function stack (IsReady k) d x (at + exit_size (is_fall x)) → IsReady k d at
-  exit_ready k d at (falls p) has goes_on l e w agree =
-      expr.moved u f code function stack is_code d (at + 0) at l.first_block e w (k l w) (omega arith) (goes_on.0 l e w agree)
-  exit_ready k d at (goes p) has goes_on l e w agree =
-      expr.jump_real u f code function stack is_code d at p l.first_block e w (k l w) has.0 (goes_on l e w agree)
+      → GoesOn k d x (at + exit_size (is_fall x)) → IsReady k d at
+  exit_ready k d at (falls p) has goes_on l e w here agree =
+      expr.moved u f code function stack is_code d (at + 0) at l.first_block e w (k l w) (omega arith) (goes_on.0 l e w here agree)
+  exit_ready k d at (goes p) has goes_on l e w here agree =
+      expr.jump_real u f code function stack is_code d at p l.first_block e w (k l w) has.0 (goes_on l e w here agree)
 
-  goes_at : (k : Continuation) (d i j : ℕ) (x : Exit) → i ≡ j → Goes u f code function stack (IsReady k) d x i → Goes u f code function stack (IsReady k) d x j
-  goes_at k d i j x same h = subst (λ (n : ℕ). Goes u f code function stack (IsReady k) d x n) same h
+  pub goes_at : (k : Continuation) (d i j : ℕ) (x : Exit) → i ≡ j → GoesOn k d x i → GoesOn k d x j
+  goes_at k d i j x same h = subst (λ (n : ℕ). GoesOn k d x n) same h
 
   -- a statement without jumps of its own
   pub straight_real :
       (s : CoreStmtTree) (size used : ℕ) (lines : (at : ℕ) → List InstructionTree) → ((at : ℕ) → length (lines at) ≡ size)
-      → ((d at : ℕ) (k : Continuations) → HasAt code at (lines at) → IsReady k.next d (at + size) → IsReady (runs s c k) d at)
+      → ((d at : ℕ) (k : Continuations) → IsBounded d → HasAt code at (lines at) → IsReady k.next d (at + size) → IsReady (runs s c k) d at)
       → IsReal s (straight size used lines).part
   straight_real s size used lines long real = record { stands = there; entered = there }
     where
       there :
-          (d at : ℕ) (x : Exits) (k : Continuations) → d ≤ c.turns → HasAt code at (lines at ++ exit_code x.next)
+          (d at : ℕ) (x : Exits) (k : Continuations) → IsBounded d → HasAt code at (lines at ++ exit_code x.next)
           → AreReady d x (at + (size + exit_size (falls_of x).next)) k → IsReady (runs s c k) d at
       there d at x k le has ready =
-          real d at k (has_left code at (lines at) _ has)
+          real d at k le (has_left code at (lines at) _ has)
           (exit_ready k.next d (at + size) x.next (has_right code at size (lines at) _ (long at) has)
           (goes_at k.next d _ _ x.next (omega arith) ready.next))
 
@@ -163,13 +186,13 @@ module _ (u : TacUnitTree) (f : CoreFunctionTree) (code : List InstructionTree) 
   pub assign_real : (x : Target) (s : CoreExprTree) (e : ExprCode) → IsTarget x → Correct s e → IsReal (core.assign x s) (of_assign (target_of (length f.variables) x) first_free e).part
   assign_real x s e target h =
       straight_real (core.assign x s) e.size e.used (e.into (target_of (length f.variables) x) first_free) (h.sized.into _ _)
-      (λ d at k has ready l env w agree.
+      (λ d at k le has ready l env w here agree.
       h.into d (target_of (length f.variables) x) first_free at l env w _ (omega arith) agree has
       (λ none. given_none (value s l w.memory) _ none)
       (λ v after is but holds.
       goes_as d (at + e.size) l.first_block after w _ (k.next (assigned x l v) w) (given_some (value s l w.memory) v (λ v. k.next (assigned x l v) w) is)
       (subst (λ (n : ℕ). Makes d (at + e.size) n after w (k.next (assigned x l v) w)) (assigned_first x l v)
-      (ready (assigned x l v) after w (agree_assigned x l env after v target agree but holds)))))
+      (ready (assigned x l v) after w (assigned_first x l v ∙ here) (agree_assigned x l env after v target agree but holds)))))
 
   -- ---- memory
 
@@ -177,7 +200,7 @@ module _ (u : TacUnitTree) (f : CoreFunctionTree) (code : List InstructionTree) 
       (s : Scalar) (a b : CoreExprTree) (p e : ExprCode) → Correct a p → Correct b e → IsReal (core.store s a b) (of_store first_free s p e).part
   store_real s a b p e ha hb =
       straight_real (core.store s a b) (p.base_size + size_of e + 1) 0 _ long
-      (λ d at k has ready l env w agree.
+      (λ d at k le has ready l env w here agree.
       ha.base d first_free at l env w _ (omega arith) agree (has_left code at (p.base_code first_free at) _ has)
       (λ none. given_bind (value a l w.memory) as_pointer _ ∙ given_none (value a l w.memory >>= as_pointer) _ none)
       (λ after kept first.
@@ -199,7 +222,7 @@ module _ (u : TacUnitTree) (f : CoreFunctionTree) (code : List InstructionTree) 
       goes_as d (at + p.base_size + size_of e + 1) l.first_block last (with_memory w m) _ _
       (as_one l w k ∙ given_some _ m (λ m. k.next l (with_memory w m)) is)
       (expr.moved u f code function stack is_code d (at + (p.base_size + size_of e + 1)) (at + p.base_size + size_of e + 1) l.first_block last (with_memory w m) (k.next l (with_memory w m)) (omega arith)
-      (ready l last (with_memory w m)
+      (ready l last (with_memory w m) here
       (expr.agree_kept u f code function stack is_code first_free l env last (omega arith) agree
       (kept_then first_free (first_free + p.base_own) env after last (omega arith) kept kept_last))))))))
     where
@@ -221,7 +244,7 @@ module _ (u : TacUnitTree) (f : CoreFunctionTree) (code : List InstructionTree) 
   pub fill_real : (blank : BlankTree) (a : CoreExprTree) (p : ExprCode) → Correct a p → IsReal (core.fill blank a) (of_fill first_free blank p).part
   fill_real blank a p ha =
       straight_real (core.fill blank a) (p.base_size + 1) 0 _ (λ at. one_more _ _ _ (ha.sized.base first_free at))
-      (λ d at k has ready l env w agree.
+      (λ d at k le has ready l env w here agree.
       ha.base d first_free at l env w _ (omega arith) agree (has_left code at (p.base_code first_free at) _ has)
       (λ none. given_bind (value a l w.memory) as_pointer _ ∙ given_none (value a l w.memory >>= as_pointer) _ none)
       (λ after kept first.
@@ -236,14 +259,14 @@ module _ (u : TacUnitTree) (f : CoreFunctionTree) (code : List InstructionTree) 
       (given_bind (value a l w.memory) as_pointer _ ∙ given_bind (value a l w.memory >>= as_pointer) _ _
       ∙ given_some _ m (λ m. k.next l (with_memory w m)) is)
       (expr.moved u f code function stack is_code d (at + (p.base_size + 1)) (at + p.base_size + 1) l.first_block after (with_memory w m) (k.next l (with_memory w m)) (omega arith)
-      (ready l after (with_memory w m) (expr.agree_kept u f code function stack is_code first_free l env after (omega arith) agree kept))))))
+      (ready l after (with_memory w m) here (expr.agree_kept u f code function stack is_code first_free l env after (omega arith) agree kept))))))
 
   pub copy_real :
       (size alignment : ℕ) (a b : CoreExprTree) (p q : ExprCode) → Correct a p → Correct b q
       → IsReal (core.copy size alignment a b) (of_copy first_free size alignment p q).part
   copy_real size alignment a b p q ha hb =
       straight_real (core.copy size alignment a b) (p.base_size + q.base_size + 1) 0 _ long
-      (λ d at k has ready l env w agree.
+      (λ d at k le has ready l env w here agree.
       ha.base d first_free at l env w _ (omega arith) agree (has_left code at (p.base_code first_free at) _ has)
       (λ none. given_bind (value a l w.memory) as_pointer _ ∙ given_none (value a l w.memory >>= as_pointer) _ none)
       (λ after kept first.
@@ -265,7 +288,7 @@ module _ (u : TacUnitTree) (f : CoreFunctionTree) (code : List InstructionTree) 
       goes_as d (at + p.base_size + q.base_size + 1) l.first_block last (with_memory w m) _ _
       (as_one l w k ∙ given_some _ m (λ m. k.next l (with_memory w m)) is)
       (expr.moved u f code function stack is_code d (at + (p.base_size + q.base_size + 1)) (at + p.base_size + q.base_size + 1) l.first_block last (with_memory w m) (k.next l (with_memory w m)) (omega arith)
-      (ready l last (with_memory w m)
+      (ready l last (with_memory w m) here
       (expr.agree_kept u f code function stack is_code first_free l env last (omega arith) agree
       (kept_then first_free (first_free + p.base_own) env after last (omega arith) kept kept_last))))))))
     where

@@ -1,12 +1,12 @@
 -- What the code of a part has to do: from its first instruction it makes the run that the part means, whatever
 -- follows. These are the claims of the induction over trees.
-use Rattle.std.proofs.Common.{◌≡◌, ℕ, suc, ◌+◌, ◌-◌, ◌<◌, ◌≤◌, Bool, true, false, if◌then◌else◌, List, [], ◌∷◌, ◌++◌, length, Option, Some, None, refl, sym, ap, ◌∙◌, subst, arith}
+use Rattle.std.proofs.Common.{◌≡◌, ℕ, zero, suc, ◌+◌, ◌-◌, ◌<◌, ◌≤◌, Bool, true, false, if◌then◌else◌, List, [], ◌∷◌, ◌++◌, length, Option, Some, None, refl, sym, ap, ◌∙◌, subst, arith}
 use Rattle.std.specs.List.{slice_get}
 use Rattle.qs_memory.specs.Partial.{◌>>=◌}
 use Rattle.qs_memory.specs.Values.{Pointer, Value, as_pointer}
 use Rattle.qs_memory.specs.Memory.{Memory}
 use Rattle.qs_memory.specs.Pointers.{truth}
-use Rattle.qs_events.specs.Runs.{undefined, given}
+use Rattle.qs_events.specs.Runs.{undefined, short, given}
 use Rattle.qs_calls.specs.World.{World, with_memory, RootRun, Return, Environment, with_value}
 use Rattle.qs_calls.specs.Calls.{CallsOf}
 use Rattle.qs_core.specs.Trees.{CoreExprTree, CoreStmtTree, CoreFunctionTree}
@@ -103,11 +103,16 @@ module _ (u : TacUnitTree) where
       (result : Option Value) (w : World)
       → (j : ℕ) × (d ≤ j) × (resume temporaries (steps temporaries u j) stack result w ≡ k result w)
 
-  -- a call of a function goes on with the run that c says
+  -- the step that enters a function, and so many behind it
+  abbrev pub entering : ℕ → Stack → CallsOf
+  entering zero stack f arguments k w = short
+  entering (suc j) stack f arguments k w = enters temporaries u (steps temporaries u j) stack f arguments k w
+
+  -- a call of a function makes the run that c says
   abbrev pub CallsReal : (depth : ℕ) → CallsOf → Type 0
   CallsReal depth c =
-      (d f : ℕ) (arguments : List Value) (k : Return) (w : World) (stack : Stack) → d ≤ depth → Resumes d stack k
-      → (j : ℕ) × (d ≤ j) × (enters temporaries u (steps temporaries u j) stack f arguments k w ≡ c f arguments k w)
+      (d f : ℕ) (arguments : List Value) (k : Return) (w : World) (stack : Stack) → d ≤ depth → Resumes (d - 1) stack k
+      → (j : ℕ) × (d ≤ j) × (entering j stack f arguments k w ≡ c f arguments k w)
 
   module _ (f : CoreFunctionTree) (code : List InstructionTree) (function : ℕ) (stack : Stack) where
     -- a moment of the function at this index
@@ -188,25 +193,3 @@ module _ (u : TacUnitTree) where
     KnownReal s c =
         (b : Bool) → c.known ≡ Some b → (at : ℕ) (l : Locals) (e : Environment) (m : Memory) → Agree l e
         → (value s l m >>= truth m) ≡ Some b
-
-    -- ---- statements
-
-    -- an index from which the code goes on as k says
-    abbrev pub Ready : Continuation → (d at : ℕ) → Type 0
-    Ready k d at = (l : Locals) (e : Environment) (w : World) → Agree l e → Real d (moment at l.first_block e) w stack (k l w)
-
-    pub record AllReady (d : ℕ) (x : Exits) (end : ℕ) (k : Continuations) : Type 0 where
-      pub next : Goes (Ready k.next) d x.next end
-      pub on_break : Goes (Ready k.on_break) d x.on_break end
-      pub on_continue : Goes (Ready k.on_continue) d x.on_continue end
-      pub on_return : Resumes d stack k.on_return
-
-    -- Both the index where the code stands and its entry go on as the statement says, where calls do what c says of
-    -- them, and loops make no more turns than there are steps.
-    pub record StmtReal (c : Context) (s : CoreStmtTree) (p : Part) : Type 0 where
-      pub stands :
-          (d at : ℕ) (x : Exits) (k : Continuations) → d ≤ c.turns → HasAt code at (p.code x at)
-          → AllReady d x (at + p.size (falls_of x)) k → Ready (runs s c k) d at
-      pub entered :
-          (d at : ℕ) (x : Exits) (k : Continuations) → d ≤ c.turns → HasAt code at (p.code x at)
-          → AllReady d x (at + p.size (falls_of x)) k → Ready (runs s c k) d (p.entry at)

@@ -23,9 +23,9 @@ use Rattle.qs_tac.specs.Values.{Activation, operand, pointer}
 use Rattle.qs_tac.specs.Steps.{Waiting, Next, leaves_memory, ends, step, steps}
 use Rattle.qs_lower.specs.Exits.{Exit, falls, goes, is_fall, exit_size, exit_code}
 use Rattle.qs_lower.specs.Expressions.{ExprCode, size_of, code_of, operand_of, own, address_at}
-use Rattle.qs_lower.specs.Statements.{Exits, falls_of, Part, StmtCode, straight, target_of,  of_assign, of_store, of_copy, of_fill}
+use Rattle.qs_lower.specs.Statements.{Exits, falls_of, Part, StmtCode, straight, target_of,  of_assign, of_store, of_copy, of_fill, of_return, of_plain_return}
 use Rattle.qs_lower.proofs.SizeLaws.{both, one_more, code_length}
-use Rattle.qs_lower.proofs.Real.{Act, Stack, HasAt, has_left, has_right, Kept, KeptBut, kept_all, kept_then, kept_below, Real, real_less, real_given, Resumes, CallsReal, entering, moment, IsCode, Agree, free, Goes}
+use Rattle.qs_lower.proofs.Real.{Act, Stack, HasAt, has_left, has_right, Kept, KeptBut, kept_all, kept_then, kept_below, Real, real_less, real_fault, real_given, Resumes, CallsReal, entering, moment, IsCode, Agree, free, Goes}
 use Rattle.qs_lower.proofs.ExprReal as expr
 
 pub given_none : {A : Type 0} (o : Option A) (g : A → RootRun) → o ≡ None → given o g ≡ undefined
@@ -89,14 +89,21 @@ module _ (u : TacUnitTree) (f : CoreFunctionTree) (code : List InstructionTree) 
   abbrev pub IsBounded : ℕ → Type 0
   IsBounded d = (d ≤ c.turns) × (d ≤ depth)
 
-  -- Both the index where the code stands and its entry go on as the statement says.
-  pub record IsReal (s : CoreStmtTree) (p : Part) : Type 0 where
+  -- what a statement, or several, do
+  abbrev pub Meaning : Type 0
+  Meaning = Continuations → Continuation
+
+  -- Both the index where the code stands and its entry go on as is meant.
+  pub record PartReal (m : Meaning) (p : Part) : Type 0 where
     pub stands :
         (d at : ℕ) (x : Exits) (k : Continuations) → IsBounded d → HasAt code at (p.code x at)
-        → AreReady d x (at + p.size (falls_of x)) k → IsReady (runs s c k) d at
+        → AreReady d x (at + p.size (falls_of x)) k → IsReady (m k) d at
     pub entered :
         (d at : ℕ) (x : Exits) (k : Continuations) → IsBounded d → HasAt code at (p.code x at)
-        → AreReady d x (at + p.size (falls_of x)) k → IsReady (runs s c k) d (p.entry at)
+        → AreReady d x (at + p.size (falls_of x)) k → IsReady (m k) d (p.entry at)
+
+  abbrev pub IsReal : CoreStmtTree → Part → Type 0
+  IsReal s p = PartReal (runs s c) p
 
   -- ---- instructions that change the memory
 
@@ -317,3 +324,60 @@ module _ (u : TacUnitTree) (f : CoreFunctionTree) (code : List InstructionTree) 
           given_bind (value a l w.memory) as_pointer _
           ∙ inside (value a l w.memory >>= as_pointer) w l k
           ∙ given_pair (value a l w.memory >>= as_pointer) (value b l w.memory >>= as_pointer) (λ to from. memory.copy size alignment w.memory to from) (λ m. k.next l (with_memory w m))
+
+  -- ---- returns
+
+  ends_here :
+      (j at : ℕ) (l : Locals) (e : Environment) (result : Option Value) (w : World) → l.first_block ≡ first
+      → ends temporaries (steps temporaries u j) (at_moment at l.first_block e) stack result w
+      ≡ ends temporaries (steps temporaries u j) (at_moment 0 first no_values) stack result w
+  ends_here j at l e result w here = ap (λ (n : ℕ). ends temporaries (steps temporaries u j) (at_moment at n e) stack result w) here
+
+  pub plain_return_real : IsReal (core.return None) of_plain_return.part
+  plain_return_real = record { stands = there; entered = there }
+    where
+      there :
+          (d at : ℕ) (x : Exits) (k : Continuations) → IsBounded d → HasAt code at (return None ∷ [])
+          → AreReady d x (at + 1) k → IsReady (runs (core.return None) c k) d at
+      there d at x k le has ready l env w here agree =
+          let r = ready.on_return None w in
+          record {
+            taken = suc r.0;
+            enough = omega (arith, r.1);
+            gives =
+                expr.at_instruction u f code function stack is_code r.0 at l.first_block env w (return None) has.0
+                ∙ ends_here r.0 at l env None w here ∙ r.2;
+          }
+
+  pub return_real : (s : CoreExprTree) (e : ExprCode) → Correct s e → IsReal (core.return (Some s)) (of_return first_free e).part
+  return_real s e h = record { stands = there; entered = there }
+    where
+      ended :
+          (d at : ℕ) (l : Locals) (after : Environment) (w : World) (k : Continuations) (o : Option Value) → l.first_block ≡ first → Returns d k.on_return
+          → slice_get code at ≡ Some (return (Some (operand_of e first_free)))
+          → operand temporaries (operand_of e first_free) (at_moment at l.first_block after) ≡ o
+          → Makes d at l.first_block after w (given o (λ v. k.on_return (Some v) w))
+      ended d at l after w k None here returns has is =
+          real_fault u d (at_moment at l.first_block after) w stack
+          (λ j. expr.at_instruction u f code function stack is_code j at l.first_block after w (return (Some (operand_of e first_free))) has
+          ∙ ap (λ o. given o (λ v. ends temporaries (steps temporaries u j) (at_moment at l.first_block after) stack (Some v) w)) is)
+      ended d at l after w k (Some v) here returns has is =
+          let r = returns (Some v) w in
+          record {
+            taken = suc r.0;
+            enough = omega (arith, r.1);
+            gives =
+                expr.at_instruction u f code function stack is_code r.0 at l.first_block after w (return (Some (operand_of e first_free))) has
+                ∙ ap (λ o. given o (λ v. ends temporaries (steps temporaries u r.0) (at_moment at l.first_block after) stack (Some v) w)) is
+                ∙ ends_here r.0 at l after (Some v) w here ∙ r.2;
+          }
+      there :
+          (d at : ℕ) (x : Exits) (k : Continuations) → IsBounded d → HasAt code at (code_of e first_free at ++ return (Some (operand_of e first_free)) ∷ [])
+          → AreReady d x (at + (size_of e + 1)) k → IsReady (runs (core.return (Some s)) c k) d at
+      there d at x k le has ready l env w here agree =
+          expr.as_operand u f code function stack is_code s e h d first_free at l env w _ (omega arith) agree (has_left code at (code_of e first_free at) _ has)
+          (λ none. given_none (value s l w.memory) _ none)
+          (λ after kept same.
+          ended d (at + size_of e) l after w k (value s l w.memory) here ready.on_return
+          (has_right code at (size_of e) (code_of e first_free at) _ (code_length e h.sized.into _ _) has).0
+          (same (at + size_of e) after (kept_all (first_free + own e) after)))

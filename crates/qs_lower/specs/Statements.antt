@@ -294,9 +294,13 @@ body_falls = record { next = true; on_break = false; on_continue = true }
 abbrev pub body_exits : (again : ℕ) → (behind : Exit) → Exits
 body_exits again behind = record { next = falls again; on_break = settled behind; on_continue = falls again }
 
--- those of a part of which `again` is the step, behind which another one stands
-abbrev pub step_exits : (next : Exit) → (again : ℕ) → (behind : Exit) → Exits
-step_exits next again behind = record { next = next; on_break = settled behind; on_continue = goes again }
+-- those of what stands before the test of a body, whose step is `again`
+abbrev pub front_exits : (next : Exit) → (again : ℕ) → (behind : Exit) → Exits
+front_exits next again behind = record { next = next; on_break = settled behind; on_continue = goes again }
+
+-- and those of a step behind which the loop goes on
+abbrev pub step_exits : (next : Exit) → (behind : Exit) → Exits
+step_exits next behind = record { next = next; on_break = settled behind; on_continue = settled next }
 
 -- A body that ends in a test stands behind the rest and the step: the loop begins with a jump to it, and then each
 -- turn has the branch of the test and no other jump.
@@ -312,8 +316,8 @@ test_last t d step = record {
       let again = step.entry second in
       jump head
       ∷ (d.rest.code (body_exits again x.next) first
-      ++ (step.code (step_exits (falls head) again x.next) second
-      ++ (d.front.code (step_exits (falls last) again x.next) third
+      ++ (step.code (step_exits (falls head) x.next) second
+      ++ (d.front.code (front_exits (falls last) again x.next) third
       ++ d.test.test (goes (d.rest.entry first)) x.next t last)));
   entry = λ at. d.front.entry (at + 1 + d.rest.size body_falls + step.size next_falls);
 }
@@ -322,8 +326,8 @@ test_last t d step = record {
 abbrev pub last_falls : (behind : Bool) → Falls
 last_falls behind = record { next = false; on_break = behind; on_continue = false }
 
-abbrev pub last_exits : (back again : ℕ) → (behind : Exit) → Exits
-last_exits back again behind = record { next = goes back; on_break = behind; on_continue = goes again }
+abbrev pub last_exits : (back : ℕ) → (behind : Exit) → Exits
+last_exits back behind = record { next = goes back; on_break = behind; on_continue = goes back }
 
 abbrev pub body_first : Part → Part → Part
 body_first body step = record {
@@ -331,7 +335,7 @@ body_first body step = record {
   code = λ x at.
       let second = at + body.size body_falls in
       let again = step.entry second in
-      body.code (body_exits again x.next) at ++ step.code (last_exits (body.entry at) again x.next) second;
+      body.code (body_exits again x.next) at ++ step.code (last_exits (body.entry at) x.next) second;
   entry = body.entry;
 }
 
@@ -339,7 +343,7 @@ body_first body step = record {
 abbrev pub body_alone : Part → Part
 body_alone body = record {
   size = λ y. body.size (last_falls y.next);
-  code = λ x at. body.code (last_exits (body.entry at) (body.entry at) x.next) at;
+  code = λ x at. body.code (last_exits (body.entry at) x.next) at;
   entry = body.entry;
 }
 

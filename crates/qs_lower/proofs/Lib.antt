@@ -6,4 +6,5 @@ pub mod OperandLaws
 pub mod AddressLaws
 pub mod ExprReal
 pub mod PlainReal
+pub mod FlowReal
 mod LowerExamples

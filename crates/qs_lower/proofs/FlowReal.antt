@@ -386,3 +386,77 @@ module _ (u : TacUnitTree) (f : CoreFunctionTree) (code : List InstructionTree) 
     stands = λ d at x k le has ready. (first_turns m n body step h g size at x k has c.turns d le.0 le ready).0;
     entered = λ d at x k le has ready. (first_turns m n body step h g size at x k has c.turns d le.0 le ready).1;
   }
+
+  -- a body that ends in a test: the rest, the step, what stands before the test, and the test
+  module _ (s : CoreExprTree) (front rest n : Meaning) (t : Tested) (step : Part) (hf : Real_ front t.front) (ht : Correct s t.test) (hr : Real_ rest t.rest) (hs : Real_ n step) (sized : TestedSized t) (step_sized : PartSized step) where
+    abbrev body_meaning : Meaning
+    body_meaning k = front (with_next k (chosen s rest (λ j. j.on_break) k))
+
+    last_turns :
+        (at : ℕ) (x : Exits) (k : Continuations) → HasAt code at ((test_last first_free t step).code x at)
+        → (i d : ℕ) → d ≤ i → IsBounded d → AreReady d x (at + (test_last first_free t step).size (falls_of x)) k
+        → IsReady (turns_of body_meaning n k i) d (at + 1 + t.rest.size body_falls + step.size next_falls)
+        × IsReady (turns_of body_meaning n k i) d (t.front.entry (at + 1 + t.rest.size body_falls + step.size next_falls))
+    last_turns at x k has zero d le bound ready = (no_turn body_meaning n k d _ (omega (arith, le)), no_turn body_meaning n k d _ (omega (arith, le)))
+    last_turns at x k has (suc i) d le bound ready =
+        let one : ℕ = at + 1 in
+        let two : ℕ = one + t.rest.size body_falls in
+        let three : ℕ = two + step.size next_falls in
+        let last : ℕ = three + t.front.size next_falls in
+        let head : ℕ = t.front.entry three in
+        let again : ℕ = step.entry two in
+        let rest_code : List InstructionTree = t.rest.code (body_exits again x.next) one in
+        let step_code : List InstructionTree = step.code (step_exits (falls head) x.next) two in
+        let front_code : List InstructionTree = t.front.code (front_exits (falls last) again x.next) three in
+        let test_code : List InstructionTree = t.test.test (goes (t.rest.entry one)) x.next first_free last in
+        let has_rest = has.1 in
+        let has_step = has_right code one (t.rest.size body_falls) rest_code (step_code ++ (front_code ++ test_code)) (sized.rest _ one) has_rest in
+        let has_front = has_right code two (step.size next_falls) step_code (front_code ++ test_code) (step_sized _ two) has_step in
+        let has_test = has_right code three (t.front.size next_falls) front_code test_code (sized.front _ three) has_front in
+        let end : ℕ = last + t.test.test_size false (is_fall x.next) in
+        let same : at + (1 + t.rest.size body_falls + step.size next_falls + t.front.size next_falls + t.test.test_size false (is_fall x.next)) ≡ end = omega arith in
+        let behind : AreReady d x end k = ready_at d x _ end k same ready in
+        let fewer = bounded_less (d - 1) d (omega arith) bound in
+        let once = last_turns at x k has i (d - 1) (omega (arith, le)) fewer (all_less (d - 1) d x _ k (omega arith) ready) in
+        let turn : Continuations = after_step k (turns_of body_meaning n k i) in
+        let body : Continuations = after_body k (n turn) in
+        let after_rest : (y : ℕ) → y ≤ d - 1 → AreReady y (step_exits (falls head) x.next) three turn =
+                λ y less. record {
+                  next = (ready_less _ y (d - 1) three less once.0, ready_less _ (y - 1) (d - 1) head (omega (arith, less)) once.1);
+                  on_break = settled_goes k.next y x.next end three (goes_less k.next y d x.next end (omega (arith, less)) behind.next);
+                  on_continue = ready_less _ (y - 1) (d - 1) head (omega (arith, less)) once.1;
+                  on_return = (all_less y d x end k (omega (arith, less)) behind).on_return;
+                } in
+        let into_step : (y : ℕ) → y ≤ d - 1 → GoesOn (n turn) y (falls again) two =
+                λ y less. falls_into n step y two (step_exits (falls head) x.next) turn hs (bounded_less y d (omega (arith, less)) bound)
+                (has_left code two step_code (front_code ++ test_code) has_step) (after_rest y less) in
+        let rest_ready : AreReady (d - 1) (body_exits again x.next) two body =
+                record {
+                  next = into_step (d - 1) (omega arith);
+                  on_break = settled_goes k.next (d - 1) x.next end two (goes_less k.next (d - 1) d x.next end (omega arith) behind.next);
+                  on_continue = into_step (d - 1) (omega arith);
+                  on_return = (all_less (d - 1) d x end k (omega arith) behind).on_return;
+                } in
+        let repeats : IsReady (rest body) (d - 1) (t.rest.entry one) =
+                hr.entered (d - 1) one (body_exits again x.next) body fewer (has_left code one rest_code (step_code ++ (front_code ++ test_code)) has_rest) rest_ready in
+        let tests : (y : ℕ) → y ≤ d → IsReady (chosen s rest (λ j. j.on_break) body) y last =
+                λ y less. test_real s t.test (rest body) k.next y last (goes (t.rest.entry one)) x.next ht has_test
+                (ready_less (rest body) (y - 1) (d - 1) (t.rest.entry one) (omega (arith, less)) repeats)
+                (goes_less k.next y d x.next end less behind.next) body in
+        let front_ready : AreReady d (front_exits (falls last) again x.next) last (with_next body (chosen s rest (λ j. j.on_break) body)) =
+                record {
+                  next = (tests d (omega arith), tests (d - 1) (omega arith));
+                  on_break = settled_goes k.next d x.next end last behind.next;
+                  on_continue = hs.entered (d - 1) two (step_exits (falls head) x.next) turn fewer (has_left code two step_code (front_code ++ test_code) has_step) (after_rest (d - 1) (omega arith));
+                  on_return = behind.on_return;
+                } in
+        (hf.stands d three _ _ bound (has_left code three front_code test_code has_front) front_ready,
+        hf.entered d three _ _ bound (has_left code three front_code test_code has_front) front_ready)
+
+    last_real : Real_ (looped body_meaning n) (test_last first_free t step)
+    last_real = record {
+      stands = λ d at x k le has ready l env w here agree.
+          expr.jump_real u f code function stack is_code d at (t.front.entry (at + 1 + t.rest.size body_falls + step.size next_falls)) l.first_block env w _ has.0
+          (real_less u (d - 1) d _ w stack _ (omega arith) ((last_turns at x k has c.turns d le.0 le ready).1 l env w here agree));
+      entered = λ d at x k le has ready. (last_turns at x k has c.turns d le.0 le ready).1;
+    }

@@ -20,34 +20,34 @@ use Rattle.qs_lower.proofs.ExprReal as expr
 use Rattle.qs_lower.proofs.PlainReal as plain
 
 module _ (u : TacUnitTree) (f : CoreFunctionTree) (code : List InstructionTree) (function : ℕ) (stack : Stack) (is_code : IsCode u f code function stack) (c : Context) (first depth : ℕ) (calls_real : CallsReal u depth c.calls) where
-  abbrev Makes : (d at first : ℕ) → Environment → World → RootRun → Type 0
+  abbrev pub Makes : (d at first : ℕ) → Environment → World → RootRun → Type 0
   Makes d at n e w r = Real u d (moment u f code function stack at n e) w stack r
 
-  abbrev Agrees : Locals → Environment → Type 0
+  abbrev pub Agrees : Locals → Environment → Type 0
   Agrees l e = Agree u f code function stack l e
 
-  abbrev IsReady : Continuation → (d at : ℕ) → Type 0
+  abbrev pub IsReady : Continuation → (d at : ℕ) → Type 0
   IsReady k d at = plain.IsReady u f code function stack is_code c first depth calls_real k d at
 
-  abbrev GoesOn : Continuation → (d : ℕ) → Exit → (end : ℕ) → Type 0
+  abbrev pub GoesOn : Continuation → (d : ℕ) → Exit → (end : ℕ) → Type 0
   GoesOn k d x end = plain.GoesOn u f code function stack is_code c first depth calls_real k d x end
 
-  abbrev AreReady : (d : ℕ) → Exits → (end : ℕ) → Continuations → Type 0
+  abbrev pub AreReady : (d : ℕ) → Exits → (end : ℕ) → Continuations → Type 0
   AreReady d x end k = plain.AreReady u f code function stack is_code c first depth calls_real d x end k
 
-  abbrev IsBounded : ℕ → Type 0
+  abbrev pub IsBounded : ℕ → Type 0
   IsBounded d = plain.IsBounded u f code function stack is_code c first depth calls_real d
 
-  abbrev Meaning : Type 0
+  abbrev pub Meaning : Type 0
   Meaning = Continuations → Continuation
 
-  abbrev Real_ : Meaning → Part → Type 0
-  Real_ m p = plain.PartReal u f code function stack is_code c first depth calls_real m p
+  abbrev pub PartReal : Meaning → Part → Type 0
+  PartReal m p = plain.PartReal u f code function stack is_code c first depth calls_real m p
 
-  abbrev Correct : CoreExprTree → ExprCode → Type 0
+  abbrev pub Correct : CoreExprTree → ExprCode → Type 0
   Correct s e = expr.Correct u f code function stack is_code s e
 
-  abbrev first_free : ℕ
+  abbrev pub first_free : ℕ
   first_free = free u f code function stack
 
   -- ---- fewer steps
@@ -80,11 +80,10 @@ module _ (u : TacUnitTree) (f : CoreFunctionTree) (code : List InstructionTree) 
   goes_at k d x i j same h = subst (λ (n : ℕ). GoesOn k d x n) same h
 
   -- what goes on alike
-  Alike : Continuation → Continuation → Type 0
+  abbrev pub Alike : Continuation → Continuation → Type 0
   Alike k j = (l : Locals) (w : World) → k l w ≡ j l w
 
-  ready_alike : (k j : Continuation) (d at : ℕ) → Alike k j → IsReady k d at → IsReady j d at
-  unfolding Alike
+  pub ready_alike : (k j : Continuation) (d at : ℕ) → Alike k j → IsReady k d at → IsReady j d at
   ready_alike k j d at same h l e w here agree = subst (λ (r : RootRun). Makes d at l.first_block e w r) (same l w) (h l e w here agree)
 
   goes_alike : (k j : Continuation) (d : ℕ) (x : Exit) (end : ℕ) → Alike k j → GoesOn k d x end → GoesOn j d x end
@@ -93,7 +92,7 @@ module _ (u : TacUnitTree) (f : CoreFunctionTree) (code : List InstructionTree) 
 
   -- ---- ways
 
-  abbrev goes_to : Way → Continuations → Continuation
+  abbrev pub goes_to : Way → Continuations → Continuation
   goes_to to_next k = k.next
   goes_to to_break k = k.on_break
   goes_to to_continue k = k.on_continue
@@ -103,7 +102,7 @@ module _ (u : TacUnitTree) (f : CoreFunctionTree) (code : List InstructionTree) 
   exit_of to_break d x end k h = h.on_break
   exit_of to_continue d x end k h = h.on_continue
 
-  going_real : (way : Way) → Real_ (goes_to way) (going way)
+  pub going_real : (way : Way) → PartReal (goes_to way) (going way)
   going_real way = record { stands = there; entered = there }
     where
       size_is : (way : Way) (x : Exits) → falls_to way (falls_of x) ≡ is_fall (exit_to way x)
@@ -119,14 +118,14 @@ module _ (u : TacUnitTree) (f : CoreFunctionTree) (code : List InstructionTree) 
 
   -- ---- one part behind another
 
-  abbrev with_next : Continuations → Continuation → Continuations
+  abbrev pub with_next : Continuations → Continuation → Continuations
   with_next k n = record k { next = n }
 
-  abbrev then_ : Meaning → Meaning → Meaning
+  abbrev pub then_ : Meaning → Meaning → Meaning
   then_ m n k = m (with_next k (n k))
 
   joined_ready :
-      (m n : Meaning) (a b : Part) → Real_ n b → PartSized a → (d at : ℕ) (x : Exits) (k : Continuations) → IsBounded d
+      (m n : Meaning) (a b : Part) → PartReal n b → PartSized a → (d at : ℕ) (x : Exits) (k : Continuations) → IsBounded d
       → HasAt code at ((joined a b).code x at) → AreReady d x (at + (joined a b).size (falls_of x)) k
       → AreReady d (before (b.entry (at + a.size next_falls)) x) (at + a.size next_falls) (with_next k (n k))
   joined_ready m n a b h size d at x k le has ready =
@@ -142,7 +141,7 @@ module _ (u : TacUnitTree) (f : CoreFunctionTree) (code : List InstructionTree) 
         on_return = ready.on_return;
       }
 
-  joined_real : (m n : Meaning) (a b : Part) → Real_ m a → Real_ n b → PartSized a → Real_ (then_ m n) (joined a b)
+  pub joined_real : (m n : Meaning) (a b : Part) → PartReal m a → PartReal n b → PartSized a → PartReal (then_ m n) (joined a b)
   joined_real m n a b g h size = record {
     stands = λ d at x k le has ready.
         g.stands d at (before (b.entry (at + a.size next_falls)) x) (with_next k (n k)) le (has_left code at _ _ has)
@@ -152,7 +151,7 @@ module _ (u : TacUnitTree) (f : CoreFunctionTree) (code : List InstructionTree) 
         (joined_ready m n a b h size d at x k le has ready);
   }
 
-  redirected_real : (m n : Meaning) (a : Part) (way : Way) → Real_ m a → ((k : Continuations) → Alike (goes_to way k) (n k)) → Real_ (then_ m n) (redirected a way)
+  pub redirected_real : (m n : Meaning) (a : Part) (way : Way) → PartReal m a → ((k : Continuations) → Alike (goes_to way k) (n k)) → PartReal (then_ m n) (redirected a way)
   redirected_real m n a to_next g same = record {
     stands = λ d at x k le has ready.
         g.stands d at x (with_next k (n k)) le has (record { next = goes_alike _ (n k) d x.next _ (same k) ready.next; on_break = ready.on_break; on_continue = ready.on_continue; on_return = ready.on_return });
@@ -173,7 +172,7 @@ module _ (u : TacUnitTree) (f : CoreFunctionTree) (code : List InstructionTree) 
   }
 
   -- a part that means the same
-  part_alike : (m n : Meaning) (p : Part) → ((k : Continuations) → Alike (m k) (n k)) → Real_ m p → Real_ n p
+  pub part_alike : (m n : Meaning) (p : Part) → ((k : Continuations) → Alike (m k) (n k)) → PartReal m p → PartReal n p
   part_alike m n p same g = record {
     stands = λ d at x k le has ready. ready_alike (m k) (n k) d at (same k) (g.stands d at x k le has ready);
     entered = λ d at x k le has ready. ready_alike (m k) (n k) d (p.entry at) (same k) (g.entered d at x k le has ready);
@@ -181,7 +180,7 @@ module _ (u : TacUnitTree) (f : CoreFunctionTree) (code : List InstructionTree) 
 
   -- ---- branches
 
-  abbrev chosen : CoreExprTree → Meaning → Meaning → Meaning
+  abbrev pub chosen : CoreExprTree → Meaning → Meaning → Meaning
   chosen s m n k l w = given (value s l w.memory) (λ v. given (truth w.memory v) (λ said. if said then m k l w else n k l w))
 
   -- a test of which each exit goes on
@@ -226,14 +225,14 @@ module _ (u : TacUnitTree) (f : CoreFunctionTree) (code : List InstructionTree) 
 
   -- a part that stands at this index, for an exit that falls into it
   falls_into :
-      (m : Meaning) (p : Part) (d at : ℕ) (x : Exits) (k : Continuations) → Real_ m p → IsBounded d → HasAt code at (p.code x at)
+      (m : Meaning) (p : Part) (d at : ℕ) (x : Exits) (k : Continuations) → PartReal m p → IsBounded d → HasAt code at (p.code x at)
       → AreReady d x (at + p.size (falls_of x)) k → GoesOn (m k) d (falls (p.entry at)) at
   falls_into m p d at x k h le has ready =
       (h.stands d at x k le has ready,
       h.entered (d - 1) at x k (bounded_less (d - 1) d (omega arith) le) has (all_less (d - 1) d x _ k (omega arith) ready))
 
   jumps_into :
-      (m : Meaning) (p : Part) (d at other : ℕ) (x : Exits) (k : Continuations) → Real_ m p → IsBounded d → HasAt code at (p.code x at)
+      (m : Meaning) (p : Part) (d at other : ℕ) (x : Exits) (k : Continuations) → PartReal m p → IsBounded d → HasAt code at (p.code x at)
       → AreReady d x (at + p.size (falls_of x)) k → GoesOn (m k) d (goes (p.entry at)) other
   jumps_into m p d at other x k h le has ready =
       h.entered (d - 1) at x k (bounded_less (d - 1) d (omega arith) le) has (all_less (d - 1) d x _ k (omega arith) ready)
@@ -250,7 +249,7 @@ module _ (u : TacUnitTree) (f : CoreFunctionTree) (code : List InstructionTree) 
   }
 
   -- the way of a part that only goes somewhere, where it is one
-  abbrev WayIs : Option Way → Meaning → Type 0
+  abbrev pub WayIs : Option Way → Meaning → Type 0
   WayIs None m = Unit {0}
   WayIs (Some way) m = (k : Continuations) → Alike (goes_to way k) (m k)
 
@@ -268,12 +267,11 @@ module _ (u : TacUnitTree) (f : CoreFunctionTree) (code : List InstructionTree) 
 
   -- one of two meanings, whatever follows
   chosen_alike : (s : CoreExprTree) (m n : Meaning) (k : Continuations) → Alike (chosen s (λ j. m k) (λ j. n k) k) (chosen s m n k)
-  unfolding Alike
   chosen_alike s m n k l w = refl
 
-  branch_real :
-      (s : CoreExprTree) (e : ExprCode) (m n : Meaning) (v q : Option Way) (a b : Part) → Correct s e → Real_ m a → Real_ n b → PartSized a → WayIs v m → WayIs q n
-      → Real_ (chosen s m n) (branch_part first_free e v q a b)
+  pub branch_real :
+      (s : CoreExprTree) (e : ExprCode) (m n : Meaning) (v q : Option Way) (a b : Part) → Correct s e → PartReal m a → PartReal n b → PartSized a → WayIs v m → WayIs q n
+      → PartReal (chosen s m n) (branch_part first_free e v q a b)
   branch_real s e m n (Some v) (Some q) a b h ha hb size is_v is_q = record { stands = there; entered = there }
     where
       there :
@@ -328,11 +326,11 @@ module _ (u : TacUnitTree) (f : CoreFunctionTree) (code : List InstructionTree) 
 
   -- ---- loops
 
-  abbrev looped : Meaning → Meaning → Meaning
+  abbrev pub looped : Meaning → Meaning → Meaning
   looped m n k l w = repeated c.turns (λ again. m (after_body k (n (after_step k again)))) l w
 
   -- so many turns
-  abbrev turns_of : Meaning → Meaning → Continuations → ℕ → Continuation
+  abbrev pub turns_of : Meaning → Meaning → Continuations → ℕ → Continuation
   turns_of m n k i = repeated i (λ again. m (after_body k (n (after_step k again))))
 
   no_turn : (m n : Meaning) (k : Continuations) (d at : ℕ) → d ≤ 0 → IsReady (turns_of m n k zero) d at
@@ -340,7 +338,7 @@ module _ (u : TacUnitTree) (f : CoreFunctionTree) (code : List InstructionTree) 
 
   -- the body, and a step that does nothing
   alone_turns :
-      (m n : Meaning) (body : Part) → Real_ m body → ((k : Continuations) → Alike k.next (n k)) → (at : ℕ) (x : Exits) (k : Continuations)
+      (m n : Meaning) (body : Part) → PartReal m body → ((k : Continuations) → Alike k.next (n k)) → (at : ℕ) (x : Exits) (k : Continuations)
       → HasAt code at (body.code (last_exits (body.entry at) x.next) at)
       → (i d : ℕ) → d ≤ i → IsBounded d → AreReady d x (at + body.size (last_falls (is_fall x.next))) k
       → IsReady (turns_of m n k i) d at × IsReady (turns_of m n k i) d (body.entry at)
@@ -354,7 +352,7 @@ module _ (u : TacUnitTree) (f : CoreFunctionTree) (code : List InstructionTree) 
               record { next = next; on_break = ready.next; on_continue = next; on_return = ready.on_return } in
       (h.stands d at _ _ bound has inner, h.entered d at _ _ bound has inner)
 
-  alone_real : (m n : Meaning) (body : Part) → Real_ m body → ((k : Continuations) → Alike k.next (n k)) → Real_ (looped m n) (body_alone body)
+  pub alone_real : (m n : Meaning) (body : Part) → PartReal m body → ((k : Continuations) → Alike k.next (n k)) → PartReal (looped m n) (body_alone body)
   alone_real m n body h idle = record {
     stands = λ d at x k le has ready. (alone_turns m n body h idle at x k has c.turns d le.0 le ready).0;
     entered = λ d at x k le has ready. (alone_turns m n body h idle at x k has c.turns d le.0 le ready).1;
@@ -362,7 +360,7 @@ module _ (u : TacUnitTree) (f : CoreFunctionTree) (code : List InstructionTree) 
 
   -- the body, and behind it the step
   first_turns :
-      (m n : Meaning) (body step : Part) → Real_ m body → Real_ n step → PartSized body → (at : ℕ) (x : Exits) (k : Continuations)
+      (m n : Meaning) (body step : Part) → PartReal m body → PartReal n step → PartSized body → (at : ℕ) (x : Exits) (k : Continuations)
       → HasAt code at ((body_first body step).code x at)
       → (i d : ℕ) → d ≤ i → IsBounded d → AreReady d x (at + (body_first body step).size (falls_of x)) k
       → IsReady (turns_of m n k i) d at × IsReady (turns_of m n k i) d (body.entry at)
@@ -381,14 +379,14 @@ module _ (u : TacUnitTree) (f : CoreFunctionTree) (code : List InstructionTree) 
               record { next = into; on_break = settled_goes k.next d x.next _ second ready.next; on_continue = into; on_return = ready.on_return } in
       (h.stands d at _ _ bound (has_left code at _ _ has) inner, h.entered d at _ _ bound (has_left code at _ _ has) inner)
 
-  first_real : (m n : Meaning) (body step : Part) → Real_ m body → Real_ n step → PartSized body → Real_ (looped m n) (body_first body step)
+  pub first_real : (m n : Meaning) (body step : Part) → PartReal m body → PartReal n step → PartSized body → PartReal (looped m n) (body_first body step)
   first_real m n body step h g size = record {
     stands = λ d at x k le has ready. (first_turns m n body step h g size at x k has c.turns d le.0 le ready).0;
     entered = λ d at x k le has ready. (first_turns m n body step h g size at x k has c.turns d le.0 le ready).1;
   }
 
   -- a body that ends in a test: the rest, the step, what stands before the test, and the test
-  module _ (s : CoreExprTree) (front rest n : Meaning) (t : Tested) (step : Part) (hf : Real_ front t.front) (ht : Correct s t.test) (hr : Real_ rest t.rest) (hs : Real_ n step) (sized : TestedSized t) (step_sized : PartSized step) where
+  module _ (s : CoreExprTree) (front rest n : Meaning) (t : Tested) (step : Part) (hf : PartReal front t.front) (ht : Correct s t.test) (hr : PartReal rest t.rest) (hs : PartReal n step) (sized : TestedSized t) (step_sized : PartSized step) where
     abbrev body_meaning : Meaning
     body_meaning k = front (with_next k (chosen s rest (λ j. j.on_break) k))
 
@@ -453,7 +451,7 @@ module _ (u : TacUnitTree) (f : CoreFunctionTree) (code : List InstructionTree) 
         (hf.stands d three _ _ bound (has_left code three front_code test_code has_front) front_ready,
         hf.entered d three _ _ bound (has_left code three front_code test_code has_front) front_ready)
 
-    last_real : Real_ (looped body_meaning n) (test_last first_free t step)
+    pub last_real : PartReal (looped body_meaning n) (test_last first_free t step)
     last_real = record {
       stands = λ d at x k le has ready l env w here agree.
           expr.jump_real u f code function stack is_code d at (t.front.entry (at + 1 + t.rest.size body_falls + step.size next_falls)) l.first_block env w _ has.0

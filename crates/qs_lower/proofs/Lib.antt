@@ -7,4 +7,5 @@ pub mod AddressLaws
 pub mod ExprReal
 pub mod PlainReal
 pub mod FlowReal
+pub mod StmtReal
 mod LowerExamples

@@ -26,15 +26,15 @@ pub record StmtSized (s : StmtCode) : Type 0 where
   pub part : PartSized s.part
   pub tested : OptionSized s.tested
 
-going_sized : (w : Way) → PartSized (going w)
+pub going_sized : (w : Way) → PartSized (going w)
 going_sized to_next x at = exit_length x.next
 going_sized to_break x at = exit_length x.on_break
 going_sized to_continue x at = exit_length x.on_continue
 
-joined_sized : (a b : Part) → PartSized a → PartSized b → PartSized (joined a b)
+pub joined_sized : (a b : Part) → PartSized a → PartSized b → PartSized (joined a b)
 joined_sized a b h k x at = both _ _ _ _ (h _ at) (k x _)
 
-redirected_sized : (a : Part) (w : Way) → PartSized a → PartSized (redirected a w)
+pub redirected_sized : (a : Part) (w : Way) → PartSized a → PartSized (redirected a w)
 redirected_sized a to_next h x at = h _ at
 redirected_sized a to_break h x at = h _ at
 redirected_sized a to_continue h x at = h _ at
@@ -65,7 +65,7 @@ if_stmt_sized false s r h k = k
 
 -- ---- `if`
 
-branch_part_sized :
+pub branch_part_sized :
     (t : ℕ) (e : ExprCode) (v w : Option Way) (a b : Part) → Sized e → PartSized a → PartSized b → PartSized (branch_part t e v w a b)
 branch_part_sized t e (Some to_next) (Some to_next) a b g h k x at = g.test _ _ t at
 branch_part_sized t e (Some to_next) (Some to_break) a b g h k x at = g.test _ _ t at
@@ -85,7 +85,7 @@ branch_part_sized t e None None a b g h k x at =
     three : (m n o : ℕ) → m + (n + o) ≡ m + n + o
     three m n o = omega arith
 
-test_sized : (e : ExprCode) (i : Bool) (rest : Part) (w : Option Way) → Sized e → PartSized rest → OptionSized (test_of e i rest w)
+pub test_sized : (e : ExprCode) (i : Bool) (rest : Part) (w : Option Way) → Sized e → PartSized rest → OptionSized (test_of e i rest w)
 test_sized e i rest None h g = tt
 test_sized e i rest (Some to_next) h g = tt
 test_sized e i rest (Some to_break) h g = record { front = going_sized to_next; test = h; rest = g }

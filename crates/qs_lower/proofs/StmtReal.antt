@@ -1,5 +1,7 @@
 -- The code of each statement makes the run that it means.
 use Rattle.std.proofs.Common.{◌≡◌, ℕ, zero, suc, ◌+◌, ◌-◌, ◌<◌, ◌≤◌, Bool, true, false, not, ◌||◌, ◌&&◌, if◌then◌else◌, List, [], ◌∷◌, ◌++◌, length, map, Option, Some, None, refl, sym, ap, ◌∙◌, subst, arith}
+use Rattle.std.specs.Prelude.{nat_lt}
+use Rattle.std.proofs.lemmas.Bool.Decides.{nat_tests}
 use Rattle.qs_memory.specs.Partial.{◌>>=◌}
 use Rattle.qs_memory.specs.Values.{Value, as_pointer}
 use Rattle.qs_memory.specs.Pointers.{truth}
@@ -16,8 +18,8 @@ use Rattle.qs_lower.specs.Exits.{exit_size}
 use Rattle.qs_lower.specs.Expressions.{ExprCode}
 use Rattle.qs_lower.specs.Statements.{Exits, Part, Way, to_next, to_break, to_continue, Tested, StmtCode, going, straight, leaves, is_break, by_way, tested_behind, of_joined, of_before, of_ways, of_both, test_of, is_next, of_test, of_branch, body_alone, body_first, test_last, plain_loop, loop_part, of_loop}
 use Rattle.qs_lower.proofs.SizeLaws.{Sized}
-use Rattle.qs_lower.proofs.StmtSizeLaws.{PartSized, TestedSized, OptionSized, StmtSized, going_sized, joined_sized, redirected_sized}
-use Rattle.qs_lower.proofs.Real.{Act, Stack, CallsReal, IsCode, free}
+use Rattle.qs_lower.proofs.StmtSizeLaws.{PartSized, TestedSized, OptionSized, StmtSized, going_sized, joined_sized, redirected_sized, branch_sized, loop_sized}
+use Rattle.qs_lower.proofs.Real.{Act, Stack, CallsReal, IsCode, Agree, free}
 use Rattle.qs_lower.proofs.ExprReal as expr
 use Rattle.qs_lower.proofs.PlainReal as plain
 use Rattle.qs_lower.proofs.FlowReal as flow
@@ -253,3 +255,178 @@ module _ (u : TacUnitTree) (f : CoreFunctionTree) (code : List InstructionTree) 
           good_alike m (then_ m n) a
           (λ k. g.ignores k (with_next k (n k)) (subst (λ (e : Bool). SameBut e a.breaks k (with_next k (n k))) (sym ends) (nothing_next a.breaks k (n k)))) g
       by_end false ends = ways_good m n a b ends g h a.way refl
+
+  -- ---- branches
+
+  and_left_false : (a b : Bool) → a ≡ false → (a && b) ≡ false
+  and_left_false a b h = ap (λ x. x && b) h
+
+  and_right_false : (a b : Bool) → b ≡ false → (a && b) ≡ false
+  and_right_false true b h = h
+  and_right_false false b h = refl
+
+  test_good : (s : CoreExprTree) (e : ExprCode) (m n : Meaning) (a b : StmtCode) → Correct s e → Good m a → Good n b → Good (chosen s m n) (of_test first_free e a b)
+  test_good s e m n a b h g i = record {
+    sized = branch_sized None first_free e a b h.sized g.sized i.sized;
+    part =
+        flow.branch_real u f code function stack is_code c first depth calls_real s e m n a.way b.way a.part b.part h g.part i.part g.sized.part
+        (way_is a.way m g.way) (way_is b.way n i.way);
+    way = λ way is. absurd (cc);
+    way_ends = λ way is. absurd (cc);
+    ignores = λ k j same l w.
+        given_alike (value s l w.memory) _ _
+        (λ v. given_alike (truth w.memory v) _ _
+        (λ said. choice_alike said _ _ _ _
+        (g.ignores k j (record {
+          next = λ no. same.next (and_left_false a.ends b.ends no);
+          on_break = λ so. same.on_break (or_left a.breaks b.breaks so);
+          on_continue = same.on_continue;
+          on_return = same.on_return;
+        }) l w)
+        (i.ignores k j (record {
+          next = λ no. same.next (and_right_false a.ends b.ends no);
+          on_break = λ so. same.on_break (or_right a.breaks b.breaks so);
+          on_continue = same.on_continue;
+          on_return = same.on_return;
+        }) l w)));
+    tested = ends_loop b.way refl;
+  }
+    where
+      next_way : (o : Option Way) → is_next o ≡ true → o ≡ Some to_next
+      next_way None h = absurd (cc)
+      next_way (Some to_next) h = refl
+      next_way (Some to_break) h = absurd (cc)
+      next_way (Some to_continue) h = absurd (cc)
+      ends_loop : (o : Option Way) → b.way ≡ o → TestedIs (test_of e (is_next a.way) a.part o) (chosen s m n)
+      ends_loop None is = tt
+      ends_loop (Some to_next) is = tt
+      ends_loop (Some to_continue) is = tt
+      ends_loop (Some to_break) is = record {
+        tree = s;
+        front_meaning = goes_to to_next;
+        rest_meaning = m;
+        front = flow.going_real u f code function stack is_code c first depth calls_real to_next;
+        test = h;
+        rest = g.part;
+        idle = λ next. g.way to_next (next_way a.way next);
+        is = λ k l w.
+            given_alike (value s l w.memory) _ _
+            (λ v. given_alike (truth w.memory v) _ _ (λ said. choice_alike said _ _ _ _ refl (i.way to_break is k l w)));
+      }
+
+  -- some values of temporaries that agree
+  held_for : Locals → Environment
+  held_for l x = if nat_lt x (length f.variables) then l.variables x else l.temporaries (x - length f.variables)
+
+  held_agrees : (l : Locals) → Agree u f code function stack l (held_for l)
+  unfolding held_for
+  held_agrees l = record {
+    variables = λ x below. let so : nat_lt x (length f.variables) ≡ true = grind (arith, nat_tests, below) in
+        ap (λ b. if b then l.variables x else l.temporaries (x - length f.variables)) so;
+    temporaries = λ k below.
+        let so : nat_lt (length f.variables + k) (length f.variables) ≡ false = grind (arith, nat_tests) in
+        let same : length f.variables + k - length f.variables ≡ k = omega arith in
+        ap (λ b. if b then l.variables (length f.variables + k) else l.temporaries (length f.variables + k - length f.variables)) so
+        ∙ ap l.temporaries same;
+  }
+
+  branch_good :
+      (s : CoreExprTree) (e : ExprCode) (m n : Meaning) (a b : StmtCode) → Correct s e → Good m a → Good n b → (o : Option Bool) → e.known ≡ o
+      → Good (chosen s m n) (of_branch o first_free e a b)
+  branch_good s e m n a b h g i None is = test_good s e m n a b h g i
+  branch_good s e m n a b h g i (Some true) is =
+      good_alike m (chosen s m n) a
+      (λ k l w.
+      sym (plain.given_bind (value s l w.memory) (truth w.memory) (λ said. if said then m k l w else n k l w)
+      ∙ plain.given_some _ true (λ said. if said then m k l w else n k l w) (h.known true is 0 l (held_for l) w.memory (held_agrees l)))) g
+  branch_good s e m n a b h g i (Some false) is =
+      good_alike n (chosen s m n) b
+      (λ k l w.
+      sym (plain.given_bind (value s l w.memory) (truth w.memory) (λ said. if said then m k l w else n k l w)
+      ∙ plain.given_some _ false (λ said. if said then m k l w else n k l w) (h.known false is 0 l (held_for l) w.memory (held_agrees l)))) i
+
+  -- ---- loops
+
+  abbrev looped : Meaning → Meaning → Meaning
+  looped m n k l w = repeated c.turns (λ again. m (after_body k (n (after_step k again)))) l w
+
+  abbrev turns_of : Meaning → Meaning → Continuations → ℕ → Continuation
+  turns_of m n k i = repeated i (λ again. m (after_body k (n (after_step k again))))
+
+  -- loops of bodies that mean the same
+  turns_alike :
+      (m q n : Meaning) (body step : StmtCode) → ((k : Continuations) → Alike (m k) (q k)) → Good q body → Good n step
+      → (k : Continuations) (i : ℕ) → Alike (turns_of m n k i) (turns_of q n k i)
+  turns_alike m q n body step same g h k zero l w = refl
+  turns_alike m q n body step same g h k (suc i) l w =
+      let again = turns_alike m q n body step same g h k i in
+      let steps =
+              h.ignores (after_step k (turns_of m n k i)) (after_step k (turns_of q n k i))
+              (record { next = λ no. again; on_break = λ so x y. refl; on_continue = again; on_return = λ x y. refl }) in
+      same (after_body k (n (after_step k (turns_of m n k i)))) l w
+      ∙ g.ignores (after_body k (n (after_step k (turns_of m n k i)))) (after_body k (n (after_step k (turns_of q n k i))))
+      (record { next = λ no. steps; on_break = λ so x y. refl; on_continue = steps; on_return = λ x y. refl }) l w
+
+  not_false : (b : Bool) → b ≡ true → not b ≡ false
+  not_false b h = ap not h
+
+  turns_ignore :
+      (m n : Meaning) (body step : StmtCode) → Good m body → Good n step → (k j : Continuations) → SameBut (not (body.breaks || step.breaks)) false k j
+      → (i : ℕ) → Alike (turns_of m n k i) (turns_of m n j i)
+  turns_ignore m n body step g h k j same zero l w = refl
+  turns_ignore m n body step g h k j same (suc i) l w =
+      let again = turns_ignore m n body step g h k j same i in
+      let steps =
+              h.ignores (after_step k (turns_of m n k i)) (after_step j (turns_of m n j i))
+              (record {
+                next = λ no. again;
+                on_break = λ so. same.next (not_false (body.breaks || step.breaks) (or_right body.breaks step.breaks so));
+                on_continue = again;
+                on_return = same.on_return;
+              }) in
+      g.ignores (after_body k (n (after_step k (turns_of m n k i)))) (after_body j (n (after_step j (turns_of m n j i))))
+      (record {
+        next = λ no. steps;
+        on_break = λ so. same.next (not_false (body.breaks || step.breaks) (or_left body.breaks step.breaks so));
+        on_continue = steps;
+        on_return = same.on_return;
+      }) l w
+
+  if_part : (m : Meaning) (b : Bool) (p q : Part) → (b ≡ true → PartReal m p) → PartReal m q → PartReal m (if b then p else q)
+  if_part m true p q h k = h refl
+  if_part m false p q h k = k
+
+  step_idle : (n : Meaning) (step : StmtCode) → Good n step → is_next step.way ≡ true → (k : Continuations) → Alike k.next (n k)
+  step_idle n step g is = by_way_of step.way refl is
+    where
+      by_way_of : (o : Option Way) → step.way ≡ o → is_next o ≡ true → (k : Continuations) → Alike k.next (n k)
+      by_way_of None same h = absurd (cc)
+      by_way_of (Some to_next) same h = g.way to_next same
+      by_way_of (Some to_break) same h = absurd (cc)
+      by_way_of (Some to_continue) same h = absurd (cc)
+
+  loop_part_real : (m n : Meaning) (body step : StmtCode) → Good m body → Good n step → (o : Option Tested) → TestedIs o m → OptionSized o → PartReal (looped m n) (loop_part first_free o body.part step)
+  loop_part_real m n body step g h None t sized =
+      if_part (looped m n) (is_next step.way) (body_alone body.part) (body_first body.part step.part)
+      (λ is. flow.alone_real u f code function stack is_code c first depth calls_real m n body.part g.part (step_idle n step h is))
+      (flow.first_real u f code function stack is_code c first depth calls_real m n body.part step.part g.part h.part g.sized.part)
+  loop_part_real m n body step g h (Some d) t sized =
+      if_part (looped m n) (d.is_idle && is_next step.way) (body_alone body.part) (test_last first_free d step.part)
+      (λ is. flow.alone_real u f code function stack is_code c first depth calls_real m n body.part g.part (step_idle n step h (both_true d.is_idle (is_next step.way) is)))
+      (flow.part_alike u f code function stack is_code c first depth calls_real _ (looped m n) (test_last first_free d step.part)
+      (λ k. turns_alike (λ j. t.front_meaning (with_next j (chosen t.tree t.rest_meaning (λ i. i.on_break) j))) m n body step t.is g h k c.turns)
+      (flow.last_real u f code function stack is_code c first depth calls_real t.tree t.front_meaning t.rest_meaning n d step.part t.front t.test t.rest h.part sized h.sized.part))
+    where
+      both_true : (a b : Bool) → (a && b) ≡ true → b ≡ true
+      both_true true b h = h
+      both_true false b h = absurd (cc)
+
+  loop_good : (m n : Meaning) (body step : StmtCode) → Good m body → Good n step → Good (looped m n) (of_loop first_free body step)
+  loop_good m n body step g h = record {
+    sized = record { part = loop_sized first_free body.tested body.part step g.sized.tested g.sized.part h.sized; tested = tt };
+    part = loop_part_real m n body step g h body.tested g.tested g.sized.tested;
+    way = λ way is. absurd (cc);
+    way_ends = λ way is. absurd (cc);
+    ignores = λ k j same. turns_ignore m n body step g h k j same c.turns;
+    tested = tt;
+  }

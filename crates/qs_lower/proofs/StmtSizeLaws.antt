@@ -91,7 +91,7 @@ test_sized e i rest (Some to_next) h g = tt
 test_sized e i rest (Some to_break) h g = record { front = going_sized to_next; test = h; rest = g }
 test_sized e i rest (Some to_continue) h g = tt
 
-branch_sized : (known : Option Bool) (t : ℕ) (e : ExprCode) (a b : StmtCode) → Sized e → StmtSized a → StmtSized b → StmtSized (of_branch known t e a b)
+pub branch_sized : (known : Option Bool) (t : ℕ) (e : ExprCode) (a b : StmtCode) → Sized e → StmtSized a → StmtSized b → StmtSized (of_branch known t e a b)
 branch_sized None t e a b g h k = record {
   part = branch_part_sized t e a.way b.way a.part b.part g h.part k.part;
   tested = test_sized e (is_next a.way) a.part b.way g h.part;
@@ -121,7 +121,7 @@ plain_sized : (body : Part) (step : StmtCode) → PartSized body → StmtSized s
 plain_sized body step h k =
     if_part_sized (is_next step.way) (body_alone body) (body_first body step.part) (λ x at. h _ at) (body_first_sized body step.part h k.part)
 
-loop_sized : (t : ℕ) (d : Option Tested) (body : Part) (step : StmtCode) → OptionSized d → PartSized body → StmtSized step → PartSized (loop_part t d body step)
+pub loop_sized : (t : ℕ) (d : Option Tested) (body : Part) (step : StmtCode) → OptionSized d → PartSized body → StmtSized step → PartSized (loop_part t d body step)
 loop_sized t None body step g h k = plain_sized body step h k
 loop_sized t (Some d) body step g h k =
     if_part_sized (d.is_idle && is_next step.way) (body_alone body) (test_last t d step.part) (λ x at. h _ at) (test_last_sized t d step.part g k.part)

@@ -358,10 +358,10 @@ module _ (u : TacUnitTree) (f : CoreFunctionTree) (code : List InstructionTree) 
 
   -- ---- an instruction that gives the value, behind code
 
-  with_itself : (e : Environment) (x : ℕ) (v : Value) → with_value e x v x ≡ Some v
+  pub with_itself : (e : Environment) (x : ℕ) (v : Value) → with_value e x v x ≡ Some v
   with_itself e x v = let here : (x == x) ≡ true = grind (arith, nat_tests) in ap (λ b. if b then Some v else e x) here
 
-  with_other : (e : Environment) (x y : ℕ) (v : Value) → (y ≡ x → ⊥) → with_value e x v y ≡ e y
+  pub with_other : (e : Environment) (x y : ℕ) (v : Value) → (y ≡ x → ⊥) → with_value e x v y ≡ e y
   with_other e x y v other = shown (y == x) refl
     where
       shown : (b : Bool) → (y == x) ≡ b → (if b then Some v else e y) ≡ e y

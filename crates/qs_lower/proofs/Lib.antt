@@ -8,4 +8,6 @@ pub mod ExprReal
 pub mod PlainReal
 pub mod FlowReal
 pub mod StmtReal
+pub mod CallReal
+pub mod UnitReal
 mod LowerExamples

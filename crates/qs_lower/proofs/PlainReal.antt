@@ -153,7 +153,7 @@ module _ (u : TacUnitTree) (f : CoreFunctionTree) (code : List InstructionTree) 
   IsTarget (targets.Variable x) = x < length f.variables
   IsTarget (targets.Temporary k) = k < length f.temporaries
 
-  agree_assigned :
+  pub agree_assigned :
       (x : Target) (l : Locals) (e after : Environment) (v : Value) → IsTarget x → Agrees l e
       → KeptBut (target_of (length f.variables) x) first_free e after → after (target_of (length f.variables) x) ≡ Some v
       → Agrees (assigned x l v) after
@@ -182,12 +182,12 @@ module _ (u : TacUnitTree) (f : CoreFunctionTree) (code : List InstructionTree) 
       by_same k below true h = let same : k ≡ x = grind (arith, nat_tests, h) in ap (λ i. after (length f.variables + i)) same ∙ holds
       by_same k below false h = but (length f.variables + k) (omega (arith, below)) (λ same. differ k same h) ∙ agree.temporaries k below
 
-  assigned_first : (x : Target) (l : Locals) (v : Value) → (assigned x l v).first_block ≡ l.first_block
+  pub assigned_first : (x : Target) (l : Locals) (v : Value) → (assigned x l v).first_block ≡ l.first_block
   assigned_first (targets.Variable x) l v = refl
   assigned_first (targets.Temporary k) l v = refl
 
   -- a result that is as it should be, one step on
-  goes_as : (d at first : ℕ) (e : Environment) (w : World) (r s : RootRun) → r ≡ s → Makes d at first e w s → Makes d at first e w r
+  pub goes_as : (d at first : ℕ) (e : Environment) (w : World) (r s : RootRun) → r ≡ s → Makes d at first e w s → Makes d at first e w r
   goes_as d at first e w r s same h = subst (λ (o : RootRun). Makes d at first e w o) (sym same) h
 
   pub assign_real : (x : Target) (s : CoreExprTree) (e : ExprCode) → IsTarget x → Correct s e → IsReal (core.assign x s) (of_assign (target_of (length f.variables) x) first_free e).part

@@ -24,13 +24,13 @@ use Rattle.qs_lower.proofs.ExprReal as expr
 use Rattle.qs_lower.proofs.PlainReal as plain
 use Rattle.qs_lower.proofs.FlowReal as flow
 
-abbrev Equal : Relation
+abbrev pub Equal : Relation
 Equal o p = o ≡ p
 
-equal_keeps : Keeps Equal
+pub equal_keeps : Keeps Equal
 equal_keeps = record { emit = λ event o p h. ap (emit event) h; undefined = refl }
 
-given_alike : {A : Type 0} (o : Option A) (f g : A → RootRun) → ((a : A) → f a ≡ g a) → given o f ≡ given o g
+pub given_alike : {A : Type 0} (o : Option A) (f g : A → RootRun) → ((a : A) → f a ≡ g a) → given o f ≡ given o g
 given_alike None f g h = refl
 given_alike (Some a) f g h = h a
 
@@ -108,7 +108,7 @@ module _ (u : TacUnitTree) (f : CoreFunctionTree) (code : List InstructionTree) 
     pub idle : d.is_idle ≡ true → (k : Continuations) → Alike k.next (rest_meaning k)
     pub is : (k : Continuations) → Alike (front_meaning (with_next k (chosen tree rest_meaning (λ j. j.on_break) k))) (m k)
 
-  abbrev TestedIs : Option Tested → Meaning → Type 0
+  abbrev pub TestedIs : Option Tested → Meaning → Type 0
   TestedIs None m = Unit {0}
   TestedIs (Some d) m = TestIs d m
 
@@ -149,7 +149,7 @@ module _ (u : TacUnitTree) (f : CoreFunctionTree) (code : List InstructionTree) 
 
   -- ---- a statement without jumps of its own, and one that only jumps
 
-  straight_good :
+  pub straight_good :
       (m : Meaning) (size used : ℕ) (lines : (at : ℕ) → List InstructionTree) → StmtSized (straight size used lines) → PartReal m (straight size used lines).part
       → ((k j : Continuations) → SameBut false false k j → Alike (m k) (m j)) → Good m (straight size used lines)
   straight_good m size used lines sized real same =
@@ -160,7 +160,7 @@ module _ (u : TacUnitTree) (f : CoreFunctionTree) (code : List InstructionTree) 
   ways_same to_break k j h = h.on_break refl
   ways_same to_continue k j h = h.on_continue
 
-  way_good : (way : Way) → Good (goes_to way) (by_way way)
+  pub way_good : (way : Way) → Good (goes_to way) (by_way way)
   way_good way = record {
     sized = record { part = going_sized way; tested = tt };
     part = flow.going_real u f code function stack is_code c first depth calls_real way;
@@ -247,7 +247,7 @@ module _ (u : TacUnitTree) (f : CoreFunctionTree) (code : List InstructionTree) 
       clash : (b : Bool) → b ≡ false → b ≡ true → ⊥
       clash b h k = cc
 
-  both_good : (m n : Meaning) (a b : StmtCode) → Good m a → Good n b → Good (then_ m n) (of_both a b)
+  pub both_good : (m n : Meaning) (a b : StmtCode) → Good m a → Good n b → Good (then_ m n) (of_both a b)
   both_good m n a b g h = by_end a.ends refl
     where
       by_end : (e : Bool) → a.ends ≡ e → Good (then_ m n) (if e then a else of_ways a.way a b)
@@ -265,7 +265,7 @@ module _ (u : TacUnitTree) (f : CoreFunctionTree) (code : List InstructionTree) 
   and_right_false true b h = h
   and_right_false false b h = refl
 
-  test_good : (s : CoreExprTree) (e : ExprCode) (m n : Meaning) (a b : StmtCode) → Correct s e → Good m a → Good n b → Good (chosen s m n) (of_test first_free e a b)
+  pub test_good : (s : CoreExprTree) (e : ExprCode) (m n : Meaning) (a b : StmtCode) → Correct s e → Good m a → Good n b → Good (chosen s m n) (of_test first_free e a b)
   test_good s e m n a b h g i = record {
     sized = branch_sized None first_free e a b h.sized g.sized i.sized;
     part =
@@ -330,7 +330,7 @@ module _ (u : TacUnitTree) (f : CoreFunctionTree) (code : List InstructionTree) 
         ∙ ap l.temporaries same;
   }
 
-  branch_good :
+  pub branch_good :
       (s : CoreExprTree) (e : ExprCode) (m n : Meaning) (a b : StmtCode) → Correct s e → Good m a → Good n b → (o : Option Bool) → e.known ≡ o
       → Good (chosen s m n) (of_branch o first_free e a b)
   branch_good s e m n a b h g i None is = test_good s e m n a b h g i
@@ -421,7 +421,7 @@ module _ (u : TacUnitTree) (f : CoreFunctionTree) (code : List InstructionTree) 
       both_true true b h = h
       both_true false b h = absurd (cc)
 
-  loop_good : (m n : Meaning) (body step : StmtCode) → Good m body → Good n step → Good (looped m n) (of_loop first_free body step)
+  pub loop_good : (m n : Meaning) (body step : StmtCode) → Good m body → Good n step → Good (looped m n) (of_loop first_free body step)
   loop_good m n body step g h = record {
     sized = record { part = loop_sized first_free body.tested body.part step g.sized.tested g.sized.part h.sized; tested = tt };
     part = loop_part_real m n body step g h body.tested g.tested g.sized.tested;

@@ -327,7 +327,7 @@ module _ (u : TacUnitTree) (f : CoreFunctionTree) (code : List InstructionTree) 
 
   -- ---- returns
 
-  ends_here :
+  pub ends_here :
       (j at : ℕ) (l : Locals) (e : Environment) (result : Option Value) (w : World) → l.first_block ≡ first
       → ends temporaries (steps temporaries u j) (at_moment at l.first_block e) stack result w
       ≡ ends temporaries (steps temporaries u j) (at_moment 0 first no_values) stack result w

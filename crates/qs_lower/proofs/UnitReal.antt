@@ -24,7 +24,7 @@ use Rattle.qs_core.specs.Units as units
 use Rattle.qs_core.proofs.RelationLaws as laws
 use Rattle.qs_tac.specs.Trees.{InstructionTree, return, TacFunctionTree, TacUnitTree}
 use Rattle.qs_tac.specs.Holders.{temporaries}
-use Rattle.qs_tac.specs.Steps.{frame_of, begins, enters, ends, resume, instruction_at, steps}
+use Rattle.qs_tac.specs.Steps.{frame_of, begins, enters, ends, resume, step, instruction_at, steps}
 use Rattle.qs_tac.specs.Units.{tac_run}
 use Rattle.qs_lower.specs.Exits.{falls, goes}
 use Rattle.qs_lower.specs.Expressions.{lowered}
@@ -165,3 +165,125 @@ module _ (u : TacUnitTree) (f : CoreFunctionTree) (code : List InstructionTree) 
       stmts_good (stmt_and s (stmt_and r ss)) h =
           stmt.both_good u f code function stack is_code c first depth calls_real (runs s c) (runs_all (stmt_and r ss) c) (stmt_code v t s) (stmts_code v t (stmt_and r ss))
           (stmt_good s h.0) (stmts_good (stmt_and r ss) h.1)
+
+
+  -- ---- behind the body of a function
+
+  nowhere_ready : (d at : ℕ) → slice_get code at ≡ None → plain.IsReady u f code function stack is_code c first depth calls_real nowhere d at
+  nowhere_ready d at none l e w here agree =
+      real_fault u d (moment u f code function stack at l.first_block e) w stack
+      (λ j. ap (λ o. step temporaries u o (steps temporaries u j) (moment u f code function stack at l.first_block e) w stack) (is_code at l.first_block e ∙ none))
+
+  -- a return without a value, where the body can end
+  end_ready :
+      (d at : ℕ) (k : Return) → slice_get code at ≡ Some (return None) → plain.Returns u f code function stack is_code c first depth calls_real d k
+      → plain.IsReady u f code function stack is_code c first depth calls_real (λ l w. k None w) d at
+  end_ready d at k has returns l e w here agree =
+      let r = returns None w in
+      record {
+        taken = suc r.0;
+        enough = omega (arith, r.1);
+        gives =
+            expr.at_instruction u f code function stack is_code r.0 at l.first_block e w (return None) has
+            ∙ plain.ends_here u f code function stack is_code c first depth calls_real r.0 at l e None w here ∙ r.2;
+      }
+
+-- ---- a list of instructions in the code
+
+at_seam : (pre : List InstructionTree) (i : InstructionTree) (rest : List InstructionTree) → slice_get (pre ++ i ∷ rest) (length pre) ≡ Some i
+at_seam [] i rest = refl
+at_seam (j ∷ pre) i rest = at_seam pre i rest
+
+append_one : (pre : List InstructionTree) (i : InstructionTree) (rest : List InstructionTree) → (pre ++ i ∷ []) ++ rest ≡ pre ++ i ∷ rest
+append_one [] i rest = refl
+append_one (j ∷ pre) i rest = ap (λ l. j ∷ l) (append_one pre i rest)
+
+length_one : (pre : List InstructionTree) (i : InstructionTree) → length (pre ++ i ∷ []) ≡ length pre + 1
+length_one [] i = refl
+length_one (j ∷ pre) i = let h = length_one pre i in omega (arith, h)
+
+stands_in : (xs ys pre : List InstructionTree) → HasAt (pre ++ (xs ++ ys)) (length pre) xs
+stands_in [] ys pre = tt
+stands_in (i ∷ xs) ys pre =
+    (at_seam pre i (xs ++ ys),
+    subst (λ (n : ℕ). HasAt (pre ++ i ∷ (xs ++ ys)) n xs) (length_one pre i)
+    (subst (λ (l : List InstructionTree). HasAt l (length (pre ++ i ∷ [])) xs) (append_one pre i (xs ++ ys)) (stands_in xs ys (pre ++ i ∷ []))))
+
+behind_all : (xs ys : List InstructionTree) (n k : ℕ) → length xs ≡ n → slice_get (xs ++ ys) (n + k) ≡ slice_get ys k
+behind_all [] ys n k h = let same : n + k ≡ k = omega (arith, h) in ap (slice_get ys) same
+behind_all (i ∷ xs) ys zero k h = absurd (omega (arith, h))
+behind_all (i ∷ xs) ys (suc n) k h = let less : length xs ≡ n = omega (arith, h) in let same : suc n + k ≡ suc (n + k) = omega arith in ap (slice_get (i ∷ (xs ++ ys))) same ∙ behind_all xs ys n k less
+
+-- ---- a function
+
+abbrev exits_of : (end : ℕ) → Exits
+exits_of end = record { next = falls end; on_break = goes (end + 1); on_continue = goes (end + 1) }
+
+module _ (u : TacUnitTree) (f : CoreFunctionTree) (function : ℕ) (stack : Stack) (is_code : IsCode u f (function_code f) function stack) (c : Context) (first depth : ℕ) (calls_real : CallsReal u depth c.calls) where
+  abbrev end_of : ℕ
+  end_of = (body_code f).part.size next_falls
+
+  abbrev body_lines : List InstructionTree
+  body_lines = (body_code f).part.code (exits_of end_of) 0
+
+  body_length : length body_lines ≡ end_of
+  body_length = (stmts_sized (length f.variables) (free_from f) f.body).part (exits_of end_of) 0
+
+  past : (e : Bool) → slice_get (body_lines ++ end_code e) (end_of + 1) ≡ None
+  past true = behind_all body_lines [] end_of 1 body_length
+  past false = behind_all body_lines (return None ∷ []) end_of 1 body_length
+
+  abbrev Ready : Continuation → (d at : ℕ) → Type 0
+  Ready k d at = plain.IsReady u f (function_code f) function stack is_code c first depth calls_real k d at
+
+  at_zero : (k : Continuation) (d : ℕ) → Ready k d end_of → Ready k d (0 + end_of)
+  at_zero k d h = let same : end_of ≡ 0 + end_of = omega arith in subst (λ (n : ℕ). Ready k d n) same h
+
+  body_real :
+      (calls_alike : (g : ℕ) (arguments : List Value) (k j : Return) → ((result : Option Value) (w : World) → k result w ≡ j result w) → (w : World) → c.calls g arguments k w ≡ c.calls g arguments j w)
+      → StmtsThere u f (function_code f) function stack is_code c first depth calls_real f.body
+      → (d : ℕ) → plain.IsBounded u f (function_code f) function stack is_code c first depth calls_real d → (k : Return)
+      → plain.Returns u f (function_code f) function stack is_code c first depth calls_real d k → Ready (runs_all f.body c (after_function k)) d 0
+  body_real calls_alike there d le k returns = by_end (body_code f).ends refl
+    where
+      plus_zero : (n : ℕ) → n ≡ n + 0
+      plus_zero n = omega arith
+      clash : (b : Bool) → b ≡ true → b ≡ false → ⊥
+      clash b h k = cc
+      good : stmt.Good u f (function_code f) function stack is_code c first depth calls_real (runs_all f.body c) (body_code f)
+      good = stmts_good u f (function_code f) function stack is_code c first depth calls_real calls_alike f.body there
+      lines : HasAt (function_code f) 0 body_lines
+      lines = stands_in body_lines (end_code (body_code f).ends) []
+      nothing : (i : ℕ) → Ready nowhere i (end_of + 1)
+      nothing i = nowhere_ready u f (function_code f) function stack is_code c first depth calls_real i (end_of + 1) (past (body_code f).ends)
+      by_end : (e : Bool) → (body_code f).ends ≡ e → Ready (runs_all f.body c (after_function k)) d 0
+      by_end false ends =
+          let has : slice_get (function_code f) end_of ≡ Some (return None) =
+                  ap (λ b. slice_get (body_lines ++ end_code b) end_of) ends
+                  ∙ ap (slice_get (body_lines ++ return None ∷ [])) (plus_zero end_of) ∙ behind_all body_lines (return None ∷ []) end_of 0 body_length in
+          let ended : (i : ℕ) → i ≤ d → Ready (λ l w. k None w) i end_of =
+                  λ i less. end_ready u f (function_code f) function stack is_code c first depth calls_real i end_of k has
+                  (λ result w. let r = returns result w in (r.0, omega (arith, less, r.1), r.2)) in
+          good.part.stands d 0 (exits_of end_of) (after_function k) le lines
+          (record { next = (at_zero _ d (ended d (omega arith)), ended (d - 1) (omega arith)); on_break = nothing (d - 1); on_continue = nothing (d - 1); on_return = returns })
+      by_end true ends =
+          let has : slice_get (function_code f) end_of ≡ None =
+                  ap (λ b. slice_get (body_lines ++ end_code b) end_of) ends
+                  ∙ ap (slice_get (body_lines ++ [])) (plus_zero end_of) ∙ behind_all body_lines [] end_of 0 body_length in
+          let other : Continuations = record (after_function k) { next = nowhere } in
+          let same = good.ignores other (after_function k)
+                  (record {
+                    next = λ no. absurd (clash (body_code f).ends ends no);
+                    on_break = λ so l w. refl;
+                    on_continue = λ l w. refl;
+                    on_return = λ result w. refl;
+                  }) in
+          flow.ready_alike u f (function_code f) function stack is_code c first depth calls_real (runs_all f.body c other) (runs_all f.body c (after_function k)) d 0 same
+          (good.part.stands d 0 (exits_of end_of) other le lines
+          (record {
+            next = (at_zero nowhere d (nowhere_ready u f (function_code f) function stack is_code c first depth calls_real d end_of has),
+                nowhere_ready u f (function_code f) function stack is_code c first depth calls_real (d - 1) end_of has);
+            on_break = nothing (d - 1);
+            on_continue = nothing (d - 1);
+            on_return = returns;
+          }))

@@ -10,4 +10,5 @@ pub mod FlowReal
 pub mod StmtReal
 pub mod CallReal
 pub mod UnitReal
+pub mod Follow
 mod LowerExamples

@@ -239,7 +239,7 @@ module _ (u : TacUnitTree) (f : CoreFunctionTree) (function : ℕ) (stack : Stac
   at_zero : (k : Continuation) (d : ℕ) → Ready k d end_of → Ready k d (0 + end_of)
   at_zero k d h = let same : end_of ≡ 0 + end_of = omega arith in subst (λ (n : ℕ). Ready k d n) same h
 
-  body_real :
+  pub body_real :
       (calls_alike : (g : ℕ) (arguments : List Value) (k j : Return) → ((result : Option Value) (w : World) → k result w ≡ j result w) → (w : World) → c.calls g arguments k w ≡ c.calls g arguments j w)
       → StmtsThere u f (function_code f) function stack is_code c first depth calls_real f.body
       → (d : ℕ) → plain.IsBounded u f (function_code f) function stack is_code c first depth calls_real d → (k : Return)

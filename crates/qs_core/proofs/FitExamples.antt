@@ -3,7 +3,7 @@ use Rattle.std.proofs.Common.{◌≡◌, ℕ, not, Bool, true, false, List, [], 
 use Rattle.std.specs.List.{list_all}
 use Rattle.qs_base.specs.Names.{is_name}
 use Rattle.qs_base.specs.Keywords.{is_keyword, keyword_of}
-use Rattle.qs_memory.specs.Memory.{zeros}
+use Rattle.qs_memory.specs.Memory.{zeros, nulls}
 use Rattle.qs_memory.specs.declared.scalar.Scalar.{Scalar}
 use Rattle.qs_memory.specs.declared.scalar.Scalar.TheVariants as scalars
 use Rattle.qs_memory.specs.declared.operation.Signedness.{Signedness}
@@ -154,6 +154,7 @@ these_are_refused :
     ∷ load scalars.Int int
     ∷ load scalars.Int (variable scalars.Pointer 5)
     ∷ member 0 int
+    ∷ member 16777217 pointer_to
     ∷ unary (unaries.Plus Unsigned) int
     ∷ unary (unaries.Minus Signed) char
     ∷ unary (unaries.Complement Signed) uint
@@ -232,9 +233,11 @@ these_are_out_of_place :
     ∷ store scalars.Char pointer_to int
     ∷ store scalars.Int int int
     ∷ copy 12 0 pointer_to pointer_to
+    ∷ copy 16777217 1 pointer_to pointer_to
     ∷ copy 12 4 int pointer_to
     ∷ copy 12 4 pointer_to int
     ∷ fill (zeros 12) int
+    ∷ fill (nulls 4194305) pointer_to
     ∷ call None (Function (record { 0 = 2 })) []
     ∷ call None first (int ∷ [])
     ∷ call None first (int ∷ char ∷ char ∷ [])
@@ -289,8 +292,9 @@ functions_are_refused :
     ∷ with_parts (Plain 0, Placed 0 scalars.Char) variables [] []
     ∷ with_parts (Plain 0, Placed 0 scalars.Char) variables (4 ∷ []) []
     ∷ with_parts (Plain 0, Placed 0 scalars.Int) variables (4 ∷ []) []
-    -- its body
+    -- its body, or a block larger than every type
     ∷ with_parts (Plain 0, Plain 1) variables [] (break ∷ [])
+    ∷ with_parts (Plain 0, Plain 1) variables (16777217 ∷ []) []
     ∷ record f { name = codes "while" }
     ∷ [])
     ≡ true

@@ -7,7 +7,7 @@ use Rattle.qs_memory.specs.declared.scalar.Scalar.{Scalar}
 use Rattle.qs_memory.specs.declared.scalar.Scalar.TheVariants as scalars
 use Rattle.qs_core.specs.Trees.{CoreFunctionTree, CoreUnitTree}
 use Rattle.qs_core.specs.Scalars.{same_scalar, same_scalars, is_type}
-use Rattle.qs_core.specs.Fits.{stmts_fit, differ, same_variable, is_named, parameters_fit, function_fits, is_main, data_fits, unit_fits}
+use Rattle.qs_core.specs.Fits.{stmts_fit, differ, same_variable, is_named, parameters_fit, is_size, function_fits, is_main, data_fits, unit_fits}
 
 pub both : (a b : Bool) → (a && b) ≡ true → (a ≡ true) × (b ≡ true)
 both true true h = (refl, refl)
@@ -66,11 +66,13 @@ pub record FunctionFits (u : CoreUnitTree) (f : CoreFunctionTree) : Type 0 where
   pub different : differ same_variable f.variables ≡ true
   pub parameters : parameters_fit f.blocks 0 f.parameters f.variables ≡ true
   pub body : stmts_fit u f false false f.body ≡ true
+  pub blocks : list_all is_size f.blocks ≡ true
 
 pub function_parts :
     (u : CoreUnitTree) (f : CoreFunctionTree) → function_fits u f ≡ true → FunctionFits u f
 function_parts u f h =
-    let body = both _ (stmts_fit u f false false f.body) h in
+    let blocks = both _ (list_all is_size f.blocks) h in
+    let body = both _ (stmts_fit u f false false f.body) blocks.0 in
     let parameters = both _ (parameters_fit f.blocks 0 f.parameters f.variables) body.0 in
     let different = both _ (differ same_variable f.variables) parameters.0 in
     let names = both (is_name f.name) (list_all is_named f.variables) different.0 in
@@ -80,6 +82,7 @@ function_parts u f h =
       different = different.1;
       parameters = parameters.1;
       body = body.1;
+      blocks = blocks.1;
     }
 
 pub record UnitFits (u : CoreUnitTree) : Type 0 where

@@ -122,7 +122,7 @@ module _ (u : CoreUnitTree) where
       (λ d i. all_at (data_fits u) u.data_blocks b d fits i) in
       let at = data_at u.data_blocks b is.0 is.1 in
       subst (λ (k : Block). Sound (k.cells o)) (sym at.1)
-      (at_index Sound (cells_of_pieces (is.0).pieces) o (pieces_sound (is.0).pieces is.2)
+      (at_index Sound (cells_of_pieces (is.0).pieces) o (pieces_sound (is.0).pieces (both (list_all (piece_fits u) (is.0).pieces) _ is.2).0)
       (subst (λ (k : Block). o < k.size) at.1 h))
 
 pub initial_memory_is_ready : InitialMemoryIsReady

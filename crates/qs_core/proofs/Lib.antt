@@ -5,5 +5,8 @@ pub mod RangeLaws
 pub mod InitialLaws
 pub mod OutlineLaws
 mod FitExamples
+mod TermExamples
 mod OutlineExamples
 mod RunExamples
+mod CallGraphExamples
+mod SizeExamples

@@ -1,5 +1,5 @@
 -- Outlines by hand.
-use Rattle.std.proofs.Common.{◌≡◌, ℕ, true, List, [], ◌∷◌, ◌++◌, codes, decimal, Some, None, refl, ap, ◌∙◌, arith}
+use Rattle.std.proofs.Common.{◌≡◌, ℕ, true, List, [], ◌∷◌, ◌++◌, codes, decimal, pos, negsuc, Some, None, refl, ap, ◌∙◌, arith}
 use Rattle.std.proofs.lemmas.Fmt.{decimal_digit, decimal_step}
 use Rattle.qs_memory.specs.declared.scalar.Scalar.TheVariants as scalars
 use Rattle.qs_memory.specs.declared.operation.Signedness.TheVariants.{Signed, Unsigned}
@@ -13,7 +13,11 @@ use Rattle.qs_base.specs.Names.{is_name}
 use Rattle.qs_base.specs.Keywords.{is_keyword, keyword_of}
 use Rattle.qs_core.specs.Trees.{CoreExprTree, literal, null_pointer, variable, temporary, load, unary, binary, conversion, logical_and, logical_or, conditional, skip, call, branch, return, stmts_of, CoreFunctionTree, CoreUnitTree}
 use Rattle.qs_core.specs.Fits.{unit_fits}
-use Rattle.qs_core.specs.Terms.{told_term, told_condition}
+use Rattle.qs_core.specs.declared.term.TermOperation.TheVariants.{Add, Subtract}
+use Rattle.qs_core.specs.declared.term.TermComparison.TheVariants.{LessOrEqual, Less, Equal, NotEqual}
+use Rattle.qs_core.specs.TermTrees.{CoreTermTree, number, combined, wrapped, CoreConditionTree, compared, not, and, or}
+use Rattle.qs_core.specs.Terms.{remainder_of}
+use Rattle.qs_core.specs.TermTexts.{term_or_mark, condition_or_mark}
 use Rattle.qs_core.specs.Outline.{outline}
 
 -- numbers in decimal
@@ -43,8 +47,8 @@ d256 = decimal_step 256 (omega arith) (omega arith) ∙ ap (λ (l : List ℕ). l
 abbrev pub n : CoreExprTree
 n = variable scalars.Unsigned 0
 
-abbrev pub number : ℕ → CoreExprTree
-number k = literal scalars.Unsigned k
+abbrev pub unsigned : ℕ → CoreExprTree
+unsigned k = literal scalars.Unsigned k
 
 abbrev pub f : CoreFunctionTree
 f = record {
@@ -55,9 +59,9 @@ f = record {
   blocks = [];
   result_type = Some scalars.Unsigned;
   body = stmts_of (
-      branch (binary (binaries.Compare comparisons.Equal Unsigned) n (number 0)) (return (Some (number 0))) skip
-      ∷ call (Some 0) (Function (record { 0 = 0 })) (binary (binaries.Arithmetic arithmetics.Subtract Unsigned) n (number 1) ∷ [])
-      ∷ return (Some (binary (binaries.Arithmetic arithmetics.Add Unsigned) (temporary scalars.Unsigned 0) (number 1)))
+      branch (binary (binaries.Compare comparisons.Equal Unsigned) n (unsigned 0)) (return (Some (unsigned 0))) skip
+      ∷ call (Some 0) (Function (record { 0 = 0 })) (binary (binaries.Arithmetic arithmetics.Subtract Unsigned) n (unsigned 1) ∷ [])
+      ∷ return (Some (binary (binaries.Arithmetic arithmetics.Add Unsigned) (temporary scalars.Unsigned 0) (unsigned 1)))
       ∷ []);
 }
 
@@ -100,69 +104,66 @@ its_outline :
     ++ codes ".2 return 0\n"
 its_outline = simp (d0, d1, d2, d3) refl
 
--- ---- terms
+-- ---- terms and conditions as text
 
-a_negative_literal : told_term f (literal scalars.Int 4294967295) ≡ codes "-1"
-a_negative_literal = simp d1 refl
+-- int i, unsigned i, unsigned u, and the second of them
+abbrev g : CoreFunctionTree
+g = record {
+  name = codes "g";
+  parameters = [];
+  variables =
+      record { name = codes "i"; ordinal = 1; scalar = scalars.Int }
+      ∷ record { name = codes "i"; ordinal = 2; scalar = scalars.Unsigned }
+      ∷ [];
+  temporaries = [];
+  blocks = [];
+  result_type = None;
+  body = stmts_of [];
+}
 
-a_minus : told_term f (unary (unaries.Minus Signed) (literal scalars.Int 1)) ≡ codes "(wraps (sub 0 1))"
-a_minus = simp d1 refl
+abbrev i1 : CoreTermTree
+i1 = CoreTermTree.variable scalars.Int 0
 
-a_quotient : told_term f (binary (binaries.Arithmetic arithmetics.Divide Unsigned) n (number 2)) ≡ codes "(div n 2)"
-a_quotient = simp d2 refl
+abbrev i2 : CoreTermTree
+i2 = CoreTermTree.variable scalars.Unsigned 1
 
-a_remainder : told_term f (binary (binaries.Arithmetic arithmetics.Remainder Unsigned) n (number 2)) ≡ codes "(sub n (mul 2 (div n 2)))"
-a_remainder = simp d2 refl
+abbrev text : CoreTermTree → List ℕ
+text t = term_or_mark g (Some t)
 
-a_quotient_by_zero : told_term f (binary (binaries.Arithmetic arithmetics.Divide Unsigned) n (number 0)) ≡ codes "?"
-a_quotient_by_zero = refl
+abbrev test : CoreConditionTree → List ℕ
+test c = condition_or_mark g (Some c)
 
-a_signed_quotient : told_term f (binary (binaries.Arithmetic arithmetics.Divide Signed) n (number 2)) ≡ codes "?"
-a_signed_quotient = refl
+no_term : term_or_mark g None ≡ codes "?"
+no_term = refl
 
-a_left_shift : told_term f (binary (binaries.Arithmetic arithmetics.ShiftLeft Signed) (temporary scalars.Int 0) (literal scalars.Int 3)) ≡ codes "(wraps (mul $0 8))"
-a_left_shift = simp (d0, d8) refl
+no_condition : condition_or_mark g None ≡ codes "?"
+no_condition = refl
 
-a_shift_by_32 : told_term f (binary (binaries.Arithmetic arithmetics.ShiftLeft Signed) (temporary scalars.Int 0) (literal scalars.Int 32)) ≡ codes "?"
-a_shift_by_32 = refl
+a_number : text (number (pos 25)) ≡ codes "25"
+a_number = d25
 
-a_right_shift : told_term f (binary (binaries.Arithmetic arithmetics.ShiftRight Unsigned) n (literal scalars.Int 3)) ≡ codes "(div n 8)"
-a_right_shift = simp d8 refl
+below_zero : text (number (negsuc 0)) ≡ codes "-1"
+below_zero = simp d1 refl
 
-to_unsigned : told_term f (conversion scalars.Unsigned (temporary scalars.Int 0)) ≡ codes "(wrapu $0)"
-to_unsigned = simp d0 refl
+first_of_its_name : text i1 ≡ codes "i"
+first_of_its_name = refl
 
-to_int : told_term f (conversion scalars.Int n) ≡ codes "(wraps n)"
-to_int = refl
+second_of_its_name : text i2 ≡ codes "i#2"
+second_of_its_name = simp d2 refl
 
-from_char : told_term f (conversion scalars.Int (temporary scalars.Char 0)) ≡ codes "$0"
-from_char = simp d0 refl
+a_temporary : text (CoreTermTree.temporary scalars.Char 3) ≡ codes "$3"
+a_temporary = simp d3 refl
 
-to_char : told_term f (conversion scalars.Char n) ≡ codes "(sub n (mul 256 (div n 256)))"
-to_char = simp d256 refl
+a_sum : text (wrapped Signed (combined Add i1 i1)) ≡ codes "(wraps (add i i))"
+a_sum = refl
 
-a_load : told_term f (load scalars.Int null_pointer) ≡ codes "?"
-a_load = refl
+a_difference : text (wrapped Unsigned (combined Subtract i2 (number (pos 1)))) ≡ codes "(wrapu (sub i#2 1))"
+a_difference = simp (d1, d2) refl
 
-a_comparison : told_term f (binary (binaries.Compare comparisons.Less Unsigned) n (number 3)) ≡ codes "?"
-a_comparison = refl
+a_remainder : text (remainder_of i1 256) ≡ codes "(sub i (mul 256 (div i 256)))"
+a_remainder = simp d256 refl
 
--- ---- conditions
-
-greater : told_condition f (binary (binaries.Compare comparisons.Greater Unsigned) n (number 3)) ≡ codes "(lt 3 n)"
-greater = simp d3 refl
-
-at_least : told_condition f (binary (binaries.Compare comparisons.GreaterOrEqual Unsigned) n (number 3)) ≡ codes "(le 3 n)"
-at_least = simp d3 refl
-
-both_hold : told_condition f (logical_and n (unary unaries.Not (binary (binaries.Compare comparisons.NotEqual Unsigned) n (number 3)))) ≡ codes "(and (ne n 0) (not (ne n 3)))"
-both_hold = simp (d0, d3) refl
-
-one_without : told_condition f (logical_or n (load scalars.Int null_pointer)) ≡ codes "?"
-one_without = refl
-
-a_compared_comparison : told_condition f (binary (binaries.Compare comparisons.Equal Signed) (binary (binaries.Compare comparisons.Less Unsigned) n (number 3)) (literal scalars.Int 1)) ≡ codes "?"
-a_compared_comparison = refl
-
-a_choice : told_condition f (conditional n n n) ≡ codes "?"
-a_choice = refl
+comparisons_told :
+    test (and (or (compared LessOrEqual i1 i1) (compared Less i1 i1)) (not (and (compared Equal i1 i1) (compared NotEqual i1 i1))))
+    ≡ codes "(and (or (le i i) (lt i i)) (not (and (eq i i) (ne i i))))"
+comparisons_told = refl

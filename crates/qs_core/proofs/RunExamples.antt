@@ -1,10 +1,11 @@
 -- Runs of small units, computed from the definition.
-use Rattle.std.proofs.Common.{◌≡◌, ℕ, true, false, List, [], ◌∷◌, codes, Option, Some, None, refl}
+use Rattle.std.proofs.Common.{◌≡◌, ℕ, ◌+◌, true, false, List, [], ◌∷◌, codes, Option, Some, None, refl}
 use Rattle.qs_memory.specs.Values.{Value, integer, address}
 use Rattle.qs_memory.specs.Memory.{Memory, zeros}
 use Rattle.qs_memory.specs.declared.scalar.Scalar.TheVariants as scalars
 use Rattle.qs_memory.specs.declared.operation.Signedness.TheVariants.{Signed}
 use Rattle.qs_memory.specs.declared.operation.Direction.TheVariants.{Up}
+use Rattle.qs_memory.specs.declared.operation.Arithmetic.TheVariants as arithmetics
 use Rattle.qs_memory.specs.declared.operation.Comparison.TheVariants as comparisons
 use Rattle.qs_memory.specs.declared.operation.BinaryOperation.TheVariants as binaries
 use Rattle.qs_events.specs.Events.{Calls, Returns, Takes, TakesEnd, Puts}
@@ -16,7 +17,7 @@ use Rattle.qs_core.specs.declared.numbers.BlockId.TheVariants.{Local, Data}
 use Rattle.qs_core.specs.declared.numbers.Target.TheVariants as targets
 use Rattle.qs_base.specs.Names.{is_name}
 use Rattle.qs_base.specs.Keywords.{is_keyword, keyword_of}
-use Rattle.qs_core.specs.Trees.{CoreExprTree, literal, variable, temporary, address_of, load, binary, CoreStmtTree, skip, seq, assign, store, fill, call, branch, loop, break, return, stmts_of, bytes, CoreFunctionTree, CoreUnitTree}
+use Rattle.qs_core.specs.Trees.{CoreExprTree, literal, variable, temporary, address_of, load, binary, CoreStmtTree, skip, seq, assign, store, fill, call, branch, loop, break, continue, return, stmts_of, bytes, CoreFunctionTree, CoreUnitTree}
 use Rattle.qs_core.specs.Units.{core_run, main_run}
 use Rattle.qs_core.specs.Fits.{unit_fits}
 use Rattle.qs_core.proofs.OutlineExamples.{whole}
@@ -116,6 +117,67 @@ copying_ends = refl
 
 a_turn_too_many : end_of (main_run copies [] (104 ∷ 105 ∷ []) 2) ≡ is_short
 a_turn_too_many = refl
+
+-- ---- loops: c counts from 0 in the step, and what the body does is put
+
+abbrev counted : (body : CoreStmtTree) → CoreUnitTree
+counted body = main_with (
+    assign (targets.Variable 0) (int 0)
+    ∷ loop body (assign (targets.Variable 0) (binary (binaries.Arithmetic arithmetics.Add Signed) c (int 1)))
+    ∷ return (Some c)
+    ∷ [])
+
+abbrev is_two : CoreExprTree
+is_two = binary (binaries.Compare comparisons.Equal Signed) c (int 2)
+
+-- for (c = 0; c != 2; c++) putchar(c);
+abbrev two_turns : CoreUnitTree
+two_turns = counted (branch is_two break (call None PutChar (c ∷ [])))
+
+no_turn_at_all : end_of (main_run two_turns [] [] 0) ≡ is_short
+no_turn_at_all = refl
+
+no_event_at_0 : events_of (main_run two_turns [] [] 0) ≡ []
+no_event_at_0 = refl
+
+one_turn : events_of (main_run two_turns [] [] 1) ≡ Calls 0 ∷ Puts 0 ∷ []
+one_turn = refl
+
+one_turn_is_short : end_of (main_run two_turns [] [] 1) ≡ is_short
+one_turn_is_short = refl
+
+two_turns_are_short : end_of (main_run two_turns [] [] 2) ≡ is_short
+two_turns_are_short = refl
+
+three_turns_end : end_of (main_run two_turns [] [] 3) ≡ has_ended (Some 2)
+three_turns_end = refl
+
+three_turns_put : events_of (main_run two_turns [] [] 3) ≡ Calls 0 ∷ Puts 0 ∷ Puts 1 ∷ Returns 0 ∷ []
+three_turns_put = refl
+
+-- a continue goes to the step, so the body's rest isn't reached in it
+continued : events_of (main_run (counted (seq (stmts_of (branch is_two break continue ∷ call None PutChar (c ∷ []) ∷ [])))) [] [] 3) ≡ Calls 0 ∷ Returns 0 ∷ []
+continued = refl
+
+-- a break in the step ends the loop too
+broken_by_the_step : end_of (main_run (main_with (loop (assign (targets.Variable 0) (int 7)) break ∷ return (Some c) ∷ [])) [] [] 1) ≡ has_ended (Some 7)
+broken_by_the_step = refl
+
+-- an inner loop begins anew in each turn of the outer one, and its break ends it alone
+abbrev nested : CoreUnitTree
+nested = counted (seq (stmts_of (branch is_two break skip ∷ loop (call None PutChar (c ∷ [])) break ∷ [])))
+
+inner_loops : events_of (main_run nested [] [] 3) ≡ Calls 0 ∷ Puts 0 ∷ Puts 1 ∷ Returns 0 ∷ []
+inner_loops = refl
+
+-- ---- weights
+
+-- a call takes what its function costs, and its return gives it back: the weight is the greatest sum on the way
+a_weight_on_the_way : run_weight (λ f. f + 1) (main_run whole (integer 1 ∷ []) [] 3) ≡ 4
+a_weight_on_the_way = refl
+
+other_events_weigh_nothing : run_weight (λ f. 16) (main_run two_turns [] [] 3) ≡ 16
+other_events_weigh_nothing = refl
 
 -- ---- memory
 

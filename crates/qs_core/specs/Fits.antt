@@ -21,7 +21,7 @@ use Rattle.qs_core.specs.Trees.{PieceTree, blank, bytes, pointer, DataBlockTree,
 use Rattle.qs_core.specs.Expressions.{type_of}
 use Rattle.qs_core.specs.Units.{data_block}
 use Rattle.qs_core.specs.Scalars.{same_scalar, same_scalars, is_type, is_pointer, is_promoted}
-use Rattle.qs_core.specs.Operands.{unary_takes, binary_takes, conversion_takes}
+use Rattle.qs_core.specs.Operands.{largest_size, blank_size, unary_takes, binary_takes, conversion_takes}
 use Rattle.qs_core.specs.Interfaces.{variable_type, temporary_type, target_type, parameter_types, interface_of}
 
 -- ---- expressions
@@ -37,7 +37,8 @@ expr_fits u f (variable s x) = is_type (variable_type f x) s
 expr_fits u f (temporary s k) = is_type (temporary_type f k) s
 expr_fits u f (address_of b) = block_fits u f b
 expr_fits u f (load s a) = expr_fits u f a && is_pointer (type_of a)
-expr_fits u f (member offset a) = expr_fits u f a && is_pointer (type_of a)
+expr_fits u f (member offset a) =
+    expr_fits u f a && is_pointer (type_of a) && nat_le offset largest_size
 expr_fits u f (unary op a) = expr_fits u f a && unary_takes op (type_of a)
 expr_fits u f (binary op a b) =
     expr_fits u f a && expr_fits u f b && binary_takes op (type_of a) (type_of b)
@@ -113,7 +114,9 @@ abbrev mutual
       pointer_fits u f to && expr_fits u f e && same_scalar (type_of e) s
   stmt_fits u f b c (copy size alignment to from) =
       pointer_fits u f to && pointer_fits u f from && nat_le 1 alignment
-  stmt_fits u f b c (fill contents to) = pointer_fits u f to
+      && nat_le size largest_size
+  stmt_fits u f b c (fill contents to) =
+      pointer_fits u f to && nat_le (blank_size contents) largest_size
   stmt_fits u f b c (call x g es) =
       exprs_fit u f es && call_fits f x (signature_of (interface_of u) g) es
   stmt_fits u f b c (branch e s t) =
@@ -170,10 +173,15 @@ parameters_fit blocks i (p ∷ ps) [] = false
 parameters_fit blocks i (p ∷ ps) (v ∷ vs) =
     parameter_fits blocks i p v && parameters_fit blocks (i + 1) ps vs
 
+-- no block is larger than the largest type
+abbrev pub is_size : (bytes : ℕ) → Bool
+is_size n = nat_le n largest_size
+
 abbrev pub function_fits : CoreUnitTree → CoreFunctionTree → Bool
 function_fits u f =
     is_name f.name && list_all is_named f.variables && differ same_variable f.variables
     && parameters_fit f.blocks 0 f.parameters f.variables && stmts_fit u f false false f.body
+    && list_all is_size f.blocks
 
 -- ---- data
 
@@ -188,7 +196,7 @@ piece_fits u (bytes bs) = list_all (λ b. nat_lt b 256) bs
 piece_fits u (pointer block offset) = is_in_data (slice_get u.data_blocks block) offset
 
 abbrev pub data_fits : CoreUnitTree → DataBlockTree → Bool
-data_fits u d = list_all (piece_fits u) d.pieces
+data_fits u d = list_all (piece_fits u) d.pieces && is_size (data_block d).size
 
 -- ---- units
 

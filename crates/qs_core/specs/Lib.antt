@@ -6,7 +6,11 @@ pub mod Units
 pub mod Scalars
 pub mod Operands
 pub mod Interfaces
+pub mod TermTrees
 pub mod Terms
+pub mod TermTreeOf
+pub mod TermTexts
+pub mod TermLengths
 pub mod Outline
 pub mod CallGraph
 pub mod Sizes

@@ -6,7 +6,7 @@ use Rattle.qs_calls.specs.declared.callee.Callee.TheVariants.{Function, PutChar,
 use Rattle.qs_core.specs.declared.numbers.Target.{Target}
 use Rattle.qs_core.specs.declared.numbers.Target.TheVariants as targets
 use Rattle.qs_core.specs.Trees.{CoreExprTree, CoreStmtTree, skip, seq, assign, store, copy, fill, call, branch, loop, break, continue, return, CoreStmts, no_stmts, stmt_and, CoreParameterTree, CoreFunctionTree, CoreUnitTree}
-use Rattle.qs_core.specs.Terms.{variable_text, temporary_text, told_term, told_condition}
+use Rattle.qs_core.specs.TermTexts.{variable_text, temporary_text, expr_text, test_text}
 
 -- where a statement stands: the numbers of the parts that lead to it from the body, each behind a dot
 abbrev pub part_path : (path : List ℕ) → (part : ℕ) → List ℕ
@@ -48,7 +48,7 @@ callee_text functions PutChar = codes "putchar"
 callee_text functions GetChar = codes "getchar"
 
 abbrev pub argument_text : CoreFunctionTree → CoreExprTree → List ℕ
-argument_text f e = codes " " ++ told_term f e
+argument_text f e = codes " " ++ expr_text f e
 
 abbrev pub returned_text : CoreFunctionTree → Option CoreExprTree → List ℕ
 returned_text f None = []
@@ -58,13 +58,13 @@ abbrev pub seq_form : CoreStmts → List ℕ
 seq_form ss = codes "seq " ++ decimal (count_of ss)
 
 abbrev pub assign_form : CoreFunctionTree → Target → CoreExprTree → List ℕ
-assign_form f x e = codes "assign " ++ target_text f x ++ codes " " ++ told_term f e
+assign_form f x e = codes "assign " ++ target_text f x ++ codes " " ++ expr_text f e
 
 abbrev pub call_form : List CoreFunctionTree → CoreFunctionTree → Option ℕ → Callee → List CoreExprTree → List ℕ
 call_form functions f x g arguments = codes "call " ++ destination_text x ++ codes " " ++ callee_text functions g ++ flat_map (argument_text f) arguments
 
 abbrev pub if_form : CoreFunctionTree → CoreExprTree → List ℕ
-if_form f e = codes "if " ++ told_condition f e
+if_form f e = codes "if " ++ test_text f e
 
 abbrev pub return_form : CoreFunctionTree → Option CoreExprTree → List ℕ
 return_form f e = codes "return" ++ returned_text f e

@@ -1,77 +1,241 @@
--- How many values a function needs.
-use Rattle.std.specs.Prelude.{ℕ, ◌+◌, max, List, [], ◌∷◌, length, Option, Some, None}
-use Rattle.qs_calls.specs.declared.parameter.Parameter.{Parameter}
-use Rattle.qs_calls.specs.declared.parameter.Parameter.TheVariants.{Plain, Placed}
-use Rattle.qs_core.specs.Trees.{CoreExprTree, literal, null_pointer, variable, temporary, address_of, load, member, unary, binary, conversion, logical_and, logical_or, conditional, CoreStmtTree, skip, seq, assign, store, copy, fill, call, branch, loop, break, continue, return, CoreStmts, no_stmts, stmt_and, CoreParameterTree, CoreFunctionTree}
+-- How many values a function needs, and a bound on the words of its machine code.
+use Rattle.std.specs.Prelude.{ℕ, ◌+◌, ◌*◌, max, Bool, true, false, List, [], ◌∷◌, length, sum_by, Option, Some, None, if◌then◌else◌}
+use Rattle.qs_memory.specs.declared.operation.BinaryOperation.{BinaryOperation}
+use Rattle.qs_memory.specs.declared.operation.BinaryOperation.TheVariants as binaries
+use Rattle.qs_calls.specs.declared.callee.Callee.{Callee}
+use Rattle.qs_calls.specs.declared.callee.Callee.TheVariants.{Function, PutChar, GetChar}
+use Rattle.qs_core.specs.Trees.{CoreExprTree, literal, null_pointer, variable, temporary, address_of, load, member}
+use Rattle.qs_core.specs.Trees.{unary, binary, conversion, logical_and, logical_or, conditional}
+use Rattle.qs_core.specs.Trees.{CoreStmtTree, skip, seq, assign, store, copy, fill, call, branch, loop, break, continue, return}
+use Rattle.qs_core.specs.Trees.{CoreStmts, no_stmts, stmt_and, CoreFunctionTree, CoreUnitTree}
 
--- how many values an expression's own value adds: variables and temporaries stand already
+-- ---- operands: what stands in an instruction as it is, so that nothing has to hold its value
+
+-- the address of a block, or of what lies in one
+abbrev pub is_place : CoreExprTree → Bool
+is_place (literal s n) = false
+is_place null_pointer = false
+is_place (variable s x) = false
+is_place (temporary s k) = false
+is_place (address_of b) = true
+is_place (load s a) = false
+is_place (member offset a) = is_place a
+is_place (unary op a) = false
+is_place (binary op a b) = false
+is_place (conversion s a) = false
+is_place (logical_and a b) = false
+is_place (logical_or a b) = false
+is_place (conditional c a b) = false
+
+-- a converted operand is one too: the integer, or the low byte of the integer, in a temporary
+abbrev pub is_operand : CoreExprTree → Bool
+is_operand (literal s n) = true
+is_operand null_pointer = true
+is_operand (variable s x) = true
+is_operand (temporary s k) = true
+is_operand (address_of b) = true
+is_operand (load s a) = false
+is_operand (member offset a) = is_place a
+is_operand (unary op a) = false
+is_operand (binary op a b) = false
+is_operand (conversion s a) = is_operand a
+is_operand (logical_and a b) = false
+is_operand (logical_or a b) = false
+is_operand (conditional c a b) = false
+
+-- ---- values: those that hold parts of expressions, which are computed from left to right
+
+-- how many values an expression's own value adds
 abbrev pub own : CoreExprTree → ℕ
-own (literal s n) = 1
-own null_pointer = 1
-own (variable s x) = 0
-own (temporary s k) = 0
-own (address_of b) = 1
-own (load s a) = 1
-own (member offset a) = 1
-own (unary op a) = 1
-own (binary op a b) = 1
-own (conversion s a) = 1
-own (logical_and a b) = 1
-own (logical_or a b) = 1
-own (conditional c a b) = 1
+own e = if is_operand e then 0 else 1
 
--- how many values are held at once, at most, while an expression is computed from left to right
+-- how many values are held at once while an expression is computed whose parts hold so many
+abbrev pub held_with : CoreExprTree → (parts : ℕ) → ℕ
+held_with e parts = if is_operand e then 0 else max 1 parts
+
+-- how many values its parts hold at once, at most; its own value is made where it is wanted
+abbrev pub parts_held : CoreExprTree → ℕ
+parts_held (literal s n) = 0
+parts_held null_pointer = 0
+parts_held (variable s x) = 0
+parts_held (temporary s k) = 0
+parts_held (address_of b) = 0
+parts_held (load s a) = held_with a (parts_held a)
+parts_held (member offset a) = held_with a (parts_held a)
+parts_held (unary op a) = held_with a (parts_held a)
+parts_held (binary op a b) = max (held_with a (parts_held a)) (own a + held_with b (parts_held b))
+parts_held (conversion s a) = held_with a (parts_held a)
+parts_held (logical_and a b) = max (held_with a (parts_held a)) (held_with b (parts_held b))
+parts_held (logical_or a b) = max (held_with a (parts_held a)) (held_with b (parts_held b))
+parts_held (conditional c a b) = max (held_with c (parts_held c)) (max (held_with a (parts_held a)) (held_with b (parts_held b)))
+
 abbrev pub held : CoreExprTree → ℕ
-held (literal s n) = 1
-held null_pointer = 1
-held (variable s x) = 0
-held (temporary s k) = 0
-held (address_of b) = 1
-held (load s a) = max 1 (held a)
-held (member offset a) = max 1 (held a)
-held (unary op a) = max 1 (held a)
-held (binary op a b) = max 1 (max (held a) (own a + held b))
-held (conversion s a) = max 1 (held a)
-held (logical_and a b) = max 1 (max (held a) (held b))
-held (logical_or a b) = max 1 (max (held a) (held b))
-held (conditional c a b) = max 1 (max (held c) (max (held a) (held b)))
+held e = held_with e (parts_held e)
 
-abbrev pub held_by_all : List CoreExprTree → ℕ
-held_by_all [] = 0
-held_by_all (e ∷ es) = max (held e) (own e + held_by_all es)
+abbrev pub all_held : List CoreExprTree → ℕ
+all_held [] = 0
+all_held (e ∷ es) = max (held e) (own e + all_held es)
 
-abbrev pub held_by_option : Option CoreExprTree → ℕ
-held_by_option None = 0
-held_by_option (Some e) = held e
+abbrev pub option_held : Option CoreExprTree → ℕ
+option_held None = 0
+option_held (Some e) = held e
 
 abbrev mutual
   pub held_in : CoreStmtTree → ℕ
   held_in skip = 0
   held_in (seq ss) = held_in_all ss
-  held_in (assign x e) = held e
-  held_in (store s a b) = held_by_all (a ∷ b ∷ [])
-  held_in (copy size alignment a b) = held_by_all (a ∷ b ∷ [])
+  held_in (assign x e) = parts_held e
+  held_in (store s a b) = all_held (a ∷ b ∷ [])
+  held_in (copy size alignment a b) = all_held (a ∷ b ∷ [])
   held_in (fill blank a) = held a
-  held_in (call x f arguments) = held_by_all arguments
+  held_in (call x f arguments) = all_held arguments
   held_in (branch e a b) = max (held e) (max (held_in a) (held_in b))
   held_in (loop body step) = max (held_in body) (held_in step)
   held_in break = 0
   held_in continue = 0
-  held_in (return e) = held_by_option e
+  held_in (return e) = option_held e
 
   pub held_in_all : CoreStmts → ℕ
   held_in_all no_stmts = 0
   held_in_all (stmt_and s ss) = max (held_in s) (held_in_all ss)
 
-abbrev pub placed : Parameter → ℕ
-placed (Plain x) = 0
-placed (Placed i s) = 1
+-- the values of a function: its variables, parameters among them, its temporaries, and those that hold parts of expressions
+abbrev pub values : CoreFunctionTree → ℕ
+values f = length f.variables + length f.temporaries + held_in_all f.body
 
--- a parameter that is placed is a value before it is stored in its block
-abbrev pub placed_count : List CoreParameterTree → ℕ
-placed_count [] = 0
-placed_count (p ∷ ps) = placed p.place + placed_count ps
+-- ---- words: a variable or a temporary may lie out of the reach of an immediate; a value that holds a part of an expression lies nearest to x2
 
--- the values of a function: its parameters and variables, its temporaries, and those that hold the parts of expressions
-abbrev pub values_of : CoreFunctionTree → ℕ
-values_of f = placed_count f.parameters + length f.variables + length f.temporaries + held_in_all f.body
+-- LUI, ADD and LW, or LBU for a low byte; LUI and ADDI for a literal; LUI, ADDI and ADD for an address; LW for a part
+abbrev pub read_words : CoreExprTree → ℕ
+read_words (literal s n) = 2
+read_words null_pointer = 2
+read_words (variable s x) = 3
+read_words (temporary s k) = 3
+read_words (address_of b) = 3
+read_words (load s a) = 1
+read_words (member offset a) = if is_place a then 3 else 1
+read_words (unary op a) = 1
+read_words (binary op a b) = 1
+read_words (conversion s a) = read_words a
+read_words (logical_and a b) = 1
+read_words (logical_or a b) = 1
+read_words (conditional c a b) = 1
+
+-- LUI, ADD and SW; SW for a part
+abbrev pub kept_words : ℕ
+kept_words = 3
+
+abbrev pub part_words : ℕ
+part_words = 1
+
+-- LUI and ADDI give the size of an element, with MUL or DIV and ADD or SUB; a comparison may have its answer turned round
+abbrev pub operation_words : BinaryOperation → ℕ
+operation_words (binaries.Arithmetic op s) = 1
+operation_words (binaries.Compare op s) = 2
+operation_words (binaries.Move direction s element) = 4
+operation_words (binaries.Difference element) = 4
+operation_words (binaries.ComparePointers op) = 2
+
+-- what an expression is computed for: to be an operand; to be in a register as the address of an access; to be tested
+pub data Use : Type 0 where
+  as_operand : Use
+  as_address : Use
+  as_condition : Use
+
+-- a test has a branch round a JAL
+abbrev pub use_words : Use → (read : ℕ) → ℕ
+use_words as_operand read = 0
+use_words as_address read = read
+use_words as_condition read = read + 2
+
+-- LUI and ADD, and the access has the rest of the offset; ADDI where there is none
+abbrev pub member_words : Use → (base : ℕ) → ℕ
+member_words as_operand base = base + 3 + part_words
+member_words as_address base = base + 2
+member_words as_condition base = base + 3 + part_words + 3
+
+-- the numbers 1 and 0, and a jump between
+abbrev pub answer_words : Use → ℕ
+answer_words as_operand = 1 + part_words + 1 + (1 + part_words)
+answer_words as_address = 1 + part_words + 1 + (1 + part_words) + 1
+answer_words as_condition = 0
+
+-- the words that compute an expression, with those of this use of it
+abbrev pub use_of : CoreExprTree → Use → ℕ
+use_of (literal s n) u = use_words u 2
+use_of null_pointer u = use_words u 2
+use_of (variable s x) u = use_words u 3
+use_of (temporary s k) u = use_words u 3
+use_of (address_of b) u = use_words u 3
+use_of (load s a) u = use_of a as_address + 1 + part_words + use_words u 1
+use_of (member offset a) u = if is_place a then use_words u 3 else member_words u (use_of a as_operand + read_words a)
+use_of (unary op a) u = use_of a as_operand + read_words a + 1 + part_words + use_words u 1
+use_of (binary op a b) u =
+    (use_of a as_operand + read_words a) + (use_of b as_operand + read_words b) + operation_words op + part_words + use_words u 1
+use_of (conversion s a) u = use_of a as_operand + use_words u (read_words a)
+use_of (logical_and a b) u = use_of a as_condition + use_of b as_condition + answer_words u
+use_of (logical_or a b) u = use_of a as_condition + use_of b as_condition + answer_words u
+use_of (conditional c a b) u =
+    use_of c as_condition + (use_of a as_operand + read_words a + part_words) + 1 + (use_of b as_operand + read_words b + part_words) + use_words u 1
+
+-- computed, and read
+abbrev pub taken_words : CoreExprTree → ℕ
+taken_words e = use_of e as_operand + read_words e
+
+abbrev pub address_words : CoreExprTree → ℕ
+address_words e = use_of e as_address
+
+abbrev pub all_taken_words : List CoreExprTree → ℕ
+all_taken_words [] = 0
+all_taken_words (e ∷ es) = taken_words e + all_taken_words es
+
+abbrev pub option_words : Option CoreExprTree → ℕ
+option_words None = 0
+option_words (Some e) = taken_words e
+
+abbrev pub result_words : Option ℕ → ℕ
+result_words None = 0
+result_words (Some k) = kept_words
+
+-- AUIPC and JALR; the number of a call of the environment, and ECALL
+abbrev pub call_words : ℕ
+call_words = 2
+
+-- on the way in and out of a function: LUI, ADDI and ADD on x2, the return address, twelve registers that are given back; JALR
+abbrev pub enter_words : ℕ
+enter_words = 3 + 1 + 12
+
+abbrev pub leave_words : ℕ
+leave_words = 3 + 1 + 12 + 1
+
+-- A copy has its count by LUI and ADDI and a loop of six instructions, a fill one of four. The parts of an `if` end in a jump each; a loop begins
+-- with one, goes back by one and goes on by one.
+abbrev mutual
+  pub stmt_words : CoreStmtTree → ℕ
+  stmt_words skip = 0
+  stmt_words (seq ss) = stmts_words ss
+  stmt_words (assign x e) = taken_words e + kept_words
+  stmt_words (store s a b) = address_words a + taken_words b + 1
+  stmt_words (copy size alignment a b) = (address_words a + 1) + (address_words b + 1) + 2 + 6
+  stmt_words (fill blank a) = (address_words a + 1) + 2 + 4
+  stmt_words (call x f arguments) = all_taken_words arguments + call_words + result_words x
+  stmt_words (branch e a b) = use_of e as_condition + stmt_words a + stmt_words b + 2
+  stmt_words (loop body step) = stmt_words body + stmt_words step + 3
+  stmt_words break = 1
+  stmt_words continue = 1
+  stmt_words (return e) = option_words e + leave_words
+
+  pub stmts_words : CoreStmts → ℕ
+  stmts_words no_stmts = 0
+  stmts_words (stmt_and s ss) = stmt_words s + stmts_words ss
+
+-- parameters are put where they are kept
+abbrev pub words : CoreFunctionTree → ℕ
+words f = enter_words + kept_words * length f.parameters + stmts_words f.body + leave_words
+
+-- the call of main, and behind it the number of a call of the environment, and ECALL
+abbrev pub start_words : ℕ
+start_words = call_words + 2
+
+abbrev pub unit_words : CoreUnitTree → ℕ
+unit_words u = start_words + sum_by words u.functions

@@ -17,8 +17,8 @@ pub fn expressions_have_types()
     ensures { ExpressionsHaveTypes }
 {}
 
-/// Each moment of a call is in range: every variable's value is in the range of its type, and what would
-/// follow at other moments makes no difference.
+/// Each moment of a call is in range: every variable's value is in the range of its type, and what
+/// would follow at other moments makes no difference.
 pub fn calls_stay_in_range()
     ensures { CallsStayInRange }
 {}
@@ -28,7 +28,8 @@ pub fn bodies_stay_in_range()
     ensures { BodiesStayInRange }
 {}
 
-/// What a run leaves is sound, and its result is one of the function's type: another run may start there.
+/// What a run leaves is sound, and its result is one of the function's type: another run may start
+/// there.
 pub fn runs_leave_sound()
     ensures { RunsLeaveSound }
 {}

@@ -1,19 +1,23 @@
-//! Core: statements over pure expressions, with loops, calls and temporaries; what they mean, what holds
-//! of every unit of core, and its outline as text.
+//! Core: statements over pure expressions, with loops, calls and temporaries; what they mean, what
+//! holds of every unit of core, and its outline as text.
 #![tactic(auto)]
 
+mod conditions;
 mod expressions;
 mod laws;
 mod names;
 mod numbers;
 mod outline;
 mod statements;
+mod term;
+mod term_length;
 mod term_text;
 mod terms;
 mod types;
 mod unit;
 mod units;
 
+pub use conditions::condition_of;
 pub use expressions::{CoreExpr, Operands};
 pub use laws::{
     bodies_stay_in_range, calls_alone, calls_stay_in_range, core_grows, expressions_have_types,
@@ -22,6 +26,8 @@ pub use laws::{
 pub use numbers::{BlockId, Target};
 pub use outline::print_outline;
 pub use statements::CoreStmt;
+pub use term::{CoreCondition, CoreTerm, TermComparison, TermOperation};
+pub use terms::term_of;
 pub use types::type_of;
 pub use unit::CoreUnit;
 pub use units::{CoreFunction, CoreParameter, CoreVariable, DataBlock, Piece};

@@ -1,9 +1,8 @@
 // Numbers, and the names of variables and temporaries, as text.
 ghost use Rattle.std.specs.Prelude.{◌≡◌, ◌++◌, OnOk, decimal};
 ghost use Rattle.std.specs.Fmt.{signed_decimal};
-ghost use Rattle.qs_base.specs.Words.{signed};
 ghost use Rattle.qs_core.specs.TreeOf.{function_tree, variable_tree};
-ghost use Rattle.qs_core.specs.Terms as spec;
+ghost use Rattle.qs_core.specs.TermTexts as spec;
 
 use crate::units::{CoreFunction, CoreVariable};
 use itoa::Buffer;
@@ -33,12 +32,12 @@ pub fn put_count(out: &mut Vec<u8>, n: usize) -> Result<(), NoMemory>
     put(out, digits.format(n).as_bytes())
 }
 
-/// Writes a word, read with a sign, in decimal.
-pub fn put_signed(out: &mut Vec<u8>, n: u32) -> Result<(), NoMemory>
-    ensures { OnOk result (out.new.items ≡ out.old.items ++ signed_decimal (signed n)) }
+/// Writes a whole number in decimal, with a `-` where it is below 0.
+pub fn put_whole(out: &mut Vec<u8>, n: i64) -> Result<(), NoMemory>
+    ensures { OnOk result (out.new.items ≡ out.old.items ++ signed_decimal n) }
 {
     let mut digits = Buffer::new();
-    put(out, digits.format(n.cast_signed()).as_bytes())
+    put(out, digits.format(n).as_bytes())
 }
 
 fn put_ordinal(out: &mut Vec<u8>, k: u32) -> Result<(), NoMemory>
@@ -52,7 +51,8 @@ fn put_ordinal(out: &mut Vec<u8>, k: u32) -> Result<(), NoMemory>
 }
 
 fn put_variable_name(out: &mut Vec<u8>, v: &CoreVariable) -> Result<(), NoMemory>
-    ensures { OnOk result (out.new.items ≡ out.old.items ++ spec.variable_name (variable_tree v.now)) }
+    ensures { OnOk result (out.new.items
+        ≡ out.old.items ++ spec.variable_name (variable_tree v.now)) }
 {
     put(out, v.name.bytes())?;
     put_ordinal(out, v.ordinal)
@@ -60,7 +60,8 @@ fn put_variable_name(out: &mut Vec<u8>, v: &CoreVariable) -> Result<(), NoMemory
 
 /// Writes the name of the variable with this number.
 pub fn put_variable(out: &mut Vec<u8>, f: &CoreFunction, x: u32) -> Result<(), NoMemory>
-    ensures { OnOk result (out.new.items ≡ out.old.items ++ spec.variable_text (function_tree f.now) x) }
+    ensures { OnOk result (out.new.items
+        ≡ out.old.items ++ spec.variable_text (function_tree f.now) x) }
 {
     match f.variables.get(x as usize) {
         None => Ok(()),

@@ -9,7 +9,7 @@ use crate::expressions::CoreExpr;
 use crate::names::{put, put_count, put_temporary, put_variable};
 use crate::numbers::Target;
 use crate::statements::CoreStmt;
-use crate::term_text::{put_told_condition, put_told_term};
+use crate::term_text::{put_expr, put_test};
 use crate::unit::CoreUnit;
 use crate::units::{CoreFunction, CoreParameter};
 use qs_base::NoMemory;
@@ -50,7 +50,8 @@ fn part_path(alloc: Global, path: &[u8], part: usize) -> Result<Vec<u8>, NoMemor
 // ---- forms
 
 fn put_target(out: &mut Vec<u8>, f: &CoreFunction, x: Target) -> Result<(), NoMemory>
-    ensures { OnOk result (out.new.items ≡ out.old.items ++ spec.target_text (function_tree f.now) x) }
+    ensures { OnOk result (out.new.items
+        ≡ out.old.items ++ spec.target_text (function_tree f.now) x) }
 {
     match x {
         Target::Variable(x) => put_variable(out, f, x),
@@ -68,7 +69,8 @@ fn put_destination(out: &mut Vec<u8>, x: Option<u32>) -> Result<(), NoMemory>
 }
 
 fn put_function_name(out: &mut Vec<u8>, functions: &[CoreFunction], f: u32) -> Result<(), NoMemory>
-    ensures { OnOk result (out.new.items ≡ out.old.items ++ spec.function_text (map function_tree functions.now) f) }
+    ensures { OnOk result (out.new.items
+        ≡ out.old.items ++ spec.function_text (map function_tree functions.now) f) }
 {
     match functions.get(f as usize) {
         None => Ok(()),
@@ -77,7 +79,8 @@ fn put_function_name(out: &mut Vec<u8>, functions: &[CoreFunction], f: u32) -> R
 }
 
 fn put_callee(out: &mut Vec<u8>, functions: &[CoreFunction], g: Callee) -> Result<(), NoMemory>
-    ensures { OnOk result (out.new.items ≡ out.old.items ++ spec.callee_text (map function_tree functions.now) g) }
+    ensures { OnOk result (out.new.items
+        ≡ out.old.items ++ spec.callee_text (map function_tree functions.now) g) }
 {
     match g {
         Callee::Function(f) => put_function_name(out, functions, f.0),
@@ -86,51 +89,74 @@ fn put_callee(out: &mut Vec<u8>, functions: &[CoreFunction], g: Callee) -> Resul
     }
 }
 
-fn put_argument(out: &mut Vec<u8>, f: &CoreFunction, e: &CoreExpr) -> Result<(), NoMemory>
-    ensures { OnOk result (out.new.items ≡ out.old.items ++ spec.argument_text (function_tree f.now) (core_expr e.now)) }
+fn put_argument(
+    alloc: Global,
+    out: &mut Vec<u8>,
+    f: &CoreFunction,
+    e: &CoreExpr,
+) -> Result<(), NoMemory>
+    ensures { OnOk result (out.new.items
+        ≡ out.old.items ++ spec.argument_text (function_tree f.now) (core_expr e.now)) }
 {
     put(out, b" ")?;
-    put_told_term(out, f, e)
+    put_expr(alloc, out, f, e)
 }
 
-fn put_arguments(out: &mut Vec<u8>, f: &CoreFunction, es: &[CoreExpr]) -> Result<(), NoMemory>
-    ensures { OnOk result (out.new.items ≡ out.old.items ++ flat_map (spec.argument_text (function_tree f.now)) (core_exprs es.now)) }
+fn put_arguments(
+    alloc: Global,
+    out: &mut Vec<u8>,
+    f: &CoreFunction,
+    es: &[CoreExpr],
+) -> Result<(), NoMemory>
+    ensures { OnOk result (out.new.items
+        ≡ out.old.items ++ flat_map (spec.argument_text (function_tree f.now))
+        (core_exprs es.now)) }
 {
     for e in es {
-        put_argument(out, f, e)?;
+        put_argument(alloc, out, f, e)?;
     }
     Ok(())
 }
 
-fn put_returned(out: &mut Vec<u8>, f: &CoreFunction, e: &Option<CoreExpr>) -> Result<(), NoMemory>
-    ensures { OnOk result (out.new.items ≡ out.old.items ++ spec.returned_text (function_tree f.now) (option_expr e.now)) }
+fn put_returned(
+    alloc: Global,
+    out: &mut Vec<u8>,
+    f: &CoreFunction,
+    e: &Option<CoreExpr>,
+) -> Result<(), NoMemory>
+    ensures { OnOk result (out.new.items
+        ≡ out.old.items ++ spec.returned_text (function_tree f.now) (option_expr e.now)) }
 {
     match e {
         None => Ok(()),
-        Some(e) => put_argument(out, f, e),
+        Some(e) => put_argument(alloc, out, f, e),
     }
 }
 
 // ---- statements
 
 fn put_assign(
+    alloc: Global,
     out: &mut Vec<u8>,
     f: &CoreFunction,
     path: &[u8],
     x: Target,
     e: &CoreExpr,
 ) -> Result<(), NoMemory>
-    ensures { OnOk result (out.new.items ≡ out.old.items ++ spec.line path.now (spec.assign_form (function_tree f.now) x (core_expr e.now))) }
+    ensures { OnOk result (out.new.items
+        ≡ out.old.items ++ spec.line path.now
+        (spec.assign_form (function_tree f.now) x (core_expr e.now))) }
 {
     put_path(out, path)?;
     put(out, b" assign ")?;
     put_target(out, f, x)?;
     put(out, b" ")?;
-    put_told_term(out, f, e)?;
+    put_expr(alloc, out, f, e)?;
     put(out, b"\n")
 }
 
 fn put_call(
+    alloc: Global,
     out: &mut Vec<u8>,
     functions: &[CoreFunction],
     f: &CoreFunction,
@@ -139,37 +165,51 @@ fn put_call(
     g: Callee,
     es: &[CoreExpr],
 ) -> Result<(), NoMemory>
-    ensures { OnOk result (out.new.items ≡ out.old.items ++ spec.line path.now (spec.call_form (map function_tree functions.now) (function_tree f.now) x g (core_exprs es.now))) }
+    ensures { OnOk result (out.new.items
+        ≡ out.old.items ++ spec.line path.now
+        (spec.call_form (map function_tree functions.now) (function_tree f.now) x g
+        (core_exprs es.now))) }
 {
     put_path(out, path)?;
     put(out, b" call ")?;
     put_destination(out, x)?;
     put(out, b" ")?;
     put_callee(out, functions, g)?;
-    put_arguments(out, f, es)?;
+    put_arguments(alloc, out, f, es)?;
     put(out, b"\n")
 }
 
-fn put_if(out: &mut Vec<u8>, f: &CoreFunction, path: &[u8], e: &CoreExpr) -> Result<(), NoMemory>
-    ensures { OnOk result (out.new.items ≡ out.old.items ++ spec.line path.now (spec.if_form (function_tree f.now) (core_expr e.now))) }
+fn put_if(
+    alloc: Global,
+    out: &mut Vec<u8>,
+    f: &CoreFunction,
+    path: &[u8],
+    e: &CoreExpr,
+) -> Result<(), NoMemory>
+    ensures { OnOk result (out.new.items
+        ≡ out.old.items ++ spec.line path.now
+        (spec.if_form (function_tree f.now) (core_expr e.now))) }
 {
     put_path(out, path)?;
     put(out, b" if ")?;
-    put_told_condition(out, f, e)?;
+    put_test(alloc, out, f, e)?;
     put(out, b"\n")
 }
 
 fn put_return(
+    alloc: Global,
     out: &mut Vec<u8>,
     f: &CoreFunction,
     path: &[u8],
     e: &Option<CoreExpr>,
 ) -> Result<(), NoMemory>
-    ensures { OnOk result (out.new.items ≡ out.old.items ++ spec.line path.now (spec.return_form (function_tree f.now) (option_expr e.now))) }
+    ensures { OnOk result (out.new.items
+        ≡ out.old.items ++ spec.line path.now
+        (spec.return_form (function_tree f.now) (option_expr e.now))) }
 {
     put_path(out, path)?;
     put(out, b" return")?;
-    put_returned(out, f, e)?;
+    put_returned(alloc, out, f, e)?;
     put(out, b"\n")
 }
 
@@ -180,7 +220,8 @@ fn count_of(parts: &[CoreStmt]) -> usize
 }
 
 fn put_seq(out: &mut Vec<u8>, path: &[u8], parts: &[CoreStmt]) -> Result<(), NoMemory>
-    ensures { OnOk result (out.new.items ≡ out.old.items ++ spec.line path.now (spec.seq_form (stmts_of (core_stmts parts.now)))) }
+    ensures { OnOk result (out.new.items
+        ≡ out.old.items ++ spec.line path.now (spec.seq_form (stmts_of (core_stmts parts.now)))) }
 {
     put_path(out, path)?;
     put(out, b" seq ")?;
@@ -198,7 +239,9 @@ fn put_parts(
     path: &[u8],
     parts: &[CoreStmt],
 ) -> Result<(), NoMemory>
-    ensures { OnOk result (out.new.items ≡ out.old.items ++ spec.outline_parts (map function_tree functions.now) (function_tree f.now) path.now 0 (stmts_of (core_stmts parts.now))) }
+    ensures { OnOk result (out.new.items
+        ≡ out.old.items ++ spec.outline_parts (map function_tree functions.now)
+        (function_tree f.now) path.now 0 (stmts_of (core_stmts parts.now))) }
 {
     let mut part = 0;
     for s in parts {
@@ -219,7 +262,9 @@ fn put_part(
     part: usize,
     s: &CoreStmt,
 ) -> Result<(), NoMemory>
-    ensures { OnOk result (out.new.items ≡ out.old.items ++ spec.outline_stmt (map function_tree functions.now) (function_tree f.now) (spec.part_path path.now part) (core_stmt s.now)) }
+    ensures { OnOk result (out.new.items
+        ≡ out.old.items ++ spec.outline_stmt (map function_tree functions.now)
+        (function_tree f.now) (spec.part_path path.now part) (core_stmt s.now)) }
 {
     let part_path = part_path(alloc, path, part)?;
     put_stmt(alloc, out, functions, f, &part_path, s)
@@ -234,7 +279,9 @@ fn put_stmt(
     path: &[u8],
     s: &CoreStmt,
 ) -> Result<(), NoMemory>
-    ensures { OnOk result (out.new.items ≡ out.old.items ++ spec.outline_stmt (map function_tree functions.now) (function_tree f.now) path.now (core_stmt s.now)) }
+    ensures { OnOk result (out.new.items
+        ≡ out.old.items ++ spec.outline_stmt (map function_tree functions.now)
+        (function_tree f.now) path.now (core_stmt s.now)) }
 {
     match s {
         CoreStmt::Skip => put_line(out, path, b"skip"),
@@ -242,13 +289,13 @@ fn put_stmt(
             put_seq(out, path, parts)?;
             put_parts(alloc, out, functions, f, path, parts)
         }
-        CoreStmt::Assign(x, e) => put_assign(out, f, path, *x, e),
+        CoreStmt::Assign(x, e) => put_assign(alloc, out, f, path, *x, e),
         CoreStmt::Store(_, _, _) => put_line(out, path, b"store"),
         CoreStmt::Copy(_, _, _, _) => put_line(out, path, b"copy"),
         CoreStmt::Fill(_, _) => put_line(out, path, b"fill"),
-        CoreStmt::Call(x, g, es) => put_call(out, functions, f, path, *x, *g, es),
+        CoreStmt::Call(x, g, es) => put_call(alloc, out, functions, f, path, *x, *g, es),
         CoreStmt::If(e, a, b) => {
-            put_if(out, f, path, e)?;
+            put_if(alloc, out, f, path, e)?;
             put_part(alloc, out, functions, f, path, 0, a)?;
             put_part(alloc, out, functions, f, path, 1, b)
         }
@@ -259,21 +306,23 @@ fn put_stmt(
         }
         CoreStmt::Break => put_line(out, path, b"break"),
         CoreStmt::Continue => put_line(out, path, b"continue"),
-        CoreStmt::Return(e) => put_return(out, f, path, e),
+        CoreStmt::Return(e) => put_return(alloc, out, f, path, e),
     }
 }
 
 // ---- functions
 
 fn put_parameter(out: &mut Vec<u8>, p: &CoreParameter) -> Result<(), NoMemory>
-    ensures { OnOk result (out.new.items ≡ out.old.items ++ spec.parameter_text (parameter_tree p.now)) }
+    ensures { OnOk result (out.new.items
+        ≡ out.old.items ++ spec.parameter_text (parameter_tree p.now)) }
 {
     put(out, b" ")?;
     put(out, p.name.bytes())
 }
 
 fn put_parameters(out: &mut Vec<u8>, ps: &[CoreParameter]) -> Result<(), NoMemory>
-    ensures { OnOk result (out.new.items ≡ out.old.items ++ flat_map spec.parameter_text (map parameter_tree ps.now)) }
+    ensures { OnOk result (out.new.items
+        ≡ out.old.items ++ flat_map spec.parameter_text (map parameter_tree ps.now)) }
 {
     for p in ps {
         put_parameter(out, p)?;
@@ -296,7 +345,9 @@ fn put_function(
     functions: &[CoreFunction],
     f: &CoreFunction,
 ) -> Result<(), NoMemory>
-    ensures { OnOk result (out.new.items ≡ out.old.items ++ spec.outline_function (map function_tree functions.now) (function_tree f.now)) }
+    ensures { OnOk result (out.new.items
+        ≡ out.old.items ++ spec.outline_function (map function_tree functions.now)
+        (function_tree f.now)) }
 {
     put_heading(out, f)?;
     put_seq(out, b"", &f.body)?;
@@ -308,7 +359,9 @@ fn put_functions(
     out: &mut Vec<u8>,
     functions: &[CoreFunction],
 ) -> Result<(), NoMemory>
-    ensures { OnOk result (out.new.items ≡ out.old.items ++ flat_map (spec.outline_function (map function_tree functions.now)) (map function_tree functions.now)) }
+    ensures { OnOk result (out.new.items
+        ≡ out.old.items ++ flat_map (spec.outline_function (map function_tree functions.now))
+        (map function_tree functions.now)) }
 {
     for f in functions {
         put_function(alloc, out, functions, f)?;
@@ -316,8 +369,8 @@ fn put_functions(
     Ok(())
 }
 
-/// The outline of a unit: a line for each function with its parameters, and below it a line for each of
-/// its statements, with its path and its form.
+/// The outline of a unit: a line for each function with its parameters, and below it a line for
+/// each of its statements, with its path and its form.
 pub fn print_outline(alloc: Global, unit: &CoreUnit) -> Result<Vec<u8>, NoMemory>
     ensures { IfOk result (λ text. text.items ≡ spec.outline (unit_tree unit.now)) }
 {

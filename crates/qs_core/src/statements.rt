@@ -17,7 +17,8 @@ pub enum CoreStmt {
     Assign(Target, CoreExpr),
     /// stores, as this type, where the first points to, the value of the second
     Store(Scalar, CoreExpr, CoreExpr),
-    /// copies so many bytes, aligned like this, to where the first points to, from where the second does
+    /// copies so many bytes, aligned like this, to where the first points to, from where the second
+    /// does
     Copy(u32, u32, CoreExpr, CoreExpr),
     /// fills the object that the pointer points to
     Fill(Blank, CoreExpr),

@@ -1,24 +1,33 @@
-// Terms and conditions of expressions, as text.
-ghost use Rattle.std.specs.Prelude.{◌≡◌, ◌<◌, ◌^◌, ◌++◌, OnOk, codes, decimal};
-ghost use Rattle.qs_core.specs.TreeOf.{core_expr, core_operands, function_tree};
-ghost use Rattle.qs_core.specs.Terms as spec;
+// Terms and conditions as text.
+ghost use Rattle.std.specs.Prelude.{◌≡◌, ◌++◌, OnOk, codes, option_map};
+ghost use Rattle.qs_core.specs.TreeOf.{core_expr, function_tree};
+ghost use Rattle.qs_core.specs.TermTreeOf.{core_term, core_pair, core_condition, core_conditions};
+ghost use Rattle.qs_core.specs.TermTrees.{combined, quotient, wrapped, compared};
+ghost use Rattle.qs_core.specs.Terms.{remainder_of};
+ghost use Rattle.qs_core.specs.TermTexts as spec;
 
-use crate::expressions::{CoreExpr, Operands};
-use crate::names::{put, put_number, put_signed, put_temporary, put_variable};
-use crate::terms::{has_condition, has_term, literal_number};
-use crate::types::type_of;
+use crate::conditions::condition_of;
+use crate::expressions::CoreExpr;
+use crate::names::{put, put_number, put_temporary, put_variable, put_whole};
+use crate::term::{
+    ConditionPair, CoreCondition, CoreTerm, TermComparison, TermOperation, TermPair,
+};
+use crate::term_length::{condition_length, term_length};
+use crate::terms::term_of;
 use crate::units::CoreFunction;
 use qs_base::NoMemory;
-use qs_memory::{Arithmetic, BinaryOperation, Comparison, Scalar, Signedness, UnaryOperation};
+use qs_memory::Signedness;
+use std::alloc::Global;
 
-fn put_literal(out: &mut Vec<u8>, s: Scalar, n: u32) -> Result<(), NoMemory>
-    ensures { OnOk result (out.new.items ≡ out.old.items ++ spec.number_text s n) }
+// ---- heads
+
+fn put_operation(out: &mut Vec<u8>, op: TermOperation) -> Result<(), NoMemory>
+    ensures { OnOk result (out.new.items ≡ out.old.items ++ spec.operation_head op) }
 {
-    match s {
-        Scalar::Char => put_number(out, n),
-        Scalar::Int => put_signed(out, n),
-        Scalar::Unsigned => put_number(out, n),
-        Scalar::Pointer => put_number(out, n),
+    match op {
+        TermOperation::Add => put(out, b"add"),
+        TermOperation::Subtract => put(out, b"sub"),
+        TermOperation::Multiply => put(out, b"mul"),
     }
 }
 
@@ -31,328 +40,154 @@ fn put_wrap(out: &mut Vec<u8>, s: Signedness) -> Result<(), NoMemory>
     }
 }
 
-// `(head a b)`
-#[cycle(put_term)]
-fn put_both(out: &mut Vec<u8>, f: &CoreFunction, head: &[u8], p: &Operands) -> Result<(), NoMemory>
-    ensures { OnOk result (out.new.items ≡ out.old.items ++ spec.applied_to_both head.now (spec.term_text (function_tree f.now) (core_operands p.now).left) (spec.term_text (function_tree f.now) (core_operands p.now).right)) }
+fn put_comparison(out: &mut Vec<u8>, op: TermComparison) -> Result<(), NoMemory>
+    ensures { OnOk result (out.new.items ≡ out.old.items ++ spec.comparison_head op) }
 {
-    put(out, b"(")?;
-    put(out, head)?;
-    put(out, b" ")?;
+    match op {
+        TermComparison::LessOrEqual => put(out, b"le"),
+        TermComparison::Less => put(out, b"lt"),
+        TermComparison::Equal => put(out, b"eq"),
+        TermComparison::NotEqual => put(out, b"ne"),
+    }
+}
+
+// ---- terms
+
+// `t u`
+#[cycle(put_term)]
+fn put_pair(out: &mut Vec<u8>, f: &CoreFunction, p: &TermPair) -> Result<(), NoMemory>
+    ensures { OnOk result (out.new.items ≡ out.old.items
+        ++ spec.term_text (function_tree f.now) (core_pair p.now).left
+        ++ codes " " ++ spec.term_text (function_tree f.now) (core_pair p.now).right) }
+{
     put_term(out, f, &p.left)?;
     put(out, b" ")?;
-    put_term(out, f, &p.right)?;
+    put_term(out, f, &p.right)
+}
+
+// `(op t u)`
+#[cycle(put_term)]
+fn put_combined(
+    out: &mut Vec<u8>,
+    f: &CoreFunction,
+    op: TermOperation,
+    p: &TermPair,
+) -> Result<(), NoMemory>
+    ensures { OnOk result (out.new.items ≡ out.old.items ++ spec.term_text (function_tree f.now)
+        (combined op (core_pair p.now).left (core_pair p.now).right)) }
+{
+    put(out, b"(")?;
+    put_operation(out, op)?;
+    put(out, b" ")?;
+    put_pair(out, f, p)?;
     put(out, b")")
 }
 
-// `(wraps (head a b))` or `(wrapu (head a b))`
+// `(div t k)`
+#[cycle(put_term)]
+fn put_quotient(out: &mut Vec<u8>, f: &CoreFunction, t: &CoreTerm, k: u32) -> Result<(), NoMemory>
+    ensures { OnOk result (out.new.items
+        ≡ out.old.items ++ spec.term_text (function_tree f.now) (quotient (core_term t.now) k)) }
+{
+    put(out, b"(div ")?;
+    put_term(out, f, t)?;
+    put(out, b" ")?;
+    put_number(out, k)?;
+    put(out, b")")
+}
+
+// `(sub t (mul k (div t k)))`
+#[cycle(put_term)]
+fn put_remainder(out: &mut Vec<u8>, f: &CoreFunction, t: &CoreTerm, k: u32) -> Result<(), NoMemory>
+    ensures { OnOk result (out.new.items
+        ≡ out.old.items ++ spec.term_text (function_tree f.now) (remainder_of
+        (core_term t.now) k)) }
+{
+    put(out, b"(sub ")?;
+    put_term(out, f, t)?;
+    put(out, b" (mul ")?;
+    put_number(out, k)?;
+    put(out, b" ")?;
+    put_quotient(out, f, t, k)?;
+    put(out, b"))")
+}
+
+// `(wraps t)` or `(wrapu t)`
 #[cycle(put_term)]
 fn put_wrapped(
     out: &mut Vec<u8>,
     f: &CoreFunction,
     s: Signedness,
-    head: &[u8],
-    p: &Operands,
+    t: &CoreTerm,
 ) -> Result<(), NoMemory>
-    ensures { OnOk result (out.new.items ≡ out.old.items ++ spec.wrapped s (spec.applied_to_both head.now (spec.term_text (function_tree f.now) (core_operands p.now).left) (spec.term_text (function_tree f.now) (core_operands p.now).right))) }
+    ensures { OnOk result (out.new.items
+        ≡ out.old.items ++ spec.term_text (function_tree f.now) (wrapped s (core_term t.now))) }
 {
     put(out, b"(")?;
     put_wrap(out, s)?;
     put(out, b" ")?;
-    put_both(out, f, head, p)?;
+    put_term(out, f, t)?;
     put(out, b")")
 }
 
+/// Writes a term. A remainder has its dividend twice, so the text may be much longer than the term
+/// is high.
 #[cycle(put_term)]
-fn put_quotient(out: &mut Vec<u8>, f: &CoreFunction, a: &CoreExpr, k: u32) -> Result<(), NoMemory>
-    ensures { OnOk result (out.new.items ≡ out.old.items ++ spec.quotient_of (spec.term_text (function_tree f.now) (core_expr a.now)) k) }
+pub fn put_term(out: &mut Vec<u8>, f: &CoreFunction, t: &CoreTerm) -> Result<(), NoMemory>
+    ensures { OnOk result (out.new.items
+        ≡ out.old.items ++ spec.term_text (function_tree f.now) (core_term t.now)) }
 {
-    put(out, b"(div ")?;
-    put_term(out, f, a)?;
-    put(out, b" ")?;
-    put_number(out, k)?;
-    put(out, b")")
-}
-
-#[cycle(put_term)]
-fn put_rest(out: &mut Vec<u8>, f: &CoreFunction, a: &CoreExpr, k: u32) -> Result<(), NoMemory>
-    ensures { OnOk result (out.new.items ≡ out.old.items ++ spec.rest_of (spec.term_text (function_tree f.now) (core_expr a.now)) k) }
-{
-    put(out, b"(sub ")?;
-    put_term(out, f, a)?;
-    put(out, b" (mul ")?;
-    put_number(out, k)?;
-    put(out, b" ")?;
-    put_quotient(out, f, a, k)?;
-    put(out, b"))")
-}
-
-// The product with a power of two.
-#[cycle(put_term)]
-fn put_shifted(
-    out: &mut Vec<u8>,
-    f: &CoreFunction,
-    s: Signedness,
-    a: &CoreExpr,
-    k: u32,
-) -> Result<(), NoMemory>
-    ensures { OnOk result (out.new.items ≡ out.old.items ++ spec.wrapped s (spec.product_of (spec.term_text (function_tree f.now) (core_expr a.now)) (decimal (spec.power k)))) }
-{
-    put(out, b"(")?;
-    put_wrap(out, s)?;
-    put(out, b" (mul ")?;
-    put_term(out, f, a)?;
-    put(out, b" ")?;
-    put_number(out, power(k))?;
-    put(out, b"))")
-}
-
-fn power(k: u32) -> u32
-    ensures { result ≡ spec.power k }
-{
-    1 << (k % 32)
-}
-
-#[cycle(put_term)]
-fn put_arithmetic(
-    out: &mut Vec<u8>,
-    f: &CoreFunction,
-    op: Arithmetic,
-    s: Signedness,
-    p: &Operands,
-) -> Result<(), NoMemory>
-    ensures { OnOk result (out.new.items ≡ out.old.items ++ spec.arithmetic_text op s (spec.term_text (function_tree f.now) (core_operands p.now).left) (spec.term_text (function_tree f.now) (core_operands p.now).right) (spec.literal_number (core_operands p.now).right)) }
-{
-    match op {
-        Arithmetic::Add => put_wrapped(out, f, s, b"add", p),
-        Arithmetic::Subtract => put_wrapped(out, f, s, b"sub", p),
-        Arithmetic::Multiply => put_wrapped(out, f, s, b"mul", p),
-        Arithmetic::Divide => put_quotient(out, f, &p.left, literal_number(&p.right)),
-        Arithmetic::Remainder => put_rest(out, f, &p.left, literal_number(&p.right)),
-        Arithmetic::ShiftLeft => put_shifted(out, f, s, &p.left, literal_number(&p.right)),
-        Arithmetic::ShiftRight => put_quotient(out, f, &p.left, power(literal_number(&p.right))),
-        Arithmetic::And => Ok(()),
-        Arithmetic::Or => Ok(()),
-        Arithmetic::Xor => Ok(()),
-    }
-}
-
-#[cycle(put_term)]
-fn put_minus(
-    out: &mut Vec<u8>,
-    f: &CoreFunction,
-    s: Signedness,
-    a: &CoreExpr,
-) -> Result<(), NoMemory>
-    ensures { OnOk result (out.new.items ≡ out.old.items ++ spec.wrapped s (spec.difference_of (codes "0") (spec.term_text (function_tree f.now) (core_expr a.now)))) }
-{
-    put(out, b"(")?;
-    put_wrap(out, s)?;
-    put(out, b" (sub 0 ")?;
-    put_term(out, f, a)?;
-    put(out, b"))")
-}
-
-#[cycle(put_term)]
-fn put_unary(
-    out: &mut Vec<u8>,
-    f: &CoreFunction,
-    op: UnaryOperation,
-    a: &CoreExpr,
-) -> Result<(), NoMemory>
-    ensures { OnOk result (out.new.items ≡ out.old.items ++ spec.unary_text op (spec.term_text (function_tree f.now) (core_expr a.now))) }
-{
-    match op {
-        UnaryOperation::Plus(_) => put_term(out, f, a),
-        UnaryOperation::Minus(s) => put_minus(out, f, s, a),
-        UnaryOperation::Complement(_) => Ok(()),
-        UnaryOperation::Not => Ok(()),
-        UnaryOperation::Truth => Ok(()),
-    }
-}
-
-#[cycle(put_term)]
-fn put_binary(
-    out: &mut Vec<u8>,
-    f: &CoreFunction,
-    op: BinaryOperation,
-    p: &Operands,
-) -> Result<(), NoMemory>
-    ensures { OnOk result (out.new.items ≡ out.old.items ++ spec.binary_text op (spec.term_text (function_tree f.now) (core_operands p.now).left) (spec.term_text (function_tree f.now) (core_operands p.now).right) (spec.literal_number (core_operands p.now).right)) }
-{
-    match op {
-        BinaryOperation::Arithmetic(op, s) => put_arithmetic(out, f, op, s, p),
-        BinaryOperation::Compare(_, _) => Ok(()),
-        BinaryOperation::Move(_, _, _) => Ok(()),
-        BinaryOperation::Difference(_) => Ok(()),
-        BinaryOperation::ComparePointers(_) => Ok(()),
-    }
-}
-
-// `(wraps a)` or `(wrapu a)`
-#[cycle(put_term)]
-fn put_wrapped_one(
-    out: &mut Vec<u8>,
-    f: &CoreFunction,
-    s: Signedness,
-    a: &CoreExpr,
-) -> Result<(), NoMemory>
-    ensures { OnOk result (out.new.items ≡ out.old.items ++ spec.wrapped s (spec.term_text (function_tree f.now) (core_expr a.now))) }
-{
-    put(out, b"(")?;
-    put_wrap(out, s)?;
-    put(out, b" ")?;
-    put_term(out, f, a)?;
-    put(out, b")")
-}
-
-#[cycle(put_term)]
-fn put_from_int(
-    out: &mut Vec<u8>,
-    f: &CoreFunction,
-    to: Scalar,
-    a: &CoreExpr,
-) -> Result<(), NoMemory>
-    ensures { OnOk result (out.new.items ≡ out.old.items ++ spec.from_int to (spec.term_text (function_tree f.now) (core_expr a.now))) }
-{
-    match to {
-        Scalar::Char => put_rest(out, f, a, 256),
-        Scalar::Int => put_term(out, f, a),
-        Scalar::Unsigned => put_wrapped_one(out, f, Signedness::Unsigned, a),
-        Scalar::Pointer => Ok(()),
-    }
-}
-
-#[cycle(put_term)]
-fn put_from_unsigned(
-    out: &mut Vec<u8>,
-    f: &CoreFunction,
-    to: Scalar,
-    a: &CoreExpr,
-) -> Result<(), NoMemory>
-    ensures { OnOk result (out.new.items ≡ out.old.items ++ spec.from_unsigned to (spec.term_text (function_tree f.now) (core_expr a.now))) }
-{
-    match to {
-        Scalar::Char => put_rest(out, f, a, 256),
-        Scalar::Int => put_wrapped_one(out, f, Signedness::Signed, a),
-        Scalar::Unsigned => put_term(out, f, a),
-        Scalar::Pointer => Ok(()),
-    }
-}
-
-#[cycle(put_term)]
-fn put_conversion(
-    out: &mut Vec<u8>,
-    f: &CoreFunction,
-    from: Scalar,
-    to: Scalar,
-    a: &CoreExpr,
-) -> Result<(), NoMemory>
-    ensures { OnOk result (out.new.items ≡ out.old.items ++ spec.conversion_text from to (spec.term_text (function_tree f.now) (core_expr a.now))) }
-{
-    match from {
-        Scalar::Char => put_term(out, f, a),
-        Scalar::Int => put_from_int(out, f, to, a),
-        Scalar::Unsigned => put_from_unsigned(out, f, to, a),
-        Scalar::Pointer => Ok(()),
-    }
-}
-
-/// Writes the term of an expression that has one.
-#[cycle(put_term)]
-pub fn put_term(out: &mut Vec<u8>, f: &CoreFunction, e: &CoreExpr) -> Result<(), NoMemory>
-    ensures { OnOk result (out.new.items ≡ out.old.items ++ spec.term_text (function_tree f.now) (core_expr e.now)) }
-{
-    match e {
-        CoreExpr::Literal(s, n) => put_literal(out, *s, *n),
-        CoreExpr::Null => Ok(()),
-        CoreExpr::Variable(_, x) => put_variable(out, f, *x),
-        CoreExpr::Temporary(_, k) => put_temporary(out, *k),
-        CoreExpr::Address(_) => Ok(()),
-        CoreExpr::Load(_, _) => Ok(()),
-        CoreExpr::Member(_, _) => Ok(()),
-        CoreExpr::Unary(op, a) => put_unary(out, f, *op, a),
-        CoreExpr::Binary(op, p) => put_binary(out, f, *op, p),
-        CoreExpr::Convert(s, a) => put_conversion(out, f, type_of(a), *s, a),
-        CoreExpr::And(_) => Ok(()),
-        CoreExpr::Or(_) => Ok(()),
-        CoreExpr::Conditional(_, _, _) => Ok(()),
+    match t {
+        CoreTerm::Number(n) => put_whole(out, *n),
+        CoreTerm::Variable(_, x) => put_variable(out, f, *x),
+        CoreTerm::Temporary(_, k) => put_temporary(out, *k),
+        CoreTerm::Combined(op, p) => put_combined(out, f, *op, p),
+        CoreTerm::Divide(t, k) => put_quotient(out, f, t, *k),
+        CoreTerm::Remainder(t, k) => put_remainder(out, f, t, *k),
+        CoreTerm::Wrapped(s, t) => put_wrapped(out, f, *s, t),
     }
 }
 
 // ---- conditions
 
-fn put_nonzero(out: &mut Vec<u8>, f: &CoreFunction, e: &CoreExpr) -> Result<(), NoMemory>
-    ensures { OnOk result (out.new.items ≡ out.old.items ++ spec.nonzero_text (spec.term_text (function_tree f.now) (core_expr e.now))) }
-{
-    put(out, b"(ne ")?;
-    put_term(out, f, e)?;
-    put(out, b" 0)")
-}
-
-// `(head b a)`
-fn put_swapped(
+fn put_compared(
     out: &mut Vec<u8>,
     f: &CoreFunction,
-    head: &[u8],
-    p: &Operands,
+    op: TermComparison,
+    p: &TermPair,
 ) -> Result<(), NoMemory>
-    ensures { OnOk result (out.new.items ≡ out.old.items ++ spec.applied_to_both head.now (spec.term_text (function_tree f.now) (core_operands p.now).right) (spec.term_text (function_tree f.now) (core_operands p.now).left)) }
+    ensures { OnOk result (out.new.items
+        ≡ out.old.items ++ spec.condition_text (function_tree f.now)
+        (compared op (core_pair p.now).left (core_pair p.now).right)) }
 {
     put(out, b"(")?;
-    put(out, head)?;
+    put_comparison(out, op)?;
     put(out, b" ")?;
-    put_term(out, f, &p.right)?;
-    put(out, b" ")?;
-    put_term(out, f, &p.left)?;
+    put_pair(out, f, p)?;
     put(out, b")")
 }
 
-fn put_comparison(
-    out: &mut Vec<u8>,
-    f: &CoreFunction,
-    op: Comparison,
-    p: &Operands,
-) -> Result<(), NoMemory>
-    ensures { OnOk result (out.new.items ≡ out.old.items ++ spec.comparison_text op (spec.term_text (function_tree f.now) (core_operands p.now).left) (spec.term_text (function_tree f.now) (core_operands p.now).right)) }
-{
-    match op {
-        Comparison::Less => put_both(out, f, b"lt", p),
-        Comparison::LessOrEqual => put_both(out, f, b"le", p),
-        Comparison::Greater => put_swapped(out, f, b"lt", p),
-        Comparison::GreaterOrEqual => put_swapped(out, f, b"le", p),
-        Comparison::Equal => put_both(out, f, b"eq", p),
-        Comparison::NotEqual => put_both(out, f, b"ne", p),
-    }
-}
-
-fn put_binary_condition(
-    out: &mut Vec<u8>,
-    f: &CoreFunction,
-    op: BinaryOperation,
-    whole: &CoreExpr,
-    p: &Operands,
-) -> Result<(), NoMemory>
-    ensures { OnOk result (out.new.items ≡ out.old.items ++ spec.binary_condition op (spec.term_text (function_tree f.now) (core_expr whole.now)) (spec.term_text (function_tree f.now) (core_operands p.now).left) (spec.term_text (function_tree f.now) (core_operands p.now).right)) }
-{
-    match op {
-        BinaryOperation::Arithmetic(_, _) => put_nonzero(out, f, whole),
-        BinaryOperation::Compare(op, _) => put_comparison(out, f, op, p),
-        BinaryOperation::Move(_, _, _) => Ok(()),
-        BinaryOperation::Difference(_) => Ok(()),
-        BinaryOperation::ComparePointers(_) => Ok(()),
-    }
-}
-
-// `(head a b)`
 #[cycle(put_condition)]
-fn put_both_conditions(
+fn put_negation(out: &mut Vec<u8>, f: &CoreFunction, c: &CoreCondition) -> Result<(), NoMemory>
+    ensures { OnOk result (out.new.items ≡ out.old.items ++ spec.applied (codes "not")
+        (spec.condition_text (function_tree f.now) (core_condition c.now))) }
+{
+    put(out, b"(not ")?;
+    put_condition(out, f, c)?;
+    put(out, b")")
+}
+
+// `(head c d)`
+#[cycle(put_condition)]
+fn put_both(
     out: &mut Vec<u8>,
     f: &CoreFunction,
     head: &[u8],
-    p: &Operands,
+    p: &ConditionPair,
 ) -> Result<(), NoMemory>
-    ensures { OnOk result (out.new.items ≡ out.old.items ++ spec.applied_to_both head.now (spec.condition_text (function_tree f.now) (core_operands p.now).left) (spec.condition_text (function_tree f.now) (core_operands p.now).right)) }
+    ensures { OnOk result (out.new.items ≡ out.old.items ++ spec.applied_to_both head.now
+        (spec.condition_text (function_tree f.now) (core_conditions p.now).left)
+        (spec.condition_text (function_tree f.now) (core_conditions p.now).right)) }
 {
     put(out, b"(")?;
     put(out, head)?;
@@ -363,61 +198,82 @@ fn put_both_conditions(
     put(out, b")")
 }
 
+/// Writes a condition.
 #[cycle(put_condition)]
-fn put_negation(out: &mut Vec<u8>, f: &CoreFunction, a: &CoreExpr) -> Result<(), NoMemory>
-    ensures { OnOk result (out.new.items ≡ out.old.items ++ spec.applied (codes "not") (spec.condition_text (function_tree f.now) (core_expr a.now))) }
+pub fn put_condition(out: &mut Vec<u8>, f: &CoreFunction, c: &CoreCondition) -> Result<(), NoMemory>
+    ensures { OnOk result (out.new.items
+        ≡ out.old.items ++ spec.condition_text (function_tree f.now) (core_condition c.now)) }
 {
-    put(out, b"(not ")?;
-    put_condition(out, f, a)?;
-    put(out, b")")
-}
-
-/// Writes the condition of an expression that has one.
-#[cycle(put_condition)]
-pub fn put_condition(out: &mut Vec<u8>, f: &CoreFunction, e: &CoreExpr) -> Result<(), NoMemory>
-    ensures { OnOk result (out.new.items ≡ out.old.items ++ spec.condition_text (function_tree f.now) (core_expr e.now)) }
-{
-    match e {
-        CoreExpr::Literal(_, _) => put_nonzero(out, f, e),
-        CoreExpr::Null => Ok(()),
-        CoreExpr::Variable(_, _) => put_nonzero(out, f, e),
-        CoreExpr::Temporary(_, _) => put_nonzero(out, f, e),
-        CoreExpr::Address(_) => Ok(()),
-        CoreExpr::Load(_, _) => Ok(()),
-        CoreExpr::Member(_, _) => Ok(()),
-        CoreExpr::Unary(UnaryOperation::Plus(_), _) => put_nonzero(out, f, e),
-        CoreExpr::Unary(UnaryOperation::Minus(_), _) => put_nonzero(out, f, e),
-        CoreExpr::Unary(UnaryOperation::Complement(_), _) => Ok(()),
-        CoreExpr::Unary(UnaryOperation::Not, a) => put_negation(out, f, a),
-        CoreExpr::Unary(UnaryOperation::Truth, _) => Ok(()),
-        CoreExpr::Binary(op, p) => put_binary_condition(out, f, *op, e, p),
-        CoreExpr::Convert(_, _) => put_nonzero(out, f, e),
-        CoreExpr::And(p) => put_both_conditions(out, f, b"and", p),
-        CoreExpr::Or(p) => put_both_conditions(out, f, b"or", p),
-        CoreExpr::Conditional(_, _, _) => Ok(()),
+    match c {
+        CoreCondition::Compared(op, p) => put_compared(out, f, *op, p),
+        CoreCondition::Not(c) => put_negation(out, f, c),
+        CoreCondition::And(p) => put_both(out, f, b"and", p),
+        CoreCondition::Or(p) => put_both(out, f, b"or", p),
     }
 }
 
-// ---- lines
+// ---- what stands in an outline
 
-/// Writes the term of an expression, or `?` where it has none.
-pub fn put_told_term(out: &mut Vec<u8>, f: &CoreFunction, e: &CoreExpr) -> Result<(), NoMemory>
-    ensures { OnOk result (out.new.items ≡ out.old.items ++ spec.told_term (function_tree f.now) (core_expr e.now)) }
+fn put_term_or_mark(
+    out: &mut Vec<u8>,
+    f: &CoreFunction,
+    t: &Option<CoreTerm>,
+) -> Result<(), NoMemory>
+    ensures { OnOk result (out.new.items
+        ≡ out.old.items ++ spec.term_or_mark (function_tree f.now) (option_map core_term t.now)) }
 {
-    if has_term(e) {
-        put_term(out, f, e)
-    } else {
-        put(out, b"?")
+    match t {
+        None => put(out, b"?"),
+        Some(t) => {
+            out.reserve(term_length(f, t))?;
+            put_term(out, f, t)
+        }
     }
 }
 
-/// Writes the condition of an expression, or `?` where it has none.
-pub fn put_told_condition(out: &mut Vec<u8>, f: &CoreFunction, e: &CoreExpr) -> Result<(), NoMemory>
-    ensures { OnOk result (out.new.items ≡ out.old.items ++ spec.told_condition (function_tree f.now) (core_expr e.now)) }
+fn put_condition_or_mark(
+    out: &mut Vec<u8>,
+    f: &CoreFunction,
+    c: &Option<CoreCondition>,
+) -> Result<(), NoMemory>
+    ensures { OnOk result (out.new.items
+        ≡ out.old.items ++ spec.condition_or_mark (function_tree f.now)
+        (option_map core_condition c.now)) }
 {
-    if has_condition(e) {
-        put_condition(out, f, e)
-    } else {
-        put(out, b"?")
+    match c {
+        None => put(out, b"?"),
+        Some(c) => {
+            out.reserve(condition_length(f, c))?;
+            put_condition(out, f, c)
+        }
     }
+}
+
+/// Writes the term of an expression, or `?` where it has none. Room for the whole text is taken
+/// first, so a text that no memory holds is answered at once.
+pub fn put_expr(
+    alloc: Global,
+    out: &mut Vec<u8>,
+    f: &CoreFunction,
+    e: &CoreExpr,
+) -> Result<(), NoMemory>
+    ensures { OnOk result (out.new.items
+        ≡ out.old.items ++ spec.expr_text (function_tree f.now) (core_expr e.now)) }
+{
+    let t = term_of(alloc, e)?;
+    put_term_or_mark(out, f, &t)
+}
+
+/// Writes the condition of an expression, or `?` where it has none, in the same way.
+pub fn put_test(
+    alloc: Global,
+    out: &mut Vec<u8>,
+    f: &CoreFunction,
+    e: &CoreExpr,
+) -> Result<(), NoMemory>
+    ensures { OnOk result (out.new.items
+        ≡ out.old.items ++ spec.test_text (function_tree f.now) (core_expr e.now)) }
+{
+    let c = condition_of(alloc, e)?;
+    put_condition_or_mark(out, f, &c)
 }

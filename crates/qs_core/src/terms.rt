@@ -1,13 +1,19 @@
-// Which expressions have terms and conditions.
-ghost use Rattle.std.specs.Prelude.{◌≡◌};
-ghost use Rattle.qs_core.specs.TreeOf.{core_expr};
+// The terms and conditions of expressions.
+ghost use Rattle.std.specs.Prelude.{◌≡◌, IfOk, option_map};
 ghost use Rattle.qs_core.specs.Scalars.{is_integer};
+ghost use Rattle.qs_core.specs.TreeOf.{core_expr};
+ghost use Rattle.qs_core.specs.TermTreeOf.{core_term};
+ghost use Rattle.qs_core.specs.TermTrees.{combined, wrapped};
 ghost use Rattle.qs_core.specs.Terms as spec;
 
 use crate::expressions::CoreExpr;
+use crate::term::{CoreTerm, TermOperation, TermPair};
+use crate::types::type_of;
+use qs_base::NoMemory;
 use qs_memory::{Arithmetic, BinaryOperation, Scalar, Signedness, UnaryOperation};
+use std::alloc::Global;
 
-// ---- which expressions have terms
+// ---- literals
 
 fn is_integer(s: Scalar) -> bool
     ensures { result ≡ is_integer s }
@@ -20,6 +26,139 @@ fn is_integer(s: Scalar) -> bool
     }
 }
 
+// The number that the bits of a literal stand for.
+fn literal_value(s: Scalar, n: u32) -> i64
+    ensures { result ≡ spec.literal_value s n }
+{
+    match s {
+        Scalar::Char => i64::from(n),
+        Scalar::Int => i64::from(n.cast_signed()),
+        Scalar::Unsigned => i64::from(n),
+        Scalar::Pointer => i64::from(n),
+    }
+}
+
+// The bits of a literal.
+fn literal_of(e: &CoreExpr) -> Option<u32>
+    ensures { result ≡ spec.literal_of (core_expr e.now) }
+{
+    match e {
+        CoreExpr::Literal(_, n) => Some(*n),
+        CoreExpr::Null => None,
+        CoreExpr::Variable(_, _) => None,
+        CoreExpr::Temporary(_, _) => None,
+        CoreExpr::Address(_) => None,
+        CoreExpr::Load(_, _) => None,
+        CoreExpr::Member(_, _) => None,
+        CoreExpr::Unary(_, _) => None,
+        CoreExpr::Binary(_, _) => None,
+        CoreExpr::Convert(_, _) => None,
+        CoreExpr::And(_) => None,
+        CoreExpr::Or(_) => None,
+        CoreExpr::Conditional(_, _, _) => None,
+    }
+}
+
+fn divisor(bits: Option<u32>) -> Option<u32>
+    ensures { result ≡ spec.divisor bits }
+{
+    match bits {
+        None => None,
+        Some(k) => { if 1 <= k { Some(k) } else { None } }
+    }
+}
+
+// The power of 2 by which a shift multiplies or divides.
+fn power(bits: Option<u32>) -> Option<u32>
+    ensures { result ≡ spec.power bits }
+{
+    match bits {
+        None => None,
+        Some(k) => { if k < 32 { Some(1 << k) } else { None } }
+    }
+}
+
+// ---- operations
+
+fn wrapped(alloc: Global, s: Signedness, t: CoreTerm) -> Result<CoreTerm, NoMemory>
+    ensures { IfOk result (λ r. core_term r ≡ wrapped s (core_term t)) }
+{
+    Ok(CoreTerm::Wrapped(s, Box::new(alloc, t)?))
+}
+
+fn combined(
+    alloc: Global,
+    op: TermOperation,
+    left: CoreTerm,
+    right: CoreTerm,
+) -> Result<CoreTerm, NoMemory>
+    ensures { IfOk result (λ r. core_term r ≡ combined op (core_term left) (core_term right)) }
+{
+    Ok(CoreTerm::Combined(op, Box::new(alloc, TermPair { left, right })?))
+}
+
+fn wrapped_both(
+    alloc: Global,
+    op: TermOperation,
+    s: Signedness,
+    left: Option<CoreTerm>,
+    right: Option<CoreTerm>,
+) -> Result<Option<CoreTerm>, NoMemory>
+    ensures { IfOk result (λ r. option_map core_term r
+        ≡ spec.wrapped_both op s (option_map core_term left) (option_map core_term right)) }
+{
+    let Some(t) = left else {
+        return Ok(None);
+    };
+    let Some(u) = right else {
+        return Ok(None);
+    };
+    let whole = combined(alloc, op, t, u)?;
+    Ok(Some(wrapped(alloc, s, whole)?))
+}
+
+fn divided(
+    alloc: Global,
+    s: Signedness,
+    left: Option<CoreTerm>,
+    by: Option<u32>,
+) -> Result<Option<CoreTerm>, NoMemory>
+    ensures { IfOk result (λ r. option_map core_term r
+        ≡ spec.divided s (option_map core_term left) by) }
+{
+    if !is_unsigned(s) {
+        return Ok(None);
+    }
+    let Some(t) = left else {
+        return Ok(None);
+    };
+    let Some(k) = by else {
+        return Ok(None);
+    };
+    Ok(Some(CoreTerm::Divide(Box::new(alloc, t)?, k)))
+}
+
+fn remainder(
+    alloc: Global,
+    s: Signedness,
+    left: Option<CoreTerm>,
+    by: Option<u32>,
+) -> Result<Option<CoreTerm>, NoMemory>
+    ensures { IfOk result (λ r. option_map core_term r
+        ≡ spec.remainder s (option_map core_term left) by) }
+{
+    if !is_unsigned(s) {
+        return Ok(None);
+    }
+    let Some(t) = left else {
+        return Ok(None);
+    };
+    let Some(k) = by else {
+        return Ok(None);
+    };
+    Ok(Some(CoreTerm::Remainder(Box::new(alloc, t)?, k)))
+}
+
 fn is_unsigned(s: Signedness) -> bool
     ensures { result ≡ spec.is_unsigned s }
 {
@@ -29,163 +168,187 @@ fn is_unsigned(s: Signedness) -> bool
     }
 }
 
-fn is_literal_from(least: u32, greatest: u32, e: &CoreExpr) -> bool
-    ensures { result ≡ spec.is_literal_from least greatest (core_expr e.now) }
+// The product with a number, wrapped.
+fn multiple(
+    alloc: Global,
+    s: Signedness,
+    left: Option<CoreTerm>,
+    of: Option<u32>,
+) -> Result<Option<CoreTerm>, NoMemory>
+    ensures { IfOk result (λ r. option_map core_term r
+        ≡ spec.multiple s (option_map core_term left) of) }
 {
-    match e {
-        CoreExpr::Literal(_, n) => least <= *n && *n <= greatest,
-        CoreExpr::Null => false,
-        CoreExpr::Variable(_, _) => false,
-        CoreExpr::Temporary(_, _) => false,
-        CoreExpr::Address(_) => false,
-        CoreExpr::Load(_, _) => false,
-        CoreExpr::Member(_, _) => false,
-        CoreExpr::Unary(_, _) => false,
-        CoreExpr::Binary(_, _) => false,
-        CoreExpr::Convert(_, _) => false,
-        CoreExpr::And(_) => false,
-        CoreExpr::Or(_) => false,
-        CoreExpr::Conditional(_, _, _) => false,
-    }
+    let Some(t) = left else {
+        return Ok(None);
+    };
+    let Some(k) = of else {
+        return Ok(None);
+    };
+    let k = CoreTerm::Number(i64::from(k));
+    let whole = combined(alloc, TermOperation::Multiply, t, k)?;
+    Ok(Some(wrapped(alloc, s, whole)?))
 }
 
-/// The number of a literal.
-pub fn literal_number(e: &CoreExpr) -> u32
-    ensures { result ≡ spec.literal_number (core_expr e.now) }
-{
-    match e {
-        CoreExpr::Literal(_, n) => *n,
-        CoreExpr::Null => 0,
-        CoreExpr::Variable(_, _) => 0,
-        CoreExpr::Temporary(_, _) => 0,
-        CoreExpr::Address(_) => 0,
-        CoreExpr::Load(_, _) => 0,
-        CoreExpr::Member(_, _) => 0,
-        CoreExpr::Unary(_, _) => 0,
-        CoreExpr::Binary(_, _) => 0,
-        CoreExpr::Convert(_, _) => 0,
-        CoreExpr::And(_) => 0,
-        CoreExpr::Or(_) => 0,
-        CoreExpr::Conditional(_, _, _) => 0,
-    }
-}
-
-fn is_divisor(e: &CoreExpr) -> bool
-    ensures { result ≡ spec.is_divisor (core_expr e.now) }
-{
-    is_literal_from(1, u32::MAX, e)
-}
-
-fn is_count(e: &CoreExpr) -> bool
-    ensures { result ≡ spec.is_count (core_expr e.now) }
-{
-    is_literal_from(0, 31, e)
-}
-
-fn arithmetic_has_term(
+fn arithmetic_term(
+    alloc: Global,
     op: Arithmetic,
     s: Signedness,
-    right_has_term: bool,
-    right: &CoreExpr,
-) -> bool
-    ensures { result ≡ spec.arithmetic_has_term op s right_has_term (core_expr right.now) }
+    left: Option<CoreTerm>,
+    right: Option<CoreTerm>,
+    bits: Option<u32>,
+) -> Result<Option<CoreTerm>, NoMemory>
+    ensures { IfOk result (λ r. option_map core_term r
+        ≡ spec.arithmetic_term op s (option_map core_term left) (option_map core_term right) bits) }
 {
     match op {
-        Arithmetic::Add => right_has_term,
-        Arithmetic::Subtract => right_has_term,
-        Arithmetic::Multiply => right_has_term,
-        Arithmetic::Divide => is_unsigned(s) && is_divisor(right),
-        Arithmetic::Remainder => is_unsigned(s) && is_divisor(right),
-        Arithmetic::ShiftLeft => is_count(right),
-        Arithmetic::ShiftRight => is_unsigned(s) && is_count(right),
-        Arithmetic::And => false,
-        Arithmetic::Or => false,
-        Arithmetic::Xor => false,
+        Arithmetic::Add => wrapped_both(alloc, TermOperation::Add, s, left, right),
+        Arithmetic::Subtract => wrapped_both(alloc, TermOperation::Subtract, s, left, right),
+        Arithmetic::Multiply => wrapped_both(alloc, TermOperation::Multiply, s, left, right),
+        Arithmetic::Divide => divided(alloc, s, left, divisor(bits)),
+        Arithmetic::Remainder => remainder(alloc, s, left, divisor(bits)),
+        Arithmetic::ShiftLeft => multiple(alloc, s, left, power(bits)),
+        Arithmetic::ShiftRight => divided(alloc, s, left, power(bits)),
+        Arithmetic::And => Ok(None),
+        Arithmetic::Or => Ok(None),
+        Arithmetic::Xor => Ok(None),
     }
 }
 
-fn unary_has_term(op: UnaryOperation) -> bool
-    ensures { result ≡ spec.unary_has_term op }
+fn binary_term(
+    alloc: Global,
+    op: BinaryOperation,
+    left: Option<CoreTerm>,
+    right: Option<CoreTerm>,
+    bits: Option<u32>,
+) -> Result<Option<CoreTerm>, NoMemory>
+    ensures { IfOk result (λ r. option_map core_term r
+        ≡ spec.binary_term op (option_map core_term left) (option_map core_term right) bits) }
 {
     match op {
-        UnaryOperation::Plus(_) => true,
-        UnaryOperation::Minus(_) => true,
-        UnaryOperation::Complement(_) => false,
-        UnaryOperation::Not => false,
-        UnaryOperation::Truth => false,
+        BinaryOperation::Arithmetic(op, s) => arithmetic_term(alloc, op, s, left, right, bits),
+        BinaryOperation::Compare(_, _) => Ok(None),
+        BinaryOperation::Move(_, _, _) => Ok(None),
+        BinaryOperation::Difference(_) => Ok(None),
+        BinaryOperation::ComparePointers(_) => Ok(None),
     }
 }
 
-fn binary_has_term(op: BinaryOperation, right_has_term: bool, right: &CoreExpr) -> bool
-    ensures { result ≡ spec.binary_has_term op right_has_term (core_expr right.now) }
+fn negative(
+    alloc: Global,
+    s: Signedness,
+    operand: Option<CoreTerm>,
+) -> Result<Option<CoreTerm>, NoMemory>
+    ensures { IfOk result (λ r. option_map core_term r
+        ≡ spec.negative s (option_map core_term operand)) }
+{
+    let Some(t) = operand else {
+        return Ok(None);
+    };
+    let zero = CoreTerm::Number(0);
+    let whole = combined(alloc, TermOperation::Subtract, zero, t)?;
+    Ok(Some(wrapped(alloc, s, whole)?))
+}
+
+fn unary_term(
+    alloc: Global,
+    op: UnaryOperation,
+    operand: Option<CoreTerm>,
+) -> Result<Option<CoreTerm>, NoMemory>
+    ensures { IfOk result (λ r. option_map core_term r
+        ≡ spec.unary_term op (option_map core_term operand)) }
 {
     match op {
-        BinaryOperation::Arithmetic(op, s) => arithmetic_has_term(op, s, right_has_term, right),
-        BinaryOperation::Compare(_, _) => false,
-        BinaryOperation::Move(_, _, _) => false,
-        BinaryOperation::Difference(_) => false,
-        BinaryOperation::ComparePointers(_) => false,
+        UnaryOperation::Plus(_) => Ok(operand),
+        UnaryOperation::Minus(s) => negative(alloc, s, operand),
+        UnaryOperation::Complement(_) => Ok(None),
+        UnaryOperation::Not => Ok(None),
+        UnaryOperation::Truth => Ok(None),
     }
 }
 
-/// Whether an expression has a term.
-pub fn has_term(e: &CoreExpr) -> bool
-    ensures { result ≡ spec.has_term (core_expr e.now) }
+fn from_char(to: Scalar, t: CoreTerm) -> Option<CoreTerm>
+    ensures { option_map core_term result ≡ spec.from_char to (core_term t) }
+{
+    match to {
+        Scalar::Char => Some(t),
+        Scalar::Int => Some(t),
+        Scalar::Unsigned => Some(t),
+        Scalar::Pointer => None,
+    }
+}
+
+fn from_int(alloc: Global, to: Scalar, t: CoreTerm) -> Result<Option<CoreTerm>, NoMemory>
+    ensures { IfOk result (λ r. option_map core_term r ≡ spec.from_int to (core_term t)) }
+{
+    match to {
+        Scalar::Char => Ok(Some(CoreTerm::Remainder(Box::new(alloc, t)?, 256))),
+        Scalar::Int => Ok(Some(t)),
+        Scalar::Unsigned => Ok(Some(wrapped(alloc, Signedness::Unsigned, t)?)),
+        Scalar::Pointer => Ok(None),
+    }
+}
+
+fn from_unsigned(alloc: Global, to: Scalar, t: CoreTerm) -> Result<Option<CoreTerm>, NoMemory>
+    ensures { IfOk result (λ r. option_map core_term r ≡ spec.from_unsigned to (core_term t)) }
+{
+    match to {
+        Scalar::Char => Ok(Some(CoreTerm::Remainder(Box::new(alloc, t)?, 256))),
+        Scalar::Int => Ok(Some(wrapped(alloc, Signedness::Signed, t)?)),
+        Scalar::Unsigned => Ok(Some(t)),
+        Scalar::Pointer => Ok(None),
+    }
+}
+
+fn conversion_term(
+    alloc: Global,
+    from: Scalar,
+    to: Scalar,
+    operand: Option<CoreTerm>,
+) -> Result<Option<CoreTerm>, NoMemory>
+    ensures { IfOk result (λ r. option_map core_term r
+        ≡ spec.conversion_term from to (option_map core_term operand)) }
+{
+    let Some(t) = operand else {
+        return Ok(None);
+    };
+    match from {
+        Scalar::Char => Ok(from_char(to, t)),
+        Scalar::Int => from_int(alloc, to, t),
+        Scalar::Unsigned => from_unsigned(alloc, to, t),
+        Scalar::Pointer => Ok(None),
+    }
+}
+
+// ---- terms
+
+// The term of a literal, a variable or a temporary.
+fn if_integer(s: Scalar, t: CoreTerm) -> Option<CoreTerm>
+    ensures { option_map core_term result ≡ spec.if_integer s (core_term t) }
+{
+    if is_integer(s) { Some(t) } else { None }
+}
+
+/// The term of an expression, where it has one. It is as high as the expression.
+pub fn term_of(alloc: Global, e: &CoreExpr) -> Result<Option<CoreTerm>, NoMemory>
+    ensures { IfOk result (λ r. option_map core_term r ≡ spec.term_of (core_expr e.now)) }
 {
     match e {
-        CoreExpr::Literal(s, _) => is_integer(*s),
-        CoreExpr::Null => false,
-        CoreExpr::Variable(s, _) => is_integer(*s),
-        CoreExpr::Temporary(s, _) => is_integer(*s),
-        CoreExpr::Address(_) => false,
-        CoreExpr::Load(_, _) => false,
-        CoreExpr::Member(_, _) => false,
-        CoreExpr::Unary(op, a) => unary_has_term(*op) && has_term(a),
+        CoreExpr::Literal(s, n) => { Ok(if_integer(*s, CoreTerm::Number(literal_value(*s, *n)))) }
+        CoreExpr::Null => Ok(None),
+        CoreExpr::Variable(s, x) => Ok(if_integer(*s, CoreTerm::Variable(*s, *x))),
+        CoreExpr::Temporary(s, k) => Ok(if_integer(*s, CoreTerm::Temporary(*s, *k))),
+        CoreExpr::Address(_) => Ok(None),
+        CoreExpr::Load(_, _) => Ok(None),
+        CoreExpr::Member(_, _) => Ok(None),
+        CoreExpr::Unary(op, a) => unary_term(alloc, *op, term_of(alloc, a)?),
         CoreExpr::Binary(op, p) => {
-            binary_has_term(*op, has_term(&p.right), &p.right) && has_term(&p.left)
+            let left = term_of(alloc, &p.left)?;
+            let right = term_of(alloc, &p.right)?;
+            binary_term(alloc, *op, left, right, literal_of(&p.right))
         }
-        CoreExpr::Convert(s, a) => is_integer(*s) && has_term(a),
-        CoreExpr::And(_) => false,
-        CoreExpr::Or(_) => false,
-        CoreExpr::Conditional(_, _, _) => false,
-    }
-}
-
-fn binary_has_condition(op: BinaryOperation, has_one: bool, both_have_terms: bool) -> bool
-    ensures { result ≡ spec.binary_has_condition op has_one both_have_terms }
-{
-    match op {
-        BinaryOperation::Arithmetic(_, _) => has_one,
-        BinaryOperation::Compare(_, _) => both_have_terms,
-        BinaryOperation::Move(_, _, _) => false,
-        BinaryOperation::Difference(_) => false,
-        BinaryOperation::ComparePointers(_) => false,
-    }
-}
-
-/// Whether an expression has a condition.
-pub fn has_condition(e: &CoreExpr) -> bool
-    ensures { result ≡ spec.has_condition (core_expr e.now) }
-{
-    match e {
-        CoreExpr::Literal(s, _) => is_integer(*s),
-        CoreExpr::Null => false,
-        CoreExpr::Variable(s, _) => is_integer(*s),
-        CoreExpr::Temporary(s, _) => is_integer(*s),
-        CoreExpr::Address(_) => false,
-        CoreExpr::Load(_, _) => false,
-        CoreExpr::Member(_, _) => false,
-        CoreExpr::Unary(UnaryOperation::Plus(_), a) => has_term(a),
-        CoreExpr::Unary(UnaryOperation::Minus(_), a) => has_term(a),
-        CoreExpr::Unary(UnaryOperation::Complement(_), _) => false,
-        CoreExpr::Unary(UnaryOperation::Not, a) => has_condition(a),
-        CoreExpr::Unary(UnaryOperation::Truth, _) => false,
-        CoreExpr::Binary(op, p) => {
-            binary_has_condition(*op, has_term(e), has_term(&p.left) && has_term(&p.right))
-        }
-        CoreExpr::Convert(_, _) => has_term(e),
-        CoreExpr::And(p) => has_condition(&p.left) && has_condition(&p.right),
-        CoreExpr::Or(p) => has_condition(&p.left) && has_condition(&p.right),
-        CoreExpr::Conditional(_, _, _) => false,
+        CoreExpr::Convert(s, a) => conversion_term(alloc, type_of(a), *s, term_of(alloc, a)?),
+        CoreExpr::And(_) => Ok(None),
+        CoreExpr::Or(_) => Ok(None),
+        CoreExpr::Conditional(_, _, _) => Ok(None),
     }
 }

@@ -17,7 +17,7 @@ use Rattle.qs_driver.specs.declared.status.SourceFault.TheVariants.{TooLong, Lex
 use Rattle.qs_driver.specs.declared.status.TokenPlace.{TokenPlace}
 use Rattle.qs_driver.specs.declared.status.FileKind.TheVariants as kinds
 use Rattle.qs_driver.proofs.FilesLaws.{held_with, held_long}
-use Rattle.qs_driver.proofs.SourceLaws.{no_unit, syntax_no_unit, lex_or_tokens, lex_or_unit, same_lex_fault, same_lex_place, ill_typed_or_typed, same_type_fault, same_type_place}
+use Rattle.qs_driver.proofs.SourceLaws.{no_unit, syntax_no_unit, lex_or_tokens, lex_or_unit, same_lex_fault, same_lex_place, same_syntax_fault, same_syntax_place, ill_typed_or_typed, same_type_fault, same_type_place}
 
 -- ---- a file is in one state
 
@@ -121,25 +121,25 @@ tells_lexical file status (syntactic fault place h e) g q f = absurd cc
 tells_lexical file status (ill_typed fault place h e) g q f = absurd cc
 tells_lexical file status (good h none) g q f = absurd (none.not_lexical g q f)
 
-tells_syntactic : (file : Option (List ℕ)) (status : Status) → SourceEnds file status → IsSyntax status → HoldsWith file source_limit IsNoUnit
-tells_syntactic file status (absent a e) (g, q, f) = absurd cc
-tells_syntactic file status (long l e) (g, q, f) = absurd cc
-tells_syntactic file status (lexical fault pos h e) (g, q, f) = absurd cc
-tells_syntactic file status (syntactic fault place h e) s = record { content = h.content; holds = h.holds; has = syntax_no_unit h.content fault place h.has }
-tells_syntactic file status (ill_typed fault place h e) (g, q, f) = absurd cc
-tells_syntactic file status (good h none) (g, q, f) = absurd (none.not_syntactic g q f)
+tells_no_unit : (file : Option (List ℕ)) (status : Status) → SourceEnds file status → IsSyntax status → HoldsWith file source_limit IsNoUnit
+tells_no_unit file status (absent a e) (g, q, f) = absurd cc
+tells_no_unit file status (long l e) (g, q, f) = absurd cc
+tells_no_unit file status (lexical fault pos h e) (g, q, f) = absurd cc
+tells_no_unit file status (syntactic fault place h e) s = record { content = h.content; holds = h.holds; has = syntax_no_unit h.content fault place h.has }
+tells_no_unit file status (ill_typed fault place h e) (g, q, f) = absurd cc
+tells_no_unit file status (good h none) (g, q, f) = absurd (none.not_syntactic g q f)
 
-tells_place : (file : Option (List ℕ)) (status : Status) → SourceEnds file status → (fault : SyntaxFault) (place : TokenPlace) → status ≡ Source (Syntax fault place) → HoldsWith file source_limit (λ text. HasSyntaxFault text fault place)
-tells_place file status (absent a e) g q f = absurd cc
-tells_place file status (long l e) g q f = absurd cc
-tells_place file status (lexical fault pos h e) g q f = absurd cc
-tells_place file status (syntactic fault place h e) g q f =
+tells_syntactic : (file : Option (List ℕ)) (status : Status) → SourceEnds file status → (fault : SyntaxFault) (place : TokenPlace) → status ≡ Source (Syntax fault place) → HoldsWith file source_limit (λ text. HasSyntaxFault text fault place)
+tells_syntactic file status (absent a e) g q f = absurd cc
+tells_syntactic file status (long l e) g q f = absurd cc
+tells_syntactic file status (lexical fault pos h e) g q f = absurd cc
+tells_syntactic file status (syntactic fault place h e) g q f =
     let both : ◌≡◌ {A = Status} (Source (Syntax fault place)) (Source (Syntax g q)) = sym e ∙ f in
     let same_fault : fault ≡ g = cc in
     let same_place : place ≡ q = cc in
     subst (λ (x : SyntaxFault). HoldsWith file source_limit (λ text. HasSyntaxFault text x q)) same_fault (subst (λ (x : TokenPlace). HoldsWith file source_limit (λ text. HasSyntaxFault text fault x)) same_place h)
-tells_place file status (ill_typed fault place h e) g q f = absurd cc
-tells_place file status (good h none) g q f = absurd (none.not_syntactic g q f)
+tells_syntactic file status (ill_typed fault place h e) g q f = absurd cc
+tells_syntactic file status (good h none) g q f = absurd (none.not_syntactic g q f)
 
 tells_typing : (file : Option (List ℕ)) (status : Status) → SourceEnds file status → (fault : TypeFault) (place : Option Pos) → status ≡ Source (Typing fault place) → HoldsWith file source_limit (λ text. HasTypeFault text fault place)
 tells_typing file status (absent a e) g q f = absurd cc
@@ -181,13 +181,23 @@ leads_lexical file status (syntactic fault place h e) g q x = absurd (not_two fi
 leads_lexical file status (ill_typed fault place h e) g q x = absurd (not_two file source_limit (λ text. HasTypeFault text fault place) (λ text. HasLexFault text g q) (λ text a b. lex_or_unit text g q b a.unit) h x)
 leads_lexical file status (good h none) g q x = absurd (not_two file source_limit IsTypedUnit (λ text. HasLexFault text g q) (λ text a b. lex_or_unit text g q b a.unit) h x)
 
-leads_syntactic : (file : Option (List ℕ)) (status : Status) → SourceEnds file status → HoldsWith file source_limit IsNoUnit → IsSyntax status
-leads_syntactic file status (absent a e) x = absurd (not_absent file x.content a x.holds.there)
-leads_syntactic file status (long l e) x = absurd (not_long file source_limit x.content x.holds l)
-leads_syntactic file status (lexical fault pos h e) x = absurd (not_two file source_limit (λ text. HasLexFault text fault pos) IsNoUnit (λ text a b. lex_or_tokens text fault pos b.tokens a b.are_tokens) h x)
-leads_syntactic file status (syntactic fault place h e) x = (fault, place, e)
-leads_syntactic file status (ill_typed fault place h e) x = absurd (not_two file source_limit IsNoUnit (λ text. HasTypeFault text fault place) (λ text a b. no_unit text a b.unit) x h)
-leads_syntactic file status (good h none) x = absurd (not_two file source_limit IsNoUnit IsTypedUnit (λ text a b. no_unit text a b.unit) x h)
+leads_no_unit : (file : Option (List ℕ)) (status : Status) → SourceEnds file status → HoldsWith file source_limit IsNoUnit → IsSyntax status
+leads_no_unit file status (absent a e) x = absurd (not_absent file x.content a x.holds.there)
+leads_no_unit file status (long l e) x = absurd (not_long file source_limit x.content x.holds l)
+leads_no_unit file status (lexical fault pos h e) x = absurd (not_two file source_limit (λ text. HasLexFault text fault pos) IsNoUnit (λ text a b. lex_or_tokens text fault pos b.tokens a b.are_tokens) h x)
+leads_no_unit file status (syntactic fault place h e) x = (fault, place, e)
+leads_no_unit file status (ill_typed fault place h e) x = absurd (not_two file source_limit IsNoUnit (λ text. HasTypeFault text fault place) (λ text a b. no_unit text a b.unit) x h)
+leads_no_unit file status (good h none) x = absurd (not_two file source_limit IsNoUnit IsTypedUnit (λ text a b. no_unit text a b.unit) x h)
+
+leads_syntactic : (file : Option (List ℕ)) (status : Status) → SourceEnds file status → (fault : SyntaxFault) (place : TokenPlace) → HoldsWith file source_limit (λ text. HasSyntaxFault text fault place) → status ≡ Source (Syntax fault place)
+leads_syntactic file status (absent a e) g q x = absurd (not_absent file x.content a x.holds.there)
+leads_syntactic file status (long l e) g q x = absurd (not_long file source_limit x.content x.holds l)
+leads_syntactic file status (lexical fault pos h e) g q x = absurd (not_two file source_limit (λ text. HasLexFault text fault pos) (λ text. HasSyntaxFault text g q) (λ text a b. lex_or_tokens text fault pos b.tokens a b.are_tokens) h x)
+leads_syntactic file status (syntactic fault place h e) g q x =
+    let there : HasSyntaxFault x.content fault place = subst (λ (text : List ℕ). HasSyntaxFault text fault place) (one_content file source_limit h.content x.content h.holds x.holds) h.has in
+    e ∙ ap (λ y. Source (Syntax y place)) (same_syntax_fault x.content fault g place q there x.has) ∙ ap (λ y. Source (Syntax g y)) (same_syntax_place x.content fault g place q there x.has)
+leads_syntactic file status (ill_typed fault place h e) g q x = absurd (not_two file source_limit (λ text. HasSyntaxFault text g q) (λ text. HasTypeFault text fault place) (λ text a b. no_unit text (syntax_no_unit text g q a) b.unit) x h)
+leads_syntactic file status (good h none) g q x = absurd (not_two file source_limit (λ text. HasSyntaxFault text g q) IsTypedUnit (λ text a b. no_unit text (syntax_no_unit text g q a) b.unit) x h)
 
 leads_typing : (file : Option (List ℕ)) (status : Status) → SourceEnds file status → (fault : TypeFault) (place : Option Pos) → HoldsWith file source_limit (λ text. HasTypeFault text fault place) → status ≡ Source (Typing fault place)
 leads_typing file status (absent a e) g q x = absurd (not_absent file x.content a x.holds.there)
@@ -204,7 +214,7 @@ refuses_source file status s = record {
   missing = (tells_missing file status s, leads_missing file status s);
   too_long = (tells_long file status s, leads_long file status s);
   lexical = λ fault pos. (tells_lexical file status s fault pos, leads_lexical file status s fault pos);
-  syntactic = (tells_syntactic file status s, leads_syntactic file status s);
-  told = tells_place file status s;
+  no_unit = (tells_no_unit file status s, leads_no_unit file status s);
+  syntactic = λ fault place. (tells_syntactic file status s fault place, leads_syntactic file status s fault place);
   typing = λ fault place. (tells_typing file status s fault place, leads_typing file status s fault place);
 }

@@ -1,6 +1,6 @@
 -- What is wrong with a text.
-use Rattle.std.proofs.Common.{◌≡◌, inl, inr, ℕ, ◌<◌, ◌≤◌, List, length, get_or, Option, Some, None, Err, slice_get, refl, ap, subst, sym, ◌∙◌, arith}
-use Rattle.std.proofs.lemmas.Option.{slice_get-get_or, same_Some}
+use Rattle.std.proofs.Common.{◌≡◌, ◌≢◌, inl, inr, ℕ, ◌<◌, ◌≤◌, List, length, get_or, Option, Some, None, Err, slice_get, refl, ap, subst, sym, ◌∙◌, arith}
+use Rattle.std.proofs.lemmas.Option.{slice_get-get_or, slice_get_within, same_Some}
 use Rattle.qs_base.specs.declared.places.Pos.{Pos}
 use Rattle.qs_syntax.specs.declared.tokens.Token.{Token}
 use Rattle.qs_syntax.specs.declared.nodes.Node.{Node}
@@ -18,7 +18,7 @@ use Rattle.qs_lexer.proofs.OneReading.{not_both, one_list, one_place, one_kind}
 use Rattle.qs_lexer.proofs.TerminalLaws.{as_many}
 use Rattle.qs_parser.specs.Answers.{Answers, HasFault, HasNoReading, ReadsAs}
 use Rattle.qs_syntax.specs.declared.terminal.Terminal.{Terminal}
-use Rattle.qs_parser.proofs.Top.{unexpected_none, too_deep_none}
+use Rattle.qs_parser.proofs.Top.{has_none, faults_are_unique}
 use Rattle.qs_parser.specs.declared.syntax_fault.SyntaxFault.{SyntaxFault}
 use Rattle.qs_parser.specs.declared.syntax_fault.SyntaxFault.TheVariants as syntax
 use Rattle.qs_grammar.proofs.UnitsComplete.{one_reading}
@@ -34,6 +34,7 @@ use Rattle.qs_driver.specs.declared.status.Status.{Status}
 use Rattle.qs_driver.specs.declared.status.Status.TheVariants.{Source}
 use Rattle.qs_driver.specs.declared.status.SourceFault.TheVariants.{Lex, Syntax, Typing}
 use Rattle.qs_driver.specs.declared.status.TokenPlace.{TokenPlace}
+use Rattle.qs_driver.specs.declared.status.TokenPlace.TheVariants.{At, End}
 use Rattle.qs_driver.proofs.FaultNodes.{named_is_low}
 use Rattle.qs_driver.proofs.NodeTokens.{token_is_low}
 
@@ -59,10 +60,11 @@ within_of ts syntax.NoMemory number has e = absurd cc
 within_of ts (syntax.Unexpected found) number has e = let same : found ≡ number = cc in subst (λ (k : ℕ). k ≤ length ts) same has.within
 within_of ts (syntax.TooDeep found) number has e = let same : found ≡ number = cc in let low : found < length ts = has.within in subst (λ (k : ℕ). k ≤ length ts) same (omega arith)
 
-none_of : (ts : List Terminal) (fault : SyntaxFault) (number : ℕ) → HasFault ts fault → number_of fault ≡ Some number → HasNoReading ts
-none_of ts syntax.NoMemory number has e = absurd cc
-none_of ts (syntax.Unexpected found) number has e = unexpected_none ts found has
-none_of ts (syntax.TooDeep found) number has e = too_deep_none ts found has
+-- a fault that names a token is not want of memory
+names_some : (fault : SyntaxFault) (number : ℕ) → number_of fault ≡ Some number → fault ≢ syntax.NoMemory
+names_some syntax.NoMemory number e memory = absurd cc
+names_some (syntax.Unexpected found) number e memory = absurd cc
+names_some (syntax.TooDeep found) number e memory = absurd cc
 
 pub within_tokens : (text : List ℕ) (tokens : List Token) (fault : SyntaxFault) (number : ℕ) → Answers (terminals text 0 tokens) (Err fault) → number_of fault ≡ Some number → number ≤ length tokens
 within_tokens text tokens fault number says e = subst (λ (k : ℕ). number ≤ k) (as_many text 0 tokens) (within_of (terminals text 0 tokens) fault number says e)
@@ -138,7 +140,7 @@ no_unit text n u =
     none u.reads.height u.reads.unnumbered u.reads.reads u.reads.low
 
 pub syntax_no_unit : (text : List ℕ) (fault : SyntaxFault) (place : TokenPlace) → HasSyntaxFault text fault place → IsNoUnit text
-syntax_no_unit text fault place f = record { tokens = f.tokens; are_tokens = f.are_tokens; none = none_of (terminals text 0 f.tokens) fault f.number f.stands f.names }
+syntax_no_unit text fault place f = record { tokens = f.tokens; are_tokens = f.are_tokens; none = has_none (terminals text 0 f.tokens) fault (names_some fault f.number f.names) f.stands }
 
 pub lex_or_tokens : (text : List ℕ) (fault : LexFault) (pos : Pos) (tokens : List Token) → HasLexFault text fault pos → Tokens text tokens → ⊥
 lex_or_tokens text fault pos tokens f t = not_both text tokens f.kind f.at t f.stands
@@ -162,6 +164,31 @@ pub same_lex_place : (text : List ℕ) (f g : LexFault) (p q : Pos) → HasLexFa
 same_lex_place text f g p q a b =
     let at : a.at ≡ b.at = one_place text a.kind b.kind a.at b.at a.stands b.stands in
     same_pos text b.at p q (subst (λ (k : ℕ). IsPlaceOf text k p) at a.place) b.place
+
+pub same_syntax_fault : (text : List ℕ) (f g : SyntaxFault) (p q : TokenPlace) → HasSyntaxFault text f p → HasSyntaxFault text g q → f ≡ g
+same_syntax_fault text f g p q a b =
+    let tokens : a.tokens ≡ b.tokens = one_list text a.tokens b.tokens a.are_tokens b.are_tokens in
+    let there : HasFault (terminals text 0 b.tokens) f = subst (λ (ts : List Token). HasFault (terminals text 0 ts) f) tokens a.stands in
+    faults_are_unique (terminals text 0 b.tokens) f g there b.stands (names_some f a.number a.names) (names_some g b.number b.names)
+
+token_or_end : (tokens : List Token) (number : ℕ) (token : Token) → slice_get tokens number ≡ Some token → number ≡ length tokens → ⊥
+token_or_end tokens number token is all = let there : number < length tokens = slice_get_within tokens number token is in omega (arith, there, all)
+
+same_token_place : (text : List ℕ) (tokens : List Token) (number : ℕ) (p q : TokenPlace) → IsTokenPlace text tokens number p → IsTokenPlace text tokens number q → p ≡ q
+same_token_place text tokens number (At p) (At q) a b =
+    let token : a.token ≡ b.token = same_Some a.token b.token (sym a.is ∙ b.is) in
+    ap At (same_pos text b.token.start p q (subst (λ (t : Token). IsPlaceOf text t.start p) token a.place) b.place)
+same_token_place text tokens number (At p) (End q) a b = absurd (token_or_end tokens number a.token a.is b.all)
+same_token_place text tokens number (End p) (At q) a b = absurd (token_or_end tokens number b.token b.is a.all)
+same_token_place text tokens number (End p) (End q) a b = ap End (same_pos text (length text) p q a.place b.place)
+
+pub same_syntax_place : (text : List ℕ) (f g : SyntaxFault) (p q : TokenPlace) → HasSyntaxFault text f p → HasSyntaxFault text g q → p ≡ q
+same_syntax_place text f g p q a b =
+    let tokens : a.tokens ≡ b.tokens = one_list text a.tokens b.tokens a.are_tokens b.are_tokens in
+    let number : a.number ≡ b.number = same_Some a.number b.number (sym a.names ∙ ap number_of (same_syntax_fault text f g p q a b) ∙ b.names) in
+    let P : List Token → Type 0 = λ ts. IsTokenPlace text ts a.number p in
+    let Q : ℕ → Type 0 = λ k. IsTokenPlace text b.tokens k p in
+    same_token_place text b.tokens b.number p q (subst Q number (subst P tokens a.place_is)) b.place_is
 
 -- ---- a text is one unit
 

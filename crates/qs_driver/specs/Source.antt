@@ -204,8 +204,8 @@ pub record RefusesSource (file : Option (List ℕ)) (status : Status) : Type 0 w
   pub too_long : (status ≡ Source (TooLong kinds.Source)) ↔ IsTooLong file source_limit
   pub lexical : (fault : LexFault) (pos : Pos)
       → (status ≡ Source (Lex fault pos)) ↔ HoldsText file (λ text. HasLexFault text fault pos)
-  pub syntactic : IsSyntax status ↔ HoldsText file IsNoUnit
-  pub told : (fault : SyntaxFault) (place : TokenPlace)
-      → status ≡ Source (Syntax fault place) → HoldsText file (λ text. HasSyntaxFault text fault place)
+  pub no_unit : IsSyntax status ↔ HoldsText file IsNoUnit
+  pub syntactic : (fault : SyntaxFault) (place : TokenPlace)
+      → (status ≡ Source (Syntax fault place)) ↔ HoldsText file (λ text. HasSyntaxFault text fault place)
   pub typing : (fault : TypeFault) (place : Option Pos)
       → (status ≡ Source (Typing fault place)) ↔ HoldsText file (λ text. HasTypeFault text fault place)

@@ -7,7 +7,7 @@ use Rattle.qs_core.specs.Units.{cells_of_pieces, data_block}
 use Rattle.qs_meaning.specs.Typed.{StaticBlock}
 use Rattle.qs_meaning.specs.Units.{block_of}
 use Rattle.qs_elaborate.specs.Data.{with_byte, with_null_before, with_null, with_pointer, pieces_behind, data_core}
-use Rattle.qs_elaborate.specs.Laws.{AreWhole, no_cells, byte_before, pointer_before}
+use Rattle.qs_meaning.specs.Whole.{AreWhole, no_cells, byte_before, pointer_before}
 
 -- ---- one piece in front of others
 

@@ -15,8 +15,9 @@ use Rattle.qs_calls.specs.declared.parameter.Parameter.TheVariants.{Plain}
 use Rattle.qs_core.specs.Trees.{CoreExprTree, literal, variable, temporary, binary, CoreStmtTree, skip, call, branch, loop, break, return, stmts_of, CoreUnitTree}
 use Rattle.qs_core.specs.Outline.{outline}
 use Rattle.qs_elaborate.specs.Units.{core_of}
-use Rattle.qs_elaborate.proofs.Samples.{number, natural, named, plus, op, putchar, eval, when, while, defined, parameter, main_, main_name}
-use Rattle.qs_elaborate.proofs.Samples as c
+use Rattle.qs_elaborate.proofs.UnitExamples.{core_seven}
+use Rattle.qs_meaning.proofs.Samples.{number, natural, named, plus, op, putchar, eval, when, while, defined, parameter, main_, main_name}
+use Rattle.qs_meaning.proofs.Samples as c
 
 d0 : decimal 0 ≡ codes "0"
 d0 = decimal_digit 0 (omega arith)
@@ -29,6 +30,24 @@ d2 = decimal_digit 2 (omega arith)
 
 d3 : decimal 3 ≡ codes "3"
 d3 = decimal_digit 3 (omega arith)
+
+d4 : decimal 4 ≡ codes "4"
+d4 = decimal_digit 4 (omega arith)
+
+d5 : decimal 5 ≡ codes "5"
+d5 = decimal_digit 5 (omega arith)
+
+d6 : decimal 6 ≡ codes "6"
+d6 = decimal_digit 6 (omega arith)
+
+d7 : decimal 7 ≡ codes "7"
+d7 = decimal_digit 7 (omega arith)
+
+d8 : decimal 8 ≡ codes "8"
+d8 = decimal_digit 8 (omega arith)
+
+d9 : decimal 9 ≡ codes "9"
+d9 = decimal_digit 9 (omega arith)
 
 d12 : decimal 12 ≡ codes "12"
 d12 = decimal_step 12 (omega arith) (omega arith) ∙ ap (λ (l : List ℕ). l ++ codes "2") d1
@@ -144,3 +163,26 @@ endless_outline :
     ++ codes ".1 return 0\n"
     ++ codes ".2 return 0\n"
 endless_outline = simp (d0, d1, d2, d3, d120) refl
+
+-- ---- several variables of one name (the source stands in UnitExamples)
+
+seven_outline :
+    outline (record { functions = core_seven ∷ []; main = 0; data_blocks = [] })
+    ≡ codes "function main x\n"
+    ++ codes ". seq 9\n"
+    ++ codes ".0 assign x#2 1\n"
+    ++ codes ".1 assign x#3 2\n"
+    ++ codes ".2 loop\n"
+    ++ codes ".2.0 if (ne x#3 0)\n"
+    ++ codes ".2.0.0 skip\n"
+    ++ codes ".2.0.1 break\n"
+    ++ codes ".2.1 assign x#3 (wraps (sub x#3 1))\n"
+    ++ codes ".3 if (ne x 0)\n"
+    ++ codes ".3.0 assign x#4 3\n"
+    ++ codes ".3.1 store\n"
+    ++ codes ".4 store\n"
+    ++ codes ".5 assign $0 ?\n"
+    ++ codes ".6 assign x#7 5\n"
+    ++ codes ".7 return x\n"
+    ++ codes ".8 return 0\n"
+seven_outline = simp (d0, d1, d2, d3, d4, d5, d6, d7, d8, d9) refl

@@ -54,7 +54,7 @@ body_follows names g turns calls first k v w =
 
 -- ---- calls
 
-places_are : (names : List (List ℕ)) (ps : List Parameter) → map (λ p. p.place) (named_parameters names ps) ≡ ps
+pub places_are : (names : List (List ℕ)) (ps : List Parameter) → map (λ p. p.place) (named_parameters names ps) ≡ ps
 places_are names [] = refl
 places_are [] (p ∷ ps) = ap (λ rest. p ∷ rest) (places_are [] ps)
 places_are (x ∷ names) (p ∷ ps) = ap (λ rest. p ∷ rest) (places_are names ps)

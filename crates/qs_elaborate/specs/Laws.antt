@@ -1,12 +1,12 @@
 -- What is promised of core: it runs as the source does.
-use Rattle.std.specs.Prelude.{◌≡◌, ℕ, Bool, true, false, All, List, [], ◌∷◌, ◌++◌, Some}
-use Rattle.qs_memory.specs.Values.{Pointer, Value}
-use Rattle.qs_memory.specs.Memory.{Cell, byte, parts_of}
+use Rattle.std.specs.Prelude.{◌≡◌, ℕ, Bool, true, false, All, List, [], ◌∷◌, Some}
+use Rattle.qs_memory.specs.Values.{Value}
 use Rattle.qs_calls.specs.World.{World}
 use Rattle.qs_core.specs.Trees.{CoreStmtTree}
 use Rattle.qs_core.specs.Units.{core_run}
 use Rattle.qs_core.specs.Units as core
 use Rattle.qs_meaning.specs.Typed.{Expr, TypedProgram}
+use Rattle.qs_meaning.specs.Whole.{AreWhole}
 use Rattle.qs_meaning.specs.Runs.{run_of, main_from, main_run}
 use Rattle.qs_elaborate.specs.Acting.{acts}
 use Rattle.qs_elaborate.specs.Parts.{Temporaries}
@@ -28,13 +28,7 @@ CoreFollows =
     (names : List FunctionNames) (u : TypedProgram) (main root : ℕ) (xs : List Value) (w : World) (n : ℕ)
     → core_run (unit_core names u main) root xs w n ≡ run_of u root xs w n
 
--- cells that are bytes and whole pointers; so are those of every block that a run begins with
-pub data AreWhole : List Cell → Type 0 where
-  no_cells : AreWhole []
-  byte_before : (b : ℕ) (cells : List Cell) → AreWhole cells → AreWhole (byte b ∷ cells)
-  pointer_before : (p : Pointer) (cells : List Cell) → AreWhole cells → AreWhole (parts_of p 0 4 ++ cells)
-
--- the same of main, from the initial memory
+-- the same of main, from the initial memory, where the cells of the unit's blocks are bytes and whole pointers
 abbrev pub MainFollows : Type 0
 MainFollows =
     (names : List FunctionNames) (u : TypedProgram) (main : ℕ) (xs : List Value) (input : List ℕ) (n : ℕ)

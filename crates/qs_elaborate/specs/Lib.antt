@@ -7,3 +7,6 @@ pub mod Names
 pub mod Data
 pub mod Units
 pub mod Laws
+pub mod FitLaws
+pub mod Counts
+pub mod SizeLaws

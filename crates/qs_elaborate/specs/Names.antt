@@ -1,12 +1,9 @@
--- What core says of a function beside what its typed tree says: the names of its parameters and variables, and the type of its result.
+-- What core says of a function beside what its typed tree says: the names of its parameters and variables.
 use Rattle.std.specs.Prelude.{ℕ, ◌+◌, ◌==◌, List, [], ◌∷◌, ◌++◌, Option, Some, None, length, map, filter, if◌then◌else◌}
 use Rattle.qs_syntax.specs.Sameness.{same_bytes}
 use Rattle.qs_syntax.specs.Trees.{VariableTree, ParameterTree, StartTree, no_start, start_expression, start_declaration, StmtTree, empty, expression, declaration, block, branch, while_loop, do_loop, for_loop, break, continue, return, Stmts, no_stmts, stmt_and, Else, no_else, else_by, FunctionTree, DeclTree, structure, forward, function, variables, UnitTree}
-use Rattle.qs_memory.specs.declared.scalar.Scalar.{Scalar}
-use Rattle.qs_types.specs.Types.{TypeTree, int, unsigned, char, void, pointer, array, struct}
 use Rattle.qs_types.specs.Contexts.{Context, start_context}
-use Rattle.qs_types.specs.UnitRules.{result_type, after_declaration}
-use Rattle.qs_meaning.specs.Conversions.{scalar_of}
+use Rattle.qs_types.specs.UnitRules.{after_declaration}
 use Rattle.qs_meaning.specs.Units.{function_locals}
 
 -- ---- what a function declares, in the order of the text
@@ -78,24 +75,11 @@ name_at node earlier (d ∷ ds) =
 pub record FunctionNames : Type 0 where
   pub parameters : List (List ℕ)
   pub variables : List VariableName
-  pub result_type : Option Scalar
-
--- 6.3.2.2: void is the type of no value
-abbrev pub result_scalar : Option TypeTree → Option Scalar
-result_scalar None = None
-result_scalar (Some int) = Some (scalar_of int)
-result_scalar (Some unsigned) = Some (scalar_of unsigned)
-result_scalar (Some char) = Some (scalar_of char)
-result_scalar (Some void) = None
-result_scalar (Some (pointer t)) = Some (scalar_of (pointer t))
-result_scalar (Some (array t n)) = None
-result_scalar (Some (struct k)) = None
 
 abbrev pub body_names : Context → FunctionTree → Stmts → FunctionNames
 body_names c f body = record {
   parameters = map (λ (p : ParameterTree). parameter_name p.name) f.parameters;
   variables = map (λ node. name_at node [] (function_declares f body)) (function_locals c f body).variables;
-  result_type = result_scalar (result_type c f);
 }
 
 -- the functions with a body, in order

@@ -1,5 +1,5 @@
 -- What functions and units are in core.
-use Rattle.std.specs.Prelude.{ℕ, Bool, List, [], ◌∷◌, ◌++◌, Option, Some, None, map, if◌then◌else◌}
+use Rattle.std.specs.Prelude.{ℕ, Bool, List, [], ◌∷◌, ◌++◌, Option, Some, map, if◌then◌else◌}
 use Rattle.qs_syntax.specs.Trees.{UnitTree}
 use Rattle.qs_memory.specs.declared.scalar.Scalar.{Scalar}
 use Rattle.qs_memory.specs.declared.scalar.Scalar.TheVariants as scalars
@@ -44,12 +44,12 @@ function_core names g = record {
   variables = named_variables names.variables g.variables;
   temporaries = (body_core g).temporaries;
   blocks = g.blocks;
-  result_type = names.result_type;
+  result_type = g.result;
   body = stmts_of ((body_core g).statements ++ end_of_body g.is_main);
 }
 
 abbrev pub no_names : FunctionNames
-no_names = record { parameters = []; variables = []; result_type = None }
+no_names = record { parameters = []; variables = [] }
 
 abbrev pub functions_core : List FunctionNames → List Function → List CoreFunctionTree
 functions_core names [] = []

@@ -1,5 +1,6 @@
 // The laws of elaboration. Each is the contract of an empty function.
 ghost use Rattle.qs_elaborate.specs.Laws.{ActsExactly, CoreFollows, MainFollows};
+ghost use Rattle.qs_elaborate.specs.SizeLaws.{ValuesAreFew, WordsAreFew, UnitWordsAreFew};
 
 /// An expression acts exactly where it has statements in core.
 pub fn acts_exactly()
@@ -15,4 +16,21 @@ pub fn core_follows()
 /// The same of `main` from the initial memory, whose blocks are bytes and whole pointers.
 pub fn main_follows()
     ensures { MainFollows }
+{}
+
+/// A function of core needs few values: one for each variable of its source, parameters among them,
+/// and two for each expression in its body.
+pub fn values_are_few()
+    ensures { ValuesAreFew }
+{}
+
+/// The bound on the words of a function's machine code is at most 24 for each node of its source, and 32.
+pub fn words_are_few()
+    ensures { WordsAreFew }
+{}
+
+/// The same of all functions of a unit that has a main, with the words before main is entered and after it
+/// returns.
+pub fn unit_words_are_few()
+    ensures { UnitWordsAreFew }
 {}

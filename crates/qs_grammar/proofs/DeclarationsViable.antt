@@ -1,5 +1,5 @@
--- The tokens before a fault in a declaration begin one.
-use Rattle.std.proofs.Common.{◌≡◌, inl, inr, ℕ, zero, suc, ◌+◌, max, Bool, true, false, true≢false, cond, List, [], ◌∷◌, ◌++◌, length, Ok, refl, sym, ap, subst, ◌∙◌, append_assoc, append-nil, ◌==◌, ◌&&◌}
+-- The tokens before a fault in a declaration begin one that is low enough.
+use Rattle.std.proofs.Common.{◌≡◌, inl, inr, ℕ, zero, suc, ◌+◌, ◌<◌, ◌≤◌, max, arith, Bool, true, false, true≢false, cond, List, [], ◌∷◌, ◌++◌, length, Ok, refl, sym, ap, subst, ◌∙◌, append_assoc, append-nil, ◌==◌, ◌&&◌}
 use Rattle.std.proofs.lemmas.Bool.{and_parts}
 use Rattle.std.specs.Prelude.{◌||◌}
 use Rattle.qs_syntax.specs.declared.terminal.Terminal.{Terminal}
@@ -25,20 +25,21 @@ use Rattle.qs_grammar.proofs.UnitsSound.{taken_prefixes}
 use Rattle.qs_grammar.proofs.DeclarationsSound.{IsInitialiser, sound_declarator, sound_initialiser, sound_variable}
 use Rattle.qs_grammar.proofs.DeclarationsMembers.{sound_members}
 use Rattle.qs_grammar.proofs.DeclarationsParameters.{IsVoidOrNot, void_or_not, IsParameter, sound_parameter, void_is_refused, nothing_ends}
-use Rattle.qs_grammar.proofs.ExpressionsViable.{viable_base, viable_type, IsSome, number, a_number, one_begun, viable_part}
-use Rattle.qs_grammar.proofs.Viable.{OfFronts, of_nothing, of_token, behind_token, behind, Viable, Viable-ok, Viable-unexpected, Viable-deep, Viable-after, Viable-token, Viable-if, Viable-bind, Viable-bind-is, Viable-done, here, Viable-mark, Viable-keyword, Viable-punctuator, Viable-no-punctuator, Viable-name, Viable-some}
+use Rattle.qs_grammar.proofs.ExpressionsViable.{viable_base, viable_type, Has, number, one, one_begun, viable_part}
+use Rattle.qs_grammar.proofs.ExpressionsBegin.{high}
+use Rattle.qs_grammar.proofs.Viable.{Claims, OfFronts, behind_token, behind, Both, under, some_room, Viable, Viable-ok, Viable-unexpected, Viable-deep, Viable-after, Viable-token, Viable-if, Viable-bind, Viable-bind-is, Viable-done, here, Viable-mark, Viable-keyword, Viable-punctuator, Viable-no-punctuator, Viable-name, Viable-some}
 
 abbrev pub mark : punctuator.Punctuator → Terminal
 mark k = Punctuator 0 k
 
 -- ---- types
 
-pub viable_outer_type : (Q : List Terminal → Type 0) → OfFronts Q → ((xs : List Terminal) (b : Base) → ReadsOuterType xs b → Q xs) → (ts : List Terminal) → Viable Q ts (outer_type ts)
+pub viable_outer_type : (Q : Claims) → OfFronts Q → ((xs : List Terminal) (b : Base) → ReadsOuterType xs b → Q true xs) → (ts : List Terminal) → Viable Q ts (outer_type ts)
 unfolding outer_type
 viable_outer_type Q c w ts =
     let before : Taken ReadsPrefixes ts (skip_prefixes ts) = taken_prefixes ts in
     Viable-after ts before.front (skip_prefixes ts) before.split _
-    (Viable-done (λ b us. (b, skip_consts us)) (viable_base (λ l. Q (before.front ++ l)) (behind before.front c) (λ xs b r. subst (λ l. Q (before.front ++ l)) (append-nil xs) (w (before.front ++ (xs ++ [])) b (an_outer_type before.is r no_const))) (skip_prefixes ts)))
+    (Viable-done (λ b us. (b, skip_consts us)) (viable_base (λ b l. Q b (before.front ++ l)) (behind before.front c) (λ xs b r. subst (λ l. Q true (before.front ++ l)) (append-nil xs) (w (before.front ++ (xs ++ [])) b (an_outer_type before.is r no_const))) (skip_prefixes ts)))
 
 -- a token that begins a type
 abbrev BegunType : Terminal → Type 0
@@ -74,335 +75,401 @@ type_begun t ts e =
 
 -- ---- lengths
 
-abbrev AreGiven : List Terminal → Type 0
-AreGiven xs = (h : ℕ) × (es : List ExprTree) × ReadsGiven h xs es
+abbrev AreGiven : ℕ → List Terminal → Type 0
+AreGiven h xs = (es : List ExprTree) × ReadsGiven h xs es
 
-abbrev pub AreLengths : List Terminal → Type 0
-AreLengths xs = (h : ℕ) × (l : LengthsTree) × ReadsLengths h xs l
+abbrev pub AreLengths : ℕ → List Terminal → Type 0
+AreLengths h xs = (l : LengthsTree) × ReadsLengths h xs l
 
-module _ (Q : List Terminal → Type 0) (c : OfFronts Q) (w : (xs : List Terminal) → AreGiven xs → Q xs) where
-  length_begun : (o : ℕ) (xs : List Terminal) → IsSome Conditional xs → Q (Punctuator o punctuators.OpenBracket ∷ xs)
-  length_begun o xs s = c.front (Punctuator o punctuators.OpenBracket ∷ xs) (mark punctuators.CloseBracket ∷ []) (w _ (max s.0 0, _, a_length o 0 s.2 no_length))
+one_length : (o : ℕ) → AreGiven (max 1 0) (Punctuator o punctuators.OpenBracket ∷ (number ++ mark punctuators.CloseBracket ∷ []))
+one_length o = (_, a_length o 0 (one Conditional refl).1 no_length)
 
-viable_given : (m n : ℕ) (done : List ExprTree) (h : ℕ) (Q : List Terminal → Type 0) → OfFronts Q → ((xs : List Terminal) → AreGiven xs → Q xs) → (ts : List Terminal) → Viable Q ts (given_lengths m n done h ts)
+length_begun : (m : ℕ) (Q : Claims) → OfFronts Q → ((h : ℕ) (xs : List Terminal) → AreGiven h xs → Both Q m h xs) → (o : ℕ) (h : ℕ) (xs : List Terminal) → Has Conditional h xs → Both Q m h (Punctuator o punctuators.OpenBracket ∷ xs)
+length_begun m Q c w o h xs s = under c (Punctuator o punctuators.OpenBracket ∷ xs) (mark punctuators.CloseBracket ∷ []) m (max h 0) (w (max h 0) _ (_, a_length o 0 s.1 no_length)) m h (λ le. omega arith)
+
+viable_given : (m n : ℕ) (done : List ExprTree) (h : ℕ) (Q : Claims) → OfFronts Q → ((h : ℕ) (xs : List Terminal) → AreGiven h xs → Both Q m h xs) → (ts : List Terminal)
+    → (starts punctuators.OpenBracket ts ≡ true → (o : ℕ) → Q true (Punctuator o punctuators.OpenBracket ∷ [])) → Viable Q ts (given_lengths m n done h ts)
 unfolding given_lengths
-viable_given m zero done h Q c w ts = Viable-ok
-viable_given m (suc n) done h Q c w ts =
+viable_given m zero done h Q c w ts bracket = Viable-ok
+viable_given m (suc n) done h Q c w ts bracket =
     Viable-if (starts punctuators.OpenBracket ts)
-    (λ _. Viable-punctuator punctuators.OpenBracket ts _ (w [] (0, [], no_length))
-    (λ o us. Viable-bind _ (sound_part m Conditional us) (viable_part m Conditional refl _ (behind_token (Punctuator o punctuators.OpenBracket) c) (length_begun Q c w o) us)
-    (λ e front vs r. Viable-punctuator punctuators.CloseBracket vs _ (here (λ l. Q (Punctuator o punctuators.OpenBracket ∷ l)) front (length_begun Q c w o front (e.1, e.0, r.0)))
-    (λ k ws. viable_given m n (done ++ e.0 ∷ []) (max h e.1) (λ l. Q (Punctuator o punctuators.OpenBracket ∷ (front ++ Punctuator k punctuators.CloseBracket ∷ l)))
-    (behind_token (Punctuator k punctuators.CloseBracket) (behind front (behind_token (Punctuator o punctuators.OpenBracket) c))) (λ xs s. w _ (max e.1 s.0, _, a_length o k r.0 s.2)) ws))))
+    (λ there. Viable-punctuator punctuators.OpenBracket ts _ ((w 0 [] ([], no_length)).1 (omega arith))
+    (λ o us. Viable-bind _ (sound_part m Conditional us) (viable_part m Conditional refl _ (behind_token (Punctuator o punctuators.OpenBracket) c) (length_begun m Q c w o) (bracket there o) us)
+    (λ e front vs r. let fits : e.1 ≤ m = r.1 in let some : 0 < e.1 = high r.0 in
+    Viable-punctuator punctuators.CloseBracket vs _ (here (λ b l. Q b (Punctuator o punctuators.OpenBracket ∷ l)) front ((length_begun m Q c w o e.1 front (e.0, r.0)).1 r.1))
+    (λ k ws. let further : (g : ℕ) (xs : List Terminal) → AreGiven g xs → Both Q m g (Punctuator o punctuators.OpenBracket ∷ (front ++ Punctuator k punctuators.CloseBracket ∷ xs)) = λ g xs s. (let both = w (max e.1 g) _ (_, a_length o k r.0 s.1) in (both.0, λ le. both.1 (omega arith))) in
+    let inside : OfFronts (λ b l. Q b (Punctuator o punctuators.OpenBracket ∷ (front ++ Punctuator k punctuators.CloseBracket ∷ l))) = behind_token (Punctuator k punctuators.CloseBracket) (behind front (behind_token (Punctuator o punctuators.OpenBracket) c)) in
+    viable_given m n (done ++ e.0 ∷ []) (max h e.1) (λ b l. Q b (Punctuator o punctuators.OpenBracket ∷ (front ++ Punctuator k punctuators.CloseBracket ∷ l))) inside further ws
+    (λ _ a. inside.front true (Punctuator a punctuators.OpenBracket ∷ []) (number ++ mark punctuators.CloseBracket ∷ []) ((further (max 1 0) _ (one_length a)).1 (omega arith)))))))
     (λ _. Viable-ok)
 
-module _ (Q : List Terminal → Type 0) (c : OfFronts Q) (w : (xs : List Terminal) → AreLengths xs → Q xs) where
-  opened : (o k : ℕ) (xs : List Terminal) → AreGiven xs → Q (Punctuator o punctuators.OpenBracket ∷ Punctuator k punctuators.CloseBracket ∷ xs)
-  opened o k xs s = w _ (s.0, _, first_open o k s.2)
+module _ (m : ℕ) (Q : Claims) (c : OfFronts Q) (w : (h : ℕ) (xs : List Terminal) → AreLengths h xs → Both Q m h xs) where
+  opened : (o k : ℕ) (h : ℕ) (xs : List Terminal) → AreGiven h xs → Both Q m h (Punctuator o punctuators.OpenBracket ∷ Punctuator k punctuators.CloseBracket ∷ xs)
+  opened o k h xs s = w h _ (_, first_open o k s.1)
 
-  viable_behind_open : (m o k : ℕ) (ts : List Terminal) → Viable (λ l. Q (Punctuator o punctuators.OpenBracket ∷ Punctuator k punctuators.CloseBracket ∷ l)) ts (behind_open m ts)
-  viable_behind_open m o k ts =
+  open_bracket : (o : ℕ) → Q true (Punctuator o punctuators.OpenBracket ∷ [])
+  open_bracket o = c.front true (Punctuator o punctuators.OpenBracket ∷ []) (mark punctuators.CloseBracket ∷ []) ((opened o 0 0 [] ([], no_length)).1 (omega arith))
+
+  viable_behind_open : (o k : ℕ) (ts : List Terminal) → Viable (λ b l. Q b (Punctuator o punctuators.OpenBracket ∷ Punctuator k punctuators.CloseBracket ∷ l)) ts (behind_open m ts)
+  viable_behind_open o k ts =
       Viable-if (m == 0 && starts punctuators.OpenBracket ts) (λ e. at_bracket ts (and_parts (m == 0) (starts punctuators.OpenBracket ts) e).1)
-      (λ _. viable_given m (length ts) [] 0 _ (behind_token (Punctuator k punctuators.CloseBracket) (behind_token (Punctuator o punctuators.OpenBracket) c)) (opened o k) ts)
+      (λ e. viable_given m (length ts) [] 0 _ (behind_token (Punctuator k punctuators.CloseBracket) (behind_token (Punctuator o punctuators.OpenBracket) c)) (opened o k) ts
+      (λ there a. let some : 0 < m = some_room m (only (m == 0) (starts punctuators.OpenBracket ts) there e) in
+      c.front true (Punctuator o punctuators.OpenBracket ∷ Punctuator k punctuators.CloseBracket ∷ Punctuator a punctuators.OpenBracket ∷ []) (number ++ mark punctuators.CloseBracket ∷ []) ((opened o k (max 1 0) _ (one_length a)).1 (omega arith))))
     where
-      at_bracket : (ts : List Terminal) → starts punctuators.OpenBracket ts ≡ true → Viable {A = List ExprTree × ℕ} (λ l. Q (Punctuator o punctuators.OpenBracket ∷ Punctuator k punctuators.CloseBracket ∷ l)) ts (deep ts)
+      only : (b d : Bool) → d ≡ true → (b && d) ≡ false → b ≡ false
+      only true true e f = f
+      only true false e f = absurd cc
+      only false d e f = refl
+
+      at_bracket : (ts : List Terminal) → starts punctuators.OpenBracket ts ≡ true → Viable {A = List ExprTree × ℕ} (λ b l. Q b (Punctuator o punctuators.OpenBracket ∷ Punctuator k punctuators.CloseBracket ∷ l)) ts (deep ts)
       at_bracket [] e = absurd cc
       at_bracket (t ∷ ts) e = Viable-mark punctuators.OpenBracket t e
-          (Viable-deep (c.front (Punctuator o punctuators.OpenBracket ∷ Punctuator k punctuators.CloseBracket ∷ Punctuator (number_of t) punctuators.OpenBracket ∷ []) (number ++ mark punctuators.CloseBracket ∷ [])
-          (let one = a_number Conditional in opened o k _ (max one.0 0, _, a_length (number_of t) 0 one.2 no_length))))
+          (Viable-deep ((opened o k 0 [] ([], no_length)).1 (omega arith)) (c.front false (Punctuator o punctuators.OpenBracket ∷ Punctuator k punctuators.CloseBracket ∷ Punctuator (number_of t) punctuators.OpenBracket ∷ []) (number ++ mark punctuators.CloseBracket ∷ [])
+          (opened o k (max 1 0) _ (one_length (number_of t))).0))
 
-  pub viable_lengths : (m : ℕ) (ts : List Terminal) → Viable Q ts (lengths m ts)
+  pub viable_lengths : (ts : List Terminal) → Viable Q ts (lengths m ts)
   unfolding lengths
-  viable_lengths m ts =
+  viable_lengths ts =
       Viable-if (is_empty_brackets ts)
-      (λ _. Viable-punctuator punctuators.OpenBracket ts _ (w [] (0, _, are_given no_length))
-      (λ o us. Viable-punctuator punctuators.CloseBracket us _ (c.front (Punctuator o punctuators.OpenBracket ∷ []) (mark punctuators.CloseBracket ∷ []) (opened o 0 [] (0, [], no_length))) (λ k vs. Viable-done _ (viable_behind_open m o k vs))))
-      (λ _. Viable-done _ (viable_given m (length ts) [] 0 Q c (λ xs s. w xs (s.0, _, are_given s.2)) ts))
+      (λ _. Viable-punctuator punctuators.OpenBracket ts _ ((w 0 [] (_, are_given no_length)).1 (omega arith))
+      (λ o us. Viable-punctuator punctuators.CloseBracket us _ (open_bracket o) (λ k vs. Viable-done _ (viable_behind_open o k vs))))
+      (λ _. Viable-done _ (viable_given m (length ts) [] 0 Q c (λ h xs s. w h xs (_, are_given s.1)) ts (λ _ o. open_bracket o)))
 
 -- ---- declarators
 
-abbrev pub IsDeclarator : List Terminal → Type 0
-IsDeclarator xs = (h : ℕ) × (d : DeclaratorTree) × ReadsDeclarator h xs d
+abbrev pub IsDeclarator : ℕ → List Terminal → Type 0
+IsDeclarator h xs = (d : DeclaratorTree) × ReadsDeclarator h xs d
 
 -- the shortest
-pub a_name : IsDeclarator (Name 0 [] ∷ [])
-a_name = (0, _, a_declarator 0 [] no_star (are_given no_length))
+pub a_name : IsDeclarator 0 (Name 0 [] ∷ [])
+a_name = (_, a_declarator 0 [] no_star (are_given no_length))
 
-module _ (Q : List Terminal → Type 0) (c : OfFronts Q) (w : (xs : List Terminal) → IsDeclarator xs → Q xs) where
-  viable_named : (m n : ℕ) (front : List Terminal) → ReadsStars front n → (ts : List Terminal) → Viable (λ l. Q (front ++ l)) ts (named m n ts)
-  viable_named m n front s ts =
-      Viable-name ts _ ((behind front c).front [] (Name 0 [] ∷ []) (w _ (0, _, a_declarator 0 [] s (are_given no_length))))
-      (λ at x us. Viable-done _ (viable_lengths _ (behind_token (Name at x) (behind front c)) (λ xs l. w _ (l.0, _, a_declarator at x s l.2)) m us))
+module _ (m : ℕ) (Q : Claims) (c : OfFronts Q) (w : (h : ℕ) (xs : List Terminal) → IsDeclarator h xs → Both Q m h xs) where
+  viable_named : (n : ℕ) (front : List Terminal) → ReadsStars front n → (ts : List Terminal) → Viable (λ b l. Q b (front ++ l)) ts (named m n ts)
+  viable_named n front s ts =
+      Viable-name ts _ ((behind front c).front true [] (Name 0 [] ∷ []) ((w 0 _ (_, a_declarator 0 [] s (are_given no_length))).1 (omega arith)))
+      (λ at x us. Viable-done _ (viable_lengths m _ (behind_token (Name at x) (behind front c)) (λ h xs l. w h _ (_, a_declarator at x s l.1)) us))
 
-  pub viable_declarator : (m : ℕ) (ts : List Terminal) → Viable Q ts (declarator m ts)
+  pub viable_declarator : (ts : List Terminal) → Viable Q ts (declarator m ts)
   unfolding declarator
-  viable_declarator m ts = let first : StarsRead ts (stars ts) = stars_read ts in Viable-after ts first.front (stars ts).1 first.split _ (viable_named m (stars ts).0 first.front first.is (stars ts).1)
+  viable_declarator ts = let first : StarsRead ts (stars ts) = stars_read ts in Viable-after ts first.front (stars ts).1 first.split _ (viable_named (stars ts).0 first.front first.is (stars ts).1)
 
 -- ---- lists with commas between and a punctuator at the end
 
-module _ (closing : punctuator.Punctuator) (One All : List Terminal → Type 0) (last : (xs : List Terminal) → One xs → All xs) (further : (xs ys : List Terminal) (at : ℕ) → One xs → All ys → All (xs ++ Punctuator at punctuators.Comma ∷ ys)) where
-  pub viable_after : {B : Type 0} (all : B) (others : Parse B) (front : List Terminal) → One front → (Q : List Terminal → Type 0) → OfFronts Q → ((xs : List Terminal) → All xs → Q (xs ++ mark closing ∷ []))
-      → ((P : List Terminal → Type 0) → OfFronts P → ((xs : List Terminal) → All xs → P (xs ++ mark closing ∷ [])) → (ts : List Terminal) → Viable P ts (others ts))
-      → (us : List Terminal) → Viable (λ l. Q (front ++ l)) us (cond (starts closing us) (bind (expect closing us) (λ _ vs. Ok (all, vs))) (bind (expect punctuators.Comma us) (λ _ vs. others vs)))
-  viable_after all others front r Q c w again us =
-      let q : Q (front ++ []) = here Q front (c.front front (mark closing ∷ []) (w front (last front r))) in
+module _ (closing : punctuator.Punctuator) (n : ℕ) (One All : ℕ → List Terminal → Type 0) (last : (h : ℕ) (xs : List Terminal) → One h xs → All h xs)
+    (further : (h k : ℕ) (xs ys : List Terminal) (at : ℕ) → One h xs → All k ys → All (max h k) (xs ++ Punctuator at punctuators.Comma ∷ ys)) (shortest : List Terminal) (least : All 1 shortest) (room : 0 < n) where
+  abbrev pub Closes : Claims → Type 0
+  Closes Q = (h : ℕ) (xs : List Terminal) → All h xs → Both Q n h (xs ++ mark closing ∷ [])
+
+  pub viable_after : {B : Type 0} (all : B) (others : Parse B) (g : ℕ) (front : List Terminal) → One g front → g ≤ n → (Q : Claims) → OfFronts Q → Closes Q
+      → ((P : Claims) → OfFronts P → Closes P → P true [] → (ts : List Terminal) → Viable P ts (others ts))
+      → (us : List Terminal) → Viable (λ b l. Q b (front ++ l)) us (cond (starts closing us) (bind (expect closing us) (λ _ vs. Ok (all, vs))) (bind (expect punctuators.Comma us) (λ _ vs. others vs)))
+  viable_after all others g front r fits Q c w again us =
+      let q : Q true (front ++ []) = here Q front (c.front true front (mark closing ∷ []) ((w g front (last g front r)).1 fits)) in
       Viable-if (starts closing us)
       (λ _. Viable-punctuator closing us _ q (λ at vs. Viable-ok))
       (λ _. Viable-punctuator punctuators.Comma us _ q
-      (λ at vs. again (λ l. Q (front ++ Punctuator at punctuators.Comma ∷ l)) (behind_token (Punctuator at punctuators.Comma) (behind front c))
-      (λ xs s. subst Q (append_assoc front (Punctuator at punctuators.Comma ∷ xs) (mark closing ∷ [])) (w (front ++ Punctuator at punctuators.Comma ∷ xs) (further front xs at r s))) vs))
+      (λ at vs. let more : Closes (λ b l. Q b (front ++ Punctuator at punctuators.Comma ∷ l)) = λ k xs s. (let both = w (max g k) (front ++ Punctuator at punctuators.Comma ∷ xs) (further g k front xs at r s) in let same = append_assoc front (Punctuator at punctuators.Comma ∷ xs) (mark closing ∷ []) in
+      (subst (Q false) same both.0, λ le. subst (Q true) same (both.1 (omega arith)))) in
+      again (λ b l. Q b (front ++ Punctuator at punctuators.Comma ∷ l)) (behind_token (Punctuator at punctuators.Comma) (behind front c)) more
+      ((behind front c).front true (Punctuator at punctuators.Comma ∷ []) _ ((more 1 shortest least).1 (omega arith))) vs))
 
 -- ---- initialisers
 
-abbrev IsInit : List Terminal → Type 0
-IsInit xs = (h : ℕ) × (i : InitialiserTree) × ReadsInitialiser h xs i
+abbrev IsInit : ℕ → List Terminal → Type 0
+IsInit h xs = (i : InitialiserTree) × ReadsInitialiser h xs i
 
-abbrev AreInits : List Terminal → Type 0
-AreInits xs = (h : ℕ) × (is : Initialisers) × ReadsInitialisers h xs is
+abbrev AreInits : ℕ → List Terminal → Type 0
+AreInits h xs = (is : Initialisers) × ReadsInitialisers h xs is
 
-an_init : IsInit number
-an_init = let one = a_number Assignment in (one.0, _, a_value one.2)
+an_init : IsInit 1 number
+an_init = (_, a_value (one Assignment refl).1)
 
 module _ (n : ℕ) (one : Parse (InitialiserTree × ℕ)) (sound : (ts : List Terminal) → Sound (IsInitialiser n) [] ts (one ts))
-    (viable : (Q : List Terminal → Type 0) → OfFronts Q → ((xs : List Terminal) → IsInit xs → Q xs) → (ts : List Terminal) → Viable Q ts (one ts)) where
-  viable_initialisers : (turns : ℕ) (done : List InitialiserTree) (h : ℕ) (Q : List Terminal → Type 0) → OfFronts Q → ((xs : List Terminal) → AreInits xs → Q (xs ++ mark punctuators.CloseBrace ∷ [])) → (ts : List Terminal)
+    (viable : (Q : Claims) → OfFronts Q → ((h : ℕ) (xs : List Terminal) → IsInit h xs → Both Q n h xs) → Q true [] → (ts : List Terminal) → Viable Q ts (one ts)) where
+  viable_initialisers : (turns : ℕ) (done : List InitialiserTree) (h : ℕ) (Q : Claims) → OfFronts Q → ((h : ℕ) (xs : List Terminal) → AreInits h xs → Both Q n h (xs ++ mark punctuators.CloseBrace ∷ [])) → Q true [] → (ts : List Terminal)
       → Viable Q ts (initialisers one turns done h ts)
   unfolding initialisers
-  viable_initialisers zero done h Q c w ts = Viable-unexpected (of_nothing c _ (w number (an_init.0, _, a_last_initialiser an_init.2)))
-  viable_initialisers (suc turns) done h Q c w ts =
-      Viable-bind _ (sound ts) (viable Q c (λ xs s. c.front xs (mark punctuators.CloseBrace ∷ []) (w xs (s.0, _, a_last_initialiser s.2))) ts)
-      (λ i front us r. let q : Q (front ++ []) = here Q front (c.front front (mark punctuators.CloseBrace ∷ []) (w front (i.1, _, a_last_initialiser r.0))) in
+  viable_initialisers zero done h Q c w low ts = Viable-unexpected low
+  viable_initialisers (suc turns) done h Q c w low ts =
+      Viable-bind _ (sound ts) (viable Q c begun low ts)
+      (λ i front us r. let fits : i.1 ≤ n = r.1 in let q : Q true (front ++ []) = here Q front ((begun i.1 front (i.0, r.0)).1 r.1) in
       Viable-if (starts punctuators.CloseBrace us)
       (λ _. Viable-punctuator punctuators.CloseBrace us _ q (λ at vs. Viable-ok))
       (λ _. Viable-punctuator punctuators.Comma us _ q
-      (λ at vs. Viable-if (starts punctuators.CloseBrace vs)
-      (λ _. Viable-punctuator punctuators.CloseBrace vs _ (with_comma front at (i.1, i.0, r.0)) (λ k ws. Viable-ok))
-      (λ _. viable_initialisers turns (done ++ i.0 ∷ []) (max h i.1) (λ l. Q (front ++ Punctuator at punctuators.Comma ∷ l)) (behind_token (Punctuator at punctuators.Comma) (behind front c))
-      (λ xs s. subst Q (append_assoc front (Punctuator at punctuators.Comma ∷ xs) (mark punctuators.CloseBrace ∷ [])) (w (front ++ Punctuator at punctuators.Comma ∷ xs) (max i.1 s.0, _, an_initialiser at r.0 s.2))) vs))))
+      (λ at vs. let comma : Q true (front ++ Punctuator at punctuators.Comma ∷ []) = c.front true (front ++ Punctuator at punctuators.Comma ∷ []) (mark punctuators.CloseBrace ∷ []) ((w i.1 (front ++ Punctuator at punctuators.Comma ∷ []) (_, a_last_with_comma at r.0)).1 r.1) in
+      Viable-if (starts punctuators.CloseBrace vs)
+      (λ _. Viable-punctuator punctuators.CloseBrace vs _ comma (λ k ws. Viable-ok))
+      (λ _. viable_initialisers turns (done ++ i.0 ∷ []) (max h i.1) (λ b l. Q b (front ++ Punctuator at punctuators.Comma ∷ l)) (behind_token (Punctuator at punctuators.Comma) (behind front c))
+      (λ k xs s. let both = w (max i.1 k) (front ++ Punctuator at punctuators.Comma ∷ xs) (_, an_initialiser at r.0 s.1) in let same = append_assoc front (Punctuator at punctuators.Comma ∷ xs) (mark punctuators.CloseBrace ∷ []) in
+      (subst (Q false) same both.0, λ le. subst (Q true) same (both.1 (omega arith)))) comma vs))))
     where
-      with_comma : (front : List Terminal) (at : ℕ) → IsInit front → Q (front ++ Punctuator at punctuators.Comma ∷ [])
-      with_comma front at s = c.front (front ++ Punctuator at punctuators.Comma ∷ []) (mark punctuators.CloseBrace ∷ []) (w (front ++ Punctuator at punctuators.Comma ∷ []) (s.0, _, a_last_with_comma at s.2))
+      begun : (h : ℕ) (xs : List Terminal) → IsInit h xs → Both Q n h xs
+      begun h xs s = under c xs (mark punctuators.CloseBrace ∷ []) n h (w h xs (_, a_last_initialiser s.1)) n h (λ le. le)
 
-viable_initialiser : (n : ℕ) (Q : List Terminal → Type 0) → OfFronts Q → ((xs : List Terminal) → IsInit xs → Q xs) → (ts : List Terminal) → Viable Q ts (initialiser n ts)
+one_list : (at : ℕ) → IsInit 2 (Punctuator at punctuators.OpenBrace ∷ (number ++ mark punctuators.CloseBrace ∷ []))
+one_list at = (_, a_list at 0 (a_last_initialiser an_init.1))
+
+viable_initialiser : (n : ℕ) (Q : Claims) → OfFronts Q → ((h : ℕ) (xs : List Terminal) → IsInit h xs → Both Q n h xs) → Q true [] → (ts : List Terminal) → Viable Q ts (initialiser n ts)
 unfolding initialiser
-viable_initialiser zero Q c w [] = Viable-unexpected (of_nothing c number (w number an_init))
-viable_initialiser zero Q c w (t ∷ ts) = Viable-if (begins_initialiser (t ∷ ts)) (λ e. Viable-deep (begun (is_punctuator punctuators.OpenBrace t) (λ d. punctuator_is punctuators.OpenBrace t d) e)) (λ _. Viable-unexpected (of_nothing c number (w number an_init)))
+viable_initialiser zero Q c w low [] = Viable-unexpected low
+viable_initialiser zero Q c w low (t ∷ ts) = Viable-if (begins_initialiser (t ∷ ts)) (λ e. Viable-deep low (begun (is_punctuator punctuators.OpenBrace t) (λ d. punctuator_is punctuators.OpenBrace t d) e)) (λ _. Viable-unexpected low)
   where
-    begun : (b : Bool) → (b ≡ true → t ≡ Punctuator (number_of t) punctuators.OpenBrace) → cond b true (begins_one (t ∷ ts)) ≡ true → Q (t ∷ [])
-    begun true is e = subst (λ u. Q (u ∷ [])) (sym (is refl)) (of_token c (Punctuator (number_of t) punctuators.OpenBrace) _ (w _ (suc an_init.0, _, a_list (number_of t) 0 (a_last_initialiser an_init.2))))
-    begun false is e = let by = one_begun Assignment refl t ts e in of_token c t by.0 (w _ (by.1.0, _, a_value by.1.2))
-viable_initialiser (suc m) Q c w [] = Viable-done _ (viable_part (suc m) Assignment refl Q c (λ xs s. w xs (s.0, _, a_value s.2)) [])
-viable_initialiser (suc m) Q c w (t ∷ ts) =
+    begun : (b : Bool) → (b ≡ true → t ≡ Punctuator (number_of t) punctuators.OpenBrace) → cond b true (begins_one (t ∷ ts)) ≡ true → Q false (t ∷ [])
+    begun true is e = subst (λ u. Q false (u ∷ [])) (sym (is refl)) (c.front false (Punctuator (number_of t) punctuators.OpenBrace ∷ []) _ (w 2 _ (one_list (number_of t))).0)
+    begun false is e = let by = one_begun Assignment refl t ts e in c.front false (t ∷ []) by.0 (w by.1.0 _ (_, a_value by.1.2)).0
+viable_initialiser (suc m) Q c w low [] = Viable-done _ (viable_part (suc m) Assignment refl Q c (λ h xs s. w h xs (_, a_value s.1)) low [])
+viable_initialiser (suc m) Q c w low (t ∷ ts) =
     Viable-if (starts punctuators.OpenBrace (t ∷ ts))
-    (λ e. Viable-some (m == 0) (subst (λ u. Q (u ∷ [])) (sym (punctuator_is punctuators.OpenBrace t e)) (of_token c (Punctuator (number_of t) punctuators.OpenBrace) _ (w _ (suc an_init.0, _, a_list (number_of t) 0 (a_last_initialiser an_init.2)))))
-    (Viable-punctuator punctuators.OpenBrace (t ∷ ts) _ (of_nothing c number (w number an_init))
-    (λ o us. Viable-done _ (viable_initialisers m (initialiser m) (λ vs. sound_initialiser m vs) (λ P d v vs. viable_initialiser m P d v vs) (length us) [] 0 _ (behind_token (Punctuator o punctuators.OpenBrace) c) (λ xs s. w _ (suc s.0, _, a_list o 0 s.2)) us))))
-    (λ _. Viable-done _ (viable_part (suc m) Assignment refl Q c (λ xs s. w xs (s.0, _, a_value s.2)) (t ∷ ts)))
+    (λ e. Viable-some m low (subst (λ u. Q false (u ∷ [])) (sym (punctuator_is punctuators.OpenBrace t e)) (c.front false (Punctuator (number_of t) punctuators.OpenBrace ∷ []) _ (w 2 _ (one_list (number_of t))).0))
+    (λ some. Viable-punctuator punctuators.OpenBrace (t ∷ ts) _ low
+    (λ o us. Viable-done _ (viable_initialisers m (initialiser m) (λ vs. sound_initialiser m vs) (λ P d v l vs. viable_initialiser m P d v l vs) (length us) [] 0 _ (behind_token (Punctuator o punctuators.OpenBrace) c)
+    (λ h xs s. let both = w (suc h) _ (_, a_list o 0 s.1) in (both.0, λ le. both.1 (omega arith))) (c.front true (Punctuator o punctuators.OpenBrace ∷ []) _ ((w 2 _ (one_list o)).1 (omega arith))) us))))
+    (λ _. Viable-done _ (viable_part (suc m) Assignment refl Q c (λ h xs s. w h xs (_, a_value s.1)) low (t ∷ ts)))
 
 -- ---- variables
 
-abbrev pub IsVariable : List Terminal → Type 0
-IsVariable xs = (h : ℕ) × (v : VariableTree) × ReadsVariable h xs v
+abbrev pub IsVariable : ℕ → List Terminal → Type 0
+IsVariable h xs = (v : VariableTree) × ReadsVariable h xs v
 
-abbrev pub AreVariables : List Terminal → Type 0
-AreVariables xs = (h : ℕ) × (vs : List VariableTree) × ReadsVariables h xs vs
+abbrev pub AreVariables : ℕ → List Terminal → Type 0
+AreVariables h xs = (vs : List VariableTree) × ReadsVariables h xs vs
 
-pub an_unset : {xs : List Terminal} → IsDeclarator xs → IsVariable xs
-an_unset (h, d, r) = (suc h, _, an_unset_variable r)
+only_variable : (h : ℕ) (xs : List Terminal) → IsVariable h xs → AreVariables h xs
+only_variable h xs r = (_, a_last_variable r.1)
 
-pub only_variable : {xs : List Terminal} → IsVariable xs → AreVariables xs
-only_variable (h, v, r) = (h, _, a_last_variable r)
+-- the shortest
+pub one_variable : AreVariables 1 (Name 0 [] ∷ [])
+one_variable = (_, a_last_variable (an_unset_variable a_name.1))
 
-module _ (Q : List Terminal → Type 0) (c : OfFronts Q) (w : (xs : List Terminal) → IsVariable xs → Q xs) where
-  viable_initialised : (m : ℕ) (d : DeclaratorTree × ℕ) (front : List Terminal) → IsDeclarator front → (ts : List Terminal) → Viable (λ l. Q (front ++ l)) ts (initialised m d ts)
-  viable_initialised m d front r [] = Viable-ok
-  viable_initialised m d front r (t ∷ ts) =
+module _ (m : ℕ) (Q : Claims) (c : OfFronts Q) (w : (h : ℕ) (xs : List Terminal) → IsVariable h xs → Both Q (suc m) h xs) where
+  viable_initialised : (d : DeclaratorTree × ℕ) (front : List Terminal) → ReadsDeclarator d.1 front d.0 → d.1 ≤ m → (ts : List Terminal) → Viable (λ b l. Q b (front ++ l)) ts (initialised m d ts)
+  viable_initialised d front r fits [] = Viable-ok
+  viable_initialised d front r fits (t ∷ ts) =
+      let there : Q true (front ++ []) = here Q front ((w (suc d.1) front (_, an_unset_variable r)).1 (omega arith)) in
       Viable-if (starts punctuators.Assign (t ∷ ts))
-      (λ e. Viable-some (m == 0) (first e)
-      (Viable-punctuator punctuators.Assign (t ∷ ts) _ (here Q front (w front (an_unset r))) (λ at us. Viable-done _ (viable_initialiser m _ (behind_token (Punctuator at punctuators.Assign) (behind front c)) (set at) us)))) (λ _. Viable-ok)
+      (λ e. Viable-some m there (subst (λ u. Q false (front ++ u ∷ [])) (sym (punctuator_is punctuators.Assign t e)) ((behind front c).front false (Punctuator (number_of t) punctuators.Assign ∷ []) number (node (number_of t) 1 number an_init).0))
+      (λ some. Viable-punctuator punctuators.Assign (t ∷ ts) _ there
+      (λ at us. let begun : (h : ℕ) (xs : List Terminal) → IsInit h xs → Both Q m h (front ++ Punctuator at punctuators.Assign ∷ xs) = λ h xs s. (let both = node at h xs s in (both.0, λ le. both.1 (omega arith))) in
+      Viable-done _ (viable_initialiser m _ (behind_token (Punctuator at punctuators.Assign) (behind front c)) begun ((behind front c).front true (Punctuator at punctuators.Assign ∷ []) number ((begun 1 number an_init).1 (omega arith))) us)))) (λ _. Viable-ok)
     where
-      set : (at : ℕ) (xs : List Terminal) → IsInit xs → Q (front ++ Punctuator at punctuators.Assign ∷ xs)
-      set at xs s = w _ (suc (max r.0 s.0), _, a_set_variable at r.2 s.2)
+      node : (at : ℕ) (h : ℕ) (xs : List Terminal) → IsInit h xs → Both Q (suc m) (suc (max d.1 h)) (front ++ Punctuator at punctuators.Assign ∷ xs)
+      node at h xs s = w (suc (max d.1 h)) _ (_, a_set_variable at r s.1)
 
-      first : starts punctuators.Assign (t ∷ ts) ≡ true → Q (front ++ t ∷ [])
-      first e = subst (λ u. Q (front ++ u ∷ [])) (sym (punctuator_is punctuators.Assign t e)) ((behind front c).front (Punctuator (number_of t) punctuators.Assign ∷ []) number (w _ (suc (max r.0 an_init.0), _, a_set_variable (number_of t) r.2 an_init.2)))
-
-  viable_variable : (m : ℕ) (ts : List Terminal) → Viable Q ts (variable m ts)
+  viable_variable : (ts : List Terminal) → Viable Q ts (variable m ts)
   unfolding variable
-  viable_variable m ts = Viable-bind (initialised m) (sound_declarator m ts) (viable_declarator Q c (λ xs s. w xs (an_unset s)) m ts) (λ d front us r. viable_initialised m d front (d.1, d.0, r.0) us)
+  viable_variable ts =
+      Viable-bind (initialised m) (sound_declarator m ts) (viable_declarator m Q c (λ h xs s. let both = w (suc h) xs (_, an_unset_variable s.1) in (both.0, λ le. both.1 (omega arith))) ts) (λ d front us r. viable_initialised d front r.0 r.1 us)
 
-further_variable : (xs ys : List Terminal) (at : ℕ) → IsVariable xs → AreVariables ys → AreVariables (xs ++ Punctuator at punctuators.Comma ∷ ys)
-further_variable xs ys at r s = (max r.0 s.0, _, a_variable at r.2 s.2)
+further_variable : (h k : ℕ) (xs ys : List Terminal) (at : ℕ) → IsVariable h xs → AreVariables k ys → AreVariables (max h k) (xs ++ Punctuator at punctuators.Comma ∷ ys)
+further_variable h k xs ys at r s = (_, a_variable at r.1 s.1)
 
-viable_variables : (m n : ℕ) (done : List VariableTree) (h : ℕ) (Q : List Terminal → Type 0) → OfFronts Q → ((xs : List Terminal) → AreVariables xs → Q (xs ++ mark punctuators.Semicolon ∷ [])) → (ts : List Terminal) → Viable Q ts (variables m n done h ts)
+viable_variables : (m n : ℕ) (done : List VariableTree) (h : ℕ) (Q : Claims) → OfFronts Q → ((h : ℕ) (xs : List Terminal) → AreVariables h xs → Both Q (suc m) h (xs ++ mark punctuators.Semicolon ∷ [])) → Q true [] → (ts : List Terminal) → Viable Q ts (variables m n done h ts)
 unfolding variables
-viable_variables m zero done h Q c w ts = Viable-unexpected (of_nothing c _ (w _ (only_variable (an_unset a_name))))
-viable_variables m (suc n) done h Q c w ts =
-    Viable-bind _ (sound_variable m ts) (viable_variable Q c (λ xs s. c.front xs (mark punctuators.Semicolon ∷ []) (w xs (only_variable s))) m ts)
-    (λ v front us r. viable_after punctuators.Semicolon IsVariable AreVariables (λ xs s. only_variable s) further_variable (done ++ v.0 ∷ [], max h v.1) (variables m n (done ++ v.0 ∷ []) (max h v.1)) front (v.1, v.0, r.0) Q c w
-    (λ P d u vs. viable_variables m n (done ++ v.0 ∷ []) (max h v.1) P d u vs) us)
+viable_variables m zero done h Q c w low ts = Viable-unexpected low
+viable_variables m (suc n) done h Q c w low ts =
+    Viable-bind _ (sound_variable m ts) (viable_variable m Q c (λ h xs s. under c xs (mark punctuators.Semicolon ∷ []) (suc m) h (w h xs (only_variable h xs s)) (suc m) h (λ le. le)) ts)
+    (λ v front us r. viable_after punctuators.Semicolon (suc m) IsVariable AreVariables only_variable further_variable (Name 0 [] ∷ []) one_variable (omega arith) (done ++ v.0 ∷ [], max h v.1) (variables m n (done ++ v.0 ∷ []) (max h v.1)) v.1 front (v.0, r.0) r.1 Q c w
+    (λ P d u l vs. viable_variables m n (done ++ v.0 ∷ []) (max h v.1) P d u l vs) us)
 
 -- behind a type
-pub viable_declared : (m : ℕ) (b : Base) (Q : List Terminal → Type 0) → OfFronts Q → ((xs : List Terminal) → AreVariables xs → Q (xs ++ mark punctuators.Semicolon ∷ [])) → (ts : List Terminal) → Viable Q ts (declared m b ts)
-viable_declared m b Q c w ts = Viable-done _ (viable_variables m (length ts) [] 0 Q c w ts)
+pub viable_declared : (m : ℕ) (b : Base) (Q : Claims) → OfFronts Q → ((h : ℕ) (xs : List Terminal) → AreVariables h xs → Both Q (suc m) h (xs ++ mark punctuators.Semicolon ∷ [])) → Q true [] → (ts : List Terminal) → Viable Q ts (declared m b ts)
+viable_declared m b Q c w low ts = Viable-done _ (viable_variables m (length ts) [] 0 Q c w low ts)
 
-abbrev pub IsDeclaration : List Terminal → Type 0
-IsDeclaration xs = (h : ℕ) × (d : DeclarationTree) × ReadsDeclaration h xs d
+abbrev pub IsDeclaration : ℕ → List Terminal → Type 0
+IsDeclaration h xs = (d : DeclarationTree) × ReadsDeclaration h xs d
 
-module _ (Q : List Terminal → Type 0) (c : OfFronts Q) (w : (xs : List Terminal) → IsDeclaration xs → Q xs) where
+module _ (n : ℕ) (Q : Claims) (c : OfFronts Q) (w : (h : ℕ) (xs : List Terminal) → IsDeclaration h xs → Both Q n h xs) where
+  behind_type : (xs : List Terminal) (b : Base) → ReadsType xs b → (h : ℕ) (ys : List Terminal) → AreVariables h ys → Both Q n h (xs ++ (ys ++ mark punctuators.Semicolon ∷ []))
+  behind_type xs b t h ys s = w h _ (_, a_declaration 0 t s.1)
+
   -- a type begins a declaration
-  behind_type : (xs : List Terminal) (b : Base) → ReadsType xs b → (ys : List Terminal) → AreVariables ys → Q (xs ++ (ys ++ mark punctuators.Semicolon ∷ []))
-  behind_type xs b t ys s = w _ (s.0, _, a_declaration 0 t s.2)
+  any_typed : (xs : List Terminal) (b : Base) → ReadsType xs b → Q false xs
+  any_typed xs b t = c.front false xs _ (behind_type xs b t 1 _ one_variable).0
 
-  typed_begun : (xs : List Terminal) (b : Base) → ReadsType xs b → Q xs
-  typed_begun xs b t = c.front xs _ (behind_type xs b t _ (only_variable (an_unset a_name)))
+  low_typed : 0 < n → (xs : List Terminal) (b : Base) → ReadsType xs b → Q true xs
+  low_typed some xs b t = c.front true xs _ ((behind_type xs b t 1 _ one_variable).1 (omega arith))
 
-  pub viable_declaration_within : (n : ℕ) (t : Terminal) (ts : List Terminal) → begins_type (t ∷ ts) ≡ true → Viable Q (t ∷ ts) (declaration_within n (t ∷ ts))
-  unfolding declaration_within declaration
-  viable_declaration_within zero t ts e = let by = type_begun t ts e in Viable-deep (of_token c t by.0 (typed_begun (t ∷ by.0) by.1 by.2))
-  viable_declaration_within (suc m) t ts e =
-      Viable-bind (declared m) (sound_type (t ∷ ts)) (viable_type Q c typed_begun (t ∷ ts)) (λ b front us r. viable_declared m b (λ l. Q (front ++ l)) (behind front c) (behind_type front b r) us)
+pub viable_declaration_within : (n : ℕ) (Q : Claims) → OfFronts Q → ((h : ℕ) (xs : List Terminal) → IsDeclaration h xs → Both Q n h xs) → Q true [] → (t : Terminal) (ts : List Terminal) → begins_type (t ∷ ts) ≡ true
+    → Viable Q (t ∷ ts) (declaration_within n (t ∷ ts))
+unfolding declaration_within declaration
+viable_declaration_within zero Q c w low t ts e = let by = type_begun t ts e in Viable-deep low (c.front false (t ∷ []) by.0 (any_typed 0 Q c w (t ∷ by.0) by.1 by.2))
+viable_declaration_within (suc m) Q c w low t ts e =
+    let typed : (xs : List Terminal) (b : Base) → ReadsType xs b → Q true xs = low_typed (suc m) Q c w (omega arith) in
+    Viable-bind (declared m) (sound_type (t ∷ ts)) (viable_type Q c typed (t ∷ ts))
+    (λ b front us r. viable_declared m b (λ b l. Q b (front ++ l)) (behind front c) (behind_type (suc m) Q c w front b r) (here Q front (typed front b r)) us)
 
 -- ---- members
 
-abbrev AreDeclarators : List Terminal → Type 0
-AreDeclarators xs = (h : ℕ) × (ds : List DeclaratorTree) × ReadsDeclarators h xs ds
+-- a declarator as a node
+abbrev IsMember : ℕ → List Terminal → Type 0
+IsMember h xs = (k : ℕ) × (h ≡ suc k) × IsDeclarator k xs
 
-only_member : {xs : List Terminal} → IsDeclarator xs → AreDeclarators xs
-only_member (h, d, r) = (suc h, _, a_last_member r)
+abbrev AreDeclarators : ℕ → List Terminal → Type 0
+AreDeclarators h xs = (ds : List DeclaratorTree) × ReadsDeclarators h xs ds
 
-further_member : (xs ys : List Terminal) (at : ℕ) → IsDeclarator xs → AreDeclarators ys → AreDeclarators (xs ++ Punctuator at punctuators.Comma ∷ ys)
-further_member xs ys at r s = (max (suc r.0) s.0, _, a_member at r.2 s.2)
+only_member : (h : ℕ) (xs : List Terminal) → IsMember h xs → AreDeclarators h xs
+only_member h xs (k, e, (d, r)) = rw e (_, a_last_member r)
 
-viable_declarators : (m n : ℕ) (done : List DeclaratorTree) (h : ℕ) (Q : List Terminal → Type 0) → OfFronts Q → ((xs : List Terminal) → AreDeclarators xs → Q (xs ++ mark punctuators.Semicolon ∷ [])) → (ts : List Terminal) → Viable Q ts (declarators m n done h ts)
-unfolding declarators
-viable_declarators m zero done h Q c w ts = Viable-unexpected (of_nothing c _ (w _ (only_member a_name)))
-viable_declarators m (suc n) done h Q c w ts =
-    Viable-bind _ (sound_declarator m ts) (viable_declarator Q c (λ xs s. c.front xs (mark punctuators.Semicolon ∷ []) (w xs (only_member s))) m ts)
-    (λ d front us r. viable_after punctuators.Semicolon IsDeclarator AreDeclarators (λ xs s. only_member s) further_member (done ++ d.0 ∷ [], max h (d.1 + 1)) (declarators m n (done ++ d.0 ∷ []) (max h (d.1 + 1))) front (d.1, d.0, r.0) Q c w
-    (λ P e u vs. viable_declarators m n (done ++ d.0 ∷ []) (max h (d.1 + 1)) P e u vs) us)
-
-abbrev AreMembers : List Terminal → Type 0
-AreMembers xs = (h : ℕ) × (g : MembersTree) × ReadsMembers h xs g
-
-abbrev pub AreGroups : List Terminal → Type 0
-AreGroups xs = (h : ℕ) × (gs : List MembersTree) × ReadsAllMembers h xs gs
-
-module _ (Q : List Terminal → Type 0) (c : OfFronts Q) (w : (xs : List Terminal) → AreMembers xs → Q xs) where
-  group_begun : (xs : List Terminal) (b : Base) → ReadsType xs b → (ys : List Terminal) → AreDeclarators ys → Q (xs ++ (ys ++ mark punctuators.Semicolon ∷ []))
-  group_begun xs b t ys s = w _ (s.0, _, a_group 0 t s.2)
-
-  viable_members : (m : ℕ) (ts : List Terminal) → Viable Q ts (members m ts)
-  unfolding members
-  viable_members m ts =
-      Viable-bind _ (sound_type ts) (viable_type Q c (λ xs b t. c.front xs _ (group_begun xs b t _ (only_member a_name))) ts)
-      (λ b front us t. Viable-done _ (viable_declarators m (length us) [] 0 (λ l. Q (front ++ l)) (behind front c) (group_begun front b t) us))
+further_member : (h k : ℕ) (xs ys : List Terminal) (at : ℕ) → IsMember h xs → AreDeclarators k ys → AreDeclarators (max h k) (xs ++ Punctuator at punctuators.Comma ∷ ys)
+further_member h k xs ys at (j, e, (d, r)) s = rw e (_, a_member at r s.1)
 
 -- the shortest
-pub a_member_group : AreGroups (Keyword 0 keywords.Int ∷ Name 0 [] ∷ mark punctuators.Semicolon ∷ [])
-a_member_group = (suc a_name.0, _, a_last_group (a_group {xs = Keyword 0 keywords.Int ∷ []} {ys = Name 0 [] ∷ []} 0 (plain_type (an_int 0)) (a_last_member a_name.2)))
+one_member : AreDeclarators 1 (Name 0 [] ∷ [])
+one_member = (_, a_last_member a_name.1)
 
-pub viable_groups : (m n : ℕ) (done : List MembersTree) (h : ℕ) (Q : List Terminal → Type 0) → OfFronts Q → ((xs : List Terminal) → AreGroups xs → Q (xs ++ mark punctuators.CloseBrace ∷ [])) → (ts : List Terminal) → Viable Q ts (groups m n done h ts)
+viable_declarators : (m n : ℕ) (done : List DeclaratorTree) (h : ℕ) (Q : Claims) → OfFronts Q → ((h : ℕ) (xs : List Terminal) → AreDeclarators h xs → Both Q (suc m) h (xs ++ mark punctuators.Semicolon ∷ [])) → Q true [] → (ts : List Terminal)
+    → Viable Q ts (declarators m n done h ts)
+unfolding declarators
+viable_declarators m zero done h Q c w low ts = Viable-unexpected low
+viable_declarators m (suc n) done h Q c w low ts =
+    Viable-bind _ (sound_declarator m ts) (viable_declarator m Q c (λ h xs s. under c xs (mark punctuators.Semicolon ∷ []) (suc m) (suc h) (w (suc h) xs (_, a_last_member s.1)) m h (λ le. omega arith)) ts)
+    (λ d front us r. let fits : d.1 ≤ m = r.1 in
+    viable_after punctuators.Semicolon (suc m) IsMember AreDeclarators only_member further_member (Name 0 [] ∷ []) one_member (omega arith) (done ++ d.0 ∷ [], max h (d.1 + 1)) (declarators m n (done ++ d.0 ∷ []) (max h (d.1 + 1))) (suc d.1) front (d.1, refl, (d.0, r.0)) (omega arith) Q c w
+    (λ P e u l vs. viable_declarators m n (done ++ d.0 ∷ []) (max h (d.1 + 1)) P e u l vs) us)
+
+abbrev AreMembers : ℕ → List Terminal → Type 0
+AreMembers h xs = (g : MembersTree) × ReadsMembers h xs g
+
+abbrev pub AreGroups : ℕ → List Terminal → Type 0
+AreGroups h xs = (gs : List MembersTree) × ReadsAllMembers h xs gs
+
+module _ (m : ℕ) (Q : Claims) (c : OfFronts Q) (w : (h : ℕ) (xs : List Terminal) → AreMembers h xs → Both Q (suc m) h xs) where
+  group_begun : (xs : List Terminal) (b : Base) → ReadsType xs b → (h : ℕ) (ys : List Terminal) → AreDeclarators h ys → Both Q (suc m) h (xs ++ (ys ++ mark punctuators.Semicolon ∷ []))
+  group_begun xs b t h ys s = w h _ (_, a_group 0 t s.1)
+
+  group_typed : (xs : List Terminal) (b : Base) → ReadsType xs b → Q true xs
+  group_typed xs b t = c.front true xs _ ((group_begun xs b t 1 _ one_member).1 (omega arith))
+
+  viable_members : (ts : List Terminal) → Viable Q ts (members m ts)
+  unfolding members
+  viable_members ts =
+      Viable-bind _ (sound_type ts) (viable_type Q c group_typed ts)
+      (λ b front us t. Viable-done _ (viable_declarators m (length us) [] 0 (λ b l. Q b (front ++ l)) (behind front c) (group_begun front b t) (here Q front (group_typed front b t)) us))
+
+-- the shortest
+pub a_member_group : AreGroups 1 (Keyword 0 keywords.Int ∷ Name 0 [] ∷ mark punctuators.Semicolon ∷ [])
+a_member_group = (_, a_last_group (a_group {xs = Keyword 0 keywords.Int ∷ []} {ys = Name 0 [] ∷ []} 0 (plain_type (an_int 0)) one_member.1))
+
+pub viable_groups : (m n : ℕ) (done : List MembersTree) (h : ℕ) (Q : Claims) → OfFronts Q → ((h : ℕ) (xs : List Terminal) → AreGroups h xs → Both Q (suc m) h (xs ++ mark punctuators.CloseBrace ∷ [])) → Q true [] → (ts : List Terminal)
+    → Viable Q ts (groups m n done h ts)
 unfolding groups
-viable_groups m zero done h Q c w ts = Viable-unexpected (of_nothing c _ (w _ a_member_group))
-viable_groups m (suc n) done h Q c w ts =
-    Viable-bind _ (sound_members m ts) (viable_members Q c (λ xs s. c.front xs (mark punctuators.CloseBrace ∷ []) (w xs (s.0, _, a_last_group s.2))) m ts)
-    (λ g front us r. Viable-if (starts punctuators.CloseBrace us)
-    (λ _. Viable-punctuator punctuators.CloseBrace us _ (here Q front (c.front front (mark punctuators.CloseBrace ∷ []) (w front (g.1, _, a_last_group r.0)))) (λ at vs. Viable-ok))
-    (λ _. viable_groups m n (done ++ g.0 ∷ []) (max h g.1) (λ l. Q (front ++ l)) (behind front c) (λ xs s. subst Q (append_assoc front xs (mark punctuators.CloseBrace ∷ [])) (w (front ++ xs) (max g.1 s.0, _, a_further_group r.0 s.2))) us))
+viable_groups m zero done h Q c w low ts = Viable-unexpected low
+viable_groups m (suc n) done h Q c w low ts =
+    Viable-bind _ (sound_members m ts) (viable_members m Q c one_group ts)
+    (λ g front us r. let fits : g.1 ≤ suc m = r.1 in let there : Q true (front ++ []) = here Q front ((one_group g.1 front (g.0, r.0)).1 fits) in
+    Viable-if (starts punctuators.CloseBrace us)
+    (λ _. Viable-punctuator punctuators.CloseBrace us _ there (λ at vs. Viable-ok))
+    (λ _. viable_groups m n (done ++ g.0 ∷ []) (max h g.1) (λ b l. Q b (front ++ l)) (behind front c)
+    (λ k xs s. let both = w (max g.1 k) (front ++ xs) (_, a_further_group r.0 s.1) in let same = append_assoc front xs (mark punctuators.CloseBrace ∷ []) in
+    (subst (Q false) same both.0, λ le. subst (Q true) same (both.1 (omega arith)))) there us))
+  where
+    one_group : (h : ℕ) (xs : List Terminal) → AreMembers h xs → Both Q (suc m) h xs
+    one_group h xs s = under c xs (mark punctuators.CloseBrace ∷ []) (suc m) h (w h xs (_, a_last_group s.1)) (suc m) h (λ le. le)
 
 -- ---- parameters
 
-abbrev IsOneParameter : List Terminal → Type 0
-IsOneParameter xs = (h : ℕ) × (p : ParameterTree) × ReadsParameter h xs p
+abbrev IsOneParameter : ℕ → List Terminal → Type 0
+IsOneParameter h xs = (p : ParameterTree) × ReadsParameter h xs p
 
-abbrev AreParameters : List Terminal → Type 0
-AreParameters xs = (h : ℕ) × (ps : List ParameterTree) × ReadsParameters h xs ps
+abbrev AreParameters : ℕ → List Terminal → Type 0
+AreParameters h xs = (ps : List ParameterTree) × ReadsParameters h xs ps
 
-only_parameter : {xs : List Terminal} → IsOneParameter xs → AreParameters xs
-only_parameter (h, p, r) = (h, _, a_last_parameter r)
+only_parameter : (h : ℕ) (xs : List Terminal) → IsOneParameter h xs → AreParameters h xs
+only_parameter h xs r = (_, a_last_parameter r.1)
 
-further_parameter : (xs ys : List Terminal) (at : ℕ) → IsOneParameter xs → AreParameters ys → AreParameters (xs ++ Punctuator at punctuators.Comma ∷ ys)
-further_parameter xs ys at r s = (max r.0 s.0, _, a_parameter at r.2 s.2)
+further_parameter : (h k : ℕ) (xs ys : List Terminal) (at : ℕ) → IsOneParameter h xs → AreParameters k ys → AreParameters (max h k) (xs ++ Punctuator at punctuators.Comma ∷ ys)
+further_parameter h k xs ys at r s = (_, a_parameter at r.1 s.1)
 
 -- `void *`
-void_pointer : (at : ℕ) → IsOneParameter (Keyword at keywords.Void ∷ mark punctuators.Star ∷ [])
-void_pointer at = (1, _, an_unnamed_parameter {xs = Keyword at keywords.Void ∷ []} {ys = mark punctuators.Star ∷ []} {zs = []} (plain_type (a_void at)) (a_star 0 no_const no_star) (are_given no_length) (λ n e. absurd cc))
+void_pointer : (at : ℕ) → IsOneParameter 1 (Keyword at keywords.Void ∷ mark punctuators.Star ∷ [])
+void_pointer at = (_, an_unnamed_parameter {xs = Keyword at keywords.Void ∷ []} {ys = mark punctuators.Star ∷ []} {zs = []} (plain_type (a_void at)) (a_star 0 no_const no_star) (are_given no_length) (λ n e. absurd cc))
 
-module _ (Q : List Terminal → Type 0) (c : OfFronts Q) (w : (xs : List Terminal) → IsOneParameter xs → Q xs) where
-  void_begun : (at : ℕ) → Q (Keyword at keywords.Void ∷ [])
-  void_begun at = of_token c (Keyword at keywords.Void) _ (w _ (void_pointer at))
+module _ (m : ℕ) (Q : Claims) (c : OfFronts Q) (w : (h : ℕ) (xs : List Terminal) → IsOneParameter h xs → Both Q (suc m) h xs) where
+  void_begun : (at : ℕ) → Q true (Keyword at keywords.Void ∷ [])
+  void_begun at = c.front true (Keyword at keywords.Void ∷ []) (mark punctuators.Star ∷ []) ((w 1 _ (void_pointer at)).1 (omega arith))
 
-  module _ (m start : ℕ) (b : Base) (n : ℕ) (front ys : List Terminal) (t : ReadsType front b) (s : ReadsStars ys n) where
-    abbrev Behind : List Terminal → Type 0
-    Behind l = Q (front ++ (ys ++ l))
+  any_void : (at : ℕ) → Q false (Keyword at keywords.Void ∷ [])
+  any_void at = c.front false (Keyword at keywords.Void ∷ []) (mark punctuators.Star ∷ []) (w 1 _ (void_pointer at)).0
 
-    unnamed : (xs : List Terminal) → AreLengths xs → Behind xs
-    unnamed xs l = by_case (void_or_not (front ++ (ys ++ xs)))
+  module _ (start : ℕ) (b : Base) (n : ℕ) (front ys : List Terminal) (t : ReadsType front b) (s : ReadsStars ys n) where
+    abbrev Behind : Claims
+    Behind q l = Q q (front ++ (ys ++ l))
+
+    unnamed : (h : ℕ) (xs : List Terminal) → AreLengths h xs → Both Behind m h xs
+    unnamed h xs l = by_case (void_or_not (front ++ (ys ++ xs)))
       where
-        by_case : IsVoidOrNot (front ++ (ys ++ xs)) → Q (front ++ (ys ++ xs))
-        by_case (inl v) = subst Q (sym v.1) (void_begun v.0)
-        by_case (inr v) = w _ (suc l.0, _, an_unnamed_parameter t s l.2 v)
+        by_case : IsVoidOrNot (front ++ (ys ++ xs)) → Both Behind m h xs
+        by_case (inl v) = (subst (Q false) (sym v.1) (any_void v.0), λ le. subst (Q true) (sym v.1) (void_begun v.0))
+        by_case (inr v) = let both = w (suc h) _ (_, an_unnamed_parameter t s l.1 v) in (both.0, λ le. both.1 (omega arith))
 
     behind_all : OfFronts Behind
     behind_all = behind ys (behind front c)
 
+    named_there : (at : ℕ) (x : List ℕ) (h : ℕ) (xs : List Terminal) → AreLengths h xs → Both Behind m h (Name at x ∷ xs)
+    named_there at x h xs l = let both = w (suc h) _ (_, a_named_parameter at x t s l.1) in (both.0, λ le. both.1 (omega arith))
+
     viable_with_name : (ts : List Terminal) → Viable Behind ts (with_name m start b n ts)
-    viable_with_name [] = Viable-done _ (viable_lengths Behind behind_all unnamed m [])
-    viable_with_name (Name at x ∷ ts) = Viable-token (Viable-done _ (viable_lengths (λ l. Behind (Name at x ∷ l)) (behind_token (Name at x) behind_all) (λ xs l. w _ (suc l.0, _, a_named_parameter at x t s l.2)) m ts))
-    viable_with_name (Keyword at k ∷ ts) = Viable-done _ (viable_lengths Behind behind_all unnamed m (Keyword at k ∷ ts))
-    viable_with_name (Constant at k unsigned ∷ ts) = Viable-done _ (viable_lengths Behind behind_all unnamed m (Constant at k unsigned ∷ ts))
-    viable_with_name (Text at bytes ∷ ts) = Viable-done _ (viable_lengths Behind behind_all unnamed m (Text at bytes ∷ ts))
-    viable_with_name (Punctuator at k ∷ ts) = Viable-done _ (viable_lengths Behind behind_all unnamed m (Punctuator at k ∷ ts))
+    viable_with_name [] = Viable-done _ (viable_lengths m Behind behind_all unnamed [])
+    viable_with_name (Name at x ∷ ts) = Viable-token (Viable-done _ (viable_lengths m (λ q l. Behind q (Name at x ∷ l)) (behind_token (Name at x) behind_all) (named_there at x) ts))
+    viable_with_name (Keyword at k ∷ ts) = Viable-done _ (viable_lengths m Behind behind_all unnamed (Keyword at k ∷ ts))
+    viable_with_name (Constant at k unsigned ∷ ts) = Viable-done _ (viable_lengths m Behind behind_all unnamed (Constant at k unsigned ∷ ts))
+    viable_with_name (Text at bytes ∷ ts) = Viable-done _ (viable_lengths m Behind behind_all unnamed (Text at bytes ∷ ts))
+    viable_with_name (Punctuator at k ∷ ts) = Viable-done _ (viable_lengths m Behind behind_all unnamed (Punctuator at k ∷ ts))
 
   -- a type begins a parameter
-  parameter_begun : (xs : List Terminal) (b : Base) → ReadsType xs b → Q xs
-  parameter_begun xs b t = c.front xs (Name 0 [] ∷ []) (w _ (1, _, a_named_parameter {ys = []} 0 [] t no_star (are_given no_length)))
+  parameter_begun : (xs : List Terminal) (b : Base) → ReadsType xs b → Q true xs
+  parameter_begun xs b t = c.front true xs (Name 0 [] ∷ []) ((w 1 _ (_, a_named_parameter {ys = []} 0 [] t no_star (are_given no_length))).1 (omega arith))
 
-  viable_parameter : (m : ℕ) (ts : List Terminal) → Viable Q ts (parameter m ts)
+  viable_parameter : (ts : List Terminal) → Viable Q ts (parameter m ts)
   unfolding parameter
-  viable_parameter m ts =
+  viable_parameter ts =
       Viable-if (is_void_alone ts) (void_alone ts)
       (λ _. Viable-bind _ (sound_type ts) (viable_type Q c parameter_begun ts)
-      (λ b front us t. let first : StarsRead us (stars us) = stars_read us in Viable-after us first.front (stars us).1 first.split _ (viable_with_name m (place ts) b (stars us).0 front first.front t first.is (stars us).1)))
+      (λ b front us t. let first : StarsRead us (stars us) = stars_read us in Viable-after us first.front (stars us).1 first.split _ (viable_with_name (place ts) b (stars us).0 front first.front t first.is (stars us).1)))
     where
       void_alone : (ts : List Terminal) → is_void_alone ts ≡ true → Viable {A = ParameterTree × ℕ} Q ts (unexpected (without_first ts))
       void_alone [] e = absurd cc
       void_alone (t ∷ ts) e = Viable-keyword keywords.Void t (and_parts (is_keyword keywords.Void t) _ e).0 (Viable-token (Viable-unexpected (void_begun (number_of t))))
 
-viable_parameters : (m n : ℕ) (done : List ParameterTree) (h : ℕ) (Q : List Terminal → Type 0) → OfFronts Q → ((xs : List Terminal) → AreParameters xs → Q (xs ++ mark punctuators.CloseParenthesis ∷ [])) → (ts : List Terminal) → Viable Q ts (parameters m n done h ts)
-unfolding parameters
-viable_parameters m zero done h Q c w ts = Viable-unexpected (of_nothing c _ (w _ (only_parameter (void_pointer 0))))
-viable_parameters m (suc n) done h Q c w ts =
-    Viable-bind-is _ (sound_parameter m ts) (viable_parameter Q c one m ts) (λ p front us read split r. by_case p (λ P e u vs. viable_parameters m n (done ++ p.0 ∷ []) (max h p.1) P e u vs) front us read split r)
-  where
-    one : (xs : List Terminal) → IsOneParameter xs → Q xs
-    one xs s = c.front xs (mark punctuators.CloseParenthesis ∷ []) (w xs (only_parameter s))
+abbrev AllParameters : ℕ → Claims → Type 0
+AllParameters m Q = (h : ℕ) (xs : List Terminal) → AreParameters h xs → Both Q (suc m) h (xs ++ mark punctuators.CloseParenthesis ∷ [])
 
-    by_case : (p : ParameterTree × ℕ) → ((P : List Terminal → Type 0) → OfFronts P → ((xs : List Terminal) → AreParameters xs → P (xs ++ mark punctuators.CloseParenthesis ∷ [])) → (vs : List Terminal) → Viable P vs (parameters m n (done ++ p.0 ∷ []) (max h p.1) vs))
-        → (front us : List Terminal) → parameter m ts ≡ Ok (p, us) → ts ≡ front ++ us → IsParameter m p front → Viable (λ l. Q (front ++ l)) us (after_parameter (parameters m n) (done ++ p.0 ∷ []) (max h p.1) us)
+viable_parameters : (m n : ℕ) (done : List ParameterTree) (h : ℕ) (Q : Claims) → OfFronts Q → AllParameters m Q → Q true [] → (ts : List Terminal) → Viable Q ts (parameters m n done h ts)
+unfolding parameters
+viable_parameters m zero done h Q c w low ts = Viable-unexpected low
+viable_parameters m (suc n) done h Q c w low ts =
+    Viable-bind-is _ (sound_parameter m ts) (viable_parameter m Q c one_there ts) (λ p front us read split r. by_case p (λ P e u l vs. viable_parameters m n (done ++ p.0 ∷ []) (max h p.1) P e u l vs) front us read split r)
+  where
+    one_there : (h : ℕ) (xs : List Terminal) → IsOneParameter h xs → Both Q (suc m) h xs
+    one_there h xs s = under c xs (mark punctuators.CloseParenthesis ∷ []) (suc m) h (w h xs (only_parameter h xs s)) (suc m) h (λ le. le)
+
+    by_case : (p : ParameterTree × ℕ) → ((P : Claims) → OfFronts P → AllParameters m P → P true [] → (vs : List Terminal) → Viable P vs (parameters m n (done ++ p.0 ∷ []) (max h p.1) vs))
+        → (front us : List Terminal) → parameter m ts ≡ Ok (p, us) → ts ≡ front ++ us → IsParameter m p front → Viable (λ b l. Q b (front ++ l)) us (after_parameter (parameters m n) (done ++ p.0 ∷ []) (max h p.1) us)
     by_case p others front us read split (inl r) =
-        viable_after punctuators.CloseParenthesis IsOneParameter AreParameters (λ xs s. only_parameter s) further_parameter (done ++ p.0 ∷ [], max h p.1) (parameters m n (done ++ p.0 ∷ []) (max h p.1)) front (p.1, p.0, r.0) Q c w others us
+        viable_after punctuators.CloseParenthesis (suc m) IsOneParameter AreParameters only_parameter further_parameter _ (only_parameter 1 _ (void_pointer 0)) (omega arith) (done ++ p.0 ∷ [], max h p.1) (parameters m n (done ++ p.0 ∷ []) (max h p.1)) p.1 front (p.0, r.0) r.1 Q c w others us
     by_case p others front us read split (inr (at, e)) =
         let void : ts ≡ Keyword at keywords.Void ∷ us = split ∙ ap (λ l. l ++ us) e in
         let ends = nothing_ends at us (sym (ap is_void_alone void) ∙ void_is_refused m ts p us read) in
-        let q : Q (front ++ []) = here Q front (subst Q (sym e) (of_token c (Keyword at keywords.Void) _ (one _ (void_pointer at)))) in
+        let q : Q true (front ++ []) = here Q front (subst (Q true) (sym e) (void_begun m Q c one_there at)) in
         Viable-if (starts punctuators.CloseParenthesis us) (λ d. absurd (true≢false (sym d ∙ ends.1))) (λ _. Viable-no-punctuator punctuators.Comma us _ ends.0 q)
 
 -- ---- the head of a function
 
-abbrev pub IsHead : List Terminal → Type 0
-IsHead xs = (h : ℕ) × (ps : List ParameterTree) × ReadsHead h xs ps
+abbrev pub IsHead : ℕ → List Terminal → Type 0
+IsHead h xs = (ps : List ParameterTree) × ReadsHead h xs ps
 
-pub viable_head : (m : ℕ) (Q : List Terminal → Type 0) → OfFronts Q → ((xs : List Terminal) → IsHead xs → Q (xs ++ mark punctuators.CloseParenthesis ∷ [])) → (ts : List Terminal) → Viable Q ts (head m ts)
+pub viable_head : (m : ℕ) (Q : Claims) → OfFronts Q → ((h : ℕ) (xs : List Terminal) → IsHead h xs → Both Q (suc m) h (xs ++ mark punctuators.CloseParenthesis ∷ [])) → (ts : List Terminal) → Viable Q ts (head m ts)
 unfolding head
 viable_head m Q c w ts =
+    let low : Q true [] = c.front true [] (mark punctuators.CloseParenthesis ∷ []) ((w 0 [] ([], no_parameter)).1 (omega arith)) in
     Viable-if (starts punctuators.CloseParenthesis ts)
-    (λ _. Viable-punctuator punctuators.CloseParenthesis ts _ (of_nothing c _ (w [] (0, [], no_parameter))) (λ at us. Viable-ok))
-    (λ _. Viable-if (is_void_head ts) (void_head ts) (λ _. viable_parameters m (length ts) [] 0 Q c (λ xs s. w xs (s.0, _, some_parameters s.2)) ts))
+    (λ _. Viable-punctuator punctuators.CloseParenthesis ts _ low (λ at us. Viable-ok))
+    (λ _. Viable-if (is_void_head ts) (void_head ts) (λ _. viable_parameters m (length ts) [] 0 Q c (λ h xs s. w h xs (_, some_parameters s.1)) low ts))
   where
     void_head : (ts : List Terminal) → is_void_head ts ≡ true → Viable {A = List ParameterTree × ℕ} Q ts (bind (expect punctuators.CloseParenthesis (without_first ts)) (λ _ us. Ok (([], 0), us)))
     void_head [] e = absurd cc
     void_head (t ∷ ts) e =
         Viable-keyword keywords.Void t (and_parts (is_keyword keywords.Void t) _ e).0
-        (Viable-token (Viable-punctuator punctuators.CloseParenthesis ts _ (of_token c (Keyword (number_of t) keywords.Void) _ (w _ (0, [], a_void_head (number_of t)))) (λ at us. Viable-ok)))
+        (Viable-token (Viable-punctuator punctuators.CloseParenthesis ts _ (c.front true (Keyword (number_of t) keywords.Void ∷ []) (mark punctuators.CloseParenthesis ∷ []) ((w 0 _ ([], a_void_head (number_of t))).1 (omega arith))) (λ at us. Viable-ok)))

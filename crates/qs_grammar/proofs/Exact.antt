@@ -1,27 +1,45 @@
--- Where the parser of units stops: the tokens before an unexpected one begin a unit, and with it they begin none; with one that is too
--- deep they begin units, but none that is low enough.
-use Rattle.std.proofs.Common.{◌≡◌, ℕ, suc, ◌+◌, ◌<◌, ◌≤◌, max, List, [], ◌∷◌, ◌++◌, length, Result, Ok, Err, refl, sym, ap, subst, ◌∙◌, append_assoc, append-nil, arith, inl, inr, length-append}
-use Rattle.std.specs.Prelude.{◌⊎◌}
+-- Where the parser of units stops: the tokens before it begin a unit that is low enough; with an unexpected one they begin none, and with
+-- one that is too deep they begin units, but none that is low enough.
+use Rattle.std.proofs.Common.{◌≡◌, ℕ, suc, ◌+◌, ◌<◌, ◌≤◌, max, Bool, true, false, List, [], ◌∷◌, ◌++◌, length, Result, Ok, Err, sym, ap, subst, ◌∙◌, append_assoc, append-nil, arith, inl, inr}
 use Rattle.qs_syntax.specs.declared.terminal.Terminal.{Terminal}
 use Rattle.qs_syntax.specs.Trees.{DeclTree}
 use Rattle.qs_syntax.specs.ReadsUnits.{ReadsUnit}
-use Rattle.qs_syntax.specs.Begins.{BeginsUnit}
+use Rattle.qs_syntax.specs.Begins.{BeginsUnit, BeginsLowUnit}
 use Rattle.qs_grammar.specs.Parse.{Stop, Unexpected, Deep, Parse}
 use Rattle.qs_grammar.specs.ParseStatements.{unit}
 use Rattle.qs_grammar.proofs.UnitsComplete.{finds_unit}
 use Rattle.qs_grammar.proofs.Local.{left, extend, Local, zero_or_more}
 use Rattle.qs_grammar.proofs.StatementsLocal.{Local-unit}
 use Rattle.qs_grammar.proofs.StatementsGrown.{unexpected_in_all}
-use Rattle.qs_grammar.proofs.Viable.{OfFronts}
+use Rattle.qs_grammar.proofs.Viable.{Claims, OfFronts, Both}
 use Rattle.qs_grammar.proofs.UnitsViable.{IsSomeUnit, viable_unit}
 
 -- ---- what begins a unit
 
-pub fronts_begin : OfFronts BeginsUnit
-fronts_begin = record { front = λ xs ys b. record { rest = ys ++ b.rest; height = b.height; ds = b.ds; reads = subst (λ l. ReadsUnit b.height l b.ds) (append_assoc xs ys b.rest) b.reads } }
+-- a unit of some height, or one that is low enough
+abbrev pub Begins : Claims
+Begins false = BeginsUnit
+Begins true = BeginsLowUnit
 
-pub unit_begins : (xs : List Terminal) → IsSomeUnit xs → BeginsUnit xs
-unit_begins xs (h, ds, r) = record { rest = []; height = h; ds = ds; reads = subst (λ l. ReadsUnit h l ds) (sym (append-nil xs)) r }
+pub front_begins : (xs ys : List Terminal) → BeginsUnit (xs ++ ys) → BeginsUnit xs
+front_begins xs ys b = record { rest = ys ++ b.rest; height = b.height; ds = b.ds; reads = subst (λ l. ReadsUnit b.height l b.ds) (append_assoc xs ys b.rest) b.reads }
+
+pub front_begins_low : (xs ys : List Terminal) → BeginsLowUnit (xs ++ ys) → BeginsLowUnit xs
+front_begins_low xs ys b = record { rest = ys ++ b.rest; height = b.height; ds = b.ds; reads = subst (λ l. ReadsUnit b.height l b.ds) (append_assoc xs ys b.rest) b.reads; low = b.low }
+
+pub low_begins : (xs : List Terminal) → BeginsLowUnit xs → BeginsUnit xs
+low_begins xs b = record { rest = b.rest; height = b.height; ds = b.ds; reads = b.reads }
+
+pub fronts_begin : OfFronts Begins
+fronts_begin = record { front = go }
+  where
+    go : (b : Bool) (xs ys : List Terminal) → Begins b (xs ++ ys) → Begins b xs
+    go false xs ys b = front_begins xs ys b
+    go true xs ys b = front_begins_low xs ys b
+
+pub unit_begins : (h : ℕ) (xs : List Terminal) → IsSomeUnit h xs → Both Begins 128 h xs
+unit_begins h xs (ds, r) = let whole = subst (λ l. ReadsUnit h l ds) (sym (append-nil xs)) r in
+    (record { rest = []; height = h; ds = ds; reads = whole }, λ le. record { rest = []; height = h; ds = ds; reads = whole; low = le })
 
 -- ---- a fault at a token stays where it is, whatever stands behind that token
 
@@ -60,7 +78,7 @@ not_both x s r p q = cc
 -- ---- no reading
 
 -- no tokens that go on with those up to the unexpected one are a unit
-no_unit : (k : ℕ) (front rest : List Terminal) → unit k (front ++ rest) ≡ Err (Unexpected (suc (length rest))) → BeginsUnit front → ⊥
+pub no_unit : (k : ℕ) (front rest : List Terminal) → unit k (front ++ rest) ≡ Err (Unexpected (suc (length rest))) → BeginsUnit front → ⊥
 no_unit k front rest e b =
     not_both ((b.ds, b.height), []) (Unexpected (suc (length b.rest))) (unit (max k b.height) (front ++ b.rest))
     (finds_unit (max k b.height) b.height (front ++ b.rest) b.ds b.reads (omega arith))
@@ -82,51 +100,45 @@ pub record Before (ts : List Terminal) (n : ℕ) : Type 0 where
   pub rest : List Terminal
   pub split : ts ≡ front ++ rest
   pub are : length rest ≡ n
-  pub begin : BeginsUnit front
+  pub begin : BeginsLowUnit front
   pub not_with : (t : Terminal) (us : List Terminal) → rest ≡ t ∷ us → BeginsUnit (front ++ t ∷ []) → ⊥
 
--- the tokens up to a place and at it, and those behind
-pub record UpTo (k : ℕ) (ts : List Terminal) (n : ℕ) : Type 0 where
+-- the tokens before a place, the one at it, and those behind
+pub record UpTo (ts : List Terminal) (n : ℕ) : Type 0 where
   pub front : List Terminal
   pub at : Terminal
   pub rest : List Terminal
   pub split : ts ≡ front ++ at ∷ rest
   pub are : suc (length rest) ≡ n
+  pub before : BeginsLowUnit front
   pub begin : BeginsUnit (front ++ at ∷ [])
-  pub none : (us : List Terminal) (h : ℕ) (ds : List DeclTree) → h ≤ suc (suc k) → ReadsUnit h ((front ++ at ∷ []) ++ us) ds → ⊥
+  pub none : (us : List Terminal) (h : ℕ) (ds : List DeclTree) → h ≤ 128 → ReadsUnit h ((front ++ at ∷ []) ++ us) ds → ⊥
 
-unexpected_by : (k n : ℕ) (ts : List Terminal) → unit k ts ≡ Err (Unexpected n) → (front rest : List Terminal) → ts ≡ front ++ rest → length rest ≡ n → BeginsUnit front → Before ts n
-unexpected_by k n ts e front rest split are begin = record {
+unexpected_by : (n : ℕ) (ts : List Terminal) → unit 126 ts ≡ Err (Unexpected n) → (front rest : List Terminal) → ts ≡ front ++ rest → length rest ≡ n → BeginsLowUnit front → Before ts n
+unexpected_by n ts e front rest split are begin = record {
   front = front;
   rest = rest;
   split = split;
   are = are;
   begin = begin;
-  not_with = λ t us is. no_unit k (front ++ t ∷ []) us
-      (ap (unit k) (append_assoc front (t ∷ []) us ∙ ap (λ l. front ++ l) (sym is) ∙ sym split) ∙ e ∙ ap (λ n. Err (Unexpected n)) (sym are ∙ ap length is));
+  not_with = λ t us is. no_unit 126 (front ++ t ∷ []) us
+      (ap (unit 126) (append_assoc front (t ∷ []) us ∙ ap (λ l. front ++ l) (sym is) ∙ sym split) ∙ e ∙ ap (λ n. Err (Unexpected n)) (sym are ∙ ap length is));
 }
 
-pub unexpected_place : (k n : ℕ) (ts : List Terminal) → unit k ts ≡ Err (Unexpected n) → Before ts n
-unexpected_place k n ts e = let (front, rest, split, are, begin) = (rw e at (viable_unit k BeginsUnit fronts_begin unit_begins ts)).is in unexpected_by k n ts e front rest split are begin
+pub unexpected_place : (n : ℕ) (ts : List Terminal) → unit 126 ts ≡ Err (Unexpected n) → Before ts n
+unexpected_place n ts e = let (front, rest, split, are, begin) = (rw e at (viable_unit 126 Begins fronts_begin unit_begins ts)).is in unexpected_by n ts e front rest split are begin
 
-ends : (ts : List Terminal) → (ts ≡ []) ⊎ ((front : List Terminal) × (t : Terminal) × (ts ≡ front ++ t ∷ []))
-ends [] = inl refl
-ends (t ∷ ts) = elim (ends ts) [ inl e ↦ inr ([], t, ap (λ l. t ∷ l) e) | inr p ↦ inr (t ∷ p.0, p.1, ap (λ l. t ∷ l) p.2) ]
+deep_by : (n : ℕ) (ts : List Terminal) → unit 126 ts ≡ Err (Deep n) → (front : List Terminal) (t : Terminal) (rest : List Terminal) → ts ≡ front ++ t ∷ rest → suc (length rest) ≡ n → BeginsLowUnit front → BeginsUnit (front ++ t ∷ []) → UpTo ts n
+deep_by n ts e front t rest split are before begin = record {
+  front = front;
+  at = t;
+  rest = rest;
+  split = split;
+  are = are;
+  before = before;
+  begin = begin;
+  none = λ us h ds le r. no_low_unit 126 (front ++ t ∷ []) rest us h ds (ap (unit 126) (append_assoc front (t ∷ []) rest ∙ sym split) ∙ e ∙ ap (λ n. Err (Deep n)) (sym are)) le r;
+}
 
-deep_by : (k n : ℕ) (ts : List Terminal) → unit k ts ≡ Err (Deep n) → (front rest : List Terminal) → ts ≡ front ++ rest → suc (length rest) ≡ n → BeginsUnit front → UpTo k ts n
-deep_by k n ts e front rest split are begin =
-    elim (ends front) [
-      | inl z ↦ absurd (omega (arith, ap left e, (Local-unit k).shrinks ts, ap length split, length-append front rest, ap length z))
-      | inr p ↦ record {
-        front = p.0;
-        at = p.1;
-        rest = rest;
-        split = split ∙ ap (λ l. l ++ rest) p.2 ∙ append_assoc p.0 (p.1 ∷ []) rest;
-        are = are;
-        begin = subst BeginsUnit p.2 begin;
-        none = λ us h ds le r. no_low_unit k (p.0 ++ p.1 ∷ []) rest us h ds (ap (unit k) (ap (λ l. l ++ rest) (sym p.2) ∙ sym split) ∙ e ∙ ap (λ n. Err (Deep n)) (sym are)) le r;
-      }
-    ]
-
-pub deep_place : (k n : ℕ) (ts : List Terminal) → unit k ts ≡ Err (Deep n) → UpTo k ts n
-deep_place k n ts e = let (front, rest, split, are, begin) = (rw e at (viable_unit k BeginsUnit fronts_begin unit_begins ts)).is in deep_by k n ts e front rest split are begin
+pub deep_place : (n : ℕ) (ts : List Terminal) → unit 126 ts ≡ Err (Deep n) → UpTo ts n
+deep_place n ts e = let (front, t, rest, split, are, before, begin) = (rw e at (viable_unit 126 Begins fronts_begin unit_begins ts)).is in deep_by n ts e front t rest split are before begin

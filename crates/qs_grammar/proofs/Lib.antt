@@ -35,3 +35,4 @@ pub mod DeclarationsViable
 pub mod StatementsViable
 pub mod UnitsViable
 pub mod Exact
+pub mod BeginsExamples

@@ -11,9 +11,13 @@ use Rattle.qs_syntax.specs.declared.operators.AssignmentOperator.{AssignmentOper
 use Rattle.qs_syntax.specs.declared.operators.AssignmentOperator.TheVariants as assigns
 use Rattle.qs_syntax.specs.Trees.{ExprTree, StmtTree, UnitTree}
 use Rattle.qs_syntax.specs.Trees as trees
+use Rattle.qs_syntax.specs.Numbering.{numbered_unit}
+use Rattle.qs_types.specs.Limits.{IsWithinLimits}
+use Rattle.qs_types.specs.WellTyped.{WellTyped}
 use Rattle.qs_meaning.specs.Typed.{TypedProgram}
 use Rattle.qs_meaning.specs.Fits.{program_fits}
-use Rattle.qs_meaning.proofs.Samples.{e, number, natural, a, b, op, update, address, cast, call, one, local, s_base, struct_s, eval, return, block, when, parameter, defined, main_, valued}
+use Rattle.qs_meaning.specs.FitLaws.{IsAsRead}
+use Rattle.qs_meaning.proofs.Samples.{e, number, natural, named, a, b, at, op, update, address, cast, call, one, many, global, local, s_base, struct_s, eval, return, block, when, parameter, defined, main_, valued, listed, numbers}
 use Rattle.qs_meaning.proofs.Outcomes.{typed_program}
 
 -- ---- how many units break no rule, and whether the trees of these fit
@@ -254,3 +258,31 @@ initialisers :
     tried (with_two (λ t u. (struct_s ∷ main_ (local u.base u.stars 98 one None ∷ local t.base t.stars 97 one (Some (valued b)) ∷ []) ∷ []) ∷ []))
     ≡ fit 12
 initialisers = refl
+
+-- ---- a unit of which the laws on typed units speak
+
+-- struct s {char m; int n;}; int g=5; char t[2]={1,2}; int f(int a){return a;} int main(void){int b[2]={1,2};struct s *p;if(f(b[0])){} return g;}
+abbrev unit : UnitTree
+unit = numbered_unit (
+    struct_s
+    ∷ global bases.Int 0 103 one (Some (valued (number 5)))
+    ∷ global bases.Char 0 116 (many 2) (Some (listed (numbers (1 ∷ 2 ∷ []))))
+    ∷ defined bases.Int 0 (102 ∷ []) (parameter bases.Int 0 97 ∷ []) (return a ∷ [])
+    ∷ main_ (
+    local bases.Int 0 98 (many 2) (Some (listed (numbers (1 ∷ 2 ∷ []))))
+    ∷ local s_base 1 112 one None
+    ∷ used (call 102 (at b (number 0) ∷ []))
+    ∷ return (named 103)
+    ∷ []
+    )
+    ∷ []
+    )
+
+is_as_read : IsAsRead unit
+is_as_read = record { numbers = refl; constants = refl; lists = refl }
+
+is_well_typed : WellTyped unit
+is_well_typed = record { keeps_rules = refl; main_has_body = refl; calls_have_bodies = refl }
+
+is_within_limits : IsWithinLimits unit
+is_within_limits = record { nodes = refl; functions = refl; parameters = refl; globals = refl; locals = refl }

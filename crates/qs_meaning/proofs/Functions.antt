@@ -199,7 +199,7 @@ first_typed c l e = go l.is_open l.given e
     go false [] e = refl
     go false (x ∷ es) e = left _ _ e
 
-parameter_type_known : (c : Context) (p : ParameterTree) → all_typed c p.lengths.given ≡ true → breaks_one (parameter_declared c p).tests ≡ false → Known
+pub parameter_type_known : (c : Context) (p : ParameterTree) → all_typed c p.lengths.given ≡ true → breaks_one (parameter_declared c p).tests ≡ false → Known
     (parameter_declared c p).type
 parameter_type_known c p e h =
     go (is_array_parameter p.lengths) (all_typed c (element_lengths p.lengths)) (is_length_typed c (first_length p.lengths)) (elements_typed c p.lengths e)
@@ -228,7 +228,7 @@ first_scalar t b e = go (is_scalar t) e
     go true e = refl
     go false e = never (sym e)
 
-tests_in : (b : Bool) (ts : List Test) → b ≡ true → breaks_one (if b then ts else []) ≡ false → breaks_one ts ≡ false
+pub tests_in : (b : Bool) (ts : List Test) → b ≡ true → breaks_one (if b then ts else []) ≡ false → breaks_one ts ≡ false
 tests_in true ts e h = h
 tests_in false ts e h = never e
 
@@ -236,7 +236,7 @@ module _ (s₀ : Scope) (declared_nodes : List ℕ) where
   abbrev placed : List ℕ
   placed = s₀.locals.placed
 
-  with_parameter_sound : (c : Context) → Sound (within s₀ c) declared_nodes → (p : ParameterTree) (o : Option TypeTree) → is_scalar_type o ≡ true
+  pub with_parameter_sound : (c : Context) → Sound (within s₀ c) declared_nodes → (p : ParameterTree) (o : Option TypeTree) → is_scalar_type o ≡ true
       → is_one_of p.node.id declared_nodes ≡ true
       → (x : Option (List ℕ)) → Sound (within s₀ (with_parameter c p o x)) declared_nodes
   with_parameter_sound c h p o e d None = h
@@ -247,10 +247,10 @@ module _ (s₀ : Scope) (declared_nodes : List ℕ) where
     members = h.members;
   }
 
-  abbrev are_declared : List ParameterTree → Bool
+  abbrev pub are_declared : List ParameterTree → Bool
   are_declared ps = list_all (λ (p : ParameterTree). is_one_of p.node.id declared_nodes) ps
 
-  parameter_scalar : (has_body : Bool) (c : Context) → Sound (within s₀ c) declared_nodes → (p : ParameterTree)
+  pub parameter_scalar : (has_body : Bool) (c : Context) → Sound (within s₀ c) declared_nodes → (p : ParameterTree)
       → (faults_of p.node.id (parameter_tests c has_body p) ++ lengths_faults c p.lengths.given) ≡ [] → is_scalar_type (parameter_declared c p).type ≡ true
   parameter_scalar has_body c h p f =
       let lengths = lengths_typed c (has_types (within s₀ c) declared_nodes h) p.lengths.given (none_right (faults_of p.node.id (parameter_tests c has_body p)) _ f) in

@@ -58,7 +58,7 @@ or_right true y e = refl
 or_right false y e = e
 
 -- a node that is among others has a place among them
-placed_below : (node : ℕ) (nodes : List ℕ) → is_one_of node nodes ≡ true → place_among node nodes < length nodes
+pub placed_below : (node : ℕ) (nodes : List ℕ) → is_one_of node nodes ≡ true → place_among node nodes < length nodes
 placed_below node [] e = never e
 placed_below node (n ∷ nodes) e = go (n == node) (λ f. placed_below node nodes f) e
   where
@@ -67,10 +67,10 @@ placed_below node (n ∷ nodes) e = go (n == node) (λ f. placed_below node node
     go true later e = omega arith
     go false later e = let l = later e in omega arith
 
-abbrev nodes_of : List TextBlock → List ℕ
+abbrev pub nodes_of : List TextBlock → List ℕ
 nodes_of ts = map (λ (t : TextBlock). t.node) ts
 
-in_front : (n : ℕ) (ts us : List TextBlock) → is_one_of n (nodes_of ts) ≡ true → is_one_of n (nodes_of (ts ++ us)) ≡ true
+pub in_front : (n : ℕ) (ts us : List TextBlock) → is_one_of n (nodes_of ts) ≡ true → is_one_of n (nodes_of (ts ++ us)) ≡ true
 in_front n [] us e = never e
 in_front n (t ∷ ts) us e = go (t.node == n) (in_front n ts us) e
   where
@@ -79,7 +79,7 @@ in_front n (t ∷ ts) us e = go (t.node == n) (in_front n ts us) e
     go true later e = refl
     go false later e = later e
 
-behind : (n : ℕ) (ts us : List TextBlock) → is_one_of n (nodes_of us) ≡ true → is_one_of n (nodes_of (ts ++ us)) ≡ true
+pub behind : (n : ℕ) (ts us : List TextBlock) → is_one_of n (nodes_of us) ≡ true → is_one_of n (nodes_of (ts ++ us)) ≡ true
 behind n [] us e = e
 behind n (t ∷ ts) us e = or_right (t.node == n) _ (behind n ts us e)
 
@@ -230,7 +230,7 @@ variables_count s (v ∷ vs) base bs h =
     let b = followed (file_variables_typed (within s (after_variable true s.context base v)) base vs) _ bs a.then in
     subst (λ z. length z ≡ suc (length vs)) (some_same (a.value ∷ b.value) bs b.then) (ap suc (variables_count (within s (after_variable true s.context base v)) vs base b.value b.first))
 
-declarations_count : (s : Scope) (ds : UnitTree) (u : TypedProgram) → declarations_typed s ds ≡ Some u → length u.blocks ≡ length (file_variables_in ds)
+pub declarations_count : (s : Scope) (ds : UnitTree) (u : TypedProgram) → declarations_typed s ds ≡ Some u → length u.blocks ≡ length (file_variables_in ds)
 declarations_count s [] u h = subst (λ (z : TypedProgram). length z.blocks ≡ 0) (some_same _ u h) refl
 declarations_count s (d ∷ ds) u h =
     let a = followed (declaration_typed s d) _ u h in

@@ -1,4 +1,4 @@
-mod Samples
+pub mod Samples
 mod Known
 mod ExpressionTreeExamples
 mod InitialiserExamples
@@ -7,22 +7,43 @@ mod UndefinedExamples
 mod RunExamples
 mod Related
 mod Growth
-mod Options
+pub mod Options
 mod CompleteTypes
 mod TypedExpressions
-mod Faultless
-mod Bindings
+pub mod Faultless
+pub mod Bindings
 mod ValueExamples
 mod UnitExamples
 mod Initialising
-mod Bodies
-mod Functions
-mod FunctionsTyped
-mod FileVariables
-mod StructTables
-mod UnitsTyped
-mod InitialMemory
+pub mod Bodies
+pub mod Functions
+pub mod FunctionsTyped
+pub mod FileVariables
+pub mod StructTables
+pub mod UnitsTyped
+pub mod InitialMemory
 mod TypedValues
 mod RangeLaws
 mod StepNeeds
 mod FitExamples
+mod FitConversions
+mod FitForms
+mod FitTypes
+mod FitLeaves
+mod FitSmall
+mod FitExpressions
+mod FitLayouts
+mod FitInitialisers
+mod FitDeclared
+mod FitStatements
+mod FitLocals
+mod FitFunctions
+mod FitBodies
+mod FitTables
+mod FitSignatures
+mod FitSites
+pub mod FitUnits
+mod Shapes
+mod FitData
+pub mod FitBlocks
+pub mod FitReadings

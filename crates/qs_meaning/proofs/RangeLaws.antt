@@ -284,7 +284,7 @@ module _ (R : Relation) (keeps : Keeps R) (shorts : R short short) (i : Interfac
       effect_in_range (copy size alignment a b) fit start k j h v w is =
           let two = both_hold (expr_fits i g a && is_pointer (type_of a)) _ fit in
           let one = both_hold (expr_fits i g a) _ two.0 in
-          let other = both_hold (expr_fits i g b) _ two.1 in
+          let other = both_hold (expr_fits i g b) _ (both_hold (expr_fits i g b && is_pointer (type_of b)) _ two.1).0 in
           expression_in_range a one.0 start _ _ (λ x v w is of. expression_in_range b other.0 start _ _ (λ y v w is of.
           given_in_range (as_pointer x >>= λ to. as_pointer y >>= λ from. blocks.copy size alignment w.memory to from) _ _ (λ n e.
           let to = followed (as_pointer x) _ n e in
@@ -466,7 +466,7 @@ module _ (R : Relation) (keeps : Keeps R) (shorts : R short short) (i : Interfac
         blocks = omega (arith, count);
       })
       (λ v x passed.
-      statements_in_range m _ _ (calls_in_range fs same all m depth) g first false g.body body.1 w.memory _ _
+      statements_in_range m _ _ (calls_in_range fs same all m depth) g first false g.body (both_hold (stmts_fit i g false g.body) _ body.1).0 w.memory _ _
       (record {
         behind = λ v x moment. keeps.emit _ _ _ (returns (result_at_end g.is_main) _ (returned_later g.result w.memory first (result_at_end g.is_main) x
             (record { typed = end_is_of x.memory g.is_main g.result body.0; ready = moment.range.ready; after = moment.after })));

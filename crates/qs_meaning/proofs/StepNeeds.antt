@@ -29,7 +29,7 @@ use Rattle.qs_memory.proofs.PointerLaws.{pointers_are_defined}
 use Rattle.qs_calls.specs.Starts.{IsOf}
 use Rattle.qs_meaning.specs.Typed.{Conversion, unchanged, converted}
 use Rattle.qs_meaning.specs.Conversions.{same_scalar}
-use Rattle.qs_meaning.specs.Fits.{is_pointer, conversion_fits, takes_operand, takes_second, takes_operands}
+use Rattle.qs_meaning.specs.Fits.{is_pointer, conversion_fits, takes_operand, is_promoted, takes_second, takes_operands}
 use Rattle.qs_meaning.specs.States.{convert_by}
 use Rattle.qs_meaning.specs.StepLaws.{calculates, IsTested, AreCompared, AreSubtracted, MovesTo, UnaryNeeds, BinaryNeeds, StepsOnTypesAreDefined}
 use Rattle.qs_meaning.proofs.TypedValues.{both_hold, scalar_same}
@@ -219,14 +219,20 @@ comparison_defined op m p q =
 
 -- ---- operands of the types that an operation takes
 
+promoted_no_pointer : (t : Scalar) → is_promoted t ≡ true → is_pointer t ≡ false
+promoted_no_pointer scalars.Char h = cc
+promoted_no_pointer scalars.Int h = refl
+promoted_no_pointer scalars.Unsigned h = refl
+promoted_no_pointer scalars.Pointer h = cc
+
 second_no_address : (op : Arithmetic) (m : Memory) (s : Signedness) (t : Scalar) (p : Pointer) → takes_second op (integer_type s) t ≡ true → has_type t (address p) ≡ true → false ≡ true
 second_no_address arithmetics.Add m s t p fit h = no_address m t (integer_type s) p (word_is_integer s) fit h
 second_no_address arithmetics.Subtract m s t p fit h = no_address m t (integer_type s) p (word_is_integer s) fit h
 second_no_address arithmetics.Multiply m s t p fit h = no_address m t (integer_type s) p (word_is_integer s) fit h
 second_no_address arithmetics.Divide m s t p fit h = no_address m t (integer_type s) p (word_is_integer s) fit h
 second_no_address arithmetics.Remainder m s t p fit h = no_address m t (integer_type s) p (word_is_integer s) fit h
-second_no_address arithmetics.ShiftLeft m s t p fit h = is_integer_at m t p (not_pointer (is_pointer t) fit) h
-second_no_address arithmetics.ShiftRight m s t p fit h = is_integer_at m t p (not_pointer (is_pointer t) fit) h
+second_no_address arithmetics.ShiftLeft m s t p fit h = is_integer_at m t p (promoted_no_pointer t fit) h
+second_no_address arithmetics.ShiftRight m s t p fit h = is_integer_at m t p (promoted_no_pointer t fit) h
 second_no_address arithmetics.And m s t p fit h = no_address m t (integer_type s) p (word_is_integer s) fit h
 second_no_address arithmetics.Or m s t p fit h = no_address m t (integer_type s) p (word_is_integer s) fit h
 second_no_address arithmetics.Xor m s t p fit h = no_address m t (integer_type s) p (word_is_integer s) fit h
@@ -244,12 +250,13 @@ binary_defined (binaries.Compare op n) s t m (integer x) (address q) fit of og =
 binary_defined (binaries.Compare op n) s t m (address p) y fit of og =
     let e = no_address m s (integer_type n) p (word_is_integer n) (both_hold (same_scalar s (integer_type n)) _ fit).0 of.typed in cc
 binary_defined (binaries.Move direction n element) s t m (integer x) y fit of og =
-    let e = no_integer s x (both_hold (is_pointer s) _ fit).0 of.typed in cc
+    let e = no_integer s x (both_hold (is_pointer s) _ (both_hold (is_pointer s && same_scalar t (integer_type n)) _ fit).0).0 of.typed in cc
 binary_defined (binaries.Move direction n element) s t m (address p) (integer y) fit of og = move_defined m p (directed direction (reading n y *ℤ pos element))
 binary_defined (binaries.Move direction n element) s t m (address p) (address q) fit of og =
-    let e = no_address m t (integer_type n) q (word_is_integer n) (both_hold (is_pointer s) _ fit).1 og.typed in cc
-binary_defined (binaries.Difference element) s t m (integer x) y fit of og = let e = no_integer s x (both_hold (is_pointer s) _ fit).0 of.typed in cc
-binary_defined (binaries.Difference element) s t m (address p) (integer y) fit of og = let e = no_integer t y (both_hold (is_pointer s) _ fit).1 og.typed in cc
+    let e = no_address m t (integer_type n) q (word_is_integer n) (both_hold (is_pointer s) _ (both_hold (is_pointer s && same_scalar t (integer_type n)) _ fit).0).1 og.typed in cc
+binary_defined (binaries.Difference element) s t m (integer x) y fit of og = let e = no_integer s x (both_hold (is_pointer s) _ (both_hold (is_pointer s && is_pointer t) _ fit).0).0 of.typed in cc
+binary_defined (binaries.Difference element) s t m (address p) (integer y) fit of og =
+    let e = no_integer t y (both_hold (is_pointer s) _ (both_hold (is_pointer s && is_pointer t) _ fit).0).1 og.typed in cc
 binary_defined (binaries.Difference element) s t m (address p) (address q) fit of og = difference_defined element m p q
 binary_defined (binaries.ComparePointers op) s t m (integer x) y fit of og = let e = no_integer s x (both_hold (is_pointer s) _ fit).0 of.typed in cc
 binary_defined (binaries.ComparePointers op) s t m (address p) (integer y) fit of og = let e = no_integer t y (both_hold (is_pointer s) _ fit).1 og.typed in cc

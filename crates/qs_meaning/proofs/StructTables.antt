@@ -18,10 +18,10 @@ pub record GoesOn (structs more : Structs) : Type 0 where
   pub keeps : (k : ℕ) (ms : List MemberTree) → struct_of structs k ≡ Some ms → struct_of more k ≡ Some ms
   pub count : defined_structs structs ≤ defined_structs more
 
-abbrev Grown : Layouts → Layouts → Type 0
+abbrev pub Grown : Layouts → Layouts → Type 0
 Grown layouts more = (k : ℕ) (l : StructLayout) → layouts k ≡ Some l → more k ≡ Some l
 
-extent_grows : (layouts more : Layouts) → Grown layouts more → (t : TypeTree) (e : Extent) → extent_by layouts t ≡ Some e → extent_by more t ≡ Some e
+pub extent_grows : (layouts more : Layouts) → Grown layouts more → (t : TypeTree) (e : Extent) → extent_by layouts t ≡ Some e → extent_by more t ≡ Some e
 extent_grows layouts more g int e h = h
 extent_grows layouts more g unsigned e h = h
 extent_grows layouts more g char e h = h
@@ -34,7 +34,7 @@ extent_grows layouts more g (struct k) e h =
     let w = went (layouts k) (λ (l : StructLayout). Some (struct_extent l)) e h in
     ap (λ o. and_then o (λ (l : StructLayout). Some (struct_extent l))) (g k w.value w.had) ∙ w.gave
 
-extents_grow : (layouts more : Layouts) → Grown layouts more → (ts : List TypeTree) (es : List Extent) → extents_by layouts ts ≡ Some es → extents_by more ts ≡ Some es
+pub extents_grow : (layouts more : Layouts) → Grown layouts more → (ts : List TypeTree) (es : List Extent) → extents_by layouts ts ≡ Some es → extents_by more ts ≡ Some es
 extents_grow layouts more g [] es h = h
 extents_grow layouts more g (t ∷ ts) es h =
     let w = went (extent_by layouts t) (λ e. and_then (extents_by layouts ts) (λ es. Some (e ∷ es))) es h in
@@ -42,7 +42,7 @@ extents_grow layouts more g (t ∷ ts) es h =
     ap (λ o. and_then o (λ e. and_then (extents_by more ts) (λ es. Some (e ∷ es)))) (extent_grows layouts more g t w.value w.had)
     ∙ ap (λ o. and_then o (λ es. Some (w.value ∷ es))) (extents_grow layouts more g ts v.value v.had) ∙ v.gave
 
-layouts_grow : (structs more : Structs) → GoesOn structs more → (d e : ℕ) → d ≤ e → Grown (layouts_within d structs) (layouts_within e more)
+pub layouts_grow : (structs more : Structs) → GoesOn structs more → (d e : ℕ) → d ≤ e → Grown (layouts_within d structs) (layouts_within e more)
 layouts_grow structs more g zero e le k l h = nothing l h
 layouts_grow structs more g (suc d) zero le k l h = absurd (omega arith)
 layouts_grow structs more g (suc d) (suc e) le k l h =
@@ -53,13 +53,13 @@ layouts_grow structs more g (suc d) (suc e) le k l h =
     (member_types w.value) v.value v.had)
     ∙ v.gave
 
-layout_grows : (structs more : Structs) → GoesOn structs more → Grown (layout_of structs) (layout_of more)
+pub layout_grows : (structs more : Structs) → GoesOn structs more → Grown (layout_of structs) (layout_of more)
 layout_grows structs more g = layouts_grow structs more g (defined_structs structs) (defined_structs more) g.count
 
-some_grows : {A : Type 0} (o p : Option A) → ((x : A) → o ≡ Some x → p ≡ Some x) → is_some o ≡ true → is_some p ≡ true
+pub some_grows : {A : Type 0} (o p : Option A) → ((x : A) → o ≡ Some x → p ≡ Some x) → is_some o ≡ true → is_some p ≡ true
 some_grows o p g e = let k = known o e in ap is_some (g k.value k.is)
 
-complete_grows : (structs more : Structs) → GoesOn structs more → (t : TypeTree) → is_complete structs t ≡ true → is_complete more t ≡ true
+pub complete_grows : (structs more : Structs) → GoesOn structs more → (t : TypeTree) → is_complete structs t ≡ true → is_complete more t ≡ true
 complete_grows structs more g t e =
     some_grows (extent_by (layout_of structs) t) (extent_by (layout_of more) t) (extent_grows (layout_of structs) (layout_of more) (layout_grows structs more g) t) e
 
@@ -86,12 +86,12 @@ names_grow structs more g (b ∷ bs) h = (entity_grows structs more g b.entity h
 
 -- ---- a tag that is new
 
-appended_keeps : (structs : Structs) (k : ℕ) (ms : List MemberTree) → struct_of structs k ≡ Some ms → struct_of (structs ++ None ∷ []) k ≡ Some ms
+pub appended_keeps : (structs : Structs) (k : ℕ) (ms : List MemberTree) → struct_of structs k ≡ Some ms → struct_of (structs ++ None ∷ []) k ≡ Some ms
 appended_keeps [] k ms e = nothing ms e
 appended_keeps (x ∷ xs) zero ms e = e
 appended_keeps (x ∷ xs) (suc k) ms e = appended_keeps xs k ms e
 
-appended_back : (structs : Structs) (k : ℕ) (ms : List MemberTree) → struct_of (structs ++ None ∷ []) k ≡ Some ms → struct_of structs k ≡ Some ms
+pub appended_back : (structs : Structs) (k : ℕ) (ms : List MemberTree) → struct_of (structs ++ None ∷ []) k ≡ Some ms → struct_of structs k ≡ Some ms
 appended_back [] zero ms e = nothing ms e
 appended_back [] (suc k) ms e = nothing ms e
 appended_back (x ∷ xs) zero ms e = e
@@ -102,7 +102,7 @@ appended_count [] = refl
 appended_count (None ∷ xs) = appended_count xs
 appended_count (Some ms ∷ xs) = ap suc (appended_count xs)
 
-appended_goes_on : (structs : Structs) → GoesOn structs (structs ++ None ∷ [])
+pub appended_goes_on : (structs : Structs) → GoesOn structs (structs ++ None ∷ [])
 appended_goes_on structs = record { keeps = appended_keeps structs; count = let e = appended_count structs in omega arith }
 
 appended_scope : (c : Context) (tag : List ℕ) → IsFileScope c → IsFileScope (record c { structs = c.structs ++ None ∷ []; tags = c.tags ++ tag ∷ [] })
@@ -125,7 +125,7 @@ with_tag_known c tag h = go (is_some (tag_place c tag))
 
 -- ---- a struct that gets members
 
-set_keeps : (structs : Structs) (k : ℕ) (new : List MemberTree) → struct_of structs k ≡ None → (j : ℕ) (ms : List MemberTree) → struct_of structs j ≡ Some ms → struct_of
+pub set_keeps : (structs : Structs) (k : ℕ) (new : List MemberTree) → struct_of structs k ≡ None → (j : ℕ) (ms : List MemberTree) → struct_of structs j ≡ Some ms → struct_of
     (slice_set structs k (Some new)) j ≡ Some ms
 set_keeps [] k new n j ms e = nothing ms e
 set_keeps (x ∷ xs) zero new n zero ms e = nothing ms (sym n ∙ e)
@@ -134,9 +134,9 @@ set_keeps (x ∷ xs) (suc k) new n zero ms e = e
 set_keeps (x ∷ xs) (suc k) new n (suc j) ms e = set_keeps xs k new n j ms e
 
 -- what has members then had them, or is the struct that got them
-record IsNew (structs : Structs) (k : ℕ) (new ms : List MemberTree) : Type 0 where
-  is : new ≡ ms
-  count : defined_structs (slice_set structs k (Some new)) ≡ suc (defined_structs structs)
+pub record IsNew (structs : Structs) (k : ℕ) (new ms : List MemberTree) : Type 0 where
+  pub is : new ≡ ms
+  pub count : defined_structs (slice_set structs k (Some new)) ≡ suc (defined_structs structs)
 
 first_count : (x : types.StructTree) (xs : Structs) (new : List MemberTree) → x ≡ None → defined_structs (Some new ∷ xs) ≡ suc (defined_structs (x ∷ xs))
 first_count None xs new n = refl
@@ -146,7 +146,7 @@ later_count : (x : types.StructTree) (xs ys : Structs) → defined_structs ys �
 later_count None xs ys e = e
 later_count (Some ms) xs ys e = ap suc e
 
-set_back : (structs : Structs) (k : ℕ) (new : List MemberTree) → struct_of structs k ≡ None → (j : ℕ) (ms : List MemberTree) → struct_of
+pub set_back : (structs : Structs) (k : ℕ) (new : List MemberTree) → struct_of structs k ≡ None → (j : ℕ) (ms : List MemberTree) → struct_of
     (slice_set structs k (Some new)) j ≡ Some ms
     → (struct_of structs j ≡ Some ms) ⊎ IsNew structs k new ms
 set_back [] k new n j ms e = nothing ms e
@@ -163,7 +163,7 @@ count_both : (x : types.StructTree) (xs ys : Structs) → defined_structs xs ≤
 count_both None xs ys e = e
 count_both (Some ms) xs ys e = let f = e in omega arith
 
-set_count : (structs : Structs) (k : ℕ) (new : List MemberTree) → struct_of structs k ≡ None → defined_structs structs ≤ defined_structs (slice_set structs k (Some new))
+pub set_count : (structs : Structs) (k : ℕ) (new : List MemberTree) → struct_of structs k ≡ None → defined_structs structs ≤ defined_structs (slice_set structs k (Some new))
 set_count [] k new n = omega arith
 set_count (x ∷ xs) zero new n = let e = first_count x xs new n in omega arith
 set_count (x ∷ xs) (suc k) new n = count_both x xs (slice_set xs k (Some new)) (set_count xs k new n)

@@ -36,19 +36,19 @@ use Rattle.qs_meaning.proofs.CompleteTypes.{struct_is_large, same_is_struct, sum
 
 -- ---- tests that aren't broken
 
-kept : (b : Bool) → (not b || false) ≡ false → b ≡ true
+pub kept : (b : Bool) → (not b || false) ≡ false → b ≡ true
 kept true e = refl
 kept false e = never (sym e)
 
-unbroken_left : (x y : Bool) → (x || y) ≡ false → x ≡ false
+pub unbroken_left : (x y : Bool) → (x || y) ≡ false → x ≡ false
 unbroken_left true y e = never (sym e)
 unbroken_left false y e = refl
 
-unbroken_right : (x y : Bool) → (x || y) ≡ false → y ≡ false
+pub unbroken_right : (x y : Bool) → (x || y) ≡ false → y ≡ false
 unbroken_right true y e = never (sym e)
 unbroken_right false y e = e
 
-not_true : (b : Bool) → not b ≡ false → b ≡ true
+pub not_true : (b : Bool) → not b ≡ false → b ≡ true
 not_true true e = refl
 not_true false e = never (sym e)
 

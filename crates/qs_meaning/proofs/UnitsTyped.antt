@@ -1,12 +1,12 @@
 -- A well typed unit has a typed tree.
-use Rattle.std.proofs.Common.{◌≡◌, true, List, [], ◌∷◌, ◌++◌, Option, is_some, refl}
+use Rattle.std.proofs.Common.{◌≡◌, true, false, List, [], ◌∷◌, ◌++◌, Option, is_some, refl}
 use Rattle.qs_syntax.specs.Trees.{FunctionTree, DeclTree, structure, forward, function, variables, UnitTree}
 use Rattle.qs_types.specs.Types.{TypeTree}
 use Rattle.qs_types.specs.declared.rules.Rule.TheVariants as rules
-use Rattle.qs_types.specs.Rules.{keeps, faults_of}
+use Rattle.qs_types.specs.Rules.{keeps, breaks_one, faults_of}
 use Rattle.qs_types.specs.Contexts.{Context, start_context, inner_scope}
 use Rattle.qs_types.specs.Placed.{Local, parameters_locals}
-use Rattle.qs_types.specs.UnitRules.{parameter_types, result_type, header_of, may_declare, result_tests, main_tests, header_tests, parameters_faults, body_faults, function_faults, after_function, after_declaration, declaration_faults, declarations_faults}
+use Rattle.qs_types.specs.UnitRules.{parameter_types, result_type, header_of, signature_by, may_declare, result_tests, main_tests, header_tests, parameters_faults, body_faults, function_faults, after_function, after_declaration, declaration_faults, declarations_faults}
 use Rattle.qs_meaning.specs.Names.{Scope, within}
 use Rattle.qs_meaning.specs.Units.{nodes_of, placed_among, function_typed, file_variables_typed, declaration_typed, declarations_typed, start_scope}
 use Rattle.qs_meaning.specs.TypedLaws.{IsFileScope, UnitsTyped}
@@ -19,42 +19,46 @@ use Rattle.qs_meaning.proofs.StructTables.{with_tag_known, after_struct_known}
 
 -- ---- behind declarations
 
--- the header of a function that breaks no rule
-after_function_known : (s : Scope) (c : Context) (f : FunctionTree) → IsFileScope c → function_faults c f ≡ [] → IsFileScope (after_function c f)
-after_function_known s c f h faultless = after_function_scope c f h (signature_known c f scalar result)
-  where
-    types : List (Option TypeTree)
-    types = parameter_types (inner_scope c) f.parameters
+-- what the header of a function that breaks no rule gives
+module _ (s : Scope) (c : Context) (f : FunctionTree) (h : IsFileScope c) (faultless : function_faults c f ≡ []) where
+  abbrev types : List (Option TypeTree)
+  types = parameter_types (inner_scope c) f.parameters
 
-    ls : List Local
-    ls = parameters_locals f.parameters types
+  abbrev ls : List Local
+  ls = parameters_locals f.parameters types
 
-    s₀ : Scope
-    s₀ = record s { locals = record { variables = []; placed = nodes_of (placed_among [] ls) } }
+  abbrev s₀ : Scope
+  s₀ = record s { locals = record { variables = []; placed = nodes_of (placed_among [] ls) } }
 
-    parts : (parameters_faults (inner_scope c) (is_some f.body) f.parameters ++ body_faults c f f.body) ≡ []
-    parts = none_right (faults_of f.node.id (header_tests c f)) _ faultless
+  pub header_parts : (parameters_faults (inner_scope c) (is_some f.body) f.parameters ++ body_faults c f f.body) ≡ []
+  header_parts = none_right (faults_of f.node.id (header_tests c f)) _ faultless
 
-    result : Known (result_type c f)
-    result = result_known c f (first_unbroken (result_tests c f) (main_tests f (header_of c f))
-        (second_unbroken (keeps rules.DeclaredTwice (may_declare c f)) (result_tests c f ++ main_tests f (header_of c f))
-        (unbroken f.node.id (header_tests c f) (none_left (faults_of f.node.id (header_tests c f)) _ faultless))))
+  pub header_unbroken : breaks_one (header_tests c f) ≡ false
+  header_unbroken = unbroken f.node.id (header_tests c f) (none_left (faults_of f.node.id (header_tests c f)) _ faultless)
 
-    inner : IsFileScope (inner_scope c)
-    inner = record { names = h.names; members = h.members; laid_out = h.laid_out }
+  pub header_result : Known (result_type c f)
+  header_result = result_known c f (first_unbroken (result_tests c f) (main_tests f (header_of c f))
+      (second_unbroken (keeps rules.DeclaredTwice (may_declare c f)) (result_tests c f ++ main_tests f (header_of c f)) header_unbroken))
 
-    scalar : all_scalar (parameter_types (inner_scope c) f.parameters) ≡ true
-    scalar = parameters_scalar s₀ (nodes_of ls) (is_some f.body) f.parameters (inner_scope c) (file_sound s₀ (inner_scope c) (nodes_of ls) inner)
-        (parameters_declared (nodes_of ls) (nodes_of (placed_among [] ls)) f.parameters (inner_scope c) (all_fine [] ls)) (none_left _ _ parts)
+  pub header_scalar : all_scalar (parameter_types (inner_scope c) f.parameters) ≡ true
+  header_scalar = parameters_scalar s₀ (nodes_of ls) (is_some f.body) f.parameters (inner_scope c)
+      (file_sound s₀ (inner_scope c) (nodes_of ls) (record { names = h.names; members = h.members; laid_out = h.laid_out }))
+      (parameters_declared (nodes_of ls) (nodes_of (placed_among [] ls)) f.parameters (inner_scope c) (all_fine [] ls)) (none_left _ _ header_parts)
+
+  pub header_signature : Known (signature_by (header_of c f))
+  header_signature = signature_known c f header_scalar header_result
+
+pub after_function_known : (s : Scope) (c : Context) (f : FunctionTree) → IsFileScope c → function_faults c f ≡ [] → IsFileScope (after_function c f)
+after_function_known s c f h faultless = after_function_scope c f h (header_signature s c f h faultless)
 
 -- ---- units
 
 module _ (s₀ : Scope) where
-  record Declared (c : Context) (d : DeclTree) : Type 0 where
-    tree : Known (declaration_typed (within s₀ c) d)
-    scope : IsFileScope (after_declaration c d)
+  pub record Declared (c : Context) (d : DeclTree) : Type 0 where
+    pub tree : Known (declaration_typed (within s₀ c) d)
+    pub scope : IsFileScope (after_declaration c d)
 
-  declaration_known : (d : DeclTree) (c : Context) → IsFileScope c → declaration_faults c d ≡ [] → Declared c d
+  pub declaration_known : (d : DeclTree) (c : Context) → IsFileScope c → declaration_faults c d ≡ [] → Declared c d
   declaration_known (structure s) c h f = record { tree = record { value = _; is = refl }; scope = after_struct_known c s h }
   declaration_known (forward g) c h f = record { tree = record { value = _; is = refl }; scope = with_tag_known c g.name h }
   declaration_known (function g) c h f =
@@ -80,7 +84,7 @@ module _ (s₀ : Scope) where
       (declarations_known ds (after_declaration c d) now.scope (none_right (declaration_faults c d) (declarations_faults (after_declaration c d) ds) f))
       (record { value = _; is = refl }))
 
-start_known : IsFileScope start_context
+pub start_known : IsFileScope start_context
 start_known = record { names = (tt, (tt, tt)); members = λ k ms e. nothing ms e; laid_out = λ k ms e. nothing ms e }
 
 pub units_typed : UnitsTyped

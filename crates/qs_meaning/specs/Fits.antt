@@ -1,6 +1,6 @@
 -- When a typed tree fits: each conversion, operation, write, call and return stands over values of the types that it takes, and what is
 -- numbered is there.
-use Rattle.std.specs.Prelude.{ℕ, ◌+◌, ◌==◌, ◌&&◌, ◌||◌, not, nat_lt, Bool, true, false, List, [], ◌∷◌, length, Option, Some, None, is_some}
+use Rattle.std.specs.Prelude.{ℕ, ◌+◌, ◌==◌, ◌&&◌, ◌||◌, not, nat_lt, nat_le, Bool, true, false, List, [], ◌∷◌, length, Option, Some, None, is_some}
 use Rattle.std.specs.List.{slice_get, list_all}
 use Rattle.qs_memory.specs.declared.scalar.Scalar.{Scalar}
 use Rattle.qs_memory.specs.declared.scalar.Scalar.TheVariants as scalars
@@ -75,17 +75,29 @@ takes_operand (unaries.Complement s) t = same_scalar t (integer_type s)
 takes_operand unaries.Not t = true
 takes_operand unaries.Truth t = true
 
+-- 6.3.1.1p2: what an integer is promoted to
+abbrev pub is_promoted : Scalar → Bool
+is_promoted s = same_scalar s scalars.Int || same_scalar s scalars.Unsigned
+
 -- 6.5.7p3: the count of a shift has a type of its own
 abbrev pub takes_second : Arithmetic → (first second : Scalar) → Bool
-takes_second arithmetics.ShiftLeft s t = not (is_pointer t)
-takes_second arithmetics.ShiftRight s t = not (is_pointer t)
+takes_second arithmetics.ShiftLeft s t = is_promoted t
+takes_second arithmetics.ShiftRight s t = is_promoted t
 takes_second _ s t = same_scalar t s
+
+-- no type is larger, in bytes
+abbrev pub largest_size : ℕ
+largest_size = 16777216
+
+-- 6.5.6p2: the size of the elements among which a pointer moves
+abbrev pub is_element : (size : ℕ) → Bool
+is_element size = nat_le 1 size && nat_le size largest_size
 
 abbrev pub takes_operands : BinaryOperation → (left right : Scalar) → Bool
 takes_operands (operations.Arithmetic op s) t u = same_scalar t (integer_type s) && takes_second op (integer_type s) u
 takes_operands (operations.Compare op s) t u = same_scalar t (integer_type s) && same_scalar u (integer_type s)
-takes_operands (operations.Move direction s element) t u = is_pointer t && same_scalar u (integer_type s)
-takes_operands (operations.Difference element) t u = is_pointer t && is_pointer u
+takes_operands (operations.Move direction s element) t u = is_pointer t && same_scalar u (integer_type s) && is_element element
+takes_operands (operations.Difference element) t u = is_pointer t && is_pointer u && is_element element
 takes_operands (operations.ComparePointers op) t u = is_pointer t && is_pointer u
 
 -- 6.5.2.4p2: the amount 1 of a step, which is a value of each integer type
@@ -133,7 +145,7 @@ abbrev mutual
   expr_fits i g (constant s n) = has_type s (integer n)
   expr_fits i g (value s l) = lvalue_fits i g s l
   expr_fits i g (pointer_to o) = object_there i g o
-  expr_fits i g (member offset a) = expr_fits i g a && is_pointer (type_of a)
+  expr_fits i g (member offset a) = expr_fits i g a && (is_pointer (type_of a) && nat_le offset largest_size)
   expr_fits i g (called s f es) = arguments_fit i g (taken (signature_of i f)) es && result_fits (signature_of i f) s
   expr_fits i g (stepped_after s l operation left back) =
       lvalue_fits i g s l && (conversion_fits left s false && (takes_operands operation (type_after left s) (amount_type operation)
@@ -173,7 +185,8 @@ abbrev mutual
   effect_fits i g (discard a) = expr_fits i g a
   effect_fits i g (assign a) = assignment_fits i g a
   effect_fits i g (perform f es) = is_some (signature_of i f) && arguments_fit i g (taken (signature_of i f)) es
-  effect_fits i g (copy size alignment a b) = (expr_fits i g a && is_pointer (type_of a)) && (expr_fits i g b && is_pointer (type_of b))
+  effect_fits i g (copy size alignment a b) =
+      (expr_fits i g a && is_pointer (type_of a)) && ((expr_fits i g b && is_pointer (type_of b)) && (nat_le 1 alignment && nat_le size largest_size))
   effect_fits i g (fill blank a) = expr_fits i g a && is_whole_local g (length (blank_cells blank)) a
   effect_fits i g (in_order a b) = effect_fits i g a && effect_fits i g b
 
@@ -222,8 +235,11 @@ parameters_placed blocks i (p ∷ ps) (s ∷ vs) = place_fits blocks i s p && pa
 abbrev pub end_fits : Function → Bool
 end_fits g = not g.is_main || is_type g.result scalars.Int
 
+abbrev pub are_small : List ℕ → Bool
+are_small sizes = list_all (λ n. nat_le n largest_size) sizes
+
 abbrev pub function_fits : Interface → Function → Bool
-function_fits i g = parameters_placed g.blocks 0 g.parameters g.variables && (end_fits g && stmts_fit i g false g.body)
+function_fits i g = parameters_placed g.blocks 0 g.parameters g.variables && (end_fits g && (stmts_fit i g false g.body && are_small g.blocks))
 
 abbrev pub program_fits : TypedProgram → Bool
 program_fits u = list_all (function_fits (interface_of u)) u.functions

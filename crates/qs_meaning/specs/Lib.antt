@@ -17,5 +17,7 @@ pub mod TypedLaws
 pub mod InitialLaws
 pub mod Interfaces
 pub mod Fits
+pub mod FitLaws
+pub mod Whole
 pub mod Ranges
 pub mod StepLaws

@@ -1,10 +1,12 @@
 // The laws of the runs of a source. Each is the contract of an empty function.
+ghost use Rattle.qs_meaning.specs.FitLaws.{ReadIsAsRead, TypedUnitsFit};
 ghost use Rattle.qs_meaning.specs.InitialLaws.{InitialMemoryIsSound};
 ghost use Rattle.qs_meaning.specs.Laws.{CallsFollow, MainGrows, RunsGrow};
 ghost use Rattle.qs_meaning.specs.Ranges.{BodiesStayInRange, CallsStayInRange, ExpressionsHaveTypes};
 ghost use Rattle.qs_meaning.specs.Ranges.{InitialMemoryIsReady, RunsLeaveSound};
 ghost use Rattle.qs_meaning.specs.StepLaws.{StepsOnTypesAreDefined};
 ghost use Rattle.qs_meaning.specs.TypedLaws.{FunctionsTyped, TypedWhereTypes, UnitsTyped};
+ghost use Rattle.qs_meaning.specs.Whole.{TypedDataIsWhole};
 
 /// A greater bound keeps the run of a function that has ended or is undefined, and goes on from
 /// where it is short.
@@ -35,6 +37,24 @@ pub fn functions_typed()
 /// A well typed unit has a typed tree.
 pub fn units_typed()
     ensures { UnitsTyped }
+{}
+
+/// A unit that is read from tokens has nodes with different numbers, constants below 2^32, and no
+/// empty list of initialisers or members.
+pub fn read_is_as_read()
+    ensures { ReadIsAsRead }
+{}
+
+/// The typed tree of a well typed unit within the limits fits, where the unit is as those that are
+/// read.
+pub fn typed_units_fit()
+    ensures { TypedUnitsFit }
+{}
+
+/// The blocks that such a unit begins with hold bytes and whole pointers, and none is larger than a
+/// type may be.
+pub fn typed_data_is_whole()
+    ensures { TypedDataIsWhole }
 {}
 
 /// The memory in which a run begins is sound: bytes are below 256, and pointers are null or into

@@ -4,14 +4,15 @@ use Rattle.std.specs.Prelude.{max}
 use Rattle.qs_syntax.specs.declared.terminal.Terminal.{Terminal}
 use Rattle.qs_base.specs.declared.keyword.Keyword.TheVariants as keywords
 use Rattle.qs_syntax.specs.declared.punctuator.Punctuator.TheVariants as punctuators
-use Rattle.qs_syntax.specs.Trees.{unnumbered, StmtTree, branch, no_else, else_by, else_of, DeclTree}
-use Rattle.qs_grammar.specs.Heads.{starts, starts_with}
+use Rattle.qs_syntax.specs.Trees.{unnumbered, ExprTree, StartTree, StmtTree, for_loop, DeclTree}
+use Rattle.qs_grammar.specs.Heads.{starts}
 use Rattle.qs_parser.specs.View.{Fails}
+use Rattle.qs_parser.specs.Turns.{TurnTree, step_and_body, turn_of}
 use Rattle.qs_parser.specs.declared.fault.Halt.{Halt}
 use Rattle.qs_parser.specs.declared.fault.Halt.TheVariants as halts
 use Rattle.qs_parser.proofs.CodeExpressions.{map_more}
-use Rattle.qs_grammar.specs.Parse.{Parse, Stop, E, bind, unexpected, deep, expect}
-use Rattle.qs_grammar.specs.ParseStatements.{S, begins_statement, condition, after_then, otherwise, after_if, item, items, statement_at, statement, external, is_empty, externals}
+use Rattle.qs_grammar.specs.Parse.{Parse, Stop, bind, unexpected, deep, expect}
+use Rattle.qs_grammar.specs.ParseStatements.{S, optional, start_of, begins_statement, after_for, item, items, statement_at, statement, external, is_empty, externals}
 
 left_turns : (n i : ℕ) → i < n → n - i ≡ suc (n - (i + 1))
 left_turns n i h = omega arith
@@ -48,54 +49,46 @@ pub externals_end : (k n i : ℕ) (done : List DeclTree) (h : ℕ) (ts : List Te
 unfolding externals
 externals_end k n i done h ts le = ap (λ l. externals k l done h ts) (no_turns n i le)
 
-then_is : (m : ℕ) (inner : Parse S) (at : ℕ) (e : E) (s : S) (ts : List Terminal)
-    → after_then m inner at e s ts ≡ bind (otherwise m inner ts) (λ t us. Ok ((branch (unnumbered at) e.0 s.0 (else_of t.0), max e.1 (max s.1 t.1) + 1), us))
-then_is m inner at e s [] = ap (λ (h : ℕ). Ok ((branch (unnumbered at) e.0 s.0 no_else, h + 1), [])) (omega arith)
-then_is m inner at e s (u ∷ us) = by_case (starts_with keywords.Else (u ∷ us)) refl
+-- how a `for` goes on behind its start
+turn_is : (m : ℕ) (inner : Parse S) (at : ℕ) (a : StartTree × ℕ) (ts : List Terminal)
+    → bind {B = S} (optional m punctuators.Semicolon ts) (λ e us. bind (optional m punctuators.CloseParenthesis us) (λ u vs. bind (inner vs) (λ s ws. Ok ((for_loop (unnumbered at) a.0 e.0 u.0 s.0, max a.1 (max e.1 (max u.1 s.1)) + 1), ws))))
+    ≡ bind {B = S} (turn_of m inner ts) (λ t us. Ok ((for_loop (unnumbered at) a.0 t.0.condition t.0.step t.0.body, max a.1 t.1 + 1), us))
+turn_is m inner at a ts = by_condition (optional m punctuators.Semicolon ts)
   where
-    by_answer : (r : Result (S × List Terminal) Stop)
-        → bind {B = S} r (λ t vs. Ok ((branch (unnumbered at) e.0 s.0 (else_by t.0), max e.1 (max s.1 t.1) + 1), vs))
-        ≡ bind {B = S} (bind {B = Option StmtTree × ℕ} r (λ t vs. Ok ((Some t.0, t.1), vs))) (λ t vs. Ok ((branch (unnumbered at) e.0 s.0 (else_of t.0), max e.1 (max s.1 t.1) + 1), vs))
-    by_answer (Ok x) = refl
-    by_answer (Err x) = refl
+    by_body : (e u : Option ExprTree × ℕ) (r : Result (S × List Terminal) Stop)
+        → bind {B = S} r (λ s ws. Ok ((for_loop (unnumbered at) a.0 e.0 u.0 s.0, max a.1 (max e.1 (max u.1 s.1)) + 1), ws))
+        ≡ bind {B = S} (bind {B = TurnTree × ℕ} (bind {B = (Option ExprTree × StmtTree) × ℕ} r (λ s ws. Ok (((u.0, s.0), max u.1 s.1), ws))) (λ b ws. Ok ((record { condition = e.0; step = b.0.0; body = b.0.1 }, max e.1 b.1), ws))) (λ t ws. Ok ((for_loop (unnumbered at) a.0 t.0.condition t.0.step t.0.body, max a.1 t.1 + 1), ws))
+    by_body e u (Ok x) = refl
+    by_body e u (Err x) = refl
 
-    by_case : (b : Bool) → starts_with keywords.Else (u ∷ us) ≡ b
-        → after_then m inner at e s (u ∷ us) ≡ bind (otherwise m inner (u ∷ us)) (λ t vs. Ok ((branch (unnumbered at) e.0 s.0 (else_of t.0), max e.1 (max s.1 t.1) + 1), vs))
-    by_case true q = rw q (by_answer (inner us))
-    by_case false q = rw q (ap (λ (h : ℕ). Ok ((branch (unnumbered at) e.0 s.0 no_else, h + 1), u ∷ us)) (omega arith))
+    by_step : (e : Option ExprTree × ℕ) (r : Result ((Option ExprTree × ℕ) × List Terminal) Stop)
+        → bind {B = S} r (λ u vs. bind (inner vs) (λ s ws. Ok ((for_loop (unnumbered at) a.0 e.0 u.0 s.0, max a.1 (max e.1 (max u.1 s.1)) + 1), ws)))
+        ≡ bind {B = S} (bind {B = TurnTree × ℕ} (bind {B = (Option ExprTree × StmtTree) × ℕ} r (λ u vs. bind (inner vs) (λ s ws. Ok (((u.0, s.0), max u.1 s.1), ws)))) (λ b ws. Ok ((record { condition = e.0; step = b.0.0; body = b.0.1 }, max e.1 b.1), ws))) (λ t ws. Ok ((for_loop (unnumbered at) a.0 t.0.condition t.0.step t.0.body, max a.1 t.1 + 1), ws))
+    by_step e (Ok x) = by_body e x.0 (inner x.1)
+    by_step e (Err x) = refl
 
-pub after_if_is : (m : ℕ) (inner : Parse S) (at : ℕ) (ts : List Terminal)
-    → after_if m inner at ts ≡ bind (condition m ts) (λ e us. bind (inner us) (λ s vs. bind (otherwise m inner vs) (λ t ws. Ok ((branch (unnumbered at) e.0 s.0 (else_of t.0), max e.1 (max s.1 t.1) + 1), ws))))
-after_if_is m inner at ts = by_condition (condition m ts)
-  where
-    by_first : (e : E) (r : Result (S × List Terminal) Stop)
-        → bind r (after_then m inner at e) ≡ bind r (λ s vs. bind (otherwise m inner vs) (λ t ws. Ok ((branch (unnumbered at) e.0 s.0 (else_of t.0), max e.1 (max s.1 t.1) + 1), ws)))
-    by_first e (Ok x) = then_is m inner at e x.0 x.1
-    by_first e (Err x) = refl
-
-    by_condition : (r : Result (E × List Terminal) Stop)
-        → bind r (λ e us. bind (inner us) (after_then m inner at e))
-        ≡ bind r (λ e us. bind (inner us) (λ s vs. bind (otherwise m inner vs) (λ t ws. Ok ((branch (unnumbered at) e.0 s.0 (else_of t.0), max e.1 (max s.1 t.1) + 1), ws))))
-    by_condition (Ok x) = by_first x.0 (inner x.1)
+    by_condition : (r : Result ((Option ExprTree × ℕ) × List Terminal) Stop)
+        → bind {B = S} r (λ e us. bind (optional m punctuators.CloseParenthesis us) (λ u vs. bind (inner vs) (λ s ws. Ok ((for_loop (unnumbered at) a.0 e.0 u.0 s.0, max a.1 (max e.1 (max u.1 s.1)) + 1), ws))))
+        ≡ bind {B = S} (bind {B = TurnTree × ℕ} r (λ e us. bind (step_and_body m inner us) (λ b ws. Ok ((record { condition = e.0; step = b.0.0; body = b.0.1 }, max e.1 b.1), ws)))) (λ t ws. Ok ((for_loop (unnumbered at) a.0 t.0.condition t.0.step t.0.body, max a.1 t.1 + 1), ws))
+    by_condition (Ok x) = by_step x.0 (optional m punctuators.CloseParenthesis x.1)
     by_condition (Err x) = refl
 
--- how an `if` goes on behind its condition and its first statement
-if_goes : (m : ℕ) (inner : Parse S) (at : ℕ) (ts us vs : List Terminal) (e : E) (s : S) → condition m ts ≡ Ok (e, us) → inner us ≡ Ok (s, vs)
-    → after_if m inner at ts ≡ bind (otherwise m inner vs) (λ t ws. Ok ((branch (unnumbered at) e.0 s.0 (else_of t.0), max e.1 (max s.1 t.1) + 1), ws))
-if_goes m inner at ts us vs e s p q = after_if_is m inner at ts ∙ (rw p (rw q refl))
+for_goes : (m : ℕ) (inner : Parse S) (at : ℕ) (ts us vs : List Terminal) (a : StartTree × ℕ) → expect punctuators.OpenParenthesis ts ≡ Ok (tt, us) → start_of m us ≡ Ok (a, vs)
+    → after_for m inner at ts ≡ bind {B = S} (turn_of m inner vs) (λ t ws. Ok ((for_loop (unnumbered at) a.0 t.0.condition t.0.step t.0.body, max a.1 t.1 + 1), ws))
+for_goes m inner at ts us vs a p q = rw (p, q) (turn_is m inner at a vs)
 
-fails_with : (halt : Halt) (given other : Result (S × List Terminal) Stop) (r : Result ((Option StmtTree × ℕ) × List Terminal) Stop) (f : Option StmtTree × ℕ → Parse S) → given ≡ bind r f → Fails halt r → Fails halt given
-fails_with halts.NoMemory given other r f e h = tt
-fails_with (halts.Unexpected left) given other r f e h = e ∙ ap (λ (x : Result ((Option StmtTree × ℕ) × List Terminal) Stop). bind x f) h
-fails_with (halts.TooDeep left) given other r f e h = e ∙ ap (λ (x : Result ((Option StmtTree × ℕ) × List Terminal) Stop). bind x f) h
+fails_with : (halt : Halt) (given : Result (S × List Terminal) Stop) (r : Result ((TurnTree × ℕ) × List Terminal) Stop) (f : TurnTree × ℕ → Parse S) → given ≡ bind r f → Fails halt r → Fails halt given
+fails_with halts.NoMemory given r f e h = tt
+fails_with (halts.Unexpected left) given r f e h = e ∙ ap (λ (x : Result ((TurnTree × ℕ) × List Terminal) Stop). bind x f) h
+fails_with (halts.TooDeep left) given r f e h = e ∙ ap (λ (x : Result ((TurnTree × ℕ) × List Terminal) Stop). bind x f) h
 
-pub if_fails : (m : ℕ) (inner : Parse S) (at : ℕ) (ts us vs : List Terminal) (e : E) (s : S) (halt : Halt) → condition m ts ≡ Ok (e, us) → inner us ≡ Ok (s, vs) → Fails halt (otherwise m inner vs) → Fails halt (after_if m inner at ts)
-if_fails m inner at ts us vs e s halt p q h =
-    fails_with halt (after_if m inner at ts) (after_if m inner at ts) (otherwise m inner vs) (λ t ws. Ok ((branch (unnumbered at) e.0 s.0 (else_of t.0), max e.1 (max s.1 t.1) + 1), ws)) (if_goes m inner at ts us vs e s p q) h
+pub for_fails : (m : ℕ) (inner : Parse S) (at : ℕ) (ts us vs : List Terminal) (a : StartTree × ℕ) (halt : Halt) → expect punctuators.OpenParenthesis ts ≡ Ok (tt, us) → start_of m us ≡ Ok (a, vs) → Fails halt (turn_of m inner vs) → Fails halt (after_for m inner at ts)
+for_fails m inner at ts us vs a halt p q h =
+    fails_with halt (after_for m inner at ts) (turn_of m inner vs) (λ t ws. Ok ((for_loop (unnumbered at) a.0 t.0.condition t.0.step t.0.body, max a.1 t.1 + 1), ws)) (for_goes m inner at ts us vs a p q) h
 
-pub if_ends : (m : ℕ) (inner : Parse S) (at : ℕ) (ts us vs ws : List Terminal) (e : E) (s : S) (t : Option StmtTree × ℕ) (node : StmtTree) (h : ℕ)
-    → condition m ts ≡ Ok (e, us) → inner us ≡ Ok (s, vs) → otherwise m inner vs ≡ Ok (t, ws) → node ≡ branch (unnumbered at) e.0 s.0 (else_of t.0) → h ≡ max e.1 (max s.1 t.1) + 1 → after_if m inner at ts ≡ Ok ((node, h), ws)
-if_ends m inner at ts us vs ws e s t node h p q r is high = if_goes m inner at ts us vs e s p q ∙ (rw r (rw (is, high) refl))
+pub for_ends : (m : ℕ) (inner : Parse S) (at : ℕ) (ts us vs ws : List Terminal) (a : StartTree × ℕ) (t : TurnTree × ℕ) (node : StmtTree) (h : ℕ)
+    → expect punctuators.OpenParenthesis ts ≡ Ok (tt, us) → start_of m us ≡ Ok (a, vs) → turn_of m inner vs ≡ Ok (t, ws) → node ≡ for_loop (unnumbered at) a.0 t.0.condition t.0.step t.0.body → h ≡ max a.1 t.1 → after_for m inner at ts ≡ Ok ((node, h + 1), ws)
+for_ends m inner at ts us vs ws a t node h p q r is high = for_goes m inner at ts us vs a p q ∙ (rw r (rw (is, high) refl))
 
 pub ruleset statement_cases = (statement_none, statement_more)
 

@@ -5,3 +5,4 @@ pub mod CodeBranches
 pub mod CodeStatements
 pub mod Top
 pub mod CodeOperations
+pub mod FaultExamples

@@ -1,14 +1,15 @@
 -- What the code's values stand for.
-use Rattle.std.specs.Prelude.{◌≡◌, ℕ, List, [], Option, Result, Ok, Err, map}
+use Rattle.std.specs.Prelude.{◌≡◌, ℕ, List, [], Option, Result, Ok, Err, map, option_map, Box}
 use Rattle.std.specs.Borrow.{Bor}
 use Rattle.std.specs.declared.alloc.Global.{Global}
 use Rattle.std.specs.declared.vec.Vec.{Vec}
 use Rattle.qs_syntax.specs.declared.terminal.Terminal.{Terminal}
 use Rattle.qs_syntax.specs.declared.types.Base.{Base}
+use Rattle.qs_syntax.specs.declared.statements.Stmt.{Stmt}
 use Rattle.qs_syntax.specs.declared.units.Decl.{Decl}
 use Rattle.qs_syntax.specs.declared.types.TypeName.{TypeName}
-use Rattle.qs_syntax.specs.Trees.{unnumbered, ParameterTree, Stmts, DeclTree, function}
-use Rattle.qs_syntax.specs.TreeOf.{parameter_tree, decl_tree}
+use Rattle.qs_syntax.specs.Trees.{unnumbered, ParameterTree, StmtTree, Stmts, DeclTree, function}
+use Rattle.qs_syntax.specs.TreeOf.{parameter_tree, stmt_tree, decl_tree}
 use Rattle.qs_syntax.specs.Reads as reads
 use Rattle.qs_parser.specs.declared.expressions.Form as forms
 use Rattle.qs_parser.specs.declared.expressions.Form.TheVariants as variants
@@ -30,6 +31,10 @@ Gives view (Err e) given = Fails e given
 abbrev pub rest_of : Bor (List Terminal) → Unit {0} × List Terminal
 rest_of rest = (tt, rest.now)
 
+-- what stands behind an expression that was read before
+abbrev pub behind_of : {X : Type 0} → X × Bor (List Terminal) → Unit {0} × List Terminal
+behind_of x = (tt, x.1.now)
+
 abbrev pub name_of : ℕ × List ℕ × Bor (List Terminal) → (ℕ × List ℕ) × List Terminal
 name_of x = ((x.0, x.1), x.2.now)
 
@@ -49,6 +54,13 @@ read_as view x = ((view x.0, x.1), x.2.now)
 -- each item of a vector
 abbrev pub listed : {X Y : Type 0} → (X → Y) → Vec X Global → List Y
 listed view items = map view items.items
+
+-- a statement in a box of its own, and one that may be there
+abbrev pub boxed_tree : Box Stmt Global → StmtTree
+boxed_tree s = stmt_tree s.value
+
+abbrev pub second_tree : Option (Box Stmt Global) → Option StmtTree
+second_tree o = option_map boxed_tree o
 
 -- joined texts, and what stands behind them
 abbrev pub texts_of : List ℕ × Bor (List Terminal) → List ℕ × List Terminal

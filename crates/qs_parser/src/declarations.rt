@@ -7,7 +7,7 @@ ghost use Rattle.qs_syntax.specs.TreeOf.{expr_tree, lengths_tree, declarator_tre
 ghost use Rattle.qs_grammar.specs.ParseDeclarations.{given_lengths, is_empty_brackets, lengths_of, lengths, named, declarator, initialisers, begins_initialiser, initialiser, initialised, variable, variables, declared, declaration, declaration_within, declarators, members, groups, bracketed, with_name, is_void_alone, without_first, parameter, parameters, is_void_head, head};
 ghost use Rattle.qs_parser.specs.View.{Gives, read_as, listed};
 
-use crate::expressions::{Form, part};
+use crate::expressions::{Form, followed, part};
 use crate::fault::Halt;
 use crate::heads::{begins_one, expect, expect_name, is_keyword, is_punctuator, place, starts};
 use crate::types::{stars, type_of};
@@ -37,7 +37,7 @@ fn given_lengths(
         }
         let behind = expect(Punctuator::OpenBracket, rest)?;
         let (item, high, after) = part(alloc, room, Form::Conditional, behind)?;
-        let after = expect(Punctuator::CloseBracket, after)?;
+        let (item, after) = followed(item, Punctuator::CloseBracket, after)?;
         given.push(item)?;
         height = height.max(high);
         rest = after;

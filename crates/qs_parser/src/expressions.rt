@@ -5,9 +5,9 @@ ghost use Rattle.std.specs.Prelude.{◌≡◌, ◌+◌, ◌≤◌, length, [], �
 ghost use Rattle.qs_syntax.specs.declared.terminal.Terminal.TheVariants as terminals;
 ghost use Rattle.qs_syntax.specs.TreeOf.{expr_tree};
 ghost use Rattle.qs_syntax.specs.Reads.{Assignment};
-ghost use Rattle.qs_grammar.specs.Parse.{texts_from, arguments, call_of, after_name, in_parentheses, primary, index_of, member_of, access_at, suffix, suffixes, postfix, step_of, operator_of, beyond, size_at_limit, size_of, unary_operator_at, unary_of_all, cast_of, cast_or_unary, operations, climb, after_or, after_operand, assignment_of, after_unary, assignment, commas, expression, part};
+ghost use Rattle.qs_grammar.specs.Parse.{expect, texts_from, arguments, call_of, after_name, in_parentheses, primary, index_of, member_of, access_at, suffix, suffixes, postfix, step_of, operator_of, beyond, size_at_limit, size_of, unary_operator_at, unary_of_all, cast_of, cast_or_unary, operations, climb, after_or, after_operand, assignment_of, after_unary, assignment, commas, expression, part};
 ghost use Rattle.qs_grammar.specs.Operands.{right_operand};
-ghost use Rattle.qs_parser.specs.View.{Gives, read_as, listed, texts_of, form_of};
+ghost use Rattle.qs_parser.specs.View.{Gives, behind_of, read_as, listed, texts_of, form_of};
 
 use crate::fault::Halt;
 use crate::heads::{
@@ -177,6 +177,19 @@ fn after_name(
     Ok((nodes::name(at, name), 1, tokens))
 }
 
+/// This expression, where the punctuator stands behind it, and what follows.
+pub fn followed(
+    inner: Expr,
+    punctuator: Punctuator,
+    tokens: &[Terminal],
+) -> Result<(Expr, &[Terminal]), Halt>
+    ensures gives { Gives behind_of result (expect punctuator tokens.now) }
+    ensures same { IfOk result (λ x. x.0 ≡ inner) }
+{
+    let rest = expect(punctuator, tokens)?;
+    Ok((inner, rest))
+}
+
 /// An expression in parentheses, behind the first.
 #[cycle(parser)]
 fn in_parentheses(
@@ -188,7 +201,7 @@ fn in_parentheses(
     ensures low { IfOk result (λ x. x.1 ≤ room + 1) }
 {
     let (inner, height, rest) = part(alloc, room, Form::Expression, tokens)?;
-    let rest = expect(Punctuator::CloseParenthesis, rest)?;
+    let (inner, rest) = followed(inner, Punctuator::CloseParenthesis, rest)?;
     Ok((inner, height + 1, rest))
 }
 
@@ -226,18 +239,19 @@ fn index_of(
     alloc: Global,
     room: u8,
     start: u32,
-    left: Expr,
+    array: Box<Expr>,
     height: u32,
     tokens: &[Terminal],
 ) -> Result<(Expr, u32, &[Terminal]), Halt>
     requires low { height ≤ room }
-    ensures gives { Gives (read_as expr_tree) result (index_of room (part room) start (expr_tree left, height) tokens.now) }
+    ensures gives { Gives (read_as expr_tree) result (index_of room (part room) start (expr_tree array.value, height) tokens.now) }
     ensures low { IfOk result (λ x. x.1 ≤ room + 1) }
 {
     let (at, high, rest) = part(alloc, room, Form::Expression, tokens)?;
+    let at = Box::new(alloc, at)?;
     let rest = expect(Punctuator::CloseBracket, rest)?;
     Ok((
-        nodes::subscript(alloc, start, left, at)?,
+        nodes::subscript(start, array, at),
         height.max(high) + 1,
         rest,
     ))
@@ -248,21 +262,17 @@ fn member_of(
     alloc: Global,
     room: u8,
     start: u32,
-    left: Expr,
+    object: Box<Expr>,
     height: u32,
     access: Access,
     tokens: &[Terminal],
 ) -> Result<(Expr, u32, &[Terminal]), Halt>
     requires low { height ≤ room }
-    ensures gives { Gives (read_as expr_tree) result (member_of room (part room) start (expr_tree left, height) access tokens.now) }
+    ensures gives { Gives (read_as expr_tree) result (member_of room (part room) start (expr_tree object.value, height) access tokens.now) }
     ensures low { IfOk result (λ x. x.1 ≤ room + 1) }
 {
     let (_at, name, rest) = expect_name(alloc, tokens)?;
-    Ok((
-        nodes::member(alloc, start, access, left, name)?,
-        height + 1,
-        rest,
-    ))
+    Ok((nodes::member(start, access, object, name), height + 1, rest))
 }
 
 /// What the first token does with an operand, where it begins a suffix.
@@ -271,12 +281,12 @@ fn suffix(
     alloc: Global,
     room: u8,
     start: u32,
-    left: Expr,
+    left: Box<Expr>,
     height: u32,
     tokens: &[Terminal],
 ) -> Result<(Expr, u32, &[Terminal]), Halt>
     requires low { height ≤ room }
-    ensures gives { Gives (read_as expr_tree) result (suffix room (part room) start (expr_tree left, height) tokens.now) }
+    ensures gives { Gives (read_as expr_tree) result (suffix room (part room) start (expr_tree left.value, height) tokens.now) }
     ensures low { IfOk result (λ x. x.1 ≤ room + 1) }
 {
     let [first, rest @ ..] = tokens else {
@@ -286,11 +296,11 @@ fn suffix(
         return index_of(alloc, room, start, left, height, rest);
     }
     if is_punctuator(Punctuator::Increment, first) {
-        let node = nodes::step(alloc, start, StepOperator::IncrementAfter, left)?;
+        let node = nodes::step(start, StepOperator::IncrementAfter, left);
         return Ok((node, height + 1, rest));
     }
     if is_punctuator(Punctuator::Decrement, first) {
-        let node = nodes::step(alloc, start, StepOperator::DecrementAfter, left)?;
+        let node = nodes::step(start, StepOperator::DecrementAfter, left);
         return Ok((node, height + 1, rest));
     }
     match access_at(tokens) {
@@ -321,10 +331,11 @@ fn suffixes(
         if !starts_suffix(rest) {
             return Ok((left, height, rest));
         }
+        let operand = Box::new(alloc, left)?;
         if height > u32::from(room) {
             return Err(Halt::TooDeep(rest.len()));
         }
-        let (node, high, after) = suffix(alloc, room, start, left, height, rest)?;
+        let (node, high, after) = suffix(alloc, room, start, operand, height, rest)?;
         left = node;
         height = high;
         rest = after;
@@ -355,7 +366,8 @@ fn step_of(
     ensures low { IfOk result (λ x. x.1 ≤ room + 1) }
 {
     let (operand, height, rest) = part(alloc, room, Form::Unary, tokens)?;
-    Ok((nodes::step(alloc, at, operator, operand)?, height + 1, rest))
+    let operand = Box::new(alloc, operand)?;
+    Ok((nodes::step(at, operator, operand), height + 1, rest))
 }
 
 /// An operand, behind its unary operator (C11 6.5.3.2, 6.5.3.3).
@@ -371,11 +383,8 @@ fn operator_of(
     ensures low { IfOk result (λ x. x.1 ≤ room + 1) }
 {
     let (operand, height, rest) = part(alloc, room, Form::Level(0), tokens)?;
-    Ok((
-        nodes::unary(alloc, at, operator, operand)?,
-        height + 1,
-        rest,
-    ))
+    let operand = Box::new(alloc, operand)?;
+    Ok((nodes::unary(at, operator, operand), height + 1, rest))
 }
 
 /// Where no level is left for a part, an expression is too deep, and nothing else may stand here.
@@ -418,7 +427,8 @@ fn size_of(
         return size_at_limit(tokens);
     }
     let (operand, height, rest) = part(alloc, room, Form::Unary, tokens)?;
-    Ok((nodes::sizeof_expr(alloc, at, operand)?, height + 1, rest))
+    let operand = Box::new(alloc, operand)?;
+    Ok((nodes::sizeof_expr(at, operand), height + 1, rest))
 }
 
 /// A unary expression whose first token is a punctuator.
@@ -498,7 +508,8 @@ fn cast_of(
     let (to, rest) = type_name(alloc, tokens)?;
     let rest = expect(Punctuator::CloseParenthesis, rest)?;
     let (operand, height, rest) = part(alloc, room, Form::Level(0), rest)?;
-    Ok((nodes::cast(alloc, at, to, operand)?, height + 1, rest))
+    let operand = Box::new(alloc, operand)?;
+    Ok((nodes::cast(at, to, operand), height + 1, rest))
 }
 
 /// A cast or a unary expression (C11 6.5.4).
@@ -561,11 +572,13 @@ fn operations(
         let Some(operator) = level_operator_at(level, rest) else {
             return Ok((left, height, rest));
         };
+        let operand = Box::new(alloc, left)?;
         if height > u32::from(room) {
             return Err(Halt::TooDeep(rest.len()));
         }
         let (right, high, after) = right_operand(alloc, room, level, rest)?;
-        left = nodes::binary(alloc, start, operator, left, right)?;
+        let right = Box::new(alloc, right)?;
+        left = nodes::binary(start, operator, operand, right);
         height = height.max(high) + 1;
         rest = after;
     }
@@ -612,14 +625,17 @@ fn after_or(
     if !starts(Punctuator::Question, tokens) {
         return Ok((condition, height, tokens));
     }
+    let condition = Box::new(alloc, condition)?;
     if height > u32::from(room) {
         return Err(Halt::TooDeep(tokens.len()));
     }
     let rest = expect(Punctuator::Question, tokens)?;
     let (yes, yes_high, rest) = part(alloc, room, Form::Expression, rest)?;
+    let yes = Box::new(alloc, yes)?;
     let rest = expect(Punctuator::Colon, rest)?;
     let (no, no_high, rest) = part(alloc, room, Form::Conditional, rest)?;
-    let node = nodes::conditional(alloc, start, condition, yes, no)?;
+    let no = Box::new(alloc, no)?;
+    let node = nodes::conditional(start, condition, yes, no);
     Ok((node, height.max(yes_high.max(no_high)) + 1, rest))
 }
 
@@ -662,11 +678,13 @@ fn assignment_of(
     let [_, rest @ ..] = tokens else {
         return Ok((left, height, tokens));
     };
+    let left = Box::new(alloc, left)?;
     if height > u32::from(room) {
         return Err(Halt::TooDeep(tokens.len()));
     }
     let (right, high, rest) = part(alloc, room, Form::Assignment, rest)?;
-    let node = nodes::assign(alloc, start, operator, left, right)?;
+    let right = Box::new(alloc, right)?;
+    let node = nodes::assign(start, operator, left, right);
     Ok((node, height.max(high) + 1, rest))
 }
 
@@ -727,12 +745,14 @@ fn commas(
         if !starts(Punctuator::Comma, rest) {
             return Ok((left, height, rest));
         }
+        let operand = Box::new(alloc, left)?;
         if height > u32::from(room) {
             return Err(Halt::TooDeep(rest.len()));
         }
         let behind = expect(Punctuator::Comma, rest)?;
         let (right, high, after) = part(alloc, room, Form::Assignment, behind)?;
-        left = nodes::comma(alloc, start, left, right)?;
+        let right = Box::new(alloc, right)?;
+        left = nodes::comma(start, operand, right);
         height = height.max(high) + 1;
         rest = after;
     }

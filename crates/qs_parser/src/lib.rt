@@ -14,5 +14,5 @@ mod syntax_fault;
 mod types;
 mod units;
 
-pub use parse::{one_reading, unit};
+pub use parse::{faults_are_unique, one_reading, unit};
 pub use syntax_fault::SyntaxFault;

@@ -1,5 +1,5 @@
 // From tokens to a unit.
-ghost use Rattle.std.specs.Prelude.{◌≡◌, ◌+◌, ◌≤◌, ◌<◌, ◌^◌, ℕ, List, true, length};
+ghost use Rattle.std.specs.Prelude.{◌≡◌, ◌≢◌, ◌+◌, ◌≤◌, ◌<◌, ◌^◌, ℕ, List, true, length};
 ghost use Rattle.std.specs.List.{list_all};
 ghost use Rattle.qs_syntax.specs.Units.{is_well_formed};
 ghost use Rattle.qs_syntax.specs.Trees.{DeclTree};
@@ -7,7 +7,9 @@ ghost use Rattle.qs_syntax.specs.ReadsUnits.{ReadsUnit};
 ghost use Rattle.qs_syntax.specs.declared.terminal.Terminal.{Terminal};
 ghost use Rattle.qs_lexer.specs.Tokens.{Tokens};
 ghost use Rattle.qs_lexer.specs.Terminals.{terminals};
-ghost use Rattle.qs_parser.specs.Answers.{Answers};
+ghost use Rattle.qs_parser.specs.Answers.{Answers, HasFault, IsDecision};
+ghost use Rattle.qs_parser.specs.declared.syntax_fault.SyntaxFault.{SyntaxFault};
+ghost use Rattle.qs_parser.specs.declared.syntax_fault.SyntaxFault.TheVariants.{NoMemory};
 
 use crate::fault::Halt;
 use crate::syntax_fault::SyntaxFault;
@@ -29,7 +31,8 @@ fn number_of(tokens: &[Terminal], left: usize) -> u32
 fn unit_of(alloc: Global, tokens: &[Terminal]) -> Result<Unit, SyntaxFault>
     requires tokens { list_all is_well_formed tokens.now ≡ true }
     requires few { length tokens.now < 2 ^ 32 }
-    ensures { Answers tokens.now result }
+    ensures answers { Answers tokens.now result }
+    ensures decides { IsDecision tokens.now result }
 {
     match read_unit(alloc, tokens) {
         Ok((unnumbered, _height)) => Ok(numbered(alloc, unnumbered)?),
@@ -61,7 +64,8 @@ fn are_few(text: &[u8], tokens: &[Token])
 /// `tokens` are those that the lexer gives for the text.
 pub fn unit(alloc: Global, text: &[u8], tokens: &[Token]) -> Result<Unit, SyntaxFault>
     requires tokens { Tokens text.now tokens.now }
-    ensures { Answers (terminals text.now 0 tokens.now) result }
+    ensures answers { Answers (terminals text.now 0 tokens.now) result }
+    ensures decides { IsDecision (terminals text.now 0 tokens.now) result }
 {
     are_few(text, tokens);
     let seen = terminals(alloc, text, tokens)?;
@@ -71,4 +75,9 @@ pub fn unit(alloc: Global, text: &[u8], tokens: &[Token]) -> Result<Unit, Syntax
 /// Tokens have at most one reading as a unit: a law, for what its clause says.
 pub fn one_reading()
     ensures { (tokens : List Terminal) (ds es : List DeclTree) (h k : ℕ) → ReadsUnit h tokens ds → ReadsUnit k tokens es → (ds ≡ es) × (h ≡ k) }
+{}
+
+/// Tokens have at most one fault: a law, for what its clause says.
+pub fn faults_are_unique()
+    ensures { (tokens : List Terminal) (fault other : SyntaxFault) → HasFault tokens fault → HasFault tokens other → fault ≢ NoMemory → other ≢ NoMemory → fault ≡ other }
 {}

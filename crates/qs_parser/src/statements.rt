@@ -1,15 +1,16 @@
 // Statements (C11 6.8). In all functions at most `room` levels are left for the parts of a node, and each
 // answers what is read, how high it is, and what stands behind it. `at` is the place of a first token.
-ghost use Rattle.std.specs.Prelude.{◌≡◌, ◌+◌, ◌≤◌, ◌||◌, length, [], ◌∷◌, IfOk, option_map};
+ghost use Rattle.std.specs.Prelude.{◌≡◌, ◌+◌, ◌≤◌, ◌||◌, length, [], ◌∷◌, IfOk};
 ghost use Rattle.qs_base.specs.declared.keyword.Keyword.TheVariants as keywords;
 ghost use Rattle.qs_syntax.specs.Operators.{number_of};
 ghost use Rattle.qs_grammar.specs.Heads.{is_keyword};
 ghost use Rattle.qs_syntax.specs.TreeOf.{expr_tree, option_tree, start_tree, stmt_tree};
 ghost use Rattle.qs_grammar.specs.ParseStatements.{optional, condition, start_of, begins_statement, item, items, in_block, otherwise, after_if, after_while, expect_while, after_do, after_for, after_return, running, plain_statement, keyword_statement, statement_at, statement};
-ghost use Rattle.qs_parser.specs.View.{Gives, read_as, listed, rest_of};
+ghost use Rattle.qs_parser.specs.View.{Gives, read_as, boxed_tree, second_tree, listed, rest_of};
+ghost use Rattle.qs_parser.specs.Turns.{step_tree, turn_tree, step_and_body, turn_of};
 
 use crate::declarations::declaration_within;
-use crate::expressions::{Form, part};
+use crate::expressions::{Form, followed, part};
 use crate::fault::Halt;
 use crate::heads::{
     begins_one, begins_type, expect, is_keyword, is_punctuator, place, starts, starts_with,
@@ -29,10 +30,11 @@ fn optional(
     ensures low { IfOk result (λ x. x.1 ≤ room) }
 {
     if starts(punctuator, tokens) {
-        return Ok((None, 0, expect(punctuator, tokens)?));
+        let rest = expect(punctuator, tokens)?;
+        return Ok((None, 0, rest));
     }
     let (expression, height, rest) = part(alloc, room, Form::Expression, tokens)?;
-    let rest = expect(punctuator, rest)?;
+    let (expression, rest) = followed(expression, punctuator, rest)?;
     Ok((Some(expression), height, rest))
 }
 
@@ -43,7 +45,7 @@ fn condition(alloc: Global, room: u8, tokens: &[Terminal]) -> Result<(Expr, u32,
 {
     let rest = expect(Punctuator::OpenParenthesis, tokens)?;
     let (expression, height, rest) = part(alloc, room, Form::Expression, rest)?;
-    let rest = expect(Punctuator::CloseParenthesis, rest)?;
+    let (expression, rest) = followed(expression, Punctuator::CloseParenthesis, rest)?;
     Ok((expression, height, rest))
 }
 
@@ -57,10 +59,11 @@ fn start_of(alloc: Global, room: u8, tokens: &[Terminal]) -> Result<(Start, u32,
         return Ok((Start::Declaration(declaration), height, rest));
     }
     if starts(Punctuator::Semicolon, tokens) {
-        return Ok((Start::Nothing, 0, expect(Punctuator::Semicolon, tokens)?));
+        let rest = expect(Punctuator::Semicolon, tokens)?;
+        return Ok((Start::Nothing, 0, rest));
     }
     let (expression, height, rest) = part(alloc, room, Form::Expression, tokens)?;
-    let rest = expect(Punctuator::Semicolon, rest)?;
+    let (expression, rest) = followed(expression, Punctuator::Semicolon, rest)?;
     Ok((Start::Expression(expression), height, rest))
 }
 
@@ -116,7 +119,7 @@ fn running(alloc: Global, room: u8, tokens: &[Terminal]) -> Result<(Stmt, u32, &
     ensures low { IfOk result (λ x. x.1 ≤ room + 1) }
 {
     let (expression, height, rest) = part(alloc, room, Form::Expression, tokens)?;
-    let rest = expect(Punctuator::Semicolon, rest)?;
+    let (expression, rest) = followed(expression, Punctuator::Semicolon, rest)?;
     Ok((
         nodes::expression(place(tokens), expression),
         height + 1,
@@ -177,6 +180,20 @@ fn statement(alloc: Global, room: u8, tokens: &[Terminal]) -> Result<(Stmt, u32,
     statement_at(alloc, room - 1, tokens)
 }
 
+/// A statement that is at most `room` high, in a box of its own.
+#[cycle(statement)]
+fn boxed(
+    alloc: Global,
+    room: u8,
+    tokens: &[Terminal],
+) -> Result<(Box<Stmt>, u32, &[Terminal]), Halt>
+    ensures gives { Gives (read_as boxed_tree) result (statement room tokens.now) }
+    ensures low { IfOk result (λ x. x.1 ≤ room) }
+{
+    let (found, height, rest) = statement(alloc, room, tokens)?;
+    Ok((Box::new(alloc, found)?, height, rest))
+}
+
 /// A statement or a declaration of a block (C11 6.8.2).
 #[cycle(statement)]
 fn item(alloc: Global, room: u8, tokens: &[Terminal]) -> Result<(Stmt, u32, &[Terminal]), Halt>
@@ -233,8 +250,8 @@ fn otherwise(
     alloc: Global,
     room: u8,
     tokens: &[Terminal],
-) -> Result<(Option<Stmt>, u32, &[Terminal]), Halt>
-    ensures gives { Gives (read_as (option_map stmt_tree)) result (otherwise room (statement room) tokens.now) }
+) -> Result<(Option<Box<Stmt>>, u32, &[Terminal]), Halt>
+    ensures gives { Gives (read_as second_tree) result (otherwise room (statement room) tokens.now) }
     ensures low { IfOk result (λ x. x.1 ≤ room) }
 {
     if !starts_with(Keyword::Else, tokens) {
@@ -243,7 +260,7 @@ fn otherwise(
     let [_, rest @ ..] = tokens else {
         return Err(Halt::Unexpected(0));
     };
-    let (second, height, rest) = statement(alloc, room, rest)?;
+    let (second, height, rest) = boxed(alloc, room, rest)?;
     Ok((Some(second), height, rest))
 }
 
@@ -259,13 +276,10 @@ fn after_if(
     ensures low { IfOk result (λ x. x.1 ≤ room + 1) }
 {
     let (condition, condition_height, rest) = condition(alloc, room, tokens)?;
-    let (first, first_height, rest) = statement(alloc, room, rest)?;
-    let (second, second_height, rest) = match otherwise(alloc, room, rest) {
-        Ok(read) => read,
-        Err(halt) => return Err(halt),
-    };
+    let (first, first_height, rest) = boxed(alloc, room, rest)?;
+    let (second, second_height, rest) = otherwise(alloc, room, rest)?;
     let height = condition_height.max(first_height.max(second_height));
-    let node = nodes::branch(alloc, at, condition, first, second)?;
+    let node = nodes::branch(at, condition, first, second);
     Ok((node, height + 1, rest))
 }
 
@@ -281,8 +295,8 @@ fn after_while(
     ensures low { IfOk result (λ x. x.1 ≤ room + 1) }
 {
     let (condition, height, rest) = condition(alloc, room, tokens)?;
-    let (body, high, rest) = statement(alloc, room, rest)?;
-    let node = nodes::while_loop(alloc, at, condition, body)?;
+    let (body, high, rest) = boxed(alloc, room, rest)?;
+    let node = nodes::while_loop(at, condition, body);
     Ok((node, height.max(high) + 1, rest))
 }
 
@@ -297,12 +311,50 @@ fn after_do(
     ensures gives { Gives (read_as stmt_tree) result (after_do room (statement room) at tokens.now) }
     ensures low { IfOk result (λ x. x.1 ≤ room + 1) }
 {
-    let (body, height, rest) = statement(alloc, room, tokens)?;
+    let (body, height, rest) = boxed(alloc, room, tokens)?;
     let rest = expect_while(rest)?;
     let (condition, high, rest) = condition(alloc, room, rest)?;
-    let rest = expect(Punctuator::Semicolon, rest)?;
-    let node = nodes::do_loop(alloc, at, body, condition)?;
+    let (condition, rest) = followed(condition, Punctuator::Semicolon, rest)?;
+    let node = nodes::do_loop(at, body, condition);
     Ok((node, height.max(high) + 1, rest))
+}
+
+/// What each turn of a `for` evaluates and executes (C11 6.8.5.3).
+struct Turn {
+    condition: Option<Expr>,
+    step: Option<Expr>,
+    body: Box<Stmt>,
+}
+
+/// The step of a `for`, the parenthesis behind it, and the body.
+#[cycle(statement)]
+fn step_and_body(
+    alloc: Global,
+    room: u8,
+    tokens: &[Terminal],
+) -> Result<((Option<Expr>, Box<Stmt>), u32, &[Terminal]), Halt>
+    ensures gives { Gives (read_as step_tree) result (step_and_body room (statement room) tokens.now) }
+    ensures low { IfOk result (λ x. x.1 ≤ room) }
+{
+    let (step, height, rest) = optional(alloc, room, Punctuator::CloseParenthesis, tokens)?;
+    let (body, high, rest) = boxed(alloc, room, rest)?;
+    Ok(((step, body), height.max(high), rest))
+}
+
+/// What stands behind what a `for` begins with.
+#[cycle(statement)]
+fn turn_of(alloc: Global, room: u8, tokens: &[Terminal]) -> Result<(Turn, u32, &[Terminal]), Halt>
+    ensures gives { Gives (read_as turn_tree) result (turn_of room (statement room) tokens.now) }
+    ensures low { IfOk result (λ x. x.1 ≤ room) }
+{
+    let (condition, height, rest) = optional(alloc, room, Punctuator::Semicolon, tokens)?;
+    let ((step, body), high, rest) = step_and_body(alloc, room, rest)?;
+    let turn = Turn {
+        condition,
+        step,
+        body,
+    };
+    Ok((turn, height.max(high), rest))
 }
 
 /// `for`, behind its keyword (C11 6.8.5.3).
@@ -317,13 +369,18 @@ fn after_for(
     ensures low { IfOk result (λ x. x.1 ≤ room + 1) }
 {
     let rest = expect(Punctuator::OpenParenthesis, tokens)?;
-    let (start, start_height, rest) = start_of(alloc, room, rest)?;
-    let (condition, condition_height, rest) = optional(alloc, room, Punctuator::Semicolon, rest)?;
-    let (step, step_height, rest) = optional(alloc, room, Punctuator::CloseParenthesis, rest)?;
-    let (body, body_height, rest) = statement(alloc, room, rest)?;
-    let height = start_height.max(condition_height.max(step_height.max(body_height)));
-    let node = nodes::for_loop(alloc, at, start, condition, step, body)?;
-    Ok((node, height + 1, rest))
+    let (start, height, rest) = start_of(alloc, room, rest)?;
+    let (turn, high, rest) = match turn_of(alloc, room, rest) {
+        Ok(read) => read,
+        Err(halt) => return Err(halt),
+    };
+    let Turn {
+        condition,
+        step,
+        body,
+    } = turn;
+    let node = nodes::for_loop(at, start, condition, step, body);
+    Ok((node, height.max(high) + 1, rest))
 }
 
 /// A statement that begins with a word, or an expression. The tokens are the first and the rest.

@@ -11,10 +11,11 @@ pub enum SyntaxFault {
     /// No memory was found.
     #[error("out of memory")]
     NoMemory,
-    /// The parser can't go on with this token.
+    /// The tokens before this one begin a unit of height at most 128, and with it they begin none; or they end
+    /// here and are none.
     #[error("unexpected token {0}")]
     Unexpected(u32),
-    /// At this token the reading becomes too high.
+    /// This is the first token at which every reading is higher than 128.
     #[error("too deep at token {0}")]
     TooDeep(u32),
 }

@@ -1,5 +1,5 @@
 -- Units that break a rule, each in a form that a weaker rule would let pass.
-use Rattle.std.proofs.Common.{◌≡◌, ℕ, true, false, List, [], ◌∷◌, Some, None, refl}
+use Rattle.std.proofs.Common.{◌≡◌, ℕ, List, [], ◌∷◌, Some, None, refl}
 use Rattle.qs_syntax.specs.declared.operators.BinaryOperator.{BinaryOperator}
 use Rattle.qs_syntax.specs.declared.operators.BinaryOperator.TheVariants as binaries
 use Rattle.qs_syntax.specs.declared.operators.StepOperator.TheVariants as steps

@@ -6,6 +6,8 @@ mod LayoutSteps
 pub mod Declaring
 mod LayoutExamples
 pub mod RuleLaws
+pub mod LimitLaws
+pub mod Violations
 mod ConstantTypes
 mod RuleTrees
 mod DeclarationExamples
@@ -16,3 +18,4 @@ mod HeldBackExamples
 mod FaultExamples
 mod LimitExamples
 mod ReferenceExamples
+mod RecordedExamples

@@ -6,7 +6,8 @@ use Rattle.qs_syntax.specs.Trees.{ExprTree, ParameterTree, unnumbered, UnitTree,
 use Rattle.qs_syntax.specs.Trees as trees
 use Rattle.qs_syntax.specs.Numbering.{numbered_unit}
 use Rattle.qs_types.specs.GivenFunctions.{putchar_name}
-use Rattle.qs_types.specs.Limits.{node_limit, first_past_nodes, function_limit, first_past_functions, parameter_limit, first_past_parameters, first_past_globals, global_limit, first_past_locals, local_limit}
+use Rattle.qs_syntax.specs.Units.{height_limit}
+use Rattle.qs_types.specs.Limits.{function_count, parameter_count, data_bytes, most_placed, node_limit, first_past_nodes, function_limit, first_past_functions, parameter_limit, first_past_parameters, first_past_globals, global_limit, first_past_locals, local_limit}
 use Rattle.qs_types.specs.WellTyped.{first_undefined, has_main}
 use Rattle.qs_types.proofs.RuleTrees.{e, number, a, call_f, one, many, global, local, valued, parameter, header, body, g, eval, f_name}
 
@@ -32,6 +33,10 @@ nodes_past = refl
 abbrev headers : UnitTree
 headers = numbered_unit (header bases.Void f_name [] ∷ header bases.Void f_name [] ∷ header bases.Void h_name [] ∷ header bases.Int putchar_name (parameter bases.Int 0 None ∷ []) ∷ [])
 
+-- putchar counts where it is declared, and a name once
+function_names : function_count headers ≡ 3
+function_names = refl
+
 functions_at : first_past_functions 3 headers ≡ None
 functions_at = refl
 
@@ -46,6 +51,9 @@ functions_past = refl
 abbrev parameters : UnitTree
 parameters = numbered_unit (header bases.Void f_name (parameter bases.Int 0 None ∷ []) ∷ header bases.Void h_name (parameter bases.Int 0 None ∷ parameter bases.Int 0 None ∷ parameter bases.Int 0 None ∷ []) ∷ [])
 
+most_parameters : parameter_count parameters ≡ 3
+most_parameters = refl
+
 parameters_at : first_past_parameters 3 parameters ≡ None
 parameters_at = refl
 
@@ -59,6 +67,18 @@ node_limit_is = refl
 
 function_limit_is : function_limit ≡ 512
 function_limit_is = refl
+
+parameter_limit_is : parameter_limit ≡ 8
+parameter_limit_is = refl
+
+global_limit_is : global_limit ≡ 16777216
+global_limit_is = refl
+
+local_limit_is : local_limit ≡ 1048576
+local_limit_is = refl
+
+height_limit_is : height_limit ≡ 128
+height_limit_is = refl
 
 abbrev int_parameters : ℕ → List ParameterTree
 int_parameters n = replicate n (parameter bases.Int 0 None)
@@ -85,12 +105,18 @@ global_past = refl
 global_aligned : first_past_globals 7 (numbered_unit (global bases.Char 0 97 one None ∷ global bases.Int 0 98 one None ∷ [])) ≡ Some 1
 global_aligned = refl
 
+global_bytes : data_bytes (numbered_unit (global bases.Char 0 97 one None ∷ global bases.Int 0 98 one None ∷ [])) ≡ 8
+global_bytes = refl
+
 global_aligned_at : first_past_globals 8 (numbered_unit (global bases.Char 0 97 one None ∷ global bases.Int 0 98 one None ∷ [])) ≡ None
 global_aligned_at = refl
 
 -- void g(void){"x";}char a; the text lies behind the variable, at 4
 text_behind : first_past_globals 5 (numbered_unit (g (eval (text (120 ∷ [])) ∷ []) ∷ global bases.Char 0 97 one None ∷ [])) ≡ Some 2
 text_behind = refl
+
+text_bytes : data_bytes (numbered_unit (g (eval (text (120 ∷ [])) ∷ []) ∷ global bases.Char 0 97 one None ∷ [])) ≡ 6
+text_bytes = refl
 
 text_behind_at : first_past_globals 6 (numbered_unit (g (eval (text (120 ∷ [])) ∷ []) ∷ global bases.Char 0 97 one None ∷ [])) ≡ None
 text_behind_at = refl
@@ -124,6 +150,9 @@ local_past = refl
 locals_rounded : first_past_locals 7 (numbered_unit (g (local bases.Char 0 98 (many (number 3)) None ∷ local bases.Int 0 97 one None ∷ eval (e (trees.unary unaries.Address a)) ∷ []) ∷ [])) ≡ Some 3
 locals_rounded = refl
 
+locals_bytes : most_placed (numbered_unit (g (local bases.Char 0 98 (many (number 3)) None ∷ local bases.Int 0 97 one None ∷ eval (e (trees.unary unaries.Address a)) ∷ []) ∷ [])) ≡ 8
+locals_bytes = refl
+
 locals_rounded_at : first_past_locals 8 (numbered_unit (g (local bases.Char 0 98 (many (number 3)) None ∷ local bases.Int 0 97 one None ∷ eval (e (trees.unary unaries.Address a)) ∷ []) ∷ [])) ≡ None
 locals_rounded_at = refl
 
@@ -134,6 +163,10 @@ plain_takes_none = refl
 -- void f(int a){&a;} takes 4 bytes
 parameter_placed : first_past_locals 3 (numbered_unit (body bases.Void f_name (parameter bases.Int 0 (Some (97 ∷ [])) ∷ []) (eval (e (trees.unary unaries.Address a)) ∷ []) ∷ [])) ≡ Some 1
 parameter_placed = refl
+
+-- void g(void){char b[3];}void f(void){char b[9];}void h(void){char b[5];}: the most of one function
+most_of_one : most_placed (numbered_unit (g (local bases.Char 0 98 (many (number 3)) None ∷ []) ∷ body bases.Void f_name [] (local bases.Char 0 98 (many (number 9)) None ∷ []) ∷ body bases.Void h_name [] (local bases.Char 0 98 (many (number 5)) None ∷ []) ∷ [])) ≡ 12
+most_of_one = refl
 
 -- ---- functions without a body
 

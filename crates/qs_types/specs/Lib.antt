@@ -20,3 +20,4 @@ pub mod References
 pub mod Placed
 pub mod Limits
 pub mod WellTyped
+pub mod Recorded

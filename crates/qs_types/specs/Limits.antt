@@ -1,8 +1,9 @@
--- How many a unit may have of what is counted, and the node at which each count first passes its limit. The height of a reading is
--- kept by the tree itself.
-use Rattle.std.specs.Prelude.{◌≡◌, ℕ, ◌+◌, nat_lt, true, List, [], ◌∷◌, ◌++◌, Option, Some, None, length, map, sum_by, if◌then◌else◌}
+-- How many a unit may have of what is counted: the six counts with their limits, and the node at which each but the height first passes
+-- its limit. The height is that of a reading, which a unit has.
+use Rattle.std.specs.Prelude.{◌≡◌, ◌≤◌, ℕ, ◌+◌, max, nat_lt, true, List, [], ◌∷◌, ◌++◌, Option, Some, None, length, map, sum_by, if◌then◌else◌}
 use Rattle.std.specs.List.{slice_get}
 use Rattle.qs_syntax.specs.Nodes.{unit_count}
+use Rattle.qs_syntax.specs.Units.{IsRead}
 use Rattle.qs_syntax.specs.declared.types.Base.{Base}
 use Rattle.qs_syntax.specs.Trees.{VariableTree, ParameterTree, FunctionTree, Stmts, structure, forward, function, variables, UnitTree}
 use Rattle.qs_types.specs.Types.{TypeTree, Structs}
@@ -11,7 +12,7 @@ use Rattle.qs_types.specs.Layout.{and_then, layout_of, sized_by, rounded_up}
 use Rattle.qs_types.specs.Contexts.{Context, start_context}
 use Rattle.qs_types.specs.Declarations.{variable_declared}
 use Rattle.qs_types.specs.StatementRules.{after_variable}
-use Rattle.qs_types.specs.UnitRules.{is_name_in, after_declaration}
+use Rattle.qs_types.specs.UnitRules.{is_name_in, with_name_once, after_declaration}
 use Rattle.qs_types.specs.Placed.{Local, placed_in}
 use Rattle.qs_types.specs.References.{TextBlock, literal_blocks}
 
@@ -32,6 +33,16 @@ first_past_nodes limit unit = if nat_lt limit (unit_count unit) then Some limit 
 abbrev pub function_limit : ℕ
 function_limit = 512
 
+abbrev pub names_from : (names : List (List ℕ)) → UnitTree → List (List ℕ)
+names_from names [] = names
+names_from names (structure s ∷ ds) = names_from names ds
+names_from names (forward f ∷ ds) = names_from names ds
+names_from names (function f ∷ ds) = names_from (with_name_once names f.name) ds
+names_from names (variables d ∷ ds) = names_from names ds
+
+abbrev pub function_count : UnitTree → ℕ
+function_count unit = length (names_from [] unit)
+
 abbrev pub header_past : (limit : ℕ) → (names : List (List ℕ)) → UnitTree → Option ℕ
 header_past limit names [] = None
 header_past limit names (structure s ∷ ds) = header_past limit names ds
@@ -49,15 +60,26 @@ first_past_functions limit unit = header_past limit [] unit
 abbrev pub parameter_limit : ℕ
 parameter_limit = 8
 
+-- the most of one header
+abbrev pub parameter_count : UnitTree → ℕ
+parameter_count [] = 0
+parameter_count (structure s ∷ ds) = parameter_count ds
+parameter_count (forward f ∷ ds) = parameter_count ds
+parameter_count (function f ∷ ds) = max (length f.parameters) (parameter_count ds)
+parameter_count (variables d ∷ ds) = parameter_count ds
+
 abbrev pub node_of_parameter : Option ParameterTree → Option ℕ
 node_of_parameter None = None
 node_of_parameter (Some p) = Some p.node.id
+
+abbrev pub parameter_past : (limit : ℕ) → FunctionTree → Option ℕ
+parameter_past limit f = node_of_parameter (slice_get f.parameters limit)
 
 abbrev pub first_past_parameters : (limit : ℕ) → UnitTree → Option ℕ
 first_past_parameters limit [] = None
 first_past_parameters limit (structure s ∷ ds) = first_past_parameters limit ds
 first_past_parameters limit (forward f ∷ ds) = first_past_parameters limit ds
-first_past_parameters limit (function f ∷ ds) = or_else (node_of_parameter (slice_get f.parameters limit)) (first_past_parameters limit ds)
+first_past_parameters limit (function f ∷ ds) = or_else (parameter_past limit f) (first_past_parameters limit ds)
 first_past_parameters limit (variables d ∷ ds) = first_past_parameters limit ds
 
 -- ---- blocks of memory: each begins at a multiple of 4
@@ -73,6 +95,11 @@ pub record Block : Type 0 where
 -- where a block behind this end itself ends
 abbrev pub block_end : (end : ℕ) → Block → ℕ
 block_end end b = rounded_up end word_size + b.size
+
+-- where blocks end that lie one behind another, the first behind this end
+abbrev pub blocks_end : (end : ℕ) → List Block → ℕ
+blocks_end end [] = end
+blocks_end end (b ∷ bs) = blocks_end (block_end end b) bs
 
 -- the first block that ends past the limit, where they lie one behind another
 abbrev pub block_past : (limit end : ℕ) → List Block → Option ℕ
@@ -112,6 +139,9 @@ text_block t = record { node = t.node; size = length t.bytes + 1 }
 abbrev pub data_blocks : UnitTree → List Block
 data_blocks unit = variable_blocks_from start_context unit ++ map text_block (literal_blocks unit)
 
+abbrev pub data_bytes : UnitTree → ℕ
+data_bytes unit = blocks_end 0 (data_blocks unit)
+
 abbrev pub first_past_globals : (limit : ℕ) → UnitTree → Option ℕ
 first_past_globals limit unit = block_past limit 0 (data_blocks unit)
 
@@ -130,6 +160,21 @@ local_blocks c f ss = map (local_block c.structs) (placed_in c f ss)
 abbrev pub placed_bytes : Context → FunctionTree → Stmts → ℕ
 placed_bytes c f ss = sum_by (λ b. b.size) (local_blocks c f ss)
 
+abbrev pub body_bytes : Context → FunctionTree → Option Stmts → ℕ
+body_bytes c f None = 0
+body_bytes c f (Some ss) = placed_bytes c f ss
+
+abbrev pub placed_from : Context → UnitTree → ℕ
+placed_from c [] = 0
+placed_from c (structure s ∷ ds) = placed_from (after_declaration c (structure s)) ds
+placed_from c (forward f ∷ ds) = placed_from (after_declaration c (forward f)) ds
+placed_from c (function f ∷ ds) = max (body_bytes c f f.body) (placed_from (after_declaration c (function f)) ds)
+placed_from c (variables d ∷ ds) = placed_from (after_declaration c (variables d)) ds
+
+-- the most of one function
+abbrev pub most_placed : UnitTree → ℕ
+most_placed unit = placed_from start_context unit
+
 abbrev pub local_past : (limit : ℕ) → Context → FunctionTree → Option Stmts → Option ℕ
 local_past limit c f None = None
 local_past limit c f (Some ss) = block_past limit 0 (local_blocks c f ss)
@@ -146,6 +191,16 @@ first_past_locals limit unit = local_past_from limit start_context unit
 
 -- ---- units
 
+-- each count is at most its limit; a reading is at most as high as `height_limit`
+pub record KeepsLimits (unit : UnitTree) : Type 0 where
+  pub nodes : unit_count unit ≤ node_limit
+  pub functions : function_count unit ≤ function_limit
+  pub parameters : parameter_count unit ≤ parameter_limit
+  pub globals : data_bytes unit ≤ global_limit
+  pub locals : most_placed unit ≤ local_limit
+  pub height : IsRead unit
+
+-- no node is the first past a limit
 pub record IsWithinLimits (unit : UnitTree) : Type 0 where
   pub nodes : first_past_nodes node_limit unit ≡ None
   pub functions : first_past_functions function_limit unit ≡ None

@@ -1,25 +1,22 @@
 -- A unit is refused for no cause exactly where it is well typed and within the limits; what a walk shows are the causes.
-use Rattle.std.proofs.Common.{◌≡◌, ◌≤◌, ◌⊎◌, inl, inr, ℕ, ◌==◌, nat_lt, Bool, true, false, ◌&&◌, ◌||◌, List, [], ◌∷◌, ◌++◌, Option, Some, None, is_some, map, refl, sym, ap, ◌∙◌, subst, arith}
-use Rattle.std.proofs.lemmas.Bool.Decides.{nat_tests}
+use Rattle.std.proofs.Common.{◌≡◌, inl, inr, ℕ, Bool, true, false, List, [], ◌∷◌, ◌++◌, Option, Some, None, is_some, refl, sym, ap, ◌∙◌}
 use Rattle.qs_syntax.specs.Trees.{UnitTree}
 use Rattle.qs_report.specs.declared.fault_texts.LimitKind.{LimitKind}
 use Rattle.qs_report.specs.declared.fault_texts.LimitKind.TheVariants as kinds
-use Rattle.qs_types.specs.Contexts.{Context, start_context, entity_of}
-use Rattle.qs_types.specs.GivenFunctions.{main_name}
-use Rattle.qs_types.specs.Limits.{IsWithinLimits, text_block, data_blocks, variable_blocks_from, block_past, first_past_nodes, node_limit, first_past_functions, function_limit, first_past_parameters, parameter_limit, first_past_globals, global_limit, first_past_locals, local_limit}
-use Rattle.qs_types.specs.References.{literal_blocks, unit_calls}
-use Rattle.qs_types.specs.declared.rules.Rule.{Rule}
-use Rattle.qs_types.specs.Rules.{Fault, is_any, rule_number}
-use Rattle.qs_types.specs.UnitRules.{faults_in, Violates}
-use Rattle.qs_types.specs.WellTyped.{WellTyped, end_context, has_main, first_undefined, undefined_from, entity_has_body, runs}
+use Rattle.qs_types.specs.Contexts.{Context, start_context}
+use Rattle.qs_types.specs.Limits.{IsWithinLimits, data_blocks, variable_blocks_from, block_past, first_past_nodes, node_limit, first_past_functions, function_limit, first_past_parameters, parameter_limit, first_past_globals, global_limit, first_past_locals, local_limit}
+use Rattle.qs_types.specs.References.{unit_calls}
+use Rattle.qs_types.specs.Rules.{Fault, is_any}
+use Rattle.qs_types.specs.UnitRules.{faults_in}
+use Rattle.qs_types.specs.WellTyped.{WellTyped, end_context, has_main, first_undefined, undefined_from, runs}
 use Rattle.qs_typing.specs.declared.refusals.TypeFault.{TypeFault}
 use Rattle.qs_typing.specs.declared.refusals.TypeFault.TheVariants as faults
-use Rattle.qs_typing.specs.Findings.{least_with, IsFirst}
-use Rattle.qs_typing.specs.Refusals.{IsAccepted, IsCause, IsLeast, IsLeastViolation, IsTold, first_of, limit_fault, rule_fault, main_fault, undefined_fault, early_refusal, late_refusal, first_refusal, runs_in, late_by}
+use Rattle.qs_typing.specs.Findings.{least_with}
+use Rattle.qs_typing.specs.Refusals.{IsAccepted, IsTold, first_of, limit_fault, rule_fault, main_fault, undefined_fault, early_refusal, late_refusal, first_refusal, late_by}
 use Rattle.qs_typing.specs.UnitWalk.{WalkTree, unit_walked}
 use Rattle.qs_typing.proofs.Adding.{unit_least, unit_called, unit_texts}
 use Rattle.qs_typing.proofs.Blocks.{unit_globals, unit_past}
-use Rattle.qs_typing.proofs.First.{first_found}
+use Rattle.qs_typing.proofs.Causes.{cause_is}
 use Rattle.qs_typing.proofs.Watched.{any_least}
 
 -- ---- nothing is refused
@@ -128,65 +125,6 @@ nothing_refused unit a =
     (first_of (main_fault (w.main_has_body i))
     (first_of (undefined_fault (w.calls_have_bodies i))
     (first_of (limit_fault kinds.Globals (l.globals i)) (limit_fault kinds.Locals (l.locals i))))))
-
--- ---- a rule that is told is the least
-
-abbrev LeastIn : UnitTree → Option TypeFault → Type 0
-LeastIn unit None = Unit {0}
-LeastIn unit (Some f) = IsLeast unit f
-
-first_least : (unit : UnitTree) (o p : Option TypeFault) → LeastIn unit o → LeastIn unit p → LeastIn unit (first_of o p)
-first_least unit None p a b = b
-first_least unit (Some f) p a b = a
-
-limit_least : (unit : UnitTree) (kind : LimitKind) (o : Option ℕ) → LeastIn unit (limit_fault kind o)
-limit_least unit kind None = tt
-limit_least unit kind (Some n) = tt
-
-main_least : (unit : UnitTree) (b : Bool) → LeastIn unit (main_fault b)
-main_least unit true = tt
-main_least unit false = tt
-
-undefined_least : (unit : UnitTree) (o : Option ℕ) → LeastIn unit (undefined_fault o)
-undefined_least unit None = tt
-undefined_least unit (Some n) = tt
-
-node_least : (n m x y : ℕ) → (nat_lt n m || ((n == m) && nat_lt x y)) ≡ false → m ≤ n
-node_least n m x y h = grind (arith, nat_tests)
-
-number_least : (m x y : ℕ) → (nat_lt m m || ((m == m) && nat_lt x y)) ≡ false → y ≤ x
-number_least m x y h = grind (arith, nat_tests)
-
-least_violation : (unit : UnitTree) (f : Fault) → IsFirst (faults_in unit) f → IsLeastViolation unit f.node f.rule
-least_violation unit f first = record {
-  violates = record { found = first.found };
-  least_node = λ n r v. node_least n f.node (rule_number r) (rule_number f.rule) (first.least n r v.found);
-  least_rule = λ r v. number_least f.node (rule_number r) (rule_number f.rule) (first.least f.node r v.found);
-}
-
-rule_least : (unit : UnitTree) (o : Option Fault) → least_with None (faults_in unit) ≡ o → LeastIn unit (rule_fault o)
-rule_least unit None e = tt
-rule_least unit (Some f) e = least_violation unit f (first_found (faults_in unit) f e)
-
-early_least : (unit : UnitTree) → LeastIn unit (early_refusal unit)
-early_least unit =
-    first_least unit (nodes_of unit) (first_of (functions_of unit) (parameters_of unit)) (limit_least unit kinds.Nodes (first_past_nodes node_limit unit))
-    (first_least unit (functions_of unit) (parameters_of unit) (limit_least unit kinds.Functions (first_past_functions function_limit unit))
-    (limit_least unit kinds.Parameters (first_past_parameters parameter_limit unit)))
-
-late_least : (unit : UnitTree) → LeastIn unit (late_refusal unit)
-late_least unit =
-    first_least unit (rule_of unit) (behind_rule unit) (rule_least unit (least_with None (faults_in unit)) refl)
-    (first_least unit (main_fault (has_main unit)) (behind_main unit) (main_least unit (has_main unit))
-    (first_least unit (undefined_fault (first_undefined unit)) (behind_undefined unit) (undefined_least unit (first_undefined unit))
-    (first_least unit (globals_of unit) (locals_of unit) (limit_least unit kinds.Globals (first_past_globals global_limit unit))
-    (limit_least unit kinds.Locals (first_past_locals local_limit unit)))))
-
-cause_is : (unit : UnitTree) (f : TypeFault) → first_refusal unit ≡ Some f → IsCause unit f
-cause_is unit f e = record {
-  first = e;
-  least = subst (LeastIn unit) e (first_least unit (early_refusal unit) (late_refusal unit) (early_least unit) (late_least unit));
-}
 
 -- ---- what a walk shows
 

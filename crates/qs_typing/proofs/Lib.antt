@@ -1,3 +1,4 @@
+pub mod Sets
 pub mod Latest
 pub mod Tags
 pub mod Least
@@ -16,6 +17,7 @@ pub mod Declaring
 pub mod Defining
 pub mod Counts
 pub mod Blocks
+pub mod Causes
 pub mod Checked
 pub mod Naming
 pub mod Numbers

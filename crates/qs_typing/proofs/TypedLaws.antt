@@ -10,6 +10,7 @@ use Rattle.qs_syntax.specs.UnitTrees.{unit_tree}
 use Rattle.qs_syntax.proofs.NodeLaws.{unit_length}
 use Rattle.qs_syntax.proofs.UnitLaws.{node_of_unit}
 use Rattle.qs_types.specs.Contexts.{Context}
+use Rattle.qs_types.specs.Recorded.{global_blocks, tags_of, text_blocks}
 use Rattle.qs_types.specs.UnitRules.{structs_of}
 use Rattle.qs_types.specs.WellTyped.{end_context}
 use Rattle.qs_typing.specs.ByNumber.{IsByNumber}
@@ -17,7 +18,8 @@ use Rattle.qs_typing.specs.NodeReferents.{unit_addressed, unit_referents}
 use Rattle.qs_typing.specs.NodeTypes.{unit_types}
 use Rattle.qs_typing.specs.UnitNodes.{of_unit}
 use Rattle.qs_typing.specs.UnitWalk.{WalkTree, unit_walked}
-use Rattle.qs_typing.proofs.Adding.{unit_typed, unit_addresses}
+use Rattle.qs_typing.proofs.Adding.{unit_typed, unit_addresses, unit_texts}
+use Rattle.qs_typing.proofs.Blocks.{unit_globals}
 use Rattle.qs_typing.proofs.Naming.{unit_named}
 use Rattle.qs_typing.proofs.Numbers.{as_many, at_place}
 
@@ -32,6 +34,15 @@ addressed_are unit w e = ap (λ v. v.found.addressed) e ∙ unit_addresses unit
 
 pub structs_are : (unit : UnitTree) (c : Context) → c ≡ end_context unit → c.structs ≡ structs_of unit
 structs_are unit c e = ap (λ d. d.structs) e
+
+pub tags_are : (unit : UnitTree) (c : Context) → c ≡ end_context unit → c.tags ≡ tags_of unit
+tags_are unit c e = ap (λ d. d.tags) e
+
+pub globals_are : (unit : UnitTree) (w : WalkTree) → w ≡ unit_walked unit → w.noted.globals ≡ global_blocks unit
+globals_are unit w e = ap (λ v. v.noted.globals) e ∙ unit_globals unit
+
+pub texts_are : (unit : UnitTree) (w : WalkTree) → w ≡ unit_walked unit → w.noted.texts ≡ text_blocks unit
+texts_are unit w e = ap (λ v. v.noted.texts) e ∙ unit_texts unit
 
 -- the node at a place of a unit's list has the place for its number
 number_is : (unit : Unit) (i : ℕ) (node : Node) → slice_get (unit_nodes (unit_tree unit)) i ≡ Some node → node.id ≡ i

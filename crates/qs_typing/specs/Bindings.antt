@@ -1,5 +1,5 @@
 -- Declarations in scope and their places.
-use Rattle.std.specs.Prelude.{ℕ, ◌==◌, Bool, true, ◌&&◌, List, [], ◌∷◌, Option, Some, None, length, reverse, if◌then◌else◌}
+use Rattle.std.specs.Prelude.{ℕ, ◌-◌, ◌==◌, Bool, true, ◌&&◌, List, [], ◌∷◌, Option, Some, None, length, reverse, take, if◌then◌else◌}
 use Rattle.std.specs.Option.{option_eq}
 use Rattle.std.specs.Map.{lookup}
 use Rattle.qs_syntax.specs.Sameness.{same_bytes}
@@ -14,6 +14,10 @@ binding_tree b = record { name = b.name; entity = entity_tree b.entity }
 -- the declarations, the latest first
 abbrev pub newest_first : List Binding → List Binding
 newest_first bs = reverse bs
+
+-- all but the latest
+abbrev pub without_latest : List Binding → List Binding
+without_latest bs = take (length bs - 1) bs
 
 -- the place of the latest declaration of a name, counted from the oldest
 abbrev pub place_in : List ℕ → List Binding → Option ℕ

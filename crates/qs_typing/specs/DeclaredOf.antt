@@ -1,4 +1,5 @@
 -- Declared types in code, as the definitions see them.
+pub use Rattle.qs_typing.specs.PartsOf.{option_type}
 use Rattle.std.specs.Prelude.{ℕ, Bool, not, ◌&&◌, ◌||◌, List, [], ◌∷◌, ◌++◌, Option, Some, Vec, is_some, map, option_map}
 use Rattle.std.specs.declared.alloc.Global.{Global}
 use Rattle.qs_syntax.specs.declared.types.Base.{Base}
@@ -19,10 +20,6 @@ tests_and_type tests of = record { tests = map test_tree tests; type = option_ma
 
 abbrev pub declared_tree : Declared → declarations.Declared
 declared_tree d = tests_and_type d.tests.items d.of
-
--- a type in code, where there is one
-abbrev pub option_type : Option CType → Option TypeTree
-option_type = option_map type_tree
 
 -- lengths, where each has a value
 abbrev pub numbers : Option (Vec ℕ Global) → Option (List ℕ)

@@ -1,5 +1,6 @@
 -- Words on types that the code of initialisers uses.
-use Rattle.std.specs.Prelude.{◌≡◌, Bool, true, false, List, Option, Some, None, is_some, option_map}
+pub use Rattle.qs_typing.specs.PartsOf.{type_at}
+use Rattle.std.specs.Prelude.{◌≡◌, Bool, true, false, List, Option, Some, None, is_some}
 use Rattle.std.specs.Borrow.{Bor}
 use Rattle.qs_syntax.specs.declared.declarations.Initialiser.{Initialiser}
 use Rattle.qs_syntax.specs.declared.declarations.InitialiserList.{InitialiserList}
@@ -9,17 +10,14 @@ use Rattle.qs_syntax.specs.TreeOf.{expr_tree, initialiser_tree, initialisers_tre
 use Rattle.qs_types.specs.Types.{TypeTree, Structs, int, unsigned, char, void, pointer, array, struct}
 use Rattle.qs_types.specs.declared.types.CType.{CType}
 use Rattle.qs_types.specs.declared.env.Env.{Env}
-use Rattle.qs_types.specs.Contexts as contexts
 use Rattle.qs_types.specs.EnvOf.{env_tree}
 use Rattle.qs_types.specs.Expressions.{type_of}
 use Rattle.qs_types.specs.InitialiserRules as rules
 use Rattle.qs_types.specs.InitialiserRules.{takes_list, list_fits}
 use Rattle.qs_types.specs.TypeOf.{type_tree}
 use Rattle.qs_typing.specs.declared.context.Context.{Context}
-use Rattle.qs_typing.specs.declared.entity.Entity.{Entity}
 use Rattle.qs_typing.specs.declared.walk.Walk.{Walk}
 use Rattle.qs_typing.specs.ContextOf.{context_tree}
-use Rattle.qs_typing.specs.EntityOf.{entity_tree}
 use Rattle.qs_typing.specs.UnitWalk.{elements_walked, initialiser_walked}
 use Rattle.qs_typing.specs.WalkOf.{walk_tree}
 
@@ -42,13 +40,6 @@ option_list_fits structs None is = true
 option_list_fits structs (Some t) is = list_fits structs t is
 
 -- ---- in code
-
--- the type of an object, where it has one
-abbrev pub type_at : Option (Bor CType) → Option TypeTree
-type_at = option_map (λ t. type_tree t.now)
-
-abbrev pub entity_at : Option (Bor Entity) → Option contexts.Entity
-entity_at = option_map (λ e. entity_tree e.now)
 
 -- an expression of this type is a constant
 abbrev pub is_constant_at : Context → Expr → CType → Bool

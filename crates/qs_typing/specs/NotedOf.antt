@@ -1,10 +1,10 @@
 -- What is noted in code, as the definitions see it.
-use Rattle.std.specs.Prelude.{map}
+use Rattle.std.specs.Prelude.{◌≡◌, ℕ, List, filter, map}
 use Rattle.qs_types.specs.Limits as limits
 use Rattle.qs_typing.specs.declared.noted.Block.{Block}
 use Rattle.qs_typing.specs.declared.noted.Local.{Local}
 use Rattle.qs_typing.specs.declared.noted.Noted.{Noted}
-use Rattle.qs_typing.specs.Noted.{LocalTree, NotedTree}
+use Rattle.qs_typing.specs.Noted.{LocalTree, NotedTree, is_block}
 
 abbrev pub block_tree : Block → limits.Block
 block_tree b = record { node = b.node; size = b.size }
@@ -20,3 +20,7 @@ noted_tree n = record {
   locals = map local_tree n.locals.items;
   local_past = n.local_past;
 }
+
+-- the blocks of the locals that are no scalars, or that are among these nodes
+abbrev pub ArePlaced : (nodes : List ℕ) → List Local → List Block → Type 0
+ArePlaced nodes locals blocks = map block_tree blocks ≡ map (λ l. l.block) (filter (is_block nodes) (map local_tree locals))

@@ -1,5 +1,6 @@
 -- What is said of an expression where its parts have types.
-use Rattle.std.specs.Prelude.{List, [], ◌∷◌, ◌++◌, Option, Some, None, Vec, map}
+use Rattle.std.specs.Prelude.{List, [], ◌∷◌, ◌++◌, Option, Some, None, Vec, map, option_map}
+use Rattle.std.specs.Borrow.{Bor}
 use Rattle.std.specs.declared.alloc.Global.{Global}
 use Rattle.qs_types.specs.Types.{TypeTree}
 use Rattle.qs_types.specs.Layout.{and_then}
@@ -7,6 +8,13 @@ use Rattle.qs_types.specs.Expressions.{Judged}
 use Rattle.qs_types.specs.Rules.{type_unless}
 use Rattle.qs_types.specs.TypeOf.{type_tree}
 use Rattle.qs_types.specs.declared.types.CType.{CType}
+
+-- a type in code, where there is one
+abbrev pub option_type : Option CType → Option TypeTree
+option_type = option_map type_tree
+
+abbrev pub type_at : Option (Bor CType) → Option TypeTree
+type_at = option_map (λ t. type_tree t.now)
 
 abbrev pub with_type : Option TypeTree → (TypeTree → Judged) → Option Judged
 with_type t judge = and_then t (λ t. Some (judge t))

@@ -1,5 +1,5 @@
 -- Why a unit is refused: the first cause of some, in their order.
-use Rattle.std.specs.Prelude.{◌≡◌, ◌≤◌, ◌⊎◌, ℕ, Bool, List, ◌++◌, Option, Some, None, if◌then◌else◌}
+use Rattle.std.specs.Prelude.{◌≡◌, ◌≤◌, ◌⊎◌, ℕ, Bool, false, List, ◌++◌, Option, Some, None, if◌then◌else◌}
 use Rattle.qs_syntax.specs.Trees.{UnitTree}
 use Rattle.qs_report.specs.declared.fault_texts.LimitKind.{LimitKind}
 use Rattle.qs_report.specs.declared.fault_texts.LimitKind.TheVariants as kinds
@@ -60,18 +60,42 @@ pub record IsLeastViolation (unit : UnitTree) (node : ℕ) (rule : Rule) : Type 
   pub least_node : (n : ℕ) (r : Rule) → Violates unit n r → node ≤ n
   pub least_rule : (r : Rule) → Violates unit node r → rule_number rule ≤ rule_number r
 
--- where a rule is told, it is the least
-abbrev pub IsLeast : UnitTree → TypeFault → Type 0
-IsLeast unit (faults.Rule node rule) = IsLeastViolation unit node rule
-IsLeast unit (faults.Limit kind node) = Unit {0}
-IsLeast unit faults.NoMain = Unit {0}
-IsLeast unit (faults.Undefined node) = Unit {0}
-IsLeast unit faults.NoMemory = Unit {0}
+-- the node at which the count of a kind first passes its limit
+abbrev pub first_past : LimitKind → UnitTree → Option ℕ
+first_past kinds.Nodes unit = first_past_nodes node_limit unit
+first_past kinds.Functions unit = first_past_functions function_limit unit
+first_past kinds.Parameters unit = first_past_parameters parameter_limit unit
+first_past kinds.Globals unit = first_past_globals global_limit unit
+first_past kinds.Locals unit = first_past_locals local_limit unit
+
+-- there is this cause to refuse a unit
+abbrev pub HasCause : UnitTree → TypeFault → Type 0
+HasCause unit (faults.Rule node rule) = IsLeastViolation unit node rule
+HasCause unit (faults.Limit kind node) = first_past kind unit ≡ Some node
+HasCause unit faults.NoMain = has_main unit ≡ false
+HasCause unit (faults.Undefined node) = first_undefined unit ≡ Some node
+HasCause unit faults.NoMemory = ⊥
+
+-- the places of causes in their order
+abbrev pub limit_place : LimitKind → ℕ
+limit_place kinds.Nodes = 0
+limit_place kinds.Functions = 1
+limit_place kinds.Parameters = 2
+limit_place kinds.Globals = 6
+limit_place kinds.Locals = 7
+
+abbrev pub place_of : TypeFault → ℕ
+place_of (faults.Limit kind node) = limit_place kind
+place_of (faults.Rule node rule) = 3
+place_of faults.NoMain = 4
+place_of (faults.Undefined node) = 5
+place_of faults.NoMemory = 8
 
 -- a fault is the first cause to refuse a unit
 pub record IsCause (unit : UnitTree) (f : TypeFault) : Type 0 where
   pub first : first_refusal unit ≡ Some f
-  pub least : IsLeast unit f
+  pub is_there : HasCause unit f
+  pub none_before : (g : TypeFault) → HasCause unit g → place_of f ≤ place_of g
 
 -- a fault is told of a unit: its first cause, or that there is no memory
 abbrev pub IsTold : UnitTree → TypeFault → Type 0
@@ -87,10 +111,13 @@ pub record IsAccepted (unit : UnitTree) : Type 0 where
 abbrev pub runs_in : Context → List ℕ → Bool
 runs_in c f = entity_runs (entity_of c f)
 
+abbrev pub has_main_in : Context → Bool
+has_main_in c = entity_has_body (entity_of c main_name)
+
 abbrev pub late_by : Context → WalkTree → UnitTree → Option TypeFault
 late_by c w unit =
     first_of (rule_fault w.found.least)
-    (first_of (main_fault (entity_has_body (entity_of c main_name)))
+    (first_of (main_fault (has_main_in c))
     (first_of (undefined_fault (undefined_from (runs_in c) w.noted.calls unit))
     (first_of (limit_fault kinds.Globals (block_past global_limit 0 (w.noted.globals ++ w.noted.texts)))
     (limit_fault kinds.Locals w.noted.local_past))))

@@ -4,6 +4,7 @@ use Rattle.std.proofs.Props.{props}
 use Rattle.std.proofs.lemmas.Bool.Decides.{Decides-eqb}
 use Rattle.std.specs.Cmp.{first_so, second_so}
 use mathlib.Core.HLevel.{hedberg}
+use Rattle.qs_types.specs.Limits.{Block}
 use Rattle.qs_types.specs.Types.{TypeTree, int, unsigned, char, void, pointer, array, struct, Structs, same_type}
 
 same_self : (t : TypeTree) → same_type t t ≡ true
@@ -41,3 +42,30 @@ types_prop ts us = hlevel (props, type_set)
 
 pub structs_prop : (structs others : Structs) → IsProp (structs ≡ others)
 structs_prop structs others = hlevel (props, type_set)
+
+-- ---- the same of blocks
+
+abbrev same_block : Block → Block → Bool
+same_block a b = (a.node == b.node) && (a.size == b.size)
+
+block_self : (a : Block) → same_block a a ≡ true
+block_self a = ap (λ b. b && (a.size == a.size)) ((Decides-eqb a.node a.node).1 refl) ∙ (Decides-eqb a.size a.size).1 refl
+
+block_is : (a b : Block) → same_block a b ≡ true → a ≡ b
+block_is a b h =
+    let node = (Decides-eqb a.node b.node).0 (first_so (a.node == b.node) (a.size == b.size) h) in
+    let size = (Decides-eqb a.size b.size).0 (second_so (a.node == b.node) (a.size == b.size) h) in
+    λ i. record { node = node i; size = size i }
+
+block_decided : Discrete Block
+block_decided a b = by (same_block a b) refl
+  where
+    by : (t : Bool) → same_block a b ≡ t → Dec (a ≡ b)
+    by true e = yes (block_is a b e)
+    by false e = no (λ p. let differ : true ≡ false = sym (block_self a) ∙ ap (same_block a) p ∙ e in absurd (cc))
+
+block_set : IsSet Block
+block_set = hedberg block_decided
+
+pub blocks_prop : (bs cs : List Block) → IsProp (bs ≡ cs)
+blocks_prop bs cs = hlevel (props, block_set)

@@ -1,12 +1,10 @@
 // Assignments (C11 6.5.16).
-ghost use Rattle.std.specs.Prelude.{◌≡◌, IfOk, option_map};
+ghost use Rattle.std.specs.Prelude.{◌≡◌, IfOk};
 ghost use Rattle.qs_syntax.specs.TreeOf.{expr_tree};
-ghost use Rattle.qs_types.specs.Conversions.{decayed};
-ghost use Rattle.qs_types.specs.EnvOf.{env_tree};
-ghost use Rattle.qs_types.specs.Expressions.{may_assign, may_combine, may_move, compound_judged, assign_judged};
+ghost use Rattle.qs_types.specs.Expressions.{may_combine, compound_judged};
 ghost use Rattle.qs_types.specs.TypeOf.{type_tree};
 ghost use Rattle.qs_typing.specs.JudgedOf.{judged_tree};
-ghost use Rattle.qs_typing.specs.PartsOf.{with_types};
+ghost use Rattle.qs_typing.specs.Judging.{IsAssign, IsCombined, IsMoved, JudgesAssign, MayAssign, may_move};
 
 use crate::judged::{Judged, keeps, with_tests};
 use crate::operands::{is_assignable, is_lvalue};
@@ -18,7 +16,7 @@ use std::alloc::Global;
 
 /// Whether `b` may be assigned to `a` (C11 6.5.16.1p1).
 fn may_assign(alloc: Global, a: &Expr, t: &CType, b: &Expr, u: &CType) -> Result<bool, NoMemory>
-    ensures { IfOk result (λ may. may ≡ may_assign (expr_tree a.now) (type_tree t.now) (expr_tree b.now) (type_tree u.now)) }
+    ensures { IfOk result (MayAssign a.now t.now b.now u.now) }
 {
     let v = decayed(u.copy(alloc)?);
     Ok(
@@ -35,7 +33,7 @@ fn may_combine(a: &Expr, t: &CType, v: &CType) -> bool
 }
 
 fn may_move(types: &Env, a: &Expr, t: &CType, v: &CType) -> bool
-    ensures { result ≡ may_move (env_tree types.now) (expr_tree a.now) (type_tree t.now) (type_tree v.now) }
+    ensures { result ≡ may_move types.now a.now t.now v.now }
 {
     is_lvalue(a) && (is_integer(t) || is_object_pointer(types, t)) && is_integer(v)
 }
@@ -48,7 +46,7 @@ fn compound_judged(alloc: Global, may: bool, t: CType) -> Result<Judged, NoMemor
 
 /// With an operator whose operands are integers.
 fn combined_judged(alloc: Global, a: &Expr, t: CType, u: CType) -> Result<Judged, NoMemory>
-    ensures { IfOk result (λ j. judged_tree j ≡ compound_judged (may_combine (expr_tree a.now) (type_tree t) (decayed (type_tree u))) (type_tree t)) }
+    ensures { IfOk result (IsCombined a.now t u) }
 {
     let may = may_combine(a, &t, &decayed(u));
     compound_judged(alloc, may, t)
@@ -62,7 +60,7 @@ fn moved_judged(
     t: CType,
     u: CType,
 ) -> Result<Judged, NoMemory>
-    ensures { IfOk result (λ j. judged_tree j ≡ compound_judged (may_move (env_tree types.now) (expr_tree a.now) (type_tree t) (decayed (type_tree u))) (type_tree t)) }
+    ensures { IfOk result (IsMoved types.now a.now t u) }
 {
     let may = may_move(types, a, &t, &decayed(u));
     compound_judged(alloc, may, t)
@@ -77,7 +75,7 @@ fn assign_judged(
     b: &Expr,
     u: CType,
 ) -> Result<Judged, NoMemory>
-    ensures { IfOk result (λ j. judged_tree j ≡ assign_judged (env_tree types.now) operator (expr_tree a.now) (type_tree t) (expr_tree b.now) (type_tree u)) }
+    ensures { IfOk result (IsAssign types.now operator a.now t b.now u) }
 {
     match operator {
         AssignmentOperator::Plain => {
@@ -107,7 +105,7 @@ pub fn judge_assign(
     b: &Expr,
     u: Option<CType>,
 ) -> Result<Option<Judged>, NoMemory>
-    ensures { IfOk result (λ j. option_map judged_tree j ≡ with_types (option_map type_tree t) (option_map type_tree u) (λ t u. assign_judged (env_tree types.now) operator (expr_tree a.now) t (expr_tree b.now) u)) }
+    ensures { IfOk result (JudgesAssign types.now operator a.now t b.now u) }
 {
     match t {
         None => Ok(None),

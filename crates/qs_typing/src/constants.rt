@@ -1,10 +1,10 @@
 // Constant expressions (C11 6.6): how they are built, and their values.
 ghost use Rattle.std.specs.Prelude.{◌≡◌, Some};
 ghost use Rattle.qs_syntax.specs.TreeOf.{expr_tree, shape_tree};
-ghost use Rattle.qs_types.specs.Layout.{and_then, size_of};
-ghost use Rattle.qs_types.specs.Contexts.{base_type, named_type};
+ghost use Rattle.qs_types.specs.Layout.{and_then};
 ghost use Rattle.qs_types.specs.Constants as constants;
 ghost use Rattle.qs_typing.specs.ContextOf.{context_tree};
+ghost use Rattle.qs_typing.specs.NameJudging.{base_in, named_in, size_in};
 
 use crate::context::Context;
 use qs_base::{add32, divs32, divu32, mul32, rems32, remu32, sll32, sra32, srl32, sub32};
@@ -289,7 +289,7 @@ fn unary_value(operator: UnaryOperator, a: u32) -> Option<u32>
 
 /// A value converted to the named type (C11 6.3.1.3).
 fn converted(context: &Context, name: &TypeName, n: u32) -> Option<u32>
-    ensures { result ≡ and_then (named_type (context_tree context.now) name.now) (λ t. Some (constants.converted t n)) }
+    ensures { result ≡ and_then (named_in context.now name.now) (λ t. Some (constants.converted t n)) }
 {
     context.base_type(&name.base)?;
     if name.stars > 0 {
@@ -305,7 +305,7 @@ fn converted(context: &Context, name: &TypeName, n: u32) -> Option<u32>
 }
 
 fn base_size(context: &Context, base: &Base) -> Option<u32>
-    ensures { result ≡ and_then (base_type (context_tree context.now) base.now) (size_of (context_tree context.now).structs) }
+    ensures { result ≡ and_then (base_in context.now base.now) (size_in context.now) }
 {
     match base {
         Base::Void => None,
@@ -321,7 +321,7 @@ fn base_size(context: &Context, base: &Base) -> Option<u32>
 
 /// The size of the named type (C11 6.5.3.4).
 fn named_size(context: &Context, name: &TypeName) -> Option<u32>
-    ensures { result ≡ and_then (named_type (context_tree context.now) name.now) (size_of (context_tree context.now).structs) }
+    ensures { result ≡ and_then (named_in context.now name.now) (size_in context.now) }
 {
     if name.stars > 0 {
         context.base_type(&name.base)?;

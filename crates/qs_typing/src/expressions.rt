@@ -1,20 +1,16 @@
 // The walk over expressions (C11 6.5).
-ghost use Rattle.std.specs.Prelude.{◌≡◌, ◌+◌, ◌∷◌, [], IfOk, OnOk, length, map, option_map, option_to_list, if◌then◌else◌};
-ghost use Rattle.qs_syntax.specs.TreeOf.{expr_tree, exprs_tree, shape_tree};
-ghost use Rattle.qs_types.specs.ExpressionFaults.{own_tests, position_tests};
-ghost use Rattle.qs_types.specs.Expressions.{judged, shape_judged, type_of, types_of};
-ghost use Rattle.qs_types.specs.Placed.{local_node, named_local, operand_of};
-ghost use Rattle.qs_types.specs.TypeOf.{type_tree};
+ghost use Rattle.std.specs.Prelude.{◌≡◌, ◌+◌, [], IfOk, OnOk, length, option_to_list, if◌then◌else◌};
+ghost use Rattle.qs_syntax.specs.TreeOf.{expr_tree, shape_tree};
+ghost use Rattle.qs_types.specs.Expressions.{judged};
+ghost use Rattle.qs_types.specs.Placed.{local_node, named_local};
 ghost use Rattle.qs_types.specs.Types.{array, char, int, unsigned};
 ghost use Rattle.qs_typing.specs.ContextOf.{context_tree};
-ghost use Rattle.qs_typing.specs.EntityOf.{entity_tree};
-ghost use Rattle.qs_typing.specs.ExprFindings.{expr_findings, given_referent, referent, shape_referent};
-ghost use Rattle.qs_typing.specs.Findings.{judged_at, with_findings};
-ghost use Rattle.qs_typing.specs.FoundOf.{found_tree};
+ghost use Rattle.qs_typing.specs.EntityOf.{entity_at};
+ghost use Rattle.qs_typing.specs.ExprFindings.{given_referent, referent, shape_referent};
+ghost use Rattle.qs_typing.specs.ExprWalks.{AddsFindings, AddsType, HasType, HaveTypes, IsJudgedShape, NotesNode, NotesOperand, Settles, Walks, WalksAll, WalksParts};
 ghost use Rattle.qs_typing.specs.JudgedOf.{judged_tree};
-ghost use Rattle.qs_typing.specs.PartsOf.{one_more, type_by, types_tree};
-ghost use Rattle.qs_typing.specs.PositionOf.{position_tree};
-ghost use Rattle.qs_typing.specs.Walk.{all_walked, parts_walked, walked, with_addressed};
+ghost use Rattle.qs_typing.specs.Judging.{option_judged};
+ghost use Rattle.qs_typing.specs.PartsOf.{option_type, type_by};
 
 use crate::assignments::judge_assign;
 use crate::context::Context;
@@ -29,6 +25,7 @@ use crate::operators::{
 use crate::positions::{
     Position, assigned_position, is_misplaced, object_position, operand_position, right_position,
 };
+use crate::types::copied;
 use qs_base::{Name, NoMemory};
 use qs_syntax::{Expr, Shape, Text, UnaryOperator};
 use qs_types::{CType, Rule};
@@ -48,7 +45,7 @@ fn given(x: &Name) -> Referent
 }
 
 fn referent(x: &Name, entity: Option<&Entity>) -> Option<Referent>
-    ensures { result ≡ referent x.now (option_map (λ e. entity_tree e.now) entity.entry) }
+    ensures { result ≡ referent x.now (entity_at entity.entry) }
 {
     match entity {
         None => None,
@@ -82,7 +79,7 @@ fn shape_referent(c: &Context, shape: &Shape) -> Option<Referent>
 }
 
 fn local_node(entity: Option<&Entity>) -> Option<u32>
-    ensures { option_to_list result ≡ local_node (option_map (λ e. entity_tree e.now) entity.entry) }
+    ensures { option_to_list result ≡ local_node (entity_at entity.entry) }
 {
     match entity {
         None => None,
@@ -123,7 +120,7 @@ fn note_operand(
     a: &Expr,
     found: &mut Found,
 ) -> Result<(), NoMemory>
-    ensures { OnOk result (found_tree found.new ≡ with_addressed (operand_of operator (named_local (context_tree c.now) (expr_tree a.now))) (found_tree found.old)) }
+    ensures { OnOk result (NotesOperand c.now operator a.now found.old found.new) }
 {
     match operator {
         UnaryOperator::Address => note_node(named_local(c, a), found),
@@ -137,7 +134,7 @@ fn note_operand(
 
 #[tactic(auto, using(crate::proofs::Walks::none_addressed))]
 fn note_node(node: Option<u32>, found: &mut Found) -> Result<(), NoMemory>
-    ensures { OnOk result (found_tree found.new ≡ with_addressed (option_to_list node) (found_tree found.old)) }
+    ensures { OnOk result (NotesNode node found.old found.new) }
 {
     match node {
         None => Ok(()),
@@ -179,8 +176,8 @@ fn settle(
     judged: Option<Judged>,
     found: &mut Found,
 ) -> Option<CType>
-    ensures typed { option_map type_tree result ≡ type_by (option_map judged_tree judged) }
-    ensures found { found_tree found.new ≡ judged_at node (position_tests (position_tree p) (shape_tree shape.now) (type_by (option_map judged_tree judged))) (judged_at node (own_tests (option_map judged_tree judged)) (found_tree found.old)) }
+    ensures typed { option_type result ≡ type_by (option_judged judged) }
+    ensures found { Settles node p shape.now judged found.old found.new }
 {
     match judged {
         None => None,
@@ -195,15 +192,6 @@ fn settle(
     }
 }
 
-fn copied(alloc: Global, t: &Option<CType>) -> Result<Option<CType>, NoMemory>
-    ensures { IfOk result (λ r. option_map type_tree r ≡ option_map type_tree t.now) }
-{
-    match t {
-        None => Ok(None),
-        Some(t) => Ok(Some(t.copy(alloc)?)),
-    }
-}
-
 #[cycle(walk)]
 fn walk(
     alloc: Global,
@@ -212,8 +200,8 @@ fn walk(
     p: Position,
     found: &mut Found,
 ) -> Result<Option<CType>, NoMemory>
-    ensures typed { IfOk result (λ t. option_map type_tree t ≡ type_of (context_tree c.now) (expr_tree e.now)) }
-    ensures found { OnOk result (found_tree found.new ≡ walked (context_tree c.now) (position_tree p) (expr_tree e.now) (found_tree found.old)) }
+    ensures typed { IfOk result (HasType c.now e.now) }
+    ensures found { OnOk result (Walks c.now p e.now found.old found.new) }
 {
     let at = found.open(shape_referent(c, &e.shape))?;
     let judged = walk_parts(alloc, c, &e.shape, p, found)?;
@@ -231,8 +219,8 @@ fn walk_parts(
     p: Position,
     found: &mut Found,
 ) -> Result<Option<Judged>, NoMemory>
-    ensures judged { IfOk result (λ j. option_map judged_tree j ≡ shape_judged (context_tree c.now) (shape_tree shape.now)) }
-    ensures found { OnOk result (found_tree found.new ≡ parts_walked (context_tree c.now) (position_tree p) (shape_tree shape.now) (found_tree found.old)) }
+    ensures judged { IfOk result (IsJudgedShape c.now shape.now) }
+    ensures found { OnOk result (WalksParts c.now p shape.now found.old found.new) }
 {
     match shape {
         Shape::Constant(_, is_unsigned) => Ok(Some(constant_judged(alloc, *is_unsigned)?)),
@@ -318,8 +306,8 @@ fn walk_all(
     es: &[Expr],
     found: &mut Found,
 ) -> Result<Option<Vec<CType>>, NoMemory>
-    ensures typed { IfOk result (λ ts. types_tree ts ≡ types_of (context_tree c.now) (exprs_tree es.now)) }
-    ensures found { OnOk result (found_tree found.new ≡ all_walked (context_tree c.now) (exprs_tree es.now) (found_tree found.old)) }
+    ensures typed { IfOk result (HaveTypes c.now es.now) }
+    ensures found { OnOk result (WalksAll c.now es.now found.old found.new) }
 {
     let mut all = Some(Vec::new(alloc));
     for e in es {
@@ -330,7 +318,7 @@ fn walk_all(
 }
 
 fn with_one_more(all: Option<Vec<CType>>, t: Option<CType>) -> Result<Option<Vec<CType>>, NoMemory>
-    ensures { IfOk result (λ ts. types_tree ts ≡ one_more (types_tree all) (option_map type_tree t)) }
+    ensures { IfOk result (AddsType all t) }
 {
     match all {
         None => Ok(None),
@@ -355,8 +343,8 @@ pub fn walk_expression(
     p: Position,
     found: &mut Found,
 ) -> Result<Option<CType>, NoMemory>
-    ensures typed { IfOk result (λ t. option_map type_tree t ≡ type_of (context_tree c.now) (expr_tree e.now)) }
-    ensures found { OnOk result (found_tree found.new ≡ with_findings (found_tree found.old) (expr_findings (context_tree c.now) (position_tree p) (expr_tree e.now))) }
+    ensures typed { IfOk result (HasType c.now e.now) }
+    ensures found { OnOk result (AddsFindings c.now p e.now found.old found.new) }
 {
     walk(alloc, c, e, p, found)
 }

@@ -14,7 +14,7 @@ use qs_types::{CType, Rule};
 use std::alloc::Global;
 
 /// A node, and a rule that it breaks.
-#[derive(Clone, Copy, PartialEq, Eq, Debug)]
+#[derive(Clone, Copy)]
 pub struct Fault {
     /// The number of the node.
     pub node: u32,

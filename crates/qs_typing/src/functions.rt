@@ -12,6 +12,8 @@ ghost use Rattle.qs_types.specs.Types.{is_struct};
 ghost use Rattle.qs_types.specs.TypeOf.{type_tree};
 ghost use Rattle.qs_types.specs.UnitRules as rules;
 ghost use Rattle.qs_typing.specs.ContextOf.{context_tree};
+ghost use Rattle.qs_typing.specs.PartsOf.{option_type};
+ghost use Rattle.qs_typing.specs.FunctionWalks.{AreHeaderTests, AreNoted, AreParameterTests, AreParameterTypes, AreWithOne, DeclaresParameter, DeclaresParameters, HasParameterTypes, IsDeclaredFunction, IsMainTest, IsParameterType, IsResultType, IsSignature, IsSignatureTest, KnowsFunction, KnowsParameter, KnowsParameters, WalksFunction, WalksItems, WalksParameter, WalksParameters, agrees_with, header_by};
 ghost use Rattle.qs_typing.specs.EntityOf.{entity_tree, signature_tree};
 ghost use Rattle.qs_typing.specs.JudgedOf.{test_tree};
 ghost use Rattle.qs_typing.specs.Functions.{after_parameters, items_walked};
@@ -28,7 +30,7 @@ use crate::judged::{Test, keeps, violates};
 use crate::lengths::walk_parameter_lengths;
 use crate::noted::{Local, local_of};
 use crate::statements::walk_statements;
-use crate::types::{is_scalar, is_struct};
+use crate::types::{copied, is_scalar, is_struct};
 use crate::walk::Walk;
 use qs_base::{Name, NoMemory};
 use qs_syntax::{Function, Parameter, Stmt};
@@ -36,15 +38,6 @@ use qs_types::{CType, Env, Rule};
 use std::alloc::Global;
 
 // ---- parameters
-
-fn copied(alloc: Global, t: &Option<CType>) -> Result<Option<CType>, NoMemory>
-    ensures { IfOk result (λ r. option_map type_tree r ≡ option_map type_tree t.now) }
-{
-    match t {
-        None => Ok(None),
-        Some(t) => Ok(Some(t.copy(alloc)?)),
-    }
-}
 
 fn is_name_declared(c: &Context, name: &Option<Name>) -> bool
     ensures { result ≡ rules.is_name_declared (context_tree c.now) name.now }
@@ -57,7 +50,7 @@ fn is_name_declared(c: &Context, name: &Option<Name>) -> bool
 
 /// The test that the parameter is a scalar, and has a name where there is a body.
 fn signature_test(p: &Parameter, has_body: bool, t: &Option<CType>) -> Test
-    ensures { test_tree result ∷ [] ≡ rules.signature_tests (parameter_tree p.now) has_body (option_map type_tree t.now) }
+    ensures { IsSignatureTest p.now has_body t.now result }
 {
     match t {
         None => violates(Rule::SignatureType, has_body && p.name.is_none()),
@@ -75,7 +68,7 @@ fn parameter_tests(
     declared: &[Test],
     signature: Test,
 ) -> Result<Vec<Test>, NoMemory>
-    ensures { IfOk result (λ ts. map test_tree ts.items ≡ (if all_typed then test rule.DeclaredTwice again ++ (map test_tree declared.now ++ test_tree signature ∷ []) else [])) }
+    ensures { IfOk result (λ ts. AreParameterTests all_typed again declared.now signature ts.items) }
 {
     let mut tests = Vec::new(alloc);
     if !all_typed {
@@ -94,7 +87,7 @@ fn declare_parameter(
     p: &Parameter,
     t: &Option<CType>,
 ) -> Result<(), NoMemory>
-    ensures { OnOk result (context_tree c.new ≡ rules.with_parameter (context_tree c.old) (parameter_tree p.now) (option_map type_tree t.now) p.now.name) }
+    ensures { OnOk result (DeclaresParameter p.now t.now c.old c.new) }
 {
     match &p.name {
         None => Ok(()),
@@ -113,9 +106,9 @@ fn walk_parameter(
     p: &Parameter,
     walk: &mut Walk,
 ) -> Result<Option<CType>, NoMemory>
-    ensures typed { IfOk result (λ t. option_map type_tree t ≡ (declarations.parameter_declared (context_tree c.old) (parameter_tree p.now)).type) }
-    ensures context { OnOk result (context_tree c.new ≡ rules.after_parameter (context_tree c.old) (parameter_tree p.now)) }
-    ensures walked { OnOk result (walk_tree walk.new ≡ parameter_walked (context_tree c.old) has_body (parameter_tree p.now) (walk_tree walk.old)) }
+    ensures typed { IfOk result (IsParameterType c.old p.now) }
+    ensures context { OnOk result (KnowsParameter p.now c.old c.new) }
+    ensures walked { OnOk result (WalksParameter c.old has_body p.now walk.old walk.new) }
 {
     walk.open()?;
     let lengths = walk_parameter_lengths(alloc, c, &p.lengths, walk)?;
@@ -137,9 +130,9 @@ fn walk_parameters(
     ps: &[Parameter],
     walk: &mut Walk,
 ) -> Result<Vec<Option<CType>>, NoMemory>
-    ensures typed { IfOk result (λ ts. map (option_map type_tree) ts.items ≡ rules.parameter_types (context_tree c.old) (map parameter_tree ps.now)) }
-    ensures context { OnOk result (context_tree c.new ≡ after_parameters (context_tree c.old) (map parameter_tree ps.now)) }
-    ensures walked { OnOk result (walk_tree walk.new ≡ parameters_walked (context_tree c.old) has_body (map parameter_tree ps.now) (walk_tree walk.old)) }
+    ensures typed { IfOk result (λ ts. AreParameterTypes c.old ps.now ts.items) }
+    ensures context { OnOk result (KnowsParameters ps.now c.old c.new) }
+    ensures walked { OnOk result (WalksParameters c.old has_body ps.now walk.old walk.new) }
 {
     let mut types = Vec::new(alloc);
     for p in ps {
@@ -157,7 +150,7 @@ fn is_void_pointer(f: &Function) -> bool
 }
 
 fn result_type(alloc: Global, c: &Context, f: &Function) -> Result<Option<CType>, NoMemory>
-    ensures { IfOk result (λ t. option_map type_tree t ≡ rules.result_type (context_tree c.now) (function_tree f.now)) }
+    ensures { IfOk result (IsResultType c.now f.now) }
 {
     if is_void_pointer(f) {
         return Ok(None);
@@ -166,7 +159,7 @@ fn result_type(alloc: Global, c: &Context, f: &Function) -> Result<Option<CType>
 }
 
 fn may_be(t: &CType, u: &Option<CType>) -> bool
-    ensures { result ≡ rules.may_be (type_tree t.now) (option_map type_tree u.now) }
+    ensures { result ≡ rules.may_be (type_tree t.now) (option_type u.now) }
 {
     match u {
         None => true,
@@ -175,7 +168,7 @@ fn may_be(t: &CType, u: &Option<CType>) -> bool
 }
 
 fn may_all_be(ts: &[CType], us: &[Option<CType>]) -> bool
-    ensures { result ≡ rules.may_all_be (map type_tree ts.now) (map (option_map type_tree) us.now) }
+    ensures { result ≡ rules.may_all_be (map type_tree ts.now) (map option_type us.now) }
 {
     let mut i = 0;
     while i < ts.len() && i < us.len() {
@@ -191,13 +184,13 @@ fn may_all_be(ts: &[CType], us: &[Option<CType>]) -> bool
 }
 
 fn agrees(s: &Signature, types: &[Option<CType>], to: &Option<CType>) -> bool
-    ensures { result ≡ rules.agree (Some (signature_tree s.now)) (record { parameters = map (option_map type_tree) types.now; result = option_map type_tree to.now }) }
+    ensures { result ≡ rules.agree (Some (signature_tree s.now)) (header_by types.now to.now) }
 {
     may_be(&s.result, to) && may_all_be(&s.parameters, types)
 }
 
 fn option_agrees(s: &Option<Signature>, types: &[Option<CType>], to: &Option<CType>) -> bool
-    ensures { result ≡ rules.agree (option_map signature_tree s.now) (record { parameters = map (option_map type_tree) types.now; result = option_map type_tree to.now }) }
+    ensures { result ≡ rules.agree (option_map signature_tree s.now) (header_by types.now to.now) }
 {
     match s {
         None => true,
@@ -212,7 +205,7 @@ fn agrees_with(
     to: &Option<CType>,
     has_body: bool,
 ) -> bool
-    ensures { result ≡ rules.agrees_with (option_map (λ e. entity_tree e.now) entity.entry) (record { parameters = map (option_map type_tree) types.now; result = option_map type_tree to.now }) has_body }
+    ensures { result ≡ agrees_with entity.entry (header_by types.now to.now) has_body }
 {
     match entity {
         None => true,
@@ -230,13 +223,13 @@ fn agrees_with(
 }
 
 fn is_main_parameter(t: &Option<CType>) -> bool
-    ensures { result ≡ rules.is_main_parameter (option_map type_tree t.now) }
+    ensures { result ≡ rules.is_main_parameter (option_type t.now) }
 {
     may_be(&CType::Int, t) || may_be(&CType::Unsigned, t)
 }
 
 fn are_main_parameters(types: &[Option<CType>]) -> bool
-    ensures { result ≡ list_all rules.is_main_parameter (map (option_map type_tree) types.now) }
+    ensures { result ≡ list_all rules.is_main_parameter (map option_type types.now) }
 {
     for t in types {
         if !is_main_parameter(t) {
@@ -247,13 +240,13 @@ fn are_main_parameters(types: &[Option<CType>]) -> bool
 }
 
 fn is_main_type(types: &[Option<CType>], to: &Option<CType>) -> bool
-    ensures { result ≡ rules.is_main_type (record { parameters = map (option_map type_tree) types.now; result = option_map type_tree to.now }) }
+    ensures { result ≡ rules.is_main_type (header_by types.now to.now) }
 {
     may_be(&CType::Int, to) && are_main_parameters(types)
 }
 
 fn is_struct_result(t: &Option<CType>) -> bool
-    ensures { result ≡ is_struct (type_or_void (option_map type_tree t.now)) }
+    ensures { result ≡ is_struct (type_or_void (option_type t.now)) }
 {
     match t {
         None => false,
@@ -263,7 +256,7 @@ fn is_struct_result(t: &Option<CType>) -> bool
 
 /// The test of a header of `main` (C11 5.1.2.2.1).
 fn main_test(f: &Function, types: &[Option<CType>], to: &Option<CType>) -> Option<Test>
-    ensures { map test_tree (option_to_list result) ≡ rules.main_tests (function_tree f.now) (record { parameters = map (option_map type_tree) types.now; result = option_map type_tree to.now }) }
+    ensures { IsMainTest f.now (header_by types.now to.now) result }
 {
     if f.name.bytes() == b"main".as_slice() {
         Some(keeps(Rule::MainType, is_main_type(types, to)))
@@ -274,7 +267,7 @@ fn main_test(f: &Function, types: &[Option<CType>], to: &Option<CType>) -> Optio
 
 /// These tests, and one more.
 fn with_test(alloc: Global, tests: &[Test], t: Option<Test>) -> Result<Vec<Test>, NoMemory>
-    ensures { IfOk result (λ ts. map test_tree ts.items ≡ map test_tree tests.now ++ map test_tree (option_to_list t)) }
+    ensures { IfOk result (λ ts. AreWithOne tests.now t ts.items) }
 {
     let mut all = Vec::from_slice(alloc, tests)?;
     match t {
@@ -293,9 +286,9 @@ fn header_tests(
     types: &[Option<CType>],
     to: &Option<CType>,
 ) -> Result<Vec<Test>, NoMemory>
-    requires types { map (option_map type_tree) types.now ≡ rules.parameter_types (inner_scope (context_tree c.now)) (function_tree f.now).parameters }
-    requires to { option_map type_tree to.now ≡ rules.result_type (context_tree c.now) (function_tree f.now) }
-    ensures { IfOk result (λ ts. map test_tree ts.items ≡ rules.header_tests (context_tree c.now) (function_tree f.now)) }
+    requires types { HasParameterTypes c.now f.now types.now }
+    requires to { IsResultType c.now f.now to.now }
+    ensures { IfOk result (λ ts. AreHeaderTests c.now f.now ts.items) }
 {
     let agrees = agrees_with(c.find_here(&f.name), types, to, f.body.is_some());
     let known = c.base_type(&f.result_type.base).is_some();
@@ -312,7 +305,7 @@ fn header_tests(
 
 /// The types of the parameters, if each has one.
 fn all_of(alloc: Global, types: &[Option<CType>]) -> Result<Option<Vec<CType>>, NoMemory>
-    ensures { IfOk result (λ ts. types_tree ts ≡ rules.all_of (map (option_map type_tree) types.now)) }
+    ensures { IfOk result (λ ts. types_tree ts ≡ rules.all_of (map option_type types.now)) }
 {
     let mut all = Vec::new(alloc);
     for t in types {
@@ -329,7 +322,7 @@ fn signature_by(
     types: &[Option<CType>],
     to: &Option<CType>,
 ) -> Result<Option<Signature>, NoMemory>
-    ensures { IfOk result (λ s. option_map signature_tree s ≡ rules.signature_by (record { parameters = map (option_map type_tree) types.now; result = option_map type_tree to.now })) }
+    ensures { IfOk result (IsSignature (header_by types.now to.now)) }
 {
     match all_of(alloc, types)? {
         None => Ok(None),
@@ -370,7 +363,7 @@ fn declared_function(
     signature: Option<Signature>,
     has_body: bool,
 ) -> Result<Entity, NoMemory>
-    ensures { IfOk result (λ e. entity_tree e ≡ rules.declared_function (option_map (λ e. entity_tree e.now) entity.entry) node (option_map signature_tree signature) has_body) }
+    ensures { IfOk result (IsDeclaredFunction entity.entry node signature has_body) }
 {
     match entity {
         None => Ok(Entity::Function {
@@ -409,9 +402,9 @@ fn declare_function(
     types: &[Option<CType>],
     to: &Option<CType>,
 ) -> Result<(), NoMemory>
-    requires types { map (option_map type_tree) types.now ≡ rules.parameter_types (inner_scope (context_tree c.old)) (function_tree f.now).parameters }
-    requires to { option_map type_tree to.now ≡ rules.result_type (context_tree c.old) (function_tree f.now) }
-    ensures { OnOk result (context_tree c.new ≡ rules.after_function (context_tree c.old) (function_tree f.now)) }
+    requires types { HasParameterTypes c.old f.now types.now }
+    requires to { IsResultType c.old f.now to.now }
+    ensures { OnOk result (KnowsFunction f.now c.old c.new) }
 {
     let signature = signature_by(alloc, types, to)?;
     let has_body = f.body.is_some();
@@ -428,7 +421,7 @@ fn declare_parameters(
     ps: &[Parameter],
     types: &[Option<CType>],
 ) -> Result<(), NoMemory>
-    ensures { OnOk result (context_tree c.new ≡ rules.with_parameters (context_tree c.old) (map parameter_tree ps.now) (map (option_map type_tree) types.now)) }
+    ensures { OnOk result (DeclaresParameters ps.now types.now c.old c.new) }
 {
     let mut i = 0;
     while i < ps.len() && i < types.len() {
@@ -445,7 +438,7 @@ fn parameters_noted(
     ps: &[Parameter],
     types: &[Option<CType>],
 ) -> Result<Vec<Local>, NoMemory>
-    ensures { IfOk result (λ ls. map local_tree ls.items ≡ parameters_noted (env_tree structs.now) (map parameter_tree ps.now) (map (option_map type_tree) types.now)) }
+    ensures { IfOk result (λ ls. AreNoted structs.now ps.now types.now ls.items) }
 {
     let mut locals = Vec::new(alloc);
     let mut i = 0;
@@ -467,7 +460,7 @@ fn walk_body_items(
     walk: &mut Walk,
 ) -> Result<(), NoMemory>
     ensures context { OnOk result (context_tree c.new ≡ context_tree c.old) }
-    ensures walked { OnOk result (walk_tree walk.new ≡ items_walked (context_tree c.old) (map parameter_tree ps.now) (map (option_map type_tree) types.now) (option_map type_tree to) (stmts_tree items.now) (walk_tree walk.old)) }
+    ensures walked { OnOk result (WalksItems c.old ps.now types.now to items.now walk.old walk.new) }
 {
     let locals = parameters_noted(alloc, c.structs(), ps, types)?;
     walk.begin_body(locals);
@@ -488,8 +481,8 @@ pub fn walk_function(
     f: &Function,
     walk: &mut Walk,
 ) -> Result<(), NoMemory>
-    ensures context { OnOk result (context_tree c.new ≡ rules.after_function (context_tree c.old) (function_tree f.now)) }
-    ensures walked { OnOk result (walk_tree walk.new ≡ function_walked (context_tree c.old) (function_tree f.now) (walk_tree walk.old)) }
+    ensures context { OnOk result (KnowsFunction f.now c.old c.new) }
+    ensures walked { OnOk result (WalksFunction c.old f.now walk.old walk.new) }
 {
     walk.open()?;
     let around = c.enter_scope();

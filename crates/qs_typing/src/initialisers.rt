@@ -9,7 +9,8 @@ ghost use Rattle.qs_types.specs.Declarations.{text_of};
 ghost use Rattle.qs_types.specs.Sites.{may_hold};
 ghost use Rattle.qs_types.specs.TypeOf.{type_tree};
 ghost use Rattle.qs_typing.specs.ContextOf.{context_tree};
-ghost use Rattle.qs_typing.specs.Initialisers.{Fills, Initialises, WalksList, WalksValue, all_fit, all_typed, entity_at, fits, fits_as, is_char, is_constant_at, is_typed, is_value_typed, list_fits_at, list_fits_in, option_takes_list, type_at, value_fits};
+ghost use Rattle.qs_typing.specs.EntityOf.{entity_at};
+ghost use Rattle.qs_typing.specs.Initialisers.{Fills, Initialises, WalksList, WalksValue, all_fit, all_typed, fits, fits_as, is_char, is_constant_at, is_typed, is_value_typed, list_fits_at, list_fits_in, option_takes_list, type_at, value_fits};
 
 use crate::context::Context;
 use crate::declared_types::text_length;
@@ -26,7 +27,7 @@ use qs_types::{CType, Env, Rule};
 use std::alloc::Global;
 
 /// Whether an initialiser has a type, and whether it fits.
-#[derive(Clone, Copy, PartialEq, Eq, Debug)]
+#[derive(Clone, Copy)]
 pub struct Fit {
     /// Whether it has a type; a list counts as having one.
     pub is_typed: bool,

@@ -8,7 +8,7 @@ use qs_types::{CType, Rule};
 use std::alloc::Global;
 
 /// Whether a node breaks a rule.
-#[derive(Clone, Copy, PartialEq, Eq, Debug)]
+#[derive(Clone, Copy)]
 pub struct Test {
     /// The rule.
     pub rule: Rule,

@@ -1,14 +1,9 @@
 // Members of structs (C11 6.5.2.3).
-ghost use Rattle.std.specs.Prelude.{◌≡◌, ◌&&◌, IfOk, is_some, option_map};
-ghost use Rattle.qs_syntax.specs.TreeOf.{expr_tree};
-ghost use Rattle.qs_types.specs.Conversions.{decayed};
-ghost use Rattle.qs_types.specs.EnvOf.{env_tree};
-ghost use Rattle.qs_types.specs.Expressions.{member_in, member_type, found_member, member_judged, type_or_void};
-ghost use Rattle.qs_types.specs.Layout.{and_then, struct_of};
+ghost use Rattle.std.specs.Prelude.{◌≡◌, IfOk, option_map};
+ghost use Rattle.qs_types.specs.Expressions.{type_or_void};
 ghost use Rattle.qs_types.specs.TypeOf.{type_tree};
-ghost use Rattle.qs_types.specs.Types.{referenced};
-ghost use Rattle.qs_typing.specs.JudgedOf.{judged_tree};
-ghost use Rattle.qs_typing.specs.PartsOf.{with_type};
+ghost use Rattle.qs_typing.specs.Judging.{IsFound, IsMember, JudgesMember, member_of, member_type};
+ghost use Rattle.qs_typing.specs.PartsOf.{option_type, type_at};
 
 use crate::judged::{Judged, keeps, with_tests};
 use crate::operands::is_lvalue;
@@ -30,7 +25,7 @@ pub fn type_or_void(t: Option<CType>) -> CType
 
 /// The type of a member of the struct with this number, if it has such a member.
 fn member_of<'a>(types: &'a Env, k: u32, name: &Name) -> Option<&'a CType>
-    ensures { option_map (λ t. type_tree t.now) result ≡ and_then (struct_of (env_tree types.now) k) (member_in name.now) }
+    ensures { type_at result ≡ member_of types.now k name.now }
 {
     match types.structs().get(k as usize) {
         None => None,
@@ -43,7 +38,7 @@ fn member_of<'a>(types: &'a Env, k: u32, name: &Name) -> Option<&'a CType>
 
 /// The type of a member of a struct of this type, if it has such a member.
 pub fn member_type<'a>(types: &'a Env, t: &CType, name: &Name) -> Option<&'a CType>
-    ensures { option_map (λ t. type_tree t.now) result ≡ member_type (env_tree types.now) (type_tree t.now) name.now }
+    ensures { type_at result ≡ member_type types.now t.now name.now }
 {
     match t {
         CType::Int => None,
@@ -57,7 +52,7 @@ pub fn member_type<'a>(types: &'a Env, t: &CType, name: &Name) -> Option<&'a CTy
 }
 
 fn copied(alloc: Global, t: Option<&CType>) -> Result<Option<CType>, NoMemory>
-    ensures { IfOk result (λ r. option_map type_tree r ≡ option_map (λ t. type_tree t.now) t.entry) }
+    ensures { IfOk result (λ r. option_type r ≡ type_at t.entry) }
 {
     match t {
         None => Ok(None),
@@ -72,7 +67,7 @@ fn found_member(
     t: &CType,
     name: &Name,
 ) -> Result<Judged, NoMemory>
-    ensures { IfOk result (λ j. judged_tree j ≡ found_member may (member_type (env_tree types.now) (type_tree t.now) name.now)) }
+    ensures { IfOk result (IsFound may types.now t.now name.now) }
 {
     let m = copied(alloc, member_type(types, t, name))?;
     let holds = may && m.is_some();
@@ -87,7 +82,7 @@ fn member_judged(
     t: CType,
     name: &Name,
 ) -> Result<Judged, NoMemory>
-    ensures { IfOk result (λ j. judged_tree j ≡ member_judged (env_tree types.now) access (expr_tree a.now) (type_tree t) name.now) }
+    ensures { IfOk result (IsMember types.now access a.now t name.now) }
 {
     match access {
         Access::Dot => found_member(alloc, is_lvalue(a), types, &t, name),
@@ -108,7 +103,7 @@ pub fn judge_member(
     t: Option<CType>,
     name: &Name,
 ) -> Result<Option<Judged>, NoMemory>
-    ensures { IfOk result (λ j. option_map judged_tree j ≡ with_type (option_map type_tree t) (λ t. member_judged (env_tree types.now) access (expr_tree a.now) t name.now)) }
+    ensures { IfOk result (JudgesMember types.now access a.now t name.now) }
 {
     match t {
         None => Ok(None),

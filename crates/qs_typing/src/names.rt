@@ -1,17 +1,9 @@
 // Names, calls and names of types (C11 6.5.1, 6.5.2.2, 6.5.3.4, 6.5.4).
-ghost use Rattle.std.specs.Prelude.{◌≡◌, Some, IfOk, map, not, option_map};
-ghost use Rattle.qs_syntax.specs.TreeOf.{expr_tree, exprs_tree};
-ghost use Rattle.qs_types.specs.Conversions.{decayed};
-ghost use Rattle.qs_types.specs.Expressions.{judged, unknown_name, variable_judged, name_judged, arguments_fit, signature_judged, unknown_call, call_judged, cast_judged, size_judged};
-ghost use Rattle.qs_types.specs.Layout.{and_then, is_complete};
-ghost use Rattle.qs_types.specs.Rules.{keeps};
-ghost use Rattle.qs_types.specs.TypeOf.{type_tree};
-ghost use Rattle.qs_types.specs.Types.{unsigned};
-ghost use Rattle.qs_types.specs.declared.rules.Rule.TheVariants as rules;
+ghost use Rattle.std.specs.Prelude.{◌≡◌, IfOk};
+ghost use Rattle.qs_types.specs.Expressions.{unknown_name, unknown_call, size_judged};
 ghost use Rattle.qs_typing.specs.ContextOf.{context_tree};
-ghost use Rattle.qs_typing.specs.EntityOf.{entity_tree, signature_tree};
 ghost use Rattle.qs_typing.specs.JudgedOf.{judged_tree};
-ghost use Rattle.qs_typing.specs.PartsOf.{with_type, types_tree};
+ghost use Rattle.qs_typing.specs.NameJudging.{ArgumentsFit, IsCast, IsSignature, JudgesCall, JudgesCast, JudgesFunction, JudgesName, JudgesObject, JudgesTyped, JudgesVariable};
 
 use crate::context::{Context, is_void_base};
 use crate::entity::{Entity, Signature};
@@ -33,7 +25,7 @@ fn unknown_name(alloc: Global) -> Result<Judged, NoMemory>
 }
 
 fn variable_judged(alloc: Global, t: &Option<CType>) -> Result<Option<Judged>, NoMemory>
-    ensures { IfOk result (λ j. option_map judged_tree j ≡ variable_judged (option_map type_tree t.now)) }
+    ensures { IfOk result (JudgesVariable t.now) }
 {
     match t {
         None => Ok(None),
@@ -43,7 +35,7 @@ fn variable_judged(alloc: Global, t: &Option<CType>) -> Result<Option<Judged>, N
 
 /// A name that stands for this.
 pub fn judge_name(alloc: Global, entity: Option<&Entity>) -> Result<Option<Judged>, NoMemory>
-    ensures { IfOk result (λ j. option_map judged_tree j ≡ name_judged (option_map (λ e. entity_tree e.now) entity.entry)) }
+    ensures { IfOk result (JudgesName entity.entry) }
 {
     match entity {
         None => Ok(Some(unknown_name(alloc)?)),
@@ -63,7 +55,7 @@ fn arguments_fit(
     es: &[Expr],
     us: &[CType],
 ) -> Result<bool, NoMemory>
-    ensures { IfOk result (λ fit. fit ≡ arguments_fit (map type_tree parameters.now) (exprs_tree es.now) (map type_tree us.now)) }
+    ensures { IfOk result (ArgumentsFit parameters.now es.now us.now) }
 {
     let mut i = 0;
     while i < parameters.len() && i < es.len() && i < us.len() {
@@ -82,7 +74,7 @@ fn signature_judged(
     es: &[Expr],
     us: &[CType],
 ) -> Result<Judged, NoMemory>
-    ensures { IfOk result (λ j. judged_tree j ≡ signature_judged (signature_tree signature.now) (exprs_tree es.now) (map type_tree us.now)) }
+    ensures { IfOk result (IsSignature signature.now es.now us.now) }
 {
     let fit = arguments_fit(alloc, &signature.parameters, es, us)?;
     let of = signature.result.copy(alloc)?;
@@ -109,7 +101,7 @@ fn function_judged(
     es: &[Expr],
     us: &[CType],
 ) -> Result<Option<Judged>, NoMemory>
-    ensures { IfOk result (λ j. option_map judged_tree j ≡ and_then (option_map signature_tree signature.now) (λ s. Some (signature_judged s (exprs_tree es.now) (map type_tree us.now)))) }
+    ensures { IfOk result (JudgesFunction signature.now es.now us.now) }
 {
     match signature {
         None => Ok(None),
@@ -123,7 +115,7 @@ fn call_judged(
     es: &[Expr],
     us: &[CType],
 ) -> Result<Option<Judged>, NoMemory>
-    ensures { IfOk result (λ j. option_map judged_tree j ≡ call_judged (option_map (λ e. entity_tree e.now) entity.entry) (exprs_tree es.now) (map type_tree us.now)) }
+    ensures { IfOk result (JudgesTyped entity.entry es.now us.now) }
 {
     match entity {
         None => Ok(Some(unknown_call(alloc)?)),
@@ -141,7 +133,7 @@ pub fn judge_call(
     es: &[Expr],
     us: Option<Vec<CType>>,
 ) -> Result<Option<Judged>, NoMemory>
-    ensures { IfOk result (λ j. option_map judged_tree j ≡ and_then (types_tree us) (call_judged (option_map (λ e. entity_tree e.now) entity.entry) (exprs_tree es.now))) }
+    ensures { IfOk result (JudgesCall entity.entry es.now us) }
 {
     match us {
         None => Ok(None),
@@ -158,7 +150,7 @@ fn cast_judged(
     e: &Expr,
     from: &CType,
 ) -> Result<Judged, NoMemory>
-    ensures { IfOk result (λ j. judged_tree j ≡ cast_judged (context_tree c.now) name.now (expr_tree e.now) (type_tree from.now)) }
+    ensures { IfOk result (IsCast c.now name.now e.now from.now) }
 {
     let named = c.named_type(alloc, name)?;
     let known = named.is_some();
@@ -183,7 +175,7 @@ pub fn judge_cast(
     e: &Expr,
     t: Option<CType>,
 ) -> Result<Option<Judged>, NoMemory>
-    ensures { IfOk result (λ j. option_map judged_tree j ≡ with_type (option_map type_tree t) (λ t. cast_judged (context_tree c.now) name.now (expr_tree e.now) (decayed t))) }
+    ensures { IfOk result (JudgesCast c.now name.now e.now t) }
 {
     match t {
         None => Ok(None),
@@ -216,7 +208,7 @@ pub fn judge_object(
     c: &Context,
     t: Option<CType>,
 ) -> Result<Option<Judged>, NoMemory>
-    ensures { IfOk result (λ j. option_map judged_tree j ≡ with_type (option_map type_tree t) (λ t. judged (keeps rules.IncompleteType (is_complete (context_tree c.now).structs t)) unsigned)) }
+    ensures { IfOk result (JudgesObject c.now t) }
 {
     match t {
         None => Ok(None),

@@ -1,13 +1,16 @@
 // What is noted of a unit besides types and faults: what is called, and the blocks of memory.
-ghost use Rattle.std.specs.Prelude.{◌≡◌, ◌≤◌, IfOk, OnOk, filter, map, option_map};
+ghost use Rattle.std.specs.Prelude.{◌≡◌, ◌≤◌, IfOk, OnOk, map, option_map};
 ghost use Rattle.qs_types.specs.EnvOf.{env_tree};
 ghost use Rattle.qs_types.specs.Limits.{block_past, extent_size, or_else, type_size};
-ghost use Rattle.qs_types.specs.Placed.{is_no_scalar, is_one_of};
+ghost use Rattle.qs_types.specs.Placed.{is_no_scalar};
 ghost use Rattle.qs_types.specs.TypeOf.{type_tree};
 ghost use Rattle.qs_typing.specs.Noted as noted;
-ghost use Rattle.qs_typing.specs.NotedOf.{block_tree, local_tree, noted_tree};
+ghost use Rattle.qs_typing.specs.NotedOf.{ArePlaced, block_tree, local_tree, noted_tree};
+ghost use Rattle.qs_typing.specs.Noting.{BeginsBody, EndsBody, IsLocal, NotesVariable};
+ghost use Rattle.qs_typing.specs.Sets.{nodes_once};
 
 use crate::types::is_scalar;
+use indexmap::IndexSet;
 use qs_base::{Name, NoMemory};
 use qs_types::{CType, Env, extent_of};
 use std::alloc::Global;
@@ -19,7 +22,7 @@ pub const LOCAL_LIMIT: u32 = 1_048_576;
 pub const GLOBAL_LIMIT: u32 = 16_777_216;
 
 /// A block of memory: the node that declares it, and how many bytes it takes.
-#[derive(Clone, Copy, PartialEq, Eq, Debug)]
+#[derive(Clone, Copy)]
 pub struct Block {
     /// The node.
     pub node: u32,
@@ -28,7 +31,7 @@ pub struct Block {
 }
 
 /// A local or parameter.
-#[derive(Clone, Copy, PartialEq, Eq, Debug)]
+#[derive(Clone, Copy)]
 pub struct Local {
     /// Its block, where it has one.
     pub block: Block,
@@ -72,7 +75,7 @@ fn is_no_scalar(t: &Option<CType>) -> bool
 
 /// A local or parameter of a declared type.
 pub fn local_of(structs: &Env, node: u32, t: &Option<CType>) -> Local
-    ensures { local_tree result ≡ noted.local_tree (env_tree structs.now) node (option_map type_tree t.now) }
+    ensures { IsLocal structs.now node t.now result }
 {
     let size = type_size(structs, t);
     Local {
@@ -99,24 +102,32 @@ pub fn block_past(limit: u32, blocks: &[Block]) -> Option<u32>
     None
 }
 
-fn is_one_of(n: u32, nodes: &[u32]) -> bool
-    ensures { result ≡ is_one_of n nodes.now }
+/// These nodes, each once.
+fn set_of(alloc: Global, nodes: &[u32]) -> Result<IndexSet<u32>, NoMemory>
+    ensures { IfOk result (λ set. set.keys ≡ nodes_once nodes.now) }
 {
-    for m in nodes {
-        if *m == n {
-            return true;
-        }
+    let mut set: IndexSet<u32> = IndexSet::new(alloc);
+    for n in nodes {
+        set.insert(*n)?;
     }
-    false
+    Ok(set)
+}
+
+/// Whether a local is no scalar, or among these nodes.
+#[tactic(auto, using(crate::proofs::Sets::node_found))]
+fn is_block(nodes: &IndexSet<u32>, l: &Local) -> bool
+    ensures { result ≡ noted.is_block nodes.now.keys (local_tree l.now) }
+{
+    nodes.contains(&l.block.node) || l.is_object
 }
 
 /// The blocks of the locals that are no scalars, or that are among these nodes.
-fn placed(alloc: Global, nodes: &[u32], locals: &[Local]) -> Result<Vec<Block>, NoMemory>
-    ensures { IfOk result (λ bs. map block_tree bs.items ≡ map (λ l. l.block) (filter (noted.is_block nodes.now) (map local_tree locals.now))) }
+fn placed(alloc: Global, nodes: &IndexSet<u32>, locals: &[Local]) -> Result<Vec<Block>, NoMemory>
+    ensures { IfOk result (λ bs. ArePlaced nodes.now.keys locals.now bs.items) }
 {
     let mut blocks = Vec::new(alloc);
     for l in locals {
-        if is_one_of(l.block.node, nodes) || l.is_object {
+        if is_block(nodes, l) {
             blocks.push(l.block)?;
         }
     }
@@ -145,7 +156,7 @@ impl Noted {
         node: u32,
         t: &Option<CType>,
     ) -> Result<(), NoMemory>
-        ensures { OnOk result (noted_tree self.new ≡ noted.variable_noted at_file_scope (env_tree structs.now) node (option_map type_tree t.now) (noted_tree self.old)) }
+        ensures { OnOk result (NotesVariable at_file_scope structs.now node t.now self.old self.new) }
     {
         if at_file_scope {
             let size = type_size(structs, t);
@@ -158,16 +169,18 @@ impl Noted {
 
     /// Begins a body, where these are its parameters.
     pub fn begin_body(&mut self, parameters: Vec<Local>)
-        ensures { noted_tree self.new ≡ noted.body_begun (map local_tree parameters.items) (noted_tree self.old) }
+        ensures { BeginsBody parameters.items self.old self.new }
     {
         self.locals = parameters;
     }
 
     /// Ends a body, where the names of these declarations are operands of `&`.
+    #[tactic(auto, using(crate::proofs::Sets::placed_past))]
     pub fn end_body(&mut self, alloc: Global, nodes: &[u32]) -> Result<(), NoMemory>
-        ensures { OnOk result (noted_tree self.new ≡ noted.body_ended nodes.now (noted_tree self.old)) }
+        ensures { OnOk result (EndsBody nodes.now self.old self.new) }
     {
-        let blocks = placed(alloc, nodes, &self.locals)?;
+        let nodes = set_of(alloc, nodes)?;
+        let blocks = placed(alloc, &nodes, &self.locals)?;
         let past = block_past(LOCAL_LIMIT, &blocks);
         self.locals = Vec::new(alloc);
         self.local_past = or_else(self.local_past, past);

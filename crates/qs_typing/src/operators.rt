@@ -1,16 +1,11 @@
 // What operators ask of their operands, and the types that they give (C11 6.5.2 to 6.5.15). An expression
 // is judged where its parts have types.
-ghost use Rattle.std.specs.Prelude.{◌≡◌, [], IfOk, option_map};
-ghost use Rattle.qs_syntax.specs.TreeOf.{expr_tree};
-ghost use Rattle.qs_types.specs.Conversions.{decayed, promoted};
+ghost use Rattle.std.specs.Prelude.{◌≡◌, IfOk};
 ghost use Rattle.qs_types.specs.EnvOf.{env_tree};
-ghost use Rattle.qs_types.specs.Expressions.{judged, sum_type, unary_judged, step_judged, may_add, may_subtract, difference_type, may_order, may_equal, integers_judged, order_judged, equality_judged, truth_judged, binary_judged, may_choose, conditional_judged, subscript_judged};
-ghost use Rattle.qs_types.specs.Rules.{keeps};
+ghost use Rattle.qs_types.specs.Expressions.{may_add, may_subtract, difference_type, may_order, order_judged, truth_judged};
 ghost use Rattle.qs_types.specs.TypeOf.{type_tree};
-ghost use Rattle.qs_types.specs.Types.{is_integer};
-ghost use Rattle.qs_types.specs.declared.rules.Rule.TheVariants as rules;
 ghost use Rattle.qs_typing.specs.JudgedOf.{judged_tree};
-ghost use Rattle.qs_typing.specs.PartsOf.{with_type, with_types, with_three};
+ghost use Rattle.qs_typing.specs.Judging.{IsArithmetic, IsBinary, IsConditional, IsDifference, IsEquality, IsIntegers, IsSubscript, IsSum, IsUnary, JudgesBinary, JudgesComma, JudgesConditional, JudgesStep, JudgesSubscript, JudgesUnary, may_equal};
 
 use crate::judged::{Judged, keeps, violates, with_tests};
 use crate::operands::{alike_pointers, is_lvalue};
@@ -32,7 +27,7 @@ fn unary_judged(
     a: &Expr,
     t: CType,
 ) -> Result<Judged, NoMemory>
-    ensures { IfOk result (λ j. judged_tree j ≡ unary_judged (env_tree types.now) operator (expr_tree a.now) (type_tree t) (decayed (type_tree t))) }
+    ensures { IfOk result (IsUnary types.now operator a.now t) }
 {
     match operator {
         UnaryOperator::Address => {
@@ -55,7 +50,7 @@ fn unary_judged(
 }
 
 fn integer_judged(alloc: Global, v: &CType) -> Result<Judged, NoMemory>
-    ensures { IfOk result (λ j. judged_tree j ≡ judged (keeps rules.ArithmeticOperand (is_integer (type_tree v.now))) (promoted (type_tree v.now))) }
+    ensures { IfOk result (IsArithmetic v.now) }
 {
     let holds = is_integer(v);
     with_tests(alloc, &[keeps(Rule::ArithmeticOperand, holds)], promoted(v))
@@ -69,7 +64,7 @@ pub fn judge_unary(
     a: &Expr,
     t: Option<CType>,
 ) -> Result<Option<Judged>, NoMemory>
-    ensures { IfOk result (λ j. option_map judged_tree j ≡ with_type (option_map type_tree t) (λ t. unary_judged (env_tree types.now) operator (expr_tree a.now) t (decayed t))) }
+    ensures { IfOk result (JudgesUnary types.now operator a.now t) }
 {
     match t {
         None => Ok(None),
@@ -84,7 +79,7 @@ pub fn judge_step(
     a: &Expr,
     t: Option<CType>,
 ) -> Result<Option<Judged>, NoMemory>
-    ensures { IfOk result (λ j. option_map judged_tree j ≡ with_type (option_map type_tree t) (step_judged (env_tree types.now) (expr_tree a.now))) }
+    ensures { IfOk result (JudgesStep types.now a.now t) }
 {
     match t {
         None => Ok(None),
@@ -128,13 +123,13 @@ fn may_order(t: &CType, u: &CType) -> bool
 }
 
 fn may_equal(a: &Expr, t: &CType, b: &Expr, u: &CType) -> bool
-    ensures { result ≡ may_equal (expr_tree a.now) (type_tree t.now) (expr_tree b.now) (type_tree u.now) }
+    ensures { result ≡ may_equal a.now t.now b.now u.now }
 {
     both_integers(t, u) || alike_pointers(a, t, b, u)
 }
 
 fn integers_judged(alloc: Global, t: &CType, u: &CType, of: CType) -> Result<Judged, NoMemory>
-    ensures { IfOk result (λ j. judged_tree j ≡ integers_judged (type_tree t.now) (type_tree u.now) (type_tree of)) }
+    ensures { IfOk result (IsIntegers t.now u.now of) }
 {
     with_tests(
         alloc,
@@ -160,7 +155,7 @@ fn equality_judged(
     b: &Expr,
     u: &CType,
 ) -> Result<Judged, NoMemory>
-    ensures { IfOk result (λ j. judged_tree j ≡ equality_judged (expr_tree a.now) (type_tree t.now) (expr_tree b.now) (type_tree u.now)) }
+    ensures { IfOk result (IsEquality a.now t.now b.now u.now) }
 {
     with_tests(
         alloc,
@@ -177,14 +172,14 @@ fn truth_judged(alloc: Global, t: &CType, u: &CType) -> Result<Judged, NoMemory>
 }
 
 fn sum_judged(alloc: Global, types: &Env, t: CType, u: CType) -> Result<Judged, NoMemory>
-    ensures { IfOk result (λ j. judged_tree j ≡ judged (keeps rules.SumOperands (may_add (env_tree types.now) (type_tree t) (type_tree u))) (sum_type (type_tree t) (type_tree u))) }
+    ensures { IfOk result (IsSum types.now t u) }
 {
     let holds = may_add(types, &t, &u);
     with_tests(alloc, &[keeps(Rule::SumOperands, holds)], common(t, u))
 }
 
 fn difference_judged(alloc: Global, types: &Env, t: CType, u: CType) -> Result<Judged, NoMemory>
-    ensures { IfOk result (λ j. judged_tree j ≡ judged (keeps rules.SumOperands (may_subtract (env_tree types.now) (type_tree t) (type_tree u))) (difference_type (type_tree t) (type_tree u))) }
+    ensures { IfOk result (IsDifference types.now t u) }
 {
     let holds = may_subtract(types, &t, &u);
     with_tests(
@@ -203,7 +198,7 @@ fn binary_judged(
     b: &Expr,
     u: CType,
 ) -> Result<Judged, NoMemory>
-    ensures { IfOk result (λ j. judged_tree j ≡ binary_judged (env_tree types.now) operator (expr_tree a.now) (type_tree t) (expr_tree b.now) (type_tree u)) }
+    ensures { IfOk result (IsBinary types.now operator a.now t b.now u) }
 {
     match operator {
         BinaryOperator::Multiply => integers_judged(alloc, &t, &u, arithmetic(&t, &u)),
@@ -237,7 +232,7 @@ pub fn judge_binary(
     b: &Expr,
     u: Option<CType>,
 ) -> Result<Option<Judged>, NoMemory>
-    ensures { IfOk result (λ j. option_map judged_tree j ≡ with_types (option_map type_tree t) (option_map type_tree u) (λ t u. binary_judged (env_tree types.now) operator (expr_tree a.now) (decayed t) (expr_tree b.now) (decayed u))) }
+    ensures { IfOk result (JudgesBinary types.now operator a.now t b.now u) }
 {
     match t {
         None => Ok(None),
@@ -266,7 +261,7 @@ fn conditional_judged(
     b: &Expr,
     u: CType,
 ) -> Result<Judged, NoMemory>
-    ensures { IfOk result (λ j. judged_tree j ≡ conditional_judged (type_tree s.now) (expr_tree a.now) (type_tree t) (expr_tree b.now) (type_tree u)) }
+    ensures { IfOk result (IsConditional s.now a.now t b.now u) }
 {
     let holds = is_scalar(s) && (both_integers(&t, &u) || alike_pointers(a, &t, b, &u));
     with_tests(alloc, &[keeps(Rule::BranchTypes, holds)], common(t, u))
@@ -281,7 +276,7 @@ pub fn judge_conditional(
     b: &Expr,
     u: Option<CType>,
 ) -> Result<Option<Judged>, NoMemory>
-    ensures { IfOk result (λ j. option_map judged_tree j ≡ with_three (option_map type_tree s) (option_map type_tree t) (option_map type_tree u) (λ s t u. conditional_judged (decayed s) (expr_tree a.now) (decayed t) (expr_tree b.now) (decayed u))) }
+    ensures { IfOk result (JudgesConditional s a.now t b.now u) }
 {
     match s {
         None => Ok(None),
@@ -308,7 +303,7 @@ pub fn judge_comma(
     t: Option<CType>,
     u: Option<CType>,
 ) -> Result<Option<Judged>, NoMemory>
-    ensures { IfOk result (λ j. option_map judged_tree j ≡ with_types (option_map type_tree t) (option_map type_tree u) (λ t u. judged [] (decayed u))) }
+    ensures { IfOk result (JudgesComma t u) }
 {
     match t {
         None => Ok(None),
@@ -320,7 +315,7 @@ pub fn judge_comma(
 }
 
 fn subscript_judged(alloc: Global, types: &Env, t: CType, u: CType) -> Result<Judged, NoMemory>
-    ensures { IfOk result (λ j. judged_tree j ≡ subscript_judged (env_tree types.now) (type_tree t) (type_tree u)) }
+    ensures { IfOk result (IsSubscript types.now t u) }
 {
     let adds = may_add(types, &t, &u);
     let sum = common(t, u);
@@ -342,7 +337,7 @@ pub fn judge_subscript(
     t: Option<CType>,
     u: Option<CType>,
 ) -> Result<Option<Judged>, NoMemory>
-    ensures { IfOk result (λ j. option_map judged_tree j ≡ with_types (option_map type_tree t) (option_map type_tree u) (λ t u. subscript_judged (env_tree types.now) (decayed t) (decayed u))) }
+    ensures { IfOk result (JudgesSubscript types.now t u) }
 {
     match t {
         None => Ok(None),

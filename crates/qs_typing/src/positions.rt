@@ -10,7 +10,7 @@ use qs_syntax::{Access, AssignmentOperator, Shape, UnaryOperator};
 use qs_types::CType;
 
 /// Where an expression stands.
-#[derive(Clone, Copy, PartialEq, Eq, Debug)]
+#[derive(Clone, Copy)]
 pub enum Position {
     /// Its value is used.
     Used,

@@ -1,20 +1,16 @@
 // The check of a unit.
-ghost use Rattle.std.specs.Prelude.{◌≡◌, ◌++◌, IfErr, IfOk, OnOk, map, option_map};
-ghost use Rattle.std.specs.List.{slice_get};
-ghost use Rattle.qs_syntax.specs.TreeOf.{decl_tree, parameter_tree};
+ghost use Rattle.std.specs.Prelude.{◌≡◌, IfErr, IfOk, OnOk, map};
+ghost use Rattle.qs_syntax.specs.TreeOf.{decl_tree, function_tree};
+ghost use Rattle.qs_report.specs.declared.fault_texts.LimitKind.TheVariants as kinds;
 ghost use Rattle.qs_syntax.specs.UnitTrees.{unit_tree};
-ghost use Rattle.qs_types.specs.Contexts.{entity_of};
-ghost use Rattle.qs_types.specs.GivenFunctions.{main_name};
 ghost use Rattle.qs_types.specs.Limits as limits;
-ghost use Rattle.qs_types.specs.UnitRules.{is_name_in};
 ghost use Rattle.qs_types.specs.WellTyped as well_typed;
 ghost use Rattle.qs_typing.specs.ContextOf.{context_tree};
-ghost use Rattle.qs_typing.specs.EntityOf.{entity_tree};
-ghost use Rattle.qs_typing.specs.NotedOf.{block_tree};
-ghost use Rattle.qs_typing.specs.Refusals.{IsAccepted, IsTold, early_refusal, late_by, limit_fault, runs_in};
+ghost use Rattle.qs_typing.specs.Checking.{IsEnd, IsFirstPast, IsLate, IsUndefined, WalksUnit};
+ghost use Rattle.qs_typing.specs.EntityOf.{entity_at};
+ghost use Rattle.qs_typing.specs.Refusals.{IsAccepted, IsTold, early_refusal, first_past, has_main_in, limit_fault};
+ghost use Rattle.qs_typing.specs.Sets.{names_once};
 ghost use Rattle.qs_typing.specs.TypedOf.{typed_tree};
-ghost use Rattle.qs_typing.specs.UnitWalk.{unit_walked};
-ghost use Rattle.qs_typing.specs.WalkOf.{walk_tree};
 ghost use Rattle.qs_typing.specs.declared.refusals.TypeFault.TheVariants as faults;
 
 use crate::context::Context;
@@ -73,7 +69,7 @@ const FUNCTION_LIMIT: usize = 512;
 const PARAMETER_LIMIT: usize = 8;
 
 fn first_past_nodes(unit: &Unit) -> Option<u32>
-    ensures { result ≡ limits.first_past_nodes limits.node_limit (unit_tree unit.now) }
+    ensures { result ≡ first_past kinds.Nodes (unit_tree unit.now) }
 {
     if unit.nodes() > NODE_LIMIT {
         Some(NODE_LIMIT)
@@ -83,7 +79,7 @@ fn first_past_nodes(unit: &Unit) -> Option<u32>
 }
 
 fn first_past_functions(alloc: Global, ds: &[Decl]) -> Result<Option<u32>, NoMemory>
-    ensures { IfOk result (λ n. n ≡ limits.first_past_functions limits.function_limit (map decl_tree ds.now)) }
+    ensures { IfOk result (λ n. n ≡ first_past kinds.Functions (map decl_tree ds.now)) }
 {
     let mut names: IndexSet<Name> = IndexSet::new(alloc);
     for d in ds {
@@ -98,7 +94,7 @@ fn first_past_functions(alloc: Global, ds: &[Decl]) -> Result<Option<u32>, NoMem
 }
 
 fn ninth_parameter(f: &Function) -> Option<u32>
-    ensures { result ≡ limits.node_of_parameter (slice_get (map parameter_tree f.now.parameters.items) limits.parameter_limit) }
+    ensures { result ≡ limits.parameter_past limits.parameter_limit (function_tree f.now) }
 {
     match f.parameters.get(PARAMETER_LIMIT) {
         None => None,
@@ -107,7 +103,7 @@ fn ninth_parameter(f: &Function) -> Option<u32>
 }
 
 fn first_past_parameters(ds: &[Decl]) -> Option<u32>
-    ensures { result ≡ limits.first_past_parameters limits.parameter_limit (map decl_tree ds.now) }
+    ensures { result ≡ first_past kinds.Parameters (map decl_tree ds.now) }
 {
     for d in ds {
         if let Decl::Function(f) = d {
@@ -120,7 +116,7 @@ fn first_past_parameters(ds: &[Decl]) -> Option<u32>
 }
 
 fn first_past_globals(alloc: Global, noted: &Noted) -> Result<Option<u32>, NoMemory>
-    ensures { IfOk result (λ n. n ≡ limits.block_past limits.global_limit 0 (map block_tree noted.now.globals.items ++ map block_tree noted.now.texts.items)) }
+    ensures { IfOk result (IsFirstPast noted.now) }
 {
     let mut blocks: Vec<Block> = Vec::from_slice(alloc, &noted.globals)?;
     blocks.extend_from_slice(&noted.texts)?;
@@ -128,7 +124,7 @@ fn first_past_globals(alloc: Global, noted: &Noted) -> Result<Option<u32>, NoMem
 }
 
 fn has_body(entity: Option<&Entity>) -> bool
-    ensures { result ≡ well_typed.entity_has_body (option_map (λ e. entity_tree e.now) entity.entry) }
+    ensures { result ≡ well_typed.entity_has_body (entity_at entity.entry) }
 {
     match entity {
         None => false,
@@ -140,7 +136,7 @@ fn has_body(entity: Option<&Entity>) -> bool
 }
 
 fn runs(entity: Option<&Entity>) -> bool
-    ensures { result ≡ well_typed.entity_runs (option_map (λ e. entity_tree e.now) entity.entry) }
+    ensures { result ≡ well_typed.entity_runs (entity_at entity.entry) }
 {
     match entity {
         None => false,
@@ -151,29 +147,42 @@ fn runs(entity: Option<&Entity>) -> bool
     }
 }
 
-fn is_called(x: &Name, calls: &[Name]) -> bool
-    ensures { result ≡ is_name_in x.now calls.now }
+/// These names, each once.
+fn set_of(alloc: Global, names: &[Name]) -> Result<IndexSet<Name>, NoMemory>
+    ensures { IfOk result (λ set. set.keys ≡ names_once names.now) }
 {
-    for y in calls {
-        if *x == *y {
-            return true;
-        }
+    let mut set: IndexSet<Name> = IndexSet::new(alloc);
+    for x in names {
+        set.insert(x.copy(alloc)?)?;
     }
-    false
+    Ok(set)
 }
 
 /// The first declaration of a function that is called and doesn't run.
-fn first_undefined(c: &Context, calls: &[Name], ds: &[Decl]) -> Option<u32>
-    ensures { result ≡ well_typed.undefined_from (runs_in (context_tree c.now)) calls.now (map decl_tree ds.now) }
+fn undefined_from(c: &Context, calls: &IndexSet<Name>, ds: &[Decl]) -> Option<u32>
+    ensures { IsUndefined c.now calls.now.keys ds.now result }
 {
     for d in ds {
         if let Decl::Function(f) = d {
-            if is_called(&f.name, calls) && !runs(c.find(&f.name)) {
+            if calls.contains(&f.name) && !runs(c.find(&f.name)) {
                 return Some(f.node.id);
             }
         }
     }
     None
+}
+
+#[tactic(auto, using(crate::proofs::Sets::undefined_once))]
+fn first_undefined(
+    alloc: Global,
+    c: &Context,
+    calls: &[Name],
+    ds: &[Decl],
+) -> Result<Option<u32>, NoMemory>
+    ensures { IfOk result (IsUndefined c.now calls.now ds.now) }
+{
+    let calls = set_of(alloc, calls)?;
+    Ok(undefined_from(c, &calls, ds))
 }
 
 fn limit(kind: LimitKind, node: Option<u32>) -> Option<TypeFault>
@@ -200,7 +209,7 @@ fn early_fault(alloc: Global, unit: &Unit) -> Result<Option<TypeFault>, NoMemory
 }
 
 fn has_main(alloc: Global, c: &Context) -> Result<bool, NoMemory>
-    ensures { IfOk result (λ b. b ≡ well_typed.entity_has_body (entity_of (context_tree c.now) main_name)) }
+    ensures { IfOk result (λ b. b ≡ has_main_in (context_tree c.now)) }
 {
     let main = Name::new(alloc, b"main")?;
     Ok(has_body(c.find(&main)))
@@ -213,7 +222,7 @@ fn late_fault(
     c: &Context,
     walk: &Walk,
 ) -> Result<Option<TypeFault>, NoMemory>
-    ensures { IfOk result (λ f. f ≡ late_by (context_tree c.now) (walk_tree walk.now) (unit_tree unit.now)) }
+    ensures { IfOk result (IsLate c.now walk.now unit.now) }
 {
     if let Some(f) = walk.found.least {
         return Ok(Some(TypeFault::Rule(f.node, f.rule)));
@@ -221,7 +230,7 @@ fn late_fault(
     if !has_main(alloc, c)? {
         return Ok(Some(TypeFault::NoMain));
     }
-    if let Some(node) = first_undefined(c, &walk.noted.calls, unit.declarations()) {
+    if let Some(node) = first_undefined(alloc, c, &walk.noted.calls, unit.declarations())? {
         return Ok(Some(TypeFault::Undefined(node)));
     }
     if let Some(node) = first_past_globals(alloc, &walk.noted)? {
@@ -232,8 +241,8 @@ fn late_fault(
 
 /// A walk over a unit, and what is known behind it.
 fn walk_unit(alloc: Global, unit: &Unit) -> Result<(Context, Walk), NoMemory>
-    ensures context { IfOk result (λ r. context_tree r.0 ≡ well_typed.end_context (unit_tree unit.now)) }
-    ensures walked { IfOk result (λ r. walk_tree r.1 ≡ unit_walked (unit_tree unit.now)) }
+    ensures context { IfOk result (λ r. IsEnd unit.now r.0) }
+    ensures walked { IfOk result (λ r. WalksUnit unit.now r.1) }
 {
     let mut c = Context::new(alloc)?;
     let mut walk = Walk::new(alloc);

@@ -1,10 +1,8 @@
 // What is noted of an expression: the names that are called in it, and its texts.
-ghost use Rattle.std.specs.Prelude.{◌≡◌, ◌++◌, ◌∷◌, [], OnOk, map};
-ghost use Rattle.qs_syntax.specs.TreeOf.{expr_tree, exprs_tree, shape_tree};
-ghost use Rattle.qs_types.specs.Limits.{text_block};
-ghost use Rattle.qs_types.specs.References.{expr_calls, expr_texts, exprs_calls, exprs_texts, shape_calls, shape_texts};
-ghost use Rattle.qs_typing.specs.NotedOf.{block_tree, noted_tree};
-ghost use Rattle.qs_typing.specs.Noted.{site_noted};
+ghost use Rattle.std.specs.Prelude.{◌≡◌, ◌++◌, OnOk};
+ghost use Rattle.qs_syntax.specs.TreeOf.{expr_tree, exprs_tree};
+ghost use Rattle.qs_types.specs.References.{expr_calls, exprs_calls};
+ghost use Rattle.qs_typing.specs.Noting.{AddsAllTexts, AddsCalls, AddsShapeTexts, AddsText, AddsTexts, NotesSite};
 
 use crate::noted::{Block, Noted};
 use qs_base::{Name, NoMemory};
@@ -22,7 +20,7 @@ fn note_calls(alloc: Global, e: &Expr, calls: &mut Vec<Name>) -> Result<(), NoMe
 
 #[cycle(note_calls)]
 fn note_shape_calls(alloc: Global, shape: &Shape, calls: &mut Vec<Name>) -> Result<(), NoMemory>
-    ensures { OnOk result (calls.new.items ≡ calls.old.items ++ shape_calls (shape_tree shape.now)) }
+    ensures { OnOk result (AddsCalls shape.now calls.old.items calls.new.items) }
 {
     match shape {
         Shape::Constant(_, _) => Ok(()),
@@ -79,7 +77,7 @@ fn note_all_calls(alloc: Global, es: &[Expr], calls: &mut Vec<Name>) -> Result<(
 // ---- texts
 
 fn note_text(node: u32, text: &Text, texts: &mut Vec<Block>) -> Result<(), NoMemory>
-    ensures { OnOk result (map block_tree texts.new.items ≡ map block_tree texts.old.items ++ text_block (record { node = node; bytes = text.now }) ∷ []) }
+    ensures { OnOk result (AddsText node text.now texts.old.items texts.new.items) }
 {
     let len = text.bytes().len();
     if len >= u32::MAX as usize {
@@ -92,14 +90,14 @@ fn note_text(node: u32, text: &Text, texts: &mut Vec<Block>) -> Result<(), NoMem
 
 #[cycle(note_texts)]
 fn note_texts(e: &Expr, texts: &mut Vec<Block>) -> Result<(), NoMemory>
-    ensures { OnOk result (map block_tree texts.new.items ≡ map block_tree texts.old.items ++ map text_block (expr_texts (expr_tree e.now))) }
+    ensures { OnOk result (AddsTexts e.now texts.old.items texts.new.items) }
 {
     note_shape_texts(e.node.id, &e.shape, texts)
 }
 
 #[cycle(note_texts)]
 fn note_shape_texts(node: u32, shape: &Shape, texts: &mut Vec<Block>) -> Result<(), NoMemory>
-    ensures { OnOk result (map block_tree texts.new.items ≡ map block_tree texts.old.items ++ map text_block (shape_texts node (shape_tree shape.now))) }
+    ensures { OnOk result (AddsShapeTexts node shape.now texts.old.items texts.new.items) }
 {
     match shape {
         Shape::Constant(_, _) => Ok(()),
@@ -142,7 +140,7 @@ fn note_shape_texts(node: u32, shape: &Shape, texts: &mut Vec<Block>) -> Result<
 
 #[cycle(note_texts)]
 fn note_all_texts(es: &[Expr], texts: &mut Vec<Block>) -> Result<(), NoMemory>
-    ensures { OnOk result (map block_tree texts.new.items ≡ map block_tree texts.old.items ++ map text_block (exprs_texts (exprs_tree es.now))) }
+    ensures { OnOk result (AddsAllTexts es.now texts.old.items texts.new.items) }
 {
     for e in es {
         note_texts(e, texts)?;
@@ -154,7 +152,7 @@ impl Noted {
     /// Notes an expression that is no part of another; it may be a text that only fills an array of
     /// file scope.
     pub fn note_site(&mut self, alloc: Global, fills_array: bool, e: &Expr) -> Result<(), NoMemory>
-        ensures { OnOk result (noted_tree self.new ≡ site_noted fills_array (expr_tree e.now) (noted_tree self.old)) }
+        ensures { OnOk result (NotesSite fills_array e.now self.old self.new) }
     {
         note_calls(alloc, e, &mut self.calls)?;
         if !fills_array {

@@ -11,6 +11,7 @@ ghost use Rattle.qs_typing.specs.ContextOf.{context_tree};
 ghost use Rattle.qs_typing.specs.JudgedOf.{test_tree};
 ghost use Rattle.qs_typing.specs.PositionOf.{position_tree};
 ghost use Rattle.qs_typing.specs.Statements.{after_statements, head_tests_by, head_walked, return_tests_by, typed_by};
+ghost use Rattle.qs_typing.specs.StatementWalks.{WalksDiscarded, WalksDo, WalksFor, WalksWhile, IsConditionTest, IsHeadTest, IsOptionType, IsReturnTest, IsReturned, IsStartTyped, JudgesJump, JudgesOne, KnowsStart, KnowsStatement, KnowsStatements, WalksBlock, WalksBody, WalksCondition, WalksElse, WalksHead, WalksOption, WalksPart, WalksReturn, WalksStart, WalksStatement, WalksStatements};
 ghost use Rattle.qs_typing.specs.UnitWalk as walks;
 ghost use Rattle.qs_typing.specs.WalkOf.{walk_tree};
 
@@ -30,7 +31,7 @@ use std::alloc::Global;
 
 /// The test of a condition of this type (C11 6.8.4.1p1, 6.8.5p2).
 fn condition_test(t: Option<CType>) -> Option<Test>
-    ensures { map test_tree (option_to_list result) ≡ rules.condition_tests (option_map type_tree t) }
+    ensures { IsConditionTest t result }
 {
     match t {
         None => None,
@@ -39,7 +40,7 @@ fn condition_test(t: Option<CType>) -> Option<Test>
 }
 
 fn judge_option(node: Node, t: Option<Test>, walk: &mut Walk)
-    ensures { walk_tree walk.new ≡ walks.node_judged node (map test_tree (option_to_list t)) (walk_tree walk.old) }
+    ensures { JudgesOne node t walk.old walk.new }
 {
     match t {
         None => walk.judge(node, &[]),
@@ -54,7 +55,7 @@ fn walk_condition(
     e: &Expr,
     walk: &mut Walk,
 ) -> Result<(), NoMemory>
-    ensures { OnOk result (walk_tree walk.new ≡ walks.condition_walked (context_tree c.now) node (expr_tree e.now) (walk_tree walk.old)) }
+    ensures { OnOk result (WalksCondition c.now node e.now walk.old walk.new) }
 {
     let t = walk.expression(alloc, c, Position::Used, e)?;
     judge_option(node, condition_test(t), walk);
@@ -69,8 +70,8 @@ fn walk_option(
     e: &Option<Expr>,
     walk: &mut Walk,
 ) -> Result<Option<CType>, NoMemory>
-    ensures typed { IfOk result (λ t. option_map type_tree t ≡ and_then (option_tree e.now) (type_of (context_tree c.now))) }
-    ensures walked { OnOk result (walk_tree walk.new ≡ walks.option_walked (context_tree c.now) (position_tree p) (option_tree e.now) (walk_tree walk.old)) }
+    ensures typed { IfOk result (IsOptionType c.now e.now) }
+    ensures walked { OnOk result (WalksOption c.now p e.now walk.old walk.new) }
 {
     match e {
         None => Ok(None),
@@ -79,7 +80,7 @@ fn walk_option(
 }
 
 fn returns(to: &CType, e: &Expr, t: Option<CType>) -> Option<Test>
-    ensures { map test_tree (option_to_list result) ≡ rules.returns (type_tree to.now) (expr_tree e.now) (option_map type_tree t) }
+    ensures { IsReturned to.now e.now t result }
 {
     match t {
         None => None,
@@ -92,7 +93,7 @@ fn returns(to: &CType, e: &Expr, t: Option<CType>) -> Option<Test>
 
 /// The test of a `return` of an expression of type `t` (C11 6.8.6.4p1).
 fn return_test(to: Option<&CType>, e: &Option<Expr>, t: Option<CType>) -> Option<Test>
-    ensures { map test_tree (option_to_list result) ≡ return_tests_by (option_map (λ t. type_tree t.now) to.entry) (option_tree e.now) (option_map type_tree t) }
+    ensures { IsReturnTest to.entry e.now t result }
 {
     match to {
         None => None,
@@ -110,7 +111,7 @@ fn walk_return(
     e: &Option<Expr>,
     walk: &mut Walk,
 ) -> Result<(), NoMemory>
-    ensures { OnOk result (walk_tree walk.new ≡ walks.statement_walked (context_tree c.now) (return node (option_tree e.now)) (walk_tree walk.old)) }
+    ensures { OnOk result (WalksReturn c.now node e.now walk.old walk.new) }
 {
     walk.open()?;
     let t = walk_option(alloc, c, Position::Used, e, walk)?;
@@ -118,8 +119,16 @@ fn walk_return(
     Ok(())
 }
 
+fn walk_discarded(alloc: Global, c: &Context, e: &Expr, walk: &mut Walk) -> Result<(), NoMemory>
+    ensures { OnOk result (WalksDiscarded c.now e.now walk.old walk.new) }
+{
+    walk.open()?;
+    walk.expression(alloc, c, Position::Discarded, e)?;
+    Ok(())
+}
+
 fn judge_jump(c: &Context, node: Node, walk: &mut Walk) -> Result<(), NoMemory>
-    ensures { OnOk result (walk_tree walk.new ≡ walks.node_judged node (rules.loop_tests (context_tree c.now)) (walks.node_opened (walk_tree walk.old))) }
+    ensures { OnOk result (JudgesJump c.now node walk.old walk.new) }
 {
     walk.open()?;
     walk.judge(node, &[keeps(Rule::OutsideLoop, c.in_loop())]);
@@ -135,9 +144,9 @@ fn walk_start(
     start: &Start,
     walk: &mut Walk,
 ) -> Result<bool, NoMemory>
-    ensures typed { IfOk result (λ b. b ≡ rules.start_typed (context_tree c.new) (start_tree start.now)) }
-    ensures context { OnOk result (context_tree c.new ≡ rules.after_start (context_tree c.old) (start_tree start.now)) }
-    ensures walked { OnOk result (walk_tree walk.new ≡ walks.start_walked (context_tree c.old) (start_tree start.now) (walk_tree walk.old)) }
+    ensures typed { IfOk result (IsStartTyped c.new start.now) }
+    ensures context { OnOk result (KnowsStart start.now c.old c.new) }
+    ensures walked { OnOk result (WalksStart c.old start.now walk.old walk.new) }
 {
     match start {
         Start::Nothing => Ok(true),
@@ -169,7 +178,7 @@ fn head_test(
     u: &Option<CType>,
     t: Option<CType>,
 ) -> Option<Test>
-    ensures { map test_tree (option_to_list result) ≡ head_tests_by start_typed (option_tree step.now) (option_map type_tree u.now) (option_map type_tree t) }
+    ensures { IsHeadTest start_typed step.now u.now t result }
 {
     if start_typed && is_typed(step, u) {
         condition_test(t)
@@ -188,7 +197,7 @@ fn walk_head(
     step: &Option<Expr>,
     walk: &mut Walk,
 ) -> Result<(), NoMemory>
-    ensures { OnOk result (walk_tree walk.new ≡ head_walked (context_tree c.now) node start_typed (option_tree condition.now) (option_tree step.now) (walk_tree walk.old)) }
+    ensures { OnOk result (WalksHead c.now node start_typed condition.now step.now walk.old walk.new) }
 {
     let t = walk_option(alloc, c, Position::Used, condition, walk)?;
     let u = walk_option(alloc, c, Position::Discarded, step, walk)?;
@@ -206,16 +215,12 @@ pub fn walk_statement(
     s: &Stmt,
     walk: &mut Walk,
 ) -> Result<(), NoMemory>
-    ensures context { OnOk result (context_tree c.new ≡ rules.after_statement (context_tree c.old) (stmt_tree s.now)) }
-    ensures walked { OnOk result (walk_tree walk.new ≡ walks.statement_walked (context_tree c.old) (stmt_tree s.now) (walk_tree walk.old)) }
+    ensures context { OnOk result (KnowsStatement s.now c.old c.new) }
+    ensures walked { OnOk result (WalksStatement c.old s.now walk.old walk.new) }
 {
     match s {
         Stmt::Empty(_) => walk.open(),
-        Stmt::Expression(_, e) => {
-            walk.open()?;
-            walk.expression(alloc, c, Position::Discarded, e)?;
-            Ok(())
-        }
+        Stmt::Expression(_, e) => walk_discarded(alloc, c, e, walk),
         Stmt::Declaration(d) => walk_variables(alloc, false, c, &d.base, &d.variables, walk),
         Stmt::Block(items) => walk_block(alloc, c, items, walk),
         Stmt::If {
@@ -233,46 +238,90 @@ pub fn walk_statement(
             node,
             condition,
             body,
-        } => {
-            walk.open()?;
-            walk_condition(alloc, c, *node, condition, walk)?;
-            walk_body(alloc, c, body, walk)
-        }
+        } => walk_while(alloc, c, *node, body, condition, walk),
         Stmt::Do {
             node,
             body,
             condition,
-        } => {
-            walk.open()?;
-            walk_body(alloc, c, body, walk)?;
-            walk_condition(alloc, c, *node, condition, walk)
-        }
+        } => walk_do(alloc, c, *node, body, condition, walk),
         Stmt::For {
             node,
             start,
             condition,
             step,
             body,
-        } => {
-            walk.open()?;
-            let around = c.enter_scope();
-            let start_typed = walk_start(alloc, c, start, walk)?;
-            walk_head(alloc, c, *node, start_typed, condition, step, walk)?;
-            walk_body(alloc, c, body, walk)?;
-            c.leave_scope(around);
-            Ok(())
-        }
+        } => walk_for(alloc, c, *node, start, condition, step, body, walk),
         Stmt::Break(node) => judge_jump(c, *node, walk),
         Stmt::Continue(node) => judge_jump(c, *node, walk),
         Stmt::Return(node, e) => walk_return(alloc, c, *node, e, walk),
     }
 }
 
+/// Walks over a `while` (C11 6.8.5.1).
+#[cycle(stmt)]
+fn walk_while(
+    alloc: Global,
+    c: &mut Context,
+    node: Node,
+    body: &Stmt,
+    condition: &Expr,
+    walk: &mut Walk,
+) -> Result<(), NoMemory>
+    ensures context { OnOk result (context_tree c.new ≡ context_tree c.old) }
+    ensures walked { OnOk result (WalksWhile c.old node condition.now body.now walk.old walk.new) }
+{
+    walk.open()?;
+    walk_condition(alloc, c, node, condition, walk)?;
+    walk_body(alloc, c, body, walk)
+}
+
+/// Walks over a `do` (C11 6.8.5.2).
+#[cycle(stmt)]
+fn walk_do(
+    alloc: Global,
+    c: &mut Context,
+    node: Node,
+    body: &Stmt,
+    condition: &Expr,
+    walk: &mut Walk,
+) -> Result<(), NoMemory>
+    ensures context { OnOk result (context_tree c.new ≡ context_tree c.old) }
+    ensures walked { OnOk result (WalksDo c.old node body.now condition.now walk.old walk.new) }
+{
+    walk.open()?;
+    walk_body(alloc, c, body, walk)?;
+    walk_condition(alloc, c, node, condition, walk)
+}
+
+/// Walks over a `for`, which is a scope (C11 6.8.5.3).
+#[cycle(stmt)]
+fn walk_for(
+    alloc: Global,
+    c: &mut Context,
+    node: Node,
+    start: &Start,
+    condition: &Option<Expr>,
+    step: &Option<Expr>,
+    body: &Stmt,
+    walk: &mut Walk,
+) -> Result<(), NoMemory>
+    ensures context { OnOk result (context_tree c.new ≡ context_tree c.old) }
+    ensures walked { OnOk result (WalksFor c.old node start.now condition.now step.now body.now walk.old walk.new) }
+{
+    walk.open()?;
+    let around = c.enter_scope();
+    let start_typed = walk_start(alloc, c, start, walk)?;
+    walk_head(alloc, c, node, start_typed, condition, step, walk)?;
+    walk_body(alloc, c, body, walk)?;
+    c.leave_scope(around);
+    Ok(())
+}
+
 /// Walks over a statement that is a part of another, which is a scope (C11 6.8.4p3).
 #[cycle(stmt)]
 fn walk_part(alloc: Global, c: &mut Context, s: &Stmt, walk: &mut Walk) -> Result<(), NoMemory>
     ensures context { OnOk result (context_tree c.new ≡ context_tree c.old) }
-    ensures walked { OnOk result (walk_tree walk.new ≡ walks.statement_walked (inner_scope (context_tree c.old)) (stmt_tree s.now) (walk_tree walk.old)) }
+    ensures walked { OnOk result (WalksPart c.old s.now walk.old walk.new) }
 {
     let around = c.enter_scope();
     walk_statement(alloc, c, s, walk)?;
@@ -284,7 +333,7 @@ fn walk_part(alloc: Global, c: &mut Context, s: &Stmt, walk: &mut Walk) -> Resul
 #[cycle(stmt)]
 fn walk_body(alloc: Global, c: &mut Context, s: &Stmt, walk: &mut Walk) -> Result<(), NoMemory>
     ensures context { OnOk result (context_tree c.new ≡ context_tree c.old) }
-    ensures walked { OnOk result (walk_tree walk.new ≡ walks.statement_walked (inside_loop (inner_scope (context_tree c.old))) (stmt_tree s.now) (walk_tree walk.old)) }
+    ensures walked { OnOk result (WalksBody c.old s.now walk.old walk.new) }
 {
     let before = c.in_loop();
     let around = c.enter_scope();
@@ -303,7 +352,7 @@ fn walk_else(
     walk: &mut Walk,
 ) -> Result<(), NoMemory>
     ensures context { OnOk result (context_tree c.new ≡ context_tree c.old) }
-    ensures walked { OnOk result (walk_tree walk.new ≡ walks.else_walked (context_tree c.old) (else_tree s.now) (walk_tree walk.old)) }
+    ensures walked { OnOk result (WalksElse c.old s.now walk.old walk.new) }
 {
     match s {
         None => Ok(()),
@@ -319,7 +368,7 @@ fn walk_block(
     walk: &mut Walk,
 ) -> Result<(), NoMemory>
     ensures context { OnOk result (context_tree c.new ≡ context_tree c.old) }
-    ensures walked { OnOk result (walk_tree walk.new ≡ walks.statements_walked (inner_scope (context_tree c.old)) (stmts_tree items.now) (walk_tree walk.old)) }
+    ensures walked { OnOk result (WalksBlock c.old items.now walk.old walk.new) }
 {
     let around = c.enter_scope();
     walk_statements(alloc, c, items, walk)?;
@@ -335,8 +384,8 @@ pub fn walk_statements(
     items: &[Stmt],
     walk: &mut Walk,
 ) -> Result<(), NoMemory>
-    ensures context { OnOk result (context_tree c.new ≡ after_statements (context_tree c.old) (stmts_tree items.now)) }
-    ensures walked { OnOk result (walk_tree walk.new ≡ walks.statements_walked (context_tree c.old) (stmts_tree items.now) (walk_tree walk.old)) }
+    ensures context { OnOk result (KnowsStatements items.now c.old c.new) }
+    ensures walked { OnOk result (WalksStatements c.old items.now walk.old walk.new) }
 {
     for s in items {
         walk_statement(alloc, c, s, walk)?;

@@ -3,22 +3,27 @@ ghost use Rattle.std.specs.Prelude.{◌≡◌, map, option_map};
 ghost use Rattle.qs_syntax.specs.UnitTrees.{unit_tree};
 ghost use Rattle.qs_types.specs.EnvOf.{env_tree};
 ghost use Rattle.qs_types.specs.Limits.{IsWithinLimits};
+ghost use Rattle.qs_types.specs.Recorded.{global_blocks, tags_of, text_blocks};
 ghost use Rattle.qs_types.specs.TypeOf.{type_tree};
 ghost use Rattle.qs_types.specs.UnitRules.{structs_of};
 ghost use Rattle.qs_types.specs.WellTyped.{WellTyped};
 ghost use Rattle.qs_typing.specs.NodeReferents.{unit_addressed, unit_referents};
 ghost use Rattle.qs_typing.specs.NodeTypes.{unit_types};
-ghost use Rattle.qs_typing.specs.TypeSets.{structs_prop, types_prop};
+ghost use Rattle.qs_typing.specs.NotedOf.{block_tree};
+ghost use Rattle.qs_typing.specs.TypeSets.{blocks_prop, structs_prop, types_prop};
 
 mod methods;
 
 use crate::entity::Referent;
+use crate::noted::Block;
+use indexmap::IndexSet;
+use qs_base::Name;
 use qs_syntax::Unit;
 use qs_types::{CType, Env};
 
 /// A unit that keeps the rules and is within the limits, with the type of each expression at the number of
-/// its node and what each name and call stands for, the declarations whose names are operands of `&`, and
-/// the structs.
+/// its node and what each name and call stands for, the declarations whose names are operands of `&`, the
+/// structs with their tags, and the blocks of the variables of file scope and of texts.
 #[derive(Drop)]
 pub struct TypedUnit {
     unit: Unit,
@@ -26,10 +31,16 @@ pub struct TypedUnit {
     referents: Vec<Option<Referent>>,
     addressed: Vec<u32>,
     env: Env,
+    tags: IndexSet<Name>,
+    globals: Vec<Block>,
+    texts: Vec<Block>,
     ghost well_typed: { WellTyped (unit_tree unit) },
     ghost within_limits: { IsWithinLimits (unit_tree unit) },
     ghost are_types: { map (option_map type_tree) types.items ≡ unit_types (unit_tree unit) } by { types_prop (map (option_map type_tree) types.items) (unit_types (unit_tree unit)) },
     ghost are_referents: { referents.items ≡ unit_referents (unit_tree unit) },
     ghost are_addressed: { addressed.items ≡ unit_addressed (unit_tree unit) },
     ghost are_structs: { env_tree env ≡ structs_of (unit_tree unit) } by { structs_prop (env_tree env) (structs_of (unit_tree unit)) },
+    ghost are_tags: { tags.keys ≡ tags_of (unit_tree unit) },
+    ghost are_globals: { map block_tree globals.items ≡ global_blocks (unit_tree unit) } by { blocks_prop (map block_tree globals.items) (global_blocks (unit_tree unit)) },
+    ghost are_texts: { map block_tree texts.items ≡ text_blocks (unit_tree unit) } by { blocks_prop (map block_tree texts.items) (text_blocks (unit_tree unit)) },
 }

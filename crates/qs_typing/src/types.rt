@@ -1,12 +1,15 @@
 // Kinds of types (C11 6.2.5) and conversions (6.3).
-ghost use Rattle.std.specs.Prelude.{◌≡◌};
+ghost use Rattle.std.specs.Prelude.{◌≡◌, IfOk};
 ghost use Rattle.qs_types.specs.Conversions.{decayed, promoted, arithmetic, common};
 ghost use Rattle.qs_types.specs.EnvOf.{env_tree};
 ghost use Rattle.qs_types.specs.Expressions.{both_integers, same_pointers, is_object_pointer};
 ghost use Rattle.qs_types.specs.TypeOf.{type_tree};
 ghost use Rattle.qs_types.specs.Types.{is_integer, is_pointer, is_array, is_struct, is_void, is_scalar, same_type, unsigned, referenced};
+ghost use Rattle.qs_typing.specs.PartsOf.{option_type};
 
+use qs_base::NoMemory;
 use qs_types::{CType, Env, is_complete};
+use std::alloc::Global;
 
 /// Whether it is an integer type (C11 6.2.5p17).
 pub fn is_integer(t: &CType) -> bool
@@ -188,5 +191,15 @@ pub fn is_object_pointer(types: &Env, t: &CType) -> bool
         CType::Pointer(to) => is_complete(types, to),
         CType::Array(_, _) => false,
         CType::Struct(_) => false,
+    }
+}
+
+/// The same type, where there is one.
+pub fn copied(alloc: Global, t: &Option<CType>) -> Result<Option<CType>, NoMemory>
+    ensures { IfOk result (λ r. option_type r ≡ option_type t.now) }
+{
+    match t {
+        None => Ok(None),
+        Some(t) => Ok(Some(t.copy(alloc)?)),
     }
 }

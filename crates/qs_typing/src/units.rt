@@ -1,10 +1,6 @@
 // Units (C11 6.9).
-ghost use Rattle.std.specs.Prelude.{◌≡◌, OnOk, IfOk, map};
-ghost use Rattle.qs_syntax.specs.TreeOf.{decl_tree};
-ghost use Rattle.qs_types.specs.UnitRules.{after_declaration, context_after};
-ghost use Rattle.qs_typing.specs.ContextOf.{context_tree};
-ghost use Rattle.qs_typing.specs.UnitWalk.{declaration_walked, declarations_walked};
-ghost use Rattle.qs_typing.specs.WalkOf.{walk_tree};
+ghost use Rattle.std.specs.Prelude.{OnOk};
+ghost use Rattle.qs_typing.specs.DeclarationWalks.{KnowsDeclaration, KnowsDeclarations, WalksDeclaration, WalksDeclarations};
 
 use crate::context::Context;
 use crate::functions::walk_function;
@@ -22,8 +18,8 @@ fn walk_declaration(
     d: &Decl,
     walk: &mut Walk,
 ) -> Result<(), NoMemory>
-    ensures context { OnOk result (context_tree c.new ≡ after_declaration (context_tree c.old) (decl_tree d.now)) }
-    ensures walked { OnOk result (walk_tree walk.new ≡ declaration_walked (context_tree c.old) (decl_tree d.now) (walk_tree walk.old)) }
+    ensures context { OnOk result (KnowsDeclaration d.now c.old c.new) }
+    ensures walked { OnOk result (WalksDeclaration c.old d.now walk.old walk.new) }
 {
     match d {
         Decl::Struct(s) => walk_struct(alloc, c, s, walk),
@@ -43,8 +39,8 @@ pub fn walk_declarations(
     ds: &[Decl],
     walk: &mut Walk,
 ) -> Result<(), NoMemory>
-    ensures context { OnOk result (context_tree c.new ≡ context_after (context_tree c.old) (map decl_tree ds.now)) }
-    ensures walked { OnOk result (walk_tree walk.new ≡ declarations_walked (context_tree c.old) (map decl_tree ds.now) (walk_tree walk.old)) }
+    ensures context { OnOk result (KnowsDeclarations ds.now c.old c.new) }
+    ensures walked { OnOk result (WalksDeclarations c.old ds.now walk.old walk.new) }
 {
     for d in ds {
         walk_declaration(alloc, c, d, walk)?;

@@ -13,6 +13,7 @@ use crate::entity::Entity;
 use crate::initialisers::{Fit, walk_list, walk_value};
 use crate::judged::{Test, keeps, violates};
 use crate::lengths::walk_lengths;
+use crate::types::copied;
 use crate::walk::Walk;
 use qs_base::NoMemory;
 use qs_syntax::{Base, Expr, Initialiser, Variable};
@@ -20,21 +21,12 @@ use qs_types::{CType, Rule};
 use std::alloc::Global;
 
 /// What an initialiser says of its variable.
-#[derive(Clone, Copy, PartialEq, Eq, Debug)]
+#[derive(Clone, Copy)]
 pub struct Initialised {
     /// The variable breaks no rule, since one is broken in the initialiser.
     pub holds_back: bool,
     /// Whether the initialiser fits, where it and the variable have types.
     pub fits: Option<bool>,
-}
-
-fn copied(alloc: Global, t: &Option<CType>) -> Result<Option<CType>, NoMemory>
-    ensures { IfOk result (λ r. option_type r ≡ option_type t.now) }
-{
-    match t {
-        None => Ok(None),
-        Some(t) => Ok(Some(t.copy(alloc)?)),
-    }
 }
 
 fn entity_at(at_file_scope: bool, node: u32, t: Option<CType>) -> Entity

@@ -1,14 +1,10 @@
 // A walk over a unit.
 ghost use Rattle.std.specs.Prelude.{◌≡◌, IfOk, OnOk, map, option_map};
-ghost use Rattle.qs_syntax.specs.TreeOf.{expr_tree};
-ghost use Rattle.qs_types.specs.Expressions.{type_of};
-ghost use Rattle.qs_types.specs.TypeOf.{type_tree};
-ghost use Rattle.qs_typing.specs.ContextOf.{context_tree};
+ghost use Rattle.qs_typing.specs.ExprWalks.{HasType};
 ghost use Rattle.qs_typing.specs.JudgedOf.{test_tree};
-ghost use Rattle.qs_typing.specs.PositionOf.{position_tree};
 ghost use Rattle.qs_typing.specs.FoundOf.{fault_tree};
-ghost use Rattle.qs_typing.specs.NotedOf.{local_tree};
-ghost use Rattle.qs_typing.specs.UnitWalk.{expr_walked, node_judged, node_opened, site_walked, start_walk, variable_walk_noted, with_body_begun, with_body_ended};
+ghost use Rattle.qs_typing.specs.SiteWalks.{WalkBeginsBody, WalkNotesVariable, WalksExpression, WalksSite};
+ghost use Rattle.qs_typing.specs.UnitWalk.{node_judged, node_opened, start_walk, with_body_ended};
 ghost use Rattle.qs_typing.specs.Variables.{with_least_before};
 ghost use Rattle.qs_typing.specs.WalkOf.{walk_tree};
 
@@ -68,8 +64,8 @@ impl Walk {
         fills_array: bool,
         e: &Expr,
     ) -> Result<Option<CType>, NoMemory>
-        ensures typed { IfOk result (λ t. option_map type_tree t ≡ type_of (context_tree c.now) (expr_tree e.now)) }
-        ensures walked { OnOk result (walk_tree self.new ≡ site_walked (context_tree c.now) (position_tree p) fills_array (expr_tree e.now) (walk_tree self.old)) }
+        ensures typed { IfOk result (HasType c.now e.now) }
+        ensures walked { OnOk result (WalksSite c.now p fills_array e.now self.old self.new) }
     {
         let t = walk_expression(alloc, c, e, p, &mut self.found)?;
         self.noted.note_site(alloc, fills_array, e)?;
@@ -84,8 +80,8 @@ impl Walk {
         p: Position,
         e: &Expr,
     ) -> Result<Option<CType>, NoMemory>
-        ensures typed { IfOk result (λ t. option_map type_tree t ≡ type_of (context_tree c.now) (expr_tree e.now)) }
-        ensures walked { OnOk result (walk_tree self.new ≡ expr_walked (context_tree c.now) (position_tree p) (expr_tree e.now) (walk_tree self.old)) }
+        ensures typed { IfOk result (HasType c.now e.now) }
+        ensures walked { OnOk result (WalksExpression c.now p e.now self.old self.new) }
     {
         self.site(alloc, c, p, false, e)
     }
@@ -98,7 +94,7 @@ impl Walk {
         node: Node,
         t: &Option<CType>,
     ) -> Result<(), NoMemory>
-        ensures { OnOk result (walk_tree self.new ≡ variable_walk_noted at_file_scope (context_tree c.now) node.id (option_map type_tree t.now) (walk_tree self.old)) }
+        ensures { OnOk result (WalkNotesVariable at_file_scope c.now node.id t.now self.old self.new) }
     {
         self.noted
             .note_variable(at_file_scope, c.structs(), node.id, t)
@@ -117,7 +113,7 @@ impl Walk {
 
     /// Begins a body with these parameters.
     pub fn begin_body(&mut self, parameters: Vec<Local>)
-        ensures { walk_tree self.new ≡ with_body_begun (map local_tree parameters.items) (walk_tree self.old) }
+        ensures { WalkBeginsBody parameters.items self.old self.new }
     {
         self.noted.begin_body(parameters);
     }

@@ -1,17 +1,15 @@
 // How contexts are made, asked and changed.
-ghost use Rattle.std.specs.Prelude.{◌≡◌, ◌≤◌, IfOk, OnOk, None, Some, [], length, map, option_map, is_some};
+ghost use Rattle.std.specs.Prelude.{◌≡◌, ◌≤◌, IfOk, OnOk, None, Some, [], length, option_map};
 ghost use Rattle.std.specs.List.{slice_get};
-ghost use Rattle.indexmap.specs.IndexMap.{values};
 ghost use Rattle.qs_types.specs.GivenFunctions.{putchar_type, getchar_type};
-ghost use Rattle.qs_types.specs.Contexts.{given_functions, pointers, start_context, entity_of, lookup, is_declared_here, with_name, inner_scope, tag_place, base_type, starred_type, named_type, is_void_base};
+ghost use Rattle.qs_types.specs.Contexts.{given_functions, pointers, start_context, entity_of, lookup, is_declared_here, inner_scope, tag_place, base_type, is_void_base};
 ghost use Rattle.qs_types.specs.EnvOf.{env_tree};
-ghost use Rattle.qs_types.specs.Layout.{layout_of, sized_layout, with_members};
-ghost use Rattle.qs_types.specs.StructsOf.{member_tree};
 ghost use Rattle.qs_types.specs.TypeOf.{type_tree};
 ghost use Rattle.qs_types.specs.UnitRules.{with_tag};
-ghost use Rattle.qs_typing.specs.EntityOf.{entity_tree, signature_tree};
+ghost use Rattle.qs_typing.specs.EntityOf.{entity_at, signature_tree};
+ghost use Rattle.qs_typing.specs.Knowing.{GivesMembers, IsSized, IsStarred, KnowsName, SetsResult};
 ghost use Rattle.qs_typing.specs.ScopesOf.{inner_bindings, outer_bindings};
-ghost use Rattle.qs_typing.specs.ContextOf.{context_tree, outer_scope, with_result, with_loop, with_structs};
+ghost use Rattle.qs_typing.specs.ContextOf.{context_tree, outer_scope, with_loop};
 
 use super::Context;
 use crate::entity::{Entity, Signature};
@@ -113,22 +111,23 @@ impl Context {
     }
 
     /// The structs alone.
-    pub fn into_structs(self) -> Env
-        ensures { env_tree result ≡ (context_tree self).structs }
+    pub fn into_structs(self) -> (Env, IndexSet<Name>)
+        ensures structs { env_tree result.0 ≡ (context_tree self).structs }
+        ensures tags { result.1.keys ≡ (context_tree self).tags }
     {
-        self.structs
+        (self.structs, self.tags)
     }
 
     /// What a name stands for (C11 6.2.1p4).
     pub fn find(&self, name: &Name) -> Option<&Entity>
-        ensures { option_map (λ e. entity_tree e.now) result ≡ entity_of (context_tree self.now) name.now }
+        ensures { entity_at result ≡ entity_of (context_tree self.now) name.now }
     {
         self.names.find(name)
     }
 
     /// What a name stands for that is declared in the innermost scope.
     pub fn find_here(&self, name: &Name) -> Option<&Entity>
-        ensures { option_map (λ e. entity_tree e.now) result ≡ lookup name.now (context_tree self.now).inner }
+        ensures { entity_at result ≡ lookup name.now (context_tree self.now).inner }
     {
         self.names.find_here(name)
     }
@@ -142,7 +141,7 @@ impl Context {
 
     /// Declares a name in the innermost scope (C11 6.2.1p7).
     pub fn declare(&mut self, alloc: Global, name: Name, entity: Entity) -> Result<(), NoMemory>
-        ensures { OnOk result (context_tree self.new ≡ with_name (context_tree self.old) name (entity_tree entity)) }
+        ensures { OnOk result (KnowsName name entity self.old self.new) }
     {
         self.names.declare(alloc, name, entity)
     }
@@ -173,7 +172,7 @@ impl Context {
     /// Sets the result of the function, and gives the one that was known.
     pub fn set_result(&mut self, to: Option<CType>) -> Option<CType>
         ensures before { option_map type_tree result ≡ (context_tree self.old).result }
-        ensures set { context_tree self.new ≡ with_result (context_tree self.old) (option_map type_tree to) }
+        ensures set { SetsResult to self.old self.new }
     {
         mem::replace(&mut self.result, to)
     }
@@ -224,8 +223,8 @@ impl Context {
         members: IndexMap<Name, CType>,
     ) -> Result<bool, NoMemory>
         requires { slice_get (context_tree self.old).structs k ≡ Some None }
-        ensures told { IfOk result (λ done. done ≡ is_some (sized_layout (layout_of (context_tree self.old).structs) (map type_tree (values members)))) }
-        ensures defined { IfOk result (λ done. context_tree self.new ≡ with_structs (context_tree self.old) (with_members done (context_tree self.old).structs k (map member_tree members.entries))) }
+        ensures told { IfOk result (IsSized self.old members.entries) }
+        ensures defined { IfOk result (λ done. GivesMembers k members.entries done self.old self.new) }
     {
         self.structs.define(alloc, k, members)
     }
@@ -253,7 +252,7 @@ impl Context {
         base: &Base,
         stars: u32,
     ) -> Result<Option<CType>, NoMemory>
-        ensures { IfOk result (λ t. option_map type_tree t ≡ starred_type (context_tree self.now) base.now stars) }
+        ensures { IfOk result (IsStarred self.now base.now stars) }
     {
         match self.base_type(base) {
             None => Ok(None),
@@ -263,7 +262,7 @@ impl Context {
 
     /// The type of a name (C11 6.7.7), unless its tag isn't declared.
     pub fn named_type(&self, alloc: Global, name: &TypeName) -> Result<Option<CType>, NoMemory>
-        ensures { IfOk result (λ t. option_map type_tree t ≡ named_type (context_tree self.now) name.now) }
+        ensures { IfOk result (IsStarred self.now name.now.base name.now.stars) }
     {
         self.starred_type(alloc, &name.base, name.stars)
     }

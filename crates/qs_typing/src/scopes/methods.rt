@@ -1,9 +1,9 @@
 // How names are declared and found.
-ghost use Rattle.std.specs.Prelude.{◌≡◌, ◌≤◌, ◌<◌, ◌-◌, ◌∷◌, ◌++◌, [], length, take, option_map, OnOk};
+ghost use Rattle.std.specs.Prelude.{◌≡◌, ◌≤◌, ◌<◌, [], length, OnOk};
 ghost use Rattle.qs_types.specs.Contexts.{lookup};
-ghost use Rattle.qs_typing.specs.EntityOf.{entity_tree};
-ghost use Rattle.qs_typing.specs.Bindings.{newest_first, place_in};
-ghost use Rattle.qs_typing.specs.ScopesOf.{inner_bindings, outer_bindings};
+ghost use Rattle.qs_typing.specs.EntityOf.{entity_at};
+ghost use Rattle.qs_typing.specs.Bindings.{newest_first, place_in, without_latest};
+ghost use Rattle.qs_typing.specs.ScopesOf.{AddsName, all_bindings, inner_bindings, outer_bindings};
 
 use super::Scopes;
 use crate::entity::{Binding, Entity};
@@ -35,7 +35,7 @@ impl Scopes {
 
     /// What a name stands for: its latest declaration in scope (C11 6.2.1p4).
     pub fn find(&self, name: &Name) -> Option<&Entity>
-        ensures { option_map (λ e. entity_tree e.now) result ≡ lookup name.now (inner_bindings self.now ++ outer_bindings self.now) }
+        ensures { entity_at result ≡ lookup name.now (all_bindings self.now) }
     {
         match self.place_of(name) {
             Some(place) => Some(&self.bindings[place].entity),
@@ -45,7 +45,7 @@ impl Scopes {
 
     /// What a name stands for that is declared in the innermost scope.
     pub fn find_here(&self, name: &Name) -> Option<&Entity>
-        ensures { option_map (λ e. entity_tree e.now) result ≡ lookup name.now (inner_bindings self.now) }
+        ensures { entity_at result ≡ lookup name.now (inner_bindings self.now) }
     {
         match self.place_of(name) {
             Some(place) => {
@@ -61,7 +61,7 @@ impl Scopes {
 
     /// Declares a name in the innermost scope.
     pub fn declare(&mut self, alloc: Global, name: Name, entity: Entity) -> Result<(), NoMemory>
-        ensures inner { OnOk result (inner_bindings self.new ≡ record { name = name; entity = entity_tree entity } ∷ inner_bindings self.old) }
+        ensures inner { OnOk result (AddsName name entity self.old self.new) }
         ensures outer { OnOk result (outer_bindings self.new ≡ outer_bindings self.old) }
     {
         let key = name.copy(alloc)?;
@@ -85,7 +85,7 @@ impl Scopes {
     pub fn enter(&mut self) -> usize
         ensures start { result ≡ length (outer_bindings self.old) }
         ensures inner { inner_bindings self.new ≡ [] }
-        ensures outer { outer_bindings self.new ≡ inner_bindings self.old ++ outer_bindings self.old }
+        ensures outer { outer_bindings self.new ≡ all_bindings self.old }
     {
         let start = self.start;
         self.start = self.bindings.len();
@@ -95,7 +95,7 @@ impl Scopes {
     /// Ends the innermost scope, where the one around it begins at this place.
     pub fn leave(&mut self, start: usize)
         requires { start ≤ length (outer_bindings self.old) }
-        ensures names { inner_bindings self.new ++ outer_bindings self.new ≡ outer_bindings self.old }
+        ensures names { all_bindings self.new ≡ outer_bindings self.old }
         ensures start { length (outer_bindings self.new) ≡ start }
     {
         while self.bindings.len() > self.start {
@@ -107,7 +107,7 @@ impl Scopes {
     fn forget_latest(&mut self)
         requires { self.old.start < length self.old.bindings.items }
         ensures start { self.new.start ≡ self.old.start }
-        ensures bindings { self.new.bindings.items ≡ take (length self.old.bindings.items - 1) self.old.bindings.items }
+        ensures bindings { self.new.bindings.items ≡ without_latest self.old.bindings.items }
     {
         if let Some(binding) = self.bindings.pop() {
             match self.places.insert(binding.name, binding.hidden) {

@@ -3,6 +3,7 @@ ghost use Rattle.std.specs.Prelude.{◌≡◌, map, option_map};
 ghost use Rattle.qs_syntax.specs.UnitTrees.{unit_tree};
 ghost use Rattle.qs_types.specs.EnvOf.{env_tree};
 ghost use Rattle.qs_types.specs.Expressions.{type_of};
+ghost use Rattle.qs_types.specs.Recorded.{global_blocks, tags_of, text_blocks};
 ghost use Rattle.qs_types.specs.TypeOf.{type_tree};
 ghost use Rattle.qs_types.specs.UnitRules.{structs_of};
 ghost use Rattle.qs_types.specs.WellTyped.{end_context};
@@ -11,6 +12,7 @@ ghost use Rattle.qs_typing.specs.ContextOf.{context_tree};
 ghost use Rattle.qs_typing.specs.ExprFindings.{referent_of};
 ghost use Rattle.qs_typing.specs.NodeReferents.{no_referent, unit_addressed, unit_referents};
 ghost use Rattle.qs_typing.specs.NodeTypes.{no_type, unit_types};
+ghost use Rattle.qs_typing.specs.NotedOf.{block_tree};
 ghost use Rattle.qs_typing.specs.Refusals.{IsAccepted};
 ghost use Rattle.qs_typing.specs.TypedOf.{typed_tree};
 ghost use Rattle.qs_typing.specs.UnitWalk.{unit_walked};
@@ -19,26 +21,33 @@ ghost use Rattle.qs_typing.specs.WalkOf.{walk_tree};
 use super::TypedUnit;
 use crate::context::Context;
 use crate::entity::Referent;
+use crate::noted::Block;
 use crate::walk::Walk;
+use indexmap::IndexSet;
+use qs_base::Name;
 use qs_syntax::Unit;
 use qs_types::{CType, Env};
 
 impl TypedUnit {
     /// A unit that is accepted, with what was found in it and what is known behind it.
-    #[tactic(auto, using(crate::proofs::TypedLaws::types_are, crate::proofs::TypedLaws::referents_are, crate::proofs::TypedLaws::addressed_are, crate::proofs::TypedLaws::structs_are))]
+    #[tactic(auto, using(crate::proofs::TypedLaws::types_are, crate::proofs::TypedLaws::referents_are, crate::proofs::TypedLaws::addressed_are, crate::proofs::TypedLaws::structs_are, crate::proofs::TypedLaws::tags_are, crate::proofs::TypedLaws::globals_are, crate::proofs::TypedLaws::texts_are))]
     pub fn new(unit: Unit, c: Context, walk: Walk) -> TypedUnit
         requires accepted { IsAccepted (unit_tree unit) }
         requires known { context_tree c ≡ end_context (unit_tree unit) }
         requires walked { walk_tree walk ≡ unit_walked (unit_tree unit) }
         ensures { typed_tree result ≡ unit_tree unit }
     {
-        let Walk { found, .. } = walk;
+        let Walk { found, noted } = walk;
+        let (env, tags) = c.into_structs();
         TypedUnit {
             unit,
             types: found.types,
             referents: found.referents,
             addressed: found.addressed,
-            env: c.into_structs(),
+            env,
+            tags,
+            globals: noted.globals,
+            texts: noted.texts,
         }
     }
 
@@ -78,6 +87,27 @@ impl TypedUnit {
         ensures { result.now ≡ unit_addressed (typed_tree self.now) }
     {
         &self.addressed
+    }
+
+    /// The tags of the structs, each at the number of its struct (C11 6.7.2.3).
+    pub fn tags(&self) -> &IndexSet<Name>
+        ensures { result.now.keys ≡ tags_of (typed_tree self.now) }
+    {
+        &self.tags
+    }
+
+    /// The variables of file scope with their sizes, in the order of their declarations.
+    pub fn globals(&self) -> &[Block]
+        ensures { map block_tree result.now ≡ global_blocks (typed_tree self.now) }
+    {
+        &self.globals
+    }
+
+    /// The texts that are blocks of memory with their sizes, in the order of the text (C11 6.4.5p6).
+    pub fn texts(&self) -> &[Block]
+        ensures { map block_tree result.now ≡ text_blocks (typed_tree self.now) }
+    {
+        &self.texts
     }
 
     /// It keeps the rules, its `main` has a body, and so has each function that is called; its counts are

@@ -1,8 +1,11 @@
-use Rattle.std.proofs.Common.{map}
+use Rattle.std.proofs.Common.{map, Ok, Err}
 use Rattle.qs_syntax.specs.TreeOf.{decl_tree}
+use Rattle.qs_syntax.specs.UnitTrees.{unit_tree}
 use Rattle.qs_grammar.specs.Parse.{Unexpected, Deep}
 use Rattle.qs_grammar.proofs.UnitsSound.{stops_within}
-use Rattle.qs_parser.proofs.Top.{is_read, are_few, reads_as, is_unexpected, is_too_deep}
+use Rattle.qs_parser.specs.Answers.{ReadsAs, IsUnexpected, IsTooDeep}
+use Rattle.qs_parser.specs.declared.syntax_fault.SyntaxFault.TheVariants as faults
+use Rattle.qs_parser.proofs.Top.{is_read, are_few, reads_as, is_unexpected, is_too_deep, decided}
 use Rattle.qs_parser.proofs.parse.unit_of.Goals as goal
 
 pub numbered-requires-clause-read : goal.numbered-requires-clause-read
@@ -13,7 +16,9 @@ numbered-requires-clause-few c = are_few c.args.tokens.now (map decl_tree c.in-O
 
 pub returns-in_ok-numbered-in-Ok : goal.returns-in_ok-numbered-in-Ok
 returns-in_ok-numbered-in-Ok c =
-    reads_as c.args.tokens.now (map decl_tree c.in-Ok.unnumbered.items) (map decl_tree c.in_ok-numbered-in-Ok.field-0.declarations.items) c.in-Ok._height c.in-Ok.ensures.gives c.in_ok-numbered-in-Ok.ensures
+    let reads : ReadsAs c.args.tokens.now (unit_tree c.in_ok-numbered-in-Ok.field-0) =
+    reads_as c.args.tokens.now (map decl_tree c.in-Ok.unnumbered.items) (map decl_tree c.in_ok-numbered-in-Ok.field-0.declarations.items) c.in-Ok._height c.in-Ok.ensures.gives c.in_ok-numbered-in-Ok.ensures in
+    record { answers = reads; decides = decided c.args.tokens.now (Ok c.in_ok-numbered-in-Ok.field-0) reads }
 
 pub number_of-requires-clause-within : goal.number_of-requires-clause-within
 number_of-requires-clause-within c = rw c.in-Err-Unexpected.field-0-is (stops_within c.args.tokens.now (Unexpected c.in-Err-Unexpected.left) (rw c.in-Err-Unexpected.field-0-is at c.in-Err-Unexpected.ensures.gives))
@@ -22,7 +27,13 @@ pub number_of-requires-in-Err-TooDeep-clause-within : goal.number_of-requires-in
 number_of-requires-in-Err-TooDeep-clause-within c = rw c.in-Err-TooDeep.field-0-is (stops_within c.args.tokens.now (Deep c.in-Err-TooDeep.left) (rw c.in-Err-TooDeep.field-0-is at c.in-Err-TooDeep.ensures.gives))
 
 pub returns-in-Err-Unexpected : goal.returns-in-Err-Unexpected
-returns-in-Err-Unexpected c = is_unexpected c.args.tokens.now c.in-Err-Unexpected.left _ (rw c.in-Err-Unexpected.field-0-is at c.in-Err-Unexpected.ensures.gives) (rw c.in-Err-Unexpected.field-0-is at c.number_of.ensures)
+returns-in-Err-Unexpected c =
+    let stands : IsUnexpected c.args.tokens.now c.number_of.result =
+    is_unexpected c.args.tokens.now c.in-Err-Unexpected.left _ (rw c.in-Err-Unexpected.field-0-is at c.in-Err-Unexpected.ensures.gives) (rw c.in-Err-Unexpected.field-0-is at c.number_of.ensures) in
+    record { answers = stands; decides = decided c.args.tokens.now (Err (faults.Unexpected c.number_of.result)) stands }
 
 pub returns-in-Err-TooDeep : goal.returns-in-Err-TooDeep
-returns-in-Err-TooDeep c = is_too_deep c.args.tokens.now c.in-Err-TooDeep.left _ (rw c.in-Err-TooDeep.field-0-is at c.in-Err-TooDeep.ensures.gives) (rw c.in-Err-TooDeep.field-0-is at c.number_of-in-Err-TooDeep.ensures)
+returns-in-Err-TooDeep c =
+    let stands : IsTooDeep c.args.tokens.now c.number_of-in-Err-TooDeep.result =
+    is_too_deep c.args.tokens.now c.in-Err-TooDeep.left _ (rw c.in-Err-TooDeep.field-0-is at c.in-Err-TooDeep.ensures.gives) (rw c.in-Err-TooDeep.field-0-is at c.number_of-in-Err-TooDeep.ensures) in
+    record { answers = stands; decides = decided c.args.tokens.now (Err (faults.TooDeep c.number_of-in-Err-TooDeep.result)) stands }

@@ -1,4 +1,4 @@
-use Rattle.std.proofs.Common.{◌≡◌, Option, Box, Global, OnOk, sym, ap, ◌∙◌, subst}
+use Rattle.std.proofs.Common.{◌≡◌, Option, Box, Global, sym, ap, ◌∙◌}
 use Rattle.qs_syntax.specs.Trees.{StmtTree, do_loop, for_loop}
 use Rattle.qs_syntax.specs.TreeOf.{expr_tree, option_tree, start_tree, stmt_step, stmt_tree, stmts_tree}
 use Rattle.qs_syntax.specs.declared.expressions.Expr.{Expr}
@@ -6,11 +6,7 @@ use Rattle.qs_syntax.specs.declared.nodes.Node.{Node}
 use Rattle.qs_syntax.specs.declared.statements.Start.{Start}
 use Rattle.qs_syntax.specs.declared.statements.Stmt.{Stmt, Stmt-F, Do, For, fold-roll-Stmt}
 use Rattle.qs_syntax.specs.declared.statements.Stmt.TheVariants.{rolls-Do, rolls-For}
-use Rattle.qs_types.specs.Contexts.{inner_scope, inside_loop}
-use Rattle.qs_types.specs.StatementRules.{after_statement}
 use Rattle.qs_typing.specs.ContextOf.{context_tree}
-use Rattle.qs_typing.specs.UnitWalk.{condition_walked, statement_walked}
-use Rattle.qs_typing.specs.WalkOf.{walk_tree}
 use Rattle.qs_typing.proofs.Scoping.{part_ends, part_leaves, block_ends, block_leaves, body_ends, body_leaves, for_ends, for_leaves}
 use Rattle.qs_typing.proofs.statements.+stmt.Goals as goal
 
@@ -63,26 +59,14 @@ do_of n b e = ap stmt_tree (sym (rolls-Do n b e)) ∙ fold-roll-Stmt StmtTree st
 for_of : (n : Node) (start : Start) (e u : Option Expr) (b : Box Stmt Global) → stmt_tree (For n start e u b) ≡ for_loop n (start_tree start) (option_tree e) (option_tree u) (stmt_tree b.value)
 for_of n start e u b = ap stmt_tree (sym (rolls-For n start e u b)) ∙ fold-roll-Stmt StmtTree stmt_step (Stmt-F.For n start e u b)
 
-pub walk_statement-leave_scope-requires : goal.walk_statement-leave_scope-requires
-walk_statement-leave_scope-requires t c =
-    for_leaves (context_tree c.args.c.now) (context_tree c.enter_scope-around.new.self) (context_tree c.walk_start.new.c) (context_tree c.walk_body-in-For.new.c)
-    c.enter_scope-around.result (start_tree c.in-For.start)
-    c.enter_scope-around.ensures.around c.enter_scope-around.ensures.inside c.in_ok-start_typed-in-For.ensures.context c.in_ok-walk_body-in-For.ensures.context
+pub walk_for-leave_scope-requires : goal.walk_for-leave_scope-requires
+walk_for-leave_scope-requires t c =
+    for_leaves (context_tree c.args.c.now) (context_tree c.enter_scope-around.new.self) (context_tree c.walk_start.new.c) (context_tree c.walk_body.new.c)
+    c.enter_scope-around.result (start_tree c.args.start.now)
+    c.enter_scope-around.ensures.around c.enter_scope-around.ensures.inside c.in_ok-start_typed.ensures.context c.in_ok-walk_body.ensures.context
 
-pub walk_statement-returns-in_ok-walk_body-in-For-clause-context : goal.walk_statement-returns-in_ok-walk_body-in-For-clause-context
-walk_statement-returns-in_ok-walk_body-in-For-clause-context t c =
-    let context = context_tree c.args.c.now in
-    for_ends context (context_tree c.enter_scope-around.new.self) (context_tree c.walk_start.new.c) (context_tree c.walk_body-in-For.new.c) (context_tree c.leave_scope.new.self)
-    c.enter_scope-around.result (start_tree c.in-For.start)
-    c.enter_scope-around.ensures.around c.enter_scope-around.ensures.inside c.in_ok-start_typed-in-For.ensures.context c.in_ok-walk_body-in-For.ensures.context c.leave_scope.ensures
-    ∙ sym (ap (λ x. after_statement context (stmt_tree x)) c.in-For.is ∙ ap (after_statement context) (for_of c.in-For.node c.in-For.start c.in-For.condition c.in-For.step c.in-For.body))
-
-pub walk_statement-returns-in_ok-walk_body-in-Do-clause-walked : goal.walk_statement-returns-in_ok-walk_body-in-Do-clause-walked
-walk_statement-returns-in_ok-walk_body-in-Do-clause-walked t c =
-    let context = context_tree c.args.c.now in
-    let before = walk_tree c.args.walk.now in
-    let body = c.in_ok-walk_body-in-Do.ensures.walked ∙ (λ i. statement_walked (inside_loop (inner_scope context)) (stmt_tree (c.deref-in-Do.ensures i)) (c.in_ok-open-in-Do.ensures i)) in
-    subst (λ w. OnOk c.walk_condition-in-Do.result (walk_tree c.walk_condition-in-Do.new.walk ≡ w))
-    ((λ i. condition_walked (c.in_ok-walk_body-in-Do.ensures.context i) c.in-Do.node (expr_tree c.in-Do.condition) (body i))
-    ∙ sym (ap (λ x. statement_walked context (stmt_tree x) before) c.in-Do.is ∙ ap (λ x. statement_walked context x before) (do_of c.in-Do.node c.in-Do.body c.in-Do.condition)))
-    c.walk_condition-in-Do.ensures
+pub walk_for-returns-clause-context : goal.walk_for-returns-clause-context
+walk_for-returns-clause-context t c =
+    for_ends (context_tree c.args.c.now) (context_tree c.enter_scope-around.new.self) (context_tree c.walk_start.new.c) (context_tree c.walk_body.new.c) (context_tree c.leave_scope.new.self)
+    c.enter_scope-around.result (start_tree c.args.start.now)
+    c.enter_scope-around.ensures.around c.enter_scope-around.ensures.inside c.in_ok-start_typed.ensures.context c.in_ok-walk_body.ensures.context c.leave_scope.ensures

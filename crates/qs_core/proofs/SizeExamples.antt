@@ -1,0 +1,156 @@
+-- How many values and words the forms of core need, computed from the definition; names as in int x, y; int *p.
+use Rattle.std.proofs.Common.{◌≡◌, ℕ, ◌+◌, ◌*◌, List, [], ◌∷◌, codes, Some, None, refl}
+use Rattle.qs_memory.specs.Memory.{zeros}
+use Rattle.qs_memory.specs.declared.scalar.Scalar.TheVariants.{Char, Int, Pointer}
+use Rattle.qs_memory.specs.declared.operation.Signedness.TheVariants.{Signed}
+use Rattle.qs_memory.specs.declared.operation.Direction.TheVariants.{Up}
+use Rattle.qs_memory.specs.declared.operation.Arithmetic.TheVariants.{Add}
+use Rattle.qs_memory.specs.declared.operation.Comparison.TheVariants.{Less}
+use Rattle.qs_memory.specs.declared.operation.BinaryOperation.TheVariants.{Arithmetic, Compare, Move}
+use Rattle.qs_calls.specs.declared.callee.Callee.TheVariants.{Function, PutChar}
+use Rattle.qs_calls.specs.declared.parameter.Parameter.TheVariants.{Plain, Placed}
+use Rattle.qs_core.specs.declared.numbers.BlockId.TheVariants.{Local, Data}
+use Rattle.qs_core.specs.declared.numbers.Target.TheVariants.{Variable, Temporary}
+use Rattle.qs_core.specs.Trees.{CoreExprTree, literal, null_pointer, variable, temporary, address_of, load, member, binary, conversion, logical_and, conditional}
+use Rattle.qs_core.specs.Trees.{skip, assign, store, copy, fill, call, branch, loop, break, return, CoreStmts, stmts_of, CoreFunctionTree, CoreUnitTree}
+use Rattle.qs_core.specs.Sizes.{parts_held, held, all_held, held_in, values, taken_words, address_words, stmt_words, words, unit_words}
+
+abbrev x : CoreExprTree
+x = variable Int 0
+
+abbrev y : CoreExprTree
+y = variable Int 1
+
+abbrev p : CoreExprTree
+p = variable Pointer 2
+
+abbrev sum : CoreExprTree → CoreExprTree → CoreExprTree
+sum a b = binary (Arithmetic Add Signed) a b
+
+abbrev element : CoreExprTree → CoreExprTree → CoreExprTree
+element a b = binary (Move Up Signed 4) a b
+
+-- ---- operands hold nothing
+
+literals : held (literal Int 5) ≡ 0
+literals = refl
+
+null_pointers : held null_pointer ≡ 0
+null_pointers = refl
+
+blocks : held (address_of (Data 3)) ≡ 0
+blocks = refl
+
+members_of_blocks : held (member 4 (member 8 (address_of (Local 0)))) ≡ 0
+members_of_blocks = refl
+
+low_bytes : held (conversion Char (temporary Int 0)) ≡ 0
+low_bytes = refl
+
+members_elsewhere : held (member 4 p) ≡ 1
+members_elsewhere = refl
+
+-- ---- parts are held from left to right
+
+one_sum : parts_held (sum x y) ≡ 0
+one_sum = refl
+
+two_sums : parts_held (sum (sum x y) (sum x y)) ≡ 2
+two_sums = refl
+
+to_the_right : held (sum (sum x y) (sum (sum x y) (sum x y))) ≡ 3
+to_the_right = refl
+
+to_the_left : held (sum (sum (sum x y) (sum x y)) (sum x y)) ≡ 2
+to_the_left = refl
+
+converted_sum : held (conversion Char (sum x y)) ≡ 1
+converted_sum = refl
+
+both_sides : held (logical_and (sum x y) (sum x y)) ≡ 1
+both_sides = refl
+
+one_of_three : held (conditional (sum x y) (sum x y) x) ≡ 1
+one_of_three = refl
+
+-- ---- a value is made where it is wanted
+
+assigned : held_in (assign (Variable 0) (sum x y)) ≡ 0
+assigned = refl
+
+stored : held_in (store Int (element p x) (sum x y)) ≡ 2
+stored = refl
+
+given : held_in (call None PutChar (sum x y ∷ x ∷ sum x y ∷ [])) ≡ 2
+given = refl
+
+-- ---- functions
+
+abbrev function : CoreStmts → CoreFunctionTree
+function body = record {
+  name = codes "main";
+  parameters = [];
+  variables = [];
+  temporaries = [];
+  blocks = [];
+  result_type = Some Int;
+  body = body;
+}
+
+-- int main(void){}
+abbrev empty_main : CoreFunctionTree
+empty_main = function (stmts_of (return (Some (literal Int 0)) ∷ []))
+
+no_values : values empty_main ≡ 0
+no_values = refl
+
+-- int main(int a){&a;}, the parameter of which is in a block; its number among the variables is the one value
+a_placed_parameter :
+    values (record empty_main {
+      parameters = record { name = codes "a"; place = Placed 0 Int } ∷ [];
+      variables = record { name = codes "a"; ordinal = 1; scalar = Int } ∷ [];
+    })
+    ≡ 1
+a_placed_parameter = refl
+
+-- ---- words
+
+-- three to read x, three to read y, the sum, and one to keep it as a part; then one to read the part
+of_a_sum : taken_words (sum x y) ≡ 3 + 3 + 1 + 1 + 1
+of_a_sum = refl
+
+of_a_literal : taken_words (sum x (literal Int 1)) ≡ 3 + 2 + 1 + 1 + 1
+of_a_literal = refl
+
+of_an_element : taken_words (load Int (element p x)) ≡ (3 + 3 + 4 + 1 + 1) + 1 + 1 + 1
+of_an_element = refl
+
+of_a_member : address_words (member 4 p) ≡ 3 + 2
+of_a_member = refl
+
+of_a_test : stmt_words (branch (binary (Compare Less Signed) x y) skip skip) ≡ (3 + 3 + 2 + 1) + (1 + 2) + 2
+of_a_test = refl
+
+of_a_conjunction : taken_words (logical_and x y) ≡ (3 + 2) + (3 + 2) + 5 + 1
+of_a_conjunction = refl
+
+of_a_loop : stmt_words (loop break skip) ≡ 1 + 3
+of_a_loop = refl
+
+of_an_assignment : stmt_words (assign (Variable 0) x) ≡ 3 + 3
+of_an_assignment = refl
+
+of_a_copy : stmt_words (copy 8 4 p (address_of (Local 0))) ≡ (3 + 1) + (3 + 1) + 2 + 6
+of_a_copy = refl
+
+of_a_fill : stmt_words (fill (zeros 8) (address_of (Local 0))) ≡ (3 + 1) + 2 + 4
+of_a_fill = refl
+
+of_a_call : stmt_words (call (Some 0) (Function (record { 0 = 1 })) (x ∷ y ∷ [])) ≡ 3 + (3 + 0) + 2 + 3
+of_a_call = refl
+
+of_main : words empty_main ≡ 16 + (2 + 17) + 17
+of_main = refl
+
+of_a_unit : unit_words (record { functions = empty_main ∷ []; main = 0; data_blocks = [] }) ≡ 24 * 1 + 32
+of_a_unit = refl

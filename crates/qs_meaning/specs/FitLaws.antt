@@ -1,0 +1,130 @@
+-- What is promised of the typed tree of a well typed unit: it fits.
+use Rattle.std.specs.Prelude.{◌≡◌, ℕ, ◌^◌, not, ◌&&◌, nat_lt, Bool, true, false, List, [], ◌∷◌, map, Option, Some, None}
+use Rattle.std.specs.List.{list_all}
+use Rattle.qs_syntax.specs.declared.nodes.Node.{Node}
+use Rattle.qs_syntax.specs.Trees.{ExprTree, expr, ShapeTree, Exprs, no_exprs, expr_and, DeclaratorTree, InitialiserTree, value, list, Initialisers, no_initialisers, initialiser_and, VariableTree, MembersTree, StartTree, no_start, start_expression, start_declaration, StmtTree, empty, expression, declaration, block, branch, while_loop, do_loop, for_loop, break, continue, return, Stmts, no_stmts, stmt_and, Else, no_else, else_by, DeclTree, structure, forward, function, variables, UnitTree}
+use Rattle.qs_syntax.specs.Trees as trees
+use Rattle.qs_syntax.specs.Nodes.{unit_nodes}
+use Rattle.qs_syntax.specs.Units.{IsRead}
+use Rattle.qs_types.specs.Placed.{is_one_of}
+use Rattle.qs_types.specs.Sites.{Site, unit_sites}
+use Rattle.qs_types.specs.Limits.{IsWithinLimits}
+use Rattle.qs_types.specs.WellTyped.{WellTyped}
+use Rattle.qs_meaning.specs.Typed.{TypedProgram}
+use Rattle.qs_meaning.specs.Units.{typed_of}
+use Rattle.qs_meaning.specs.Fits.{program_fits}
+
+-- ---- the nodes of a unit have different numbers: those of a unit that is read are numbered in order
+
+abbrev pub are_different : List ℕ → Bool
+are_different [] = true
+are_different (n ∷ ns) = not (is_one_of n ns) && are_different ns
+
+abbrev pub numbers_differ : UnitTree → Bool
+numbers_differ unit = are_different (map (λ (n : Node). n.id) (unit_nodes unit))
+
+-- ---- 6.4.4.1: constants are below 2 ^ 32, as those among the tokens of a unit that is read are
+
+abbrev mutual
+  pub has_words : ExprTree → Bool
+  has_words (expr node shape) = shape_has_words shape
+
+  pub shape_has_words : ShapeTree → Bool
+  shape_has_words (trees.constant n u) = nat_lt n (2 ^ 32)
+  shape_has_words (trees.text bytes) = true
+  shape_has_words (trees.name x) = true
+  shape_has_words (trees.unary operator a) = has_words a
+  shape_has_words (trees.step operator a) = has_words a
+  shape_has_words (trees.cast name a) = has_words a
+  shape_has_words (trees.sizeof_type name) = true
+  shape_has_words (trees.sizeof_expr a) = has_words a
+  shape_has_words (trees.binary operator a b) = has_words a && has_words b
+  shape_has_words (trees.assign operator a b) = has_words a && has_words b
+  shape_has_words (trees.conditional c a b) = has_words c && (has_words a && has_words b)
+  shape_has_words (trees.comma a b) = has_words a && has_words b
+  shape_has_words (trees.subscript a b) = has_words a && has_words b
+  shape_has_words (trees.member access a x) = has_words a
+  shape_has_words (trees.call f es) = all_have_words es
+
+  pub all_have_words : Exprs → Bool
+  all_have_words no_exprs = true
+  all_have_words (expr_and e es) = has_words e && all_have_words es
+
+abbrev pub constants_are_words : UnitTree → Bool
+constants_are_words unit = list_all (λ (s : Site). has_words s.expression) (unit_sites unit)
+
+-- ---- 6.7.9p1, 6.7.2.1p1: a list of initialisers has one at least, and a list of members too, as the grammar asks
+
+abbrev pub is_filled : Option InitialiserTree → Bool
+is_filled None = true
+is_filled (Some (value e)) = true
+is_filled (Some (list node no_initialisers)) = false
+is_filled (Some (list node (initialiser_and i is))) = true
+
+abbrev pub variables_filled : List VariableTree → Bool
+variables_filled vs = list_all (λ (v : VariableTree). is_filled v.initialiser) vs
+
+abbrev pub start_filled : StartTree → Bool
+start_filled no_start = true
+start_filled (start_expression e) = true
+start_filled (start_declaration d) = variables_filled d.variables
+
+abbrev mutual
+  pub statement_filled : StmtTree → Bool
+  statement_filled (empty node) = true
+  statement_filled (expression node e) = true
+  statement_filled (declaration d) = variables_filled d.variables
+  statement_filled (block ss) = statements_filled ss
+  statement_filled (branch node e s r) = statement_filled s && else_filled r
+  statement_filled (while_loop node e s) = statement_filled s
+  statement_filled (do_loop node s e) = statement_filled s
+  statement_filled (for_loop node start e u s) = start_filled start && statement_filled s
+  statement_filled (break node) = true
+  statement_filled (continue node) = true
+  statement_filled (return node e) = true
+
+  pub statements_filled : Stmts → Bool
+  statements_filled no_stmts = true
+  statements_filled (stmt_and s ss) = statement_filled s && statements_filled ss
+
+  pub else_filled : Else → Bool
+  else_filled no_else = true
+  else_filled (else_by s) = statement_filled s
+
+abbrev pub body_filled : Option Stmts → Bool
+body_filled None = true
+body_filled (Some ss) = statements_filled ss
+
+-- the first group of members has one
+abbrev pub has_declarators : List DeclaratorTree → Bool
+has_declarators [] = false
+has_declarators (d ∷ ds) = true
+
+abbrev pub members_filled : List MembersTree → Bool
+members_filled [] = false
+members_filled (m ∷ ms) = has_declarators m.declarators
+
+abbrev pub declaration_filled : DeclTree → Bool
+declaration_filled (structure s) = members_filled s.members
+declaration_filled (forward f) = true
+declaration_filled (function f) = body_filled f.body
+declaration_filled (variables d) = variables_filled d.variables
+
+abbrev pub lists_are_filled : UnitTree → Bool
+lists_are_filled unit = list_all declaration_filled unit
+
+-- ---- what is promised
+
+-- what holds of every unit that is read
+pub record IsAsRead (unit : UnitTree) : Type 0 where
+  pub numbers : numbers_differ unit ≡ true
+  pub constants : constants_are_words unit ≡ true
+  pub lists : lists_are_filled unit ≡ true
+
+abbrev pub TypedUnitsFit : Type 0
+TypedUnitsFit =
+    (unit : UnitTree) (u : TypedProgram) → IsAsRead unit → WellTyped unit → IsWithinLimits unit → typed_of unit ≡ Some u → program_fits u ≡ true
+
+-- a unit that is read from tokens is such a unit
+abbrev pub ReadIsAsRead : Type 0
+ReadIsAsRead = (unit : UnitTree) → IsRead unit → IsAsRead unit

@@ -24,6 +24,7 @@ use Rattle.qs_lower.specs.Expressions.{ExprCode, size_of, code_of, operand_of, o
 use Rattle.qs_lower.specs.Statements.{of_call, taken_by}
 use Rattle.qs_lower.proofs.SizeLaws.{one_more, code_length, all_length}
 use Rattle.qs_lower.proofs.Real.{Act, Stack, HasAt, has_left, has_right, Kept, KeptBut, kept_all, kept_then, Real, real_fault, Resumes, CallsReal, entering, moment, IsCode, Agree, free}
+use Rattle.qs_lower.proofs.ValueReal as value_real
 use Rattle.qs_lower.proofs.ExprReal as expr
 use Rattle.qs_lower.proofs.PlainReal as plain
 
@@ -60,18 +61,18 @@ module _ (u : TacUnitTree) (f : CoreFunctionTree) (code : List InstructionTree) 
       → Makes d (at + all_size (map code_for ss)) l.first_block after w r)
       → Makes d at l.first_block e w r
   all_real [] there d t at l e w r le agree has none next =
-      expr.moved u f code function stack is_code d (at + 0) at l.first_block e w r (omega arith) (next e (kept_all t e) (λ i. refl))
+      value_real.moved u f code function stack is_code d (at + 0) at l.first_block e w r (omega arith) (next e (kept_all t e) (λ i. refl))
   all_real (s ∷ ss) there d t at l e w r le agree has none next =
       let h = expr.correct u f code function stack is_code s there.0 in
-      expr.as_operand u f code function stack is_code s (code_for s) h d t at l e w r le agree (has_left code at (code_of (code_for s) t at) _ has)
-      (λ k. none (expr.none_bind (value s l w.memory) (λ v. values ss l w.memory >>= λ vs. Some (v ∷ vs)) k))
+      value_real.as_operand u f code function stack is_code s (code_for s) h d t at l e w r le agree (has_left code at (code_of (code_for s) t at) _ has)
+      (λ k. none (value_real.none_bind (value s l w.memory) (λ v. values ss l w.memory >>= λ vs. Some (v ∷ vs)) k))
       (λ after kept same.
       all_real ss there.1 d (t + own (code_for s)) (at + size_of (code_for s)) l after w r (omega (arith, le))
-      (expr.agree_kept u f code function stack is_code t l e after le agree kept)
+      (value_real.agree_kept u f code function stack is_code t l e after le agree kept)
       (has_right code at (size_of (code_for s)) (code_of (code_for s) t at) _ (code_length (code_for s) h.sized.into t at) has)
       (λ k. none (no_values (value s l w.memory) (values ss l w.memory) k))
       (λ last kept_last others.
-      expr.moved u f code function stack is_code d (at + (size_of (code_for s) + all_size (map code_for ss))) (at + size_of (code_for s) + all_size (map code_for ss)) l.first_block last w r (omega arith)
+      value_real.moved u f code function stack is_code d (at + (size_of (code_for s) + all_size (map code_for ss))) (at + size_of (code_for s) + all_size (map code_for ss)) l.first_block last w r (omega arith)
       (next last (kept_then t (t + own (code_for s)) e after last (omega arith) kept kept_last)
       (λ i.
       ap (λ o. o >>= λ v. operands temporaries (all_operands (map code_for ss) (t + own (code_for s))) (at_moment i l.first_block last) >>= λ vs. Some (v ∷ vs)) (same i last kept_last)
@@ -96,8 +97,8 @@ module _ (u : TacUnitTree) (f : CoreFunctionTree) (code : List InstructionTree) 
   taken_real d at (Some k) l e n there ready here agree (Some v) w =
       let r = ready (assigned (targets.Temporary k) l v) (with_value e (length f.variables + k) v) w here
               (plain.agree_assigned u f code function stack is_code c first depth calls_real (targets.Temporary k) l e (with_value e (length f.variables + k) v) v there agree
-              (λ y lt other. expr.with_other u f code function stack is_code e (length f.variables + k) y v other)
-              (expr.with_itself u f code function stack is_code e (length f.variables + k) v)) in
+              (λ y lt other. value_real.with_other u f code function stack is_code e (length f.variables + k) y v other)
+              (value_real.with_itself u f code function stack is_code e (length f.variables + k) v)) in
       (r.taken, r.enough, r.gives)
 
   -- ---- the callee
@@ -176,7 +177,7 @@ module _ (u : TacUnitTree) (f : CoreFunctionTree) (code : List InstructionTree) 
       (λ after kept same.
       made d at k l after w le (has_right code at (all_size (map code_for es)) (all_code (map code_for es) first_free at) _ (all_length (length f.variables) es first_free at) has).0
       (ready_at d k (at + (all_size (map code_for es) + 1)) (at + all_size (map code_for es) + 1) (omega arith) ready) here
-      (expr.agree_kept u f code function stack is_code first_free l env after (omega arith) agree kept)
+      (value_real.agree_kept u f code function stack is_code first_free l env after (omega arith) agree kept)
       (same (at + all_size (map code_for es))) (values es l w.memory) refl))
     where
       ready_at : (d : ℕ) (k : Continuations) (i j : ℕ) → i ≡ j → plain.IsReady u f code function stack is_code c first depth calls_real k.next d i → plain.IsReady u f code function stack is_code c first depth calls_real k.next d j
@@ -192,7 +193,7 @@ module _ (u : TacUnitTree) (f : CoreFunctionTree) (code : List InstructionTree) 
           subst (λ (r : RootRun). Makes d (at + all_size (map code_for es)) l.first_block after w r)
           (sym (plain.given_none (values es l w.memory) (λ vs. invoke g c.calls vs (statements.take_result x k.next l) w) is))
           (real_fault u d (at_moment (at + all_size (map code_for es)) l.first_block after) w stack
-          (λ j. expr.at_instruction u f code function stack is_code j (at + all_size (map code_for es)) l.first_block after w
+          (λ j. value_real.at_instruction u f code function stack is_code j (at + all_size (map code_for es)) l.first_block after w
           (call (taken_by (length f.variables) x) g (all_operands (map code_for es) first_free)) has
           ∙ plain.given_none (operands temporaries (all_operands (map code_for es) first_free) (at_moment (at + all_size (map code_for es)) l.first_block after))
           (λ vs. called j (at + all_size (map code_for es)) x g l after vs w) (same ∙ is)))
@@ -201,7 +202,7 @@ module _ (u : TacUnitTree) (f : CoreFunctionTree) (code : List InstructionTree) 
           (sym (plain.given_some (values es l w.memory) vs (λ vs. invoke g c.calls vs (statements.take_result x k.next l) w) is))
           (callee_real d (at + all_size (map code_for es)) x g l after vs w (statements.take_result x k.next l) le.1
           (taken_real d (at + all_size (map code_for es) + 1) x l after k.next taken ready here agree)
-          (λ i. expr.at_instruction u f code function stack is_code i (at + all_size (map code_for es)) l.first_block after w
+          (λ i. value_real.at_instruction u f code function stack is_code i (at + all_size (map code_for es)) l.first_block after w
           (call (taken_by (length f.variables) x) g (all_operands (map code_for es) first_free)) has
           ∙ plain.given_some (operands temporaries (all_operands (map code_for es) first_free) (at_moment (at + all_size (map code_for es)) l.first_block after)) vs
           (λ vs. called i (at + all_size (map code_for es)) x g l after vs w) (same ∙ is)))

@@ -16,6 +16,7 @@ use Rattle.qs_lower.specs.Statements.{Exits, Falls, falls_of, elsewhere, before,
 use Rattle.qs_lower.proofs.SizeLaws.{Sized}
 use Rattle.qs_lower.proofs.StmtSizeLaws.{PartSized, TestedSized}
 use Rattle.qs_lower.proofs.Real.{Act, Stack, HasAt, has_left, has_right, Kept, kept_all, Real, real_less, CallsReal, moment, IsCode, Agree, free, Goes, by_answer}
+use Rattle.qs_lower.proofs.ValueReal as value_real
 use Rattle.qs_lower.proofs.ExprReal as expr
 use Rattle.qs_lower.proofs.PlainReal as plain
 
@@ -197,7 +198,7 @@ module _ (u : TacUnitTree) (f : CoreFunctionTree) (code : List InstructionTree) 
       as_one : given (value s l w.memory) (λ v. given (truth w.memory v) (λ said. if said then m l w else n l w)) ≡ given (value s l w.memory >>= truth w.memory) (λ said. if said then m l w else n l w)
       as_one = plain.given_bind (value s l w.memory) (truth w.memory) _
       agree_kept : (after : Environment) → Kept first_free env after → Agrees l after
-      agree_kept after kept = expr.agree_kept u f code function stack is_code first_free l env after (omega arith) agree kept
+      agree_kept after kept = value_real.agree_kept u f code function stack is_code first_free l env after (omega arith) agree kept
       result : (b : Bool) → (value s l w.memory >>= truth w.memory) ≡ Some b
           → (if b then m l w else n l w) ≡ given (value s l w.memory) (λ v. given (truth w.memory v) (λ said. if said then m l w else n l w))
       result b is = sym (as_one ∙ plain.given_some (value s l w.memory >>= truth w.memory) b (λ said. if said then m l w else n l w) is)
@@ -454,7 +455,7 @@ module _ (u : TacUnitTree) (f : CoreFunctionTree) (code : List InstructionTree) 
     pub last_real : PartReal (looped body_meaning n) (test_last first_free t step)
     last_real = record {
       stands = λ d at x k le has ready l env w here agree.
-          expr.jump_real u f code function stack is_code d at (t.front.entry (at + 1 + t.rest.size body_falls + step.size next_falls)) l.first_block env w _ has.0
+          value_real.jump_real u f code function stack is_code d at (t.front.entry (at + 1 + t.rest.size body_falls + step.size next_falls)) l.first_block env w _ has.0
           (real_less u (d - 1) d _ w stack _ (omega arith) ((last_turns at x k has c.turns d le.0 le ready).1 l env w here agree));
       entered = λ d at x k le has ready. (last_turns at x k has c.turns d le.0 le ready).1;
     }

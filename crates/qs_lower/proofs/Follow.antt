@@ -97,20 +97,20 @@ passes n (Placed i s ∷ ps) (v ∷ vs) first e w there below = stored (store s 
 -- ---- functions of a unit
 
 module _ (u : CoreUnitTree) (turns : ℕ) where
-  abbrev t : TacUnitTree
+  abbrev pub t : TacUnitTree
   t = straight_unit u
 
-  abbrev context : ℕ → Context
+  abbrev pub context : ℕ → Context
   context depth = record { turns = turns; calls = calls_within u turns depth }
 
-  found : (f : ℕ) (o : Option CoreFunctionTree) → slice_get u.functions f ≡ o → slice_get t.functions f ≡ option_map straight_function o
+  pub found : (f : ℕ) (o : Option CoreFunctionTree) → slice_get u.functions f ≡ o → slice_get t.functions f ≡ option_map straight_function o
   found f o is = slice_get-map straight_function u.functions f ∙ ap (option_map straight_function) is
 
-  code_is : (f : ℕ) (g : CoreFunctionTree) (stack : Stack) → slice_get u.functions f ≡ Some g → IsCode t g (function_code g) f stack
+  pub code_is : (f : ℕ) (g : CoreFunctionTree) (stack : Stack) → slice_get u.functions f ≡ Some g → IsCode t g (function_code g) f stack
   code_is f g stack is at first e = ap (λ o. o >>= λ h. slice_get h.code at) (found f (Some g) is)
 
   -- what is there of a function does not depend on what calls it
-  abbrev IsThere : (depth f : ℕ) (g : CoreFunctionTree) (stack : Stack) (first : ℕ) → slice_get u.functions f ≡ Some g → CallsReal t depth (calls_within u turns depth) → Type 0
+  abbrev pub IsThere : (depth f : ℕ) (g : CoreFunctionTree) (stack : Stack) (first : ℕ) → slice_get u.functions f ≡ Some g → CallsReal t depth (calls_within u turns depth) → Type 0
   IsThere depth f g stack first is real = unit.StmtsThere t g (function_code g) f stack (code_is f g stack is) (context depth) first depth real g.body
 
   module _ (parameters_there : (f : ℕ) (g : CoreFunctionTree) → slice_get u.functions f ≡ Some g → ParametersThere (length g.variables) (map (λ p. p.place) g.parameters))

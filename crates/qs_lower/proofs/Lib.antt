@@ -4,6 +4,9 @@ pub mod StmtSizeLaws
 pub mod Real
 pub mod OperandLaws
 pub mod AddressLaws
+pub mod ValueReal
+pub mod AddressReal
+pub mod OperandReal
 pub mod ExprReal
 pub mod PlainReal
 pub mod FlowReal
@@ -11,4 +14,6 @@ pub mod StmtReal
 pub mod CallReal
 pub mod UnitReal
 pub mod Follow
+pub mod There
+pub mod LoweringLaws
 mod LowerExamples

@@ -26,6 +26,7 @@ use Rattle.qs_lower.specs.Expressions.{ExprCode, size_of, code_of, operand_of, o
 use Rattle.qs_lower.specs.Statements.{Exits, falls_of, Part, StmtCode, straight, target_of,  of_assign, of_store, of_copy, of_fill, of_return, of_plain_return}
 use Rattle.qs_lower.proofs.SizeLaws.{both, one_more, code_length}
 use Rattle.qs_lower.proofs.Real.{Act, Stack, HasAt, has_left, has_right, Kept, KeptBut, kept_all, kept_then, kept_below, Real, real_less, real_fault, real_given, Resumes, CallsReal, entering, moment, IsCode, Agree, free, Goes}
+use Rattle.qs_lower.proofs.ValueReal as value_real
 use Rattle.qs_lower.proofs.ExprReal as expr
 
 pub given_none : {A : Type 0} (o : Option A) (g : A → RootRun) → o ≡ None → given o g ≡ undefined
@@ -114,7 +115,7 @@ module _ (u : TacUnitTree) (f : CoreFunctionTree) (code : List InstructionTree) 
       → (o ≡ None → r ≡ undefined) → ((m : Memory) → o ≡ Some m → Makes d (at + 1) first e (with_memory w m) r) → Makes d at first e w r
   memory_real i d at first e w r o has law none some =
       real_given u d (at_moment at first e) w stack r o (λ m. at_moment (at + 1) first e) (λ m. with_memory w m)
-      (λ j. expr.at_instruction u f code function stack is_code j at first e w i has ∙ law (steps temporaries u j))
+      (λ j. value_real.at_instruction u f code function stack is_code j at first e w i has ∙ law (steps temporaries u j))
       none
       (λ m h. real_less u (d - 1) d _ (with_memory w m) stack r (omega arith) (some m h))
 
@@ -125,9 +126,9 @@ module _ (u : TacUnitTree) (f : CoreFunctionTree) (code : List InstructionTree) 
       (k : Continuation) (d at : ℕ) (x : Exit) → HasAt code at (exit_code x)
       → GoesOn k d x (at + exit_size (is_fall x)) → IsReady k d at
   exit_ready k d at (falls p) has goes_on l e w here agree =
-      expr.moved u f code function stack is_code d (at + 0) at l.first_block e w (k l w) (omega arith) (goes_on.0 l e w here agree)
+      value_real.moved u f code function stack is_code d (at + 0) at l.first_block e w (k l w) (omega arith) (goes_on.0 l e w here agree)
   exit_ready k d at (goes p) has goes_on l e w here agree =
-      expr.jump_real u f code function stack is_code d at p l.first_block e w (k l w) has.0 (goes_on l e w here agree)
+      value_real.jump_real u f code function stack is_code d at p l.first_block e w (k l w) has.0 (goes_on l e w here agree)
 
   pub goes_at : (k : Continuation) (d i j : ℕ) (x : Exit) → i ≡ j → GoesOn k d x i → GoesOn k d x j
   goes_at k d i j x same h = subst (λ (n : ℕ). GoesOn k d x n) same h
@@ -211,8 +212,8 @@ module _ (u : TacUnitTree) (f : CoreFunctionTree) (code : List InstructionTree) 
       ha.base d first_free at l env w _ (omega arith) agree (has_left code at (p.base_code first_free at) _ has)
       (λ none. given_bind (value a l w.memory) as_pointer _ ∙ given_none (value a l w.memory >>= as_pointer) _ none)
       (λ after kept first.
-      expr.as_operand u f code function stack is_code b e hb d (first_free + p.base_own) (at + p.base_size) l after w _ (omega arith)
-      (expr.agree_kept u f code function stack is_code first_free l env after (omega arith) agree kept)
+      value_real.as_operand u f code function stack is_code b e hb d (first_free + p.base_own) (at + p.base_size) l after w _ (omega arith)
+      (value_real.agree_kept u f code function stack is_code first_free l env after (omega arith) agree kept)
       (has_left code (at + p.base_size) (code_of e (first_free + p.base_own) (at + p.base_size)) _ (behind at has))
       (λ none. given_bind (value a l w.memory) as_pointer _ ∙ given_none_both (value a l w.memory >>= as_pointer) (value b l w.memory) _ none)
       (λ last kept_last second.
@@ -228,9 +229,9 @@ module _ (u : TacUnitTree) (f : CoreFunctionTree) (code : List InstructionTree) 
       (λ m is.
       goes_as d (at + p.base_size + size_of e + 1) l.first_block last (with_memory w m) _ _
       (as_one l w k ∙ given_some _ m (λ m. k.next l (with_memory w m)) is)
-      (expr.moved u f code function stack is_code d (at + (p.base_size + size_of e + 1)) (at + p.base_size + size_of e + 1) l.first_block last (with_memory w m) (k.next l (with_memory w m)) (omega arith)
+      (value_real.moved u f code function stack is_code d (at + (p.base_size + size_of e + 1)) (at + p.base_size + size_of e + 1) l.first_block last (with_memory w m) (k.next l (with_memory w m)) (omega arith)
       (ready l last (with_memory w m) here
-      (expr.agree_kept u f code function stack is_code first_free l env last (omega arith) agree
+      (value_real.agree_kept u f code function stack is_code first_free l env last (omega arith) agree
       (kept_then first_free (first_free + p.base_own) env after last (omega arith) kept kept_last))))))))
     where
       three : (m n : ℕ) → m + (n + 1) ≡ m + n + 1
@@ -265,8 +266,8 @@ module _ (u : TacUnitTree) (f : CoreFunctionTree) (code : List InstructionTree) 
       goes_as d (at + p.base_size + 1) l.first_block after (with_memory w m) _ _
       (given_bind (value a l w.memory) as_pointer _ ∙ given_bind (value a l w.memory >>= as_pointer) _ _
       ∙ given_some _ m (λ m. k.next l (with_memory w m)) is)
-      (expr.moved u f code function stack is_code d (at + (p.base_size + 1)) (at + p.base_size + 1) l.first_block after (with_memory w m) (k.next l (with_memory w m)) (omega arith)
-      (ready l after (with_memory w m) here (expr.agree_kept u f code function stack is_code first_free l env after (omega arith) agree kept))))))
+      (value_real.moved u f code function stack is_code d (at + (p.base_size + 1)) (at + p.base_size + 1) l.first_block after (with_memory w m) (k.next l (with_memory w m)) (omega arith)
+      (ready l after (with_memory w m) here (value_real.agree_kept u f code function stack is_code first_free l env after (omega arith) agree kept))))))
 
   pub copy_real :
       (size alignment : ℕ) (a b : CoreExprTree) (p q : ExprCode) → Correct a p → Correct b q
@@ -278,7 +279,7 @@ module _ (u : TacUnitTree) (f : CoreFunctionTree) (code : List InstructionTree) 
       (λ none. given_bind (value a l w.memory) as_pointer _ ∙ given_none (value a l w.memory >>= as_pointer) _ none)
       (λ after kept first.
       hb.base d (first_free + p.base_own) (at + p.base_size) l after w _ (omega arith)
-      (expr.agree_kept u f code function stack is_code first_free l env after (omega arith) agree kept)
+      (value_real.agree_kept u f code function stack is_code first_free l env after (omega arith) agree kept)
       (has_left code (at + p.base_size) (q.base_code (first_free + p.base_own) (at + p.base_size)) _ (behind at has))
       (λ none. as_one l w k ∙ given_none _ _ (none_second (value a l w.memory >>= as_pointer) _ _ none))
       (λ last kept_last second.
@@ -294,9 +295,9 @@ module _ (u : TacUnitTree) (f : CoreFunctionTree) (code : List InstructionTree) 
       (λ m is.
       goes_as d (at + p.base_size + q.base_size + 1) l.first_block last (with_memory w m) _ _
       (as_one l w k ∙ given_some _ m (λ m. k.next l (with_memory w m)) is)
-      (expr.moved u f code function stack is_code d (at + (p.base_size + q.base_size + 1)) (at + p.base_size + q.base_size + 1) l.first_block last (with_memory w m) (k.next l (with_memory w m)) (omega arith)
+      (value_real.moved u f code function stack is_code d (at + (p.base_size + q.base_size + 1)) (at + p.base_size + q.base_size + 1) l.first_block last (with_memory w m) (k.next l (with_memory w m)) (omega arith)
       (ready l last (with_memory w m) here
-      (expr.agree_kept u f code function stack is_code first_free l env last (omega arith) agree
+      (value_real.agree_kept u f code function stack is_code first_free l env last (omega arith) agree
       (kept_then first_free (first_free + p.base_own) env after last (omega arith) kept kept_last))))))))
     where
       three : (m n : ℕ) → m + (n + 1) ≡ m + n + 1
@@ -345,7 +346,7 @@ module _ (u : TacUnitTree) (f : CoreFunctionTree) (code : List InstructionTree) 
             taken = suc r.0;
             enough = omega (arith, r.1);
             gives =
-                expr.at_instruction u f code function stack is_code r.0 at l.first_block env w (return None) has.0
+                value_real.at_instruction u f code function stack is_code r.0 at l.first_block env w (return None) has.0
                 ∙ ends_here r.0 at l env None w here ∙ r.2;
           }
 
@@ -359,7 +360,7 @@ module _ (u : TacUnitTree) (f : CoreFunctionTree) (code : List InstructionTree) 
           → Makes d at l.first_block after w (given o (λ v. k.on_return (Some v) w))
       ended d at l after w k None here returns has is =
           real_fault u d (at_moment at l.first_block after) w stack
-          (λ j. expr.at_instruction u f code function stack is_code j at l.first_block after w (return (Some (operand_of e first_free))) has
+          (λ j. value_real.at_instruction u f code function stack is_code j at l.first_block after w (return (Some (operand_of e first_free))) has
           ∙ ap (λ o. given o (λ v. ends temporaries (steps temporaries u j) (at_moment at l.first_block after) stack (Some v) w)) is)
       ended d at l after w k (Some v) here returns has is =
           let r = returns (Some v) w in
@@ -367,7 +368,7 @@ module _ (u : TacUnitTree) (f : CoreFunctionTree) (code : List InstructionTree) 
             taken = suc r.0;
             enough = omega (arith, r.1);
             gives =
-                expr.at_instruction u f code function stack is_code r.0 at l.first_block after w (return (Some (operand_of e first_free))) has
+                value_real.at_instruction u f code function stack is_code r.0 at l.first_block after w (return (Some (operand_of e first_free))) has
                 ∙ ap (λ o. given o (λ v. ends temporaries (steps temporaries u r.0) (at_moment at l.first_block after) stack (Some v) w)) is
                 ∙ ends_here r.0 at l after (Some v) w here ∙ r.2;
           }
@@ -375,7 +376,7 @@ module _ (u : TacUnitTree) (f : CoreFunctionTree) (code : List InstructionTree) 
           (d at : ℕ) (x : Exits) (k : Continuations) → IsBounded d → HasAt code at (code_of e first_free at ++ return (Some (operand_of e first_free)) ∷ [])
           → AreReady d x (at + (size_of e + 1)) k → IsReady (runs (core.return (Some s)) c k) d at
       there d at x k le has ready l env w here agree =
-          expr.as_operand u f code function stack is_code s e h d first_free at l env w _ (omega arith) agree (has_left code at (code_of e first_free at) _ has)
+          value_real.as_operand u f code function stack is_code s e h d first_free at l env w _ (omega arith) agree (has_left code at (code_of e first_free at) _ has)
           (λ none. given_none (value s l w.memory) _ none)
           (λ after kept same.
           ended d (at + size_of e) l after w k (value s l w.memory) here ready.on_return

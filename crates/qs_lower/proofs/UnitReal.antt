@@ -33,6 +33,7 @@ use Rattle.qs_lower.specs.Statements as lower
 use Rattle.qs_lower.specs.Units.{free_from, body_code, end_code, function_code, straight_function, straight_unit}
 use Rattle.qs_lower.proofs.StmtSizeLaws.{StmtSized, stmt_sized, stmts_sized}
 use Rattle.qs_lower.proofs.Real.{Act, Stack, HasAt, has_left, has_right, Real, real_less, real_fault, Resumes, CallsReal, entering, moment, IsCode, Agree, free}
+use Rattle.qs_lower.proofs.ValueReal as value_real
 use Rattle.qs_lower.proofs.ExprReal as expr
 use Rattle.qs_lower.proofs.PlainReal as plain
 use Rattle.qs_lower.proofs.FlowReal as flow
@@ -184,7 +185,7 @@ module _ (u : TacUnitTree) (f : CoreFunctionTree) (code : List InstructionTree) 
         taken = suc r.0;
         enough = omega (arith, r.1);
         gives =
-            expr.at_instruction u f code function stack is_code r.0 at l.first_block e w (return None) has
+            value_real.at_instruction u f code function stack is_code r.0 at l.first_block e w (return None) has
             ∙ plain.ends_here u f code function stack is_code c first depth calls_real r.0 at l e None w here ∙ r.2;
       }
 

@@ -8,7 +8,6 @@ use Rattle.qs_core.specs.Units.{core_run}
 use Rattle.qs_core.specs.Fits.{unit_fits}
 use Rattle.qs_tac.specs.Trees.{TacUnitTree}
 use Rattle.qs_tac.specs.Units.{tac_run}
-use Rattle.qs_tac.specs.Fits as tac
 use Rattle.qs_lower.specs.Units.{lower_unit}
 
 -- The runs of linear code follow those of core, from every root function, with every arguments, memory and input.
@@ -18,14 +17,9 @@ pub record Follows (u : CoreUnitTree) (t : TacUnitTree) : Type 0 where
   pub forth :
       (root : ℕ) (arguments : List Value) (w : World) (n : ℕ)
       → (m : ℕ) × Within (core_run u root arguments w n) (tac_run t root arguments w m)
-  -- each step back is within the same bound
   pub back :
       (root : ℕ) (arguments : List Value) (w : World) (m : ℕ)
-      → Within (tac_run t root arguments w m) (core_run u root arguments w m)
+      → (n : ℕ) × Within (tac_run t root arguments w m) (core_run u root arguments w n)
 
 abbrev pub LoweringFollows : Type 0
 LoweringFollows = (u : CoreUnitTree) → unit_fits u ≡ true → Follows u (lower_unit u)
-
--- what lowering gives fits
-abbrev pub LoweredFits : Type 0
-LoweredFits = (u : CoreUnitTree) → unit_fits u ≡ true → tac.unit_fits (lower_unit u) ≡ true

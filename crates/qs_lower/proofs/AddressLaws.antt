@@ -1,12 +1,12 @@
 -- Pointers to members and elements, one behind another.
-use Rattle.std.proofs.Common.{◌≡◌, ℕ, zero, suc, ◌+◌, ◌*◌, ◌<◌, ◌≤◌, Bool, true, false, ◌&&◌, Option, Some, None, unwrap_or, refl, sym, ap, ◌∙◌, subst, arith}
-use Rattle.std.specs.Prelude.{nat_lt, nat_le, ℤ, pos, ◌+ℤ◌, ◌*ℤ◌}
+use Rattle.std.proofs.Common.{◌≡◌, ℕ, ◌+◌, Bool, true, false, Option, Some, None, refl, sym, ap, ◌∙◌, arith}
+use Rattle.std.specs.Prelude.{nat_le}
 use Rattle.std.proofs.Math.IntN.{pos-+ℤ-pos}
 use Rattle.std.proofs.lemmas.Bool.Decides.{nat_tests}
 use Rattle.qs_memory.specs.Partial.{◌>>=◌, only_if}
-use Rattle.qs_memory.specs.Values.{Pointer, null, into, Value, integer, address, as_integer, as_pointer}
+use Rattle.qs_memory.specs.Values.{Pointer, null, into, Value, integer, address, as_pointer}
 use Rattle.qs_memory.specs.Memory.{Memory, block_at, Target, target}
-use Rattle.qs_memory.specs.Pointers.{within, moved, moved_by, member_of}
+use Rattle.qs_memory.specs.Pointers.{within, member_of}
 use Rattle.qs_memory.specs.Operations.{apply_binary}
 use Rattle.qs_memory.specs.declared.operation.Signedness.{Signedness}
 use Rattle.qs_memory.specs.declared.operation.Direction.TheVariants.{Up}
@@ -59,6 +59,7 @@ module _ (m : Memory) (b o i j : ℕ) where
     where
       there : member_of m (into b (o + i)) j ≡ member_place m j (record { block = b; offset = o + i })
       there = member_is m (into b (o + i)) j ∙ ap (λ l. only_if l (Some (record { block = b; offset = o + i })) >>= member_place m j) is
+
       first :
           (x : Bool) → nat_le (o + i) size ≡ x
           → member_place m (i + j) (record { block = b; offset = o }) ≡ (only_if x (Some (into b (o + i))) >>= λ r. member_of m r j)

@@ -1,12 +1,12 @@
 -- The code of a call makes the run that it means.
-use Rattle.std.proofs.Common.{◌≡◌, ℕ, zero, suc, ◌+◌, ◌-◌, ◌%◌, ◌<◌, ◌≤◌, Bool, true, false, List, [], ◌∷◌, ◌++◌, length, map, Option, Some, None, refl, sym, ap, ◌∙◌, subst, arith}
+use Rattle.std.proofs.Common.{◌≡◌, ℕ, zero, suc, ◌+◌, ◌%◌, ◌<◌, ◌≤◌, List, [], ◌∷◌, length, map, Option, Some, None, refl, sym, ap, ◌∙◌, subst, arith}
 use Rattle.std.specs.List.{slice_get}
 use Rattle.qs_memory.specs.Partial.{◌>>=◌}
 use Rattle.qs_memory.specs.Values.{Value, integer, address}
 use Rattle.qs_events.specs.Events.{Takes, TakesEnd, Puts}
-use Rattle.qs_events.specs.Runs.{undefined, short, emit, given}
+use Rattle.qs_events.specs.Runs.{undefined, emit, given}
 use Rattle.qs_calls.specs.World.{World, RootRun, Return, Environment, with_value}
-use Rattle.qs_calls.specs.Calls.{put_char, take_byte, get_char, invoke}
+use Rattle.qs_calls.specs.Calls.{take_byte, invoke}
 use Rattle.qs_calls.specs.declared.callee.Callee.{Callee}
 use Rattle.qs_calls.specs.declared.callee.Callee.TheVariants.{Function, PutChar, GetChar}
 use Rattle.qs_core.specs.Trees as core
@@ -17,13 +17,12 @@ use Rattle.qs_core.specs.Statements.{Continuation, Continuations, Context, assig
 use Rattle.qs_core.specs.Statements as statements
 use Rattle.qs_tac.specs.Trees.{InstructionTree, call, TacUnitTree}
 use Rattle.qs_tac.specs.Holders.{temporaries}
-use Rattle.qs_tac.specs.Values.{Activation, operand, operands}
+use Rattle.qs_tac.specs.Values.{operands}
 use Rattle.qs_tac.specs.Steps.{Waiting, Next, take_result, enters, steps}
-use Rattle.qs_lower.specs.Exits.{exit_size}
-use Rattle.qs_lower.specs.Expressions.{ExprCode, size_of, code_of, operand_of, own, all_size, all_code, all_operands}
+use Rattle.qs_lower.specs.Expressions.{ExprCode, size_of, code_of, own, all_size, all_code, all_operands}
 use Rattle.qs_lower.specs.Statements.{of_call, taken_by}
 use Rattle.qs_lower.proofs.SizeLaws.{one_more, code_length, all_length}
-use Rattle.qs_lower.proofs.Real.{Act, Stack, HasAt, has_left, has_right, Kept, KeptBut, kept_all, kept_then, Real, real_fault, Resumes, CallsReal, entering, moment, IsCode, Agree, free}
+use Rattle.qs_lower.proofs.Real.{Act, Stack, HasAt, has_left, has_right, Kept, kept_all, kept_then, Real, real_fault, CallsReal, entering, moment, IsCode, Agree, free}
 use Rattle.qs_lower.proofs.ValueReal as value_real
 use Rattle.qs_lower.proofs.ExprReal as expr
 use Rattle.qs_lower.proofs.PlainReal as plain
@@ -96,9 +95,9 @@ module _ (u : TacUnitTree) (f : CoreFunctionTree) (code : List InstructionTree) 
   taken_real d at (Some k) l e n there ready here agree None w = (d, omega arith, refl)
   taken_real d at (Some k) l e n there ready here agree (Some v) w =
       let r = ready (assigned (targets.Temporary k) l v) (with_value e (length f.variables + k) v) w here
-              (plain.agree_assigned u f code function stack is_code c first depth calls_real (targets.Temporary k) l e (with_value e (length f.variables + k) v) v there agree
-              (λ y lt other. value_real.with_other u f code function stack is_code e (length f.variables + k) y v other)
-              (value_real.with_itself u f code function stack is_code e (length f.variables + k) v)) in
+      (plain.agree_assigned u f code function stack is_code c first depth calls_real (targets.Temporary k) l e (with_value e (length f.variables + k) v) v there agree
+      (λ y lt other. value_real.with_other u f code function stack is_code e (length f.variables + k) y v other)
+      (value_real.with_itself u f code function stack is_code e (length f.variables + k) v)) in
       (r.taken, r.enough, r.gives)
 
   -- ---- the callee
@@ -182,6 +181,7 @@ module _ (u : TacUnitTree) (f : CoreFunctionTree) (code : List InstructionTree) 
     where
       ready_at : (d : ℕ) (k : Continuations) (i j : ℕ) → i ≡ j → plain.IsReady u f code function stack is_code c first depth calls_real k.next d i → plain.IsReady u f code function stack is_code c first depth calls_real k.next d j
       ready_at d k i j same h = subst (λ (n : ℕ). plain.IsReady u f code function stack is_code c first depth calls_real k.next d n) same h
+
       made :
           (d at : ℕ) (k : Continuations) (l : Locals) (after : Environment) (w : World) → plain.IsBounded u f code function stack is_code c first depth calls_real d
           → slice_get code (at + all_size (map code_for es)) ≡ Some (call (taken_by (length f.variables) x) g (all_operands (map code_for es) first_free))

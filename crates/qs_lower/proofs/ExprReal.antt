@@ -1,57 +1,35 @@
 -- The code of each expression makes its value, is its operand, its address and its test.
-use Rattle.std.proofs.Common.{◌≡◌, ℕ, zero, suc, ◌+◌, ◌-◌, ◌*◌, ◌<◌, ◌≤◌, Bool, true, false, not, if◌then◌else◌, List, [], ◌∷◌, ◌++◌, length, Option, Some, None, unwrap_or, refl, sym, ap, ◌∙◌, subst, arith}
+use Rattle.std.proofs.Common.{◌≡◌, ℕ, ◌+◌, ◌-◌, ◌<◌, ◌≤◌, Bool, true, false, if◌then◌else◌, List, [], ◌∷◌, ◌++◌, length, Option, Some, None, refl, sym, ap, ◌∙◌, arith}
 use Rattle.std.specs.List.{slice_get}
 use Rattle.qs_memory.specs.Partial.{◌>>=◌}
-use Rattle.qs_memory.specs.Values.{Pointer, Value, integer, address, as_integer, as_pointer}
+use Rattle.qs_memory.specs.Values.{Pointer, Value, integer, address, as_pointer}
 use Rattle.qs_memory.specs.Memory.{Memory}
-use Rattle.std.specs.Prelude.{◌==◌, ◌&&◌, ◌^◌, nat_lt, nat_le, ℤ, pos, ◌-ℤ◌, ◌*ℤ◌}
-use Rattle.std.proofs.Math.IntN.{pos-*ℤ-pos}
-use Rattle.qs_memory.specs.declared.operation.Signedness.TheVariants.{Signed, Unsigned}
 use Rattle.qs_core.specs.declared.numbers.BlockId.{BlockId}
 use Rattle.qs_core.specs.declared.numbers.BlockId.TheVariants as ids
 use Rattle.qs_core.specs.Expressions.{block_pointer}
-use Rattle.qs_memory.specs.Pointers as pointers
-use Rattle.std.proofs.lemmas.Bool.Decides.{nat_tests}
-use Rattle.qs_memory.specs.Partial.{only_if}
-use Rattle.qs_memory.specs.Memory.{target}
-use Rattle.qs_memory.specs.Pointers.{member_of, truth, in_one_block, equal, compares_pointers}
-use Rattle.qs_memory.specs.Integers.{reading, is_less, compares}
-use Rattle.qs_memory.specs.declared.operation.Signedness.{Signedness}
-use Rattle.qs_memory.specs.Operations.{apply_unary, apply_binary, of_truth, on_integers, on_pointers}
-use Rattle.qs_memory.specs.declared.operation.Comparison.{Comparison}
-use Rattle.qs_memory.specs.declared.operation.Comparison.TheVariants as comparisons
-use Rattle.qs_memory.proofs.Options.{some_same}
-use Rattle.qs_events.specs.Runs.{undefined, given}
-use Rattle.qs_calls.specs.World.{World, RootRun, Environment, with_value}
+use Rattle.qs_memory.specs.Pointers.{member_of, truth}
+use Rattle.qs_memory.specs.Operations.{of_truth}
+use Rattle.qs_events.specs.Runs.{undefined}
+use Rattle.qs_calls.specs.World.{World, RootRun, Environment}
 use Rattle.qs_core.specs.Trees.{CoreExprTree, CoreFunctionTree}
 use Rattle.qs_core.specs.Expressions.{Locals, value, truth_value}
-use Rattle.qs_memory.specs.Memory as memory
-use Rattle.qs_memory.specs.declared.scalar.Scalar.{Scalar}
 use Rattle.qs_core.specs.Trees as core
-use Rattle.qs_memory.specs.declared.operation.Direction.TheVariants.{Up, Down}
-use Rattle.qs_memory.specs.declared.operation.BinaryOperation.{BinaryOperation}
-use Rattle.qs_memory.specs.declared.operation.BinaryOperation.TheVariants as binaries
-use Rattle.qs_memory.specs.Values as values
 use Rattle.qs_memory.specs.declared.operation.UnaryOperation.{UnaryOperation}
 use Rattle.qs_memory.specs.declared.operation.UnaryOperation.TheVariants as unaries
-use Rattle.qs_tac.specs.Trees.{InstructionTree, move, unary, binary, convert, address_of, load, jump, branch, TacUnitTree}
+use Rattle.qs_tac.specs.Trees.{InstructionTree, move, jump, TacUnitTree}
 use Rattle.qs_tac.specs.Holders.{temporaries}
-use Rattle.qs_tac.specs.Values.{Activation, operand, pointer, member_at, indexed, holds}
-use Rattle.qs_tac.specs.Steps.{Waiting, Next, going_to, gives, step, instruction_at, steps}
+use Rattle.qs_tac.specs.Values.{operand, pointer, member_at, indexed, holds}
+use Rattle.qs_tac.specs.Steps.{Next, gives, step}
 use Rattle.qs_tac.specs.declared.operands.Index.{Index}
-use Rattle.qs_tac.specs.Fits.{is_word}
 use Rattle.qs_tac.specs.declared.operands.Operand.{Operand}
-use Rattle.qs_tac.specs.declared.operands.Operand.TheVariants.{Temporary, Integer, Byte, Constant, Null, Local, Data}
-use Rattle.qs_tac.specs.declared.operands.Condition.{Condition}
-use Rattle.qs_tac.specs.declared.operands.Condition.TheVariants.{NotZero, Zero, Compare, ComparePointers}
-use Rattle.qs_lower.specs.Exits.{Exit, falls, goes, is_fall, place_of, settled, exit_size, exit_code, opposite_comparison, opposite, branch_size, branch_code}
-use Rattle.qs_lower.specs.Operands.{converted, truth_of, unary_of, gives_integer, gives_truth, gives_pointer, is_idle, is_upward, constant_step, folded, block_operand, swaps}
-use Rattle.qs_lower.specs.Expressions.{IndexCode, ExprCode, simple_size, size_of, simple_code, code_of, simple_operand, operand_of, own, based, known_size, known_code, tested, no_code, by_operand, by_value, index_at, address_at, of_load, further, behind_parts, behind, indexed_by, by_address, used_by, of_unary_value, with_test, of_plus, of_compound, simple_or, of_unary, of_conversion, unindexed, pair_size, pair_code, pair_used, binary_instruction, of_binary_value, with_condition, of_element, of_operation, number_of, by_test, both_size, of_both_tests, either_size, of_either_test, of_choice, of_and, of_or, of_conditional, stepped_or, of_binary, lowered}
-use Rattle.qs_lower.specs.Expressions as lower
-use Rattle.qs_lower.proofs.SizeLaws.{behind_sized, by_test_sized, both_tests_sized, either_test_sized, choice_sized, sized, both, one_more, branch_length, pair_length, based_sized, unindexed_sized, indexed_sized, Sized, code_length, operand_sized, by_value_sized, address_sized, TestSized, with_test_sized}
-use Rattle.qs_lower.proofs.OperandLaws.{TruthOrNone, and_left, folded_right, swapped, known_truth, converted_right, unary_right, gives_truth_is, gives_pointer_is, truth_again, idle_stays, plus_stays}
-use Rattle.qs_lower.proofs.AddressLaws.{bind_some, bind_bind, bind_same, pointer_value, further_member, element_same}
-use Rattle.qs_lower.proofs.Real.{Act, Stack, HasAt, has_left, has_right, Kept, KeptBut, kept_all, kept_then, kept_below, Real, real_less, Leads, real_step, real_fault, real_given, moment, IsCode, Agree, free, IntoReal, SimpleReal, OperandReal, BaseReal, Goes, by_answer, TestReal, KnownReal}
+use Rattle.qs_tac.specs.declared.operands.Operand.TheVariants.{Temporary, Constant, Null}
+use Rattle.qs_lower.specs.Exits.{Exit, falls, goes, is_fall, place_of, settled}
+use Rattle.qs_lower.specs.Operands.{gives_truth, block_operand}
+use Rattle.qs_lower.specs.Expressions.{ExprCode, no_code, address_at, behind, number_of, by_test, both_size, of_both_tests, either_size, of_either_test, of_choice, of_and, of_or, of_conditional, lowered}
+use Rattle.qs_lower.proofs.SizeLaws.{behind_sized, by_test_sized, choice_sized, both, TestSized}
+use Rattle.qs_lower.proofs.OperandLaws.{TruthOrNone, gives_truth_is, truth_again}
+use Rattle.qs_lower.proofs.AddressLaws.{bind_some, bind_bind, bind_same}
+use Rattle.qs_lower.proofs.Real.{Act, Stack, HasAt, has_left, has_right, Kept, KeptBut, kept_then, Real, real_less, moment, IsCode, Agree, free, IntoReal, SimpleReal, OperandReal, BaseReal, Goes, by_answer, TestReal, KnownReal}
 use Rattle.qs_lower.proofs.ValueReal.{none_bind, no_pointer, negated}
 use Rattle.qs_lower.proofs.ValueReal as value_real
 use Rattle.qs_lower.proofs.AddressReal as address_real
@@ -143,9 +121,11 @@ module _ (u : TacUnitTree) (f : CoreFunctionTree) (code : List InstructionTree) 
     where
       behind : HasAt code (at + n true false) (move x (Constant 1) ∷ jump (at + n true false + 2 + 1) ∷ move x (Constant 0) ∷ [])
       behind = has_right code at (n true false) (test (falls (at + n true false)) (goes (at + n true false + 2)) t at) _ (size _ _ t at) has
+
       ended : (c : ℕ) (v : Value) (later : Environment) → c ≤ d → value s l w.memory ≡ Some v → KeptBut x t e later → later x ≡ Some v
           → Makes c (at + (n true false + 3)) l.first_block later w r
       ended c v later less gives but holds = real_less u c d _ w stack r less (next v later gives but holds)
+
       set_one : (c : ℕ) (after : Environment) → c ≤ d → value s l w.memory ≡ Some (integer 1) → Kept t e after → Makes c (at + n true false) l.first_block after w r
       set_one c after less gives kept =
           value_real.finish u f code function stack is_code (move x (Constant 1)) c x t (n true false) at l e after w r (Some (integer 1)) (Some (integer 1)) refl behind.0 (λ next. refl) kept (λ k. absurd (cc))
@@ -154,6 +134,7 @@ module _ (u : TacUnitTree) (f : CoreFunctionTree) (code : List InstructionTree) 
           (ap (slice_get code) (omega arith) ∙ behind.1.0)
           (value_real.moved u f code function stack is_code (c - 1) (at + (n true false + 3)) (at + n true false + 2 + 1) l.first_block later w r (omega arith)
           (ended (c - 1) v later (omega (arith, less)) (gives ∙ same) but holds)))
+
       set_zero : (c : ℕ) (after : Environment) → c ≤ d → value s l w.memory ≡ Some (integer 0) → Kept t e after → Makes c (at + n true false + 2) l.first_block after w r
       set_zero c after less gives kept =
           value_real.moved u f code function stack is_code c (at + (n true false + 2)) (at + n true false + 2) l.first_block after w r (omega arith)
@@ -162,6 +143,7 @@ module _ (u : TacUnitTree) (f : CoreFunctionTree) (code : List InstructionTree) 
           (λ v later same but holds.
           value_real.moved u f code function stack is_code c (at + (n true false + 3)) (at + (n true false + 2 + 1)) l.first_block later w r (omega arith)
           (ended c v later less (gives ∙ same) but holds)))
+
       numbered :
           (b : Bool) (after : Environment) → value s l w.memory ≡ Some (of_truth b) → Kept t e after
           → Ends d (by_answer u f code function stack b (falls (at + n true false)) (goes (at + n true false + 2))) (at + n true false) l.first_block after w r
@@ -173,7 +155,7 @@ module _ (u : TacUnitTree) (f : CoreFunctionTree) (code : List InstructionTree) 
       → TestSized n test → AsTest s (record no_code { test_size = n; test = test }) → Correct s (by_test used n test)
   by_test_correct s used n test is size real =
       let v = value_real.by_value_correct u f code function stack is_code s (n true false + 3) used (number_of n test) (λ x t at. both _ _ (n true false) 3 (size _ _ t at) refl)
-              (number_real s n test is size real) in
+      (number_real s n test is size real) in
       record { sized = by_test_sized used n test size; into = v.into; simple = v.simple; base = v.base; test = real; known = v.known }
 
   pub and_truth :
@@ -224,6 +206,7 @@ module _ (u : TacUnitTree) (f : CoreFunctionTree) (code : List InstructionTree) 
     where
       and_is : (said : Bool) (l : Locals) (m : Memory) → (value a l m >>= truth m) ≡ Some said → and_answer a b l m ≡ (if said then (value b l m >>= truth m) else Some false)
       and_is said l m is = ap (λ o. o >>= λ said. if said then (value b l m >>= truth m) else Some false) is
+
       asked :
           (said : Bool) (d t at : ℕ) (met unmet : Exit) (l : Locals) (e after : Environment) (w : World) (r : RootRun) → first_free ≤ t → Agrees l after
           → HasAt code (at + c.test_size true false) (k.test met unmet t (at + c.test_size true false))
@@ -263,6 +246,7 @@ module _ (u : TacUnitTree) (f : CoreFunctionTree) (code : List InstructionTree) 
     where
       or_is : (said : Bool) (l : Locals) (m : Memory) → (value a l m >>= truth m) ≡ Some said → or_answer a b l m ≡ (if said then Some true else (value b l m >>= truth m))
       or_is said l m is = ap (λ o. o >>= λ said. if said then Some true else (value b l m >>= truth m)) is
+
       asked :
           (said : Bool) (d t at : ℕ) (met unmet : Exit) (l : Locals) (e after : Environment) (w : World) (r : RootRun) → first_free ≤ t → Agrees l after
           → HasAt code (at + c.test_size false true) (k.test met unmet t (at + c.test_size false true))
@@ -322,13 +306,17 @@ module _ (u : TacUnitTree) (f : CoreFunctionTree) (code : List InstructionTree) 
     where
       law : value (core.conditional q a b) l w.memory ≡ ((value q l w.memory >>= truth w.memory) >>= λ said. if said then value a l w.memory else value b l w.memory)
       law = sym (bind_bind (value q l w.memory) (truth w.memory) _)
+
       behind : HasAt code (at + c.test_size true false) (k.into x t (at + c.test_size true false) ++ jump (at + c.test_size true false + k.size + 1 + j.size) ∷ j.into x t (at + c.test_size true false + k.size + 1))
       behind = has_right code at (c.test_size true false) (c.test (falls (at + c.test_size true false)) (goes (at + c.test_size true false + k.size + 1)) t at) _ (h.sized.test _ _ t at) has
+
       second : HasAt code (at + c.test_size true false + k.size) (jump (at + c.test_size true false + k.size + 1 + j.size) ∷ j.into x t (at + c.test_size true false + k.size + 1))
       second = has_right code (at + c.test_size true false) k.size (k.into x t (at + c.test_size true false)) _ (g.sized.into x t _) behind
+
       ended : (y : ℕ) (v : Value) (later : Environment) → y ≤ d → value (core.conditional q a b) l w.memory ≡ Some v → KeptBut x t e later → later x ≡ Some v
           → Makes y (at + (c.test_size true false + k.size + 1 + j.size)) l.first_block later w r
       ended y v later less gives but holds = real_less u y d _ w stack r less (next v later gives but holds)
+
       first_value : (y : ℕ) (after : Environment) → y ≤ d → value (core.conditional q a b) l w.memory ≡ value a l w.memory → Kept t e after
           → Makes y (at + c.test_size true false) l.first_block after w r
       first_value y after less same kept =
@@ -339,6 +327,7 @@ module _ (u : TacUnitTree) (f : CoreFunctionTree) (code : List InstructionTree) 
           value_real.jump_real u f code function stack is_code y (at + c.test_size true false + k.size) (at + c.test_size true false + k.size + 1 + j.size) l.first_block later w r second.0
           (value_real.moved u f code function stack is_code (y - 1) (at + (c.test_size true false + k.size + 1 + j.size)) (at + c.test_size true false + k.size + 1 + j.size) l.first_block later w r (omega arith)
           (ended (y - 1) v later (omega (arith, less)) (same ∙ is) (kept_but x t e after later kept but) holds)))
+
       second_value : (y : ℕ) (after : Environment) → y ≤ d → value (core.conditional q a b) l w.memory ≡ value b l w.memory → Kept t e after
           → Makes y (at + c.test_size true false + k.size + 1) l.first_block after w r
       second_value y after less same kept =
@@ -347,6 +336,7 @@ module _ (u : TacUnitTree) (f : CoreFunctionTree) (code : List InstructionTree) 
           (λ v later is but holds.
           value_real.moved u f code function stack is_code y (at + (c.test_size true false + k.size + 1 + j.size)) (at + c.test_size true false + k.size + 1 + j.size) l.first_block later w r (omega arith)
           (ended y v later less (same ∙ is) (kept_but x t e after later kept but) holds))
+
       chosen :
           (said : Bool) (after : Environment) → value (core.conditional q a b) l w.memory ≡ (if said then value a l w.memory else value b l w.memory) → Kept t e after
           → Ends d (by_answer u f code function stack said (falls (at + c.test_size true false)) (goes (at + c.test_size true false + k.size + 1))) (at + c.test_size true false) l.first_block after w r

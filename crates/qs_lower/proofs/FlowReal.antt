@@ -1,21 +1,18 @@
 -- The code of sequences, branches and loops makes the runs that these mean.
-use Rattle.std.proofs.Common.{◌≡◌, ℕ, zero, suc, ◌+◌, ◌-◌, ◌<◌, ◌≤◌, Bool, true, false, not, ◌||◌, ◌&&◌, if◌then◌else◌, List, [], ◌∷◌, ◌++◌, length, map, Option, Some, None, refl, sym, ap, ◌∙◌, subst, arith}
+use Rattle.std.proofs.Common.{◌≡◌, ℕ, zero, suc, ◌+◌, ◌-◌, ◌≤◌, Bool, true, false, if◌then◌else◌, List, ◌++◌, Option, Some, None, refl, sym, ap, ◌∙◌, subst, arith}
 use Rattle.qs_memory.specs.Partial.{◌>>=◌}
-use Rattle.qs_memory.specs.Values.{Value}
 use Rattle.qs_memory.specs.Pointers.{truth}
-use Rattle.qs_events.specs.Runs.{undefined, short, given}
-use Rattle.qs_calls.specs.World.{World, RootRun, Return, Environment}
-use Rattle.qs_core.specs.Trees as core
-use Rattle.qs_core.specs.Trees.{CoreExprTree, CoreStmtTree, CoreStmts, no_stmts, stmt_and, CoreFunctionTree}
+use Rattle.qs_events.specs.Runs.{given}
+use Rattle.qs_calls.specs.World.{World, RootRun, Environment}
+use Rattle.qs_core.specs.Trees.{CoreExprTree, CoreFunctionTree}
 use Rattle.qs_core.specs.Expressions.{Locals, value}
-use Rattle.qs_core.specs.Statements.{Continuation, Continuations, Context, repeated, after_step, after_body, runs, runs_all}
-use Rattle.qs_tac.specs.Trees.{InstructionTree, jump, TacUnitTree}
-use Rattle.qs_lower.specs.Exits.{Exit, falls, goes, is_fall, place_of, settled, exit_size, exit_code}
+use Rattle.qs_core.specs.Statements.{Continuation, Continuations, Context, repeated, after_step, after_body}
+use Rattle.qs_tac.specs.Trees.{InstructionTree, TacUnitTree}
+use Rattle.qs_lower.specs.Exits.{Exit, falls, goes, is_fall, settled, exit_size, exit_code}
 use Rattle.qs_lower.specs.Expressions.{ExprCode}
-use Rattle.qs_lower.specs.Statements.{Exits, Falls, falls_of, elsewhere, before, none_falls, next_falls, Way, to_next, to_break, to_continue, exit_to, falls_to, Part, Tested, StmtCode, entered_first, going, joined, redirected, leaves, is_break, by_way, tested_behind, of_joined, of_before, of_ways, of_both, branch_part, test_of, is_next, of_test, of_branch, body_falls, body_exits, front_exits, step_exits, test_last, last_falls, last_exits, body_first, body_alone, plain_loop, loop_part, of_loop}
-use Rattle.qs_lower.proofs.SizeLaws.{Sized}
+use Rattle.qs_lower.specs.Statements.{Exits, falls_of, elsewhere, before, none_falls, next_falls, Way, to_next, to_break, to_continue, exit_to, falls_to, Part, Tested, going, joined, redirected, branch_part, body_falls, body_exits, front_exits, step_exits, test_last, last_falls, last_exits, body_first, body_alone}
 use Rattle.qs_lower.proofs.StmtSizeLaws.{PartSized, TestedSized}
-use Rattle.qs_lower.proofs.Real.{Act, Stack, HasAt, has_left, has_right, Kept, kept_all, Real, real_less, CallsReal, moment, IsCode, Agree, free, Goes, by_answer}
+use Rattle.qs_lower.proofs.Real.{Stack, HasAt, has_left, has_right, Kept, Real, real_less, CallsReal, moment, IsCode, Agree, free, Goes, by_answer}
 use Rattle.qs_lower.proofs.ValueReal as value_real
 use Rattle.qs_lower.proofs.ExprReal as expr
 use Rattle.qs_lower.proofs.PlainReal as plain
@@ -110,6 +107,7 @@ module _ (u : TacUnitTree) (f : CoreFunctionTree) (code : List InstructionTree) 
       size_is to_next x = refl
       size_is to_break x = refl
       size_is to_continue x = refl
+
       there :
           (d at : ℕ) (x : Exits) (k : Continuations) → IsBounded d → HasAt code at (exit_code (exit_to way x))
           → AreReady d x (at + exit_size (falls_to way (falls_of x))) k → IsReady (goes_to way k) d at
@@ -135,8 +133,10 @@ module _ (u : TacUnitTree) (f : CoreFunctionTree) (code : List InstructionTree) 
       let same : at + (a.size next_falls + b.size (falls_of x)) ≡ second + b.size (falls_of x) = omega arith in
       let moved : AreReady d x (second + b.size (falls_of x)) k = subst (λ (i : ℕ). AreReady d x i k) same ready in
       record {
-        next = (h.stands d second x k le there moved,
-            h.entered (d - 1) second x k (bounded_less (d - 1) d (omega arith) le) there (all_less (d - 1) d x _ k (omega arith) moved));
+        next = (
+          h.stands d second x k le there moved,
+          h.entered (d - 1) second x k (bounded_less (d - 1) d (omega arith) le) there (all_less (d - 1) d x _ k (omega arith) moved),
+        );
         on_break = settled_goes k.on_break d x.on_break _ second ready.on_break;
         on_continue = settled_goes k.on_continue d x.on_continue _ second ready.on_continue;
         on_return = ready.on_return;
@@ -197,19 +197,24 @@ module _ (u : TacUnitTree) (f : CoreFunctionTree) (code : List InstructionTree) 
     where
       as_one : given (value s l w.memory) (λ v. given (truth w.memory v) (λ said. if said then m l w else n l w)) ≡ given (value s l w.memory >>= truth w.memory) (λ said. if said then m l w else n l w)
       as_one = plain.given_bind (value s l w.memory) (truth w.memory) _
+
       agree_kept : (after : Environment) → Kept first_free env after → Agrees l after
       agree_kept after kept = value_real.agree_kept u f code function stack is_code first_free l env after (omega arith) agree kept
+
       result : (b : Bool) → (value s l w.memory >>= truth w.memory) ≡ Some b
           → (if b then m l w else n l w) ≡ given (value s l w.memory) (λ v. given (truth w.memory v) (λ said. if said then m l w else n l w))
       result b is = sym (as_one ∙ plain.given_some (value s l w.memory >>= truth w.memory) b (λ said. if said then m l w else n l w) is)
+
       made : (k : Continuation) (i p : ℕ) (after : Environment) → Agrees l after → k l w ≡ given (value s l w.memory) (λ v. given (truth w.memory v) (λ said. if said then m l w else n l w))
           → IsReady k i p → Makes i p l.first_block after w (given (value s l w.memory) (λ v. given (truth w.memory v) (λ said. if said then m l w else n l w)))
       made k i p after agrees same ready = subst (λ (r : RootRun). Makes i p l.first_block after w r) same (ready l after w here agrees)
+
       ended : (k : Continuation) (x : Exit) (end : ℕ) (after : Environment) → Agrees l after → k l w ≡ given (value s l w.memory) (λ v. given (truth w.memory v) (λ said. if said then m l w else n l w))
           → GoesOn k d x end
           → Goes u f code function stack (λ i p. Makes i p l.first_block after w (given (value s l w.memory) (λ v. given (truth w.memory v) (λ said. if said then m l w else n l w)))) d x end
       ended k (falls p) end after agrees same h = (made k d end after agrees same h.0, made k (d - 1) p after agrees same h.1)
       ended k (goes p) end after agrees same h = made k (d - 1) p after agrees same h
+
       answered :
           (b : Bool) (met unmet : Exit) (after : Environment) → Kept first_free env after → Agrees l after → (value s l w.memory >>= truth w.memory) ≡ Some b
           → GoesOn m d met (at + e.test_size (is_fall met) (is_fall unmet)) → GoesOn n d unmet (at + e.test_size (is_fall met) (is_fall unmet))
@@ -228,9 +233,10 @@ module _ (u : TacUnitTree) (f : CoreFunctionTree) (code : List InstructionTree) 
   falls_into :
       (m : Meaning) (p : Part) (d at : ℕ) (x : Exits) (k : Continuations) → PartReal m p → IsBounded d → HasAt code at (p.code x at)
       → AreReady d x (at + p.size (falls_of x)) k → GoesOn (m k) d (falls (p.entry at)) at
-  falls_into m p d at x k h le has ready =
-      (h.stands d at x k le has ready,
-      h.entered (d - 1) at x k (bounded_less (d - 1) d (omega arith) le) has (all_less (d - 1) d x _ k (omega arith) ready))
+  falls_into m p d at x k h le has ready = (
+    h.stands d at x k le has ready,
+    h.entered (d - 1) at x k (bounded_less (d - 1) d (omega arith) le) has (all_less (d - 1) d x _ k (omega arith) ready),
+  )
 
   jumps_into :
       (m : Meaning) (p : Part) (d at other : ℕ) (x : Exits) (k : Continuations) → PartReal m p → IsBounded d → HasAt code at (p.code x at)
@@ -348,9 +354,9 @@ module _ (u : TacUnitTree) (f : CoreFunctionTree) (code : List InstructionTree) 
       let fewer = bounded_less (d - 1) d (omega arith) bound in
       let again = alone_turns m n body h idle at x k has i (d - 1) (omega (arith, le)) fewer (all_less (d - 1) d x _ k (omega arith) ready) in
       let next : IsReady (n (after_step k (turns_of m n k i))) (d - 1) (body.entry at) =
-              ready_alike (turns_of m n k i) (n (after_step k (turns_of m n k i))) (d - 1) (body.entry at) (idle (after_step k (turns_of m n k i))) again.1 in
+      ready_alike (turns_of m n k i) (n (after_step k (turns_of m n k i))) (d - 1) (body.entry at) (idle (after_step k (turns_of m n k i))) again.1 in
       let inner : AreReady d (last_exits (body.entry at) x.next) (at + body.size (last_falls (is_fall x.next))) (after_body k (n (after_step k (turns_of m n k i)))) =
-              record { next = next; on_break = ready.next; on_continue = next; on_return = ready.on_return } in
+      record { next = next; on_break = ready.next; on_continue = next; on_return = ready.on_return } in
       (h.stands d at _ _ bound has inner, h.entered d at _ _ bound has inner)
 
   pub alone_real : (m n : Meaning) (body : Part) → PartReal m body → ((k : Continuations) → Alike k.next (n k)) → PartReal (looped m n) (body_alone body)
@@ -374,10 +380,10 @@ module _ (u : TacUnitTree) (f : CoreFunctionTree) (code : List InstructionTree) 
       let same : at + (body.size body_falls + step.size (last_falls (is_fall x.next))) ≡ second + step.size (last_falls (is_fall x.next)) = omega arith in
       let turn : Continuations = after_step k (turns_of m n k i) in
       let behind_step : AreReady d (last_exits (body.entry at) x.next) (second + step.size (last_falls (is_fall x.next))) turn =
-              record { next = again.1; on_break = goes_at k.next d x.next _ _ same ready.next; on_continue = again.1; on_return = ready.on_return } in
+      record { next = again.1; on_break = goes_at k.next d x.next _ _ same ready.next; on_continue = again.1; on_return = ready.on_return } in
       let into = falls_into n step d second (last_exits (body.entry at) x.next) turn g bound there behind_step in
       let inner : AreReady d (body_exits (step.entry second) x.next) second (after_body k (n turn)) =
-              record { next = into; on_break = settled_goes k.next d x.next _ second ready.next; on_continue = into; on_return = ready.on_return } in
+      record { next = into; on_break = settled_goes k.next d x.next _ second ready.next; on_continue = into; on_return = ready.on_return } in
       (h.stands d at _ _ bound (has_left code at _ _ has) inner, h.entered d at _ _ bound (has_left code at _ _ has) inner)
 
   pub first_real : (m n : Meaning) (body step : Part) → PartReal m body → PartReal n step → PartSized body → PartReal (looped m n) (body_first body step)
@@ -420,37 +426,38 @@ module _ (u : TacUnitTree) (f : CoreFunctionTree) (code : List InstructionTree) 
         let turn : Continuations = after_step k (turns_of body_meaning n k i) in
         let body : Continuations = after_body k (n turn) in
         let after_rest : (y : ℕ) → y ≤ d - 1 → AreReady y (step_exits (falls head) x.next) three turn =
-                λ y less. record {
-                  next = (ready_less _ y (d - 1) three less once.0, ready_less _ (y - 1) (d - 1) head (omega (arith, less)) once.1);
-                  on_break = settled_goes k.next y x.next end three (goes_less k.next y d x.next end (omega (arith, less)) behind.next);
-                  on_continue = ready_less _ (y - 1) (d - 1) head (omega (arith, less)) once.1;
-                  on_return = (all_less y d x end k (omega (arith, less)) behind).on_return;
-                } in
+        λ y less. record {
+          next = (ready_less _ y (d - 1) three less once.0, ready_less _ (y - 1) (d - 1) head (omega (arith, less)) once.1);
+          on_break = settled_goes k.next y x.next end three (goes_less k.next y d x.next end (omega (arith, less)) behind.next);
+          on_continue = ready_less _ (y - 1) (d - 1) head (omega (arith, less)) once.1;
+          on_return = (all_less y d x end k (omega (arith, less)) behind).on_return;
+        } in
         let into_step : (y : ℕ) → y ≤ d - 1 → GoesOn (n turn) y (falls again) two =
-                λ y less. falls_into n step y two (step_exits (falls head) x.next) turn hs (bounded_less y d (omega (arith, less)) bound)
-                (has_left code two step_code (front_code ++ test_code) has_step) (after_rest y less) in
+        λ y less. falls_into n step y two (step_exits (falls head) x.next) turn hs (bounded_less y d (omega (arith, less)) bound)
+        (has_left code two step_code (front_code ++ test_code) has_step) (after_rest y less) in
         let rest_ready : AreReady (d - 1) (body_exits again x.next) two body =
-                record {
-                  next = into_step (d - 1) (omega arith);
-                  on_break = settled_goes k.next (d - 1) x.next end two (goes_less k.next (d - 1) d x.next end (omega arith) behind.next);
-                  on_continue = into_step (d - 1) (omega arith);
-                  on_return = (all_less (d - 1) d x end k (omega arith) behind).on_return;
-                } in
+        record {
+          next = into_step (d - 1) (omega arith);
+          on_break = settled_goes k.next (d - 1) x.next end two (goes_less k.next (d - 1) d x.next end (omega arith) behind.next);
+          on_continue = into_step (d - 1) (omega arith);
+          on_return = (all_less (d - 1) d x end k (omega arith) behind).on_return;
+        } in
         let repeats : IsReady (rest body) (d - 1) (t.rest.entry one) =
-                hr.entered (d - 1) one (body_exits again x.next) body fewer (has_left code one rest_code (step_code ++ (front_code ++ test_code)) has_rest) rest_ready in
+        hr.entered (d - 1) one (body_exits again x.next) body fewer (has_left code one rest_code (step_code ++ (front_code ++ test_code)) has_rest) rest_ready in
         let tests : (y : ℕ) → y ≤ d → IsReady (chosen s rest (λ j. j.on_break) body) y last =
-                λ y less. test_real s t.test (rest body) k.next y last (goes (t.rest.entry one)) x.next ht has_test
-                (ready_less (rest body) (y - 1) (d - 1) (t.rest.entry one) (omega (arith, less)) repeats)
-                (goes_less k.next y d x.next end less behind.next) body in
+        λ y less. test_real s t.test (rest body) k.next y last (goes (t.rest.entry one)) x.next ht has_test
+        (ready_less (rest body) (y - 1) (d - 1) (t.rest.entry one) (omega (arith, less)) repeats)
+        (goes_less k.next y d x.next end less behind.next) body in
         let front_ready : AreReady d (front_exits (falls last) again x.next) last (with_next body (chosen s rest (λ j. j.on_break) body)) =
-                record {
-                  next = (tests d (omega arith), tests (d - 1) (omega arith));
-                  on_break = settled_goes k.next d x.next end last behind.next;
-                  on_continue = hs.entered (d - 1) two (step_exits (falls head) x.next) turn fewer (has_left code two step_code (front_code ++ test_code) has_step) (after_rest (d - 1) (omega arith));
-                  on_return = behind.on_return;
-                } in
-        (hf.stands d three _ _ bound (has_left code three front_code test_code has_front) front_ready,
-        hf.entered d three _ _ bound (has_left code three front_code test_code has_front) front_ready)
+        record {
+          next = (tests d (omega arith), tests (d - 1) (omega arith));
+          on_break = settled_goes k.next d x.next end last behind.next;
+          on_continue = hs.entered (d - 1) two (step_exits (falls head) x.next) turn fewer (has_left code two step_code (front_code ++ test_code) has_step) (after_rest (d - 1) (omega arith));
+          on_return = behind.on_return;
+        } in (
+          hf.stands d three _ _ bound (has_left code three front_code test_code has_front) front_ready,
+          hf.entered d three _ _ bound (has_left code three front_code test_code has_front) front_ready,
+        )
 
     pub last_real : PartReal (looped body_meaning n) (test_last first_free t step)
     last_real = record {

@@ -1,5 +1,5 @@
 -- The runs of linear code follow those of core, and back.
-use Rattle.std.proofs.Common.{◌≡◌, ℕ, zero, suc, ◌+◌, ◌-◌, ◌<◌, ◌≤◌, ◌⊎◌, inl, inr, ◌==◌, ◌&&◌, not, Bool, true, false, if◌then◌else◌, List, [], ◌∷◌, ◌++◌, length, map, Option, Some, None, refl, sym, ap, ◌∙◌, subst, arith}
+use Rattle.std.proofs.Common.{◌≡◌, ℕ, zero, suc, ◌+◌, ◌-◌, ◌<◌, ◌≤◌, ◌⊎◌, inl, inr, ◌==◌, false, if◌then◌else◌, List, [], ◌∷◌, length, map, Option, Some, None, refl, sym, ap, ◌∙◌, arith}
 use Rattle.std.proofs.lemmas.Bool.Decides.{nat_tests}
 use Rattle.std.specs.List.{slice_get}
 use Rattle.std.specs.Option.{option_map}
@@ -8,26 +8,24 @@ use Rattle.qs_memory.specs.Partial.{◌>>=◌}
 use Rattle.qs_memory.specs.Values.{into, Value}
 use Rattle.qs_memory.specs.Memory.{Memory, store, make, release}
 use Rattle.qs_events.specs.Events.{Calls, Returns}
-use Rattle.qs_events.specs.Runs.{undefined, short, emit, given, Within}
-use Rattle.qs_events.proofs.RunLaws.{within_same, within_next}
-use Rattle.qs_calls.specs.World.{World, with_memory, RootRun, Return, leaves, Environment, no_values, with_value}
-use Rattle.qs_calls.specs.Calls.{Entered, pass, Frame}
+use Rattle.qs_events.specs.Runs.{undefined, emit}
+use Rattle.qs_calls.specs.World.{World, with_memory, Return, leaves, Environment, no_values, with_value}
+use Rattle.qs_calls.specs.Calls.{Entered, pass}
 use Rattle.qs_calls.specs.Relations.{CallsRelated}
 use Rattle.qs_calls.proofs.RelationLaws.{given_related, activate_related}
 use Rattle.qs_calls.specs.declared.parameter.Parameter.{Parameter}
 use Rattle.qs_calls.specs.declared.parameter.Parameter.TheVariants.{Plain, Placed}
 use Rattle.qs_core.specs.Trees.{CoreFunctionTree, CoreUnitTree}
-use Rattle.qs_core.specs.Expressions.{Locals}
-use Rattle.qs_core.specs.Statements.{Context, runs_all}
+use Rattle.qs_core.specs.Statements.{Context}
 use Rattle.qs_core.specs.Units.{after_function, body_of, calls_within, core_run}
 use Rattle.qs_core.specs.Units as units
 use Rattle.qs_core.proofs.RelationLaws as laws
-use Rattle.qs_tac.specs.Trees.{TacFunctionTree, TacUnitTree}
+use Rattle.qs_tac.specs.Trees.{TacUnitTree}
 use Rattle.qs_tac.specs.Holders.{temporaries}
-use Rattle.qs_tac.specs.Steps.{frame_of, begins, enters, ends, resume, steps}
+use Rattle.qs_tac.specs.Steps.{begins, steps}
 use Rattle.qs_tac.specs.Units.{tac_run}
 use Rattle.qs_lower.specs.Units.{function_code, straight_function, straight_unit}
-use Rattle.qs_lower.proofs.Real.{Stack, Real, Resumes, CallsReal, entering, moment, IsCode, Agree}
+use Rattle.qs_lower.proofs.Real.{Stack, Resumes, CallsReal, entering, IsCode}
 use Rattle.qs_lower.proofs.StmtReal.{Equal, equal_keeps}
 use Rattle.qs_lower.proofs.UnitReal as unit
 use Rattle.qs_lower.proofs.PlainReal as plain
@@ -90,6 +88,7 @@ passes n (Placed i s ∷ ps) (v ∷ vs) first e w there below = stored (store s 
       below = some.below;
       is = λ k. plain.given_some (store s w.memory (into (first + i) 0) v) m (λ m. pass ps vs first e (with_memory w m) k) is ∙ some.is k;
     })
+
     stored : (o : Option Memory) → store s w.memory (into (first + i) 0) v ≡ o → ((m : Memory) → Passes n ps vs first e (with_memory w m)) → Passes n (Placed i s ∷ ps) (v ∷ vs) first e w
     stored None is others = inl (λ k. plain.given_none (store s w.memory (into (first + i) 0) v) (λ m. pass ps vs first e (with_memory w m) k) is)
     stored (Some m) is others = go m is (others m)
@@ -127,8 +126,10 @@ module _ (u : CoreUnitTree) (turns : ℕ) where
       where
         first : ℕ
         first = length w.memory
+
         after : Return
         after result v = emit (Returns f) (k result (with_memory v (release (length w.memory) v.memory)))
+
         go :
             Passes (length g.variables) (map (λ p. p.place) g.parameters) vs (length w.memory) no_values (with_memory w (make g.blocks w.memory))
             → (i : ℕ) × (d ≤ suc i) × (pass (map (λ p. p.place) g.parameters) vs (length w.memory) no_values (with_memory w (make g.blocks w.memory))
@@ -138,12 +139,12 @@ module _ (u : CoreUnitTree) (turns : ℕ) where
         go (inl none) = (d, omega arith, none _ ∙ sym (none _))
         go (inr some) =
             let r =
-                    unit.body_real t g f stack (code_is f g stack is) (context depth) (length w.memory) depth real (calls_alike u turns depth)
-                    (statements_there depth f g stack (length w.memory) is real) (d - 1) (omega (arith, le, few), omega (arith, le))
-                    (λ result v. emit (Returns f) (k result (with_memory v (release (length w.memory) v.memory))))
-                    (λ result v. let q = resumes result (with_memory v (release (length w.memory) v.memory)) in (q.0, q.1, ap (emit (Returns f)) q.2))
-                    (record { first_block = length w.memory; variables = some.values; temporaries = no_values }) some.values some.world refl
-                    (record { variables = λ x h. refl; temporaries = λ x h. some.below (length g.variables + x) (omega arith) }) in
+            unit.body_real t g f stack (code_is f g stack is) (context depth) (length w.memory) depth real (calls_alike u turns depth)
+            (statements_there depth f g stack (length w.memory) is real) (d - 1) (omega (arith, le, few), omega (arith, le))
+            (λ result v. emit (Returns f) (k result (with_memory v (release (length w.memory) v.memory))))
+            (λ result v. let q = resumes result (with_memory v (release (length w.memory) v.memory)) in (q.0, q.1, ap (emit (Returns f)) q.2))
+            (record { first_block = length w.memory; variables = some.values; temporaries = no_values }) some.values some.world refl
+            (record { variables = λ x h. refl; temporaries = λ x h. some.below (length g.variables + x) (omega arith) }) in
             (r.taken, omega (arith, r.enough), some.is _ ∙ r.gives ∙ sym (some.is _))
 
     function_real :
@@ -153,11 +154,13 @@ module _ (u : CoreUnitTree) (turns : ℕ) where
     function_real depth few real d f vs k w stack le resumes None is =
         (suc d, omega arith, plain.given_none (slice_get t.functions f) _ (found f None is) ∙ sym (plain.given_none (slice_get u.functions f) _ is))
     function_real depth few real d f vs k w stack le resumes (Some g) is =
-        let r = entered_real depth few real d f vs k w stack le resumes g is in
-        (suc r.0, r.1,
-        plain.given_some (slice_get t.functions f) (straight_function g) _ (found f (Some g) is)
-        ∙ ap (emit (Calls f)) r.2
-        ∙ sym (plain.given_some (slice_get u.functions f) g _ is))
+        let r = entered_real depth few real d f vs k w stack le resumes g is in (
+          suc r.0,
+          r.1,
+          plain.given_some (slice_get t.functions f) (straight_function g) _ (found f (Some g) is)
+              ∙ ap (emit (Calls f)) r.2
+              ∙ sym (plain.given_some (slice_get u.functions f) g _ is),
+        )
 
     calls_real : (depth : ℕ) → depth ≤ turns → CallsReal t depth (calls_within u turns depth)
     calls_real zero few d f vs k w stack le resumes = (0, omega (arith, le), refl)

@@ -1,10 +1,9 @@
 -- The linear code of small functions, computed from the definition.
 use Rattle.std.proofs.Common.{◌≡◌, ℕ, Bool, true, List, [], ◌∷◌, Option, Some, None, refl}
-use Rattle.qs_memory.specs.Values.{Value, integer}
-use Rattle.qs_memory.specs.Memory.{zeros}
+use Rattle.qs_memory.specs.Values.{integer}
 use Rattle.qs_memory.specs.declared.scalar.Scalar.TheVariants as scalars
-use Rattle.qs_memory.specs.declared.operation.Signedness.TheVariants.{Signed, Unsigned}
-use Rattle.qs_memory.specs.declared.operation.Direction.TheVariants.{Up, Down}
+use Rattle.qs_memory.specs.declared.operation.Signedness.TheVariants.{Signed}
+use Rattle.qs_memory.specs.declared.operation.Direction.TheVariants.{Up}
 use Rattle.qs_memory.specs.declared.operation.Arithmetic.TheVariants as arithmetics
 use Rattle.qs_memory.specs.declared.operation.Comparison.TheVariants as comparisons
 use Rattle.qs_memory.specs.declared.operation.UnaryOperation.TheVariants as unaries
@@ -18,14 +17,13 @@ use Rattle.qs_core.specs.declared.numbers.Target.TheVariants as targets
 use Rattle.qs_core.specs.Trees as core
 use Rattle.qs_core.specs.Trees.{CoreExprTree, CoreStmtTree, stmts_of, CoreFunctionTree, CoreUnitTree}
 use Rattle.qs_core.specs.Units.{core_run}
-use Rattle.qs_tac.specs.Trees.{InstructionTree, move, unary, binary, convert, address_of, load, store, fill, call, jump, branch, return}
+use Rattle.qs_tac.specs.Trees.{InstructionTree, move, binary, address_of, load, store, call, jump, branch, return}
 use Rattle.qs_tac.specs.Units.{tac_run}
 use Rattle.qs_tac.specs.Fits.{unit_fits}
 use Rattle.qs_tac.specs.declared.operands.Operand.{Operand}
-use Rattle.qs_tac.specs.declared.operands.Operand.TheVariants.{Temporary, Integer, Byte, Constant, Null, Local, Data}
-use Rattle.qs_tac.specs.declared.operands.Index.{Index}
+use Rattle.qs_tac.specs.declared.operands.Operand.TheVariants.{Temporary, Integer, Byte, Constant, Local}
 use Rattle.qs_tac.specs.declared.operands.Address.{Address}
-use Rattle.qs_tac.specs.declared.operands.Condition.TheVariants.{NotZero, Zero, Compare, ComparePointers}
+use Rattle.qs_tac.specs.declared.operands.Condition.TheVariants.{NotZero, Zero, Compare}
 use Rattle.qs_lower.specs.Threads.{threaded}
 use Rattle.qs_lower.specs.Units.{function_code, straight_function, lower_unit}
 

@@ -1,5 +1,5 @@
 -- What lowering promises.
-use Rattle.std.proofs.Common.{◌≡◌, ℕ, ◌+◌, ◌≤◌, true, false, List, length, map, Option, Some, refl, subst, arith}
+use Rattle.std.proofs.Common.{◌≡◌, ℕ, ◌+◌, ◌≤◌, true, false, List, length, map, Some, subst, arith}
 use Rattle.std.specs.List.{slice_get}
 use Rattle.qs_memory.specs.Values.{Value}
 use Rattle.qs_events.specs.Runs.{Within}
@@ -10,13 +10,12 @@ use Rattle.qs_core.specs.Units.{core_run}
 use Rattle.qs_core.specs.Fits.{function_fits, unit_fits}
 use Rattle.qs_core.proofs.FitLaws.{all_at, function_parts, unit_parts}
 use Rattle.qs_tac.specs.Holders.{temporaries}
-use Rattle.qs_tac.specs.Units.{run, tac_run}
-use Rattle.qs_tac.specs.Laws.{LinearCodeGrows}
+use Rattle.qs_tac.specs.Units.{tac_run}
 use Rattle.qs_tac.proofs.RelationLaws.{linear_code_grows}
 use Rattle.qs_lower.specs.Units.{function_code, straight_unit, lower_unit}
 use Rattle.qs_lower.specs.Laws.{LoweringFollows}
 use Rattle.qs_lower.proofs.ThreadLaws.{run_forth, threaded_back}
-use Rattle.qs_lower.proofs.Follow.{ParametersThere, code_is, context, same_run}
+use Rattle.qs_lower.proofs.Follow.{code_is, context, same_run}
 use Rattle.qs_lower.proofs.There.{stmts_there, more_there, parameters_there}
 
 module _ (u : CoreUnitTree) (fits : unit_fits u ≡ true) where
@@ -40,8 +39,10 @@ lowering_follows u fits = record {
       (r.0, subst (λ (o : RootRun). Within o (tac_run (lower_unit u) root arguments w r.0)) r.2 (run_forth temporaries (straight_unit u) root arguments w r.0));
   back = λ root arguments w m.
       let b = threaded_back temporaries (straight_unit u) root arguments w m in
-      let r = straight_run u fits root arguments w b.0 in
-      (b.0, within_next _ _ _ b.1
-      (within_next _ _ _ (linear_code_grows _ temporaries (straight_unit u) root arguments w b.0 r.0 r.1)
-      (subst (λ (o : RootRun). Within (tac_run (straight_unit u) root arguments w r.0) o) r.2 (within_same (tac_run (straight_unit u) root arguments w r.0)))));
+      let r = straight_run u fits root arguments w b.0 in (
+        b.0,
+        within_next _ _ _ b.1
+            (within_next _ _ _ (linear_code_grows _ temporaries (straight_unit u) root arguments w b.0 r.0 r.1)
+            (subst (λ (o : RootRun). Within (tac_run (straight_unit u) root arguments w r.0) o) r.2 (within_same (tac_run (straight_unit u) root arguments w r.0)))),
+      );
 }

@@ -1,31 +1,23 @@
 -- The code of operations on one and on two operands.
-use Rattle.std.proofs.Common.{◌≡◌, ℕ, zero, suc, ◌+◌, ◌-◌, ◌*◌, ◌<◌, ◌≤◌, Bool, true, false, not, if◌then◌else◌, List, [], ◌∷◌, ◌++◌, length, Option, Some, None, unwrap_or, refl, sym, ap, ◌∙◌, subst, arith}
-use Rattle.std.specs.List.{slice_get}
+use Rattle.std.proofs.Common.{◌≡◌, ℕ, ◌+◌, ◌*◌, ◌≤◌, Bool, true, false, not, if◌then◌else◌, List, Option, Some, None, refl, sym, ap, ◌∙◌, arith}
 use Rattle.qs_memory.specs.Partial.{◌>>=◌}
 use Rattle.qs_memory.specs.Values.{Pointer, Value, integer, address, as_integer, as_pointer}
 use Rattle.qs_memory.specs.Memory.{Memory}
-use Rattle.std.specs.Prelude.{◌==◌, ◌&&◌, ◌^◌, nat_lt, nat_le, ℤ, pos, ◌-ℤ◌, ◌*ℤ◌}
+use Rattle.std.specs.Prelude.{◌&&◌, ◌^◌, pos, ◌-ℤ◌, ◌*ℤ◌}
 use Rattle.std.proofs.Math.IntN.{pos-*ℤ-pos}
 use Rattle.qs_memory.specs.declared.operation.Signedness.TheVariants.{Signed, Unsigned}
-use Rattle.qs_core.specs.declared.numbers.BlockId.{BlockId}
-use Rattle.qs_core.specs.declared.numbers.BlockId.TheVariants as ids
-use Rattle.qs_core.specs.Expressions.{block_pointer}
 use Rattle.qs_memory.specs.Pointers as pointers
-use Rattle.std.proofs.lemmas.Bool.Decides.{nat_tests}
 use Rattle.qs_memory.specs.Partial.{only_if}
-use Rattle.qs_memory.specs.Memory.{target}
 use Rattle.qs_memory.specs.Pointers.{member_of, truth, in_one_block, equal, compares_pointers}
-use Rattle.qs_memory.specs.Integers.{reading, is_less, compares}
+use Rattle.qs_memory.specs.Integers.{reading, compares}
 use Rattle.qs_memory.specs.declared.operation.Signedness.{Signedness}
 use Rattle.qs_memory.specs.Operations.{apply_unary, apply_binary, of_truth, on_integers, on_pointers}
 use Rattle.qs_memory.specs.declared.operation.Comparison.{Comparison}
-use Rattle.qs_memory.specs.declared.operation.Comparison.TheVariants as comparisons
 use Rattle.qs_memory.proofs.Options.{some_same}
-use Rattle.qs_events.specs.Runs.{undefined, given}
-use Rattle.qs_calls.specs.World.{World, RootRun, Environment, with_value}
+use Rattle.qs_events.specs.Runs.{undefined}
+use Rattle.qs_calls.specs.World.{World, RootRun, Environment}
 use Rattle.qs_core.specs.Trees.{CoreExprTree, CoreFunctionTree}
-use Rattle.qs_core.specs.Expressions.{Locals, value, truth_value}
-use Rattle.qs_memory.specs.Memory as memory
+use Rattle.qs_core.specs.Expressions.{Locals, value}
 use Rattle.qs_memory.specs.declared.scalar.Scalar.{Scalar}
 use Rattle.qs_core.specs.Trees as core
 use Rattle.qs_memory.specs.declared.operation.Direction.TheVariants.{Up, Down}
@@ -34,24 +26,24 @@ use Rattle.qs_memory.specs.declared.operation.BinaryOperation.TheVariants as bin
 use Rattle.qs_memory.specs.Values as values
 use Rattle.qs_memory.specs.declared.operation.UnaryOperation.{UnaryOperation}
 use Rattle.qs_memory.specs.declared.operation.UnaryOperation.TheVariants as unaries
-use Rattle.qs_tac.specs.Trees.{InstructionTree, move, unary, binary, convert, address_of, load, jump, branch, TacUnitTree}
+use Rattle.qs_tac.specs.Trees.{InstructionTree, unary, binary, convert, TacUnitTree}
 use Rattle.qs_tac.specs.Holders.{temporaries}
-use Rattle.qs_tac.specs.Values.{Activation, operand, pointer, member_at, indexed, holds}
-use Rattle.qs_tac.specs.Steps.{Waiting, Next, going_to, gives, step, instruction_at, steps}
+use Rattle.qs_tac.specs.Values.{operand, pointer, member_at, indexed, holds}
+use Rattle.qs_tac.specs.Steps.{Next, gives, step}
 use Rattle.qs_tac.specs.declared.operands.Index.{Index}
 use Rattle.qs_tac.specs.Fits.{is_word}
 use Rattle.qs_tac.specs.declared.operands.Operand.{Operand}
 use Rattle.qs_tac.specs.declared.operands.Operand.TheVariants.{Temporary, Integer, Byte, Constant, Null, Local, Data}
 use Rattle.qs_tac.specs.declared.operands.Condition.{Condition}
-use Rattle.qs_tac.specs.declared.operands.Condition.TheVariants.{NotZero, Zero, Compare, ComparePointers}
-use Rattle.qs_lower.specs.Exits.{Exit, falls, goes, is_fall, place_of, settled, exit_size, exit_code, opposite_comparison, opposite, branch_size, branch_code}
-use Rattle.qs_lower.specs.Operands.{converted, truth_of, unary_of, gives_integer, gives_truth, gives_pointer, is_idle, is_upward, constant_step, folded, block_operand, swaps}
+use Rattle.qs_tac.specs.declared.operands.Condition.TheVariants.{Compare, ComparePointers}
+use Rattle.qs_lower.specs.Exits.{Exit}
+use Rattle.qs_lower.specs.Operands.{converted, unary_of, gives_integer, gives_truth, is_idle, is_upward, constant_step, folded, swaps}
 use Rattle.qs_lower.specs.Expressions.{IndexCode, ExprCode, simple_size, size_of, simple_code, code_of, simple_operand, operand_of, own, based, known_size, known_code, tested, no_code, by_operand, by_value, index_at, address_at, of_load, further, behind_parts, behind, indexed_by, by_address, used_by, of_unary_value, with_test, of_plus, of_compound, simple_or, of_unary, of_conversion, unindexed, pair_size, pair_code, pair_used, binary_instruction, of_binary_value, with_condition, of_element, of_operation, number_of, by_test, both_size, of_both_tests, either_size, of_either_test, of_choice, of_and, of_or, of_conditional, stepped_or, of_binary, lowered}
 use Rattle.qs_lower.specs.Expressions as lower
-use Rattle.qs_lower.proofs.SizeLaws.{behind_sized, by_test_sized, both_tests_sized, either_test_sized, choice_sized, sized, both, one_more, branch_length, pair_length, based_sized, unindexed_sized, indexed_sized, Sized, code_length, operand_sized, by_value_sized, address_sized, TestSized, with_test_sized}
-use Rattle.qs_lower.proofs.OperandLaws.{TruthOrNone, and_left, folded_right, swapped, known_truth, converted_right, unary_right, gives_truth_is, gives_pointer_is, truth_again, idle_stays, plus_stays}
-use Rattle.qs_lower.proofs.AddressLaws.{bind_some, bind_bind, bind_same, pointer_value, further_member, element_same}
-use Rattle.qs_lower.proofs.Real.{Act, Stack, HasAt, has_left, has_right, Kept, KeptBut, kept_all, kept_then, kept_below, Real, real_less, Leads, real_step, real_fault, real_given, moment, IsCode, Agree, free, IntoReal, SimpleReal, OperandReal, BaseReal, Goes, by_answer, TestReal, KnownReal}
+use Rattle.qs_lower.proofs.SizeLaws.{behind_sized, both, one_more, branch_length, pair_length, based_sized, unindexed_sized, indexed_sized, code_length, TestSized, with_test_sized}
+use Rattle.qs_lower.proofs.OperandLaws.{and_left, folded_right, swapped, converted_right, unary_right, gives_truth_is, truth_again, idle_stays, plus_stays}
+use Rattle.qs_lower.proofs.AddressLaws.{bind_some, bind_bind}
+use Rattle.qs_lower.proofs.Real.{Act, Stack, HasAt, has_left, has_right, Kept, kept_all, kept_then, Real, moment, IsCode, Agree, free, IntoReal, SimpleReal, OperandReal, BaseReal, Goes, by_answer, TestReal, KnownReal}
 use Rattle.qs_lower.proofs.ValueReal.{none_bind, no_pointer, negated}
 use Rattle.qs_lower.proofs.ValueReal as value_real
 use Rattle.qs_lower.proofs.AddressReal as address_real

@@ -1,5 +1,5 @@
 -- The code of assignments, stores, copies, fills, calls and returns makes the runs that these mean.
-use Rattle.std.proofs.Common.{◌≡◌, ℕ, zero, suc, ◌+◌, ◌-◌, ◌<◌, ◌≤◌, Bool, true, false, if◌then◌else◌, List, [], ◌∷◌, ◌++◌, length, map, Option, Some, None, refl, sym, ap, ◌∙◌, subst, arith}
+use Rattle.std.proofs.Common.{◌≡◌, ℕ, suc, ◌+◌, ◌-◌, ◌<◌, ◌≤◌, Bool, true, false, if◌then◌else◌, List, [], ◌∷◌, ◌++◌, length, Option, Some, None, refl, sym, ap, ◌∙◌, subst, arith}
 use Rattle.std.specs.Prelude.{◌==◌}
 use Rattle.std.proofs.lemmas.Bool.Decides.{nat_tests}
 use Rattle.std.specs.List.{slice_get}
@@ -8,9 +8,8 @@ use Rattle.qs_memory.specs.Values.{Pointer, Value, as_pointer}
 use Rattle.qs_memory.specs.Memory.{Memory, BlankTree}
 use Rattle.qs_memory.specs.Memory as memory
 use Rattle.qs_memory.specs.declared.scalar.Scalar.{Scalar}
-use Rattle.qs_memory.proofs.Options.{some_same}
 use Rattle.qs_events.specs.Runs.{undefined, given}
-use Rattle.qs_calls.specs.World.{World, with_memory, RootRun, Return, Environment, no_values, with_value}
+use Rattle.qs_calls.specs.World.{World, with_memory, RootRun, Return, Environment, no_values}
 use Rattle.qs_core.specs.Trees as core
 use Rattle.qs_core.specs.Trees.{CoreExprTree, CoreStmtTree, CoreFunctionTree}
 use Rattle.qs_core.specs.declared.numbers.Target.{Target}
@@ -19,13 +18,13 @@ use Rattle.qs_core.specs.Expressions.{Locals, value}
 use Rattle.qs_core.specs.Statements.{Continuation, Continuations, Context, assigned, given_pointer, runs}
 use Rattle.qs_tac.specs.Trees.{InstructionTree, store, copy, fill, return, TacUnitTree}
 use Rattle.qs_tac.specs.Holders.{temporaries}
-use Rattle.qs_tac.specs.Values.{Activation, operand, pointer}
-use Rattle.qs_tac.specs.Steps.{Waiting, Next, leaves_memory, ends, step, steps}
+use Rattle.qs_tac.specs.Values.{operand, pointer}
+use Rattle.qs_tac.specs.Steps.{Next, leaves_memory, ends, step, steps}
 use Rattle.qs_lower.specs.Exits.{Exit, falls, goes, is_fall, exit_size, exit_code}
 use Rattle.qs_lower.specs.Expressions.{ExprCode, size_of, code_of, operand_of, own, address_at}
-use Rattle.qs_lower.specs.Statements.{Exits, falls_of, Part, StmtCode, straight, target_of,  of_assign, of_store, of_copy, of_fill, of_return, of_plain_return}
+use Rattle.qs_lower.specs.Statements.{Exits, falls_of, Part, straight, target_of, of_assign, of_store, of_copy, of_fill, of_return, of_plain_return}
 use Rattle.qs_lower.proofs.SizeLaws.{both, one_more, code_length}
-use Rattle.qs_lower.proofs.Real.{Act, Stack, HasAt, has_left, has_right, Kept, KeptBut, kept_all, kept_then, kept_below, Real, real_less, real_fault, real_given, Resumes, CallsReal, entering, moment, IsCode, Agree, free, Goes}
+use Rattle.qs_lower.proofs.Real.{Act, Stack, HasAt, has_left, has_right, KeptBut, kept_all, kept_then, Real, real_less, real_fault, real_given, CallsReal, moment, IsCode, Agree, free, Goes}
 use Rattle.qs_lower.proofs.ValueReal as value_real
 use Rattle.qs_lower.proofs.ExprReal as expr
 
@@ -165,8 +164,10 @@ module _ (u : TacUnitTree) (f : CoreFunctionTree) (code : List InstructionTree) 
     where
       other : (k : ℕ) → length f.variables + k ≡ x → ⊥
       other k same = absurd (omega (arith, lt, same))
+
       differ : (y : ℕ) → y ≡ x → (y == x) ≡ false → ⊥
       differ y same h = absurd (grind (arith, nat_tests, same, h))
+
       by_same : (y : ℕ) → y < length f.variables → (b : Bool) → (y == x) ≡ b → after y ≡ (if b then Some v else l.variables y)
       by_same y below true h = let same : y ≡ x = grind (arith, nat_tests, h) in ap after same ∙ holds
       by_same y below false h = but y (omega (arith, below)) (λ same. differ y same h) ∙ agree.variables y below
@@ -177,8 +178,10 @@ module _ (u : TacUnitTree) (f : CoreFunctionTree) (code : List InstructionTree) 
     where
       other : (y : ℕ) → y < length f.variables → y ≡ length f.variables + x → ⊥
       other y below same = absurd (omega (arith, below, same))
+
       differ : (k : ℕ) → length f.variables + k ≡ length f.variables + x → (k == x) ≡ false → ⊥
       differ k same h = absurd (grind (arith, nat_tests, same, h))
+
       by_same : (k : ℕ) → k < length f.temporaries → (b : Bool) → (k == x) ≡ b → after (length f.variables + k) ≡ (if b then Some v else l.temporaries k)
       by_same k below true h = let same : k ≡ x = grind (arith, nat_tests, h) in ap (λ i. after (length f.variables + i)) same ∙ holds
       by_same k below false h = but (length f.variables + k) (omega (arith, below)) (λ same. differ k same h) ∙ agree.temporaries k below
@@ -236,11 +239,14 @@ module _ (u : TacUnitTree) (f : CoreFunctionTree) (code : List InstructionTree) 
     where
       three : (m n : ℕ) → m + (n + 1) ≡ m + n + 1
       three m n = omega arith
+
       long : (at : ℕ) → length (p.base_code first_free at ++ (code_of e (first_free + p.base_own) (at + p.base_size) ++ store s (address_at p first_free) (operand_of e (first_free + p.base_own)) ∷ [])) ≡ p.base_size + size_of e + 1
       long at = both _ _ _ (size_of e + 1) (ha.sized.base first_free at) (one_more _ _ _ (code_length e hb.sized.into _ _)) ∙ three p.base_size (size_of e)
+
       behind : (at : ℕ) → HasAt code at (p.base_code first_free at ++ (code_of e (first_free + p.base_own) (at + p.base_size) ++ store s (address_at p first_free) (operand_of e (first_free + p.base_own)) ∷ []))
           → HasAt code (at + p.base_size) (code_of e (first_free + p.base_own) (at + p.base_size) ++ store s (address_at p first_free) (operand_of e (first_free + p.base_own)) ∷ [])
       behind at has = has_right code at p.base_size (p.base_code first_free at) _ (ha.sized.base first_free at) has
+
       as_one :
           (l : Locals) (w : World) (k : Continuations)
           → given_pointer a l w (λ q. given (value b l w.memory) (λ v. given (memory.store s w.memory q v) (λ m. k.next l (with_memory w m))))
@@ -302,21 +308,27 @@ module _ (u : TacUnitTree) (f : CoreFunctionTree) (code : List InstructionTree) 
     where
       three : (m n : ℕ) → m + (n + 1) ≡ m + n + 1
       three m n = omega arith
+
       long : (at : ℕ) → length (p.base_code first_free at ++ (q.base_code (first_free + p.base_own) (at + p.base_size) ++ copy size alignment (address_at p first_free) (address_at q (first_free + p.base_own)) ∷ [])) ≡ p.base_size + q.base_size + 1
       long at = both _ _ _ (q.base_size + 1) (ha.sized.base first_free at) (one_more _ _ _ (hb.sized.base _ _)) ∙ three p.base_size q.base_size
+
       behind : (at : ℕ) → HasAt code at (p.base_code first_free at ++ (q.base_code (first_free + p.base_own) (at + p.base_size) ++ copy size alignment (address_at p first_free) (address_at q (first_free + p.base_own)) ∷ []))
           → HasAt code (at + p.base_size) (q.base_code (first_free + p.base_own) (at + p.base_size) ++ copy size alignment (address_at p first_free) (address_at q (first_free + p.base_own)) ∷ [])
       behind at has = has_right code at p.base_size (p.base_code first_free at) _ (ha.sized.base first_free at) has
+
       both_pointers : Locals → World → Option Memory
       both_pointers l w = (value a l w.memory >>= as_pointer) >>= λ to. (value b l w.memory >>= as_pointer) >>= λ from. memory.copy size alignment w.memory to from
+
       none_second : {A B C : Type 0} (o : Option A) (i : Option B) (g : A → B → Option C) → i ≡ None → (o >>= λ a. i >>= λ b. g a b) ≡ None
       none_second None i g h = refl
       none_second (Some a) i g h = ap (λ p. p >>= λ b. g a b) h
+
       inside : (o : Option Pointer) (w : World) (l : Locals) (k : Continuations)
           → given o (λ to. given_pointer b l w (λ from. given (memory.copy size alignment w.memory to from) (λ m. k.next l (with_memory w m))))
           ≡ given o (λ to. given (value b l w.memory >>= as_pointer) (λ from. given (memory.copy size alignment w.memory to from) (λ m. k.next l (with_memory w m))))
       inside None w l k = refl
       inside (Some to) w l k = given_bind (value b l w.memory) as_pointer _
+
       as_one :
           (l : Locals) (w : World) (k : Continuations)
           → given_pointer a l w (λ to. given_pointer b l w (λ from. given (memory.copy size alignment w.memory to from) (λ m. k.next l (with_memory w m))))
@@ -372,6 +384,7 @@ module _ (u : TacUnitTree) (f : CoreFunctionTree) (code : List InstructionTree) 
                 ∙ ap (λ o. given o (λ v. ends temporaries (steps temporaries u r.0) (at_moment at l.first_block after) stack (Some v) w)) is
                 ∙ ends_here r.0 at l after (Some v) w here ∙ r.2;
           }
+
       there :
           (d at : ℕ) (x : Exits) (k : Continuations) → IsBounded d → HasAt code at (code_of e first_free at ++ return (Some (operand_of e first_free)) ∷ [])
           → AreReady d x (at + (size_of e + 1)) k → IsReady (runs (core.return (Some s)) c k) d at

@@ -1,25 +1,23 @@
 -- What the code of a part has to do: from its first instruction it makes the run that the part means, whatever
 -- follows. These are the claims of the induction over trees.
-use Rattle.std.proofs.Common.{◌≡◌, ℕ, zero, suc, ◌+◌, ◌-◌, ◌<◌, ◌≤◌, Bool, true, false, if◌then◌else◌, List, [], ◌∷◌, ◌++◌, length, Option, Some, None, refl, sym, ap, ◌∙◌, subst, arith}
+use Rattle.std.proofs.Common.{◌≡◌, ℕ, zero, suc, ◌+◌, ◌-◌, ◌<◌, ◌≤◌, Bool, true, false, List, [], ◌∷◌, ◌++◌, length, Option, Some, None, refl, sym, ◌∙◌, subst, arith}
 use Rattle.std.specs.List.{slice_get}
 use Rattle.qs_memory.specs.Partial.{◌>>=◌}
-use Rattle.qs_memory.specs.Values.{Pointer, Value, as_pointer}
+use Rattle.qs_memory.specs.Values.{Value, as_pointer}
 use Rattle.qs_memory.specs.Memory.{Memory}
 use Rattle.qs_memory.specs.Pointers.{truth}
 use Rattle.qs_events.specs.Runs.{undefined, short, given}
-use Rattle.qs_calls.specs.World.{World, with_memory, RootRun, Return, Environment, with_value}
+use Rattle.qs_calls.specs.World.{World, RootRun, Return, Environment}
 use Rattle.qs_calls.specs.Calls.{CallsOf}
-use Rattle.qs_core.specs.Trees.{CoreExprTree, CoreStmtTree, CoreFunctionTree}
+use Rattle.qs_core.specs.Trees.{CoreExprTree, CoreFunctionTree}
 use Rattle.qs_core.specs.Expressions.{Locals, value}
-use Rattle.qs_core.specs.Statements.{Continuation, Continuations, Context, runs}
 use Rattle.qs_tac.specs.Trees.{InstructionTree, TacUnitTree}
 use Rattle.qs_tac.specs.Holders.{temporaries}
 use Rattle.qs_tac.specs.Values.{Activation, operand, pointer}
-use Rattle.qs_tac.specs.Steps.{Waiting, Next, gives, enters, resume, step, instruction_at, steps}
+use Rattle.qs_tac.specs.Steps.{Waiting, Next, enters, resume, instruction_at, steps}
 use Rattle.qs_tac.specs.declared.operands.Operand.{Operand}
 use Rattle.qs_lower.specs.Exits.{Exit, falls, goes, is_fall}
 use Rattle.qs_lower.specs.Expressions.{ExprCode, size_of, code_of, operand_of, own, address_at}
-use Rattle.qs_lower.specs.Statements.{Exits, falls_of, Part, StmtCode}
 
 abbrev pub Act : Type 0
 Act = Activation Environment

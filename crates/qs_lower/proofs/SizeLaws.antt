@@ -1,5 +1,5 @@
 -- The code of a part has as many instructions as its size says.
-use Rattle.std.proofs.Common.{◌≡◌, ℕ, ◌+◌, Bool, true, false, List, [], ◌∷◌, ◌++◌, length, map, Option, Some, None, refl, sym, ap, ◌∙◌, arith, length-append}
+use Rattle.std.proofs.Common.{◌≡◌, ℕ, ◌+◌, Bool, true, false, List, [], ◌∷◌, ◌++◌, length, map, Option, Some, None, refl, ap, ◌∙◌, arith, length-append}
 use Rattle.std.specs.Prelude.{if◌then◌else◌}
 use Rattle.qs_memory.specs.Partial.{◌>>=◌}
 use Rattle.qs_memory.specs.declared.scalar.Scalar.{Scalar}
@@ -15,10 +15,10 @@ use Rattle.qs_tac.specs.Trees.{InstructionTree, move, jump}
 use Rattle.qs_tac.specs.declared.operands.Operand.{Operand}
 use Rattle.qs_tac.specs.declared.operands.Condition.{Condition}
 use Rattle.qs_tac.specs.declared.operands.Condition.TheVariants as conditions
-use Rattle.qs_lower.specs.Exits.{Exit, falls, goes, is_fall, settled, exit_size, exit_code, branch_size, branch_code}
+use Rattle.qs_lower.specs.Exits.{Exit, falls, goes, is_fall, exit_size, exit_code, branch_size, branch_code}
 use Rattle.qs_tac.specs.Fits.{is_word}
 use Rattle.qs_lower.specs.Operands.{converted, truth_of, truth_operand, unary_of, folded, gives_integer, gives_truth, is_idle, constant_step}
-use Rattle.qs_lower.specs.Expressions.{IndexCode, ExprCode, simple_size, size_of, simple_code, code_of, simple_operand, operand_of, own, used_by, based, known_size, known_code, tested, no_code, by_operand, by_value, number_of, by_test, of_load, further, behind_parts, behind, unindexed, indexed_by, with_address, by_address, of_member, of_element, of_unary_value, with_test, of_truth, of_plus, of_compound, simple_or, of_unary, of_conversion, pair_size, pair_code, of_binary_value, with_condition, of_operation, stepped_or, of_binary, of_both_tests, of_either_test, of_choice, of_and, of_or, of_conditional, lowered, all_size, all_code}
+use Rattle.qs_lower.specs.Expressions.{IndexCode, ExprCode, simple_size, size_of, simple_code, code_of, based, known_size, known_code, tested, no_code, by_operand, by_value, number_of, by_test, of_load, further, behind_parts, behind, unindexed, indexed_by, by_address, of_element, of_unary_value, with_test, of_truth, of_plus, of_compound, simple_or, of_conversion, pair_size, pair_code, of_binary_value, with_condition, of_operation, stepped_or, of_both_tests, of_either_test, of_choice, of_and, of_or, of_conditional, lowered, all_size, all_code}
 
 pub one_more : (a : List InstructionTree) (i : InstructionTree) (n : ℕ) → length a ≡ n → length (a ++ i ∷ []) ≡ n + 1
 one_more a i n h = length-append a (i ∷ []) ∙ ap (λ n. n + 1) h

@@ -1,25 +1,21 @@
 -- The code of each statement makes the run that it means.
-use Rattle.std.proofs.Common.{◌≡◌, ℕ, zero, suc, ◌+◌, ◌-◌, ◌<◌, ◌≤◌, Bool, true, false, not, ◌||◌, ◌&&◌, if◌then◌else◌, List, [], ◌∷◌, ◌++◌, length, map, Option, Some, None, refl, sym, ap, ◌∙◌, subst, arith}
+use Rattle.std.proofs.Common.{◌≡◌, ℕ, zero, suc, ◌+◌, ◌-◌, Bool, true, false, not, ◌||◌, ◌&&◌, if◌then◌else◌, List, length, Option, Some, None, refl, sym, ap, ◌∙◌, subst, arith}
 use Rattle.std.specs.Prelude.{nat_lt}
 use Rattle.std.proofs.lemmas.Bool.Decides.{nat_tests}
-use Rattle.qs_memory.specs.Partial.{◌>>=◌}
-use Rattle.qs_memory.specs.Values.{Value, as_pointer}
+use Rattle.qs_memory.specs.Values.{Value}
 use Rattle.qs_memory.specs.Pointers.{truth}
-use Rattle.qs_events.specs.Runs.{undefined, short, emit, given}
-use Rattle.qs_calls.specs.World.{World, RootRun, Return, Environment}
-use Rattle.qs_calls.specs.Relations.{Relation, Keeps, ReturnsRelated, CallsRelated}
-use Rattle.qs_core.specs.Trees as core
-use Rattle.qs_core.specs.Trees.{CoreExprTree, CoreStmtTree, CoreStmts, no_stmts, stmt_and, CoreFunctionTree}
+use Rattle.qs_events.specs.Runs.{emit, given}
+use Rattle.qs_calls.specs.World.{World, RootRun, Environment}
+use Rattle.qs_calls.specs.Relations.{Relation, Keeps}
+use Rattle.qs_core.specs.Trees.{CoreExprTree, CoreFunctionTree}
 use Rattle.qs_core.specs.Expressions.{Locals, value}
-use Rattle.qs_core.specs.Statements.{Continuation, Continuations, Context, repeated, after_step, after_body, runs, runs_all}
+use Rattle.qs_core.specs.Statements.{Continuation, Continuations, Context, repeated, after_step, after_body}
 use Rattle.qs_core.proofs.RelationLaws as laws
 use Rattle.qs_tac.specs.Trees.{InstructionTree, TacUnitTree}
-use Rattle.qs_lower.specs.Exits.{exit_size}
 use Rattle.qs_lower.specs.Expressions.{ExprCode}
-use Rattle.qs_lower.specs.Statements.{Exits, Part, Way, to_next, to_break, to_continue, Tested, StmtCode, going, straight, leaves, is_break, by_way, tested_behind, of_joined, of_before, of_ways, of_both, test_of, is_next, of_test, of_branch, body_alone, body_first, test_last, plain_loop, loop_part, of_loop}
-use Rattle.qs_lower.proofs.SizeLaws.{Sized}
-use Rattle.qs_lower.proofs.StmtSizeLaws.{PartSized, TestedSized, OptionSized, StmtSized, going_sized, joined_sized, redirected_sized, branch_sized, loop_sized}
-use Rattle.qs_lower.proofs.Real.{Act, Stack, CallsReal, IsCode, Agree, free}
+use Rattle.qs_lower.specs.Statements.{Part, Way, to_next, to_break, to_continue, Tested, StmtCode, straight, leaves, is_break, by_way, tested_behind, of_joined, of_before, of_ways, of_both, test_of, is_next, of_test, of_branch, body_alone, body_first, test_last, loop_part, of_loop}
+use Rattle.qs_lower.proofs.StmtSizeLaws.{PartSized, OptionSized, StmtSized, going_sized, joined_sized, redirected_sized, branch_sized, loop_sized}
+use Rattle.qs_lower.proofs.Real.{Stack, CallsReal, IsCode, Agree, free}
 use Rattle.qs_lower.proofs.ExprReal as expr
 use Rattle.qs_lower.proofs.PlainReal as plain
 use Rattle.qs_lower.proofs.FlowReal as flow
@@ -195,6 +191,7 @@ module _ (u : TacUnitTree) (f : CoreFunctionTree) (code : List InstructionTree) 
       sized_behind : (a : Part) (d : Option Tested) → PartSized a → OptionSized d → OptionSized (tested_behind a d)
       sized_behind a None x y = tt
       sized_behind a (Some d) x y = record { front = joined_sized a d.front x y.front; test = y.test; rest = y.rest }
+
       behind : (o : Option Tested) → TestedIs o n → TestedIs (tested_behind a.part o) (then_ m n)
       behind None t = tt
       behind (Some d) t = record {
@@ -297,6 +294,7 @@ module _ (u : TacUnitTree) (f : CoreFunctionTree) (code : List InstructionTree) 
       next_way (Some to_next) h = refl
       next_way (Some to_break) h = absurd (cc)
       next_way (Some to_continue) h = absurd (cc)
+
       ends_loop : (o : Option Way) → b.way ≡ o → TestedIs (test_of e (is_next a.way) a.part o) (chosen s m n)
       ends_loop None is = tt
       ends_loop (Some to_next) is = tt
@@ -361,8 +359,8 @@ module _ (u : TacUnitTree) (f : CoreFunctionTree) (code : List InstructionTree) 
   turns_alike m q n body step same g h k (suc i) l w =
       let again = turns_alike m q n body step same g h k i in
       let steps =
-              h.ignores (after_step k (turns_of m n k i)) (after_step k (turns_of q n k i))
-              (record { next = λ no. again; on_break = λ so x y. refl; on_continue = again; on_return = λ x y. refl }) in
+      h.ignores (after_step k (turns_of m n k i)) (after_step k (turns_of q n k i))
+      (record { next = λ no. again; on_break = λ so x y. refl; on_continue = again; on_return = λ x y. refl }) in
       same (after_body k (n (after_step k (turns_of m n k i)))) l w
       ∙ g.ignores (after_body k (n (after_step k (turns_of m n k i)))) (after_body k (n (after_step k (turns_of q n k i))))
       (record { next = λ no. steps; on_break = λ so x y. refl; on_continue = steps; on_return = λ x y. refl }) l w
@@ -377,13 +375,13 @@ module _ (u : TacUnitTree) (f : CoreFunctionTree) (code : List InstructionTree) 
   turns_ignore m n body step g h k j same (suc i) l w =
       let again = turns_ignore m n body step g h k j same i in
       let steps =
-              h.ignores (after_step k (turns_of m n k i)) (after_step j (turns_of m n j i))
-              (record {
-                next = λ no. again;
-                on_break = λ so. same.next (not_false (body.breaks || step.breaks) (or_right body.breaks step.breaks so));
-                on_continue = again;
-                on_return = same.on_return;
-              }) in
+      h.ignores (after_step k (turns_of m n k i)) (after_step j (turns_of m n j i))
+      (record {
+        next = λ no. again;
+        on_break = λ so. same.next (not_false (body.breaks || step.breaks) (or_right body.breaks step.breaks so));
+        on_continue = again;
+        on_return = same.on_return;
+      }) in
       g.ignores (after_body k (n (after_step k (turns_of m n k i)))) (after_body j (n (after_step j (turns_of m n j i))))
       (record {
         next = λ no. steps;

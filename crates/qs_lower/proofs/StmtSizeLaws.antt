@@ -1,13 +1,12 @@
 -- The same of statements and functions.
-use Rattle.std.proofs.Common.{◌≡◌, ℕ, ◌+◌, Bool, true, false, List, [], ◌∷◌, ◌++◌, length, map, Option, Some, None, refl, sym, ap, ◌∙◌, arith}
+use Rattle.std.proofs.Common.{◌≡◌, ℕ, ◌+◌, Bool, true, false, List, length, Option, Some, None, refl, ◌∙◌, arith}
 use Rattle.std.specs.Prelude.{◌&&◌, if◌then◌else◌}
 use Rattle.qs_memory.specs.declared.scalar.Scalar.{Scalar}
 use Rattle.qs_core.specs.Trees as core
 use Rattle.qs_core.specs.Trees.{CoreExprTree, CoreStmtTree, CoreStmts, no_stmts, stmt_and}
-use Rattle.qs_tac.specs.Trees.{InstructionTree, copy, fill, call, jump, return}
-use Rattle.qs_lower.specs.Exits.{Exit, falls, goes, is_fall, exit_size, exit_code}
-use Rattle.qs_lower.specs.Expressions.{ExprCode, size_of, code_of, operand_of, address_at, lowered, all_operands}
-use Rattle.qs_lower.specs.Statements.{Exits, Falls, falls_of, next_falls, none_falls, body_falls, Way, to_next, to_break, to_continue, exit_to, falls_to, Part, Tested, StmtCode, going, joined, redirected, straight, by_way, target_of, of_assign, of_store, of_copy, of_fill, of_call, taken_by, of_return, of_plain_return, tested_behind, of_joined, of_before, of_ways, of_both, branch_part, test_of, is_next, of_test, of_branch, test_last, body_first, body_alone, plain_loop, loop_part, of_loop, stmt_code, stmts_code}
+use Rattle.qs_tac.specs.Trees.{InstructionTree, jump}
+use Rattle.qs_lower.specs.Expressions.{ExprCode, size_of, lowered}
+use Rattle.qs_lower.specs.Statements.{Exits, falls_of, next_falls, none_falls, body_falls, Way, to_next, to_break, to_continue, Part, Tested, StmtCode, going, joined, redirected, straight, target_of, of_store, of_copy, tested_behind, of_joined, of_before, of_ways, branch_part, test_of, is_next, of_branch, test_last, body_first, body_alone, plain_loop, loop_part, stmt_code, stmts_code}
 use Rattle.qs_lower.proofs.SizeLaws.{both, one_more, cons, exit_length, Sized, code_length, sized, all_length}
 
 abbrev pub PartSized : Part → Type 0

@@ -1,22 +1,22 @@
 -- In a unit that fits all variables, temporaries and parameters are there.
-use Rattle.std.proofs.Common.{◌≡◌, ℕ, zero, suc, ◌+◌, ◌<◌, ◌==◌, ◌&&◌, Bool, true, false, List, [], ◌∷◌, length, map, Option, Some, None, refl, sym, ap, ◌∙◌, subst, arith}
+use Rattle.std.proofs.Common.{◌≡◌, ℕ, suc, ◌+◌, ◌<◌, Bool, true, false, List, [], ◌∷◌, length, map, Option, Some, None, refl, subst, arith}
 use Rattle.std.proofs.lemmas.Bool.Decides.{nat_tests}
-use Rattle.std.specs.List.{slice_get, list_all}
+use Rattle.std.specs.List.{slice_get}
 use Rattle.std.specs.Option.{option_map}
 use Rattle.std.proofs.lemmas.Option.{slice_get_within}
 use Rattle.qs_memory.specs.declared.scalar.Scalar.{Scalar}
-use Rattle.qs_calls.specs.Starts.{Signature, signature_of}
+use Rattle.qs_calls.specs.Starts.{Signature}
 use Rattle.qs_calls.specs.declared.parameter.Parameter.{Parameter}
 use Rattle.qs_calls.specs.declared.parameter.Parameter.TheVariants.{Plain, Placed}
 use Rattle.qs_core.specs.Trees as core
 use Rattle.qs_core.specs.Trees.{CoreExprTree, CoreStmtTree, CoreStmts, no_stmts, stmt_and, CoreParameterTree, CoreVariableTree, CoreFunctionTree, CoreUnitTree}
 use Rattle.qs_core.specs.declared.numbers.Target.{Target}
 use Rattle.qs_core.specs.declared.numbers.Target.TheVariants as targets
-use Rattle.qs_core.specs.Scalars.{is_type, is_pointer}
+use Rattle.qs_core.specs.Scalars.{is_type}
 use Rattle.qs_core.specs.Interfaces.{variable_type, temporary_type, target_type}
 use Rattle.qs_core.specs.Statements.{Context}
-use Rattle.qs_core.specs.Fits.{expr_fits, exprs_fit, pointer_fits, call_fits, destination_fits, stmt_fits, stmts_fit, place_fits, parameter_fits, parameters_fit, function_fits, unit_fits}
-use Rattle.qs_core.proofs.FitLaws.{both, type_is, all_at, function_parts, unit_parts}
+use Rattle.qs_core.specs.Fits.{expr_fits, exprs_fit, pointer_fits, call_fits, destination_fits, stmt_fits, stmts_fit, place_fits, parameter_fits, parameters_fit}
+use Rattle.qs_core.proofs.FitLaws.{both, type_is}
 use Rattle.qs_tac.specs.Trees.{InstructionTree, TacUnitTree}
 use Rattle.qs_lower.proofs.Real.{Stack, CallsReal, IsCode}
 use Rattle.qs_lower.proofs.ExprReal as expr

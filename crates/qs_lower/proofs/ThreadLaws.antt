@@ -1,13 +1,13 @@
 -- A unit whose jumps are threaded does what it did: what a run comes to within some steps the other comes to
 -- within as many, and back within as many times the longest code.
-use Rattle.std.proofs.Common.{◌≡◌, ℕ, zero, suc, ◌+◌, ◌-◌, ◌*◌, ◌<◌, ◌≤◌, ◌⊎◌, inl, inr, Bool, true, false, if◌then◌else◌, List, [], ◌∷◌, length, map, max, Option, Some, None, unwrap_or, refl, sym, ap, ◌∙◌, subst, arith}
+use Rattle.std.proofs.Common.{◌≡◌, ℕ, zero, suc, ◌+◌, ◌≤◌, ◌⊎◌, inl, inr, Bool, true, false, if◌then◌else◌, List, [], ◌∷◌, length, max, Option, Some, None, unwrap_or, refl, sym, ap, ◌∙◌, subst, arith}
 use Rattle.std.specs.List.{slice_get}
 use Rattle.std.specs.Option.{option_map}
 use Rattle.std.proofs.lemmas.Option.{slice_get-map}
 use Rattle.qs_memory.specs.Partial.{◌>>=◌}
 use Rattle.qs_memory.specs.Values.{Value}
-use Rattle.qs_events.specs.Runs.{short, given, Within}
-use Rattle.qs_events.proofs.RunLaws.{within_same, within_next}
+use Rattle.qs_events.specs.Runs.{Within}
+use Rattle.qs_events.proofs.RunLaws.{within_next}
 use Rattle.qs_calls.specs.World.{World, RootRun, leaves}
 use Rattle.qs_calls.proofs.RelationLaws.{given_related, within_keeps}
 use Rattle.qs_tac.specs.Trees.{InstructionTree, move, unary, binary, convert, address_of, load, store}
@@ -15,10 +15,10 @@ use Rattle.qs_tac.specs.Trees.{copy, fill, call, jump, branch, return, TacFuncti
 use Rattle.qs_tac.specs.declared.operands.Condition.{Condition}
 use Rattle.qs_tac.specs.Holders.{Holder}
 use Rattle.qs_tac.specs.Values.{Activation, holds}
-use Rattle.qs_tac.specs.Steps.{Waiting, Next, going_to, frame_of, step, instruction_at, steps}
+use Rattle.qs_tac.specs.Steps.{Waiting, going_to, frame_of, step, instruction_at, steps}
 use Rattle.qs_tac.specs.Units.{run}
 use Rattle.qs_tac.proofs.RelationLaws.{FramesSame, enters_related, step_related, leaves_within, steps_grow}
-use Rattle.qs_lower.specs.Threads.{leads_to, onward_from, follow, retargeted, threaded, threaded_function, threaded_unit}
+use Rattle.qs_lower.specs.Threads.{leads_to, follow, retargeted, threaded, threaded_function, threaded_unit}
 
 -- ---- within a list of instructions
 
@@ -305,6 +305,7 @@ not_longer (g ∷ fs) (suc f) = let there = not_longer fs f in omega (arith, the
 pub threaded_back :
     {S : Type 0} (h : Holder S) (u : TacUnitTree) (root : ℕ) (arguments : List Value) (w : World) (m : ℕ)
     → (n : ℕ) × Within (run h (threaded_unit u) root arguments w m) (run h u root arguments w n)
-threaded_back h u root arguments w m =
-    (suc (steps_for h u (longest u.functions) (not_longer u.functions) m),
-    run_back h u (longest u.functions) (not_longer u.functions) root arguments w m)
+threaded_back h u root arguments w m = (
+  suc (steps_for h u (longest u.functions) (not_longer u.functions) m),
+  run_back h u (longest u.functions) (not_longer u.functions) root arguments w m,
+)

@@ -1,38 +1,25 @@
 -- The linear code of a unit makes the runs of its core, each in at least as many steps as core's bound.
-use Rattle.std.proofs.Common.{◌≡◌, ℕ, zero, suc, ◌+◌, ◌-◌, ◌<◌, ◌≤◌, ◌⊎◌, inl, inr, ◌==◌, Bool, true, false, not, if◌then◌else◌, List, [], ◌∷◌, ◌++◌, length, map, Option, Some, None, refl, sym, ap, ◌∙◌, subst, arith}
-use Rattle.std.proofs.lemmas.Bool.Decides.{nat_tests}
+use Rattle.std.proofs.Common.{◌≡◌, ℕ, zero, suc, ◌+◌, ◌-◌, ◌≤◌, Bool, true, false, List, [], ◌∷◌, ◌++◌, length, Option, Some, None, refl, sym, ap, ◌∙◌, subst, arith}
 use Rattle.std.specs.List.{slice_get}
-use Rattle.std.specs.Option.{option_map}
-use Rattle.std.proofs.lemmas.Option.{slice_get-map}
-use Rattle.qs_memory.specs.Partial.{◌>>=◌}
-use Rattle.qs_memory.specs.Values.{into, Value}
-use Rattle.qs_memory.specs.Memory.{Memory, store, make, release}
-use Rattle.qs_memory.specs.declared.scalar.Scalar.{Scalar}
-use Rattle.qs_events.specs.Events.{Calls, Returns}
-use Rattle.qs_events.specs.Runs.{undefined, short, emit, given}
-use Rattle.qs_calls.specs.World.{World, with_memory, RootRun, Return, leaves, Environment, no_values, with_value}
-use Rattle.qs_calls.specs.Calls.{Entered, pass, Frame}
-use Rattle.qs_calls.specs.declared.parameter.Parameter.{Parameter}
-use Rattle.qs_calls.specs.declared.parameter.Parameter.TheVariants.{Plain, Placed}
+use Rattle.qs_memory.specs.Values.{Value}
+use Rattle.qs_calls.specs.World.{World, Return}
 use Rattle.qs_core.specs.Trees as core
 use Rattle.qs_core.specs.Trees.{CoreExprTree, CoreStmtTree, CoreStmts, no_stmts, stmt_and, CoreFunctionTree, CoreUnitTree}
 use Rattle.qs_core.specs.declared.numbers.Target.{Target}
 use Rattle.qs_core.specs.Expressions.{Locals, value}
 use Rattle.qs_core.specs.Statements.{Continuation, Continuations, Context, runs, runs_all}
-use Rattle.qs_core.specs.Units.{nowhere, after_function, body_of, calls_within, core_run}
-use Rattle.qs_core.specs.Units as units
+use Rattle.qs_core.specs.Units.{nowhere, after_function}
 use Rattle.qs_core.proofs.RelationLaws as laws
-use Rattle.qs_tac.specs.Trees.{InstructionTree, return, TacFunctionTree, TacUnitTree}
+use Rattle.qs_tac.specs.Trees.{InstructionTree, return, TacUnitTree}
 use Rattle.qs_tac.specs.Holders.{temporaries}
-use Rattle.qs_tac.specs.Steps.{frame_of, begins, enters, ends, resume, step, instruction_at, steps}
-use Rattle.qs_tac.specs.Units.{tac_run}
+use Rattle.qs_tac.specs.Steps.{ends, step, steps}
 use Rattle.qs_lower.specs.Exits.{falls, goes}
 use Rattle.qs_lower.specs.Expressions.{lowered}
 use Rattle.qs_lower.specs.Statements.{Exits, Part, StmtCode, next_falls, target_of, taken_by, to_next, to_break, to_continue, by_way, of_both, stmt_code, stmts_code}
 use Rattle.qs_lower.specs.Statements as lower
-use Rattle.qs_lower.specs.Units.{free_from, body_code, end_code, function_code, straight_function, straight_unit}
+use Rattle.qs_lower.specs.Units.{free_from, body_code, end_code, function_code}
 use Rattle.qs_lower.proofs.StmtSizeLaws.{StmtSized, stmt_sized, stmts_sized}
-use Rattle.qs_lower.proofs.Real.{Act, Stack, HasAt, has_left, has_right, Real, real_less, real_fault, Resumes, CallsReal, entering, moment, IsCode, Agree, free}
+use Rattle.qs_lower.proofs.Real.{Stack, HasAt, real_fault, CallsReal, moment, IsCode, free}
 use Rattle.qs_lower.proofs.ValueReal as value_real
 use Rattle.qs_lower.proofs.ExprReal as expr
 use Rattle.qs_lower.proofs.PlainReal as plain
@@ -167,7 +154,6 @@ module _ (u : TacUnitTree) (f : CoreFunctionTree) (code : List InstructionTree) 
           stmt.both_good u f code function stack is_code c first depth calls_real (runs s c) (runs_all (stmt_and r ss) c) (stmt_code v t s) (stmts_code v t (stmt_and r ss))
           (stmt_good s h.0) (stmts_good (stmt_and r ss) h.1)
 
-
   -- ---- behind the body of a function
 
   nowhere_ready : (d at : ℕ) → slice_get code at ≡ None → plain.IsReady u f code function stack is_code c first depth calls_real nowhere d at
@@ -205,10 +191,11 @@ length_one (j ∷ pre) i = let h = length_one pre i in omega (arith, h)
 
 stands_in : (xs ys pre : List InstructionTree) → HasAt (pre ++ (xs ++ ys)) (length pre) xs
 stands_in [] ys pre = tt
-stands_in (i ∷ xs) ys pre =
-    (at_seam pre i (xs ++ ys),
-    subst (λ (n : ℕ). HasAt (pre ++ i ∷ (xs ++ ys)) n xs) (length_one pre i)
-    (subst (λ (l : List InstructionTree). HasAt l (length (pre ++ i ∷ [])) xs) (append_one pre i (xs ++ ys)) (stands_in xs ys (pre ++ i ∷ []))))
+stands_in (i ∷ xs) ys pre = (
+  at_seam pre i (xs ++ ys),
+  subst (λ (n : ℕ). HasAt (pre ++ i ∷ (xs ++ ys)) n xs) (length_one pre i)
+      (subst (λ (l : List InstructionTree). HasAt l (length (pre ++ i ∷ [])) xs) (append_one pre i (xs ++ ys)) (stands_in xs ys (pre ++ i ∷ []))),
+)
 
 behind_all : (xs ys : List InstructionTree) (n k : ℕ) → length xs ≡ n → slice_get (xs ++ ys) (n + k) ≡ slice_get ys k
 behind_all [] ys n k h = let same : n + k ≡ k = omega (arith, h) in ap (slice_get ys) same
@@ -249,41 +236,48 @@ module _ (u : TacUnitTree) (f : CoreFunctionTree) (function : ℕ) (stack : Stac
     where
       plus_zero : (n : ℕ) → n ≡ n + 0
       plus_zero n = omega arith
+
       clash : (b : Bool) → b ≡ true → b ≡ false → ⊥
       clash b h k = cc
+
       good : stmt.Good u f (function_code f) function stack is_code c first depth calls_real (runs_all f.body c) (body_code f)
       good = stmts_good u f (function_code f) function stack is_code c first depth calls_real calls_alike f.body there
+
       lines : HasAt (function_code f) 0 body_lines
       lines = stands_in body_lines (end_code (body_code f).ends) []
+
       nothing : (i : ℕ) → Ready nowhere i (end_of + 1)
       nothing i = nowhere_ready u f (function_code f) function stack is_code c first depth calls_real i (end_of + 1) (past (body_code f).ends)
+
       by_end : (e : Bool) → (body_code f).ends ≡ e → Ready (runs_all f.body c (after_function k)) d 0
       by_end false ends =
           let has : slice_get (function_code f) end_of ≡ Some (return None) =
-                  ap (λ b. slice_get (body_lines ++ end_code b) end_of) ends
-                  ∙ ap (slice_get (body_lines ++ return None ∷ [])) (plus_zero end_of) ∙ behind_all body_lines (return None ∷ []) end_of 0 body_length in
+          ap (λ b. slice_get (body_lines ++ end_code b) end_of) ends
+          ∙ ap (slice_get (body_lines ++ return None ∷ [])) (plus_zero end_of) ∙ behind_all body_lines (return None ∷ []) end_of 0 body_length in
           let ended : (i : ℕ) → i ≤ d → Ready (λ l w. k None w) i end_of =
-                  λ i less. end_ready u f (function_code f) function stack is_code c first depth calls_real i end_of k has
-                  (λ result w. let r = returns result w in (r.0, omega (arith, less, r.1), r.2)) in
+          λ i less. end_ready u f (function_code f) function stack is_code c first depth calls_real i end_of k has
+          (λ result w. let r = returns result w in (r.0, omega (arith, less, r.1), r.2)) in
           good.part.stands d 0 (exits_of end_of) (after_function k) le lines
           (record { next = (at_zero _ d (ended d (omega arith)), ended (d - 1) (omega arith)); on_break = nothing (d - 1); on_continue = nothing (d - 1); on_return = returns })
       by_end true ends =
           let has : slice_get (function_code f) end_of ≡ None =
-                  ap (λ b. slice_get (body_lines ++ end_code b) end_of) ends
-                  ∙ ap (slice_get (body_lines ++ [])) (plus_zero end_of) ∙ behind_all body_lines [] end_of 0 body_length in
+          ap (λ b. slice_get (body_lines ++ end_code b) end_of) ends
+          ∙ ap (slice_get (body_lines ++ [])) (plus_zero end_of) ∙ behind_all body_lines [] end_of 0 body_length in
           let other : Continuations = record (after_function k) { next = nowhere } in
           let same = good.ignores other (after_function k)
-                  (record {
-                    next = λ no. absurd (clash (body_code f).ends ends no);
-                    on_break = λ so l w. refl;
-                    on_continue = λ l w. refl;
-                    on_return = λ result w. refl;
-                  }) in
+          (record {
+            next = λ no. absurd (clash (body_code f).ends ends no);
+            on_break = λ so l w. refl;
+            on_continue = λ l w. refl;
+            on_return = λ result w. refl;
+          }) in
           flow.ready_alike u f (function_code f) function stack is_code c first depth calls_real (runs_all f.body c other) (runs_all f.body c (after_function k)) d 0 same
           (good.part.stands d 0 (exits_of end_of) other le lines
           (record {
-            next = (at_zero nowhere d (nowhere_ready u f (function_code f) function stack is_code c first depth calls_real d end_of has),
-                nowhere_ready u f (function_code f) function stack is_code c first depth calls_real (d - 1) end_of has);
+            next = (
+              at_zero nowhere d (nowhere_ready u f (function_code f) function stack is_code c first depth calls_real d end_of has),
+              nowhere_ready u f (function_code f) function stack is_code c first depth calls_real (d - 1) end_of has,
+            );
             on_break = nothing (d - 1);
             on_continue = nothing (d - 1);
             on_return = returns;

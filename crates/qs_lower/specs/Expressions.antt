@@ -1,6 +1,6 @@
 -- The code of expressions. Each expression has code in three forms: for its value, for the address that it is,
 -- and for the test of a condition that it is.
-use Rattle.std.specs.Prelude.{ℕ, ◌+◌, ◌==◌, not, max, Bool, true, false, if◌then◌else◌, List, [], ◌∷◌, ◌++◌, map, Option, Some, None, unwrap_or}
+use Rattle.std.specs.Prelude.{ℕ, ◌+◌, max, Bool, true, false, if◌then◌else◌, List, [], ◌∷◌, ◌++◌, Option, Some, None, unwrap_or}
 use Rattle.qs_memory.specs.Partial.{◌>>=◌}
 use Rattle.qs_memory.specs.declared.scalar.Scalar.{Scalar}
 use Rattle.qs_memory.specs.declared.operation.UnaryOperation.{UnaryOperation}

@@ -1,0 +1,19 @@
+pub mod ThreadLaws
+pub mod SizeLaws
+pub mod StmtSizeLaws
+pub mod Real
+pub mod OperandLaws
+pub mod AddressLaws
+pub mod ValueReal
+pub mod AddressReal
+pub mod OperandReal
+pub mod ExprReal
+pub mod PlainReal
+pub mod FlowReal
+pub mod StmtReal
+pub mod CallReal
+pub mod UnitReal
+pub mod Follow
+pub mod There
+pub mod LoweringLaws
+mod LowerExamples

@@ -1,0 +1,25 @@
+-- What is promised of lowering.
+use Rattle.std.specs.Prelude.{◌≡◌, ℕ, true, List}
+use Rattle.qs_memory.specs.Values.{Value}
+use Rattle.qs_events.specs.Runs.{Within}
+use Rattle.qs_calls.specs.World.{World}
+use Rattle.qs_core.specs.Trees.{CoreUnitTree}
+use Rattle.qs_core.specs.Units.{core_run}
+use Rattle.qs_core.specs.Fits.{unit_fits}
+use Rattle.qs_tac.specs.Trees.{TacUnitTree}
+use Rattle.qs_tac.specs.Units.{tac_run}
+use Rattle.qs_lower.specs.Units.{lower_unit}
+
+-- The runs of linear code follow those of core, from every root function, with every arguments, memory and input.
+-- What has ended, with its result, memory and input, and what is undefined is the same within some bound of the
+-- other, its events are the same, and those of what is cut off by its bound go on.
+pub record Follows (u : CoreUnitTree) (t : TacUnitTree) : Type 0 where
+  pub forth :
+      (root : ℕ) (arguments : List Value) (w : World) (n : ℕ)
+      → (m : ℕ) × Within (core_run u root arguments w n) (tac_run t root arguments w m)
+  pub back :
+      (root : ℕ) (arguments : List Value) (w : World) (m : ℕ)
+      → (n : ℕ) × Within (tac_run t root arguments w m) (core_run u root arguments w n)
+
+abbrev pub LoweringFollows : Type 0
+LoweringFollows = (u : CoreUnitTree) → unit_fits u ≡ true → Follows u (lower_unit u)

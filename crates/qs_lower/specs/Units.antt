@@ -1,0 +1,47 @@
+-- The linear code of a unit of core.
+use Rattle.std.specs.Prelude.{ℕ, ◌+◌, Bool, true, false, List, [], ◌∷◌, ◌++◌, length, map, None}
+use Rattle.qs_core.specs.Trees.{CoreFunctionTree, DataBlockTree, CoreUnitTree}
+use Rattle.qs_core.specs.Units.{data_block}
+use Rattle.qs_tac.specs.Trees.{InstructionTree, return, TacFunctionTree, TacUnitTree}
+use Rattle.qs_tac.specs.declared.units.TacData.{TacData}
+use Rattle.qs_lower.specs.Exits.{falls, goes}
+use Rattle.qs_lower.specs.Statements.{next_falls, StmtCode, stmts_code}
+use Rattle.qs_lower.specs.Threads.{threaded_unit}
+
+-- the first temporary that is neither a variable nor a temporary of core
+abbrev pub free_from : CoreFunctionTree → ℕ
+free_from f = length f.variables + length f.temporaries
+
+abbrev pub body_code : CoreFunctionTree → StmtCode
+body_code f = stmts_code (length f.variables) (free_from f) f.body
+
+-- 6.9.1p12: a body that ends returns no value
+abbrev pub end_code : (ends : Bool) → List InstructionTree
+end_code true = []
+end_code false = return None ∷ []
+
+-- no break and no continue stands outside every loop
+abbrev pub function_code : CoreFunctionTree → List InstructionTree
+function_code f =
+    let b = body_code f in
+    let end = b.part.size next_falls in
+    b.part.code (record { next = falls end; on_break = goes (end + 1); on_continue = goes (end + 1) }) 0 ++ end_code b.ends
+
+-- before its jumps are threaded
+abbrev pub straight_function : CoreFunctionTree → TacFunctionTree
+straight_function f = record {
+  parameters = map (λ p. p.place) f.parameters;
+  temporaries = free_from f + (body_code f).used;
+  blocks = f.blocks;
+  code = function_code f;
+}
+
+abbrev pub lower_data : DataBlockTree → TacData
+lower_data d = record { size = (data_block d).size; is_writable = d.is_writable }
+
+abbrev pub straight_unit : CoreUnitTree → TacUnitTree
+straight_unit u =
+    record { functions = map straight_function u.functions; main = u.main; data_blocks = map lower_data u.data_blocks }
+
+abbrev pub lower_unit : CoreUnitTree → TacUnitTree
+lower_unit u = threaded_unit (straight_unit u)

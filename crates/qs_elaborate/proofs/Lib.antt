@@ -38,3 +38,14 @@ mod UnitExamples
 mod NumberingExamples
 mod WriteExamples
 mod FitReads
+mod Unchanged
+mod Behind
+mod TurnLaws
+mod Steps
+mod PieceRuns
+mod Settled
+mod NamesByNode
+mod UnitNames
+mod UnitCores
+mod Variants
+mod ExpressionSteps

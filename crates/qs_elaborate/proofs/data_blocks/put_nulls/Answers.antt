@@ -1,0 +1,8 @@
+use Rattle.std.proofs.Common.{◌≡◌, arith}
+use Rattle.qs_elaborate.proofs.PieceRuns.{nulls_more}
+use Rattle.qs_elaborate.proofs.data_blocks.put_nulls.Goals as goal
+
+pub returns-clause-pieces : goal.returns-clause-pieces
+returns-clause-pieces c ps =
+    rw (c.in_ok-nulls.ensures, c.in_ok-end_bytes.ensures.pieces, c.in_ok-end_bytes.ensures.bytes)
+    (nulls_more _ c.args.bytes.now.items c.args.nulls.now c.args.more ps c.requires (omega arith))

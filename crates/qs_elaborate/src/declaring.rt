@@ -1,0 +1,122 @@
+// What a function declares, in the order of the text: parameters and variables.
+ghost use Rattle.std.specs.Prelude.{◌≡◌, [], ◌∷◌, ◌++◌, IfOk, OnOk, map};
+ghost use Rattle.qs_syntax.specs.TreeOf.{variable_tree, parameter_tree, start_tree, stmt_tree, stmts_tree, else_tree, function_tree};
+ghost use Rattle.qs_elaborate.specs.DeclaredOf.{declared_of};
+ghost use Rattle.qs_elaborate.specs.Names as spec;
+
+use crate::names::Declared;
+use qs_base::{Name, NoMemory};
+use qs_syntax::{Function, Parameter, Start, Stmt, Variable};
+use std::alloc::Global;
+
+fn put_variable(alloc: Global, out: &mut Vec<Declared>, v: &Variable) -> Result<(), NoMemory>
+    ensures { OnOk result (map declared_of out.new.items ≡ map declared_of out.old.items ++ spec.declared_variable (variable_tree v.now) ∷ []) }
+{
+    let node = v.declarator.node.id;
+    let name = v.declarator.name.copy(alloc)?;
+    out.push(Declared { node, name })?;
+    Ok(())
+}
+
+fn put_variables(alloc: Global, out: &mut Vec<Declared>, vs: &[Variable]) -> Result<(), NoMemory>
+    ensures { OnOk result (map declared_of out.new.items ≡ map declared_of out.old.items ++ map spec.declared_variable (map variable_tree vs.now)) }
+{
+    for v in vs {
+        put_variable(alloc, out, v)?;
+    }
+    Ok(())
+}
+
+/// The name of a parameter; those of a body have one (C11 6.9.1p5).
+pub fn parameter_name(alloc: Global, name: &Option<Name>) -> Result<Name, NoMemory>
+    ensures { IfOk result (λ n. n ≡ spec.parameter_name name.now) }
+{
+    match name {
+        None => Name::new(alloc, b""),
+        Some(name) => name.copy(alloc),
+    }
+}
+
+fn put_parameters(alloc: Global, out: &mut Vec<Declared>, ps: &[Parameter]) -> Result<(), NoMemory>
+    ensures { OnOk result (map declared_of out.new.items ≡ map declared_of out.old.items ++ map spec.declared_parameter (map parameter_tree ps.now)) }
+{
+    for p in ps {
+        let node = p.node.id;
+        let name = parameter_name(alloc, &p.name)?;
+        out.push(Declared { node, name })?;
+    }
+    Ok(())
+}
+
+fn put_start(alloc: Global, out: &mut Vec<Declared>, s: &Start) -> Result<(), NoMemory>
+    ensures { OnOk result (map declared_of out.new.items ≡ map declared_of out.old.items ++ spec.start_declares (start_tree s.now)) }
+{
+    match s {
+        Start::Nothing => Ok(()),
+        Start::Expression(_) => Ok(()),
+        Start::Declaration(d) => put_variables(alloc, out, &d.variables),
+    }
+}
+
+#[cycle(put_statement)]
+fn put_statement(s: &Stmt, alloc: Global, out: &mut Vec<Declared>) -> Result<(), NoMemory>
+    ensures { OnOk result (map declared_of out.new.items ≡ map declared_of out.old.items ++ spec.statement_declares (stmt_tree s.now)) }
+{
+    match s {
+        Stmt::Empty(_) => Ok(()),
+        Stmt::Expression(_, _) => Ok(()),
+        Stmt::Declaration(d) => put_variables(alloc, out, &d.variables),
+        Stmt::Block(ss) => put_statements(ss, alloc, out),
+        Stmt::If {
+            then,
+            otherwise,
+            ..
+        } => {
+            put_statement(then, alloc, out)?;
+            put_else(otherwise, alloc, out)
+        }
+        Stmt::While { body, .. } => put_statement(body, alloc, out),
+        Stmt::Do { body, .. } => put_statement(body, alloc, out),
+        Stmt::For { start, body, .. } => {
+            put_start(alloc, out, start)?;
+            put_statement(body, alloc, out)
+        }
+        Stmt::Break(_) => Ok(()),
+        Stmt::Continue(_) => Ok(()),
+        Stmt::Return(_, _) => Ok(()),
+    }
+}
+
+#[cycle(put_statement)]
+fn put_else(s: &Option<Box<Stmt>>, alloc: Global, out: &mut Vec<Declared>) -> Result<(), NoMemory>
+    ensures { OnOk result (map declared_of out.new.items ≡ map declared_of out.old.items ++ spec.else_declares (else_tree s.now)) }
+{
+    match s {
+        None => Ok(()),
+        Some(s) => put_statement(s, alloc, out),
+    }
+}
+
+#[cycle(put_statement)]
+fn put_statements(ss: &[Stmt], alloc: Global, out: &mut Vec<Declared>) -> Result<(), NoMemory>
+    ensures { OnOk result (map declared_of out.new.items ≡ map declared_of out.old.items ++ spec.statements_declare (stmts_tree ss.now)) }
+{
+    for s in ss {
+        put_statement(s, alloc, out)?;
+    }
+    Ok(())
+}
+
+/// What a function with this body declares.
+pub fn function_declares(
+    alloc: Global,
+    f: &Function,
+    body: &[Stmt],
+) -> Result<Vec<Declared>, NoMemory>
+    ensures { IfOk result (λ ds. map declared_of ds.items ≡ spec.function_declares (function_tree f.now) (stmts_tree body.now)) }
+{
+    let mut declared = Vec::new(alloc);
+    put_parameters(alloc, &mut declared, &f.parameters)?;
+    put_statements(body, alloc, &mut declared)?;
+    Ok(declared)
+}

@@ -1,0 +1,107 @@
+// Operations of core, with the conversions of their operands.
+ghost use Rattle.std.specs.Prelude.{◌≡◌, IfOk};
+ghost use Rattle.qs_memory.specs.Operations.{integer_type};
+ghost use Rattle.qs_core.specs.TreeOf.{core_expr};
+ghost use Rattle.qs_typed.specs.TreeOf.{conversion_tree, order_tree, object_tree};
+ghost use Rattle.qs_elaborate.specs.Expressions as spec;
+
+use crate::literals::converted;
+use crate::parts::{binary, unary};
+use qs_base::NoMemory;
+use qs_core::{BlockId, CoreExpr};
+use qs_memory::{BinaryOperation, Scalar, Signedness, UnaryOperation};
+use qs_typed::{Conversion, Object, Order};
+use std::alloc::Global;
+
+/// The block of an object.
+pub fn block_of(o: Object) -> BlockId
+    ensures { result ≡ spec.block_of (object_tree o) }
+{
+    match o {
+        Object::Local(k) => BlockId::Local(k),
+        Object::Static(k) => BlockId::Data(k),
+    }
+}
+
+fn in_their_order(
+    alloc: Global,
+    operation: BinaryOperation,
+    order: Order,
+    a: CoreExpr,
+    b: CoreExpr,
+) -> Result<CoreExpr, NoMemory>
+    ensures { IfOk result (λ c. core_expr c ≡ spec.in_their_order operation (order_tree order) (core_expr a) (core_expr b)) }
+{
+    match order {
+        Order::AsWritten => binary(alloc, operation, a, b),
+        Order::Exchanged => binary(alloc, operation, b, a),
+    }
+}
+
+/// An operation on two values, each converted before.
+pub fn operated(
+    alloc: Global,
+    operation: BinaryOperation,
+    order: Order,
+    left: Conversion,
+    right: Conversion,
+    a: CoreExpr,
+    b: CoreExpr,
+) -> Result<CoreExpr, NoMemory>
+    ensures { IfOk result (λ c. core_expr c ≡ spec.operation_core operation (order_tree order) (conversion_tree left) (conversion_tree right) (core_expr a) (core_expr b)) }
+{
+    let a = converted(alloc, left, a)?;
+    let b = converted(alloc, right, b)?;
+    in_their_order(alloc, operation, order, a, b)
+}
+
+/// What a compound assignment writes.
+pub fn updated(
+    alloc: Global,
+    operation: BinaryOperation,
+    left: Conversion,
+    right: Conversion,
+    back: Conversion,
+    a: CoreExpr,
+    b: CoreExpr,
+) -> Result<CoreExpr, NoMemory>
+    ensures { IfOk result (λ c. core_expr c ≡ spec.updated_core operation (conversion_tree left) (conversion_tree right) (conversion_tree back) (core_expr a) (core_expr b)) }
+{
+    let c = operated(alloc, operation, Order::AsWritten, left, right, a, b)?;
+    converted(alloc, back, c)
+}
+
+fn integer_type(s: Signedness) -> Scalar
+    ensures { result ≡ integer_type s }
+{
+    match s {
+        Signedness::Signed => Scalar::Int,
+        Signedness::Unsigned => Scalar::Unsigned,
+    }
+}
+
+fn amount_type(operation: BinaryOperation) -> Scalar
+    ensures { result ≡ spec.amount_type operation }
+{
+    match operation {
+        BinaryOperation::Arithmetic(_, s) => integer_type(s),
+        BinaryOperation::Compare(_, s) => integer_type(s),
+        BinaryOperation::Move(_, s, _) => integer_type(s),
+        BinaryOperation::Difference(_) => Scalar::Pointer,
+        BinaryOperation::ComparePointers(_) => Scalar::Pointer,
+    }
+}
+
+/// The amount of a step.
+pub fn step_amount(operation: BinaryOperation) -> CoreExpr
+    ensures { core_expr result ≡ spec.step_amount operation }
+{
+    CoreExpr::Literal(amount_type(operation), 1)
+}
+
+/// Whether a value differs from 0.
+pub fn truth(alloc: Global, a: CoreExpr) -> Result<CoreExpr, NoMemory>
+    ensures { IfOk result (λ b. core_expr b ≡ spec.truth_core (core_expr a)) }
+{
+    unary(alloc, UnaryOperation::Truth, a)
+}

@@ -1,0 +1,71 @@
+// An operand whose temporary is reserved until it is known whether a later operand acts.
+ghost use Rattle.std.specs.Prelude.{◌≡◌, IfOk, OnOk};
+ghost use Rattle.qs_core.specs.TreeOf.{core_expr, core_stmts};
+ghost use Rattle.qs_elaborate.specs.Literals.{is_literal};
+ghost use Rattle.qs_elaborate.specs.Reserved as spec;
+
+use crate::literals::is_literal;
+use crate::parts::{keep, new_temporary, push, temporary};
+use qs_base::NoMemory;
+use qs_core::{CoreExpr, CoreStmt, type_of};
+use qs_memory::Scalar;
+
+/// A temporary, and the statement that will give it a value.
+#[derive(Clone, Copy, PartialEq, Eq, Debug)]
+pub struct Reserved {
+    /// the place of the statement
+    pub place: usize,
+    /// the number of the temporary
+    pub temporary: u32,
+}
+
+/// Reserves a temporary for this value, unless it is a literal.
+pub fn reserve(
+    out: &mut Vec<CoreStmt>,
+    ts: &mut Vec<Scalar>,
+    v: &CoreExpr,
+) -> Result<Option<Reserved>, NoMemory>
+    ensures reserved { IfOk result (λ r. r ≡ spec.reservation (is_literal (core_expr v.now)) (core_stmts out.old.items) ts.old.items) }
+    ensures statements { OnOk result (core_stmts out.new.items ≡ spec.with_room (is_literal (core_expr v.now)) (core_stmts out.old.items)) }
+    ensures temporaries { OnOk result (ts.new.items ≡ spec.with_reserved (is_literal (core_expr v.now)) (core_expr v.now) ts.old.items) }
+{
+    if is_literal(v) {
+        return Ok(None);
+    }
+    let place = out.len();
+    let temporary = new_temporary(ts, type_of(v))?;
+    push(out, CoreStmt::Skip)?;
+    Ok(Some(Reserved { place, temporary }))
+}
+
+fn settle_at(out: &mut Vec<CoreStmt>, ts: &mut Vec<Scalar>, r: Reserved, v: CoreExpr) -> CoreExpr
+    ensures statements { core_stmts out.new.items ≡ (spec.settled_at r (core_expr v) (core_stmts out.old.items) ts.old.items).statements }
+    ensures value { core_expr result ≡ (spec.settled_at r (core_expr v) (core_stmts out.old.items) ts.old.items).value }
+    ensures temporaries { ts.new.items ≡ (spec.settled_at r (core_expr v) (core_stmts out.old.items) ts.old.items).temporaries }
+{
+    if out.len().saturating_sub(r.place) <= 1 {
+        out.truncate(r.place);
+        ts.truncate(r.temporary as usize);
+        return v;
+    }
+    let s = type_of(&v);
+    out[r.place] = keep(r.temporary, v);
+    temporary(s, r.temporary)
+}
+
+/// What was reserved is used where statements follow, and taken away where none does.
+pub fn settle(
+    out: &mut Vec<CoreStmt>,
+    ts: &mut Vec<Scalar>,
+    reserved: Option<Reserved>,
+    v: CoreExpr,
+) -> CoreExpr
+    ensures statements { core_stmts out.new.items ≡ (spec.settled reserved (core_expr v) (core_stmts out.old.items) ts.old.items).statements }
+    ensures value { core_expr result ≡ (spec.settled reserved (core_expr v) (core_stmts out.old.items) ts.old.items).value }
+    ensures temporaries { ts.new.items ≡ (spec.settled reserved (core_expr v) (core_stmts out.old.items) ts.old.items).temporaries }
+{
+    match reserved {
+        None => v,
+        Some(r) => settle_at(out, ts, r, v),
+    }
+}

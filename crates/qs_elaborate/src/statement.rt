@@ -1,0 +1,184 @@
+// Statements in core: lists of statements.
+ghost use Rattle.std.specs.Prelude.{◌≡◌, [], ◌∷◌, ◌++◌, IfOk, OnOk};
+ghost use Rattle.qs_core.specs.Trees as core;
+ghost use Rattle.qs_core.specs.TreeOf.{core_stmt, core_stmts};
+ghost use Rattle.qs_typed.specs.TreeOf.{expression_tree, effect_tree, option_expression, statement_tree, statements_tree};
+ghost use Rattle.qs_elaborate.specs.Parts as parts;
+ghost use Rattle.qs_elaborate.specs.Expressions.{expression_core, effect_core};
+ghost use Rattle.qs_elaborate.specs.Turns.{guarded_turn, turn};
+ghost use Rattle.qs_elaborate.specs.Statements as spec;
+
+use crate::expression::{effect, expression};
+use crate::literals::converted;
+use crate::parts::{one_statement, push, push_branch};
+use qs_base::NoMemory;
+use qs_core::CoreStmt;
+use qs_memory::Scalar;
+use qs_typed::{Effect, Expression, Statement};
+use std::alloc::Global;
+
+// ---- loops
+
+fn push_loop(
+    alloc: Global,
+    out: &mut Vec<CoreStmt>,
+    body: Vec<CoreStmt>,
+    step: Vec<CoreStmt>,
+) -> Result<(), NoMemory>
+    ensures { OnOk result (core_stmts out.new.items ≡ core_stmts out.old.items ++ spec.looped (core_stmts body.items) (core_stmts step.items) ∷ []) }
+{
+    let body = Box::new(alloc, one_statement(body))?;
+    let step = Box::new(alloc, one_statement(step))?;
+    push(out, CoreStmt::Loop(body, step))
+}
+
+// The step of a `do` loop: another turn where the condition holds.
+fn again(e: &Expression, alloc: Global, ts: &mut Vec<Scalar>) -> Result<Vec<CoreStmt>, NoMemory>
+    ensures statements { IfOk result (λ ss. core_stmts ss.items ≡ spec.tested (expression_core (expression_tree e.now) ts.old.items) core.skip core.break) }
+    ensures temporaries { OnOk result (ts.new.items ≡ (expression_core (expression_tree e.now) ts.old.items).temporaries) }
+{
+    let mut list = Vec::new(alloc);
+    let v = expression(e, alloc, &mut list, ts)?;
+    push_branch(alloc, &mut list, v, CoreStmt::Skip, CoreStmt::Break)?;
+    Ok(list)
+}
+
+// The step of a `for` loop.
+fn effect_list(a: &Effect, alloc: Global, ts: &mut Vec<Scalar>) -> Result<Vec<CoreStmt>, NoMemory>
+    ensures statements { IfOk result (λ ss. core_stmts ss.items ≡ (effect_core (effect_tree a.now) ts.old.items).statements) }
+    ensures temporaries { OnOk result (ts.new.items ≡ (effect_core (effect_tree a.now) ts.old.items).temporaries) }
+{
+    let mut list = Vec::new(alloc);
+    effect(a, alloc, &mut list, ts)?;
+    Ok(list)
+}
+
+// ---- statements
+
+/// A statement.
+#[cycle(statement)]
+pub fn statement(
+    s: &Statement,
+    alloc: Global,
+    out: &mut Vec<CoreStmt>,
+    ts: &mut Vec<Scalar>,
+) -> Result<(), NoMemory>
+    ensures statements { OnOk result (core_stmts out.new.items ≡ core_stmts out.old.items ++ (spec.statement_core (statement_tree s.now) ts.old.items).statements) }
+    ensures temporaries { OnOk result (ts.new.items ≡ (spec.statement_core (statement_tree s.now) ts.old.items).temporaries) }
+{
+    match s {
+        Statement::Evaluate(a) => effect(a, alloc, out, ts),
+        Statement::Block(ss) => statements(ss, alloc, out, ts),
+        Statement::Branch(e, a, b) => {
+            let v = expression(e, alloc, out, ts)?;
+            let met = one(a, alloc, ts)?;
+            let unmet = one(b, alloc, ts)?;
+            push_branch(alloc, out, v, met, unmet)?;
+            Ok(())
+        }
+        Statement::WhileLoop(e, a) => {
+            let body = guarded(a, alloc, ts, e)?;
+            push_loop(alloc, out, body, Vec::new(alloc))?;
+            Ok(())
+        }
+        Statement::DoLoop(a, e) => {
+            let body = list(a, alloc, ts)?;
+            let step = again(e, alloc, ts)?;
+            push_loop(alloc, out, body, step)?;
+            Ok(())
+        }
+        Statement::ForLoop {
+            start,
+            condition,
+            step,
+            body,
+        } => {
+            effect(start, alloc, out, ts)?;
+            let body = turn(body, alloc, ts, condition)?;
+            let step = effect_list(step, alloc, ts)?;
+            push_loop(alloc, out, body, step)?;
+            Ok(())
+        }
+        Statement::Break => push(out, CoreStmt::Break),
+        Statement::Continue => push(out, CoreStmt::Continue),
+        Statement::Return(c, e) => {
+            let v = expression(e, alloc, out, ts)?;
+            let v = converted(alloc, *c, v)?;
+            push(out, CoreStmt::Return(Some(v)))?;
+            Ok(())
+        }
+        Statement::ReturnNothing => push(out, CoreStmt::Return(None)),
+    }
+}
+
+// A statement as a list of its own.
+#[cycle(statement)]
+fn list(s: &Statement, alloc: Global, ts: &mut Vec<Scalar>) -> Result<Vec<CoreStmt>, NoMemory>
+    ensures statements { IfOk result (λ ss. core_stmts ss.items ≡ (spec.statement_core (statement_tree s.now) ts.old.items).statements) }
+    ensures temporaries { OnOk result (ts.new.items ≡ (spec.statement_core (statement_tree s.now) ts.old.items).temporaries) }
+{
+    let mut list = Vec::new(alloc);
+    statement(s, alloc, &mut list, ts)?;
+    Ok(list)
+}
+
+// A statement as one statement.
+#[cycle(statement)]
+fn one(s: &Statement, alloc: Global, ts: &mut Vec<Scalar>) -> Result<CoreStmt, NoMemory>
+    ensures statement { IfOk result (λ r. core_stmt r ≡ parts.one_statement (spec.statement_core (statement_tree s.now) ts.old.items).statements) }
+    ensures temporaries { OnOk result (ts.new.items ≡ (spec.statement_core (statement_tree s.now) ts.old.items).temporaries) }
+{
+    Ok(one_statement(list(s, alloc, ts)?))
+}
+
+// The body of a loop, while the condition holds.
+#[cycle(statement)]
+fn guarded(
+    s: &Statement,
+    alloc: Global,
+    ts: &mut Vec<Scalar>,
+    e: &Expression,
+) -> Result<Vec<CoreStmt>, NoMemory>
+    ensures statements { IfOk result (λ ss. core_stmts ss.items ≡ (guarded_turn (expression_tree e.now) (statement_tree s.now) ts.old.items).statements) }
+    ensures temporaries { OnOk result (ts.new.items ≡ (guarded_turn (expression_tree e.now) (statement_tree s.now) ts.old.items).temporaries) }
+{
+    let mut list = Vec::new(alloc);
+    let v = expression(e, alloc, &mut list, ts)?;
+    let body = one(s, alloc, ts)?;
+    push_branch(alloc, &mut list, v, body, CoreStmt::Break)?;
+    Ok(list)
+}
+
+// The body of a `for` loop, while its condition, if it has one, holds.
+#[cycle(statement)]
+fn turn(
+    s: &Statement,
+    alloc: Global,
+    ts: &mut Vec<Scalar>,
+    condition: &Option<Expression>,
+) -> Result<Vec<CoreStmt>, NoMemory>
+    ensures statements { IfOk result (λ ss. core_stmts ss.items ≡ (turn (option_expression condition.now) (statement_tree s.now) ts.old.items).statements) }
+    ensures temporaries { OnOk result (ts.new.items ≡ (turn (option_expression condition.now) (statement_tree s.now) ts.old.items).temporaries) }
+{
+    match condition {
+        None => list(s, alloc, ts),
+        Some(e) => guarded(s, alloc, ts, e),
+    }
+}
+
+/// The statements of a block.
+#[cycle(statement)]
+pub fn statements(
+    ss: &[Statement],
+    alloc: Global,
+    out: &mut Vec<CoreStmt>,
+    ts: &mut Vec<Scalar>,
+) -> Result<(), NoMemory>
+    ensures statements { OnOk result (core_stmts out.new.items ≡ core_stmts out.old.items ++ (spec.statements_core (statements_tree ss.now) ts.old.items).statements) }
+    ensures temporaries { OnOk result (ts.new.items ≡ (spec.statements_core (statements_tree ss.now) ts.old.items).temporaries) }
+{
+    for s in ss {
+        statement(s, alloc, out, ts)?;
+    }
+    Ok(())
+}

@@ -1,0 +1,78 @@
+// Units in core.
+ghost use Rattle.std.specs.Prelude.{◌≡◌, true, Some, IfOk, map};
+ghost use Rattle.qs_core.specs.Fits.{unit_fits};
+ghost use Rattle.qs_core.specs.UnitTrees.{unit_tree};
+ghost use Rattle.qs_syntax.specs.UnitTrees as source;
+ghost use Rattle.qs_typed.specs.TreeOf.{function_tree, program_tree};
+ghost use Rattle.qs_meaning.specs.Units.{typed_of};
+ghost use Rattle.qs_meaning.specs.Runs.{main_from};
+ghost use Rattle.qs_elaborate.specs.FitLaws.{HasCore};
+ghost use Rattle.qs_elaborate.specs.NamesOf.{names_of};
+ghost use Rattle.qs_elaborate.specs.UnitNames.{unit_variables};
+ghost use Rattle.qs_elaborate.specs.Units.{unit_core, core_of};
+
+use crate::data_blocks::data_blocks;
+use crate::function::functions;
+use crate::names::FunctionNames;
+use crate::unit_names::unit_names;
+use qs_base::{FnId, NoMemory};
+use qs_core::CoreUnit;
+use qs_syntax::Unit;
+use qs_typed::{TypedFunction, TypedProgram};
+use std::alloc::Global;
+
+// The place of main among the functions (C11 5.1.2.2).
+fn main_among(gs: &[TypedFunction]) -> Option<usize>
+    ensures { result ≡ main_from 0 (map function_tree gs.now) }
+{
+    for i in 0..gs.len() {
+        if gs[i].is_main {
+            return Some(i);
+        }
+    }
+    None
+}
+
+// The core of a typed tree, where it fits.
+fn core_unit(
+    alloc: Global,
+    names: &[FunctionNames],
+    program: &TypedProgram,
+    main: FnId,
+) -> Result<CoreUnit, NoMemory>
+    requires { unit_fits (unit_core (map names_of names.now) (program_tree program.now) main.0) ≡ true }
+    ensures { IfOk result (λ u. unit_tree u ≡ unit_core (map names_of names.now) (program_tree program.now) main.0) }
+{
+    let functions = functions(alloc, names, &program.functions)?;
+    let data_blocks = data_blocks(alloc, &program.blocks)?;
+    Ok(CoreUnit {
+        functions,
+        main,
+        data_blocks,
+    })
+}
+
+/// The core of a unit with this typed tree, where the variables of each function with a body stand at these
+/// nodes. Want of memory is the other answer.
+pub fn elaborated(
+    alloc: Global,
+    unit: &Unit,
+    program: &TypedProgram,
+    variables: &[Vec<u32>],
+) -> Result<CoreUnit, NoMemory>
+    requires has_core { HasCore (source.unit_tree unit.now) }
+    requires tree { typed_of (source.unit_tree unit.now) ≡ Some (program_tree program.now) }
+    requires variables { map (λ v. v.items) variables.now ≡ unit_variables (source.unit_tree unit.now) }
+    ensures { IfOk result (λ core. core_of (source.unit_tree unit.now) ≡ Some (unit_tree core)) }
+{
+    let names = unit_names(alloc, unit.declarations(), variables)?;
+    let main = match main_among(&program.functions) {
+        None => unreachable!(),
+        Some(i) => i,
+    };
+    if main > u32::MAX as usize {
+        return Err(NoMemory);
+    }
+    let unit = core_unit(alloc, &names, program, FnId(main as u32))?;
+    Ok(unit)
+}

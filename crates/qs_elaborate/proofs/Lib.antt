@@ -33,6 +33,7 @@ mod SizeExamples
 mod CountExamples
 mod FitRules
 mod FitMain
+mod FitReads
 mod FitCore
 mod UnitExamples
 mod NumberingExamples

@@ -38,7 +38,6 @@ mod FitCore
 mod UnitExamples
 mod NumberingExamples
 mod WriteExamples
-mod FitReads
 mod Unchanged
 mod Behind
 mod TurnLaws

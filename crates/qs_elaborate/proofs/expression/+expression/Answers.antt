@@ -1,4 +1,4 @@
-use Rattle.std.proofs.Common.{◌≡◌, ◌||◌, false, List, ◌++◌, take, sym, ap, ◌∙◌}
+use Rattle.std.proofs.Common.{◌≡◌, ◌||◌, false, List, ◌++◌, length, take, sym, ap, ◌∙◌}
 use Rattle.qs_core.specs.Trees as core
 use Rattle.qs_core.specs.Trees.{CoreStmtTree}
 use Rattle.qs_core.specs.TreeOf.{core_expr, core_stmts}
@@ -141,8 +141,8 @@ choice-returns-in_ok-w-2-clause-temporaries t c =
     let met : Valued = valued (core_stmts c.args.met.statements.items) (core_expr c.args.met.value) ts in
     let none : (has_any met.statements || acts b) ≡ false = ap (λ z. has_any met.statements || z) (sym c.in_ok-unmet.ensures.acted) ∙ sym c.one_acted-some_acted.ensures ∙ c.if-some_acted.false in
     c.truncate.ensures.items
-    ∙ ap (λ k. take k _) c.in_ok-k.ensures.number
-    ∙ ap (take _) (c.in_ok-unmet.ensures.temporaries ∙ ap (λ ts. (expression_core b ts).temporaries) c.in_ok-k.ensures.temporaries)
+    ∙ ap (λ k. take k c.branch-b.new.ts.items) c.in_ok-k.ensures.number
+    ∙ ap (take (length ts)) (c.in_ok-unmet.ensures.temporaries ∙ ap (λ ts. (expression_core b ts).temporaries) c.in_ok-k.ensures.temporaries)
     ∙ choice_quiet_temporaries s second third v met b none
 
 pub disjunction-returns-in_ok-w-2-clause-statements : goal.disjunction-returns-in_ok-w-2-clause-statements
@@ -170,8 +170,8 @@ disjunction-returns-in_ok-w-2-clause-temporaries t c =
     let ts = c.args.ts.now.items in
     let none : acts b ≡ false = sym c.in_ok-b.ensures.acted ∙ sym c.acted.ensures ∙ c.if-acted.false in
     c.truncate.ensures.items
-    ∙ ap (λ k. take k _) c.in_ok-k.ensures.number
-    ∙ ap (take _) (c.in_ok-b.ensures.temporaries ∙ ap (λ ts. (expression_core b ts).temporaries) c.in_ok-k.ensures.temporaries)
+    ∙ ap (λ k. take k c.branch-b.new.ts.items) c.in_ok-k.ensures.number
+    ∙ ap (take (length ts)) (c.in_ok-b.ensures.temporaries ∙ ap (λ ts. (expression_core b ts).temporaries) c.in_ok-k.ensures.temporaries)
     ∙ or_quiet_temporaries v b ts none
 
 pub expression-returns-in_ok-x-in-Binary-clause-statements : goal.expression-returns-in_ok-x-in-Binary-clause-statements

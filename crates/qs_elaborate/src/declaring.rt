@@ -37,13 +37,20 @@ pub fn parameter_name(alloc: Global, name: &Option<Name>) -> Result<Name, NoMemo
     }
 }
 
+fn put_parameter(alloc: Global, out: &mut Vec<Declared>, p: &Parameter) -> Result<(), NoMemory>
+    ensures { OnOk result (map declared_of out.new.items ≡ map declared_of out.old.items ++ spec.declared_parameter (parameter_tree p.now) ∷ []) }
+{
+    let node = p.node.id;
+    let name = parameter_name(alloc, &p.name)?;
+    out.push(Declared { node, name })?;
+    Ok(())
+}
+
 fn put_parameters(alloc: Global, out: &mut Vec<Declared>, ps: &[Parameter]) -> Result<(), NoMemory>
     ensures { OnOk result (map declared_of out.new.items ≡ map declared_of out.old.items ++ map spec.declared_parameter (map parameter_tree ps.now)) }
 {
     for p in ps {
-        let node = p.node.id;
-        let name = parameter_name(alloc, &p.name)?;
-        out.push(Declared { node, name })?;
+        put_parameter(alloc, out, p)?;
     }
     Ok(())
 }

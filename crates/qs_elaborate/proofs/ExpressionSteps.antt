@@ -1,5 +1,5 @@
 -- Expressions by the steps of the code.
-use Rattle.std.proofs.Common.{◌≡◌, ◌||◌, Bool, true, false, List, [], ◌∷◌, ◌++◌, sym, ap, ◌∙◌, append_assoc}
+use Rattle.std.proofs.Common.{◌≡◌, Bool, List, ◌++◌, ap, ◌∙◌, append_assoc}
 use Rattle.qs_memory.specs.declared.scalar.Scalar.{Scalar}
 use Rattle.qs_memory.specs.declared.operation.BinaryOperation.{BinaryOperation}
 use Rattle.qs_core.specs.Trees.{CoreExprTree, CoreStmtTree}
@@ -7,7 +7,7 @@ use Rattle.qs_meaning.specs.Typed.{Conversion, Expr, Lvalue, update}
 use Rattle.qs_elaborate.specs.Acting.{acts}
 use Rattle.qs_elaborate.specs.Lists.{valued}
 use Rattle.qs_elaborate.specs.Parts.{Temporaries, Valued, Location, Located, pure, saved_if, address_saved_if, value_at, value_read}
-use Rattle.qs_elaborate.specs.Expressions.{Written, updated_core, expression_core, lvalue_core, assignment_core}
+use Rattle.qs_elaborate.specs.Expressions.{updated_core, expression_core, lvalue_core, assignment_core}
 use Rattle.qs_elaborate.proofs.Behind.{saved_if_is, pushed_behind, value_behind, temporaries_behind}
 
 pub valued_is : (g : Valued) (ss : List CoreStmtTree) (a : CoreExprTree) (ts : Temporaries) → ss ≡ g.statements → a ≡ g.value → ts ≡ g.temporaries → valued ss a ts ≡ g

@@ -1,15 +1,15 @@
 -- Pieces by whole runs of bytes and of null pointers.
-use Rattle.std.proofs.Common.{◌≡◌, ℕ, zero, suc, ◌+◌, ◌<◌, ◌==◌, ◌||◌, true, false, length, List, [], ◌∷◌, ◌++◌, map, flat_map, refl, sym, ap, ◌∙◌, arith, append_assoc}
+use Rattle.std.proofs.Common.{◌≡◌, ℕ, zero, suc, ◌+◌, ◌<◌, ◌==◌, true, length, List, [], ◌∷◌, ◌++◌, map, refl, sym, ap, ◌∙◌, arith, append_assoc}
 use Rattle.std.proofs.lemmas.Bool.Decides.{nat_tests}
 use Rattle.std.proofs.lemmas.List.{append-nil, nil_from_length}
-use Rattle.qs_memory.specs.Values.{null, into}
+use Rattle.qs_memory.specs.Values.{null}
 use Rattle.qs_memory.specs.Memory.{Cell, byte, parts_of, times, zeros, nulls, repeated, nothing, joined}
 use Rattle.qs_core.specs.Trees.{PieceTree, blank, bytes, pointer}
 use Rattle.qs_typed.specs.declared.data.Datum.{Datum}
 use Rattle.qs_typed.specs.declared.data.Datum.TheVariants as data_parts
 use Rattle.qs_typed.specs.TreeOf.{datum_cells, contents_cells}
-use Rattle.qs_elaborate.specs.Data.{with_byte, with_null, with_null_before, pieces_behind}
-use Rattle.qs_elaborate.specs.Pieces.{with_bytes, with_nulls, with_datum, with_contents, bytes_piece, nulls_piece, with_run, is_empty, is_one_run}
+use Rattle.qs_elaborate.specs.Data.{with_byte, with_null, pieces_behind}
+use Rattle.qs_elaborate.specs.Pieces.{with_bytes, with_nulls, with_datum, with_contents, bytes_piece, nulls_piece, with_run, is_one_run}
 
 -- ---- a run in front of another kind
 

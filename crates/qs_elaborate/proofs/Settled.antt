@@ -10,7 +10,7 @@ use Rattle.qs_meaning.specs.Typed.{Expr}
 use Rattle.qs_elaborate.specs.Literals.{is_literal}
 use Rattle.qs_elaborate.specs.Acting.{acts}
 use Rattle.qs_elaborate.specs.Laws.{has_any}
-use Rattle.qs_elaborate.specs.Parts.{Temporaries, with_temporary, keep, Valued, in_temporary, saved, saved_if}
+use Rattle.qs_elaborate.specs.Parts.{Temporaries, with_temporary, keep, Valued, in_temporary, saved_if}
 use Rattle.qs_elaborate.specs.Lists.{valued}
 use Rattle.qs_elaborate.specs.Reserved.{with_room, with_reserved, reservation, settled_at, settled}
 use Rattle.qs_elaborate.specs.Expressions.{expression_core}

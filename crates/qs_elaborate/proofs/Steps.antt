@@ -1,9 +1,9 @@
 -- A step along two lists, of which the first may be the shorter one.
-use Rattle.std.proofs.Common.{◌≡◌, ℕ, ◌+◌, ◌<◌, List, [], ◌∷◌, length, get_or, drop, refl, sym, ap, ◌∙◌, arith}
+use Rattle.std.proofs.Common.{◌≡◌, ℕ, ◌+◌, ◌<◌, List, [], ◌∷◌, length, get_or, drop, refl, ap, ◌∙◌, arith}
 use Rattle.std.proofs.lemmas.List.{drop_more, drop-drop, get_or-drop}
 use Rattle.qs_memory.specs.declared.scalar.Scalar.{Scalar}
 use Rattle.qs_calls.specs.declared.parameter.Parameter.{Parameter}
-use Rattle.qs_core.specs.Trees.{CoreParameterTree, CoreVariableTree, CoreFunctionTree}
+use Rattle.qs_core.specs.Trees.{CoreParameterTree}
 use Rattle.qs_meaning.specs.Typed.{Function}
 use Rattle.qs_elaborate.specs.Names.{VariableName, FunctionNames}
 use Rattle.qs_elaborate.specs.NamesOf.{no_name, variable_named}

@@ -1,11 +1,11 @@
 -- An expression that doesn't act has no temporaries, and its value is the same behind any.
-use Rattle.std.proofs.Common.{◌≡◌, ◌||◌, not, Bool, true, false, refl, sym, ap, ◌∙◌, if◌then◌else◌, is_some}
+use Rattle.std.proofs.Common.{◌≡◌, ◌||◌, not, Bool, true, false, refl, ap, ◌∙◌, if◌then◌else◌, is_some}
 use Rattle.qs_core.specs.Trees.{CoreExprTree}
 use Rattle.qs_core.specs.Trees as core
 use Rattle.qs_meaning.specs.Typed.{Expr, constant, value, pointer_to, member, called, stepped_after, unary, cast, binary, logical_and, logical_or, conditional, assigned, sequence, Lvalue, variable, object, Effect, nothing, discard, assign, perform, copy, fill, in_order}
 use Rattle.qs_elaborate.specs.Literals.{is_literal, converted_core}
 use Rattle.qs_elaborate.specs.Acting.{acts, lvalue_acts, effect_acts, is_constant}
-use Rattle.qs_elaborate.specs.Parts.{Temporaries, Valued, Location, pointed, in_temporary, saved, saved_if, value_at}
+use Rattle.qs_elaborate.specs.Parts.{Temporaries, Valued, pointed, in_temporary, saved, saved_if, value_at}
 use Rattle.qs_elaborate.specs.Expressions.{operation_core, expression_core, lvalue_core, effect_core}
 use Rattle.qs_elaborate.proofs.Quiet.{constant_exactly}
 
@@ -139,8 +139,8 @@ mutual
       let o : acts c ≡ false = neither_right (acts b) (acts c) r in
       if_same (acts b || acts c) _ _ _ _ r
       (ap (λ x. core.conditional x
-          (converted_core second (expression_core b (expression_core a ts).temporaries).value)
-          (converted_core third (expression_core c (expression_core b (expression_core a ts).temporaries).temporaries).value))
+      (converted_core second (expression_core b (expression_core a ts).temporaries).value)
+      (converted_core third (expression_core c (expression_core b (expression_core a ts).temporaries).temporaries).value))
       (quiet_value a ts us p)
       ∙ both_same (λ x y. core.conditional (expression_core a us).value (converted_core second x) (converted_core third y))
       (expression_core b (expression_core a ts).temporaries).value

@@ -1,8 +1,7 @@
 -- The core of a unit from its typed tree and its main.
-use Rattle.std.proofs.Common.{◌≡◌, ℕ, true, Option, Some, None, refl, sym, ap, ◌∙◌, unwrap_or}
+use Rattle.std.proofs.Common.{◌≡◌, ℕ, true, Some, None, sym, ap, ◌∙◌, unwrap_or}
 use Rattle.qs_syntax.specs.Trees.{UnitTree}
 use Rattle.qs_memory.specs.Partial.{◌>>=◌}
-use Rattle.qs_core.specs.Trees.{CoreUnitTree}
 use Rattle.qs_core.specs.Fits.{unit_fits}
 use Rattle.qs_meaning.specs.Typed.{TypedProgram}
 use Rattle.qs_meaning.specs.Units.{typed_of}

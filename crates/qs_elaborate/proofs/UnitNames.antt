@@ -1,12 +1,11 @@
 -- The names by the nodes of variables are those of the unit.
 use Rattle.std.proofs.Common.{◌≡◌, ℕ, ◌+◌, ◌<◌, List, [], ◌∷◌, ◌++◌, Option, Some, None, length, drop, get_or, refl, sym, ap, ◌∙◌, arith, append_assoc}
 use Rattle.std.proofs.lemmas.List.{drop_more, drop-drop, get_or-drop, length-append}
-use Rattle.qs_syntax.specs.Trees.{Stmts, FunctionTree, DeclTree, structure, forward, function, variables, UnitTree}
+use Rattle.qs_syntax.specs.Trees.{Stmts, DeclTree, structure, forward, function, variables, UnitTree}
 use Rattle.qs_types.specs.Contexts.{Context, start_context}
 use Rattle.qs_types.specs.UnitRules.{after_declaration}
-use Rattle.qs_meaning.specs.Units.{function_locals}
 use Rattle.qs_elaborate.specs.Names.{FunctionNames, function_names, declaration_names, declarations_names, names_in}
-use Rattle.qs_elaborate.specs.UnitNames.{function_variables, declaration_variables, variables_from, unit_variables, names_with, function_named, declaration_named, declarations_named}
+use Rattle.qs_elaborate.specs.UnitNames.{function_variables, declaration_variables, variables_from, unit_variables, function_named, declaration_named, declarations_named}
 
 -- one declaration takes its list, if it has one, and leaves the others
 takes_its_own : (c : Context) (d : DeclTree) (ds : UnitTree) (rest : List (List ℕ))
@@ -18,7 +17,7 @@ takes_its_own c (function f) ds rest = by_body f.body
   where
     by_body : (body : Option Stmts)
         → function_named (get_or (function_variables c f body ++ rest) 0 []) f body
-          ++ declarations_named (drop (length (function_named (get_or (function_variables c f body ++ rest) 0 []) f body)) (function_variables c f body ++ rest)) ds
+        ++ declarations_named (drop (length (function_named (get_or (function_variables c f body ++ rest) 0 []) f body)) (function_variables c f body ++ rest)) ds
         ≡ function_names c f body ++ declarations_named rest ds
     by_body None = refl
     by_body (Some body) = refl
@@ -39,7 +38,7 @@ at_zero i = omega arith
 pub named_step : (before : List FunctionNames) (all : List (List ℕ)) (ds : UnitTree) (i : ℕ) (e : DeclTree) → i < length ds
     → before ++ declarations_named (drop (length before) all) (drop i ds)
     ≡ (before ++ declaration_named (get_or all (length before) []) (get_or ds i e))
-      ++ declarations_named (drop (length (before ++ declaration_named (get_or all (length before) []) (get_or ds i e))) all) (drop (i + 1) ds)
+    ++ declarations_named (drop (length (before ++ declaration_named (get_or all (length before) []) (get_or ds i e))) all) (drop (i + 1) ds)
 named_step before all ds i e h =
     let d : DeclTree = get_or ds i e in
     let j : ℕ = length before in
@@ -47,6 +46,6 @@ named_step before all ds i e h =
     let rest : UnitTree = drop (i + 1) ds in
     ap (λ l. before ++ declarations_named (drop j all) l) (drop_more ds i e h)
     ∙ ap (λ nodes. before ++ (declaration_named nodes d ++ declarations_named (drop (length (declaration_named nodes d)) (drop j all)) rest))
-        (get_or-drop j all 0 [] ∙ ap (λ k. get_or all k []) (at_zero j))
+    (get_or-drop j all 0 [] ∙ ap (λ k. get_or all k []) (at_zero j))
     ∙ ap (λ l. before ++ (now ++ declarations_named l rest)) (drop-drop (length now) j all ∙ ap (λ k. drop k all) (sym (length-append before now)))
     ∙ sym (append_assoc before now (declarations_named (drop (length (before ++ now)) all) rest))

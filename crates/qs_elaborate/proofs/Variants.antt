@@ -1,5 +1,5 @@
 -- The typed trees of the program's values, for the variants that are taken apart by hand.
-use Rattle.std.proofs.Common.{◌≡◌, ℕ, sym, ap, ◌∙◌}
+use Rattle.std.proofs.Common.{◌≡◌, sym, ap, ◌∙◌}
 use Rattle.std.specs.Prelude.{Box}
 use Rattle.std.specs.declared.alloc.Global.{Global}
 use Rattle.qs_memory.specs.declared.scalar.Scalar.{Scalar}

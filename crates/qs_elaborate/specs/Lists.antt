@@ -1,5 +1,5 @@
 -- Lists of statements in code, and what stands behind a first part that was pushed already.
-use Rattle.std.specs.Prelude.{ℕ, ◌||◌, List, [], ◌∷◌, ◌++◌, if◌then◌else◌}
+use Rattle.std.specs.Prelude.{◌||◌, List, [], ◌++◌, if◌then◌else◌}
 use Rattle.qs_memory.specs.declared.scalar.Scalar.{Scalar}
 use Rattle.qs_memory.specs.declared.scalar.Scalar.TheVariants as scalars
 use Rattle.qs_core.specs.Trees.{CoreExprTree, CoreStmtTree}

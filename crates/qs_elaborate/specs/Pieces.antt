@@ -1,5 +1,5 @@
 -- What blocks of data begin with, datum by datum.
-use Rattle.std.specs.Prelude.{ℕ, zero, suc, ◌==◌, ◌||◌, Bool, true, false, List, [], ◌∷◌, ◌++◌}
+use Rattle.std.specs.Prelude.{ℕ, zero, suc, ◌==◌, ◌||◌, Bool, true, false, List, [], ◌∷◌}
 use Rattle.qs_memory.specs.Memory.{nulls}
 use Rattle.qs_core.specs.Trees.{PieceTree, blank, bytes, pointer}
 use Rattle.qs_typed.specs.declared.data.Datum.{Datum}

@@ -1,8 +1,7 @@
 -- An operand whose temporary is reserved until it is known whether a later operand acts.
-use Rattle.std.specs.Prelude.{ℕ, ◌-◌, nat_le, Bool, true, false, List, [], ◌∷◌, ◌++◌, Option, Some, None, length, take, set, if◌then◌else◌}
+use Rattle.std.specs.Prelude.{◌-◌, nat_le, Bool, true, false, List, [], ◌∷◌, ◌++◌, Option, Some, None, length, take, set, if◌then◌else◌}
 use Rattle.qs_core.specs.Trees.{CoreExprTree, temporary, CoreStmtTree, skip}
 use Rattle.qs_core.specs.Expressions.{type_of}
-use Rattle.qs_elaborate.specs.Literals.{is_literal}
 use Rattle.qs_elaborate.specs.Parts.{Temporaries, next_number, with_temporary, keep, Valued}
 use Rattle.qs_elaborate.specs.Lists.{valued}
 use Rattle.qs_elaborate.specs.declared.reserving.Reserved.{Reserved}

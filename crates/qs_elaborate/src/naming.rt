@@ -34,11 +34,7 @@ fn one_more(n: u32) -> Result<u32, NoMemory>
 }
 
 // One more of this name: how many there are now.
-fn count_one(
-    alloc: Global,
-    counts: &mut IndexMap<Name, u32>,
-    name: &Name,
-) -> Result<u32, NoMemory>
+fn count_one(alloc: Global, counts: &mut IndexMap<Name, u32>, name: &Name) -> Result<u32, NoMemory>
     ensures count { IfOk result (λ n. n ≡ times (get same_bytes counts.old name.now) + 1) }
     ensures counts { OnOk result ((x : List ℕ) → get same_bytes counts.new x ≡ update same_bytes (get same_bytes counts.old) name.now (Some (times (get same_bytes counts.old name.now) + 1)) x) }
 {

@@ -1,4 +1,4 @@
-use Rattle.std.proofs.Common.{◌≡◌, arith}
+use Rattle.std.proofs.Common.{arith}
 use Rattle.std.proofs.lemmas.Grind.{common_steps}
 use Rattle.qs_elaborate.proofs.PieceRuns.{bytes_more}
 use Rattle.qs_elaborate.proofs.data_blocks.put_bytes.Goals as goal

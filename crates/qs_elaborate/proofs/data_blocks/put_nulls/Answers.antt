@@ -1,4 +1,4 @@
-use Rattle.std.proofs.Common.{◌≡◌, arith}
+use Rattle.std.proofs.Common.{arith}
 use Rattle.qs_elaborate.proofs.PieceRuns.{nulls_more}
 use Rattle.qs_elaborate.proofs.data_blocks.put_nulls.Goals as goal
 

@@ -1,4 +1,3 @@
-use Rattle.std.proofs.Common.{◌≡◌, arith}
 use Rattle.qs_elaborate.proofs.PieceRuns.{pointer_more}
 use Rattle.qs_elaborate.proofs.data_blocks.put_pointer.Goals as goal
 

@@ -1,4 +1,4 @@
-use Rattle.std.proofs.Common.{◌≡◌, ◌||◌, false, List, ◌++◌, length, take, sym, ap, ◌∙◌}
+use Rattle.std.proofs.Common.{◌≡◌, ◌||◌, false, ◌++◌, length, take, sym, ap, ◌∙◌}
 use Rattle.qs_core.specs.Trees as core
 use Rattle.qs_core.specs.Trees.{CoreStmtTree}
 use Rattle.qs_core.specs.TreeOf.{core_expr, core_stmts}
@@ -48,16 +48,16 @@ assignment-returns-in_ok-value-in-Update-clause-statements t c =
     let ts = c.args.ts.now.items in
     let is = update_of c.args.a.now c.in-Update.scalar c.in-Update.lvalue c.in-Update.operation c.in-Update.before_left c.in-Update.before_right c.in-Update.back c.in-Update.value c.in-Update.is in
     update_statements c.in-Update.scalar (lvalue_tree c.in-Update.lvalue) c.in-Update.operation (conversion_tree c.in-Update.before_left) (conversion_tree c.in-Update.before_right) (conversion_tree c.in-Update.back) a ts _ _ _ _ _ _ _ _ _
-      (record {
-        located = rw c.acts-later_acts.ensures at c.in_ok-location-in-Update.ensures.statements;
-        location = rw c.acts-later_acts.ensures at c.in_ok-location-in-Update.ensures.location;
-        temporaries = rw c.acts-later_acts.ensures at c.in_ok-location-in-Update.ensures.temporaries;
-        read = c.in_ok-old-in-Update.ensures;
-        saved = rw c.acts-later_acts.ensures at c.in_ok-old-in-Update-2.ensures.statements;
-        value = rw c.acts-later_acts.ensures at c.in_ok-old-in-Update-2.ensures.value;
-        kept = rw c.acts-later_acts.ensures at c.in_ok-old-in-Update-2.ensures.temporaries;
-      })
-      c.in_ok-new-in-Update.ensures.statements
+    (record {
+      located = rw c.acts-later_acts.ensures at c.in_ok-location-in-Update.ensures.statements;
+      location = rw c.acts-later_acts.ensures at c.in_ok-location-in-Update.ensures.location;
+      temporaries = rw c.acts-later_acts.ensures at c.in_ok-location-in-Update.ensures.temporaries;
+      read = c.in_ok-old-in-Update.ensures;
+      saved = rw c.acts-later_acts.ensures at c.in_ok-old-in-Update-2.ensures.statements;
+      value = rw c.acts-later_acts.ensures at c.in_ok-old-in-Update-2.ensures.value;
+      kept = rw c.acts-later_acts.ensures at c.in_ok-old-in-Update-2.ensures.temporaries;
+    })
+    c.in_ok-new-in-Update.ensures.statements
     ∙ ap (λ e. core_stmts c.args.out.now.items ++ (assignment_core e ts).statements) (sym is)
 
 pub assignment-returns-in_ok-value-in-Update-clause-value : goal.assignment-returns-in_ok-value-in-Update-clause-value
@@ -66,17 +66,17 @@ assignment-returns-in_ok-value-in-Update-clause-value t c =
     let ts = c.args.ts.now.items in
     let is = update_of c.args.a.now c.in-Update.scalar c.in-Update.lvalue c.in-Update.operation c.in-Update.before_left c.in-Update.before_right c.in-Update.back c.in-Update.value c.in-Update.is in
     update_value c.in-Update.scalar (lvalue_tree c.in-Update.lvalue) c.in-Update.operation (conversion_tree c.in-Update.before_left) (conversion_tree c.in-Update.before_right) (conversion_tree c.in-Update.back) a ts _ _ _ _ _ _ _ _ _ _
-      (record {
-        located = rw c.acts-later_acts.ensures at c.in_ok-location-in-Update.ensures.statements;
-        location = rw c.acts-later_acts.ensures at c.in_ok-location-in-Update.ensures.location;
-        temporaries = rw c.acts-later_acts.ensures at c.in_ok-location-in-Update.ensures.temporaries;
-        read = c.in_ok-old-in-Update.ensures;
-        saved = rw c.acts-later_acts.ensures at c.in_ok-old-in-Update-2.ensures.statements;
-        value = rw c.acts-later_acts.ensures at c.in_ok-old-in-Update-2.ensures.value;
-        kept = rw c.acts-later_acts.ensures at c.in_ok-old-in-Update-2.ensures.temporaries;
-      })
-      c.in_ok-new-in-Update.ensures.value
-      c.in_ok-value-in-Update.ensures
+    (record {
+      located = rw c.acts-later_acts.ensures at c.in_ok-location-in-Update.ensures.statements;
+      location = rw c.acts-later_acts.ensures at c.in_ok-location-in-Update.ensures.location;
+      temporaries = rw c.acts-later_acts.ensures at c.in_ok-location-in-Update.ensures.temporaries;
+      read = c.in_ok-old-in-Update.ensures;
+      saved = rw c.acts-later_acts.ensures at c.in_ok-old-in-Update-2.ensures.statements;
+      value = rw c.acts-later_acts.ensures at c.in_ok-old-in-Update-2.ensures.value;
+      kept = rw c.acts-later_acts.ensures at c.in_ok-old-in-Update-2.ensures.temporaries;
+    })
+    c.in_ok-new-in-Update.ensures.value
+    c.in_ok-value-in-Update.ensures
     ∙ ap (λ e. (assignment_core e ts).value) (sym is)
 
 pub assignment-returns-in_ok-value-in-Update-clause-temporaries : goal.assignment-returns-in_ok-value-in-Update-clause-temporaries
@@ -85,16 +85,16 @@ assignment-returns-in_ok-value-in-Update-clause-temporaries t c =
     let ts = c.args.ts.now.items in
     let is = update_of c.args.a.now c.in-Update.scalar c.in-Update.lvalue c.in-Update.operation c.in-Update.before_left c.in-Update.before_right c.in-Update.back c.in-Update.value c.in-Update.is in
     update_temporaries c.in-Update.scalar (lvalue_tree c.in-Update.lvalue) c.in-Update.operation (conversion_tree c.in-Update.before_left) (conversion_tree c.in-Update.before_right) (conversion_tree c.in-Update.back) a ts _ _ _ _ _ _ _ _ _
-      (record {
-        located = rw c.acts-later_acts.ensures at c.in_ok-location-in-Update.ensures.statements;
-        location = rw c.acts-later_acts.ensures at c.in_ok-location-in-Update.ensures.location;
-        temporaries = rw c.acts-later_acts.ensures at c.in_ok-location-in-Update.ensures.temporaries;
-        read = c.in_ok-old-in-Update.ensures;
-        saved = rw c.acts-later_acts.ensures at c.in_ok-old-in-Update-2.ensures.statements;
-        value = rw c.acts-later_acts.ensures at c.in_ok-old-in-Update-2.ensures.value;
-        kept = rw c.acts-later_acts.ensures at c.in_ok-old-in-Update-2.ensures.temporaries;
-      })
-      c.in_ok-new-in-Update.ensures.temporaries
+    (record {
+      located = rw c.acts-later_acts.ensures at c.in_ok-location-in-Update.ensures.statements;
+      location = rw c.acts-later_acts.ensures at c.in_ok-location-in-Update.ensures.location;
+      temporaries = rw c.acts-later_acts.ensures at c.in_ok-location-in-Update.ensures.temporaries;
+      read = c.in_ok-old-in-Update.ensures;
+      saved = rw c.acts-later_acts.ensures at c.in_ok-old-in-Update-2.ensures.statements;
+      value = rw c.acts-later_acts.ensures at c.in_ok-old-in-Update-2.ensures.value;
+      kept = rw c.acts-later_acts.ensures at c.in_ok-old-in-Update-2.ensures.temporaries;
+    })
+    c.in_ok-new-in-Update.ensures.temporaries
     ∙ ap (λ e. (assignment_core e ts).temporaries) (sym is)
 
 pub branch-returns-clause-acted : goal.branch-returns-clause-acted
@@ -127,7 +127,7 @@ choice-returns-in_ok-w-2-clause-value t c =
     c.in_ok-w-2.ensures
     ∙ ap (λ x. core.conditional v x (core_expr c.in_ok-unmet-2.unmet.value)) c.in_ok-met.ensures.value
     ∙ ap (λ x. core.conditional v (converted_core second met.value) x)
-      (c.in_ok-unmet-2.ensures.value ∙ ap (converted_core third) (c.in_ok-unmet.ensures.value ∙ ap (λ ts. (expression_core b ts).value) c.in_ok-k.ensures.temporaries))
+    (c.in_ok-unmet-2.ensures.value ∙ ap (converted_core third) (c.in_ok-unmet.ensures.value ∙ ap (λ ts. (expression_core b ts).value) c.in_ok-k.ensures.temporaries))
     ∙ choice_quiet_value s second third v met b none
 
 pub choice-returns-in_ok-w-2-clause-temporaries : goal.choice-returns-in_ok-w-2-clause-temporaries
@@ -182,9 +182,9 @@ expression-returns-in_ok-x-in-Binary-clause-statements t c =
     let g : Valued = expression_core a ts in
     let is = binary_of c.args.e.now c.deref-in-Binary.result.now c.deref-in-Binary-2.result.now c.in-Binary.operation c.in-Binary.order c.in-Binary.before_left c.in-Binary.before_right c.in-Binary.left c.in-Binary.right c.in-Binary.is c.deref-in-Binary.ensures c.deref-in-Binary-2.ensures in
     let settled = settled_steps (core_stmts c.args.out.now.items) _ _ _ g _ _ _ _ _ b
-      c.in_ok-v-in-Binary.ensures.statements c.in_ok-v-in-Binary.ensures.value c.in_ok-v-in-Binary.ensures.temporaries
-      c.in_ok-reserved-in-Binary.ensures.reserved c.in_ok-reserved-in-Binary.ensures.statements c.in_ok-reserved-in-Binary.ensures.temporaries
-      c.in_ok-w-in-Binary.ensures.statements c.in_ok-w-in-Binary.ensures.temporaries in
+    c.in_ok-v-in-Binary.ensures.statements c.in_ok-v-in-Binary.ensures.value c.in_ok-v-in-Binary.ensures.temporaries
+    c.in_ok-reserved-in-Binary.ensures.reserved c.in_ok-reserved-in-Binary.ensures.statements c.in_ok-reserved-in-Binary.ensures.temporaries
+    c.in_ok-w-in-Binary.ensures.statements c.in_ok-w-in-Binary.ensures.temporaries in
     c.settle-v.ensures.statements
     ∙ ap (λ (g : Valued). g.statements) settled
     ∙ ap (λ e. core_stmts c.args.out.now.items ++ (expression_core e ts).statements) (sym is)
@@ -197,15 +197,15 @@ expression-returns-in_ok-x-in-Binary-clause-value t c =
     let g : Valued = expression_core a ts in
     let is = binary_of c.args.e.now c.deref-in-Binary.result.now c.deref-in-Binary-2.result.now c.in-Binary.operation c.in-Binary.order c.in-Binary.before_left c.in-Binary.before_right c.in-Binary.left c.in-Binary.right c.in-Binary.is c.deref-in-Binary.ensures c.deref-in-Binary-2.ensures in
     let settled = settled_steps (core_stmts c.args.out.now.items) _ _ _ g _ _ _ _ _ b
-      c.in_ok-v-in-Binary.ensures.statements c.in_ok-v-in-Binary.ensures.value c.in_ok-v-in-Binary.ensures.temporaries
-      c.in_ok-reserved-in-Binary.ensures.reserved c.in_ok-reserved-in-Binary.ensures.statements c.in_ok-reserved-in-Binary.ensures.temporaries
-      c.in_ok-w-in-Binary.ensures.statements c.in_ok-w-in-Binary.ensures.temporaries in
+    c.in_ok-v-in-Binary.ensures.statements c.in_ok-v-in-Binary.ensures.value c.in_ok-v-in-Binary.ensures.temporaries
+    c.in_ok-reserved-in-Binary.ensures.reserved c.in_ok-reserved-in-Binary.ensures.statements c.in_ok-reserved-in-Binary.ensures.temporaries
+    c.in_ok-w-in-Binary.ensures.statements c.in_ok-w-in-Binary.ensures.temporaries in
     let operated = operation_core c.in-Binary.operation (order_tree c.in-Binary.order) (conversion_tree c.in-Binary.before_left) (conversion_tree c.in-Binary.before_right) in
     c.in_ok-x-in-Binary.ensures
     ∙ ap (λ x. operated x (core_expr c.in_ok-w-in-Binary.w)) (c.settle-v.ensures.value ∙ ap (λ (g : Valued). g.value) settled)
     ∙ ap (operated (saved_if (acts b) g).value)
-      (c.in_ok-w-in-Binary.ensures.value
-      ∙ second_steps g _ _ _ b c.in_ok-v-in-Binary.ensures.value c.in_ok-v-in-Binary.ensures.temporaries c.in_ok-reserved-in-Binary.ensures.temporaries)
+    (c.in_ok-w-in-Binary.ensures.value
+    ∙ second_steps g _ _ _ b c.in_ok-v-in-Binary.ensures.value c.in_ok-v-in-Binary.ensures.temporaries c.in_ok-reserved-in-Binary.ensures.temporaries)
     ∙ ap (λ e. (expression_core e ts).value) (sym is)
 
 pub expression-returns-in_ok-x-in-Binary-clause-temporaries : goal.expression-returns-in_ok-x-in-Binary-clause-temporaries
@@ -216,9 +216,9 @@ expression-returns-in_ok-x-in-Binary-clause-temporaries t c =
     let g : Valued = expression_core a ts in
     let is = binary_of c.args.e.now c.deref-in-Binary.result.now c.deref-in-Binary-2.result.now c.in-Binary.operation c.in-Binary.order c.in-Binary.before_left c.in-Binary.before_right c.in-Binary.left c.in-Binary.right c.in-Binary.is c.deref-in-Binary.ensures c.deref-in-Binary-2.ensures in
     let settled = settled_steps (core_stmts c.args.out.now.items) _ _ _ g _ _ _ _ _ b
-      c.in_ok-v-in-Binary.ensures.statements c.in_ok-v-in-Binary.ensures.value c.in_ok-v-in-Binary.ensures.temporaries
-      c.in_ok-reserved-in-Binary.ensures.reserved c.in_ok-reserved-in-Binary.ensures.statements c.in_ok-reserved-in-Binary.ensures.temporaries
-      c.in_ok-w-in-Binary.ensures.statements c.in_ok-w-in-Binary.ensures.temporaries in
+    c.in_ok-v-in-Binary.ensures.statements c.in_ok-v-in-Binary.ensures.value c.in_ok-v-in-Binary.ensures.temporaries
+    c.in_ok-reserved-in-Binary.ensures.reserved c.in_ok-reserved-in-Binary.ensures.statements c.in_ok-reserved-in-Binary.ensures.temporaries
+    c.in_ok-w-in-Binary.ensures.statements c.in_ok-w-in-Binary.ensures.temporaries in
     c.settle-v.ensures.temporaries
     ∙ ap (λ (g : Valued). g.temporaries) settled
     ∙ ap (λ e. (expression_core e ts).temporaries) (sym is)
@@ -293,11 +293,11 @@ expression-returns-in_ok-w-in-Conditional-clause-statements t c =
     let third = conversion_tree c.in-Conditional.before_otherwise in
     let ts = c.args.ts.now.items in
     let is = conditional_of c.args.e.now c.deref-in-Conditional.result.now c.deref-in-Conditional-2.result.now c.deref-in-Conditional-3.result.now
-      s c.in-Conditional.condition c.in-Conditional.before_then c.in-Conditional.before_otherwise c.in-Conditional.then c.in-Conditional.otherwise
-      c.in-Conditional.is c.deref-in-Conditional.ensures c.deref-in-Conditional-2.ensures c.deref-in-Conditional-3.ensures in
+    s c.in-Conditional.condition c.in-Conditional.before_then c.in-Conditional.before_otherwise c.in-Conditional.then c.in-Conditional.otherwise
+    c.in-Conditional.is c.deref-in-Conditional.ensures c.deref-in-Conditional-2.ensures c.deref-in-Conditional-3.ensures in
     let whole = ap (λ e. expression_core e ts) is ∙ choice_is s a second third b e ts in
     let met = valued_is (expression_core b c.expression-in-Conditional.new.ts.items) _ _ _
-      c.in_ok-met-in-Conditional.ensures.statements c.in_ok-met-in-Conditional.ensures.value c.in_ok-met-in-Conditional.ensures.temporaries in
+    c.in_ok-met-in-Conditional.ensures.statements c.in_ok-met-in-Conditional.ensures.value c.in_ok-met-in-Conditional.ensures.temporaries in
     let v = core_expr c.in_ok-v-in-Conditional.v in
     pushed_behind (λ v ts. choice_behind s second third v (expression_core b ts) e) (expression_core a ts) (expression_core (expression_tree c.args.e.now) ts) _ _ _ _ _ whole
     c.in_ok-v-in-Conditional.ensures.statements c.in_ok-v-in-Conditional.ensures.value c.in_ok-v-in-Conditional.ensures.temporaries
@@ -313,11 +313,11 @@ expression-returns-in_ok-w-in-Conditional-clause-value t c =
     let third = conversion_tree c.in-Conditional.before_otherwise in
     let ts = c.args.ts.now.items in
     let is = conditional_of c.args.e.now c.deref-in-Conditional.result.now c.deref-in-Conditional-2.result.now c.deref-in-Conditional-3.result.now
-      s c.in-Conditional.condition c.in-Conditional.before_then c.in-Conditional.before_otherwise c.in-Conditional.then c.in-Conditional.otherwise
-      c.in-Conditional.is c.deref-in-Conditional.ensures c.deref-in-Conditional-2.ensures c.deref-in-Conditional-3.ensures in
+    s c.in-Conditional.condition c.in-Conditional.before_then c.in-Conditional.before_otherwise c.in-Conditional.then c.in-Conditional.otherwise
+    c.in-Conditional.is c.deref-in-Conditional.ensures c.deref-in-Conditional-2.ensures c.deref-in-Conditional-3.ensures in
     let whole = ap (λ e. expression_core e ts) is ∙ choice_is s a second third b e ts in
     let met = valued_is (expression_core b c.expression-in-Conditional.new.ts.items) _ _ _
-      c.in_ok-met-in-Conditional.ensures.statements c.in_ok-met-in-Conditional.ensures.value c.in_ok-met-in-Conditional.ensures.temporaries in
+    c.in_ok-met-in-Conditional.ensures.statements c.in_ok-met-in-Conditional.ensures.value c.in_ok-met-in-Conditional.ensures.temporaries in
     let v = core_expr c.in_ok-v-in-Conditional.v in
     value_behind (λ v ts. choice_behind s second third v (expression_core b ts) e) (expression_core a ts) (expression_core (expression_tree c.args.e.now) ts) _ _ _ whole
     c.in_ok-v-in-Conditional.ensures.value c.in_ok-v-in-Conditional.ensures.temporaries
@@ -333,11 +333,11 @@ expression-returns-in_ok-w-in-Conditional-clause-temporaries t c =
     let third = conversion_tree c.in-Conditional.before_otherwise in
     let ts = c.args.ts.now.items in
     let is = conditional_of c.args.e.now c.deref-in-Conditional.result.now c.deref-in-Conditional-2.result.now c.deref-in-Conditional-3.result.now
-      s c.in-Conditional.condition c.in-Conditional.before_then c.in-Conditional.before_otherwise c.in-Conditional.then c.in-Conditional.otherwise
-      c.in-Conditional.is c.deref-in-Conditional.ensures c.deref-in-Conditional-2.ensures c.deref-in-Conditional-3.ensures in
+    s c.in-Conditional.condition c.in-Conditional.before_then c.in-Conditional.before_otherwise c.in-Conditional.then c.in-Conditional.otherwise
+    c.in-Conditional.is c.deref-in-Conditional.ensures c.deref-in-Conditional-2.ensures c.deref-in-Conditional-3.ensures in
     let whole = ap (λ e. expression_core e ts) is ∙ choice_is s a second third b e ts in
     let met = valued_is (expression_core b c.expression-in-Conditional.new.ts.items) _ _ _
-      c.in_ok-met-in-Conditional.ensures.statements c.in_ok-met-in-Conditional.ensures.value c.in_ok-met-in-Conditional.ensures.temporaries in
+    c.in_ok-met-in-Conditional.ensures.statements c.in_ok-met-in-Conditional.ensures.value c.in_ok-met-in-Conditional.ensures.temporaries in
     let v = core_expr c.in_ok-v-in-Conditional.v in
     temporaries_behind (λ v ts. choice_behind s second third v (expression_core b ts) e) (expression_core a ts) (expression_core (expression_tree c.args.e.now) ts) _ _ _ whole
     c.in_ok-v-in-Conditional.ensures.value c.in_ok-v-in-Conditional.ensures.temporaries
@@ -349,7 +349,7 @@ expression-returns-in_ok-v-in-Assigned-clause-statements t c =
     let ts = c.args.ts.now.items in
     let is = assigned_of c.args.e.now x c.in-Assigned.a c.in-Assigned.is c.deref-in-Assigned.ensures in
     write_pushed (assignment_core (assignment_tree x) ts) _ _ _ _ (core_stmts c.args.out.now.items) _ _
-      c.in_ok-w-in-Assigned.ensures.scalar c.in_ok-w-in-Assigned.ensures.location c.in_ok-w-in-Assigned.ensures.value c.in_ok-w-in-Assigned.ensures.temporaries c.in_ok-w-in-Assigned.ensures.statements c.in_ok-v-in-Assigned.ensures.statements
+    c.in_ok-w-in-Assigned.ensures.scalar c.in_ok-w-in-Assigned.ensures.location c.in_ok-w-in-Assigned.ensures.value c.in_ok-w-in-Assigned.ensures.temporaries c.in_ok-w-in-Assigned.ensures.statements c.in_ok-v-in-Assigned.ensures.statements
     ∙ ap (λ e. core_stmts c.args.out.now.items ++ (expression_core e ts).statements) (sym is)
 
 pub expression-returns-in_ok-v-in-Sequence-clause-statements : goal.expression-returns-in_ok-v-in-Sequence-clause-statements
@@ -359,5 +359,5 @@ expression-returns-in_ok-v-in-Sequence-clause-statements t c =
     let ts = c.args.ts.now.items in
     let is = sequence_of c.args.e.now c.deref-in-Sequence.result.now c.deref-in-Sequence-2.result.now c.in-Sequence.a c.in-Sequence.b c.in-Sequence.is c.deref-in-Sequence.ensures c.deref-in-Sequence-2.ensures in
     then_pushed (core_stmts c.args.out.now.items) _ _ (effect_core x ts).statements (λ ts. (expression_core b ts).statements) _ (effect_core x ts).temporaries
-      c.in_ok-effect-in-Sequence.ensures.statements c.in_ok-effect-in-Sequence.ensures.temporaries c.in_ok-v-in-Sequence.ensures.statements
+    c.in_ok-effect-in-Sequence.ensures.statements c.in_ok-effect-in-Sequence.ensures.temporaries c.in_ok-v-in-Sequence.ensures.statements
     ∙ ap (λ e. core_stmts c.args.out.now.items ++ (expression_core e ts).statements) (sym is)

@@ -13,6 +13,6 @@ loop-d-preserved c =
     let xs = map declared_of declared in
     let within : i < length xs = rw (length-map declared declared_of) c.loop-d-test.true in
     let more : newest_first [] (take (i + 1) xs) ≡ declared_of d ∷ newest_first [] (take i xs) =
-      newest_more [] xs i (declared_of d) within
-      ∙ ap (λ e. e ∷ newest_first [] (take i xs)) (get_or-map declared_of declared i d (declared_of d) c.loop-d-test.true ∙ ap declared_of (sym c.d-item.is)) in
+    newest_more [] xs i (declared_of d) within
+    ∙ ap (λ e. e ∷ newest_first [] (take i xs)) (get_or-map declared_of declared i d (declared_of d) c.loop-d-test.true ∙ ap declared_of (sym c.d-item.is)) in
     rw more (c.in_ok-note.ensures (newest_first [] (take i xs)) c.loop-d.invariant)

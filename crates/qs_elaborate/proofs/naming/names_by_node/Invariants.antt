@@ -1,4 +1,4 @@
-use Rattle.std.proofs.Common.{◌≡◌, [], map, option_map, take}
+use Rattle.std.proofs.Common.{[], map, option_map, take}
 use Rattle.std.specs.Prelude.{nat_eq}
 use Rattle.indexmap.specs.IndexMap.{get}
 use Rattle.qs_syntax.specs.Sameness.{same_bytes}

@@ -17,11 +17,11 @@ core_unit-requires c =
     let main = c.in-Some.i in
     let main_is : main_from 0 program.functions ≡ Some main = sym (rw c.deref.ensures.value at c.main_among.ensures) ∙ c.in-Some.is in
     let names : map names_of c.deref-2.result.now ≡ names_in unit =
-      ap (map names_of) c.deref-2.ensures.value
-      ∙ c.in_ok-names.ensures
-      ∙ ap (declarations_named (map (λ v. v.items) c.args.variables.now)) c.declarations.ensures
-      ∙ ap (λ vs. declarations_named vs unit) c.requires.variables
-      ∙ unit_is_named unit in
+    ap (map names_of) c.deref-2.ensures.value
+    ∙ c.in_ok-names.ensures
+    ∙ ap (declarations_named (map (λ v. v.items) c.args.variables.now)) c.declarations.ensures
+    ∙ ap (λ vs. declarations_named vs unit) c.requires.variables
+    ∙ unit_is_named unit in
     rw names (fits_at unit program main c.requires.tree main_is c.requires.has_core)
 
 pub returns : goal.returns
@@ -31,11 +31,11 @@ returns c =
     let main = c.in-Some.i in
     let main_is : main_from 0 program.functions ≡ Some main = sym (rw c.deref.ensures.value at c.main_among.ensures) ∙ c.in-Some.is in
     let names : map names_of c.deref-2.result.now ≡ names_in unit =
-      ap (map names_of) c.deref-2.ensures.value
-      ∙ c.in_ok-names.ensures
-      ∙ ap (declarations_named (map (λ v. v.items) c.args.variables.now)) c.declarations.ensures
-      ∙ ap (λ vs. declarations_named vs unit) c.requires.variables
-      ∙ unit_is_named unit in
+    ap (map names_of) c.deref-2.ensures.value
+    ∙ c.in_ok-names.ensures
+    ∙ ap (declarations_named (map (λ v. v.items) c.args.variables.now)) c.declarations.ensures
+    ∙ ap (λ vs. declarations_named vs unit) c.requires.variables
+    ∙ unit_is_named unit in
     core_at unit program main c.requires.tree main_is
     ∙ ap (λ ns. Some (unit_core ns program main)) (sym names)
     ∙ ap Some (sym c.in_ok-unit.ensures)

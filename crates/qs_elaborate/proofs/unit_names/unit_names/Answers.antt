@@ -19,9 +19,9 @@ loop-d-preserved c =
     let many : length before ≡ length c.loop-d.names.items = length-map c.loop-d.names.items names_of in
     let place : c.len.result ≡ length before = omega arith in
     let now : map names_of c.put_declaration.new.names.items ≡ before ++ declaration_named (get_or lists (length before) []) (get_or ds i d) =
-      c.in_ok-put_declaration.ensures
-      ∙ ap (λ nodes. before ++ declaration_named nodes d) (c.nodes_at-nodes.ensures ∙ ap (λ k. get_or lists k []) place)
-      ∙ ap (λ e. before ++ declaration_named (get_or lists (length before) []) e) (sym item) in
+    c.in_ok-put_declaration.ensures
+    ∙ ap (λ nodes. before ++ declaration_named nodes d) (c.nodes_at-nodes.ensures ∙ ap (λ k. get_or lists k []) place)
+    ∙ ap (λ e. before ++ declaration_named (get_or lists (length before) []) e) (sym item) in
     ap (λ l. l ++ declarations_named (drop (length l) lists) (drop (i + 1) ds)) now
     ∙ sym (named_step before lists ds i d within)
     ∙ c.loop-d.invariant

@@ -4,7 +4,6 @@ use crate::numbers::BlockId;
 use qs_memory::{BinaryOperation, Scalar, UnaryOperation};
 
 /// A pure expression. Its conversions are explicit, and sizes and offsets are numbers.
-#[derive(Drop)]
 #[cycle(core_expr)]
 pub enum CoreExpr {
     /// an integer of this type, as its 32 bits
@@ -36,11 +35,41 @@ pub enum CoreExpr {
 }
 
 /// Two operands.
-#[derive(Drop)]
 #[cycle(core_expr)]
 pub struct Operands {
     /// the left one
     pub left: CoreExpr,
     /// the right one
     pub right: CoreExpr,
+}
+
+// Drops are written by hand, since a derived drop of a tree stands with all its cases at each place where a tree may be
+// dropped.
+
+impl Drop for CoreExpr {
+    #[cycle(drop_expr)]
+    fn drop(self) {
+        match self {
+            CoreExpr::Literal(_, _) => {}
+            CoreExpr::Null => {}
+            CoreExpr::Variable(_, _) => {}
+            CoreExpr::Temporary(_, _) => {}
+            CoreExpr::Address(_) => {}
+            CoreExpr::Load(_, _) => {}
+            CoreExpr::Member(_, _) => {}
+            CoreExpr::Unary(_, _) => {}
+            CoreExpr::Binary(_, _) => {}
+            CoreExpr::Convert(_, _) => {}
+            CoreExpr::And(_) => {}
+            CoreExpr::Or(_) => {}
+            CoreExpr::Conditional(_, _, _) => {}
+        }
+    }
+}
+
+impl Drop for Operands {
+    #[cycle(drop_expr)]
+    fn drop(self) {
+        let Operands { left: _, right: _ } = self;
+    }
 }

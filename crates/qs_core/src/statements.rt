@@ -6,7 +6,6 @@ use qs_calls::Callee;
 use qs_memory::{Blank, Scalar};
 
 /// A statement.
-#[derive(Drop)]
 #[cycle(core_stmt)]
 pub enum CoreStmt {
     /// nothing
@@ -34,4 +33,25 @@ pub enum CoreStmt {
     Continue,
     /// ends the function, with this result
     Return(Option<CoreExpr>),
+}
+
+// By hand, as the drops of expressions.
+impl Drop for CoreStmt {
+    #[cycle(drop_stmt)]
+    fn drop(self) {
+        match self {
+            CoreStmt::Skip => {}
+            CoreStmt::Seq(_) => {}
+            CoreStmt::Assign(_, _) => {}
+            CoreStmt::Store(_, _, _) => {}
+            CoreStmt::Copy(_, _, _, _) => {}
+            CoreStmt::Fill(_, _) => {}
+            CoreStmt::Call(_, _, _) => {}
+            CoreStmt::If(_, _, _) => {}
+            CoreStmt::Loop(_, _) => {}
+            CoreStmt::Break => {}
+            CoreStmt::Continue => {}
+            CoreStmt::Return(_) => {}
+        }
+    }
 }

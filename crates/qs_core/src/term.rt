@@ -27,7 +27,6 @@ pub enum TermComparison {
 }
 
 /// A whole number without bound, which an expression of integer type has as its value.
-#[derive(Drop)]
 #[cycle(core_term)]
 pub enum CoreTerm {
     /// this number
@@ -47,7 +46,6 @@ pub enum CoreTerm {
 }
 
 /// Two terms.
-#[derive(Drop)]
 #[cycle(core_term)]
 pub struct TermPair {
     /// the left one
@@ -57,7 +55,6 @@ pub struct TermPair {
 }
 
 /// What holds of the values of variables and temporaries where an expression isn't 0.
-#[derive(Drop)]
 #[cycle(core_condition)]
 pub enum CoreCondition {
     /// so two numbers stand to one another
@@ -71,11 +68,54 @@ pub enum CoreCondition {
 }
 
 /// Two conditions.
-#[derive(Drop)]
 #[cycle(core_condition)]
 pub struct ConditionPair {
     /// the left one
     pub left: CoreCondition,
     /// the right one
     pub right: CoreCondition,
+}
+
+// Drops are written by hand, since a derived drop of a tree stands with all its cases at each place where a tree may be
+// dropped.
+
+impl Drop for CoreTerm {
+    #[cycle(drop_term)]
+    fn drop(self) {
+        match self {
+            CoreTerm::Number(_) => {}
+            CoreTerm::Variable(_, _) => {}
+            CoreTerm::Temporary(_, _) => {}
+            CoreTerm::Combined(_, _) => {}
+            CoreTerm::Divide(_, _) => {}
+            CoreTerm::Remainder(_, _) => {}
+            CoreTerm::Wrapped(_, _) => {}
+        }
+    }
+}
+
+impl Drop for TermPair {
+    #[cycle(drop_term)]
+    fn drop(self) {
+        let TermPair { left: _, right: _ } = self;
+    }
+}
+
+impl Drop for CoreCondition {
+    #[cycle(drop_condition)]
+    fn drop(self) {
+        match self {
+            CoreCondition::Compared(_, _) => {}
+            CoreCondition::Not(_) => {}
+            CoreCondition::And(_) => {}
+            CoreCondition::Or(_) => {}
+        }
+    }
+}
+
+impl Drop for ConditionPair {
+    #[cycle(drop_condition)]
+    fn drop(self) {
+        let ConditionPair { left: _, right: _ } = self;
+    }
 }

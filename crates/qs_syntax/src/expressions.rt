@@ -16,7 +16,6 @@ use std::mem;
 
 /// An expression (C11 6.5).
 #[cycle(expr)]
-#[derive(Drop)]
 pub struct Expr {
     /// Its node.
     pub node: Node,
@@ -26,7 +25,6 @@ pub struct Expr {
 
 /// What an expression is, and its parts.
 #[cycle(expr)]
-#[derive(Drop)]
 pub enum Shape {
     /// A number or character: its value, and whether it is `unsigned` and no `int`.
     Constant(u32, bool),
@@ -95,6 +93,55 @@ impl Expr {
         ensures exact { IsTrue result ↔ (expr_tree self.now ≡ expr_tree other.now) }
     {
         same_expr(self, other)
+    }
+}
+
+// ---- how trees are dropped
+// By hand, since a derived drop of a tree stands with all its cases at each place where a tree may be dropped.
+
+impl Drop for Expr {
+    #[cycle(drop_expr)]
+    fn drop(self) {
+        let Expr { node: _, shape: _ } = self;
+    }
+}
+
+impl Drop for Shape {
+    #[cycle(drop_expr)]
+    fn drop(self) {
+        match self {
+            Shape::Constant(_, _) => {}
+            Shape::Text(_) => {}
+            Shape::Name(_) => {}
+            Shape::Unary(_, _) => {}
+            Shape::Step(_, _) => {}
+            Shape::Cast(_, _) => {}
+            Shape::SizeofType(_) => {}
+            Shape::SizeofExpr(_) => {}
+            Shape::Binary {
+                operator: _,
+                left: _,
+                right: _,
+            } => {}
+            Shape::Assign {
+                operator: _,
+                left: _,
+                right: _,
+            } => {}
+            Shape::Conditional {
+                condition: _,
+                then: _,
+                otherwise: _,
+            } => {}
+            Shape::Comma(_, _) => {}
+            Shape::Subscript(_, _) => {}
+            Shape::Member {
+                access: _,
+                object: _,
+                name: _,
+            } => {}
+            Shape::Call(_, _) => {}
+        }
     }
 }
 
@@ -323,7 +370,7 @@ pub fn number_expr(e: &mut Expr, tokens: &mut Vec<u32>) -> Result<(), NoMemory>
 {
     e.node = number_node(e.node, tokens)?;
     let shape = mem::replace(&mut e.shape, Shape::Constant(0, false));
-    e.shape = number_shape(shape, tokens)?;
+    e.shape = shape.with_numbers(tokens)?;
     Ok(())
 }
 
@@ -352,65 +399,73 @@ fn number_boxed(e: Box<Expr>, tokens: &mut Vec<u32>) -> Result<Box<Expr>, NoMemo
     Ok(e)
 }
 
-#[cycle(number_expr)]
-#[tactic(auto, using(crate::proofs::NodeLaws::tokens_of_both, std::proofs::lemmas::List::with_items_is))]
-fn number_shape(shape: Shape, tokens: &mut Vec<u32>) -> Result<Shape, NoMemory>
-    requires { length tokens.old.items + shape_count (shape_tree shape) < 2 ^ 32 }
-    ensures tree { IfOk result (λ to. shape_tree to ≡ relabel_shape numbered (length tokens.old.items) (shape_tree shape)) }
-    ensures end { OnOk result (length tokens.new.items ≡ length tokens.old.items + shape_count (shape_tree shape)) }
-    ensures tokens { OnOk result (tokens.new.items ≡ tokens.old.items ++ tokens_of (shape_nodes (shape_tree shape))) }
-{
-    match shape {
-        Shape::Constant(value, is_unsigned) => Ok(Shape::Constant(value, is_unsigned)),
-        Shape::Text(text) => Ok(Shape::Text(text)),
-        Shape::Name(name) => Ok(Shape::Name(name)),
-        Shape::Unary(operator, a) => Ok(Shape::Unary(operator, number_boxed(a, tokens)?)),
-        Shape::Step(operator, a) => Ok(Shape::Step(operator, number_boxed(a, tokens)?)),
-        Shape::Cast(type_name, a) => Ok(Shape::Cast(type_name, number_boxed(a, tokens)?)),
-        Shape::SizeofType(type_name) => Ok(Shape::SizeofType(type_name)),
-        Shape::SizeofExpr(a) => Ok(Shape::SizeofExpr(number_boxed(a, tokens)?)),
-        Shape::Binary {
-            operator,
-            left,
-            right,
-        } => Ok(Shape::Binary {
-            operator,
-            left: number_boxed(left, tokens)?,
-            right: number_boxed(right, tokens)?,
-        }),
-        Shape::Assign {
-            operator,
-            left,
-            right,
-        } => Ok(Shape::Assign {
-            operator,
-            left: number_boxed(left, tokens)?,
-            right: number_boxed(right, tokens)?,
-        }),
-        Shape::Conditional {
-            condition,
-            then,
-            otherwise,
-        } => Ok(Shape::Conditional {
-            condition: number_boxed(condition, tokens)?,
-            then: number_boxed(then, tokens)?,
-            otherwise: number_boxed(otherwise, tokens)?,
-        }),
-        Shape::Comma(a, b) => Ok(Shape::Comma(number_boxed(a, tokens)?, number_boxed(b, tokens)?)),
-        Shape::Subscript(a, b) => Ok(Shape::Subscript(
-            number_boxed(a, tokens)?,
-            number_boxed(b, tokens)?,
-        )),
-        Shape::Member {
-            access,
-            object,
-            name,
-        } => Ok(Shape::Member {
-            access,
-            object: number_boxed(object, tokens)?,
-            name,
-        }),
-        Shape::Call(name, arguments) => Ok(Shape::Call(name, number_arguments(arguments, tokens)?)),
+impl Shape {
+    #[cycle(number_expr)]
+    #[tactic(auto, using(crate::proofs::NodeLaws::tokens_of_both, std::proofs::lemmas::List::with_items_is))]
+    fn with_numbers(self, tokens: &mut Vec<u32>) -> Result<Shape, NoMemory>
+        requires { length tokens.old.items + shape_count (shape_tree self) < 2 ^ 32 }
+        ensures tree { IfOk result (λ to. shape_tree to ≡ relabel_shape numbered (length tokens.old.items) (shape_tree self)) }
+        ensures end { OnOk result (length tokens.new.items ≡ length tokens.old.items + shape_count (shape_tree self)) }
+        ensures tokens { OnOk result (tokens.new.items ≡ tokens.old.items ++ tokens_of (shape_nodes (shape_tree self))) }
+    {
+        match self {
+            Shape::Constant(value, is_unsigned) => Ok(Shape::Constant(value, is_unsigned)),
+            Shape::Text(text) => Ok(Shape::Text(text)),
+            Shape::Name(name) => Ok(Shape::Name(name)),
+            Shape::Unary(operator, a) => Ok(Shape::Unary(operator, number_boxed(a, tokens)?)),
+            Shape::Step(operator, a) => Ok(Shape::Step(operator, number_boxed(a, tokens)?)),
+            Shape::Cast(type_name, a) => Ok(Shape::Cast(type_name, number_boxed(a, tokens)?)),
+            Shape::SizeofType(type_name) => Ok(Shape::SizeofType(type_name)),
+            Shape::SizeofExpr(a) => Ok(Shape::SizeofExpr(number_boxed(a, tokens)?)),
+            Shape::Binary {
+                operator,
+                left,
+                right,
+            } => Ok(Shape::Binary {
+                operator,
+                left: number_boxed(left, tokens)?,
+                right: number_boxed(right, tokens)?,
+            }),
+            Shape::Assign {
+                operator,
+                left,
+                right,
+            } => Ok(Shape::Assign {
+                operator,
+                left: number_boxed(left, tokens)?,
+                right: number_boxed(right, tokens)?,
+            }),
+            Shape::Conditional {
+                condition,
+                then,
+                otherwise,
+            } => Ok(Shape::Conditional {
+                condition: number_boxed(condition, tokens)?,
+                then: number_boxed(then, tokens)?,
+                otherwise: number_boxed(otherwise, tokens)?,
+            }),
+            Shape::Comma(a, b) => Ok(Shape::Comma(
+                number_boxed(a, tokens)?,
+                number_boxed(b, tokens)?,
+            )),
+            Shape::Subscript(a, b) => Ok(Shape::Subscript(
+                number_boxed(a, tokens)?,
+                number_boxed(b, tokens)?,
+            )),
+            Shape::Member {
+                access,
+                object,
+                name,
+            } => Ok(Shape::Member {
+                access,
+                object: number_boxed(object, tokens)?,
+                name,
+            }),
+            Shape::Call(name, arguments) => Ok(Shape::Call(
+                name,
+                number_arguments(arguments, tokens)?,
+            )),
+        }
     }
 }
 

@@ -27,7 +27,6 @@ pub enum Start {
 
 /// A statement or a declaration of a block (C11 6.8).
 #[cycle(stmt)]
-#[derive(Drop)]
 pub enum Stmt {
     /// `;`
     Empty(Node),
@@ -94,6 +93,45 @@ impl Stmt {
         ensures exact { IsTrue result ↔ (stmt_tree self.now ≡ stmt_tree other.now) }
     {
         same_stmt(self, other)
+    }
+}
+
+// By hand, as the drops of expressions.
+impl Drop for Stmt {
+    #[cycle(drop_stmt)]
+    fn drop(self) {
+        match self {
+            Stmt::Empty(_) => {}
+            Stmt::Expression(_, _) => {}
+            Stmt::Declaration(_) => {}
+            Stmt::Block(_) => {}
+            Stmt::If {
+                node: _,
+                condition: _,
+                then: _,
+                otherwise: _,
+            } => {}
+            Stmt::While {
+                node: _,
+                condition: _,
+                body: _,
+            } => {}
+            Stmt::Do {
+                node: _,
+                body: _,
+                condition: _,
+            } => {}
+            Stmt::For {
+                node: _,
+                start: _,
+                condition: _,
+                step: _,
+                body: _,
+            } => {}
+            Stmt::Break(_) => {}
+            Stmt::Continue(_) => {}
+            Stmt::Return(_, _) => {}
+        }
     }
 }
 
@@ -353,69 +391,71 @@ fn number_start(start: Start, tokens: &mut Vec<u32>) -> Result<Start, NoMemory>
     }
 }
 
-#[cycle(number_stmt)]
-#[tactic(auto, using(crate::proofs::NodeLaws::tokens_of_both, std::proofs::lemmas::List::with_items_is))]
-fn number_stmt(s: Stmt, tokens: &mut Vec<u32>) -> Result<Stmt, NoMemory>
-    requires { length tokens.old.items + stmt_count (stmt_tree s) < 2 ^ 32 }
-    ensures tree { IfOk result (λ to. stmt_tree to ≡ relabel_stmt numbered (length tokens.old.items) (stmt_tree s)) }
-    ensures end { OnOk result (length tokens.new.items ≡ length tokens.old.items + stmt_count (stmt_tree s)) }
-    ensures tokens { OnOk result (tokens.new.items ≡ tokens.old.items ++ tokens_of (stmt_nodes (stmt_tree s))) }
-{
-    match s {
-        Stmt::Empty(node) => Ok(Stmt::Empty(number_node(node, tokens)?)),
-        Stmt::Expression(node, e) => {
-            let node = number_node(node, tokens)?;
-            Ok(Stmt::Expression(node, number_owned_expr(e, tokens)?))
-        }
-        Stmt::Declaration(d) => Ok(Stmt::Declaration(number_owned_declaration(d, tokens)?)),
-        Stmt::Block(items) => Ok(Stmt::Block(number_items(items, tokens)?)),
-        Stmt::If {
-            node,
-            condition,
-            then,
-            otherwise,
-        } => Ok(Stmt::If {
-            node: number_node(node, tokens)?,
-            condition: number_owned_expr(condition, tokens)?,
-            then: number_boxed(then, tokens)?,
-            otherwise: number_else(otherwise, tokens)?,
-        }),
-        Stmt::While {
-            node,
-            condition,
-            body,
-        } => Ok(Stmt::While {
-            node: number_node(node, tokens)?,
-            condition: number_owned_expr(condition, tokens)?,
-            body: number_boxed(body, tokens)?,
-        }),
-        Stmt::Do {
-            node,
-            body,
-            condition,
-        } => Ok(Stmt::Do {
-            node: number_node(node, tokens)?,
-            body: number_boxed(body, tokens)?,
-            condition: number_owned_expr(condition, tokens)?,
-        }),
-        Stmt::For {
-            node,
-            start,
-            condition,
-            step,
-            body,
-        } => Ok(Stmt::For {
-            node: number_node(node, tokens)?,
-            start: number_start(start, tokens)?,
-            condition: number_option(condition, tokens)?,
-            step: number_option(step, tokens)?,
-            body: number_boxed(body, tokens)?,
-        }),
-        Stmt::Break(node) => Ok(Stmt::Break(number_node(node, tokens)?)),
-        Stmt::Continue(node) => Ok(Stmt::Continue(number_node(node, tokens)?)),
-        Stmt::Return(node, e) => {
-            let node = number_node(node, tokens)?;
-            Ok(Stmt::Return(node, number_option(e, tokens)?))
+impl Stmt {
+    #[cycle(number_stmt)]
+    #[tactic(auto, using(crate::proofs::NodeLaws::tokens_of_both, std::proofs::lemmas::List::with_items_is))]
+    fn with_numbers(self, tokens: &mut Vec<u32>) -> Result<Stmt, NoMemory>
+        requires { length tokens.old.items + stmt_count (stmt_tree self) < 2 ^ 32 }
+        ensures tree { IfOk result (λ to. stmt_tree to ≡ relabel_stmt numbered (length tokens.old.items) (stmt_tree self)) }
+        ensures end { OnOk result (length tokens.new.items ≡ length tokens.old.items + stmt_count (stmt_tree self)) }
+        ensures tokens { OnOk result (tokens.new.items ≡ tokens.old.items ++ tokens_of (stmt_nodes (stmt_tree self))) }
+    {
+        match self {
+            Stmt::Empty(node) => Ok(Stmt::Empty(number_node(node, tokens)?)),
+            Stmt::Expression(node, e) => {
+                let node = number_node(node, tokens)?;
+                Ok(Stmt::Expression(node, number_owned_expr(e, tokens)?))
+            }
+            Stmt::Declaration(d) => Ok(Stmt::Declaration(number_owned_declaration(d, tokens)?)),
+            Stmt::Block(items) => Ok(Stmt::Block(number_items(items, tokens)?)),
+            Stmt::If {
+                node,
+                condition,
+                then,
+                otherwise,
+            } => Ok(Stmt::If {
+                node: number_node(node, tokens)?,
+                condition: number_owned_expr(condition, tokens)?,
+                then: number_boxed(then, tokens)?,
+                otherwise: number_else(otherwise, tokens)?,
+            }),
+            Stmt::While {
+                node,
+                condition,
+                body,
+            } => Ok(Stmt::While {
+                node: number_node(node, tokens)?,
+                condition: number_owned_expr(condition, tokens)?,
+                body: number_boxed(body, tokens)?,
+            }),
+            Stmt::Do {
+                node,
+                body,
+                condition,
+            } => Ok(Stmt::Do {
+                node: number_node(node, tokens)?,
+                body: number_boxed(body, tokens)?,
+                condition: number_owned_expr(condition, tokens)?,
+            }),
+            Stmt::For {
+                node,
+                start,
+                condition,
+                step,
+                body,
+            } => Ok(Stmt::For {
+                node: number_node(node, tokens)?,
+                start: number_start(start, tokens)?,
+                condition: number_option(condition, tokens)?,
+                step: number_option(step, tokens)?,
+                body: number_boxed(body, tokens)?,
+            }),
+            Stmt::Break(node) => Ok(Stmt::Break(number_node(node, tokens)?)),
+            Stmt::Continue(node) => Ok(Stmt::Continue(number_node(node, tokens)?)),
+            Stmt::Return(node, e) => {
+                let node = number_node(node, tokens)?;
+                Ok(Stmt::Return(node, number_option(e, tokens)?))
+            }
         }
     }
 }
@@ -430,7 +470,7 @@ fn number_boxed(s: Box<Stmt>, tokens: &mut Vec<u32>) -> Result<Box<Stmt>, NoMemo
 {
     let mut s = s;
     let from = mem::replace(&mut *s, Stmt::Empty(Node { id: 0, token: 0 }));
-    *s = number_stmt(from, tokens)?;
+    *s = from.with_numbers(tokens)?;
     Ok(s)
 }
 
@@ -449,7 +489,7 @@ fn number_else(
         None => Ok(None),
         Some(mut s) => {
             let from = mem::replace(&mut *s, Stmt::Empty(Node { id: 0, token: 0 }));
-            *s = number_stmt(from, tokens)?;
+            *s = from.with_numbers(tokens)?;
             Ok(Some(s))
         }
     }
@@ -478,7 +518,7 @@ pub fn number_stmts(items: &mut [Stmt], tokens: &mut Vec<u32>) -> Result<(), NoM
 {
     for s in items.iter_mut() {
         let from = mem::replace(s, Stmt::Empty(Node { id: 0, token: 0 }));
-        *s = number_stmt(from, tokens)?;
+        *s = from.with_numbers(tokens)?;
     }
     Ok(())
 }

@@ -13,3 +13,5 @@ pub mod RuleLaws
 pub mod FunctionLaws
 pub mod PathLaws
 pub mod BoundLaws
+mod CountDownExamples
+mod LoopExamples

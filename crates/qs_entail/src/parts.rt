@@ -1,5 +1,6 @@
 // The parts of assertions and conditions.
-ghost use Rattle.std.specs.Prelude.{◌≡◌, ◌++◌, IfOk};
+ghost use Rattle.std.specs.Prelude.{◌≡◌, ◌++◌, IfOk, Ok};
+ghost use Rattle.qs_base.specs.Results.{bind};
 ghost use Rattle.qs_assert.specs.Trees.{AssertionTrees, TermTree, assertions_of};
 ghost use Rattle.qs_assert.specs.Listing.{inner_term, assertions_nodes};
 ghost use Rattle.qs_entail.specs.Answers.{FollowsAs};
@@ -8,6 +9,8 @@ ghost use Rattle.qs_entail.specs.Faults as faults;
 ghost use Rattle.qs_entail.specs.Parts.{guarded_view, sides_view};
 ghost use Rattle.qs_entail.specs.Fronts as fronts;
 ghost use Rattle.qs_entail.specs.Fronts.{assertions_in};
+ghost use Rattle.qs_entail.specs.Standing.{counted};
+ghost use Rattle.qs_entail.specs.Verdicts.{is_given};
 
 use crate::Stop;
 use crate::fronts::{assertion, begins, cond, parts, split_tree, term};
@@ -49,6 +52,59 @@ fn is_total(nodes: &[Node]) -> bool
         Some(Node::Assertion(AssertionNode::Total(_))) => true,
         _ => false,
     }
+}
+
+fn greatest_count(nodes: &[Node]) -> Option<usize>
+    ensures { result ≡ fronts.greatest_count nodes.now }
+{
+    match nodes.first() {
+        Some(Node::Assertion(AssertionNode::Greatest(count))) => Some(*count),
+        _ => None,
+    }
+}
+
+fn total_count(nodes: &[Node]) -> Option<usize>
+    ensures { result ≡ fronts.total_count nodes.now }
+{
+    match nodes.first() {
+        Some(Node::Assertion(AssertionNode::Total(count))) => Some(*count),
+        _ => None,
+    }
+}
+
+/// How many members an assertion has, if it is the greatest of some.
+#[tactic(auto, using(crate::proofs::Counted::members_are))]
+pub fn member_count(a: &Assertion) -> Option<usize>
+    ensures { bind (faults.members_of a.now) (λ members. Ok (faults.count members)) ≡ counted result }
+{
+    greatest_count(a.nodes())
+}
+
+/// How many summands an assertion has, if it is a sum.
+#[tactic(auto, using(crate::proofs::Counted::summands_are))]
+pub fn summand_count(a: &Assertion) -> Option<usize>
+    ensures { bind (faults.summands_of a.now) (λ summands. Ok (faults.count summands)) ≡ counted result }
+{
+    total_count(a.nodes())
+}
+
+/// Whether an assertion is a guard.
+#[tactic(auto, using(crate::proofs::Counted::guard_given))]
+pub fn is_guard(a: &Assertion) -> bool
+    ensures { result ≡ is_given (faults.guarded_of a.now) }
+{
+    begins(a.nodes(), &Node::Assertion(AssertionNode::Guard))
+}
+
+/// Whether a condition says that two terms differ.
+#[tactic(auto, using(crate::proofs::Counted::difference_given))]
+pub fn says_different(c: &Cond) -> bool
+    ensures { result ≡ is_given (facts.different_sides c.now) }
+{
+    let nodes = c.nodes();
+    begins(nodes, &Node::Condition(CondNode::Ne))
+        || (begins(nodes, &Node::Condition(CondNode::Not))
+            && begins(parts(nodes), &Node::Condition(CondNode::Eq)))
 }
 
 fn assertions(alloc: Global, nodes: &[Node]) -> Result<Vec<Assertion>, NoMemory>

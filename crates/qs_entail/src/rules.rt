@@ -1,9 +1,9 @@
 // The side conditions of rules.
-ghost use Rattle.std.specs.Prelude.{◌≡◌, IfOk, Ok, pos};
-ghost use Rattle.qs_assert.specs.Trees.{assertions_of, natural, infinity};
+ghost use Rattle.std.specs.Prelude.{◌≡◌, IfOk, Ok};
+ghost use Rattle.qs_assert.specs.Trees.{natural, infinity};
 ghost use Rattle.qs_entail.specs.Answers.{Follows, FollowsAs};
 ghost use Rattle.qs_base.specs.Results.{bind};
-ghost use Rattle.qs_entail.specs.Faults.{definition, members_of, member_at, contradiction, arithmetic_holds};
+ghost use Rattle.qs_entail.specs.Faults.{definition, contradiction, arithmetic_holds};
 ghost use Rattle.qs_entail.specs.Walking.{both_view, unfolded_both, branch_number};
 ghost use Rattle.qs_entail.specs.View.{items_view, known_view};
 
@@ -11,35 +11,12 @@ use crate::Item;
 use crate::building::{assertion_polynomial, difference};
 use crate::combination::combination;
 use crate::known::Known;
-use crate::parts::members;
 use crate::stop::Stop;
 use crate::unfolding::{definition, unfolded};
 use qs_assert::{Assertion, Define};
 use qs_base::{Name, NoMemory};
 use qs_poly::Poly;
 use std::alloc::Global;
-
-#[tactic(auto, using(crate::proofs::Each::member_in, crate::proofs::Each::member_out))]
-fn member(alloc: Global, members: &[Assertion], i: usize) -> Result<Assertion, Stop>
-    ensures { Follows result (member_at (assertions_of members.now) (pos i)) }
-{
-    if i < members.len() {
-        Ok(members[i].copy(alloc)?)
-    } else {
-        Err(Stop::Breaks)
-    }
-}
-
-/// Member i of a greatest.
-pub fn picked(alloc: Global, p: &Assertion, i: i64) -> Result<Assertion, Stop>
-    ensures { Follows result (bind (members_of p.now) (λ members. member_at members i)) }
-{
-    let members = members(alloc, p)?;
-    if i < 0 {
-        return Err(Stop::Breaks);
-    }
-    member(alloc, &members, i as usize)
-}
 
 /// Two assertions.
 #[derive(Debug, Drop)]

@@ -1,6 +1,6 @@
 use Rattle.std.proofs.Common.{◌≡◌, drop}
 use Rattle.qs_entail.specs.Faults.{definition}
-use Rattle.qs_entail.proofs.unfolding.definition.Given as goal
+use Rattle.qs_entail.proofs.unfolding.defined.Given as goal
 
 -- no definition so far has the name
 abbrev pub invariant-loop-define : goal.invariant-loop-define

@@ -23,6 +23,8 @@ use Rattle.qs_types.specs.declared.rules.Rule.{Rule}
 use Rattle.qs_types.specs.declared.rules.Rule.TheVariants as rules
 use Rattle.qs_types.specs.Rules.{keeps, breaks_one, faults_of}
 use Rattle.qs_types.specs.GivenFunctions.{main_name}
+use Rattle.qs_types.specs.Limits.{IsWithinLimits}
+use Rattle.qs_types.specs.WellTyped.{WellTyped}
 use Rattle.qs_types.specs.Contexts.{Context, start_context, inner_scope}
 use Rattle.qs_types.specs.Placed.{Local, parameters_locals, addressed_in, statements_locals}
 use Rattle.qs_types.specs.UnitRules.{is_name_in, is_name_declared, parameter_types, result_type, body_context, header_of, may_declare, result_tests, main_tests, header_tests, is_main_type, may_be, parameters_faults, body_faults, function_faults, after_declaration, declaration_faults, declarations_faults}

@@ -1,0 +1,15 @@
+//! The typed tree of a unit in code: names resolved, lvalues as such, conversions explicit, sizes and
+//! offsets as numbers, and what stands in memory when a run begins.
+#![tactic(auto)]
+
+mod data;
+mod expressions;
+mod program;
+mod statements;
+
+pub use data::{Datum, StaticBlock};
+pub use expressions::{
+    Argument, Assignment, Conversion, Effect, Expression, Lvalue, Object, Order,
+};
+pub use program::{TypedFunction, TypedProgram};
+pub use statements::Statement;

@@ -1,0 +1,38 @@
+// Statements of the typed tree (C11 6.8).
+
+use crate::expressions::{Conversion, Effect, Expression};
+
+/// A statement.
+#[derive(Drop)]
+#[cycle(statement)]
+pub enum Statement {
+    /// an expression, or a declaration in a block (C11 6.8.3)
+    Evaluate(Effect),
+    /// a block (C11 6.8.2)
+    Block(Vec<Statement>),
+    /// `if`; without `else` the second statement evaluates nothing (C11 6.8.4.1)
+    Branch(Expression, Box<Statement>, Box<Statement>),
+    /// `while` (C11 6.8.5.1)
+    WhileLoop(Expression, Box<Statement>),
+    /// `do` (C11 6.8.5.2)
+    DoLoop(Box<Statement>, Expression),
+    /// `for`; without a condition it goes on for ever (C11 6.8.5.3)
+    ForLoop {
+        /// what is done before the loop
+        start: Effect,
+        /// the condition
+        condition: Option<Expression>,
+        /// what is done behind each turn
+        step: Effect,
+        /// the body
+        body: Box<Statement>,
+    },
+    /// `break` (C11 6.8.6.3)
+    Break,
+    /// `continue` (C11 6.8.6.2)
+    Continue,
+    /// `return` with a value (C11 6.8.6.4)
+    Return(Conversion, Expression),
+    /// `return` without one
+    ReturnNothing,
+}

@@ -1,0 +1,4 @@
+pub mod Sizes
+pub mod Operated
+pub mod Places
+pub mod Members

@@ -2,10 +2,19 @@
 //! offsets as numbers, and what stands in memory when a run begins.
 #![tactic(auto)]
 
+mod assignments;
 mod data;
 mod expressions;
+mod forms;
+mod known;
+mod members;
+mod operations;
+mod operators;
+mod places;
 mod program;
 mod statements;
+mod typed;
+mod types;
 
 pub use data::{Datum, StaticBlock};
 pub use expressions::{

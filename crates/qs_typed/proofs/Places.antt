@@ -1,0 +1,91 @@
+-- Places in tables and in lists.
+use Rattle.std.proofs.Common.{◌≡◌, ℕ, zero, suc, ◌+◌, ◌<◌, Bool, true, false, not, ◌||◌, List, [], ◌∷◌, Option, Some, None, length, nat_lt, nat_eq, cond, refl, sym, ap, ◌∙◌, arith, if◌then◌else◌}
+use Rattle.std.specs.Prelude.{◌==◌, map, position}
+use Rattle.std.specs.List.{position_or_len, list_any}
+use Rattle.std.specs.Map.{lookup}
+use Rattle.std.specs.Prelude.{Vec}
+use Rattle.std.specs.declared.alloc.Global.{Global}
+use Rattle.qs_memory.specs.declared.scalar.Scalar.{Scalar}
+use Rattle.qs_syntax.specs.declared.types.Base.TheVariants as bases
+use Rattle.qs_typing.proofs.Tags.{tag_position}
+use Rattle.std.proofs.lemmas.Cmp.{nat_list_eq_equiv, nat_eq_equiv}
+use Rattle.qs_memory.specs.Partial.{◌>>=◌}
+use Rattle.qs_syntax.specs.Sameness.{same_bytes}
+use Rattle.qs_syntax.specs.declared.types.TypeName.{TypeName}
+use Rattle.qs_types.specs.Types.{TypeTree, struct, pointer, Structs}
+use Rattle.qs_types.specs.Layout.{and_then, size_of}
+use Rattle.qs_types.specs.Contexts.{place_from, pointers, base_type}
+use Rattle.qs_types.specs.Placed.{is_one_of}
+use Rattle.qs_meaning.specs.Names.{place_where, place_among, function_number}
+use Rattle.qs_meaning.specs.Expressions.{size_form}
+use Rattle.qs_typed.specs.Known.{Known, with_tags, base_known, named_known, named_size_known, sized, parameters_of}
+use Rattle.qs_typed.specs.KnownOf.{headers_tree}
+
+-- ---- the place of the first that passes a test
+
+step : (b : Bool) (p : ℕ) → (if b then 0 else p + 1) ≡ cond (not b) (1 + p) 0
+step true p = refl
+step false p = omega arith
+
+where_is : {A : Type 0} (test other : A → Bool) → ((x : A) → test x ≡ other x) → (xs : List A) → place_where test xs ≡ position_or_len other xs
+where_is test other same [] = refl
+where_is test other same (x ∷ xs) = (λ i. if same x i then 0 else where_is test other same xs i + 1) ∙ step (other x) (position_or_len other xs)
+
+found_at : (b : Bool) (p i : ℕ) → cond b (Some p) None ≡ Some i → p ≡ i
+found_at true p i e = cc
+found_at false p i e = absurd (no i e)
+  where
+    no : (i : ℕ) → None ≡ Some i → ⊥
+    no i e = cc
+
+pub place_found : (node : ℕ) (xs : List ℕ) (i : ℕ) → position (nat_eq node) xs ≡ Some i → place_among node xs ≡ i
+place_found node xs i e =
+    where_is (λ n. n == node) (nat_eq node) (λ n. nat_eq_equiv.symm n node) xs ∙ found_at (nat_lt (position_or_len (nat_eq node) xs) (length xs)) (position_or_len (nat_eq node) xs) i e
+
+pub function_found : (f : List ℕ) (names : List (List ℕ)) (i : ℕ) → position (same_bytes f) names ≡ Some i → function_number f names ≡ i
+function_found f names i e =
+    where_is (λ g. same_bytes g f) (same_bytes f) (λ g. nat_list_eq_equiv.symm g f) names
+    ∙ found_at (nat_lt (position_or_len (same_bytes f) names) (length names)) (position_or_len (same_bytes f) names) i e
+
+pub one_of : (n : ℕ) (ms : List ℕ) → list_any (nat_eq n) ms ≡ is_one_of n ms
+one_of n [] = refl
+one_of n (m ∷ ms) = λ i. nat_eq_equiv.symm n m i || one_of n ms i
+
+-- ---- types by name
+
+pub struct_base : (tags : List (List ℕ)) (tag : List ℕ) (i : ℕ) → position (same_bytes tag) tags ≡ Some i → base_type (with_tags tags) (bases.Struct tag) ≡ Some (struct i)
+struct_base tags tag i e = ap (λ o. and_then o (λ k. Some (struct k))) (sym (tag_position tag tags) ∙ e)
+
+named_is : (k : Known) (name : TypeName) (t : TypeTree) → base_known k name.base ≡ Some t → named_known k name ≡ Some (pointers name.stars t)
+named_is k name t e = ap (λ o. and_then o (λ t. Some (pointers name.stars t))) e
+
+pub named_size : (k : Known) (name : TypeName) (t : TypeTree) (n : ℕ) → base_known k name.base ≡ Some t → name.stars ≡ 0 → size_of k.structs t ≡ Some n
+    → named_size_known k name ≡ Some (sized n)
+named_size k name t n p z q =
+    ap (λ o. o >>= size_form k.structs) (named_is k name t p ∙ ap (λ m. Some (pointers m t)) z) ∙ ap (λ o. o >>= λ size. Some (sized size)) q
+
+pointed : (structs : Structs) (stars : ℕ) (t : TypeTree) → 0 < stars → size_of structs (pointers stars t) ≡ Some 4
+pointed structs zero t h = absurd (omega arith)
+pointed structs (suc stars) t h = refl
+
+pub pointed_size : (k : Known) (name : TypeName) (t : TypeTree) → base_known k name.base ≡ Some t → 0 < name.stars → named_size_known k name ≡ Some (sized 4)
+pointed_size k name t p h =
+    ap (λ o. o >>= size_form k.structs) (named_is k name t p) ∙ ap (λ o. o >>= λ size. Some (sized size)) (pointed k.structs name.stars t h)
+
+-- ---- headers
+
+pub header_found : (node : ℕ) (hs : List (ℕ × Vec Scalar Global)) (ps : Vec Scalar Global) → lookup (nat_eq node) hs ≡ Some ps
+    → parameters_of node (headers_tree hs) ≡ Some ps.items
+header_found node [] ps e = absurd (no ps e)
+  where
+    no : {A : Type 0} (x : A) → None ≡ Some x → ⊥
+    no x e = cc
+header_found node (h ∷ hs) ps e =
+    ap (λ b. if b then Some h.1.items else parameters_of node (headers_tree hs)) (nat_eq_equiv.symm h.0 node) ∙ by (nat_eq node h.0) e
+  where
+    same : {A : Type 0} (x y : A) → Some x ≡ Some y → x ≡ y
+    same x y e = cc
+
+    by : (b : Bool) → cond b (Some h.1) (lookup (nat_eq node) hs) ≡ Some ps → (if b then Some h.1.items else parameters_of node (headers_tree hs)) ≡ Some ps.items
+    by true e = ap (λ (v : Vec Scalar Global). Some v.items) (same h.1 ps e)
+    by false e = header_found node hs ps e

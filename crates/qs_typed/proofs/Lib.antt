@@ -2,3 +2,4 @@ pub mod Sizes
 pub mod Operated
 pub mod Places
 pub mod Members
+pub mod Loops

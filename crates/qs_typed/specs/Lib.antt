@@ -4,3 +4,6 @@ pub mod FormOf
 pub mod PlacesOf
 pub mod Known
 pub mod KnownOf
+pub mod KnownStatements
+pub mod PieceOf
+pub mod Behind

@@ -30,6 +30,10 @@ pub struct Known<'a> {
     pub types: &'a [Option<CType>],
     /// what the names of the nodes stand for
     pub referents: &'a [Option<Referent>],
+    /// the types that the nodes declare
+    pub declared: &'a [Option<CType>],
+    /// the type of the function's result
+    pub result: Option<Scalar>,
     /// the structs
     pub env: &'a Env,
     /// their tags, in their order
@@ -72,6 +76,19 @@ impl<'a> Known<'a> {
         ensures { IfOk result (λ t. type_known (known_tree self.now) (expr_tree e.now) ≡ Some (type_tree t.now)) }
     {
         self.type_at(e.node.id)
+    }
+
+    /// The type of the variable that a node declares.
+    pub fn declared_at(&self, node: u32) -> Result<&'a CType, NoMemory>
+        ensures { IfOk result (λ t. at_number (known_tree self.now).declared node ≡ Some (type_tree t.now)) }
+    {
+        match self.declared.get(node as usize) {
+            None => Err(NoMemory),
+            Some(found) => match found {
+                None => Err(NoMemory),
+                Some(t) => Ok(t),
+            },
+        }
     }
 
     fn referent_at(&self, node: u32) -> Result<Referent, NoMemory>

@@ -21,7 +21,7 @@ use qs_types::{CType, Env};
 use std::alloc::Global;
 
 /// The members of a struct.
-fn struct_members(env: &Env, k: u32) -> Result<&IndexMap<Name, CType>, NoMemory>
+pub fn struct_members(env: &Env, k: u32) -> Result<&IndexMap<Name, CType>, NoMemory>
     ensures { IfOk result (λ ms. struct_of (env_tree env.now) k ≡ Some (map member_tree (ms.now).entries)) }
 {
     match env.structs().get(k as usize) {
@@ -45,7 +45,7 @@ fn member_number(members: &IndexMap<Name, CType>, name: &Name) -> Result<usize, 
 }
 
 /// The offset of the member at this place.
-fn offset_at(env: &Env, k: u32, i: usize) -> Result<u32, NoMemory>
+pub fn offset_at(env: &Env, k: u32, i: usize) -> Result<u32, NoMemory>
     ensures { IfOk result (λ n. offset_of (env_tree env.now) k i ≡ Some n) }
 {
     match env.layout_of(k) {

@@ -146,8 +146,8 @@ fn arguments(
     if parameters.len() != es.len() {
         return Err(NoMemory);
     }
-    for (i, e) in es.iter().enumerate() {
-        let a = typed(alloc, k, e)?;
+    for i in 0..es.len() {
+        let a = typed(alloc, k, &es[i])?;
         given.push(with_conversion(alloc, parameters[i], a)?)?;
     }
     Ok(given)

@@ -7,3 +7,4 @@ pub mod KnownOf
 pub mod KnownStatements
 pub mod PieceOf
 pub mod Behind
+pub mod Agrees

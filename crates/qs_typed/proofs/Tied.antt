@@ -1,0 +1,197 @@
+-- Where the definition gives an expression a typed tree, what is known by the numbers of its nodes gives the same.
+use Rattle.std.proofs.Common.{◌≡◌, ℕ, Bool, true, false, List, [], ◌∷◌, Option, Some, None, map, refl, sym, ap, ◌∙◌, if◌then◌else◌}
+use Rattle.qs_memory.specs.Partial.{◌>>=◌}
+use Rattle.qs_memory.specs.declared.scalar.Scalar.{Scalar}
+use Rattle.qs_syntax.specs.Sameness.{same_bytes}
+use Rattle.qs_syntax.specs.declared.nodes.Node.{Node}
+use Rattle.qs_syntax.specs.declared.types.Base.{Base}
+use Rattle.qs_syntax.specs.declared.types.Base.TheVariants as bases
+use Rattle.qs_syntax.specs.declared.types.TypeName.{TypeName}
+use Rattle.qs_syntax.specs.Trees.{ExprTree, expr, ShapeTree, Exprs, no_exprs, expr_and}
+use Rattle.qs_syntax.specs.Trees as trees
+use Rattle.qs_calls.specs.declared.callee.Callee.TheVariants as callees
+use Rattle.qs_types.specs.Types.{TypeTree, struct}
+use Rattle.qs_types.specs.Conversions.{decayed}
+use Rattle.qs_types.specs.GivenFunctions.{Signature, putchar_name, putchar_type, getchar_type}
+use Rattle.qs_typing.specs.declared.entity.Referent.TheVariants as referents
+use Rattle.qs_types.specs.Layout.{and_then}
+use Rattle.qs_types.specs.Rules.{breaks_one, type_unless}
+use Rattle.qs_types.specs.Contexts.{Context, Entity, local_variable, file_variable, function, given, entity_of, tag_place, base_type, pointers, starred_type, named_type}
+use Rattle.qs_types.specs.Expressions.{type_of, type_or_void, cast_judged}
+use Rattle.qs_typing.specs.ExprFindings.{referent, referent_of, given_referent}
+use Rattle.qs_meaning.specs.Typed.{pointer_to, Arguments, no_arguments, argument_and, Lvalue, object}
+use Rattle.qs_meaning.specs.Conversions.{scalar_of, conversion}
+use Rattle.qs_meaning.specs.Forms.{Form, lvalue, call, TypedExpr, type_in_use, value_in_use}
+use Rattle.qs_meaning.specs.Names.{Scope, Designator as Designated, local_lvalue, file_variable_object, text_object, entity_lvalue, name_lvalue, entity_designated, designated, with_parameters, function_number}
+use Rattle.qs_meaning.specs.Expressions.{text_form, name_form, arguments_of, call_form, subscript_form, member_form, step_form, unary_form, size_form, cast_form, binary_form, conditional_form, assign_form, comma_form, typed, form_of, all_typed}
+use Rattle.qs_typed.specs.Known.{Known, at_number, referent_lvalue, name_known, text_known, with_tags, named_known, named_size_known, Designator, parameters_of, designated_by, designated_known, with_conversion, with_argument, known, form_known, type_known, arguments_known}
+use Rattle.qs_typed.specs.Agrees.{Keeps, Grown, NodesKnown, PartsKnown, AllKnown, Agrees}
+use Rattle.qs_typed.proofs.Kept.{nothing, same, kept, kept_by, then_kept, is_kept, equal_kept}
+use Rattle.qs_typed.proofs.Grown.{size_form_kept, subscript_kept, binary_kept, member_kept, assign_kept, step_kept}
+
+-- ---- names
+
+lvalue_kept : (k : Known) (s : Scope) → Agrees k s → (x : List ℕ) (o : Option Entity) → Keeps (o >>= entity_lvalue s) (referent x o >>= referent_lvalue k)
+lvalue_kept k s g x None = λ y e. e
+lvalue_kept k s g x (Some (local_variable node t)) = λ y e. ap (λ l. Some (local_lvalue l node)) g.locals ∙ e
+lvalue_kept k s g x (Some (file_variable node t)) = λ y e. ap (λ l. Some (object (pointer_to (file_variable_object l node)))) g.statics ∙ e
+lvalue_kept k s g x (Some (function node signature body)) = λ y e. nothing y e
+lvalue_kept k s g x (Some (given signature)) = λ y e. nothing y e
+
+name_kept : (k : Known) (s : Scope) → Agrees k s → (node : ℕ) (x : List ℕ) → at_number k.referents node ≡ referent x (entity_of s.context x) → Keeps (name_form s x) (name_known k node)
+name_kept k s g node x h =
+    kept (name_lvalue s x) (at_number k.referents node >>= referent_lvalue k) (λ l. Some (lvalue l)) (λ l. Some (lvalue l))
+    (λ y e. ap (λ o. o >>= referent_lvalue k) h ∙ lvalue_kept k s g x (entity_of s.context x) y e) (λ l. is_kept (Some (lvalue l)))
+
+text_kept : (k : Known) (s : Scope) → Agrees k s → (node : Node) → Keeps (Some (text_form s node)) (Some (text_known k node.id))
+text_kept k s g node = λ y e. ap (λ t. Some (lvalue (object (pointer_to (text_object t node.id))))) g.statics ∙ e
+
+-- ---- types by name
+
+base_kept : (k : Known) (s : Scope) → Agrees k s → (b : Base) → Keeps (base_type s.context b) (base_type (with_tags k.tags) b)
+base_kept k s g bases.Void = λ y e. e
+base_kept k s g bases.Int = λ y e. e
+base_kept k s g bases.Unsigned = λ y e. e
+base_kept k s g bases.Char = λ y e. e
+base_kept k s g (bases.Struct tag) =
+    then_kept (tag_place s.context tag) (tag_place (with_tags k.tags) tag) (λ n. Some (struct n)) (λ n. Some (struct n)) (g.tags tag) (λ n. is_kept (Some (struct n)))
+
+named_kept : (k : Known) (s : Scope) → Agrees k s → (n : TypeName) → Keeps (named_type s.context n) (named_known k n)
+named_kept k s g n =
+    then_kept (base_type s.context n.base) (base_type (with_tags k.tags) n.base) (λ t. Some (pointers n.stars t)) (λ t. Some (pointers n.stars t)) (base_kept k s g n.base)
+    (λ t. is_kept (Some (pointers n.stars t)))
+
+named_size_kept : (k : Known) (s : Scope) → Agrees k s → (n : TypeName) → Keeps (named_type s.context n >>= size_form s.context.structs) (named_size_known k n)
+named_size_kept k s g n =
+    kept (named_type s.context n) (named_known k n) (size_form s.context.structs) (size_form k.structs) (named_kept k s g n) (size_form_kept s.context.structs k.structs g.structs)
+
+-- the type of a cast is the one that it names
+unless_is : (b : Bool) (t u : TypeTree) → (if b then None else Some t) ≡ Some u → t ≡ u
+unless_is true t u e = nothing u e
+unless_is false t u e = same t u e
+
+cast_type : (c : Context) (node : Node) (n : TypeName) (a : ExprTree) (t u : TypeTree) → named_type c n ≡ Some t → type_of c (expr node (trees.cast n a)) ≡ Some u → u ≡ t
+cast_type c node n a t u p q = go (type_of c a) q
+  where
+    go : (o : Option TypeTree) → and_then (and_then o (λ v. Some (cast_judged c n a (decayed v)))) (λ j. type_unless j.tests j.type) ≡ Some u → u ≡ t
+    go None e = nothing u e
+    go (Some v) e =
+        sym (unless_is (breaks_one (cast_judged c n a (decayed v)).tests) (type_or_void (named_type c n)) u e) ∙ ap type_or_void p
+
+-- ---- calls
+
+-- what is called, and the scalar types of its parameters
+in_scalars : Designated → Designator
+in_scalars d = record { callee = d.callee; parameters = map scalar_of d.parameters }
+
+-- the headers of functions are known, and the given functions have the types that they are given with
+abbrev pub GivenAreGiven : Scope → Type 0
+GivenAreGiven s = (x : List ℕ) (f : Signature) → entity_of s.context x ≡ Some (given f) → f ≡ (if same_bytes x putchar_name then putchar_type else getchar_type)
+
+given_is : (k : Known) (x : List ℕ) (b : Bool) (f : Signature) → f ≡ (if b then putchar_type else getchar_type)
+    → designated_by k x (if b then referents.PutChar else referents.GetChar) ≡ Some (in_scalars (record { callee = if b then callees.PutChar else callees.GetChar; parameters = f.parameters }))
+given_is k x true f e = ap (λ (f : Signature). Some (in_scalars (record { callee = callees.PutChar; parameters = f.parameters }))) (sym e)
+given_is k x false f e = ap (λ (f : Signature). Some (in_scalars (record { callee = callees.GetChar; parameters = f.parameters }))) (sym e)
+
+designated_kept : (k : Known) (s : Scope) → Agrees k s → GivenAreGiven s → (x : List ℕ) (o : Option Entity) → entity_of s.context x ≡ o → (d : Designated)
+    → (o >>= entity_designated s x) ≡ Some d → (referent x o >>= designated_by k x) ≡ Some (in_scalars d)
+designated_kept k s g h x None p d e = nothing d e
+designated_kept k s g h x (Some (local_variable node t)) p d e = nothing d e
+designated_kept k s g h x (Some (file_variable node t)) p d e = nothing d e
+designated_kept k s g h x (Some (function node None body)) p d e = nothing d e
+designated_kept k s g h x (Some (function node (Some f) body)) p d e =
+    ap (λ o. o >>= λ ps. Some (record { callee = callees.Function (record { 0 = function_number x k.functions }); parameters = ps })) (g.headers x node f body p)
+    ∙ ap (λ names. Some (in_scalars (record { callee = callees.Function (record { 0 = function_number x names }); parameters = f.parameters }))) g.functions
+    ∙ ap (λ d. Some (in_scalars d)) (same _ d e)
+designated_kept k s g h x (Some (given f)) p d e = given_is k x (same_bytes x putchar_name) f (h x f p) ∙ ap (λ d. Some (in_scalars d)) (same _ d e)
+
+-- ---- expressions
+
+abbrev with_form : Scope → Node → ShapeTree → TypeTree → Option TypedExpr
+with_form s node shape t = form_of s node shape >>= λ form. Some (record { type = t; form = form })
+
+abbrev with_known : Known → Node → ShapeTree → TypeTree → Option TypedExpr
+with_known k node shape t = form_known k node.id shape >>= λ form. Some (record { type = t; form = form })
+
+mutual
+  pub typed_kept : (k : Known) (s : Scope) → Agrees k s → GivenAreGiven s → (e : ExprTree) → NodesKnown k s.context e → Keeps (typed s e) (known k e)
+  typed_kept k s g h (expr node shape) n =
+      kept_by (type_of s.context (expr node shape)) (at_number k.types node.id) (with_form s node shape) (with_known k node shape) (equal_kept _ _ n.0)
+      (λ t p. kept (form_of s node shape) (form_known k node.id shape) (λ form. Some (record { type = t; form = form })) (λ form. Some (record { type = t; form = form }))
+      (form_kept k s g h node shape t p (n.0 ∙ p) n.1.0 n.1.1) (λ form. is_kept (Some (record { type = t; form = form }))))
+
+  form_kept : (k : Known) (s : Scope) → Agrees k s → GivenAreGiven s → (node : Node) (shape : ShapeTree) (t : TypeTree) → type_of s.context (expr node shape) ≡ Some t
+      → at_number k.types node.id ≡ Some t → at_number k.referents node.id ≡ referent_of s.context (expr node shape) → PartsKnown k s.context shape
+      → Keeps (form_of s node shape) (form_known k node.id shape)
+  form_kept k s g h node (trees.constant n u) t p q r parts = λ x e. e
+  form_kept k s g h node (trees.text bytes) t p q r parts = text_kept k s g node
+  form_kept k s g h node (trees.name x) t p q r parts = name_kept k s g node.id x r
+  form_kept k s g h node (trees.subscript a b) t p q r parts =
+      kept (typed s a) (known k a) _ _ (typed_kept k s g h a parts.0)
+      (λ a. kept (typed s b) (known k b) _ _ (typed_kept k s g h b parts.1) (λ b. subscript_kept s.context.structs k.structs g.structs a b))
+  form_kept k s g h node (trees.call f es) t p q r parts = call_kept k s g h node f es r parts
+  form_kept k s g h node (trees.member access a x) t p q r parts =
+      kept (typed s a) (known k a) _ _ (typed_kept k s g h a parts) (λ a. member_kept s.context.structs k.structs g.structs access a x)
+  form_kept k s g h node (trees.step operator a) t p q r parts =
+      kept (typed s a) (known k a) _ _ (typed_kept k s g h a parts) (λ a. step_kept s.context.structs k.structs g.structs operator a)
+  form_kept k s g h node (trees.unary operator a) t p q r parts =
+      kept (typed s a) (known k a) _ _ (typed_kept k s g h a parts) (λ a. is_kept (unary_form operator a))
+  form_kept k s g h node (trees.sizeof_expr a) t p q r parts =
+      kept (type_of s.context a) (type_known k a) _ _ (type_kept k s.context a parts) (size_form_kept s.context.structs k.structs g.structs)
+  form_kept k s g h node (trees.sizeof_type name) t p q r parts = named_size_kept k s g name
+  form_kept k s g h node (trees.cast name a) t p q r parts =
+      kept_by (named_type s.context name) (at_number k.types node.id) _ _
+      (λ u e. q ∙ ap Some (cast_type s.context node name a u t e p)) (λ u e. kept (typed s a) (known k a) _ _ (typed_kept k s g h a parts) (λ a. is_kept (Some (cast_form u a))))
+  form_kept k s g h node (trees.binary operator a b) t p q r parts =
+      kept (typed s a) (known k a) _ _ (typed_kept k s g h a parts.0)
+      (λ a. kept (typed s b) (known k b) _ _ (typed_kept k s g h b parts.1) (λ b. binary_kept s.context.structs k.structs g.structs operator a b))
+  form_kept k s g h node (trees.conditional c a b) t p q r parts =
+      kept (typed s c) (known k c) _ _ (typed_kept k s g h c parts.0)
+      (λ c. kept (typed s a) (known k a) _ _ (typed_kept k s g h a parts.1.0)
+      (λ a. kept (typed s b) (known k b) _ _ (typed_kept k s g h b parts.1.1) (λ b. is_kept (Some (conditional_form c a b)))))
+  form_kept k s g h node (trees.assign operator a b) t p q r parts =
+      kept (typed s a) (known k a) _ _ (typed_kept k s g h a parts.0)
+      (λ a. kept (typed s b) (known k b) _ _ (typed_kept k s g h b parts.1) (λ b. assign_kept s.context.structs k.structs g.structs operator a b))
+  form_kept k s g h node (trees.comma a b) t p q r parts =
+      kept (typed s a) (known k a) _ _ (typed_kept k s g h a parts.0)
+      (λ a. kept (typed s b) (known k b) _ _ (typed_kept k s g h b parts.1) (λ b. is_kept (Some (comma_form a b))))
+
+  type_kept : (k : Known) (c : Context) (e : ExprTree) → NodesKnown k c e → Keeps (type_of c e) (type_known k e)
+  type_kept k c (expr node shape) n = equal_kept _ _ n.0
+
+  call_kept : (k : Known) (s : Scope) → Agrees k s → GivenAreGiven s → (node : Node) (f : List ℕ) (es : Exprs) → at_number k.referents node.id ≡ referent f (entity_of s.context f)
+      → AllKnown k s.context es → Keeps (all_typed s es >>= call_form s f) (form_known k node.id (trees.call f es))
+  call_kept k s g h node f es r parts = go (all_typed s es) refl (designated s f) refl
+    where
+      go : (given : Option (List TypedExpr)) → all_typed s es ≡ given → (d : Option Designated) → designated s f ≡ d
+          → Keeps (given >>= λ given. d >>= λ (d : Designated). arguments_of d.parameters given >>= λ converted. Some (call d.callee converted)) (form_known k node.id (trees.call f es))
+      go None p d q = λ x e. nothing x e
+      go (Some given) p None q = λ x e. nothing x e
+      go (Some given) p (Some d) q =
+          λ x e. ap (λ o. o >>= λ (d : Designator). arguments_known k d.parameters es >>= λ converted. Some (call d.callee converted))
+          (ap (λ o. o >>= designated_by k f) r ∙ designated_kept k s g h f (entity_of s.context f) refl d q)
+          ∙ kept (arguments_of d.parameters given) (arguments_known k (map scalar_of d.parameters) es) (λ converted. Some (call d.callee converted)) (λ converted. Some (call d.callee converted))
+          (arguments_kept k s g h d.parameters es parts given p) (λ converted. is_kept (Some (call d.callee converted))) x e
+
+  arguments_kept : (k : Known) (s : Scope) → Agrees k s → GivenAreGiven s → (ts : List TypeTree) (es : Exprs) → AllKnown k s.context es → (given : List TypedExpr) → all_typed s es ≡ Some given
+      → Keeps (arguments_of ts given) (arguments_known k (map scalar_of ts) es)
+  arguments_kept k s g h ts no_exprs parts given p = none ts given (same [] given p)
+    where
+      none : (ts : List TypeTree) (given : List TypedExpr) → [] ≡ given → Keeps (arguments_of ts given) (arguments_known k (map scalar_of ts) no_exprs)
+      none [] given e = λ x f. ap (arguments_of []) e ∙ f
+      none (t ∷ ts) given e = λ x f. ap (arguments_of (t ∷ ts)) e ∙ f
+  arguments_kept k s g h ts (expr_and e es) parts given p = go (typed s e) refl (all_typed s es) refl p
+    where
+      more : (ts : List TypeTree) (a : TypedExpr) (rest : List TypedExpr) → typed s e ≡ Some a → all_typed s es ≡ Some rest
+          → Keeps (arguments_of ts (a ∷ rest)) (arguments_known k (map scalar_of ts) (expr_and e es))
+      more [] a rest q r = λ x f. f
+      more (t ∷ ts) a rest q r =
+          λ x f. ap (λ o. o >>= λ a. arguments_known k (map scalar_of ts) es >>= λ later. Some (with_argument (with_conversion (scalar_of t) a) later)) (typed_kept k s g h e parts.0 a q)
+          ∙ kept (arguments_of ts rest) (arguments_known k (map scalar_of ts) es) (λ later. Some (with_argument (with_conversion (scalar_of t) a) later))
+          (λ later. Some (with_argument (with_conversion (scalar_of t) a) later)) (arguments_kept k s g h ts es parts.1 rest r) (λ later. is_kept (Some (with_argument (with_conversion (scalar_of t) a) later))) x f
+
+      go : (o : Option TypedExpr) → typed s e ≡ o → (rest : Option (List TypedExpr)) → all_typed s es ≡ rest → (o >>= λ a. rest >>= λ rest. Some (a ∷ rest)) ≡ Some given
+          → Keeps (arguments_of ts given) (arguments_known k (map scalar_of ts) (expr_and e es))
+      go None q rest r f = nothing given f
+      go (Some a) q None r f = nothing given f
+      go (Some a) q (Some rest) r f = λ x i. more ts a rest q r x (ap (arguments_of ts) (same (a ∷ rest) given f) ∙ i)

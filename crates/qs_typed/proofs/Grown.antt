@@ -105,7 +105,7 @@ size_form_kept old new g t =
 
 -- ---- members
 
-offset_kept : (old new : Structs) → Grown old new → (k i : ℕ) → Keeps (offset_of old k i) (offset_of new k i)
+pub offset_kept : (old new : Structs) → Grown old new → (k i : ℕ) → Keeps (offset_of old k i) (offset_of new k i)
 offset_kept old new g k i =
     then_kept (layout_of old k) (layout_of new k) (λ (l : StructLayout). slice_get l.offsets i) (λ (l : StructLayout). slice_get l.offsets i) (g.layouts k)
     (λ l. is_kept (slice_get l.offsets i))

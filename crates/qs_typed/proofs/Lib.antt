@@ -1,8 +1,9 @@
 pub mod Sizes
 pub mod Operated
-pub mod Places
-pub mod Members
+pub mod PlaceTables
+pub mod MemberPlaces
 pub mod Loops
 pub mod Kept
 pub mod Grown
 pub mod Tied
+pub mod TiedStatements

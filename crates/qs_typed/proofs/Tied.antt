@@ -25,7 +25,7 @@ use Rattle.qs_meaning.specs.Forms.{Form, lvalue, call, TypedExpr, type_in_use, v
 use Rattle.qs_meaning.specs.Names.{Scope, Designator as Designated, local_lvalue, file_variable_object, text_object, entity_lvalue, name_lvalue, entity_designated, designated, with_parameters, function_number}
 use Rattle.qs_meaning.specs.Expressions.{text_form, name_form, arguments_of, call_form, subscript_form, member_form, step_form, unary_form, size_form, cast_form, binary_form, conditional_form, assign_form, comma_form, typed, form_of, all_typed}
 use Rattle.qs_typed.specs.Known.{Known, at_number, referent_lvalue, name_known, text_known, with_tags, named_known, named_size_known, Designator, parameters_of, designated_by, designated_known, with_conversion, with_argument, known, form_known, type_known, arguments_known}
-use Rattle.qs_typed.specs.Agrees.{Keeps, Grown, NodesKnown, PartsKnown, AllKnown, Agrees}
+use Rattle.qs_typed.specs.Agrees.{Keeps, Grown, NodesKnown, PartsKnown, AllKnown, Agrees, GivenAreGiven}
 use Rattle.qs_typed.proofs.Kept.{nothing, same, kept, kept_by, then_kept, is_kept, equal_kept}
 use Rattle.qs_typed.proofs.Grown.{size_form_kept, subscript_kept, binary_kept, member_kept, assign_kept, step_kept}
 
@@ -83,10 +83,6 @@ cast_type c node n a t u p q = go (type_of c a) q
 -- what is called, and the scalar types of its parameters
 in_scalars : Designated → Designator
 in_scalars d = record { callee = d.callee; parameters = map scalar_of d.parameters }
-
--- the headers of functions are known, and the given functions have the types that they are given with
-abbrev pub GivenAreGiven : Scope → Type 0
-GivenAreGiven s = (x : List ℕ) (f : Signature) → entity_of s.context x ≡ Some (given f) → f ≡ (if same_bytes x putchar_name then putchar_type else getchar_type)
 
 given_is : (k : Known) (x : List ℕ) (b : Bool) (f : Signature) → f ≡ (if b then putchar_type else getchar_type)
     → designated_by k x (if b then referents.PutChar else referents.GetChar) ≡ Some (in_scalars (record { callee = if b then callees.PutChar else callees.GetChar; parameters = f.parameters }))

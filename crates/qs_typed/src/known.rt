@@ -195,7 +195,7 @@ impl<'a> Known<'a> {
     }
 
     /// The type that a declaration begins with (C11 6.7.2).
-    #[tactic(auto, using(crate::proofs::Places::struct_base))]
+    #[tactic(auto, using(crate::proofs::PlaceTables::struct_base))]
     fn base_type(&self, base: &Base) -> Result<CType, NoMemory>
         ensures { IfOk result (λ t. base_known (known_tree self.now) base.now ≡ Some (type_tree t)) }
     {
@@ -212,7 +212,7 @@ impl<'a> Known<'a> {
     }
 
     /// The size of a type by its name (C11 6.5.3.4).
-    #[tactic(auto, using(crate::proofs::Places::named_size, crate::proofs::Places::pointed_size))]
+    #[tactic(auto, using(crate::proofs::PlaceTables::named_size, crate::proofs::PlaceTables::pointed_size))]
     pub fn named_size_form(&self, name: &TypeName) -> Result<Form, NoMemory>
         ensures { IfOk result (λ f. named_size_known (known_tree self.now) name.now ≡ Some (form_tree f)) }
     {
@@ -235,7 +235,7 @@ fn sized(size: u32) -> Form
 }
 
 /// The scalar types of the parameters of the header at this node.
-#[tactic(auto, using(crate::proofs::Places::header_found))]
+#[tactic(auto, using(crate::proofs::PlaceTables::header_found))]
 fn parameters_of(
     alloc: Global,
     headers: &IndexMap<u32, Vec<Scalar>>,

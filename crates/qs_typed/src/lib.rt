@@ -3,13 +3,17 @@
 #![tactic(auto)]
 
 mod assignments;
+mod blanks;
+mod bodies;
 mod data;
 mod expressions;
 mod forms;
+mod initialisers;
 mod known;
 mod members;
 mod operations;
 mod operators;
+mod pieces;
 mod places;
 mod program;
 mod statements;

@@ -34,7 +34,7 @@ pub fn struct_members(env: &Env, k: u32) -> Result<&IndexMap<Name, CType>, NoMem
 }
 
 /// The place of a member among others.
-#[tactic(auto, using(crate::proofs::Members::number_found))]
+#[tactic(auto, using(crate::proofs::MemberPlaces::number_found))]
 fn member_number(members: &IndexMap<Name, CType>, name: &Name) -> Result<usize, NoMemory>
     ensures { IfOk result (λ i. member_number 0 name.now (map member_tree (members.now).entries) ≡ Some i) }
 {
@@ -57,7 +57,7 @@ pub fn offset_at(env: &Env, k: u32, i: usize) -> Result<u32, NoMemory>
     }
 }
 
-#[tactic(auto, using(crate::proofs::Members::offset_found))]
+#[tactic(auto, using(crate::proofs::MemberPlaces::offset_found))]
 fn struct_offset(env: &Env, k: u32, name: &Name) -> Result<u32, NoMemory>
     ensures { IfOk result (λ n. member_offset (env_tree env.now) (struct k) name.now ≡ Some n) }
 {

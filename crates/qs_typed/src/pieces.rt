@@ -28,7 +28,7 @@ pub struct Piece<'a> {
 }
 
 /// The type of a member by its number.
-#[tactic(auto, using(crate::proofs::Members::member_there))]
+#[tactic(auto, using(crate::proofs::MemberPlaces::member_there))]
 fn member_at(env: &Env, k: u32, i: usize) -> Result<&CType, NoMemory>
     ensures { IfOk result (λ t. member_at (struct_of (env_tree env.now) k) i ≡ Some (type_tree t.now)) }
 {

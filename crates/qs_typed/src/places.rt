@@ -40,7 +40,7 @@ pub fn number(i: usize) -> Result<u32, NoMemory>
 }
 
 /// The place of a node among others, if it is one of them.
-#[tactic(auto, using(crate::proofs::Places::place_found))]
+#[tactic(auto, using(crate::proofs::PlaceTables::place_found))]
 fn place_among(node: u32, nodes: &IndexSet<u32>) -> Result<u32, NoMemory>
     ensures { IfOk result (λ k. place_among node (nodes.now).keys ≡ k) }
 {
@@ -50,7 +50,7 @@ fn place_among(node: u32, nodes: &IndexSet<u32>) -> Result<u32, NoMemory>
     }
 }
 
-#[tactic(auto, using(crate::proofs::Places::one_of))]
+#[tactic(auto, using(crate::proofs::PlaceTables::one_of))]
 fn is_one_of(node: u32, nodes: &IndexSet<u32>) -> bool
     ensures { result ≡ is_one_of node (nodes.now).keys }
 {
@@ -89,7 +89,7 @@ pub fn text_object(statics: &Statics, node: u32) -> Result<Object, NoMemory>
 }
 
 /// The number of a function with a body.
-#[tactic(auto, using(crate::proofs::Places::function_found))]
+#[tactic(auto, using(crate::proofs::PlaceTables::function_found))]
 pub fn function_number(f: &Name, functions: &IndexSet<Name>) -> Result<u32, NoMemory>
     ensures { IfOk result (λ k. function_number f.now ((functions.now).keys) ≡ k) }
 {

@@ -1,5 +1,5 @@
 -- Loops that build from the left what is defined from the right.
-use Rattle.std.proofs.Common.{◌≡◌, ℕ, suc, ◌+◌, ◌<◌, List, [], ◌∷◌, ◌++◌, Option, Some, None, length, map, drop, refl, sym, ap, ◌∙◌, append_assoc, add-one, arith}
+use Rattle.std.proofs.Common.{◌≡◌, ℕ, suc, ◌+◌, ◌-◌, ◌<◌, List, [], ◌∷◌, ◌++◌, Option, Some, None, length, map, drop, refl, sym, ap, ◌∙◌, append_assoc, add-one, arith}
 use Rattle.std.specs.List.{slice_get}
 use Rattle.qs_memory.specs.Partial.{◌>>=◌}
 use Rattle.qs_memory.specs.declared.scalar.Scalar.{Scalar}
@@ -10,9 +10,17 @@ use Rattle.qs_syntax.specs.TreeOf.{expr_tree, exprs_tree, stmt_tree, stmts_tree,
 use Rattle.qs_meaning.specs.Typed as trees
 use Rattle.qs_meaning.specs.Forms.{TypedExpr}
 use Rattle.qs_typed.specs.TreeOf.{ArgumentTree, arguments_of, each_of, statements_of}
-use Rattle.qs_typed.specs.Behind.{before, behind}
+use Rattle.qs_memory.specs.Memory.{BlankTree, zeros, nothing, joined}
+use Rattle.qs_memory.specs.BlankOf.{joined_of}
+use Rattle.qs_syntax.specs.Trees.{InitialiserTree, Initialisers, initialiser_and}
+use Rattle.qs_types.specs.Types.{TypeTree, MemberTree, Structs}
+use Rattle.qs_types.specs.Layout.{size_of}
+use Rattle.qs_types.specs.InitialiserRules.{part_type}
+use Rattle.qs_meaning.specs.Blanks.{Blanks, blank_by, members_blank}
+use Rattle.qs_meaning.specs.Initialisers.{part_offset, Piece, pieces, pieces_from}
+use Rattle.qs_typed.specs.Behind.{before, behind, followed}
 use Rattle.qs_typed.specs.Known.{Known, known, with_conversion, with_argument, arguments_known}
-use Rattle.qs_typed.specs.KnownStatements.{statement_known, statements_known, variable_known, variables_known}
+use Rattle.qs_typed.specs.KnownStatements.{statement_known, statements_known, variable_known, variables_known, piece_set_known, pieces_set_known}
 
 -- ---- one element more
 
@@ -57,3 +65,47 @@ pub statement_turn : (k : Known) (s : Stmt) (ss : List Stmt) (a : trees.Stmt) (a
 statement_turn k s ss a all h =
     ap (λ o. behind trees.stmt_and all (o >>= λ a. statements_known k (stmts_tree ss) >>= λ b. Some (trees.stmt_and a b))) h
     ∙ sym (behind_more trees.stmt_and all a (statements_known k (stmts_tree ss)))
+
+pub piece_turn : (k : Known) (base : trees.Expr) (p : Piece) (ps : List Piece) (a : trees.Effect) (all : List trees.Effect) → piece_set_known k base p ≡ Some a
+    → behind trees.in_order all (pieces_set_known k base (p ∷ ps)) ≡ behind trees.in_order (all ++ a ∷ []) (pieces_set_known k base ps)
+piece_turn k base p ps a all h =
+    ap (λ o. behind trees.in_order all (o >>= λ now. pieces_set_known k base ps >>= λ later. Some (trees.in_order now later))) h
+    ∙ sym (behind_more trees.in_order all a (pieces_set_known k base ps))
+
+-- ---- pieces, some at a time
+
+followed_more : {A : Type 0} (xs ys : List A) (o : Option (List A)) → followed xs (followed ys o) ≡ followed (xs ++ ys) o
+followed_more xs ys None = refl
+followed_more xs ys (Some zs) = ap Some (sym (append_assoc {x = xs} {y = ys} {z = zs}))
+
+pub from_turn : (structs : Structs) (t : TypeTree) (offset i : ℕ) (first : InitialiserTree) (rest : Initialisers) (u : TypeTree) (at : ℕ) (now all : List Piece)
+    → part_type structs t i ≡ Some u → part_offset structs t i ≡ Some at → pieces structs u (offset + at) first ≡ Some now
+    → followed all (pieces_from structs t offset i (initialiser_and first rest)) ≡ followed (all ++ now) (pieces_from structs t offset (i + 1) rest)
+from_turn structs t offset i first rest u at now all p q r =
+    ap (followed all)
+    (ap (λ o. o >>= λ u. part_offset structs t i >>= λ at. pieces structs u (offset + at) first >>= λ now. followed now (pieces_from structs t offset (i + 1) rest)) p
+    ∙ ap (λ o. o >>= λ at. pieces structs u (offset + at) first >>= λ now. followed now (pieces_from structs t offset (i + 1) rest)) q
+    ∙ ap (λ o. o >>= λ now. followed now (pieces_from structs t offset (i + 1) rest)) r)
+    ∙ followed_more all now (pieces_from structs t offset (i + 1) rest)
+
+-- ---- blanks of members
+
+pub all_blanks : (bs : List BlankTree) → before joined bs nothing ≡ joined_of bs
+all_blanks [] = refl
+all_blanks (b ∷ bs) = ap (joined b) (all_blanks bs)
+
+pub member_turn : (structs : Structs) (blanks : Blanks) (at size : ℕ) (m : MemberTree) (ms : List MemberTree) (o : ℕ) (os : List ℕ) (b : BlankTree) (n : ℕ) (bs : List BlankTree)
+    → blank_by blanks m.type ≡ Some b → size_of structs m.type ≡ Some n
+    → behind joined bs (members_blank structs blanks at size (m ∷ ms) (o ∷ os))
+    ≡ behind joined ((bs ++ zeros (o - at) ∷ []) ++ b ∷ []) (members_blank structs blanks (o + n) size ms os)
+member_turn structs blanks at size m ms o os b n bs p q =
+    ap (λ x. behind joined bs (x >>= λ b. size_of structs m.type >>= λ n. members_blank structs blanks (o + n) size ms os >>= λ rest. Some (joined (zeros (o - at)) (joined b rest)))) p
+    ∙ ap (λ x. behind joined bs (x >>= λ n. members_blank structs blanks (o + n) size ms os >>= λ rest. Some (joined (zeros (o - at)) (joined b rest)))) q
+    ∙ twice (members_blank structs blanks (o + n) size ms os)
+    ∙ sym (behind_more joined bs (zeros (o - at)) (members_blank structs blanks (o + n) size ms os >>= λ rest. Some (joined b rest)))
+    ∙ sym (behind_more joined (bs ++ zeros (o - at) ∷ []) b (members_blank structs blanks (o + n) size ms os))
+  where
+    twice : (x : Option BlankTree) → behind joined bs (x >>= λ rest. Some (joined (zeros (o - at)) (joined b rest)))
+        ≡ behind joined bs ((x >>= λ rest. Some (joined b rest)) >>= λ rest. Some (joined (zeros (o - at)) rest))
+    twice None = refl
+    twice (Some rest) = refl

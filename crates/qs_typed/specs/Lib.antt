@@ -8,3 +8,4 @@ pub mod KnownStatements
 pub mod PieceOf
 pub mod Behind
 pub mod Agrees
+pub mod KnownFunctions

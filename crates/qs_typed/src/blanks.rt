@@ -87,6 +87,7 @@ fn struct_blank(
 }
 
 /// The members, each at its offset, with the padding before it, and then the padding at the end.
+#[tactic(auto, using(crate::proofs::Loops::member_turn, crate::proofs::Loops::all_blanks))]
 #[cycle(blank)]
 fn members_blank(
     alloc: Global,

@@ -178,6 +178,7 @@ fn otherwise_of(
 }
 
 /// The statements of a block.
+#[tactic(auto, using(crate::proofs::Loops::statement_turn, crate::proofs::Loops::all_statements))]
 #[cycle(statement)]
 pub fn statements(
     alloc: Global,

@@ -124,6 +124,7 @@ fn piece_set(
 }
 
 /// The parts of the object, in order.
+#[tactic(auto, using(crate::proofs::Loops::piece_turn, crate::proofs::Loops::all_effects))]
 fn pieces_set(
     alloc: Global,
     k: &Known<'_>,
@@ -239,6 +240,7 @@ fn variable(alloc: Global, k: &Known<'_>, v: &Variable) -> Result<Effect, NoMemo
 }
 
 /// What the declarations of variables do, in order.
+#[tactic(auto, using(crate::proofs::Loops::variable_turn, crate::proofs::Loops::all_effects))]
 pub fn variables(alloc: Global, k: &Known<'_>, vs: &[Variable]) -> Result<Effect, NoMemory>
     ensures { IfOk result (λ r. variables_known (known_tree k.now) (map variable_tree vs.now) ≡ Some (effect_tree r)) }
 {

@@ -125,6 +125,7 @@ pub fn pieces<'a>(
     }
 }
 
+#[tactic(auto, using(crate::proofs::Loops::from_turn))]
 #[cycle(pieces)]
 fn pieces_from<'a>(
     alloc: Global,

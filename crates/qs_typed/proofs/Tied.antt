@@ -9,6 +9,7 @@ use Rattle.qs_syntax.specs.declared.types.Base.TheVariants as bases
 use Rattle.qs_syntax.specs.declared.types.TypeName.{TypeName}
 use Rattle.qs_syntax.specs.Trees.{ExprTree, expr, ShapeTree, Exprs, no_exprs, expr_and}
 use Rattle.qs_syntax.specs.Trees as trees
+use Rattle.qs_calls.specs.declared.callee.Callee.{Callee}
 use Rattle.qs_calls.specs.declared.callee.Callee.TheVariants as callees
 use Rattle.qs_types.specs.Types.{TypeTree, struct}
 use Rattle.qs_types.specs.Conversions.{decayed}
@@ -84,10 +85,16 @@ cast_type c node n a t u p q = go (type_of c a) q
 in_scalars : Designated → Designator
 in_scalars d = record { callee = d.callee; parameters = map scalar_of d.parameters }
 
+abbrev function_designator : (names : List (List ℕ)) → (x : List ℕ) → List Scalar → Option Designator
+function_designator names x ps = Some (record { callee = callees.Function (record { 0 = function_number x names }); parameters = ps })
+
+abbrev given_designator : Callee → Signature → Option Designator
+given_designator callee f = Some (in_scalars (record { callee = callee; parameters = f.parameters }))
+
 given_is : (k : Known) (x : List ℕ) (b : Bool) (f : Signature) → f ≡ (if b then putchar_type else getchar_type)
-    → designated_by k x (if b then referents.PutChar else referents.GetChar) ≡ Some (in_scalars (record { callee = if b then callees.PutChar else callees.GetChar; parameters = f.parameters }))
-given_is k x true f e = ap (λ (f : Signature). Some (in_scalars (record { callee = callees.PutChar; parameters = f.parameters }))) (sym e)
-given_is k x false f e = ap (λ (f : Signature). Some (in_scalars (record { callee = callees.GetChar; parameters = f.parameters }))) (sym e)
+    → designated_by k x (if b then referents.PutChar else referents.GetChar) ≡ given_designator (if b then callees.PutChar else callees.GetChar) f
+given_is k x true f e = ap (given_designator callees.PutChar) (sym e)
+given_is k x false f e = ap (given_designator callees.GetChar) (sym e)
 
 designated_kept : (k : Known) (s : Scope) → Agrees k s → GivenAreGiven s → (x : List ℕ) (o : Option Entity) → entity_of s.context x ≡ o → (d : Designated)
     → (o >>= entity_designated s x) ≡ Some d → (referent x o >>= designated_by k x) ≡ Some (in_scalars d)
@@ -96,25 +103,66 @@ designated_kept k s g h x (Some (local_variable node t)) p d e = nothing d e
 designated_kept k s g h x (Some (file_variable node t)) p d e = nothing d e
 designated_kept k s g h x (Some (function node None body)) p d e = nothing d e
 designated_kept k s g h x (Some (function node (Some f) body)) p d e =
-    ap (λ o. o >>= λ ps. Some (record { callee = callees.Function (record { 0 = function_number x k.functions }); parameters = ps })) (g.headers x node f body p)
-    ∙ ap (λ names. Some (in_scalars (record { callee = callees.Function (record { 0 = function_number x names }); parameters = f.parameters }))) g.functions
+    ap (λ o. o >>= function_designator k.functions x) (g.headers x node f body p)
+    ∙ ap (λ names. function_designator names x (map scalar_of f.parameters)) g.functions
     ∙ ap (λ d. Some (in_scalars d)) (same _ d e)
 designated_kept k s g h x (Some (given f)) p d e = given_is k x (same_bytes x putchar_name) f (h x f p) ∙ ap (λ d. Some (in_scalars d)) (same _ d e)
 
+-- the arguments of a call, where the first one and the others are kept
+argument_kept : (k : Known) (s : Scope) (e : ExprTree) (es : Exprs) → Keeps (typed s e) (known k e)
+    → ((ts : List TypeTree) (rest : List TypedExpr) → all_typed s es ≡ Some rest → Keeps (arguments_of ts rest) (arguments_known k (map scalar_of ts) es))
+    → (ts : List TypeTree) (a : TypedExpr) (rest : List TypedExpr) → typed s e ≡ Some a → all_typed s es ≡ Some rest
+    → Keeps (arguments_of ts (a ∷ rest)) (arguments_known k (map scalar_of ts) (expr_and e es))
+argument_kept k s e es first others [] a rest q r = λ x f. f
+argument_kept k s e es first others (t ∷ ts) a rest q r =
+    λ x f. ap (λ o. o >>= λ a. arguments_known k (map scalar_of ts) es >>= λ later. Some (with_argument (with_conversion (scalar_of t) a) later)) (first a q)
+    ∙ kept (arguments_of ts rest) (arguments_known k (map scalar_of ts) es) (λ later. Some (with_argument (with_conversion (scalar_of t) a) later))
+    (λ later. Some (with_argument (with_conversion (scalar_of t) a) later)) (others ts rest r)
+    (λ later. is_kept (Some (with_argument (with_conversion (scalar_of t) a) later))) x f
+
+more_kept : (k : Known) (s : Scope) (e : ExprTree) (es : Exprs) → Keeps (typed s e) (known k e)
+    → ((ts : List TypeTree) (rest : List TypedExpr) → all_typed s es ≡ Some rest → Keeps (arguments_of ts rest) (arguments_known k (map scalar_of ts) es))
+    → (ts : List TypeTree) (given : List TypedExpr) (o : Option TypedExpr) → typed s e ≡ o → (rest : Option (List TypedExpr)) → all_typed s es ≡ rest
+    → (o >>= λ a. rest >>= λ rest. Some (a ∷ rest)) ≡ Some given → Keeps (arguments_of ts given) (arguments_known k (map scalar_of ts) (expr_and e es))
+more_kept k s e es first others ts given None q rest r f = nothing given f
+more_kept k s e es first others ts given (Some a) q None r f = nothing given f
+more_kept k s e es first others ts given (Some a) q (Some rest) r f =
+    λ x i. argument_kept k s e es first others ts a rest q r x (ap (arguments_of ts) (same (a ∷ rest) given f) ∙ i)
+
+no_more_kept : (k : Known) (ts : List TypeTree) (given : List TypedExpr) → [] ≡ given → Keeps (arguments_of ts given) (arguments_known k (map scalar_of ts) no_exprs)
+no_more_kept k [] given e = λ x f. ap (arguments_of []) e ∙ f
+no_more_kept k (t ∷ ts) given e = λ x f. ap (arguments_of (t ∷ ts)) e ∙ f
+
+abbrev called : Known → Exprs → Designator → Option Form
+called k es d = arguments_known k d.parameters es >>= λ converted. Some (call d.callee converted)
+
+called_kept : (k : Known) (s : Scope) → Agrees k s → GivenAreGiven s → (node : ℕ) (f : List ℕ) (es : Exprs) → at_number k.referents node ≡ referent f (entity_of s.context f)
+    → ((ts : List TypeTree) (given : List TypedExpr) → all_typed s es ≡ Some given → Keeps (arguments_of ts given) (arguments_known k (map scalar_of ts) es))
+    → (given : Option (List TypedExpr)) → all_typed s es ≡ given → (d : Option Designated) → designated s f ≡ d
+    → Keeps (given >>= λ given. d >>= λ (d : Designated). arguments_of d.parameters given >>= λ converted. Some (call d.callee converted)) (form_known k node (trees.call f es))
+called_kept k s g h node f es r others None p d q = λ x e. nothing x e
+called_kept k s g h node f es r others (Some given) p None q = λ x e. nothing x e
+called_kept k s g h node f es r others (Some given) p (Some d) q =
+    λ x e. ap (λ o. o >>= called k es) (ap (λ o. o >>= designated_by k f) r ∙ designated_kept k s g h f (entity_of s.context f) refl d q)
+    ∙ kept (arguments_of d.parameters given) (arguments_known k (map scalar_of d.parameters) es) (λ converted. Some (call d.callee converted)) (λ converted. Some (call d.callee converted))
+    (others d.parameters given p) (λ converted. is_kept (Some (call d.callee converted))) x e
+
 -- ---- expressions
 
+abbrev as_typed : TypeTree → Form → Option TypedExpr
+as_typed t form = Some (record { type = t; form = form })
+
 abbrev with_form : Scope → Node → ShapeTree → TypeTree → Option TypedExpr
-with_form s node shape t = form_of s node shape >>= λ form. Some (record { type = t; form = form })
+with_form s node shape t = form_of s node shape >>= as_typed t
 
 abbrev with_known : Known → Node → ShapeTree → TypeTree → Option TypedExpr
-with_known k node shape t = form_known k node.id shape >>= λ form. Some (record { type = t; form = form })
+with_known k node shape t = form_known k node.id shape >>= as_typed t
 
 mutual
   pub typed_kept : (k : Known) (s : Scope) → Agrees k s → GivenAreGiven s → (e : ExprTree) → NodesKnown k s.context e → Keeps (typed s e) (known k e)
   typed_kept k s g h (expr node shape) n =
       kept_by (type_of s.context (expr node shape)) (at_number k.types node.id) (with_form s node shape) (with_known k node shape) (equal_kept _ _ n.0)
-      (λ t p. kept (form_of s node shape) (form_known k node.id shape) (λ form. Some (record { type = t; form = form })) (λ form. Some (record { type = t; form = form }))
-      (form_kept k s g h node shape t p (n.0 ∙ p) n.1.0 n.1.1) (λ form. is_kept (Some (record { type = t; form = form }))))
+      (λ t p. kept (form_of s node shape) (form_known k node.id shape) (as_typed t) (as_typed t) (form_kept k s g h node shape t p (n.0 ∙ p) n.1.0 n.1.1) (λ form. is_kept (as_typed t form)))
 
   form_kept : (k : Known) (s : Scope) → Agrees k s → GivenAreGiven s → (node : Node) (shape : ShapeTree) (t : TypeTree) → type_of s.context (expr node shape) ≡ Some t
       → at_number k.types node.id ≡ Some t → at_number k.referents node.id ≡ referent_of s.context (expr node shape) → PartsKnown k s.context shape
@@ -157,37 +205,11 @@ mutual
 
   call_kept : (k : Known) (s : Scope) → Agrees k s → GivenAreGiven s → (node : Node) (f : List ℕ) (es : Exprs) → at_number k.referents node.id ≡ referent f (entity_of s.context f)
       → AllKnown k s.context es → Keeps (all_typed s es >>= call_form s f) (form_known k node.id (trees.call f es))
-  call_kept k s g h node f es r parts = go (all_typed s es) refl (designated s f) refl
-    where
-      go : (given : Option (List TypedExpr)) → all_typed s es ≡ given → (d : Option Designated) → designated s f ≡ d
-          → Keeps (given >>= λ given. d >>= λ (d : Designated). arguments_of d.parameters given >>= λ converted. Some (call d.callee converted)) (form_known k node.id (trees.call f es))
-      go None p d q = λ x e. nothing x e
-      go (Some given) p None q = λ x e. nothing x e
-      go (Some given) p (Some d) q =
-          λ x e. ap (λ o. o >>= λ (d : Designator). arguments_known k d.parameters es >>= λ converted. Some (call d.callee converted))
-          (ap (λ o. o >>= designated_by k f) r ∙ designated_kept k s g h f (entity_of s.context f) refl d q)
-          ∙ kept (arguments_of d.parameters given) (arguments_known k (map scalar_of d.parameters) es) (λ converted. Some (call d.callee converted)) (λ converted. Some (call d.callee converted))
-          (arguments_kept k s g h d.parameters es parts given p) (λ converted. is_kept (Some (call d.callee converted))) x e
+  call_kept k s g h node f es r parts =
+      called_kept k s g h node.id f es r (λ ts given p. arguments_kept k s g h ts es parts given p) (all_typed s es) refl (designated s f) refl
 
   arguments_kept : (k : Known) (s : Scope) → Agrees k s → GivenAreGiven s → (ts : List TypeTree) (es : Exprs) → AllKnown k s.context es → (given : List TypedExpr) → all_typed s es ≡ Some given
       → Keeps (arguments_of ts given) (arguments_known k (map scalar_of ts) es)
-  arguments_kept k s g h ts no_exprs parts given p = none ts given (same [] given p)
-    where
-      none : (ts : List TypeTree) (given : List TypedExpr) → [] ≡ given → Keeps (arguments_of ts given) (arguments_known k (map scalar_of ts) no_exprs)
-      none [] given e = λ x f. ap (arguments_of []) e ∙ f
-      none (t ∷ ts) given e = λ x f. ap (arguments_of (t ∷ ts)) e ∙ f
-  arguments_kept k s g h ts (expr_and e es) parts given p = go (typed s e) refl (all_typed s es) refl p
-    where
-      more : (ts : List TypeTree) (a : TypedExpr) (rest : List TypedExpr) → typed s e ≡ Some a → all_typed s es ≡ Some rest
-          → Keeps (arguments_of ts (a ∷ rest)) (arguments_known k (map scalar_of ts) (expr_and e es))
-      more [] a rest q r = λ x f. f
-      more (t ∷ ts) a rest q r =
-          λ x f. ap (λ o. o >>= λ a. arguments_known k (map scalar_of ts) es >>= λ later. Some (with_argument (with_conversion (scalar_of t) a) later)) (typed_kept k s g h e parts.0 a q)
-          ∙ kept (arguments_of ts rest) (arguments_known k (map scalar_of ts) es) (λ later. Some (with_argument (with_conversion (scalar_of t) a) later))
-          (λ later. Some (with_argument (with_conversion (scalar_of t) a) later)) (arguments_kept k s g h ts es parts.1 rest r) (λ later. is_kept (Some (with_argument (with_conversion (scalar_of t) a) later))) x f
-
-      go : (o : Option TypedExpr) → typed s e ≡ o → (rest : Option (List TypedExpr)) → all_typed s es ≡ rest → (o >>= λ a. rest >>= λ rest. Some (a ∷ rest)) ≡ Some given
-          → Keeps (arguments_of ts given) (arguments_known k (map scalar_of ts) (expr_and e es))
-      go None q rest r f = nothing given f
-      go (Some a) q None r f = nothing given f
-      go (Some a) q (Some rest) r f = λ x i. more ts a rest q r x (ap (arguments_of ts) (same (a ∷ rest) given f) ∙ i)
+  arguments_kept k s g h ts no_exprs parts given p = no_more_kept k ts given (same [] given p)
+  arguments_kept k s g h ts (expr_and e es) parts given p =
+      more_kept k s e es (typed_kept k s g h e parts.0) (λ ts rest r. arguments_kept k s g h ts es parts.1 rest r) ts given (typed s e) refl (all_typed s es) refl p

@@ -79,30 +79,36 @@ both_at : (k : Known) (s : Scope) (ps qs : List Piece) → PiecesAt k s ps → P
 both_at k s [] qs h t = t
 both_at k s (p ∷ ps) qs h t = (h.0, both_at k s ps qs h.1 t)
 
+first_at : (k : Known) (s : Scope) (structs : Structs) (t : TypeTree) (offset i : ℕ) (first : InitialiserTree) (rest : Initialisers)
+    → ((u : TypeTree) (at : ℕ) (now : List Piece) → pieces structs u at first ≡ Some now → PiecesAt k s now) → ((later : List Piece) → pieces_from structs t offset (i + 1) rest ≡ Some later → PiecesAt k s later)
+    → (ps : List Piece) (u : TypeTree) (at : ℕ) (now : Option (List Piece)) → pieces structs u at first ≡ now → (later : Option (List Piece)) → pieces_from structs t offset (i + 1) rest ≡ later
+    → (now >>= λ now. later >>= λ later. Some (now ++ later)) ≡ Some ps → PiecesAt k s ps
+first_at k s structs t offset i first rest h f ps u at None q later r e = options.nothing ps e
+first_at k s structs t offset i first rest h f ps u at (Some now) q None r e = options.nothing ps e
+first_at k s structs t offset i first rest h f ps u at (Some now) q (Some later) r e =
+    subst (λ ps. PiecesAt k s ps) (options.same (now ++ later) ps e) (both_at k s now later (h u at now q) (f later r))
+
+list_at : (k : Known) (s : Scope) (structs : Structs) (t : TypeTree) (offset i : ℕ) (first : InitialiserTree) (rest : Initialisers)
+    → ((u : TypeTree) (at : ℕ) (now : List Piece) → pieces structs u at first ≡ Some now → PiecesAt k s now) → ((later : List Piece) → pieces_from structs t offset (i + 1) rest ≡ Some later → PiecesAt k s later)
+    → (ps : List Piece) (u : Option TypeTree) (at : Option ℕ)
+    → (u >>= λ u. at >>= λ at. pieces structs u (offset + at) first >>= λ now. pieces_from structs t offset (i + 1) rest >>= λ later. Some (now ++ later)) ≡ Some ps → PiecesAt k s ps
+list_at k s structs t offset i first rest h f ps None at e = options.nothing ps e
+list_at k s structs t offset i first rest h f ps (Some u) None e = options.nothing ps e
+list_at k s structs t offset i first rest h f ps (Some u) (Some at) e =
+    first_at k s structs t offset i first rest h f ps u (offset + at) (pieces structs u (offset + at) first) refl (pieces_from structs t offset (i + 1) rest) refl e
+
 mutual
   pieces_at : (k : Known) (s : Scope) (structs : Structs) (t : TypeTree) (offset : ℕ) (i : InitialiserTree) → InitialiserAt k s i → (ps : List Piece) → pieces structs t offset i ≡ Some ps
       → PiecesAt k s ps
-  pieces_at k s structs t offset (trees.value e) h ps p = subst (λ ps. PiecesAt k s ps) (options.same _ ps p) (h, tt)
+  pieces_at k s structs t offset (trees.value e) h ps p = subst (λ ps. PiecesAt k s ps) (options.same (record { offset = offset; type = t; expression = e } ∷ []) ps p) (h, tt)
   pieces_at k s structs t offset (trees.list node is) h ps p = from_at k s structs t offset 0 is h ps p
 
   from_at : (k : Known) (s : Scope) (structs : Structs) (t : TypeTree) (offset i : ℕ) (is : Initialisers) → InitialisersAt k s is → (ps : List Piece) → pieces_from structs t offset i is ≡ Some ps
       → PiecesAt k s ps
-  from_at k s structs t offset i no_initialisers h ps p = subst (λ ps. PiecesAt k s ps) (options.same _ ps p) tt
-  from_at k s structs t offset i (initialiser_and first rest) h ps p = go (part_type structs t i) (part_offset structs t i) p
-    where
-      last : (u : TypeTree) (at : ℕ) (now : Option (List Piece)) → pieces structs u (offset + at) first ≡ now → (later : Option (List Piece)) → pieces_from structs t offset (i + 1) rest ≡ later
-          → (now >>= λ now. later >>= λ later. Some (now ++ later)) ≡ Some ps → PiecesAt k s ps
-      last u at None q later r e = options.nothing ps e
-      last u at (Some now) q None r e = options.nothing ps e
-      last u at (Some now) q (Some later) r e =
-          subst (λ ps. PiecesAt k s ps) (options.same (now ++ later) ps e)
-          (both_at k s now later (pieces_at k s structs u (offset + at) first h.0 now q) (from_at k s structs t offset (i + 1) rest h.1 later r))
-
-      go : (u : Option TypeTree) (at : Option ℕ)
-          → (u >>= λ u. at >>= λ at. pieces structs u (offset + at) first >>= λ now. pieces_from structs t offset (i + 1) rest >>= λ later. Some (now ++ later)) ≡ Some ps → PiecesAt k s ps
-      go None at e = options.nothing ps e
-      go (Some u) None e = options.nothing ps e
-      go (Some u) (Some at) e = last u at (pieces structs u (offset + at) first) refl (pieces_from structs t offset (i + 1) rest) refl e
+  from_at k s structs t offset i no_initialisers h ps p = subst (λ ps. PiecesAt k s ps) (options.same [] ps p) tt
+  from_at k s structs t offset i (initialiser_and first rest) h ps p =
+      list_at k s structs t offset i first rest (λ u at now q. pieces_at k s structs u at first h.0 now q) (λ later r. from_at k s structs t offset (i + 1) rest h.1 later r) ps
+      (part_type structs t i) (part_offset structs t i) p
 
 -- ---- what initialises a local
 

@@ -23,7 +23,7 @@ use Rattle.qs_typed.specs.Known.{Known, Header, at_number, parameters_of, with_t
 
 -- what has this value has it still
 abbrev pub Keeps : {A : Type 0} → Option A → Option A → Type 0
-Keeps o p = (x : _) → o ≡ Some x → p ≡ Some x
+Keeps {A = A} o p = (x : A) → o ≡ Some x → p ≡ Some x
 
 -- the structs of a place are among those of the unit: sizes, members and layouts stay
 pub record Grown (old new : Structs) : Type 0 where

@@ -218,15 +218,12 @@ impl<'a> Known<'a> {
     {
         let t = self.base_type(&name.base)?;
         if name.stars > 0 {
-            return Ok(sized(POINTER_SIZE));
+            return Ok(sized(4));
         }
         let size = size_in(self.env, &t)?;
         Ok(sized(size))
     }
 }
-
-/// The size of a pointer.
-const POINTER_SIZE: u32 = 4;
 
 fn sized(size: u32) -> Form
     ensures { form_tree result ≡ sized size }

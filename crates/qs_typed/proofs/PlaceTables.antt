@@ -20,6 +20,11 @@ use Rattle.qs_meaning.specs.Names.{place_where, place_among, function_number}
 use Rattle.qs_meaning.specs.Expressions.{size_form}
 use Rattle.qs_typed.specs.Known.{Known, with_tags, base_known, named_known, named_size_known, sized, parameters_of}
 use Rattle.qs_typed.specs.KnownOf.{headers_tree}
+use Rattle.std.specs.Prelude.{◌++◌, filter}
+use Rattle.qs_types.specs.Placed.{Local, is_placed}
+use Rattle.qs_meaning.specs.Names.{Locals}
+use Rattle.qs_meaning.specs.Units.{nodes_of, placed_among, plain_among}
+use Rattle.qs_typed.specs.KnownFunctions.{locals_at, places_at, with_parameters, with_locals}
 
 -- ---- the place of the first that passes a test
 
@@ -89,3 +94,30 @@ header_found node (h ∷ hs) ps e =
     by : (b : Bool) → cond b (Some h.1) (lookup (nat_eq node) hs) ≡ Some ps → (if b then Some h.1.items else parameters_of node (headers_tree hs)) ≡ Some ps.items
     by true e = ap (λ (v : Vec Scalar Global). Some v.items) (same h.1 ps e)
     by false e = header_found node hs ps e
+
+-- ---- places of locals
+
+pub added_last : (n : ℕ) (ns : List ℕ) → list_any (nat_eq n) ns ≡ false → (if list_any (nat_eq n) ns then ns else ns ++ n ∷ []) ≡ ns ++ n ∷ []
+added_last n ns e = ap (λ b. if b then ns else ns ++ n ∷ []) e
+
+-- parameters first, and then the locals
+pub placed_in_order : (declared : List (Option TypeTree)) (addressed ps ls : List ℕ) (none with_ps with_ls : Locals) → none ≡ record { variables = []; placed = [] }
+    → with_ps ≡ with_parameters declared addressed ps none → with_ls ≡ with_locals declared addressed ls with_ps → with_ls ≡ places_at declared addressed ps ls
+placed_in_order declared addressed ps ls none with_ps with_ls p q r =
+    r ∙ ap (with_locals declared addressed ls) (q ∙ ap (with_parameters declared addressed ps) p)
+    ∙ λ i. record { variables = variables_in_order ps i; placed = placed_together (locals_at declared ps) (locals_at declared ls) i }
+  where
+    nodes_again : (ns : List ℕ) → nodes_of (locals_at declared ns) ≡ ns
+    nodes_again [] = refl
+    nodes_again (n ∷ ns) = ap (λ rest. n ∷ rest) (nodes_again ns)
+
+    both : (xs ys : List Local) → nodes_of xs ++ nodes_of ys ≡ nodes_of (xs ++ ys)
+    both [] ys = refl
+    both (x ∷ xs) ys = ap (λ rest. x.node ∷ rest) (both xs ys)
+
+    variables_in_order : (ps : List ℕ) → ps ++ nodes_of (plain_among addressed (locals_at declared ls)) ≡ nodes_of (locals_at declared ps ++ plain_among addressed (locals_at declared ls))
+    variables_in_order ps =
+        ap (λ ns. ns ++ nodes_of (plain_among addressed (locals_at declared ls))) (sym (nodes_again ps)) ∙ both (locals_at declared ps) (plain_among addressed (locals_at declared ls))
+
+    placed_together : (xs ys : List Local) → nodes_of (placed_among addressed xs) ++ nodes_of (placed_among addressed ys) ≡ nodes_of (placed_among addressed (xs ++ ys))
+    placed_together xs ys = both (placed_among addressed xs) (placed_among addressed ys) ∙ ap nodes_of (sym (filter-append (is_placed addressed) xs ys))

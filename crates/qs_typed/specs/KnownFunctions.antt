@@ -11,7 +11,8 @@ use Rattle.qs_types.specs.Placed.{Local}
 use Rattle.qs_meaning.specs.Typed.{Function}
 use Rattle.qs_meaning.specs.Conversions.{scalar_of}
 use Rattle.qs_meaning.specs.Names.{Locals, local_lvalue}
-use Rattle.qs_meaning.specs.Units.{placed_among, variables_among, locals_of, scalars_of, sizes_of, parameter_by}
+use Rattle.qs_meaning.specs.Units.{nodes_of, placed_among, plain_among, locals_of, scalars_of, sizes_of, parameter_by}
+use Rattle.qs_types.specs.Types.{TypeTree}
 use Rattle.qs_typed.specs.Known.{Known, at_number}
 use Rattle.qs_typed.specs.KnownStatements.{statements_known}
 
@@ -52,12 +53,28 @@ parameters_nodes ps = map (λ (p : ParameterTree). p.node.id) ps
 
 -- ---- the locals and parameters with their types
 
-abbrev pub locals_known : Known → List ℕ → List Local
-locals_known k nodes = map (λ n. record { node = n; type = at_number k.declared n }) nodes
+-- by the types that the nodes declare
+abbrev pub local_at : (declared : List (Option TypeTree)) → ℕ → Local
+local_at declared n = record { node = n; type = at_number declared n }
+
+abbrev pub locals_at : (declared : List (Option TypeTree)) → List ℕ → List Local
+locals_at declared nodes = map (local_at declared) nodes
 
 -- the places of the locals and parameters of a function, where these are the operands of `&`
-abbrev pub places_known : Known → (addressed parameters locals : List ℕ) → Locals
-places_known k addressed ps ls = locals_of addressed (locals_known k ps) (locals_known k ls)
+abbrev pub places_at : (declared : List (Option TypeTree)) → (addressed parameters locals : List ℕ) → Locals
+places_at declared addressed ps ls = locals_of addressed (locals_at declared ps) (locals_at declared ls)
+
+-- some parameters more, and some locals more
+abbrev pub with_parameters : (declared : List (Option TypeTree)) → (addressed nodes : List ℕ) → Locals → Locals
+with_parameters declared addressed nodes l =
+    record { variables = l.variables ++ nodes; placed = l.placed ++ nodes_of (placed_among addressed (locals_at declared nodes)) }
+
+abbrev pub with_locals : (declared : List (Option TypeTree)) → (addressed nodes : List ℕ) → Locals → Locals
+with_locals declared addressed nodes l =
+    record {
+      variables = l.variables ++ nodes_of (plain_among addressed (locals_at declared nodes));
+      placed = l.placed ++ nodes_of (placed_among addressed (locals_at declared nodes));
+    }
 
 abbrev pub parameter_known : Known → ParameterTree → Option Parameter
 parameter_known k p = at_number k.declared p.node.id >>= λ t. parameter_by (scalar_of t) (local_lvalue k.locals p.node.id)
@@ -66,14 +83,12 @@ abbrev pub parameters_known : Known → List ParameterTree → Option (List Para
 parameters_known k [] = Some []
 parameters_known k (p ∷ ps) = parameter_known k p >>= λ now. parameters_known k ps >>= λ rest. Some (now ∷ rest)
 
--- ---- functions; the result and the places are those of the function
+-- ---- functions; the result and the places are those of the function, and the locals stand in these
 
-abbrev pub function_known : Known → (addressed : List ℕ) → FunctionTree → Stmts → Option Function
-function_known k addressed f body =
-    let ps = locals_known k (parameters_nodes f.parameters) in
-    let ls = locals_known k (statements_nodes body) in
-    parameters_known k f.parameters >>= λ parameters. scalars_of (variables_among addressed ps ls) >>= λ scalars.
-    sizes_of k.structs (placed_among addressed (ps ++ ls)) >>= λ sizes. statements_known k body >>= λ statements.
+abbrev pub function_known : Known → FunctionTree → Stmts → Option Function
+function_known k f body =
+    parameters_known k f.parameters >>= λ parameters. scalars_of (locals_at k.declared k.locals.variables) >>= λ scalars.
+    sizes_of k.structs (locals_at k.declared k.locals.placed) >>= λ sizes. statements_known k body >>= λ statements.
     Some (record {
       name = f.name;
       result = k.result;

@@ -6,7 +6,7 @@ ghost use Rattle.qs_types.specs.Conversions.{arithmetic, common, decayed, promot
 ghost use Rattle.qs_types.specs.EnvOf.{env_tree};
 ghost use Rattle.qs_types.specs.Layout.{extent_of, size_of};
 ghost use Rattle.qs_types.specs.TypeOf.{type_tree};
-ghost use Rattle.qs_types.specs.Types.{is_array, is_pointer, is_struct, referenced, same_type, unsigned};
+ghost use Rattle.qs_types.specs.Types.{is_array, is_pointer, is_scalar, is_struct, referenced, same_type, unsigned};
 ghost use Rattle.qs_typed.specs.TreeOf.{conversion_tree};
 ghost use Rattle.qs_typed.specs.Parts.{between};
 
@@ -73,6 +73,21 @@ pub fn is_struct(t: &CType) -> bool
         CType::Pointer(_) => false,
         CType::Array(_, _) => false,
         CType::Struct(_) => true,
+    }
+}
+
+/// Whether it is an integer or a pointer (C11 6.2.5p21).
+pub fn is_scalar(t: &CType) -> bool
+    ensures { result ≡ is_scalar (type_tree t.now) }
+{
+    match t {
+        CType::Int => true,
+        CType::Unsigned => true,
+        CType::Char => true,
+        CType::Void => false,
+        CType::Pointer(_) => true,
+        CType::Array(_, _) => false,
+        CType::Struct(_) => false,
     }
 }
 

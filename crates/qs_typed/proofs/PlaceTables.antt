@@ -21,6 +21,7 @@ use Rattle.qs_meaning.specs.Expressions.{size_form}
 use Rattle.qs_typed.specs.Known.{Known, with_tags, base_known, named_known, named_size_known, sized, parameters_of}
 use Rattle.qs_typed.specs.KnownOf.{headers_tree}
 use Rattle.std.specs.Prelude.{◌++◌, filter}
+use Rattle.std.proofs.lemmas.List.Elements.{filter-append}
 use Rattle.qs_types.specs.Placed.{Local, is_placed}
 use Rattle.qs_meaning.specs.Names.{Locals}
 use Rattle.qs_meaning.specs.Units.{nodes_of, placed_among, plain_among}

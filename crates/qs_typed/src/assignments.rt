@@ -19,7 +19,7 @@ use std::alloc::Global;
 
 /// The value is converted to the type of the lvalue (C11 6.5.16.1p2).
 fn set_form(alloc: Global, a: Typed<'_>, b: Typed<'_>) -> Result<Form, NoMemory>
-    ensures { IfOk result (λ f. set_form (typed_tree a) (typed_tree b) ≡ Some (form_tree f)) }
+    ensures { IfOk result (λ f. set_form (typed_tree a.entry) (typed_tree b.entry) ≡ Some (form_tree f)) }
 {
     let lvalue = lvalue_of(a.form)?;
     let from = type_in_use(alloc, &b)?;
@@ -38,7 +38,7 @@ fn set_form(alloc: Global, a: Typed<'_>, b: Typed<'_>) -> Result<Form, NoMemory>
 
 /// A struct (C11 6.5.16.1p2).
 fn struct_form(alloc: Global, env: &Env, a: Typed<'_>, b: Typed<'_>) -> Result<Form, NoMemory>
-    ensures { IfOk result (λ f. struct_form (env_tree env.now) (typed_tree a) (typed_tree b) ≡ Some (form_tree f)) }
+    ensures { IfOk result (λ f. struct_form (env_tree env.now) (typed_tree a.entry) (typed_tree b.entry) ≡ Some (form_tree f)) }
 {
     let extent = extent_in(env, a.of)?;
     let to = address_of(a.form)?;
@@ -53,7 +53,7 @@ fn struct_form(alloc: Global, env: &Env, a: Typed<'_>, b: Typed<'_>) -> Result<F
 
 /// `=` (C11 6.5.16.1).
 pub fn plain_form(alloc: Global, env: &Env, a: Typed<'_>, b: Typed<'_>) -> Result<Form, NoMemory>
-    ensures { IfOk result (λ f. plain_form (env_tree env.now) (typed_tree a) (typed_tree b) ≡ Some (form_tree f)) }
+    ensures { IfOk result (λ f. plain_form (env_tree env.now) (typed_tree a.entry) (typed_tree b.entry) ≡ Some (form_tree f)) }
 {
     if is_struct(a.of) {
         struct_form(alloc, env, a, b)
@@ -96,7 +96,7 @@ fn compound_form(
     a: Typed<'_>,
     b: Typed<'_>,
 ) -> Result<Form, NoMemory>
-    ensures { IfOk result (λ f. compound_form (env_tree env.now) operator (typed_tree a) (typed_tree b) ≡ Some (form_tree f)) }
+    ensures { IfOk result (λ f. compound_form (env_tree env.now) operator (typed_tree a.entry) (typed_tree b.entry) ≡ Some (form_tree f)) }
 {
     let lvalue = lvalue_of(a.form)?;
     let u = type_in_use(alloc, &b)?;
@@ -113,7 +113,7 @@ pub fn assign_form(
     a: Typed<'_>,
     b: Typed<'_>,
 ) -> Result<Form, NoMemory>
-    ensures { IfOk result (λ f. assign_form (env_tree env.now) operator (typed_tree a) (typed_tree b) ≡ Some (form_tree f)) }
+    ensures { IfOk result (λ f. assign_form (env_tree env.now) operator (typed_tree a.entry) (typed_tree b.entry) ≡ Some (form_tree f)) }
 {
     match operator {
         AssignmentOperator::Plain => plain_form(alloc, env, a, b),
@@ -142,7 +142,7 @@ fn step_before_form(
     operator: BinaryOperator,
     a: Typed<'_>,
 ) -> Result<Form, NoMemory>
-    ensures { IfOk result (λ f. compound_form (env_tree env.now) operator (typed_tree a) one ≡ Some (form_tree f)) }
+    ensures { IfOk result (λ f. compound_form (env_tree env.now) operator (typed_tree a.entry) one ≡ Some (form_tree f)) }
 {
     let lvalue = lvalue_of(a.form)?;
     let o = operation_of(env, operator, a.of, &CType::Int)?;
@@ -157,7 +157,7 @@ fn step_after_form(
     operator: BinaryOperator,
     a: Typed<'_>,
 ) -> Result<Form, NoMemory>
-    ensures { IfOk result (λ f. step_after_form (env_tree env.now) operator (typed_tree a) ≡ Some (form_tree f)) }
+    ensures { IfOk result (λ f. step_after_form (env_tree env.now) operator (typed_tree a.entry) ≡ Some (form_tree f)) }
 {
     let lvalue = lvalue_of(a.form)?;
     let o = operation_of(env, operator, a.of, &CType::Int)?;
@@ -182,7 +182,7 @@ pub fn step_form(
     operator: StepOperator,
     a: Typed<'_>,
 ) -> Result<Form, NoMemory>
-    ensures { IfOk result (λ f. step_form (env_tree env.now) operator (typed_tree a) ≡ Some (form_tree f)) }
+    ensures { IfOk result (λ f. step_form (env_tree env.now) operator (typed_tree a.entry) ≡ Some (form_tree f)) }
 {
     match operator {
         StepOperator::IncrementBefore => step_before_form(alloc, env, BinaryOperator::Add, a),

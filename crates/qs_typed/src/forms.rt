@@ -209,14 +209,14 @@ pub fn type_in_use(alloc: Global, a: &Typed<'_>) -> Result<CType, NoMemory>
 
 /// Its value.
 pub fn value_in_use(alloc: Global, a: Typed<'_>) -> Result<Expression, NoMemory>
-    ensures { IfOk result (λ e. value_in_use (typed_tree a) ≡ expression_tree e) }
+    ensures { IfOk result (λ e. value_in_use (typed_tree a.entry) ≡ expression_tree e) }
 {
     value_of(alloc, a.of, a.form)
 }
 
 /// Its effect.
 pub fn effect_in_use(alloc: Global, a: Typed<'_>) -> Result<Effect, NoMemory>
-    ensures { IfOk result (λ e. effect_in_use (typed_tree a) ≡ effect_tree e) }
+    ensures { IfOk result (λ e. effect_in_use (typed_tree a.entry) ≡ effect_tree e) }
 {
     effect_of(alloc, a.of, a.form)
 }

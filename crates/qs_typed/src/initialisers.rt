@@ -86,7 +86,7 @@ fn assigned_set(
     part: Typed<'_>,
     e: &Expr,
 ) -> Result<Effect, NoMemory>
-    ensures { IfOk result (λ r. assigned_set_known (known_tree k.now) (typed_tree part) (expr_tree e.now) ≡ Some (effect_tree r)) }
+    ensures { IfOk result (λ r. assigned_set_known (known_tree k.now) (typed_tree part.entry) (expr_tree e.now) ≡ Some (effect_tree r)) }
 {
     let a = typed(alloc, k, e)?;
     let of = part.of;
@@ -109,7 +109,7 @@ fn piece_set(
     base: Object,
     p: Piece<'_>,
 ) -> Result<Effect, NoMemory>
-    ensures { IfOk result (λ r. piece_set_known (known_tree k.now) (pointer_to (object_tree base)) (piece_tree p) ≡ Some (effect_tree r)) }
+    ensures { IfOk result (λ r. piece_set_known (known_tree k.now) (pointer_to (object_tree base)) (piece_tree p.entry) ≡ Some (effect_tree r)) }
 {
     let to = part_at(alloc, base, p.offset)?;
     if is_array(p.of) {

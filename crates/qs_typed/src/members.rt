@@ -90,7 +90,7 @@ fn member_at(alloc: Global, offset: u32, base: Expression) -> Result<Form, NoMem
 
 /// `e.x` of an lvalue (C11 6.5.2.3p3).
 fn dot_form(alloc: Global, env: &Env, a: Typed<'_>, name: &Name) -> Result<Form, NoMemory>
-    ensures { IfOk result (λ f. dot_form (env_tree env.now) (typed_tree a) name.now ≡ Some (form_tree f)) }
+    ensures { IfOk result (λ f. dot_form (env_tree env.now) (typed_tree a.entry) name.now ≡ Some (form_tree f)) }
 {
     let base = address_of(a.form)?;
     let offset = member_offset(env, a.of, name)?;
@@ -100,7 +100,7 @@ fn dot_form(alloc: Global, env: &Env, a: Typed<'_>, name: &Name) -> Result<Form,
 /// `p->x` (C11 6.5.2.3p4).
 #[tactic(auto, using(crate::proofs::Operated::referenced_in_use))]
 fn arrow_form(alloc: Global, env: &Env, a: Typed<'_>, name: &Name) -> Result<Form, NoMemory>
-    ensures { IfOk result (λ f. arrow_form (env_tree env.now) (typed_tree a) name.now ≡ Some (form_tree f)) }
+    ensures { IfOk result (λ f. arrow_form (env_tree env.now) (typed_tree a.entry) name.now ≡ Some (form_tree f)) }
 {
     let offset = member_offset(env, referenced(a.of), name)?;
     let base = value_in_use(alloc, a)?;
@@ -115,7 +115,7 @@ pub fn member_form(
     a: Typed<'_>,
     name: &Name,
 ) -> Result<Form, NoMemory>
-    ensures { IfOk result (λ f. member_form (env_tree env.now) access (typed_tree a) name.now ≡ Some (form_tree f)) }
+    ensures { IfOk result (λ f. member_form (env_tree env.now) access (typed_tree a.entry) name.now ≡ Some (form_tree f)) }
 {
     match access {
         Access::Dot => dot_form(alloc, env, a, name),

@@ -29,7 +29,7 @@ pub fn object_at(alloc: Global, address: Expression) -> Result<Form, NoMemory>
 
 /// An operation on two values.
 fn operated(alloc: Global, o: Operated, a: Typed<'_>, b: Typed<'_>) -> Result<Expression, NoMemory>
-    ensures { IfOk result (λ e. operated_by (operated_tree o) (typed_tree a) (typed_tree b) ≡ expression_tree e) }
+    ensures { IfOk result (λ e. operated_by (operated_tree o) (typed_tree a.entry) (typed_tree b.entry) ≡ expression_tree e) }
 {
     let left = value_in_use(alloc, a)?;
     let right = value_in_use(alloc, b)?;
@@ -52,7 +52,7 @@ pub fn operator_value(
     a: Typed<'_>,
     b: Typed<'_>,
 ) -> Result<Expression, NoMemory>
-    ensures { IfOk result (λ e. operator_value (env_tree env.now) operator (typed_tree a) (typed_tree b) ≡ Some (expression_tree e)) }
+    ensures { IfOk result (λ e. operator_value (env_tree env.now) operator (typed_tree a.entry) (typed_tree b.entry) ≡ Some (expression_tree e)) }
 {
     let t = type_in_use(alloc, &a)?;
     let u = type_in_use(alloc, &b)?;
@@ -67,7 +67,7 @@ fn operator_form(
     a: Typed<'_>,
     b: Typed<'_>,
 ) -> Result<Form, NoMemory>
-    ensures { IfOk result (λ f. operator_form (env_tree env.now) operator (typed_tree a) (typed_tree b) ≡ Some (form_tree f)) }
+    ensures { IfOk result (λ f. operator_form (env_tree env.now) operator (typed_tree a.entry) (typed_tree b.entry) ≡ Some (form_tree f)) }
 {
     let e = operator_value(alloc, env, operator, a, b)?;
     Ok(Form::Value(e))
@@ -80,14 +80,14 @@ pub fn subscript_form(
     a: Typed<'_>,
     b: Typed<'_>,
 ) -> Result<Form, NoMemory>
-    ensures { IfOk result (λ f. subscript_form (env_tree env.now) (typed_tree a) (typed_tree b) ≡ Some (form_tree f)) }
+    ensures { IfOk result (λ f. subscript_form (env_tree env.now) (typed_tree a.entry) (typed_tree b.entry) ≡ Some (form_tree f)) }
 {
     let sum = operator_value(alloc, env, BinaryOperator::Add, a, b)?;
     object_at(alloc, sum)
 }
 
 fn and_form(alloc: Global, env: &Env, a: Typed<'_>, b: Typed<'_>) -> Result<Form, NoMemory>
-    ensures { IfOk result (λ f. binary_form (env_tree env.now) BinaryOperator.And (typed_tree a) (typed_tree b) ≡ Some (form_tree f)) }
+    ensures { IfOk result (λ f. binary_form (env_tree env.now) BinaryOperator.And (typed_tree a.entry) (typed_tree b.entry) ≡ Some (form_tree f)) }
 {
     let left = value_in_use(alloc, a)?;
     let right = value_in_use(alloc, b)?;
@@ -98,7 +98,7 @@ fn and_form(alloc: Global, env: &Env, a: Typed<'_>, b: Typed<'_>) -> Result<Form
 }
 
 fn or_form(alloc: Global, env: &Env, a: Typed<'_>, b: Typed<'_>) -> Result<Form, NoMemory>
-    ensures { IfOk result (λ f. binary_form (env_tree env.now) BinaryOperator.Or (typed_tree a) (typed_tree b) ≡ Some (form_tree f)) }
+    ensures { IfOk result (λ f. binary_form (env_tree env.now) BinaryOperator.Or (typed_tree a.entry) (typed_tree b.entry) ≡ Some (form_tree f)) }
 {
     let left = value_in_use(alloc, a)?;
     let right = value_in_use(alloc, b)?;
@@ -116,7 +116,7 @@ pub fn binary_form(
     a: Typed<'_>,
     b: Typed<'_>,
 ) -> Result<Form, NoMemory>
-    ensures { IfOk result (λ f. binary_form (env_tree env.now) operator (typed_tree a) (typed_tree b) ≡ Some (form_tree f)) }
+    ensures { IfOk result (λ f. binary_form (env_tree env.now) operator (typed_tree a.entry) (typed_tree b.entry) ≡ Some (form_tree f)) }
 {
     match operator {
         BinaryOperator::And => and_form(alloc, env, a, b),
@@ -146,7 +146,7 @@ pub fn binary_form(
 
 /// `&` (C11 6.5.3.2p3).
 fn address_form(a: Typed<'_>) -> Result<Form, NoMemory>
-    ensures { IfOk result (λ f. address_form (typed_tree a) ≡ Some (form_tree f)) }
+    ensures { IfOk result (λ f. address_form (typed_tree a.entry) ≡ Some (form_tree f)) }
 {
     let address = address_of(a.form)?;
     Ok(Form::Value(address))
@@ -154,14 +154,14 @@ fn address_form(a: Typed<'_>) -> Result<Form, NoMemory>
 
 /// `*` (C11 6.5.3.2p4).
 fn indirect_form(alloc: Global, a: Typed<'_>) -> Result<Form, NoMemory>
-    ensures { IfOk result (λ f. form_tree f ≡ indirect_form (typed_tree a)) }
+    ensures { IfOk result (λ f. form_tree f ≡ indirect_form (typed_tree a.entry)) }
 {
     let address = value_in_use(alloc, a)?;
     object_at(alloc, address)
 }
 
 fn plus_form(alloc: Global, a: Typed<'_>) -> Result<Form, NoMemory>
-    ensures { IfOk result (λ f. form_tree f ≡ arithmetic_form Plus (typed_tree a)) }
+    ensures { IfOk result (λ f. form_tree f ≡ arithmetic_form Plus (typed_tree a.entry)) }
 {
     let t = type_in_use(alloc, &a)?;
     let to = promoted(&t);
@@ -174,7 +174,7 @@ fn plus_form(alloc: Global, a: Typed<'_>) -> Result<Form, NoMemory>
 }
 
 fn minus_form(alloc: Global, a: Typed<'_>) -> Result<Form, NoMemory>
-    ensures { IfOk result (λ f. form_tree f ≡ arithmetic_form Minus (typed_tree a)) }
+    ensures { IfOk result (λ f. form_tree f ≡ arithmetic_form Minus (typed_tree a.entry)) }
 {
     let t = type_in_use(alloc, &a)?;
     let to = promoted(&t);
@@ -187,7 +187,7 @@ fn minus_form(alloc: Global, a: Typed<'_>) -> Result<Form, NoMemory>
 }
 
 fn complement_form(alloc: Global, a: Typed<'_>) -> Result<Form, NoMemory>
-    ensures { IfOk result (λ f. form_tree f ≡ arithmetic_form Complement (typed_tree a)) }
+    ensures { IfOk result (λ f. form_tree f ≡ arithmetic_form Complement (typed_tree a.entry)) }
 {
     let t = type_in_use(alloc, &a)?;
     let to = promoted(&t);
@@ -209,7 +209,7 @@ fn beside_zero<'a>(t: &'a CType, both: &'a CType) -> &'a CType
 
 /// `!` (C11 6.5.3.3p5).
 fn negation_form(alloc: Global, a: Typed<'_>) -> Result<Form, NoMemory>
-    ensures { IfOk result (λ f. form_tree f ≡ negation_form (typed_tree a)) }
+    ensures { IfOk result (λ f. form_tree f ≡ negation_form (typed_tree a.entry)) }
 {
     let t = type_in_use(alloc, &a)?;
     let both = arithmetic(&CType::Int, &t);
@@ -225,7 +225,7 @@ fn negation_form(alloc: Global, a: Typed<'_>) -> Result<Form, NoMemory>
 
 /// A unary operator (C11 6.5.3.2, 6.5.3.3).
 pub fn unary_form(alloc: Global, operator: UnaryOperator, a: Typed<'_>) -> Result<Form, NoMemory>
-    ensures { IfOk result (λ f. unary_form operator (typed_tree a) ≡ Some (form_tree f)) }
+    ensures { IfOk result (λ f. unary_form operator (typed_tree a.entry) ≡ Some (form_tree f)) }
 {
     match operator {
         UnaryOperator::Address => address_form(a),
@@ -247,7 +247,7 @@ pub fn size_form(env: &Env, t: &CType) -> Result<Form, NoMemory>
 
 /// A cast (C11 6.5.4p5).
 pub fn cast_form(alloc: Global, t: &CType, a: Typed<'_>) -> Result<Form, NoMemory>
-    ensures { IfOk result (λ f. form_tree f ≡ cast_form (type_tree t.now) (typed_tree a)) }
+    ensures { IfOk result (λ f. form_tree f ≡ cast_form (type_tree t.now) (typed_tree a.entry)) }
 {
     let from = type_in_use(alloc, &a)?;
     let value = value_in_use(alloc, a)?;
@@ -264,7 +264,7 @@ pub fn conditional_form(
     a: Typed<'_>,
     b: Typed<'_>,
 ) -> Result<Form, NoMemory>
-    ensures { IfOk result (λ f. form_tree f ≡ conditional_form (typed_tree c) (typed_tree a) (typed_tree b)) }
+    ensures { IfOk result (λ f. form_tree f ≡ conditional_form (typed_tree c.entry) (typed_tree a.entry) (typed_tree b.entry)) }
 {
     let t = type_in_use(alloc, &a)?;
     let u = type_in_use(alloc, &b)?;
@@ -288,7 +288,7 @@ pub fn conditional_form(
 
 /// `,`: the left operand is used for its effect (C11 6.5.17p2).
 pub fn comma_form(alloc: Global, a: Typed<'_>, b: Typed<'_>) -> Result<Form, NoMemory>
-    ensures { IfOk result (λ f. form_tree f ≡ comma_form (typed_tree a) (typed_tree b)) }
+    ensures { IfOk result (λ f. form_tree f ≡ comma_form (typed_tree a.entry) (typed_tree b.entry)) }
 {
     let before = effect_in_use(alloc, a)?;
     let of = b.of.copy(alloc)?;

@@ -35,7 +35,7 @@ fn constant_form(n: u32, is_unsigned: bool) -> Form
 /// An argument is converted to the type of its parameter (C11 6.5.2.2p7).
 #[tactic(auto, using(crate::proofs::Operated::scalar_in_use))]
 fn with_conversion(alloc: Global, s: Scalar, a: Typed<'_>) -> Result<Argument, NoMemory>
-    ensures { IfOk result (λ r. argument_tree r ≡ with_conversion s (typed_tree a)) }
+    ensures { IfOk result (λ r. argument_tree r ≡ with_conversion s (typed_tree a.entry)) }
 {
     let conversion = between(scalar_of(a.of), s);
     let value = value_in_use(alloc, a)?;

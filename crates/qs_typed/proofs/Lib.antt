@@ -7,3 +7,5 @@ pub mod Kept
 pub mod Grown
 pub mod Tied
 pub mod TiedStatements
+pub mod KnownNodes
+pub mod Inside

@@ -9,3 +9,4 @@ pub mod Tied
 pub mod TiedStatements
 pub mod KnownNodes
 pub mod Inside
+pub mod Later

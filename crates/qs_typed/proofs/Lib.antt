@@ -10,3 +10,4 @@ pub mod TiedStatements
 pub mod KnownNodes
 pub mod Inside
 pub mod Later
+pub mod KnownBodies

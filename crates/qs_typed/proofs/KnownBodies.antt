@@ -1,0 +1,169 @@
+-- Lists by the numbers of nodes have what is known at each place of a body.
+use Rattle.std.proofs.Common.{◌≡◌, ℕ, Bool, true, false, List, [], ◌∷◌, ◌++◌, Option, Some, None, option_map, refl, sym, ap, ◌∙◌}
+use Rattle.qs_memory.specs.declared.scalar.Scalar.{Scalar}
+use Rattle.qs_syntax.specs.declared.nodes.Node.{Node}
+use Rattle.qs_syntax.specs.declared.types.Base.{Base}
+use Rattle.qs_syntax.specs.Trees.{ExprTree, InitialiserTree, Initialisers, no_initialisers, initialiser_and, VariableTree, StartTree, no_start, start_expression, start_declaration, StmtTree, Stmts, no_stmts, stmt_and, Else, no_else, else_by}
+use Rattle.qs_syntax.specs.Trees as trees
+use Rattle.qs_types.specs.Types.{TypeTree}
+use Rattle.qs_types.specs.Contexts.{Context, inner_scope, inside_loop}
+use Rattle.qs_types.specs.Declarations.{variable_declared}
+use Rattle.qs_types.specs.Expressions.{type_of}
+use Rattle.qs_types.specs.StatementRules.{after_variable, after_variables, after_statement, after_start, for_context}
+use Rattle.qs_typing.specs.declared.entity.Referent.{Referent}
+use Rattle.qs_typing.specs.ExprFindings.{referent_of, node_of, of_nodes}
+use Rattle.qs_typing.specs.UnitNodes.{of_option, of_declarator, of_initialiser, of_initialisers, of_option_initialiser, of_variables, of_start, of_statement, of_statements, of_else}
+use Rattle.qs_meaning.specs.Conversions.{scalar_of}
+use Rattle.qs_meaning.specs.Names.{Scope, within}
+use Rattle.qs_meaning.specs.Statements.{behind_variable, inner, loop_body, in_for}
+use Rattle.qs_typed.specs.Known.{Known, at_number}
+use Rattle.qs_typed.specs.Agrees.{ExpressionAt, OptionAt, InitialiserAt, InitialisersAt, InitialAt, VariableAt, VariablesAt, StartAt, StatementAt, StatementsAt, ElseAt}
+use Rattle.qs_typed.proofs.KnownNodes.{Each, each_left, each_right, StandsIn, nodes_known}
+use Rattle.qs_typed.proofs.Inside.{Inside, inner_inside, loop_inside, local_inside}
+
+-- ---- each node with its type, and with what its name stands for
+
+abbrev Typing : Type 0
+Typing = Node × Option TypeTree
+
+abbrev Naming : Type 0
+Naming = Node × Option Referent
+
+abbrev no_type : Node → Typing
+no_type node = (node, None)
+
+abbrev its_type : Context → ExprTree → Typing
+its_type c e = (node_of e, type_of c e)
+
+abbrev no_referent : Node → Naming
+no_referent node = (node, None)
+
+abbrev its_referent : Context → ExprTree → Naming
+its_referent c e = (node_of e, referent_of c e)
+
+-- both lists stand by the numbers of the nodes
+abbrev pub Stand : Known → List Typing → List Naming → Type 0
+Stand k ts rs = Each (StandsIn k.types) ts × Each (StandsIn k.referents) rs
+
+left : (k : Known) (ts us : List Typing) (rs ns : List Naming) → Stand k (ts ++ us) (rs ++ ns) → Stand k ts rs
+left k ts us rs ns h = (each_left (StandsIn k.types) ts us h.0, each_left (StandsIn k.referents) rs ns h.1)
+
+right : (k : Known) (ts us : List Typing) (rs ns : List Naming) → Stand k (ts ++ us) (rs ++ ns) → Stand k us ns
+right k ts us rs ns h = (each_right (StandsIn k.types) ts us h.0, each_right (StandsIn k.referents) rs ns h.1)
+
+behind : (k : Known) (t : Typing) (ts : List Typing) (r : Naming) (rs : List Naming) → Stand k (t ∷ ts) (r ∷ rs) → Stand k ts rs
+behind k t ts r rs h = (h.0.1, h.1.1)
+
+-- ---- the declared types of a body
+
+abbrev pub VariablesDeclared : Known → Context → Base → List VariableTree → Type 0
+VariablesDeclared k c base [] = Unit {0}
+VariablesDeclared k c base (v ∷ vs) =
+    (at_number k.declared v.declarator.node.id ≡ (variable_declared c base v).type) × VariablesDeclared k (after_variable false c base v) base vs
+
+abbrev pub StartDeclared : Known → Context → StartTree → Type 0
+StartDeclared k c no_start = Unit {0}
+StartDeclared k c (start_expression e) = Unit {0}
+StartDeclared k c (start_declaration d) = VariablesDeclared k c d.base d.variables
+
+abbrev mutual
+  pub StatementDeclared : Known → Context → StmtTree → Type 0
+  StatementDeclared k c (trees.empty node) = Unit {0}
+  StatementDeclared k c (trees.expression node e) = Unit {0}
+  StatementDeclared k c (trees.declaration d) = VariablesDeclared k c d.base d.variables
+  StatementDeclared k c (trees.block ss) = StatementsDeclared k (inner_scope c) ss
+  StatementDeclared k c (trees.branch node e s r) = StatementDeclared k (inner_scope c) s × ElseDeclared k c r
+  StatementDeclared k c (trees.while_loop node e s) = StatementDeclared k (inside_loop (inner_scope c)) s
+  StatementDeclared k c (trees.do_loop node s e) = StatementDeclared k (inside_loop (inner_scope c)) s
+  StatementDeclared k c (trees.for_loop node start e u s) = StartDeclared k (inner_scope c) start × StatementDeclared k (inside_loop (inner_scope (for_context c start))) s
+  StatementDeclared k c (trees.break node) = Unit {0}
+  StatementDeclared k c (trees.continue node) = Unit {0}
+  StatementDeclared k c (trees.return node e) = Unit {0}
+
+  pub StatementsDeclared : Known → Context → Stmts → Type 0
+  StatementsDeclared k c no_stmts = Unit {0}
+  StatementsDeclared k c (stmt_and s ss) = StatementDeclared k c s × StatementsDeclared k (after_statement c s) ss
+
+  pub ElseDeclared : Known → Context → Else → Type 0
+  ElseDeclared k c no_else = Unit {0}
+  ElseDeclared k c (else_by s) = StatementDeclared k (inner_scope c) s
+
+-- ---- expressions
+
+expression_at : (k : Known) (s : Scope) → Inside k s → (e : ExprTree) → Stand k (of_nodes (its_type s.context) e) (of_nodes (its_referent s.context) e) → ExpressionAt k s e
+expression_at k s h e n = (h.agrees, (h.given, nodes_known k s.context e n.0 n.1))
+
+option_at : (k : Known) (s : Scope) → Inside k s → (e : Option ExprTree) → Stand k (of_option no_type its_type s.context e) (of_option no_referent its_referent s.context e) → OptionAt k s e
+option_at k s h None n = tt
+option_at k s h (Some e) n = expression_at k s h e n
+
+mutual
+  initialiser_at : (k : Known) (s : Scope) → Inside k s → (i : InitialiserTree) → Stand k (of_initialiser no_type its_type s.context i) (of_initialiser no_referent its_referent s.context i)
+      → InitialiserAt k s i
+  initialiser_at k s h (trees.value e) n = expression_at k s h e n
+  initialiser_at k s h (trees.list node is) n = initialisers_at k s h is (behind k _ _ _ _ n)
+
+  initialisers_at : (k : Known) (s : Scope) → Inside k s → (is : Initialisers) → Stand k (of_initialisers no_type its_type s.context is) (of_initialisers no_referent its_referent s.context is)
+      → InitialisersAt k s is
+  initialisers_at k s h no_initialisers n = tt
+  initialisers_at k s h (initialiser_and i is) n =
+      let ti = of_initialiser no_type its_type s.context i in
+      let ri = of_initialiser no_referent its_referent s.context i in
+      (initialiser_at k s h i (left k ti _ ri _ n), initialisers_at k s h is (right k ti _ ri _ n))
+
+initial_at : (k : Known) (s : Scope) → Inside k s → (i : Option InitialiserTree) → Stand k (of_option_initialiser no_type its_type s.context i) (of_option_initialiser no_referent its_referent s.context i)
+    → InitialAt k s i
+initial_at k s h None n = tt
+initial_at k s h (Some i) n = (h.agrees, initialiser_at k s h i n)
+
+-- ---- declarations
+
+variable_inside : (k : Known) (s : Scope) → Inside k s → (base : Base) (v : VariableTree) → Inside k (behind_variable s base v)
+variable_inside k s h base v = local_inside k s v.declarator.name v.declarator.node.id (variable_declared s.context base v).type h
+
+variables_at : (k : Known) (s : Scope) → Inside k s → (base : Base) (vs : List VariableTree) → VariablesDeclared k s.context base vs
+    → Stand k (of_variables no_type its_type false s.context base vs) (of_variables no_referent its_referent false s.context base vs) → VariablesAt k s base vs
+variables_at k s h base [] d n = tt
+variables_at k s h base (v ∷ vs) d n =
+    let after = behind_variable s base v in
+    let td = of_declarator no_type its_type s.context v.declarator in
+    let rd = of_declarator no_referent its_referent s.context v.declarator in
+    let ti = of_option_initialiser no_type its_type after.context v.initialiser in
+    let ri = of_option_initialiser no_referent its_referent after.context v.initialiser in
+    let inside : Inside k after = variable_inside k s h base v in
+    ((d.0, initial_at k after inside v.initialiser (right k td ti rd ri (left k (td ++ ti) _ (rd ++ ri) _ n))),
+    variables_at k after inside base vs d.1 (right k (td ++ ti) _ (rd ++ ri) _ n))
+
+variables_inside : (k : Known) (s : Scope) → Inside k s → (base : Base) (vs : List VariableTree) → Inside k (within s (after_variables false s.context base vs))
+variables_inside k s h base [] = h
+variables_inside k s h base (v ∷ vs) = variables_inside k (behind_variable s base v) (variable_inside k s h base v) base vs
+
+start_at : (k : Known) (s : Scope) → Inside k s → (start : StartTree) → StartDeclared k s.context start
+    → Stand k (of_start no_type its_type s.context start) (of_start no_referent its_referent s.context start) → StartAt k s start
+start_at k s h no_start d n = tt
+start_at k s h (start_expression e) d n = expression_at k s h e n
+start_at k s h (start_declaration t) d n = variables_at k s h t.base t.variables d n
+
+start_inside : (k : Known) (s : Scope) → Inside k s → (start : StartTree) → Inside k (within s (after_start s.context start))
+start_inside k s h no_start = h
+start_inside k s h (start_expression e) = h
+start_inside k s h (start_declaration d) = variables_inside k s h d.base d.variables
+
+for_inside : (k : Known) (s : Scope) → Inside k s → (start : StartTree) → Inside k (in_for s start)
+for_inside k s h start = start_inside k (inner s) (inner_inside k s h) start
+
+loop_in : (k : Known) (s : Scope) → Inside k s → Inside k (loop_body s)
+loop_in k s h = loop_inside k (inner s) (inner_inside k s h)
+
+statement_inside : (k : Known) (s : Scope) → Inside k s → (t : StmtTree) → Inside k (within s (after_statement s.context t))
+statement_inside k s h (trees.empty node) = h
+statement_inside k s h (trees.expression node e) = h
+statement_inside k s h (trees.declaration d) = variables_inside k s h d.base d.variables
+statement_inside k s h (trees.block ss) = h
+statement_inside k s h (trees.branch node e t r) = h
+statement_inside k s h (trees.while_loop node e t) = h
+statement_inside k s h (trees.do_loop node t e) = h
+statement_inside k s h (trees.for_loop node start e u t) = h
+statement_inside k s h (trees.break node) = h
+statement_inside k s h (trees.continue node) = h
+statement_inside k s h (trees.return node e) = h

@@ -167,3 +167,104 @@ statement_inside k s h (trees.for_loop node start e u t) = h
 statement_inside k s h (trees.break node) = h
 statement_inside k s h (trees.continue node) = h
 statement_inside k s h (trees.return node e) = h
+
+-- ---- statements; the result is that of the function in every scope of its body
+
+abbrev ResultIs : Known → Context → Type 0
+ResultIs k c = k.result ≡ option_map scalar_of c.result
+
+variables_result : (k : Known) (c : Context) (base : Base) (vs : List VariableTree) → ResultIs k c → ResultIs k (after_variables false c base vs)
+variables_result k c base [] r = r
+variables_result k c base (v ∷ vs) r = variables_result k (after_variable false c base v) base vs r
+
+start_result : (k : Known) (c : Context) (start : StartTree) → ResultIs k c → ResultIs k (after_start c start)
+start_result k c no_start r = r
+start_result k c (start_expression e) r = r
+start_result k c (start_declaration d) r = variables_result k c d.base d.variables r
+
+statement_result : (k : Known) (c : Context) (t : StmtTree) → ResultIs k c → ResultIs k (after_statement c t)
+statement_result k c (trees.empty node) r = r
+statement_result k c (trees.expression node e) r = r
+statement_result k c (trees.declaration d) r = variables_result k c d.base d.variables r
+statement_result k c (trees.block ss) r = r
+statement_result k c (trees.branch node e t o) r = r
+statement_result k c (trees.while_loop node e t) r = r
+statement_result k c (trees.do_loop node t e) r = r
+statement_result k c (trees.for_loop node start e u t) r = r
+statement_result k c (trees.break node) r = r
+statement_result k c (trees.continue node) r = r
+statement_result k c (trees.return node e) r = r
+
+abbrev types_in : Context → StmtTree → List Typing
+types_in c t = of_statement no_type its_type c t
+
+abbrev names_in : Context → StmtTree → List Naming
+names_in c t = of_statement no_referent its_referent c t
+
+mutual
+  pub statement_at : (k : Known) (s : Scope) → Inside k s → ResultIs k s.context → (t : StmtTree) → StatementDeclared k s.context t → Stand k (types_in s.context t) (names_in s.context t)
+      → StatementAt k s t
+  statement_at k s h r (trees.empty node) d n = tt
+  statement_at k s h r (trees.expression node e) d n = expression_at k s h e (behind k _ _ _ _ n)
+  statement_at k s h r (trees.declaration t) d n = variables_at k s h t.base t.variables d n
+  statement_at k s h r (trees.block ss) d n = statements_at k (inner s) (inner_inside k s h) r ss d n
+  statement_at k s h r (trees.branch node e t o) d n =
+      let c = s.context in
+      let te = no_type node ∷ of_nodes (its_type c) e in
+      let re = no_referent node ∷ of_nodes (its_referent c) e in
+      let tt_ = types_in (inner_scope c) t in
+      let rt_ = names_in (inner_scope c) t in
+      let rest = right k te (tt_ ++ of_else no_type its_type c o) re (rt_ ++ of_else no_referent its_referent c o) n in
+      (expression_at k s h e (behind k _ _ _ _ (left k te (tt_ ++ of_else no_type its_type c o) re (rt_ ++ of_else no_referent its_referent c o) n)),
+      (statement_at k (inner s) (inner_inside k s h) r t d.0 (left k tt_ (of_else no_type its_type c o) rt_ (of_else no_referent its_referent c o) rest),
+      else_at k s h r o d.1 (right k tt_ (of_else no_type its_type c o) rt_ (of_else no_referent its_referent c o) rest)))
+  statement_at k s h r (trees.while_loop node e t) d n =
+      let c = s.context in
+      let te = no_type node ∷ of_nodes (its_type c) e in
+      let re = no_referent node ∷ of_nodes (its_referent c) e in
+      let ts = types_in (inside_loop (inner_scope c)) t in
+      let rs = names_in (inside_loop (inner_scope c)) t in
+      (expression_at k s h e (behind k _ _ _ _ (left k te ts re rs n)), statement_at k (loop_body s) (loop_in k s h) r t d (right k te ts re rs n))
+  statement_at k s h r (trees.do_loop node t e) d n =
+      let c = s.context in
+      let ts = no_type node ∷ types_in (inside_loop (inner_scope c)) t in
+      let rs = no_referent node ∷ names_in (inside_loop (inner_scope c)) t in
+      (statement_at k (loop_body s) (loop_in k s h) r t d (behind k _ _ _ _ (left k ts (of_nodes (its_type c) e) rs (of_nodes (its_referent c) e) n)),
+      expression_at k s h e (right k ts (of_nodes (its_type c) e) rs (of_nodes (its_referent c) e) n))
+  statement_at k s h r (trees.for_loop node start e u t) d n =
+      let c = s.context in
+      let f = for_context c start in
+      let t0 = no_type node ∷ of_start no_type its_type (inner_scope c) start in
+      let r0 = no_referent node ∷ of_start no_referent its_referent (inner_scope c) start in
+      let te = of_option no_type its_type f e in
+      let re = of_option no_referent its_referent f e in
+      let tu = of_option no_type its_type f u in
+      let ru = of_option no_referent its_referent f u in
+      let ts = types_in (inside_loop (inner_scope f)) t in
+      let rs = names_in (inside_loop (inner_scope f)) t in
+      let rest = right k t0 ((te ++ tu) ++ ts) r0 ((re ++ ru) ++ rs) n in
+      let both = left k (te ++ tu) ts (re ++ ru) rs rest in
+      let inside : Inside k (in_for s start) = for_inside k s h start in
+      (start_at k (inner s) (inner_inside k s h) start d.0 (behind k _ _ _ _ (left k t0 ((te ++ tu) ++ ts) r0 ((re ++ ru) ++ rs) n)),
+      (option_at k (in_for s start) inside e (left k te tu re ru both),
+      (option_at k (in_for s start) inside u (right k te tu re ru both),
+      statement_at k (loop_body (in_for s start)) (loop_in k (in_for s start) inside) (start_result k (inner_scope c) start r) t d.1 (right k (te ++ tu) ts (re ++ ru) rs rest))))
+  statement_at k s h r (trees.break node) d n = tt
+  statement_at k s h r (trees.continue node) d n = tt
+  statement_at k s h r (trees.return node e) d n = (r, option_at k s h e (behind k _ _ _ _ n))
+
+  pub statements_at : (k : Known) (s : Scope) → Inside k s → ResultIs k s.context → (ss : Stmts) → StatementsDeclared k s.context ss
+      → Stand k (of_statements no_type its_type s.context ss) (of_statements no_referent its_referent s.context ss) → StatementsAt k s ss
+  statements_at k s h r no_stmts d n = tt
+  statements_at k s h r (stmt_and t ts) d n =
+      let c = s.context in
+      let after = within s (after_statement c t) in
+      let later = of_statements no_type its_type (after_statement c t) ts in
+      let names = of_statements no_referent its_referent (after_statement c t) ts in
+      (statement_at k s h r t d.0 (left k (types_in c t) later (names_in c t) names n),
+      statements_at k after (statement_inside k s h t) (statement_result k c t r) ts d.1 (right k (types_in c t) later (names_in c t) names n))
+
+  else_at : (k : Known) (s : Scope) → Inside k s → ResultIs k s.context → (o : Else) → ElseDeclared k s.context o
+      → Stand k (of_else no_type its_type s.context o) (of_else no_referent its_referent s.context o) → ElseAt k s o
+  else_at k s h r no_else d n = tt
+  else_at k s h r (else_by t) d n = statement_at k (inner s) (inner_inside k s h) r t d n

@@ -18,6 +18,12 @@ use Rattle.qs_types.specs.Layout.{size_of}
 use Rattle.qs_types.specs.InitialiserRules.{part_type}
 use Rattle.qs_meaning.specs.Blanks.{Blanks, blank_by, members_blank}
 use Rattle.qs_meaning.specs.Initialisers.{part_offset, Piece, pieces, pieces_from}
+use Rattle.qs_syntax.specs.Trees.{ParameterTree}
+use Rattle.qs_calls.specs.declared.parameter.Parameter.{Parameter}
+use Rattle.qs_types.specs.Placed.{Local}
+use Rattle.qs_meaning.specs.Conversions.{scalar_of}
+use Rattle.qs_meaning.specs.Units.{scalars_of, sizes_of}
+use Rattle.qs_typed.specs.KnownFunctions.{parameter_known, parameters_known}
 use Rattle.qs_typed.specs.Behind.{before, behind, followed}
 use Rattle.qs_typed.specs.Known.{Known, known, with_conversion, with_argument, arguments_known}
 use Rattle.qs_typed.specs.KnownStatements.{statement_known, statements_known, variable_known, variables_known, piece_set_known, pieces_set_known}
@@ -109,3 +115,26 @@ member_turn structs blanks at size m ms o os b n bs p q =
         ≡ behind joined bs ((x >>= λ rest. Some (joined b rest)) >>= λ rest. Some (joined (zeros (o - at)) rest))
     twice None = refl
     twice (Some rest) = refl
+
+-- ---- lists, one element at a time
+
+pub all_elements : {A : Type 0} (xs : List A) → before ◌∷◌ xs [] ≡ xs
+all_elements [] = refl
+all_elements (x ∷ xs) = ap (λ rest. x ∷ rest) (all_elements xs)
+
+pub parameter_turn : (k : Known) (p : ParameterTree) (ps : List ParameterTree) (a : Parameter) (all : List Parameter) → parameter_known k p ≡ Some a
+    → behind ◌∷◌ all (parameters_known k (p ∷ ps)) ≡ behind ◌∷◌ (all ++ a ∷ []) (parameters_known k ps)
+parameter_turn k p ps a all h =
+    ap (λ o. behind ◌∷◌ all (o >>= λ now. parameters_known k ps >>= λ rest. Some (now ∷ rest))) h ∙ sym (behind_more ◌∷◌ all a (parameters_known k ps))
+
+pub scalar_turn : (l : Local) (ls : List Local) (t : TypeTree) (all : List Scalar) → l.type ≡ Some t
+    → behind ◌∷◌ all (scalars_of (l ∷ ls)) ≡ behind ◌∷◌ (all ++ scalar_of t ∷ []) (scalars_of ls)
+scalar_turn l ls t all h =
+    ap (λ o. behind ◌∷◌ all (o >>= λ t. scalars_of ls >>= λ rest. Some (scalar_of t ∷ rest))) h ∙ sym (behind_more ◌∷◌ all (scalar_of t) (scalars_of ls))
+
+pub size_turn : (structs : Structs) (l : Local) (ls : List Local) (t : TypeTree) (n : ℕ) (all : List ℕ) → l.type ≡ Some t → size_of structs t ≡ Some n
+    → behind ◌∷◌ all (sizes_of structs (l ∷ ls)) ≡ behind ◌∷◌ (all ++ n ∷ []) (sizes_of structs ls)
+size_turn structs l ls t n all h e =
+    ap (λ o. behind ◌∷◌ all (o >>= size_of structs >>= λ size. sizes_of structs ls >>= λ rest. Some (size ∷ rest))) h
+    ∙ ap (λ o. behind ◌∷◌ all (o >>= λ size. sizes_of structs ls >>= λ rest. Some (size ∷ rest))) e
+    ∙ sym (behind_more ◌∷◌ all n (sizes_of structs ls))

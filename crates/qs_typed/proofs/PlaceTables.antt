@@ -1,5 +1,5 @@
 -- Places in tables and in lists.
-use Rattle.std.proofs.Common.{◌≡◌, ℕ, zero, suc, ◌+◌, ◌<◌, Bool, true, false, not, ◌||◌, List, [], ◌∷◌, Option, Some, None, length, nat_lt, nat_eq, cond, refl, sym, ap, ◌∙◌, arith, if◌then◌else◌}
+use Rattle.std.proofs.Common.{◌≡◌, ℕ, zero, suc, ◌+◌, ◌<◌, Bool, true, false, not, ◌||◌, List, [], ◌∷◌, Option, Some, None, length, nat_lt, nat_eq, cond, refl, sym, ap, ◌∙◌, append_assoc, arith, if◌then◌else◌}
 use Rattle.std.specs.Prelude.{◌==◌, map, position}
 use Rattle.std.specs.List.{position_or_len, list_any}
 use Rattle.std.specs.Map.{lookup}
@@ -25,7 +25,7 @@ use Rattle.std.proofs.lemmas.List.Elements.{filter-append}
 use Rattle.qs_types.specs.Placed.{Local, is_placed}
 use Rattle.qs_meaning.specs.Names.{Locals}
 use Rattle.qs_meaning.specs.Units.{nodes_of, placed_among, plain_among}
-use Rattle.qs_typed.specs.KnownFunctions.{locals_at, places_at, with_parameters, with_locals}
+use Rattle.qs_typed.specs.KnownFunctions.{local_at, locals_at, places_at, with_parameters, with_locals}
 
 -- ---- the place of the first that passes a test
 
@@ -122,3 +122,27 @@ placed_in_order declared addressed ps ls none with_ps with_ls p q r =
 
     placed_together : (xs ys : List Local) → nodes_of (placed_among addressed xs) ++ nodes_of (placed_among addressed ys) ≡ nodes_of (placed_among addressed (xs ++ ys))
     placed_together xs ys = both (placed_among addressed xs) (placed_among addressed ys) ∙ ap nodes_of (sym (filter-append (is_placed addressed) xs ys))
+
+-- one parameter more, and one local more
+abbrev pub one_parameter : (b : Bool) (n : ℕ) → Locals → Locals
+one_parameter b n l = record { variables = l.variables ++ n ∷ []; placed = if b then l.placed ++ n ∷ [] else l.placed }
+
+abbrev pub one_local : (b : Bool) (n : ℕ) → Locals → Locals
+one_local b n l = record { variables = if b then l.variables else l.variables ++ n ∷ []; placed = if b then l.placed ++ n ∷ [] else l.placed }
+
+pub parameter_placed : (declared : List (Option TypeTree)) (addressed : List ℕ) (n : ℕ) (ns : List ℕ) (l : Locals) (b : Bool) → is_placed addressed (local_at declared n) ≡ b
+    → with_parameters declared addressed (n ∷ ns) l ≡ with_parameters declared addressed ns (one_parameter b n l)
+parameter_placed declared addressed n ns l b e =
+    ap (λ b. record { variables = l.variables ++ n ∷ ns; placed = l.placed ++ nodes_of (cond b (local_at declared n ∷ placed_among addressed (locals_at declared ns)) (placed_among addressed (locals_at declared ns))) }) e
+    ∙ by b
+  where
+    by : (b : Bool) → record { variables = l.variables ++ n ∷ ns; placed = l.placed ++ nodes_of (cond b (local_at declared n ∷ placed_among addressed (locals_at declared ns)) (placed_among addressed (locals_at declared ns))) }
+        ≡ with_parameters declared addressed ns (one_parameter b n l)
+    by true = λ i. record
+        { variables = sym (append_assoc {x = l.variables} {y = n ∷ []} {z = ns}) i;
+          placed = sym (append_assoc {x = l.placed} {y = n ∷ []} {z = nodes_of (placed_among addressed (locals_at declared ns))}) i }
+    by false = λ i. record { variables = sym (append_assoc {x = l.variables} {y = n ∷ []} {z = ns}) i; placed = l.placed ++ nodes_of (placed_among addressed (locals_at declared ns)) }
+
+pub local_placed : (declared : List (Option TypeTree)) (addressed : List ℕ) (n : ℕ) (ns : List ℕ) (l : Locals) (b : Bool) → is_placed addressed (local_at declared n) ≡ b
+    → with_locals declared addressed (n ∷ ns) l ≡ with_locals declared addressed ns (one_local b n l)
+local_placed declared addressed n ns l b e = ?

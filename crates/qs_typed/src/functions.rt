@@ -68,6 +68,7 @@ fn is_placed(declared: &[Option<CType>], addressed: &IndexSet<u32>, node: u32) -
 }
 
 /// Gives parameters their variables, and those that are placed their blocks.
+#[tactic(auto, using(crate::proofs::PlaceTables::parameter_placed))]
 fn place_parameters(
     declared: &[Option<CType>],
     addressed: &IndexSet<u32>,
@@ -86,6 +87,7 @@ fn place_parameters(
 }
 
 /// Gives locals their blocks or their variables.
+#[tactic(auto, using(crate::proofs::PlaceTables::local_placed))]
 fn place_locals(
     declared: &[Option<CType>],
     addressed: &IndexSet<u32>,
@@ -127,6 +129,7 @@ pub fn places(
 // ---- variables and blocks
 
 /// The types of variables.
+#[tactic(auto, using(crate::proofs::Loops::scalar_turn, crate::proofs::Loops::all_elements))]
 fn scalars(
     alloc: Global,
     declared: &[Option<CType>],
@@ -145,6 +148,7 @@ fn scalars(
 }
 
 /// The sizes of placed locals.
+#[tactic(auto, using(crate::proofs::Loops::size_turn, crate::proofs::Loops::all_elements))]
 fn sizes(
     alloc: Global,
     env: &Env,

@@ -113,6 +113,7 @@ fn parameter(alloc: Global, k: &Known<'_>, p: &ParameterNode) -> Result<Paramete
 }
 
 /// Where a call puts its arguments.
+#[tactic(auto, using(crate::proofs::Loops::parameter_turn, crate::proofs::Loops::all_elements))]
 pub fn parameters(
     alloc: Global,
     k: &Known<'_>,

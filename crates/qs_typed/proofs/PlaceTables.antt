@@ -101,12 +101,18 @@ header_found node (h ∷ hs) ps e =
 pub added_last : (n : ℕ) (ns : List ℕ) → list_any (nat_eq n) ns ≡ false → (if list_any (nat_eq n) ns then ns else ns ++ n ∷ []) ≡ ns ++ n ∷ []
 added_last n ns e = ap (λ b. if b then ns else ns ++ n ∷ []) e
 
+abbrev pub lists : List ℕ → List ℕ → Locals
+lists variables placed = record { variables = variables; placed = placed }
+
+abbrev pub no_places : Locals
+no_places = record { variables = []; placed = [] }
+
 -- parameters first, and then the locals
-pub placed_in_order : (declared : List (Option TypeTree)) (addressed ps ls : List ℕ) (none with_ps with_ls : Locals) → none ≡ record { variables = []; placed = [] }
+pub placed_in_order : (declared : List (Option TypeTree)) (addressed ps ls : List ℕ) (none with_ps with_ls : Locals) → none ≡ no_places
     → with_ps ≡ with_parameters declared addressed ps none → with_ls ≡ with_locals declared addressed ls with_ps → with_ls ≡ places_at declared addressed ps ls
 placed_in_order declared addressed ps ls none with_ps with_ls p q r =
     r ∙ ap (with_locals declared addressed ls) (q ∙ ap (with_parameters declared addressed ps) p)
-    ∙ λ i. record { variables = variables_in_order ps i; placed = placed_together (locals_at declared ps) (locals_at declared ls) i }
+    ∙ λ i. lists (variables_in_order ps i) (placed_together (locals_at declared ps) (locals_at declared ls) i)
   where
     nodes_again : (ns : List ℕ) → nodes_of (locals_at declared ns) ≡ ns
     nodes_again [] = refl
@@ -130,19 +136,31 @@ one_parameter b n l = record { variables = l.variables ++ n ∷ []; placed = if 
 abbrev pub one_local : (b : Bool) (n : ℕ) → Locals → Locals
 one_local b n l = record { variables = if b then l.variables else l.variables ++ n ∷ []; placed = if b then l.placed ++ n ∷ [] else l.placed }
 
+abbrev placed_behind : (declared : List (Option TypeTree)) (addressed : List ℕ) (n : ℕ) (ns : List ℕ) → Bool → List ℕ
+placed_behind declared addressed n ns b =
+    nodes_of (cond b (local_at declared n ∷ placed_among addressed (locals_at declared ns)) (placed_among addressed (locals_at declared ns)))
+
+abbrev plain_behind : (declared : List (Option TypeTree)) (addressed : List ℕ) (n : ℕ) (ns : List ℕ) → Bool → List ℕ
+plain_behind declared addressed n ns b =
+    nodes_of (cond (not b) (local_at declared n ∷ plain_among addressed (locals_at declared ns)) (plain_among addressed (locals_at declared ns)))
+
+joined_last : (xs : List ℕ) (n : ℕ) (ns : List ℕ) → xs ++ n ∷ ns ≡ (xs ++ n ∷ []) ++ ns
+joined_last xs n ns = sym (append_assoc {x = xs} {y = n ∷ []} {z = ns})
+
 pub parameter_placed : (declared : List (Option TypeTree)) (addressed : List ℕ) (n : ℕ) (ns : List ℕ) (l : Locals) (b : Bool) → is_placed addressed (local_at declared n) ≡ b
     → with_parameters declared addressed (n ∷ ns) l ≡ with_parameters declared addressed ns (one_parameter b n l)
-parameter_placed declared addressed n ns l b e =
-    ap (λ b. record { variables = l.variables ++ n ∷ ns; placed = l.placed ++ nodes_of (cond b (local_at declared n ∷ placed_among addressed (locals_at declared ns)) (placed_among addressed (locals_at declared ns))) }) e
-    ∙ by b
+parameter_placed declared addressed n ns l b e = ap (λ b. lists (l.variables ++ n ∷ ns) (l.placed ++ placed_behind declared addressed n ns b)) e ∙ by b
   where
-    by : (b : Bool) → record { variables = l.variables ++ n ∷ ns; placed = l.placed ++ nodes_of (cond b (local_at declared n ∷ placed_among addressed (locals_at declared ns)) (placed_among addressed (locals_at declared ns))) }
-        ≡ with_parameters declared addressed ns (one_parameter b n l)
-    by true = λ i. record
-        { variables = sym (append_assoc {x = l.variables} {y = n ∷ []} {z = ns}) i;
-          placed = sym (append_assoc {x = l.placed} {y = n ∷ []} {z = nodes_of (placed_among addressed (locals_at declared ns))}) i }
-    by false = λ i. record { variables = sym (append_assoc {x = l.variables} {y = n ∷ []} {z = ns}) i; placed = l.placed ++ nodes_of (placed_among addressed (locals_at declared ns)) }
+    by : (b : Bool) → lists (l.variables ++ n ∷ ns) (l.placed ++ placed_behind declared addressed n ns b) ≡ with_parameters declared addressed ns (one_parameter b n l)
+    by true = λ i. lists (joined_last l.variables n ns i) (joined_last l.placed n (nodes_of (placed_among addressed (locals_at declared ns))) i)
+    by false = λ i. lists (joined_last l.variables n ns i) (l.placed ++ nodes_of (placed_among addressed (locals_at declared ns)))
 
 pub local_placed : (declared : List (Option TypeTree)) (addressed : List ℕ) (n : ℕ) (ns : List ℕ) (l : Locals) (b : Bool) → is_placed addressed (local_at declared n) ≡ b
     → with_locals declared addressed (n ∷ ns) l ≡ with_locals declared addressed ns (one_local b n l)
-local_placed declared addressed n ns l b e = ?
+local_placed declared addressed n ns l b e =
+    ap (λ b. lists (l.variables ++ plain_behind declared addressed n ns b) (l.placed ++ placed_behind declared addressed n ns b)) e ∙ by b
+  where
+    by : (b : Bool) → lists (l.variables ++ plain_behind declared addressed n ns b) (l.placed ++ placed_behind declared addressed n ns b)
+        ≡ with_locals declared addressed ns (one_local b n l)
+    by true = λ i. lists (l.variables ++ nodes_of (plain_among addressed (locals_at declared ns))) (joined_last l.placed n (nodes_of (placed_among addressed (locals_at declared ns))) i)
+    by false = λ i. lists (joined_last l.variables n (nodes_of (plain_among addressed (locals_at declared ns))) i) (l.placed ++ nodes_of (placed_among addressed (locals_at declared ns)))

@@ -51,9 +51,6 @@ left k ts us rs ns h = (each_left (StandsIn k.types) ts us h.0, each_left (Stand
 right : (k : Known) (ts us : List Typing) (rs ns : List Naming) → Stand k (ts ++ us) (rs ++ ns) → Stand k us ns
 right k ts us rs ns h = (each_right (StandsIn k.types) ts us h.0, each_right (StandsIn k.referents) rs ns h.1)
 
-behind : (k : Known) (t : Typing) (ts : List Typing) (r : Naming) (rs : List Naming) → Stand k (t ∷ ts) (r ∷ rs) → Stand k ts rs
-behind k t ts r rs h = (h.0.1, h.1.1)
-
 -- ---- the declared types of a body
 
 abbrev pub VariablesDeclared : Known → Context → Base → List VariableTree → Type 0
@@ -101,7 +98,7 @@ mutual
   initialiser_at : (k : Known) (s : Scope) → Inside k s → (i : InitialiserTree) → Stand k (of_initialiser no_type its_type s.context i) (of_initialiser no_referent its_referent s.context i)
       → InitialiserAt k s i
   initialiser_at k s h (trees.value e) n = expression_at k s h e n
-  initialiser_at k s h (trees.list node is) n = initialisers_at k s h is (behind k _ _ _ _ n)
+  initialiser_at k s h (trees.list node is) n = initialisers_at k s h is (n.0.1, n.1.1)
 
   initialisers_at : (k : Known) (s : Scope) → Inside k s → (is : Initialisers) → Stand k (of_initialisers no_type its_type s.context is) (of_initialisers no_referent its_referent s.context is)
       → InitialisersAt k s is
@@ -109,7 +106,9 @@ mutual
   initialisers_at k s h (initialiser_and i is) n =
       let ti = of_initialiser no_type its_type s.context i in
       let ri = of_initialiser no_referent its_referent s.context i in
-      (initialiser_at k s h i (left k ti _ ri _ n), initialisers_at k s h is (right k ti _ ri _ n))
+      let tr = of_initialisers no_type its_type s.context is in
+      let rr = of_initialisers no_referent its_referent s.context is in
+      (initialiser_at k s h i (left k ti tr ri rr n), initialisers_at k s h is (right k ti tr ri rr n))
 
 initial_at : (k : Known) (s : Scope) → Inside k s → (i : Option InitialiserTree) → Stand k (of_option_initialiser no_type its_type s.context i) (of_option_initialiser no_referent its_referent s.context i)
     → InitialAt k s i
@@ -130,9 +129,11 @@ variables_at k s h base (v ∷ vs) d n =
     let rd = of_declarator no_referent its_referent s.context v.declarator in
     let ti = of_option_initialiser no_type its_type after.context v.initialiser in
     let ri = of_option_initialiser no_referent its_referent after.context v.initialiser in
+    let tr = of_variables no_type its_type false after.context base vs in
+    let rr = of_variables no_referent its_referent false after.context base vs in
     let inside : Inside k after = variable_inside k s h base v in
-    ((d.0, initial_at k after inside v.initialiser (right k td ti rd ri (left k (td ++ ti) _ (rd ++ ri) _ n))),
-    variables_at k after inside base vs d.1 (right k (td ++ ti) _ (rd ++ ri) _ n))
+    ((d.0, initial_at k after inside v.initialiser (right k td ti rd ri (left k (td ++ ti) tr (rd ++ ri) rr n))),
+    variables_at k after inside base vs d.1 (right k (td ++ ti) tr (rd ++ ri) rr n))
 
 variables_inside : (k : Known) (s : Scope) → Inside k s → (base : Base) (vs : List VariableTree) → Inside k (within s (after_variables false s.context base vs))
 variables_inside k s h base [] = h
@@ -205,7 +206,7 @@ mutual
   pub statement_at : (k : Known) (s : Scope) → Inside k s → ResultIs k s.context → (t : StmtTree) → StatementDeclared k s.context t → Stand k (types_in s.context t) (names_in s.context t)
       → StatementAt k s t
   statement_at k s h r (trees.empty node) d n = tt
-  statement_at k s h r (trees.expression node e) d n = expression_at k s h e (behind k _ _ _ _ n)
+  statement_at k s h r (trees.expression node e) d n = expression_at k s h e (n.0.1, n.1.1)
   statement_at k s h r (trees.declaration t) d n = variables_at k s h t.base t.variables d n
   statement_at k s h r (trees.block ss) d n = statements_at k (inner s) (inner_inside k s h) r ss d n
   statement_at k s h r (trees.branch node e t o) d n =
@@ -215,7 +216,8 @@ mutual
       let tt_ = types_in (inner_scope c) t in
       let rt_ = names_in (inner_scope c) t in
       let rest = right k te (tt_ ++ of_else no_type its_type c o) re (rt_ ++ of_else no_referent its_referent c o) n in
-      (expression_at k s h e (behind k _ _ _ _ (left k te (tt_ ++ of_else no_type its_type c o) re (rt_ ++ of_else no_referent its_referent c o) n)),
+      let first = left k te (tt_ ++ of_else no_type its_type c o) re (rt_ ++ of_else no_referent its_referent c o) n in
+      (expression_at k s h e (first.0.1, first.1.1),
       (statement_at k (inner s) (inner_inside k s h) r t d.0 (left k tt_ (of_else no_type its_type c o) rt_ (of_else no_referent its_referent c o) rest),
       else_at k s h r o d.1 (right k tt_ (of_else no_type its_type c o) rt_ (of_else no_referent its_referent c o) rest)))
   statement_at k s h r (trees.while_loop node e t) d n =
@@ -224,12 +226,14 @@ mutual
       let re = no_referent node ∷ of_nodes (its_referent c) e in
       let ts = types_in (inside_loop (inner_scope c)) t in
       let rs = names_in (inside_loop (inner_scope c)) t in
-      (expression_at k s h e (behind k _ _ _ _ (left k te ts re rs n)), statement_at k (loop_body s) (loop_in k s h) r t d (right k te ts re rs n))
+      let first = left k te ts re rs n in
+      (expression_at k s h e (first.0.1, first.1.1), statement_at k (loop_body s) (loop_in k s h) r t d (right k te ts re rs n))
   statement_at k s h r (trees.do_loop node t e) d n =
       let c = s.context in
       let ts = no_type node ∷ types_in (inside_loop (inner_scope c)) t in
       let rs = no_referent node ∷ names_in (inside_loop (inner_scope c)) t in
-      (statement_at k (loop_body s) (loop_in k s h) r t d (behind k _ _ _ _ (left k ts (of_nodes (its_type c) e) rs (of_nodes (its_referent c) e) n)),
+      let first = left k ts (of_nodes (its_type c) e) rs (of_nodes (its_referent c) e) n in
+      (statement_at k (loop_body s) (loop_in k s h) r t d (first.0.1, first.1.1),
       expression_at k s h e (right k ts (of_nodes (its_type c) e) rs (of_nodes (its_referent c) e) n))
   statement_at k s h r (trees.for_loop node start e u t) d n =
       let c = s.context in
@@ -245,13 +249,14 @@ mutual
       let rest = right k t0 ((te ++ tu) ++ ts) r0 ((re ++ ru) ++ rs) n in
       let both = left k (te ++ tu) ts (re ++ ru) rs rest in
       let inside : Inside k (in_for s start) = for_inside k s h start in
-      (start_at k (inner s) (inner_inside k s h) start d.0 (behind k _ _ _ _ (left k t0 ((te ++ tu) ++ ts) r0 ((re ++ ru) ++ rs) n)),
+      let first = left k t0 ((te ++ tu) ++ ts) r0 ((re ++ ru) ++ rs) n in
+      (start_at k (inner s) (inner_inside k s h) start d.0 (first.0.1, first.1.1),
       (option_at k (in_for s start) inside e (left k te tu re ru both),
       (option_at k (in_for s start) inside u (right k te tu re ru both),
       statement_at k (loop_body (in_for s start)) (loop_in k (in_for s start) inside) (start_result k (inner_scope c) start r) t d.1 (right k (te ++ tu) ts (re ++ ru) rs rest))))
   statement_at k s h r (trees.break node) d n = tt
   statement_at k s h r (trees.continue node) d n = tt
-  statement_at k s h r (trees.return node e) d n = (r, option_at k s h e (behind k _ _ _ _ n))
+  statement_at k s h r (trees.return node e) d n = (r, option_at k s h e (n.0.1, n.1.1))
 
   pub statements_at : (k : Known) (s : Scope) → Inside k s → ResultIs k s.context → (ss : Stmts) → StatementsDeclared k s.context ss
       → Stand k (of_statements no_type its_type s.context ss) (of_statements no_referent its_referent s.context ss) → StatementsAt k s ss

@@ -171,34 +171,40 @@ mutual
   form_kept k s g h node (trees.text bytes) t p q r parts = text_kept k s g node
   form_kept k s g h node (trees.name x) t p q r parts = name_kept k s g node.id x r
   form_kept k s g h node (trees.subscript a b) t p q r parts =
-      kept (typed s a) (known k a) _ _ (typed_kept k s g h a parts.0)
-      (λ a. kept (typed s b) (known k b) _ _ (typed_kept k s g h b parts.1) (λ b. subscript_kept s.context.structs k.structs g.structs a b))
+      kept (typed s a) (known k a) (λ a. typed s b >>= subscript_form s.context.structs a) (λ a. known k b >>= subscript_form k.structs a) (typed_kept k s g h a parts.0)
+      (λ a. kept (typed s b) (known k b) (subscript_form s.context.structs a) (subscript_form k.structs a) (typed_kept k s g h b parts.1)
+      (λ b. subscript_kept s.context.structs k.structs g.structs a b))
   form_kept k s g h node (trees.call f es) t p q r parts = call_kept k s g h node f es r parts
   form_kept k s g h node (trees.member access a x) t p q r parts =
-      kept (typed s a) (known k a) _ _ (typed_kept k s g h a parts) (λ a. member_kept s.context.structs k.structs g.structs access a x)
+      kept (typed s a) (known k a) (λ a. member_form s.context.structs access a x) (λ a. member_form k.structs access a x) (typed_kept k s g h a parts) (λ a. member_kept s.context.structs k.structs g.structs access a x)
   form_kept k s g h node (trees.step operator a) t p q r parts =
-      kept (typed s a) (known k a) _ _ (typed_kept k s g h a parts) (λ a. step_kept s.context.structs k.structs g.structs operator a)
+      kept (typed s a) (known k a) (step_form s.context.structs operator) (step_form k.structs operator) (typed_kept k s g h a parts) (λ a. step_kept s.context.structs k.structs g.structs operator a)
   form_kept k s g h node (trees.unary operator a) t p q r parts =
-      kept (typed s a) (known k a) _ _ (typed_kept k s g h a parts) (λ a. is_kept (unary_form operator a))
+      kept (typed s a) (known k a) (unary_form operator) (unary_form operator) (typed_kept k s g h a parts) (λ a. is_kept (unary_form operator a))
   form_kept k s g h node (trees.sizeof_expr a) t p q r parts =
-      kept (type_of s.context a) (type_known k a) _ _ (type_kept k s.context a parts) (size_form_kept s.context.structs k.structs g.structs)
+      kept (type_of s.context a) (type_known k a) (size_form s.context.structs) (size_form k.structs) (type_kept k s.context a parts) (size_form_kept s.context.structs k.structs g.structs)
   form_kept k s g h node (trees.sizeof_type name) t p q r parts = named_size_kept k s g name
   form_kept k s g h node (trees.cast name a) t p q r parts =
-      kept_by (named_type s.context name) (at_number k.types node.id) _ _
-      (λ u e. q ∙ ap Some (cast_type s.context node name a u t e p)) (λ u e. kept (typed s a) (known k a) _ _ (typed_kept k s g h a parts) (λ a. is_kept (Some (cast_form u a))))
+      kept_by (named_type s.context name) (at_number k.types node.id) (λ u. typed s a >>= λ a. Some (cast_form u a)) (λ u. known k a >>= λ a. Some (cast_form u a))
+      (λ u e. q ∙ ap Some (cast_type s.context node name a u t e p))
+      (λ u e. kept (typed s a) (known k a) (λ a. Some (cast_form u a)) (λ a. Some (cast_form u a)) (typed_kept k s g h a parts) (λ a. is_kept (Some (cast_form u a))))
   form_kept k s g h node (trees.binary operator a b) t p q r parts =
-      kept (typed s a) (known k a) _ _ (typed_kept k s g h a parts.0)
-      (λ a. kept (typed s b) (known k b) _ _ (typed_kept k s g h b parts.1) (λ b. binary_kept s.context.structs k.structs g.structs operator a b))
+      kept (typed s a) (known k a) (λ a. typed s b >>= binary_form s.context.structs operator a) (λ a. known k b >>= binary_form k.structs operator a) (typed_kept k s g h a parts.0)
+      (λ a. kept (typed s b) (known k b) (binary_form s.context.structs operator a) (binary_form k.structs operator a) (typed_kept k s g h b parts.1)
+      (λ b. binary_kept s.context.structs k.structs g.structs operator a b))
   form_kept k s g h node (trees.conditional c a b) t p q r parts =
-      kept (typed s c) (known k c) _ _ (typed_kept k s g h c parts.0)
-      (λ c. kept (typed s a) (known k a) _ _ (typed_kept k s g h a parts.1.0)
-      (λ a. kept (typed s b) (known k b) _ _ (typed_kept k s g h b parts.1.1) (λ b. is_kept (Some (conditional_form c a b)))))
+      kept (typed s c) (known k c) (λ c. typed s a >>= λ a. typed s b >>= λ b. Some (conditional_form c a b)) (λ c. known k a >>= λ a. known k b >>= λ b. Some (conditional_form c a b))
+      (typed_kept k s g h c parts.0)
+      (λ c. kept (typed s a) (known k a) (λ a. typed s b >>= λ b. Some (conditional_form c a b)) (λ a. known k b >>= λ b. Some (conditional_form c a b)) (typed_kept k s g h a parts.1.0)
+      (λ a. kept (typed s b) (known k b) (λ b. Some (conditional_form c a b)) (λ b. Some (conditional_form c a b)) (typed_kept k s g h b parts.1.1)
+      (λ b. is_kept (Some (conditional_form c a b)))))
   form_kept k s g h node (trees.assign operator a b) t p q r parts =
-      kept (typed s a) (known k a) _ _ (typed_kept k s g h a parts.0)
-      (λ a. kept (typed s b) (known k b) _ _ (typed_kept k s g h b parts.1) (λ b. assign_kept s.context.structs k.structs g.structs operator a b))
+      kept (typed s a) (known k a) (λ a. typed s b >>= assign_form s.context.structs operator a) (λ a. known k b >>= assign_form k.structs operator a) (typed_kept k s g h a parts.0)
+      (λ a. kept (typed s b) (known k b) (assign_form s.context.structs operator a) (assign_form k.structs operator a) (typed_kept k s g h b parts.1)
+      (λ b. assign_kept s.context.structs k.structs g.structs operator a b))
   form_kept k s g h node (trees.comma a b) t p q r parts =
-      kept (typed s a) (known k a) _ _ (typed_kept k s g h a parts.0)
-      (λ a. kept (typed s b) (known k b) _ _ (typed_kept k s g h b parts.1) (λ b. is_kept (Some (comma_form a b))))
+      kept (typed s a) (known k a) (λ a. typed s b >>= λ b. Some (comma_form a b)) (λ a. known k b >>= λ b. Some (comma_form a b)) (typed_kept k s g h a parts.0)
+      (λ a. kept (typed s b) (known k b) (λ b. Some (comma_form a b)) (λ b. Some (comma_form a b)) (typed_kept k s g h b parts.1) (λ b. is_kept (Some (comma_form a b))))
 
   type_kept : (k : Known) (c : Context) (e : ExprTree) → NodesKnown k c e → Keeps (type_of c e) (type_known k e)
   type_kept k c (expr node shape) n = equal_kept _ _ n.0

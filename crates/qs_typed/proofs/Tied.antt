@@ -161,7 +161,7 @@ with_known k node shape t = form_known k node.id shape >>= as_typed t
 mutual
   pub typed_kept : (k : Known) (s : Scope) → Agrees k s → GivenAreGiven s → (e : ExprTree) → NodesKnown k s.context e → Keeps (typed s e) (known k e)
   typed_kept k s g h (expr node shape) n =
-      kept_by (type_of s.context (expr node shape)) (at_number k.types node.id) (with_form s node shape) (with_known k node shape) (equal_kept _ _ n.0)
+      kept_by (type_of s.context (expr node shape)) (at_number k.types node.id) (with_form s node shape) (with_known k node shape) (equal_kept (type_of s.context (expr node shape)) (at_number k.types node.id) n.0)
       (λ t p. kept (form_of s node shape) (form_known k node.id shape) (as_typed t) (as_typed t) (form_kept k s g h node shape t p (n.0 ∙ p) n.1.0 n.1.1) (λ form. is_kept (as_typed t form)))
 
   form_kept : (k : Known) (s : Scope) → Agrees k s → GivenAreGiven s → (node : Node) (shape : ShapeTree) (t : TypeTree) → type_of s.context (expr node shape) ≡ Some t
@@ -207,7 +207,7 @@ mutual
       (λ a. kept (typed s b) (known k b) (λ b. Some (comma_form a b)) (λ b. Some (comma_form a b)) (typed_kept k s g h b parts.1) (λ b. is_kept (Some (comma_form a b))))
 
   type_kept : (k : Known) (c : Context) (e : ExprTree) → NodesKnown k c e → Keeps (type_of c e) (type_known k e)
-  type_kept k c (expr node shape) n = equal_kept _ _ n.0
+  type_kept k c (expr node shape) n = equal_kept (type_of c (expr node shape)) (at_number k.types node.id) n.0
 
   call_kept : (k : Known) (s : Scope) → Agrees k s → GivenAreGiven s → (node : Node) (f : List ℕ) (es : Exprs) → at_number k.referents node.id ≡ referent f (entity_of s.context f)
       → AllKnown k s.context es → Keeps (all_typed s es >>= call_form s f) (form_known k node.id (trees.call f es))

@@ -157,7 +157,7 @@ initialised_kept k s node t (Some i) h =
 
 variable_kept : (k : Known) (s : Scope) (base : Base) (v : VariableTree) → VariableAt k s base v → Keeps (variable_typed s base v) (variable_known k v)
 variable_kept k s base v h =
-    kept (variable_declared s.context base v).type (at_number k.declared v.declarator.node.id) _ _ (equal_kept _ _ h.0)
+    kept (variable_declared s.context base v).type (at_number k.declared v.declarator.node.id) _ _ (equal_kept (variable_declared s.context base v).type (at_number k.declared v.declarator.node.id) h.0)
     (λ t. initialised_kept k (behind_variable s base v) v.declarator.node.id t v.initialiser h.1)
 
 variables_kept : (k : Known) (s : Scope) (base : Base) (vs : List VariableTree) → VariablesAt k s base vs → Keeps (variables_typed s base vs) (variables_known k vs)

@@ -131,9 +131,10 @@ variables_at k s h base (v ∷ vs) d n =
     let ri = of_option_initialiser no_referent its_referent after.context v.initialiser in
     let tr = of_variables no_type its_type false after.context base vs in
     let rr = of_variables no_referent its_referent false after.context base vs in
-    let inside : Inside k after = variable_inside k s h base v in
-    ((d.0, initial_at k after inside v.initialiser (right k td ti rd ri (left k (td ++ ti) tr (rd ++ ri) rr n))),
-    variables_at k after inside base vs d.1 (right k (td ++ ti) tr (rd ++ ri) rr n))
+    let inside : Inside k after = variable_inside k s h base v in (
+      (d.0, initial_at k after inside v.initialiser (right k td ti rd ri (left k (td ++ ti) tr (rd ++ ri) rr n))),
+      variables_at k after inside base vs d.1 (right k (td ++ ti) tr (rd ++ ri) rr n),
+    )
 
 variables_inside : (k : Known) (s : Scope) → Inside k s → (base : Base) (vs : List VariableTree) → Inside k (within s (after_variables false s.context base vs))
 variables_inside k s h base [] = h
@@ -216,10 +217,13 @@ mutual
       let tt_ = types_in (inner_scope c) t in
       let rt_ = names_in (inner_scope c) t in
       let rest = right k te (tt_ ++ of_else no_type its_type c o) re (rt_ ++ of_else no_referent its_referent c o) n in
-      let first = left k te (tt_ ++ of_else no_type its_type c o) re (rt_ ++ of_else no_referent its_referent c o) n in
-      (expression_at k s h e (first.0.1, first.1.1),
-      (statement_at k (inner s) (inner_inside k s h) r t d.0 (left k tt_ (of_else no_type its_type c o) rt_ (of_else no_referent its_referent c o) rest),
-      else_at k s h r o d.1 (right k tt_ (of_else no_type its_type c o) rt_ (of_else no_referent its_referent c o) rest)))
+      let first = left k te (tt_ ++ of_else no_type its_type c o) re (rt_ ++ of_else no_referent its_referent c o) n in (
+        expression_at k s h e (first.0.1, first.1.1),
+        (
+          statement_at k (inner s) (inner_inside k s h) r t d.0 (left k tt_ (of_else no_type its_type c o) rt_ (of_else no_referent its_referent c o) rest),
+          else_at k s h r o d.1 (right k tt_ (of_else no_type its_type c o) rt_ (of_else no_referent its_referent c o) rest),
+        ),
+      )
   statement_at k s h r (trees.while_loop node e t) d n =
       let c = s.context in
       let te = no_type node ∷ of_nodes (its_type c) e in
@@ -232,9 +236,10 @@ mutual
       let c = s.context in
       let ts = no_type node ∷ types_in (inside_loop (inner_scope c)) t in
       let rs = no_referent node ∷ names_in (inside_loop (inner_scope c)) t in
-      let first = left k ts (of_nodes (its_type c) e) rs (of_nodes (its_referent c) e) n in
-      (statement_at k (loop_body s) (loop_in k s h) r t d (first.0.1, first.1.1),
-      expression_at k s h e (right k ts (of_nodes (its_type c) e) rs (of_nodes (its_referent c) e) n))
+      let first = left k ts (of_nodes (its_type c) e) rs (of_nodes (its_referent c) e) n in (
+        statement_at k (loop_body s) (loop_in k s h) r t d (first.0.1, first.1.1),
+        expression_at k s h e (right k ts (of_nodes (its_type c) e) rs (of_nodes (its_referent c) e) n),
+      )
   statement_at k s h r (trees.for_loop node start e u t) d n =
       let c = s.context in
       let f = for_context c start in
@@ -249,11 +254,16 @@ mutual
       let rest = right k t0 ((te ++ tu) ++ ts) r0 ((re ++ ru) ++ rs) n in
       let both = left k (te ++ tu) ts (re ++ ru) rs rest in
       let inside : Inside k (in_for s start) = for_inside k s h start in
-      let first = left k t0 ((te ++ tu) ++ ts) r0 ((re ++ ru) ++ rs) n in
-      (start_at k (inner s) (inner_inside k s h) start d.0 (first.0.1, first.1.1),
-      (option_at k (in_for s start) inside e (left k te tu re ru both),
-      (option_at k (in_for s start) inside u (right k te tu re ru both),
-      statement_at k (loop_body (in_for s start)) (loop_in k (in_for s start) inside) (start_result k (inner_scope c) start r) t d.1 (right k (te ++ tu) ts (re ++ ru) rs rest))))
+      let first = left k t0 ((te ++ tu) ++ ts) r0 ((re ++ ru) ++ rs) n in (
+        start_at k (inner s) (inner_inside k s h) start d.0 (first.0.1, first.1.1),
+        (
+          option_at k (in_for s start) inside e (left k te tu re ru both),
+          (
+            option_at k (in_for s start) inside u (right k te tu re ru both),
+            statement_at k (loop_body (in_for s start)) (loop_in k (in_for s start) inside) (start_result k (inner_scope c) start r) t d.1 (right k (te ++ tu) ts (re ++ ru) rs rest),
+          ),
+        ),
+      )
   statement_at k s h r (trees.break node) d n = tt
   statement_at k s h r (trees.continue node) d n = tt
   statement_at k s h r (trees.return node e) d n = (r, option_at k s h e (n.0.1, n.1.1))
@@ -265,9 +275,10 @@ mutual
       let c = s.context in
       let after = within s (after_statement c t) in
       let later = of_statements no_type its_type (after_statement c t) ts in
-      let names = of_statements no_referent its_referent (after_statement c t) ts in
-      (statement_at k s h r t d.0 (left k (types_in c t) later (names_in c t) names n),
-      statements_at k after (statement_inside k s h t) (statement_result k c t r) ts d.1 (right k (types_in c t) later (names_in c t) names n))
+      let names = of_statements no_referent its_referent (after_statement c t) ts in (
+        statement_at k s h r t d.0 (left k (types_in c t) later (names_in c t) names n),
+        statements_at k after (statement_inside k s h t) (statement_result k c t r) ts d.1 (right k (types_in c t) later (names_in c t) names n),
+      )
 
   else_at : (k : Known) (s : Scope) → Inside k s → ResultIs k s.context → (o : Else) → ElseDeclared k s.context o
       → Stand k (of_else no_type its_type s.context o) (of_else no_referent its_referent s.context o) → ElseAt k s o

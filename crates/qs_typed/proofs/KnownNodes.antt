@@ -54,30 +54,38 @@ mutual
   parts_known k c (trees.cast n a) t r = nodes_known k c a t r
   parts_known k c (trees.sizeof_type n) t r = tt
   parts_known k c (trees.sizeof_expr a) t r = nodes_known k c a t r
-  parts_known k c (trees.binary operator a b) t r =
-      (nodes_known k c a (each_left (StandsIn k.types) (of_nodes (with_types c) a) (of_nodes (with_types c) b) t) (each_left (StandsIn k.referents) (of_nodes (with_referents c) a) (of_nodes (with_referents c) b) r),
-      nodes_known k c b (each_right (StandsIn k.types) (of_nodes (with_types c) a) (of_nodes (with_types c) b) t) (each_right (StandsIn k.referents) (of_nodes (with_referents c) a) (of_nodes (with_referents c) b) r))
-  parts_known k c (trees.assign operator a b) t r =
-      (nodes_known k c a (each_left (StandsIn k.types) (of_nodes (with_types c) a) (of_nodes (with_types c) b) t) (each_left (StandsIn k.referents) (of_nodes (with_referents c) a) (of_nodes (with_referents c) b) r),
-      nodes_known k c b (each_right (StandsIn k.types) (of_nodes (with_types c) a) (of_nodes (with_types c) b) t) (each_right (StandsIn k.referents) (of_nodes (with_referents c) a) (of_nodes (with_referents c) b) r))
+  parts_known k c (trees.binary operator a b) t r = (
+    nodes_known k c a (each_left (StandsIn k.types) (of_nodes (with_types c) a) (of_nodes (with_types c) b) t) (each_left (StandsIn k.referents) (of_nodes (with_referents c) a) (of_nodes (with_referents c) b) r),
+    nodes_known k c b (each_right (StandsIn k.types) (of_nodes (with_types c) a) (of_nodes (with_types c) b) t) (each_right (StandsIn k.referents) (of_nodes (with_referents c) a) (of_nodes (with_referents c) b) r),
+  )
+  parts_known k c (trees.assign operator a b) t r = (
+    nodes_known k c a (each_left (StandsIn k.types) (of_nodes (with_types c) a) (of_nodes (with_types c) b) t) (each_left (StandsIn k.referents) (of_nodes (with_referents c) a) (of_nodes (with_referents c) b) r),
+    nodes_known k c b (each_right (StandsIn k.types) (of_nodes (with_types c) a) (of_nodes (with_types c) b) t) (each_right (StandsIn k.referents) (of_nodes (with_referents c) a) (of_nodes (with_referents c) b) r),
+  )
   parts_known k c (trees.conditional d a b) t r =
       let tr = each_right (StandsIn k.types) (of_nodes (with_types c) d) (of_nodes (with_types c) a ++ of_nodes (with_types c) b) t in
-      let rr = each_right (StandsIn k.referents) (of_nodes (with_referents c) d) (of_nodes (with_referents c) a ++ of_nodes (with_referents c) b) r in
-      (nodes_known k c d (each_left (StandsIn k.types) (of_nodes (with_types c) d) (of_nodes (with_types c) a ++ of_nodes (with_types c) b) t)
-      (each_left (StandsIn k.referents) (of_nodes (with_referents c) d) (of_nodes (with_referents c) a ++ of_nodes (with_referents c) b) r),
-      (nodes_known k c a (each_left (StandsIn k.types) (of_nodes (with_types c) a) (of_nodes (with_types c) b) tr) (each_left (StandsIn k.referents) (of_nodes (with_referents c) a) (of_nodes (with_referents c) b) rr),
-      nodes_known k c b (each_right (StandsIn k.types) (of_nodes (with_types c) a) (of_nodes (with_types c) b) tr) (each_right (StandsIn k.referents) (of_nodes (with_referents c) a) (of_nodes (with_referents c) b) rr)))
-  parts_known k c (trees.comma a b) t r =
-      (nodes_known k c a (each_left (StandsIn k.types) (of_nodes (with_types c) a) (of_nodes (with_types c) b) t) (each_left (StandsIn k.referents) (of_nodes (with_referents c) a) (of_nodes (with_referents c) b) r),
-      nodes_known k c b (each_right (StandsIn k.types) (of_nodes (with_types c) a) (of_nodes (with_types c) b) t) (each_right (StandsIn k.referents) (of_nodes (with_referents c) a) (of_nodes (with_referents c) b) r))
-  parts_known k c (trees.subscript a b) t r =
-      (nodes_known k c a (each_left (StandsIn k.types) (of_nodes (with_types c) a) (of_nodes (with_types c) b) t) (each_left (StandsIn k.referents) (of_nodes (with_referents c) a) (of_nodes (with_referents c) b) r),
-      nodes_known k c b (each_right (StandsIn k.types) (of_nodes (with_types c) a) (of_nodes (with_types c) b) t) (each_right (StandsIn k.referents) (of_nodes (with_referents c) a) (of_nodes (with_referents c) b) r))
+      let rr = each_right (StandsIn k.referents) (of_nodes (with_referents c) d) (of_nodes (with_referents c) a ++ of_nodes (with_referents c) b) r in (
+        nodes_known k c d (each_left (StandsIn k.types) (of_nodes (with_types c) d) (of_nodes (with_types c) a ++ of_nodes (with_types c) b) t)
+            (each_left (StandsIn k.referents) (of_nodes (with_referents c) d) (of_nodes (with_referents c) a ++ of_nodes (with_referents c) b) r),
+        (
+          nodes_known k c a (each_left (StandsIn k.types) (of_nodes (with_types c) a) (of_nodes (with_types c) b) tr) (each_left (StandsIn k.referents) (of_nodes (with_referents c) a) (of_nodes (with_referents c) b) rr),
+          nodes_known k c b (each_right (StandsIn k.types) (of_nodes (with_types c) a) (of_nodes (with_types c) b) tr) (each_right (StandsIn k.referents) (of_nodes (with_referents c) a) (of_nodes (with_referents c) b) rr),
+        ),
+      )
+  parts_known k c (trees.comma a b) t r = (
+    nodes_known k c a (each_left (StandsIn k.types) (of_nodes (with_types c) a) (of_nodes (with_types c) b) t) (each_left (StandsIn k.referents) (of_nodes (with_referents c) a) (of_nodes (with_referents c) b) r),
+    nodes_known k c b (each_right (StandsIn k.types) (of_nodes (with_types c) a) (of_nodes (with_types c) b) t) (each_right (StandsIn k.referents) (of_nodes (with_referents c) a) (of_nodes (with_referents c) b) r),
+  )
+  parts_known k c (trees.subscript a b) t r = (
+    nodes_known k c a (each_left (StandsIn k.types) (of_nodes (with_types c) a) (of_nodes (with_types c) b) t) (each_left (StandsIn k.referents) (of_nodes (with_referents c) a) (of_nodes (with_referents c) b) r),
+    nodes_known k c b (each_right (StandsIn k.types) (of_nodes (with_types c) a) (of_nodes (with_types c) b) t) (each_right (StandsIn k.referents) (of_nodes (with_referents c) a) (of_nodes (with_referents c) b) r),
+  )
   parts_known k c (trees.member access a x) t r = nodes_known k c a t r
   parts_known k c (trees.call f es) t r = all_known k c es t r
 
   all_known : (k : Known) (c : Context) (es : Exprs) → Each (StandsIn k.types) (of_all (with_types c) es) → Each (StandsIn k.referents) (of_all (with_referents c) es) → AllKnown k c es
   all_known k c no_exprs t r = tt
-  all_known k c (expr_and e es) t r =
-      (nodes_known k c e (each_left (StandsIn k.types) (of_nodes (with_types c) e) (of_all (with_types c) es) t) (each_left (StandsIn k.referents) (of_nodes (with_referents c) e) (of_all (with_referents c) es) r),
-      all_known k c es (each_right (StandsIn k.types) (of_nodes (with_types c) e) (of_all (with_types c) es) t) (each_right (StandsIn k.referents) (of_nodes (with_referents c) e) (of_all (with_referents c) es) r))
+  all_known k c (expr_and e es) t r = (
+    nodes_known k c e (each_left (StandsIn k.types) (of_nodes (with_types c) e) (of_all (with_types c) es) t) (each_left (StandsIn k.referents) (of_nodes (with_referents c) e) (of_all (with_referents c) es) r),
+    all_known k c es (each_right (StandsIn k.types) (of_nodes (with_types c) e) (of_all (with_types c) es) t) (each_right (StandsIn k.referents) (of_nodes (with_referents c) e) (of_all (with_referents c) es) r),
+  )

@@ -42,13 +42,7 @@ fn layout_in(env: &Env, k: u32) -> Result<&StructLayout, NoMemory>
 
 /// What a type holds, whose structs nest at most so deep.
 #[cycle(blank)]
-fn blank_by(
-    alloc: Global,
-    room: u32,
-    env: &Env,
-    depth: usize,
-    t: &CType,
-) -> Result<Blank, NoMemory>
+fn blank_by(alloc: Global, room: u32, env: &Env, depth: usize, t: &CType) -> Result<Blank, NoMemory>
     ensures { IfOk result (λ b. blank_by (blanks_within depth (env_tree env.now)) (type_tree t.now) ≡ Some (blank_tree b)) }
 {
     if room == 0 {

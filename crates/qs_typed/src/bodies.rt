@@ -119,21 +119,21 @@ fn statement(alloc: Global, k: &Known<'_>, s: &Stmt) -> Result<Statement, NoMemo
             let c = condition(alloc, k, c)?;
             let a = statement(alloc, k, then)?;
             let b = otherwise_of(alloc, k, otherwise)?;
-            Ok(Statement::Branch(
-                c,
-                Box::new(alloc, a)?,
-                Box::new(alloc, b)?,
-            ))
+            Ok(Statement::Branch(c, Box::new(alloc, a)?, Box::new(alloc, b)?))
         }
         Stmt::While {
-            condition: c, body, ..
+            condition: c,
+            body,
+            ..
         } => {
             let c = condition(alloc, k, c)?;
             let a = statement(alloc, k, body)?;
             Ok(Statement::WhileLoop(c, Box::new(alloc, a)?))
         }
         Stmt::Do {
-            body, condition: c, ..
+            body,
+            condition: c,
+            ..
         } => {
             let a = statement(alloc, k, body)?;
             let c = condition(alloc, k, c)?;
@@ -164,11 +164,7 @@ fn statement(alloc: Global, k: &Known<'_>, s: &Stmt) -> Result<Statement, NoMemo
 }
 
 #[cycle(statement)]
-fn otherwise_of(
-    alloc: Global,
-    k: &Known<'_>,
-    s: &Option<Box<Stmt>>,
-) -> Result<Statement, NoMemory>
+fn otherwise_of(alloc: Global, k: &Known<'_>, s: &Option<Box<Stmt>>) -> Result<Statement, NoMemory>
     ensures { IfOk result (λ r. else_known (known_tree k.now) (else_tree s.now) ≡ Some (statement_tree r)) }
 {
     match s {
@@ -180,11 +176,7 @@ fn otherwise_of(
 /// The statements of a block.
 #[tactic(auto, using(crate::proofs::Loops::statement_turn, crate::proofs::Loops::all_statements))]
 #[cycle(statement)]
-pub fn statements(
-    alloc: Global,
-    k: &Known<'_>,
-    ss: &[Stmt],
-) -> Result<Vec<Statement>, NoMemory>
+pub fn statements(alloc: Global, k: &Known<'_>, ss: &[Stmt]) -> Result<Vec<Statement>, NoMemory>
     ensures { IfOk result (λ r. statements_known (known_tree k.now) (stmts_tree ss.now) ≡ Some (statements_tree r.items)) }
 {
     let mut all = Vec::new(alloc);

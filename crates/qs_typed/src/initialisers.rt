@@ -80,12 +80,7 @@ fn text_set(
 }
 
 /// A scalar or a struct is initialised as by an assignment whose value is discarded (C11 6.7.9p11, p13).
-fn assigned_set(
-    alloc: Global,
-    k: &Known<'_>,
-    part: Typed<'_>,
-    e: &Expr,
-) -> Result<Effect, NoMemory>
+fn assigned_set(alloc: Global, k: &Known<'_>, part: Typed<'_>, e: &Expr) -> Result<Effect, NoMemory>
     ensures { IfOk result (λ r. assigned_set_known (known_tree k.now) (typed_tree part.entry) (expr_tree e.now) ≡ Some (effect_tree r)) }
 {
     let a = typed(alloc, k, e)?;
@@ -103,12 +98,7 @@ fn part_at(alloc: Global, base: Object, offset: u32) -> Result<Expression, NoMem
 }
 
 /// The part of the object.
-fn piece_set(
-    alloc: Global,
-    k: &Known<'_>,
-    base: Object,
-    p: Piece<'_>,
-) -> Result<Effect, NoMemory>
+fn piece_set(alloc: Global, k: &Known<'_>, base: Object, p: Piece<'_>) -> Result<Effect, NoMemory>
     ensures { IfOk result (λ r. piece_set_known (known_tree k.now) (pointer_to (object_tree base)) (piece_tree p.entry) ≡ Some (effect_tree r)) }
 {
     let to = part_at(alloc, base, p.offset)?;
@@ -154,10 +144,7 @@ fn filled(
     let ps = pieces(alloc, k.env, t, 0, i)?;
     let sets = pieces_set(alloc, k, base, &ps)?;
     let fill = Effect::Fill(cells, Expression::PointerTo(base));
-    Ok(Effect::InOrder(
-        Box::new(alloc, fill)?,
-        Box::new(alloc, sets)?,
-    ))
+    Ok(Effect::InOrder(Box::new(alloc, fill)?, Box::new(alloc, sets)?))
 }
 
 /// The object that a placed local is.

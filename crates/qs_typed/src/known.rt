@@ -182,12 +182,7 @@ impl<'a> Known<'a> {
     }
 
     /// What is called at a node, by this name.
-    pub fn designated(
-        &self,
-        alloc: Global,
-        node: u32,
-        f: &Name,
-    ) -> Result<Designator, NoMemory>
+    pub fn designated(&self, alloc: Global, node: u32, f: &Name) -> Result<Designator, NoMemory>
         ensures { IfOk result (λ d. designated_known (known_tree self.now) node f.now ≡ Some (designator_tree d)) }
     {
         let referent = self.referent_at(node)?;

@@ -48,7 +48,9 @@ fn statement_nodes(s: &Stmt, nodes: &mut Vec<u32>) -> Result<(), NoMemory>
         Stmt::Declaration(d) => variables_nodes(&d.variables, nodes),
         Stmt::Block(items) => statements_nodes(items, nodes),
         Stmt::If {
-            then, otherwise, ..
+            then,
+            otherwise,
+            ..
         } => {
             statement_nodes(then, nodes)?;
             else_nodes(otherwise, nodes)

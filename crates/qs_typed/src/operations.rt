@@ -6,7 +6,10 @@ ghost use Rattle.qs_types.specs.TypeOf.{type_tree};
 ghost use Rattle.qs_typed.specs.Parts.{in_scalars, operated_tree};
 
 use crate::expressions::{Conversion, Order};
-use crate::types::{arithmetic, common, conversion, is_pointer, promoted, referenced, scalar_of, signedness, size_in};
+use crate::types::{
+    arithmetic, common, conversion, is_pointer, promoted, referenced, scalar_of, signedness,
+    size_in,
+};
 use qs_base::NoMemory;
 use qs_memory::{Arithmetic, BinaryOperation, Comparison, Direction, Scalar};
 use qs_syntax::BinaryOperator;

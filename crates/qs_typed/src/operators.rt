@@ -13,7 +13,9 @@ ghost use Rattle.qs_typed.specs.TreeOf.{expression_tree};
 use crate::expressions::{Expression, Lvalue};
 use crate::forms::{Form, Typed, address_of, effect_in_use, type_in_use, value_in_use};
 use crate::operations::{Operated, operation_of};
-use crate::types::{arithmetic, common, conversion, is_pointer, promoted, scalar_of, signedness, size_in};
+use crate::types::{
+    arithmetic, common, conversion, is_pointer, promoted, scalar_of, signedness, size_in,
+};
 use qs_base::NoMemory;
 use qs_memory::{Scalar, UnaryOperation};
 use qs_syntax::{BinaryOperator, UnaryOperator};
@@ -91,10 +93,7 @@ fn and_form(alloc: Global, env: &Env, a: Typed<'_>, b: Typed<'_>) -> Result<Form
 {
     let left = value_in_use(alloc, a)?;
     let right = value_in_use(alloc, b)?;
-    Ok(Form::Value(Expression::LogicalAnd(
-        Box::new(alloc, left)?,
-        Box::new(alloc, right)?,
-    )))
+    Ok(Form::Value(Expression::LogicalAnd(Box::new(alloc, left)?, Box::new(alloc, right)?)))
 }
 
 fn or_form(alloc: Global, env: &Env, a: Typed<'_>, b: Typed<'_>) -> Result<Form, NoMemory>
@@ -102,10 +101,7 @@ fn or_form(alloc: Global, env: &Env, a: Typed<'_>, b: Typed<'_>) -> Result<Form,
 {
     let left = value_in_use(alloc, a)?;
     let right = value_in_use(alloc, b)?;
-    Ok(Form::Value(Expression::LogicalOr(
-        Box::new(alloc, left)?,
-        Box::new(alloc, right)?,
-    )))
+    Ok(Form::Value(Expression::LogicalOr(Box::new(alloc, left)?, Box::new(alloc, right)?)))
 }
 
 /// An operator between two operands (C11 6.5.5 to 6.5.14).
@@ -216,11 +212,7 @@ fn negation_form(alloc: Global, a: Typed<'_>) -> Result<Form, NoMemory>
     let to = beside_zero(&t, &both);
     let before = conversion(&t, to);
     let value = value_in_use(alloc, a)?;
-    Ok(Form::Value(Expression::Unary(
-        UnaryOperation::Not,
-        before,
-        Box::new(alloc, value)?,
-    )))
+    Ok(Form::Value(Expression::Unary(UnaryOperation::Not, before, Box::new(alloc, value)?)))
 }
 
 /// A unary operator (C11 6.5.3.2, 6.5.3.3).
@@ -251,10 +243,7 @@ pub fn cast_form(alloc: Global, t: &CType, a: Typed<'_>) -> Result<Form, NoMemor
 {
     let from = type_in_use(alloc, &a)?;
     let value = value_in_use(alloc, a)?;
-    Ok(Form::Value(Expression::Cast(
-        conversion(&from, t),
-        Box::new(alloc, value)?,
-    )))
+    Ok(Form::Value(Expression::Cast(conversion(&from, t), Box::new(alloc, value)?)))
 }
 
 /// `?:`: both branches are converted to one type (C11 6.5.15p5, p6).
@@ -292,9 +281,5 @@ pub fn comma_form(alloc: Global, a: Typed<'_>, b: Typed<'_>) -> Result<Form, NoM
 {
     let before = effect_in_use(alloc, a)?;
     let of = b.of.copy(alloc)?;
-    Ok(Form::Comma(
-        Box::new(alloc, before)?,
-        of,
-        Box::new(alloc, b.form)?,
-    ))
+    Ok(Form::Comma(Box::new(alloc, before)?, of, Box::new(alloc, b.form)?))
 }

@@ -49,7 +49,13 @@ fn part_type<'a>(env: &'a Env, t: &'a CType, i: usize) -> Result<&'a CType, NoMe
         CType::Char => Err(NoMemory),
         CType::Void => Err(NoMemory),
         CType::Pointer(_) => Err(NoMemory),
-        CType::Array(element, n) => { if i < *n as usize { Ok(element) } else { Err(NoMemory) } }
+        CType::Array(element, n) => {
+            if i < *n as usize {
+                Ok(element)
+            } else {
+                Err(NoMemory)
+            }
+        }
         CType::Struct(k) => member_at(env, *k, i),
     }
 }

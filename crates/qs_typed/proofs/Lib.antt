@@ -1,4 +1,5 @@
 pub mod Sizes
+pub mod Entries
 pub mod Operated
 pub mod PlaceTables
 pub mod MemberPlaces
@@ -7,6 +8,7 @@ pub mod Kept
 pub mod Grown
 pub mod Tied
 pub mod TiedStatements
+pub mod TiedFunctions
 pub mod KnownNodes
 pub mod Inside
 pub mod Later

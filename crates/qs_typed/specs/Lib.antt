@@ -9,3 +9,5 @@ pub mod PieceOf
 pub mod Behind
 pub mod Agrees
 pub mod KnownFunctions
+pub mod AgreesFunctions
+pub mod Laws

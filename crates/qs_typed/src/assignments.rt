@@ -8,7 +8,7 @@ ghost use Rattle.qs_typed.specs.Parts.{operated_tree, updated_by};
 ghost use Rattle.qs_typed.specs.TreeOf.{expression_tree, lvalue_tree};
 
 use crate::expressions::{Assignment, Expression, Lvalue};
-use crate::forms::{Form, Step, Typed, address_of, lvalue_of, type_in_use, value_in_use};
+use crate::forms::{Form, Step, Typed, type_in_use, value_in_use};
 use crate::operations::{Operated, operation_of};
 use crate::types::{between, conversion, extent_in, is_struct, scalar_of};
 use qs_base::NoMemory;
@@ -21,7 +21,7 @@ use std::alloc::Global;
 fn set_form(alloc: Global, a: Typed<'_>, b: Typed<'_>) -> Result<Form, NoMemory>
     ensures { IfOk result (λ f. set_form (typed_tree a.entry) (typed_tree b.entry) ≡ Some (form_tree f)) }
 {
-    let lvalue = lvalue_of(a.form)?;
+    let lvalue = a.form.into_lvalue()?;
     let from = type_in_use(alloc, &b)?;
     let conversion = conversion(&from, a.of);
     let value = value_in_use(alloc, b)?;
@@ -41,8 +41,8 @@ fn struct_form(alloc: Global, env: &Env, a: Typed<'_>, b: Typed<'_>) -> Result<F
     ensures { IfOk result (λ f. struct_form (env_tree env.now) (typed_tree a.entry) (typed_tree b.entry) ≡ Some (form_tree f)) }
 {
     let extent = extent_in(env, a.of)?;
-    let to = address_of(a.form)?;
-    let from = address_of(b.form)?;
+    let to = a.form.into_address()?;
+    let from = b.form.into_address()?;
     Ok(Form::StructAssignment {
         size: extent.size,
         alignment: extent.alignment,
@@ -98,7 +98,7 @@ fn compound_form(
 ) -> Result<Form, NoMemory>
     ensures { IfOk result (λ f. compound_form (env_tree env.now) operator (typed_tree a.entry) (typed_tree b.entry) ≡ Some (form_tree f)) }
 {
-    let lvalue = lvalue_of(a.form)?;
+    let lvalue = a.form.into_lvalue()?;
     let u = type_in_use(alloc, &b)?;
     let o = operation_of(env, operator, a.of, &u)?;
     let value = value_in_use(alloc, b)?;
@@ -144,7 +144,7 @@ fn step_before_form(
 ) -> Result<Form, NoMemory>
     ensures { IfOk result (λ f. compound_form (env_tree env.now) operator (typed_tree a.entry) one ≡ Some (form_tree f)) }
 {
-    let lvalue = lvalue_of(a.form)?;
+    let lvalue = a.form.into_lvalue()?;
     let o = operation_of(env, operator, a.of, &CType::Int)?;
     updated(alloc, a.of, lvalue, o, Expression::Constant(Scalar::Int, 1))
 }
@@ -159,7 +159,7 @@ fn step_after_form(
 ) -> Result<Form, NoMemory>
     ensures { IfOk result (λ f. step_after_form (env_tree env.now) operator (typed_tree a.entry) ≡ Some (form_tree f)) }
 {
-    let lvalue = lvalue_of(a.form)?;
+    let lvalue = a.form.into_lvalue()?;
     let o = operation_of(env, operator, a.of, &CType::Int)?;
     let scalar = scalar_of(a.of);
     Ok(Form::Step(Box::new(

@@ -1,6 +1,6 @@
 // What an expression is before it is known how it is used, and its uses (C11 6.3.2.1, 6.5.17, 6.8.3).
 ghost use Rattle.std.specs.Prelude.{◌≡◌, IfOk, Some};
-ghost use Rattle.qs_meaning.specs.Forms.{address_in, address_of, effect_in_use, effect_of, lvalue_of, place_of, type_in_use, value_in, value_in_use, value_of};
+ghost use Rattle.qs_meaning.specs.Forms.{address_of, effect_in_use, effect_of, lvalue_of, type_in_use, value_in_use, value_of};
 ghost use Rattle.qs_types.specs.TypeOf.{type_tree};
 ghost use Rattle.qs_typed.specs.FormOf.{form_tree, step_tree, typed_tree, value_before, written};
 ghost use Rattle.qs_typed.specs.TreeOf.{assignment_tree, effect_tree, expression_tree, lvalue_tree};
@@ -14,7 +14,6 @@ use qs_types::CType;
 use std::alloc::Global;
 
 /// What an expression is.
-#[derive(Drop)]
 #[cycle(form)]
 pub enum Form {
     /// an lvalue (C11 6.3.2.1p1)
@@ -68,63 +67,7 @@ pub struct Typed<'a> {
     pub form: Form,
 }
 
-/// The address where there is one.
-fn place_of(t: &CType, l: Lvalue) -> Expression
-    ensures { expression_tree result ≡ place_of (type_tree t.now) (lvalue_tree l) }
-{
-    match l {
-        Lvalue::Variable(x) => Expression::Value(scalar_of(t), Lvalue::Variable(x)),
-        Lvalue::Object(address) => Box::into_inner(address),
-    }
-}
-
-/// An lvalue turns into the value that it has, one of an array into a pointer to its first element; a
-/// struct stands as its address (C11 6.3.2.1p2, p3).
-fn value_in(t: &CType, l: Lvalue) -> Expression
-    ensures { expression_tree result ≡ value_in (type_tree t.now) (lvalue_tree l) }
-{
-    match t {
-        CType::Int => Expression::Value(scalar_of(t), l),
-        CType::Unsigned => Expression::Value(scalar_of(t), l),
-        CType::Char => Expression::Value(scalar_of(t), l),
-        CType::Void => place_of(t, l),
-        CType::Pointer(_) => Expression::Value(scalar_of(t), l),
-        CType::Array(_, _) => place_of(t, l),
-        CType::Struct(_) => place_of(t, l),
-    }
-}
-
-/// The lvalue that it is.
-pub fn lvalue_of(form: Form) -> Result<Lvalue, NoMemory>
-    ensures { IfOk result (λ l. lvalue_of (form_tree form) ≡ Some (lvalue_tree l)) }
-{
-    match form {
-        Form::Lvalue(l) => Ok(l),
-        Form::Value(_) => Err(NoMemory),
-        Form::Call(_, _) => Err(NoMemory),
-        Form::Assignment(_) => Err(NoMemory),
-        Form::Step(_) => Err(NoMemory),
-        Form::StructAssignment { .. } => Err(NoMemory),
-        Form::Comma(_, _, _) => Err(NoMemory),
-    }
-}
-
-fn address_in(l: Lvalue) -> Result<Expression, NoMemory>
-    ensures { IfOk result (λ e. address_in (lvalue_tree l) ≡ Some (expression_tree e)) }
-{
-    match l {
-        Lvalue::Variable(_) => Err(NoMemory),
-        Lvalue::Object(address) => Ok(Box::into_inner(address)),
-    }
-}
-
-/// The address of the object that it is.
-pub fn address_of(form: Form) -> Result<Expression, NoMemory>
-    ensures { IfOk result (λ e. address_of (form_tree form) ≡ Some (expression_tree e)) }
-{
-    let l = lvalue_of(form)?;
-    address_in(l)
-}
+// ---- steps
 
 /// The value before the step.
 fn value_before(step: Step) -> Expression
@@ -154,51 +97,111 @@ fn written(step: Step) -> Assignment
     }
 }
 
-/// Its value. An assignment of a struct, whose value no typed unit uses, is answered as want of memory.
-pub fn value_of(alloc: Global, t: &CType, form: Form) -> Result<Expression, NoMemory>
-    ensures { IfOk result (λ e. value_of (type_tree t.now) (form_tree form) ≡ expression_tree e) }
-{
-    match form {
-        Form::Lvalue(l) => Ok(value_in(t, l)),
-        Form::Value(e) => Ok(e),
-        Form::Call(f, given) => Ok(Expression::Called(scalar_of(t), f, given)),
-        Form::Assignment(a) => Ok(Expression::Assigned(a)),
-        Form::Step(step) => Ok(value_before(Box::into_inner(step))),
-        Form::StructAssignment { .. } => Err(NoMemory),
-        Form::Comma(a, u, b) => {
-            let value = value_of(alloc, &u, Box::into_inner(b))?;
-            Ok(Expression::Sequence(a, Box::new(alloc, value)?))
+// ---- forms
+
+impl Form {
+    /// The lvalue that it is.
+    pub fn into_lvalue(self) -> Result<Lvalue, NoMemory>
+        ensures { IfOk result (λ l. lvalue_of (form_tree self) ≡ Some (lvalue_tree l)) }
+    {
+        match self {
+            Form::Lvalue(l) => Ok(l),
+            Form::Value(_) => Err(NoMemory),
+            Form::Call(_, _) => Err(NoMemory),
+            Form::Assignment(_) => Err(NoMemory),
+            Form::Step(_) => Err(NoMemory),
+            Form::StructAssignment {
+                size: _,
+                alignment: _,
+                to: _,
+                from: _,
+            } => Err(NoMemory),
+            Form::Comma(_, _, _) => Err(NoMemory),
+        }
+    }
+
+    /// The address of the object that it is.
+    pub fn into_address(self) -> Result<Expression, NoMemory>
+        ensures { IfOk result (λ e. address_of (form_tree self) ≡ Some (expression_tree e)) }
+    {
+        let l = self.into_lvalue()?;
+        l.into_address()
+    }
+
+    /// Its value. An assignment of a struct, whose value no typed unit uses, is answered as want of memory.
+    pub fn into_value(self, alloc: Global, t: &CType) -> Result<Expression, NoMemory>
+        ensures { IfOk result (λ e. value_of (type_tree t.now) (form_tree self) ≡ expression_tree e) }
+    {
+        match self {
+            Form::Lvalue(l) => Ok(l.into_value(t)),
+            Form::Value(e) => Ok(e),
+            Form::Call(f, given) => Ok(Expression::Called(scalar_of(t), f, given)),
+            Form::Assignment(a) => Ok(Expression::Assigned(a)),
+            Form::Step(step) => Ok(value_before(Box::into_inner(step))),
+            Form::StructAssignment {
+                size: _,
+                alignment: _,
+                to: _,
+                from: _,
+            } => Err(NoMemory),
+            Form::Comma(a, u, b) => {
+                let value = Box::into_inner(b).into_value(alloc, &u)?;
+                Ok(Expression::Sequence(a, Box::new(alloc, value)?))
+            }
+        }
+    }
+
+    /// Its effect: the value is discarded, so a call needs none, and `a++` is `++a` (C11 6.8.3p2, 6.5.17p2).
+    pub fn into_effect(self, alloc: Global, t: &CType) -> Result<Effect, NoMemory>
+        ensures { IfOk result (λ e. effect_of (type_tree t.now) (form_tree self) ≡ effect_tree e) }
+    {
+        match self {
+            Form::Lvalue(l) => Ok(Effect::Discard(l.into_value(t))),
+            Form::Value(e) => Ok(Effect::Discard(e)),
+            Form::Call(f, given) => Ok(Effect::Perform(f, given)),
+            Form::Assignment(a) => Ok(Effect::Assign(Box::into_inner(a))),
+            Form::Step(step) => Ok(Effect::Assign(written(Box::into_inner(step)))),
+            Form::StructAssignment {
+                size,
+                alignment,
+                to,
+                from,
+            } => Ok(Effect::Copy {
+                size,
+                alignment,
+                to: Box::into_inner(to),
+                from: Box::into_inner(from),
+            }),
+            Form::Comma(a, u, b) => {
+                let then = Box::into_inner(b).into_effect(alloc, &u)?;
+                Ok(Effect::InOrder(a, Box::new(alloc, then)?))
+            }
         }
     }
 }
 
-/// Its effect: the value is discarded, so a call needs none, and `a++` is `++a` (C11 6.8.3p2, 6.5.17p2).
-pub fn effect_of(alloc: Global, t: &CType, form: Form) -> Result<Effect, NoMemory>
-    ensures { IfOk result (λ e. effect_of (type_tree t.now) (form_tree form) ≡ effect_tree e) }
-{
-    match form {
-        Form::Lvalue(l) => Ok(Effect::Discard(value_in(t, l))),
-        Form::Value(e) => Ok(Effect::Discard(e)),
-        Form::Call(f, given) => Ok(Effect::Perform(f, given)),
-        Form::Assignment(a) => Ok(Effect::Assign(Box::into_inner(a))),
-        Form::Step(step) => Ok(Effect::Assign(written(Box::into_inner(step)))),
-        Form::StructAssignment {
-            size,
-            alignment,
-            to,
-            from,
-        } => Ok(Effect::Copy {
-            size,
-            alignment,
-            to: Box::into_inner(to),
-            from: Box::into_inner(from),
-        }),
-        Form::Comma(a, u, b) => {
-            let then = effect_of(alloc, &u, Box::into_inner(b))?;
-            Ok(Effect::InOrder(a, Box::new(alloc, then)?))
+// By hand, as for expressions.
+impl Drop for Form {
+    #[cycle(drop_form)]
+    fn drop(self) {
+        match self {
+            Form::Lvalue(_) => {}
+            Form::Value(_) => {}
+            Form::Call(_, _) => {}
+            Form::Assignment(_) => {}
+            Form::Step(_) => {}
+            Form::StructAssignment {
+                size: _,
+                alignment: _,
+                to: _,
+                from: _,
+            } => {}
+            Form::Comma(_, _, _) => {}
         }
     }
 }
+
+// ---- expressions with their types
 
 /// The type of its value (C11 6.3.2.1p3).
 pub fn type_in_use(alloc: Global, a: &Typed<'_>) -> Result<CType, NoMemory>
@@ -211,12 +214,12 @@ pub fn type_in_use(alloc: Global, a: &Typed<'_>) -> Result<CType, NoMemory>
 pub fn value_in_use(alloc: Global, a: Typed<'_>) -> Result<Expression, NoMemory>
     ensures { IfOk result (λ e. value_in_use (typed_tree a.entry) ≡ expression_tree e) }
 {
-    value_of(alloc, a.of, a.form)
+    a.form.into_value(alloc, a.of)
 }
 
 /// Its effect.
 pub fn effect_in_use(alloc: Global, a: Typed<'_>) -> Result<Effect, NoMemory>
     ensures { IfOk result (λ e. effect_in_use (typed_tree a.entry) ≡ effect_tree e) }
 {
-    effect_of(alloc, a.of, a.form)
+    a.form.into_effect(alloc, a.of)
 }

@@ -7,14 +7,13 @@ ghost use Rattle.qs_types.specs.GivenFunctions.{main_name};
 ghost use Rattle.qs_types.specs.Placed.{is_no_scalar, is_placed};
 ghost use Rattle.qs_types.specs.TypeOf.{type_tree};
 ghost use Rattle.qs_syntax.specs.Sameness.{same_bytes};
-ghost use Rattle.qs_typed.specs.Known.{at_number};
 ghost use Rattle.qs_typed.specs.KnownFunctions.{function_known, local_at, locals_at, places_at, with_locals, with_parameters};
 ghost use Rattle.qs_typed.specs.KnownOf.{known_tree};
 ghost use Rattle.qs_typed.specs.PlacesOf.{locals_tree};
 ghost use Rattle.qs_typed.specs.TreeOf as trees;
 
 use crate::bodies::statements;
-use crate::known::Known;
+use crate::known::{Known, type_in};
 use crate::locals::parameters;
 use crate::places::Locals;
 use crate::program::TypedFunction;
@@ -40,16 +39,6 @@ fn insert(nodes: &mut IndexSet<u32>, node: u32) -> Result<(), NoMemory>
     Ok(())
 }
 
-/// The type that a node declares, if it declares one.
-fn declared_type(declared: &[Option<CType>], node: u32) -> Option<&CType>
-    ensures { option_map (λ t. type_tree t.now) result ≡ at_number (map (option_map type_tree) declared.now) node }
-{
-    match declared.get(node as usize) {
-        None => None,
-        Some(found) => found.as_ref(),
-    }
-}
-
 fn is_no_scalar(t: Option<&CType>) -> bool
     ensures { result ≡ is_no_scalar (option_map (λ t. type_tree t.now) t.entry) }
 {
@@ -64,7 +53,7 @@ fn is_no_scalar(t: Option<&CType>) -> bool
 fn is_placed(declared: &[Option<CType>], addressed: &IndexSet<u32>, node: u32) -> bool
     ensures { result ≡ is_placed (addressed.now).keys (local_at (map (option_map type_tree) declared.now) node) }
 {
-    addressed.contains(&node) || is_no_scalar(declared_type(declared, node))
+    addressed.contains(&node) || is_no_scalar(type_in(declared, node))
 }
 
 /// Gives parameters their variables, and those that are placed their blocks.
@@ -139,7 +128,7 @@ fn scalars(
 {
     let mut all = Vec::new(alloc);
     for i in 0..nodes.len() {
-        match declared_type(declared, nodes[i]) {
+        match type_in(declared, nodes[i]) {
             None => return Err(NoMemory),
             Some(t) => all.push(scalar_of(t))?,
         }
@@ -159,7 +148,7 @@ fn sizes(
 {
     let mut all = Vec::new(alloc);
     for i in 0..nodes.len() {
-        match declared_type(declared, nodes[i]) {
+        match type_in(declared, nodes[i]) {
             None => return Err(NoMemory),
             Some(t) => all.push(size_in(env, t)?)?,
         }

@@ -15,7 +15,7 @@ ghost use Rattle.qs_typed.specs.TreeOf.{effect_tree, expression_tree, lvalue_tre
 use crate::assignments::plain_form;
 use crate::blanks::blank_of;
 use crate::expressions::{Effect, Expression, Lvalue, Object};
-use crate::forms::{Form, Typed, address_of, effect_of};
+use crate::forms::{Form, Typed};
 use crate::known::Known;
 use crate::pieces::{Piece, pieces};
 use crate::places::local_lvalue;
@@ -70,7 +70,7 @@ fn text_set(
     let text = text_of(e)?;
     let size = text_room(t, text.bytes().len());
     let a = typed(alloc, k, e)?;
-    let from = address_of(a.form)?;
+    let from = a.form.into_address()?;
     Ok(Effect::Copy {
         size,
         alignment: 1,
@@ -86,7 +86,7 @@ fn assigned_set(alloc: Global, k: &Known<'_>, part: Typed<'_>, e: &Expr) -> Resu
     let a = typed(alloc, k, e)?;
     let of = part.of;
     let form = plain_form(alloc, k.env, part, a)?;
-    effect_of(alloc, of, form)
+    form.into_effect(alloc, of)
 }
 
 /// The address of the part of the object that begins at this offset.
@@ -147,16 +147,22 @@ fn filled(
     Ok(Effect::InOrder(Box::new(alloc, fill)?, Box::new(alloc, sets)?))
 }
 
+fn pointed(e: &Expression) -> Result<Object, NoMemory>
+    ensures { IfOk result (λ o. expression_tree e.now ≡ pointer_to (object_tree o)) }
+{
+    match e {
+        Expression::PointerTo(o) => Ok(*o),
+        _ => Err(NoMemory),
+    }
+}
+
 /// The object that a placed local is.
-fn object_of(l: Lvalue) -> Result<Object, NoMemory>
-    ensures { IfOk result (λ o. address_in (lvalue_tree l) ≡ Some (pointer_to (object_tree o))) }
+fn object_of(l: &Lvalue) -> Result<Object, NoMemory>
+    ensures { IfOk result (λ o. address_in (lvalue_tree l.now) ≡ Some (pointer_to (object_tree o))) }
 {
     match l {
         Lvalue::Variable(_) => Err(NoMemory),
-        Lvalue::Object(address) => match Box::into_inner(address) {
-            Expression::PointerTo(o) => Ok(o),
-            _ => Err(NoMemory),
-        },
+        Lvalue::Object(address) => pointed(address),
     }
 }
 
@@ -169,7 +175,7 @@ fn object_set(
 ) -> Result<Effect, NoMemory>
     ensures { IfOk result (λ r. object_set_known (known_tree k.now) (record { type = type_tree t.now; form = lvalue (lvalue_tree l) }) (initialiser_tree i.now) ≡ Some (effect_tree r)) }
 {
-    let base = object_of(l)?;
+    let base = object_of(&l)?;
     filled(alloc, k, t, base, i)
 }
 

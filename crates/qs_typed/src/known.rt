@@ -1,5 +1,5 @@
 // What is known in a unit by the numbers of its nodes.
-ghost use Rattle.std.specs.Prelude.{◌≡◌, IfOk, Some, map};
+ghost use Rattle.std.specs.Prelude.{◌≡◌, IfOk, Some, map, option_map};
 ghost use Rattle.qs_meaning.specs.Forms.{lvalue};
 ghost use Rattle.qs_syntax.specs.TreeOf.{expr_tree};
 ghost use Rattle.qs_types.specs.TypeOf.{type_tree};
@@ -57,17 +57,34 @@ pub struct Designator {
     pub parameters: Vec<Scalar>,
 }
 
+/// The type that stands at the number of a node, if one does.
+pub fn type_in(types: &[Option<CType>], node: u32) -> Option<&CType>
+    ensures { option_map (λ t. type_tree t.now) result ≡ at_number (map (option_map type_tree) types.now) node }
+{
+    match types.get(node as usize) {
+        None => None,
+        Some(found) => found.as_ref(),
+    }
+}
+
+/// What the name at a node stands for, if it stands for anything.
+fn referent_in(referents: &[Option<Referent>], node: u32) -> Option<Referent>
+    ensures { result ≡ at_number referents.now node }
+{
+    match referents.get(node as usize) {
+        None => None,
+        Some(found) => *found,
+    }
+}
+
 impl<'a> Known<'a> {
     /// The type at a node.
     pub fn type_at(&self, node: u32) -> Result<&'a CType, NoMemory>
         ensures { IfOk result (λ t. at_number (known_tree self.now).types node ≡ Some (type_tree t.now)) }
     {
-        match self.types.get(node as usize) {
+        match type_in(self.types, node) {
             None => Err(NoMemory),
-            Some(found) => match found {
-                None => Err(NoMemory),
-                Some(t) => Ok(t),
-            },
+            Some(t) => Ok(t),
         }
     }
 
@@ -82,24 +99,18 @@ impl<'a> Known<'a> {
     pub fn declared_at(&self, node: u32) -> Result<&'a CType, NoMemory>
         ensures { IfOk result (λ t. at_number (known_tree self.now).declared node ≡ Some (type_tree t.now)) }
     {
-        match self.declared.get(node as usize) {
+        match type_in(self.declared, node) {
             None => Err(NoMemory),
-            Some(found) => match found {
-                None => Err(NoMemory),
-                Some(t) => Ok(t),
-            },
+            Some(t) => Ok(t),
         }
     }
 
     fn referent_at(&self, node: u32) -> Result<Referent, NoMemory>
         ensures { IfOk result (λ r. at_number (known_tree self.now).referents node ≡ Some r) }
     {
-        match self.referents.get(node as usize) {
+        match referent_in(self.referents, node) {
             None => Err(NoMemory),
-            Some(found) => match found {
-                None => Err(NoMemory),
-                Some(referent) => Ok(*referent),
-            },
+            Some(referent) => Ok(referent),
         }
     }
 

@@ -11,6 +11,7 @@ mod forms;
 mod functions;
 mod initialisers;
 mod known;
+mod laws;
 mod locals;
 mod members;
 mod operations;
@@ -26,5 +27,6 @@ pub use data::{Datum, StaticBlock};
 pub use expressions::{
     Argument, Assignment, Conversion, Effect, Expression, Lvalue, Object, Order,
 };
+pub use laws::{expressions_are_typed, functions_are_typed, statements_are_typed};
 pub use program::{TypedFunction, TypedProgram};
 pub use statements::Statement;

@@ -5,7 +5,8 @@ ghost use Rattle.qs_meaning.specs.Units.{parameter_by};
 ghost use Rattle.qs_syntax.specs.TreeOf.{else_tree, parameter_tree, start_tree, stmt_tree, stmts_tree, variable_tree};
 ghost use Rattle.qs_typed.specs.KnownFunctions.{else_nodes, parameter_known, parameters_known, start_nodes, statement_nodes, statements_nodes, variables_nodes};
 ghost use Rattle.qs_typed.specs.KnownOf.{known_tree};
-ghost use Rattle.qs_typed.specs.TreeOf.{lvalue_tree};
+ghost use Rattle.qs_meaning.specs.Typed.{object};
+ghost use Rattle.qs_typed.specs.TreeOf.{expression_tree, lvalue_tree};
 
 use crate::expressions::{Expression, Lvalue, Object};
 use crate::known::Known;
@@ -90,19 +91,25 @@ pub fn statements_nodes(ss: &[Stmt], nodes: &mut Vec<u32>) -> Result<(), NoMemor
 
 // ---- parameters (C11 6.9.1p9, p10)
 
+fn placed_parameter(scalar: Scalar, address: &Expression) -> Result<Parameter, NoMemory>
+    ensures { IfOk result (λ p. parameter_by scalar (object (expression_tree address.now)) ≡ Some p) }
+{
+    match address {
+        Expression::PointerTo(object) => match object {
+            Object::Local(k) => Ok(Parameter::Placed(*k, scalar)),
+            Object::Static(_) => Err(NoMemory),
+        },
+        _ => Err(NoMemory),
+    }
+}
+
 /// Where a call puts an argument.
-fn parameter_by(scalar: Scalar, l: Lvalue) -> Result<Parameter, NoMemory>
-    ensures { IfOk result (λ p. parameter_by scalar (lvalue_tree l) ≡ Some p) }
+fn parameter_by(scalar: Scalar, l: &Lvalue) -> Result<Parameter, NoMemory>
+    ensures { IfOk result (λ p. parameter_by scalar (lvalue_tree l.now) ≡ Some p) }
 {
     match l {
-        Lvalue::Variable(x) => Ok(Parameter::Plain(x)),
-        Lvalue::Object(address) => match Box::into_inner(address) {
-            Expression::PointerTo(object) => match object {
-                Object::Local(k) => Ok(Parameter::Placed(k, scalar)),
-                Object::Static(_) => Err(NoMemory),
-            },
-            _ => Err(NoMemory),
-        },
+        Lvalue::Variable(x) => Ok(Parameter::Plain(*x)),
+        Lvalue::Object(address) => placed_parameter(scalar, address),
     }
 }
 
@@ -111,7 +118,7 @@ fn parameter(alloc: Global, k: &Known<'_>, p: &ParameterNode) -> Result<Paramete
 {
     let t = k.declared_at(p.node.id)?;
     let l = local_lvalue(alloc, k.locals, p.node.id)?;
-    parameter_by(scalar_of(t), l)
+    parameter_by(scalar_of(t), &l)
 }
 
 /// Where a call puts its arguments.

@@ -11,7 +11,7 @@ ghost use Rattle.qs_typed.specs.FormOf.{form_tree, typed_tree};
 ghost use Rattle.qs_typed.specs.TreeOf.{expression_tree};
 
 use crate::expressions::Expression;
-use crate::forms::{Form, Typed, address_of, value_in_use};
+use crate::forms::{Form, Typed, value_in_use};
 use crate::operators::object_at;
 use crate::types::referenced;
 use indexmap::IndexMap;
@@ -92,7 +92,7 @@ fn member_at(alloc: Global, offset: u32, base: Expression) -> Result<Form, NoMem
 fn dot_form(alloc: Global, env: &Env, a: Typed<'_>, name: &Name) -> Result<Form, NoMemory>
     ensures { IfOk result (λ f. dot_form (env_tree env.now) (typed_tree a.entry) name.now ≡ Some (form_tree f)) }
 {
-    let base = address_of(a.form)?;
+    let base = a.form.into_address()?;
     let offset = member_offset(env, a.of, name)?;
     member_at(alloc, offset, base)
 }

@@ -11,7 +11,7 @@ ghost use Rattle.qs_typed.specs.Parts.{operated_by, operated_tree};
 ghost use Rattle.qs_typed.specs.TreeOf.{expression_tree};
 
 use crate::expressions::{Expression, Lvalue};
-use crate::forms::{Form, Typed, address_of, effect_in_use, type_in_use, value_in_use};
+use crate::forms::{Form, Typed, effect_in_use, type_in_use, value_in_use};
 use crate::operations::{Operated, operation_of};
 use crate::types::{
     arithmetic, common, conversion, is_pointer, promoted, scalar_of, signedness, size_in,
@@ -144,7 +144,7 @@ pub fn binary_form(
 fn address_form(a: Typed<'_>) -> Result<Form, NoMemory>
     ensures { IfOk result (λ f. address_form (typed_tree a.entry) ≡ Some (form_tree f)) }
 {
-    let address = address_of(a.form)?;
+    let address = a.form.into_address()?;
     Ok(Form::Value(address))
 }
 

@@ -17,100 +17,66 @@ use Rattle.qs_meaning.specs.Conversions.{scalar_of}
 use Rattle.qs_meaning.specs.Names.{Scope, within}
 use Rattle.qs_meaning.specs.Statements.{behind_variable, inner, loop_body, in_for}
 use Rattle.qs_typed.specs.Known.{Known, at_number}
-use Rattle.qs_typed.specs.Agrees.{ExpressionAt, OptionAt, InitialiserAt, InitialisersAt, InitialAt, VariableAt, VariablesAt, StartAt, StatementAt, StatementsAt, ElseAt}
-use Rattle.qs_typed.proofs.KnownNodes.{Each, each_left, each_right, StandsIn, nodes_known}
+use Rattle.qs_typed.specs.Agrees.{ResultIs, ExpressionAt, OptionAt, InitialiserAt, InitialisersAt, InitialAt, VariableAt, VariablesAt, StartAt, StatementAt, StatementsAt, ElseAt}
+use Rattle.qs_typed.proofs.KnownNodes.{Each, each_left, each_right, StandsIn, at_node, nodes_known}
 use Rattle.qs_typed.proofs.Inside.{Inside, inner_inside, loop_inside, local_inside}
 
 -- ---- each node with its type, and with what its name stands for
 
-abbrev Typing : Type 0
+abbrev pub Typing : Type 0
 Typing = Node × Option TypeTree
 
-abbrev Naming : Type 0
+abbrev pub Naming : Type 0
 Naming = Node × Option Referent
 
-abbrev no_type : Node → Typing
-no_type node = (node, None)
+abbrev pub declared_type : Node → Option TypeTree → Typing
+declared_type node t = (node, t)
 
-abbrev its_type : Context → ExprTree → Typing
+abbrev pub its_type : Context → ExprTree → Typing
 its_type c e = (node_of e, type_of c e)
 
-abbrev no_referent : Node → Naming
-no_referent node = (node, None)
+abbrev pub no_referent : Node → Option TypeTree → Naming
+no_referent node t = (node, None)
 
-abbrev its_referent : Context → ExprTree → Naming
+abbrev pub its_referent : Context → ExprTree → Naming
 its_referent c e = (node_of e, referent_of c e)
 
 -- both lists stand by the numbers of the nodes
 abbrev pub Stand : Known → List Typing → List Naming → Type 0
 Stand k ts rs = Each (StandsIn k.types) ts × Each (StandsIn k.referents) rs
 
-left : (k : Known) (ts us : List Typing) (rs ns : List Naming) → Stand k (ts ++ us) (rs ++ ns) → Stand k ts rs
+pub left : (k : Known) (ts us : List Typing) (rs ns : List Naming) → Stand k (ts ++ us) (rs ++ ns) → Stand k ts rs
 left k ts us rs ns h = (each_left (StandsIn k.types) ts us h.0, each_left (StandsIn k.referents) rs ns h.1)
 
-right : (k : Known) (ts us : List Typing) (rs ns : List Naming) → Stand k (ts ++ us) (rs ++ ns) → Stand k us ns
+pub right : (k : Known) (ts us : List Typing) (rs ns : List Naming) → Stand k (ts ++ us) (rs ++ ns) → Stand k us ns
 right k ts us rs ns h = (each_right (StandsIn k.types) ts us h.0, each_right (StandsIn k.referents) rs ns h.1)
-
--- ---- the declared types of a body
-
-abbrev pub VariablesDeclared : Known → Context → Base → List VariableTree → Type 0
-VariablesDeclared k c base [] = Unit {0}
-VariablesDeclared k c base (v ∷ vs) =
-    (at_number k.declared v.declarator.node.id ≡ (variable_declared c base v).type) × VariablesDeclared k (after_variable false c base v) base vs
-
-abbrev pub StartDeclared : Known → Context → StartTree → Type 0
-StartDeclared k c no_start = Unit {0}
-StartDeclared k c (start_expression e) = Unit {0}
-StartDeclared k c (start_declaration d) = VariablesDeclared k c d.base d.variables
-
-abbrev mutual
-  pub StatementDeclared : Known → Context → StmtTree → Type 0
-  StatementDeclared k c (trees.empty node) = Unit {0}
-  StatementDeclared k c (trees.expression node e) = Unit {0}
-  StatementDeclared k c (trees.declaration d) = VariablesDeclared k c d.base d.variables
-  StatementDeclared k c (trees.block ss) = StatementsDeclared k (inner_scope c) ss
-  StatementDeclared k c (trees.branch node e s r) = StatementDeclared k (inner_scope c) s × ElseDeclared k c r
-  StatementDeclared k c (trees.while_loop node e s) = StatementDeclared k (inside_loop (inner_scope c)) s
-  StatementDeclared k c (trees.do_loop node s e) = StatementDeclared k (inside_loop (inner_scope c)) s
-  StatementDeclared k c (trees.for_loop node start e u s) = StartDeclared k (inner_scope c) start × StatementDeclared k (inside_loop (inner_scope (for_context c start))) s
-  StatementDeclared k c (trees.break node) = Unit {0}
-  StatementDeclared k c (trees.continue node) = Unit {0}
-  StatementDeclared k c (trees.return node e) = Unit {0}
-
-  pub StatementsDeclared : Known → Context → Stmts → Type 0
-  StatementsDeclared k c no_stmts = Unit {0}
-  StatementsDeclared k c (stmt_and s ss) = StatementDeclared k c s × StatementsDeclared k (after_statement c s) ss
-
-  pub ElseDeclared : Known → Context → Else → Type 0
-  ElseDeclared k c no_else = Unit {0}
-  ElseDeclared k c (else_by s) = StatementDeclared k (inner_scope c) s
 
 -- ---- expressions
 
 expression_at : (k : Known) (s : Scope) → Inside k s → (e : ExprTree) → Stand k (of_nodes (its_type s.context) e) (of_nodes (its_referent s.context) e) → ExpressionAt k s e
 expression_at k s h e n = (h.agrees, (h.given, nodes_known k s.context e n.0 n.1))
 
-option_at : (k : Known) (s : Scope) → Inside k s → (e : Option ExprTree) → Stand k (of_option no_type its_type s.context e) (of_option no_referent its_referent s.context e) → OptionAt k s e
+option_at : (k : Known) (s : Scope) → Inside k s → (e : Option ExprTree) → Stand k (of_option declared_type its_type s.context e) (of_option no_referent its_referent s.context e) → OptionAt k s e
 option_at k s h None n = tt
 option_at k s h (Some e) n = expression_at k s h e n
 
 mutual
-  initialiser_at : (k : Known) (s : Scope) → Inside k s → (i : InitialiserTree) → Stand k (of_initialiser no_type its_type s.context i) (of_initialiser no_referent its_referent s.context i)
+  initialiser_at : (k : Known) (s : Scope) → Inside k s → (i : InitialiserTree) → Stand k (of_initialiser declared_type its_type s.context i) (of_initialiser no_referent its_referent s.context i)
       → InitialiserAt k s i
   initialiser_at k s h (trees.value e) n = expression_at k s h e n
   initialiser_at k s h (trees.list node is) n = initialisers_at k s h is (n.0.1, n.1.1)
 
-  initialisers_at : (k : Known) (s : Scope) → Inside k s → (is : Initialisers) → Stand k (of_initialisers no_type its_type s.context is) (of_initialisers no_referent its_referent s.context is)
+  initialisers_at : (k : Known) (s : Scope) → Inside k s → (is : Initialisers) → Stand k (of_initialisers declared_type its_type s.context is) (of_initialisers no_referent its_referent s.context is)
       → InitialisersAt k s is
   initialisers_at k s h no_initialisers n = tt
   initialisers_at k s h (initialiser_and i is) n =
-      let ti = of_initialiser no_type its_type s.context i in
+      let ti = of_initialiser declared_type its_type s.context i in
       let ri = of_initialiser no_referent its_referent s.context i in
-      let tr = of_initialisers no_type its_type s.context is in
+      let tr = of_initialisers declared_type its_type s.context is in
       let rr = of_initialisers no_referent its_referent s.context is in
       (initialiser_at k s h i (left k ti tr ri rr n), initialisers_at k s h is (right k ti tr ri rr n))
 
-initial_at : (k : Known) (s : Scope) → Inside k s → (i : Option InitialiserTree) → Stand k (of_option_initialiser no_type its_type s.context i) (of_option_initialiser no_referent its_referent s.context i)
+initial_at : (k : Known) (s : Scope) → Inside k s → (i : Option InitialiserTree) → Stand k (of_option_initialiser declared_type its_type s.context i) (of_option_initialiser no_referent its_referent s.context i)
     → InitialAt k s i
 initial_at k s h None n = tt
 initial_at k s h (Some i) n = (h.agrees, initialiser_at k s h i n)
@@ -120,31 +86,34 @@ initial_at k s h (Some i) n = (h.agrees, initialiser_at k s h i n)
 variable_inside : (k : Known) (s : Scope) → Inside k s → (base : Base) (v : VariableTree) → Inside k (behind_variable s base v)
 variable_inside k s h base v = local_inside k s v.declarator.name v.declarator.node.id (variable_declared s.context base v).type h
 
-variables_at : (k : Known) (s : Scope) → Inside k s → (base : Base) (vs : List VariableTree) → VariablesDeclared k s.context base vs
-    → Stand k (of_variables no_type its_type false s.context base vs) (of_variables no_referent its_referent false s.context base vs) → VariablesAt k s base vs
-variables_at k s h base [] d n = tt
-variables_at k s h base (v ∷ vs) d n =
+variables_at : (k : Known) (s : Scope) → Inside k s → (base : Base) (vs : List VariableTree)
+    → Stand k (of_variables declared_type its_type false s.context base vs) (of_variables no_referent its_referent false s.context base vs) → VariablesAt k s base vs
+variables_at k s h base [] n = tt
+variables_at k s h base (v ∷ vs) n =
     let after = behind_variable s base v in
-    let td = of_declarator no_type its_type s.context v.declarator in
-    let rd = of_declarator no_referent its_referent s.context v.declarator in
-    let ti = of_option_initialiser no_type its_type after.context v.initialiser in
+    let t = (variable_declared s.context base v).type in
+    let td = of_declarator declared_type its_type s.context t v.declarator in
+    let rd = of_declarator no_referent its_referent s.context t v.declarator in
+    let ti = of_option_initialiser declared_type its_type after.context v.initialiser in
     let ri = of_option_initialiser no_referent its_referent after.context v.initialiser in
-    let tr = of_variables no_type its_type false after.context base vs in
+    let tr = of_variables declared_type its_type false after.context base vs in
     let rr = of_variables no_referent its_referent false after.context base vs in
-    let inside : Inside k after = variable_inside k s h base v in (
-      (d.0, initial_at k after inside v.initialiser (right k td ti rd ri (left k (td ++ ti) tr (rd ++ ri) rr n))),
-      variables_at k after inside base vs d.1 (right k (td ++ ti) tr (rd ++ ri) rr n),
+    let inside : Inside k after = variable_inside k s h base v in
+    let here = left k (td ++ ti) tr (rd ++ ri) rr n in
+    let first = left k td ti rd ri here in (
+      (at_node k.types v.declarator.node.id t first.0.0, initial_at k after inside v.initialiser (right k td ti rd ri here)),
+      variables_at k after inside base vs (right k (td ++ ti) tr (rd ++ ri) rr n),
     )
 
 variables_inside : (k : Known) (s : Scope) → Inside k s → (base : Base) (vs : List VariableTree) → Inside k (within s (after_variables false s.context base vs))
 variables_inside k s h base [] = h
 variables_inside k s h base (v ∷ vs) = variables_inside k (behind_variable s base v) (variable_inside k s h base v) base vs
 
-start_at : (k : Known) (s : Scope) → Inside k s → (start : StartTree) → StartDeclared k s.context start
-    → Stand k (of_start no_type its_type s.context start) (of_start no_referent its_referent s.context start) → StartAt k s start
-start_at k s h no_start d n = tt
-start_at k s h (start_expression e) d n = expression_at k s h e n
-start_at k s h (start_declaration t) d n = variables_at k s h t.base t.variables d n
+start_at : (k : Known) (s : Scope) → Inside k s → (start : StartTree)
+    → Stand k (of_start declared_type its_type s.context start) (of_start no_referent its_referent s.context start) → StartAt k s start
+start_at k s h no_start n = tt
+start_at k s h (start_expression e) n = expression_at k s h e n
+start_at k s h (start_declaration t) n = variables_at k s h t.base t.variables n
 
 start_inside : (k : Known) (s : Scope) → Inside k s → (start : StartTree) → Inside k (within s (after_start s.context start))
 start_inside k s h no_start = h
@@ -172,9 +141,6 @@ statement_inside k s h (trees.return node e) = h
 
 -- ---- statements; the result is that of the function in every scope of its body
 
-abbrev ResultIs : Known → Context → Type 0
-ResultIs k c = k.result ≡ option_map scalar_of c.result
-
 variables_result : (k : Known) (c : Context) (base : Base) (vs : List VariableTree) → ResultIs k c → ResultIs k (after_variables false c base vs)
 variables_result k c base [] r = r
 variables_result k c base (v ∷ vs) r = variables_result k (after_variable false c base v) base vs r
@@ -198,56 +164,56 @@ statement_result k c (trees.continue node) r = r
 statement_result k c (trees.return node e) r = r
 
 abbrev types_in : Context → StmtTree → List Typing
-types_in c t = of_statement no_type its_type c t
+types_in c t = of_statement declared_type its_type c t
 
 abbrev names_in : Context → StmtTree → List Naming
 names_in c t = of_statement no_referent its_referent c t
 
 mutual
-  pub statement_at : (k : Known) (s : Scope) → Inside k s → ResultIs k s.context → (t : StmtTree) → StatementDeclared k s.context t → Stand k (types_in s.context t) (names_in s.context t)
+  pub statement_at : (k : Known) (s : Scope) → Inside k s → ResultIs k s.context → (t : StmtTree) → Stand k (types_in s.context t) (names_in s.context t)
       → StatementAt k s t
-  statement_at k s h r (trees.empty node) d n = tt
-  statement_at k s h r (trees.expression node e) d n = expression_at k s h e (n.0.1, n.1.1)
-  statement_at k s h r (trees.declaration t) d n = variables_at k s h t.base t.variables d n
-  statement_at k s h r (trees.block ss) d n = statements_at k (inner s) (inner_inside k s h) r ss d n
-  statement_at k s h r (trees.branch node e t o) d n =
+  statement_at k s h r (trees.empty node) n = tt
+  statement_at k s h r (trees.expression node e) n = expression_at k s h e (n.0.1, n.1.1)
+  statement_at k s h r (trees.declaration t) n = variables_at k s h t.base t.variables n
+  statement_at k s h r (trees.block ss) n = statements_at k (inner s) (inner_inside k s h) r ss n
+  statement_at k s h r (trees.branch node e t o) n =
       let c = s.context in
-      let te = no_type node ∷ of_nodes (its_type c) e in
-      let re = no_referent node ∷ of_nodes (its_referent c) e in
+      let te = declared_type node None ∷ of_nodes (its_type c) e in
+      let re = no_referent node None ∷ of_nodes (its_referent c) e in
       let tt_ = types_in (inner_scope c) t in
       let rt_ = names_in (inner_scope c) t in
-      let rest = right k te (tt_ ++ of_else no_type its_type c o) re (rt_ ++ of_else no_referent its_referent c o) n in
-      let first = left k te (tt_ ++ of_else no_type its_type c o) re (rt_ ++ of_else no_referent its_referent c o) n in (
+      let rest = right k te (tt_ ++ of_else declared_type its_type c o) re (rt_ ++ of_else no_referent its_referent c o) n in
+      let first = left k te (tt_ ++ of_else declared_type its_type c o) re (rt_ ++ of_else no_referent its_referent c o) n in (
         expression_at k s h e (first.0.1, first.1.1),
         (
-          statement_at k (inner s) (inner_inside k s h) r t d.0 (left k tt_ (of_else no_type its_type c o) rt_ (of_else no_referent its_referent c o) rest),
-          else_at k s h r o d.1 (right k tt_ (of_else no_type its_type c o) rt_ (of_else no_referent its_referent c o) rest),
+          statement_at k (inner s) (inner_inside k s h) r t (left k tt_ (of_else declared_type its_type c o) rt_ (of_else no_referent its_referent c o) rest),
+          else_at k s h r o (right k tt_ (of_else declared_type its_type c o) rt_ (of_else no_referent its_referent c o) rest),
         ),
       )
-  statement_at k s h r (trees.while_loop node e t) d n =
+  statement_at k s h r (trees.while_loop node e t) n =
       let c = s.context in
-      let te = no_type node ∷ of_nodes (its_type c) e in
-      let re = no_referent node ∷ of_nodes (its_referent c) e in
+      let te = declared_type node None ∷ of_nodes (its_type c) e in
+      let re = no_referent node None ∷ of_nodes (its_referent c) e in
       let ts = types_in (inside_loop (inner_scope c)) t in
       let rs = names_in (inside_loop (inner_scope c)) t in
       let first = left k te ts re rs n in
-      (expression_at k s h e (first.0.1, first.1.1), statement_at k (loop_body s) (loop_in k s h) r t d (right k te ts re rs n))
-  statement_at k s h r (trees.do_loop node t e) d n =
+      (expression_at k s h e (first.0.1, first.1.1), statement_at k (loop_body s) (loop_in k s h) r t (right k te ts re rs n))
+  statement_at k s h r (trees.do_loop node t e) n =
       let c = s.context in
-      let ts = no_type node ∷ types_in (inside_loop (inner_scope c)) t in
-      let rs = no_referent node ∷ names_in (inside_loop (inner_scope c)) t in
+      let ts = declared_type node None ∷ types_in (inside_loop (inner_scope c)) t in
+      let rs = no_referent node None ∷ names_in (inside_loop (inner_scope c)) t in
       let first = left k ts (of_nodes (its_type c) e) rs (of_nodes (its_referent c) e) n in (
-        statement_at k (loop_body s) (loop_in k s h) r t d (first.0.1, first.1.1),
+        statement_at k (loop_body s) (loop_in k s h) r t (first.0.1, first.1.1),
         expression_at k s h e (right k ts (of_nodes (its_type c) e) rs (of_nodes (its_referent c) e) n),
       )
-  statement_at k s h r (trees.for_loop node start e u t) d n =
+  statement_at k s h r (trees.for_loop node start e u t) n =
       let c = s.context in
       let f = for_context c start in
-      let t0 = no_type node ∷ of_start no_type its_type (inner_scope c) start in
-      let r0 = no_referent node ∷ of_start no_referent its_referent (inner_scope c) start in
-      let te = of_option no_type its_type f e in
+      let t0 = declared_type node None ∷ of_start declared_type its_type (inner_scope c) start in
+      let r0 = no_referent node None ∷ of_start no_referent its_referent (inner_scope c) start in
+      let te = of_option declared_type its_type f e in
       let re = of_option no_referent its_referent f e in
-      let tu = of_option no_type its_type f u in
+      let tu = of_option declared_type its_type f u in
       let ru = of_option no_referent its_referent f u in
       let ts = types_in (inside_loop (inner_scope f)) t in
       let rs = names_in (inside_loop (inner_scope f)) t in
@@ -255,32 +221,32 @@ mutual
       let both = left k (te ++ tu) ts (re ++ ru) rs rest in
       let inside : Inside k (in_for s start) = for_inside k s h start in
       let first = left k t0 ((te ++ tu) ++ ts) r0 ((re ++ ru) ++ rs) n in (
-        start_at k (inner s) (inner_inside k s h) start d.0 (first.0.1, first.1.1),
+        start_at k (inner s) (inner_inside k s h) start (first.0.1, first.1.1),
         (
           option_at k (in_for s start) inside e (left k te tu re ru both),
           (
             option_at k (in_for s start) inside u (right k te tu re ru both),
-            statement_at k (loop_body (in_for s start)) (loop_in k (in_for s start) inside) (start_result k (inner_scope c) start r) t d.1 (right k (te ++ tu) ts (re ++ ru) rs rest),
+            statement_at k (loop_body (in_for s start)) (loop_in k (in_for s start) inside) (start_result k (inner_scope c) start r) t (right k (te ++ tu) ts (re ++ ru) rs rest),
           ),
         ),
       )
-  statement_at k s h r (trees.break node) d n = tt
-  statement_at k s h r (trees.continue node) d n = tt
-  statement_at k s h r (trees.return node e) d n = (r, option_at k s h e (n.0.1, n.1.1))
+  statement_at k s h r (trees.break node) n = tt
+  statement_at k s h r (trees.continue node) n = tt
+  statement_at k s h r (trees.return node e) n = (r, option_at k s h e (n.0.1, n.1.1))
 
-  pub statements_at : (k : Known) (s : Scope) → Inside k s → ResultIs k s.context → (ss : Stmts) → StatementsDeclared k s.context ss
-      → Stand k (of_statements no_type its_type s.context ss) (of_statements no_referent its_referent s.context ss) → StatementsAt k s ss
-  statements_at k s h r no_stmts d n = tt
-  statements_at k s h r (stmt_and t ts) d n =
+  pub statements_at : (k : Known) (s : Scope) → Inside k s → ResultIs k s.context → (ss : Stmts)
+      → Stand k (of_statements declared_type its_type s.context ss) (of_statements no_referent its_referent s.context ss) → StatementsAt k s ss
+  statements_at k s h r no_stmts n = tt
+  statements_at k s h r (stmt_and t ts) n =
       let c = s.context in
       let after = within s (after_statement c t) in
-      let later = of_statements no_type its_type (after_statement c t) ts in
+      let later = of_statements declared_type its_type (after_statement c t) ts in
       let names = of_statements no_referent its_referent (after_statement c t) ts in (
-        statement_at k s h r t d.0 (left k (types_in c t) later (names_in c t) names n),
-        statements_at k after (statement_inside k s h t) (statement_result k c t r) ts d.1 (right k (types_in c t) later (names_in c t) names n),
+        statement_at k s h r t (left k (types_in c t) later (names_in c t) names n),
+        statements_at k after (statement_inside k s h t) (statement_result k c t r) ts (right k (types_in c t) later (names_in c t) names n),
       )
 
-  else_at : (k : Known) (s : Scope) → Inside k s → ResultIs k s.context → (o : Else) → ElseDeclared k s.context o
-      → Stand k (of_else no_type its_type s.context o) (of_else no_referent its_referent s.context o) → ElseAt k s o
-  else_at k s h r no_else d n = tt
-  else_at k s h r (else_by t) d n = statement_at k (inner s) (inner_inside k s h) r t d n
+  else_at : (k : Known) (s : Scope) → Inside k s → ResultIs k s.context → (o : Else)
+      → Stand k (of_else declared_type its_type s.context o) (of_else no_referent its_referent s.context o) → ElseAt k s o
+  else_at k s h r no_else n = tt
+  else_at k s h r (else_by t) n = statement_at k (inner s) (inner_inside k s h) r t n

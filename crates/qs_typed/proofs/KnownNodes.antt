@@ -30,7 +30,7 @@ each_right P (x ∷ xs) ys h = each_right P xs ys h.1
 abbrev pub StandsIn : {A : Type 0} → List (Option A) → Node × Option A → Type 0
 StandsIn xs p = slice_get xs p.0.id ≡ Some p.1
 
-at_node : {A : Type 0} (xs : List (Option A)) (n : ℕ) (o : Option A) → slice_get xs n ≡ Some o → at_number xs n ≡ o
+pub at_node : {A : Type 0} (xs : List (Option A)) (n : ℕ) (o : Option A) → slice_get xs n ≡ Some o → at_number xs n ≡ o
 at_node xs n o e = ap (λ x. x >>= λ y. y) e
 
 -- the types and the referents of an expression's nodes

@@ -9,7 +9,16 @@ pub mod Grown
 pub mod Tied
 pub mod TiedStatements
 pub mod TiedFunctions
+pub mod Headers
+pub mod UnitHeaders
+pub mod UnitContexts
 pub mod KnownNodes
 pub mod Inside
 pub mod Later
 pub mod KnownBodies
+pub mod AddressedLaws
+pub mod UnitLocals
+pub mod UnitGiven
+pub mod UnitBodies
+pub mod UnitFunctions
+pub mod UnitPrograms

@@ -1,6 +1,8 @@
 -- Loops that build from the left what is defined from the right.
-use Rattle.std.proofs.Common.{◌≡◌, ℕ, suc, ◌+◌, ◌-◌, ◌<◌, List, [], ◌∷◌, ◌++◌, Option, Some, None, length, map, drop, refl, sym, ap, ◌∙◌, append_assoc, add-one, arith}
+use Rattle.std.proofs.Common.{◌≡◌, ℕ, zero, suc, ◌+◌, ◌-◌, ◌<◌, ◌≤◌, List, [], ◌∷◌, ◌++◌, Option, Some, None, length, map, drop, get_or, drop-cons, refl, sym, ap, ◌∙◌, append_assoc, add-one, arith}
 use Rattle.std.specs.List.{slice_get}
+use Rattle.std.proofs.lemmas.Option.{slice_get_within, get_or_from_slice_get}
+use Rattle.std.proofs.lemmas.List.{map-append}
 use Rattle.qs_memory.specs.Partial.{◌>>=◌}
 use Rattle.qs_memory.specs.declared.scalar.Scalar.{Scalar}
 use Rattle.qs_syntax.specs.declared.expressions.Expr.{Expr}
@@ -38,6 +40,39 @@ pub behind_more : {A B : Type 0} (cons : A → B → B) (xs : List A) (x : A) (o
 behind_more cons xs x None = refl
 behind_more cons xs x (Some b) = ap Some (before_more cons xs x b)
 
+-- ---- one turn of a loop
+
+pub drop_item : {A : Type 0} (xs : List A) (i : ℕ) (x : A) → i < length xs → x ≡ get_or xs i x → drop i xs ≡ x ∷ drop (i + 1) xs
+drop_item xs i x h e = drop-cons xs i x h ∙ (λ j. sym e j ∷ drop (sym (add-one i) j) xs)
+
+pub drop_got : {A : Type 0} (xs : List A) (i : ℕ) (x : A) → slice_get xs i ≡ Some x → drop i xs ≡ x ∷ drop (i + 1) xs
+drop_got xs i x e = drop_item xs i x (slice_get_within xs i x e) (sym (get_or_from_slice_get xs i x x e))
+
+pub drop_past : {A : Type 0} (xs : List A) (i : ℕ) → length xs ≤ i → drop i xs ≡ []
+drop_past [] zero h = refl
+drop_past [] (suc i) h = refl
+drop_past (x ∷ xs) zero h = absurd (omega arith)
+drop_past (x ∷ xs) (suc i) h = drop_past xs i (omega arith)
+
+pub pushed : {A B : Type 0} (f : A → B) (new old : List A) (x : A) → new ≡ old ++ x ∷ [] → map f new ≡ map f old ++ f x ∷ []
+pushed f new old x e = ap (map f) e ∙ map-append f old (x ∷ [])
+
+-- what is left begins with one element more, which goes behind the others
+pub turn : {A X B : Type 0} (cons : X → B → B) (one : A → Option X) (rest : List A → Option B) (xs : List A) (i : ℕ) (item : A) (done new : List X) (x : X) (whole : Option B)
+    → whole ≡ behind cons done (rest (drop i xs)) → drop i xs ≡ item ∷ drop (i + 1) xs
+    → ((ys : List A) → rest (item ∷ ys) ≡ (one item >>= λ now. rest ys >>= λ later. Some (cons now later))) → one item ≡ Some x → new ≡ done ++ x ∷ []
+    → whole ≡ behind cons new (rest (drop (i + 1) xs))
+turn cons one rest xs i item done new x whole h d e f p =
+    h ∙ ap (λ ys. behind cons done (rest ys)) d
+    ∙ ap (behind cons done) (e (drop (i + 1) xs) ∙ ap (λ o. o >>= λ now. rest (drop (i + 1) xs) >>= λ later. Some (cons now later)) f)
+    ∙ sym (behind_more cons done x (rest (drop (i + 1) xs)))
+    ∙ ap (λ ys. behind cons ys (rest (drop (i + 1) xs))) (sym p)
+
+-- nothing is left
+pub finish : {A X B : Type 0} (cons : X → B → B) (rest : List A → Option B) (xs : List A) (i : ℕ) (done : List X) (b : B) (whole : Option B)
+    → whole ≡ behind cons done (rest (drop i xs)) → length xs ≤ i → rest [] ≡ Some b → whole ≡ Some (before cons done b)
+finish cons rest xs i done b whole h l e = h ∙ ap (λ ys. behind cons done (rest ys)) (drop_past xs i l) ∙ ap (behind cons done) e
+
 -- ---- the whole
 
 pub all_arguments : (given : List ArgumentTree) → before with_argument given trees.no_arguments ≡ arguments_of given
@@ -52,37 +87,27 @@ pub all_statements : (ss : List trees.Stmt) → before trees.stmt_and ss trees.n
 all_statements [] = refl
 all_statements (s ∷ ss) = ap (trees.stmt_and s) (all_statements ss)
 
--- ---- one turn
+-- ---- arguments, each with its parameter
 
-pub argument_turn : (k : Known) (s : Scalar) (ps : List Scalar) (e : Expr) (es : List Expr) (a : TypedExpr) (given : List ArgumentTree) → known k (expr_tree e) ≡ Some a
-    → behind with_argument given (arguments_known k (s ∷ ps) (exprs_tree (e ∷ es))) ≡ behind with_argument (given ++ with_conversion s a ∷ []) (arguments_known k ps (exprs_tree es))
-argument_turn k s ps e es a given h =
-    ap (λ o. behind with_argument given (o >>= λ a. arguments_known k ps (exprs_tree es) >>= λ later. Some (with_argument (with_conversion s a) later))) h
-    ∙ sym (behind_more with_argument given (with_conversion s a) (arguments_known k ps (exprs_tree es)))
+pub arguments_turn : (k : Known) (ps : List Scalar) (es : List Expr) (i : ℕ) (s : Scalar) (e : Expr) (a : TypedExpr) (done new : List ArgumentTree) (whole : Option trees.Arguments)
+    → whole ≡ behind with_argument done (arguments_known k (drop i ps) (exprs_tree (drop i es))) → drop i ps ≡ s ∷ drop (i + 1) ps → drop i es ≡ e ∷ drop (i + 1) es
+    → known k (expr_tree e) ≡ Some a → new ≡ done ++ with_conversion s a ∷ [] → whole ≡ behind with_argument new (arguments_known k (drop (i + 1) ps) (exprs_tree (drop (i + 1) es)))
+arguments_turn k ps es i s e a done new whole h d q f p =
+    h ∙ (λ j. behind with_argument done (arguments_known k (d j) (exprs_tree (q j))))
+    ∙ ap (λ o. behind with_argument done (o >>= λ a. arguments_known k (drop (i + 1) ps) (exprs_tree (drop (i + 1) es)) >>= λ later. Some (with_argument (with_conversion s a) later))) f
+    ∙ sym (behind_more with_argument done (with_conversion s a) (arguments_known k (drop (i + 1) ps) (exprs_tree (drop (i + 1) es))))
+    ∙ ap (λ xs. behind with_argument xs (arguments_known k (drop (i + 1) ps) (exprs_tree (drop (i + 1) es)))) (sym p)
 
-pub variable_turn : (k : Known) (v : Variable) (vs : List Variable) (a : trees.Effect) (all : List trees.Effect) → variable_known k (variable_tree v) ≡ Some a
-    → behind trees.in_order all (variables_known k (map variable_tree (v ∷ vs))) ≡ behind trees.in_order (all ++ a ∷ []) (variables_known k (map variable_tree vs))
-variable_turn k v vs a all h =
-    ap (λ o. behind trees.in_order all (o >>= λ now. variables_known k (map variable_tree vs) >>= λ later. Some (trees.in_order now later))) h
-    ∙ sym (behind_more trees.in_order all a (variables_known k (map variable_tree vs)))
-
-pub statement_turn : (k : Known) (s : Stmt) (ss : List Stmt) (a : trees.Stmt) (all : List trees.Stmt) → statement_known k (stmt_tree s) ≡ Some a
-    → behind trees.stmt_and all (statements_known k (stmts_tree (s ∷ ss))) ≡ behind trees.stmt_and (all ++ a ∷ []) (statements_known k (stmts_tree ss))
-statement_turn k s ss a all h =
-    ap (λ o. behind trees.stmt_and all (o >>= λ a. statements_known k (stmts_tree ss) >>= λ b. Some (trees.stmt_and a b))) h
-    ∙ sym (behind_more trees.stmt_and all a (statements_known k (stmts_tree ss)))
-
-pub piece_turn : (k : Known) (base : trees.Expr) (p : Piece) (ps : List Piece) (a : trees.Effect) (all : List trees.Effect) → piece_set_known k base p ≡ Some a
-    → behind trees.in_order all (pieces_set_known k base (p ∷ ps)) ≡ behind trees.in_order (all ++ a ∷ []) (pieces_set_known k base ps)
-piece_turn k base p ps a all h =
-    ap (λ o. behind trees.in_order all (o >>= λ now. pieces_set_known k base ps >>= λ later. Some (trees.in_order now later))) h
-    ∙ sym (behind_more trees.in_order all a (pieces_set_known k base ps))
+pub arguments_finish : (k : Known) (ps : List Scalar) (es : List Expr) (i : ℕ) (done : List ArgumentTree) (whole : Option trees.Arguments)
+    → whole ≡ behind with_argument done (arguments_known k (drop i ps) (exprs_tree (drop i es))) → length ps ≤ i → length es ≤ i → whole ≡ Some (arguments_of done)
+arguments_finish k ps es i done whole h l m =
+    h ∙ (λ j. behind with_argument done (arguments_known k (drop_past ps i l j) (exprs_tree (drop_past es i m j)))) ∙ ap Some (all_arguments done)
 
 -- ---- pieces, some at a time
 
 followed_more : {A : Type 0} (xs ys : List A) (o : Option (List A)) → followed xs (followed ys o) ≡ followed (xs ++ ys) o
 followed_more xs ys None = refl
-followed_more xs ys (Some zs) = ap Some (sym (append_assoc {x = xs} {y = ys} {z = zs}))
+followed_more xs ys (Some zs) = ap Some (sym (append_assoc xs ys zs))
 
 pub from_turn : (structs : Structs) (t : TypeTree) (offset i : ℕ) (first : InitialiserTree) (rest : Initialisers) (u : TypeTree) (at : ℕ) (now all : List Piece)
     → part_type structs t i ≡ Some u → part_offset structs t i ≡ Some at → pieces structs u (offset + at) first ≡ Some now
@@ -122,19 +147,9 @@ pub all_elements : {A : Type 0} (xs : List A) → before ◌∷◌ xs [] ≡ xs
 all_elements [] = refl
 all_elements (x ∷ xs) = ap (λ rest. x ∷ rest) (all_elements xs)
 
-pub parameter_turn : (k : Known) (p : ParameterTree) (ps : List ParameterTree) (a : Parameter) (all : List Parameter) → parameter_known k p ≡ Some a
-    → behind ◌∷◌ all (parameters_known k (p ∷ ps)) ≡ behind ◌∷◌ (all ++ a ∷ []) (parameters_known k ps)
-parameter_turn k p ps a all h =
-    ap (λ o. behind ◌∷◌ all (o >>= λ now. parameters_known k ps >>= λ rest. Some (now ∷ rest))) h ∙ sym (behind_more ◌∷◌ all a (parameters_known k ps))
-
-pub scalar_turn : (l : Local) (ls : List Local) (t : TypeTree) (all : List Scalar) → l.type ≡ Some t
-    → behind ◌∷◌ all (scalars_of (l ∷ ls)) ≡ behind ◌∷◌ (all ++ scalar_of t ∷ []) (scalars_of ls)
-scalar_turn l ls t all h =
-    ap (λ o. behind ◌∷◌ all (o >>= λ t. scalars_of ls >>= λ rest. Some (scalar_of t ∷ rest))) h ∙ sym (behind_more ◌∷◌ all (scalar_of t) (scalars_of ls))
-
-pub size_turn : (structs : Structs) (l : Local) (ls : List Local) (t : TypeTree) (n : ℕ) (all : List ℕ) → l.type ≡ Some t → size_of structs t ≡ Some n
-    → behind ◌∷◌ all (sizes_of structs (l ∷ ls)) ≡ behind ◌∷◌ (all ++ n ∷ []) (sizes_of structs ls)
-size_turn structs l ls t n all h e =
-    ap (λ o. behind ◌∷◌ all (o >>= size_of structs >>= λ size. sizes_of structs ls >>= λ rest. Some (size ∷ rest))) h
-    ∙ ap (λ o. behind ◌∷◌ all (o >>= λ size. sizes_of structs ls >>= λ rest. Some (size ∷ rest))) e
-    ∙ sym (behind_more ◌∷◌ all n (sizes_of structs ls))
+pub scalars_one : (l : Local) (ls : List Local) → scalars_of (l ∷ ls) ≡ ((l.type >>= λ t. Some (scalar_of t)) >>= λ now. scalars_of ls >>= λ later. Some (now ∷ later))
+scalars_one l ls = go l.type
+  where
+    go : (o : Option TypeTree) → (o >>= λ t. scalars_of ls >>= λ rest. Some (scalar_of t ∷ rest)) ≡ ((o >>= λ t. Some (scalar_of t)) >>= λ now. scalars_of ls >>= λ later. Some (now ∷ later))
+    go None = refl
+    go (Some t) = refl

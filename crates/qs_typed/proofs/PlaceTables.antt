@@ -6,7 +6,6 @@ use Rattle.std.specs.Map.{lookup}
 use Rattle.std.specs.Prelude.{Vec}
 use Rattle.std.specs.declared.alloc.Global.{Global}
 use Rattle.qs_memory.specs.declared.scalar.Scalar.{Scalar}
-use Rattle.qs_syntax.specs.declared.types.Base.TheVariants as bases
 use Rattle.qs_typing.proofs.Tags.{tag_position}
 use Rattle.std.proofs.lemmas.Cmp.{nat_list_eq_equiv, nat_eq_equiv}
 use Rattle.qs_memory.specs.Partial.{◌>>=◌}
@@ -59,8 +58,8 @@ one_of n (m ∷ ms) = λ i. nat_eq_equiv.symm n m i || one_of n ms i
 
 -- ---- types by name
 
-pub struct_base : (tags : List (List ℕ)) (tag : List ℕ) (i : ℕ) → position (same_bytes tag) tags ≡ Some i → base_type (with_tags tags) (bases.Struct tag) ≡ Some (struct i)
-struct_base tags tag i e = ap (λ o. and_then o (λ k. Some (struct k))) (sym (tag_position tag tags) ∙ e)
+pub tag_found : (tag : List ℕ) (tags : List (List ℕ)) (i : ℕ) → position (same_bytes tag) tags ≡ Some i → place_from 0 tag tags ≡ Some i
+tag_found tag tags i e = sym (tag_position tag tags) ∙ e
 
 named_is : (k : Known) (name : TypeName) (t : TypeTree) → base_known k name.base ≡ Some t → named_known k name ≡ Some (pointers name.stars t)
 named_is k name t e = ap (λ o. and_then o (λ t. Some (pointers name.stars t))) e
@@ -80,6 +79,16 @@ pointed_size k name t p h =
 
 -- ---- headers
 
+same : {A : Type 0} (x y : A) → Some x ≡ Some y → x ≡ y
+same x y e = cc
+
+-- the table that is looked up goes on as the list does
+found_first : (node : ℕ) (h : ℕ × Vec Scalar Global) (hs : List (ℕ × Vec Scalar Global)) (ps : Vec Scalar Global) (b : Bool) → cond b (Some h.1) (lookup (nat_eq node) hs) ≡ Some ps
+    → (lookup (nat_eq node) hs ≡ Some ps → parameters_of node (headers_tree hs) ≡ Some ps.items)
+    → (if b then Some h.1.items else parameters_of node (headers_tree hs)) ≡ Some ps.items
+found_first node h hs ps true e rest = ap (λ (v : Vec Scalar Global). Some v.items) (same h.1 ps e)
+found_first node h hs ps false e rest = rest e
+
 pub header_found : (node : ℕ) (hs : List (ℕ × Vec Scalar Global)) (ps : Vec Scalar Global) → lookup (nat_eq node) hs ≡ Some ps
     → parameters_of node (headers_tree hs) ≡ Some ps.items
 header_found node [] ps e = absurd (no ps e)
@@ -87,14 +96,8 @@ header_found node [] ps e = absurd (no ps e)
     no : {A : Type 0} (x : A) → None ≡ Some x → ⊥
     no x e = cc
 header_found node (h ∷ hs) ps e =
-    ap (λ b. if b then Some h.1.items else parameters_of node (headers_tree hs)) (nat_eq_equiv.symm h.0 node) ∙ by (nat_eq node h.0) e
-  where
-    same : {A : Type 0} (x y : A) → Some x ≡ Some y → x ≡ y
-    same x y e = cc
-
-    by : (b : Bool) → cond b (Some h.1) (lookup (nat_eq node) hs) ≡ Some ps → (if b then Some h.1.items else parameters_of node (headers_tree hs)) ≡ Some ps.items
-    by true e = ap (λ (v : Vec Scalar Global). Some v.items) (same h.1 ps e)
-    by false e = header_found node hs ps e
+    ap (λ b. if b then Some h.1.items else parameters_of node (headers_tree hs)) (nat_eq_equiv.symm h.0 node)
+    ∙ found_first node h hs ps (nat_eq node h.0) e (header_found node hs ps)
 
 -- ---- places of locals
 
@@ -145,7 +148,7 @@ plain_behind declared addressed n ns b =
     nodes_of (cond (not b) (local_at declared n ∷ plain_among addressed (locals_at declared ns)) (plain_among addressed (locals_at declared ns)))
 
 joined_last : (xs : List ℕ) (n : ℕ) (ns : List ℕ) → xs ++ n ∷ ns ≡ (xs ++ n ∷ []) ++ ns
-joined_last xs n ns = sym (append_assoc {x = xs} {y = n ∷ []} {z = ns})
+joined_last xs n ns = sym (append_assoc xs (n ∷ []) ns)
 
 pub parameter_placed : (declared : List (Option TypeTree)) (addressed : List ℕ) (n : ℕ) (ns : List ℕ) (l : Locals) (b : Bool) → is_placed addressed (local_at declared n) ≡ b
     → with_parameters declared addressed (n ∷ ns) l ≡ with_parameters declared addressed ns (one_parameter b n l)

@@ -82,7 +82,7 @@ cast_type c node n a t u p q = go (type_of c a) q
 -- ---- calls
 
 -- what is called, and the scalar types of its parameters
-in_scalars : Designated → Designator
+abbrev in_scalars : Designated → Designator
 in_scalars d = record { callee = d.callee; parameters = map scalar_of d.parameters }
 
 abbrev function_designator : (names : List (List ℕ)) → (x : List ℕ) → List Scalar → Option Designator
@@ -122,30 +122,30 @@ argument_kept k s e es first others (t ∷ ts) a rest q r =
 
 more_kept : (k : Known) (s : Scope) (e : ExprTree) (es : Exprs) → Keeps (typed s e) (known k e)
     → ((ts : List TypeTree) (rest : List TypedExpr) → all_typed s es ≡ Some rest → Keeps (arguments_of ts rest) (arguments_known k (map scalar_of ts) es))
-    → (ts : List TypeTree) (given : List TypedExpr) (o : Option TypedExpr) → typed s e ≡ o → (rest : Option (List TypedExpr)) → all_typed s es ≡ rest
-    → (o >>= λ a. rest >>= λ rest. Some (a ∷ rest)) ≡ Some given → Keeps (arguments_of ts given) (arguments_known k (map scalar_of ts) (expr_and e es))
-more_kept k s e es first others ts given None q rest r f = nothing given f
-more_kept k s e es first others ts given (Some a) q None r f = nothing given f
-more_kept k s e es first others ts given (Some a) q (Some rest) r f =
-    λ x i. argument_kept k s e es first others ts a rest q r x (ap (arguments_of ts) (same (a ∷ rest) given f) ∙ i)
+    → (ts : List TypeTree) (args : List TypedExpr) (o : Option TypedExpr) → typed s e ≡ o → (rest : Option (List TypedExpr)) → all_typed s es ≡ rest
+    → (o >>= λ a. rest >>= λ rest. Some (a ∷ rest)) ≡ Some args → Keeps (arguments_of ts args) (arguments_known k (map scalar_of ts) (expr_and e es))
+more_kept k s e es first others ts args None q rest r f = nothing args f
+more_kept k s e es first others ts args (Some a) q None r f = nothing args f
+more_kept k s e es first others ts args (Some a) q (Some rest) r f =
+    λ x i. argument_kept k s e es first others ts a rest q r x (ap (arguments_of ts) (same (a ∷ rest) args f) ∙ i)
 
-no_more_kept : (k : Known) (ts : List TypeTree) (given : List TypedExpr) → [] ≡ given → Keeps (arguments_of ts given) (arguments_known k (map scalar_of ts) no_exprs)
-no_more_kept k [] given e = λ x f. ap (arguments_of []) e ∙ f
-no_more_kept k (t ∷ ts) given e = λ x f. ap (arguments_of (t ∷ ts)) e ∙ f
+no_more_kept : (k : Known) (ts : List TypeTree) (args : List TypedExpr) → [] ≡ args → Keeps (arguments_of ts args) (arguments_known k (map scalar_of ts) no_exprs)
+no_more_kept k [] args e = λ x f. ap (arguments_of []) e ∙ f
+no_more_kept k (t ∷ ts) args e = λ x f. ap (arguments_of (t ∷ ts)) e ∙ f
 
 abbrev called : Known → Exprs → Designator → Option Form
 called k es d = arguments_known k d.parameters es >>= λ converted. Some (call d.callee converted)
 
 called_kept : (k : Known) (s : Scope) → Agrees k s → GivenAreGiven s → (node : ℕ) (f : List ℕ) (es : Exprs) → at_number k.referents node ≡ referent f (entity_of s.context f)
-    → ((ts : List TypeTree) (given : List TypedExpr) → all_typed s es ≡ Some given → Keeps (arguments_of ts given) (arguments_known k (map scalar_of ts) es))
-    → (given : Option (List TypedExpr)) → all_typed s es ≡ given → (d : Option Designated) → designated s f ≡ d
-    → Keeps (given >>= λ given. d >>= λ (d : Designated). arguments_of d.parameters given >>= λ converted. Some (call d.callee converted)) (form_known k node (trees.call f es))
+    → ((ts : List TypeTree) (args : List TypedExpr) → all_typed s es ≡ Some args → Keeps (arguments_of ts args) (arguments_known k (map scalar_of ts) es))
+    → (args : Option (List TypedExpr)) → all_typed s es ≡ args → (d : Option Designated) → designated s f ≡ d
+    → Keeps (args >>= λ args. d >>= λ (d : Designated). arguments_of d.parameters args >>= λ converted. Some (call d.callee converted)) (form_known k node (trees.call f es))
 called_kept k s g h node f es r others None p d q = λ x e. nothing x e
-called_kept k s g h node f es r others (Some given) p None q = λ x e. nothing x e
-called_kept k s g h node f es r others (Some given) p (Some d) q =
+called_kept k s g h node f es r others (Some args) p None q = λ x e. nothing x e
+called_kept k s g h node f es r others (Some args) p (Some d) q =
     λ x e. ap (λ o. o >>= called k es) (ap (λ o. o >>= designated_by k f) r ∙ designated_kept k s g h f (entity_of s.context f) refl d q)
-    ∙ kept (arguments_of d.parameters given) (arguments_known k (map scalar_of d.parameters) es) (λ converted. Some (call d.callee converted)) (λ converted. Some (call d.callee converted))
-    (others d.parameters given p) (λ converted. is_kept (Some (call d.callee converted))) x e
+    ∙ kept (arguments_of d.parameters args) (arguments_known k (map scalar_of d.parameters) es) (λ converted. Some (call d.callee converted)) (λ converted. Some (call d.callee converted))
+    (others d.parameters args p) (λ converted. is_kept (Some (call d.callee converted))) x e
 
 -- ---- expressions
 
@@ -174,7 +174,8 @@ mutual
       kept (typed s a) (known k a) (λ a. typed s b >>= subscript_form s.context.structs a) (λ a. known k b >>= subscript_form k.structs a) (typed_kept k s g h a parts.0)
       (λ a. kept (typed s b) (known k b) (subscript_form s.context.structs a) (subscript_form k.structs a) (typed_kept k s g h b parts.1)
       (λ b. subscript_kept s.context.structs k.structs g.structs a b))
-  form_kept k s g h node (trees.call f es) t p q r parts = call_kept k s g h node f es r parts
+  form_kept k s g h node (trees.call f es) t p q r parts =
+      called_kept k s g h node.id f es r (λ ts args p. arguments_kept k s g h ts es parts args p) (all_typed s es) refl (designated s f) refl
   form_kept k s g h node (trees.member access a x) t p q r parts =
       kept (typed s a) (known k a) (λ a. member_form s.context.structs access a x) (λ a. member_form k.structs access a x) (typed_kept k s g h a parts) (λ a. member_kept s.context.structs k.structs g.structs access a x)
   form_kept k s g h node (trees.step operator a) t p q r parts =
@@ -209,13 +210,8 @@ mutual
   type_kept : (k : Known) (c : Context) (e : ExprTree) → NodesKnown k c e → Keeps (type_of c e) (type_known k e)
   type_kept k c (expr node shape) n = equal_kept (type_of c (expr node shape)) (at_number k.types node.id) n.0
 
-  call_kept : (k : Known) (s : Scope) → Agrees k s → GivenAreGiven s → (node : Node) (f : List ℕ) (es : Exprs) → at_number k.referents node.id ≡ referent f (entity_of s.context f)
-      → AllKnown k s.context es → Keeps (all_typed s es >>= call_form s f) (form_known k node.id (trees.call f es))
-  call_kept k s g h node f es r parts =
-      called_kept k s g h node.id f es r (λ ts given p. arguments_kept k s g h ts es parts given p) (all_typed s es) refl (designated s f) refl
-
-  arguments_kept : (k : Known) (s : Scope) → Agrees k s → GivenAreGiven s → (ts : List TypeTree) (es : Exprs) → AllKnown k s.context es → (given : List TypedExpr) → all_typed s es ≡ Some given
-      → Keeps (arguments_of ts given) (arguments_known k (map scalar_of ts) es)
-  arguments_kept k s g h ts no_exprs parts given p = no_more_kept k ts given (same [] given p)
-  arguments_kept k s g h ts (expr_and e es) parts given p =
-      more_kept k s e es (typed_kept k s g h e parts.0) (λ ts rest r. arguments_kept k s g h ts es parts.1 rest r) ts given (typed s e) refl (all_typed s es) refl p
+  arguments_kept : (k : Known) (s : Scope) → Agrees k s → GivenAreGiven s → (ts : List TypeTree) (es : Exprs) → AllKnown k s.context es → (args : List TypedExpr) → all_typed s es ≡ Some args
+      → Keeps (arguments_of ts args) (arguments_known k (map scalar_of ts) es)
+  arguments_kept k s g h ts no_exprs parts args p = no_more_kept k ts args (same [] args p)
+  arguments_kept k s g h ts (expr_and e es) parts args p =
+      more_kept k s e es (typed_kept k s g h e parts.0) (λ ts rest r. arguments_kept k s g h ts es parts.1 rest r) ts args (typed s e) refl (all_typed s es) refl p

@@ -28,11 +28,11 @@ use Rattle.qs_typed.proofs.TiedStatements.{statements_kept}
 
 -- ---- parameters
 
-parameter_kept : (k : Known) (locals : Locals) → k.locals ≡ locals → (p : ParameterTree) (t : Option TypeTree) → at_number k.declared p.node.id ≡ t
+parameter_kept : (k : Known) (locals : Locals) → k.locals ≡ locals → (p : ParameterTree) (t : Option TypeTree) → at_number k.types p.node.id ≡ t
     → Keeps (parameter_typed locals p t) (parameter_known k p)
 parameter_kept k locals g p t h =
-    kept t (at_number k.declared p.node.id) (λ u. parameter_by (scalar_of u) (local_lvalue locals p.node.id)) (λ u. parameter_by (scalar_of u) (local_lvalue k.locals p.node.id))
-    (equal_kept t (at_number k.declared p.node.id) h)
+    kept t (at_number k.types p.node.id) (λ u. parameter_by (scalar_of u) (local_lvalue locals p.node.id)) (λ u. parameter_by (scalar_of u) (local_lvalue k.locals p.node.id))
+    (equal_kept t (at_number k.types p.node.id) h)
     (λ u. equal_kept (parameter_by (scalar_of u) (local_lvalue locals p.node.id)) (parameter_by (scalar_of u) (local_lvalue k.locals p.node.id))
     (ap (λ l. parameter_by (scalar_of u) (local_lvalue l p.node.id)) g))
 
@@ -49,20 +49,20 @@ parameters_kept k locals g (p ∷ ps) (t ∷ ts) h =
 
 -- ---- locals
 
-local_again : (k : Known) (l : Local) → at_number k.declared l.node ≡ l.type → local_at k.declared l.node ≡ l
+local_again : (k : Known) (l : Local) → at_number k.types l.node ≡ l.type → local_at k.types l.node ≡ l
 local_again k l e = λ i. record { node = l.node; type = e i }
 
-locals_again : (k : Known) (ls : List Local) → LocalsAt k ls → locals_at k.declared (nodes_of ls) ≡ ls
+pub locals_again : (k : Known) (ls : List Local) → LocalsAt k ls → locals_at k.types (nodes_of ls) ≡ ls
 locals_again k [] h = refl
 locals_again k (l ∷ ls) h = λ i. local_again k l h.0 i ∷ locals_again k ls h.1 i
 
 some_at : (k : Known) (test : Local → Bool) (ls : List Local) → LocalsAt k ls → LocalsAt k (filter test ls)
 some_at k test [] h = tt
-some_at k test (l ∷ ls) h = by (test l)
+some_at k test (l ∷ ls) h = by (test l) (some_at k test ls h.1)
   where
-    by : (b : Bool) → LocalsAt k (cond b (l ∷ filter test ls) (filter test ls))
-    by true = (h.0, some_at k test ls h.1)
-    by false = some_at k test ls h.1
+    by : (b : Bool) → LocalsAt k (filter test ls) → LocalsAt k (cond b (l ∷ filter test ls) (filter test ls))
+    by true rest = (h.0, rest)
+    by false rest = rest
 
 left_at : (k : Known) (ls ms : List Local) → LocalsAt k (ls ++ ms) → LocalsAt k ls
 left_at k [] ms h = tt
@@ -72,20 +72,20 @@ right_at : (k : Known) (ls ms : List Local) → LocalsAt k (ls ++ ms) → Locals
 right_at k [] ms h = h
 right_at k (l ∷ ls) ms h = right_at k ls ms h.1
 
-both_at : (k : Known) (ls ms : List Local) → LocalsAt k ls → LocalsAt k ms → LocalsAt k (ls ++ ms)
+pub both_at : (k : Known) (ls ms : List Local) → LocalsAt k ls → LocalsAt k ms → LocalsAt k (ls ++ ms)
 both_at k [] ms h g = g
 both_at k (l ∷ ls) ms h g = (h.0, both_at k ls ms h.1 g)
 
 variables_again : (k : Known) (addressed : List ℕ) (ps ls : List Local) → LocalsAt k (ps ++ ls) → k.locals ≡ locals_of addressed ps ls
-    → locals_at k.declared k.locals.variables ≡ variables_among addressed ps ls
+    → locals_at k.types k.locals.variables ≡ variables_among addressed ps ls
 variables_again k addressed ps ls h g =
-    ap (λ (l : Locals). locals_at k.declared l.variables) g
+    ap (λ (l : Locals). locals_at k.types l.variables) g
     ∙ locals_again k (variables_among addressed ps ls) (both_at k ps (plain_among addressed ls) (left_at k ps ls h) (some_at k (λ l. not (is_placed addressed l)) ls (right_at k ps ls h)))
 
 placed_again : (k : Known) (addressed : List ℕ) (ps ls : List Local) → LocalsAt k (ps ++ ls) → k.locals ≡ locals_of addressed ps ls
-    → locals_at k.declared k.locals.placed ≡ placed_among addressed (ps ++ ls)
+    → locals_at k.types k.locals.placed ≡ placed_among addressed (ps ++ ls)
 placed_again k addressed ps ls h g =
-    ap (λ (l : Locals). locals_at k.declared l.placed) g ∙ locals_again k (placed_among addressed (ps ++ ls)) (some_at k (is_placed addressed) (ps ++ ls) h)
+    ap (λ (l : Locals). locals_at k.types l.placed) g ∙ locals_again k (placed_among addressed (ps ++ ls)) (some_at k (is_placed addressed) (ps ++ ls) h)
 
 sizes_kept : (old new : Structs) → Grown old new → (ls : List Local) → Keeps (sizes_of old ls) (sizes_of new ls)
 sizes_kept old new g [] = λ x e. e
@@ -113,9 +113,9 @@ pub function_kept : (k : Known) (s : Scope) (f : FunctionTree) (body : Stmts) (a
 function_kept k s f body addressed ps ls h =
     kept (parameters_typed (locals_of addressed ps ls) f.parameters (parameter_types (inner_scope s.context) f.parameters)) (parameters_known k f.parameters) _ _
     (parameters_kept k (locals_of addressed ps ls) h.locals f.parameters (parameter_types (inner_scope s.context) f.parameters) h.parameters)
-    (λ parameters. kept (scalars_of (variables_among addressed ps ls)) (scalars_of (locals_at k.declared k.locals.variables)) _ _
-    (equal_kept (scalars_of (variables_among addressed ps ls)) (scalars_of (locals_at k.declared k.locals.variables)) (ap scalars_of (variables_again k addressed ps ls h.declared h.locals)))
-    (λ scalars. kept (sizes_of s.context.structs (placed_among addressed (ps ++ ls))) (sizes_of k.structs (locals_at k.declared k.locals.placed)) _ _
+    (λ parameters. kept (scalars_of (variables_among addressed ps ls)) (scalars_of (locals_at k.types k.locals.variables)) _ _
+    (equal_kept (scalars_of (variables_among addressed ps ls)) (scalars_of (locals_at k.types k.locals.variables)) (ap scalars_of (variables_again k addressed ps ls h.declared h.locals)))
+    (λ scalars. kept (sizes_of s.context.structs (placed_among addressed (ps ++ ls))) (sizes_of k.structs (locals_at k.types k.locals.placed)) _ _
     (λ x e. ap (sizes_of k.structs) (placed_again k addressed ps ls h.declared h.locals) ∙ sizes_kept s.context.structs k.structs h.structs (placed_among addressed (ps ++ ls)) x e)
     (λ sizes. kept (statements_typed (in_body s f (locals_of addressed ps ls)) body) (statements_known k body) _ _ (statements_kept k (in_body s f (locals_of addressed ps ls)) body h.statements)
     (λ statements x e. ap (λ r. as_function f r parameters scalars sizes statements) h.result ∙ e))))

@@ -22,7 +22,7 @@ use Rattle.qs_meaning.specs.Statements.{initialised, behind_variable, variable_t
 use Rattle.qs_typed.specs.Parts.{between}
 use Rattle.qs_typed.specs.Known.{Known, at_number, known}
 use Rattle.qs_typed.specs.KnownStatements.{text_set_known, assigned_set_known, piece_set_known, pieces_set_known, filled_known, object_set_known, local_set_known, local_known, initialised_known, variable_known, variables_known, effect_known, option_effect_known, condition_known, option_condition_known, start_known, return_known, statement_known, statements_known, else_known}
-use Rattle.qs_typed.specs.Agrees.{Keeps, Grown, Agrees, ExpressionAt, OptionAt, InitialiserAt, InitialisersAt, InitialAt, VariableAt, VariablesAt, StartAt, StatementAt, StatementsAt, ElseAt}
+use Rattle.qs_typed.specs.Agrees.{Keeps, Grown, Agrees, ExpressionAt, OptionAt, InitialiserAt, InitialisersAt, ResultIs, InitialAt, VariableAt, VariablesAt, StartAt, StatementAt, StatementsAt, ElseAt}
 use Rattle.qs_typed.proofs.Kept.{kept, kept_by, then_kept, is_kept, equal_kept, choice_kept}
 use Rattle.qs_typed.proofs.Kept as options
 use Rattle.qs_typed.proofs.Grown.{size_kept, offset_kept, plain_kept}
@@ -157,7 +157,7 @@ initialised_kept k s node t (Some i) h =
 
 variable_kept : (k : Known) (s : Scope) (base : Base) (v : VariableTree) → VariableAt k s base v → Keeps (variable_typed s base v) (variable_known k v)
 variable_kept k s base v h =
-    kept (variable_declared s.context base v).type (at_number k.declared v.declarator.node.id) _ _ (equal_kept (variable_declared s.context base v).type (at_number k.declared v.declarator.node.id) h.0)
+    kept (variable_declared s.context base v).type (at_number k.types v.declarator.node.id) _ _ (equal_kept (variable_declared s.context base v).type (at_number k.types v.declarator.node.id) h.0)
     (λ t. initialised_kept k (behind_variable s base v) v.declarator.node.id t v.initialiser h.1)
 
 variables_kept : (k : Known) (s : Scope) (base : Base) (vs : List VariableTree) → VariablesAt k s base vs → Keeps (variables_typed s base vs) (variables_known k vs)
@@ -189,16 +189,18 @@ start_kept k s no_start h = λ x e. e
 start_kept k s (start_expression e) h = effect_kept k s e h
 start_kept k s (start_declaration d) h = variables_kept k s d.base d.variables h
 
-return_kept : (k : Known) (s : Scope) (e : Option ExprTree) → k.result ≡ option_map scalar_of s.context.result → OptionAt k s e → Keeps (return_typed s e) (return_known k e)
+return_kept : (k : Known) (s : Scope) (e : Option ExprTree) → ResultIs k s.context → OptionAt k s e → Keeps (return_typed s e) (return_known k e)
 return_kept k s None r h = λ x e. e
-return_kept k s (Some e) r h = λ x p. ap (λ o. o >>= λ c. known k e >>= λ a. Some (return (between (scalar_of (type_in_use a)) c) (value_in_use a))) r ∙ go s.context.result x p
+return_kept k s (Some e) r h = go s.context.result r
   where
-    go : (o : Option TypeTree) (x : Stmt) → (o >>= λ t. typed s e >>= λ a. Some (return (conversion (type_in_use a) t) (value_in_use a))) ≡ Some x
-        → (option_map scalar_of o >>= λ c. known k e >>= λ a. Some (return (between (scalar_of (type_in_use a)) c) (value_in_use a))) ≡ Some x
-    go None x p = options.nothing x p
-    go (Some t) x p =
-        kept (typed s e) (known k e) (λ a. Some (return (conversion (type_in_use a) t) (value_in_use a))) (λ a. Some (return (conversion (type_in_use a) t) (value_in_use a)))
-        (at_kept k s e h) (λ a. is_kept (Some (return (conversion (type_in_use a) t) (value_in_use a)))) x p
+    go : (o : Option TypeTree) → ((t : TypeTree) → o ≡ Some t → k.result ≡ scalar_of t)
+        → Keeps (o >>= λ t. typed s e >>= λ a. Some (return (conversion (type_in_use a) t) (value_in_use a))) (return_known k (Some e))
+    go None r = λ x p. options.nothing x p
+    go (Some t) r =
+        kept (typed s e) (known k e) (λ a. Some (return (conversion (type_in_use a) t) (value_in_use a))) (λ a. Some (return (between (scalar_of (type_in_use a)) k.result) (value_in_use a)))
+        (at_kept k s e h)
+        (λ a. equal_kept (Some (return (conversion (type_in_use a) t) (value_in_use a))) (Some (return (between (scalar_of (type_in_use a)) k.result) (value_in_use a)))
+        (ap (λ c. Some (return (between (scalar_of (type_in_use a)) c) (value_in_use a))) (r t refl)))
 
 -- ---- statements
 

@@ -73,6 +73,10 @@ pub record Agrees (k : Known) (s : Scope) : Type 0 where
 abbrev pub GivenAreGiven : Scope → Type 0
 GivenAreGiven s = (x : List ℕ) (f : Signature) → entity_of s.context x ≡ Some (given f) → f ≡ (if same_bytes x putchar_name then putchar_type else getchar_type)
 
+-- a value that is returned is converted to the type of the result
+abbrev pub ResultIs : Known → Context → Type 0
+ResultIs k c = (t : TypeTree) → c.result ≡ Some t → k.result ≡ scalar_of t
+
 -- ---- at each place of a body
 
 abbrev pub ExpressionAt : Known → Scope → ExprTree → Type 0
@@ -99,7 +103,7 @@ InitialAt k s (Some i) = Agrees k s × InitialiserAt k s i
 -- a variable, whose initialiser stands behind it
 abbrev pub VariableAt : Known → Scope → Base → VariableTree → Type 0
 VariableAt k s base v =
-    (at_number k.declared v.declarator.node.id ≡ (variable_declared s.context base v).type) × InitialAt k (behind_variable s base v) v.initialiser
+    (at_number k.types v.declarator.node.id ≡ (variable_declared s.context base v).type) × InitialAt k (behind_variable s base v) v.initialiser
 
 abbrev pub VariablesAt : Known → Scope → Base → List VariableTree → Type 0
 VariablesAt k s base [] = Unit {0}
@@ -123,7 +127,7 @@ abbrev mutual
       StartAt k (inner s) start × (OptionAt k (in_for s start) e × (OptionAt k (in_for s start) u × StatementAt k (loop_body (in_for s start)) t))
   StatementAt k s (trees.break node) = Unit {0}
   StatementAt k s (trees.continue node) = Unit {0}
-  StatementAt k s (trees.return node e) = (k.result ≡ option_map scalar_of s.context.result) × OptionAt k s e
+  StatementAt k s (trees.return node e) = ResultIs k s.context × OptionAt k s e
 
   pub StatementsAt : Known → Scope → Stmts → Type 0
   StatementsAt k s no_stmts = Unit {0}

@@ -29,14 +29,13 @@ pub record Header : Type 0 where
   pub node : ℕ
   pub parameters : List Scalar
 
--- the types of the nodes, what their names stand for and the types that they declare, by the numbers of the nodes; the type of the
--- function's result; the structs and their tags; the headers of functions; the locals of the function; what has a block from the beginning;
--- the names of the functions with a body
+-- by the numbers of the nodes the types of expressions and those that variables and parameters are declared with, and what names stand for;
+-- the type that the function's result is converted to; the structs and their tags; the headers of functions; the locals of the function; what has a block from
+-- the beginning; the names of the functions with a body
 pub record Known : Type 0 where
   pub types : List (Option TypeTree)
   pub referents : List (Option Referent)
-  pub declared : List (Option TypeTree)
-  pub result : Option Scalar
+  pub result : Scalar
   pub structs : Structs
   pub tags : List (List ℕ)
   pub headers : List Header

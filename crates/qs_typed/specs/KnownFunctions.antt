@@ -1,10 +1,15 @@
 -- The typed tree of functions, from what is known by the numbers of nodes.
-use Rattle.std.specs.Prelude.{ℕ, List, [], ◌∷◌, ◌++◌, Option, Some, None, map}
+use Rattle.std.specs.Prelude.{ℕ, ◌==◌, Bool, ◌&&◌, List, [], ◌∷◌, ◌++◌, Option, Some, None, map, if◌then◌else◌}
 use Rattle.qs_syntax.specs.Sameness.{same_bytes}
 use Rattle.qs_syntax.specs.Trees.{VariableTree, ParameterTree, StartTree, no_start, start_expression, start_declaration, StmtTree, Stmts, no_stmts, stmt_and, Else, no_else, else_by, FunctionTree}
 use Rattle.qs_syntax.specs.Trees as trees
 use Rattle.qs_memory.specs.Partial.{◌>>=◌}
 use Rattle.qs_memory.specs.declared.scalar.Scalar.{Scalar}
+use Rattle.qs_memory.specs.declared.scalar.Scalar.TheVariants as scalars
+use Rattle.qs_syntax.specs.declared.types.Base.{Base}
+use Rattle.qs_syntax.specs.declared.types.Base.TheVariants as bases
+use Rattle.qs_syntax.specs.declared.types.TypeName.{TypeName}
+use Rattle.qs_types.specs.Contexts.{is_void_base}
 use Rattle.qs_calls.specs.declared.parameter.Parameter.{Parameter}
 use Rattle.qs_types.specs.GivenFunctions.{main_name}
 use Rattle.qs_types.specs.Placed.{Local}
@@ -53,45 +58,60 @@ parameters_nodes ps = map (λ (p : ParameterTree). p.node.id) ps
 
 -- ---- the locals and parameters with their types
 
--- by the types that the nodes declare
-abbrev pub local_at : (declared : List (Option TypeTree)) → ℕ → Local
-local_at declared n = record { node = n; type = at_number declared n }
+abbrev pub local_at : (types : List (Option TypeTree)) → ℕ → Local
+local_at types n = record { node = n; type = at_number types n }
 
-abbrev pub locals_at : (declared : List (Option TypeTree)) → List ℕ → List Local
-locals_at declared nodes = map (local_at declared) nodes
+abbrev pub locals_at : (types : List (Option TypeTree)) → List ℕ → List Local
+locals_at types nodes = map (local_at types) nodes
 
 -- the places of the locals and parameters of a function, where these are the operands of `&`
-abbrev pub places_at : (declared : List (Option TypeTree)) → (addressed parameters locals : List ℕ) → Locals
-places_at declared addressed ps ls = locals_of addressed (locals_at declared ps) (locals_at declared ls)
+abbrev pub places_at : (types : List (Option TypeTree)) → (addressed parameters locals : List ℕ) → Locals
+places_at types addressed ps ls = locals_of addressed (locals_at types ps) (locals_at types ls)
 
 -- some parameters more, and some locals more
-abbrev pub with_parameters : (declared : List (Option TypeTree)) → (addressed nodes : List ℕ) → Locals → Locals
-with_parameters declared addressed nodes l =
-    record { variables = l.variables ++ nodes; placed = l.placed ++ nodes_of (placed_among addressed (locals_at declared nodes)) }
+abbrev pub with_parameters : (types : List (Option TypeTree)) → (addressed nodes : List ℕ) → Locals → Locals
+with_parameters types addressed nodes l =
+    record { variables = l.variables ++ nodes; placed = l.placed ++ nodes_of (placed_among addressed (locals_at types nodes)) }
 
-abbrev pub with_locals : (declared : List (Option TypeTree)) → (addressed nodes : List ℕ) → Locals → Locals
-with_locals declared addressed nodes l =
+abbrev pub with_locals : (types : List (Option TypeTree)) → (addressed nodes : List ℕ) → Locals → Locals
+with_locals types addressed nodes l =
     record {
-      variables = l.variables ++ nodes_of (plain_among addressed (locals_at declared nodes));
-      placed = l.placed ++ nodes_of (placed_among addressed (locals_at declared nodes));
+      variables = l.variables ++ nodes_of (plain_among addressed (locals_at types nodes));
+      placed = l.placed ++ nodes_of (placed_among addressed (locals_at types nodes));
     }
 
 abbrev pub parameter_known : Known → ParameterTree → Option Parameter
-parameter_known k p = at_number k.declared p.node.id >>= λ t. parameter_by (scalar_of t) (local_lvalue k.locals p.node.id)
+parameter_known k p = at_number k.types p.node.id >>= λ t. parameter_by (scalar_of t) (local_lvalue k.locals p.node.id)
 
 abbrev pub parameters_known : Known → List ParameterTree → Option (List Parameter)
 parameters_known k [] = Some []
 parameters_known k (p ∷ ps) = parameter_known k p >>= λ now. parameters_known k ps >>= λ rest. Some (now ∷ rest)
 
+-- ---- results of functions (6.8.6.4p3, 6.9.1p3)
+
+abbrev pub base_scalar : Base → Scalar
+base_scalar bases.Void = scalars.Int
+base_scalar bases.Int = scalars.Int
+base_scalar bases.Unsigned = scalars.Unsigned
+base_scalar bases.Char = scalars.Char
+base_scalar (bases.Struct tag) = scalars.Pointer
+
+-- the scalar type of what a type by its name is
+abbrev pub named_scalar : TypeName → Scalar
+named_scalar name = if name.stars == 0 then base_scalar name.base else scalars.Pointer
+
+abbrev pub returns_nothing : FunctionTree → Bool
+returns_nothing f = is_void_base f.result_type.base && (f.result_type.stars == 0)
+
 -- ---- functions; the result and the places are those of the function, and the locals stand in these
 
 abbrev pub function_known : Known → FunctionTree → Stmts → Option Function
 function_known k f body =
-    parameters_known k f.parameters >>= λ parameters. scalars_of (locals_at k.declared k.locals.variables) >>= λ scalars.
-    sizes_of k.structs (locals_at k.declared k.locals.placed) >>= λ sizes. statements_known k body >>= λ statements.
+    parameters_known k f.parameters >>= λ parameters. scalars_of (locals_at k.types k.locals.variables) >>= λ scalars.
+    sizes_of k.structs (locals_at k.types k.locals.placed) >>= λ sizes. statements_known k body >>= λ statements.
     Some (record {
       name = f.name;
-      result = k.result;
+      result = if returns_nothing f then None else Some k.result;
       parameters = parameters;
       variables = scalars;
       blocks = sizes;

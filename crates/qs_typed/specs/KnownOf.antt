@@ -22,7 +22,6 @@ abbrev pub known_tree : Known → pure.Known
 known_tree k = record {
   types = map (option_map type_tree) k.types.now;
   referents = k.referents.now;
-  declared = map (option_map type_tree) k.declared.now;
   result = k.result;
   structs = env_tree k.env.now;
   tags = k.tags.now.keys;

@@ -53,7 +53,7 @@ initialised_known k node t None = Some nothing
 initialised_known k node t (Some i) = local_set_known k (local_known k node t) i
 
 abbrev pub variable_known : Known → VariableTree → Option Effect
-variable_known k v = at_number k.declared v.declarator.node.id >>= λ t. initialised_known k v.declarator.node.id t v.initialiser
+variable_known k v = at_number k.types v.declarator.node.id >>= λ t. initialised_known k v.declarator.node.id t v.initialiser
 
 abbrev pub variables_known : Known → List VariableTree → Option Effect
 variables_known k [] = Some nothing
@@ -83,7 +83,7 @@ start_known k (start_declaration d) = variables_known k d.variables
 -- 6.8.6.4p3
 abbrev pub return_known : Known → Option ExprTree → Option Stmt
 return_known k None = Some return_nothing
-return_known k (Some e) = k.result >>= λ s. known k e >>= λ a. Some (return (between (scalar_of (type_in_use a)) s) (value_in_use a))
+return_known k (Some e) = known k e >>= λ a. Some (return (between (scalar_of (type_in_use a)) k.result) (value_in_use a))
 
 -- ---- statements
 

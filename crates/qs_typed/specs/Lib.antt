@@ -11,3 +11,6 @@ pub mod Agrees
 pub mod KnownFunctions
 pub mod AgreesFunctions
 pub mod Laws
+pub mod KnownUnits
+pub mod Addressed
+pub mod KnownPrograms

@@ -4,7 +4,7 @@ ghost use Rattle.qs_meaning.specs.Expressions.{assign_form, compound_form, one, 
 ghost use Rattle.qs_types.specs.EnvOf.{env_tree};
 ghost use Rattle.qs_types.specs.TypeOf.{type_tree};
 ghost use Rattle.qs_typed.specs.FormOf.{form_tree, typed_tree};
-ghost use Rattle.qs_typed.specs.Parts.{operated_tree, updated_by};
+ghost use Rattle.qs_typed.specs.Parts.{operated_tree, stepped_by, updated_by};
 ghost use Rattle.qs_typed.specs.TreeOf.{expression_tree, lvalue_tree};
 
 use crate::expressions::{Assignment, Expression, Lvalue};
@@ -149,6 +149,24 @@ fn step_before_form(
     updated(alloc, a.of, lvalue, o, Expression::Constant(Scalar::Int, 1))
 }
 
+/// What `a++` writes, and the value before, by the operation.
+fn stepped(alloc: Global, t: &CType, lvalue: Lvalue, o: Operated) -> Result<Form, NoMemory>
+    ensures { IfOk result (λ f. form_tree f ≡ stepped_by (type_tree t.now) (lvalue_tree lvalue) (operated_tree o)) }
+{
+    let scalar = scalar_of(t);
+    Ok(Form::Step(Box::new(
+        alloc,
+        Step {
+            scalar,
+            lvalue,
+            operation: o.operation,
+            before_left: o.left,
+            before_right: o.right,
+            back: between(o.scalar, scalar),
+        },
+    )?))
+}
+
 /// What `a++` writes, and the value before (C11 6.5.2.4p2).
 #[tactic(auto, using(crate::proofs::Operated::step_after_is))]
 fn step_after_form(
@@ -161,18 +179,7 @@ fn step_after_form(
 {
     let lvalue = a.form.into_lvalue()?;
     let o = operation_of(env, operator, a.of, &CType::Int)?;
-    let scalar = scalar_of(a.of);
-    Ok(Form::Step(Box::new(
-        alloc,
-        Step {
-            scalar,
-            lvalue,
-            operation: o.operation,
-            before_left: o.left,
-            before_right: o.right,
-            back: between(o.scalar, scalar),
-        },
-    )?))
+    stepped(alloc, a.of, lvalue, o)
 }
 
 /// A step by one.

@@ -77,15 +77,12 @@ fn returned(alloc: Global, k: &Known<'_>, e: &Option<Expr>) -> Result<Statement,
 {
     match e {
         None => Ok(Statement::ReturnNothing),
-        Some(e) => match k.result {
-            None => Err(NoMemory),
-            Some(scalar) => {
-                let a = typed(alloc, k, e)?;
-                let conversion = between(scalar_of(a.of), scalar);
-                let value = value_in_use(alloc, a)?;
-                Ok(Statement::Return(conversion, value))
-            }
-        },
+        Some(e) => {
+            let a = typed(alloc, k, e)?;
+            let conversion = between(scalar_of(a.of), k.result);
+            let value = value_in_use(alloc, a)?;
+            Ok(Statement::Return(conversion, value))
+        }
     }
 }
 
@@ -174,7 +171,6 @@ fn otherwise_of(alloc: Global, k: &Known<'_>, s: &Option<Box<Stmt>>) -> Result<S
 }
 
 /// The statements of a block.
-#[tactic(auto, using(crate::proofs::Loops::statement_turn, crate::proofs::Loops::all_statements))]
 #[cycle(statement)]
 pub fn statements(alloc: Global, k: &Known<'_>, ss: &[Stmt]) -> Result<Vec<Statement>, NoMemory>
     ensures { IfOk result (λ r. statements_known (known_tree k.now) (stmts_tree ss.now) ≡ Some (statements_tree r.items)) }

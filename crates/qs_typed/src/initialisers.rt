@@ -114,7 +114,6 @@ fn piece_set(alloc: Global, k: &Known<'_>, base: Object, p: Piece<'_>) -> Result
 }
 
 /// The parts of the object, in order.
-#[tactic(auto, using(crate::proofs::Loops::piece_turn, crate::proofs::Loops::all_effects))]
 fn pieces_set(
     alloc: Global,
     k: &Known<'_>,
@@ -141,7 +140,7 @@ fn filled(
     ensures { IfOk result (λ r. filled_known (known_tree k.now) (type_tree t.now) (pointer_to (object_tree base)) (initialiser_tree i.now) ≡ Some (effect_tree r)) }
 {
     let cells = blank_of(alloc, k.env, t)?;
-    let ps = pieces(alloc, k.env, t, 0, i)?;
+    let ps = pieces(alloc, k.env, i, t, 0)?;
     let sets = pieces_set(alloc, k, base, &ps)?;
     let fill = Effect::Fill(cells, Expression::PointerTo(base));
     Ok(Effect::InOrder(Box::new(alloc, fill)?, Box::new(alloc, sets)?))
@@ -228,12 +227,11 @@ fn variable(alloc: Global, k: &Known<'_>, v: &Variable) -> Result<Effect, NoMemo
     ensures { IfOk result (λ r. variable_known (known_tree k.now) (variable_tree v.now) ≡ Some (effect_tree r)) }
 {
     let node = v.declarator.node.id;
-    let t = k.declared_at(node)?;
+    let t = k.type_at(node)?;
     initialised(alloc, k, node, t, &v.initialiser)
 }
 
 /// What the declarations of variables do, in order.
-#[tactic(auto, using(crate::proofs::Loops::variable_turn, crate::proofs::Loops::all_effects))]
 pub fn variables(alloc: Global, k: &Known<'_>, vs: &[Variable]) -> Result<Effect, NoMemory>
     ensures { IfOk result (λ r. variables_known (known_tree k.now) (map variable_tree vs.now) ≡ Some (effect_tree r)) }
 {

@@ -2,6 +2,7 @@
 ghost use Rattle.std.specs.Prelude.{◌≡◌, IfOk, Some, map, option_map};
 ghost use Rattle.qs_meaning.specs.Forms.{lvalue};
 ghost use Rattle.qs_syntax.specs.TreeOf.{expr_tree};
+ghost use Rattle.qs_types.specs.Contexts.{place_from};
 ghost use Rattle.qs_types.specs.TypeOf.{type_tree};
 ghost use Rattle.qs_typed.specs.FormOf.{form_tree};
 ghost use Rattle.qs_typed.specs.Known.{at_number, base_known, designated_by, designated_known, name_known, named_size_known, parameters_of, referent_lvalue, sized, text_known, type_known};
@@ -26,14 +27,12 @@ use std::alloc::Global;
 /// What is known.
 #[derive(Drop)]
 pub struct Known<'a> {
-    /// the types of the nodes
+    /// the types of expressions, and those of variables and parameters, at the numbers of their nodes
     pub types: &'a [Option<CType>],
     /// what the names of the nodes stand for
     pub referents: &'a [Option<Referent>],
-    /// the types that the nodes declare
-    pub declared: &'a [Option<CType>],
-    /// the type of the function's result
-    pub result: Option<Scalar>,
+    /// the type that the function's result is converted to
+    pub result: Scalar,
     /// the structs
     pub env: &'a Env,
     /// their tags, in their order
@@ -68,7 +67,7 @@ pub fn type_in(types: &[Option<CType>], node: u32) -> Option<&CType>
 }
 
 /// What the name at a node stands for, if it stands for anything.
-fn referent_in(referents: &[Option<Referent>], node: u32) -> Option<Referent>
+pub fn referent_in(referents: &[Option<Referent>], node: u32) -> Option<Referent>
     ensures { result ≡ at_number referents.now node }
 {
     match referents.get(node as usize) {
@@ -77,8 +76,19 @@ fn referent_in(referents: &[Option<Referent>], node: u32) -> Option<Referent>
     }
 }
 
+/// The number of the struct with this tag.
+#[tactic(auto, using(crate::proofs::PlaceTables::tag_found))]
+fn tag_number(tags: &IndexSet<Name>, tag: &Name) -> Result<u32, NoMemory>
+    ensures { IfOk result (λ k. place_from 0 tag.now (tags.now).keys ≡ Some k) }
+{
+    match tags.get_index_of(tag) {
+        None => Err(NoMemory),
+        Some(i) => number(i),
+    }
+}
+
 impl<'a> Known<'a> {
-    /// The type at a node.
+    /// The type of the expression at a node, or that of the variable or parameter which is declared there.
     pub fn type_at(&self, node: u32) -> Result<&'a CType, NoMemory>
         ensures { IfOk result (λ t. at_number (known_tree self.now).types node ≡ Some (type_tree t.now)) }
     {
@@ -93,16 +103,6 @@ impl<'a> Known<'a> {
         ensures { IfOk result (λ t. type_known (known_tree self.now) (expr_tree e.now) ≡ Some (type_tree t.now)) }
     {
         self.type_at(e.node.id)
-    }
-
-    /// The type of the variable that a node declares.
-    pub fn declared_at(&self, node: u32) -> Result<&'a CType, NoMemory>
-        ensures { IfOk result (λ t. at_number (known_tree self.now).declared node ≡ Some (type_tree t.now)) }
-    {
-        match type_in(self.declared, node) {
-            None => Err(NoMemory),
-            Some(t) => Ok(t),
-        }
     }
 
     fn referent_at(&self, node: u32) -> Result<Referent, NoMemory>
@@ -201,7 +201,6 @@ impl<'a> Known<'a> {
     }
 
     /// The type that a declaration begins with (C11 6.7.2).
-    #[tactic(auto, using(crate::proofs::PlaceTables::struct_base))]
     fn base_type(&self, base: &Base) -> Result<CType, NoMemory>
         ensures { IfOk result (λ t. base_known (known_tree self.now) base.now ≡ Some (type_tree t)) }
     {
@@ -210,10 +209,10 @@ impl<'a> Known<'a> {
             Base::Int => Ok(CType::Int),
             Base::Unsigned => Ok(CType::Unsigned),
             Base::Char => Ok(CType::Char),
-            Base::Struct(tag) => match self.tags.get_index_of(tag) {
-                None => Err(NoMemory),
-                Some(place) => Ok(CType::Struct(number(place)?)),
-            },
+            Base::Struct(tag) => {
+                let k = tag_number(self.tags, tag)?;
+                Ok(CType::Struct(k))
+            }
         }
     }
 

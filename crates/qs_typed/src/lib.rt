@@ -2,6 +2,7 @@
 //! offsets as numbers, and what stands in memory when a run begins.
 #![tactic(auto)]
 
+mod addressed;
 mod assignments;
 mod blanks;
 mod bodies;
@@ -9,6 +10,7 @@ mod data;
 mod expressions;
 mod forms;
 mod functions;
+mod headers;
 mod initialisers;
 mod known;
 mod laws;

@@ -116,13 +116,12 @@ fn parameter_by(scalar: Scalar, l: &Lvalue) -> Result<Parameter, NoMemory>
 fn parameter(alloc: Global, k: &Known<'_>, p: &ParameterNode) -> Result<Parameter, NoMemory>
     ensures { IfOk result (λ r. parameter_known (known_tree k.now) (parameter_tree p.now) ≡ Some r) }
 {
-    let t = k.declared_at(p.node.id)?;
+    let t = k.type_at(p.node.id)?;
     let l = local_lvalue(alloc, k.locals, p.node.id)?;
     parameter_by(scalar_of(t), &l)
 }
 
 /// Where a call puts its arguments.
-#[tactic(auto, using(crate::proofs::Loops::parameter_turn, crate::proofs::Loops::all_elements))]
 pub fn parameters(
     alloc: Global,
     k: &Known<'_>,

@@ -119,15 +119,15 @@ fn one_piece<'a>(
 pub fn pieces<'a>(
     alloc: Global,
     env: &'a Env,
+    i: &'a Initialiser,
     t: &'a CType,
     offset: u32,
-    i: &'a Initialiser,
 ) -> Result<Vec<Piece<'a>>, NoMemory>
     ensures { IfOk result (λ ps. pieces (env_tree env.now) (type_tree t.now) offset (initialiser_tree i.now) ≡ Some (map piece_tree ps.items)) }
 {
     match i {
         Initialiser::Value(e) => one_piece(alloc, t, offset, e),
-        Initialiser::List(list) => pieces_from(alloc, env, t, offset, &list.items),
+        Initialiser::List(list) => pieces_from(alloc, env, &list.items, t, offset),
     }
 }
 
@@ -136,9 +136,9 @@ pub fn pieces<'a>(
 fn pieces_from<'a>(
     alloc: Global,
     env: &'a Env,
+    is: &'a [Initialiser],
     t: &'a CType,
     offset: u32,
-    is: &'a [Initialiser],
 ) -> Result<Vec<Piece<'a>>, NoMemory>
     ensures { IfOk result (λ ps. pieces_from (env_tree env.now) (type_tree t.now) offset 0 (initialisers_tree is.now) ≡ Some (map piece_tree ps.items)) }
 {
@@ -146,7 +146,7 @@ fn pieces_from<'a>(
     for n in 0..is.len() {
         let u = part_type(env, t, n)?;
         let at = part_offset(env, t, n)?;
-        let now = pieces(alloc, env, u, sum(offset, at)?, &is[n])?;
+        let now = pieces(alloc, env, &is[n], u, sum(offset, at)?)?;
         all.extend_from_slice(&now)?;
     }
     Ok(all)

@@ -133,7 +133,6 @@ fn form_of(alloc: Global, k: &Known<'_>, node: u32, shape: &Shape) -> Result<For
 }
 
 /// The arguments of a call, whose parameters have these types.
-#[tactic(auto, using(crate::proofs::Loops::argument_turn, crate::proofs::Loops::all_arguments))]
 #[cycle(typed)]
 fn arguments(
     alloc: Global,

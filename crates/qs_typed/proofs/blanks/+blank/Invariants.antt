@@ -7,14 +7,14 @@ use Rattle.qs_types.specs.StructsOf.{member_tree}
 use Rattle.qs_typed.specs.Behind.{behind}
 use Rattle.qs_typed.proofs.blanks.+blank.Given as goal
 
-abbrev pub measure-blank_by : goal.measure-blank_by
-measure-blank_by l = l.room
+abbrev pub decreases-blank_by : goal.decreases-blank_by
+decreases-blank_by l = l.room
 
-abbrev pub measure-struct_blank : goal.measure-struct_blank
-measure-struct_blank l = l.room
+abbrev pub decreases-struct_blank : goal.decreases-struct_blank
+decreases-struct_blank l = l.room
 
-abbrev pub measure-members_blank : goal.measure-members_blank
-measure-members_blank l = l.room
+abbrev pub decreases-members_blank : goal.decreases-members_blank
+decreases-members_blank l = l.room
 
 abbrev pub invariant-members_blank-loop-i : goal.invariant-members_blank-loop-i
 invariant-members_blank-loop-i l =

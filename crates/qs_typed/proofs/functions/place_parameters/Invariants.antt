@@ -6,5 +6,5 @@ use Rattle.qs_typed.proofs.functions.place_parameters.Given as goal
 
 abbrev pub invariant-loop-node : goal.invariant-loop-node
 invariant-loop-node l =
-    with_parameters (map (option_map type_tree) l.declared) l.addressed.keys l.nodes (locals_tree l.initial.locals)
-    ≡ with_parameters (map (option_map type_tree) l.declared) l.addressed.keys (drop l.node-index l.nodes) (locals_tree l.locals)
+    with_parameters (map (option_map type_tree) l.types) l.addressed.keys l.nodes (locals_tree l.initial.locals)
+    ≡ with_parameters (map (option_map type_tree) l.types) l.addressed.keys (drop l.node-index l.nodes) (locals_tree l.locals)

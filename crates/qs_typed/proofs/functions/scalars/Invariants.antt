@@ -7,5 +7,5 @@ use Rattle.qs_typed.proofs.functions.scalars.Given as goal
 
 abbrev pub invariant-loop-i : goal.invariant-loop-i
 invariant-loop-i l =
-    scalars_of (locals_at (map (option_map type_tree) l.declared) l.nodes.keys)
-    ≡ behind ◌∷◌ l.all.items (scalars_of (locals_at (map (option_map type_tree) l.declared) (drop l.i l.nodes.keys)))
+    scalars_of (locals_at (map (option_map type_tree) l.types) l.nodes.keys)
+    ≡ behind ◌∷◌ l.all.items (scalars_of (locals_at (map (option_map type_tree) l.types) (drop l.i l.nodes.keys)))

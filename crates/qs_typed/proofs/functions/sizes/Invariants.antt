@@ -8,5 +8,5 @@ use Rattle.qs_typed.proofs.functions.sizes.Given as goal
 
 abbrev pub invariant-loop-i : goal.invariant-loop-i
 invariant-loop-i l =
-    sizes_of (env_tree l.env) (locals_at (map (option_map type_tree) l.declared) l.nodes.keys)
-    ≡ behind ◌∷◌ l.all.items (sizes_of (env_tree l.env) (locals_at (map (option_map type_tree) l.declared) (drop l.i l.nodes.keys)))
+    sizes_of (env_tree l.env) (locals_at (map (option_map type_tree) l.types) l.nodes.keys)
+    ≡ behind ◌∷◌ l.all.items (sizes_of (env_tree l.env) (locals_at (map (option_map type_tree) l.types) (drop l.i l.nodes.keys)))

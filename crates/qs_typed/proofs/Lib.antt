@@ -9,7 +9,7 @@ pub mod Grown
 pub mod Tied
 pub mod TiedStatements
 pub mod TiedFunctions
-pub mod Headers
+pub mod HeaderTables
 pub mod UnitHeaders
 pub mod UnitContexts
 pub mod KnownNodes
@@ -22,3 +22,5 @@ pub mod UnitGiven
 pub mod UnitBodies
 pub mod UnitFunctions
 pub mod UnitPrograms
+pub mod Programs
+pub mod UnitWhole

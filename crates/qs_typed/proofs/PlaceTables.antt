@@ -104,6 +104,9 @@ header_found node (h ∷ hs) ps e =
 pub added_last : (n : ℕ) (ns : List ℕ) → list_any (nat_eq n) ns ≡ false → (if list_any (nat_eq n) ns then ns else ns ++ n ∷ []) ≡ ns ++ n ∷ []
 added_last n ns e = ap (λ b. if b then ns else ns ++ n ∷ []) e
 
+pub name_last : (x : List ℕ) (xs : List (List ℕ)) → list_any (same_bytes x) xs ≡ false → (if list_any (same_bytes x) xs then xs else xs ++ x ∷ []) ≡ xs ++ x ∷ []
+name_last x xs e = ap (λ b. if b then xs else xs ++ x ∷ []) e
+
 abbrev pub lists : List ℕ → List ℕ → Locals
 lists variables placed = record { variables = variables; placed = placed }
 

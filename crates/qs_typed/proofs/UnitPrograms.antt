@@ -17,7 +17,7 @@ use Rattle.qs_types.specs.UnitRules.{with_tag, no_members, after_members, has_no
 use Rattle.qs_typing.specs.UnitNodes.{of_parameters, of_body, of_declaration, of_declarations}
 use Rattle.qs_meaning.specs.Typed.{Function, StaticBlock, TypedProgram}
 use Rattle.qs_meaning.specs.Conversions.{scalar_of}
-use Rattle.qs_meaning.specs.Names.{Scope, within}
+use Rattle.qs_meaning.specs.Names.{Locals, Scope, within}
 use Rattle.qs_meaning.specs.TypedLaws.{IsFileScope}
 use Rattle.qs_meaning.specs.Units.{parameters_in, function_with, function_typed, file_variables_typed, no_functions, no_blocks, declarations_typed}
 use Rattle.qs_meaning.proofs.Faultless.{none_left, none_right}
@@ -25,7 +25,9 @@ use Rattle.qs_meaning.proofs.UnitsTyped.{header_result, declaration_known}
 use Rattle.qs_typed.specs.Known.{Header, parameters_of, with_tags}
 use Rattle.qs_typed.specs.KnownUnits.{with_header, headers_behind}
 use Rattle.qs_typed.specs.KnownPrograms.{Tables, known_in, body_known, option_body_known, functions_known}
+use Rattle.qs_typed.specs.UnitVariables.{function_variables, unit_variables_from, variables_of, variables_known}
 use Rattle.qs_typed.specs.Agrees.{Keeps}
+use Rattle.qs_typed.specs.AgreesFunctions.{FunctionAt}
 use Rattle.qs_typed.proofs.Kept.{nothing, same, kept, is_kept}
 use Rattle.qs_typed.proofs.Later.{IsLater}
 use Rattle.qs_typed.proofs.KnownNodes.{Each, each_left, each_right, StandsIn}
@@ -142,15 +144,23 @@ known_at t s c hs more f body ds h found e =
       functions = h.functions;
     }
 
-body_kept : (t : Tables) (s : Scope) (c : Context) (f : FunctionTree) (r : TypeTree) → result_type c f ≡ Some r → Each (StandsIn t.types) (of_parameters declared_type its_type (inner_scope c) f.parameters)
+abbrev pub BodyAt : Tables → Scope → Context → FunctionTree → Option Stmts → Type 0
+BodyAt t s c f None = Unit {0}
+BodyAt t s c f (Some b) = FunctionAt (known_in t f b) (within s c) f b (addressed_in c f b) (parameters_in c f) (statements_locals (body_context c f) b)
+
+body_at : (t : Tables) (s : Scope) (c : Context) (f : FunctionTree) (r : TypeTree) → result_type c f ≡ Some r → Each (StandsIn t.types) (of_parameters declared_type its_type (inner_scope c) f.parameters)
     → (body : Option Stmts) → ((b : Stmts) → KnownAt (known_in t f b) (within s (after_function c f)))
-    → Each (StandsIn t.types) (of_body declared_type its_type c f body) → Each (StandsIn t.referents) (of_body no_referent its_referent c f body)
-    → Keeps (function_typed (within s c) f body) (option_body_known t f body)
-body_kept t s c f r e ps None h n m = λ x p. p
-body_kept t s c f r e ps (Some b) h n m =
-    kept (function_with (within s c) f b (addressed_in c f b) (parameters_in c f) (statements_locals (body_context c f) b)) (body_known t f b) (λ g. Some (g ∷ [])) (λ g. Some (g ∷ []))
-    (function_kept (known_in t f b) (within s c) f b (addressed_in c f b) (parameters_in c f) (statements_locals (body_context c f) b) (function_at t (within s c) f b r (h b) e ps (n, m)))
-    (λ g. is_kept (Some (g ∷ [])))
+    → Each (StandsIn t.types) (of_body declared_type its_type c f body) → Each (StandsIn t.referents) (of_body no_referent its_referent c f body) → BodyAt t s c f body
+body_at t s c f r e ps None h n m = tt
+body_at t s c f r e ps (Some b) h n m = function_at t (within s c) f b r (h b) e ps (n, m)
+
+-- at each body of a unit
+abbrev pub BodiesAt : Tables → Scope → Context → UnitTree → Type 0
+BodiesAt t s c [] = Unit {0}
+BodiesAt t s c (structure d ∷ ds) = BodiesAt t s (after_struct c d) ds
+BodiesAt t s c (forward d ∷ ds) = BodiesAt t s (with_tag c d.name) ds
+BodiesAt t s c (function f ∷ ds) = BodyAt t s c f f.body × BodiesAt t s (after_function c f) ds
+BodiesAt t s c (variables d ∷ ds) = BodiesAt t s (after_variables true c d.base d.variables) ds
 
 -- ---- units
 
@@ -179,37 +189,46 @@ function_beside : (known : Option (List Function)) (typed now : Option (List Fun
 function_beside known None now o p k e h = nothing p e
 function_beside known (Some fs) now o p k e h = ap (λ x. x >>= λ now. known >>= λ rest. Some (now ++ rest)) (k fs refl) ∙ beside known fs o p e h
 
-pub functions_same : (t : Tables) (s : Scope) (ds : UnitTree) (c : Context) (hs : List Header) → UnitAt t s c hs ds
-    → Each (StandsIn t.types) (of_declarations declared_type its_type c ds) → Each (StandsIn t.referents) (of_declarations no_referent its_referent c ds)
-    → (p : TypedProgram) → declarations_typed (within s c) ds ≡ Some p → functions_known t ds ≡ Some p.functions
-functions_same t s [] c hs h n m p e = ap (λ (p : TypedProgram). Some p.functions) (same (record { functions = []; blocks = [] }) p e)
-functions_same t s (structure d ∷ ds) c hs h n m p e =
-    let td = of_declaration declared_type its_type c (structure d) in
-    let rd = of_declaration no_referent its_referent c (structure d) in
-    let tr = of_declarations declared_type its_type (after_struct c d) ds in
-    let rr = of_declarations no_referent its_referent (after_struct c d) ds in
-    alone (functions_known t ds) (declarations_typed (within s (after_struct c d)) ds) [] p e
-    (functions_same t s ds (after_struct c d) hs (behind t s c hs hs (structure d) ds h (struct_found c d hs h.found) h.headers)
-    (each_right (StandsIn t.types) td tr n) (each_right (StandsIn t.referents) rd rr m))
-functions_same t s (forward d ∷ ds) c hs h n m p e =
-    let td = of_declaration declared_type its_type c (forward d) in
-    let rd = of_declaration no_referent its_referent c (forward d) in
-    let tr = of_declarations declared_type its_type (with_tag c d.name) ds in
-    let rr = of_declarations no_referent its_referent (with_tag c d.name) ds in
-    alone (functions_known t ds) (declarations_typed (within s (with_tag c d.name)) ds) [] p e
-    (functions_same t s ds (with_tag c d.name) hs (behind t s c hs hs (forward d) ds h (tag_found c d.name hs h.found) h.headers)
-    (each_right (StandsIn t.types) td tr n) (each_right (StandsIn t.referents) rd rr m))
-functions_same t s (variables d ∷ ds) c hs h n m p e =
+-- ---- what the definition gives from these
+
+body_kept : (t : Tables) (s : Scope) (c : Context) (f : FunctionTree) (body : Option Stmts) → BodyAt t s c f body → Keeps (function_typed (within s c) f body) (option_body_known t f body)
+body_kept t s c f None h = λ x p. p
+body_kept t s c f (Some b) h =
+    kept (function_with (within s c) f b (addressed_in c f b) (parameters_in c f) (statements_locals (body_context c f) b)) (body_known t f b) (λ g. Some (g ∷ [])) (λ g. Some (g ∷ []))
+    (function_kept (known_in t f b) (within s c) f b (addressed_in c f b) (parameters_in c f) (statements_locals (body_context c f) b) h) (λ g. is_kept (Some (g ∷ [])))
+
+pub functions_same : (t : Tables) (s : Scope) (ds : UnitTree) (c : Context) → BodiesAt t s c ds → (p : TypedProgram) → declarations_typed (within s c) ds ≡ Some p → functions_known t ds ≡ Some p.functions
+functions_same t s [] c h p e = ap (λ (p : TypedProgram). Some p.functions) (same (record { functions = []; blocks = [] }) p e)
+functions_same t s (structure d ∷ ds) c h p e =
+    alone (functions_known t ds) (declarations_typed (within s (after_struct c d)) ds) [] p e (functions_same t s ds (after_struct c d) h)
+functions_same t s (forward d ∷ ds) c h p e = alone (functions_known t ds) (declarations_typed (within s (with_tag c d.name)) ds) [] p e (functions_same t s ds (with_tag c d.name) h)
+functions_same t s (variables d ∷ ds) c h p e =
+    variables_alone (functions_known t ds) (file_variables_typed (within s c) d.base d.variables) (declarations_typed (within s (after_variables true c d.base d.variables)) ds) p e
+    (functions_same t s ds (after_variables true c d.base d.variables) h)
+functions_same t s (function f ∷ ds) c h p e =
+    function_beside (functions_known t ds) (function_typed (within s c) f f.body) (option_body_known t f f.body) (declarations_typed (within s (after_function c f)) ds) p
+    (body_kept t s c f f.body h.0) e (functions_same t s ds (after_function c f) h.1)
+
+-- ---- units
+
+pub bodies_at : (t : Tables) (s : Scope) (ds : UnitTree) (c : Context) (hs : List Header) → UnitAt t s c hs ds
+    → Each (StandsIn t.types) (of_declarations declared_type its_type c ds) → Each (StandsIn t.referents) (of_declarations no_referent its_referent c ds) → BodiesAt t s c ds
+bodies_at t s [] c hs h n m = tt
+bodies_at t s (structure d ∷ ds) c hs h n m =
+    bodies_at t s ds (after_struct c d) hs (behind t s c hs hs (structure d) ds h (struct_found c d hs h.found) h.headers)
+    (each_right (StandsIn t.types) (of_declaration declared_type its_type c (structure d)) (of_declarations declared_type its_type (after_struct c d) ds) n)
+    (each_right (StandsIn t.referents) (of_declaration no_referent its_referent c (structure d)) (of_declarations no_referent its_referent (after_struct c d) ds) m)
+bodies_at t s (forward d ∷ ds) c hs h n m =
+    bodies_at t s ds (with_tag c d.name) hs (behind t s c hs hs (forward d) ds h (tag_found c d.name hs h.found) h.headers)
+    (each_right (StandsIn t.types) (of_declaration declared_type its_type c (forward d)) (of_declarations declared_type its_type (with_tag c d.name) ds) n)
+    (each_right (StandsIn t.referents) (of_declaration no_referent its_referent c (forward d)) (of_declarations no_referent its_referent (with_tag c d.name) ds) m)
+bodies_at t s (variables d ∷ ds) c hs h n m =
     let after = after_variables true c d.base d.variables in
-    let td = of_declaration declared_type its_type c (variables d) in
-    let rd = of_declaration no_referent its_referent c (variables d) in
-    let tr = of_declarations declared_type its_type after ds in
-    let rr = of_declarations no_referent its_referent after ds in
-    variables_alone (functions_known t ds) (file_variables_typed (within s c) d.base d.variables) (declarations_typed (within s after) ds) p e
-    (functions_same t s ds after hs (behind t s c hs hs (variables d) ds h (variables_found c d.base d.variables hs h.found) h.headers)
-    (each_right (StandsIn t.types) td tr n) (each_right (StandsIn t.referents) rd rr m))
-functions_same t s (function f ∷ ds) c hs h n m p e =
-    go (with_header t.types f hs) refl h.headers (λ more g v w q r. functions_same t s ds (after_function c f) more g v w q r)
+    bodies_at t s ds after hs (behind t s c hs hs (variables d) ds h (variables_found c d.base d.variables hs h.found) h.headers)
+    (each_right (StandsIn t.types) (of_declaration declared_type its_type c (variables d)) (of_declarations declared_type its_type after ds) n)
+    (each_right (StandsIn t.referents) (of_declaration no_referent its_referent c (variables d)) (of_declarations no_referent its_referent after ds) m)
+bodies_at t s (function f ∷ ds) c hs h n m =
+    go (with_header t.types f hs) refl h.headers (λ more g v w. bodies_at t s ds (after_function c f) more g v w)
   where
     td : List Typing
     td = declared_type f.node None ∷ of_parameters declared_type its_type (inner_scope c) f.parameters
@@ -239,16 +258,26 @@ functions_same t s (function f ∷ ds) c hs h n m p e =
     faults = none_left (declaration_faults c (function f)) (declarations_faults after ds) h.faultless
 
     go : (o : Option (List Header)) → with_header t.types f hs ≡ o → (o >>= λ more. headers_behind t.types more ds) ≡ Some t.headers
-        → ((more : List Header) → UnitAt t s after more ds → Each (StandsIn t.types) tr → Each (StandsIn t.referents) rr → (q : TypedProgram) → declarations_typed (within s after) ds ≡ Some q
-        → functions_known t ds ≡ Some q.functions) → functions_known t (function f ∷ ds) ≡ Some p.functions
+        → ((more : List Header) → UnitAt t s after more ds → Each (StandsIn t.types) tr → Each (StandsIn t.referents) rr → BodiesAt t s after ds) → BodiesAt t s c (function f ∷ ds)
     go None q r rest = nothing t.headers r
     go (Some more) q r rest =
         let result = header_result s c f h.scope faults in
-        let found : HeadersFound after more = function_found t.types c f hs more (parameters_declared t.types (inner_scope c) f.parameters parameters) q h.found in
-        function_beside (functions_known t ds) (function_typed (within s c) f f.body) (option_body_known t f f.body) (declarations_typed (within s after) ds) p
-        (body_kept t s c f result.value result.is parameters f.body (λ b. known_at t s c hs more f b ds h found r)
-        (each_right (StandsIn t.types) td (of_body declared_type its_type c f f.body) here) (each_right (StandsIn t.referents) rd (of_body no_referent its_referent c f f.body) named))
-        e
-        (rest more (behind t s c hs more (function f) ds h found r)
-        (each_right (StandsIn t.types) (td ++ of_body declared_type its_type c f f.body) tr n)
-        (each_right (StandsIn t.referents) (rd ++ of_body no_referent its_referent c f f.body) rr m))
+        let found : HeadersFound after more = function_found t.types c f hs more (parameters_declared t.types (inner_scope c) f.parameters parameters) q h.found in (
+          body_at t s c f result.value result.is parameters f.body (λ b. known_at t s c hs more f b ds h found r)
+              (each_right (StandsIn t.types) td (of_body declared_type its_type c f f.body) here) (each_right (StandsIn t.referents) rd (of_body no_referent its_referent c f f.body) named),
+          rest more (behind t s c hs more (function f) ds h found r) (each_right (StandsIn t.types) (td ++ of_body declared_type its_type c f f.body) tr n)
+              (each_right (StandsIn t.referents) (rd ++ of_body no_referent its_referent c f f.body) rr m),
+        )
+
+-- ---- variables
+
+body_variables : (t : Tables) (s : Scope) (c : Context) (f : FunctionTree) (body : Option Stmts) → BodyAt t s c f body → variables_of t f body ≡ function_variables c f body
+body_variables t s c f None h = refl
+body_variables t s c f (Some b) h = ap (λ (l : Locals). l.variables ∷ []) h.locals
+
+pub variables_same : (t : Tables) (s : Scope) (ds : UnitTree) (c : Context) → BodiesAt t s c ds → variables_known t ds ≡ unit_variables_from c ds
+variables_same t s [] c h = refl
+variables_same t s (structure d ∷ ds) c h = variables_same t s ds (after_struct c d) h
+variables_same t s (forward d ∷ ds) c h = variables_same t s ds (with_tag c d.name) h
+variables_same t s (function f ∷ ds) c h = λ i. body_variables t s c f f.body h.0 i ++ variables_same t s ds (after_function c f) h.1 i
+variables_same t s (variables d ∷ ds) c h = variables_same t s ds (after_variables true c d.base d.variables) h

@@ -14,3 +14,5 @@ pub mod Laws
 pub mod KnownUnits
 pub mod Addressed
 pub mod KnownPrograms
+pub mod TablesOf
+pub mod UnitVariables

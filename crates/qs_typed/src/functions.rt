@@ -29,7 +29,7 @@ use std::alloc::Global;
 
 /// Adds a node behind others that it isn't among.
 #[tactic(auto, using(crate::proofs::PlaceTables::added_last))]
-fn insert(nodes: &mut IndexSet<u32>, node: u32) -> Result<(), NoMemory>
+pub fn insert(nodes: &mut IndexSet<u32>, node: u32) -> Result<(), NoMemory>
     ensures { OnOk result ((nodes.new).keys ≡ (nodes.old).keys ++ node ∷ []) }
 {
     if nodes.contains(&node) {

@@ -1,5 +1,6 @@
 // The headers of the functions of a unit (C11 6.7.6.3, 6.9.1).
-ghost use Rattle.std.specs.Prelude.{◌≡◌, ◌∷◌, [], List, IfOk, OnOk, Some, map, option_map};
+ghost use Rattle.std.specs.Map.{lookup};
+ghost use Rattle.std.specs.Prelude.{◌≡◌, ◌∷◌, [], nat_eq, IfOk, IsTrue, None, OnOk, Some, map, option_map};
 ghost use Rattle.qs_meaning.specs.Units.{scalars_of};
 ghost use Rattle.qs_syntax.specs.TreeOf.{decl_tree, function_tree, parameter_tree};
 ghost use Rattle.qs_syntax.specs.Trees.{UnitTree};
@@ -35,8 +36,18 @@ fn parameter_scalars(
     Ok(all)
 }
 
+/// Whether no header stands at this node yet.
+fn is_new(headers: &IndexMap<u32, Vec<Scalar>>, node: u32) -> bool
+    ensures { IsTrue result → lookup (nat_eq node) (headers.now).entries ≡ None }
+{
+    match headers.get(&node) {
+        None => true,
+        Some(_) => false,
+    }
+}
+
 /// Adds a header behind others, at whose nodes it doesn't stand.
-#[tactic(auto, using(crate::proofs::Headers::noted))]
+#[tactic(auto, using(crate::proofs::HeaderTables::noted))]
 fn note_header(
     alloc: Global,
     types: &[Option<CType>],
@@ -46,14 +57,14 @@ fn note_header(
     ensures { OnOk result (with_header (map (option_map type_tree) types.now) (function_tree f.now) (headers_tree (headers.old).entries) ≡ Some (headers_tree (headers.new).entries)) }
 {
     let scalars = parameter_scalars(alloc, types, &f.parameters)?;
-    if headers.get(&f.node.id).is_some() {
+    if !is_new(headers, f.node.id) {
         return Err(NoMemory);
     }
     headers.insert(f.node.id, scalars)?;
     Ok(())
 }
 
-#[tactic(auto, using(crate::proofs::Headers::one_header))]
+#[tactic(auto, using(crate::proofs::HeaderTables::one_header))]
 fn declaration_header(
     alloc: Global,
     types: &[Option<CType>],

@@ -22,8 +22,10 @@ mod pieces;
 mod places;
 mod program;
 mod statements;
+mod tables;
 mod typed;
 mod types;
+mod units;
 
 pub use data::{Datum, StaticBlock};
 pub use expressions::{

@@ -148,7 +148,8 @@ fn arguments(
     }
     for i in 0..es.len() {
         let a = typed(alloc, k, &es[i])?;
-        given.push(with_conversion(alloc, parameters[i], a)?)?;
+        let r = with_conversion(alloc, parameters[i], a)?;
+        given.push(r)?;
     }
     Ok(given)
 }

@@ -36,7 +36,7 @@ both : (a b : Bool) → a ≡ true → b ≡ true → a && b ≡ true
 both true b h k = k
 both false b h k = h
 
-name_equal : (a b : List ℕ) → same_name a b ≡ true → a ≡ b
+pub name_equal : (a b : List ℕ) → same_name a b ≡ true → a ≡ b
 name_equal [] [] h = refl
 name_equal [] (y ∷ b) h = absurd (cc)
 name_equal (x ∷ a) [] h = absurd (cc)

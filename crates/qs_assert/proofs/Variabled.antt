@@ -87,7 +87,7 @@ mutual
 
 -- ---- the same numbers for these variables
 
-abbrev AgreeOn : List Var → (Var → ℤ) → (Var → ℤ) → Type 0
+abbrev pub AgreeOn : List Var → (Var → ℤ) → (Var → ℤ) → Type 0
 AgreeOn [] f g = Unit {0}
 AgreeOn (x ∷ xs) f g = (f x ≡ g x) × AgreeOn xs f g
 
@@ -106,7 +106,7 @@ abbrev seeing : State → (Var → ℤ) → State
 seeing s f = record s { at = f }
 
 mutual
-  term_same : (t : TermTree) (s : State) (f g : Var → ℤ) → AgreeOn (term_variables t) f g → term_value t (seeing s f) ≡ term_value t (seeing s g)
+  pub term_same : (t : TermTree) (s : State) (f g : Var → ℤ) → AgreeOn (term_variables t) f g → term_value t (seeing s f) ≡ term_value t (seeing s g)
   term_same (number k) s f g h = refl
   term_same (variable x) s f g h = h.0
   term_same (add ts) s f g h = sum_same ts s f g h
@@ -133,7 +133,7 @@ two_same r t u s f g h =
     pair r (term_same t s f g (front (term_variables t) (term_variables u) f g h)) (term_same u s f g (behind (term_variables t) (term_variables u) f g h))
 
 mutual
-  cond_same : (c : CondTree) (s : State) (f g : Var → ℤ) → AgreeOn (cond_variables c) f g → holds c (seeing s f) ≡ holds c (seeing s g)
+  pub cond_same : (c : CondTree) (s : State) (f g : Var → ℤ) → AgreeOn (cond_variables c) f g → holds c (seeing s f) ≡ holds c (seeing s g)
   cond_same (le t u) s f g h = two_same int_le t u s f g h
   cond_same (lt t u) s f g h = two_same int_lt t u s f g h
   cond_same (eq t u) s f g h = two_same int_eq t u s f g h
@@ -153,7 +153,7 @@ mutual
       pair (λ a b. a || b) (cond_same c s f g (front (cond_variables c) (conds_variables cs) f g h)) (some_same cs s f g (behind (cond_variables c) (conds_variables cs) f g h))
 
 mutual
-  value_same : (a : AssertionTree) (s : State) (f g : Var → ℤ) → AgreeOn (variables a) f g → value a (seeing s f) ≡ value a (seeing s g)
+  pub value_same : (a : AssertionTree) (s : State) (f g : Var → ℤ) → AgreeOn (variables a) f g → value a (seeing s f) ≡ value a (seeing s g)
   value_same (natural n) s f g h = refl
   value_same infinity s f g h = refl
   value_same (cost i) s f g h = refl
@@ -196,7 +196,7 @@ first_or : (a b : Bool) → a ≡ true → (a || b) ≡ true
 first_or true b h = refl
 first_or false b h = cc
 
-agree_where_mentioned : (xs : List Var) (f g : Var → ℤ) → ((x : Var) → list_any (λ y. same_variable y x) xs ≡ true → f x ≡ g x) → AgreeOn xs f g
+pub agree_where_mentioned : (xs : List Var) (f g : Var → ℤ) → ((x : Var) → list_any (λ y. same_variable y x) xs ≡ true → f x ≡ g x) → AgreeOn xs f g
 agree_where_mentioned [] f g h = tt
 agree_where_mentioned (x ∷ xs) f g h =
     (h x (first_or (same_variable x x) (list_any (λ y. same_variable y x) xs) (variable_self x)), agree_where_mentioned xs f g (λ z k. h z (or_true (same_variable x z) (list_any (λ y. same_variable y z) xs) k)))

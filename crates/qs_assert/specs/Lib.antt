@@ -4,6 +4,7 @@ pub mod Comparing
 pub mod Evaluations
 pub mod Images
 pub mod Joining
+pub mod Laws
 pub mod Listing
 pub mod Order
 pub mod Reading

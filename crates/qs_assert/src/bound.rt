@@ -1,12 +1,13 @@
 // What an assertion amounts to at given arguments.
-ghost use Rattle.std.specs.Prelude.{◌≡◌, [], IfOk};
+ghost use Rattle.std.specs.Prelude.{◌≡◌, [], IfOk, OnOk};
 ghost use Rattle.qs_assert.specs.Bounds.{amount_at, bound_at};
-ghost use Rattle.qs_assert.specs.Tables.{reckoned, tabled};
+ghost use Rattle.qs_assert.specs.Tables.{reckoned, tabled, with_amount};
 
 use crate::amounts::Joining;
-use crate::evaluation::{Known, cost, evaluate};
+use crate::evaluation::{cost, evaluate};
 use crate::{Amount, Assertion, Define, amounts};
-use qs_base::{FnId, NoMemory};
+use indexmap::IndexMap;
+use qs_base::{FnId, Name, NoMemory};
 use std::alloc::Global;
 
 fn reckon(
@@ -14,26 +15,44 @@ fn reckon(
     a: &Assertion,
     args: &[i64],
     costs: &[u32],
-    known: &[Known],
+    known: &IndexMap<Name, Amount>,
 ) -> Result<Amount, NoMemory>
-    ensures { IfOk result (λ amount. amount ≡ reckoned args.now costs.now known.now a.now) }
+    ensures { IfOk result (λ amount. amount ≡ reckoned args.now costs.now known.now.entries a.now) }
 {
     evaluate(alloc, a.nodes(), args, costs, known)
 }
 
+/// Adds the value of a definition, unless its name has one.
+#[tactic(auto, using(crate::proofs::Tabled::amount_kept))]
+fn add(
+    alloc: Global,
+    define: &Define,
+    args: &[i64],
+    costs: &[u32],
+    known: &mut IndexMap<Name, Amount>,
+) -> Result<(), NoMemory>
+    ensures { OnOk result (known.new.entries ≡ with_amount define.now.name (reckoned args.now costs.now known.old.entries define.now.body) known.old.entries) }
+{
+    if known.get(&define.name).is_some() {
+        return Ok(());
+    }
+    let amount = reckon(alloc, &define.body, args, costs, known)?;
+    known.insert(define.name.copy(alloc)?, amount)?;
+    Ok(())
+}
+
+/// The values of the definitions by their names.
 fn table(
     alloc: Global,
     defines: &[Define],
     args: &[i64],
     costs: &[u32],
-) -> Result<Vec<Known>, NoMemory>
-    ensures { IfOk result (λ known. known.items ≡ tabled args.now costs.now defines.now []) }
+) -> Result<IndexMap<Name, Amount>, NoMemory>
+    ensures { IfOk result (λ known. known.entries ≡ tabled args.now costs.now defines.now []) }
 {
-    let mut known = Vec::new(alloc);
+    let mut known = IndexMap::new(alloc);
     for define in defines {
-        let amount = reckon(alloc, &define.body, args, costs, &known)?;
-        let name = define.name.copy(alloc)?;
-        known.push(Known { name, amount })?;
+        add(alloc, define, args, costs, &mut known)?;
     }
     Ok(known)
 }

@@ -11,15 +11,9 @@ use crate::amounts::Joining;
 use crate::stack::{cut, front, put, taken};
 use crate::truths::Relation;
 use crate::{Amount, AssertionNode, CondNode, Node, TermNode, VarKind, amounts, numbers, truths};
+use indexmap::IndexMap;
 use qs_base::{Name, NoMemory};
 use std::alloc::Global;
-
-/// A definition's name and value.
-#[derive(Drop)]
-pub struct Known {
-    pub name: Name,
-    pub amount: Amount,
-}
 
 /// The values of the trees that are read, those of a sort on one stack.
 #[derive(Drop)]
@@ -54,15 +48,13 @@ pub fn cost(costs: &[u32], at: u32) -> u32
     if at < costs.len() { costs[at] } else { 0 }
 }
 
-fn amount_of(known: &[Known], name: &Name) -> Amount
-    ensures { result ≡ found known.now name.now }
+fn amount_of(known: &IndexMap<Name, Amount>, name: &Name) -> Amount
+    ensures { result ≡ found known.now.entries name.now }
 {
-    for entry in known {
-        if *name == entry.name {
-            return entry.amount;
-        }
+    match known.get(name) {
+        Some(amount) => *amount,
+        None => Amount::Infinite,
     }
-    Amount::Infinite
 }
 
 fn put_sum(stack: &mut Vec<Option<i128>>, count: usize) -> Result<(), NoMemory>
@@ -190,9 +182,9 @@ impl Evaluation {
         &mut self,
         node: &AssertionNode,
         costs: &[u32],
-        known: &[Known],
+        known: &IndexMap<Name, Amount>,
     ) -> Result<(), NoMemory>
-        ensures { IfOk result (λ _. (args : List ℤ) → seen self.new ≡ stacks.step_assertion (meaning args costs.now known.now) node.now (seen self.old)) }
+        ensures { IfOk result (λ _. (args : List ℤ) → seen self.new ≡ stacks.step_assertion (meaning args costs.now known.now.entries) node.now (seen self.old)) }
     {
         match node {
             AssertionNode::Natural(n) => put(&mut self.amounts, amounts::finite(u128::from(*n))),
@@ -216,9 +208,9 @@ impl Evaluation {
         node: &Node,
         args: &[i64],
         costs: &[u32],
-        known: &[Known],
+        known: &IndexMap<Name, Amount>,
     ) -> Result<(), NoMemory>
-        ensures { IfOk result (λ _. seen self.new ≡ stacks.step_node (meaning args.now costs.now known.now) node.now (seen self.old)) }
+        ensures { IfOk result (λ _. seen self.new ≡ stacks.step_node (meaning args.now costs.now known.now.entries) node.now (seen self.old)) }
     {
         match node {
             Node::Term(head) => step_term(&mut self.numbers, *head, args),
@@ -234,9 +226,9 @@ pub fn evaluate(
     nodes: &[Node],
     args: &[i64],
     costs: &[u32],
-    known: &[Known],
+    known: &IndexMap<Name, Amount>,
 ) -> Result<Amount, NoMemory>
-    ensures { IfOk result (λ amount. amount ≡ stacks.first_amount (stacks.steps (meaning args.now costs.now known.now) nodes.now).amounts) }
+    ensures { IfOk result (λ amount. amount ≡ stacks.first_amount (stacks.steps (meaning args.now costs.now known.now.entries) nodes.now).amounts) }
 {
     let mut evaluation = Evaluation {
         numbers: Vec::new(alloc),

@@ -5,6 +5,8 @@ use Rattle.std.specs.List.{slice_get, list_all, list_any}
 use Rattle.std.proofs.lemmas.Slice.Eq.{bytes_eq-Decides}
 use Rattle.std.proofs.lemmas.List.{map-append}
 use Rattle.std.proofs.lemmas.List.Folds.{list_all-append}
+use Rattle.std.proofs.Math.Logic.{∥∥₁_elim}
+use mathlib.Core.Bool.{Bool-set}
 use Rattle.qs_base.specs.Names.{is_name}
 use Rattle.qs_syntax.specs.Sameness.{same_bytes}
 use Rattle.qs_syntax.proofs.Exact.{bytes_exact}
@@ -21,6 +23,8 @@ use Rattle.qs_types.specs.declared.rules.Rule.{Rule}
 use Rattle.qs_types.specs.declared.rules.Rule.TheVariants as rules
 use Rattle.qs_types.specs.Rules.{keeps, breaks_one, faults_of}
 use Rattle.qs_types.specs.GivenFunctions.{main_name}
+use Rattle.qs_types.specs.Limits.{IsWithinLimits}
+use Rattle.qs_types.specs.WellTyped.{WellTyped}
 use Rattle.qs_types.specs.Contexts.{Context, start_context, inner_scope}
 use Rattle.qs_types.specs.Placed.{Local, parameters_locals, addressed_in, statements_locals}
 use Rattle.qs_types.specs.UnitRules.{is_name_in, is_name_declared, parameter_types, result_type, body_context, header_of, may_declare, result_tests, main_tests, header_tests, is_main_type, may_be, parameters_faults, body_faults, function_faults, after_declaration, declaration_faults, declarations_faults}
@@ -30,7 +34,8 @@ use Rattle.qs_meaning.specs.Runs.{main_from}
 use Rattle.qs_meaning.specs.Statements.{statements_typed}
 use Rattle.qs_meaning.specs.Units.{nodes_of, placed_among, plain_among, variables_among, locals_of, parameters_in, scalars_of, sizes_of, parameters_typed, in_body, function_with, function_typed, file_variables_typed, declaration_typed, declarations_typed, name_with_body, functions_in, start_scope}
 use Rattle.qs_meaning.specs.TypedLaws.{IsFileScope}
-use Rattle.qs_meaning.specs.FitLaws.{are_different}
+use Rattle.qs_meaning.specs.InitialLaws.{texts_are_bytes}
+use Rattle.qs_meaning.specs.FitLaws.{are_different, IsAsRead}
 use Rattle.qs_meaning.proofs.Options.{Known}
 use Rattle.qs_meaning.proofs.Faultless.{none_left, none_right, unbroken, first_unbroken, second_unbroken}
 use Rattle.qs_meaning.proofs.Functions.{all_fine, parameters_declared}
@@ -39,15 +44,18 @@ use Rattle.qs_meaning.proofs.UnitsTyped.{declaration_known, start_known, units_t
 use Rattle.qs_meaning.proofs.InitialMemory.{initial_memory_is_sound}
 use Rattle.qs_meaning.proofs.FitUnits.{typed_units_fit}
 use Rattle.qs_meaning.proofs.FitBlocks.{typed_data_is_whole}
+use Rattle.qs_meaning.proofs.FitReadings.{read_is_as_read}
+use Rattle.qs_meaning.proofs.FitTexts.{texts_of_literals}
 use Rattle.qs_elaborate.specs.Names.{parameter_name, declared_parameter, statements_declare, function_declares, FunctionNames, body_names, function_names, declaration_names, declarations_names, names_in}
 use Rattle.qs_elaborate.specs.Units.{unit_core}
-use Rattle.qs_elaborate.specs.FitLaws.{IsNamed, AreNamed, is_main_function, has_name, option_has_name, parameter_has_name, body_has_names, declaration_has_names, UnitsHaveCores}
+use Rattle.qs_elaborate.specs.FitLaws.{IsNamed, AreNamed, is_main_function, has_name, option_has_name, parameter_has_name, body_has_names, declaration_has_names, has_names, HasCore, UnitsHaveCores}
 use Rattle.qs_elaborate.proofs.FitParts.{together}
 use Rattle.qs_elaborate.proofs.FitDeclared.{part_self, part_behind, part_front, part_different, ids}
 use Rattle.qs_elaborate.proofs.FitNamed.{parameters_count, parameters_differ, named_function}
 use Rattle.qs_elaborate.proofs.FitRules.{is_new, parameters_new, main_type_kept, bodies_differ}
 use Rattle.qs_elaborate.proofs.FitMain.{int_result, parameters_promoted, main_given, main_found}
 use Rattle.qs_elaborate.proofs.FitUnits.{core_fits}
+use Rattle.qs_elaborate.proofs.FitReads.{read_units_have_names}
 use Rattle.qs_elaborate.proofs.Units.{core_follows, main_follows}
 
 -- ---- functions
@@ -254,8 +262,8 @@ main_at ns gs whole k g is marked = ap is_main_function is ∙ found ns gs whole
 
 -- ---- units
 
-pub units_have_cores : UnitsHaveCores
-units_have_cores unit read names texts well limits =
+has_core : (unit : UnitTree) → IsAsRead unit → has_names unit ≡ true → texts_are_bytes unit ≡ true → WellTyped unit → IsWithinLimits unit → HasCore unit
+has_core unit read names texts well limits =
     let t = units_typed unit well in
     let u = t.0 in
     let d = followed (declarations_typed (start_scope unit) unit) _ u t.1 in
@@ -279,3 +287,8 @@ units_have_cores unit read names texts well limits =
       follows = λ root xs w n. core_follows (names_in unit) u m.place root xs w n;
       main_follows = λ xs input n. main_follows (names_in unit) u m.place xs input n main_is blocks.whole;
     }
+
+pub units_have_cores : UnitsHaveCores
+units_have_cores unit read well limits =
+    let as_read = read_is_as_read unit read in
+    has_core unit as_read (∥∥₁_elim read (Bool-set (has_names unit) true) (read_units_have_names unit)) (texts_of_literals unit as_read.literals) well limits

@@ -33,8 +33,8 @@ mod SizeExamples
 mod CountExamples
 mod FitRules
 mod FitMain
+mod FitReads
 mod FitCore
 mod UnitExamples
 mod NumberingExamples
 mod WriteExamples
-mod FitReads

@@ -3,7 +3,7 @@ use Rattle.std.specs.Prelude.{◌≡◌, ℕ, ◌==◌, ◌&&◌, Bool, true, fa
 use Rattle.std.specs.List.{slice_get, list_all}
 use Rattle.qs_base.specs.Names.{is_name}
 use Rattle.qs_syntax.specs.Trees.{ParameterTree, Stmts, FunctionTree, DeclTree, structure, forward, function, variables, UnitTree}
-use Rattle.qs_syntax.specs.Units.{Reading}
+use Rattle.qs_syntax.specs.Units.{Reading, IsRead}
 use Rattle.qs_memory.specs.Values.{Value}
 use Rattle.qs_memory.specs.Soundness.{IsSound}
 use Rattle.qs_memory.specs.declared.scalar.Scalar.TheVariants as scalars
@@ -19,8 +19,6 @@ use Rattle.qs_meaning.specs.Typed.{Function, TypedProgram}
 use Rattle.qs_meaning.specs.Interfaces.{types_of}
 use Rattle.qs_meaning.specs.Units.{typed_of, initial_memory}
 use Rattle.qs_meaning.specs.Runs.{run_of, main_run}
-use Rattle.qs_meaning.specs.InitialLaws.{texts_are_bytes}
-use Rattle.qs_meaning.specs.FitLaws.{IsAsRead}
 use Rattle.qs_meaning.specs.Whole.{DataIsWhole}
 use Rattle.qs_meaning.specs.Fits.{program_fits}
 use Rattle.qs_elaborate.specs.Names.{Declared, statements_declare, FunctionNames}
@@ -109,10 +107,9 @@ pub record HasCore (unit : UnitTree) : Type 0 where
   pub follows : (root : ℕ) (xs : List Value) (w : World) (n : ℕ) → core_run core root xs w n ≡ run_of typed root xs w n
   pub main_follows : (xs : List Value) (input : List ℕ) (n : ℕ) → core_units.main_run core xs input n ≡ main_run typed xs input n
 
--- so has each well typed unit that is as units that are read are
+-- so has each unit that is read from tokens, is well typed and is within the limits
 abbrev pub UnitsHaveCores : Type 0
-UnitsHaveCores =
-    (unit : UnitTree) → IsAsRead unit → has_names unit ≡ true → texts_are_bytes unit ≡ true → WellTyped unit → IsWithinLimits unit → HasCore unit
+UnitsHaveCores = (unit : UnitTree) → IsRead unit → WellTyped unit → IsWithinLimits unit → HasCore unit
 
 -- the names of a unit that is read are names of the language
 abbrev pub ReadUnitsHaveNames : Type 0

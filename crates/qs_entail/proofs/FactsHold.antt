@@ -17,9 +17,10 @@ use Rattle.qs_poly.proofs.Equality.{polynomial_equal}
 use Rattle.qs_poly.proofs.ValueLaws.{lessened_value, number_value, single_value}
 use Rattle.qs_entail.specs.Certificates.{Item, FactTree, range, cost_range, apart, num_is, num_bounds, wrapu_is, wraps_is, wrapu_bounds, wraps_bounds, quotient_bounds, bits_bound, bits_half, bits_rise}
 use Rattle.qs_base.specs.Results.{bind}
-use Rattle.qs_entail.specs.Building.{Failure, limited, difference, term_polynomial, are_inside, combination, two_combinations}
+use Rattle.qs_entail.specs.Building.{Failure, limited, difference, term_polynomial, combination, two_combinations}
 use Rattle.qs_entail.specs.Pushing.{Known}
 use Rattle.qs_entail.specs.Facts.{least, greatest_of_type, Sides, equal_sides, different_sides, condition_at, condition, added}
+use Rattle.qs_entail.specs.Verdicts.{fact_stands, outlined}
 use Rattle.qs_entail.specs.Meaning.{InRange}
 use Rattle.qs_entail.proofs.Built.{both, bind_ok, require_ok, difference_value, limited_lessened_value, limited_sum_value, limited_multiple_value, term_polynomial_value}
 use Rattle.qs_entail.proofs.Assertions.{AllNotNegative, combination_not_negative, two_not_negative}
@@ -96,8 +97,7 @@ same_both p q a b ps s e h k same =
 
 num_holds : (t : TermTree) (w : List Item) (k : Known) (ps : List Polynomial) (s : State) → added (num_is t w) k ≡ Ok ps → Holds k s → AllNotNegative s ps
 num_holds t w k ps s e h =
-    let r = require_ok (are_inside w k.polynomials) _ ps e in
-    let p = bind_ok (term_polynomial t) _ ps r.1 in
+    let p = bind_ok (term_polynomial t) _ ps e in
     let z = bind_ok (combination w k.polynomials) _ ps p.1.1 in
     let a = bind_ok (difference (single (poly.num p.0)) p.0) _ ps z.1.1 in
     let b = bind_ok (difference p.0 (single (poly.num p.0))) _ ps a.1.1 in
@@ -136,8 +136,7 @@ apart_holds : (i : ℤ) (w : List Item) (k : Known) (ps : List Polynomial) (s : 
 apart_holds i w k ps s e h =
     let c = bind_ok (condition k.conditions i) _ ps e in
     let d = bind_ok (different_sides c.0) _ ps c.1.1 in
-    let r = require_ok (are_inside w k.polynomials) _ ps d.1.1 in
-    let t = bind_ok (term_polynomial d.0.left) _ ps r.1 in
+    let t = bind_ok (term_polynomial d.0.left) _ ps d.1.1 in
     let u = bind_ok (term_polynomial d.0.right) _ ps t.1.1 in
     let z = bind_ok (combination w k.polynomials) _ ps u.1.1 in
     let a = bind_ok (difference t.0 u.0) _ ps z.1.1 in
@@ -163,8 +162,7 @@ apart_holds i w k ps s e h =
 
 wrapu_holds : (t : TermTree) (v w : List Item) (k : Known) (ps : List Polynomial) (s : State) → added (wrapu_is t v w) k ≡ Ok ps → Holds k s → AllNotNegative s ps
 wrapu_holds t v w k ps s e h =
-    let r = require_ok (are_inside v k.polynomials && are_inside w k.polynomials) _ ps e in
-    let p = bind_ok (term_polynomial t) _ ps r.1 in
+    let p = bind_ok (term_polynomial t) _ ps e in
     let room = bind_ok (difference (number (pos 4294967295)) p.0) _ ps p.1.1 in
     let z = bind_ok (two_combinations v w k.polynomials) _ ps room.1.1 in
     let a = bind_ok (difference (single (poly.wrapu p.0)) p.0) _ ps z.1.1 in
@@ -183,8 +181,7 @@ wrapu_holds t v w k ps s e h =
 
 wraps_holds : (t : TermTree) (v w : List Item) (k : Known) (ps : List Polynomial) (s : State) → added (wraps_is t v w) k ≡ Ok ps → Holds k s → AllNotNegative s ps
 wraps_holds t v w k ps s e h =
-    let r = require_ok (are_inside v k.polynomials && are_inside w k.polynomials) _ ps e in
-    let p = bind_ok (term_polynomial t) _ ps r.1 in
+    let p = bind_ok (term_polynomial t) _ ps e in
     let above = bind_ok (limited (sum p.0 (number (pos 2147483648)))) _ ps p.1.1 in
     let room = bind_ok (difference (number (pos 2147483647)) p.0) _ ps above.1.1 in
     let z = bind_ok (two_combinations v w k.polynomials) _ ps room.1.1 in
@@ -236,20 +233,19 @@ wraps_bounds_hold t k ps s e =
 at_least_one : (n : ℕ) → nat_le 1 n ≡ true → 1 ≤ n
 at_least_one n h = grind arith
 
-quotient_holds : (t : TermTree) (n : ℕ) (k : Known) (ps : List Polynomial) (s : State) → added (quotient_bounds t n) k ≡ Ok ps → AllNotNegative s ps
-quotient_holds t n k ps s e =
-    let r = require_ok (nat_le 1 n) _ ps e in
-    let p = bind_ok (term_polynomial t) _ ps r.1 in
+quotient_holds : (t : TermTree) (n : ℕ) (k : Known) (ps : List Polynomial) (s : State) → added (quotient_bounds t n) k ≡ Ok ps → nat_le 1 n ≡ true → AllNotNegative s ps
+quotient_holds t n k ps s e st =
+    let p = bind_ok (term_polynomial t) _ ps e in
     let d = single (poly.div p.0 n) in
     let a = bind_ok (limited (lessened p.0 n d 0)) _ ps p.1.1 in
     let b = bind_ok (limited (multiple (negsuc 0) (lessened p.0 n d (n - 1)))) _ ps a.1.1 in
     let z = polynomial_value p.0 s in
-    let q = quotient_is z n (at_least_one n r.0) in
+    let q = quotient_is z n (at_least_one n st) in
     let v = ap (λ x. pos n *ℤ x) (single_value (poly.div p.0 n) s) in
     let x = limited_lessened_value p.0 n d 0 a.0 s a.1.0 in
     let y = limited_multiple_value (negsuc 0) (lessened p.0 n d (n - 1)) b.0 s b.1.0 in
     let c = lessened_value p.0 n d (n - 1) s in
-    let l = at_least_one n r.0 in
+    let l = at_least_one n st in
     let f = q.at_least in
     let g = q.less in
     two a.0 b.0 ps s b.1.1 (omega (arith, ints, x, v, f)) (omega (arith, ints, y, c, l, v, g))
@@ -262,8 +258,7 @@ bits_hold t k ps s e =
 
 half_holds : (t : TermTree) (w : List Item) (k : Known) (ps : List Polynomial) (s : State) → added (bits_half t w) k ≡ Ok ps → Holds k s → AllNotNegative s ps
 half_holds t w k ps s e h =
-    let r = require_ok (are_inside w k.polynomials) _ ps e in
-    let p = bind_ok (term_polynomial t) _ ps r.1 in
+    let p = bind_ok (term_polynomial t) _ ps e in
     let side = bind_ok (difference p.0 (number (pos 1))) _ ps p.1.1 in
     let z = bind_ok (combination w k.polynomials) _ ps side.1.1 in
     let halved = single (poly.div p.0 2) in
@@ -285,8 +280,7 @@ half_holds t w k ps s e h =
 
 rise_holds : (t u : TermTree) (w : List Item) (k : Known) (ps : List Polynomial) (s : State) → added (bits_rise t u w) k ≡ Ok ps → Holds k s → AllNotNegative s ps
 rise_holds t u w k ps s e h =
-    let r = require_ok (are_inside w k.polynomials) _ ps e in
-    let p = bind_ok (term_polynomial t) _ ps r.1 in
+    let p = bind_ok (term_polynomial t) _ ps e in
     let o = bind_ok (term_polynomial u) _ ps p.1.1 in
     let z = bind_ok (combination w k.polynomials) _ ps o.1.1 in
     let side = bind_ok (difference o.0 p.0) _ ps z.1.1 in
@@ -301,17 +295,17 @@ rise_holds t u w k ps s e h =
     let v' = single_value (poly.bits p.0) s in
     one a.0 ps s q.1 (omega (arith, ints, x, v, v', le))
 
-pub fact_holds : (f : FactTree) (k : Known) (ps : List Polynomial) (s : State) → added f k ≡ Ok ps → InRange s → Holds k s → AllNotNegative s ps
-fact_holds (range x) k ps s e r h = range_holds x k ps s e r
-fact_holds (cost_range f) k ps s e r h = cost_holds f k ps s e
-fact_holds (apart i w) k ps s e r h = apart_holds i w k ps s e h
-fact_holds (num_is t w) k ps s e r h = num_holds t w k ps s e h
-fact_holds (num_bounds t) k ps s e r h = num_bounds_hold t k ps s e
-fact_holds (wrapu_is t v w) k ps s e r h = wrapu_holds t v w k ps s e h
-fact_holds (wraps_is t v w) k ps s e r h = wraps_holds t v w k ps s e h
-fact_holds (wrapu_bounds t) k ps s e r h = wrapu_bounds_hold t k ps s e
-fact_holds (wraps_bounds t) k ps s e r h = wraps_bounds_hold t k ps s e
-fact_holds (quotient_bounds t n) k ps s e r h = quotient_holds t n k ps s e
-fact_holds (bits_bound t) k ps s e r h = bits_hold t k ps s e
-fact_holds (bits_half t w) k ps s e r h = half_holds t w k ps s e h
-fact_holds (bits_rise t u w) k ps s e r h = rise_holds t u w k ps s e h
+pub fact_holds : (f : FactTree) (k : Known) (ps : List Polynomial) (s : State) → added f k ≡ Ok ps → fact_stands f (outlined k) ≡ true → InRange s → Holds k s → AllNotNegative s ps
+fact_holds (range x) k ps s e st r h = range_holds x k ps s e r
+fact_holds (cost_range f) k ps s e st r h = cost_holds f k ps s e
+fact_holds (apart i w) k ps s e st r h = apart_holds i w k ps s e h
+fact_holds (num_is t w) k ps s e st r h = num_holds t w k ps s e h
+fact_holds (num_bounds t) k ps s e st r h = num_bounds_hold t k ps s e
+fact_holds (wrapu_is t v w) k ps s e st r h = wrapu_holds t v w k ps s e h
+fact_holds (wraps_is t v w) k ps s e st r h = wraps_holds t v w k ps s e h
+fact_holds (wrapu_bounds t) k ps s e st r h = wrapu_bounds_hold t k ps s e
+fact_holds (wraps_bounds t) k ps s e st r h = wraps_bounds_hold t k ps s e
+fact_holds (quotient_bounds t n) k ps s e st r h = quotient_holds t n k ps s e st
+fact_holds (bits_bound t) k ps s e st r h = bits_hold t k ps s e
+fact_holds (bits_half t w) k ps s e st r h = half_holds t w k ps s e h
+fact_holds (bits_rise t u w) k ps s e st r h = rise_holds t u w k ps s e h

@@ -11,6 +11,7 @@ pub mod Stacked
 pub mod TreeSteps
 pub mod PlainNodes
 pub mod Counted
+pub mod Numbered
 pub mod Assertions
 pub mod Pushed
 pub mod Amounts

@@ -1,63 +1,45 @@
 -- The answers at the root.
-use Rattle.std.proofs.Common.{◌≡◌, ◌++◌, ◌==◌, ℕ, List, [], Bool, true, false, refl, sym, ap, ◌∙◌, subst}
-use Rattle.std.specs.Prelude.{◌&&◌, if◌then◌else◌, Option, Some, None, Result, Ok, Err, OnOk, Vec}
+use Rattle.std.proofs.Common.{◌≡◌, ◌++◌, ℕ, List, [], Bool, true, false, refl, sym, ap, ◌∙◌, subst}
+use Rattle.std.specs.Prelude.{if◌then◌else◌, Option, Some, None, Result, Ok, Err, OnOk, Vec}
 use Rattle.std.specs.declared.alloc.Global.{Global}
-use Rattle.qs_assert.specs.Trees.{CondTree, AssertionTree, AssertionTrees}
+use Rattle.qs_assert.specs.Trees.{CondTree, AssertionTree}
 use Rattle.qs_entail.specs.declared.fault.Rule.{Rule}
 use Rattle.qs_entail.specs.declared.fault.CertFault.{CertFault}
 use Rattle.qs_entail.specs.declared.failed.Failed.{Failed}
 use Rattle.qs_entail.specs.declared.failed.Failed.TheVariants as failures
 use Rattle.qs_entail.specs.declared.stop.Stop.{Stop}
 use Rattle.qs_entail.specs.declared.stop.Stop.TheVariants.{NoMemory, Breaks, Passes}
-use Rattle.qs_entail.specs.Answers.{Follows, FollowsAs, fault_of}
-use Rattle.qs_base.specs.Results.{bind, require}
+use Rattle.qs_entail.specs.Answers.{FollowsAs, fault_of}
+use Rattle.qs_base.specs.Results.{bind}
 use Rattle.qs_entail.specs.Building.{Failure, breaks}
-use Rattle.qs_entail.specs.Faults.{Fault, step, limit, node, done, count}
+use Rattle.qs_entail.specs.Faults.{Fault, step, limit, node}
 use Rattle.qs_assert.specs.declared.define.Define.{Define}
 use Rattle.qs_entail.specs.Certificates.{CertTree}
 use Rattle.qs_assert.specs.Order.{IsInOrder}
 use Rattle.qs_entail.specs.Meaning.{Above}
 use Rattle.qs_entail.proofs.Sound.{certificates_are_sound}
 use Rattle.qs_entail.specs.Said.{Tells}
-use Rattle.qs_entail.specs.Standing.{without_limit, told}
+use Rattle.qs_entail.specs.Standing.{counted, told}
+use Rattle.qs_entail.specs.Facts.{different_sides}
 use Rattle.qs_entail.specs.Verdicts.{is_given, has_count, verdict}
 use Rattle.qs_entail.specs.Walking.{Place, Says, failure_of}
 
 -- ---- what is given
 
-pub given_ok : {A B : Type 0} (view : A → B) (a : A) (attempt : Result B Failure) → FollowsAs view (Ok a) attempt → require (is_given attempt) breaks done ≡ Ok tt
-given_ok view a attempt h = ap (λ r. require (is_given r) breaks done) h
+pub given_some : {A : Type 0} (r : Result A Failure) (a : A) → r ≡ Ok a → true ≡ is_given r
+given_some r a h = sym (ap is_given h)
 
-pub given_err : {A B : Type 0} (view : A → B) (stop : Stop) (attempt : Result B Failure) → FollowsAs view (Err stop) attempt → Follows (Err (without_limit stop)) (require (is_given attempt) breaks done)
-given_err view NoMemory attempt h = tt
-given_err view Breaks attempt h = ap (λ r. require (is_given r) breaks done) h
-given_err view (Passes l) attempt h = ap (λ r. require (is_given r) breaks done) h
+pub given_none : {A : Type 0} (r : Result A Failure) → r ≡ Err breaks → false ≡ is_given r
+given_none r h = sym (ap is_given h)
 
-tested : {A : Type 0} (a : A) (b : Bool) → is_given (require b breaks (Ok a)) ≡ b
-tested a true = refl
-tested a false = refl
+pub apart_some : (r : Result CondTree Failure) (c : CondTree) (b : Bool) → r ≡ Ok c → b ≡ is_given (different_sides c) → b ≡ is_given (bind r different_sides)
+apart_some r c b e h = h ∙ sym (ap (λ r. is_given (bind r different_sides)) e)
 
-pub counted : (n : ℕ) (r : Result AssertionTrees Failure) → is_given (bind r (λ parts. require (n == count parts) breaks (Ok parts))) ≡ has_count n (bind r (λ parts. Ok (count parts)))
-counted n (Ok parts) = tested parts (n == count parts)
-counted n (Err failure) = refl
+pub apart_none : (r : Result CondTree Failure) → r ≡ Err breaks → false ≡ is_given (bind r different_sides)
+apart_none r e = sym (ap (λ r. is_given (bind r different_sides)) e)
 
-pub counted_ok : {A : Type 0} (view : A → AssertionTrees) (a : A) (n : ℕ) (r : Result AssertionTrees Failure) → FollowsAs view (Ok a) (bind r (λ parts. require (n == count parts) breaks (Ok parts))) → require (has_count n (bind r (λ parts. Ok (count parts)))) breaks done ≡ Ok tt
-counted_ok view a n r h =
-    subst (λ b. require b breaks done ≡ Ok tt) (counted n r) (given_ok view a (bind r (λ parts. require (n == count parts) breaks (Ok parts))) h)
-
-pub counted_err : {A : Type 0} (view : A → AssertionTrees) (stop : Stop) (n : ℕ) (r : Result AssertionTrees Failure) → FollowsAs view (Err stop) (bind r (λ parts. require (n == count parts) breaks (Ok parts))) → Follows (Err (without_limit stop)) (require (has_count n (bind r (λ parts. Ok (count parts)))) breaks done)
-counted_err view stop n r h =
-    subst (λ b. Follows (Err (without_limit stop)) (require b breaks done)) (counted n r) (given_err view stop (bind r (λ parts. require (n == count parts) breaks (Ok parts))) h)
-
-pub first_fails : (a b : Bool) (stop : Stop) → Follows (Err stop) (require a breaks done) → Follows (Err stop) (require (a && b) breaks done)
-first_fails true b NoMemory h = tt
-first_fails true b Breaks h = cc
-first_fails true b (Passes l) h = cc
-first_fails false b stop h = h
-
-pub first_holds : (a b : Bool) (r : Result (Unit {0}) Stop) → require a breaks done ≡ Ok tt → Follows r (require b breaks done) → Follows r (require (a && b) breaks done)
-first_holds true b r h k = k
-first_holds false b r h k = cc
+pub has_so_many : (n : ℕ) (c : Option ℕ) (r : Result ℕ Failure) (b : Bool) → r ≡ counted c → b ≡ has_count n (counted c) → b ≡ has_count n r
+has_so_many n c r b e h = h ∙ sym (ap (has_count n) e)
 
 -- ---- the fault that is told
 
@@ -86,16 +68,13 @@ tells_stopped rule broken path (Passes l) view attempt others a b h =
 pub tells_given : {B : Type 0} (rule : Rule) (b : B) (r : Result (Unit {0}) CertFault) (attempt : Result B Failure) (others : B → Option Fault) → attempt ≡ Ok b → Tells r (others b) → Tells r (node rule attempt others)
 tells_given rule b r attempt others e h = subst (λ a. Tells r (node rule a others)) (sym e) h
 
-pub root_stands : (s : Bool) (rule : Rule) (r : Result (Unit {0}) CertFault) (v : Option Fault) → require s breaks done ≡ Ok tt → Tells r v → Tells r (if s then v else Some (step [] rule))
-root_stands true rule r v e h = h
-root_stands false rule r v e h = cc
+pub root_stands : (s b : Bool) (rule : Rule) (r : Result (Unit {0}) CertFault) (v : Option Fault) → b ≡ s → b ≡ true → Tells r v → Tells r (if s then v else Some (step [] rule))
+root_stands true b rule r v e t h = h
+root_stands false b rule r v e t h = absurd (let k : true ≡ false = sym t ∙ e in cc)
 
-pub root_fails : (s : Bool) (rule broken : Rule) (path : Vec ℕ Global) (stop : Stop) (v : Option Fault) → rule ≡ broken → path.items ≡ [] → Follows (Err stop) (require s breaks done) → Tells (Err (told path (failure_of rule stop))) (if s then v else Some (step [] broken))
-root_fails s rule broken path NoMemory v a b h = tt
-root_fails true rule broken path Breaks v a b h = cc
-root_fails true rule broken path (Passes l) v a b h = cc
-root_fails false rule broken path Breaks v a b h = λ i. Some (step (sym b i) (sym a i))
-root_fails false rule broken path (Passes l) v a b h = cc
+pub root_fails : (s b : Bool) (rule broken : Rule) (path : Vec ℕ Global) (v : Option Fault) → b ≡ s → b ≡ false → rule ≡ broken → path.items ≡ [] → Tells (Err (told path (failures.Step rule))) (if s then v else Some (step [] broken))
+root_fails true b rule broken path v e t a p = absurd (let k : false ≡ true = sym t ∙ e in cc)
+root_fails false b rule broken path v e t a p = λ i. Some (step (sym p i) (sym a i))
 
 -- ---- soundness
 

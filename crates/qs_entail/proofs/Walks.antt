@@ -1,26 +1,31 @@
 -- Answers of the walk, one after another.
-use Rattle.std.proofs.Common.{◌≡◌, ◌++◌, ◌==◌, ℕ, [], ◌∷◌, refl, sym, ap, ◌∙◌, subst, append_assoc, append-nil}
+use Rattle.std.proofs.Common.{◌≡◌, ◌<◌, ◌+◌, ◌++◌, ℕ, suc, drop, length, get_or, add-one, Bool, true, false, List, [], ◌∷◌, refl, sym, ap, ◌∙◌, subst, append_assoc, append-nil}
 use Rattle.std.specs.Option.{option_or}
-use Rattle.std.specs.Prelude.{Box, Option, Some, None, Result, Ok, Err}
+use Rattle.std.proofs.Math.Seq.{drop-cons}
+use Rattle.qs_poly.specs.Polynomials.{Polynomial}
+use Rattle.std.specs.Prelude.{if◌then◌else◌, Box, Option, Some, None, Result, Ok, Err}
 use Rattle.std.specs.declared.alloc.Global.{Global}
 use Rattle.qs_assert.specs.declared.tree.Assertion.{Assertion}
-use Rattle.qs_assert.specs.declared.tree.Cond.{Cond}
 use Rattle.qs_entail.specs.declared.certificate.Certificate.{Certificate, Certificate-F, fold-roll-Certificate}
-use Rattle.qs_entail.specs.declared.certificate.Certificate.TheViews.{Via, Split}
-use Rattle.qs_entail.specs.declared.certificate.Certificate.TheVariants.{rolls-Via, rolls-Split}
+use Rattle.qs_entail.specs.declared.certificate.Certificate.TheViews.{Via, Split, DropGuard}
+use Rattle.qs_entail.specs.declared.certificate.Certificate.TheVariants.{rolls-Via, rolls-Split, rolls-DropGuard}
+use Rattle.qs_assert.specs.declared.tree.Cond.{Cond}
 use Rattle.qs_entail.specs.Certificates.{CertTree, via, split}
-use Rattle.qs_entail.specs.View.{cert_tree, cert_step}
-use Rattle.qs_assert.specs.Trees.{AssertionTrees}
+use Rattle.qs_entail.specs.Certificates.{drop as cert_drop}
+use Rattle.qs_entail.specs.View.{cert_tree, certs_tree, cert_step}
+use Rattle.qs_assert.specs.declared.define.Define.{Define}
+use Rattle.qs_assert.specs.Trees.{AssertionTree, assertions_of}
 use Rattle.qs_entail.specs.declared.fault.Rule.{Rule}
 use Rattle.qs_entail.specs.declared.stop.Stop.{Stop}
 use Rattle.qs_entail.specs.declared.stop.Stop.TheVariants.{NoMemory, Breaks, Passes}
 use Rattle.qs_entail.specs.declared.failed.Failed.{Failed}
 use Rattle.qs_entail.specs.declared.failed.Failed.TheVariants as failures
 use Rattle.qs_entail.specs.Answers.{Follows, FollowsAs}
-use Rattle.qs_base.specs.Results.{bind, require}
-use Rattle.qs_entail.specs.Building.{Failure, breaks}
-use Rattle.qs_entail.specs.Faults.{Fault, step, limit, node, part, count}
-use Rattle.qs_entail.specs.Pushing.{Known}
+use Rattle.qs_base.specs.Results.{bind}
+use Rattle.qs_entail.specs.Building.{Failure}
+use Rattle.qs_entail.specs.Faults.{Fault, step, limit, node, part, Guarded}
+use Rattle.qs_entail.specs.Verdicts.{fault, faults_all, faults_parts}
+use Rattle.qs_entail.specs.Pushing.{Known, with_polynomials}
 use Rattle.qs_entail.specs.Walking.{Place, Says, failure_of, settled}
 
 -- a node without parts
@@ -91,16 +96,14 @@ split_ok old mid new x r rule (Ok k) (Ok l) f g h j = both_ok old mid new x r (f
 split_ok old mid new x r rule (Ok k) (Err e) f g h j = absurd h
 split_ok old mid new x r rule (Err e) b f g h j = absurd h
 
--- as many parts as are wanted
-pub counted_given : (old new : Place) (rule : Rule) (n m : ℕ) (r : Result (Unit {0}) Failed) (x : Result AssertionTrees Failure) (ms : AssertionTrees) (others : AssertionTrees → Option Fault) → m ≡ n → bind x (λ members. require (n == count members) breaks (Ok members)) ≡ Ok ms → Says old new r (others ms) → Says old new r (node rule (bind x (λ members. require (m == count members) breaks (Ok members))) others)
-counted_given old new rule n m r x ms others e h k =
-    subst (λ l. Says old new r (node rule (bind x (λ members. require (l == count members) breaks (Ok members))) others)) (sym e) (says_given old new rule r ms (bind x (λ members. require (n == count members) breaks (Ok members))) others h k)
+-- a node whose conditions hold, and one whose conditions do not
+pub says_begun : (s b : Bool) (old new : Place) (r : Result (Unit {0}) Failed) (v : Option Fault) (broken : Rule) → b ≡ s → b ≡ true → Says old new r v → Says old new r (if s then v else Some (step [] broken))
+says_begun true b old new r v broken e t h = h
+says_begun false b old new r v broken e t h = absurd (let k : true ≡ false = sym t ∙ e in cc)
 
-pub counted_stopped : {A : Type 0} (w : Place) (rule : Rule) (n m : ℕ) (f : Failed) (stop : Stop) (view : A → AssertionTrees) (x : Result AssertionTrees Failure) (others : AssertionTrees → Option Fault) → m ≡ n → f ≡ failure_of rule stop → FollowsAs view (Err stop) (bind x (λ members. require (n == count members) breaks (Ok members))) → Says w w (Err f) (node rule (bind x (λ members. require (m == count members) breaks (Ok members))) others)
-counted_stopped w rule n m f stop view x others e g h =
-    subst (λ l. Says w w (Err f) (node rule (bind x (λ members. require (l == count members) breaks (Ok members))) others)) (sym e)
-    (subst (λ d. Says w w (Err d) (node rule (bind x (λ members. require (n == count members) breaks (Ok members))) others)) (sym g)
-    (says_stopped w w rule stop view (bind x (λ members. require (n == count members) breaks (Ok members))) others refl h))
+pub says_unbegun : (s b : Bool) (w : Place) (rule broken : Rule) (v : Option Fault) → b ≡ s → b ≡ false → rule ≡ broken → Says w w (Err (failures.Step rule)) (if s then v else Some (step [] broken))
+says_unbegun true b w rule broken v e t h = absurd (let k : false ≡ true = sym t ∙ e in cc)
+says_unbegun false b w rule broken v e t h = (h, sym (append-nil w.path))
 
 said_none : (old new : Place) (x : Unit {0}) (v : Option Fault) → Says old new (Ok x) v → new ≡ old
 said_none old new x None h = h
@@ -115,6 +118,63 @@ split_known old mid new x r rule a b f g h k =
     let e = said_none old mid x (node rule a (λ k. node rule (b old.known) (λ _. f k))) h in
     split_ok old old new x r rule a (b old.known) f g (subst (λ (w : Place). Says old w (Ok x) (node rule a (λ k. node rule (b old.known) (λ _. f k)))) e h) (subst (λ (w : Place). Says w new r (node rule (b w.known) g)) e k)
 
+pub split_err : (old new : Place) (f : Failed) (rule : Rule) (a b : Result Known Failure) (g h : Known → Option Fault) → Says old new (Err f) (node rule a (λ k. node rule b (λ _. g k))) → Says old new (Err f) (node rule a (λ k. node rule b (λ l. option_or (g k) (h l))))
+split_err old new f rule (Ok k) (Ok l) g h s = both_err old new f (g k) (h l) s
+split_err old new f rule (Ok k) (Err e) g h s = s
+split_err old new f rule (Err e) b g h s = s
+
+-- a guard that goes: its condition is refuted, and then its body is shown
+
+one_ok : (old new : Place) (x : Unit {0}) (r : Result (Unit {0}) Failed) (rule : Rule) (b : Result Known Failure) (g : Known → Option Fault) (v : Option Fault) → Says old old (Ok x) (node rule b g) → Says old new r v → Says old new r (node rule b (λ k. option_or (g k) v))
+one_ok old new x r rule (Ok k) g v h j = both_ok old old new x r (g k) v h j
+one_ok old new x r rule (Err e) g v h j = absurd h
+
+drop_at : (old new : Place) (x : Unit {0}) (r : Result (Unit {0}) Failed) (rule : Rule) (a : Result Guarded Failure) (b : Guarded → Result Known Failure) (g : Known → Option Fault) (h : Guarded → Option Fault) → Says old old (Ok x) (node rule a (λ z. node rule (b z) g)) → Says old new r (node rule a h) → Says old new r (node rule a (λ z. node rule (b z) (λ k. option_or (g k) (h z))))
+drop_at old new x r rule (Ok z) b g h s j = one_ok old new x r rule (b z) g (h z) s j
+drop_at old new x r rule (Err e) b g h s j = absurd s
+
+pub drop_ok : (old mid new : Place) (x : Unit {0}) (r : Result (Unit {0}) Failed) (rule : Rule) (a : Result Guarded Failure) (b : Guarded → Result Known Failure) (g : Known → Option Fault) (h : Guarded → Known → Option Fault) → Says old mid (Ok x) (node rule a (λ z. node rule (b z) g)) → Says mid new r (node rule a (λ z. h z mid.known)) → Says old new r (node rule a (λ z. node rule (b z) (λ k. option_or (g k) (h z old.known))))
+drop_ok old mid new x r rule a b g h s j =
+    let e = said_none old mid x (node rule a (λ z. node rule (b z) g)) s in
+    drop_at old new x r rule a b g (λ z. h z old.known) (subst (λ (w : Place). Says old w (Ok x) (node rule a (λ z. node rule (b z) g))) e s) (subst (λ (w : Place). Says w new r (node rule a (λ z. h z w.known))) e j)
+
+-- a fact, and then its part
+pub fact_given : (old mid new : Place) (r : Result (Unit {0}) Failed) (rule : Rule) (a : Result (List Polynomial) Failure) (k k' : Known) (f : Known → Option Fault) → bind a (λ ps. Ok (with_polynomials ps k)) ≡ Ok k' → mid ≡ old → Says mid new r (f k') → Says old new r (node rule a (λ ps. f (with_polynomials ps k)))
+fact_given old mid new r rule (Ok ps) k k' f e b h =
+    let same : with_polynomials ps k ≡ k' = cc in
+    subst (λ (w : Place). Says w new r (f (with_polynomials ps k))) b (subst (λ (l : Known). Says mid new r (f l)) (sym same) h)
+fact_given old mid new r rule (Err failure) k k' f e b h = cc
+
+-- ---- part by part
+
+said : (old new : Place) (x : Unit {0}) (v : Option Fault) → Says old new (Ok x) v → (v ≡ None) × (new ≡ old)
+said old new x None h = (refl, h)
+said old new x (Some f) h = absurd h
+
+all_step : (cs : List Certificate) (ms : List AssertionTree) (i : ℕ) (c : Certificate) (m : AssertionTree) (ds : List Define) (k : Known) (p : AssertionTree) → i < length cs → i < length ms → c ≡ get_or cs i c → m ≡ get_or ms i m → part i (fault (cert_tree c) ds k p m) ≡ None → faults_all (certs_tree (drop i cs)) i ds k p (assertions_of (drop i ms)) ≡ faults_all (certs_tree (drop (i + 1) cs)) (i + 1) ds k p (assertions_of (drop (i + 1) ms))
+all_step cs ms i c m ds k p h l is at none =
+    (λ z. faults_all (certs_tree ((drop-cons cs i c h ∙ ap (λ (x : Certificate). x ∷ drop (suc i) cs) (sym is)) z)) i ds k p (assertions_of ((drop-cons ms i m l ∙ ap (λ (x : AssertionTree). x ∷ drop (suc i) ms) (sym at)) z)))
+    ∙ (ap (λ (o : Option Fault). option_or o (faults_all (certs_tree (drop (suc i) cs)) (suc i) ds k p (assertions_of (drop (suc i) ms)))) none
+    ∙ ap (λ (j : ℕ). faults_all (certs_tree (drop j cs)) j ds k p (assertions_of (drop j ms))) (sym (add-one i)))
+
+pub each_goes_on : (start old new : Place) (x : Unit {0}) (cs : List Certificate) (ms : List AssertionTree) (i : ℕ) (c : Certificate) (m : AssertionTree) (ds : List Define) (p : AssertionTree) → old ≡ start → i < length cs → i < length ms → c ≡ get_or cs i c → m ≡ get_or ms i m → Says old new (Ok x) (part i (fault (cert_tree c) ds old.known p m)) → faults_all (certs_tree cs) 0 ds start.known p (assertions_of ms) ≡ faults_all (certs_tree (drop i cs)) i ds start.known p (assertions_of (drop i ms)) → (new ≡ start) × (faults_all (certs_tree cs) 0 ds start.known p (assertions_of ms) ≡ faults_all (certs_tree (drop (i + 1) cs)) (i + 1) ds start.known p (assertions_of (drop (i + 1) ms)))
+each_goes_on start old new x cs ms i c m ds p back h l is at says others =
+    let s = said old new x (part i (fault (cert_tree c) ds old.known p m)) says in
+    let none = ap (λ (w : Place). part i (fault (cert_tree c) ds w.known p m)) (sym back) ∙ s.0 in
+    (s.1 ∙ back, others ∙ all_step cs ms i c m ds start.known p h l is at none)
+
+pair_step : (cs : List Certificate) (ps qs : List AssertionTree) (i : ℕ) (c : Certificate) (p q : AssertionTree) (ds : List Define) (k : Known) → i < length cs → i < length ps → i < length qs → c ≡ get_or cs i c → p ≡ get_or ps i p → q ≡ get_or qs i q → part i (fault (cert_tree c) ds k p q) ≡ None → faults_parts (certs_tree (drop i cs)) i ds k (assertions_of (drop i ps)) (assertions_of (drop i qs)) ≡ faults_parts (certs_tree (drop (i + 1) cs)) (i + 1) ds k (assertions_of (drop (i + 1) ps)) (assertions_of (drop (i + 1) qs))
+pair_step cs ps qs i c p q ds k h l r is at there none =
+    (λ z. faults_parts (certs_tree ((drop-cons cs i c h ∙ ap (λ (x : Certificate). x ∷ drop (suc i) cs) (sym is)) z)) i ds k (assertions_of ((drop-cons ps i p l ∙ ap (λ (x : AssertionTree). x ∷ drop (suc i) ps) (sym at)) z)) (assertions_of ((drop-cons qs i q r ∙ ap (λ (x : AssertionTree). x ∷ drop (suc i) qs) (sym there)) z)))
+    ∙ (ap (λ (o : Option Fault). option_or o (faults_parts (certs_tree (drop (suc i) cs)) (suc i) ds k (assertions_of (drop (suc i) ps)) (assertions_of (drop (suc i) qs)))) none
+    ∙ ap (λ (j : ℕ). faults_parts (certs_tree (drop j cs)) j ds k (assertions_of (drop j ps)) (assertions_of (drop j qs))) (sym (add-one i)))
+
+pub pair_goes_on : (start old new : Place) (x : Unit {0}) (cs : List Certificate) (ps qs : List AssertionTree) (i : ℕ) (c : Certificate) (p q : AssertionTree) (ds : List Define) → old ≡ start → i < length cs → i < length ps → i < length qs → c ≡ get_or cs i c → p ≡ get_or ps i p → q ≡ get_or qs i q → Says old new (Ok x) (part i (fault (cert_tree c) ds old.known p q)) → faults_parts (certs_tree cs) 0 ds start.known (assertions_of ps) (assertions_of qs) ≡ faults_parts (certs_tree (drop i cs)) i ds start.known (assertions_of (drop i ps)) (assertions_of (drop i qs)) → (new ≡ start) × (faults_parts (certs_tree cs) 0 ds start.known (assertions_of ps) (assertions_of qs) ≡ faults_parts (certs_tree (drop (i + 1) cs)) (i + 1) ds start.known (assertions_of (drop (i + 1) ps)) (assertions_of (drop (i + 1) qs)))
+pair_goes_on start old new x cs ps qs i c p q ds back h l r is at there says others =
+    let s = said old new x (part i (fault (cert_tree c) ds old.known p q)) says in
+    let none = ap (λ (w : Place). part i (fault (cert_tree c) ds w.known p q)) (sym back) ∙ s.0 in
+    (s.1 ∙ back, others ∙ pair_step cs ps qs i c p q ds start.known h l r is at there none)
+
 -- ---- certificates of two parts
 
 pub via_of : (r : Assertion) (c d : Box Certificate Global) → cert_tree (Via r c d) ≡ via r (cert_tree c.value) (cert_tree d.value)
@@ -122,3 +182,6 @@ via_of r c d = ap cert_tree (sym (rolls-Via r c d)) ∙ fold-roll-Certificate Ce
 
 pub split_of : (b : Cond) (c d : Box Certificate Global) → cert_tree (Split b c d) ≡ split b (cert_tree c.value) (cert_tree d.value)
 split_of b c d = ap cert_tree (sym (rolls-Split b c d)) ∙ fold-roll-Certificate CertTree cert_step (Certificate-F.Split b c d)
+
+pub drop_of : (c d : Box Certificate Global) → cert_tree (DropGuard c d) ≡ cert_drop (cert_tree c.value) (cert_tree d.value)
+drop_of c d = ap cert_tree (sym (rolls-DropGuard c d)) ∙ fold-roll-Certificate CertTree cert_step (Certificate-F.DropGuard c d)

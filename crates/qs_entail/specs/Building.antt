@@ -1,5 +1,5 @@
 -- The polynomials of terms and assertions, built from their parts from left to right under the limits.
-use Rattle.std.specs.Prelude.{ℤ, pos, negsuc, Bool, true, false, ◌&&◌, nat_lt, List, [], ◌∷◌, length, slice_index_or, Result, Ok, Err}
+use Rattle.std.specs.Prelude.{ℤ, pos, negsuc, Bool, true, false, ◌&&◌, List, [], ◌∷◌, slice_index_or, Result, Ok, Err}
 use Rattle.std.specs.Result.{result_map_both}
 use Rattle.qs_base.specs.Results.{bind}
 use Rattle.qs_assert.specs.Trees.{TermTree, number, variable, add, sub, mul, div, wrapu, wraps, bits, TermTrees, no_terms, term_and, AssertionTree, natural, infinity, cost, num, total, greatest, product, guard, choose, named, AssertionTrees, no_assertions, assertion_and}
@@ -97,19 +97,10 @@ abbrev mutual
 
 -- ---- combinations
 
-abbrev pub is_inside : List Polynomial → ℤ → Bool
-is_inside l (pos i) = nat_lt i (length l)
-is_inside l (negsuc i) = false
-
+-- the polynomial of a number, or 0
 abbrev pub at : List Polynomial → ℤ → Polynomial
 at l (pos i) = slice_index_or l i nothing
 at l (negsuc i) = nothing
-
--- the numbers of all items are in the list
-abbrev pub are_inside : List Item → List Polynomial → Bool
-are_inside [] l = true
-are_inside (once k i ∷ items) l = is_inside l i && are_inside items l
-are_inside (twice k i j ∷ items) l = (is_inside l i && is_inside l j) && are_inside items l
 
 abbrev pub item_polynomial : Item → List Polynomial → Result Polynomial Failure
 item_polynomial (once k i) l = limited (multiple (pos k) (at l i))

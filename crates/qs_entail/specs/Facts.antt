@@ -1,5 +1,5 @@
--- The polynomials that each fact adds, where its side condition holds.
-use Rattle.std.specs.Prelude.{ℕ, zero, suc, ◌^◌, ◌-◌, ℤ, pos, negsuc, ◌&&◌, ◌||◌, nat_le, List, [], ◌∷◌, Result, Ok, Err}
+-- The polynomials that each fact adds, where its conditions without polynomials hold.
+use Rattle.std.specs.Prelude.{ℕ, zero, suc, ◌^◌, ◌-◌, ℤ, pos, negsuc, ◌&&◌, ◌||◌, List, [], ◌∷◌, Result, Ok, Err}
 use Rattle.qs_assert.specs.declared.variable.NumberType.{NumberType}
 use Rattle.qs_assert.specs.declared.variable.NumberType.TheVariants.{Int, Unsigned, Char}
 use Rattle.qs_assert.specs.Trees.{TermTree, CondTree, le, lt, eq, ne, not, and, or}
@@ -9,7 +9,7 @@ use Rattle.qs_poly.specs.Operations.{sum, multiple, number, lessened, single}
 use Rattle.qs_poly.specs.Terms.{polynomial_eq}
 use Rattle.qs_entail.specs.Certificates.{FactTree, range, cost_range, apart, num_is, num_bounds, wrapu_is, wraps_is, wrapu_bounds, wraps_bounds, quotient_bounds, bits_bound, bits_half, bits_rise}
 use Rattle.qs_base.specs.Results.{bind, require}
-use Rattle.qs_entail.specs.Building.{Failure, breaks, limited, difference, term_polynomial, are_inside, combination, two_combinations}
+use Rattle.qs_entail.specs.Building.{Failure, breaks, limited, difference, term_polynomial, combination, two_combinations}
 use Rattle.qs_entail.specs.Pushing.{Known}
 
 -- the least and the greatest number of a type (C11 6.2.5 and 6.2.6.2)
@@ -64,42 +64,38 @@ added (cost_range f) k = Ok (single (poly.cost f) ∷ [])
 added (apart i w) k =
     bind (condition k.conditions i) (λ c.
     bind (different_sides c) (λ sides.
-    require (are_inside w k.polynomials) breaks (
     bind (term_polynomial sides.left) (λ t.
     bind (term_polynomial sides.right) (λ u.
     bind (combination w k.polynomials) (λ z.
     bind (difference t u) (λ more.
     bind (difference u t) (λ less.
     bind (limited (sum z (number (negsuc 0)))) (λ r.
-    require (polynomial_eq z more || polynomial_eq z less) breaks (Ok (r ∷ [])))))))))))
+    require (polynomial_eq z more || polynomial_eq z less) breaks (Ok (r ∷ []))))))))))
 added (num_is t w) k =
-    require (are_inside w k.polynomials) breaks (
     bind (term_polynomial t) (λ p.
     bind (combination w k.polynomials) (λ z.
     bind (difference (single (poly.num p)) p) (λ a.
     bind (difference p (single (poly.num p))) (λ b.
-    require (polynomial_eq z p) breaks (Ok (a ∷ b ∷ [])))))))
+    require (polynomial_eq z p) breaks (Ok (a ∷ b ∷ []))))))
 added (num_bounds t) k =
     bind (term_polynomial t) (λ p.
     bind (difference (single (poly.num p)) p) (λ a.
     Ok (single (poly.num p) ∷ a ∷ [])))
 added (wrapu_is t v w) k =
-    require (are_inside v k.polynomials && are_inside w k.polynomials) breaks (
     bind (term_polynomial t) (λ p.
     bind (difference (number (pos 4294967295)) p) (λ room.
     bind (two_combinations v w k.polynomials) (λ z.
     bind (difference (single (poly.wrapu p)) p) (λ a.
     bind (difference p (single (poly.wrapu p))) (λ b.
-    require (polynomial_eq z.first p && polynomial_eq z.second room) breaks (Ok (a ∷ b ∷ []))))))))
+    require (polynomial_eq z.first p && polynomial_eq z.second room) breaks (Ok (a ∷ b ∷ [])))))))
 added (wraps_is t v w) k =
-    require (are_inside v k.polynomials && are_inside w k.polynomials) breaks (
     bind (term_polynomial t) (λ p.
     bind (limited (sum p (number (pos 2147483648)))) (λ above.
     bind (difference (number (pos 2147483647)) p) (λ room.
     bind (two_combinations v w k.polynomials) (λ z.
     bind (difference (single (poly.wraps p)) p) (λ a.
     bind (difference p (single (poly.wraps p))) (λ b.
-    require (polynomial_eq z.first above && polynomial_eq z.second room) breaks (Ok (a ∷ b ∷ [])))))))))
+    require (polynomial_eq z.first above && polynomial_eq z.second room) breaks (Ok (a ∷ b ∷ []))))))))
 added (wrapu_bounds t) k =
     bind (term_polynomial t) (λ p.
     bind (difference (number (pos 4294967295)) (single (poly.wrapu p))) (λ a.
@@ -110,25 +106,22 @@ added (wraps_bounds t) k =
     bind (difference (number (pos 2147483647)) (single (poly.wraps p))) (λ b.
     Ok (a ∷ b ∷ []))))
 added (quotient_bounds t n) k =
-    require (nat_le 1 n) breaks (
     bind (term_polynomial t) (λ p.
     bind (limited (lessened p n (single (poly.div p n)) 0)) (λ a.
     bind (limited (multiple (negsuc 0) (lessened p n (single (poly.div p n)) (n - 1)))) (λ b.
-    Ok (a ∷ b ∷ [])))))
+    Ok (a ∷ b ∷ []))))
 added (bits_bound t) k = bind (term_polynomial t) (λ p. Ok (single (poly.bits p) ∷ []))
 added (bits_half t w) k =
-    require (are_inside w k.polynomials) breaks (
     bind (term_polynomial t) (λ p.
     bind (difference p (number (pos 1))) (λ side.
     bind (combination w k.polynomials) (λ z.
     bind (limited (lessened (single (poly.bits p)) 1 (single (poly.bits (single (poly.div p 2)))) 1)) (λ a.
     bind (limited (multiple (negsuc 0) a)) (λ b.
-    require (polynomial_eq z side) breaks (Ok (a ∷ b ∷ []))))))))
+    require (polynomial_eq z side) breaks (Ok (a ∷ b ∷ [])))))))
 added (bits_rise t u w) k =
-    require (are_inside w k.polynomials) breaks (
     bind (term_polynomial t) (λ p.
     bind (term_polynomial u) (λ q.
     bind (combination w k.polynomials) (λ z.
     bind (difference q p) (λ more.
     bind (difference (single (poly.bits q)) (single (poly.bits p))) (λ a.
-    require (polynomial_eq z more) breaks (Ok (a ∷ []))))))))
+    require (polynomial_eq z more) breaks (Ok (a ∷ [])))))))

@@ -1,21 +1,17 @@
--- The first fault of a certificate: the first node that fails, a node before its parts. At a node the
--- conditions without polynomials come first, then the limits, then the equalities of polynomials.
-use Rattle.std.specs.Prelude.{ℕ, zero, suc, ℤ, pos, negsuc, Bool, true, false, if◌then◌else◌, ◌&&◌, ◌==◌, List, [], ◌∷◌, Option, Some, None, Result, Ok, Err}
-use Rattle.std.specs.Option.{option_or}
+-- Faults, the parts of assertions, and the equalities of polynomials that rules want.
+use Rattle.std.specs.Prelude.{ℕ, zero, suc, ℤ, pos, negsuc, Bool, if◌then◌else◌, List, [], ◌∷◌, Option, Some, None, Result, Ok, Err}
 use Rattle.qs_assert.specs.declared.define.Define.{Define}
 use Rattle.qs_assert.specs.Bounds.{same_name}
-use Rattle.qs_assert.specs.Sameness.{same_cond, same_assertion}
-use Rattle.qs_assert.specs.Trees.{CondTree, not, AssertionTree, natural, infinity, cost, num, total, greatest, product, guard, choose, named, AssertionTrees, no_assertions, assertion_and}
+use Rattle.qs_assert.specs.Sameness.{same_cond}
+use Rattle.qs_assert.specs.Trees.{CondTree, AssertionTree, natural, infinity, cost, num, total, greatest, product, guard, choose, named, AssertionTrees, no_assertions, assertion_and}
 use Rattle.qs_poly.specs.Operations.{number}
 use Rattle.qs_poly.specs.Terms.{polynomial_eq}
 use Rattle.qs_poly.specs.declared.fault.PolyFault.{PolyFault}
 use Rattle.qs_entail.specs.declared.fault.Rule.{Rule}
-use Rattle.qs_entail.specs.declared.fault.Rule.TheVariants as rules
-use Rattle.qs_entail.specs.Certificates.{Item, CertTree, same, via, pick, all, parts, assume, drop, split, contradict, arithmetic, by_definition, fact, CertTrees, no_certs, cert_and}
+use Rattle.qs_entail.specs.Certificates.{Item, CertTrees, no_certs, cert_and}
 use Rattle.qs_base.specs.Results.{bind, require, fault_or}
-use Rattle.qs_entail.specs.Building.{Failure, breaks, passes, difference, are_inside, combination, is_plain, assertion_polynomial}
-use Rattle.qs_entail.specs.Pushing.{Known, with_polynomials, push}
-use Rattle.qs_entail.specs.Facts.{added}
+use Rattle.qs_entail.specs.Building.{Failure, breaks, passes, difference, combination, assertion_polynomial}
+use Rattle.qs_entail.specs.Pushing.{Known}
 
 -- ---- verdicts
 
@@ -145,55 +141,17 @@ abbrev pub definition : List Define → List ℕ → Result AssertionTree Failur
 definition [] n = Err breaks
 definition (d ∷ ds) n = if same_name n d.name then Ok d.body else definition ds n
 
--- ---- the side conditions of rules 9 and 10
+-- ---- the equalities of polynomials of two rules, where their other conditions hold
 
 -- the combination is -1
 abbrev pub contradiction : List Item → Known → Result (Unit {0}) Failure
-contradiction w k =
-    require (are_inside w k.polynomials) breaks (bind (combination w k.polynomials) (λ z. require (polynomial_eq z (number (negsuc 0))) breaks done))
+contradiction w k = bind (combination w k.polynomials) (λ z. require (polynomial_eq z (number (negsuc 0))) breaks done)
 
--- both sides are plain, and the combination is their difference
+-- the combination is the difference of the sides
 abbrev pub arithmetic_holds : List Item → Known → AssertionTree → AssertionTree → Result (Unit {0}) Failure
 arithmetic_holds w k p q =
-    require ((is_plain p && is_plain q) && are_inside w k.polynomials) breaks (
     bind (assertion_polynomial p) (λ a.
     bind (assertion_polynomial q) (λ b.
     bind (combination w k.polynomials) (λ z.
     bind (difference a b) (λ d.
-    require (polynomial_eq z d) breaks done)))))
-
--- ---- the rules
-
-abbrev mutual
-  -- the first fault of a certificate that P is at least Q
-  pub fault : CertTree → List Define → Known → AssertionTree → AssertionTree → Option Fault
-  fault same ds k p q = node rules.Same (require (same_assertion p q) breaks done) (λ _. None)
-  fault (via r c d) ds k p q = option_or (part 0 (fault c ds k p r)) (part 1 (fault d ds k r q))
-  fault (pick i c) ds k p q = node rules.Pick (bind (members_of p) (λ members. member_at members i)) (λ a. part 0 (fault c ds k a q))
-  fault (all cs) ds k p q =
-      node rules.All (bind (members_of q) (λ members. require (count_certs cs == count members) breaks (Ok members))) (λ members. faults_all cs 0 ds k p members)
-  fault (parts cs) ds k p q =
-      node rules.Parts (bind (summands_of p) (λ left. require (count_certs cs == count left) breaks (Ok left))) (λ left.
-      node rules.Parts (bind (summands_of q) (λ right. require (count_certs cs == count right) breaks (Ok right))) (λ right.
-      faults_parts cs 0 ds k left right))
-  fault (assume c) ds k p q = node rules.Assume (guarded_of p) (λ g. node rules.Assume (push g.condition k) (λ k'. part 0 (fault c ds k' g.body q)))
-  fault (drop c d) ds k p q =
-      node rules.DropGuard (guarded_of q) (λ g. node rules.DropGuard (push (not g.condition) k) (λ k'. option_or (part 0 (fault c ds k' (natural 0) infinity)) (part 1 (fault d ds k p g.body))))
-  fault (split b c d) ds k p q =
-      node rules.Split (push b k) (λ k'. node rules.Split (push (not b) k) (λ k''.
-      option_or (part 0 (fault c ds k' (branch b true p) (branch b true q))) (part 1 (fault d ds k'' (branch b false p) (branch b false q)))))
-  fault (contradict w) ds k p q = node rules.Contradict (contradiction w k) (λ _. None)
-  fault (arithmetic w) ds k p q = node rules.Arithmetic (arithmetic_holds w k p q) (λ _. None)
-  fault (by_definition n c) ds k p q = node rules.ByDefinition (definition ds n) (λ body. part 0 (fault c ds k (unfolded n body p) (unfolded n body q)))
-  fault (fact f c) ds k p q = node rules.Fact (added f k) (λ ps. part 0 (fault c ds (with_polynomials ps k) p q))
-
-  pub faults_all : CertTrees → ℕ → List Define → Known → AssertionTree → AssertionTrees → Option Fault
-  faults_all no_certs i ds k p members = None
-  faults_all (cert_and c cs) i ds k p no_assertions = None
-  faults_all (cert_and c cs) i ds k p (assertion_and q others) = option_or (part i (fault c ds k p q)) (faults_all cs (suc i) ds k p others)
-
-  pub faults_parts : CertTrees → ℕ → List Define → Known → AssertionTrees → AssertionTrees → Option Fault
-  faults_parts no_certs i ds k left right = None
-  faults_parts (cert_and c cs) i ds k no_assertions right = None
-  faults_parts (cert_and c cs) i ds k (assertion_and p ps) no_assertions = None
-  faults_parts (cert_and c cs) i ds k (assertion_and p ps) (assertion_and q qs) = option_or (part i (fault c ds k p q)) (faults_parts cs (suc i) ds k ps qs)
+    require (polynomial_eq z d) breaks done))))

@@ -1,5 +1,5 @@
 -- The trees at the front of a list of nodes, each node before those of its parts.
-use Rattle.std.specs.Prelude.{ℕ, zero, suc, ◌+◌, Bool, true, false, if◌then◌else◌, List, [], ◌∷◌}
+use Rattle.std.specs.Prelude.{ℕ, zero, suc, ◌+◌, Bool, true, false, if◌then◌else◌, List, [], ◌∷◌, Option, Some, None}
 use Rattle.qs_assert.specs.declared.node.TermNode.{TermNode}
 use Rattle.qs_assert.specs.declared.node.CondNode.{CondNode}
 use Rattle.qs_assert.specs.declared.node.CondNode.TheVariants.{Le, Lt, Eq, Ne, Not, And, Or}
@@ -76,6 +76,18 @@ abbrev pub is_total : List Node → Bool
 is_total [] = false
 is_total (Assertion (Total n) ∷ nodes) = true
 is_total (_ ∷ nodes) = false
+
+-- how many members the assertion has of which it is the greatest
+abbrev pub greatest_count : List Node → Option ℕ
+greatest_count [] = None
+greatest_count (Assertion (Greatest n) ∷ nodes) = Some n
+greatest_count (_ ∷ nodes) = None
+
+-- how many summands the assertion has
+abbrev pub total_count : List Node → Option ℕ
+total_count [] = None
+total_count (Assertion (Total n) ∷ nodes) = Some n
+total_count (_ ∷ nodes) = None
 
 -- the assertions that these nodes have
 abbrev pub assertions_in : List Node → List AssertionTree

@@ -4,8 +4,7 @@ use Rattle.qs_assert.specs.declared.define.Define.{Define}
 use Rattle.qs_assert.specs.Trees.{CondTree, AssertionTree}
 use Rattle.qs_entail.specs.Certificates.{CertTree}
 use Rattle.qs_entail.specs.Pushing.{Known, at_first, push_list}
-use Rattle.qs_entail.specs.Faults.{fault}
-use Rattle.qs_entail.specs.Verdicts.{verdict}
+use Rattle.qs_entail.specs.Verdicts.{verdict, fault}
 
 -- Where the hypotheses pass no limit, the verdict is the first fault of the certificate under what they push.
 abbrev pub RootIsANode : Type 0

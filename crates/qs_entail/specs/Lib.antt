@@ -1,22 +1,24 @@
+-- what a certificate is, and what it says
 pub mod Certificates
 pub mod Building
-pub mod Answers
-pub mod View
-pub mod Stacks
-pub mod Plain
-pub mod Fronts
-pub mod Parts
-pub mod Placing
-pub mod Branching
 pub mod Pushing
-pub mod Flattening
-pub mod Extending
 pub mod Facts
 pub mod Faults
 pub mod Verdicts
-pub mod Combining
 pub mod Meaning
 pub mod Laws
 pub mod Said
+-- how the code goes about it
+pub mod Answers
+pub mod Branching
+pub mod Combining
+pub mod Extending
+pub mod Flattening
+pub mod Fronts
+pub mod Parts
+pub mod Placing
+pub mod Plain
+pub mod Stacks
 pub mod Standing
+pub mod View
 pub mod Walking

@@ -1,17 +1,19 @@
--- The first fault of a certificate under hypotheses. What they push belongs to the root, so the root's
--- conditions without polynomials come before the limits of what they push.
-use Rattle.std.specs.Prelude.{ℕ, ◌+◌, ℤ, pos, negsuc, Bool, true, false, if◌then◌else◌, ◌&&◌, nat_lt, nat_le, ◌==◌, List, [], ◌∷◌, ◌++◌, Option, Some, Result, Ok, Err}
+-- The first fault of a certificate: the first node that fails, a node before its parts. At a node the
+-- conditions without polynomials come first, then the limits, then the equalities of polynomials. What
+-- hypotheses push is the root's.
+use Rattle.std.specs.Prelude.{ℕ, suc, ◌+◌, ℤ, pos, negsuc, Bool, true, false, if◌then◌else◌, ◌&&◌, nat_lt, nat_le, ◌==◌, List, [], ◌∷◌, ◌++◌, length, Option, Some, None, Result, Ok, Err}
+use Rattle.std.specs.Option.{option_or}
 use Rattle.qs_assert.specs.declared.define.Define.{Define}
 use Rattle.qs_entail.specs.declared.fault.Rule.{Rule}
 use Rattle.qs_entail.specs.declared.fault.Rule.TheVariants as rules
 use Rattle.qs_assert.specs.Sameness.{same_assertion}
-use Rattle.qs_assert.specs.Trees.{CondTree, le, lt, eq, ne, not, and, or, CondTrees, no_conds, cond_and, AssertionTree}
-use Rattle.qs_entail.specs.Certificates.{Item, once, twice, FactTree, range, cost_range, apart, num_is, num_bounds, wrapu_is, wraps_is, wrapu_bounds, wraps_bounds, quotient_bounds, bits_bound, bits_half, bits_rise, CertTree, same, via, pick, all, parts, assume, drop, split, contradict, arithmetic, by_definition, fact}
+use Rattle.qs_assert.specs.Trees.{CondTree, le, lt, eq, ne, not, and, or, CondTrees, no_conds, cond_and, AssertionTree, natural, infinity, AssertionTrees, no_assertions, assertion_and}
+use Rattle.qs_entail.specs.Certificates.{Item, once, twice, FactTree, range, cost_range, apart, num_is, num_bounds, wrapu_is, wraps_is, wrapu_bounds, wraps_bounds, quotient_bounds, bits_bound, bits_half, bits_rise, CertTree, same, via, pick, all, parts, assume, drop, split, contradict, arithmetic, by_definition, fact, CertTrees, no_certs, cert_and}
 use Rattle.qs_base.specs.Results.{bind}
 use Rattle.qs_entail.specs.Building.{Failure, is_plain}
-use Rattle.qs_entail.specs.Pushing.{at_first, push_list}
-use Rattle.qs_entail.specs.Facts.{condition, different_sides}
-use Rattle.qs_entail.specs.Faults.{Fault, step, node, members_of, member_at, summands_of, guarded_of, definition, count, count_certs, fault}
+use Rattle.qs_entail.specs.Pushing.{Known, with_polynomials, at_first, push, push_list}
+use Rattle.qs_entail.specs.Facts.{condition, different_sides, added}
+use Rattle.qs_entail.specs.Faults.{Fault, step, node, part, members_of, member_at, summands_of, guarded_of, definition, branch, unfolded, contradiction, arithmetic_holds, count, count_certs}
 
 -- ---- the conditions and the count of polynomials that hypotheses push
 
@@ -116,11 +118,67 @@ rule_of (arithmetic w) = rules.Arithmetic
 rule_of (by_definition n c) = rules.ByDefinition
 rule_of (fact f c) = rules.Fact
 
+-- ---- nodes
+
+-- what is known, by its conditions and the count of its polynomials
+abbrev pub outlined : Known → Outline
+outlined k = record { conditions = k.conditions; count = length k.polynomials }
+
+-- a node: its conditions without polynomials, and then the rest
+abbrev pub begun : CertTree → List Define → Outline → AssertionTree → AssertionTree → Option Fault → Option Fault
+begun c ds o p q rest = if stands c ds o p q then rest else Some (step [] (rule_of c))
+
+abbrev mutual
+  -- the first fault of the polynomials and the parts of a node whose other conditions hold
+  pub rest : CertTree → List Define → Known → AssertionTree → AssertionTree → Option Fault
+  rest same ds k p q = None
+  rest (via r c d) ds k p q =
+      option_or (part 0 (begun c ds (outlined k) p r (rest c ds k p r))) (part 1 (begun d ds (outlined k) r q (rest d ds k r q)))
+  rest (pick i c) ds k p q =
+      node rules.Pick (bind (members_of p) (λ members. member_at members i)) (λ a. part 0 (begun c ds (outlined k) a q (rest c ds k a q)))
+  rest (all cs) ds k p q = node rules.All (members_of q) (λ members. faults_all cs 0 ds k p members)
+  rest (parts cs) ds k p q =
+      node rules.Parts (summands_of p) (λ left. node rules.Parts (summands_of q) (λ right. faults_parts cs 0 ds k left right))
+  rest (assume c) ds k p q =
+      node rules.Assume (guarded_of p) (λ g. node rules.Assume (push g.condition k) (λ k'. part 0 (begun c ds (outlined k') g.body q (rest c ds k' g.body q))))
+  rest (drop c d) ds k p q =
+      node rules.DropGuard (guarded_of q) (λ g. node rules.DropGuard (push (not g.condition) k) (λ k'.
+      option_or (part 0 (begun c ds (outlined k') (natural 0) infinity (rest c ds k' (natural 0) infinity))) (part 1 (begun d ds (outlined k) p g.body (rest d ds k p g.body)))))
+  rest (split b c d) ds k p q =
+      node rules.Split (push b k) (λ k'. node rules.Split (push (not b) k) (λ k''.
+      option_or (part 0 (begun c ds (outlined k') (branch b true p) (branch b true q) (rest c ds k' (branch b true p) (branch b true q)))) (part 1 (begun d ds (outlined k'') (branch b false p) (branch b false q) (rest d ds k'' (branch b false p) (branch b false q))))))
+  rest (contradict w) ds k p q = node rules.Contradict (contradiction w k) (λ _. None)
+  rest (arithmetic w) ds k p q = node rules.Arithmetic (arithmetic_holds w k p q) (λ _. None)
+  rest (by_definition n c) ds k p q =
+      node rules.ByDefinition (definition ds n) (λ body. part 0 (begun c ds (outlined k) (unfolded n body p) (unfolded n body q) (rest c ds k (unfolded n body p) (unfolded n body q))))
+  rest (fact f c) ds k p q =
+      node rules.Fact (added f k) (λ ps. part 0 (begun c ds (outlined (with_polynomials ps k)) p q (rest c ds (with_polynomials ps k) p q)))
+
+  pub faults_all : CertTrees → ℕ → List Define → Known → AssertionTree → AssertionTrees → Option Fault
+  faults_all no_certs i ds k p members = None
+  faults_all (cert_and c cs) i ds k p no_assertions = None
+  faults_all (cert_and c cs) i ds k p (assertion_and q others) =
+      option_or (part i (begun c ds (outlined k) p q (rest c ds k p q))) (faults_all cs (suc i) ds k p others)
+
+  pub faults_parts : CertTrees → ℕ → List Define → Known → AssertionTrees → AssertionTrees → Option Fault
+  faults_parts no_certs i ds k left right = None
+  faults_parts (cert_and c cs) i ds k no_assertions right = None
+  faults_parts (cert_and c cs) i ds k (assertion_and p ps) no_assertions = None
+  faults_parts (cert_and c cs) i ds k (assertion_and p ps) (assertion_and q qs) =
+      option_or (part i (begun c ds (outlined k) p q (rest c ds k p q))) (faults_parts cs (suc i) ds k ps qs)
+
+-- the first fault of a certificate that P is at least Q, under what is known
+abbrev pub fault : CertTree → List Define → Known → AssertionTree → AssertionTree → Option Fault
+fault c ds k p q = begun c ds (outlined k) p q (rest c ds k p q)
+
 -- ---- the verdict
 
--- the first fault, or none where the certificate shows under the hypotheses that P is at least Q
+-- 1 is known to be at least 0
+abbrev pub outlined_first : Outline
+outlined_first = record { conditions = []; count = 1 }
+
+-- The first fault, or none where the certificate shows under the hypotheses that P is at least Q. The root is
+-- a node that pushes the hypotheses.
 abbrev pub verdict : List CondTree → List Define → AssertionTree → AssertionTree → CertTree → Option Fault
 verdict hypotheses ds p q c =
-    if stands c ds (outline_list hypotheses (record { conditions = []; count = 1 })) p q
-    then node (rule_of c) (push_list hypotheses at_first) (λ k. fault c ds k p q)
-    else Some (step [] (rule_of c))
+    begun c ds (outline_list hypotheses outlined_first) p q (node (rule_of c) (push_list hypotheses at_first) (λ k. rest c ds k p q))

@@ -1,5 +1,5 @@
 -- What the walk over a certificate answers at a node.
-use Rattle.std.specs.Prelude.{◌≡◌, ◌==◌, ℕ, Bool, true, false, List, ◌++◌, take, Option, Some, None, Result, Ok, Err}
+use Rattle.std.specs.Prelude.{◌≡◌, ℕ, Bool, true, false, List, ◌++◌, take, Option, Some, None, Result, Ok, Err}
 use Rattle.qs_entail.specs.declared.fault.Rule.{Rule}
 use Rattle.qs_entail.specs.declared.stop.Stop.{Stop}
 use Rattle.qs_entail.specs.declared.stop.Stop.TheVariants.{NoMemory, Breaks, Passes}
@@ -9,10 +9,8 @@ use Rattle.qs_entail.specs.declared.walk.Mark.{Mark}
 use Rattle.qs_entail.specs.declared.walk.Walk.{Walk}
 use Rattle.qs_entail.specs.declared.rules.Both.{Both}
 use Rattle.qs_entail.specs.Answers.{fault_of}
-use Rattle.qs_assert.specs.Trees.{AssertionTree, AssertionTrees}
-use Rattle.qs_base.specs.Results.{bind, require}
-use Rattle.qs_entail.specs.Building.{Failure, breaks}
-use Rattle.qs_entail.specs.Faults.{Fault, step, limit, summands_of, unfolded, count}
+use Rattle.qs_assert.specs.Trees.{AssertionTree}
+use Rattle.qs_entail.specs.Faults.{Fault, step, limit, unfolded}
 use Rattle.qs_entail.specs.Pushing.{Known}
 use Rattle.qs_entail.specs.View.{known_view}
 
@@ -50,10 +48,6 @@ Says old new (Err (failures.Step rule)) (Some (limit path fault)) = ⊥
 Says old new (Err (failures.Limit l)) None = ⊥
 Says old new (Err (failures.Limit l)) (Some (step path broken)) = ⊥
 Says old new (Err (failures.Limit l)) (Some (limit path fault)) = (fault_of l ≡ fault) × (new.path ≡ old.path ++ path)
-
--- the summands of a sum that has so many
-abbrev pub counted_summands : ℕ → AssertionTree → Result AssertionTrees Failure
-counted_summands n a = bind (summands_of a) (λ summands. require (n == count summands) breaks (Ok summands))
 
 -- two assertions, each name n replaced by a body
 pub record Pair : Type 0 where

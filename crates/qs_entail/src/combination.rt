@@ -1,5 +1,5 @@
 // Combinations of the polynomials that are known to be at least 0.
-ghost use Rattle.std.specs.Prelude.{◌≡◌, pos, List, Result, IfOk, length};
+ghost use Rattle.std.specs.Prelude.{◌≡◌, pos, List, Result, IfOk};
 ghost use Rattle.qs_base.specs.Results.{bind};
 ghost use Rattle.qs_poly.specs.Operations as operations;
 ghost use Rattle.qs_poly.specs.Polynomials.{Polynomial, nothing};
@@ -23,7 +23,8 @@ pub struct Two {
     pub second: Poly,
 }
 
-fn is_counted(i: i64, count: usize) -> bool
+/// Whether the number is in a list of so many.
+pub fn is_counted(i: i64, count: usize) -> bool
     ensures { result ≡ is_counted i count }
 {
     if i < 0 {
@@ -41,7 +42,8 @@ fn item_counted(item: &Item, count: usize) -> bool
     }
 }
 
-fn are_counted(items: &[Item], count: usize) -> bool
+/// Whether the numbers of all items are in a list of so many polynomials.
+pub fn are_counted(items: &[Item], count: usize) -> bool
     ensures { result ≡ are_counted (items_view items.now) count }
 {
     for item in items {
@@ -50,14 +52,6 @@ fn are_counted(items: &[Item], count: usize) -> bool
         }
     }
     true
-}
-
-/// Whether the numbers of all items are in a list of so many polynomials.
-pub fn are_inside(items: &[Item], count: usize) -> bool
-    ensures counted { result ≡ are_counted (items_view items.now) count }
-    ensures inside { (l : List Polynomial) → length l ≡ count → result ≡ building.are_inside (items_view items.now) l }
-{
-    are_counted(items, count)
 }
 
 fn zero(alloc: Global) -> Result<Poly, NoMemory>

@@ -1,5 +1,5 @@
-// The polynomials that facts add.
-ghost use Rattle.std.specs.Prelude.{◌≡◌, ◌≤◌, [], ◌∷◌, ◌||◌, Ok, negsuc, pos};
+// The polynomials that facts add, where their conditions without polynomials hold.
+ghost use Rattle.std.specs.Prelude.{◌≡◌, ◌≤◌, [], ◌∷◌, ◌||◌, MatchOption, Ok, Err, negsuc, pos};
 ghost use Rattle.qs_poly.specs.Operations.{sum, number};
 ghost use Rattle.qs_poly.specs.Terms.{polynomial_eq};
 ghost use Rattle.qs_entail.specs.Answers.{Follows, FollowsAs};
@@ -15,7 +15,7 @@ ghost use Rattle.qs_entail.specs.View.{fact_tree, items_view, known_view};
 use crate::Item;
 use crate::building::{atom_of, difference, term_polynomial};
 use crate::certificate::Fact;
-use crate::combination::{are_inside, combination, two_combinations};
+use crate::combination::{combination, two_combinations};
 use crate::known::Known;
 use crate::parts::{Sides, different_sides};
 use crate::stop::Stop;
@@ -55,18 +55,29 @@ fn cost_range(alloc: Global, f: FnId) -> Result<Vec<Poly>, Stop>
     one(alloc, cost)
 }
 
+/// The condition of this number.
 #[tactic(auto, using(crate::proofs::Each::condition_in, crate::proofs::Each::condition_out))]
-pub fn condition(conditions: &[Cond], i: i64) -> Result<&Cond, Stop>
-    ensures { FollowsAs (λ c. c.now) result (facts.condition conditions.now i) }
+pub fn condition_at(conditions: &[Cond], i: i64) -> Option<&Cond>
+    ensures { MatchOption result (facts.condition conditions.now i ≡ Err breaks) (λ c. facts.condition conditions.now i ≡ Ok c.now) }
 {
     if i < 0 {
-        return Err(Stop::Breaks);
+        return None;
     }
     let i = i as usize;
     if i < conditions.len() {
-        Ok(&conditions[i])
+        Some(&conditions[i])
     } else {
-        Err(Stop::Breaks)
+        None
+    }
+}
+
+/// The condition of this number; it breaks where there is none.
+fn condition(conditions: &[Cond], i: i64) -> Result<&Cond, Stop>
+    ensures { FollowsAs (λ c. c.now) result (facts.condition conditions.now i) }
+{
+    match condition_at(conditions, i) {
+        Some(c) => Ok(c),
+        None => Err(Stop::Breaks),
     }
 }
 
@@ -100,18 +111,12 @@ fn apart(alloc: Global, i: i64, items: &[Item], known: &Known) -> Result<Vec<Pol
 {
     let condition = condition(&known.conditions, i)?;
     let sides = different_sides(alloc, condition)?;
-    if !are_inside(items, known.polynomials.len()) {
-        return Err(Stop::Breaks);
-    }
     apart_by(alloc, &sides, items, known)
 }
 
 fn num_is(alloc: Global, t: &Term, items: &[Item], known: &Known) -> Result<Vec<Poly>, Stop>
     ensures { FollowsAs (λ v. v.items) result (added (cert.num_is t.now (items_view items.now)) (known_view known.now)) }
 {
-    if !are_inside(items, known.polynomials.len()) {
-        return Err(Stop::Breaks);
-    }
     let p = term_polynomial(alloc, t)?;
     let total = combination(alloc, items, &known.polynomials)?;
     let num = num_of(alloc, &p)?;
@@ -141,10 +146,6 @@ fn wrapu_is(
 ) -> Result<Vec<Poly>, Stop>
     ensures { FollowsAs (λ v. v.items) result (added (cert.wrapu_is t.now (items_view first.now) (items_view second.now)) (known_view known.now)) }
 {
-    let count = known.polynomials.len();
-    if !are_inside(first, count) || !are_inside(second, count) {
-        return Err(Stop::Breaks);
-    }
     let p = term_polynomial(alloc, t)?;
     let last = small(alloc, 4_294_967_295)?;
     let room = difference(alloc, &last, &p)?;
@@ -167,10 +168,6 @@ fn wraps_is(
 ) -> Result<Vec<Poly>, Stop>
     ensures { FollowsAs (λ v. v.items) result (added (cert.wraps_is t.now (items_view first.now) (items_view second.now)) (known_view known.now)) }
 {
-    let count = known.polynomials.len();
-    if !are_inside(first, count) || !are_inside(second, count) {
-        return Err(Stop::Breaks);
-    }
     let p = term_polynomial(alloc, t)?;
     let offset = small(alloc, 2_147_483_648)?;
     let above = sum(alloc, &p, &offset)?;
@@ -212,13 +209,10 @@ fn wraps_bounds(alloc: Global, t: &Term) -> Result<Vec<Poly>, Stop>
 fn quotient_bounds(alloc: Global, t: &Term, n: u64) -> Result<Vec<Poly>, Stop>
     ensures { (k : pushing.Known) → FollowsAs (λ v. v.items) result (added (cert.quotient_bounds t.now n) k) }
 {
-    if n < 1 {
-        return Err(Stop::Breaks);
-    }
     let p = term_polynomial(alloc, t)?;
     let quotient = div_of(alloc, &p, n)?;
     let rest = less(alloc, &p, n, &quotient, 0)?;
-    let room = less_negated(alloc, &p, n, &quotient, n - 1)?;
+    let room = less_negated(alloc, &p, n, &quotient, n.saturating_sub(1))?;
     two(alloc, rest, room)
 }
 
@@ -233,9 +227,6 @@ fn bits_bound(alloc: Global, t: &Term) -> Result<Vec<Poly>, Stop>
 fn bits_half(alloc: Global, t: &Term, items: &[Item], known: &Known) -> Result<Vec<Poly>, Stop>
     ensures { FollowsAs (λ v. v.items) result (added (cert.bits_half t.now (items_view items.now)) (known_view known.now)) }
 {
-    if !are_inside(items, known.polynomials.len()) {
-        return Err(Stop::Breaks);
-    }
     let p = term_polynomial(alloc, t)?;
     let unit = small(alloc, 1)?;
     let side = difference(alloc, &p, &unit)?;
@@ -261,9 +252,6 @@ fn bits_rise(
 ) -> Result<Vec<Poly>, Stop>
     ensures { FollowsAs (λ v. v.items) result (added (cert.bits_rise t.now u.now (items_view items.now)) (known_view known.now)) }
 {
-    if !are_inside(items, known.polynomials.len()) {
-        return Err(Stop::Breaks);
-    }
     let p = term_polynomial(alloc, t)?;
     let q = term_polynomial(alloc, u)?;
     let total = combination(alloc, items, &known.polynomials)?;

@@ -1,22 +1,22 @@
 // The walk over a certificate, a node before its parts. On a fault its path leads to the node.
-ghost use Rattle.std.specs.Prelude.{◌≡◌, length, true, false};
+ghost use Rattle.std.specs.Prelude.{true, false};
 ghost use Rattle.qs_assert.specs.Trees.{natural, infinity, not, assertions_of};
 ghost use Rattle.qs_entail.specs.Certificates.{pick, all, parts, assume, by_definition};
 ghost use Rattle.qs_entail.specs.Certificates as cert;
-ghost use Rattle.qs_entail.specs.Faults.{fault, faults_all, faults_parts, node, part, branch, guarded_of};
+ghost use Rattle.qs_entail.specs.Faults.{node, part, branch, guarded_of, summands_of};
+ghost use Rattle.qs_entail.specs.Verdicts.{fault, rest, faults_all, faults_parts};
 ghost use Rattle.qs_entail.specs.Pushing.{push};
 ghost use Rattle.qs_entail.specs.Extending.{pushed};
 ghost use Rattle.qs_entail.specs.View.{cert_tree, certs_tree, fact_tree, known_view};
-ghost use Rattle.qs_entail.specs.Walking.{place, cut, Says, counted_summands, not_of, branch_number};
+ghost use Rattle.qs_entail.specs.Walking.{place, cut, Says, not_of, branch_number};
 
 use crate::branches::branch;
 use crate::certificate::{Certificate, Fact};
-use crate::failed::{Failed, failure, settle};
+use crate::failed::{Failed, failure};
 use crate::fault::Rule;
-use crate::parts::{Guarded, guarded_of};
-use crate::rules::{
-    both_unfolded, counted_members, counted_summands, ends, part_number, picked, same,
-};
+use crate::parts::{Guarded, guarded_of, members, picked, summands};
+use crate::rules::{both_unfolded, ends, part_number};
+use crate::standing::rule_of;
 use crate::walk::{Mark, Walk};
 use qs_assert::{Assertion, Cond, Define};
 use qs_base::{Name, NoMemory};
@@ -79,8 +79,25 @@ impl Walk {
     ) -> Result<(), Failed>
         ensures { Says (place self.old) (place self.new) result (fault (cert_tree certificate.now) defines.now (known_view self.old.known) p.now q.now) }
     {
+        if !self.stands(defines, certificate, p, q) {
+            return Err(Failed::Step(rule_of(certificate)));
+        }
+        self.check_rest(defines, certificate, p, q)
+    }
+
+    /// Checks the polynomials and the parts of a node whose other conditions hold.
+    #[cycle(check)]
+    pub fn check_rest(
+        &mut self,
+        defines: &[Define],
+        certificate: &Certificate,
+        p: &Assertion,
+        q: &Assertion,
+    ) -> Result<(), Failed>
+        ensures { Says (place self.old) (place self.new) result (rest (cert_tree certificate.now) defines.now (known_view self.old.known) p.now q.now) }
+    {
         match certificate {
-            Certificate::Same => settle(Rule::Same, same(p, q)),
+            Certificate::Same => Ok(()),
             Certificate::Via(r, c, d) => match self.check_part(defines, 0, c, p, r) {
                 Ok(()) => self.check_part(defines, 1, d, r, q),
                 Err(e) => Err(e),
@@ -113,7 +130,7 @@ impl Walk {
         p: &Assertion,
         q: &Assertion,
     ) -> Result<(), Failed>
-        ensures { Says (place self.old) (place self.new) result (fault (pick i (cert_tree certificate.now)) defines.now (known_view self.old.known) p.now q.now) }
+        ensures { Says (place self.old) (place self.new) result (rest (pick i (cert_tree certificate.now)) defines.now (known_view self.old.known) p.now q.now) }
     {
         match picked(self.alloc, p, i) {
             Ok(member) => self.check_part(defines, 0, certificate, &member, q),
@@ -129,9 +146,9 @@ impl Walk {
         p: &Assertion,
         q: &Assertion,
     ) -> Result<(), Failed>
-        ensures { Says (place self.old) (place self.new) result (fault (all (certs_tree certificates.now)) defines.now (known_view self.old.known) p.now q.now) }
+        ensures { Says (place self.old) (place self.new) result (rest (all (certs_tree certificates.now)) defines.now (known_view self.old.known) p.now q.now) }
     {
-        match counted_members(self.alloc, certificates.len(), q) {
+        match members(self.alloc, q) {
             Ok(members) => self.check_each(defines, certificates, p, &members),
             Err(stop) => Err(failure(Rule::All, stop)),
         }
@@ -145,10 +162,12 @@ impl Walk {
         p: &Assertion,
         members: &[Assertion],
     ) -> Result<(), Failed>
-        requires { length certificates.now ≡ length members.now }
         ensures { Says (place self.old) (place self.new) result (faults_all (certs_tree certificates.now) 0 defines.now (known_view self.old.known) p.now (assertions_of members.now)) }
     {
         for (i, certificate) in certificates.iter().enumerate() {
+            if members.len() <= i {
+                return Ok(());
+            }
             match self.check_part(defines, i, certificate, p, &members[i]) {
                 Ok(()) => {}
                 Err(e) => return Err(e),
@@ -165,9 +184,9 @@ impl Walk {
         p: &Assertion,
         q: &Assertion,
     ) -> Result<(), Failed>
-        ensures { Says (place self.old) (place self.new) result (fault (parts (certs_tree certificates.now)) defines.now (known_view self.old.known) p.now q.now) }
+        ensures { Says (place self.old) (place self.new) result (rest (parts (certs_tree certificates.now)) defines.now (known_view self.old.known) p.now q.now) }
     {
-        match counted_summands(self.alloc, certificates.len(), p) {
+        match summands(self.alloc, p) {
             Ok(left) => self.check_right(defines, certificates, &left, q),
             Err(stop) => Err(failure(Rule::Parts, stop)),
         }
@@ -181,10 +200,9 @@ impl Walk {
         left: &[Assertion],
         q: &Assertion,
     ) -> Result<(), Failed>
-        requires { length certificates.now ≡ length left.now }
-        ensures { Says (place self.old) (place self.new) result (node Rule.Parts (counted_summands (length certificates.now) q.now) (λ right. faults_parts (certs_tree certificates.now) 0 defines.now (known_view self.old.known) (assertions_of left.now) right)) }
+        ensures { Says (place self.old) (place self.new) result (node Rule.Parts (summands_of q.now) (λ right. faults_parts (certs_tree certificates.now) 0 defines.now (known_view self.old.known) (assertions_of left.now) right)) }
     {
-        match counted_summands(self.alloc, certificates.len(), q) {
+        match summands(self.alloc, q) {
             Ok(right) => self.check_pairs(defines, certificates, left, &right),
             Err(stop) => Err(failure(Rule::Parts, stop)),
         }
@@ -198,11 +216,12 @@ impl Walk {
         left: &[Assertion],
         right: &[Assertion],
     ) -> Result<(), Failed>
-        requires left { length certificates.now ≡ length left.now }
-        requires right { length certificates.now ≡ length right.now }
         ensures { Says (place self.old) (place self.new) result (faults_parts (certs_tree certificates.now) 0 defines.now (known_view self.old.known) (assertions_of left.now) (assertions_of right.now)) }
     {
         for (i, certificate) in certificates.iter().enumerate() {
+            if left.len() <= i || right.len() <= i {
+                return Ok(());
+            }
             match self.check_part(defines, i, certificate, &left[i], &right[i]) {
                 Ok(()) => {}
                 Err(e) => return Err(e),
@@ -219,7 +238,7 @@ impl Walk {
         p: &Assertion,
         q: &Assertion,
     ) -> Result<(), Failed>
-        ensures { Says (place self.old) (place self.new) result (fault (assume (cert_tree certificate.now)) defines.now (known_view self.old.known) p.now q.now) }
+        ensures { Says (place self.old) (place self.new) result (rest (assume (cert_tree certificate.now)) defines.now (known_view self.old.known) p.now q.now) }
     {
         match guarded_of(self.alloc, p) {
             Ok(guarded) => self.check_guarded(defines, certificate, &guarded, q),
@@ -373,7 +392,7 @@ impl Walk {
         p: &Assertion,
         q: &Assertion,
     ) -> Result<(), Failed>
-        ensures { Says (place self.old) (place self.new) result (fault (by_definition name.now (cert_tree certificate.now)) defines.now (known_view self.old.known) p.now q.now) }
+        ensures { Says (place self.old) (place self.new) result (rest (by_definition name.now (cert_tree certificate.now)) defines.now (known_view self.old.known) p.now q.now) }
     {
         match both_unfolded(self.alloc, defines, name, p, q) {
             Ok(both) => self.check_part(defines, 0, certificate, &both.left, &both.right),
@@ -390,7 +409,7 @@ impl Walk {
         p: &Assertion,
         q: &Assertion,
     ) -> Result<(), Failed>
-        ensures { Says (place self.old) (place self.new) result (fault (cert.fact (fact_tree fact.now) (cert_tree certificate.now)) defines.now (known_view self.old.known) p.now q.now) }
+        ensures { Says (place self.old) (place self.new) result (rest (cert.fact (fact_tree fact.now) (cert_tree certificate.now)) defines.now (known_view self.old.known) p.now q.now) }
     {
         match self.add(fact) {
             Ok(mark) => self.check_until(mark, defines, 0, certificate, p, q),

@@ -1,13 +1,16 @@
 // The parts of assertions and conditions.
-ghost use Rattle.std.specs.Prelude.{◌≡◌, ◌++◌, IfOk};
-ghost use Rattle.qs_assert.specs.Trees.{AssertionTrees, TermTree, assertions_of};
-ghost use Rattle.qs_assert.specs.Listing.{inner_term, assertions_nodes};
-ghost use Rattle.qs_entail.specs.Answers.{FollowsAs};
+ghost use Rattle.std.specs.Prelude.{◌≡◌, ◌++◌, IfOk, Ok, pos};
+ghost use Rattle.qs_base.specs.Results.{bind};
+ghost use Rattle.qs_assert.specs.Trees.{AssertionTree, AssertionTrees, TermTree, assertions_of};
+ghost use Rattle.qs_assert.specs.Listing.{inner_term, assertion_nodes, assertions_nodes};
+ghost use Rattle.qs_entail.specs.Answers.{Follows, FollowsAs};
 ghost use Rattle.qs_entail.specs.Facts as facts;
 ghost use Rattle.qs_entail.specs.Faults as faults;
-ghost use Rattle.qs_entail.specs.Parts.{guarded_view, sides_view};
+ghost use Rattle.qs_entail.specs.Parts.{IsAt, guarded_view, sides_view};
 ghost use Rattle.qs_entail.specs.Fronts as fronts;
 ghost use Rattle.qs_entail.specs.Fronts.{assertions_in};
+ghost use Rattle.qs_entail.specs.Standing.{counted};
+ghost use Rattle.qs_entail.specs.Verdicts.{is_given};
 
 use crate::Stop;
 use crate::fronts::{assertion, begins, cond, parts, split_tree, term};
@@ -51,6 +54,59 @@ fn is_total(nodes: &[Node]) -> bool
     }
 }
 
+fn greatest_count(nodes: &[Node]) -> Option<usize>
+    ensures { result ≡ fronts.greatest_count nodes.now }
+{
+    match nodes.first() {
+        Some(Node::Assertion(AssertionNode::Greatest(count))) => Some(*count),
+        _ => None,
+    }
+}
+
+fn total_count(nodes: &[Node]) -> Option<usize>
+    ensures { result ≡ fronts.total_count nodes.now }
+{
+    match nodes.first() {
+        Some(Node::Assertion(AssertionNode::Total(count))) => Some(*count),
+        _ => None,
+    }
+}
+
+/// How many members an assertion has, if it is the greatest of some.
+#[tactic(auto, using(crate::proofs::Counted::members_are))]
+pub fn member_count(a: &Assertion) -> Option<usize>
+    ensures { bind (faults.members_of a.now) (λ members. Ok (faults.count members)) ≡ counted result }
+{
+    greatest_count(a.nodes())
+}
+
+/// How many summands an assertion has, if it is a sum.
+#[tactic(auto, using(crate::proofs::Counted::summands_are))]
+pub fn summand_count(a: &Assertion) -> Option<usize>
+    ensures { bind (faults.summands_of a.now) (λ summands. Ok (faults.count summands)) ≡ counted result }
+{
+    total_count(a.nodes())
+}
+
+/// Whether an assertion is a guard.
+#[tactic(auto, using(crate::proofs::Counted::guard_given))]
+pub fn is_guard(a: &Assertion) -> bool
+    ensures { result ≡ is_given (faults.guarded_of a.now) }
+{
+    begins(a.nodes(), &Node::Assertion(AssertionNode::Guard))
+}
+
+/// Whether a condition says that two terms differ.
+#[tactic(auto, using(crate::proofs::Counted::difference_given))]
+pub fn says_different(c: &Cond) -> bool
+    ensures { result ≡ is_given (facts.different_sides c.now) }
+{
+    let nodes = c.nodes();
+    begins(nodes, &Node::Condition(CondNode::Ne))
+        || (begins(nodes, &Node::Condition(CondNode::Not))
+            && begins(parts(nodes), &Node::Condition(CondNode::Eq)))
+}
+
 fn assertions(alloc: Global, nodes: &[Node]) -> Result<Vec<Assertion>, NoMemory>
     requires { (trees : AssertionTrees) × (nodes.now ≡ assertions_nodes trees) }
     ensures { IfOk result (λ list. list.items ≡ assertions_in nodes.now) }
@@ -64,6 +120,58 @@ fn assertions(alloc: Global, nodes: &[Node]) -> Result<Vec<Assertion>, NoMemory>
         rest = others;
     }
     Ok(list)
+}
+
+/// The nodes of a part by its number among the nodes of parts.
+fn part_at(nodes: &[Node], number: usize) -> &[Node]
+    ensures { (a : AssertionTree) → IsAt nodes.now number a → result.now ≡ assertion_nodes a }
+{
+    let mut rest = nodes;
+    let mut left = number;
+    while left > 0 {
+        rest = split_tree(rest).1;
+        left -= 1;
+    }
+    split_tree(rest).0
+}
+
+/// A member by its number, of an assertion that is the greatest of so many.
+fn member_numbered(
+    alloc: Global,
+    p: &Assertion,
+    count: usize,
+    number: usize,
+) -> Result<Assertion, Stop>
+    requires { bind (faults.members_of p.now) (λ members. Ok (faults.count members)) ≡ Ok count }
+    ensures { Follows result (bind (faults.members_of p.now) (λ members. faults.member_at members (pos number))) }
+{
+    if count <= number {
+        return Err(Stop::Breaks);
+    }
+    Ok(assertion(alloc, part_at(parts(p.nodes()), number))?)
+}
+
+/// A member by its number, which may be below 0, of an assertion that is the greatest of so many.
+#[tactic(auto, using(crate::proofs::Numbered::negative))]
+fn member_of(alloc: Global, p: &Assertion, count: usize, number: i64) -> Result<Assertion, Stop>
+    requires { bind (faults.members_of p.now) (λ members. Ok (faults.count members)) ≡ Ok count }
+    ensures { Follows result (bind (faults.members_of p.now) (λ members. faults.member_at members number)) }
+{
+    if number < 0 {
+        return Err(Stop::Breaks);
+    }
+    member_numbered(alloc, p, count, number as usize)
+}
+
+/// A member by its number, from 0; it breaks where there is none.
+#[tactic(auto, using(crate::proofs::Numbered::no_members))]
+pub fn picked(alloc: Global, p: &Assertion, number: i64) -> Result<Assertion, Stop>
+    ensures { Follows result (bind (faults.members_of p.now) (λ members. faults.member_at members number)) }
+{
+    match member_count(p) {
+        Some(count) => member_of(alloc, p, count, number),
+        None => Err(Stop::Breaks),
+    }
 }
 
 /// The members of which an assertion is the greatest; it breaks where it is none.

@@ -1,179 +1,126 @@
-// The conditions without polynomials of the root, under what the hypotheses push.
-ghost use Rattle.std.specs.Prelude.{◌≡◌, ◌&&◌, nat_le, Ok};
-ghost use Rattle.qs_entail.specs.Building as building;
+// The conditions without polynomials of a node, under what is known.
+ghost use Rattle.std.specs.Prelude.{◌≡◌, ◌==◌, nat_le, Ok};
 ghost use Rattle.qs_entail.specs.Certificates as cert;
-ghost use Rattle.qs_entail.specs.Answers.{Follows};
-ghost use Rattle.qs_base.specs.Results.{require, bind};
-ghost use Rattle.qs_entail.specs.Building.{breaks};
+ghost use Rattle.qs_base.specs.Results.{bind};
 ghost use Rattle.qs_entail.specs.Faults as faults;
-ghost use Rattle.qs_entail.specs.Faults.{done, definition, count, count_certs};
+ghost use Rattle.qs_entail.specs.Faults.{definition, count, count_certs};
 ghost use Rattle.qs_entail.specs.Facts as facts;
-ghost use Rattle.qs_entail.specs.Parts.{outline_view};
-ghost use Rattle.qs_entail.specs.Standing.{without_limit};
-ghost use Rattle.qs_entail.specs.Verdicts.{is_given, has_count, are_counted, fact_stands, stands};
+ghost use Rattle.qs_entail.specs.Standing.{counted};
+ghost use Rattle.qs_entail.specs.Verdicts.{is_given, has_count, fact_stands, stands, rule_of};
 ghost use Rattle.qs_entail.specs.View.{cert_tree, certs_tree, fact_tree, items_view};
 
 use crate::Item;
 use crate::certificate::{Certificate, Fact};
-use crate::combination::are_inside;
-use crate::facts::condition;
-use crate::outlining::Outline;
-use crate::parts::{different_sides, guarded_of};
+use crate::combination::{are_counted, is_counted};
+use crate::facts::condition_at;
+use crate::fault::Rule;
+use crate::parts::{is_guard, member_count, says_different, summand_count};
 use crate::plain::is_plain;
-use crate::rules::{counted_members, counted_summands, picked, same};
-use crate::stop::Stop;
-use crate::unfolding::definition;
+use crate::unfolding::defined;
 use qs_assert::{Assertion, Cond, Define};
 use qs_base::Name;
-use std::alloc::Global;
 
-fn without_limit(stop: Stop) -> Stop
-    ensures { result ≡ without_limit stop }
+#[tactic(auto, using(crate::proofs::Counted::numbered, crate::proofs::Counted::none_numbered))]
+fn has_member(p: &Assertion, i: i64) -> bool
+    ensures { result ≡ is_given (bind (faults.members_of p.now) (λ members. faults.member_at members i)) }
 {
-    match stop {
-        Stop::NoMemory => Stop::NoMemory,
-        Stop::Breaks => Stop::Breaks,
-        Stop::Passes(_) => Stop::Breaks,
+    match member_count(p) {
+        Some(count) => is_counted(i, count),
+        None => false,
     }
 }
 
-#[tactic(auto, using(crate::proofs::Stands::given_ok, crate::proofs::Stands::given_err))]
-fn has_member(alloc: Global, p: &Assertion, i: i64) -> Result<(), Stop>
-    ensures { Follows result (require (is_given (bind (faults.members_of p.now) (λ members. faults.member_at members i))) breaks done) }
+fn is_so_many(wanted: usize, count: Option<usize>) -> bool
+    ensures { result ≡ has_count wanted (counted count) }
 {
-    match picked(alloc, p, i) {
-        Ok(_member) => Ok(()),
-        Err(stop) => Err(without_limit(stop)),
+    match count {
+        Some(count) => wanted == count,
+        None => false,
     }
 }
 
-#[tactic(auto, using(crate::proofs::Stands::counted_ok, crate::proofs::Stands::counted_err))]
-fn has_members(alloc: Global, wanted: usize, q: &Assertion) -> Result<(), Stop>
-    ensures { Follows result (require (has_count wanted (bind (faults.members_of q.now) (λ members. Ok (count members)))) breaks done) }
+#[tactic(auto, using(crate::proofs::Stands::has_so_many))]
+fn has_members(wanted: usize, q: &Assertion) -> bool
+    ensures { result ≡ has_count wanted (bind (faults.members_of q.now) (λ members. Ok (count members))) }
 {
-    match counted_members(alloc, wanted, q) {
-        Ok(_members) => Ok(()),
-        Err(stop) => Err(without_limit(stop)),
-    }
+    is_so_many(wanted, member_count(q))
 }
 
-#[tactic(auto, using(crate::proofs::Stands::counted_ok, crate::proofs::Stands::counted_err))]
-fn has_summands(alloc: Global, wanted: usize, q: &Assertion) -> Result<(), Stop>
-    ensures { Follows result (require (has_count wanted (bind (faults.summands_of q.now) (λ summands. Ok (count summands)))) breaks done) }
+#[tactic(auto, using(crate::proofs::Stands::has_so_many))]
+fn has_summands(wanted: usize, q: &Assertion) -> bool
+    ensures { result ≡ has_count wanted (bind (faults.summands_of q.now) (λ summands. Ok (count summands))) }
 {
-    match counted_summands(alloc, wanted, q) {
-        Ok(_summands) => Ok(()),
-        Err(stop) => Err(without_limit(stop)),
-    }
+    is_so_many(wanted, summand_count(q))
 }
 
-#[tactic(auto, using(crate::proofs::Stands::first_holds, crate::proofs::Stands::first_fails))]
-fn both_have_summands(
-    alloc: Global,
-    wanted: usize,
-    p: &Assertion,
-    q: &Assertion,
-) -> Result<(), Stop>
-    ensures { Follows result (require (has_count wanted (bind (faults.summands_of p.now) (λ summands. Ok (count summands))) && has_count wanted (bind (faults.summands_of q.now) (λ summands. Ok (count summands)))) breaks done) }
+#[tactic(auto, using(crate::proofs::Stands::given_some, crate::proofs::Stands::given_none))]
+fn is_defined(defines: &[Define], name: &Name) -> bool
+    ensures { result ≡ is_given (definition defines.now name.now) }
 {
-    has_summands(alloc, wanted, p)?;
-    has_summands(alloc, wanted, q)
-}
-
-#[tactic(auto, using(crate::proofs::Stands::given_ok, crate::proofs::Stands::given_err))]
-fn is_guard(alloc: Global, p: &Assertion) -> Result<(), Stop>
-    ensures { Follows result (require (is_given (faults.guarded_of p.now)) breaks done) }
-{
-    match guarded_of(alloc, p) {
-        Ok(_guarded) => Ok(()),
-        Err(stop) => Err(without_limit(stop)),
-    }
-}
-
-#[tactic(auto, using(crate::proofs::Stands::given_ok, crate::proofs::Stands::given_err))]
-fn is_defined(defines: &[Define], name: &Name) -> Result<(), Stop>
-    ensures { Follows result (require (is_given (definition defines.now name.now)) breaks done) }
-{
-    match definition(defines, name) {
-        Ok(_body) => Ok(()),
-        Err(stop) => Err(without_limit(stop)),
-    }
-}
-
-fn are_numbers(items: &[Item], count: usize) -> Result<(), Stop>
-    ensures { Follows result (require (are_counted (items_view items.now) count) breaks done) }
-{
-    if are_inside(items, count) {
-        Ok(())
-    } else {
-        Err(Stop::Breaks)
-    }
-}
-
-#[tactic(auto, using(crate::proofs::Stands::first_holds, crate::proofs::Stands::first_fails))]
-fn both_are_numbers(first: &[Item], second: &[Item], count: usize) -> Result<(), Stop>
-    ensures { Follows result (require (are_counted (items_view first.now) count && are_counted (items_view second.now) count) breaks done) }
-{
-    are_numbers(first, count)?;
-    are_numbers(second, count)
-}
-
-#[tactic(auto, using(crate::proofs::Stands::first_holds, crate::proofs::Stands::first_fails))]
-fn are_plain(items: &[Item], count: usize, p: &Assertion, q: &Assertion) -> Result<(), Stop>
-    ensures { Follows result (require ((building.is_plain p.now && building.is_plain q.now) && are_counted (items_view items.now) count) breaks done) }
-{
-    if is_plain(p) && is_plain(q) {
-        are_numbers(items, count)
-    } else {
-        Err(Stop::Breaks)
+    match defined(defines, name) {
+        Some(_body) => true,
+        None => false,
     }
 }
 
 /// The condition of this number says that two terms differ.
-#[tactic(auto, using(crate::proofs::Stands::given_ok, crate::proofs::Stands::given_err))]
-fn is_apart(alloc: Global, conditions: &[Cond], i: i64) -> Result<(), Stop>
-    ensures { Follows result (require (is_given (bind (facts.condition conditions.now i) facts.different_sides)) breaks done) }
+#[tactic(auto, using(crate::proofs::Stands::apart_some, crate::proofs::Stands::apart_none))]
+fn is_apart(conditions: &[Cond], i: i64) -> bool
+    ensures { result ≡ is_given (bind (facts.condition conditions.now i) facts.different_sides) }
 {
-    match condition(conditions, i) {
-        Ok(c) => match different_sides(alloc, c) {
-            Ok(_sides) => Ok(()),
-            Err(stop) => Err(without_limit(stop)),
-        },
-        Err(stop) => Err(without_limit(stop)),
+    match condition_at(conditions, i) {
+        Some(c) => says_different(c),
+        None => false,
     }
 }
 
-#[tactic(auto, using(crate::proofs::Stands::first_holds, crate::proofs::Stands::first_fails))]
-fn apart_stands(alloc: Global, i: i64, items: &[Item], outline: &Outline) -> Result<(), Stop>
-    ensures { Follows result (require (fact_stands (cert.apart i (items_view items.now)) (outline_view outline.now)) breaks done) }
+fn is_divisor(n: u64) -> bool
+    ensures { result ≡ nat_le 1 n }
 {
-    is_apart(alloc, &outline.conditions, i)?;
-    are_numbers(items, outline.count)
+    1 <= n
 }
 
-fn is_divisor(n: u64) -> Result<(), Stop>
-    ensures { Follows result (require (nat_le 1 n) breaks done) }
-{
-    if 1 <= n { Ok(()) } else { Err(Stop::Breaks) }
-}
-
-fn fact_stands(alloc: Global, fact: &Fact, outline: &Outline) -> Result<(), Stop>
-    ensures { Follows result (require (fact_stands (fact_tree fact.now) (outline_view outline.now)) breaks done) }
+fn fact_stands(fact: &Fact, conditions: &[Cond], count: usize) -> bool
+    ensures { result ≡ fact_stands (fact_tree fact.now) (record { conditions = conditions.now; count = count }) }
 {
     match fact {
-        Fact::Range(_) => Ok(()),
-        Fact::CostRange(_) => Ok(()),
-        Fact::Apart(i, items) => apart_stands(alloc, *i, items, outline),
-        Fact::NumIs(_, items) => are_numbers(items, outline.count),
-        Fact::NumBounds(_) => Ok(()),
-        Fact::WrapUnsignedIs(_, first, second) => both_are_numbers(first, second, outline.count),
-        Fact::WrapSignedIs(_, first, second) => both_are_numbers(first, second, outline.count),
-        Fact::WrapUnsignedBounds(_) => Ok(()),
-        Fact::WrapSignedBounds(_) => Ok(()),
+        Fact::Range(_) => true,
+        Fact::CostRange(_) => true,
+        Fact::Apart(i, items) => is_apart(conditions, *i) && are_counted(items, count),
+        Fact::NumIs(_, items) => are_counted(items, count),
+        Fact::NumBounds(_) => true,
+        Fact::WrapUnsignedIs(_, first, second) => {
+            are_counted(first, count) && are_counted(second, count)
+        }
+        Fact::WrapSignedIs(_, first, second) => {
+            are_counted(first, count) && are_counted(second, count)
+        }
+        Fact::WrapUnsignedBounds(_) => true,
+        Fact::WrapSignedBounds(_) => true,
         Fact::QuotientBounds(_, n) => is_divisor(*n),
-        Fact::BitsBound(_) => Ok(()),
-        Fact::BitsHalf(_, items) => are_numbers(items, outline.count),
-        Fact::BitsRise(_, _, items) => are_numbers(items, outline.count),
+        Fact::BitsBound(_) => true,
+        Fact::BitsHalf(_, items) => are_counted(items, count),
+        Fact::BitsRise(_, _, items) => are_counted(items, count),
+    }
+}
+
+/// The rule of a certificate's root.
+pub fn rule_of(certificate: &Certificate) -> Rule
+    ensures { result ≡ rule_of (cert_tree certificate.now) }
+{
+    match certificate {
+        Certificate::Same => Rule::Same,
+        Certificate::Via(_, _, _) => Rule::Via,
+        Certificate::Pick(_, _) => Rule::Pick,
+        Certificate::All(_) => Rule::All,
+        Certificate::Parts(_) => Rule::Parts,
+        Certificate::Assume(_) => Rule::Assume,
+        Certificate::DropGuard(_, _) => Rule::DropGuard,
+        Certificate::Split(_, _, _) => Rule::Split,
+        Certificate::Contradict(_) => Rule::Contradict,
+        Certificate::Arithmetic(_) => Rule::Arithmetic,
+        Certificate::ByDefinition(_, _) => Rule::ByDefinition,
+        Certificate::Fact(_, _) => Rule::Fact,
     }
 }
 
@@ -184,29 +131,31 @@ fn part_count(parts: &[Certificate]) -> usize
     parts.len()
 }
 
-/// Whether the side condition of the root holds, polynomials aside.
+/// Whether the conditions of a node hold, polynomials aside, where so many polynomials are known.
 pub fn stands(
-    alloc: Global,
     certificate: &Certificate,
     defines: &[Define],
-    outline: &Outline,
+    conditions: &[Cond],
+    count: usize,
     p: &Assertion,
     q: &Assertion,
-) -> Result<(), Stop>
-    ensures { Follows result (require (stands (cert_tree certificate.now) defines.now (outline_view outline.now) p.now q.now) breaks done) }
+) -> bool
+    ensures { result ≡ stands (cert_tree certificate.now) defines.now (record { conditions = conditions.now; count = count }) p.now q.now }
 {
     match certificate {
-        Certificate::Same => same(p, q),
-        Certificate::Via(_, _, _) => Ok(()),
-        Certificate::Pick(i, _) => has_member(alloc, p, *i),
-        Certificate::All(parts) => has_members(alloc, part_count(parts), q),
-        Certificate::Parts(parts) => both_have_summands(alloc, part_count(parts), p, q),
-        Certificate::Assume(_) => is_guard(alloc, p),
-        Certificate::DropGuard(_, _) => is_guard(alloc, q),
-        Certificate::Split(_, _, _) => Ok(()),
-        Certificate::Contradict(items) => are_numbers(items, outline.count),
-        Certificate::Arithmetic(items) => are_plain(items, outline.count, p, q),
+        Certificate::Same => p.same(q),
+        Certificate::Via(_, _, _) => true,
+        Certificate::Pick(i, _) => has_member(p, *i),
+        Certificate::All(parts) => has_members(part_count(parts), q),
+        Certificate::Parts(parts) => {
+            has_summands(part_count(parts), p) && has_summands(part_count(parts), q)
+        }
+        Certificate::Assume(_) => is_guard(p),
+        Certificate::DropGuard(_, _) => is_guard(q),
+        Certificate::Split(_, _, _) => true,
+        Certificate::Contradict(items) => are_counted(items, count),
+        Certificate::Arithmetic(items) => is_plain(p) && is_plain(q) && are_counted(items, count),
         Certificate::ByDefinition(name, _) => is_defined(defines, name),
-        Certificate::Fact(fact, _) => fact_stands(alloc, fact, outline),
+        Certificate::Fact(fact, _) => fact_stands(fact, conditions, count),
     }
 }

@@ -1,5 +1,6 @@
 // A name stands for the body of its definition.
-ghost use Rattle.std.specs.Prelude.{◌≡◌, ◌++◌, IfOk};
+ghost use Rattle.std.specs.Prelude.{◌≡◌, ◌++◌, IfOk, MatchOption, Ok, Err};
+ghost use Rattle.qs_entail.specs.Building.{breaks};
 ghost use Rattle.qs_entail.specs.Answers.{FollowsAs};
 ghost use Rattle.qs_entail.specs.Faults as faults;
 ghost use Rattle.qs_entail.specs.Placing.{placed};
@@ -9,16 +10,26 @@ use qs_assert::{Assertion, AssertionNode, Define, Node, put_nodes};
 use qs_base::{Name, NoMemory};
 use std::alloc::Global;
 
+/// The body of the first definition of a name.
+pub fn defined<'a>(defines: &'a [Define], name: &Name) -> Option<&'a Assertion>
+    ensures { MatchOption result (faults.definition defines.now name.now ≡ Err breaks) (λ body. faults.definition defines.now name.now ≡ Ok body.now) }
+{
+    for define in defines {
+        if *name == define.name {
+            return Some(&define.body);
+        }
+    }
+    None
+}
+
 /// The body of the first definition of a name; it breaks where there is none.
 pub fn definition<'a>(defines: &'a [Define], name: &Name) -> Result<&'a Assertion, Stop>
     ensures { FollowsAs (λ body. body.now) result (faults.definition defines.now name.now) }
 {
-    for define in defines {
-        if *name == define.name {
-            return Ok(&define.body);
-        }
+    match defined(defines, name) {
+        Some(body) => Ok(body),
+        None => Err(Stop::Breaks),
     }
-    Err(Stop::Breaks)
 }
 
 /// Puts the node, or the nodes of the body where the node is the name.

@@ -1,9 +1,6 @@
 // The check of a certificate under hypotheses.
 ghost use Rattle.std.specs.Prelude.{◌≡◌, [], IfOk, OnOk};
-ghost use Rattle.qs_entail.specs.Answers.{Follows};
-ghost use Rattle.qs_base.specs.Results.{require};
-ghost use Rattle.qs_entail.specs.Building.{breaks};
-ghost use Rattle.qs_entail.specs.Faults.{done, fault, node};
+ghost use Rattle.qs_entail.specs.Faults.{node};
 ghost use Rattle.qs_assert.specs.Order.{IsInOrder};
 ghost use Rattle.qs_entail.specs.Meaning.{Above};
 ghost use Rattle.qs_entail.specs.Pushing as pushing;
@@ -11,43 +8,23 @@ ghost use Rattle.qs_entail.specs.Pushing.{at_first};
 ghost use Rattle.qs_entail.specs.Said.{Tells};
 ghost use Rattle.qs_entail.specs.Standing.{told};
 ghost use Rattle.qs_entail.specs.Verdicts as verdicts;
-ghost use Rattle.qs_entail.specs.Verdicts.{stands, outline_list, verdict};
+ghost use Rattle.qs_entail.specs.Verdicts.{stands, outline_list, outlined_first, rest, verdict};
 ghost use Rattle.qs_entail.specs.View.{cert_tree, known_view};
 ghost use Rattle.qs_entail.specs.Walking.{place};
 
 use crate::certificate::Certificate;
 use crate::failed::{Failed, failure};
-use crate::fault::{CertFault, Rule};
+use crate::fault::CertFault;
 use crate::known::Known;
-use crate::outlining::outlined;
+use crate::outlining::{Outline, outlined};
 use crate::pushing::push_list;
-use crate::standing::stands;
+use crate::standing::{rule_of, stands};
 use crate::stop::Stop;
 use crate::sums::{one, small};
 use crate::walk::Walk;
 use qs_assert::{Assertion, Cond, Define};
 use qs_base::NoMemory;
 use std::alloc::Global;
-
-/// The rule of a certificate's root.
-fn rule_of(certificate: &Certificate) -> Rule
-    ensures { result ≡ verdicts.rule_of (cert_tree certificate.now) }
-{
-    match certificate {
-        Certificate::Same => Rule::Same,
-        Certificate::Via(_, _, _) => Rule::Via,
-        Certificate::Pick(_, _) => Rule::Pick,
-        Certificate::All(_) => Rule::All,
-        Certificate::Parts(_) => Rule::Parts,
-        Certificate::Assume(_) => Rule::Assume,
-        Certificate::DropGuard(_, _) => Rule::DropGuard,
-        Certificate::Split(_, _, _) => Rule::Split,
-        Certificate::Contradict(_) => Rule::Contradict,
-        Certificate::Arithmetic(_) => Rule::Arithmetic,
-        Certificate::ByDefinition(_, _) => Rule::ByDefinition,
-        Certificate::Fact(_, _) => Rule::Fact,
-    }
-}
 
 /// The fault of a walk that stopped at this path.
 fn told(path: Vec<usize>, failed: Failed) -> CertFault
@@ -86,16 +63,15 @@ fn root_stands(
     p: &Assertion,
     q: &Assertion,
     certificate: &Certificate,
-) -> Result<(), Stop>
-    ensures { Follows result (require (stands (cert_tree certificate.now) defines.now (outline_list hypotheses.now (record { conditions = []; count = 1 })) p.now q.now) breaks done) }
+) -> Result<bool, NoMemory>
+    ensures { IfOk result (λ b. b ≡ stands (cert_tree certificate.now) defines.now (outline_list hypotheses.now outlined_first) p.now q.now) }
 {
-    match outlined(alloc, hypotheses) {
-        Ok(outline) => stands(alloc, certificate, defines, &outline, p, q),
-        Err(NoMemory) => Err(Stop::NoMemory),
-    }
+    let outline = outlined(alloc, hypotheses)?;
+    let Outline { conditions, count } = outline;
+    Ok(stands(certificate, defines, &conditions, count, p, q))
 }
 
-/// Walks over the certificate.
+/// Walks over the certificate, whose root stands.
 #[tactic(auto, using(crate::proofs::Stands::tells_fault, crate::proofs::Stands::tells_ok))]
 fn walked(
     mut walk: Walk,
@@ -105,9 +81,9 @@ fn walked(
     certificate: &Certificate,
 ) -> Result<(), CertFault>
     requires { walk.path.items ≡ [] }
-    ensures { Tells result (fault (cert_tree certificate.now) defines.now (known_view walk.known) p.now q.now) }
+    ensures { Tells result (rest (cert_tree certificate.now) defines.now (known_view walk.known) p.now q.now) }
 {
-    match walk.check(defines, certificate, p, q) {
+    match walk.check_rest(defines, certificate, p, q) {
         Ok(()) => Ok(()),
         Err(failed) => Err(told(walk.path, failed)),
     }
@@ -123,7 +99,7 @@ fn walked_under(
     q: &Assertion,
     certificate: &Certificate,
 ) -> Result<(), CertFault>
-    ensures { Tells result (node (verdicts.rule_of (cert_tree certificate.now)) (pushing.push_list hypotheses.now at_first) (λ known. fault (cert_tree certificate.now) defines.now known p.now q.now)) }
+    ensures { Tells result (node (verdicts.rule_of (cert_tree certificate.now)) (pushing.push_list hypotheses.now at_first) (λ known. rest (cert_tree certificate.now) defines.now known p.now q.now)) }
 {
     let mut walk = match at_root(alloc) {
         Ok(walk) => walk,
@@ -146,10 +122,15 @@ fn checked(
 ) -> Result<(), CertFault>
     ensures { Tells result (verdict hypotheses.now defines.now p.now q.now (cert_tree certificate.now)) }
 {
-    match root_stands(alloc, hypotheses, defines, p, q, certificate) {
-        Ok(()) => walked_under(alloc, hypotheses, defines, p, q, certificate),
-        Err(stop) => Err(told(Vec::new(alloc), failure(rule_of(certificate), stop))),
+    let stands = match root_stands(alloc, hypotheses, defines, p, q, certificate) {
+        Ok(stands) => stands,
+        Err(NoMemory) => return Err(CertFault::NoMemory),
+    };
+    if !stands {
+        let at_root = Failed::Step(rule_of(certificate));
+        return Err(told(Vec::new(alloc), at_root));
     }
+    walked_under(alloc, hypotheses, defines, p, q, certificate)
 }
 
 /// Checks that a certificate shows under the hypotheses that P is at least Q.

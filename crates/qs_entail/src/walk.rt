@@ -3,23 +3,25 @@ ghost use Rattle.std.specs.Prelude.{◌≡◌, ◌++◌, ◌∷◌, [], MatchRes
 ghost use Rattle.qs_assert.specs.Trees.{not};
 ghost use Rattle.qs_entail.specs.Answers.{Follows, FollowsAs};
 ghost use Rattle.qs_base.specs.Results.{bind};
+ghost use Rattle.qs_entail.specs.Verdicts.{outlined, stands};
 ghost use Rattle.qs_entail.specs.Facts.{added};
 ghost use Rattle.qs_entail.specs.Faults.{done, node, contradiction, arithmetic_holds};
 ghost use Rattle.qs_entail.specs.Pushing.{push, with_polynomials};
 ghost use Rattle.qs_entail.specs.Extending.{pushed};
-ghost use Rattle.qs_entail.specs.View.{fact_tree, items_view, known_view};
+ghost use Rattle.qs_entail.specs.View.{cert_tree, fact_tree, items_view, known_view};
 ghost use Rattle.qs_entail.specs.Walking.{place, cut, Says};
 
 use crate::Item;
-use crate::certificate::Fact;
+use crate::certificate::{Certificate, Fact};
 use crate::facts::added;
 use crate::failed::{Failed, settle};
 use crate::fault::Rule;
 use crate::known::Known;
 use crate::pushing::push;
 use crate::rules::{arithmetic_holds, contradiction};
+use crate::standing::stands;
 use crate::stop::Stop;
-use qs_assert::{Assertion, Cond};
+use qs_assert::{Assertion, Cond, Define};
 use std::alloc::Global;
 
 /// How many conditions and polynomials were known.
@@ -129,6 +131,20 @@ impl Walk {
         }
     }
 
+    /// Whether the conditions of a node hold, polynomials aside.
+    pub fn stands(
+        &self,
+        defines: &[Define],
+        certificate: &Certificate,
+        p: &Assertion,
+        q: &Assertion,
+    ) -> bool
+        ensures { result ≡ stands (cert_tree certificate.now) defines.now (outlined (known_view self.now.known)) p.now q.now }
+    {
+        let count = self.known.polynomials.len();
+        stands(certificate, defines, &self.known.conditions, count, p, q)
+    }
+
     /// Whether the items contradict what is known.
     #[tactic(auto, using(crate::proofs::Walks::says_settled))]
     pub fn contradicts(&self, items: &[Item]) -> Result<(), Failed>
@@ -140,7 +156,7 @@ impl Walk {
         )
     }
 
-    /// Whether the items are the difference of two plain assertions.
+    /// Whether the items are the difference of two assertions.
     #[tactic(auto, using(crate::proofs::Walks::says_settled))]
     pub fn is_difference(&self, items: &[Item], p: &Assertion, q: &Assertion) -> Result<(), Failed>
         ensures { Says (place self.now) (place self.now) result (node Rule.Arithmetic (arithmetic_holds (items_view items.now) (known_view self.now.known) p.now q.now) (λ _. None)) }

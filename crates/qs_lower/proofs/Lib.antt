@@ -16,4 +16,9 @@ pub mod UnitReal
 pub mod Follow
 pub mod There
 pub mod LoweringLaws
+pub mod ExprFits
+pub mod OperandFits
+pub mod PartFits
+pub mod StmtFits
+pub mod UnitFits
 mod LowerExamples

@@ -29,10 +29,10 @@ known_there : {A B : Type 0} (xs : List A) (x : ℕ) (g : A → B) (o : Option A
 known_there xs x g None b is h = absurd (cc)
 known_there xs x g (Some a) b is h = slice_get_within xs x a is
 
-variable_there : (f : CoreFunctionTree) (x : ℕ) (s : Scalar) → is_type (variable_type f x) s ≡ true → x < length f.variables
+pub variable_there : (f : CoreFunctionTree) (x : ℕ) (s : Scalar) → is_type (variable_type f x) s ≡ true → x < length f.variables
 variable_there f x s h = known_there f.variables x (λ v. v.scalar) (slice_get f.variables x) s refl (type_is (variable_type f x) s h)
 
-temporary_there : (f : CoreFunctionTree) (k : ℕ) (s : Scalar) → is_type (temporary_type f k) s ≡ true → k < length f.temporaries
+pub temporary_there : (f : CoreFunctionTree) (k : ℕ) (s : Scalar) → is_type (temporary_type f k) s ≡ true → k < length f.temporaries
 temporary_there f k s h = slice_get_within f.temporaries k s (type_is (temporary_type f k) s h)
 
 module _ (c : CoreUnitTree) (u : TacUnitTree) (f : CoreFunctionTree) (code : List InstructionTree) (function : ℕ) (stack : Stack) (is_code : IsCode u f code function stack) where

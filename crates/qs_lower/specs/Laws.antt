@@ -7,6 +7,7 @@ use Rattle.qs_core.specs.Trees.{CoreUnitTree}
 use Rattle.qs_core.specs.Units.{core_run}
 use Rattle.qs_core.specs.Fits.{unit_fits}
 use Rattle.qs_tac.specs.Trees.{TacUnitTree}
+use Rattle.qs_tac.specs.Fits as tac
 use Rattle.qs_tac.specs.Units.{tac_run}
 use Rattle.qs_lower.specs.Units.{lower_unit}
 
@@ -23,3 +24,7 @@ pub record Follows (u : CoreUnitTree) (t : TacUnitTree) : Type 0 where
 
 abbrev pub LoweringFollows : Type 0
 LoweringFollows = (u : CoreUnitTree) → unit_fits u ≡ true → Follows u (lower_unit u)
+
+-- What is made of a unit that fits is a unit that fits.
+abbrev pub LoweredFits : Type 0
+LoweredFits = (u : CoreUnitTree) → unit_fits u ≡ true → tac.unit_fits (lower_unit u) ≡ true

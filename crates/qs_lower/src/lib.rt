@@ -3,4 +3,4 @@
 
 mod laws;
 
-pub use laws::lowering_follows;
+pub use laws::{lowered_fits, lowering_follows};

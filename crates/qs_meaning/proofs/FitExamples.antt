@@ -279,7 +279,7 @@ unit = numbered_unit (
     )
 
 is_as_read : IsAsRead unit
-is_as_read = record { numbers = refl; constants = refl; lists = refl }
+is_as_read = record { numbers = refl; literals = refl; lists = refl }
 
 is_well_typed : WellTyped unit
 is_well_typed = record { keeps_rules = refl; main_has_body = refl; calls_have_bodies = refl }

@@ -18,7 +18,7 @@ use Rattle.qs_meaning.specs.Conversions.{scalar_of}
 use Rattle.qs_meaning.specs.Names.{Locals, Statics, Scope, local_lvalue, file_variable_object, function_number}
 use Rattle.qs_meaning.specs.Units.{result_scalar}
 use Rattle.qs_meaning.specs.Fits.{lvalue_fits, object_there}
-use Rattle.qs_meaning.specs.FitLaws.{has_words, shape_has_words, all_have_words}
+use Rattle.qs_meaning.specs.FitLaws.{literals_fit, shape_literals_fit, all_literals_fit}
 use Rattle.qs_meaning.proofs.Options.{left, right, all_left, all_right, nothing, same, Known}
 use Rattle.qs_meaning.proofs.Faultless.{HasTypes}
 use Rattle.qs_meaning.proofs.FitConversions.{both}
@@ -54,20 +54,20 @@ abbrev mutual
 
 module _ (called : List ℕ → Bool) (there : TextBlock → Bool) where
   abbrev Sure : ExprTree → Type 0
-  Sure e = has_words e ≡ true → list_all called (expr_calls e) ≡ true → list_all there (expr_texts e) ≡ true → is_sure called there e ≡ true
+  Sure e = literals_fit e ≡ true → list_all called (expr_calls e) ≡ true → list_all there (expr_texts e) ≡ true → is_sure called there e ≡ true
 
   two : (a b : ExprTree) → Sure a → Sure b
-      → (has_words a && has_words b) ≡ true → list_all called (expr_calls a ++ expr_calls b) ≡ true → list_all there (expr_texts a ++ expr_texts b) ≡ true
+      → (literals_fit a && literals_fit b) ≡ true → list_all called (expr_calls a ++ expr_calls b) ≡ true → list_all there (expr_texts a ++ expr_texts b) ≡ true
       → (is_sure called there a && is_sure called there b) ≡ true
   two a b first second w c t =
       both _ _ (first (left _ _ w) (all_left called (expr_calls a) (expr_calls b) c) (all_left there (expr_texts a) (expr_texts b) t))
-      (second (right (has_words a) _ w) (all_right called (expr_calls a) (expr_calls b) c) (all_right there (expr_texts a) (expr_texts b) t))
+      (second (right (literals_fit a) _ w) (all_right called (expr_calls a) (expr_calls b) c) (all_right there (expr_texts a) (expr_texts b) t))
 
   mutual
-    pub sure_by : (e : ExprTree) → has_words e ≡ true → list_all called (expr_calls e) ≡ true → list_all there (expr_texts e) ≡ true → is_sure called there e ≡ true
+    pub sure_by : (e : ExprTree) → literals_fit e ≡ true → list_all called (expr_calls e) ≡ true → list_all there (expr_texts e) ≡ true → is_sure called there e ≡ true
     sure_by (expr node shape) w c t = shape_sure_by node.id shape w c t
 
-    shape_sure_by : (id : ℕ) (shape : ShapeTree) → shape_has_words shape ≡ true → list_all called (shape_calls shape) ≡ true → list_all there (shape_texts id shape) ≡ true
+    shape_sure_by : (id : ℕ) (shape : ShapeTree) → shape_literals_fit shape ≡ true → list_all called (shape_calls shape) ≡ true → list_all there (shape_texts id shape) ≡ true
         → shape_sure called there id shape ≡ true
     shape_sure_by id (trees.constant n u) w c t = w
     shape_sure_by id (trees.text bytes) w c t = left _ _ t
@@ -81,17 +81,17 @@ module _ (called : List ℕ → Bool) (there : TextBlock → Bool) where
     shape_sure_by id (trees.assign operator a b) w c t = two a b (λ w c t. sure_by a w c t) (λ w c t. sure_by b w c t) w c t
     shape_sure_by id (trees.conditional d a b) w c t =
         both _ _ (sure_by d (left _ _ w) (all_left called (expr_calls d) _ c) (all_left there (expr_texts d) _ t))
-        (two a b (λ w c t. sure_by a w c t) (λ w c t. sure_by b w c t) (right (has_words d) _ w) (all_right called (expr_calls d) _ c) (all_right there (expr_texts d) _ t))
+        (two a b (λ w c t. sure_by a w c t) (λ w c t. sure_by b w c t) (right (literals_fit d) _ w) (all_right called (expr_calls d) _ c) (all_right there (expr_texts d) _ t))
     shape_sure_by id (trees.comma a b) w c t = two a b (λ w c t. sure_by a w c t) (λ w c t. sure_by b w c t) w c t
     shape_sure_by id (trees.subscript a b) w c t = two a b (λ w c t. sure_by a w c t) (λ w c t. sure_by b w c t) w c t
     shape_sure_by id (trees.member access a x) w c t = sure_by a w c t
     shape_sure_by id (trees.call f es) w c t = both _ _ (left _ _ c) (all_sure_by es w (right (called f) _ c) t)
 
-    all_sure_by : (es : Exprs) → all_have_words es ≡ true → list_all called (exprs_calls es) ≡ true → list_all there (exprs_texts es) ≡ true → all_sure called there es ≡ true
+    all_sure_by : (es : Exprs) → all_literals_fit es ≡ true → list_all called (exprs_calls es) ≡ true → list_all there (exprs_texts es) ≡ true → all_sure called there es ≡ true
     all_sure_by no_exprs w c t = refl
     all_sure_by (expr_and e es) w c t =
         both _ _ (sure_by e (left _ _ w) (all_left called (expr_calls e) (exprs_calls es) c) (all_left there (expr_texts e) (exprs_texts es) t))
-        (all_sure_by es (right (has_words e) _ w) (all_right called (expr_calls e) (exprs_calls es) c) (all_right there (expr_texts e) (exprs_texts es) t))
+        (all_sure_by es (right (literals_fit e) _ w) (all_right called (expr_calls e) (exprs_calls es) c) (all_right there (expr_texts e) (exprs_texts es) t))
 
 -- a text that is no longer than an object may be
 abbrev pub is_short : TextBlock → Bool

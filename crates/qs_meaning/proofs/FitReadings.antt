@@ -1,4 +1,4 @@
--- A unit that is read is as the laws on typed trees ask: its nodes have different numbers, its constants are words, and its lists are filled.
+-- A unit that is read is as the laws on typed trees ask: its nodes have different numbers, its constants are words and its texts bytes, and its lists are filled.
 use Rattle.std.proofs.Common.{◌≡◌, ◌<◌, ℕ, ◌+◌, ◌==◌, ◌^◌, nat_lt, Bool, true, false, not, ◌||◌, List, [], ◌∷◌, ◌++◌, Option, Some, refl, sym, ap, ◌∙◌, subst, arith, if◌then◌else◌}
 use Rattle.std.specs.List.{list_all}
 use Rattle.std.proofs.lemmas.Bool.Decides.{nat_tests}
@@ -9,12 +9,12 @@ use Rattle.qs_base.specs.Names.{is_name}
 use Rattle.qs_syntax.specs.declared.nodes.Node.{Node}
 use Rattle.qs_syntax.specs.declared.types.Base.{Base}
 use Rattle.qs_syntax.specs.declared.terminal.Terminal.{Terminal}
-use Rattle.qs_syntax.specs.Units.{is_well_formed, Reading}
+use Rattle.qs_syntax.specs.Units.{is_byte, is_well_formed, Reading}
 use Rattle.qs_syntax.specs.Trees.{ExprTree, Exprs, LengthsTree, DeclaratorTree, InitialiserTree, Initialisers, VariableTree, DeclarationTree, ParameterTree, MembersTree, StartTree, StmtTree, Stmts, FunctionTree, DeclTree, UnitTree}
 use Rattle.qs_syntax.specs.Trees as trees
 use Rattle.qs_syntax.specs.Nodes.{all_count, option_count, start_count, stmt_count, expr_count, declarator_count, variable_count, parameter_count, members_count, decl_count, unit_nodes}
 use Rattle.qs_syntax.specs.Numbering.{relabel_nodes, relabel_all, relabel_option, relabel_expr, relabel_exprs, relabel_lengths, relabel_declarator, relabel_initialiser, relabel_initialisers, relabel_variable, relabel_parameter, relabel_members, relabel_start, relabel_stmt, relabel_stmts, relabel_function, relabel_decl, numbered}
-use Rattle.qs_syntax.specs.Reads.{Form, Reads, ReadsArguments, place, a_name, an_empty_call, a_call, a_constant, a_text, in_parentheses, an_index, a_member, an_increment_after, a_decrement_after, a_postfix, an_increment, a_decrement, an_operator, a_size_of_type, a_size_of_value, a_cast, an_operand, stronger, an_operation, a_plain_level, a_choice, a_plain_conditional, an_assignment, a_plain_assignment, a_comma, a_last_argument, an_argument}
+use Rattle.qs_syntax.specs.Reads.{Form, Reads, ReadsArguments, ReadsTexts, no_text, a_further_text, place, a_name, an_empty_call, a_call, a_constant, a_text, in_parentheses, an_index, a_member, an_increment_after, a_decrement_after, a_postfix, an_increment, a_decrement, an_operator, a_size_of_type, a_size_of_value, a_cast, an_operand, stronger, an_operation, a_plain_level, a_choice, a_plain_conditional, an_assignment, a_plain_assignment, a_comma, a_last_argument, an_argument}
 use Rattle.qs_syntax.specs.ReadsDeclarations.{ReadsGiven, no_length, a_length, ReadsLengths, are_given, first_open, ReadsDeclarator, a_declarator, ReadsInitialiser, a_value, a_list, ReadsInitialisers, a_last_initialiser, a_last_with_comma, an_initialiser, ReadsVariable, an_unset_variable, a_set_variable, ReadsVariables, a_last_variable, a_variable, ReadsDeclaration, a_declaration, ReadsOuterDeclaration, an_outer_declaration, ReadsDeclarators, a_last_member, ReadsMembers, a_group, ReadsAllMembers, a_last_group, a_further_group, ReadsParameter, a_named_parameter, an_unnamed_parameter, ReadsParameters, a_last_parameter, a_parameter, ReadsHead, no_parameter, a_void_head, some_parameters}
 use Rattle.qs_syntax.specs.ReadsDeclarations as declarations
 use Rattle.qs_syntax.specs.ReadsStatements.{ReadsOptional, nothing_there, something_there, ReadsStart, a_start_declaration, a_start_expression, no_start_at_all, ReadsStatement, a_block, an_empty, an_expression, an_if, an_if_with_else, a_while, a_do, a_for, a_break, a_continue, a_return, ReadsItem, a_statement, a_declared, ReadsItems, no_item, an_item}
@@ -27,7 +27,7 @@ use Rattle.qs_types.specs.Placed.{is_one_of}
 use Rattle.qs_types.specs.StatementRules.{after_variable, after_statement, for_context}
 use Rattle.qs_types.specs.Sites.{Site, site, sites, option_sites, declarator_sites, declarators_sites, initialiser_sites, elements_sites, variable_sites, variables_sites, start_sites, statement_sites, statements_sites, members_sites, parameters_sites, declaration_sites, declarations_sites}
 use Rattle.qs_types.specs.UnitRules.{with_tag, body_context, after_declaration}
-use Rattle.qs_meaning.specs.FitLaws.{are_different, numbers_differ, has_words, all_have_words, constants_are_words, is_filled, variables_filled, start_filled, statement_filled, statements_filled, has_declarators, members_filled, declaration_filled, lists_are_filled, IsAsRead, ReadIsAsRead}
+use Rattle.qs_meaning.specs.FitLaws.{are_different, numbers_differ, literals_fit, all_literals_fit, unit_literals_fit, is_filled, variables_filled, start_filled, statement_filled, statements_filled, has_declarators, members_filled, declaration_filled, lists_are_filled, IsAsRead, ReadIsAsRead}
 use Rattle.qs_meaning.proofs.Options.{left, right, all_left, all_right}
 use Rattle.qs_meaning.proofs.FitConversions.{both}
 use Rattle.qs_meaning.proofs.FitLocals.{ids}
@@ -68,15 +68,20 @@ word n false h = below n h
     below : (n : ℕ) → nat_lt n (2 ^ 31) ≡ true → nat_lt n (2 ^ 32) ≡ true
     below n h = grind (arith, nat_tests)
 
+-- 6.4.5: literals that stand side by side are one text
+texts_read : {ts : List Terminal} {bytes : List ℕ} → ReadsTexts ts bytes → In ts → list_all is_byte bytes ≡ true
+texts_read no_text i = refl
+texts_read (a_further_text {bytes = bytes} at first r) i = list_all-append is_byte first bytes ∙ both _ _ (left _ _ i) (texts_read r (right (list_all is_byte first) _ i))
+
 -- ---- expressions, with whatever numbers
 
 mutual
-  expr_read : {form : Form} {h : ℕ} {ts : List Terminal} {e : ExprTree} → Reads form h ts e → In ts → (n : ℕ) → has_words (relabel_expr numbered n e) ≡ true
+  expr_read : {form : Form} {h : ℕ} {ts : List Terminal} {e : ExprTree} → Reads form h ts e → In ts → (n : ℕ) → literals_fit (relabel_expr numbered n e) ≡ true
   expr_read (a_name at x) i n = refl
   expr_read (an_empty_call at o c f) i n = refl
   expr_read (a_call {ts = ts} at o c f r) i n = arguments_read r (front ts _ (right (is_name f) _ i)) _
   expr_read (a_constant at k unsigned) i n = word k unsigned (left _ _ i)
-  expr_read (a_text at bytes r) i n = refl
+  expr_read (a_text {bytes = bytes} at first r) i n = list_all-append is_byte first bytes ∙ both _ _ (left _ _ i) (texts_read r (right (list_all is_byte first) _ i))
   expr_read (in_parentheses {ts = ts} o c r) i n = expr_read r (front ts _ i) n
   expr_read (an_index {xs = xs} {ys = ys} {a = a} {b = b} o c r s) i n = both _ _ (expr_read r (front xs _ i) _) (expr_read s (front ys _ (back xs _ i)) _)
   expr_read (a_member {xs = xs} access d k x r) i n = expr_read r (front xs _ i) _
@@ -100,17 +105,17 @@ mutual
   expr_read (a_plain_assignment r) i n = expr_read r i n
   expr_read (a_comma {xs = xs} {a = a} {b = b} at r s) i n = both _ _ (expr_read r (front xs _ i) _) (expr_read s (back xs _ i) _)
 
-  arguments_read : {h : ℕ} {ts : List Terminal} {es : Exprs} → ReadsArguments h ts es → In ts → (n : ℕ) → all_have_words (relabel_exprs numbered n es) ≡ true
+  arguments_read : {h : ℕ} {ts : List Terminal} {es : Exprs} → ReadsArguments h ts es → In ts → (n : ℕ) → all_literals_fit (relabel_exprs numbered n es) ≡ true
   arguments_read (a_last_argument {e = e} r) i n = both _ _ (expr_read r i _) refl
   arguments_read (an_argument {xs = xs} {e = e} {es = es} at r s) i n = both _ _ (expr_read r (front xs _ i) _) (arguments_read s (back xs _ i) _)
 
 -- ---- declarations
 
 abbrev are_fine : List Site → Bool
-are_fine ss = list_all (λ (s : Site). has_words s.expression) ss
+are_fine ss = list_all (λ (s : Site). literals_fit s.expression) ss
 
 two : (xs ys : List Site) → are_fine xs ≡ true → are_fine ys ≡ true → are_fine (xs ++ ys) ≡ true
-two xs ys h k = list_all-append (λ (s : Site). has_words s.expression) xs ys ∙ both _ _ h k
+two xs ys h k = list_all-append (λ (s : Site). literals_fit s.expression) xs ys ∙ both _ _ h k
 
 given_read : {h : ℕ} {ts : List Terminal} {es : List ExprTree} → ReadsGiven h ts es → In ts → (n : ℕ) (c : Context)
     → are_fine (sites c (relabel_all numbered expr_count (relabel_expr numbered) n es)) ≡ true
@@ -346,13 +351,13 @@ reading_is ds r =
     let u = unit_read r.reads r.are_tokens 0 start_context in
     subst IsAsRead (sym r.are_numbered) (record {
       numbers = ap (λ ns. are_different (ids ns)) (unit_at r.unnumbered) ∙ numbers_different 0 (unit_nodes r.unnumbered);
-      constants = u.fine;
+      literals = u.fine;
       lists = u.full;
     })
 
 pub read_is_as_read : ReadIsAsRead
 read_is_as_read ds read = record {
   numbers = ∥∥₁_elim read (Bool-set (numbers_differ ds) true) (λ r. (reading_is ds r).numbers);
-  constants = ∥∥₁_elim read (Bool-set (constants_are_words ds) true) (λ r. (reading_is ds r).constants);
+  literals = ∥∥₁_elim read (Bool-set (unit_literals_fit ds) true) (λ r. (reading_is ds r).literals);
   lists = ∥∥₁_elim read (Bool-set (lists_are_filled ds) true) (λ r. (reading_is ds r).lists);
 }

@@ -13,7 +13,7 @@ use Rattle.qs_types.specs.Placed.{is_one_of}
 use Rattle.qs_types.specs.References.{TextBlock, expr_calls, expr_texts, site_texts, literal_blocks, unit_calls}
 use Rattle.qs_types.specs.Sites.{Site, unit_sites}
 use Rattle.qs_types.specs.UnitRules.{is_name_in}
-use Rattle.qs_meaning.specs.FitLaws.{has_words, constants_are_words}
+use Rattle.qs_meaning.specs.FitLaws.{literals_fit, unit_literals_fit}
 use Rattle.qs_meaning.proofs.Options.{never, left, right, all_left, all_right}
 use Rattle.qs_meaning.proofs.FitConversions.{both}
 use Rattle.qs_meaning.proofs.FitLeaves.{is_sure, sure_by, is_short}
@@ -103,14 +103,14 @@ calls_in names x = is_name_in x names
 abbrev pub text_in : List ℕ → TextBlock → Bool
 text_in texts t = is_one_of t.node texts && is_short t
 
-sites_sure : (ss : List Site) (names : List (List ℕ)) (texts : List ℕ) → list_all (λ (s : Site). has_words s.expression) ss ≡ true
+sites_sure : (ss : List Site) (names : List (List ℕ)) (texts : List ℕ) → list_all (λ (s : Site). literals_fit s.expression) ss ≡ true
     → ((x : List ℕ) → is_name_in x (flat_map (λ (s : Site). expr_calls s.expression) ss) ≡ true → is_name_in x names ≡ true)
     → list_all is_short (flat_map site_texts ss) ≡ true → ((n : ℕ) → is_one_of n (nodes_of (flat_map site_texts ss)) ≡ true → is_one_of n texts ≡ true)
     → list_all (site_sure (calls_in names) (text_in texts)) ss ≡ true
 sites_sure [] names texts w c s t = refl
 sites_sure (x ∷ xs) names texts w c s t =
     both _ _ (go x.fills_array (all_left is_short (site_texts x) (flat_map site_texts xs) s) (λ n e. t n (one_front n (site_texts x) (flat_map site_texts xs) e)))
-    (sites_sure xs names texts (right (has_words x.expression) _ w)
+    (sites_sure xs names texts (right (literals_fit x.expression) _ w)
     (λ y e. c y (name_back y (expr_calls x.expression) (flat_map (λ (s : Site). expr_calls s.expression) xs) e)) (all_right is_short (site_texts x) (flat_map site_texts xs) s)
     (λ n e. t n (one_back n (site_texts x) (flat_map site_texts xs) e)))
   where
@@ -123,6 +123,6 @@ sites_sure (x ∷ xs) names texts w c s t =
         (calls_known (expr_calls x.expression) names (λ y e. c y (name_front y (expr_calls x.expression) (flat_map (λ (s : Site). expr_calls s.expression) xs) e)))
         (texts_known (expr_texts x.expression) texts s t)
 
-pub unit_sure : (unit : UnitTree) → constants_are_words unit ≡ true → first_past_globals global_limit unit ≡ None
+pub unit_sure : (unit : UnitTree) → unit_literals_fit unit ≡ true → first_past_globals global_limit unit ≡ None
     → list_all (site_sure (calls_in (unit_calls unit)) (text_in (nodes_of (literal_blocks unit)))) (unit_sites unit) ≡ true
 unit_sure unit w e = sites_sure (unit_sites unit) (unit_calls unit) (nodes_of (literal_blocks unit)) w (λ x h. h) (literals_short unit e) (λ n h. h)

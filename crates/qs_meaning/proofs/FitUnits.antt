@@ -380,7 +380,7 @@ module _ (unit : UnitTree) (program : TypedProgram) (typed : declarations_typed 
 
   pub unit_there : all_fit program.functions ≡ true
   unit_there =
-      declarations_there unit start_context program start_there well.keeps_rules (unit_sure unit read.constants limits.globals) read.lists read.numbers
+      declarations_there unit start_context program start_there well.keeps_rules (unit_sure unit read.literals limits.globals) read.lists read.numbers
       (all_among nodes nodes (λ n h. h)) well.calls_have_bodies refl typed
     where
       or_left : (x y : Bool) → x ≡ true → (x || y) ≡ true

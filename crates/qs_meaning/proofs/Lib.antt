@@ -47,3 +47,4 @@ mod Shapes
 mod FitData
 pub mod FitBlocks
 pub mod FitReadings
+pub mod FitTexts

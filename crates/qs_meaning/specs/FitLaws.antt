@@ -5,7 +5,7 @@ use Rattle.qs_syntax.specs.declared.nodes.Node.{Node}
 use Rattle.qs_syntax.specs.Trees.{ExprTree, expr, ShapeTree, Exprs, no_exprs, expr_and, DeclaratorTree, InitialiserTree, value, list, Initialisers, no_initialisers, initialiser_and, VariableTree, MembersTree, StartTree, no_start, start_expression, start_declaration, StmtTree, empty, expression, declaration, block, branch, while_loop, do_loop, for_loop, break, continue, return, Stmts, no_stmts, stmt_and, Else, no_else, else_by, DeclTree, structure, forward, function, variables, UnitTree}
 use Rattle.qs_syntax.specs.Trees as trees
 use Rattle.qs_syntax.specs.Nodes.{unit_nodes}
-use Rattle.qs_syntax.specs.Units.{IsRead}
+use Rattle.qs_syntax.specs.Units.{is_byte, IsRead}
 use Rattle.qs_types.specs.Placed.{is_one_of}
 use Rattle.qs_types.specs.Sites.{Site, unit_sites}
 use Rattle.qs_types.specs.Limits.{IsWithinLimits}
@@ -23,35 +23,35 @@ are_different (n ∷ ns) = not (is_one_of n ns) && are_different ns
 abbrev pub numbers_differ : UnitTree → Bool
 numbers_differ unit = are_different (map (λ (n : Node). n.id) (unit_nodes unit))
 
--- ---- 6.4.4.1: constants are below 2 ^ 32, as those among the tokens of a unit that is read are
+-- ---- 6.4.4.1, 6.4.5: constants are below 2 ^ 32 and texts consist of bytes, as those among the tokens of a unit that is read
 
 abbrev mutual
-  pub has_words : ExprTree → Bool
-  has_words (expr node shape) = shape_has_words shape
+  pub literals_fit : ExprTree → Bool
+  literals_fit (expr node shape) = shape_literals_fit shape
 
-  pub shape_has_words : ShapeTree → Bool
-  shape_has_words (trees.constant n u) = nat_lt n (2 ^ 32)
-  shape_has_words (trees.text bytes) = true
-  shape_has_words (trees.name x) = true
-  shape_has_words (trees.unary operator a) = has_words a
-  shape_has_words (trees.step operator a) = has_words a
-  shape_has_words (trees.cast name a) = has_words a
-  shape_has_words (trees.sizeof_type name) = true
-  shape_has_words (trees.sizeof_expr a) = has_words a
-  shape_has_words (trees.binary operator a b) = has_words a && has_words b
-  shape_has_words (trees.assign operator a b) = has_words a && has_words b
-  shape_has_words (trees.conditional c a b) = has_words c && (has_words a && has_words b)
-  shape_has_words (trees.comma a b) = has_words a && has_words b
-  shape_has_words (trees.subscript a b) = has_words a && has_words b
-  shape_has_words (trees.member access a x) = has_words a
-  shape_has_words (trees.call f es) = all_have_words es
+  pub shape_literals_fit : ShapeTree → Bool
+  shape_literals_fit (trees.constant n u) = nat_lt n (2 ^ 32)
+  shape_literals_fit (trees.text bytes) = list_all is_byte bytes
+  shape_literals_fit (trees.name x) = true
+  shape_literals_fit (trees.unary operator a) = literals_fit a
+  shape_literals_fit (trees.step operator a) = literals_fit a
+  shape_literals_fit (trees.cast name a) = literals_fit a
+  shape_literals_fit (trees.sizeof_type name) = true
+  shape_literals_fit (trees.sizeof_expr a) = literals_fit a
+  shape_literals_fit (trees.binary operator a b) = literals_fit a && literals_fit b
+  shape_literals_fit (trees.assign operator a b) = literals_fit a && literals_fit b
+  shape_literals_fit (trees.conditional c a b) = literals_fit c && (literals_fit a && literals_fit b)
+  shape_literals_fit (trees.comma a b) = literals_fit a && literals_fit b
+  shape_literals_fit (trees.subscript a b) = literals_fit a && literals_fit b
+  shape_literals_fit (trees.member access a x) = literals_fit a
+  shape_literals_fit (trees.call f es) = all_literals_fit es
 
-  pub all_have_words : Exprs → Bool
-  all_have_words no_exprs = true
-  all_have_words (expr_and e es) = has_words e && all_have_words es
+  pub all_literals_fit : Exprs → Bool
+  all_literals_fit no_exprs = true
+  all_literals_fit (expr_and e es) = literals_fit e && all_literals_fit es
 
-abbrev pub constants_are_words : UnitTree → Bool
-constants_are_words unit = list_all (λ (s : Site). has_words s.expression) (unit_sites unit)
+abbrev pub unit_literals_fit : UnitTree → Bool
+unit_literals_fit unit = list_all (λ (s : Site). literals_fit s.expression) (unit_sites unit)
 
 -- ---- 6.7.9p1, 6.7.2.1p1: a list of initialisers has one at least, and a list of members too, as the grammar asks
 
@@ -118,7 +118,7 @@ lists_are_filled unit = list_all declaration_filled unit
 -- what holds of every unit that is read
 pub record IsAsRead (unit : UnitTree) : Type 0 where
   pub numbers : numbers_differ unit ≡ true
-  pub constants : constants_are_words unit ≡ true
+  pub literals : unit_literals_fit unit ≡ true
   pub lists : lists_are_filled unit ≡ true
 
 abbrev pub TypedUnitsFit : Type 0

@@ -208,7 +208,7 @@ pub multiple_canonical : (k : ℤ) (p : Polynomial) → IsCanonical p → IsCano
 multiple_canonical k nothing x = tt
 multiple_canonical k (plus c m p) x = unless_canonical (k *ℤ c) m (multiple k p) x.1 (multiple_before k m p x.2) (multiple_canonical k p x.3)
 
-term_product_canonical : (c : ℤ) (m : Monomial) (q so_far : Polynomial) → IsCanonicalMonomial m → IsCanonical q → IsCanonical so_far → IsCanonical (add_term_product c m q so_far)
+pub term_product_canonical : (c : ℤ) (m : Monomial) (q so_far : Polynomial) → IsCanonicalMonomial m → IsCanonical q → IsCanonical so_far → IsCanonical (add_term_product c m q so_far)
 term_product_canonical c m nothing so_far s x y = y
 term_product_canonical c m (plus d n q) so_far s x y =
     term_product_canonical c m q (insert_term (c *ℤ d) (monomial_product m n) so_far) s x.3

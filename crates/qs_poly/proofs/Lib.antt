@@ -2,6 +2,7 @@ pub mod Ring
 pub mod Order
 pub mod Coefficients
 pub mod Steps
+pub mod Search
 pub mod Bounds
 pub mod Limited
 pub mod CodeSteps

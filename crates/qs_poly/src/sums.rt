@@ -1,6 +1,6 @@
 // Sums, multiples and products of lists of terms, before any limit is asked.
 ghost use Rattle.std.specs.Prelude.{◌≡◌, ◌≤◌, ◌^◌, ℤ, pos, ◌-ℤ◌, length, IfOk, OnOk, unsigned_abs};
-ghost use Rattle.qs_poly.specs.Canonical.{IsCanonical};
+ghost use Rattle.qs_poly.specs.Canonical.{IsCanonical, IsCanonicalMonomial};
 ghost use Rattle.qs_poly.specs.Operations.{plus_unless_zero, sum, multiple, lessened, product, add_term_product, add_product};
 ghost use Rattle.qs_poly.specs.Terms.{sum_of, AllAtMost};
 
@@ -14,6 +14,8 @@ pub fn add_terms(alloc: Global, terms: &[Term], so_far: &mut Vec<Term>) -> Resul
     requires few { length terms.now ≤ 64 }
     requires narrow { AllAtMost (2 ^ 56) (sum_of terms.now) }
     requires small { AllAtMost (2 ^ 120) (sum_of so_far.old.items) }
+    requires canonical_terms { IsCanonical (sum_of terms.now) }
+    requires canonical { IsCanonical (sum_of so_far.old.items) }
     ensures { OnOk result (sum_of so_far.new.items ≡ sum (sum_of terms.now) (sum_of so_far.old.items)) }
 {
     for term in terms {
@@ -77,6 +79,9 @@ fn add_term_product(
     requires few { length others.now ≤ 64 }
     requires narrow { AllAtMost (2 ^ 56) (sum_of others.now) }
     requires small { AllAtMost (2 ^ 124) (sum_of so_far.old.items) }
+    requires canonical_term { IsCanonicalMonomial term.now.monomial }
+    requires canonical_others { IsCanonical (sum_of others.now) }
+    requires canonical { IsCanonical (sum_of so_far.old.items) }
     ensures { OnOk result (sum_of so_far.new.items ≡ add_term_product term.now.coefficient term.now.monomial (sum_of others.now) (sum_of so_far.old.items)) }
 {
     for other in others {
@@ -91,6 +96,8 @@ pub fn multiply_terms(alloc: Global, terms: &[Term], others: &[Term]) -> Result<
     requires few_others { length others.now ≤ 64 }
     requires narrow_terms { AllAtMost (2 ^ 56) (sum_of terms.now) }
     requires narrow_others { AllAtMost (2 ^ 56) (sum_of others.now) }
+    requires canonical_terms { IsCanonical (sum_of terms.now) }
+    requires canonical_others { IsCanonical (sum_of others.now) }
     ensures { IfOk result (λ v. sum_of v.items ≡ product (sum_of terms.now) (sum_of others.now)) }
 {
     let mut so_far = Vec::new(alloc);

@@ -1,6 +1,7 @@
 // Lists of terms, sorted by their monomials.
 ghost use Rattle.std.specs.Prelude.{◌≡◌, ◌≢◌, ◌≤◌, ◌<◌, ◌^◌, ℤ, pos, ◌+ℤ◌, ◌*ℤ◌, length, take, drop, IfOk, OnOk, MatchResult, unsigned_abs};
 ghost use Rattle.std.specs.Bool.{MatchBool};
+ghost use Rattle.qs_poly.specs.Canonical.{IsCanonical};
 ghost use Rattle.qs_poly.specs.Operations.{plus_unless_zero, insert_term, monomial_product};
 ghost use Rattle.qs_poly.specs.Polynomials.{Polynomial};
 ghost use Rattle.qs_poly.specs.Terms.{sum_of, terms_before, join_first, AllAtMost};
@@ -98,21 +99,25 @@ pub fn copy_terms(alloc: Global, from: &[Term]) -> Result<Vec<Term>, NoMemory>
     Ok(to)
 }
 
-/// Where a monomial stands, or else where it goes.
+/// Where a monomial stands among terms in order, or else where it goes.
 fn place_of(terms: &[Term], monomial: &Monomial) -> Result<usize, usize>
+    requires canonical { IsCanonical (sum_of terms.now) }
     ensures within { MatchResult result (λ i. i < length terms.now) (λ i. i ≤ length terms.now) }
     ensures place { (c : ℤ) → MatchResult result
         (λ i. insert_term c monomial.now (sum_of terms.now) ≡ terms_before (take i terms.now) (join_first c (drop i terms.now)))
         (λ i. insert_term c monomial.now (sum_of terms.now) ≡ terms_before (take i terms.now) (plus_unless_zero c monomial.now (sum_of (drop i terms.now)))) }
 {
-    for (i, term) in terms.iter().enumerate() {
-        match monomial.cmp(&term.monomial) {
-            Ordering::Greater => {}
-            Ordering::Equal => return Ok(i),
-            Ordering::Less => return Err(i),
+    let mut low = 0;
+    let mut high = terms.len();
+    while low < high {
+        let middle = low + (high - low) / 2;
+        match monomial.cmp(&terms[middle].monomial) {
+            Ordering::Less => high = middle,
+            Ordering::Equal => return Ok(middle),
+            Ordering::Greater => low = middle + 1,
         }
     }
-    Err(terms.len())
+    Err(low)
 }
 
 fn is_zero(x: i128) -> bool
@@ -140,6 +145,7 @@ fn join(terms: &mut Vec<Term>, i: usize, coefficient: i128)
 pub fn insert_term(terms: &mut Vec<Term>, term: Term) -> Result<(), NoMemory>
     requires small { unsigned_abs term.coefficient ≤ 2 ^ 125 }
     requires all_small { AllAtMost (2 ^ 125) (sum_of terms.old.items) }
+    requires canonical { IsCanonical (sum_of terms.old.items) }
     ensures { OnOk result (sum_of terms.new.items ≡ insert_term term.coefficient term.monomial (sum_of terms.old.items)) }
 {
     match place_of(terms, &term.monomial) {

@@ -198,5 +198,5 @@ slots_are_accepted = record { own_slots = refl }
 saved_registers : map is_saved_register (7 ∷ 8 ∷ 9 ∷ 10 ∷ 17 ∷ 18 ∷ 27 ∷ 28 ∷ []) ≡ false ∷ true ∷ true ∷ false ∷ false ∷ true ∷ true ∷ false ∷ []
 saved_registers = refl
 
-registers_for_steps : map is_for_steps (4 ∷ 5 ∷ 7 ∷ 8 ∷ 27 ∷ 28 ∷ 31 ∷ 32 ∷ []) ≡ false ∷ true ∷ true ∷ false ∷ false ∷ true ∷ true ∷ false ∷ []
+registers_for_steps : map is_for_steps (5 ∷ 9 ∷ 10 ∷ 17 ∷ 18 ∷ 27 ∷ []) ≡ false ∷ false ∷ true ∷ true ∷ false ∷ false ∷ []
 registers_for_steps = refl

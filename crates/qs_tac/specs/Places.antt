@@ -1,5 +1,5 @@
 -- The places in which the values of a function may stand.
-use Rattle.std.specs.Prelude.{◌≡◌, ℕ, zero, suc, ◌+◌, ◌&&◌, ◌||◌, nat_le, Bool, List, [], ◌∷◌, slice_index_or}
+use Rattle.std.specs.Prelude.{◌≡◌, ℕ, zero, suc, ◌+◌, ◌&&◌, nat_le, Bool, List, [], ◌∷◌, slice_index_or}
 use Rattle.qs_tac.specs.Trees.{TacFunctionTree}
 use Rattle.qs_tac.specs.declared.places.Place.{Place}
 use Rattle.qs_tac.specs.declared.places.Place.TheVariants.{Slot}
@@ -24,9 +24,10 @@ all_slots f = record { at = slots_from 0 f.temporaries }
 
 -- ---- registers
 
--- x5 to x7 and x28 to x31, which are kept for the steps that the instructions themselves are made of
+-- x10 to x17, which are kept for the steps that the instructions themselves are made of: no value stands
+-- where the arguments of a call go
 abbrev pub is_for_steps : (register : ℕ) → Bool
-is_for_steps r = nat_le 5 r && nat_le r 7 || nat_le 28 r && nat_le r 31
+is_for_steps r = nat_le 10 r && nat_le r 17
 
 -- ---- places that keep the meaning
 

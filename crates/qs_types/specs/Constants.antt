@@ -148,7 +148,7 @@ rest u a b = if u then words.remu a b else words.rem a b
 abbrev pub shifted : ℕ → (count : ℕ) → ℕ → Option ℕ
 shifted a count result = if nat_lt count 32 then Some result else None
 
--- 6.5.5 to 6.5.12, on two values; p and q say whether their types are unsigned
+-- 6.5.5 to 6.5.14, on two values; p and q say whether their types are unsigned
 abbrev pub combined : BinaryOperator → (p q : Bool) → ℕ → ℕ → Option ℕ
 combined binaries.Multiply p q a b = Some (words.mul a b)
 combined binaries.Divide p q a b = if divides (p || q) a b then Some (quotient (p || q) a b) else None
@@ -212,7 +212,7 @@ abbrev mutual
 abbrev pub constant_of : Context → ExprTree → Option ℕ
 constant_of c e = and_then (type_of c e) (λ t. if is_integer t && is_built e then value_of c e else None)
 
--- 6.7.6.2p1, p5: a length is at least 1; an int from 2 ^ 31 on is below 0
+-- 6.7.6.2p1: a length is at least 1; an int from 2 ^ 31 on is below 0
 abbrev pub length_within : TypeTree → ℕ → Option ℕ
 length_within t n = if (n == 0) || (not (same_type t unsigned) && not (nat_lt n (2 ^ 31))) then None else Some n
 

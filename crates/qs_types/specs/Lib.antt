@@ -5,6 +5,7 @@ pub mod Conversions
 pub mod TypeOf
 pub mod StructsOf
 pub mod EnvOf
+pub mod Defining
 pub mod Rules
 pub mod GivenFunctions
 pub mod Contexts

@@ -113,6 +113,7 @@ after_statement c _ = c
 abbrev pub for_context : Context → StartTree → Context
 for_context c start = after_start (inner_scope c) start
 
+-- 6.8.6.2p1, 6.8.6.3p1
 abbrev pub loop_tests : Context → List Test
 loop_tests c = keeps rules.OutsideLoop c.in_loop
 

@@ -183,7 +183,7 @@ agree (Some r) h = may_be r.result h.result && may_all_be r.parameters h.paramet
 
 -- ---- functions (6.9.1)
 
--- 6.7p3: what was declared under the name before agrees, with at most one body
+-- 6.7p4: what was declared under the name before agrees; 6.9p3, p5: at most one body
 abbrev pub agrees_with : Option Entity → Header → (has_body : Bool) → Bool
 agrees_with None h has_body = true
 agrees_with (Some (local_variable node t)) h has_body = false

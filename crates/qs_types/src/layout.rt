@@ -1,10 +1,10 @@
 // Sizes, alignments and the offsets of members (C11 6.2.8, 6.5.3.4, 6.7.2.1).
-ghost use Rattle.std.specs.Prelude.{◌≡◌, ◌≤◌, ◌<◌, ◌+◌, ◌^◌, true, Some, IfOk, IfSome, is_some, map, option_map};
-ghost use Rattle.indexmap.specs.IndexMap.{values};
-ghost use Rattle.qs_types.specs.Layout.{rounded_up, array_extent, struct_extent, extent_within, layout_within, layout_of, size_of, alignment_of, offset_of, is_complete, is_sized, sized_by, sized_layout};
+ghost use Rattle.std.specs.Prelude.{◌≡◌, ◌≤◌, ◌<◌, ◌+◌, ◌^◌, true, Some, IfOk, IfSome, is_some};
+ghost use Rattle.qs_types.specs.Layout.{rounded_up, array_extent, struct_extent, extent_within, layout_of, size_of, alignment_of, offset_of, is_complete, is_sized, sized_by};
 ghost use Rattle.qs_types.specs.LayoutLaws.{IsSmall, Rounds, SizesAligned, StructsLaidOut};
 ghost use Rattle.qs_types.specs.TypeOf.{type_tree};
 ghost use Rattle.qs_types.specs.StructsOf.{layout_tree};
+ghost use Rattle.qs_types.specs.Defining.{IsLaidOut, IsWhole};
 ghost use Rattle.qs_types.specs.EnvOf.{env_tree};
 
 use crate::env::Env;
@@ -127,7 +127,7 @@ pub fn members_layout(
     types: &Env,
     members: &IndexMap<Name, CType>,
 ) -> Result<Option<StructLayout>, NoMemory>
-    ensures { IfOk result (λ layout. option_map layout_tree layout ≡ sized_layout (layout_of (env_tree types.now)) (map type_tree (values members.now))) }
+    ensures { IfOk result (IsLaidOut types.now members.now.entries) }
 {
     let mut offsets = Vec::new(alloc);
     let mut end = 0;
@@ -148,7 +148,7 @@ pub fn members_layout(
 }
 
 fn whole_layout(offsets: Vec<u32>, size: u32, alignment: u32) -> Option<StructLayout>
-    ensures { option_map layout_tree result ≡ layout_within (record { offsets = offsets.items; size = size; alignment = alignment }) }
+    ensures { IsWhole offsets.items size alignment result }
 {
     if size > SIZE_LIMIT {
         return None;

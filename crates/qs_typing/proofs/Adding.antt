@@ -8,7 +8,7 @@ use Rattle.qs_types.specs.declared.rules.Rule.TheVariants as rules
 use Rattle.qs_types.specs.Rules.{Test, test, Fault, faults_of}
 use Rattle.qs_types.specs.Contexts.{Context, start_context, inner_scope, inside_loop}
 use Rattle.qs_types.specs.ExpressionFaults.{Position, used, discarded, whole, expr_faults}
-use Rattle.qs_types.specs.Declarations.{lengths_faults, variable_declared}
+use Rattle.qs_types.specs.Declarations.{lengths_faults, variable_declared, parameter_declared}
 use Rattle.qs_types.specs.InitialiserRules.{option_part, initialiser_faults, elements_faults}
 use Rattle.qs_types.specs.StatementRules as statements
 use Rattle.qs_types.specs.StatementRules.{after_variable, after_statement, for_context, condition_faults, start_faults, statement_faults, statements_faults, else_faults, variable_faults, variables_faults, option_initialiser_faults, option_used, option_discarded}
@@ -22,7 +22,7 @@ use Rattle.qs_typing.specs.Findings.{least_with}
 use Rattle.qs_typing.specs.NodeTypes.{NodeTypes, expr_types, option_types, lengths_types, declarator_types, declarators_types, initialiser_types, initialisers_types, option_initialiser_types, variables_types, start_types, statement_types, statements_types, else_types, members_types, parameters_types, body_types, declaration_types, declarations_types, unit_types}
 use Rattle.qs_typing.specs.Noted.{parameters_noted}
 use Rattle.qs_typing.specs.UnitWalk as walks
-use Rattle.qs_typing.specs.UnitWalk.{WalkTree, node_opened, node_judged, site_walked, expr_walked, option_walked, lengths_walked, initialiser_walked, elements_walked, option_initialiser_walked, variable_walk_noted, variable_walked, variables_walked, start_walked, condition_walked, statement_walked, statements_walked, else_walked, member_walked, together_walked, members_walked, struct_walked, parameter_walked, parameters_walked, body_walked, function_walked, declaration_walked, declarations_walked, unit_walked, start_walk}
+use Rattle.qs_typing.specs.UnitWalk.{WalkTree, node_opened, object_opened, declarator_walked, node_judged, site_walked, expr_walked, option_walked, lengths_walked, initialiser_walked, elements_walked, option_initialiser_walked, variable_walk_noted, variable_walked, variables_walked, start_walked, condition_walked, statement_walked, statements_walked, else_walked, member_walked, together_walked, members_walked, struct_walked, parameter_walked, parameters_walked, body_walked, function_walked, declaration_walked, declarations_walked, unit_walked, start_walk}
 use Rattle.qs_typing.proofs.Least.{least_swaps, least_with-append}
 
 abbrev pub site_addressed : Site → List ℕ
@@ -101,6 +101,15 @@ opened_adds = record {
   texts = λ w. sym (append-nil w.noted.texts);
 }
 
+object_adds : (t : Option TypeTree) → Adds (object_opened t) [] [] (t ∷ [])
+object_adds t = record {
+  least = λ w. refl;
+  types = λ w. refl;
+  names = λ w. sym (append-nil w.found.addressed);
+  calls = λ w. sym (append-nil w.noted.calls);
+  texts = λ w. sym (append-nil w.noted.texts);
+}
+
 -- a variable is noted
 then_noted : {f : WalkTree → WalkTree} {xs : List Fault} {ss : List Site} {us : NodeTypes} (at_file_scope : Bool) (c : Context) (node : ℕ) (t : Option TypeTree) → Adds f xs ss us
     → Adds (λ w. variable_walk_noted at_file_scope c node t (f w)) xs ss us
@@ -131,7 +140,7 @@ site_adds c p false e = record {
 expr_adds : (c : Context) (p : Position) (e : ExprTree) → Adds (expr_walked c p e) (expr_faults c p e) (site c e) (expr_types c e)
 expr_adds c p e = site_adds c p false e
 
-lengths_add : (c : Context) (es : List ExprTree) → Adds (lengths_walked c es) (lengths_faults c es) (sites c es) (lengths_types c es)
+pub lengths_add : (c : Context) (es : List ExprTree) → Adds (lengths_walked c es) (lengths_faults c es) (sites c es) (lengths_types c es)
 lengths_add c [] = nothing_adds
 lengths_add c (e ∷ es) = then_adds (expr_adds c used e) (lengths_add c es)
 
@@ -145,6 +154,9 @@ discarded_adds c (Some e) = expr_adds c discarded e
 
 condition_adds : (c : Context) (node : Node) (e : ExprTree) → Adds (condition_walked c node e) (condition_faults c node e) (site c e) (expr_types c e)
 condition_adds c node e = judged_adds node (statements.condition_tests _) (expr_adds c used e)
+
+declarator_adds : (c : Context) (t : Option TypeTree) (es : List ExprTree) → Adds (declarator_walked c t es) (lengths_faults c es) (sites c es) (t ∷ lengths_types c es)
+declarator_adds c t es = then_adds (object_adds t) (lengths_add c es)
 
 -- ---- variables
 
@@ -169,11 +181,11 @@ option_initialiser_adds at_file_scope c t (Some i) = initialiser_adds at_file_sc
 
 variable_adds : (at_file_scope : Bool) (c : Context) (base : Base) (v : VariableTree)
     → Adds (variable_walked at_file_scope c base v) (variable_faults at_file_scope c (after_variable at_file_scope c base v) base v) (variable_sites at_file_scope c (after_variable at_file_scope c base v) base v)
-    (declarator_types c v.declarator ++ option_initialiser_types (after_variable at_file_scope c base v) v.initialiser)
+    (declarator_types c (variable_declared c base v).type v.declarator ++ option_initialiser_types (after_variable at_file_scope c base v) v.initialiser)
 variable_adds at_file_scope c base v =
     judged_adds v.declarator.node (statements.variable_tests at_file_scope c (after_variable at_file_scope c base v) base v)
     (then_adds
-    (then_noted at_file_scope c v.declarator.node.id (variable_declared c base v).type (then_adds opened_adds (lengths_add c v.declarator.lengths.given)))
+    (then_noted at_file_scope c v.declarator.node.id (variable_declared c base v).type (declarator_adds c (variable_declared c base v).type v.declarator.lengths.given))
     (option_initialiser_adds at_file_scope (after_variable at_file_scope c base v) (variable_declared c base v).type v.initialiser))
 
 pub variables_add : (at_file_scope : Bool) (c : Context) (base : Base) (vs : List VariableTree)
@@ -224,7 +236,7 @@ mutual
 
 -- ---- structs
 
-member_adds : (c : Context) (before : Before) (base : Base) (d : DeclaratorTree) → Adds (member_walked c before base d) (member_faults c before base d) (declarator_sites c d) (declarator_types c d)
+member_adds : (c : Context) (before : Before) (base : Base) (d : DeclaratorTree) → Adds (member_walked c before base d) (member_faults c before base d) (declarator_sites c d) (declarator_types c None d)
 member_adds c before base d = judged_adds d.node (units.member_tests c before base d) (then_adds opened_adds (lengths_add c d.lengths.given))
 
 together_add : (c : Context) (before : Before) (base : Base) (ds : List DeclaratorTree) → Adds (together_walked c before base ds) (together_faults c before base ds) (declarators_sites c ds) (declarators_types c ds)
@@ -243,7 +255,7 @@ struct_adds c s = then_adds (judged_only c s.node (test rules.UnknownTag (is_def
 parameters_add : (c : Context) (has_body : Bool) (ps : List ParameterTree) → Adds (parameters_walked c has_body ps) (parameters_faults c has_body ps) (parameters_sites c ps) (parameters_types c ps)
 parameters_add c has_body [] = nothing_adds
 parameters_add c has_body (p ∷ ps) =
-    then_adds (judged_adds p.node (units.parameter_tests c has_body p) (then_adds opened_adds (lengths_add c p.lengths.given))) (parameters_add (after_parameter c p) has_body ps)
+    then_adds (judged_adds p.node (units.parameter_tests c has_body p) (declarator_adds c (parameter_declared c p).type p.lengths.given)) (parameters_add (after_parameter c p) has_body ps)
 
 body_adds : (c : Context) (f : FunctionTree) (body : Option Stmts) → Adds (body_walked c f body) (body_faults c f body) (body_sites c f body) (body_types c f body)
 body_adds c f None = nothing_adds

@@ -10,7 +10,7 @@ use Rattle.qs_types.specs.Rules.{Test, test}
 use Rattle.qs_types.specs.Expressions.{type_of}
 use Rattle.qs_types.specs.Contexts.{Context, start_context, inner_scope, inside_loop}
 use Rattle.qs_types.specs.ExpressionFaults.{Position, used, discarded, whole}
-use Rattle.qs_types.specs.Declarations.{variable_declared}
+use Rattle.qs_types.specs.Declarations.{variable_declared, parameter_declared}
 use Rattle.qs_types.specs.InitialiserRules.{option_part}
 use Rattle.qs_types.specs.StatementRules.{after_variable, variable_tests, condition_tests, for_tests, loop_tests, return_tests, after_statement, for_context}
 use Rattle.qs_types.specs.UnitRules.{with_tag, is_defined, member_tests, parameter_tests, header_tests, result_type, Before, no_members, after_member, after_together, after_parameter, after_function, after_declaration, parameter_types, with_parameter, with_parameters, body_context}
@@ -18,7 +18,7 @@ use Rattle.qs_types.specs.Placed.{Local, addressed_in, is_placed, locals_in, par
 use Rattle.qs_types.specs.Limits.{Block, type_size, variables_blocks, variable_blocks_from, local_block, local_past, local_past_from, local_limit, block_past, or_else}
 use Rattle.qs_types.specs.Sites.{may_hold}
 use Rattle.qs_typing.specs.Noted.{LocalTree, local_tree, parameters_noted, is_block, local_past_by}
-use Rattle.qs_typing.specs.UnitWalk.{WalkTree, node_opened, node_judged, option_list_tests, site_walked, option_walked, lengths_walked, initialiser_walked, elements_walked, option_initialiser_walked, variable_walk_noted, variable_walked, variables_walked, start_walked, condition_walked, statement_walked, statements_walked, else_walked, member_walked, together_walked, members_walked, struct_walked, parameters_walked, with_body_begun, body_walked, function_walked, declarations_walked, unit_walked, start_walk}
+use Rattle.qs_typing.specs.UnitWalk.{WalkTree, node_opened, object_opened, declarator_walked, node_judged, option_list_tests, site_walked, option_walked, lengths_walked, initialiser_walked, elements_walked, option_initialiser_walked, variable_walk_noted, variable_walked, variables_walked, start_walked, condition_walked, statement_walked, statements_walked, else_walked, member_walked, together_walked, members_walked, struct_walked, parameters_walked, with_body_begun, body_walked, function_walked, declarations_walked, unit_walked, start_walk}
 use Rattle.qs_typing.proofs.Adding.{statements_add}
 use Rattle.qs_typing.proofs.Scoping.{statement_inner, start_inner}
 
@@ -61,6 +61,9 @@ nothing_kept = record { at_file = λ w. sym (append-nil w.noted.globals); in_bod
 opened_kept : Keeps node_opened
 opened_kept = record { at_file = λ w. sym (append-nil w.noted.globals); in_body = λ w. sym (append-nil w.noted.locals); past = λ w. refl }
 
+object_kept : (t : Option TypeTree) → Keeps (object_opened t)
+object_kept t = record { at_file = λ w. sym (append-nil w.noted.globals); in_body = λ w. sym (append-nil w.noted.locals); past = λ w. refl }
+
 site_kept : (c : Context) (p : Position) (fills : Bool) (e : ExprTree) → Keeps (site_walked c p fills e)
 site_kept c p fills e = record { at_file = λ w. sym (append-nil w.noted.globals); in_body = λ w. sym (append-nil w.noted.locals); past = λ w. refl }
 
@@ -71,6 +74,9 @@ option_kept c p (Some e) = site_kept c p false e
 lengths_kept : (c : Context) (es : List ExprTree) → Keeps (lengths_walked c es)
 lengths_kept c [] = nothing_kept
 lengths_kept c (e ∷ es) = then_blocks (site_kept c used false e) (lengths_kept c es)
+
+declarator_kept : (c : Context) (t : Option TypeTree) (es : List ExprTree) → Keeps (declarator_walked c t es)
+declarator_kept c t es = then_blocks (object_kept t) (lengths_kept c es)
 
 mutual
   initialiser_kept : (at_file_scope : Bool) (c : Context) (t : Option TypeTree) (i : InitialiserTree) → Keeps (initialiser_walked at_file_scope c t i)
@@ -99,7 +105,7 @@ global_noted c node t = record { at_file = λ w. refl; in_body = λ w. sym (appe
 local_adds : (c : Context) (base : Base) (v : VariableTree) → AddsBlocks (variable_walked false c base v) [] (local_tree c.structs v.declarator.node.id (variable_declared c base v).type ∷ [])
 local_adds c base v =
     judged_kept v.declarator.node (variable_tests false c (after_variable false c base v) base v)
-    (then_kept (then_blocks (then_blocks opened_kept (lengths_kept c v.declarator.lengths.given)) (local_noted c v.declarator.node.id (variable_declared c base v).type))
+    (then_kept (then_blocks (declarator_kept c (variable_declared c base v).type v.declarator.lengths.given) (local_noted c v.declarator.node.id (variable_declared c base v).type))
     (option_initialiser_kept false (after_variable false c base v) (variable_declared c base v).type v.initialiser))
 
 locals_add : (c : Context) (base : Base) (vs : List VariableTree) → AddsBlocks (variables_walked false c base vs) [] (map (noted_local c.structs) (variables_locals c base vs))
@@ -112,7 +118,7 @@ with_globals {f = f} {ls = ls} e a = subst (λ l. AddsBlocks f l ls) e a
 global_adds : (c : Context) (base : Base) (v : VariableTree) → AddsBlocks (variable_walked true c base v) (global_block c.structs v.declarator.node.id (variable_declared c base v).type ∷ []) []
 global_adds c base v =
     judged_kept v.declarator.node (variable_tests true c (after_variable true c base v) base v)
-    (then_blocks (then_blocks (then_blocks opened_kept (lengths_kept c v.declarator.lengths.given)) (global_noted c v.declarator.node.id (variable_declared c base v).type))
+    (then_blocks (then_blocks (declarator_kept c (variable_declared c base v).type v.declarator.lengths.given) (global_noted c v.declarator.node.id (variable_declared c base v).type))
     (option_initialiser_kept true (after_variable true c base v) (variable_declared c base v).type v.initialiser))
 
 globals_add : (c : Context) (base : Base) (vs : List VariableTree) → AddsBlocks (variables_walked true c base vs) (variables_blocks c base vs) []
@@ -192,7 +198,7 @@ struct_kept c s = then_blocks (judged_kept s.node (test rules.UnknownTag (is_def
 parameters_kept : (c : Context) (has_body : Bool) (ps : List ParameterTree) → Keeps (parameters_walked c has_body ps)
 parameters_kept c has_body [] = nothing_kept
 parameters_kept c has_body (p ∷ ps) =
-    then_blocks (judged_kept p.node (parameter_tests c has_body p) (then_blocks opened_kept (lengths_kept c p.lengths.given))) (parameters_kept (after_parameter c p) has_body ps)
+    then_blocks (judged_kept p.node (parameter_tests c has_body p) (declarator_kept c (parameter_declared c p).type p.lengths.given)) (parameters_kept (after_parameter c p) has_body ps)
 
 -- ---- bodies
 

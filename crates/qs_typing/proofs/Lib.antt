@@ -16,6 +16,7 @@ pub mod Ends
 pub mod Declaring
 pub mod Defining
 pub mod Counts
+pub mod Declarators
 pub mod Blocks
 pub mod Causes
 pub mod Checked

@@ -9,7 +9,7 @@ use Rattle.qs_types.specs.Rules.{Test, test}
 use Rattle.qs_types.specs.Expressions.{type_of}
 use Rattle.qs_types.specs.Contexts.{Context, start_context, inner_scope, inside_loop}
 use Rattle.qs_types.specs.ExpressionFaults.{Position, used, discarded, whole}
-use Rattle.qs_types.specs.Declarations.{variable_declared}
+use Rattle.qs_types.specs.Declarations.{variable_declared, parameter_declared}
 use Rattle.qs_types.specs.InitialiserRules.{option_part}
 use Rattle.qs_types.specs.StatementRules as statements
 use Rattle.qs_types.specs.StatementRules.{after_variable, after_statement, for_context}
@@ -22,7 +22,7 @@ use Rattle.qs_typing.specs.UnitNodes.{of_option, of_lengths, of_declarator, of_d
 use Rattle.qs_typing.specs.NodeReferents.{no_referent, unit_referents}
 use Rattle.qs_typing.specs.Noted.{parameters_noted}
 use Rattle.qs_typing.specs.UnitWalk as walks
-use Rattle.qs_typing.specs.UnitWalk.{WalkTree, node_opened, node_judged, site_walked, expr_walked, option_walked, lengths_walked, initialiser_walked, elements_walked, option_initialiser_walked, variable_walk_noted, variable_walked, variables_walked, start_walked, condition_walked, statement_walked, statements_walked, else_walked, member_walked, together_walked, members_walked, struct_walked, parameter_walked, parameters_walked, body_walked, function_walked, declaration_walked, declarations_walked, unit_walked, start_walk}
+use Rattle.qs_typing.specs.UnitWalk.{WalkTree, node_opened, object_opened, declarator_walked, node_judged, site_walked, expr_walked, option_walked, lengths_walked, initialiser_walked, elements_walked, option_initialiser_walked, variable_walk_noted, variable_walked, variables_walked, start_walked, condition_walked, statement_walked, statements_walked, else_walked, member_walked, together_walked, members_walked, struct_walked, parameter_walked, parameters_walked, body_walked, function_walked, declaration_walked, declarations_walked, unit_walked, start_walk}
 
 -- a walk finds that names stand for these, behind those before
 pub record Names (f : WalkTree → WalkTree) (rs : List (Option Referent)) : Type 0 where
@@ -43,6 +43,9 @@ no_names = record { found = λ w. sym (append-nil w.found.referents) }
 opened_names : Names node_opened (None ∷ [])
 opened_names = record { found = λ w. refl }
 
+object_names : (t : Option TypeTree) → Names (object_opened t) (None ∷ [])
+object_names t = record { found = λ w. refl }
+
 site_names : (c : Context) (p : Position) (fills : Bool) (e : ExprTree) → Names (site_walked c p fills e) (of_nodes (referent_of c) e)
 site_names c p fills e = record { found = λ w. refl }
 
@@ -56,6 +59,9 @@ option_names c p (Some e) = expr_names c p e
 lengths_names : (c : Context) (es : List ExprTree) → Names (lengths_walked c es) (of_lengths no_referent referent_of c es)
 lengths_names c [] = no_names
 lengths_names c (e ∷ es) = then_names (expr_names c used e) (lengths_names c es)
+
+declarator_names : (c : Context) (t : Option TypeTree) (es : List ExprTree) → Names (declarator_walked c t es) (None ∷ of_lengths no_referent referent_of c es)
+declarator_names c t es = then_names (object_names t) (lengths_names c es)
 
 condition_names : (c : Context) (node : Node) (e : ExprTree) → Names (condition_walked c node e) (of_nodes (referent_of c) e)
 condition_names c node e = judged_names node (statements.condition_tests (type_of c e)) (expr_names c used e)
@@ -79,11 +85,11 @@ option_initialiser_names at_file_scope c t (Some i) = initialiser_names at_file_
 
 variable_names : (at_file_scope : Bool) (c : Context) (base : Base) (v : VariableTree)
     → Names (variable_walked at_file_scope c base v)
-    (of_declarator no_referent referent_of c v.declarator ++ of_option_initialiser no_referent referent_of (after_variable at_file_scope c base v) v.initialiser)
+    (of_declarator no_referent referent_of c (variable_declared c base v).type v.declarator ++ of_option_initialiser no_referent referent_of (after_variable at_file_scope c base v) v.initialiser)
 variable_names at_file_scope c base v =
     judged_names v.declarator.node (statements.variable_tests at_file_scope c (after_variable at_file_scope c base v) base v)
     (then_names
-    (noted_names at_file_scope c v.declarator.node.id (variable_declared c base v).type (then_names opened_names (lengths_names c v.declarator.lengths.given)))
+    (noted_names at_file_scope c v.declarator.node.id (variable_declared c base v).type (declarator_names c (variable_declared c base v).type v.declarator.lengths.given))
     (option_initialiser_names at_file_scope (after_variable at_file_scope c base v) (variable_declared c base v).type v.initialiser))
 
 variables_names : (at_file_scope : Bool) (c : Context) (base : Base) (vs : List VariableTree) → Names (variables_walked at_file_scope c base vs) (of_variables no_referent referent_of at_file_scope c base vs)
@@ -125,7 +131,7 @@ mutual
 
 -- ---- file scope
 
-member_names : (c : Context) (before : Before) (base : Base) (d : DeclaratorTree) → Names (member_walked c before base d) (of_declarator no_referent referent_of c d)
+member_names : (c : Context) (before : Before) (base : Base) (d : DeclaratorTree) → Names (member_walked c before base d) (of_declarator no_referent referent_of c None d)
 member_names c before base d = judged_names d.node (units.member_tests c before base d) (then_names opened_names (lengths_names c d.lengths.given))
 
 together_names : (c : Context) (before : Before) (base : Base) (ds : List DeclaratorTree) → Names (together_walked c before base ds) (of_declarators no_referent referent_of c ds)
@@ -139,7 +145,7 @@ members_names c before (m ∷ ms) = then_names (together_names c before m.base m
 parameters_names : (c : Context) (has_body : Bool) (ps : List ParameterTree) → Names (parameters_walked c has_body ps) (of_parameters no_referent referent_of c ps)
 parameters_names c has_body [] = no_names
 parameters_names c has_body (p ∷ ps) =
-    then_names (judged_names p.node (units.parameter_tests c has_body p) (then_names opened_names (lengths_names c p.lengths.given))) (parameters_names (after_parameter c p) has_body ps)
+    then_names (judged_names p.node (units.parameter_tests c has_body p) (declarator_names c (parameter_declared c p).type p.lengths.given)) (parameters_names (after_parameter c p) has_body ps)
 
 body_names : (c : Context) (f : FunctionTree) (body : Option Stmts) → Names (body_walked c f body) (of_body no_referent referent_of c f body)
 body_names c f None = no_names

@@ -7,7 +7,9 @@ use Rattle.qs_syntax.specs.declared.types.Base.{Base}
 use Rattle.qs_syntax.specs.declared.nodes.Node.{Node}
 use Rattle.qs_syntax.specs.Trees.{ExprTree, DeclaratorTree, InitialiserTree, value, list, Initialisers, no_initialisers, initialiser_and, VariableTree, ParameterTree, MembersTree, StartTree, no_start, start_expression, start_declaration, StmtTree, empty, expression, declaration, block, branch, while_loop, do_loop, for_loop, break, continue, return, Stmts, no_stmts, stmt_and, Else, no_else, else_by, FunctionTree, DeclTree, structure, forward, function, variables, UnitTree}
 use Rattle.qs_syntax.specs.Nodes.{all_nodes, option_nodes, expr_nodes, declarator_nodes, initialiser_nodes, initialisers_nodes, variable_nodes, parameter_nodes, members_nodes, start_nodes, stmt_nodes, stmts_nodes, else_nodes, decl_nodes, unit_nodes}
+use Rattle.qs_types.specs.Types.{TypeTree}
 use Rattle.qs_types.specs.Contexts.{Context, start_context, inner_scope, inside_loop}
+use Rattle.qs_types.specs.Declarations.{variable_declared, parameter_declared}
 use Rattle.qs_types.specs.StatementRules.{after_variable, after_statement, for_context}
 use Rattle.qs_types.specs.UnitRules.{with_tag, after_parameter, body_context, after_declaration}
 use Rattle.qs_typing.specs.ExprFindings.{node_of, of_nodes}
@@ -16,8 +18,8 @@ use Rattle.qs_typing.proofs.Aligned.{expr_aligned, of_nodes-map}
 
 -- ---- the nodes of a unit are those of which there is something
 
-abbrev itself : Node → Node
-itself node = node
+abbrev itself : Node → Option TypeTree → Node
+itself node declared = node
 
 abbrev own_node : Context → ExprTree → Node
 own_node c e = node_of e
@@ -33,12 +35,12 @@ lengths_nodes_of : (c : Context) (es : List ExprTree) → all_nodes expr_nodes e
 lengths_nodes_of c [] = refl
 lengths_nodes_of c (e ∷ es) = λ i. expr_aligned e i ++ lengths_nodes_of c es i
 
-declarator_nodes_of : (c : Context) (d : DeclaratorTree) → declarator_nodes d ≡ of_declarator itself own_node c d
-declarator_nodes_of c d = ap (λ ns. d.node ∷ ns) (lengths_nodes_of c d.lengths.given)
+declarator_nodes_of : (c : Context) (t : Option TypeTree) (d : DeclaratorTree) → declarator_nodes d ≡ of_declarator itself own_node c t d
+declarator_nodes_of c t d = ap (λ ns. d.node ∷ ns) (lengths_nodes_of c d.lengths.given)
 
 declarators_nodes_of : (c : Context) (ds : List DeclaratorTree) → all_nodes declarator_nodes ds ≡ of_declarators itself own_node c ds
 declarators_nodes_of c [] = refl
-declarators_nodes_of c (d ∷ ds) = λ i. declarator_nodes_of c d i ++ declarators_nodes_of c ds i
+declarators_nodes_of c (d ∷ ds) = λ i. declarator_nodes_of c None d i ++ declarators_nodes_of c ds i
 
 mutual
   initialiser_nodes_of : (c : Context) (i : InitialiserTree) → initialiser_nodes i ≡ of_initialiser itself own_node c i
@@ -56,7 +58,7 @@ option_initialiser_nodes_of c (Some i) = initialiser_nodes_of c i
 variables_nodes_of : (at_file_scope : Bool) (c : Context) (base : Base) (vs : List VariableTree) → all_nodes variable_nodes vs ≡ of_variables itself own_node at_file_scope c base vs
 variables_nodes_of at_file_scope c base [] = refl
 variables_nodes_of at_file_scope c base (v ∷ vs) =
-    λ i. (declarator_nodes_of c v.declarator i ++ option_initialiser_nodes_of (after_variable at_file_scope c base v) v.initialiser i)
+    λ i. (declarator_nodes_of c (variable_declared c base v).type v.declarator i ++ option_initialiser_nodes_of (after_variable at_file_scope c base v) v.initialiser i)
     ++ variables_nodes_of at_file_scope (after_variable at_file_scope c base v) base vs i
 
 start_nodes_of : (c : Context) (start : StartTree) → start_nodes start ≡ of_start itself own_node c start
@@ -118,9 +120,9 @@ unit_nodes_of unit = declarations_nodes_of start_context unit
 
 -- ---- something of something of each node
 
-module _ {A B : Type 0} (f : A → B) (at : Node → A) (of : Context → ExprTree → A) where
-  abbrev at_f : Node → B
-  at_f node = f (at node)
+module _ {A B : Type 0} (f : A → B) (at : Node → Option TypeTree → A) (of : Context → ExprTree → A) where
+  abbrev at_f : Node → Option TypeTree → B
+  at_f node declared = f (at node declared)
 
   abbrev of_f : Context → ExprTree → B
   of_f c e = f (of c e)
@@ -136,17 +138,17 @@ module _ {A B : Type 0} (f : A → B) (at : Node → A) (of : Context → ExprTr
   lengths_map c [] = refl
   lengths_map c (e ∷ es) = both (of_nodes (of c) e) (of_lengths at of c es) (of_nodes (of_f c) e) (of_lengths at_f of_f c es) (of_nodes-map (of c) f e) (lengths_map c es)
 
-  declarator_map : (c : Context) (d : DeclaratorTree) → map f (of_declarator at of c d) ≡ of_declarator at_f of_f c d
-  declarator_map c d = ap (λ l. at_f d.node ∷ l) (lengths_map c d.lengths.given)
+  declarator_map : (c : Context) (t : Option TypeTree) (d : DeclaratorTree) → map f (of_declarator at of c t d) ≡ of_declarator at_f of_f c t d
+  declarator_map c t d = ap (λ l. at_f d.node t ∷ l) (lengths_map c d.lengths.given)
 
   declarators_map : (c : Context) (ds : List DeclaratorTree) → map f (of_declarators at of c ds) ≡ of_declarators at_f of_f c ds
   declarators_map c [] = refl
-  declarators_map c (d ∷ ds) = both (of_declarator at of c d) (of_declarators at of c ds) (of_declarator at_f of_f c d) (of_declarators at_f of_f c ds) (declarator_map c d) (declarators_map c ds)
+  declarators_map c (d ∷ ds) = both (of_declarator at of c None d) (of_declarators at of c ds) (of_declarator at_f of_f c None d) (of_declarators at_f of_f c ds) (declarator_map c None d) (declarators_map c ds)
 
   mutual
     initialiser_map : (c : Context) (i : InitialiserTree) → map f (of_initialiser at of c i) ≡ of_initialiser at_f of_f c i
     initialiser_map c (value e) = of_nodes-map (of c) f e
-    initialiser_map c (list node is) = ap (λ l. at_f node ∷ l) (initialisers_map c is)
+    initialiser_map c (list node is) = ap (λ l. at_f node None ∷ l) (initialisers_map c is)
 
     initialisers_map : (c : Context) (is : Initialisers) → map f (of_initialisers at of c is) ≡ of_initialisers at_f of_f c is
     initialisers_map c no_initialisers = refl
@@ -161,10 +163,11 @@ module _ {A B : Type 0} (f : A → B) (at : Node → A) (of : Context → ExprTr
   variables_map at_file_scope c base [] = refl
   variables_map at_file_scope c base (v ∷ vs) =
       let after = after_variable at_file_scope c base v in
-      both (of_declarator at of c v.declarator ++ of_option_initialiser at of after v.initialiser) (of_variables at of at_file_scope after base vs)
-      (of_declarator at_f of_f c v.declarator ++ of_option_initialiser at_f of_f after v.initialiser) (of_variables at_f of_f at_file_scope after base vs)
-      (both (of_declarator at of c v.declarator) (of_option_initialiser at of after v.initialiser) (of_declarator at_f of_f c v.declarator) (of_option_initialiser at_f of_f after v.initialiser)
-      (declarator_map c v.declarator) (option_initialiser_map after v.initialiser))
+      let declared = (variable_declared c base v).type in
+      both (of_declarator at of c declared v.declarator ++ of_option_initialiser at of after v.initialiser) (of_variables at of at_file_scope after base vs)
+      (of_declarator at_f of_f c declared v.declarator ++ of_option_initialiser at_f of_f after v.initialiser) (of_variables at_f of_f at_file_scope after base vs)
+      (both (of_declarator at of c declared v.declarator) (of_option_initialiser at of after v.initialiser) (of_declarator at_f of_f c declared v.declarator) (of_option_initialiser at_f of_f after v.initialiser)
+      (declarator_map c declared v.declarator) (option_initialiser_map after v.initialiser))
       (variables_map at_file_scope after base vs)
 
   start_map : (c : Context) (start : StartTree) → map f (of_start at of c start) ≡ of_start at_f of_f c start
@@ -175,32 +178,32 @@ module _ {A B : Type 0} (f : A → B) (at : Node → A) (of : Context → ExprTr
   mutual
     statement_map : (c : Context) (s : StmtTree) → map f (of_statement at of c s) ≡ of_statement at_f of_f c s
     statement_map c (empty node) = refl
-    statement_map c (expression node e) = ap (λ l. at_f node ∷ l) (of_nodes-map (of c) f e)
+    statement_map c (expression node e) = ap (λ l. at_f node None ∷ l) (of_nodes-map (of c) f e)
     statement_map c (declaration d) = variables_map false c d.base d.variables
     statement_map c (block ss) = statements_map (inner_scope c) ss
     statement_map c (branch node e s r) =
-        both (at node ∷ of_nodes (of c) e) (of_statement at of (inner_scope c) s ++ of_else at of c r)
-        (at_f node ∷ of_nodes (of_f c) e) (of_statement at_f of_f (inner_scope c) s ++ of_else at_f of_f c r)
-        (ap (λ l. at_f node ∷ l) (of_nodes-map (of c) f e))
+        both (at node None ∷ of_nodes (of c) e) (of_statement at of (inner_scope c) s ++ of_else at of c r)
+        (at_f node None ∷ of_nodes (of_f c) e) (of_statement at_f of_f (inner_scope c) s ++ of_else at_f of_f c r)
+        (ap (λ l. at_f node None ∷ l) (of_nodes-map (of c) f e))
         (both (of_statement at of (inner_scope c) s) (of_else at of c r) (of_statement at_f of_f (inner_scope c) s) (of_else at_f of_f c r) (statement_map (inner_scope c) s) (else_map c r))
     statement_map c (while_loop node e s) =
-        both (at node ∷ of_nodes (of c) e) (of_statement at of (inside_loop (inner_scope c)) s) (at_f node ∷ of_nodes (of_f c) e) (of_statement at_f of_f (inside_loop (inner_scope c)) s)
-        (ap (λ l. at_f node ∷ l) (of_nodes-map (of c) f e)) (statement_map (inside_loop (inner_scope c)) s)
+        both (at node None ∷ of_nodes (of c) e) (of_statement at of (inside_loop (inner_scope c)) s) (at_f node None ∷ of_nodes (of_f c) e) (of_statement at_f of_f (inside_loop (inner_scope c)) s)
+        (ap (λ l. at_f node None ∷ l) (of_nodes-map (of c) f e)) (statement_map (inside_loop (inner_scope c)) s)
     statement_map c (do_loop node s e) =
-        both (at node ∷ of_statement at of (inside_loop (inner_scope c)) s) (of_nodes (of c) e) (at_f node ∷ of_statement at_f of_f (inside_loop (inner_scope c)) s) (of_nodes (of_f c) e)
-        (ap (λ l. at_f node ∷ l) (statement_map (inside_loop (inner_scope c)) s)) (of_nodes-map (of c) f e)
+        both (at node None ∷ of_statement at of (inside_loop (inner_scope c)) s) (of_nodes (of c) e) (at_f node None ∷ of_statement at_f of_f (inside_loop (inner_scope c)) s) (of_nodes (of_f c) e)
+        (ap (λ l. at_f node None ∷ l) (statement_map (inside_loop (inner_scope c)) s)) (of_nodes-map (of c) f e)
     statement_map c (for_loop node start e u s) =
         let known = for_context c start in
         let body = inside_loop (inner_scope known) in
-        both (at node ∷ of_start at of (inner_scope c) start) ((of_option at of known e ++ of_option at of known u) ++ of_statement at of body s)
-        (at_f node ∷ of_start at_f of_f (inner_scope c) start) ((of_option at_f of_f known e ++ of_option at_f of_f known u) ++ of_statement at_f of_f body s)
-        (ap (λ l. at_f node ∷ l) (start_map (inner_scope c) start))
+        both (at node None ∷ of_start at of (inner_scope c) start) ((of_option at of known e ++ of_option at of known u) ++ of_statement at of body s)
+        (at_f node None ∷ of_start at_f of_f (inner_scope c) start) ((of_option at_f of_f known e ++ of_option at_f of_f known u) ++ of_statement at_f of_f body s)
+        (ap (λ l. at_f node None ∷ l) (start_map (inner_scope c) start))
         (both (of_option at of known e ++ of_option at of known u) (of_statement at of body s) (of_option at_f of_f known e ++ of_option at_f of_f known u) (of_statement at_f of_f body s)
         (both (of_option at of known e) (of_option at of known u) (of_option at_f of_f known e) (of_option at_f of_f known u) (option_map_of known e) (option_map_of known u))
         (statement_map body s))
     statement_map c (break node) = refl
     statement_map c (continue node) = refl
-    statement_map c (return node e) = ap (λ l. at_f node ∷ l) (option_map_of c e)
+    statement_map c (return node e) = ap (λ l. at_f node None ∷ l) (option_map_of c e)
 
     statements_map : (c : Context) (ss : Stmts) → map f (of_statements at of c ss) ≡ of_statements at_f of_f c ss
     statements_map c no_stmts = refl
@@ -219,19 +222,20 @@ module _ {A B : Type 0} (f : A → B) (at : Node → A) (of : Context → ExprTr
   parameters_map : (c : Context) (ps : List ParameterTree) → map f (of_parameters at of c ps) ≡ of_parameters at_f of_f c ps
   parameters_map c [] = refl
   parameters_map c (p ∷ ps) =
-      both (at p.node ∷ of_lengths at of c p.lengths.given) (of_parameters at of (after_parameter c p) ps) (at_f p.node ∷ of_lengths at_f of_f c p.lengths.given) (of_parameters at_f of_f (after_parameter c p) ps)
-      (ap (λ l. at_f p.node ∷ l) (lengths_map c p.lengths.given)) (parameters_map (after_parameter c p) ps)
+      let declared = (parameter_declared c p).type in
+      both (at p.node declared ∷ of_lengths at of c p.lengths.given) (of_parameters at of (after_parameter c p) ps) (at_f p.node declared ∷ of_lengths at_f of_f c p.lengths.given) (of_parameters at_f of_f (after_parameter c p) ps)
+      (ap (λ l. at_f p.node declared ∷ l) (lengths_map c p.lengths.given)) (parameters_map (after_parameter c p) ps)
 
   body_map : (c : Context) (g : FunctionTree) (body : Option Stmts) → map f (of_body at of c g body) ≡ of_body at_f of_f c g body
   body_map c g None = refl
   body_map c g (Some ss) = statements_map (body_context c g) ss
 
   declaration_map : (c : Context) (d : DeclTree) → map f (of_declaration at of c d) ≡ of_declaration at_f of_f c d
-  declaration_map c (structure s) = ap (λ l. at_f s.node ∷ l) (members_map (with_tag c s.name) s.members)
+  declaration_map c (structure s) = ap (λ l. at_f s.node None ∷ l) (members_map (with_tag c s.name) s.members)
   declaration_map c (forward g) = refl
   declaration_map c (function g) =
-      both (at g.node ∷ of_parameters at of (inner_scope c) g.parameters) (of_body at of c g g.body) (at_f g.node ∷ of_parameters at_f of_f (inner_scope c) g.parameters) (of_body at_f of_f c g g.body)
-      (ap (λ l. at_f g.node ∷ l) (parameters_map (inner_scope c) g.parameters)) (body_map c g g.body)
+      both (at g.node None ∷ of_parameters at of (inner_scope c) g.parameters) (of_body at of c g g.body) (at_f g.node None ∷ of_parameters at_f of_f (inner_scope c) g.parameters) (of_body at_f of_f c g g.body)
+      (ap (λ l. at_f g.node None ∷ l) (parameters_map (inner_scope c) g.parameters)) (body_map c g g.body)
   declaration_map c (variables d) = variables_map true c d.base d.variables
 
   declarations_map : (c : Context) (ds : UnitTree) → map f (of_declarations at of c ds) ≡ of_declarations at_f of_f c ds
@@ -245,19 +249,19 @@ module _ {A B : Type 0} (f : A → B) (at : Node → A) (of : Context → ExprTr
 
 -- ---- each node has one place in both lists
 
-pub nodes_of_both : {A : Type 0} (at : Node → A) (of : Context → ExprTree → A) (unit : UnitTree) → map (λ p. p.0) (with_nodes at of unit) ≡ unit_nodes unit
-nodes_of_both at of unit = unit_map (λ p. p.0) (λ node. (node, at node)) (λ c e. (node_of e, of c e)) unit ∙ sym (unit_nodes_of unit)
+pub nodes_of_both : {A : Type 0} (at : Node → Option TypeTree → A) (of : Context → ExprTree → A) (unit : UnitTree) → map (λ p. p.0) (with_nodes at of unit) ≡ unit_nodes unit
+nodes_of_both at of unit = unit_map (λ p. p.0) (λ node declared. (node, at node declared)) (λ c e. (node_of e, of c e)) unit ∙ sym (unit_nodes_of unit)
 
-pub values_of_both : {A : Type 0} (at : Node → A) (of : Context → ExprTree → A) (unit : UnitTree) → map (λ p. p.1) (with_nodes at of unit) ≡ of_unit at of unit
-values_of_both at of unit = unit_map (λ p. p.1) (λ node. (node, at node)) (λ c e. (node_of e, of c e)) unit
+pub values_of_both : {A : Type 0} (at : Node → Option TypeTree → A) (of : Context → ExprTree → A) (unit : UnitTree) → map (λ p. p.1) (with_nodes at of unit) ≡ of_unit at of unit
+values_of_both at of unit = unit_map (λ p. p.1) (λ node declared. (node, at node declared)) (λ c e. (node_of e, of c e)) unit
 
-pub as_many : {A : Type 0} (at : Node → A) (of : Context → ExprTree → A) (unit : UnitTree) → length (of_unit at of unit) ≡ length (unit_nodes unit)
+pub as_many : {A : Type 0} (at : Node → Option TypeTree → A) (of : Context → ExprTree → A) (unit : UnitTree) → length (of_unit at of unit) ≡ length (unit_nodes unit)
 as_many at of unit =
     let both = with_nodes at of unit in
     ap length (sym (values_of_both at of unit)) ∙ length-map both (λ p. p.1) ∙ sym (length-map both (λ p. p.0)) ∙ ap length (nodes_of_both at of unit)
 
 -- what stands at the place of a node is what there is of it
-pub at_place : {A : Type 0} (at : Node → A) (of : Context → ExprTree → A) (unit : UnitTree) (i : ℕ) (node : Node) (x : A) → slice_get (with_nodes at of unit) i ≡ Some (node, x)
+pub at_place : {A : Type 0} (at : Node → Option TypeTree → A) (of : Context → ExprTree → A) (unit : UnitTree) (i : ℕ) (node : Node) (x : A) → slice_get (with_nodes at of unit) i ≡ Some (node, x)
     → (slice_get (unit_nodes unit) i ≡ Some node) × (slice_get (of_unit at of unit) i ≡ Some x)
 at_place at of unit i node x e =
     let both = with_nodes at of unit in (

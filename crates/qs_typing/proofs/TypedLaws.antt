@@ -1,5 +1,5 @@
 -- What a walk over a unit found stands by the numbers of the nodes.
-use Rattle.std.proofs.Common.{◌≡◌, ℕ, List, Some, option_map, length, sym, ap, ◌∙◌}
+use Rattle.std.proofs.Common.{◌≡◌, ℕ, List, Option, Some, option_map, length, sym, ap, ◌∙◌}
 use Rattle.std.specs.List.{slice_get}
 use Rattle.std.proofs.lemmas.Option.{slice_get-map}
 use Rattle.qs_syntax.specs.declared.nodes.Node.{Node}
@@ -7,15 +7,21 @@ use Rattle.qs_syntax.specs.declared.unit.Unit.{Unit}
 use Rattle.qs_syntax.specs.Nodes.{tokens_of, unit_nodes}
 use Rattle.qs_syntax.specs.Trees.{ExprTree, UnitTree}
 use Rattle.qs_syntax.specs.UnitTrees.{unit_tree}
+use Rattle.qs_syntax.specs.Units.{IsRead}
 use Rattle.qs_syntax.proofs.NodeLaws.{unit_length}
 use Rattle.qs_syntax.proofs.UnitLaws.{node_of_unit}
+use Rattle.qs_types.specs.Types.{TypeTree}
 use Rattle.qs_types.specs.Contexts.{Context}
+use Rattle.qs_types.specs.Limits.{KeepsLimits}
+use Rattle.qs_types.proofs.LimitLaws as limits
 use Rattle.qs_types.specs.Recorded.{global_blocks, tags_of, text_blocks}
 use Rattle.qs_types.specs.UnitRules.{structs_of}
 use Rattle.qs_types.specs.WellTyped.{end_context}
+use Rattle.qs_typing.specs.declared.typed_unit.TypedUnit.{TypedUnit}
 use Rattle.qs_typing.specs.ByNumber.{IsByNumber}
 use Rattle.qs_typing.specs.NodeReferents.{unit_addressed, unit_referents}
 use Rattle.qs_typing.specs.NodeTypes.{unit_types}
+use Rattle.qs_typing.specs.TypedOf.{typed_tree}
 use Rattle.qs_typing.specs.UnitNodes.{of_unit}
 use Rattle.qs_typing.specs.UnitWalk.{WalkTree, unit_walked}
 use Rattle.qs_typing.proofs.Adding.{unit_typed, unit_addresses, unit_texts}
@@ -52,10 +58,18 @@ number_is unit i node e =
     let own : node ≡ record { id = i; token = node.token } = cc in
     ap (λ n. n.id) own
 
-pub by_number : {A : Type 0} (at : Node → A) (of : Context → ExprTree → A) (unit : Unit) (xs : List A) → xs ≡ of_unit at of (unit_tree unit) → IsByNumber at of (unit_tree unit) xs
+pub by_number : {A : Type 0} (at : Node → Option TypeTree → A) (of : Context → ExprTree → A) (unit : Unit) (xs : List A) → xs ≡ of_unit at of (unit_tree unit) → IsByNumber at of (unit_tree unit) xs
 by_number at of unit xs e = record {
   many = ap length e ∙ as_many at of (unit_tree unit) ∙ unit_length (unit_tree unit);
   each = λ i node x h.
       let p = at_place at of (unit_tree unit) i node x h in
       (number_is unit i node p.0, ap (λ l. slice_get l i) e ∙ p.1);
 }
+
+-- ---- a typed unit is one that was read, within the limits
+
+pub is_read : (typed : TypedUnit) → IsRead (typed_tree typed)
+is_read typed = typed.unit.is_read
+
+pub keeps_limits : (typed : TypedUnit) → KeepsLimits (typed_tree typed)
+keeps_limits typed = limits.keeps_limits (typed_tree typed) (is_read typed) typed.within_limits

@@ -140,7 +140,7 @@ has_place c p shape r f g at e h =
     omega arith
 
 -- the place is where the type stands
-place_filled : (ts us : List (Option TypeTree)) (t : Option TypeTree) (at : ℕ) → at ≡ length ts → slice_set ((ts ++ None ∷ []) ++ us) at t ≡ (ts ++ t ∷ []) ++ us
+pub place_filled : (ts us : List (Option TypeTree)) (t : Option TypeTree) (at : ℕ) → at ≡ length ts → slice_set ((ts ++ None ∷ []) ++ us) at t ≡ (ts ++ t ∷ []) ++ us
 place_filled ts us t at e =
     ap (λ l. slice_set l at t) (append_assoc ts (None ∷ []) us) ∙ ap (λ n. slice_set (ts ++ None ∷ us) n t) e ∙ set-append_seam ts None us t
     ∙ sym (append_assoc ts (t ∷ []) us)

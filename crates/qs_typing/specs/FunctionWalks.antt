@@ -26,10 +26,20 @@ use Rattle.qs_typing.specs.Functions.{after_parameters, items_walked}
 use Rattle.qs_typing.specs.JudgedOf.{test_tree}
 use Rattle.qs_typing.specs.Noted.{parameters_noted}
 use Rattle.qs_typing.specs.NotedOf.{local_tree}
-use Rattle.qs_typing.specs.UnitWalk.{function_walked, parameter_walked, parameters_walked}
+use Rattle.qs_typing.specs.UnitWalk.{declarator_walked, function_walked, parameter_walked, parameters_walked}
 use Rattle.qs_typing.specs.WalkOf.{walk_tree}
 
 -- ---- parameters
+
+-- each length of a parameter has a type
+abbrev pub are_lengths_typed : Context → Parameter → Bool
+are_lengths_typed c p = declarations.all_typed (context_tree c) (parameter_tree p).lengths.given
+
+-- a walk went over the declarator of a parameter
+abbrev pub WalksDeclarator : Context → Parameter → (before after : Walk) → Type 0
+WalksDeclarator c p before after =
+    walk_tree after
+    ≡ declarator_walked (context_tree c) (declarations.parameter_declared (context_tree c) (parameter_tree p)).type (parameter_tree p).lengths.given (walk_tree before)
 
 -- the test that a parameter is a scalar, and has a name where there is a body
 abbrev pub IsSignatureTest : Parameter → (has_body : Bool) → Option CType → Test → Type 0

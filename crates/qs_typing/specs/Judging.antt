@@ -41,6 +41,9 @@ JudgesStep types a t j = option_judged j ≡ with_type (option_type t) (pure.ste
 
 -- ---- two operands
 
+abbrev pub are_alike : Expr → CType → Expr → CType → Bool
+are_alike a t b u = pure.alike_pointers (expr_tree a) (type_tree t) (expr_tree b) (type_tree u)
+
 abbrev pub may_equal : Expr → CType → Expr → CType → Bool
 may_equal a t b u = pure.may_equal (expr_tree a) (type_tree t) (expr_tree b) (type_tree u)
 

@@ -7,6 +7,7 @@ pub mod Findings
 pub mod FoundOf
 pub mod ExprFindings
 pub mod Walk
+pub mod Founding
 pub mod PartsOf
 pub mod PositionOf
 pub mod Noted

@@ -8,6 +8,7 @@ use Rattle.qs_syntax.specs.declared.types.TypeName.{TypeName}
 use Rattle.qs_syntax.specs.TreeOf.{expr_tree, exprs_tree}
 use Rattle.qs_types.specs.declared.rules.Rule.TheVariants as rules
 use Rattle.qs_types.specs.declared.types.CType.{CType}
+use Rattle.qs_types.specs.Constants as constants
 use Rattle.qs_types.specs.Contexts.{base_type, named_type}
 use Rattle.qs_types.specs.Conversions.{decayed}
 use Rattle.qs_types.specs.Expressions as pure
@@ -54,6 +55,10 @@ JudgesCall entity es us j = option_judged j ≡ and_then (types_tree us) (pure.c
 
 abbrev pub named_in : Context → TypeName → Option TypeTree
 named_in c name = named_type (context_tree c) name
+
+-- a value converted to the named type
+abbrev pub converted_in : Context → TypeName → ℕ → Option ℕ
+converted_in c name n = and_then (named_in c name) (λ t. Some (constants.converted t n))
 
 abbrev pub base_in : Context → Base → Option TypeTree
 base_in c base = base_type (context_tree c) base

@@ -2,6 +2,7 @@
 use Rattle.std.specs.Prelude.{ℕ, List, Option, None, flat_map}
 use Rattle.qs_syntax.specs.declared.nodes.Node.{Node}
 use Rattle.qs_syntax.specs.Trees.{UnitTree}
+use Rattle.qs_types.specs.Types.{TypeTree}
 use Rattle.qs_types.specs.Placed.{addressed}
 use Rattle.qs_types.specs.Sites.{unit_sites}
 use Rattle.qs_typing.specs.declared.entity.Referent.{Referent}
@@ -9,8 +10,8 @@ use Rattle.qs_typing.specs.ExprFindings.{referent_of}
 use Rattle.qs_typing.specs.UnitNodes.{of_unit}
 
 -- a node that is no expression names nothing
-abbrev pub no_referent : Node → Option Referent
-no_referent node = None
+abbrev pub no_referent : Node → Option TypeTree → Option Referent
+no_referent node declared = None
 
 -- of each node in the order of the text, which is that of their numbers: of the name of a variable and of a call what it stands for
 abbrev pub unit_referents : UnitTree → List (Option Referent)

@@ -9,14 +9,14 @@ use Rattle.qs_types.specs.Rules.{Test, test}
 use Rattle.qs_types.specs.Contexts.{Context, start_context, inner_scope, inside_loop}
 use Rattle.qs_types.specs.Expressions.{type_of}
 use Rattle.qs_types.specs.ExpressionFaults.{Position, used, discarded, whole}
-use Rattle.qs_types.specs.Declarations.{variable_declared}
+use Rattle.qs_types.specs.Declarations.{variable_declared, parameter_declared}
 use Rattle.qs_types.specs.InitialiserRules.{option_part, list_tests}
 use Rattle.qs_types.specs.StatementRules.{after_variable, variable_tests, condition_tests, for_context, for_tests, loop_tests, return_tests, after_statement}
 use Rattle.qs_types.specs.UnitRules.{with_tag, is_defined, Before, no_members, after_member, after_together, member_tests, after_parameter, parameter_types, parameter_tests, header_tests, body_context, after_declaration}
 use Rattle.qs_types.specs.Sites.{may_hold}
 use Rattle.qs_typing.specs.Findings.{FoundTree, nothing_found, judged_at, with_findings}
 use Rattle.qs_typing.specs.ExprFindings.{expr_findings}
-use Rattle.qs_typing.specs.Walk.{opened}
+use Rattle.qs_typing.specs.Walk.{opened, filled}
 use Rattle.qs_typing.specs.Noted.{LocalTree, NotedTree, nothing_noted, site_noted, variable_noted, parameters_noted, body_begun, body_ended}
 
 pub record WalkTree : Type 0 where
@@ -29,6 +29,14 @@ start_walk = record { found = nothing_found; noted = nothing_noted }
 -- a node that is no expression
 abbrev pub node_opened : WalkTree → WalkTree
 node_opened w = record w { found = opened None None w.found }
+
+-- the node of a variable or parameter of this type
+abbrev pub object_opened : Option TypeTree → WalkTree → WalkTree
+object_opened t w = record w { found = opened t None w.found }
+
+-- the same, where its place is known and its type comes later
+abbrev pub object_typed : (at : ℕ) → Option TypeTree → WalkTree → WalkTree
+object_typed at t w = record w { found = filled at t w.found }
 
 -- the rules that a node breaks by these tests
 abbrev pub node_judged : Node → List Test → WalkTree → WalkTree
@@ -48,6 +56,10 @@ option_walked c p (Some e) w = expr_walked c p e w
 abbrev pub lengths_walked : Context → List ExprTree → WalkTree → WalkTree
 lengths_walked c [] w = w
 lengths_walked c (e ∷ es) w = lengths_walked c es (expr_walked c used e w)
+
+-- a declarator that declares this type
+abbrev pub declarator_walked : Context → Option TypeTree → List ExprTree → WalkTree → WalkTree
+declarator_walked c t lengths w = lengths_walked c lengths (object_opened t w)
 
 -- ---- initialisers
 
@@ -80,7 +92,8 @@ abbrev pub variable_walked : Bool → Context → Base → VariableTree → Walk
 variable_walked at_file_scope c base v w =
     node_judged v.declarator.node (variable_tests at_file_scope c (after_variable at_file_scope c base v) base v)
     (option_initialiser_walked at_file_scope (after_variable at_file_scope c base v) (variable_declared c base v).type v.initialiser
-    (variable_walk_noted at_file_scope c v.declarator.node.id (variable_declared c base v).type (lengths_walked c v.declarator.lengths.given (node_opened w))))
+    (variable_walk_noted at_file_scope c v.declarator.node.id (variable_declared c base v).type
+    (declarator_walked c (variable_declared c base v).type v.declarator.lengths.given w)))
 
 abbrev pub variables_walked : Bool → Context → Base → List VariableTree → WalkTree → WalkTree
 variables_walked at_file_scope c base [] w = w
@@ -148,7 +161,8 @@ struct_walked c s w =
 -- ---- functions
 
 abbrev pub parameter_walked : Context → (has_body : Bool) → ParameterTree → WalkTree → WalkTree
-parameter_walked c has_body p w = node_judged p.node (parameter_tests c has_body p) (lengths_walked c p.lengths.given (node_opened w))
+parameter_walked c has_body p w =
+    node_judged p.node (parameter_tests c has_body p) (declarator_walked c (parameter_declared c p).type p.lengths.given w)
 
 abbrev pub parameters_walked : Context → (has_body : Bool) → List ParameterTree → WalkTree → WalkTree
 parameters_walked c has_body [] w = w

@@ -6,7 +6,7 @@ use Rattle.qs_syntax.specs.declared.declarations.Variable.{Variable}
 use Rattle.qs_syntax.specs.declared.expressions.Expr.{Expr}
 use Rattle.qs_syntax.specs.TreeOf.{expr_tree, initialiser_tree, variable_tree}
 use Rattle.qs_types.specs.declared.types.CType.{CType}
-use Rattle.qs_types.specs.Declarations.{variable_declared}
+use Rattle.qs_types.specs.Declarations.{all_typed, variable_declared}
 use Rattle.qs_types.specs.ExpressionFaults.{expr_faults, whole}
 use Rattle.qs_types.specs.InitialiserRules.{initialiser_tests}
 use Rattle.qs_types.specs.Rules.{is_any}
@@ -19,7 +19,7 @@ use Rattle.qs_typing.specs.declared.walk.Walk.{Walk}
 use Rattle.qs_typing.specs.ContextOf.{context_tree}
 use Rattle.qs_typing.specs.DeclaredOf.{option_type}
 use Rattle.qs_typing.specs.JudgedOf.{test_tree}
-use Rattle.qs_typing.specs.UnitWalk.{option_initialiser_walked, variable_walked, variables_walked}
+use Rattle.qs_typing.specs.UnitWalk.{declarator_walked, option_initialiser_walked, variable_walked, variables_walked}
 use Rattle.qs_typing.specs.Variables.{again_tests, fit_tests}
 use Rattle.qs_typing.specs.WalkOf.{walk_tree}
 
@@ -43,6 +43,16 @@ WalksOption at_file_scope c t i before after =
     walk_tree after ≡ option_initialiser_walked at_file_scope (context_tree c) (option_type t) (option_map initialiser_tree i) (walk_tree before)
 
 -- ---- variables
+
+-- each length of a variable has a type
+abbrev pub are_lengths_typed : Context → Variable → Bool
+are_lengths_typed c v = all_typed (context_tree c) (variable_tree v).declarator.lengths.given
+
+-- a walk went over the declarator of a variable
+abbrev pub WalksDeclarator : Context → Base → Variable → (before after : Walk) → Type 0
+WalksDeclarator c base v before after =
+    walk_tree after
+    ≡ declarator_walked (context_tree c) (variable_declared (context_tree c) base (variable_tree v)).type (variable_tree v).declarator.lengths.given (walk_tree before)
 
 -- the tests of a variable: those of its name, where its lengths have types, of its type, and of its initialiser
 abbrev pub AreVariableTests : (again : Option Bool) → (declared : List Test) → Initialised → List Test → Type 0

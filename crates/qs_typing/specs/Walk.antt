@@ -1,4 +1,4 @@
--- The same, as the walk finds it: with what was found before.
+-- What a walk over an expression finds, with what was found before: the rules of a node are looked at behind its parts.
 use Rattle.std.specs.Prelude.{ℕ, List, [], ◌∷◌, ◌++◌, Option, slice_set}
 use Rattle.qs_syntax.specs.Trees.{ExprTree, expr, ShapeTree, Exprs, no_exprs, expr_and}
 use Rattle.qs_syntax.specs.Trees as trees

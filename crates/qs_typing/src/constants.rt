@@ -1,10 +1,10 @@
 // Constant expressions (C11 6.6): how they are built, and their values.
-ghost use Rattle.std.specs.Prelude.{◌≡◌, Some};
+ghost use Rattle.std.specs.Prelude.{◌≡◌};
 ghost use Rattle.qs_syntax.specs.TreeOf.{expr_tree, shape_tree};
 ghost use Rattle.qs_types.specs.Layout.{and_then};
 ghost use Rattle.qs_types.specs.Constants as constants;
 ghost use Rattle.qs_typing.specs.ContextOf.{context_tree};
-ghost use Rattle.qs_typing.specs.NameJudging.{base_in, named_in, size_in};
+ghost use Rattle.qs_typing.specs.NameJudging.{base_in, converted_in, named_in, size_in};
 
 use crate::context::Context;
 use qs_base::{add32, divs32, divu32, mul32, rems32, remu32, sll32, sra32, srl32, sub32};
@@ -289,7 +289,7 @@ fn unary_value(operator: UnaryOperator, a: u32) -> Option<u32>
 
 /// A value converted to the named type (C11 6.3.1.3).
 fn converted(context: &Context, name: &TypeName, n: u32) -> Option<u32>
-    ensures { result ≡ and_then (named_in context.now name.now) (λ t. Some (constants.converted t n)) }
+    ensures { result ≡ converted_in context.now name.now n }
 {
     context.base_type(&name.base)?;
     if name.stars > 0 {

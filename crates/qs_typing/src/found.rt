@@ -1,11 +1,12 @@
 // What a walk over a unit has found.
-ghost use Rattle.std.specs.Prelude.{◌≡◌, ◌<◌, ◌∷◌, [], None, IfOk, OnOk, length, map, option_map};
+ghost use Rattle.std.specs.Prelude.{◌≡◌, ◌<◌, IfOk, OnOk, length, map, option_map};
 ghost use Rattle.qs_types.specs.Rules.{breaks_one};
 ghost use Rattle.qs_types.specs.TypeOf.{type_tree};
-ghost use Rattle.qs_typing.specs.Findings.{is_before, nothing_found, with_fault, judged_at};
+ghost use Rattle.qs_typing.specs.Findings.{is_before, nothing_found, with_fault};
 ghost use Rattle.qs_typing.specs.FoundOf.{fault_tree, found_tree};
+ghost use Rattle.qs_typing.specs.Founding.{NotesAddressed, NotesTests, Opens};
 ghost use Rattle.qs_typing.specs.JudgedOf.{test_tree};
-ghost use Rattle.qs_typing.specs.Walk.{opened, filled, with_addressed};
+ghost use Rattle.qs_typing.specs.Walk.{filled};
 
 use crate::entity::Referent;
 use crate::judged::Test;
@@ -55,7 +56,7 @@ impl Found {
     /// Makes a place for the next node, and tells it.
     pub fn open(&mut self, referent: Option<Referent>) -> Result<usize, NoMemory>
         ensures place { IfOk result (λ at. at ≡ length (found_tree self.old).types) }
-        ensures opened { OnOk result (found_tree self.new ≡ opened None referent (found_tree self.old)) }
+        ensures opened { OnOk result (Opens referent self.old self.new) }
     {
         let at = self.types.len();
         self.types.push(None)?;
@@ -73,7 +74,7 @@ impl Found {
 
     /// Notes that the name of this declaration is an operand of `&`.
     pub fn note_addressed(&mut self, node: u32) -> Result<(), NoMemory>
-        ensures { OnOk result (found_tree self.new ≡ with_addressed (node ∷ []) (found_tree self.old)) }
+        ensures { OnOk result (NotesAddressed node self.old self.new) }
     {
         self.addressed.push(node)?;
         Ok(())
@@ -92,7 +93,7 @@ impl Found {
     /// Notes the rules that a node breaks, and tells whether there are some.
     pub fn judge(&mut self, node: u32, tests: &[Test]) -> bool
         ensures any { result ≡ breaks_one (map test_tree tests.now) }
-        ensures judged { found_tree self.new ≡ judged_at node (map test_tree tests.now) (found_tree self.old) }
+        ensures judged { NotesTests node tests.now self.old self.new }
     {
         let mut any = false;
         for t in tests {

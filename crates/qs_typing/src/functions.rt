@@ -13,7 +13,8 @@ ghost use Rattle.qs_types.specs.TypeOf.{type_tree};
 ghost use Rattle.qs_types.specs.UnitRules as rules;
 ghost use Rattle.qs_typing.specs.ContextOf.{context_tree};
 ghost use Rattle.qs_typing.specs.PartsOf.{option_type};
-ghost use Rattle.qs_typing.specs.FunctionWalks.{AreHeaderTests, AreNoted, AreParameterTests, AreParameterTypes, AreWithOne, DeclaresParameter, DeclaresParameters, HasParameterTypes, IsDeclaredFunction, IsMainTest, IsParameterType, IsResultType, IsSignature, IsSignatureTest, KnowsFunction, KnowsParameter, KnowsParameters, WalksFunction, WalksItems, WalksParameter, WalksParameters, agrees_with, header_by};
+ghost use Rattle.qs_typing.specs.FunctionWalks.{AreHeaderTests, AreNoted, AreParameterTests, AreParameterTypes, AreWithOne, DeclaresParameter, DeclaresParameters, HasParameterTypes, IsDeclaredFunction, IsMainTest, IsParameterType, IsResultType, IsSignature, IsSignatureTest, KnowsFunction, KnowsParameter, KnowsParameters, WalksDeclarator, WalksFunction, WalksItems, WalksParameter, WalksParameters, agrees_with, are_lengths_typed, header_by};
+ghost use Rattle.qs_typing.specs.Declares.{IsParameter};
 ghost use Rattle.qs_typing.specs.EntityOf.{entity_tree, signature_tree};
 ghost use Rattle.qs_typing.specs.JudgedOf.{test_tree};
 ghost use Rattle.qs_typing.specs.Functions.{after_parameters, items_walked};
@@ -65,17 +66,17 @@ fn parameter_tests(
     alloc: Global,
     all_typed: bool,
     again: bool,
-    declared: &[Test],
+    own: &[Test],
     signature: Test,
 ) -> Result<Vec<Test>, NoMemory>
-    ensures { IfOk result (λ ts. AreParameterTests all_typed again declared.now signature ts.items) }
+    ensures { IfOk result (λ ts. AreParameterTests all_typed again own.now signature ts.items) }
 {
     let mut tests = Vec::new(alloc);
     if !all_typed {
         return Ok(tests);
     }
     tests.push(violates(Rule::DeclaredTwice, again))?;
-    tests.extend_from_slice(declared)?;
+    tests.extend_from_slice(own)?;
     tests.push(signature)?;
     Ok(tests)
 }
@@ -98,6 +99,27 @@ fn declare_parameter(
     }
 }
 
+/// Walks over the declarator of a parameter, and gives what it declares, and whether each of its
+/// lengths has a type.
+fn walk_declarator(
+    alloc: Global,
+    c: &Context,
+    p: &Parameter,
+    walk: &mut Walk,
+) -> Result<(Declared, bool), NoMemory>
+    ensures declared { IfOk result (λ r. IsParameter c.now p.now r.0) }
+    ensures typed { IfOk result (λ r. r.1 ≡ are_lengths_typed c.now p.now) }
+    ensures walked { OnOk result (WalksDeclarator c.now p.now walk.old walk.new) }
+{
+    let at = walk.open_object()?;
+    let lengths = walk_parameter_lengths(alloc, c, &p.lengths, walk)?;
+    let all_typed = lengths.first_typed && lengths.rest.all_typed;
+    let declared = parameter_declared(alloc, c, p, lengths)?;
+    let kept = copied(alloc, &declared.of)?;
+    walk.declare(at, kept);
+    Ok((declared, all_typed))
+}
+
 /// Walks over a parameter, and gives its type.
 fn walk_parameter(
     alloc: Global,
@@ -110,10 +132,7 @@ fn walk_parameter(
     ensures context { OnOk result (KnowsParameter p.now c.old c.new) }
     ensures walked { OnOk result (WalksParameter c.old has_body p.now walk.old walk.new) }
 {
-    walk.open()?;
-    let lengths = walk_parameter_lengths(alloc, c, &p.lengths, walk)?;
-    let all_typed = lengths.first_typed && lengths.rest.all_typed;
-    let Declared { tests, of } = parameter_declared(alloc, c, p, lengths)?;
+    let (Declared { tests, of }, all_typed) = walk_declarator(alloc, c, p, walk)?;
     let again = is_name_declared(c, &p.name);
     let signature = signature_test(p, has_body, &of);
     let tests = parameter_tests(alloc, all_typed, again, &tests, signature)?;
@@ -198,7 +217,8 @@ fn option_agrees(s: &Option<Signature>, types: &[Option<CType>], to: &Option<CTy
     }
 }
 
-/// Whether a header agrees with what was declared under its name before (C11 6.7p3).
+/// Whether a header agrees with what was declared under its name before (C11 6.7p4), and at most
+/// one has a body (6.9p3, p5).
 fn agrees_with(
     entity: Option<&Entity>,
     types: &[Option<CType>],
@@ -454,20 +474,20 @@ fn walk_body_items(
     alloc: Global,
     c: &mut Context,
     ps: &[Parameter],
-    types: &[Option<CType>],
+    ts: &[Option<CType>],
     to: Option<CType>,
     items: &[Stmt],
     walk: &mut Walk,
 ) -> Result<(), NoMemory>
     ensures context { OnOk result (context_tree c.new ≡ context_tree c.old) }
-    ensures walked { OnOk result (WalksItems c.old ps.now types.now to items.now walk.old walk.new) }
+    ensures walked { OnOk result (WalksItems c.old ps.now ts.now to items.now walk.old walk.new) }
 {
-    let locals = parameters_noted(alloc, c.structs(), ps, types)?;
+    let locals = parameters_noted(alloc, c.structs(), ps, ts)?;
     walk.begin_body(locals);
     let start = walk.found.addressed.len();
     let around = c.enter_scope();
     let before = c.set_result(to);
-    declare_parameters(alloc, c, ps, types)?;
+    declare_parameters(alloc, c, ps, ts)?;
     walk_statements(alloc, c, items, walk)?;
     c.set_result(before);
     c.leave_scope(around);

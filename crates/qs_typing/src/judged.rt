@@ -1,7 +1,6 @@
 // Tests of nodes, and what they and the types of the parts say of an expression.
-ghost use Rattle.std.specs.Prelude.{◌≡◌, IfOk, map, not};
-ghost use Rattle.qs_types.specs.TypeOf.{type_tree};
-ghost use Rattle.qs_typing.specs.JudgedOf.{test_tree, judged_tree};
+ghost use Rattle.std.specs.Prelude.{◌≡◌, IfOk, not};
+ghost use Rattle.qs_typing.specs.JudgedOf.{IsJudged, test_tree};
 
 use qs_base::NoMemory;
 use qs_types::{CType, Rule};
@@ -45,7 +44,7 @@ pub struct Judged {
 
 /// These tests, and this type.
 pub fn with_tests(alloc: Global, tests: &[Test], of: CType) -> Result<Judged, NoMemory>
-    ensures { IfOk result (λ j. judged_tree j ≡ record { tests = map test_tree tests.now; type = type_tree of }) }
+    ensures { IfOk result (IsJudged tests.now of) }
 {
     Ok(Judged {
         tests: Vec::from_slice(alloc, tests)?,

@@ -152,17 +152,17 @@ impl Noted {
     pub fn note_variable(
         &mut self,
         at_file_scope: bool,
-        structs: &Env,
+        env: &Env,
         node: u32,
         t: &Option<CType>,
     ) -> Result<(), NoMemory>
-        ensures { OnOk result (NotesVariable at_file_scope structs.now node t.now self.old self.new) }
+        ensures { OnOk result (NotesVariable at_file_scope env.now node t.now self.old self.new) }
     {
         if at_file_scope {
-            let size = type_size(structs, t);
+            let size = type_size(env, t);
             self.globals.push(Block { node, size })?;
         } else {
-            self.locals.push(local_of(structs, node, t))?;
+            self.locals.push(local_of(env, node, t))?;
         }
         Ok(())
     }

@@ -1,8 +1,9 @@
 // Words of the rules on operands (C11 6.3.2, 6.5).
 ghost use Rattle.std.specs.Prelude.{◌≡◌};
 ghost use Rattle.qs_syntax.specs.TreeOf.{expr_tree, shape_tree};
-ghost use Rattle.qs_types.specs.Expressions.{is_lvalue, is_lvalue_shape, is_null_constant, is_assignable, alike_pointers, may_cast};
+ghost use Rattle.qs_types.specs.Expressions.{is_lvalue, is_lvalue_shape, is_null_constant, is_assignable, may_cast};
 ghost use Rattle.qs_types.specs.TypeOf.{type_tree};
+ghost use Rattle.qs_typing.specs.Judging.{are_alike};
 
 use crate::types::{both_integers, is_pointer, same_pointers};
 use qs_syntax::{Access, Expr, Shape, UnaryOperator};
@@ -81,7 +82,7 @@ pub fn is_assignable(to: &CType, e: &Expr, from: &CType) -> bool
 
 /// Whether they are two pointers of one type, or a pointer and a null constant.
 pub fn alike_pointers(a: &Expr, t: &CType, b: &Expr, u: &CType) -> bool
-    ensures { result ≡ alike_pointers (expr_tree a.now) (type_tree t.now) (expr_tree b.now) (type_tree u.now) }
+    ensures { result ≡ are_alike a.now t.now b.now u.now }
 {
     same_pointers(t, u)
         || is_pointer(t) && is_null_constant(b)

@@ -192,16 +192,16 @@ fn walk_head(
     alloc: Global,
     c: &Context,
     node: Node,
-    start_typed: bool,
+    typed: bool,
     condition: &Option<Expr>,
     step: &Option<Expr>,
     walk: &mut Walk,
 ) -> Result<(), NoMemory>
-    ensures { OnOk result (WalksHead c.now node start_typed condition.now step.now walk.old walk.new) }
+    ensures { OnOk result (WalksHead c.now node typed condition.now step.now walk.old walk.new) }
 {
     let t = walk_option(alloc, c, Position::Used, condition, walk)?;
     let u = walk_option(alloc, c, Position::Discarded, step, walk)?;
-    judge_option(node, head_test(start_typed, step, &u, t), walk);
+    judge_option(node, head_test(typed, step, &u, t), walk);
     Ok(())
 }
 

@@ -2,13 +2,14 @@
 ghost use Rattle.std.specs.Prelude.{◌≡◌, IfOk, OnOk, is_some};
 ghost use Rattle.qs_types.specs.StatementRules.{entity_at};
 ghost use Rattle.qs_typing.specs.DeclaredOf.{option_type};
+ghost use Rattle.qs_typing.specs.Declares.{IsVariable};
 ghost use Rattle.qs_typing.specs.EntityOf.{entity_tree};
 ghost use Rattle.qs_typing.specs.Initialisers.{WalksValue, is_value_typed, value_fits};
-ghost use Rattle.qs_typing.specs.VariableWalks.{AreVariableTests, HasDeclaredType, IsTested, KnowsAll, KnowsOne, WalksAll, WalksOne, WalksOption, breaks_rule, holds_back};
+ghost use Rattle.qs_typing.specs.VariableWalks.{AreVariableTests, HasDeclaredType, IsTested, KnowsAll, KnowsOne, WalksAll, WalksDeclarator, WalksOne, WalksOption, are_lengths_typed, breaks_rule, holds_back};
 ghost use Rattle.qs_typing.specs.Variables.{fits_of};
 
 use crate::context::Context;
-use crate::declared_types::variable_declared;
+use crate::declared_types::{Declared, variable_declared};
 use crate::entity::Entity;
 use crate::initialisers::{Fit, walk_list, walk_value};
 use crate::judged::{Test, keeps, violates};
@@ -147,6 +148,28 @@ fn declare(
     c.declare(alloc, name, entity)
 }
 
+/// Walks over the declarator of a variable, and gives what it declares, and whether each of its
+/// lengths has a type.
+fn walk_declarator(
+    alloc: Global,
+    c: &Context,
+    base: &Base,
+    v: &Variable,
+    walk: &mut Walk,
+) -> Result<(Declared, bool), NoMemory>
+    ensures declared { IfOk result (λ r. IsVariable c.now base.now v.now r.0) }
+    ensures typed { IfOk result (λ r. r.1 ≡ are_lengths_typed c.now v.now) }
+    ensures walked { OnOk result (WalksDeclarator c.now base.now v.now walk.old walk.new) }
+{
+    let at = walk.open_object()?;
+    let lengths = walk_lengths(alloc, c, &v.declarator.lengths.given, walk)?;
+    let all_typed = lengths.all_typed;
+    let declared = variable_declared(alloc, c, base, v, lengths)?;
+    let kept = copied(alloc, &declared.of)?;
+    walk.declare(at, kept);
+    Ok((declared, all_typed))
+}
+
 /// Walks over a variable, which is known behind its declarator.
 pub fn walk_variable(
     alloc: Global,
@@ -159,10 +182,7 @@ pub fn walk_variable(
     ensures context { OnOk result (KnowsOne at_file_scope base.now v.now c.old c.new) }
     ensures walked { OnOk result (WalksOne at_file_scope c.old base.now v.now walk.old walk.new) }
 {
-    walk.open()?;
-    let lengths = walk_lengths(alloc, c, &v.declarator.lengths.given, walk)?;
-    let all_typed = lengths.all_typed;
-    let declared = variable_declared(alloc, c, base, v, lengths)?;
+    let (declared, all_typed) = walk_declarator(alloc, c, base, v, walk)?;
     let node = v.declarator.node;
     walk.note_variable(at_file_scope, c, node, &declared.of)?;
     let is_again = c.is_declared_here(&v.declarator.name);

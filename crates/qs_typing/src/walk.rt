@@ -1,11 +1,8 @@
 // A walk over a unit.
-ghost use Rattle.std.specs.Prelude.{◌≡◌, IfOk, OnOk, map, option_map};
+ghost use Rattle.std.specs.Prelude.{◌≡◌, ◌<◌, IfOk, OnOk, length};
 ghost use Rattle.qs_typing.specs.ExprWalks.{HasType};
-ghost use Rattle.qs_typing.specs.JudgedOf.{test_tree};
-ghost use Rattle.qs_typing.specs.FoundOf.{fault_tree};
-ghost use Rattle.qs_typing.specs.SiteWalks.{WalkBeginsBody, WalkNotesVariable, WalksExpression, WalksSite};
-ghost use Rattle.qs_typing.specs.UnitWalk.{node_judged, node_opened, start_walk, with_body_ended};
-ghost use Rattle.qs_typing.specs.Variables.{with_least_before};
+ghost use Rattle.qs_typing.specs.SiteWalks.{GivesType, JoinsLeast, JudgesNode, NotesDeclared, OpensObject, WalkBeginsBody, WalksExpression, WalksSite};
+ghost use Rattle.qs_typing.specs.UnitWalk.{node_opened, start_walk, with_body_ended};
 ghost use Rattle.qs_typing.specs.WalkOf.{walk_tree};
 
 use crate::context::Context;
@@ -47,9 +44,25 @@ impl Walk {
         Ok(())
     }
 
+    /// Makes a place for the node of a variable or parameter, and tells it.
+    pub fn open_object(&mut self) -> Result<usize, NoMemory>
+        ensures place { IfOk result (λ at. at ≡ length (walk_tree self.old).found.types) }
+        ensures opened { OnOk result (OpensObject self.old self.new) }
+    {
+        self.found.open(None)
+    }
+
+    /// Gives the node at this place the type that it declares, if it has one.
+    pub fn declare(&mut self, at: usize, t: Option<CType>)
+        requires { at < length (walk_tree self.old).found.types }
+        ensures { GivesType at t self.old self.new }
+    {
+        self.found.fill(at, t);
+    }
+
     /// Notes the rules that a node breaks.
     pub fn judge(&mut self, node: Node, tests: &[Test])
-        ensures { walk_tree self.new ≡ node_judged node (map test_tree tests.now) (walk_tree self.old) }
+        ensures { JudgesNode node tests.now self.old self.new }
     {
         self.found.judge(node.id, tests);
     }
@@ -94,7 +107,7 @@ impl Walk {
         node: Node,
         t: &Option<CType>,
     ) -> Result<(), NoMemory>
-        ensures { OnOk result (WalkNotesVariable at_file_scope c.now node.id t.now self.old self.new) }
+        ensures { OnOk result (NotesDeclared at_file_scope c.now node.id t.now self.old self.new) }
     {
         self.noted
             .note_variable(at_file_scope, c.structs(), node.id, t)
@@ -102,7 +115,7 @@ impl Walk {
 
     /// Adds the least fault that was found before.
     pub fn join(&mut self, before: Option<Fault>)
-        ensures { walk_tree self.new ≡ with_least_before (option_map fault_tree before) (walk_tree self.old) }
+        ensures { JoinsLeast before self.old self.new }
     {
         let found = self.found.least;
         self.found.least = before;

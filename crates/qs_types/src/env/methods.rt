@@ -1,10 +1,9 @@
 // How structs are declared and defined.
-ghost use Rattle.std.specs.Prelude.{◌≡◌, ◌++◌, ◌∷◌, [], None, Some, IfOk, OnOk, OnErr, is_some, map, option_map};
-ghost use Rattle.indexmap.specs.IndexMap.{values};
+ghost use Rattle.std.specs.Prelude.{◌≡◌, ◌++◌, ◌∷◌, [], None, Some, IfOk, OnOk, OnErr, option_map};
 ghost use Rattle.std.specs.List.{slice_get};
-ghost use Rattle.qs_types.specs.Layout.{layout_of, sized_layout, with_members};
-ghost use Rattle.qs_types.specs.TypeOf.{type_tree};
-ghost use Rattle.qs_types.specs.StructsOf.{structs_tree, member_tree, layout_tree};
+ghost use Rattle.qs_types.specs.Layout.{layout_of};
+ghost use Rattle.qs_types.specs.StructsOf.{structs_tree, layout_tree};
+ghost use Rattle.qs_types.specs.Defining.{GivesMembers, IsSized};
 ghost use Rattle.qs_types.specs.EnvOf.{env_tree};
 
 use super::Env;
@@ -63,8 +62,8 @@ impl Env {
         members: IndexMap<Name, CType>,
     ) -> Result<bool, NoMemory>
         requires { slice_get (env_tree self.old) k ≡ Some None }
-        ensures told { IfOk result (λ done. done ≡ is_some (sized_layout (layout_of (env_tree self.old)) (map type_tree (values members)))) }
-        ensures defined { IfOk result (λ done. env_tree self.new ≡ with_members done (env_tree self.old) k (map member_tree members.entries)) }
+        ensures told { IfOk result (IsSized self.old members.entries) }
+        ensures defined { IfOk result (λ d. GivesMembers k members.entries d self.old self.new) }
         ensures kept { OnErr result (env_tree self.new ≡ env_tree self.old) }
     {
         match members_layout(alloc, self, &members)? {

@@ -224,7 +224,7 @@ impl Context {
     ) -> Result<bool, NoMemory>
         requires { slice_get (context_tree self.old).structs k ≡ Some None }
         ensures told { IfOk result (IsSized self.old members.entries) }
-        ensures defined { IfOk result (λ done. GivesMembers k members.entries done self.old self.new) }
+        ensures defined { IfOk result (λ d. GivesMembers k members.entries d self.old self.new) }
     {
         self.structs.define(alloc, k, members)
     }

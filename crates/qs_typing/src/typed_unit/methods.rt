@@ -2,7 +2,7 @@
 ghost use Rattle.std.specs.Prelude.{◌≡◌, map, option_map};
 ghost use Rattle.qs_syntax.specs.UnitTrees.{unit_tree};
 ghost use Rattle.qs_types.specs.EnvOf.{env_tree};
-ghost use Rattle.qs_types.specs.Expressions.{type_of};
+ghost use Rattle.qs_types.specs.Limits.{KeepsLimits};
 ghost use Rattle.qs_types.specs.Recorded.{global_blocks, tags_of, text_blocks};
 ghost use Rattle.qs_types.specs.TypeOf.{type_tree};
 ghost use Rattle.qs_types.specs.UnitRules.{structs_of};
@@ -11,7 +11,7 @@ ghost use Rattle.qs_typing.specs.ByNumber.{IsByNumber};
 ghost use Rattle.qs_typing.specs.ContextOf.{context_tree};
 ghost use Rattle.qs_typing.specs.ExprFindings.{referent_of};
 ghost use Rattle.qs_typing.specs.NodeReferents.{no_referent, unit_addressed, unit_referents};
-ghost use Rattle.qs_typing.specs.NodeTypes.{no_type, unit_types};
+ghost use Rattle.qs_typing.specs.NodeTypes.{AreTypesByNumber, unit_types};
 ghost use Rattle.qs_typing.specs.NotedOf.{block_tree};
 ghost use Rattle.qs_typing.specs.Refusals.{IsAccepted};
 ghost use Rattle.qs_typing.specs.TypedOf.{typed_tree};
@@ -58,10 +58,12 @@ impl TypedUnit {
         &self.unit
     }
 
-    /// The type of each expression at the number of its node, None at every other number.
+    /// The type of each expression, and the declared type of each variable and parameter, at the number of
+    /// its node, None at every other number. The declared type of a variable may be an array; a parameter
+    /// that is written as an array is a pointer (C11 6.7.6.3p7).
     pub fn types(&self) -> &[Option<CType>]
         ensures types { map (option_map type_tree) result.now ≡ unit_types (typed_tree self.now) }
-        ensures by_number { IsByNumber no_type type_of (typed_tree self.now) (map (option_map type_tree) result.now) }
+        ensures by_number { AreTypesByNumber (typed_tree self.now) result.now }
     {
         &self.types
     }
@@ -114,5 +116,12 @@ impl TypedUnit {
     /// within their limits.
     pub fn is_accepted(&self)
         ensures { IsAccepted (typed_tree self.now) }
+    {}
+
+    /// Its nodes, functions, parameters and bytes are counted, and each count is at most its limit; it has a
+    /// reading.
+    #[tactic(auto, using(crate::proofs::TypedLaws::keeps_limits))]
+    pub fn keeps_limits(&self)
+        ensures { KeepsLimits (typed_tree self.now) }
     {}
 }

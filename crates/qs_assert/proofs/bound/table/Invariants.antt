@@ -5,4 +5,4 @@ use Rattle.qs_assert.proofs.bound.table.Given as goal
 -- with the definitions that are left this is the whole table
 abbrev pub invariant-loop-define : goal.invariant-loop-define
 invariant-loop-define l =
-    tabled l.args l.costs (drop l.define-index l.defines) l.known.items ≡ tabled l.args l.costs l.defines []
+    tabled l.args l.costs (drop l.define-index l.defines) l.known.entries ≡ tabled l.args l.costs l.defines []

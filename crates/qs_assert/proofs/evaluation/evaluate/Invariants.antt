@@ -7,7 +7,7 @@ use Rattle.qs_assert.proofs.evaluation.evaluate.Given as goal
 abbrev pub invariant-loop-at : goal.invariant-loop-at
 invariant-loop-at l = record {
   within : l.at ≤ length l.nodes;
-  values : seen l.evaluation ≡ steps (meaning l.args l.costs l.known) (drop l.at l.nodes);
+  values : seen l.evaluation ≡ steps (meaning l.args l.costs l.known.entries) (drop l.at l.nodes);
 }
 
 abbrev pub decreases-loop-at : goal.decreases-loop-at

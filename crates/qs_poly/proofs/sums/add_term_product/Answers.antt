@@ -1,9 +1,12 @@
 use Rattle.std.proofs.Common.{◌≡◌, ◌+◌, ◌*◌, ◌^◌, ◌∙◌, sym, ap, subst, drop, arith}
 use Rattle.std.specs.Prelude.{◌*ℤ◌, unsigned_abs}
+use Rattle.qs_poly.specs.Canonical.{IsCanonical}
 use Rattle.qs_poly.specs.Operations.{add_term_product, insert_term, monomial_product}
 use Rattle.qs_poly.specs.declared.terms.Term.{Term}
 use Rattle.qs_poly.specs.Terms.{sum_of, AllAtMost}
 use Rattle.qs_poly.proofs.Bounds.{item_at_most, insert_at_most, at_most_more, product_at_most}
+use Rattle.qs_poly.proofs.Coefficients.{insert_canonical, monomial_product_canonical}
+use Rattle.qs_poly.proofs.Search.{item_canonical}
 use Rattle.qs_poly.proofs.Steps.{term_multiplied}
 use Rattle.qs_poly.proofs.sums.add_term_product.Goals as goal
 
@@ -23,6 +26,7 @@ insert_term-requires c =
     record {
       small = omega arith;
       all_small = at_most_more (2 ^ 124 + c.loop-other.other-index * 2 ^ 112) (2 ^ 125) (sum_of c.loop-other.so_far.items) (omega arith) c.loop-other.invariant.small;
+      canonical = c.loop-other.invariant.canonical;
     }
 
 pub loop-other-preserved : goal.loop-other-preserved
@@ -41,4 +45,7 @@ loop-other-preserved c =
           let b = insert_at_most (2 ^ 124 + i * 2 ^ 112) (2 ^ 112) (k *ℤ d.coefficient) (monomial_product m d.monomial) old b c.loop-other.invariant.small in
           let n : 2 ^ 124 + i * 2 ^ 112 + 2 ^ 112 ≡ 2 ^ 124 + (i + 1) * 2 ^ 112 = omega arith in
           subst (λ k. AllAtMost k (sum_of c.insert_term.new.terms.items)) n (subst (λ p. AllAtMost (2 ^ 124 + i * 2 ^ 112 + 2 ^ 112) p) (sym e) b);
+      canonical =
+          let n = monomial_product_canonical m d.monomial c.requires.canonical_term (item_canonical c.args.others.now i d c.loop-other-test.true c.other-item.is c.requires.canonical_others) in
+          subst IsCanonical (sym e) (insert_canonical (k *ℤ d.coefficient) (monomial_product m d.monomial) old n c.loop-other.invariant.canonical);
     }

@@ -1,9 +1,12 @@
 use Rattle.std.proofs.Common.{◌≡◌, ◌+◌, ◌*◌, ◌^◌, ◌∙◌, sym, ap, subst, drop, arith}
 use Rattle.std.specs.Prelude.{unsigned_abs}
+use Rattle.qs_poly.specs.Canonical.{IsCanonical}
 use Rattle.qs_poly.specs.Operations.{sum, insert_term}
 use Rattle.qs_poly.specs.declared.terms.Term.{Term}
 use Rattle.qs_poly.specs.Terms.{sum_of, AllAtMost}
 use Rattle.qs_poly.proofs.Bounds.{item_at_most, insert_at_most, at_most_more}
+use Rattle.qs_poly.proofs.Coefficients.{insert_canonical}
+use Rattle.qs_poly.proofs.Search.{item_canonical}
 use Rattle.qs_poly.proofs.Steps.{term_added}
 use Rattle.qs_poly.proofs.sums.add_terms.Goals as goal
 
@@ -16,6 +19,7 @@ insert_term-requires c =
     record {
       small = omega arith;
       all_small = at_most_more (2 ^ 120 + c.loop-term.term-index * 2 ^ 56) (2 ^ 125) (sum_of c.loop-term.so_far.items) (omega arith) c.loop-term.invariant.small;
+      canonical = c.loop-term.invariant.canonical;
     }
 
 pub loop-term-preserved : goal.loop-term-preserved
@@ -31,4 +35,5 @@ loop-term-preserved c =
           let b = insert_at_most (2 ^ 120 + i * 2 ^ 56) (2 ^ 56) d.coefficient d.monomial old narrow c.loop-term.invariant.small in
           let n : 2 ^ 120 + i * 2 ^ 56 + 2 ^ 56 ≡ 2 ^ 120 + (i + 1) * 2 ^ 56 = omega arith in
           subst (λ k. AllAtMost k (sum_of c.insert_term.new.terms.items)) n (subst (λ p. AllAtMost (2 ^ 120 + i * 2 ^ 56 + 2 ^ 56) p) (sym e) b);
+      canonical = subst IsCanonical (sym e) (insert_canonical d.coefficient d.monomial old (item_canonical c.args.terms.now i d c.loop-term-test.true c.term-item.is c.requires.canonical_terms) c.loop-term.invariant.canonical);
     }

@@ -1,7 +1,10 @@
 use Rattle.std.proofs.Common.{◌≡◌, ◌+◌, ◌*◌, ◌^◌, ◌∙◌, sym, ap, subst, drop, length, arith}
+use Rattle.qs_poly.specs.Canonical.{IsCanonical}
 use Rattle.qs_poly.specs.Operations.{add_product, add_term_product}
 use Rattle.qs_poly.specs.Terms.{sum_of, AllAtMost}
 use Rattle.qs_poly.proofs.Bounds.{item_at_most, at_most_more, term_product_at_most}
+use Rattle.qs_poly.proofs.Coefficients.{term_product_canonical}
+use Rattle.qs_poly.proofs.Search.{item_canonical}
 use Rattle.qs_poly.proofs.Steps.{product_added}
 use Rattle.qs_poly.proofs.sums.multiply_terms.Goals as goal
 
@@ -13,6 +16,9 @@ add_term_product-requires c =
       few = c.requires.few_others;
       narrow = c.requires.narrow_others;
       small = at_most_more (c.loop-term.term-index * 2 ^ 118) (2 ^ 124) (sum_of c.loop-term.so_far.items) (omega arith) c.loop-term.invariant.small;
+      canonical_term = item_canonical c.args.terms.now c.loop-term.term-index c.term-item.result c.loop-term-test.true c.term-item.is c.requires.canonical_terms;
+      canonical_others = c.requires.canonical_others;
+      canonical = c.loop-term.invariant.canonical;
     }
 
 pub loop-term-preserved : goal.loop-term-preserved
@@ -29,4 +35,7 @@ loop-term-preserved c =
           let b = term_product_at_most (i * 2 ^ 118) d.coefficient d.monomial c.args.others.now old narrow c.requires.narrow_others c.loop-term.invariant.small in
           let b' = subst (λ p. AllAtMost (i * 2 ^ 118 + length c.args.others.now * 2 ^ 112) p) (sym e) b in
           at_most_more (i * 2 ^ 118 + length c.args.others.now * 2 ^ 112) ((i + 1) * 2 ^ 118) (sum_of c.add_term_product.new.so_far.items) (omega arith) b';
+      canonical =
+          let m = item_canonical c.args.terms.now i d c.loop-term-test.true c.term-item.is c.requires.canonical_terms in
+          subst IsCanonical (sym e) (term_product_canonical d.coefficient d.monomial (sum_of c.args.others.now) old m c.requires.canonical_others c.loop-term.invariant.canonical);
     }

@@ -15,7 +15,7 @@ pub leave_scope-requires : goal.leave_scope-requires
 leave_scope-requires c =
     items_leave (context_tree c.args.c.now) (context_tree c.enter_scope-around.new.self) (context_tree c.set_result-before.new.self) (context_tree c.declare_parameters.new.c)
     (context_tree c.walk_statements.new.c) (context_tree c.set_result.new.self) c.enter_scope-around.result (option_map type_tree c.set_result-before.result) (option_map type_tree c.args.to)
-    (map parameter_tree c.args.ps.now) (map (option_map type_tree) c.args.types.now) (stmts_tree c.args.items.now)
+    (map parameter_tree c.args.ps.now) (map (option_map type_tree) c.args.ts.now) (stmts_tree c.args.items.now)
     c.enter_scope-around.ensures.around c.enter_scope-around.ensures.inside c.set_result-before.ensures.before c.set_result-before.ensures.set c.in_ok-declare_parameters.ensures
     c.in_ok-walk_statements.ensures.context c.set_result.ensures.set
 
@@ -24,7 +24,7 @@ returns-clause-context c =
     on_ok_weaker c.end_body.result
     (λ _. items_end (context_tree c.args.c.now) (context_tree c.enter_scope-around.new.self) (context_tree c.set_result-before.new.self) (context_tree c.declare_parameters.new.c)
     (context_tree c.walk_statements.new.c) (context_tree c.set_result.new.self) (context_tree c.leave_scope.new.self) c.enter_scope-around.result (option_map type_tree c.set_result-before.result)
-    (option_map type_tree c.args.to) (map parameter_tree c.args.ps.now) (map (option_map type_tree) c.args.types.now) (stmts_tree c.args.items.now)
+    (option_map type_tree c.args.to) (map parameter_tree c.args.ps.now) (map (option_map type_tree) c.args.ts.now) (stmts_tree c.args.items.now)
     c.enter_scope-around.ensures.around c.enter_scope-around.ensures.inside c.set_result-before.ensures.before c.set_result-before.ensures.set c.in_ok-declare_parameters.ensures
     c.in_ok-walk_statements.ensures.context c.set_result.ensures.set c.leave_scope.ensures)
     c.end_body.ensures
@@ -33,7 +33,7 @@ pub returns-clause-walked : goal.returns-clause-walked
 returns-clause-walked c =
     let context = context_tree c.args.c.now in
     let ps = map parameter_tree c.args.ps.now in
-    let ts = map (option_map type_tree) c.args.types.now in
+    let ts = map (option_map type_tree) c.args.ts.now in
     let result = option_map type_tree c.args.to in
     let begun : walk_tree c.begin_body.new.self ≡ with_body_begun (parameters_noted context.structs ps ts) (walk_tree c.args.walk.now) =
     c.begin_body.ensures ∙ ap (λ ls. with_body_begun ls (walk_tree c.args.walk.now)) (c.in_ok-locals.ensures ∙ ap (λ s. parameters_noted s ps ts) c.structs.ensures) in

@@ -1,6 +1,6 @@
 use Rattle.std.proofs.Common.{◌≡◌, drop}
 use Rattle.qs_assert.specs.Trees.{assertions_of}
-use Rattle.qs_entail.specs.Faults.{faults_all, faults_parts}
+use Rattle.qs_entail.specs.Verdicts.{faults_all, faults_parts}
 use Rattle.qs_entail.specs.View.{certs_tree, known_view}
 use Rattle.qs_entail.specs.Walking.{place}
 use Rattle.qs_entail.proofs.walk.Walk.+check.Given as goal

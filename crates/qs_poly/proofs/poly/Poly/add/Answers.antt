@@ -16,6 +16,8 @@ add_terms-requires c =
       few = subst (λ (xs : List Term). length xs ≤ 64) (sym v) few;
       narrow = subst (λ xs. AllAtMost (2 ^ 56) (sum_of xs)) (sym v) (narrow_at_most (sum_of c.self.inside.terms.items) c.self.invariant.narrow);
       small = subst (λ xs. AllAtMost (2 ^ 120) (sum_of xs)) (sym b) (at_most_more (2 ^ 56) (2 ^ 120) (sum_of c.b.inside.terms.items) (omega arith) (narrow_at_most (sum_of c.b.inside.terms.items) c.b.invariant.narrow));
+      canonical_terms = subst (λ xs. IsCanonical (sum_of xs)) (sym v) c.self.invariant.canonical;
+      canonical = subst (λ xs. IsCanonical (sum_of xs)) (sym b) c.b.invariant.canonical;
     }
 
 pub limited-requires : goal.limited-requires

@@ -15,6 +15,8 @@ multiply_terms-requires c =
       few_others = subst (λ (xs : List Term). length xs ≤ 64) (sym w) (few_at_most c.b.inside.terms.items c.b.invariant.few_terms);
       narrow_terms = subst (λ xs. AllAtMost (2 ^ 56) (sum_of xs)) (sym v) (narrow_at_most (sum_of c.self.inside.terms.items) c.self.invariant.narrow);
       narrow_others = subst (λ xs. AllAtMost (2 ^ 56) (sum_of xs)) (sym w) (narrow_at_most (sum_of c.b.inside.terms.items) c.b.invariant.narrow);
+      canonical_terms = subst (λ xs. IsCanonical (sum_of xs)) (sym v) c.self.invariant.canonical;
+      canonical_others = subst (λ xs. IsCanonical (sum_of xs)) (sym w) c.b.invariant.canonical;
     }
 
 pub limited-requires : goal.limited-requires

@@ -1,0 +1,12 @@
+// The laws of items. Each is the contract of an empty function.
+ghost use Rattle.qs_asm.specs.Laws.{ItemsAreLaidOneAfterTheOther, ItemsTakeTheirWords};
+
+/// Two lists of items are laid one after the other.
+pub fn items_are_laid_one_after_the_other()
+    ensures { ItemsAreLaidOneAfterTheOther }
+{}
+
+/// What is laid takes no more than its words, and no less than its plain instructions.
+pub fn items_take_their_words()
+    ensures { ItemsTakeTheirWords }
+{}

@@ -1,0 +1,52 @@
+-- What is promised of frames.
+use Rattle.std.specs.Prelude.{◌≡◌, ◌≢◌, ◌⊎◌, ℕ, ◌+◌, ◌*◌, ◌/◌, ◌%◌, ◌<◌, ◌≤◌, length, slice_index_or}
+use Rattle.qs_tac.specs.Trees.{TacFunctionTree}
+use Rattle.qs_tac.specs.Places.{PlacesTree, Accepted}
+use Rattle.qs_tac.specs.Sizes.{values}
+use Rattle.qs_frames.specs.Layout.{total, slot_count, used_registers, kept, layout, return_address_at, register_at, slot_at, block_offset}
+
+-- what lies in a frame
+pub data Part : Type 0 where
+  return_address : Part
+  register : (i : ℕ) → Part
+  slot : (k : ℕ) → Part
+  block : (i : ℕ) → Part
+
+-- the frame has such a part
+abbrev pub HasPart : TacFunctionTree → PlacesTree → Part → Type 0
+HasPart f p return_address = Unit {0}
+HasPart f p (register i) = i < length (used_registers p)
+HasPart f p (slot k) = k < slot_count p
+HasPart f p (block i) = i < length f.blocks
+
+-- its offset from x2
+abbrev pub part_from : TacFunctionTree → PlacesTree → Part → ℕ
+part_from f p return_address = return_address_at
+part_from f p (register i) = register_at i
+part_from f p (slot k) = slot_at (layout f p) k
+part_from f p (block i) = block_offset f (layout f p) i
+
+abbrev pub part_size : TacFunctionTree → Part → ℕ
+part_size f return_address = 4
+part_size f (register i) = 4
+part_size f (slot k) = 4
+part_size f (block i) = slice_index_or f.blocks i 0
+
+abbrev pub part_end : TacFunctionTree → PlacesTree → Part → ℕ
+part_end f p a = part_from f p a + part_size f a
+
+pub record IsLaidOut (f : TacFunctionTree) (p : PlacesTree) : Type 0 where
+  pub positive : 0 < (layout f p).cost
+  pub multiple : (layout f p).cost % 16 ≡ 0
+  pub bound : (layout f p).cost ≤ 16 * ((4 + total f.blocks + 4 * kept p + 15) / 16)
+  pub aligned : (a : Part) → HasPart f p a → part_from f p a % 4 ≡ 0
+  pub inside : (a : Part) → HasPart f p a → part_end f p a ≤ (layout f p).cost
+  pub apart :
+      (a b : Part) → HasPart f p a → HasPart f p b → a ≢ b
+      → (part_end f p a ≤ part_from f p b) ⊎ (part_end f p b ≤ part_from f p a)
+
+abbrev pub FramesAreLaidOut : Type 0
+FramesAreLaidOut = (f : TacFunctionTree) (p : PlacesTree) → IsLaidOut f p
+
+abbrev pub NoMoreIsKeptThanValues : Type 0
+NoMoreIsKeptThanValues = (f : TacFunctionTree) (p : PlacesTree) → Accepted f p → kept p ≤ values f

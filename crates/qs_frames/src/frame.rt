@@ -1,0 +1,12 @@
+// Frames.
+
+/// The frame of a function's call. Offsets are from x2, in bytes.
+#[derive(Clone, Copy, PartialEq, Eq, Debug)]
+pub struct Frame {
+    /// its bytes, a positive multiple of 16
+    pub cost: u32,
+    /// the offset of slot 0; the further slots lie below it, one after the other
+    pub slots: u32,
+    /// the offset of the first placed block; the further blocks lie above it
+    pub placed: u32,
+}

@@ -1,0 +1,8 @@
+//! Frames: what a call of a function takes of the stack, and where its parts lie from x2 on.
+#![tactic(auto)]
+
+mod frame;
+mod laws;
+
+pub use frame::Frame;
+pub use laws::{frames_are_laid_out, no_more_is_kept_than_values};

@@ -1,0 +1,120 @@
+-- What answers without a fault say.
+use Rattle.std.proofs.Common.{◌≡◌, ℕ, List, [], ◌∷◌, Bool, true, false, Option, Some, None, refl, sym, ap, ◌∙◌}
+use Rattle.std.specs.Prelude.{cond, not, ◌||◌, is_none, Ok, Err}
+use Rattle.std.specs.List.{find, list_any}
+use Rattle.std.specs.Option.{option_or}
+use Rattle.qs_base.specs.Results.{bind, require, fault_or}
+use Rattle.qs_calls.specs.declared.callee.Callee.TheVariants.{Function, PutChar, GetChar}
+use Rattle.qs_assert.specs.declared.variable.Var.{Var}
+use Rattle.qs_assert.specs.Substitution.{same_variable}
+use Rattle.qs_assert.specs.Trees.{AssertionTree}
+use Rattle.qs_assert.proofs.Same.{variable_equal}
+use Rattle.qs_entail.specs.Faults as certificates
+use Rattle.qs_core.specs.Trees as core
+use Rattle.qs_core.specs.Trees.{CoreExprTree, CoreStmtTree, CoreStmts, CoreFunctionTree}
+use Rattle.qs_triples.specs.Derivations.{SpecTree}
+use Rattle.qs_triples.specs.Rules.{DerivationFault, Answer, part, unless, by_verdict, of_sequence, of_branch, of_loop, CallSite, of_call, Known, of_spec}
+
+-- an answer that is this assertion
+abbrev pub Gives : Answer → AssertionTree → Type 0
+Gives answer a = answer ≡ Ok a
+
+pub ok_same : (a b : AssertionTree) → Gives (Ok a) b → a ≡ b
+ok_same a b h = cc
+
+pub bind_ok : (r : Answer) (next : AssertionTree → Answer) (b : AssertionTree) → Gives (bind r next) b → (a : AssertionTree) × (Gives r a × Gives (next a) b)
+bind_ok (Ok a) next b h = (a, (refl, h))
+bind_ok (Err fault) next b h = cc
+
+pub part_ok : (i : ℕ) (r : Answer) (a : AssertionTree) → Gives (part i r) a → Gives r a
+part_ok i (Ok b) a h = h
+part_ok i (Err fault) a h = cc
+
+pub require_ok : (t : Bool) (fault : DerivationFault) (r : Answer) (a : AssertionTree) → Gives (require t fault r) a → (t ≡ true) × Gives r a
+require_ok true fault r a h = (refl, h)
+require_ok false fault r a h = cc
+
+pub unless_ok : (o : Option Var) (r : Answer) (a : AssertionTree) → Gives (unless o r) a → (o ≡ None) × Gives r a
+unless_ok None r a h = (refl, h)
+unless_ok (Some x) r a h = cc
+
+pub by_verdict_ok : (v : Option certificates.Fault) (r a : AssertionTree) → Gives (by_verdict v r) a → (v ≡ None) × (r ≡ a)
+by_verdict_ok None r a h = (refl, ok_same r a h)
+by_verdict_ok (Some fault) r a h = cc
+
+-- ---- the forms of statements
+
+pub sequence_ok : (s : CoreStmtTree) (rule : CoreStmts → Answer) (a : AssertionTree) → Gives (of_sequence s rule) a → (ss : CoreStmts) × ((s ≡ core.seq ss) × Gives (rule ss) a)
+sequence_ok (core.seq ss) rule a h = (ss, (refl, h))
+sequence_ok _ rule a h = cc
+
+pub record IsBranch (s : CoreStmtTree) (rule : CoreExprTree → CoreStmtTree → CoreStmtTree → Answer) (a : AssertionTree) : Type 0 where
+  pub condition : CoreExprTree
+  pub first : CoreStmtTree
+  pub second : CoreStmtTree
+  pub is : s ≡ core.branch condition first second
+  pub gives : Gives (rule condition first second) a
+
+pub branch_ok : (s : CoreStmtTree) (rule : CoreExprTree → CoreStmtTree → CoreStmtTree → Answer) (a : AssertionTree) → Gives (of_branch s rule) a → IsBranch s rule a
+branch_ok (core.branch e s t) rule a h = record { condition = e; first = s; second = t; is = refl; gives = h }
+branch_ok _ rule a h = cc
+
+pub record IsLoop (s : CoreStmtTree) (rule : CoreStmtTree → CoreStmtTree → Answer) (a : AssertionTree) : Type 0 where
+  pub body : CoreStmtTree
+  pub step : CoreStmtTree
+  pub is : s ≡ core.loop body step
+  pub gives : Gives (rule body step) a
+
+pub loop_ok : (s : CoreStmtTree) (rule : CoreStmtTree → CoreStmtTree → Answer) (a : AssertionTree) → Gives (of_loop s rule) a → IsLoop s rule a
+loop_ok (core.loop body step) rule a h = record { body = body; step = step; is = refl; gives = h }
+loop_ok _ rule a h = cc
+
+abbrev pub call_at : CallSite → CoreStmtTree
+call_at site = core.call site.destination (Function (record { 0 = site.function })) site.arguments
+
+pub call_ok : (s : CoreStmtTree) (rule : CallSite → Answer) (a : AssertionTree) → Gives (of_call s rule) a → (site : CallSite) × ((s ≡ call_at site) × Gives (rule site) a)
+call_ok (core.call x (Function g) es) rule a h = (record { destination = x; function = g.0; arguments = es }, (refl, h))
+call_ok (core.call x PutChar es) rule a h = cc
+call_ok (core.call x GetChar es) rule a h = cc
+call_ok _ rule a h = cc
+
+pub record IsKnown (o : Option CoreFunctionTree) (spec : Option SpecTree) (rule : Known → Answer) (a : AssertionTree) : Type 0 where
+  pub known : Known
+  pub function_is : o ≡ Some known.function
+  pub spec_is : spec ≡ Some known.spec
+  pub gives : Gives (rule known) a
+
+pub spec_ok : (g : ℕ) (o : Option CoreFunctionTree) (spec : Option SpecTree) (rule : Known → Answer) (a : AssertionTree) → Gives (of_spec g o spec rule) a → IsKnown o spec rule a
+spec_ok g None spec rule a h = cc
+spec_ok g (Some f) None rule a h = cc
+spec_ok g (Some f) (Some spec) rule a h = record { known = record { function = f; spec = spec }; function_is = refl; spec_is = refl; gives = h }
+
+-- ---- no fault
+
+pub or_none : (o p : Option DerivationFault) → option_or o p ≡ None → (o ≡ None) × (p ≡ None)
+or_none None p h = (refl, h)
+or_none (Some fault) p h = cc
+
+pub fault_or_none : (r : Answer) (next : AssertionTree → Option DerivationFault) → fault_or (λ fault. fault) r next ≡ None → (a : AssertionTree) × (Gives r a × (next a ≡ None))
+fault_or_none (Ok a) next h = (a, (refl, h))
+fault_or_none (Err fault) next h = cc
+
+-- ---- variables that aren't found
+
+pub none_found : (p : Var → Bool) (xs : List Var) (x : Var) → find p xs ≡ None → list_any (λ y. same_variable y x) xs ≡ true → p x ≡ false
+none_found p [] x h k = cc
+none_found p (y ∷ xs) x h k = by (p y) refl (same_variable y x) refl h k (none_found p xs x)
+  where
+    by : (b : Bool) → p y ≡ b → (c : Bool) → same_variable y x ≡ c → cond b (Some y) (find p xs) ≡ None → (c || list_any (λ y. same_variable y x) xs) ≡ true
+        → (find p xs ≡ None → list_any (λ y. same_variable y x) xs ≡ true → p x ≡ false) → p x ≡ false
+    by true pb c ce h k others = cc
+    by false pb true ce h k others = ap p (sym (variable_equal y x ce)) ∙ pb
+    by false pb false ce h k others = others h k
+
+pub not_false : (b : Bool) → not b ≡ false → b ≡ true
+not_false true h = refl
+not_false false h = cc
+
+pub some_there : {A : Type 0} → (o : Option A) → is_none o ≡ false → (a : A) × (o ≡ Some a)
+some_there (Some a) h = (a, refl)
+some_there None h = cc

@@ -1,0 +1,17 @@
+pub mod Modulo
+pub mod Names
+pub mod Bounds
+pub mod Answers
+pub mod ValuationLaws
+pub mod TermLaws
+pub mod ConditionLaws
+pub mod ArgumentLaws
+pub mod SumLaws
+pub mod MomentLaws
+pub mod CallLaws
+pub mod RuleLaws
+pub mod FunctionLaws
+pub mod PathLaws
+pub mod BoundLaws
+mod CountDownExamples
+mod LoopExamples

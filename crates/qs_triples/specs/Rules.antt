@@ -1,0 +1,327 @@
+-- The rules of derivations, one for each form of node. A rule gives the assertion that is enough before a statement,
+-- where the posts are enough behind it; or the first fault in the order of search.
+use Rattle.std.specs.Prelude.{ℕ, suc, ◌==◌, not, Bool, true, false, if◌then◌else◌, List, [], ◌∷◌, Option, Some, None, option_map, Result, Ok, Err}
+use Rattle.qs_base.specs.Results.{bind, require}
+use Rattle.qs_calls.specs.declared.callee.Callee.{Callee}
+use Rattle.qs_calls.specs.declared.callee.Callee.TheVariants.{Function, PutChar, GetChar}
+use Rattle.qs_assert.specs.declared.define.Define.{Define}
+use Rattle.qs_assert.specs.declared.variable.VarKind.{VarKind}
+use Rattle.qs_assert.specs.declared.variable.VarKind.TheVariants as kinds
+use Rattle.qs_assert.specs.declared.variable.Var.{Var}
+use Rattle.qs_assert.specs.Sameness.{same_assertion}
+use Rattle.qs_assert.specs.Substitution.{in_assertion}
+use Rattle.qs_assert.specs.Images.{assertion_image}
+use Rattle.qs_assert.specs.Simultaneous.{terms_for, first_without}
+use Rattle.qs_assert.specs.Trees.{TermTree, CondTree, AssertionTree, cost, total, greatest, choose, AssertionTrees, no_assertions, assertion_and}
+use Rattle.qs_entail.specs.Certificates.{CertTree}
+use Rattle.qs_entail.specs.Faults as certificates
+use Rattle.qs_entail.specs.Verdicts.{verdict}
+use Rattle.qs_core.specs.declared.numbers.Target.{Target}
+use Rattle.qs_core.specs.declared.numbers.Target.TheVariants as targets
+use Rattle.qs_core.specs.Trees as core
+use Rattle.qs_core.specs.Trees.{CoreExprTree, CoreStmtTree, CoreStmts, no_stmts, stmt_and, CoreFunctionTree}
+use Rattle.qs_core.specs.Expressions.{type_of}
+use Rattle.std.specs.List.{slice_get}
+use Rattle.qs_triples.specs.Derivations.{DerivationTree, leaf, sequence, conditional, loop, call, balanced_call, consequence, DerivationTrees, no_derivations, derivation_and, count_derivations, SpecTree}
+use Rattle.qs_triples.specs.ExpressionTerms.{var, expression_term, expression_condition}
+use Rattle.qs_triples.specs.Mentions.{in_body, first_other, first_of, first_of_destination, pre_images, post_images, first_without_argument, plain_variable, as_old}
+
+-- ---- faults
+
+-- where an assertion stands; a path has the numbers of the parts of statements, from that of the body on
+pub data Place : Type 0 where
+  in_precondition : Place
+  in_postcondition : Place
+  at_node : (path : List ℕ) → Place
+
+pub data DerivationFault : Type 0 where
+  -- a node that isn't one for its statement
+  shape : (path : List ℕ) → DerivationFault
+  -- a variable that may not be mentioned there, or that is needed and has no term
+  mentions : Place → Var → DerivationFault
+  -- a certificate that doesn't show what it is to show
+  certificate : (path : List ℕ) → certificates.Fault → DerivationFault
+  -- a call of a function without a specification
+  no_spec : (path : List ℕ) → (callee : ℕ) → DerivationFault
+  -- the certificate that the precondition is enough
+  entry : certificates.Fault → DerivationFault
+  -- a definition with a name that isn't defined earlier
+  bad_order : (definition : ℕ) → DerivationFault
+
+abbrev pub Answer : Type 0
+Answer = Result AssertionTree DerivationFault
+
+-- ---- places
+
+abbrev pub here : Place
+here = at_node []
+
+abbrev pub place_below : ℕ → Place → Place
+place_below i in_precondition = in_precondition
+place_below i in_postcondition = in_postcondition
+place_below i (at_node path) = at_node (i ∷ path)
+
+abbrev pub fault_below : ℕ → DerivationFault → DerivationFault
+fault_below i (shape path) = shape (i ∷ path)
+fault_below i (mentions place x) = mentions (place_below i place) x
+fault_below i (certificate path fault) = certificate (i ∷ path) fault
+fault_below i (no_spec path g) = no_spec (i ∷ path) g
+fault_below i (entry fault) = entry fault
+fault_below i (bad_order d) = bad_order d
+
+-- the answer of part i of a statement
+abbrev pub part : ℕ → Answer → Answer
+part i (Ok a) = Ok a
+part i (Err fault) = Err (fault_below i fault)
+
+-- ---- conditions of rules
+
+-- no such variable is found
+abbrev pub unless : Option Var → Answer → Answer
+unless None next = next
+unless (Some x) next = Err (mentions here x)
+
+abbrev pub by_verdict : Option certificates.Fault → AssertionTree → Answer
+by_verdict None r = Ok r
+by_verdict (Some fault) r = Err (certificate [] fault)
+
+-- r, where a certificate shows that p is at least q
+abbrev pub certified :
+    List Define → CertTree → (p q : AssertionTree) → (r : AssertionTree) → Answer
+certified defines c p q r = by_verdict (verdict [] defines p q c) r
+
+-- ---- what holds in a body
+
+-- what is enough behind a statement: in each way in which it can be left
+pub record Posts : Type 0 where
+  pub next : AssertionTree
+  pub on_break : AssertionTree
+  pub on_continue : AssertionTree
+  pub on_return : AssertionTree
+
+-- the same all through a body: its function, all functions, their specifications, the definitions
+pub record Scope : Type 0 where
+  pub function : CoreFunctionTree
+  pub functions : List CoreFunctionTree
+  pub specs : (function : ℕ) → Option SpecTree
+  pub defines : List Define
+
+abbrev pub with_next : Posts → AssertionTree → Posts
+with_next q n = record q { next = n }
+
+-- ---- leaf: simple statements, and calls of the functions that the environment gives
+
+abbrev pub target_kind : Target → VarKind
+target_kind (targets.Variable x) = kinds.Plain x
+target_kind (targets.Temporary k) = kinds.Temporary k
+
+-- the assertion with the term in the place of the variable, which it must not mention where there is no term
+abbrev pub replaced : Var → Option TermTree → AssertionTree → Answer
+replaced x (Some t) a = Ok (in_assertion x t a)
+replaced x None a = unless (first_of x.kind a) (Ok a)
+
+abbrev pub leaf_rule : CoreStmtTree → Posts → Answer
+leaf_rule core.skip q = Ok q.next
+leaf_rule (core.assign x e) q = replaced (var (target_kind x) (type_of e)) (expression_term e) q.next
+leaf_rule (core.store s to e) q = Ok q.next
+leaf_rule (core.copy size alignment to from) q = Ok q.next
+leaf_rule (core.fill contents to) q = Ok q.next
+leaf_rule (core.call x PutChar es) q = unless (first_of_destination x q.next) (Ok q.next)
+leaf_rule (core.call x GetChar es) q = unless (first_of_destination x q.next) (Ok q.next)
+leaf_rule (core.call x (Function g) es) q = Err (shape [])
+leaf_rule core.break q = Ok q.on_break
+leaf_rule core.continue q = Ok q.on_continue
+leaf_rule (core.return None) q = unless (first_of kinds.Returned q.on_return) (Ok q.on_return)
+leaf_rule (core.return (Some e)) q = replaced (var kinds.Returned (type_of e)) (expression_term e) q.on_return
+leaf_rule (core.seq ss) q = Err (shape [])
+leaf_rule (core.branch e s t) q = Err (shape [])
+leaf_rule (core.loop body step) q = Err (shape [])
+
+-- ---- conditional
+
+abbrev pub two : AssertionTree → AssertionTree → AssertionTrees
+two a b = assertion_and a (assertion_and b no_assertions)
+
+-- without a condition both must be paid for
+abbrev pub by_condition : Option CondTree → (first second : AssertionTree) → AssertionTree
+by_condition (Some c) a b = choose c a b
+by_condition None a b = greatest (two a b)
+
+-- where both are the same tree, that one
+abbrev pub either : Option CondTree → (first second : AssertionTree) → AssertionTree
+either c a b = if same_assertion a b then a else by_condition c a b
+
+-- ---- loop
+
+-- behind the step the invariant holds again, and a break leaves the loop
+abbrev pub step_posts : (invariant : AssertionTree) → Posts → Posts
+step_posts i q =
+    record { next = i; on_break = q.next; on_continue = q.on_continue; on_return = q.on_return }
+
+-- behind the body, and after a continue, comes the step
+abbrev pub body_posts : (before_step : AssertionTree) → Posts → Posts
+body_posts j q = record { next = j; on_break = q.next; on_continue = j; on_return = q.on_return }
+
+-- ---- calls
+
+abbrev pub three : (a b c : AssertionTree) → AssertionTrees
+three a b c = assertion_and a (two b c)
+
+-- the cost of the function, what it needs or leaves, and a frame that it doesn't touch
+abbrev pub with_frame : (function : ℕ) → AssertionTree → (frame : AssertionTree) → AssertionTree
+with_frame g p frame = total (three (cost g) p frame)
+
+-- what comes after the call, or what it needs, whichever is more
+abbrev pub around : (function : ℕ) → (next pre : AssertionTree) → AssertionTree
+around g next pre = greatest (two next (total (two (cost g) pre)))
+
+-- an assertion of the callee at the call
+abbrev pub at_call : (Var → Option TermTree) → AssertionTree → AssertionTree
+at_call images a = assertion_image (terms_for images) a
+
+-- the postcondition is the precondition of the values at the entry
+abbrev pub is_balanced : SpecTree → Bool
+is_balanced spec = same_assertion spec.post (assertion_image as_old spec.pre)
+
+-- ---- the forms of statements
+
+abbrev pub of_sequence : CoreStmtTree → (CoreStmts → Answer) → Answer
+of_sequence (core.seq ss) rule = rule ss
+of_sequence core.skip rule = Err (shape [])
+of_sequence (core.assign x e) rule = Err (shape [])
+of_sequence (core.store s to e) rule = Err (shape [])
+of_sequence (core.copy size alignment to from) rule = Err (shape [])
+of_sequence (core.fill contents to) rule = Err (shape [])
+of_sequence (core.call x g es) rule = Err (shape [])
+of_sequence (core.branch e s t) rule = Err (shape [])
+of_sequence (core.loop body step) rule = Err (shape [])
+of_sequence core.break rule = Err (shape [])
+of_sequence core.continue rule = Err (shape [])
+of_sequence (core.return e) rule = Err (shape [])
+
+abbrev pub of_branch : CoreStmtTree → (CoreExprTree → CoreStmtTree → CoreStmtTree → Answer) → Answer
+of_branch (core.branch e s t) rule = rule e s t
+of_branch core.skip rule = Err (shape [])
+of_branch (core.seq ss) rule = Err (shape [])
+of_branch (core.assign x e) rule = Err (shape [])
+of_branch (core.store s to e) rule = Err (shape [])
+of_branch (core.copy size alignment to from) rule = Err (shape [])
+of_branch (core.fill contents to) rule = Err (shape [])
+of_branch (core.call x g es) rule = Err (shape [])
+of_branch (core.loop body step) rule = Err (shape [])
+of_branch core.break rule = Err (shape [])
+of_branch core.continue rule = Err (shape [])
+of_branch (core.return e) rule = Err (shape [])
+
+abbrev pub of_loop : CoreStmtTree → (CoreStmtTree → CoreStmtTree → Answer) → Answer
+of_loop (core.loop body step) rule = rule body step
+of_loop core.skip rule = Err (shape [])
+of_loop (core.seq ss) rule = Err (shape [])
+of_loop (core.assign x e) rule = Err (shape [])
+of_loop (core.store s to e) rule = Err (shape [])
+of_loop (core.copy size alignment to from) rule = Err (shape [])
+of_loop (core.fill contents to) rule = Err (shape [])
+of_loop (core.call x g es) rule = Err (shape [])
+of_loop (core.branch e s t) rule = Err (shape [])
+of_loop core.break rule = Err (shape [])
+of_loop core.continue rule = Err (shape [])
+of_loop (core.return e) rule = Err (shape [])
+
+-- a call of a function with a body
+pub record CallSite : Type 0 where
+  pub destination : Option ℕ
+  pub function : ℕ
+  pub arguments : List CoreExprTree
+
+abbrev pub of_callee : Option ℕ → Callee → List CoreExprTree → (CallSite → Answer) → Answer
+of_callee x (Function g) es rule = rule (record { destination = x; function = g.0; arguments = es })
+of_callee x PutChar es rule = Err (shape [])
+of_callee x GetChar es rule = Err (shape [])
+
+abbrev pub of_call : CoreStmtTree → (CallSite → Answer) → Answer
+of_call (core.call x g es) rule = of_callee x g es rule
+of_call core.skip rule = Err (shape [])
+of_call (core.seq ss) rule = Err (shape [])
+of_call (core.assign x e) rule = Err (shape [])
+of_call (core.store s to e) rule = Err (shape [])
+of_call (core.copy size alignment to from) rule = Err (shape [])
+of_call (core.fill contents to) rule = Err (shape [])
+of_call (core.branch e s t) rule = Err (shape [])
+of_call (core.loop body step) rule = Err (shape [])
+of_call core.break rule = Err (shape [])
+of_call core.continue rule = Err (shape [])
+of_call (core.return e) rule = Err (shape [])
+
+-- the callee and its specification
+pub record Known : Type 0 where
+  pub function : CoreFunctionTree
+  pub spec : SpecTree
+
+abbrev pub of_spec : (function : ℕ) → Option CoreFunctionTree → Option SpecTree → (Known → Answer) → Answer
+of_spec g None spec rule = Err (no_spec [] g)
+of_spec g (Some f) None rule = Err (no_spec [] g)
+of_spec g (Some f) (Some spec) rule = rule (record { function = f; spec = spec })
+
+abbrev pub known_callee : Scope → CallSite → (Known → Answer) → Answer
+known_callee c site rule =
+    of_spec site.function (slice_get c.functions site.function) (c.specs site.function) rule
+
+abbrev pub is_consequence : DerivationTree → Bool
+is_consequence leaf = false
+is_consequence (sequence ds) = false
+is_consequence (conditional d e) = false
+is_consequence (loop i w d e) = false
+is_consequence (call a w) = false
+is_consequence balanced_call = false
+is_consequence (consequence r w d) = true
+
+abbrev pub count_stmts : CoreStmts → ℕ
+count_stmts no_stmts = 0
+count_stmts (stmt_and s ss) = suc (count_stmts ss)
+
+-- ---- the rules
+
+-- The conditions that speak of the statement, the specification and the variables come first, then the parts, then the
+-- certificate.
+abbrev mutual
+  pub pre : DerivationTree → Scope → CoreStmtTree → Posts → Answer
+  pre leaf c s q = leaf_rule s q
+  pre (sequence ds) c s q = of_sequence s (λ ss.
+      require (count_derivations ds == count_stmts ss) (shape [])
+      (sequence_pre ds 0 c ss q))
+  pre (conditional d e) c s q = of_branch s (λ condition s t.
+      bind (part 0 (pre d c s q)) (λ a.
+      bind (part 1 (pre e c t q)) (λ b.
+      Ok (either (expression_condition condition) a b))))
+  pre (loop i w d e) c s q = of_loop s (λ body step.
+      unless (first_other c.function (in_body c.function) i)
+      (bind (part 1 (pre e c step (step_posts i q))) (λ j.
+      bind (part 0 (pre d c body (body_posts j q))) (λ p.
+      certified c.defines w i p i))))
+  pre (call a w) c s q = of_call s (λ site. known_callee c site (λ g.
+      unless (first_other c.function (in_body c.function) a)
+      (unless (first_of_destination site.destination a)
+      (unless (first_without (pre_images g.function site.arguments) g.spec.pre)
+      (unless (option_map plain_variable (first_without_argument (post_images g.function site.destination site.arguments) g.spec.post))
+      (unless (first_without (post_images g.function site.destination site.arguments) g.spec.post)
+      (certified c.defines w
+      (with_frame site.function (at_call (post_images g.function site.destination site.arguments) g.spec.post) a) q.next
+      (with_frame site.function (at_call (pre_images g.function site.arguments) g.spec.pre) a))))))))
+  pre balanced_call c s q = of_call s (λ site. known_callee c site (λ g.
+      require (is_balanced g.spec) (shape [])
+      (unless (first_of_destination site.destination q.next)
+      (unless (first_without (pre_images g.function site.arguments) g.spec.pre)
+      (Ok (around site.function q.next (at_call (pre_images g.function site.arguments) g.spec.pre)))))))
+  pre (consequence r w d) c s q =
+      require (not (is_consequence d)) (shape [])
+      (unless (first_other c.function (in_body c.function) r)
+      (bind (pre d c s q) (λ p.
+      certified c.defines w r p r)))
+
+  -- from the last part to the first; i is the number of the first
+  pub sequence_pre : DerivationTrees → (i : ℕ) → Scope → CoreStmts → Posts → Answer
+  sequence_pre no_derivations i c no_stmts q = Ok q.next
+  sequence_pre no_derivations i c (stmt_and s ss) q = Err (shape [])
+  sequence_pre (derivation_and d ds) i c no_stmts q = Err (shape [])
+  sequence_pre (derivation_and d ds) i c (stmt_and s ss) q =
+      bind (sequence_pre ds (suc i) c ss q) (λ n. part i (pre d c s (with_next q n)))

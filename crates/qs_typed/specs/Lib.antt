@@ -16,3 +16,4 @@ pub mod Addressed
 pub mod KnownPrograms
 pub mod TablesOf
 pub mod UnitVariables
+pub mod UnitLaws

@@ -31,6 +31,9 @@ pub use data::{Datum, StaticBlock};
 pub use expressions::{
     Argument, Assignment, Conversion, Effect, Expression, Lvalue, Object, Order,
 };
-pub use laws::{expressions_are_typed, functions_are_typed, statements_are_typed};
+pub use laws::{
+    expressions_are_typed, functions_are_typed, statements_are_typed, unit_functions_are_typed,
+    unit_variables_are_known,
+};
 pub use program::{TypedFunction, TypedProgram};
 pub use statements::Statement;

@@ -32,7 +32,7 @@ use Rattle.qs_typed.specs.KnownStatements.{statement_known, statements_known, va
 
 -- ---- one element more
 
-before_more : {A B : Type 0} (cons : A → B → B) (xs : List A) (x : A) (b : B) → before cons (xs ++ x ∷ []) b ≡ before cons xs (cons x b)
+pub before_more : {A B : Type 0} (cons : A → B → B) (xs : List A) (x : A) (b : B) → before cons (xs ++ x ∷ []) b ≡ before cons xs (cons x b)
 before_more cons [] x b = refl
 before_more cons (y ∷ ys) x b = ap (cons y) (before_more cons ys x b)
 

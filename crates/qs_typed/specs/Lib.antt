@@ -11,9 +11,3 @@ pub mod Agrees
 pub mod KnownFunctions
 pub mod AgreesFunctions
 pub mod Laws
-pub mod KnownUnits
-pub mod Addressed
-pub mod KnownPrograms
-pub mod TablesOf
-pub mod UnitVariables
-pub mod UnitLaws

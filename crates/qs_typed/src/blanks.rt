@@ -1,6 +1,7 @@
 // What an object holds where nothing else is given (C11 6.7.9p10, p21).
-ghost use Rattle.std.specs.Prelude.{◌≡◌, ℕ, IfOk, Some, map};
-ghost use Rattle.qs_memory.specs.BlankOf.{blank_tree};
+ghost use Rattle.std.specs.Prelude.{◌≡◌, ◌-◌, ℕ, IfOk, Some, map};
+ghost use Rattle.qs_memory.specs.BlankOf.{blank_tree, joined_of};
+ghost use Rattle.qs_memory.specs.Memory.{zeros};
 ghost use Rattle.qs_meaning.specs.Blanks.{blank_by, blank_of, blanks_within, members_blank};
 ghost use Rattle.qs_types.specs.EnvOf.{env_tree};
 ghost use Rattle.qs_types.specs.Layout.{defined_structs, layout_of};
@@ -8,6 +9,7 @@ ghost use Rattle.qs_types.specs.StructsOf.{layout_tree, member_tree, structs_tre
 ghost use Rattle.qs_types.specs.TypeOf.{type_tree};
 
 use crate::members::struct_members;
+use crate::places::sum;
 use crate::types::size_in;
 use indexmap::IndexMap;
 use qs_base::{Name, NoMemory};
@@ -62,6 +64,7 @@ fn blank_by(alloc: Global, room: u32, env: &Env, depth: usize, t: &CType) -> Res
     }
 }
 
+#[tactic(auto, using(crate::proofs::BlankTurns::struct_is))]
 #[cycle(blank)]
 fn struct_blank(
     alloc: Global,
@@ -77,21 +80,28 @@ fn struct_blank(
     }
     let members = struct_members(env, k)?;
     let layout = layout_in(env, k)?;
-    members_blank(alloc, room - 1, env, depth - 1, members, layout)
+    let parts = members_parts(alloc, room - 1, env, depth - 1, members, layout)?;
+    Ok(Blank::Joined(parts))
+}
+
+/// What lies from one place to another, behind which it may be.
+fn padding(to: u32, from: u32) -> Blank
+    ensures { blank_tree result ≡ zeros (to - from) }
+{
+    Blank::Zeros(to.saturating_sub(from))
 }
 
 /// The members, each at its offset, with the padding before it, and then the padding at the end.
-#[tactic(auto, using(crate::proofs::Loops::member_turn, crate::proofs::Loops::all_blanks))]
 #[cycle(blank)]
-fn members_blank(
+fn members_parts(
     alloc: Global,
     room: u32,
     env: &Env,
     depth: usize,
     members: &IndexMap<Name, CType>,
     layout: &StructLayout,
-) -> Result<Blank, NoMemory>
-    ensures { IfOk result (λ b. members_blank (env_tree env.now) (blanks_within depth (env_tree env.now)) 0 (layout.now).size (map member_tree (members.now).entries) (layout.now).offsets.items ≡ Some (blank_tree b)) }
+) -> Result<Vec<Blank>, NoMemory>
+    ensures { IfOk result (λ parts. members_blank (env_tree env.now) (blanks_within depth (env_tree env.now)) 0 (layout.now).size (map member_tree (members.now).entries) (layout.now).offsets.items ≡ Some (joined_of (map blank_tree parts.items))) }
 {
     if room == 0 || layout.offsets.len() < members.len() {
         return Err(NoMemory);
@@ -99,18 +109,17 @@ fn members_blank(
     let mut parts = Vec::new(alloc);
     let mut at = 0;
     for i in 0..members.len() {
-        let part = blank_by(alloc, room - 1, env, depth, &members[i])?;
-        let size = size_in(env, &members[i])?;
+        let t = &members[i];
         let offset = layout.offsets[i];
-        parts.push(Blank::Zeros(offset.saturating_sub(at)))?;
+        let part = blank_by(alloc, room - 1, env, depth, t)?;
+        let size = size_in(env, t)?;
+        let end = sum(offset, size)?;
+        parts.push(padding(offset, at))?;
         parts.push(part)?;
-        at = match offset.checked_add(size) {
-            None => return Err(NoMemory),
-            Some(end) => end,
-        };
+        at = end;
     }
-    parts.push(Blank::Zeros(layout.size.saturating_sub(at)))?;
-    Ok(Blank::Joined(parts))
+    parts.push(padding(layout.size, at))?;
+    Ok(parts)
 }
 
 /// What an object of this type holds.

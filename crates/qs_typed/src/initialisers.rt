@@ -10,7 +10,7 @@ ghost use Rattle.qs_typed.specs.FormOf.{typed_tree};
 ghost use Rattle.qs_typed.specs.KnownOf.{known_tree};
 ghost use Rattle.qs_typed.specs.KnownStatements.{assigned_set_known, filled_known, initialised_known, local_set_known, object_set_known, piece_set_known, pieces_set_known, text_set_known, variable_known, variables_known};
 ghost use Rattle.qs_typed.specs.PieceOf.{piece_tree};
-ghost use Rattle.qs_typed.specs.TreeOf.{effect_tree, expression_tree, lvalue_tree, object_tree};
+ghost use Rattle.qs_typed.specs.TreeOf.{effect_tree, effects_tree, expression_tree, lvalue_tree, object_tree};
 
 use crate::assignments::plain_form;
 use crate::blanks::blank_of;
@@ -114,6 +114,21 @@ fn piece_set(alloc: Global, k: &Known<'_>, base: Object, p: Piece<'_>) -> Result
 }
 
 /// The parts of the object, in order.
+fn pieces_effects(
+    alloc: Global,
+    k: &Known<'_>,
+    base: Object,
+    ps: &[Piece<'_>],
+) -> Result<Vec<Effect>, NoMemory>
+    ensures { IfOk result (λ all. pieces_set_known (known_tree k.now) (pointer_to (object_tree base)) (map piece_tree ps.now) ≡ Some (effects_tree all.items)) }
+{
+    let mut all = Vec::new(alloc);
+    for p in ps {
+        all.push(piece_set(alloc, k, base, *p)?)?;
+    }
+    Ok(all)
+}
+
 fn pieces_set(
     alloc: Global,
     k: &Known<'_>,
@@ -122,10 +137,7 @@ fn pieces_set(
 ) -> Result<Effect, NoMemory>
     ensures { IfOk result (λ r. pieces_set_known (known_tree k.now) (pointer_to (object_tree base)) (map piece_tree ps.now) ≡ Some (effect_tree r)) }
 {
-    let mut all = Vec::new(alloc);
-    for p in ps {
-        all.push(piece_set(alloc, k, base, *p)?)?;
-    }
+    let all = pieces_effects(alloc, k, base, ps)?;
     Ok(Effect::Each(all))
 }
 
@@ -231,13 +243,24 @@ fn variable(alloc: Global, k: &Known<'_>, v: &Variable) -> Result<Effect, NoMemo
     initialised(alloc, k, node, t, &v.initialiser)
 }
 
-/// What the declarations of variables do, in order.
-pub fn variables(alloc: Global, k: &Known<'_>, vs: &[Variable]) -> Result<Effect, NoMemory>
-    ensures { IfOk result (λ r. variables_known (known_tree k.now) (map variable_tree vs.now) ≡ Some (effect_tree r)) }
+fn variables_effects(
+    alloc: Global,
+    k: &Known<'_>,
+    vs: &[Variable],
+) -> Result<Vec<Effect>, NoMemory>
+    ensures { IfOk result (λ all. variables_known (known_tree k.now) (map variable_tree vs.now) ≡ Some (effects_tree all.items)) }
 {
     let mut all = Vec::new(alloc);
     for v in vs {
         all.push(variable(alloc, k, v)?)?;
     }
+    Ok(all)
+}
+
+/// What the declarations of variables do, in order.
+pub fn variables(alloc: Global, k: &Known<'_>, vs: &[Variable]) -> Result<Effect, NoMemory>
+    ensures { IfOk result (λ r. variables_known (known_tree k.now) (map variable_tree vs.now) ≡ Some (effect_tree r)) }
+{
+    let all = variables_effects(alloc, k, vs)?;
     Ok(Effect::Each(all))
 }

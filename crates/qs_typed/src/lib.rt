@@ -2,7 +2,6 @@
 //! offsets as numbers, and what stands in memory when a run begins.
 #![tactic(auto)]
 
-mod addressed;
 mod assignments;
 mod blanks;
 mod bodies;
@@ -10,7 +9,6 @@ mod data;
 mod expressions;
 mod forms;
 mod functions;
-mod headers;
 mod initialisers;
 mod known;
 mod laws;
@@ -22,18 +20,17 @@ mod pieces;
 mod places;
 mod program;
 mod statements;
-mod tables;
 mod typed;
 mod types;
-mod units;
 
 pub use data::{Datum, StaticBlock};
 pub use expressions::{
     Argument, Assignment, Conversion, Effect, Expression, Lvalue, Object, Order,
 };
-pub use laws::{
-    expressions_are_typed, functions_are_typed, statements_are_typed, unit_functions_are_typed,
-    unit_variables_are_known,
-};
+pub use functions::{function, named_scalar, places};
+pub use known::Known;
+pub use laws::{expressions_are_typed, functions_are_typed, statements_are_typed};
+pub use locals::statements_nodes;
+pub use places::{Locals, Statics};
 pub use program::{TypedFunction, TypedProgram};
 pub use statements::Statement;

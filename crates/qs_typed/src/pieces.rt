@@ -1,5 +1,5 @@
 // Which expression initialises which part of an object (C11 6.7.9p17 to p20).
-ghost use Rattle.std.specs.Prelude.{◌≡◌, ◌+◌, ◌*◌, [], ◌∷◌, IfOk, Some, map};
+ghost use Rattle.std.specs.Prelude.{◌≡◌, ◌*◌, [], ◌∷◌, IfOk, Some, map};
 ghost use Rattle.qs_meaning.specs.Initialisers.{part_offset, pieces, pieces_from};
 ghost use Rattle.qs_syntax.specs.TreeOf.{expr_tree, initialiser_tree, initialisers_tree};
 ghost use Rattle.qs_types.specs.EnvOf.{env_tree};
@@ -9,7 +9,7 @@ ghost use Rattle.qs_types.specs.TypeOf.{type_tree};
 ghost use Rattle.qs_typed.specs.PieceOf.{piece_tree};
 
 use crate::members::{offset_at, struct_members};
-use crate::places::number;
+use crate::places::{number, sum};
 use crate::types::size_in;
 use qs_base::NoMemory;
 use qs_syntax::{Expr, Initialiser};
@@ -65,15 +65,6 @@ fn product(size: u32, i: usize) -> Result<u32, NoMemory>
 {
     let i = number(i)?;
     match size.checked_mul(i) {
-        None => Err(NoMemory),
-        Some(n) => Ok(n),
-    }
-}
-
-fn sum(a: u32, b: u32) -> Result<u32, NoMemory>
-    ensures { IfOk result (λ n. n ≡ a + b) }
-{
-    match a.checked_add(b) {
         None => Err(NoMemory),
         Some(n) => Ok(n),
     }

@@ -1,5 +1,5 @@
 // Which variable or block a declaration has, and what is known at the nodes of a unit.
-ghost use Rattle.std.specs.Prelude.{◌≡◌, IfOk};
+ghost use Rattle.std.specs.Prelude.{◌≡◌, ◌+◌, IfOk};
 ghost use Rattle.qs_meaning.specs.Names.{file_variable_object, function_number, local_lvalue, place_among, text_object};
 ghost use Rattle.qs_types.specs.Placed.{is_one_of};
 ghost use Rattle.qs_typed.specs.PlacesOf.{locals_tree, statics_tree};
@@ -37,6 +37,16 @@ pub fn number(i: usize) -> Result<u32, NoMemory>
         return Err(NoMemory);
     }
     Ok(i as u32)
+}
+
+/// The sum of two numbers, if it is below 2 ^ 32.
+pub fn sum(a: u32, b: u32) -> Result<u32, NoMemory>
+    ensures { IfOk result (λ n. n ≡ a + b) }
+{
+    match a.checked_add(b) {
+        None => Err(NoMemory),
+        Some(n) => Ok(n),
+    }
 }
 
 /// The place of a node among others, if it is one of them.

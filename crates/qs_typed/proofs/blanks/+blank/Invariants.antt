@@ -13,11 +13,11 @@ decreases-blank_by l = l.room
 abbrev pub decreases-struct_blank : goal.decreases-struct_blank
 decreases-struct_blank l = l.room
 
-abbrev pub decreases-members_blank : goal.decreases-members_blank
-decreases-members_blank l = l.room
+abbrev pub decreases-members_parts : goal.decreases-members_parts
+decreases-members_parts l = l.room
 
-abbrev pub invariant-members_blank-loop-i : goal.invariant-members_blank-loop-i
-invariant-members_blank-loop-i l =
+abbrev pub invariant-members_parts-loop-i : goal.invariant-members_parts-loop-i
+invariant-members_parts-loop-i l =
     members_blank (env_tree l.env) (blanks_within l.depth (env_tree l.env)) 0 l.layout.size (map member_tree l.members.entries) l.layout.offsets.items
     ≡ behind joined (map blank_tree l.parts.items)
     (members_blank (env_tree l.env) (blanks_within l.depth (env_tree l.env)) l.at l.layout.size (map member_tree (drop l.i l.members.entries)) (drop l.i l.layout.offsets.items))

@@ -5,7 +5,7 @@ use Rattle.qs_typed.specs.Behind.{behind}
 use Rattle.qs_typed.specs.KnownOf.{known_tree}
 use Rattle.qs_typed.specs.KnownStatements.{pieces_set_known}
 use Rattle.qs_typed.specs.PieceOf.{piece_tree}
-use Rattle.qs_typed.proofs.initialisers.pieces_set.Given as goal
+use Rattle.qs_typed.proofs.initialisers.pieces_effects.Given as goal
 
 abbrev pub invariant-loop-p : goal.invariant-loop-p
 invariant-loop-p l =

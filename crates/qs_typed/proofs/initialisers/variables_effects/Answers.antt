@@ -5,7 +5,7 @@ use Rattle.qs_typed.specs.KnownStatements.{variable_known, variables_known}
 use Rattle.qs_typed.specs.KnownOf.{known_tree}
 use Rattle.qs_typed.specs.TreeOf.{effect_tree}
 use Rattle.qs_typed.proofs.Loops.{drop_item, pushed, turn, finish, all_effects}
-use Rattle.qs_typed.proofs.initialisers.variables.Goals as goal
+use Rattle.qs_typed.proofs.initialisers.variables_effects.Goals as goal
 
 pub loop-v-preserved : goal.loop-v-preserved
 loop-v-preserved c =

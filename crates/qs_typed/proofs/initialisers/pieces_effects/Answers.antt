@@ -5,7 +5,7 @@ use Rattle.qs_typed.specs.KnownOf.{known_tree}
 use Rattle.qs_typed.specs.PieceOf.{piece_tree}
 use Rattle.qs_typed.specs.TreeOf.{effect_tree, object_tree}
 use Rattle.qs_typed.proofs.Loops.{drop_item, pushed, turn, finish, all_effects}
-use Rattle.qs_typed.proofs.initialisers.pieces_set.Goals as goal
+use Rattle.qs_typed.proofs.initialisers.pieces_effects.Goals as goal
 
 pub loop-p-preserved : goal.loop-p-preserved
 loop-p-preserved c =

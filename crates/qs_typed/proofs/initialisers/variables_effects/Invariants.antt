@@ -5,7 +5,7 @@ use Rattle.qs_typed.specs.TreeOf.{effect_tree}
 use Rattle.qs_typed.specs.Behind.{behind}
 use Rattle.qs_typed.specs.KnownOf.{known_tree}
 use Rattle.qs_typed.specs.KnownStatements.{variables_known}
-use Rattle.qs_typed.proofs.initialisers.variables.Given as goal
+use Rattle.qs_typed.proofs.initialisers.variables_effects.Given as goal
 
 abbrev pub invariant-loop-v : goal.invariant-loop-v
 invariant-loop-v l =

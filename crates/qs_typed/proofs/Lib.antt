@@ -1,0 +1,12 @@
+pub mod Sizes
+pub mod Entries
+pub mod Operated
+pub mod PlaceTables
+pub mod MemberPlaces
+pub mod Loops
+pub mod BlankTurns
+pub mod Kept
+pub mod Grown
+pub mod Tied
+pub mod TiedStatements
+pub mod TiedFunctions

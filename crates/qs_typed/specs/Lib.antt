@@ -1,1 +1,13 @@
 pub mod TreeOf
+pub mod Parts
+pub mod FormOf
+pub mod PlacesOf
+pub mod Known
+pub mod KnownOf
+pub mod KnownStatements
+pub mod PieceOf
+pub mod Behind
+pub mod Agrees
+pub mod KnownFunctions
+pub mod AgreesFunctions
+pub mod Laws

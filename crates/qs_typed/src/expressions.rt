@@ -1,7 +1,15 @@
 // Expressions of the typed tree (C11 6.5), lvalues, and effects.
 
+ghost use Rattle.std.specs.Prelude.{◌≡◌, IfOk, Some};
+ghost use Rattle.qs_meaning.specs.Forms.{address_in, place_of, value_in};
+ghost use Rattle.qs_types.specs.TypeOf.{type_tree};
+ghost use Rattle.qs_typed.specs.TreeOf.{expression_tree, lvalue_tree};
+
+use crate::types::scalar_of;
+use qs_base::NoMemory;
 use qs_calls::Callee;
 use qs_memory::{BinaryOperation, Blank, Scalar, UnaryOperation};
+use qs_types::CType;
 
 /// What happens to a value before it is used (C11 6.3.1, 6.3.2.3).
 #[derive(Clone, Copy, PartialEq, Eq, Debug)]
@@ -33,7 +41,6 @@ pub enum Object {
 
 /// An expression with a scalar value. An array or a struct in a value's place is a pointer to its first
 /// byte (C11 6.3.2.1p3), and `&` leaves no trace.
-#[derive(Drop)]
 #[cycle(expression)]
 pub enum Expression {
     /// a literal or a size, as its 32 bits (C11 6.4.4, 6.5.3.4)
@@ -104,7 +111,6 @@ pub enum Expression {
 }
 
 /// An lvalue (C11 6.3.2.1p1).
-#[derive(Drop)]
 #[cycle(expression)]
 pub enum Lvalue {
     /// a plain variable, by its number among those of the function
@@ -114,7 +120,6 @@ pub enum Lvalue {
 }
 
 /// An argument, and what happens to it before the call (C11 6.5.2.2p4, p7).
-#[derive(Drop)]
 #[cycle(expression)]
 pub struct Argument {
     /// what happens to its value before
@@ -124,7 +129,6 @@ pub struct Argument {
 }
 
 /// An assignment of a scalar (C11 6.5.16).
-#[derive(Drop)]
 #[cycle(expression)]
 pub enum Assignment {
     /// `=`: the value is converted to the type of the lvalue (C11 6.5.16.1p2)
@@ -158,7 +162,6 @@ pub enum Assignment {
 }
 
 /// An expression whose value is discarded (C11 6.8.3p2, 6.5.17p2), or what a declaration does (6.7.9).
-#[derive(Drop)]
 #[cycle(expression)]
 pub enum Effect {
     /// nothing
@@ -186,4 +189,153 @@ pub enum Effect {
     InOrder(Box<Effect>, Box<Effect>),
     /// each in order, and then nothing: the variables of a declaration, the expressions of a list
     Each(Vec<Effect>),
+}
+
+// ---- lvalues
+
+impl Lvalue {
+    /// The address where there is one.
+    fn into_place(self, t: &CType) -> Expression
+        ensures { expression_tree result ≡ place_of (type_tree t.now) (lvalue_tree self) }
+    {
+        match self {
+            Lvalue::Variable(x) => Expression::Value(scalar_of(t), Lvalue::Variable(x)),
+            Lvalue::Object(address) => Box::into_inner(address),
+        }
+    }
+
+    /// An lvalue turns into the value that it has, one of an array into a pointer to its first element; a
+    /// struct stands as its address (C11 6.3.2.1p2, p3).
+    pub fn into_value(self, t: &CType) -> Expression
+        ensures { expression_tree result ≡ value_in (type_tree t.now) (lvalue_tree self) }
+    {
+        match t {
+            CType::Int => Expression::Value(scalar_of(t), self),
+            CType::Unsigned => Expression::Value(scalar_of(t), self),
+            CType::Char => Expression::Value(scalar_of(t), self),
+            CType::Void => self.into_place(t),
+            CType::Pointer(_) => Expression::Value(scalar_of(t), self),
+            CType::Array(_, _) => self.into_place(t),
+            CType::Struct(_) => self.into_place(t),
+        }
+    }
+
+    /// The address of the object that it is.
+    pub fn into_address(self) -> Result<Expression, NoMemory>
+        ensures { IfOk result (λ e. address_in (lvalue_tree self) ≡ Some (expression_tree e)) }
+    {
+        match self {
+            Lvalue::Variable(_) => Err(NoMemory),
+            Lvalue::Object(address) => Ok(Box::into_inner(address)),
+        }
+    }
+}
+
+// ---- how trees are dropped
+// By hand, since a derived drop of a tree stands with all its cases at each place where a tree may be dropped.
+
+impl Drop for Expression {
+    #[cycle(drop_expression)]
+    fn drop(self) {
+        match self {
+            Expression::Constant(_, _) => {}
+            Expression::Value(_, _) => {}
+            Expression::PointerTo(_) => {}
+            Expression::Member(_, _) => {}
+            Expression::Called(_, _, _) => {}
+            Expression::SteppedAfter {
+                scalar: _,
+                lvalue: _,
+                operation: _,
+                operand: _,
+                back: _,
+            } => {}
+            Expression::Unary(_, _, _) => {}
+            Expression::Cast(_, _) => {}
+            Expression::Binary {
+                operation: _,
+                order: _,
+                before_left: _,
+                before_right: _,
+                left: _,
+                right: _,
+            } => {}
+            Expression::LogicalAnd(_, _) => {}
+            Expression::LogicalOr(_, _) => {}
+            Expression::Conditional {
+                scalar: _,
+                condition: _,
+                before_then: _,
+                before_otherwise: _,
+                then: _,
+                otherwise: _,
+            } => {}
+            Expression::Assigned(_) => {}
+            Expression::Sequence(_, _) => {}
+        }
+    }
+}
+
+impl Drop for Lvalue {
+    #[cycle(drop_expression)]
+    fn drop(self) {
+        match self {
+            Lvalue::Variable(_) => {}
+            Lvalue::Object(_) => {}
+        }
+    }
+}
+
+impl Drop for Argument {
+    #[cycle(drop_expression)]
+    fn drop(self) {
+        let Argument {
+            conversion: _,
+            value: _,
+        } = self;
+    }
+}
+
+impl Drop for Assignment {
+    #[cycle(drop_expression)]
+    fn drop(self) {
+        match self {
+            Assignment::Set {
+                scalar: _,
+                lvalue: _,
+                conversion: _,
+                value: _,
+            } => {}
+            Assignment::Update {
+                scalar: _,
+                lvalue: _,
+                operation: _,
+                before_left: _,
+                before_right: _,
+                back: _,
+                value: _,
+            } => {}
+        }
+    }
+}
+
+impl Drop for Effect {
+    #[cycle(drop_expression)]
+    fn drop(self) {
+        match self {
+            Effect::Nothing => {}
+            Effect::Discard(_) => {}
+            Effect::Assign(_) => {}
+            Effect::Perform(_, _) => {}
+            Effect::Copy {
+                size: _,
+                alignment: _,
+                to: _,
+                from: _,
+            } => {}
+            Effect::Fill(_, _) => {}
+            Effect::InOrder(_, _) => {}
+            Effect::Each(_) => {}
+        }
+    }
 }

@@ -2,14 +2,35 @@
 //! offsets as numbers, and what stands in memory when a run begins.
 #![tactic(auto)]
 
+mod assignments;
+mod blanks;
+mod bodies;
 mod data;
 mod expressions;
+mod forms;
+mod functions;
+mod initialisers;
+mod known;
+mod laws;
+mod locals;
+mod members;
+mod operations;
+mod operators;
+mod pieces;
+mod places;
 mod program;
 mod statements;
+mod typed;
+mod types;
 
 pub use data::{Datum, StaticBlock};
 pub use expressions::{
     Argument, Assignment, Conversion, Effect, Expression, Lvalue, Object, Order,
 };
+pub use functions::{function, named_scalar, places};
+pub use known::Known;
+pub use laws::{expressions_are_typed, functions_are_typed, statements_are_typed};
+pub use locals::statements_nodes;
+pub use places::{Locals, Statics};
 pub use program::{TypedFunction, TypedProgram};
 pub use statements::Statement;

@@ -3,7 +3,6 @@
 use crate::expressions::{Conversion, Effect, Expression};
 
 /// A statement.
-#[derive(Drop)]
 #[cycle(statement)]
 pub enum Statement {
     /// an expression, or a declaration in a block (C11 6.8.3)
@@ -35,4 +34,28 @@ pub enum Statement {
     Return(Conversion, Expression),
     /// `return` without one
     ReturnNothing,
+}
+
+// By hand, as for expressions.
+impl Drop for Statement {
+    #[cycle(drop_statement)]
+    fn drop(self) {
+        match self {
+            Statement::Evaluate(_) => {}
+            Statement::Block(_) => {}
+            Statement::Branch(_, _, _) => {}
+            Statement::WhileLoop(_, _) => {}
+            Statement::DoLoop(_, _) => {}
+            Statement::ForLoop {
+                start: _,
+                condition: _,
+                step: _,
+                body: _,
+            } => {}
+            Statement::Break => {}
+            Statement::Continue => {}
+            Statement::Return(_, _) => {}
+            Statement::ReturnNothing => {}
+        }
+    }
 }

@@ -1,0 +1,223 @@
+// The typed tree of functions (C11 6.9.1).
+ghost use Rattle.std.specs.Prelude.{◌≡◌, ◌++◌, ◌∷◌, [], IfOk, OnOk, Some, map, option_map};
+ghost use Rattle.qs_meaning.specs.Units.{scalars_of, sizes_of};
+ghost use Rattle.qs_syntax.specs.TreeOf.{function_tree, stmts_tree};
+ghost use Rattle.qs_types.specs.EnvOf.{env_tree};
+ghost use Rattle.qs_types.specs.GivenFunctions.{main_name};
+ghost use Rattle.qs_types.specs.Placed.{is_no_scalar, is_placed};
+ghost use Rattle.qs_types.specs.TypeOf.{type_tree};
+ghost use Rattle.qs_syntax.specs.Sameness.{same_bytes};
+ghost use Rattle.qs_typed.specs.KnownFunctions.{base_scalar, function_known, named_scalar, returns_nothing, local_at, locals_at, places_at, with_locals, with_parameters};
+ghost use Rattle.qs_typed.specs.KnownOf.{known_tree};
+ghost use Rattle.qs_typed.specs.PlacesOf.{locals_tree};
+ghost use Rattle.qs_typed.specs.TreeOf as trees;
+
+use crate::bodies::statements;
+use crate::known::{Known, type_in};
+use crate::locals::parameters;
+use crate::places::Locals;
+use crate::program::TypedFunction;
+use crate::types::{is_scalar, scalar_of, size_in};
+use indexmap::IndexSet;
+use qs_base::{Name, NoMemory};
+use qs_memory::Scalar;
+use qs_syntax::{Base, Function, Stmt, TypeName};
+use qs_types::{CType, Env};
+use std::alloc::Global;
+
+// ---- places
+
+/// Adds a node behind others that it isn't among.
+#[tactic(auto, using(crate::proofs::PlaceTables::added_last))]
+pub fn insert(nodes: &mut IndexSet<u32>, node: u32) -> Result<(), NoMemory>
+    ensures { OnOk result ((nodes.new).keys ≡ (nodes.old).keys ++ node ∷ []) }
+{
+    if nodes.contains(&node) {
+        return Err(NoMemory);
+    }
+    nodes.insert(node)?;
+    Ok(())
+}
+
+fn is_no_scalar(t: Option<&CType>) -> bool
+    ensures { result ≡ is_no_scalar (option_map (λ t. type_tree t.now) t.entry) }
+{
+    match t {
+        None => false,
+        Some(t) => !is_scalar(t),
+    }
+}
+
+/// Whether a local is a block of memory.
+#[tactic(auto, using(crate::proofs::PlaceTables::one_of))]
+fn is_placed(types: &[Option<CType>], addressed: &IndexSet<u32>, node: u32) -> bool
+    ensures { result ≡ is_placed (addressed.now).keys (local_at (map (option_map type_tree) types.now) node) }
+{
+    addressed.contains(&node) || is_no_scalar(type_in(types, node))
+}
+
+/// Gives parameters their variables, and those that are placed their blocks.
+#[tactic(auto, using(crate::proofs::PlaceTables::parameter_placed))]
+fn place_parameters(
+    types: &[Option<CType>],
+    addressed: &IndexSet<u32>,
+    nodes: &[u32],
+    locals: &mut Locals,
+) -> Result<(), NoMemory>
+    ensures { OnOk result (locals_tree locals.new ≡ with_parameters (map (option_map type_tree) types.now) (addressed.now).keys nodes.now (locals_tree locals.old)) }
+{
+    for node in nodes {
+        insert(&mut locals.variables, *node)?;
+        if is_placed(types, addressed, *node) {
+            insert(&mut locals.placed, *node)?;
+        }
+    }
+    Ok(())
+}
+
+/// Gives locals their blocks or their variables.
+#[tactic(auto, using(crate::proofs::PlaceTables::local_placed))]
+fn place_locals(
+    types: &[Option<CType>],
+    addressed: &IndexSet<u32>,
+    nodes: &[u32],
+    locals: &mut Locals,
+) -> Result<(), NoMemory>
+    ensures { OnOk result (locals_tree locals.new ≡ with_locals (map (option_map type_tree) types.now) (addressed.now).keys nodes.now (locals_tree locals.old)) }
+{
+    for node in nodes {
+        if is_placed(types, addressed, *node) {
+            insert(&mut locals.placed, *node)?;
+        } else {
+            insert(&mut locals.variables, *node)?;
+        }
+    }
+    Ok(())
+}
+
+/// The places of the parameters and locals at these nodes.
+#[tactic(auto, using(crate::proofs::PlaceTables::placed_in_order))]
+pub fn places(
+    alloc: Global,
+    types: &[Option<CType>],
+    addressed: &IndexSet<u32>,
+    parameters: &[u32],
+    locals: &[u32],
+) -> Result<Locals, NoMemory>
+    ensures { IfOk result (λ l. locals_tree l ≡ places_at (map (option_map type_tree) types.now) (addressed.now).keys parameters.now locals.now) }
+{
+    let mut places = Locals {
+        variables: IndexSet::new(alloc),
+        placed: IndexSet::new(alloc),
+    };
+    place_parameters(types, addressed, parameters, &mut places)?;
+    place_locals(types, addressed, locals, &mut places)?;
+    Ok(places)
+}
+
+// ---- variables and blocks
+
+/// The types of variables.
+fn scalars(
+    alloc: Global,
+    types: &[Option<CType>],
+    nodes: &IndexSet<u32>,
+) -> Result<Vec<Scalar>, NoMemory>
+    ensures { IfOk result (λ ss. scalars_of (locals_at (map (option_map type_tree) types.now) (nodes.now).keys) ≡ Some ss.items) }
+{
+    let mut all = Vec::new(alloc);
+    for i in 0..nodes.len() {
+        match type_in(types, nodes[i]) {
+            None => return Err(NoMemory),
+            Some(t) => all.push(scalar_of(t))?,
+        }
+    }
+    Ok(all)
+}
+
+/// The sizes of placed locals.
+fn sizes(
+    alloc: Global,
+    env: &Env,
+    types: &[Option<CType>],
+    nodes: &IndexSet<u32>,
+) -> Result<Vec<u32>, NoMemory>
+    ensures { IfOk result (λ ns. sizes_of (env_tree env.now) (locals_at (map (option_map type_tree) types.now) (nodes.now).keys) ≡ Some ns.items) }
+{
+    let mut all = Vec::new(alloc);
+    for i in 0..nodes.len() {
+        match type_in(types, nodes[i]) {
+            None => return Err(NoMemory),
+            Some(t) => all.push(size_in(env, t)?)?,
+        }
+    }
+    Ok(all)
+}
+
+// ---- functions
+
+fn is_main(name: &Name) -> bool
+    ensures { result ≡ same_bytes name.now main_name }
+{
+    name.bytes() == b"main".as_slice()
+}
+
+/// Whether its result is `void`.
+fn returns_nothing(f: &Function) -> bool
+    ensures { result ≡ returns_nothing (function_tree f.now) }
+{
+    match &f.result_type.base {
+        Base::Void => f.result_type.stars == 0,
+        Base::Int => false,
+        Base::Unsigned => false,
+        Base::Char => false,
+        Base::Struct(_) => false,
+    }
+}
+
+fn base_scalar(base: &Base) -> Scalar
+    ensures { result ≡ base_scalar base.now }
+{
+    match base {
+        Base::Void => Scalar::Int,
+        Base::Int => Scalar::Int,
+        Base::Unsigned => Scalar::Unsigned,
+        Base::Char => Scalar::Char,
+        Base::Struct(_) => Scalar::Pointer,
+    }
+}
+
+/// The scalar type that a type by its name is.
+pub fn named_scalar(name: &TypeName) -> Scalar
+    ensures { result ≡ named_scalar name.now }
+{
+    if name.stars == 0 {
+        base_scalar(&name.base)
+    } else {
+        Scalar::Pointer
+    }
+}
+
+/// A function with this body, whose result and places are those that are known.
+pub fn function(
+    alloc: Global,
+    k: &Known<'_>,
+    f: &Function,
+    body: &[Stmt],
+) -> Result<TypedFunction, NoMemory>
+    ensures { IfOk result (λ g. function_known (known_tree k.now) (function_tree f.now) (stmts_tree body.now) ≡ Some (trees.function_tree g)) }
+{
+    let parameters = parameters(alloc, k, &f.parameters)?;
+    let variables = scalars(alloc, k.types, &k.locals.variables)?;
+    let blocks = sizes(alloc, k.env, k.types, &k.locals.placed)?;
+    let body = statements(alloc, k, body)?;
+    Ok(TypedFunction {
+        name: f.name.copy(alloc)?,
+        result: if returns_nothing(f) { None } else { Some(k.result) },
+        parameters,
+        variables,
+        blocks,
+        body,
+        is_main: is_main(&f.name),
+    })
+}

@@ -1,0 +1,266 @@
+// What the declaration of a local does (C11 6.7.9).
+ghost use Rattle.std.specs.Prelude.{◌≡◌, ℕ, List, IfOk, Some, length, map, option_map};
+ghost use Rattle.qs_meaning.specs.Forms.{address_in, lvalue};
+ghost use Rattle.qs_meaning.specs.Initialisers.{text_room};
+ghost use Rattle.qs_meaning.specs.Typed.{member, pointer_to};
+ghost use Rattle.qs_syntax.specs.TreeOf.{expr_tree, initialiser_tree, variable_tree};
+ghost use Rattle.qs_types.specs.Declarations.{text_of};
+ghost use Rattle.qs_types.specs.TypeOf.{type_tree};
+ghost use Rattle.qs_typed.specs.FormOf.{typed_tree};
+ghost use Rattle.qs_typed.specs.KnownOf.{known_tree};
+ghost use Rattle.qs_typed.specs.KnownStatements.{assigned_set_known, filled_known, initialised_known, local_set_known, object_set_known, piece_set_known, pieces_set_known, text_set_known, variable_known, variables_known};
+ghost use Rattle.qs_typed.specs.PieceOf.{piece_tree};
+ghost use Rattle.qs_typed.specs.TreeOf.{effect_tree, effects_tree, expression_tree, lvalue_tree, object_tree};
+
+use crate::assignments::plain_form;
+use crate::blanks::blank_of;
+use crate::expressions::{Effect, Expression, Lvalue, Object};
+use crate::forms::{Form, Typed};
+use crate::known::Known;
+use crate::pieces::{Piece, pieces};
+use crate::places::local_lvalue;
+use crate::typed::typed;
+use crate::types::is_array;
+use qs_base::NoMemory;
+use qs_syntax::{Expr, Initialiser, Shape, Text, Variable};
+use qs_types::CType;
+use std::alloc::Global;
+
+/// The text that an expression is.
+fn text_of(e: &Expr) -> Result<&Text, NoMemory>
+    ensures { IfOk result (λ text. text_of (expr_tree e.now) ≡ Some text.now) }
+{
+    match &e.shape {
+        Shape::Text(text) => Ok(text),
+        _ => Err(NoMemory),
+    }
+}
+
+/// Of a text as many bytes as there is room for, the zero at its end among them (C11 6.7.9p14).
+fn text_room(t: &CType, len: usize) -> u32
+    ensures { (bytes : List ℕ) → length bytes ≡ len → text_room (type_tree t.now) bytes ≡ result }
+{
+    match t {
+        CType::Int => 0,
+        CType::Unsigned => 0,
+        CType::Char => 0,
+        CType::Void => 0,
+        CType::Pointer(_) => 0,
+        CType::Array(_, n) => {
+            if len < *n as usize {
+                len as u32 + 1
+            } else {
+                *n
+            }
+        }
+        CType::Struct(_) => 0,
+    }
+}
+
+/// A text that initialises an array is copied from its block.
+fn text_set(
+    alloc: Global,
+    k: &Known<'_>,
+    t: &CType,
+    to: Expression,
+    e: &Expr,
+) -> Result<Effect, NoMemory>
+    ensures { IfOk result (λ r. text_set_known (known_tree k.now) (type_tree t.now) (expression_tree to) (expr_tree e.now) ≡ Some (effect_tree r)) }
+{
+    let text = text_of(e)?;
+    let size = text_room(t, text.bytes().len());
+    let a = typed(alloc, k, e)?;
+    let from = a.form.into_address()?;
+    Ok(Effect::Copy {
+        size,
+        alignment: 1,
+        to,
+        from,
+    })
+}
+
+/// A scalar or a struct is initialised as by an assignment whose value is discarded (C11 6.7.9p11, p13).
+fn assigned_set(alloc: Global, k: &Known<'_>, part: Typed<'_>, e: &Expr) -> Result<Effect, NoMemory>
+    ensures { IfOk result (λ r. assigned_set_known (known_tree k.now) (typed_tree part.entry) (expr_tree e.now) ≡ Some (effect_tree r)) }
+{
+    let a = typed(alloc, k, e)?;
+    let of = part.of;
+    let form = plain_form(alloc, k.env, part, a)?;
+    form.into_effect(alloc, of)
+}
+
+/// The address of the part of the object that begins at this offset.
+fn part_at(alloc: Global, base: Object, offset: u32) -> Result<Expression, NoMemory>
+    ensures { IfOk result (λ e. expression_tree e ≡ member offset (pointer_to (object_tree base))) }
+{
+    let base = Expression::PointerTo(base);
+    Ok(Expression::Member(offset, Box::new(alloc, base)?))
+}
+
+/// The part of the object.
+fn piece_set(alloc: Global, k: &Known<'_>, base: Object, p: Piece<'_>) -> Result<Effect, NoMemory>
+    ensures { IfOk result (λ r. piece_set_known (known_tree k.now) (pointer_to (object_tree base)) (piece_tree p.entry) ≡ Some (effect_tree r)) }
+{
+    let to = part_at(alloc, base, p.offset)?;
+    if is_array(p.of) {
+        text_set(alloc, k, p.of, to, p.expression)
+    } else {
+        let part = Typed {
+            of: p.of,
+            form: Form::Lvalue(Lvalue::Object(Box::new(alloc, to)?)),
+        };
+        assigned_set(alloc, k, part, p.expression)
+    }
+}
+
+/// The parts of the object, in order.
+fn pieces_effects(
+    alloc: Global,
+    k: &Known<'_>,
+    base: Object,
+    ps: &[Piece<'_>],
+) -> Result<Vec<Effect>, NoMemory>
+    ensures { IfOk result (λ all. pieces_set_known (known_tree k.now) (pointer_to (object_tree base)) (map piece_tree ps.now) ≡ Some (effects_tree all.items)) }
+{
+    let mut all = Vec::new(alloc);
+    for p in ps {
+        all.push(piece_set(alloc, k, base, *p)?)?;
+    }
+    Ok(all)
+}
+
+fn pieces_set(
+    alloc: Global,
+    k: &Known<'_>,
+    base: Object,
+    ps: &[Piece<'_>],
+) -> Result<Effect, NoMemory>
+    ensures { IfOk result (λ r. pieces_set_known (known_tree k.now) (pointer_to (object_tree base)) (map piece_tree ps.now) ≡ Some (effect_tree r)) }
+{
+    let all = pieces_effects(alloc, k, base, ps)?;
+    Ok(Effect::Each(all))
+}
+
+/// First zeros and null pointers everywhere, then the expressions in order (C11 6.7.9p19, p21).
+fn filled(
+    alloc: Global,
+    k: &Known<'_>,
+    t: &CType,
+    base: Object,
+    i: &Initialiser,
+) -> Result<Effect, NoMemory>
+    ensures { IfOk result (λ r. filled_known (known_tree k.now) (type_tree t.now) (pointer_to (object_tree base)) (initialiser_tree i.now) ≡ Some (effect_tree r)) }
+{
+    let cells = blank_of(alloc, k.env, t)?;
+    let ps = pieces(alloc, k.env, i, t, 0)?;
+    let sets = pieces_set(alloc, k, base, &ps)?;
+    let fill = Effect::Fill(cells, Expression::PointerTo(base));
+    Ok(Effect::InOrder(Box::new(alloc, fill)?, Box::new(alloc, sets)?))
+}
+
+fn pointed(e: &Expression) -> Result<Object, NoMemory>
+    ensures { IfOk result (λ o. expression_tree e.now ≡ pointer_to (object_tree o)) }
+{
+    match e {
+        Expression::PointerTo(o) => Ok(*o),
+        _ => Err(NoMemory),
+    }
+}
+
+/// The object that a placed local is.
+fn object_of(l: &Lvalue) -> Result<Object, NoMemory>
+    ensures { IfOk result (λ o. address_in (lvalue_tree l.now) ≡ Some (pointer_to (object_tree o))) }
+{
+    match l {
+        Lvalue::Variable(_) => Err(NoMemory),
+        Lvalue::Object(address) => pointed(address),
+    }
+}
+
+fn object_set(
+    alloc: Global,
+    k: &Known<'_>,
+    t: &CType,
+    l: Lvalue,
+    i: &Initialiser,
+) -> Result<Effect, NoMemory>
+    ensures { IfOk result (λ r. object_set_known (known_tree k.now) (record { type = type_tree t.now; form = lvalue (lvalue_tree l) }) (initialiser_tree i.now) ≡ Some (effect_tree r)) }
+{
+    let base = object_of(&l)?;
+    filled(alloc, k, t, base, i)
+}
+
+/// The local with its initialiser.
+fn local_set(
+    alloc: Global,
+    k: &Known<'_>,
+    t: &CType,
+    l: Lvalue,
+    i: &Initialiser,
+) -> Result<Effect, NoMemory>
+    ensures { IfOk result (λ r. local_set_known (known_tree k.now) (record { type = type_tree t.now; form = lvalue (lvalue_tree l) }) (initialiser_tree i.now) ≡ Some (effect_tree r)) }
+{
+    match i {
+        Initialiser::Value(e) => {
+            if is_array(t) {
+                object_set(alloc, k, t, l, i)
+            } else {
+                let part = Typed {
+                    of: t,
+                    form: Form::Lvalue(l),
+                };
+                assigned_set(alloc, k, part, e)
+            }
+        }
+        Initialiser::List(_) => object_set(alloc, k, t, l, i),
+    }
+}
+
+fn initialised(
+    alloc: Global,
+    k: &Known<'_>,
+    node: u32,
+    t: &CType,
+    i: &Option<Initialiser>,
+) -> Result<Effect, NoMemory>
+    ensures { IfOk result (λ r. initialised_known (known_tree k.now) node (type_tree t.now) (option_map initialiser_tree i.now) ≡ Some (effect_tree r)) }
+{
+    match i {
+        None => Ok(Effect::Nothing),
+        Some(i) => {
+            let l = local_lvalue(alloc, k.locals, node)?;
+            local_set(alloc, k, t, l, i)
+        }
+    }
+}
+
+/// What the declaration of a variable does.
+fn variable(alloc: Global, k: &Known<'_>, v: &Variable) -> Result<Effect, NoMemory>
+    ensures { IfOk result (λ r. variable_known (known_tree k.now) (variable_tree v.now) ≡ Some (effect_tree r)) }
+{
+    let node = v.declarator.node.id;
+    let t = k.type_at(node)?;
+    initialised(alloc, k, node, t, &v.initialiser)
+}
+
+fn variables_effects(
+    alloc: Global,
+    k: &Known<'_>,
+    vs: &[Variable],
+) -> Result<Vec<Effect>, NoMemory>
+    ensures { IfOk result (λ all. variables_known (known_tree k.now) (map variable_tree vs.now) ≡ Some (effects_tree all.items)) }
+{
+    let mut all = Vec::new(alloc);
+    for v in vs {
+        all.push(variable(alloc, k, v)?)?;
+    }
+    Ok(all)
+}
+
+/// What the declarations of variables do, in order.
+pub fn variables(alloc: Global, k: &Known<'_>, vs: &[Variable]) -> Result<Effect, NoMemory>
+    ensures { IfOk result (λ r. variables_known (known_tree k.now) (map variable_tree vs.now) ≡ Some (effect_tree r)) }
+{
+    let all = variables_effects(alloc, k, vs)?;
+    Ok(Effect::Each(all))
+}

@@ -1,0 +1,233 @@
+// Types of values, and conversions between these (C11 6.3).
+ghost use Rattle.std.specs.Prelude.{◌≡◌, IfOk, Some};
+ghost use Rattle.qs_meaning.specs.Conversions.{conversion, same_scalar, scalar_of};
+ghost use Rattle.qs_meaning.specs.Operations.{signedness};
+ghost use Rattle.qs_types.specs.Conversions.{arithmetic, common, decayed, promoted};
+ghost use Rattle.qs_types.specs.EnvOf.{env_tree};
+ghost use Rattle.qs_types.specs.Layout.{extent_of, size_of};
+ghost use Rattle.qs_types.specs.TypeOf.{type_tree};
+ghost use Rattle.qs_types.specs.Types.{is_array, is_pointer, is_scalar, is_struct, referenced, same_type, unsigned};
+ghost use Rattle.qs_typed.specs.TreeOf.{conversion_tree};
+ghost use Rattle.qs_typed.specs.Parts.{between};
+
+use crate::expressions::Conversion;
+use qs_base::NoMemory;
+use qs_memory::{Scalar, Signedness};
+use qs_types::{CType, Env, Extent, extent_of};
+use std::alloc::Global;
+
+/// The scalar type of a value: that of an array or of a struct is a pointer to it (C11 6.3.2.1p3).
+pub fn scalar_of(t: &CType) -> Scalar
+    ensures { result ≡ scalar_of (type_tree t.now) }
+{
+    match t {
+        CType::Int => Scalar::Int,
+        CType::Unsigned => Scalar::Unsigned,
+        CType::Char => Scalar::Char,
+        CType::Void => Scalar::Int,
+        CType::Pointer(_) => Scalar::Pointer,
+        CType::Array(_, _) => Scalar::Pointer,
+        CType::Struct(_) => Scalar::Pointer,
+    }
+}
+
+/// Whether it is a pointer type (C11 6.2.5p20).
+pub fn is_pointer(t: &CType) -> bool
+    ensures { result ≡ is_pointer (type_tree t.now) }
+{
+    match t {
+        CType::Int => false,
+        CType::Unsigned => false,
+        CType::Char => false,
+        CType::Void => false,
+        CType::Pointer(_) => true,
+        CType::Array(_, _) => false,
+        CType::Struct(_) => false,
+    }
+}
+
+/// Whether it is an array type (C11 6.2.5p20).
+pub fn is_array(t: &CType) -> bool
+    ensures { result ≡ is_array (type_tree t.now) }
+{
+    match t {
+        CType::Int => false,
+        CType::Unsigned => false,
+        CType::Char => false,
+        CType::Void => false,
+        CType::Pointer(_) => false,
+        CType::Array(_, _) => true,
+        CType::Struct(_) => false,
+    }
+}
+
+/// Whether it is a struct (C11 6.2.5p20).
+pub fn is_struct(t: &CType) -> bool
+    ensures { result ≡ is_struct (type_tree t.now) }
+{
+    match t {
+        CType::Int => false,
+        CType::Unsigned => false,
+        CType::Char => false,
+        CType::Void => false,
+        CType::Pointer(_) => false,
+        CType::Array(_, _) => false,
+        CType::Struct(_) => true,
+    }
+}
+
+/// Whether it is an integer or a pointer (C11 6.2.5p21).
+pub fn is_scalar(t: &CType) -> bool
+    ensures { result ≡ is_scalar (type_tree t.now) }
+{
+    match t {
+        CType::Int => true,
+        CType::Unsigned => true,
+        CType::Char => true,
+        CType::Void => false,
+        CType::Pointer(_) => true,
+        CType::Array(_, _) => false,
+        CType::Struct(_) => false,
+    }
+}
+
+/// Whether it is `unsigned`.
+pub fn is_unsigned(t: &CType) -> bool
+    ensures { result ≡ same_type (type_tree t.now) unsigned }
+{
+    match t {
+        CType::Int => false,
+        CType::Unsigned => true,
+        CType::Char => false,
+        CType::Void => false,
+        CType::Pointer(_) => false,
+        CType::Array(_, _) => false,
+        CType::Struct(_) => false,
+    }
+}
+
+/// The type that a pointer leads to, and that of an array's elements; of another type the type itself.
+pub fn referenced(t: &CType) -> &CType
+    ensures { type_tree result.now ≡ referenced (type_tree t.now) }
+{
+    match t {
+        CType::Int => t,
+        CType::Unsigned => t,
+        CType::Char => t,
+        CType::Void => t,
+        CType::Pointer(to) => to,
+        CType::Array(element, _) => element,
+        CType::Struct(_) => t,
+    }
+}
+
+/// The type of the value: an array turns into a pointer to its first element (C11 6.3.2.1p3).
+pub fn decayed(alloc: Global, t: &CType) -> Result<CType, NoMemory>
+    ensures { IfOk result (λ u. type_tree u ≡ decayed (type_tree t.now)) }
+{
+    match t {
+        CType::Int => Ok(CType::Int),
+        CType::Unsigned => Ok(CType::Unsigned),
+        CType::Char => Ok(CType::Char),
+        CType::Void => Ok(CType::Void),
+        CType::Pointer(to) => {
+            let to = to.copy(alloc)?;
+            Ok(CType::Pointer(Box::new(alloc, to)?))
+        }
+        CType::Array(element, _) => {
+            let to = element.copy(alloc)?;
+            Ok(CType::Pointer(Box::new(alloc, to)?))
+        }
+        CType::Struct(k) => Ok(CType::Struct(*k)),
+    }
+}
+
+/// The type after the integer promotions (C11 6.3.1.1p2).
+pub fn promoted(t: &CType) -> CType
+    ensures { type_tree result ≡ promoted (type_tree t.now) }
+{
+    if is_unsigned(t) {
+        CType::Unsigned
+    } else {
+        CType::Int
+    }
+}
+
+/// The type after the usual arithmetic conversions (C11 6.3.1.8).
+pub fn arithmetic(t: &CType, u: &CType) -> CType
+    ensures { type_tree result ≡ arithmetic (type_tree t.now) (type_tree u.now) }
+{
+    if is_unsigned(t) || is_unsigned(u) {
+        CType::Unsigned
+    } else {
+        CType::Int
+    }
+}
+
+/// The type that two operands have together, one of which may be a pointer (C11 6.5.6p8, 6.5.15p5);
+/// `both` is that of two integers.
+pub fn common<'a>(t: &'a CType, u: &'a CType, both: &'a CType) -> &'a CType
+    requires { type_tree both.now ≡ arithmetic (type_tree t.now) (type_tree u.now) }
+    ensures { type_tree result.now ≡ common (type_tree t.now) (type_tree u.now) }
+{
+    if is_pointer(t) {
+        t
+    } else if is_pointer(u) {
+        u
+    } else {
+        both
+    }
+}
+
+/// A promoted type is `int` or `unsigned`.
+pub fn signedness(t: &CType) -> Signedness
+    ensures { result ≡ signedness (type_tree t.now) }
+{
+    if is_unsigned(t) {
+        Signedness::Unsigned
+    } else {
+        Signedness::Signed
+    }
+}
+
+fn same_scalar(s: Scalar, r: Scalar) -> bool
+    ensures { result ≡ same_scalar s r }
+{
+    s == r
+}
+
+/// A value of one scalar type as a value of another (C11 6.3.1.3, 6.3.2.3).
+pub fn between(from: Scalar, to: Scalar) -> Conversion
+    ensures { conversion_tree result ≡ between from to }
+{
+    if same_scalar(from, to) {
+        Conversion::Unchanged
+    } else {
+        Conversion::Converted(from, to)
+    }
+}
+
+/// A value of one type as a value of another (C11 6.3.1.3, 6.3.2.3).
+pub fn conversion(from: &CType, to: &CType) -> Conversion
+    ensures { conversion_tree result ≡ conversion (type_tree from.now) (type_tree to.now) }
+{
+    between(scalar_of(from), scalar_of(to))
+}
+
+/// The size and the alignment of a type.
+#[tactic(auto, using(crate::proofs::Sizes::extent_is))]
+pub fn extent_in(env: &Env, t: &CType) -> Result<Extent, NoMemory>
+    ensures { IfOk result (λ e. extent_of (env_tree env.now) (type_tree t.now) ≡ Some e) }
+{
+    match extent_of(env, t) {
+        None => Err(NoMemory),
+        Some(e) => Ok(e),
+    }
+}
+
+/// The size of a type (C11 6.5.3.4).
+pub fn size_in(env: &Env, t: &CType) -> Result<u32, NoMemory>
+    ensures { IfOk result (λ n. size_of (env_tree env.now) (type_tree t.now) ≡ Some n) }
+{
+    Ok(extent_in(env, t)?.size)
+}

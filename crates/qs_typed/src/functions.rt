@@ -97,7 +97,7 @@ fn place_locals(
 
 /// The places of the parameters and locals at these nodes.
 #[tactic(auto, using(crate::proofs::PlaceTables::placed_in_order))]
-pub fn places(
+pub fn places_of(
     alloc: Global,
     types: &[Option<CType>],
     addressed: &IndexSet<u32>,
@@ -213,7 +213,11 @@ pub fn function(
     let body = statements(alloc, k, body)?;
     Ok(TypedFunction {
         name: f.name.copy(alloc)?,
-        result: if returns_nothing(f) { None } else { Some(k.result) },
+        result: if returns_nothing(f) {
+            None
+        } else {
+            Some(k.result)
+        },
         parameters,
         variables,
         blocks,

@@ -243,11 +243,7 @@ fn variable(alloc: Global, k: &Known<'_>, v: &Variable) -> Result<Effect, NoMemo
     initialised(alloc, k, node, t, &v.initialiser)
 }
 
-fn variables_effects(
-    alloc: Global,
-    k: &Known<'_>,
-    vs: &[Variable],
-) -> Result<Vec<Effect>, NoMemory>
+fn variables_effects(alloc: Global, k: &Known<'_>, vs: &[Variable]) -> Result<Vec<Effect>, NoMemory>
     ensures { IfOk result (λ all. variables_known (known_tree k.now) (map variable_tree vs.now) ≡ Some (effects_tree all.items)) }
 {
     let mut all = Vec::new(alloc);

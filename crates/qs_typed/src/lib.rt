@@ -27,7 +27,7 @@ pub use data::{Datum, StaticBlock};
 pub use expressions::{
     Argument, Assignment, Conversion, Effect, Expression, Lvalue, Object, Order,
 };
-pub use functions::{function, named_scalar, places};
+pub use functions::{function, named_scalar, places_of};
 pub use known::Known;
 pub use laws::{expressions_are_typed, functions_are_typed, statements_are_typed};
 pub use locals::statements_nodes;

@@ -1,0 +1,5 @@
+pub mod Pieces
+pub mod Operands
+pub mod Operations
+pub mod Emission
+pub mod Laws

@@ -1,5 +1,5 @@
 -- What is promised of items.
-use Rattle.std.specs.Prelude.{◌↔◌, ℕ, ◌+◌, ◌*◌, ◌≤◌, List, ◌++◌, length, sum_by, Option}
+use Rattle.std.specs.Prelude.{◌↔◌, ℕ, ◌+◌, ◌*◌, ◌≤◌, List, ◌++◌, sum_by, Option}
 use Rattle.qs_isa.specs.declared.instruction.Instr.{Instr}
 use Rattle.qs_asm.specs.declared.item.Item.{Item}
 use Rattle.qs_asm.specs.Items.{Lays, item_words}

@@ -1,13 +1,13 @@
 -- Where the parts of a frame lie.
-use Rattle.std.proofs.Common.{◌≡◌, ◌≢◌, ◌⊎◌, inl, inr, ⊎_elim, ℕ, zero, suc, ◌+◌, ◌-◌, ◌*◌, ◌/◌, ◌%◌, ◌<◌, ◌≤◌, List, [], ◌∷◌, length, refl, sym, ap, ◌∙◌, subst, arith}
-use Rattle.std.specs.Prelude.{Bool, true, false, slice_index_or}
+use Rattle.std.proofs.Common.{◌≡◌, ◌≢◌, ◌⊎◌, inl, inr, ⊎_elim, ℕ, zero, suc, ◌+◌, ◌-◌, ◌*◌, ◌/◌, ◌%◌, ◌<◌, ◌≤◌, List, [], ◌∷◌, length, refl, ap, arith}
+use Rattle.std.specs.Prelude.{false, slice_index_or}
 use Rattle.std.proofs.lemmas.Bool.{cases_lt}
 use Rattle.qs_tac.specs.Trees.{TacFunctionTree}
 use Rattle.qs_tac.specs.Places.{PlacesTree, Accepted, slots_from, all_slots}
 use Rattle.qs_tac.specs.Sizes.{values}
 use Rattle.qs_tac.specs.declared.places.Place.{Place}
-use Rattle.qs_frames.specs.Layout.{rounded, total, offset, slots_among, is_among, used_among, saved_registers, slot_count, used_registers, kept, frame_cost, layout, slot_at, block_offset}
-use Rattle.qs_frames.specs.Laws.{Part, return_address, register, slot, block, HasPart, part_from, part_size, part_end, IsLaidOut}
+use Rattle.qs_frames.specs.Layout.{rounded, total, offset, slots_among, is_among, used_among, saved_registers, used_registers, kept, frame_cost, layout}
+use Rattle.qs_frames.specs.Laws.{Part, return_address, register, slot, block, HasPart, part_from, part_end, IsLaidOut}
 
 -- ---- blocks
 

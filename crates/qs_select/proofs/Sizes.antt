@@ -1,9 +1,8 @@
 -- How many words the code of each piece takes.
-use Rattle.std.proofs.Common.{◌≡◌, ℕ, zero, suc, ◌+◌, ◌*◌, ◌%◌, ◌/◌, ◌^◌, ◌==◌, ◌<◌, ◌≤◌, Bool, true, false, List, [], ◌∷◌, ◌++◌, length, Option, Some, None, refl, sym, ap, ◌∙◌, subst, arith, length-append}
-use Rattle.std.specs.Prelude.{nat_lt, ◌&&◌, if◌then◌else◌, sum_by, unwrap_or, map}
+use Rattle.std.proofs.Common.{◌≡◌, ℕ, zero, suc, ◌+◌, ◌*◌, ◌%◌, ◌/◌, ◌^◌, ◌==◌, ◌≤◌, Bool, true, false, List, [], ◌∷◌, ◌++◌, length, Option, Some, None, refl, ap, arith, length-append}
+use Rattle.std.specs.Prelude.{nat_lt, ◌&&◌, if◌then◌else◌, sum_by, unwrap_or}
 use Rattle.std.proofs.lemmas.Bool.Decides.{nat_tests}
 use Rattle.std.proofs.lemmas.List.Sums.{sum_by-cons, sum_by-append}
-use Rattle.qs_memory.specs.Partial.{◌>>=◌}
 use Rattle.qs_memory.specs.declared.operation.Signedness.{Signedness}
 use Rattle.qs_memory.specs.declared.operation.Signedness.TheVariants.{Signed, Unsigned}
 use Rattle.qs_memory.specs.declared.operation.Direction.{Direction}
@@ -13,7 +12,6 @@ use Rattle.qs_memory.specs.declared.operation.Comparison.{Comparison}
 use Rattle.qs_memory.specs.declared.operation.Comparison.TheVariants as comparisons
 use Rattle.qs_memory.specs.declared.operation.BinaryOperation.{BinaryOperation}
 use Rattle.qs_memory.specs.declared.operation.BinaryOperation.TheVariants as binaries
-use Rattle.qs_memory.specs.Memory.{BlankTree}
 use Rattle.qs_calls.specs.declared.callee.Callee.{Callee}
 use Rattle.qs_calls.specs.declared.callee.Callee.TheVariants.{Function, PutChar, GetChar}
 use Rattle.qs_calls.specs.declared.parameter.Parameter.{Parameter}
@@ -29,7 +27,7 @@ use Rattle.qs_tac.specs.Trees.{InstructionTree, move, unary, binary, convert, ad
 use Rattle.qs_tac.specs.Trees.{copy, fill, call, jump, branch, return}
 use Rattle.qs_tac.specs.Fits.{blank_size}
 use Rattle.qs_tac.specs.Places.{place_of}
-use Rattle.qs_tac.specs.Sizes.{operand_words, result_words, base_words, offset_words, index_words, index_offset, address_words, operation_words, callee_words, taken_words, condition_words, enter_words, leave_words, returned_words, instruction_words}
+use Rattle.qs_tac.specs.Sizes.{operand_words, result_words, base_words, offset_words, address_words, operation_words, callee_words, taken_words, condition_words, enter_words, leave_words, instruction_words}
 use Rattle.qs_tac.specs.declared.places.Place.{Place}
 use Rattle.qs_tac.specs.declared.places.Place.TheVariants.{Slot, Register}
 use Rattle.qs_tac.specs.declared.operands.Operand.{Operand}
@@ -41,7 +39,7 @@ use Rattle.qs_tac.specs.declared.operands.Condition.TheVariants.{NotZero, Zero, 
 use Rattle.qs_frames.specs.Layout.{is_among, used_among, saved_registers, used_registers}
 use Rattle.qs_select.specs.Pieces as pieces
 use Rattle.qs_select.specs.Pieces.{x0, a0, a1, a4, sltiu, sltu, is_small, low_part, constant, is_near, load_from, store_to, address_in_frame, move_stack, shift_of, product_by, product, loop_end, copy_loop, fill_loop, zero_bytes}
-use Rattle.qs_select.specs.Operands.{Context, constant_count, place_into, byte_into, into, register_of, stands_in, unless_there, operand_code, operand_register, put_place, put, result_register, result_code, move_to, Anchor, index_displacement, displacement, behind_frame, behind_pointer, based, is_constant, add_elements, add_index, anchor_of, address_into, is_word_address}
+use Rattle.qs_select.specs.Operands.{Context, constant_count, place_into, byte_into, into, register_of, stands_in, unless_there, operand_code, operand_register, put_place, put, result_register, result_code, move_to, Anchor, displacement, behind_frame, behind_pointer, based, is_constant, add_elements, add_index, anchor_of, address_into, is_word_address}
 use Rattle.qs_select.specs.Operations.{constant_of, or_code, both, on_both, arithmetic, less, turned, apart, compare, move_by, move_by_elements, moved, elements_between}
 use Rattle.qs_select.specs.Operations as operations
 use Rattle.qs_select.specs.Emission.{copy_code, unless_none, fill_code, save, restore, take_parameter, take_parameters, enter, leave, pass, take_result, Labels, goes_to, compare_branch, compare_items, branch_items, gives, instruction_items}

@@ -1,7 +1,6 @@
 -- What each instruction of linear code becomes.
 use Rattle.std.specs.Prelude.{ℕ, zero, suc, ◌+◌, ◌*◌, ◌-◌, ◌/◌, ◌%◌, ◌^◌, ◌==◌, ◌&&◌, Bool, true, false, if◌then◌else◌}
 use Rattle.std.specs.Prelude.{List, [], ◌∷◌, ◌++◌, length, Option, Some, None, slice_index_or}
-use Rattle.qs_memory.specs.Memory.{BlankTree}
 use Rattle.qs_memory.specs.declared.operation.Signedness.{Signedness}
 use Rattle.qs_memory.specs.declared.operation.Signedness.TheVariants.{Signed, Unsigned}
 use Rattle.qs_memory.specs.declared.operation.Comparison.{Comparison}
@@ -24,7 +23,6 @@ use Rattle.qs_tac.specs.Trees.{copy, fill, call, jump, branch, return, TacFuncti
 use Rattle.qs_tac.specs.Fits.{blank_size}
 use Rattle.qs_tac.specs.Places.{PlacesTree, place_of, no_places}
 use Rattle.qs_tac.specs.declared.operands.Operand.{Operand}
-use Rattle.qs_tac.specs.declared.operands.Address.{Address}
 use Rattle.qs_tac.specs.declared.operands.Condition.{Condition}
 use Rattle.qs_tac.specs.declared.operands.Condition.TheVariants.{NotZero, Zero, Compare, ComparePointers}
 use Rattle.qs_frames.specs.Layout.{register_at, return_address_at, used_registers}

@@ -1,11 +1,10 @@
 -- What is promised of instruction selection.
-use Rattle.std.specs.Prelude.{◌≡◌, ◌⊎◌, ℕ, ◌*◌, ◌+◌, ◌^◌, ◌<◌, ◌≤◌, true, List, [], ◌∷◌, ◌++◌, length, sum_by, Option, Some}
-use Rattle.std.specs.List.{slice_get}
+use Rattle.std.specs.Prelude.{◌≡◌, ℕ, ◌*◌, ◌+◌, ◌^◌, ◌<◌, ◌≤◌, true, List, [], ◌∷◌, length, sum_by, Option}
 use Rattle.qs_isa.specs.Encoding.{IsInstr}
 use Rattle.qs_asm.specs.declared.item.Item.{Item}
 use Rattle.qs_asm.specs.declared.item.Item.TheVariants.{Plain, Label, Jump, Branch}
 use Rattle.qs_asm.specs.Items.{plain, item_words}
-use Rattle.qs_tac.specs.Trees.{InstructionTree, call, TacFunctionTree, TacUnitTree}
+use Rattle.qs_tac.specs.Trees.{InstructionTree, call, TacUnitTree}
 use Rattle.qs_tac.specs.Fits.{instruction_fits}
 use Rattle.qs_tac.specs.Places.{place_of}
 use Rattle.qs_tac.specs.Sizes.{instruction_words, enter_words, result_words}

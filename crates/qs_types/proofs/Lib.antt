@@ -4,6 +4,8 @@ mod Layouts
 mod Extents
 mod LayoutSteps
 pub mod Declaring
+pub mod TagPlaces
+pub mod KnownValues
 mod LayoutExamples
 pub mod RuleLaws
 pub mod LimitLaws

@@ -1,11 +1,12 @@
 -- The tags and the blocks of data of a unit.
-use Rattle.std.proofs.Common.{◌≡◌, ℕ, List, [], ◌∷◌, None, refl}
+use Rattle.std.proofs.Common.{◌≡◌, ℕ, List, [], ◌∷◌, None, map, refl}
 use Rattle.qs_syntax.specs.declared.types.Base.TheVariants as bases
 use Rattle.qs_syntax.specs.Trees.{ExprTree, UnitTree}
 use Rattle.qs_syntax.specs.Trees as trees
 use Rattle.qs_syntax.specs.Numbering.{numbered_unit}
-use Rattle.qs_types.specs.Limits.{Block}
-use Rattle.qs_types.specs.Recorded.{tags_of, global_blocks, text_blocks}
+use Rattle.qs_types.specs.Limits.{Block, text_block}
+use Rattle.qs_types.specs.Recorded.{tags_of, global_blocks}
+use Rattle.qs_types.specs.References.{literal_blocks}
 use Rattle.qs_types.proofs.RuleTrees.{e, number, one, many, global, valued, struct_s, forward_s, g, eval}
 
 abbrev text : List ℕ → ExprTree
@@ -25,5 +26,5 @@ some_data = numbered_unit (global bases.Char 0 97 (many (number 3)) None ∷ g (
 variables : global_blocks some_data ≡ at 0 3 ∷ at 5 2 ∷ at 8 4 ∷ []
 variables = refl
 
-texts : text_blocks some_data ≡ at 4 2 ∷ at 9 1 ∷ []
+texts : map text_block (literal_blocks some_data) ≡ at 4 2 ∷ at 9 1 ∷ []
 texts = refl

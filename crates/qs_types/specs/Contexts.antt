@@ -41,6 +41,10 @@ given_functions =
 abbrev pub start_context : Context
 start_context = record { structs = []; tags = []; inner = given_functions; outer = []; result = None; in_loop = false }
 
+-- what constant expressions and names of types speak of: these structs with these tags
+abbrev pub context_with : Structs → (tags : List (List ℕ)) → Context
+context_with structs tags = record start_context { structs = structs; tags = tags }
+
 abbrev pub lookup : List ℕ → List Binding → Option Entity
 lookup x [] = None
 lookup x (b ∷ bs) = if same_bytes b.name x then Some b.entity else lookup x bs

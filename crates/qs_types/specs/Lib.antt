@@ -11,6 +11,7 @@ pub mod GivenFunctions
 pub mod Contexts
 pub mod Expressions
 pub mod Constants
+pub mod KnownTypes
 pub mod ExpressionFaults
 pub mod Declarations
 pub mod InitialiserRules

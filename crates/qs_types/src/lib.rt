@@ -1,13 +1,16 @@
 //! The types of the language, how their objects lie in memory, and the typing rules.
 #![tactic(auto)]
 
+mod constants;
 mod env;
 mod extent;
 mod layout;
 mod rules;
 mod structs;
+mod tags;
 mod types;
 
+pub use constants::{is_built, is_null_constant, value};
 pub use env::Env;
 pub use extent::Extent;
 pub use layout::{
@@ -16,4 +19,5 @@ pub use layout::{
 };
 pub use rules::Rule;
 pub use structs::{StructLayout, StructType};
+pub use tags::tag_place;
 pub use types::CType;

@@ -1,5 +1,5 @@
 -- What a walk adds to what was found and noted before: the faults of the parts that it goes over, and what stands in their expressions.
-use Rattle.std.proofs.Common.{◌≡◌, ℕ, ◌+◌, Bool, true, false, ◌&&◌, List, [], ◌∷◌, ◌++◌, Option, Some, None, is_some, map, flat_map, refl, sym, subst, ap, ◌∙◌, append_assoc, append-nil}
+use Rattle.std.proofs.Common.{◌≡◌, ℕ, ◌+◌, Bool, true, false, ◌&&◌, List, [], ◌∷◌, ◌++◌, Option, Some, None, is_some, flat_map, refl, sym, subst, ap, ◌∙◌, append_assoc, append-nil}
 use Rattle.qs_syntax.specs.declared.types.Base.{Base}
 use Rattle.qs_syntax.specs.declared.nodes.Node.{Node}
 use Rattle.qs_syntax.specs.Trees.{ExprTree, DeclaratorTree, InitialiserTree, value, list, Initialisers, no_initialisers, initialiser_and, VariableTree, ParameterTree, MembersTree, StartTree, no_start, start_expression, start_declaration, StmtTree, empty, expression, declaration, block, branch, while_loop, do_loop, for_loop, break, continue, return, Stmts, no_stmts, stmt_and, Else, no_else, else_by, StructTree, FunctionTree, DeclTree, structure, forward, function, variables, UnitTree}
@@ -15,8 +15,7 @@ use Rattle.qs_types.specs.StatementRules.{after_variable, after_statement, for_c
 use Rattle.qs_types.specs.UnitRules as units
 use Rattle.qs_types.specs.UnitRules.{with_tag, is_defined, Before, no_members, after_member, after_together, after_parameter, after_declaration, body_context, member_faults, together_faults, members_faults, struct_faults, parameters_faults, body_faults, function_faults, declaration_faults, declarations_faults, faults_in}
 use Rattle.qs_types.specs.Placed.{addressed}
-use Rattle.qs_types.specs.References.{expr_calls, site_texts}
-use Rattle.qs_types.specs.Limits.{text_block}
+use Rattle.qs_types.specs.References.{expr_calls, site_texts, literal_blocks}
 use Rattle.qs_types.specs.Sites.{Site, site, sites, option_sites, may_hold, declarator_sites, declarators_sites, initialiser_sites, elements_sites, option_initialiser_sites, variable_sites, variables_sites, start_sites, statement_sites, statements_sites, else_sites, members_sites, parameters_sites, body_sites, declaration_sites, declarations_sites, unit_sites}
 use Rattle.qs_typing.specs.Findings.{least_with}
 use Rattle.qs_typing.specs.NodeTypes.{NodeTypes, expr_types, option_types, lengths_types, declarator_types, declarators_types, initialiser_types, initialisers_types, option_initialiser_types, variables_types, start_types, statement_types, statements_types, else_types, members_types, parameters_types, body_types, declaration_types, declarations_types, unit_types}
@@ -35,17 +34,13 @@ pub flat_map-append : {A B : Type 0} (g : A → List B) (xs ys : List A) → fla
 flat_map-append g [] ys = refl
 flat_map-append g (x ∷ xs) ys = ap (λ l. g x ++ l) (flat_map-append g xs ys) ∙ sym (append_assoc (g x) (flat_map g xs) (flat_map g ys))
 
-map-append : {A B : Type 0} (g : A → B) (xs ys : List A) → map g (xs ++ ys) ≡ map g xs ++ map g ys
-map-append g [] ys = refl
-map-append g (x ∷ xs) ys = ap (λ l. g x ∷ l) (map-append g xs ys)
-
 -- a walk adds these faults, and what stands in the expressions of these sites
 pub record Adds (f : WalkTree → WalkTree) (faults : List Fault) (places : List Site) (nodes : NodeTypes) : Type 0 where
   pub least : (w : WalkTree) → (f w).found.least ≡ least_with w.found.least faults
   pub types : (w : WalkTree) → (f w).found.types ≡ w.found.types ++ nodes
   pub names : (w : WalkTree) → (f w).found.addressed ≡ w.found.addressed ++ flat_map site_addressed places
   pub calls : (w : WalkTree) → (f w).noted.calls ≡ w.noted.calls ++ flat_map site_calls places
-  pub texts : (w : WalkTree) → (f w).noted.texts ≡ w.noted.texts ++ map text_block (flat_map site_texts places)
+  pub texts : (w : WalkTree) → (f w).noted.texts ≡ w.noted.texts ++ flat_map site_texts places
 
 -- ---- walks one after the other
 
@@ -53,18 +48,13 @@ lists_in_turn : {A : Type 0} (a b c : List A) (xs ys : List Site) (g : Site → 
 lists_in_turn a b c xs ys g e h =
     h ∙ ap (λ l. l ++ flat_map g ys) e ∙ append_assoc a (flat_map g xs) (flat_map g ys) ∙ ap (λ l. a ++ l) (sym (flat_map-append g xs ys))
 
-maps_in_turn : {A B : Type 0} (k : A → B) (a b c : List B) (xs ys : List Site) (g : Site → List A) → b ≡ a ++ map k (flat_map g xs) → c ≡ b ++ map k (flat_map g ys) → c ≡ a ++ map k (flat_map g (xs ++ ys))
-maps_in_turn k a b c xs ys g e h =
-    h ∙ ap (λ l. l ++ map k (flat_map g ys)) e ∙ append_assoc a (map k (flat_map g xs)) (map k (flat_map g ys))
-    ∙ ap (λ l. a ++ l) (sym (map-append k (flat_map g xs) (flat_map g ys)) ∙ ap (map k) (sym (flat_map-append g xs ys)))
-
 pub then_adds : {f g : WalkTree → WalkTree} {xs ys : List Fault} {ss ts : List Site} {us vs : NodeTypes} → Adds f xs ss us → Adds g ys ts vs → Adds (λ w. g (f w)) (xs ++ ys) (ss ++ ts) (us ++ vs)
 then_adds {f = f} {g = g} {xs = xs} {ys = ys} {ss = ss} {ts = ts} {us = us} {vs = vs} a b = record {
   types = λ w. b.types (f w) ∙ ap (λ l. l ++ vs) (a.types w) ∙ append_assoc w.found.types us vs;
   least = λ w. b.least (f w) ∙ ap (λ l. least_with l ys) (a.least w) ∙ sym (least_with-append w.found.least xs ys);
   names = λ w. lists_in_turn w.found.addressed (f w).found.addressed (g (f w)).found.addressed ss ts site_addressed (a.names w) (b.names (f w));
   calls = λ w. lists_in_turn w.noted.calls (f w).noted.calls (g (f w)).noted.calls ss ts site_calls (a.calls w) (b.calls (f w));
-  texts = λ w. maps_in_turn text_block w.noted.texts (f w).noted.texts (g (f w)).noted.texts ss ts site_texts (a.texts w) (b.texts (f w));
+  texts = λ w. lists_in_turn w.noted.texts (f w).noted.texts (g (f w)).noted.texts ss ts site_texts (a.texts w) (b.texts (f w));
 }
 
 -- a node is judged behind its parts, and its faults stand before theirs
@@ -134,7 +124,7 @@ site_adds c p false e = record {
   types = λ w. refl;
   names = λ w. ap (λ l. w.found.addressed ++ l) (sym (append-nil (addressed c e)));
   calls = λ w. ap (λ l. w.noted.calls ++ l) (sym (append-nil (expr_calls e)));
-  texts = λ w. ap (λ l. w.noted.texts ++ map text_block l) (sym (append-nil (site_texts (one_site c e false))));
+  texts = λ w. ap (λ l. w.noted.texts ++ l) (sym (append-nil (site_texts (one_site c e false))));
 }
 
 expr_adds : (c : Context) (p : Position) (e : ExprTree) → Adds (expr_walked c p e) (expr_faults c p e) (site c e) (expr_types c e)
@@ -291,7 +281,7 @@ unit_least unit = (declarations_add start_context unit).least start_walk
 pub unit_called : (unit : UnitTree) → (unit_walked unit).noted.calls ≡ flat_map site_calls (unit_sites unit)
 unit_called unit = (declarations_add start_context unit).calls start_walk
 
-pub unit_texts : (unit : UnitTree) → (unit_walked unit).noted.texts ≡ map text_block (flat_map site_texts (unit_sites unit))
+pub unit_texts : (unit : UnitTree) → (unit_walked unit).noted.texts ≡ literal_blocks unit
 unit_texts unit = (declarations_add start_context unit).texts start_walk
 
 pub unit_typed : (unit : UnitTree) → (unit_walked unit).found.types ≡ unit_types unit

@@ -1,10 +1,10 @@
 -- A unit is refused for no cause exactly where it is well typed and within the limits; what a walk shows are the causes.
-use Rattle.std.proofs.Common.{◌≡◌, inl, inr, ℕ, Bool, true, false, List, [], ◌∷◌, ◌++◌, Option, Some, None, is_some, refl, sym, ap, ◌∙◌}
+use Rattle.std.proofs.Common.{◌≡◌, inl, inr, ℕ, Bool, true, false, List, [], ◌∷◌, ◌++◌, Option, Some, None, is_some, map, refl, sym, ap, ◌∙◌}
 use Rattle.qs_syntax.specs.Trees.{UnitTree}
 use Rattle.qs_report.specs.declared.fault_texts.LimitKind.{LimitKind}
 use Rattle.qs_report.specs.declared.fault_texts.LimitKind.TheVariants as kinds
 use Rattle.qs_types.specs.Contexts.{Context, start_context}
-use Rattle.qs_types.specs.Limits.{IsWithinLimits, data_blocks, variable_blocks_from, block_past, first_past_nodes, node_limit, first_past_functions, function_limit, first_past_parameters, parameter_limit, first_past_globals, global_limit, first_past_locals, local_limit}
+use Rattle.qs_types.specs.Limits.{IsWithinLimits, data_blocks, variable_blocks_from, text_block, block_past, first_past_nodes, node_limit, first_past_functions, function_limit, first_past_parameters, parameter_limit, first_past_globals, global_limit, first_past_locals, local_limit}
 use Rattle.qs_types.specs.References.{unit_calls}
 use Rattle.qs_types.specs.Rules.{Fault, is_any}
 use Rattle.qs_types.specs.UnitRules.{faults_in}
@@ -128,9 +128,9 @@ nothing_refused unit a =
 
 -- ---- what a walk shows
 
-data_are : (unit : UnitTree) → (unit_walked unit).noted.globals ++ (unit_walked unit).noted.texts ≡ data_blocks unit
+data_are : (unit : UnitTree) → (unit_walked unit).noted.globals ++ map text_block (unit_walked unit).noted.texts ≡ data_blocks unit
 data_are unit =
-    ap (λ gs. gs ++ (unit_walked unit).noted.texts) (unit_globals unit) ∙ ap (λ ts. variable_blocks_from start_context unit ++ ts) (unit_texts unit)
+    ap (λ gs. gs ++ map text_block (unit_walked unit).noted.texts) (unit_globals unit) ∙ ap (λ ts. variable_blocks_from start_context unit ++ map text_block ts) (unit_texts unit)
 
 late_parts : (unit : UnitTree) (l m : Option Fault) (calls names : List (List ℕ)) (ds es : List _) (p q : Option ℕ) → l ≡ m → calls ≡ names → ds ≡ es → p ≡ q
     → first_of (rule_fault l) (first_of (main_fault (has_main unit)) (first_of (undefined_fault (undefined_from (runs unit) calls unit)) (first_of (limit_fault kinds.Globals (block_past global_limit 0 ds)) (limit_fault kinds.Locals p))))
@@ -140,7 +140,7 @@ late_parts unit l m calls names ds es p q a b d e = λ i. first_of (rule_fault (
 pub late_is : (unit : UnitTree) → late_by (end_context unit) (unit_walked unit) unit ≡ late_refusal unit
 late_is unit =
     late_parts unit (unit_walked unit).found.least (least_with None (faults_in unit)) (unit_walked unit).noted.calls (unit_calls unit)
-    ((unit_walked unit).noted.globals ++ (unit_walked unit).noted.texts) (data_blocks unit) (unit_walked unit).noted.local_past (first_past_locals local_limit unit)
+    ((unit_walked unit).noted.globals ++ map text_block (unit_walked unit).noted.texts) (data_blocks unit) (unit_walked unit).noted.local_past (first_past_locals local_limit unit)
     (unit_least unit) (unit_called unit) (data_are unit) (unit_past unit)
 
 -- the same, where this is known and walked

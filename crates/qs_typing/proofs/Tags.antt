@@ -1,13 +1,13 @@
--- The places of tags, and types with stars.
-use Rattle.std.proofs.Common.{◌≡◌, ℕ, suc, ◌+◌, ◌-◌, Bool, true, false, not, ◌||◌, List, [], ◌∷◌, ◌++◌, Some, None, is_some, length, take, drop, nat_lt, refl, sym, ap, ◌∙◌, arith, add-one, if◌then◌else◌, cond}
-use Rattle.std.specs.List.{position, position_or_len, list_any}
-use Rattle.std.proofs.lemmas.Bool.Decides.{nat_tests}
-use Rattle.std.proofs.lemmas.Cmp.{nat_list_eq_equiv}
+-- Tags that are declared, types with stars, and scopes that end.
+use Rattle.std.proofs.Common.{◌≡◌, ℕ, ◌+◌, ◌-◌, Bool, true, false, not, ◌||◌, List, [], ◌∷◌, ◌++◌, Some, None, is_some, length, take, drop, refl, sym, ap, ◌∙◌, arith, add-one, if◌then◌else◌}
+use Rattle.std.specs.List.{list_any}
 use Rattle.std.proofs.lemmas.List.{length-append, take_at, drop_at}
 use Rattle.qs_syntax.specs.Sameness.{same_bytes}
 use Rattle.qs_types.specs.Types.{TypeTree, pointer, Structs}
 use Rattle.qs_types.specs.Contexts.{Context, Binding, place_from, pointers}
 use Rattle.qs_types.specs.UnitRules.{with_tag}
+use Rattle.qs_types.proofs.TagPlaces.{same_swap}
+pub use Rattle.qs_types.proofs.TagPlaces.{tag_position}
 use Rattle.qs_typing.specs.ContextOf.{outer_scope}
 
 -- ---- stars
@@ -16,35 +16,6 @@ pub one_star : (n : ℕ) (t : TypeTree) → pointers (n + 1) t ≡ pointer (poin
 one_star n t = ap (λ k. pointers k t) (add-one n)
 
 -- ---- tags
-
-same_swap : (x y : List ℕ) → same_bytes x y ≡ same_bytes y x
-same_swap x y = nat_list_eq_equiv.symm x y
-
-place_step : (k p n : ℕ) → cond (nat_lt p n) (Some (k + 1 + p)) None ≡ cond (nat_lt (1 + p) (suc n)) (Some (k + (1 + p))) None
-place_step k p n = grind (arith, nat_tests)
-
-place_first : (k n : ℕ) → Some k ≡ cond (nat_lt 0 (suc n)) (Some (k + 0)) None
-place_first k n = grind (arith, nat_tests)
-
-place_is : (k : ℕ) (tag : List ℕ) (tags : List (List ℕ))
-    → place_from k tag tags ≡ cond (nat_lt (position_or_len (same_bytes tag) tags) (length tags)) (Some (k + position_or_len (same_bytes tag) tags)) None
-place_is k tag [] = refl
-place_is k tag (t ∷ tags) =
-    ap (λ b. if b then Some k else place_from (k + 1) tag tags) (same_swap t tag) ∙ by (same_bytes tag t) (place_is (k + 1) tag tags)
-  where
-    by : (b : Bool)
-        → place_from (k + 1) tag tags ≡ cond (nat_lt (position_or_len (same_bytes tag) tags) (length tags)) (Some (k + 1 + position_or_len (same_bytes tag) tags)) None
-        → (if b then Some k else place_from (k + 1) tag tags)
-        ≡ cond (nat_lt (cond (not b) (1 + position_or_len (same_bytes tag) tags) 0) (suc (length tags))) (Some (k + cond (not b) (1 + position_or_len (same_bytes tag) tags) 0)) None
-    by true rest = place_first k (length tags)
-    by false rest = rest ∙ place_step k (position_or_len (same_bytes tag) tags) (length tags)
-
-from_zero : (p n : ℕ) → cond (nat_lt p n) (Some (0 + p)) None ≡ cond (nat_lt p n) (Some p) None
-from_zero p n = grind (arith, nat_tests)
-
--- the place of a tag is the first one at which it stands
-pub tag_position : (tag : List ℕ) (tags : List (List ℕ)) → position (same_bytes tag) tags ≡ place_from 0 tag tags
-tag_position tag tags = sym (place_is 0 tag tags ∙ from_zero (position_or_len (same_bytes tag) tags) (length tags))
 
 -- a tag has a place where it is one of them
 has_tag : (k : ℕ) (tag : List ℕ) (tags : List (List ℕ)) → is_some (place_from k tag tags) ≡ list_any (same_bytes tag) tags

@@ -14,7 +14,8 @@ use Rattle.qs_types.specs.Types.{TypeTree}
 use Rattle.qs_types.specs.Contexts.{Context}
 use Rattle.qs_types.specs.Limits.{KeepsLimits}
 use Rattle.qs_types.proofs.LimitLaws as limits
-use Rattle.qs_types.specs.Recorded.{global_blocks, tags_of, text_blocks}
+use Rattle.qs_types.specs.Recorded.{global_blocks, tags_of}
+use Rattle.qs_types.specs.References.{literal_blocks}
 use Rattle.qs_types.specs.UnitRules.{structs_of}
 use Rattle.qs_types.specs.WellTyped.{end_context}
 use Rattle.qs_typing.specs.declared.typed_unit.TypedUnit.{TypedUnit}
@@ -47,7 +48,7 @@ tags_are unit c e = ap (λ d. d.tags) e
 pub globals_are : (unit : UnitTree) (w : WalkTree) → w ≡ unit_walked unit → w.noted.globals ≡ global_blocks unit
 globals_are unit w e = ap (λ v. v.noted.globals) e ∙ unit_globals unit
 
-pub texts_are : (unit : UnitTree) (w : WalkTree) → w ≡ unit_walked unit → w.noted.texts ≡ text_blocks unit
+pub texts_are : (unit : UnitTree) (w : WalkTree) → w ≡ unit_walked unit → w.noted.texts ≡ literal_blocks unit
 texts_are unit w e = ap (λ v. v.noted.texts) e ∙ unit_texts unit
 
 -- the node at a place of a unit's list has the place for its number

@@ -4,21 +4,21 @@ use Rattle.qs_syntax.specs.declared.unit.Unit.{Unit}
 use Rattle.qs_syntax.specs.declared.units.Decl.{Decl}
 use Rattle.qs_syntax.specs.TreeOf.{decl_tree}
 use Rattle.qs_syntax.specs.UnitTrees.{unit_tree}
-use Rattle.qs_types.specs.Limits.{block_past, global_limit}
+use Rattle.qs_types.specs.Limits.{block_past, global_limit, text_block}
 use Rattle.qs_types.specs.WellTyped.{end_context, undefined_from}
 use Rattle.qs_typing.specs.declared.context.Context.{Context}
 use Rattle.qs_typing.specs.declared.noted.Noted.{Noted}
 use Rattle.qs_typing.specs.declared.refusals.TypeFault.{TypeFault}
 use Rattle.qs_typing.specs.declared.walk.Walk.{Walk}
 use Rattle.qs_typing.specs.ContextOf.{context_tree}
-use Rattle.qs_typing.specs.NotedOf.{block_tree}
+use Rattle.qs_typing.specs.NotedOf.{block_tree, text_tree}
 use Rattle.qs_typing.specs.Refusals.{late_by, runs_in}
 use Rattle.qs_typing.specs.UnitWalk.{unit_walked}
 use Rattle.qs_typing.specs.WalkOf.{walk_tree}
 
 -- the first of the data past their limit
 abbrev pub IsFirstPast : Noted → Option ℕ → Type 0
-IsFirstPast n past = past ≡ block_past global_limit 0 (map block_tree n.globals.items ++ map block_tree n.texts.items)
+IsFirstPast n past = past ≡ block_past global_limit 0 (map block_tree n.globals.items ++ map text_block (map text_tree n.texts.items))
 
 -- the first declaration of a function that is among these and doesn't run
 abbrev pub IsUndefined : Context → (calls : List (List ℕ)) → List Decl → Option ℕ → Type 0

@@ -1,20 +1,17 @@
 -- What is judged of names, calls and names of types in code, as the definitions say.
-use Rattle.std.specs.Prelude.{◌≡◌, ℕ, Bool, List, Option, Some, Vec, map, option_map}
+use Rattle.std.specs.Prelude.{◌≡◌, Bool, List, Option, Some, Vec, map, option_map}
 use Rattle.std.specs.Borrow.{Bor}
 use Rattle.std.specs.declared.alloc.Global.{Global}
 use Rattle.qs_syntax.specs.declared.expressions.Expr.{Expr}
-use Rattle.qs_syntax.specs.declared.types.Base.{Base}
 use Rattle.qs_syntax.specs.declared.types.TypeName.{TypeName}
 use Rattle.qs_syntax.specs.TreeOf.{expr_tree, exprs_tree}
 use Rattle.qs_types.specs.declared.rules.Rule.TheVariants as rules
 use Rattle.qs_types.specs.declared.types.CType.{CType}
-use Rattle.qs_types.specs.Constants as constants
-use Rattle.qs_types.specs.Contexts.{base_type, named_type}
 use Rattle.qs_types.specs.Conversions.{decayed}
 use Rattle.qs_types.specs.Expressions as pure
-use Rattle.qs_types.specs.Layout.{and_then, is_complete, size_of}
+use Rattle.qs_types.specs.Layout.{and_then, is_complete}
 use Rattle.qs_types.specs.Rules.{keeps}
-use Rattle.qs_types.specs.Types.{TypeTree, unsigned}
+use Rattle.qs_types.specs.Types.{unsigned}
 use Rattle.qs_types.specs.TypeOf.{type_tree}
 use Rattle.qs_typing.specs.declared.context.Context.{Context}
 use Rattle.qs_typing.specs.declared.entity.Entity.{Entity}
@@ -52,19 +49,6 @@ abbrev pub JudgesCall : Option (Bor Entity) → List Expr → Option (Vec CType 
 JudgesCall entity es us j = option_judged j ≡ and_then (types_tree us) (pure.call_judged (entity_at entity) (exprs_tree es))
 
 -- ---- names of types
-
-abbrev pub named_in : Context → TypeName → Option TypeTree
-named_in c name = named_type (context_tree c) name
-
--- a value converted to the named type
-abbrev pub converted_in : Context → TypeName → ℕ → Option ℕ
-converted_in c name n = and_then (named_in c name) (λ t. Some (constants.converted t n))
-
-abbrev pub base_in : Context → Base → Option TypeTree
-base_in c base = base_type (context_tree c) base
-
-abbrev pub size_in : Context → TypeTree → Option ℕ
-size_in c t = size_of (context_tree c).structs t
 
 abbrev pub IsCast : Context → TypeName → Expr → CType → Judged → Type 0
 IsCast c name e from j = judged_tree j ≡ pure.cast_judged (context_tree c) name (expr_tree e) (type_tree from)

@@ -3,20 +3,20 @@ use Rattle.std.specs.Prelude.{ℕ, Bool, true, false, List, [], ◌∷◌, ◌++
 use Rattle.qs_syntax.specs.Trees.{ExprTree, ParameterTree}
 use Rattle.qs_types.specs.Types.{TypeTree, Structs}
 use Rattle.qs_types.specs.Layout.{rounded_up}
-use Rattle.qs_types.specs.Limits.{Block, word_size, type_size, text_block, block_past, or_else, local_limit}
+use Rattle.qs_types.specs.Limits.{Block, word_size, type_size, block_past, or_else, local_limit}
 use Rattle.qs_types.specs.Placed.{is_one_of, is_no_scalar}
-use Rattle.qs_types.specs.References.{expr_calls, expr_texts}
+use Rattle.qs_types.specs.References.{TextBlock, expr_calls, expr_texts}
 
 -- a local or parameter: its block, and whether it is no scalar
 pub record LocalTree : Type 0 where
   pub block : Block
   pub is_object : Bool
 
--- the names that are called, the texts that are blocks, the variables of file scope, the locals of the function so far, and the local
+-- the names that are called, the texts that are blocks with their bytes, the variables of file scope, the locals of the function so far, and the local
 -- at which the placed locals of a function first passed their limit
 pub record NotedTree : Type 0 where
   pub calls : List (List ℕ)
-  pub texts : List Block
+  pub texts : List TextBlock
   pub globals : List Block
   pub locals : List LocalTree
   pub local_past : Option ℕ
@@ -28,7 +28,7 @@ nothing_noted = record { calls = []; texts = []; globals = []; locals = []; loca
 abbrev pub site_noted : (fills_array : Bool) → ExprTree → NotedTree → NotedTree
 site_noted fills e n = record n {
   calls = n.calls ++ expr_calls e;
-  texts = n.texts ++ (if fills then [] else map text_block (expr_texts e));
+  texts = n.texts ++ (if fills then [] else expr_texts e);
 }
 
 abbrev pub local_tree : Structs → (node : ℕ) → Option TypeTree → LocalTree

@@ -6,13 +6,15 @@ use Rattle.qs_syntax.specs.TreeOf.{expr_tree, exprs_tree, shape_tree}
 use Rattle.qs_types.specs.declared.env.Env.{Env}
 use Rattle.qs_types.specs.declared.types.CType.{CType}
 use Rattle.qs_types.specs.EnvOf.{env_tree}
-use Rattle.qs_types.specs.Limits.{text_block}
-use Rattle.qs_types.specs.References.{TextBlock, expr_texts, exprs_texts, shape_calls, shape_texts}
+use Rattle.qs_types.specs.Limits as limits
+use Rattle.qs_types.specs.References as references
+use Rattle.qs_types.specs.References.{expr_texts, exprs_texts, shape_calls, shape_texts}
 use Rattle.qs_typing.specs.declared.noted.Block.{Block}
 use Rattle.qs_typing.specs.declared.noted.Local.{Local}
 use Rattle.qs_typing.specs.declared.noted.Noted.{Noted}
+use Rattle.qs_typing.specs.declared.noted.TextBlock.{TextBlock}
 use Rattle.qs_typing.specs.Noted as noted
-use Rattle.qs_typing.specs.NotedOf.{block_tree, local_tree, noted_tree}
+use Rattle.qs_typing.specs.NotedOf.{block_tree, local_tree, noted_tree, text_tree}
 use Rattle.qs_typing.specs.PartsOf.{option_type}
 
 -- ---- calls and texts
@@ -20,26 +22,32 @@ use Rattle.qs_typing.specs.PartsOf.{option_type}
 abbrev pub AddsCalls : Shape → (before after : List (List ℕ)) → Type 0
 AddsCalls shape before after = after ≡ before ++ shape_calls (shape_tree shape)
 
--- texts are added as blocks
-abbrev pub AddsBlocks : List TextBlock → (before after : List Block) → Type 0
-AddsBlocks texts before after = map block_tree after ≡ map block_tree before ++ map text_block texts
+-- these texts are added
+abbrev pub AddsBlocks : List references.TextBlock → (before after : List TextBlock) → Type 0
+AddsBlocks texts before after = map text_tree after ≡ map text_tree before ++ texts
 
-abbrev pub AddsText : (node : ℕ) → (text : List ℕ) → (before after : List Block) → Type 0
+abbrev pub AddsText : (node : ℕ) → (text : List ℕ) → (before after : List TextBlock) → Type 0
 AddsText node text before after = AddsBlocks (record { node = node; bytes = text } ∷ []) before after
 
-abbrev pub AddsTexts : Expr → (before after : List Block) → Type 0
+abbrev pub AddsTexts : Expr → (before after : List TextBlock) → Type 0
 AddsTexts e before after = AddsBlocks (expr_texts (expr_tree e)) before after
 
-abbrev pub AddsShapeTexts : (node : ℕ) → Shape → (before after : List Block) → Type 0
+abbrev pub AddsShapeTexts : (node : ℕ) → Shape → (before after : List TextBlock) → Type 0
 AddsShapeTexts node shape before after = AddsBlocks (shape_texts node (shape_tree shape)) before after
 
-abbrev pub AddsAllTexts : List Expr → (before after : List Block) → Type 0
+abbrev pub AddsAllTexts : List Expr → (before after : List TextBlock) → Type 0
 AddsAllTexts es before after = AddsBlocks (exprs_texts (exprs_tree es)) before after
 
 abbrev pub NotesSite : (fills_array : Bool) → Expr → (before after : Noted) → Type 0
 NotesSite fills_array e before after = noted_tree after ≡ noted.site_noted fills_array (expr_tree e) (noted_tree before)
 
 -- ---- blocks
+
+abbrev pub IsTextBlock : TextBlock → Block → Type 0
+IsTextBlock t b = block_tree b ≡ limits.text_block (text_tree t)
+
+abbrev pub AreTextBlocks : List TextBlock → List Block → Type 0
+AreTextBlocks ts bs = map block_tree bs ≡ map limits.text_block (map text_tree ts)
 
 abbrev pub IsLocal : Env → (node : ℕ) → Option CType → Local → Type 0
 IsLocal structs node t l = local_tree l ≡ noted.local_tree (env_tree structs) node (option_type t)

@@ -1,11 +1,11 @@
 -- Why a unit is refused: the first cause of some, in their order.
-use Rattle.std.specs.Prelude.{◌≡◌, ◌≤◌, ◌⊎◌, ℕ, Bool, false, List, ◌++◌, Option, Some, None, if◌then◌else◌}
+use Rattle.std.specs.Prelude.{◌≡◌, ◌≤◌, ◌⊎◌, ℕ, Bool, false, List, ◌++◌, Option, Some, None, map, if◌then◌else◌}
 use Rattle.qs_syntax.specs.Trees.{UnitTree}
 use Rattle.qs_report.specs.declared.fault_texts.LimitKind.{LimitKind}
 use Rattle.qs_report.specs.declared.fault_texts.LimitKind.TheVariants as kinds
 use Rattle.qs_types.specs.declared.rules.Rule.{Rule}
 use Rattle.qs_types.specs.Rules.{Fault, rule_number}
-use Rattle.qs_types.specs.Limits.{IsWithinLimits, first_past_nodes, node_limit, first_past_functions, function_limit, first_past_parameters, parameter_limit, first_past_globals, global_limit, first_past_locals, local_limit, block_past}
+use Rattle.qs_types.specs.Limits.{IsWithinLimits, first_past_nodes, node_limit, first_past_functions, function_limit, first_past_parameters, parameter_limit, first_past_globals, global_limit, first_past_locals, local_limit, block_past, text_block}
 use Rattle.qs_types.specs.UnitRules.{faults_in, Violates}
 use Rattle.qs_types.specs.Contexts.{Context, entity_of}
 use Rattle.qs_types.specs.GivenFunctions.{main_name}
@@ -119,5 +119,5 @@ late_by c w unit =
     first_of (rule_fault w.found.least)
     (first_of (main_fault (has_main_in c))
     (first_of (undefined_fault (undefined_from (runs_in c) w.noted.calls unit))
-    (first_of (limit_fault kinds.Globals (block_past global_limit 0 (w.noted.globals ++ w.noted.texts)))
+    (first_of (limit_fault kinds.Globals (block_past global_limit 0 (w.noted.globals ++ map text_block w.noted.texts)))
     (limit_fault kinds.Locals w.noted.local_past))))

@@ -1,10 +1,14 @@
--- Types have a test of sameness that is exact, so that an equation between them, or between lists of them, has at most one proof.
+-- Types have a test of sameness that is exact, as blocks and texts have, so that an equation between them, or between lists of them, has at
+-- most one proof.
 use Rattle.std.proofs.Common.{◌≡◌, Bool, true, false, ◌&&◌, ◌==◌, List, Option, refl, sym, ap, ◌∙◌}
 use Rattle.std.proofs.Props.{props}
 use Rattle.std.proofs.lemmas.Bool.Decides.{Decides-eqb}
 use Rattle.std.specs.Cmp.{first_so, second_so}
+use Rattle.std.specs.Cmp.Lexicographic.{bytes_decides}
 use mathlib.Core.HLevel.{hedberg}
+use Rattle.qs_syntax.specs.Sameness.{same_bytes}
 use Rattle.qs_types.specs.Limits.{Block}
+use Rattle.qs_types.specs.References.{TextBlock}
 use Rattle.qs_types.specs.Types.{TypeTree, int, unsigned, char, void, pointer, array, struct, Structs, same_type}
 
 same_self : (t : TypeTree) → same_type t t ≡ true
@@ -69,3 +73,30 @@ block_set = hedberg block_decided
 
 pub blocks_prop : (bs cs : List Block) → IsProp (bs ≡ cs)
 blocks_prop bs cs = hlevel (props, block_set)
+
+-- ---- the same of texts
+
+abbrev same_text : TextBlock → TextBlock → Bool
+same_text a b = (a.node == b.node) && same_bytes a.bytes b.bytes
+
+text_self : (a : TextBlock) → same_text a a ≡ true
+text_self a = ap (λ b. b && same_bytes a.bytes a.bytes) ((Decides-eqb a.node a.node).1 refl) ∙ (bytes_decides a.bytes a.bytes).1 refl
+
+text_is : (a b : TextBlock) → same_text a b ≡ true → a ≡ b
+text_is a b h =
+    let node = (Decides-eqb a.node b.node).0 (first_so (a.node == b.node) (same_bytes a.bytes b.bytes) h) in
+    let bytes = (bytes_decides a.bytes b.bytes).0 (second_so (a.node == b.node) (same_bytes a.bytes b.bytes) h) in
+    λ i. record { node = node i; bytes = bytes i }
+
+text_decided : Discrete TextBlock
+text_decided a b = by (same_text a b) refl
+  where
+    by : (t : Bool) → same_text a b ≡ t → Dec (a ≡ b)
+    by true e = yes (text_is a b e)
+    by false e = no (λ p. let differ : true ≡ false = sym (text_self a) ∙ ap (same_text a) p ∙ e in absurd (cc))
+
+text_set : IsSet TextBlock
+text_set = hedberg text_decided
+
+pub texts_prop : (ts us : List TextBlock) → IsProp (ts ≡ us)
+texts_prop ts us = hlevel (props, text_set)

@@ -17,13 +17,13 @@ use crate::declared_types::text_length;
 use crate::entity::Entity;
 use crate::judged::keeps;
 use crate::lengths::constant;
-use crate::operands::{is_assignable, is_lvalue, is_null_constant};
+use crate::operands::{is_assignable, is_lvalue};
 use crate::positions::Position;
 use crate::types::{decayed, is_array, is_scalar, is_struct};
 use crate::walk::Walk;
 use qs_base::NoMemory;
 use qs_syntax::{Expr, Initialiser, InitialiserList, Shape, UnaryOperator};
-use qs_types::{CType, Env, Rule};
+use qs_types::{CType, Env, Rule, is_null_constant};
 use std::alloc::Global;
 
 /// Whether an initialiser has a type, and whether it fits.

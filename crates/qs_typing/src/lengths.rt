@@ -9,14 +9,13 @@ ghost use Rattle.qs_typing.specs.ContextOf.{context_tree};
 ghost use Rattle.qs_typing.specs.DeclaredOf.{all_lengths, numbers, one_length};
 ghost use Rattle.qs_typing.specs.LengthsOf.{AreTyped, AreValued, ElementsAreTyped, ElementsAreValued, WalksGiven, WalksLengths, WholeTyped, is_length, is_length_typed};
 
-use crate::constants::{is_built, value};
 use crate::context::Context;
 use crate::positions::Position;
 use crate::types::{is_integer, is_unsigned};
 use crate::walk::Walk;
 use qs_base::NoMemory;
 use qs_syntax::{Expr, Lengths};
-use qs_types::CType;
+use qs_types::{CType, is_built, value};
 use std::alloc::Global;
 
 /// The lengths of an array, and whether they have types.
@@ -29,12 +28,13 @@ pub struct ArrayLengths {
 }
 
 /// The value of an expression of this type, if it is a constant expression (C11 6.6).
+#[tactic(auto, using(qs_types::proofs::KnownValues::value_known))]
 pub fn constant(c: &Context, e: &Expr, t: &CType) -> Option<u32>
     requires { Some (type_tree t.now) ≡ type_of (context_tree c.now) (expr_tree e.now) }
     ensures { result ≡ constant_of (context_tree c.now) (expr_tree e.now) }
 {
     if is_integer(t) && is_built(e) {
-        value(c, e)
+        value(c.structs(), c.tags(), e)
     } else {
         None
     }

@@ -2,7 +2,6 @@
 #![tactic(auto)]
 
 mod assignments;
-mod constants;
 mod context;
 mod declared_types;
 mod entity;
@@ -34,7 +33,7 @@ pub use context::{Context, is_void_base};
 pub use entity::{Entity, Referent, Signature};
 pub use expressions::walk_expression;
 pub use found::{Fault, Found};
-pub use noted::{Block, Local, Noted};
+pub use noted::{Block, Local, Noted, TextBlock};
 pub use positions::Position;
 pub use refusals::{TypeFault, check};
 pub use typed_unit::TypedUnit;

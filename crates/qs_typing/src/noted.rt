@@ -30,6 +30,16 @@ pub struct Block {
     pub size: u32,
 }
 
+/// A text that is a block of memory: its node, and its bytes without the zero at their end
+/// (C11 6.4.5p6).
+#[derive(Drop)]
+pub struct TextBlock {
+    /// The node.
+    pub node: u32,
+    /// The bytes.
+    pub bytes: Vec<u8>,
+}
+
 /// A local or parameter.
 #[derive(Clone, Copy)]
 pub struct Local {
@@ -44,7 +54,7 @@ pub struct Local {
 #[derive(Drop)]
 pub struct Noted {
     pub calls: Vec<Name>,
-    pub texts: Vec<Block>,
+    pub texts: Vec<TextBlock>,
     pub globals: Vec<Block>,
     pub locals: Vec<Local>,
     pub local_past: Option<u32>,

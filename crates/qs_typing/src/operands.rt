@@ -1,13 +1,13 @@
 // Words of the rules on operands (C11 6.3.2, 6.5).
 ghost use Rattle.std.specs.Prelude.{◌≡◌};
 ghost use Rattle.qs_syntax.specs.TreeOf.{expr_tree, shape_tree};
-ghost use Rattle.qs_types.specs.Expressions.{is_lvalue, is_lvalue_shape, is_null_constant, is_assignable, may_cast};
+ghost use Rattle.qs_types.specs.Expressions.{is_lvalue, is_lvalue_shape, is_assignable, may_cast};
 ghost use Rattle.qs_types.specs.TypeOf.{type_tree};
 ghost use Rattle.qs_typing.specs.Judging.{are_alike};
 
 use crate::types::{both_integers, is_pointer, same_pointers};
 use qs_syntax::{Access, Expr, Shape, UnaryOperator};
-use qs_types::CType;
+use qs_types::{CType, is_null_constant};
 
 /// Whether it is an lvalue (C11 6.3.2.1p1).
 #[cycle(is_lvalue)]
@@ -46,29 +46,6 @@ fn is_lvalue_shape(shape: &Shape) -> bool
             Access::Dot => is_lvalue(object),
             Access::Arrow => true,
         },
-        Shape::Call(_, _) => false,
-    }
-}
-
-/// Whether it is an integer literal of value 0 (C11 6.3.2.3p3).
-pub fn is_null_constant(e: &Expr) -> bool
-    ensures { result ≡ is_null_constant (expr_tree e.now) }
-{
-    match &e.shape {
-        Shape::Constant(n, _) => *n == 0,
-        Shape::Text(_) => false,
-        Shape::Name(_) => false,
-        Shape::Unary(_, _) => false,
-        Shape::Step(_, _) => false,
-        Shape::Cast(_, _) => false,
-        Shape::SizeofType(_) => false,
-        Shape::SizeofExpr(_) => false,
-        Shape::Binary { .. } => false,
-        Shape::Assign { .. } => false,
-        Shape::Conditional { .. } => false,
-        Shape::Comma(_, _) => false,
-        Shape::Subscript(_, _) => false,
-        Shape::Member { .. } => false,
         Shape::Call(_, _) => false,
     }
 }

@@ -8,6 +8,7 @@ ghost use Rattle.qs_types.specs.WellTyped as well_typed;
 ghost use Rattle.qs_typing.specs.ContextOf.{context_tree};
 ghost use Rattle.qs_typing.specs.Checking.{IsEnd, IsFirstPast, IsLate, IsUndefined, WalksUnit};
 ghost use Rattle.qs_typing.specs.EntityOf.{entity_at};
+ghost use Rattle.qs_typing.specs.Noting.{AreTextBlocks, IsTextBlock};
 ghost use Rattle.qs_typing.specs.Refusals.{IsAccepted, IsTold, early_refusal, first_past, has_main_in, limit_fault};
 ghost use Rattle.qs_typing.specs.Sets.{names_once};
 ghost use Rattle.qs_typing.specs.TypedOf.{typed_tree};
@@ -15,7 +16,7 @@ ghost use Rattle.qs_typing.specs.declared.refusals.TypeFault.TheVariants as faul
 
 use crate::context::Context;
 use crate::entity::Entity;
-use crate::noted::{Block, GLOBAL_LIMIT, Noted, block_past};
+use crate::noted::{Block, GLOBAL_LIMIT, Noted, TextBlock, block_past};
 use crate::typed_unit::TypedUnit;
 use crate::units::walk_declarations;
 use crate::walk::Walk;
@@ -115,11 +116,36 @@ fn first_past_parameters(ds: &[Decl]) -> Option<u32>
     None
 }
 
+/// The block of a text: its bytes and a zero (C11 6.4.5p6).
+fn text_block(t: &TextBlock) -> Result<Block, NoMemory>
+    ensures { IfOk result (IsTextBlock t.now) }
+{
+    let len = t.bytes.len();
+    if len >= u32::MAX as usize {
+        return Err(NoMemory);
+    }
+    Ok(Block {
+        node: t.node,
+        size: len as u32 + 1,
+    })
+}
+
+fn text_blocks(alloc: Global, ts: &[TextBlock]) -> Result<Vec<Block>, NoMemory>
+    ensures { IfOk result (λ bs. AreTextBlocks ts.now bs.items) }
+{
+    let mut blocks = Vec::new(alloc);
+    for t in ts {
+        blocks.push(text_block(t)?)?;
+    }
+    Ok(blocks)
+}
+
 fn first_past_globals(alloc: Global, noted: &Noted) -> Result<Option<u32>, NoMemory>
     ensures { IfOk result (IsFirstPast noted.now) }
 {
     let mut blocks: Vec<Block> = Vec::from_slice(alloc, &noted.globals)?;
-    blocks.extend_from_slice(&noted.texts)?;
+    let texts = text_blocks(alloc, &noted.texts)?;
+    blocks.extend_from_slice(&texts)?;
     Ok(block_past(GLOBAL_LIMIT, &blocks))
 }
 

@@ -4,7 +4,7 @@ ghost use Rattle.qs_syntax.specs.TreeOf.{expr_tree, exprs_tree};
 ghost use Rattle.qs_types.specs.References.{expr_calls, exprs_calls};
 ghost use Rattle.qs_typing.specs.Noting.{AddsAllTexts, AddsCalls, AddsShapeTexts, AddsText, AddsTexts, NotesSite};
 
-use crate::noted::{Block, Noted};
+use crate::noted::{Noted, TextBlock};
 use qs_base::{Name, NoMemory};
 use qs_syntax::{Expr, Shape, Text};
 use std::alloc::Global;
@@ -76,74 +76,80 @@ fn note_all_calls(alloc: Global, es: &[Expr], calls: &mut Vec<Name>) -> Result<(
 
 // ---- texts
 
-fn note_text(node: u32, text: &Text, texts: &mut Vec<Block>) -> Result<(), NoMemory>
+fn note_text(
+    alloc: Global,
+    node: u32,
+    text: &Text,
+    texts: &mut Vec<TextBlock>,
+) -> Result<(), NoMemory>
     ensures { OnOk result (AddsText node text.now texts.old.items texts.new.items) }
 {
-    let len = text.bytes().len();
-    if len >= u32::MAX as usize {
-        return Err(NoMemory);
-    }
-    let size = len as u32 + 1;
-    texts.push(Block { node, size })?;
+    let bytes = Vec::from_slice(alloc, text.bytes())?;
+    texts.push(TextBlock { node, bytes })?;
     Ok(())
 }
 
 #[cycle(note_texts)]
-fn note_texts(e: &Expr, texts: &mut Vec<Block>) -> Result<(), NoMemory>
+fn note_texts(alloc: Global, e: &Expr, texts: &mut Vec<TextBlock>) -> Result<(), NoMemory>
     ensures { OnOk result (AddsTexts e.now texts.old.items texts.new.items) }
 {
-    note_shape_texts(e.node.id, &e.shape, texts)
+    note_shape_texts(alloc, e.node.id, &e.shape, texts)
 }
 
 #[cycle(note_texts)]
-fn note_shape_texts(node: u32, shape: &Shape, texts: &mut Vec<Block>) -> Result<(), NoMemory>
+fn note_shape_texts(
+    alloc: Global,
+    node: u32,
+    shape: &Shape,
+    texts: &mut Vec<TextBlock>,
+) -> Result<(), NoMemory>
     ensures { OnOk result (AddsShapeTexts node shape.now texts.old.items texts.new.items) }
 {
     match shape {
         Shape::Constant(_, _) => Ok(()),
-        Shape::Text(text) => note_text(node, text, texts),
+        Shape::Text(text) => note_text(alloc, node, text, texts),
         Shape::Name(_) => Ok(()),
-        Shape::Unary(_, a) => note_texts(a, texts),
-        Shape::Step(_, a) => note_texts(a, texts),
-        Shape::Cast(_, a) => note_texts(a, texts),
+        Shape::Unary(_, a) => note_texts(alloc, a, texts),
+        Shape::Step(_, a) => note_texts(alloc, a, texts),
+        Shape::Cast(_, a) => note_texts(alloc, a, texts),
         Shape::SizeofType(_) => Ok(()),
-        Shape::SizeofExpr(a) => note_texts(a, texts),
+        Shape::SizeofExpr(a) => note_texts(alloc, a, texts),
         Shape::Binary { left, right, .. } => {
-            note_texts(left, texts)?;
-            note_texts(right, texts)
+            note_texts(alloc, left, texts)?;
+            note_texts(alloc, right, texts)
         }
         Shape::Assign { left, right, .. } => {
-            note_texts(left, texts)?;
-            note_texts(right, texts)
+            note_texts(alloc, left, texts)?;
+            note_texts(alloc, right, texts)
         }
         Shape::Conditional {
             condition,
             then,
             otherwise,
         } => {
-            note_texts(condition, texts)?;
-            note_texts(then, texts)?;
-            note_texts(otherwise, texts)
+            note_texts(alloc, condition, texts)?;
+            note_texts(alloc, then, texts)?;
+            note_texts(alloc, otherwise, texts)
         }
         Shape::Comma(a, b) => {
-            note_texts(a, texts)?;
-            note_texts(b, texts)
+            note_texts(alloc, a, texts)?;
+            note_texts(alloc, b, texts)
         }
         Shape::Subscript(a, b) => {
-            note_texts(a, texts)?;
-            note_texts(b, texts)
+            note_texts(alloc, a, texts)?;
+            note_texts(alloc, b, texts)
         }
-        Shape::Member { object, .. } => note_texts(object, texts),
-        Shape::Call(_, es) => note_all_texts(es, texts),
+        Shape::Member { object, .. } => note_texts(alloc, object, texts),
+        Shape::Call(_, es) => note_all_texts(alloc, es, texts),
     }
 }
 
 #[cycle(note_texts)]
-fn note_all_texts(es: &[Expr], texts: &mut Vec<Block>) -> Result<(), NoMemory>
+fn note_all_texts(alloc: Global, es: &[Expr], texts: &mut Vec<TextBlock>) -> Result<(), NoMemory>
     ensures { OnOk result (AddsAllTexts es.now texts.old.items texts.new.items) }
 {
     for e in es {
-        note_texts(e, texts)?;
+        note_texts(alloc, e, texts)?;
     }
     Ok(())
 }
@@ -156,7 +162,7 @@ impl Noted {
     {
         note_calls(alloc, e, &mut self.calls)?;
         if !fills_array {
-            note_texts(e, &mut self.texts)?;
+            note_texts(alloc, e, &mut self.texts)?;
         }
         Ok(())
     }

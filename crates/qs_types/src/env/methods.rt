@@ -35,7 +35,14 @@ impl Env {
     pub fn layout_of(&self, k: u32) -> Option<&StructLayout>
         ensures { option_map (λ l. layout_tree l.now) result ≡ layout_of (env_tree self.now) k }
     {
-        match self.structs.get(k as usize) {
+        self.layout_at(k as usize)
+    }
+
+    /// The layout of the struct at a place, if it has members.
+    pub fn layout_at(&self, place: usize) -> Option<&StructLayout>
+        ensures { option_map (λ l. layout_tree l.now) result ≡ layout_of (env_tree self.now) place }
+    {
+        match self.structs.get(place) {
             Some(structure) => structure.layout.as_ref(),
             None => None,
         }

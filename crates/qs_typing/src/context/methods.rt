@@ -17,7 +17,7 @@ use crate::scopes::Scopes;
 use indexmap::{IndexMap, IndexSet};
 use qs_base::{Name, NoMemory};
 use qs_syntax::{Base, TypeName};
-use qs_types::{CType, Env};
+use qs_types::{CType, Env, tag_place};
 use std::alloc::Global;
 use std::mem;
 
@@ -110,7 +110,14 @@ impl Context {
         &self.structs
     }
 
-    /// The structs alone.
+    /// The tags of the structs, each at the number of its struct (C11 6.7.2.3).
+    pub fn tags(&self) -> &IndexSet<Name>
+        ensures { result.now.keys ≡ (context_tree self.now).tags }
+    {
+        &self.tags
+    }
+
+    /// The structs with their tags.
     pub fn into_structs(self) -> (Env, IndexSet<Name>)
         ensures structs { env_tree result.0 ≡ (context_tree self).structs }
         ensures tags { result.1.keys ≡ (context_tree self).tags }
@@ -195,7 +202,7 @@ impl Context {
     pub fn tag_place(&self, tag: &Name) -> Option<u32>
         ensures { result ≡ tag_place (context_tree self.now) tag.now }
     {
-        match self.tags.get_index_of(tag) {
+        match tag_place(&self.tags, tag) {
             Some(place) => Some(place as u32),
             None => None,
         }

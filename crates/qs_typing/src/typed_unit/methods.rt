@@ -3,7 +3,8 @@ ghost use Rattle.std.specs.Prelude.{◌≡◌, map, option_map};
 ghost use Rattle.qs_syntax.specs.UnitTrees.{unit_tree};
 ghost use Rattle.qs_types.specs.EnvOf.{env_tree};
 ghost use Rattle.qs_types.specs.Limits.{KeepsLimits};
-ghost use Rattle.qs_types.specs.Recorded.{global_blocks, tags_of, text_blocks};
+ghost use Rattle.qs_types.specs.Recorded.{global_blocks, tags_of};
+ghost use Rattle.qs_types.specs.References.{literal_blocks};
 ghost use Rattle.qs_types.specs.TypeOf.{type_tree};
 ghost use Rattle.qs_types.specs.UnitRules.{structs_of};
 ghost use Rattle.qs_types.specs.WellTyped.{end_context};
@@ -12,7 +13,7 @@ ghost use Rattle.qs_typing.specs.ContextOf.{context_tree};
 ghost use Rattle.qs_typing.specs.ExprFindings.{referent_of};
 ghost use Rattle.qs_typing.specs.NodeReferents.{no_referent, unit_addressed, unit_referents};
 ghost use Rattle.qs_typing.specs.NodeTypes.{AreTypesByNumber, unit_types};
-ghost use Rattle.qs_typing.specs.NotedOf.{block_tree};
+ghost use Rattle.qs_typing.specs.NotedOf.{block_tree, text_tree};
 ghost use Rattle.qs_typing.specs.Refusals.{IsAccepted};
 ghost use Rattle.qs_typing.specs.TypedOf.{typed_tree};
 ghost use Rattle.qs_typing.specs.UnitWalk.{unit_walked};
@@ -21,7 +22,7 @@ ghost use Rattle.qs_typing.specs.WalkOf.{walk_tree};
 use super::TypedUnit;
 use crate::context::Context;
 use crate::entity::Referent;
-use crate::noted::Block;
+use crate::noted::{Block, TextBlock};
 use crate::walk::Walk;
 use indexmap::IndexSet;
 use qs_base::Name;
@@ -105,9 +106,10 @@ impl TypedUnit {
         &self.globals
     }
 
-    /// The texts that are blocks of memory with their sizes, in the order of the text (C11 6.4.5p6).
-    pub fn texts(&self) -> &[Block]
-        ensures { map block_tree result.now ≡ text_blocks (typed_tree self.now) }
+    /// The texts that are blocks of memory, all but those that fill an array of file scope, in the order of
+    /// the text (C11 6.4.5p6).
+    pub fn texts(&self) -> &[TextBlock]
+        ensures { map text_tree result.now ≡ literal_blocks (typed_tree self.now) }
     {
         &self.texts
     }

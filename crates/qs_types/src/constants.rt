@@ -1,13 +1,17 @@
 // Constant expressions (C11 6.6): how they are built, and their values.
 ghost use Rattle.std.specs.Prelude.{◌≡◌};
 ghost use Rattle.qs_syntax.specs.TreeOf.{expr_tree, shape_tree};
-ghost use Rattle.qs_types.specs.Layout.{and_then};
 ghost use Rattle.qs_types.specs.Constants as constants;
-ghost use Rattle.qs_typing.specs.ContextOf.{context_tree};
-ghost use Rattle.qs_typing.specs.NameJudging.{base_in, converted_in, named_in, size_in};
+ghost use Rattle.qs_types.specs.Constants.{shape_value, value_of};
+ghost use Rattle.qs_types.specs.Contexts.{context_with};
+ghost use Rattle.qs_types.specs.EnvOf.{env_tree};
+ghost use Rattle.qs_types.specs.Expressions as expressions;
+ghost use Rattle.qs_types.specs.KnownTypes.{base_size, converted_known, is_known_base, known_in, named_size};
 
-use crate::context::Context;
-use qs_base::{add32, divs32, divu32, mul32, rems32, remu32, sll32, sra32, srl32, sub32};
+use crate::env::Env;
+use crate::tags::tag_place;
+use indexmap::IndexSet;
+use qs_base::{Name, add32, divs32, divu32, mul32, rems32, remu32, sll32, sra32, srl32, sub32};
 use qs_syntax::{Base, BinaryOperator, Expr, Shape, TypeName, UnaryOperator};
 
 // ---- names of integer types
@@ -79,6 +83,29 @@ fn is_built_shape(shape: &Shape) -> bool
             then,
             otherwise,
         } => is_built(condition) && is_built(then) && is_built(otherwise),
+        Shape::Comma(_, _) => false,
+        Shape::Subscript(_, _) => false,
+        Shape::Member { .. } => false,
+        Shape::Call(_, _) => false,
+    }
+}
+
+/// Whether it is an integer literal of value 0 (C11 6.3.2.3p3).
+pub fn is_null_constant(e: &Expr) -> bool
+    ensures { result ≡ expressions.is_null_constant (expr_tree e.now) }
+{
+    match &e.shape {
+        Shape::Constant(n, _) => *n == 0,
+        Shape::Text(_) => false,
+        Shape::Name(_) => false,
+        Shape::Unary(_, _) => false,
+        Shape::Step(_, _) => false,
+        Shape::Cast(_, _) => false,
+        Shape::SizeofType(_) => false,
+        Shape::SizeofExpr(_) => false,
+        Shape::Binary { .. } => false,
+        Shape::Assign { .. } => false,
+        Shape::Conditional { .. } => false,
         Shape::Comma(_, _) => false,
         Shape::Subscript(_, _) => false,
         Shape::Member { .. } => false,
@@ -287,11 +314,28 @@ fn unary_value(operator: UnaryOperator, a: u32) -> Option<u32>
 
 // ---- type names
 
-/// A value converted to the named type (C11 6.3.1.3).
-fn converted(context: &Context, name: &TypeName, n: u32) -> Option<u32>
-    ensures { result ≡ converted_in context.now name.now n }
+/// Whether the type that a declaration begins with is known: a struct whose tag is declared
+/// (C11 6.7.2.3), or no struct.
+fn is_known(tags: &IndexSet<Name>, base: &Base) -> bool
+    ensures { result ≡ is_known_base tags.now.keys base.now }
 {
-    context.base_type(&name.base)?;
+    match base {
+        Base::Void => true,
+        Base::Int => true,
+        Base::Unsigned => true,
+        Base::Char => true,
+        Base::Struct(tag) => tag_place(tags, tag).is_some(),
+    }
+}
+
+/// A value converted to the named type (C11 6.3.1.3).
+#[tactic(auto, using(crate::proofs::KnownValues::pointer_converted))]
+fn converted(tags: &IndexSet<Name>, name: &TypeName, n: u32) -> Option<u32>
+    ensures { result ≡ converted_known tags.now.keys name.now n }
+{
+    if !is_known(tags, &name.base) {
+        return None;
+    }
     if name.stars > 0 {
         return Some(n);
     }
@@ -304,8 +348,8 @@ fn converted(context: &Context, name: &TypeName, n: u32) -> Option<u32>
     }
 }
 
-fn base_size(context: &Context, base: &Base) -> Option<u32>
-    ensures { result ≡ and_then (base_in context.now base.now) (size_in context.now) }
+fn base_size(env: &Env, tags: &IndexSet<Name>, base: &Base) -> Option<u32>
+    ensures { result ≡ base_size env.now tags.now.keys base.now }
 {
     match base {
         Base::Void => None,
@@ -313,55 +357,62 @@ fn base_size(context: &Context, base: &Base) -> Option<u32>
         Base::Unsigned => Some(4),
         Base::Char => Some(1),
         Base::Struct(tag) => {
-            let k = context.tag_place(tag)?;
-            Some(context.structs().layout_of(k)?.size)
+            let k = tag_place(tags, tag)?;
+            Some(env.layout_at(k)?.size)
         }
     }
 }
 
 /// The size of the named type (C11 6.5.3.4).
-fn named_size(context: &Context, name: &TypeName) -> Option<u32>
-    ensures { result ≡ and_then (named_in context.now name.now) (size_in context.now) }
+#[tactic(auto, using(crate::proofs::KnownValues::pointer_size))]
+fn named_size(env: &Env, tags: &IndexSet<Name>, name: &TypeName) -> Option<u32>
+    ensures { result ≡ named_size env.now tags.now.keys name.now }
 {
     if name.stars > 0 {
-        context.base_type(&name.base)?;
-        return Some(4);
+        return if is_known(tags, &name.base) {
+            Some(4)
+        } else {
+            None
+        };
     }
-    base_size(context, &name.base)
+    base_size(env, tags, &name.base)
 }
 
 // ---- values
 
-/// The value, where it is defined; a part that isn't evaluated needs none.
+/// The value, where it is defined; a part that isn't evaluated needs none. Its type names may speak of
+/// these structs, which have these tags.
 #[cycle(value)]
-pub fn value(context: &Context, e: &Expr) -> Option<u32>
-    ensures { result ≡ constants.value_of (context_tree context.now) (expr_tree e.now) }
+pub fn value(env: &Env, tags: &IndexSet<Name>, e: &Expr) -> Option<u32>
+    ensures { result ≡ value_of (context_with (env_tree env.now) tags.now.keys) (expr_tree e.now) }
 {
-    shape_value(context, &e.shape)
+    shape_value(env, tags, &e.shape)
 }
 
 #[cycle(value)]
-fn shape_value(context: &Context, shape: &Shape) -> Option<u32>
-    ensures { result ≡ constants.shape_value (context_tree context.now) (shape_tree shape.now) }
+fn shape_value(env: &Env, tags: &IndexSet<Name>, shape: &Shape) -> Option<u32>
+    ensures { result ≡ shape_value (known_in env.now tags.now.keys) (shape_tree shape.now) }
 {
     match shape {
         Shape::Constant(n, _) => Some(*n),
         Shape::Text(_) => None,
         Shape::Name(_) => None,
-        Shape::Unary(operator, a) => unary_value(*operator, value(context, a)?),
+        Shape::Unary(operator, a) => unary_value(*operator, value(env, tags, a)?),
         Shape::Step(_, _) => None,
         Shape::Cast(name, a) => {
-            context.base_type(&name.base)?;
-            converted(context, name, value(context, a)?)
+            if !is_known(tags, &name.base) {
+                return None;
+            }
+            converted(tags, name, value(env, tags, a)?)
         }
-        Shape::SizeofType(name) => named_size(context, name),
+        Shape::SizeofType(name) => named_size(env, tags, name),
         Shape::SizeofExpr(_) => None,
         Shape::Binary {
             operator,
             left,
             right,
         } => {
-            let x = value(context, left)?;
+            let x = value(env, tags, left)?;
             if decides(*operator, x) {
                 return Some(truth(is_true(x)));
             }
@@ -370,7 +421,7 @@ fn shape_value(context: &Context, shape: &Shape) -> Option<u32>
                 is_unsigned(left),
                 is_unsigned(right),
                 x,
-                value(context, right)?,
+                value(env, tags, right)?,
             )
         }
         Shape::Assign { .. } => None,
@@ -379,10 +430,10 @@ fn shape_value(context: &Context, shape: &Shape) -> Option<u32>
             then,
             otherwise,
         } => {
-            if is_true(value(context, condition)?) {
-                value(context, then)
+            if is_true(value(env, tags, condition)?) {
+                value(env, tags, then)
             } else {
-                value(context, otherwise)
+                value(env, tags, otherwise)
             }
         }
         Shape::Comma(_, _) => None,

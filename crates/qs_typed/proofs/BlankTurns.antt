@@ -1,5 +1,5 @@
 -- Blanks of structs, one member at a time.
-use Rattle.std.proofs.Common.{◌≡◌, ℕ, zero, suc, ◌+◌, ◌-◌, ◌<◌, ◌≤◌, List, [], ◌∷◌, ◌++◌, Option, Some, None, length, map, drop, refl, sym, ap, ◌∙◌, add-one, arith}
+use Rattle.std.proofs.Common.{◌≡◌, ℕ, zero, suc, ◌+◌, ◌-◌, ◌<◌, ◌≤◌, List, [], ◌∷◌, ◌++◌, Option, Some, length, map, drop, sym, ap, ◌∙◌, add-one, arith}
 use Rattle.std.specs.List.{slice_get}
 use Rattle.qs_memory.specs.Partial.{◌>>=◌}
 use Rattle.qs_memory.specs.Memory.{BlankTree, zeros, nothing, joined}
@@ -10,7 +10,7 @@ use Rattle.qs_types.specs.Layout.{StructLayout, size_of, struct_of, layout_of}
 use Rattle.qs_types.specs.StructsOf.{member_tree}
 use Rattle.qs_types.specs.TypeOf.{type_tree}
 use Rattle.qs_meaning.specs.Blanks.{Blanks, blank_by, members_blank, struct_blank, blanks_within}
-use Rattle.qs_typed.specs.Behind.{before, behind}
+use Rattle.qs_typed.specs.Behind.{behind}
 use Rattle.qs_typed.proofs.Kept as options
 use Rattle.qs_typed.proofs.Loops.{before_more, drop_past, all_blanks, member_turn}
 

@@ -5,7 +5,6 @@ use Rattle.std.specs.List.{slice_get}
 use Rattle.std.proofs.lemmas.Option.{slice_get-map}
 use Rattle.qs_memory.specs.Partial.{◌>>=◌}
 use Rattle.qs_types.specs.declared.types.CType.{CType}
-use Rattle.qs_types.specs.Types.{TypeTree}
 use Rattle.qs_types.specs.TypeOf.{type_tree}
 use Rattle.qs_typed.specs.Known.{at_number}
 

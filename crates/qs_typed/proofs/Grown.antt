@@ -1,5 +1,5 @@
 -- What is made with the structs of a place is made with those of the unit.
-use Rattle.std.proofs.Common.{◌≡◌, ℕ, Bool, true, false, List, Option, Some, None, refl, sym, ap, ◌∙◌, if◌then◌else◌}
+use Rattle.std.proofs.Common.{ℕ, List, Option, Some}
 use Rattle.std.specs.List.{slice_get}
 use Rattle.qs_memory.specs.Partial.{◌>>=◌}
 use Rattle.qs_syntax.specs.declared.operators.StepOperator.{StepOperator}
@@ -13,12 +13,12 @@ use Rattle.qs_syntax.specs.declared.operators.Access.TheVariants as accesses
 use Rattle.qs_memory.specs.declared.operation.Arithmetic.TheVariants as arithmetics
 use Rattle.qs_memory.specs.declared.operation.Direction.TheVariants.{Up, Down}
 use Rattle.qs_types.specs.declared.extent.Extent.{Extent}
-use Rattle.qs_types.specs.Types.{TypeTree, int, unsigned, char, void, pointer, array, struct, is_pointer, is_struct, referenced, MemberTree, Structs}
-use Rattle.qs_types.specs.Layout.{and_then, extent_of, size_of, layout_of, offset_of, struct_of, StructLayout}
+use Rattle.qs_types.specs.Types.{TypeTree, int, unsigned, char, void, pointer, array, struct, is_pointer, is_struct, referenced, Structs}
+use Rattle.qs_types.specs.Layout.{extent_of, size_of, layout_of, offset_of, struct_of, StructLayout}
 use Rattle.qs_meaning.specs.Operations.{Operated, operation_of, combined, moved, moved_from_left, apart, element_size, summed, subtracted}
 use Rattle.qs_meaning.specs.Forms.{Form, result, TypedExpr, lvalue_of, address_of, struct_assignment, type_in_use, value_in_use}
 use Rattle.qs_meaning.specs.Typed as typed_trees
-use Rattle.qs_meaning.specs.Expressions.{object_at, operated, operator_value, subscript_form, member_number, member_offset, member_form, dot_form, arrow_form, set_form, struct_form, plain_form, updated, compound_form, assign_form, one, after_form, step_after_form, step_form, size_form, operator_form, binary_form}
+use Rattle.qs_meaning.specs.Expressions.{object_at, operated, operator_value, subscript_form, member_number, member_offset, member_form, set_form, struct_form, plain_form, updated, compound_form, assign_form, one, after_form, step_after_form, step_form, size_form, operator_form, binary_form}
 use Rattle.qs_typed.specs.Known.{sized}
 use Rattle.qs_typed.specs.Agrees.{Keeps, Grown}
 use Rattle.qs_typed.proofs.Kept.{kept, then_kept, is_kept, choice_kept}

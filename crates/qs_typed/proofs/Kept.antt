@@ -1,5 +1,5 @@
 -- What goes on from what is kept is kept.
-use Rattle.std.proofs.Common.{◌≡◌, ℕ, Bool, true, false, Option, Some, None, refl, sym, ap, ◌∙◌, if◌then◌else◌}
+use Rattle.std.proofs.Common.{◌≡◌, Bool, true, false, Option, Some, None, refl, ap, ◌∙◌, if◌then◌else◌}
 use Rattle.qs_memory.specs.Partial.{◌>>=◌}
 use Rattle.qs_types.specs.Layout.{and_then}
 use Rattle.qs_typed.specs.Agrees.{Keeps}

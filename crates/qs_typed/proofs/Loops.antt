@@ -6,9 +6,7 @@ use Rattle.std.proofs.lemmas.List.{map-append}
 use Rattle.qs_memory.specs.Partial.{◌>>=◌}
 use Rattle.qs_memory.specs.declared.scalar.Scalar.{Scalar}
 use Rattle.qs_syntax.specs.declared.expressions.Expr.{Expr}
-use Rattle.qs_syntax.specs.declared.statements.Stmt.{Stmt}
-use Rattle.qs_syntax.specs.declared.declarations.Variable.{Variable}
-use Rattle.qs_syntax.specs.TreeOf.{expr_tree, exprs_tree, stmt_tree, stmts_tree, variable_tree}
+use Rattle.qs_syntax.specs.TreeOf.{expr_tree, exprs_tree}
 use Rattle.qs_meaning.specs.Typed as trees
 use Rattle.qs_meaning.specs.Forms.{TypedExpr}
 use Rattle.qs_typed.specs.TreeOf.{ArgumentTree, arguments_of, each_of, statements_of}
@@ -20,15 +18,11 @@ use Rattle.qs_types.specs.Layout.{size_of}
 use Rattle.qs_types.specs.InitialiserRules.{part_type}
 use Rattle.qs_meaning.specs.Blanks.{Blanks, blank_by, members_blank}
 use Rattle.qs_meaning.specs.Initialisers.{part_offset, Piece, pieces, pieces_from}
-use Rattle.qs_syntax.specs.Trees.{ParameterTree}
-use Rattle.qs_calls.specs.declared.parameter.Parameter.{Parameter}
 use Rattle.qs_types.specs.Placed.{Local}
 use Rattle.qs_meaning.specs.Conversions.{scalar_of}
-use Rattle.qs_meaning.specs.Units.{scalars_of, sizes_of}
-use Rattle.qs_typed.specs.KnownFunctions.{parameter_known, parameters_known}
+use Rattle.qs_meaning.specs.Units.{scalars_of}
 use Rattle.qs_typed.specs.Behind.{before, behind, followed}
 use Rattle.qs_typed.specs.Known.{Known, known, with_conversion, with_argument, arguments_known}
-use Rattle.qs_typed.specs.KnownStatements.{statement_known, statements_known, variable_known, variables_known, piece_set_known, pieces_set_known}
 
 -- ---- one element more
 

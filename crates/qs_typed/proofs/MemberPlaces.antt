@@ -1,11 +1,11 @@
 -- Members of structs by their places.
-use Rattle.std.proofs.Common.{◌≡◌, ℕ, ◌+◌, List, [], ◌∷◌, Option, Some, None, map, option_map, refl, sym, ap, ◌∙◌, if◌then◌else◌}
+use Rattle.std.proofs.Common.{◌≡◌, ℕ, ◌+◌, List, [], ◌∷◌, Option, Some, map, option_map, refl, sym, ap, ◌∙◌, if◌then◌else◌}
 use Rattle.std.specs.Prelude.{position}
 use Rattle.std.specs.List.{slice_get}
 use Rattle.std.proofs.lemmas.Option.{slice_get-map}
 use Rattle.qs_memory.specs.Partial.{◌>>=◌}
 use Rattle.qs_syntax.specs.Sameness.{same_bytes}
-use Rattle.qs_types.specs.Types.{TypeTree, struct, MemberTree, Structs}
+use Rattle.qs_types.specs.Types.{struct, MemberTree, Structs}
 use Rattle.qs_types.specs.Contexts.{place_from}
 use Rattle.qs_types.specs.InitialiserRules.{member_at}
 use Rattle.qs_types.specs.Layout.{and_then, offset_of, struct_of}

@@ -1,6 +1,6 @@
 -- Places in tables and in lists.
 use Rattle.std.proofs.Common.{◌≡◌, ℕ, zero, suc, ◌+◌, ◌<◌, Bool, true, false, not, ◌||◌, List, [], ◌∷◌, Option, Some, None, length, nat_lt, nat_eq, cond, refl, sym, ap, ◌∙◌, append_assoc, arith, if◌then◌else◌}
-use Rattle.std.specs.Prelude.{◌==◌, map, position}
+use Rattle.std.specs.Prelude.{◌==◌, position}
 use Rattle.std.specs.List.{position_or_len, list_any}
 use Rattle.std.specs.Map.{lookup}
 use Rattle.std.specs.Prelude.{Vec}
@@ -11,15 +11,15 @@ use Rattle.std.proofs.lemmas.Cmp.{nat_list_eq_equiv, nat_eq_equiv}
 use Rattle.qs_memory.specs.Partial.{◌>>=◌}
 use Rattle.qs_syntax.specs.Sameness.{same_bytes}
 use Rattle.qs_syntax.specs.declared.types.TypeName.{TypeName}
-use Rattle.qs_types.specs.Types.{TypeTree, struct, pointer, Structs}
+use Rattle.qs_types.specs.Types.{TypeTree, Structs}
 use Rattle.qs_types.specs.Layout.{and_then, size_of}
-use Rattle.qs_types.specs.Contexts.{place_from, pointers, base_type}
+use Rattle.qs_types.specs.Contexts.{place_from, pointers}
 use Rattle.qs_types.specs.Placed.{is_one_of}
 use Rattle.qs_meaning.specs.Names.{place_where, place_among, function_number}
 use Rattle.qs_meaning.specs.Expressions.{size_form}
-use Rattle.qs_typed.specs.Known.{Known, with_tags, base_known, named_known, named_size_known, sized, parameters_of}
+use Rattle.qs_typed.specs.Known.{Known, base_known, named_known, named_size_known, sized, parameters_of}
 use Rattle.qs_typed.specs.KnownOf.{headers_tree}
-use Rattle.std.specs.Prelude.{◌++◌, filter}
+use Rattle.std.specs.Prelude.{◌++◌}
 use Rattle.std.proofs.lemmas.List.Elements.{filter-append}
 use Rattle.qs_types.specs.Placed.{Local, is_placed}
 use Rattle.qs_meaning.specs.Names.{Locals}

@@ -1,8 +1,8 @@
 -- Sizes of types.
-use Rattle.std.proofs.Common.{◌≡◌, ◌≢◌, ℕ, zero, suc, Bool, true, false, Option, Some, None, nat_le, refl, sym, ap, ◌∙◌, if◌then◌else◌}
+use Rattle.std.proofs.Common.{◌≡◌, Bool, true, false, Option, Some, None, nat_le, refl, sym, ap, ◌∙◌, if◌then◌else◌}
 use Rattle.qs_types.specs.declared.extent.Extent.{Extent}
 use Rattle.qs_types.specs.Types.{TypeTree, int, unsigned, char, void, pointer, array, struct, Structs}
-use Rattle.qs_types.specs.Layout.{and_then, Layouts, StructLayout, extent_by, extent_of, size_of, sized_by, layout_of, extent_within, array_extent, struct_extent, size_limit}
+use Rattle.qs_types.specs.Layout.{and_then, Layouts, StructLayout, extent_by, extent_of, sized_by, layout_of, extent_within, array_extent, struct_extent, size_limit}
 
 same : {A : Type 0} (x y : A) → Some x ≡ Some y → x ≡ y
 same x y e = cc

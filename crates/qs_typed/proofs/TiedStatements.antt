@@ -1,27 +1,25 @@
 -- Where the definition gives a statement a typed tree, what is known by the numbers of its nodes gives the same.
-use Rattle.std.proofs.Common.{◌≡◌, ℕ, ◌+◌, ◌*◌, Bool, true, false, List, [], ◌∷◌, ◌++◌, Option, Some, None, map, option_map, nat_lt, refl, sym, ap, ◌∙◌, subst, if◌then◌else◌}
-use Rattle.std.specs.List.{slice_get}
+use Rattle.std.proofs.Common.{◌≡◌, ℕ, ◌+◌, ◌*◌, List, [], ◌∷◌, ◌++◌, Option, Some, None, refl, ap, ◌∙◌, subst}
 use Rattle.qs_memory.specs.Partial.{◌>>=◌}
-use Rattle.qs_memory.specs.declared.scalar.Scalar.{Scalar}
 use Rattle.qs_syntax.specs.declared.types.Base.{Base}
 use Rattle.qs_syntax.specs.Trees.{ExprTree, InitialiserTree, Initialisers, no_initialisers, initialiser_and, VariableTree, StartTree, no_start, start_expression, start_declaration, StmtTree, Else, no_else, else_by}
 use Rattle.qs_syntax.specs.Trees as trees
 use Rattle.qs_types.specs.Types.{TypeTree, int, unsigned, char, void, pointer, array, struct, is_array, MemberTree, Structs}
-use Rattle.qs_types.specs.Layout.{and_then, size_of, offset_of, struct_of}
+use Rattle.qs_types.specs.Layout.{size_of, struct_of}
 use Rattle.qs_types.specs.Declarations.{text_of, variable_declared}
 use Rattle.qs_types.specs.InitialiserRules.{member_at, part_type}
 use Rattle.qs_types.specs.StatementRules.{after_statement}
-use Rattle.qs_meaning.specs.Typed.{Expr, pointer_to, member, Lvalue, object, Effect, nothing, copy, fill, in_order, Stmt, evaluate, block, branch, while_loop, do_loop, for_loop, return, return_nothing, Stmts, stmt_and}
+use Rattle.qs_meaning.specs.Typed.{Expr, member, object, copy, fill, in_order, evaluate, block, branch, while_loop, do_loop, for_loop, return, stmt_and}
 use Rattle.qs_meaning.specs.Conversions.{scalar_of, conversion}
 use Rattle.qs_meaning.specs.Names.{Scope, within, local_lvalue}
-use Rattle.qs_meaning.specs.Forms.{Form, lvalue, TypedExpr, address_of, effect_of, effect_in_use, type_in_use, value_in_use}
+use Rattle.qs_meaning.specs.Forms.{lvalue, TypedExpr, address_of, effect_of, effect_in_use, type_in_use, value_in_use}
 use Rattle.qs_meaning.specs.Expressions.{typed, plain_form}
 use Rattle.qs_meaning.specs.Blanks.{blank_of}
 use Rattle.qs_meaning.specs.Initialisers.{part_offset, Piece, pieces, pieces_from, text_room, text_set, assigned_set, piece_set, pieces_set, filled, object_set, local_set}
 use Rattle.qs_meaning.specs.Statements.{initialised, behind_variable, variable_typed, variables_typed, effect_typed, option_effect, condition_typed, option_condition, start_typed, return_typed, inner, loop_body, in_for, statement_typed, statements_typed, else_typed}
 use Rattle.qs_typed.specs.Parts.{between}
 use Rattle.qs_typed.specs.Known.{Known, at_number, known}
-use Rattle.qs_typed.specs.KnownStatements.{text_set_known, assigned_set_known, piece_set_known, pieces_set_known, filled_known, object_set_known, local_set_known, local_known, initialised_known, variable_known, variables_known, effect_known, option_effect_known, condition_known, option_condition_known, start_known, return_known, statement_known, statements_known, else_known}
+use Rattle.qs_typed.specs.KnownStatements.{text_set_known, assigned_set_known, piece_set_known, pieces_set_known, filled_known, object_set_known, local_set_known, initialised_known, variable_known, variables_known, effect_known, option_effect_known, condition_known, option_condition_known, start_known, return_known, statement_known, statements_known, else_known}
 use Rattle.qs_typed.specs.Agrees.{Keeps, Grown, Agrees, ExpressionAt, OptionAt, InitialiserAt, InitialisersAt, ResultIs, InitialAt, VariableAt, VariablesAt, StartAt, StatementAt, StatementsAt, ElseAt}
 use Rattle.qs_typed.proofs.Kept.{kept, kept_by, then_kept, is_kept, equal_kept, choice_kept}
 use Rattle.qs_typed.proofs.Kept as options

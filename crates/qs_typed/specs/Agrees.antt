@@ -1,25 +1,22 @@
 -- When what is known by the numbers of nodes is what the scopes of the definition have.
-use Rattle.std.specs.Prelude.{◌≡◌, ℕ, Bool, List, [], ◌∷◌, Option, Some, None, map, option_map, if◌then◌else◌}
+use Rattle.std.specs.Prelude.{◌≡◌, ℕ, Bool, List, [], ◌∷◌, Option, Some, None, map, if◌then◌else◌}
 use Rattle.qs_syntax.specs.Trees.{ExprTree, expr, ShapeTree, Exprs, no_exprs, expr_and, InitialiserTree, Initialisers, no_initialisers, initialiser_and, VariableTree, StartTree, no_start, start_expression, start_declaration, StmtTree, Stmts, no_stmts, stmt_and, Else, no_else, else_by}
 use Rattle.qs_syntax.specs.Trees as trees
-use Rattle.qs_memory.specs.declared.scalar.Scalar.{Scalar}
-use Rattle.qs_types.specs.declared.extent.Extent.{Extent}
-use Rattle.qs_types.specs.Types.{TypeTree, Structs, MemberTree}
-use Rattle.qs_types.specs.Layout.{extent_of, size_of, layout_of, StructLayout, struct_of}
+use Rattle.qs_types.specs.Types.{TypeTree, Structs}
+use Rattle.qs_types.specs.Layout.{extent_of, layout_of, struct_of}
 use Rattle.qs_types.specs.GivenFunctions.{Signature, putchar_name, putchar_type, getchar_type}
 use Rattle.qs_syntax.specs.Sameness.{same_bytes}
 use Rattle.qs_syntax.specs.declared.types.Base.{Base}
 use Rattle.qs_types.specs.Declarations.{variable_declared}
 use Rattle.qs_types.specs.StatementRules.{after_statement}
-use Rattle.qs_types.specs.Contexts.{Context, Entity, function, given, entity_of, tag_place}
+use Rattle.qs_types.specs.Contexts.{Context, function, given, entity_of, tag_place}
 use Rattle.qs_types.specs.Expressions.{type_of}
-use Rattle.qs_typing.specs.declared.entity.Referent.{Referent}
 use Rattle.qs_typing.specs.ExprFindings.{referent_of}
 use Rattle.qs_meaning.specs.Conversions.{scalar_of}
 use Rattle.qs_meaning.specs.Names.{Scope, within}
 use Rattle.qs_meaning.specs.Blanks.{blank_of}
 use Rattle.qs_meaning.specs.Statements.{behind_variable, inner, loop_body, in_for}
-use Rattle.qs_typed.specs.Known.{Known, Header, at_number, parameters_of, with_tags}
+use Rattle.qs_typed.specs.Known.{Known, at_number, parameters_of, with_tags}
 
 -- what has this value has it still
 abbrev pub Keeps : {A : Type 0} → Option A → Option A → Type 0

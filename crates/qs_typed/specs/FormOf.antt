@@ -1,5 +1,4 @@
 -- The pure forms that forms in code stand for.
-use Rattle.std.specs.Prelude.{ℕ}
 use Rattle.qs_memory.specs.declared.scalar.Scalar.{Scalar}
 use Rattle.qs_memory.specs.declared.scalar.Scalar.TheVariants as scalars
 use Rattle.qs_memory.specs.declared.operation.BinaryOperation.{BinaryOperation}

@@ -11,3 +11,12 @@ pub mod Agrees
 pub mod KnownFunctions
 pub mod AgreesFunctions
 pub mod Laws
+pub mod Addressed
+pub mod KnownUnits
+pub mod KnownPrograms
+pub mod TablesOf
+pub mod UnitVariables
+pub mod UnitLaws
+pub mod KnownBlocks
+pub mod BlockLaws
+pub mod CellsOf

@@ -1,5 +1,5 @@
 -- The trees that the program's values stand for.
-use Rattle.std.specs.Prelude.{ℕ, List, [], ◌∷◌, ◌++◌, Option, map, option_map, flat_map}
+use Rattle.std.specs.Prelude.{ℕ, List, [], ◌∷◌, Option, map, option_map, flat_map}
 use Rattle.qs_memory.specs.Values.{null, into}
 use Rattle.qs_memory.specs.Memory.{Cell, byte, parts_of, times}
 use Rattle.qs_memory.specs.BlankOf.{blank_tree}

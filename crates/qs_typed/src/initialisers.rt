@@ -27,7 +27,7 @@ use qs_types::CType;
 use std::alloc::Global;
 
 /// The text that an expression is.
-fn text_of(e: &Expr) -> Result<&Text, NoMemory>
+pub fn text_of(e: &Expr) -> Result<&Text, NoMemory>
     ensures { IfOk result (λ text. text_of (expr_tree e.now) ≡ Some text.now) }
 {
     match &e.shape {

@@ -3,7 +3,7 @@ ghost use Rattle.std.specs.Prelude.{◌≡◌, ◌++◌, IfOk, OnOk, Some, map};
 ghost use Rattle.qs_meaning.specs.Names.{local_lvalue};
 ghost use Rattle.qs_meaning.specs.Units.{parameter_by};
 ghost use Rattle.qs_syntax.specs.TreeOf.{else_tree, parameter_tree, start_tree, stmt_tree, stmts_tree, variable_tree};
-ghost use Rattle.qs_typed.specs.KnownFunctions.{else_nodes, parameter_known, parameters_known, start_nodes, statement_nodes, statements_nodes, variables_nodes};
+ghost use Rattle.qs_typed.specs.KnownFunctions.{else_nodes, parameter_known, parameters_known, parameters_nodes, start_nodes, statement_nodes, statements_nodes, variables_nodes};
 ghost use Rattle.qs_typed.specs.KnownOf.{known_tree};
 ghost use Rattle.qs_meaning.specs.Typed.{object};
 ghost use Rattle.qs_typed.specs.TreeOf.{expression_tree, lvalue_tree};
@@ -25,6 +25,16 @@ fn variables_nodes(vs: &[Variable], nodes: &mut Vec<u32>) -> Result<(), NoMemory
 {
     for v in vs {
         nodes.push(v.declarator.node.id)?;
+    }
+    Ok(())
+}
+
+/// Adds the nodes of parameters.
+pub fn parameters_nodes(ps: &[ParameterNode], nodes: &mut Vec<u32>) -> Result<(), NoMemory>
+    ensures { OnOk result (nodes.new.items ≡ nodes.old.items ++ parameters_nodes (map parameter_tree ps.now)) }
+{
+    for p in ps {
+        nodes.push(p.node.id)?;
     }
     Ok(())
 }

@@ -1,5 +1,4 @@
-use Rattle.std.proofs.Common.{◌≡◌, ◌<◌, ◌≤◌, ◌-◌, [], ◌∷◌, ◌++◌, length, map, ap, ◌∙◌, arith}
-use Rattle.qs_memory.specs.Memory.{zeros}
+use Rattle.std.proofs.Common.{[], ◌∷◌, ◌++◌, map, ap, ◌∙◌, arith}
 use Rattle.qs_memory.specs.BlankOf.{blank_tree}
 use Rattle.qs_types.specs.EnvOf.{env_tree}
 use Rattle.qs_meaning.specs.Blanks.{blanks_within}

@@ -1,4 +1,4 @@
-use Rattle.std.proofs.Common.{◌≡◌, ◌<◌, ◌≤◌, [], ◌∷◌, ◌++◌, length, map, ap, ◌∙◌, arith}
+use Rattle.std.proofs.Common.{[], ◌∷◌, ◌++◌, map, ap, ◌∙◌, arith}
 use Rattle.qs_typed.specs.FormOf.{typed_tree}
 use Rattle.qs_typed.specs.KnownOf.{known_tree}
 use Rattle.qs_typed.specs.TreeOf.{argument_tree}

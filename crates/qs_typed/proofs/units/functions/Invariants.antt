@@ -1,0 +1,11 @@
+use Rattle.std.proofs.Common.{◌≡◌, map, drop}
+use Rattle.qs_syntax.specs.TreeOf.{decl_tree}
+use Rattle.qs_typed.specs.Behind.{followed}
+use Rattle.qs_typed.specs.KnownPrograms.{functions_known}
+use Rattle.qs_typed.specs.TablesOf.{tables_tree}
+use Rattle.qs_typed.specs.TreeOf.{function_tree}
+use Rattle.qs_typed.proofs.units.functions.Given as goal
+
+abbrev pub invariant-loop-d : goal.invariant-loop-d
+invariant-loop-d l =
+    functions_known (tables_tree l.t) (map decl_tree l.ds) ≡ followed (map function_tree l.all.items) (functions_known (tables_tree l.t) (map decl_tree (drop l.d-index l.ds)))

@@ -1,0 +1,199 @@
+// Constants as the bytes of the scalars that they initialise (C11 6.6, 6.7.9p11, p14).
+ghost use Rattle.std.specs.Prelude.{◌≡◌, IfOk, Some, map};
+ghost use Rattle.qs_meaning.specs.InitialValues.{array_cells, length_in, pointer_by, static_pointer};
+ghost use Rattle.qs_memory.specs.Memory.{bytes_of};
+ghost use Rattle.qs_memory.specs.Values.{width};
+ghost use Rattle.qs_syntax.specs.TreeOf.{expr_tree};
+ghost use Rattle.qs_types.specs.Constants.{value_of};
+ghost use Rattle.qs_types.specs.Contexts.{context_with};
+ghost use Rattle.qs_types.specs.TypeOf.{type_tree};
+ghost use Rattle.qs_typed.specs.CellsOf.{cell_tree, target_tree};
+ghost use Rattle.qs_typed.specs.KnownBlocks.{address_constant_known, constant_cells_known, integer_cells_known, name_pointer, named_pointer_known, pointer_cells_known, pointer_constant_known, referent_pointer};
+ghost use Rattle.qs_typed.specs.PlacesOf.{statics_tree};
+ghost use Rattle.qs_typed.specs.TablesOf.{tables_tree};
+ghost use Rattle.qs_typed.specs.TreeOf.{object_tree};
+
+use crate::cells::{Cell, push_bytes, push_pointer};
+use crate::contents::Target;
+use crate::expressions::Object;
+use crate::initialisers::text_of;
+use crate::known::referent_in;
+use crate::places::{Statics, file_variable_object, text_object};
+use crate::tables::Tables;
+use crate::types::{is_pointer, scalar_of};
+use qs_base::NoMemory;
+use qs_memory::Scalar;
+use qs_syntax::{Expr, Shape, UnaryOperator};
+use qs_types::{CType, is_null_constant};
+use qs_typing::Referent;
+use std::alloc::Global;
+
+// ---- addresses (6.6p9)
+
+fn static_pointer(object: Object) -> Result<Target, NoMemory>
+    ensures { IfOk result (λ p. static_pointer (object_tree object) ≡ Some (target_tree p)) }
+{
+    match object {
+        Object::Local(_) => Err(NoMemory),
+        Object::Static(k) => Ok(Target::Static(k)),
+    }
+}
+
+fn referent_pointer(statics: &Statics, referent: Referent) -> Result<Target, NoMemory>
+    ensures { IfOk result (λ p. referent_pointer (statics_tree statics.now) referent ≡ Some (target_tree p)) }
+{
+    match referent {
+        Referent::Local(_) => Err(NoMemory),
+        Referent::File(node) => static_pointer(file_variable_object(statics, node)?),
+        Referent::Function(_) => Err(NoMemory),
+        Referent::PutChar => Err(NoMemory),
+        Referent::GetChar => Err(NoMemory),
+    }
+}
+
+/// What the name at a node stands for.
+fn name_pointer(t: &Tables<'_>, node: u32) -> Result<Target, NoMemory>
+    ensures { IfOk result (λ p. name_pointer (tables_tree t.now) node ≡ Some (target_tree p)) }
+{
+    match referent_in(t.referents, node) {
+        None => Err(NoMemory),
+        Some(referent) => referent_pointer(&t.statics, referent),
+    }
+}
+
+/// The operand of `&`, where it is a name.
+fn named_pointer(t: &Tables<'_>, e: &Expr) -> Result<Target, NoMemory>
+    ensures { IfOk result (λ p. named_pointer_known (tables_tree t.now) (expr_tree e.now) ≡ Some (target_tree p)) }
+{
+    match &e.shape {
+        Shape::Name(_) => name_pointer(t, e.node.id),
+        _ => Err(NoMemory),
+    }
+}
+
+fn pointer_by(t: &Tables<'_>, operator: UnaryOperator, operand: &Expr) -> Result<Target, NoMemory>
+    ensures { IfOk result (λ p. pointer_by operator (named_pointer_known (tables_tree t.now) (expr_tree operand.now)) ≡ Some (target_tree p)) }
+{
+    match operator {
+        UnaryOperator::Address => named_pointer(t, operand),
+        _ => Err(NoMemory),
+    }
+}
+
+/// A text, the name of an array, or `&` of a variable.
+fn address_constant(t: &Tables<'_>, e: &Expr) -> Result<Target, NoMemory>
+    ensures { IfOk result (λ p. address_constant_known (tables_tree t.now) (expr_tree e.now) ≡ Some (target_tree p)) }
+{
+    match &e.shape {
+        Shape::Text(_) => static_pointer(text_object(&t.statics, e.node.id)?),
+        Shape::Name(_) => name_pointer(t, e.node.id),
+        Shape::Unary(operator, a) => pointer_by(t, *operator, a),
+        _ => Err(NoMemory),
+    }
+}
+
+fn pointer_constant(t: &Tables<'_>, e: &Expr) -> Result<Target, NoMemory>
+    ensures { IfOk result (λ p. pointer_constant_known (tables_tree t.now) (expr_tree e.now) ≡ Some (target_tree p)) }
+{
+    if is_null_constant(e) {
+        return Ok(Target::Null);
+    }
+    address_constant(t, e)
+}
+
+fn pointer_cells(alloc: Global, t: &Tables<'_>, e: &Expr) -> Result<Vec<Cell>, NoMemory>
+    ensures { IfOk result (λ cells. pointer_cells_known (tables_tree t.now) (expr_tree e.now) ≡ Some (map cell_tree cells.items)) }
+{
+    let target = pointer_constant(t, e)?;
+    let mut cells = Vec::new(alloc);
+    push_pointer(&mut cells, target)?;
+    Ok(cells)
+}
+
+// ---- integers (6.6p6)
+
+/// The value of a constant expression.
+fn value(t: &Tables<'_>, e: &Expr) -> Result<u32, NoMemory>
+    ensures { IfOk result (λ n. value_of (context_with (tables_tree t.now).structs (tables_tree t.now).tags) (expr_tree e.now) ≡ Some n) }
+{
+    match qs_types::value(t.env, t.tags, e) {
+        None => Err(NoMemory),
+        Some(n) => Ok(n),
+    }
+}
+
+/// How many bytes it takes.
+fn width(s: Scalar) -> u32
+    ensures { result ≡ width s }
+{
+    match s {
+        Scalar::Char => 1,
+        Scalar::Int => 4,
+        Scalar::Unsigned => 4,
+        Scalar::Pointer => 4,
+    }
+}
+
+/// The bytes of a number, the lowest first.
+fn bytes_of(alloc: Global, size: u32, n: u32) -> Result<Vec<Cell>, NoMemory>
+    ensures { IfOk result (λ cells. map cell_tree cells.items ≡ bytes_of size n) }
+{
+    let mut cells = Vec::new(alloc);
+    let mut rest = n;
+    for _ in 0..size {
+        cells.push(Cell::Byte((rest % 256) as u8))?;
+        rest /= 256;
+    }
+    Ok(cells)
+}
+
+fn integer_cells(alloc: Global, t: &Tables<'_>, of: &CType, e: &Expr) -> Result<Vec<Cell>, NoMemory>
+    ensures { IfOk result (λ cells. integer_cells_known (tables_tree t.now) (type_tree of.now) (expr_tree e.now) ≡ Some (map cell_tree cells.items)) }
+{
+    let n = value(t, e)?;
+    bytes_of(alloc, width(scalar_of(of)), n)
+}
+
+/// The bytes of a scalar of this type (C11 6.3.1.3, 6.7.9p11).
+pub fn constant_cells(
+    alloc: Global,
+    t: &Tables<'_>,
+    of: &CType,
+    e: &Expr,
+) -> Result<Vec<Cell>, NoMemory>
+    ensures { IfOk result (λ cells. constant_cells_known (tables_tree t.now) (type_tree of.now) (expr_tree e.now) ≡ Some (map cell_tree cells.items)) }
+{
+    if is_pointer(of) {
+        pointer_cells(alloc, t, e)
+    } else {
+        integer_cells(alloc, t, of, e)
+    }
+}
+
+// ---- texts
+
+fn length_in(t: &CType) -> u32
+    ensures { result ≡ length_in (type_tree t.now) }
+{
+    match t {
+        CType::Int => 0,
+        CType::Unsigned => 0,
+        CType::Char => 0,
+        CType::Void => 0,
+        CType::Pointer(_) => 0,
+        CType::Array(_, n) => *n,
+        CType::Struct(_) => 0,
+    }
+}
+
+/// Of a text with a zero behind it as many bytes as an array has room for (C11 6.7.9p14).
+pub fn array_cells(alloc: Global, of: &CType, e: &Expr) -> Result<Vec<Cell>, NoMemory>
+    ensures { IfOk result (λ cells. array_cells (type_tree of.now) (expr_tree e.now) ≡ Some (map cell_tree cells.items)) }
+{
+    let text = text_of(e)?;
+    let mut cells = Vec::new(alloc);
+    push_bytes(&mut cells, text.bytes())?;
+    cells.push(Cell::Byte(0))?;
+    cells.truncate(length_in(of) as usize);
+    Ok(cells)
+}

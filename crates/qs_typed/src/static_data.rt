@@ -1,0 +1,153 @@
+// The blocks of file-scope variables (C11 6.7.9, 6.9.2).
+ghost use Rattle.std.specs.Prelude.{◌≡◌, ◌∷◌, IfOk, OnOk, Some, map, option_map};
+ghost use Rattle.qs_syntax.specs.TreeOf.{decl_tree, initialiser_tree, variable_tree};
+ghost use Rattle.qs_syntax.specs.Trees.{UnitTree};
+ghost use Rattle.qs_types.specs.TypeOf.{type_tree};
+ghost use Rattle.qs_typed.specs.Behind.{followed};
+ghost use Rattle.qs_typed.specs.CellsOf.{cell_tree};
+ghost use Rattle.qs_typed.specs.KnownBlocks.{blank_cells_known, blocks_known, file_variables_known, initial_cells_known, initialised_cells_known, piece_cells_known, pieces_over_known, variable_block_known};
+ghost use Rattle.qs_typed.specs.PieceOf.{piece_tree};
+ghost use Rattle.qs_typed.specs.TablesOf.{tables_tree};
+ghost use Rattle.qs_typed.specs.TreeOf.{contents_cells, static_block_tree};
+
+use crate::blanks::blank_of;
+use crate::cells::{Cell, cells_of, data_of, write_over};
+use crate::constants::{array_cells, constant_cells};
+use crate::contents::{Contents, put_blank};
+use crate::data::{Datum, StaticBlock};
+use crate::known::type_in;
+use crate::pieces::{Piece, pieces};
+use crate::tables::Tables;
+use crate::types::is_array;
+use qs_base::NoMemory;
+use qs_syntax::{Decl, Initialiser, Variable};
+use qs_types::CType;
+use std::alloc::Global;
+
+fn piece_cells(alloc: Global, t: &Tables<'_>, p: Piece<'_>) -> Result<Vec<Cell>, NoMemory>
+    ensures { IfOk result (λ cells. piece_cells_known (tables_tree t.now) (piece_tree p.entry) ≡ Some (map cell_tree cells.items)) }
+{
+    if is_array(p.of) {
+        array_cells(alloc, p.of, p.expression)
+    } else {
+        constant_cells(alloc, t, p.of, p.expression)
+    }
+}
+
+/// Writes each piece over the bytes that are there (C11 6.7.9p19).
+fn pieces_over(
+    alloc: Global,
+    t: &Tables<'_>,
+    ps: &[Piece<'_>],
+    cells: &mut [Cell],
+) -> Result<(), NoMemory>
+    ensures { OnOk result (pieces_over_known (tables_tree t.now) (map piece_tree ps.now) (map cell_tree cells.old) ≡ Some (map cell_tree cells.new)) }
+{
+    for p in ps {
+        let new = piece_cells(alloc, t, *p)?;
+        write_over(cells, p.offset, &new)?;
+    }
+    Ok(())
+}
+
+/// What an object holds that isn't initialised (C11 6.7.9p10).
+fn blank_data(alloc: Global, t: &Tables<'_>, of: &CType) -> Result<Vec<Datum>, NoMemory>
+    ensures { IfOk result (λ ds. blank_cells_known (tables_tree t.now) (type_tree of.now) ≡ Some (contents_cells ds.items)) }
+{
+    let blank = blank_of(alloc, t.env, of)?;
+    let mut contents = Contents::new(alloc);
+    put_blank(alloc, &blank, &mut contents)?;
+    contents.finish(alloc)
+}
+
+/// What an object with an initialiser holds: where that says nothing, what it holds without (C11 6.7.9p21).
+fn initialised_data(
+    alloc: Global,
+    t: &Tables<'_>,
+    of: &CType,
+    i: &Initialiser,
+) -> Result<Vec<Datum>, NoMemory>
+    ensures { IfOk result (λ ds. initialised_cells_known (tables_tree t.now) (type_tree of.now) (initialiser_tree i.now) ≡ Some (contents_cells ds.items)) }
+{
+    let blank = blank_data(alloc, t, of)?;
+    let ps = pieces(alloc, t.env, i, of, 0)?;
+    let mut cells = cells_of(alloc, &blank)?;
+    pieces_over(alloc, t, &ps, &mut cells)?;
+    data_of(alloc, &cells)
+}
+
+fn initial_data(
+    alloc: Global,
+    t: &Tables<'_>,
+    of: &CType,
+    i: &Option<Initialiser>,
+) -> Result<Vec<Datum>, NoMemory>
+    ensures { IfOk result (λ ds. initial_cells_known (tables_tree t.now) (type_tree of.now) (option_map initialiser_tree i.now) ≡ Some (contents_cells ds.items)) }
+{
+    match i {
+        None => blank_data(alloc, t, of),
+        Some(i) => initialised_data(alloc, t, of, i),
+    }
+}
+
+fn variable_block(alloc: Global, t: &Tables<'_>, v: &Variable) -> Result<StaticBlock, NoMemory>
+    ensures { IfOk result (λ b. variable_block_known (tables_tree t.now) (variable_tree v.now) ≡ Some (static_block_tree b)) }
+{
+    match type_in(t.types, v.declarator.node.id) {
+        None => Err(NoMemory),
+        Some(of) => {
+            let contents = initial_data(alloc, t, of, &v.initialiser)?;
+            Ok(StaticBlock {
+                contents,
+                is_writable: true,
+            })
+        }
+    }
+}
+
+#[tactic(auto, using(crate::proofs::BlockTurns::variable_more))]
+fn file_variables(
+    alloc: Global,
+    t: &Tables<'_>,
+    vs: &[Variable],
+) -> Result<Vec<StaticBlock>, NoMemory>
+    ensures { IfOk result (λ bs. file_variables_known (tables_tree t.now) (map variable_tree vs.now) ≡ Some (map static_block_tree bs.items)) }
+{
+    let mut all = Vec::new(alloc);
+    for v in vs {
+        all.push(variable_block(alloc, t, v)?)?;
+    }
+    Ok(all)
+}
+
+#[tactic(auto, using(crate::proofs::BlockTurns::variables_more))]
+fn add_declaration(
+    alloc: Global,
+    t: &Tables<'_>,
+    d: &Decl,
+    all: &mut Vec<StaticBlock>,
+) -> Result<(), NoMemory>
+    ensures { OnOk result ((ds : UnitTree) → followed (map static_block_tree all.old.items) (blocks_known (tables_tree t.now) (decl_tree d.now ∷ ds)) ≡ followed (map static_block_tree all.new.items) (blocks_known (tables_tree t.now) ds)) }
+{
+    match d {
+        Decl::Struct(_) => Ok(()),
+        Decl::Forward(_) => Ok(()),
+        Decl::Function(_) => Ok(()),
+        Decl::Variable(d) => {
+            let mut now = file_variables(alloc, t, &d.variables)?;
+            all.append(&mut now)?;
+            Ok(())
+        }
+    }
+}
+
+/// The blocks of the variables of a unit, in order.
+pub fn blocks(alloc: Global, t: &Tables<'_>, ds: &[Decl]) -> Result<Vec<StaticBlock>, NoMemory>
+    ensures { IfOk result (λ bs. blocks_known (tables_tree t.now) (map decl_tree ds.now) ≡ Some (map static_block_tree bs.items)) }
+{
+    let mut all = Vec::new(alloc);
+    for d in ds {
+        add_declaration(alloc, t, d, &mut all)?;
+    }
+    Ok(all)
+}

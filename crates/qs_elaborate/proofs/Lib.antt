@@ -29,12 +29,18 @@ mod WordFacts
 mod WordParts
 mod WordValues
 mod WordFunctions
+mod CountedTypes
+mod CountedForms
+mod CountedExpressions
+mod CountedInitialisers
+mod CountedStatements
+mod CountedUnits
 mod SizeExamples
 mod CountExamples
 mod FitRules
 mod FitMain
 mod FitReads
-mod FitCore
+pub mod FitCore
 mod UnitExamples
 mod NumberingExamples
 mod WriteExamples

@@ -5,7 +5,8 @@ use Rattle.qs_syntax.specs.Trees.{Stmts, DeclTree, structure, forward, function,
 use Rattle.qs_types.specs.Contexts.{Context, start_context}
 use Rattle.qs_types.specs.UnitRules.{after_declaration}
 use Rattle.qs_elaborate.specs.Names.{FunctionNames, function_names, declaration_names, declarations_names, names_in}
-use Rattle.qs_elaborate.specs.UnitNames.{function_variables, declaration_variables, variables_from, unit_variables, function_named, declaration_named, declarations_named}
+use Rattle.qs_typed.specs.UnitVariables.{function_variables, declaration_variables, unit_variables_from, unit_variables}
+use Rattle.qs_elaborate.specs.UnitNames.{function_named, declaration_named, declarations_named}
 
 -- one declaration takes its list, if it has one, and leaves the others
 takes_its_own : (c : Context) (d : DeclTree) (ds : UnitTree) (rest : List (List ℕ))
@@ -22,10 +23,10 @@ takes_its_own c (function f) ds rest = by_body f.body
     by_body None = refl
     by_body (Some body) = refl
 
-pub named_from : (c : Context) (ds : UnitTree) → declarations_named (variables_from c ds) ds ≡ declarations_names c ds
+pub named_from : (c : Context) (ds : UnitTree) → declarations_named (unit_variables_from c ds) ds ≡ declarations_names c ds
 named_from c [] = refl
 named_from c (d ∷ ds) =
-    takes_its_own c d ds (variables_from (after_declaration c d) ds)
+    takes_its_own c d ds (unit_variables_from (after_declaration c d) ds)
     ∙ ap (λ l. declaration_names c d ++ l) (named_from (after_declaration c d) ds)
 
 pub unit_is_named : (unit : UnitTree) → declarations_named (unit_variables unit) unit ≡ names_in unit

@@ -1,29 +1,7 @@
 -- The names of a unit, where the nodes of its functions' variables are known.
 use Rattle.std.specs.Prelude.{ℕ, List, [], ◌∷◌, ◌++◌, Option, Some, None, length, drop, map, slice_index_or}
 use Rattle.qs_syntax.specs.Trees.{ParameterTree, Stmts, FunctionTree, DeclTree, structure, forward, function, variables, UnitTree}
-use Rattle.qs_types.specs.Contexts.{Context, start_context}
-use Rattle.qs_types.specs.UnitRules.{after_declaration}
-use Rattle.qs_meaning.specs.Units.{function_locals}
 use Rattle.qs_elaborate.specs.Names.{FunctionNames, parameter_name, function_declares, name_at}
-
--- ---- the nodes of the variables of each function with a body, in order
-
-abbrev pub function_variables : Context → FunctionTree → Option Stmts → List (List ℕ)
-function_variables c f None = []
-function_variables c f (Some body) = (function_locals c f body).variables ∷ []
-
-abbrev pub declaration_variables : Context → DeclTree → List (List ℕ)
-declaration_variables c (structure d) = []
-declaration_variables c (forward d) = []
-declaration_variables c (function f) = function_variables c f f.body
-declaration_variables c (variables d) = []
-
-abbrev pub variables_from : Context → UnitTree → List (List ℕ)
-variables_from c [] = []
-variables_from c (d ∷ ds) = declaration_variables c d ++ variables_from (after_declaration c d) ds
-
-abbrev pub unit_variables : UnitTree → List (List ℕ)
-unit_variables unit = variables_from start_context unit
 
 -- ---- names by these nodes
 

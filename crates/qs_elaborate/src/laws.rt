@@ -1,6 +1,6 @@
 // The laws of elaboration. Each is the contract of an empty function.
 ghost use Rattle.qs_elaborate.specs.Laws.{ActsExactly, CoreFollows, MainFollows};
-ghost use Rattle.qs_elaborate.specs.SizeLaws.{ValuesAreFew, WordsAreFew, UnitWordsAreFew};
+ghost use Rattle.qs_elaborate.specs.SizeLaws.{ValuesAreFew, WordsAreFew, UnitWordsAreFew, NodesAreOfSource, SourceWordsAreFew};
 
 /// An expression acts exactly where it has statements in core.
 pub fn acts_exactly()
@@ -33,4 +33,15 @@ pub fn words_are_few()
 /// returns.
 pub fn unit_words_are_few()
     ensures { UnitWordsAreFew }
+{}
+
+/// The nodes that are counted on the typed tree of a well typed unit are at most those of the unit.
+pub fn nodes_are_of_source()
+    ensures { NodesAreOfSource }
+{}
+
+/// The bound on the words of the machine code of a well typed unit that has a main is at most 24 for each
+/// node of the unit, and 32 for each of its functions with a body.
+pub fn source_words_are_few()
+    ensures { SourceWordsAreFew }
 {}

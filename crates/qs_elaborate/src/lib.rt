@@ -25,4 +25,4 @@ pub use fit_laws::{core_fits, read_units_have_names, units_have_cores};
 pub use laws::{
     acts_exactly, core_follows, main_follows, unit_words_are_few, values_are_few, words_are_few,
 };
-pub use unit::elaborated;
+pub use unit::{elaborate, elaborated};

@@ -4,11 +4,12 @@ ghost use Rattle.qs_core.specs.Fits.{unit_fits};
 ghost use Rattle.qs_core.specs.UnitTrees.{unit_tree};
 ghost use Rattle.qs_syntax.specs.UnitTrees as source;
 ghost use Rattle.qs_typed.specs.TreeOf.{function_tree, program_tree};
+ghost use Rattle.qs_typing.specs.TypedOf.{typed_tree};
 ghost use Rattle.qs_meaning.specs.Units.{typed_of};
 ghost use Rattle.qs_meaning.specs.Runs.{main_from};
 ghost use Rattle.qs_elaborate.specs.FitLaws.{HasCore};
 ghost use Rattle.qs_elaborate.specs.NamesOf.{names_of};
-ghost use Rattle.qs_elaborate.specs.UnitNames.{unit_variables};
+ghost use Rattle.qs_typed.specs.UnitVariables.{unit_variables};
 ghost use Rattle.qs_elaborate.specs.Units.{unit_core, core_of};
 
 use crate::data_blocks::data_blocks;
@@ -18,7 +19,8 @@ use crate::unit_names::unit_names;
 use qs_base::{FnId, NoMemory};
 use qs_core::CoreUnit;
 use qs_syntax::Unit;
-use qs_typed::{TypedFunction, TypedProgram};
+use qs_typed::{TypedFunction, TypedProgram, typed_program, variable_nodes};
+use qs_typing::TypedUnit;
 use std::alloc::Global;
 
 // The place of main among the functions (C11 5.1.2.2).
@@ -75,4 +77,14 @@ pub fn elaborated(
     }
     let unit = core_unit(alloc, &names, program, FnId(main as u32))?;
     Ok(unit)
+}
+
+/// The core of a unit. Want of memory is the other answer.
+pub fn elaborate(alloc: Global, typed: &TypedUnit) -> Result<CoreUnit, NoMemory>
+    ensures { IfOk result (λ core. core_of (typed_tree typed.now) ≡ Some (unit_tree core)) }
+{
+    let program = typed_program(alloc, typed)?;
+    let variables = variable_nodes(alloc, typed)?;
+    let core = elaborated(alloc, typed.unit(), &program, &variables)?;
+    Ok(core)
 }

@@ -16,6 +16,15 @@ pub mod UnitReal
 pub mod Follow
 pub mod There
 pub mod LoweringLaws
+pub mod Emitting
+pub mod PlanLaws
+pub mod StmtPlanLaws
+pub mod JoinedLaws
+pub mod JoinedEmission
+pub mod PlanTrees
+pub mod LeadLaws
+pub mod DataLaws
+pub mod LowerLaws
 pub mod ExprFits
 pub mod OperandFits
 pub mod PartFits

@@ -234,10 +234,11 @@ simple_or None e = e
 abbrev pub of_unary : UnaryOperation → (gives_integer gives_truth : Bool) → ExprCode → ExprCode
 of_unary op i j a = simple_or (a.simple >>= unary_of op) (of_compound op i j a)
 
+abbrev pub of_convert : Scalar → ExprCode → ExprCode
+of_convert s a = by_value (size_of a + 1) (used_by a) (λ x t at. code_of a t at ++ convert s x (operand_of a t) ∷ [])
+
 abbrev pub of_conversion : Scalar → (is_idle : Bool) → ExprCode → ExprCode
-of_conversion s idle a =
-    simple_or (a.simple >>= converted s)
-    (if idle then a else by_value (size_of a + 1) (used_by a) (λ x t at. code_of a t at ++ convert s x (operand_of a t) ∷ []))
+of_conversion s idle a = simple_or (a.simple >>= converted s) (if idle then a else of_convert s a)
 
 -- ---- two operands, the left one first
 

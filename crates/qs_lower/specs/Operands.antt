@@ -94,9 +94,12 @@ unary_of (unaries.Complement s) o = on_constant complement o
 unary_of unaries.Not o = truth_of o >>= λ b. Some (truth_operand (not b))
 unary_of unaries.Truth o = truth_of o >>= λ b. Some (truth_operand b)
 
+abbrev pub constant_of : Option ℕ → Option Operand
+constant_of n = n >>= λ k. Some (Constant k)
+
 -- 6.5.5 to 6.5.12, 6.6: of two constants, where it is defined
 abbrev pub binary_of : BinaryOperation → (left right : ℕ) → Option Operand
-binary_of (binaries.Arithmetic op s) m n = calculate op s m n >>= λ k. Some (Constant k)
+binary_of (binaries.Arithmetic op s) m n = constant_of (calculate op s m n)
 binary_of (binaries.Compare op s) m n = Some (truth_operand (compares op s m n))
 binary_of (binaries.Move direction s element) m n = None
 binary_of (binaries.Difference element) m n = None
@@ -104,6 +107,13 @@ binary_of (binaries.ComparePointers op) m n = None
 
 abbrev pub folded : BinaryOperation → (left right : Option Operand) → Option Operand
 folded op a b = a >>= λ o. b >>= λ p. constant o >>= λ m. constant p >>= λ n. binary_of op m n
+
+-- of an operand, if there is one
+abbrev pub unary_of_option : UnaryOperation → Option Operand → Option Operand
+unary_of_option op o = o >>= unary_of op
+
+abbrev pub converted_option : Scalar → Option Operand → Option Operand
+converted_option s o = o >>= converted s
 
 abbrev pub block_operand : BlockId → Operand
 block_operand (blocks.Local i) = Local i
@@ -193,12 +203,18 @@ abbrev pub is_upward : Signedness → ℕ → Bool
 is_upward Signed n = nat_lt n (2 ^ 31)
 is_upward Unsigned n = true
 
+-- their bytes, where these are a word
+abbrev pub bytes_of : Signedness → (count element : ℕ) → Option ℕ
+bytes_of s n element = only_if (is_upward s n && is_word (n * element)) (Some (n * element))
+
+abbrev pub upward_step : Signedness → (element : ℕ) → (right : Option Operand) → Option ℕ
+upward_step s element right = right >>= λ o. constant o >>= λ n. bytes_of s n element
+
 -- the bytes by which an operation moves its left operand up, where these are a constant
 abbrev pub constant_step : BinaryOperation → (right : Option Operand) → Option ℕ
 constant_step (binaries.Arithmetic op s) right = None
 constant_step (binaries.Compare op s) right = None
-constant_step (binaries.Move Up s element) right =
-    right >>= λ o. constant o >>= λ n. only_if (is_upward s n && is_word (n * element)) (Some (n * element))
+constant_step (binaries.Move Up s element) right = upward_step s element right
 constant_step (binaries.Move Down s element) right = None
 constant_step (binaries.Difference element) right = None
 constant_step (binaries.ComparePointers op) right = None

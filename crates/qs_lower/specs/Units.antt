@@ -21,11 +21,13 @@ end_code true = []
 end_code false = return None ∷ []
 
 -- no break and no continue stands outside every loop
-abbrev pub function_code : CoreFunctionTree → List InstructionTree
-function_code f =
-    let b = body_code f in
+abbrev pub code_of_body : StmtCode → List InstructionTree
+code_of_body b =
     let end = b.part.size next_falls in
     b.part.code (record { next = falls end; on_break = goes (end + 1); on_continue = goes (end + 1) }) 0 ++ end_code b.ends
+
+abbrev pub function_code : CoreFunctionTree → List InstructionTree
+function_code f = code_of_body (body_code f)
 
 -- before its jumps are threaded
 abbrev pub straight_function : CoreFunctionTree → TacFunctionTree

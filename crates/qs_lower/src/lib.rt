@@ -1,6 +1,29 @@
 //! From core to linear code: what each form becomes, and that it does what it did.
 #![tactic(auto)]
 
+mod addresses;
+mod bodies;
+mod data;
+mod emission;
+mod exits;
+mod functions;
 mod laws;
+mod numbers;
+mod operands;
+mod planning;
+mod plans;
+mod scratch;
+mod sizes;
+mod stmt_emission;
+mod stmt_planning;
+mod stmt_plans;
+mod stmt_scratch;
+mod stmt_sizes;
+mod threads;
+mod unit;
+mod values;
+mod ways;
 
+pub use functions::lower_function;
 pub use laws::{lowered_fits, lowering_follows};
+pub use unit::lower;

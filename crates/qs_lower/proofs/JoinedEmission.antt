@@ -1,0 +1,110 @@
+-- The code of several statements, one put behind the other.
+use Rattle.std.proofs.Common.{◌≡◌, ℕ, ◌+◌, List, [], ◌∷◌, ◌++◌, length, map, Some, sym, ap, ◌∙◌, append_assoc, arith}
+use Rattle.std.proofs.lemmas.Result.{on_ok_weaker}
+use Rattle.std.specs.Prelude.{Box, Result, OnOk}
+use Rattle.std.specs.declared.alloc.Global.{Global}
+use Rattle.std.specs.declared.vec.Vec.{Vec}
+use Rattle.qs_tac.specs.Trees.{InstructionTree, return}
+use Rattle.qs_tac.specs.declared.operands.Operand.{Operand}
+use Rattle.qs_tac.specs.TreeOf.{instruction_tree}
+use Rattle.qs_tac.specs.declared.instruction.Instruction.{Instruction}
+use Rattle.qs_lower.specs.Expressions.{code_of, operand_of}
+use Rattle.qs_lower.specs.Plans.{expr_code, Emitted}
+use Rattle.qs_lower.specs.declared.plans.ExprPlan.{ExprPlan}
+use Rattle.qs_lower.specs.declared.stmt_plans.StmtPlan.{StmtPlan}
+use Rattle.qs_lower.specs.declared.stmt_plans.StmtPlan.TheVariants as plans
+use Rattle.qs_lower.specs.Statements.{StmtCode, Exits, before, falls_of, next_falls}
+use Rattle.qs_lower.specs.StmtPlans.{stmt_part, joined_before, sizes_before, code_before}
+use Rattle.qs_lower.proofs.Emitting.{emitted_then}
+use Rattle.qs_lower.proofs.PlanTrees.{joined_is, return_is}
+use Rattle.qs_lower.proofs.JoinedLaws.{joined_size, joined_code}
+
+-- one of them, and what the rest gives
+module _ (c d : List Instruction) (s last : StmtCode) (ss : List StmtCode) (x y : Exits) (next : ℕ)
+    (exits : y ≡ before next x) (is : next ≡ (joined_before ss last).part.entry (length c + s.part.size next_falls))
+    (code : Emitted c d (s.part.code y (length c))) (size : length d ≡ length c + s.part.size (falls_of y))
+  where
+    second : ℕ
+    second = length c + s.part.size next_falls
+
+    length_is : length d ≡ length c + s.part.size next_falls
+    length_is = size ∙ ap (λ (e : Exits). length c + s.part.size (falls_of e)) exits
+
+    pub first_emitted : map instruction_tree d ++ code_before ss last x (length d) ≡ map instruction_tree c ++ code_before (s ∷ ss) last x (length c)
+    first_emitted =
+        ap (λ (n : ℕ). map instruction_tree d ++ code_before ss last x n) length_is
+        ∙ ap (λ (l : List InstructionTree). l ++ code_before ss last x (length c + s.part.size next_falls)) code
+        ∙ append_assoc (map instruction_tree c) (s.part.code y (length c)) (code_before ss last x (length c + s.part.size next_falls))
+        ∙ ap
+        (λ (e : Exits). map instruction_tree c ++ (s.part.code e (length c) ++ code_before ss last x (length c + s.part.size next_falls)))
+        (exits ∙ ap (λ (n : ℕ). before n x) is)
+
+    pub first_size : length d + sizes_before ss ≡ length c + sizes_before (s ∷ ss)
+    first_size =
+        let l = length_is in
+        omega arith
+
+-- all of them, and then the last
+pub joined_emitted :
+    (c d e : List Instruction) (ss : List StmtCode) (last : StmtCode) (x : Exits)
+    → Emitted c d (code_before ss last x (length c)) → length d ≡ length c + sizes_before ss
+    → Emitted d e (last.part.code x (length d)) → Emitted c e ((joined_before ss last).part.code x (length c))
+joined_emitted c d e ss last x first size rest =
+    emitted_then c d e (code_before ss last x (length c)) (last.part.code x (length d)) first rest
+    ∙ ap (λ (n : ℕ). map instruction_tree c ++ (code_before ss last x (length c) ++ last.part.code x n)) size
+    ∙ ap (λ (l : List InstructionTree). map instruction_tree c ++ l) (sym (joined_code ss last x (length c)))
+
+pub joined_length :
+    (c d e : List Instruction) (ss : List StmtCode) (last : StmtCode) (x : Exits)
+    → length d ≡ length c + sizes_before ss → length e ≡ length d + last.part.size (falls_of x)
+    → length e ≡ length c + (joined_before ss last).part.size (falls_of x)
+joined_length c d e ss last x first rest =
+    let whole = joined_size ss last (falls_of x) in
+    omega arith
+
+-- ---- what the code of a statement is made of
+
+pub emitted_all :
+    {T E : Type 0} (r : Result T E) (self : StmtPlan) (all : Vec StmtPlan Global) (last : Box StmtPlan Global) (ss : List StmtPlan) (p q : StmtPlan) (x : Exits)
+    (c d e : List Instruction) → self ≡ plans.Joined all last → ss ≡ all.items → p ≡ last.value → q ≡ last.value
+    → Emitted c d (code_before (map stmt_part ss) (stmt_part p) x (length c)) → length d ≡ length c + sizes_before (map stmt_part ss)
+    → OnOk r (Emitted d e ((stmt_part q).part.code x (length d))) → OnOk r (Emitted c e ((stmt_part self).part.code x (length c)))
+emitted_all r self all last ss p q x c d e is items first second code size rest =
+    let parts = map stmt_part all.items in
+    let l = stmt_part last.value in
+    let before : Emitted c d (code_before parts l x (length c)) =
+    code
+    ∙ ap (λ (ts : List StmtPlan). map instruction_tree c ++ code_before (map stmt_part ts) (stmt_part p) x (length c)) items
+    ∙ ap (λ (s : StmtPlan). map instruction_tree c ++ code_before parts (stmt_part s) x (length c)) first in
+    let count : length d ≡ length c + sizes_before parts = size ∙ ap (λ (ts : List StmtPlan). length c + sizes_before (map stmt_part ts)) items in
+    on_ok_weaker {P = Emitted d e ((stmt_part q).part.code x (length d))} {Q = Emitted c e ((stmt_part self).part.code x (length c))} r
+    (λ h.
+    joined_emitted c d e parts l x before count (h ∙ ap (λ (s : StmtPlan). map instruction_tree d ++ (stmt_part s).part.code x (length d)) second)
+    ∙ ap (λ (s : StmtCode). map instruction_tree c ++ s.part.code x (length c)) (sym (joined_is self all last is)))
+    rest
+
+pub length_of_all :
+    {T E : Type 0} (r : Result T E) (self : StmtPlan) (all : Vec StmtPlan Global) (last : Box StmtPlan Global) (ss : List StmtPlan) (q : StmtPlan) (x : Exits)
+    (c d e : List Instruction) → self ≡ plans.Joined all last → ss ≡ all.items → q ≡ last.value → length d ≡ length c + sizes_before (map stmt_part ss)
+    → OnOk r (length e ≡ length d + (stmt_part q).part.size (falls_of x)) → OnOk r (length e ≡ length c + (stmt_part self).part.size (falls_of x))
+length_of_all r self all last ss q x c d e is items second size rest =
+    let parts = map stmt_part all.items in
+    let l = stmt_part last.value in
+    let count : length d ≡ length c + sizes_before parts = size ∙ ap (λ (ts : List StmtPlan). length c + sizes_before (map stmt_part ts)) items in
+    on_ok_weaker {P = length e ≡ length d + (stmt_part q).part.size (falls_of x)} {Q = length e ≡ length c + (stmt_part self).part.size (falls_of x)} r
+    (λ h.
+    joined_length c d e parts l x count (h ∙ ap (λ (s : StmtPlan). length d + (stmt_part s).part.size (falls_of x)) second)
+    ∙ ap (λ (s : StmtCode). length c + s.part.size (falls_of x)) (sym (joined_is self all last is)))
+    rest
+
+pub emitted_return :
+    {T E : Type 0} (r : Result T E) (self : StmtPlan) (t : ℕ) (value : ExprPlan) (o : Operand) (x : Exits) (c d e : List Instruction)
+    → self ≡ plans.Return t value → o ≡ operand_of (expr_code value) t → Emitted c d (code_of (expr_code value) t (length c))
+    → OnOk r (Emitted d e (return (Some o) ∷ [])) → OnOk r (Emitted c e ((stmt_part self).part.code x (length c)))
+emitted_return r self t value o x c d e is operand code rest =
+    on_ok_weaker {P = Emitted d e (return (Some o) ∷ [])} {Q = Emitted c e ((stmt_part self).part.code x (length c))} r
+    (λ h.
+    emitted_then c d e (code_of (expr_code value) t (length c)) (return (Some o) ∷ []) code h
+    ∙ ap (λ (p : Operand). map instruction_tree c ++ (code_of (expr_code value) t (length c) ++ return (Some p) ∷ [])) operand
+    ∙ ap (λ (s : StmtCode). map instruction_tree c ++ s.part.code x (length c)) (sym (return_is self t value is)))
+    rest

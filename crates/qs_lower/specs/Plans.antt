@@ -1,0 +1,139 @@
+-- What the plans of the program stand for.
+use Rattle.std.specs.Prelude.{◌≡◌, ℕ, ◌+◌, Bool, true, false, List, [], ◌∷◌, ◌++◌, map, Option, Some, None}
+use Rattle.qs_memory.specs.Partial.{only_if}
+use Rattle.qs_memory.specs.declared.operation.BinaryOperation.{BinaryOperation}
+use Rattle.qs_memory.specs.declared.operation.BinaryOperation.TheVariants as binaries
+use Rattle.qs_tac.specs.Fits.{is_word}
+use Rattle.qs_tac.specs.Trees.{InstructionTree, move, jump}
+use Rattle.qs_tac.specs.TreeOf.{instruction_tree}
+use Rattle.qs_tac.specs.declared.instruction.Instruction.{Instruction}
+use Rattle.qs_tac.specs.declared.operands.Index.{Index}
+use Rattle.qs_tac.specs.declared.operands.Operand.{Operand}
+use Rattle.qs_tac.specs.declared.operands.Operand.TheVariants.{Temporary, Constant}
+use Rattle.qs_tac.specs.declared.operands.Condition.{Condition}
+use Rattle.qs_tac.specs.declared.operands.Condition.TheVariants.{NotZero, Compare, ComparePointers}
+use Rattle.qs_lower.specs.Exits as exits
+use Rattle.qs_lower.specs.Exits.{falls, goes, branch_size, branch_code}
+use Rattle.qs_lower.specs.Expressions.{IndexCode, ExprCode, code_of, based, by_operand, further, by_address, indexed_by, of_load, of_compound, of_convert, pair_size, pair_code, pair_used, operand_of, own, with_test, of_binary_value, of_both_tests, of_either_test, of_choice}
+use Rattle.qs_lower.specs.declared.exits.Exit.{Exit}
+use Rattle.qs_lower.specs.declared.exits.Exit.TheVariants.{Falls, Goes}
+use Rattle.qs_lower.specs.declared.plans.ExprPlan.{ExprPlan, ExprPlan-F, fold-ExprPlan}
+use Rattle.qs_lower.specs.declared.plans.PlanPair.{PlanPair-F}
+use Rattle.qs_lower.specs.declared.plans.PlanChoice.{PlanChoice-F}
+
+-- the sum of an offset and so many bytes, where it is a word
+abbrev pub word_of : Option ℕ → (bytes : ℕ) → Option ℕ
+word_of offset bytes = only_if (is_word (further offset bytes)) (Some (further offset bytes))
+
+-- the offset behind the element, where there is one
+abbrev pub offset_of : Option IndexCode → Option (Option ℕ)
+offset_of None = None
+offset_of (Some i) = Some i.offset
+
+abbrev pub index_offset : ExprCode → Option (Option ℕ)
+index_offset p = offset_of p.index
+
+abbrev pub offset_over : ℕ → Option (Option ℕ) → Option (Option ℕ)
+offset_over n None = None
+offset_over n (Some before) = Some (Some n)
+
+abbrev pub started : (is_computed : Bool) → ExprCode → ExprCode
+started true p = based p
+started false p = p
+
+abbrev pub with_offset : ℕ → ExprCode → ExprCode
+with_offset n p = record p { offset = Some n }
+
+abbrev pub index_with : ℕ → Option IndexCode → Option IndexCode
+index_with n None = None
+index_with n (Some i) = Some (record i { offset = Some n })
+
+abbrev pub with_index_offset : ℕ → ExprCode → ExprCode
+with_index_offset n p = record p { index = index_with n p.index }
+
+-- any operation, as one on two values; a comparison is tested by a branch
+abbrev pub operation_test_size : BinaryOperation → ExprCode → (a b : ExprCode) → (met unmet : Bool) → ℕ
+operation_test_size (binaries.Arithmetic op s) e a b = e.test_size
+operation_test_size (binaries.Compare op s) e a b = λ met unmet. pair_size a b + branch_size met unmet
+operation_test_size (binaries.Move direction s element) e a b = e.test_size
+operation_test_size (binaries.Difference element) e a b = e.test_size
+operation_test_size (binaries.ComparePointers op) e a b = λ met unmet. pair_size a b + branch_size met unmet
+
+abbrev pub compared : (Operand → Operand → Condition) → (a b : ExprCode) → (met unmet : exits.Exit) → (t at : ℕ) → List InstructionTree
+compared c a b met unmet t at = pair_code a b t at ++ branch_code (c (operand_of a t) (operand_of b (t + own a))) met unmet
+
+abbrev pub operation_test : BinaryOperation → ExprCode → (a b : ExprCode) → (met unmet : exits.Exit) → (t at : ℕ) → List InstructionTree
+operation_test (binaries.Arithmetic op s) e a b = e.test
+operation_test (binaries.Compare op s) e a b = compared (Compare op s) a b
+operation_test (binaries.Move direction s element) e a b = e.test
+operation_test (binaries.Difference element) e a b = e.test
+operation_test (binaries.ComparePointers op) e a b = compared (ComparePointers op) a b
+
+abbrev pub operation_test_used : BinaryOperation → ExprCode → (a b : ExprCode) → ℕ
+operation_test_used (binaries.Arithmetic op s) e a b = e.test_used
+operation_test_used (binaries.Compare op s) e a b = pair_used a b
+operation_test_used (binaries.Move direction s element) e a b = e.test_used
+operation_test_used (binaries.Difference element) e a b = e.test_used
+operation_test_used (binaries.ComparePointers op) e a b = pair_used a b
+
+abbrev pub of_plain_operation : BinaryOperation → ExprCode → ExprCode → ExprCode
+of_plain_operation op a b =
+    let e = of_binary_value op a b in
+    with_test e (operation_test_size op e a b) (operation_test op e a b) (operation_test_used op e a b)
+
+-- two operands, and a condition with two values
+pub record PairCode : Type 0 where
+  pub left : ExprCode
+  pub right : ExprCode
+
+pub record ChoiceCode : Type 0 where
+  pub condition : ExprCode
+  pub met : ExprCode
+  pub unmet : ExprCode
+
+abbrev pub expr_step : ExprPlan-F ExprCode ChoiceCode PairCode → ExprCode
+expr_step (ExprPlan-F.Simple o) = by_operand o
+expr_step (ExprPlan-F.Load s p) = of_load s p.value
+expr_step (ExprPlan-F.Offset is_computed n p) = by_address (with_offset n (started is_computed p.value))
+expr_step (ExprPlan-F.IndexOffset n p) = by_address (with_index_offset n p.value)
+expr_step (ExprPlan-F.Element is_computed s element p) = by_address (indexed_by s element (started is_computed p.value.left) p.value.right)
+expr_step (ExprPlan-F.Unary op a) = of_compound op false false a.value
+expr_step (ExprPlan-F.Convert s a) = of_convert s a.value
+expr_step (ExprPlan-F.Binary op p) = of_plain_operation op p.value.left p.value.right
+expr_step (ExprPlan-F.Both p) = of_both_tests p.value.left p.value.right
+expr_step (ExprPlan-F.Either p) = of_either_test p.value.left p.value.right
+expr_step (ExprPlan-F.Choice p) = of_choice p.value.condition p.value.met p.value.unmet
+
+abbrev pub pair_step : PlanPair-F ExprCode ChoiceCode PairCode → PairCode
+pair_step p = record { left = p.left; right = p.right }
+
+abbrev pub choice_step : PlanChoice-F ExprCode ChoiceCode PairCode → ChoiceCode
+choice_step p = record { condition = p.condition; met = p.met; unmet = p.unmet }
+
+abbrev pub expr_code : ExprPlan → ExprCode
+expr_code = fold-ExprPlan ExprCode ChoiceCode PairCode expr_step choice_step pair_step
+
+-- ---- exits and code
+
+abbrev pub exit_tree : Exit → exits.Exit
+exit_tree (Falls p) = falls p
+exit_tree (Goes p) = goes p
+
+-- this list was put behind the code
+abbrev pub Emitted : (before after : List Instruction) → List InstructionTree → Type 0
+Emitted before after code = map instruction_tree after ≡ map instruction_tree before ++ code
+
+abbrev pub with_offset_at : Option Index → ℕ → Option Index
+with_offset_at None n = None
+with_offset_at (Some index) n = Some (record index { offset = Some n })
+
+-- ---- parts of code
+
+abbrev pub number_code : (x end : ℕ) → List InstructionTree
+number_code x end = move x (Constant 1) ∷ jump end ∷ move x (Constant 0) ∷ []
+
+abbrev pub element_code : ExprCode → ExprCode → (t at : ℕ) → List InstructionTree
+element_code p b t at = p.base_code t at ++ code_of b (t + p.base_own) (at + p.base_size)
+
+abbrev pub value_test_code : ExprCode → (met unmet : exits.Exit) → (t at : ℕ) → List InstructionTree
+value_test_code e met unmet t at = e.into t t at ++ branch_code (NotZero (Temporary t)) met unmet

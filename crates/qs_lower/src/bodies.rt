@@ -1,0 +1,86 @@
+// The plans of the statements of core.
+ghost use Rattle.std.specs.Prelude.{◌≡◌, IfOk, map};
+ghost use Rattle.qs_core.specs.Trees.{stmts_of};
+ghost use Rattle.qs_core.specs.TreeOf.{core_stmt, core_stmts};
+ghost use Rattle.qs_lower.specs.Statements as spec;
+ghost use Rattle.qs_lower.specs.StmtPlans.{stmt_part};
+
+use crate::planning::lowered;
+use crate::stmt_planning::{all_lowered, joined, of_branch, of_loop, taken_by, target_of};
+use crate::stmt_plans::StmtPlan;
+use crate::ways::Way;
+use qs_base::NoMemory;
+use qs_core::CoreStmt;
+use std::alloc::Global;
+
+#[cycle(stmt_plans)]
+fn stmt_plans(alloc: Global, v: u32, free: u32, ss: &[CoreStmt]) -> Result<Vec<StmtPlan>, NoMemory>
+    ensures { IfOk result (λ r. map stmt_part r.items ≡ map (spec.stmt_code v free) (core_stmts ss.now)) }
+{
+    let mut all = Vec::new(alloc);
+    for s in ss {
+        all.push(stmt_plan(alloc, v, free, s)?)?;
+    }
+    Ok(all)
+}
+
+/// The plan of a statement in a function with so many variables, which are the first temporaries.
+#[cycle(stmt_plans)]
+#[tactic(auto, using(crate::proofs::StmtPlanLaws::stmts_joined))]
+fn stmt_plan(alloc: Global, v: u32, free: u32, s: &CoreStmt) -> Result<StmtPlan, NoMemory>
+    ensures { IfOk result (λ r. stmt_part r ≡ spec.stmt_code v free (core_stmt s.now)) }
+{
+    match s {
+        CoreStmt::Skip => Ok(StmtPlan::Go(Way::Next)),
+        CoreStmt::Seq(ss) => {
+            let all = stmt_plans(alloc, v, free, ss)?;
+            joined(alloc, all)
+        }
+        CoreStmt::Assign(x, e) => {
+            let e = lowered(alloc, v, e)?;
+            Ok(StmtPlan::Assign(free, target_of(v, *x)?, e))
+        }
+        CoreStmt::Store(s, a, b) => {
+            let a = lowered(alloc, v, a)?;
+            let b = lowered(alloc, v, b)?;
+            Ok(StmtPlan::Store(free, *s, a, b))
+        }
+        CoreStmt::Copy(size, alignment, a, b) => {
+            let a = lowered(alloc, v, a)?;
+            let b = lowered(alloc, v, b)?;
+            Ok(StmtPlan::Copy(free, *size, *alignment, a, b))
+        }
+        CoreStmt::Fill(blank, a) => {
+            let a = lowered(alloc, v, a)?;
+            Ok(StmtPlan::Fill(free, blank.copy(alloc)?, a))
+        }
+        CoreStmt::Call(x, f, es) => {
+            let es = all_lowered(alloc, v, es)?;
+            Ok(StmtPlan::Call(free, taken_by(v, *x)?, *f, es))
+        }
+        CoreStmt::If(e, a, b) => {
+            let e = lowered(alloc, v, e)?;
+            let a = stmt_plan(alloc, v, free, a)?;
+            let b = stmt_plan(alloc, v, free, b)?;
+            of_branch(alloc, e.known(), free, e, a, b)
+        }
+        CoreStmt::Loop(a, b) => {
+            let body = stmt_plan(alloc, v, free, a)?;
+            let step = stmt_plan(alloc, v, free, b)?;
+            of_loop(alloc, free, body, step)
+        }
+        CoreStmt::Break => Ok(StmtPlan::Go(Way::Break)),
+        CoreStmt::Continue => Ok(StmtPlan::Go(Way::Continue)),
+        CoreStmt::Return(None) => Ok(StmtPlan::PlainReturn),
+        CoreStmt::Return(Some(e)) => Ok(StmtPlan::Return(free, lowered(alloc, v, e)?)),
+    }
+}
+
+/// The plan of the statements of a function's body.
+#[tactic(auto, using(crate::proofs::StmtPlanLaws::stmts_joined))]
+pub fn body_plan(alloc: Global, v: u32, free: u32, ss: &[CoreStmt]) -> Result<StmtPlan, NoMemory>
+    ensures { IfOk result (λ r. stmt_part r ≡ spec.stmts_code v free (stmts_of (core_stmts ss.now))) }
+{
+    let all = stmt_plans(alloc, v, free, ss)?;
+    joined(alloc, all)
+}

@@ -1,0 +1,351 @@
+// The code of plans.
+ghost use Rattle.std.specs.Prelude.{◌≡◌, ◌+◌, [], ◌∷◌, ◌++◌, true, false, OnOk, length};
+ghost use Rattle.qs_tac.specs.TreeOf.{instruction_tree};
+ghost use Rattle.qs_lower.specs.Exits as exits;
+ghost use Rattle.qs_lower.specs.Expressions as spec;
+ghost use Rattle.qs_lower.specs.Plans.{expr_code, exit_tree, started, Emitted, number_code, element_code, value_test_code};
+
+use crate::addresses::{address_at, operand_of};
+use crate::exits::{Exit, emit_branch, emit_known, put};
+use crate::numbers::{place, sum};
+use crate::operands::{swaps, truth_of};
+use crate::plans::{ExprPlan, PlanChoice, PlanPair};
+use crate::scratch::{own, started_own};
+use crate::sizes::{both_size, either_size, size, test_size};
+use qs_base::NoMemory;
+use qs_memory::{BinaryOperation, UnaryOperation};
+use qs_tac::{Condition, Instruction, Operand};
+
+// The operation, with a constant on the right where the instruction lets its operands change places.
+fn binary_instruction(op: BinaryOperation, x: u32, left: Operand, right: Operand) -> Instruction
+    ensures { instruction_tree result ≡ spec.binary_instruction op x left right }
+{
+    if swaps(op, left) {
+        Instruction::Binary(op, x, right, left)
+    } else {
+        Instruction::Binary(op, x, left, right)
+    }
+}
+
+// Behind a test that goes on here where it holds, and just before the last of these instructions where it
+// doesn't: the number 1 or 0.
+fn put_number(code: &mut Vec<Instruction>, x: u32, end: u32) -> Result<(), NoMemory>
+    ensures code { OnOk result (Emitted code.old.items code.new.items (number_code x end)) }
+    ensures size { OnOk result (length code.new.items ≡ length code.old.items + 3) }
+{
+    put(code, Instruction::Move(x, Operand::Constant(1)))?;
+    put(code, Instruction::Jump(end))?;
+    put(code, Instruction::Move(x, Operand::Constant(0)))
+}
+
+/// Emits the value into a temporary; others from t on are free.
+#[cycle(emission)]
+pub fn emit_into(code: &mut Vec<Instruction>, e: &ExprPlan, x: u32, t: u32) -> Result<(), NoMemory>
+    ensures code { OnOk result (Emitted code.old.items code.new.items
+        ((expr_code e.now).into x t (length code.old.items))) }
+    ensures size { OnOk result (length code.new.items ≡ length code.old.items + (expr_code e.now).size) }
+{
+    match e {
+        ExprPlan::Simple(o) => put(code, Instruction::Move(x, *o)),
+        ExprPlan::Load(s, p) => {
+            emit_base(code, p, t)?;
+            put(code, Instruction::Load(*s, x, address_at(p, t)?))
+        }
+        ExprPlan::Offset(is_computed, _, p) => {
+            emit_started(code, p, *is_computed, t)?;
+            put(code, Instruction::AddressOf(x, address_at(e, t)?))
+        }
+        ExprPlan::IndexOffset(_, p) => {
+            emit_base(code, p, t)?;
+            put(code, Instruction::AddressOf(x, address_at(e, t)?))
+        }
+        ExprPlan::Element(is_computed, _, _, p) => {
+            emit_element(code, p, *is_computed, t)?;
+            put(code, Instruction::AddressOf(x, address_at(e, t)?))
+        }
+        ExprPlan::Unary(op, a) => {
+            emit_operand(code, a, t)?;
+            put(code, Instruction::Unary(*op, x, operand_of(a, t)))
+        }
+        ExprPlan::Convert(s, a) => {
+            emit_operand(code, a, t)?;
+            put(code, Instruction::Convert(*s, x, operand_of(a, t)))
+        }
+        ExprPlan::Binary(op, p) => {
+            let next = sum(t, own(&p.left))?;
+            emit_pair(code, p, t)?;
+            put(
+                code,
+                binary_instruction(*op, x, operand_of(&p.left, t), operand_of(&p.right, next)),
+            )
+        }
+        ExprPlan::Both(p) => emit_both_number(code, p, x, t),
+        ExprPlan::Either(p) => emit_either_number(code, p, x, t),
+        ExprPlan::Choice(p) => emit_choice(code, p, x, t),
+    }
+}
+
+/// Emits the value into the temporary t, where the expression isn't an operand as it stands.
+#[cycle(emission)]
+pub fn emit_operand(code: &mut Vec<Instruction>, e: &ExprPlan, t: u32) -> Result<(), NoMemory>
+    ensures code { OnOk result (Emitted code.old.items code.new.items
+        (spec.code_of (expr_code e.now) t (length code.old.items))) }
+    ensures size { OnOk result (length code.new.items ≡ length code.old.items + spec.size_of (expr_code e.now)) }
+{
+    match e.simple() {
+        None => emit_into(code, e, t, t),
+        Some(_) => Ok(()),
+    }
+}
+
+/// Emits the parts of the address.
+#[cycle(emission)]
+pub fn emit_base(code: &mut Vec<Instruction>, e: &ExprPlan, t: u32) -> Result<(), NoMemory>
+    ensures code { OnOk result (Emitted code.old.items code.new.items
+        ((expr_code e.now).base_code t (length code.old.items))) }
+    ensures size { OnOk result (length code.new.items ≡ length code.old.items + (expr_code e.now).base_size) }
+{
+    match e {
+        ExprPlan::Offset(is_computed, _, p) => emit_started(code, p, *is_computed, t),
+        ExprPlan::IndexOffset(_, p) => emit_base(code, p, t),
+        ExprPlan::Element(is_computed, _, _, p) => emit_element(code, p, *is_computed, t),
+        ExprPlan::Simple(_) => emit_operand(code, e, t),
+        ExprPlan::Load(_, _) => emit_operand(code, e, t),
+        ExprPlan::Unary(_, _) => emit_operand(code, e, t),
+        ExprPlan::Convert(_, _) => emit_operand(code, e, t),
+        ExprPlan::Binary(_, _) => emit_operand(code, e, t),
+        ExprPlan::Both(_) => emit_operand(code, e, t),
+        ExprPlan::Either(_) => emit_operand(code, e, t),
+        ExprPlan::Choice(_) => emit_operand(code, e, t),
+    }
+}
+
+#[cycle(emission)]
+fn emit_started(
+    code: &mut Vec<Instruction>,
+    p: &ExprPlan,
+    is_computed: bool,
+    t: u32,
+) -> Result<(), NoMemory>
+    ensures code { OnOk result (Emitted code.old.items code.new.items
+        ((started is_computed (expr_code p.now)).base_code t (length code.old.items))) }
+    ensures size { OnOk result (length code.new.items
+        ≡ length code.old.items + (started is_computed (expr_code p.now)).base_size) }
+{
+    if is_computed {
+        emit_operand(code, p, t)
+    } else {
+        emit_base(code, p, t)
+    }
+}
+
+#[cycle(emission)]
+fn emit_element(
+    code: &mut Vec<Instruction>,
+    p: &PlanPair,
+    is_computed: bool,
+    t: u32,
+) -> Result<(), NoMemory>
+    ensures code { OnOk result (Emitted code.old.items code.new.items
+        (element_code (started is_computed (expr_code p.now.left)) (expr_code p.now.right) t (length code.old.items))) }
+    ensures size { OnOk result (length code.new.items ≡ length code.old.items
+        + ((started is_computed (expr_code p.now.left)).base_size + spec.size_of (expr_code p.now.right))) }
+{
+    let next = sum(t, started_own(&p.left, is_computed)?)?;
+    emit_started(code, &p.left, is_computed, t)?;
+    emit_operand(code, &p.right, next)
+}
+
+#[cycle(emission)]
+fn emit_pair(code: &mut Vec<Instruction>, p: &PlanPair, t: u32) -> Result<(), NoMemory>
+    ensures code { OnOk result (Emitted code.old.items code.new.items
+        (spec.pair_code (expr_code p.now.left) (expr_code p.now.right) t (length code.old.items))) }
+    ensures size { OnOk result (length code.new.items
+        ≡ length code.old.items + spec.pair_size (expr_code p.now.left) (expr_code p.now.right)) }
+{
+    let next = sum(t, own(&p.left))?;
+    emit_operand(code, &p.left, t)?;
+    emit_operand(code, &p.right, next)
+}
+
+#[cycle(emission)]
+#[tactic(auto, using(crate::proofs::Emitting::number_emitted))]
+fn emit_both_number(
+    code: &mut Vec<Instruction>,
+    p: &PlanPair,
+    x: u32,
+    t: u32,
+) -> Result<(), NoMemory>
+    ensures code { OnOk result (Emitted code.old.items code.new.items
+        (spec.number_of (spec.both_size (expr_code p.now.left) (expr_code p.now.right))
+        (spec.of_both_tests (expr_code p.now.left) (expr_code p.now.right)).test x t (length code.old.items))) }
+    ensures size { OnOk result (length code.new.items ≡ length code.old.items
+        + (spec.both_size (expr_code p.now.left) (expr_code p.now.right) true false + 3)) }
+{
+    let met = sum(place(code)?, both_size(p, true, false)?)?;
+    let unmet = sum(met, 2)?;
+    let end = sum(unmet, 1)?;
+    emit_both(code, p, Exit::Falls(met), Exit::Goes(unmet), t)?;
+    put_number(code, x, end)?;
+    Ok(())
+}
+
+#[cycle(emission)]
+#[tactic(auto, using(crate::proofs::Emitting::number_emitted))]
+fn emit_either_number(
+    code: &mut Vec<Instruction>,
+    p: &PlanPair,
+    x: u32,
+    t: u32,
+) -> Result<(), NoMemory>
+    ensures code { OnOk result (Emitted code.old.items code.new.items
+        (spec.number_of (spec.either_size (expr_code p.now.left) (expr_code p.now.right))
+        (spec.of_either_test (expr_code p.now.left) (expr_code p.now.right)).test x t (length code.old.items))) }
+    ensures size { OnOk result (length code.new.items ≡ length code.old.items
+        + (spec.either_size (expr_code p.now.left) (expr_code p.now.right) true false + 3)) }
+{
+    let met = sum(place(code)?, either_size(p, true, false)?)?;
+    let unmet = sum(met, 2)?;
+    let end = sum(unmet, 1)?;
+    emit_either(code, p, Exit::Falls(met), Exit::Goes(unmet), t)?;
+    put_number(code, x, end)?;
+    Ok(())
+}
+
+#[cycle(emission)]
+fn emit_choice(code: &mut Vec<Instruction>, p: &PlanChoice, x: u32, t: u32) -> Result<(), NoMemory>
+    ensures code { OnOk result (Emitted code.old.items code.new.items
+        ((spec.of_choice (expr_code p.now.condition) (expr_code p.now.met) (expr_code p.now.unmet)).into x t (length code.old.items))) }
+    ensures size { OnOk result (length code.new.items ≡ length code.old.items
+        + (spec.of_choice (expr_code p.now.condition) (expr_code p.now.met) (expr_code p.now.unmet)).size) }
+{
+    let first = sum(place(code)?, test_size(&p.condition, true, false)?)?;
+    let second = sum(sum(first, size(&p.met)?)?, 1)?;
+    let end = sum(second, size(&p.unmet)?)?;
+    emit_test(
+        code,
+        &p.condition,
+        Exit::Falls(first),
+        Exit::Goes(second),
+        t,
+    )?;
+    emit_into(code, &p.met, x, t)?;
+    put(code, Instruction::Jump(end))?;
+    emit_into(code, &p.unmet, x, t)
+}
+
+#[cycle(emission)]
+fn emit_value_test(
+    code: &mut Vec<Instruction>,
+    e: &ExprPlan,
+    met: Exit,
+    unmet: Exit,
+    t: u32,
+) -> Result<(), NoMemory>
+    ensures code { OnOk result (Emitted code.old.items code.new.items
+        (value_test_code (expr_code e.now) (exit_tree met) (exit_tree unmet) t (length code.old.items))) }
+    ensures size { OnOk result (length code.new.items ≡ length code.old.items
+        + ((expr_code e.now).size + exits.branch_size (exits.is_fall (exit_tree met)) (exits.is_fall (exit_tree unmet)))) }
+{
+    emit_into(code, e, t, t)?;
+    emit_branch(code, Condition::NotZero(Operand::Temporary(t)), met, unmet)
+}
+
+/// Emits the test of the condition; temporaries from t on are free.
+#[cycle(emission)]
+pub fn emit_test(
+    code: &mut Vec<Instruction>,
+    e: &ExprPlan,
+    met: Exit,
+    unmet: Exit,
+    t: u32,
+) -> Result<(), NoMemory>
+    ensures code { OnOk result (Emitted code.old.items code.new.items
+        ((expr_code e.now).test (exit_tree met) (exit_tree unmet) t (length code.old.items))) }
+    ensures size { OnOk result (length code.new.items ≡ length code.old.items
+        + (expr_code e.now).test_size (exits.is_fall (exit_tree met)) (exits.is_fall (exit_tree unmet))) }
+{
+    match e {
+        ExprPlan::Simple(o) => emit_known(code, truth_of(*o), *o, met, unmet),
+        ExprPlan::Unary(UnaryOperation::Not, a) => emit_test(code, a, unmet, met, t),
+        ExprPlan::Unary(UnaryOperation::Truth, a) => emit_test(code, a, met, unmet, t),
+        ExprPlan::Binary(BinaryOperation::Compare(op, s), p) => {
+            let next = sum(t, own(&p.left))?;
+            let c = Condition::Compare(*op, *s, operand_of(&p.left, t), operand_of(&p.right, next));
+            emit_pair(code, p, t)?;
+            emit_branch(code, c, met, unmet)
+        }
+        ExprPlan::Binary(BinaryOperation::ComparePointers(op), p) => {
+            let next = sum(t, own(&p.left))?;
+            let c = Condition::ComparePointers(
+                *op,
+                operand_of(&p.left, t),
+                operand_of(&p.right, next),
+            );
+            emit_pair(code, p, t)?;
+            emit_branch(code, c, met, unmet)
+        }
+        ExprPlan::Both(p) => emit_both(code, p, met, unmet, t),
+        ExprPlan::Either(p) => emit_either(code, p, met, unmet, t),
+        ExprPlan::Unary(UnaryOperation::Plus(_), _) => emit_value_test(code, e, met, unmet, t),
+        ExprPlan::Unary(UnaryOperation::Minus(_), _) => emit_value_test(code, e, met, unmet, t),
+        ExprPlan::Unary(UnaryOperation::Complement(_), _) => emit_value_test(
+            code, e, met, unmet, t,
+        ),
+        ExprPlan::Binary(BinaryOperation::Arithmetic(_, _), _) => emit_value_test(
+            code, e, met, unmet, t,
+        ),
+        ExprPlan::Binary(BinaryOperation::Move(_, _, _), _) => emit_value_test(
+            code, e, met, unmet, t,
+        ),
+        ExprPlan::Binary(BinaryOperation::Difference(_), _) => emit_value_test(
+            code, e, met, unmet, t,
+        ),
+        ExprPlan::Load(_, _) => emit_value_test(code, e, met, unmet, t),
+        ExprPlan::Offset(_, _, _) => emit_value_test(code, e, met, unmet, t),
+        ExprPlan::IndexOffset(_, _) => emit_value_test(code, e, met, unmet, t),
+        ExprPlan::Element(_, _, _, _) => emit_value_test(code, e, met, unmet, t),
+        ExprPlan::Convert(_, _) => emit_value_test(code, e, met, unmet, t),
+        ExprPlan::Choice(_) => emit_value_test(code, e, met, unmet, t),
+    }
+}
+
+/// Emits the test of `&&`.
+#[cycle(emission)]
+fn emit_both(
+    code: &mut Vec<Instruction>,
+    p: &PlanPair,
+    met: Exit,
+    unmet: Exit,
+    t: u32,
+) -> Result<(), NoMemory>
+    ensures code { OnOk result (Emitted code.old.items code.new.items
+        ((spec.of_both_tests (expr_code p.now.left) (expr_code p.now.right)).test (exit_tree met) (exit_tree unmet) t (length code.old.items))) }
+    ensures size { OnOk result (length code.new.items ≡ length code.old.items
+        + spec.both_size (expr_code p.now.left) (expr_code p.now.right)
+        (exits.is_fall (exit_tree met)) (exits.is_fall (exit_tree unmet))) }
+{
+    let second = sum(place(code)?, test_size(&p.left, true, false)?)?;
+    emit_test(code, &p.left, Exit::Falls(second), unmet.settled(), t)?;
+    emit_test(code, &p.right, met, unmet, t)
+}
+
+/// Emits the test of `||`.
+#[cycle(emission)]
+fn emit_either(
+    code: &mut Vec<Instruction>,
+    p: &PlanPair,
+    met: Exit,
+    unmet: Exit,
+    t: u32,
+) -> Result<(), NoMemory>
+    ensures code { OnOk result (Emitted code.old.items code.new.items
+        ((spec.of_either_test (expr_code p.now.left) (expr_code p.now.right)).test (exit_tree met) (exit_tree unmet) t (length code.old.items))) }
+    ensures size { OnOk result (length code.new.items ≡ length code.old.items
+        + spec.either_size (expr_code p.now.left) (expr_code p.now.right)
+        (exits.is_fall (exit_tree met)) (exits.is_fall (exit_tree unmet))) }
+{
+    let second = sum(place(code)?, test_size(&p.left, false, true)?)?;
+    emit_test(code, &p.left, met.settled(), Exit::Falls(second), t)?;
+    emit_test(code, &p.right, met, unmet, t)
+}

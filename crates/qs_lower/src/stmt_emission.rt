@@ -1,0 +1,326 @@
+// The code of statements.
+ghost use Rattle.std.specs.Prelude.{◌≡◌, ◌+◌, ◌++◌, OnOk, length, map};
+ghost use Rattle.qs_memory.specs.BlankOf.{blank_tree};
+ghost use Rattle.qs_lower.specs.Expressions as spec;
+ghost use Rattle.qs_lower.specs.Plans.{expr_code, exit_tree, Emitted};
+ghost use Rattle.qs_lower.specs.Statements as statements;
+ghost use Rattle.qs_lower.specs.StmtPlans.{stmt_part, branch_part, loop_part, tested_part, sizes_before, code_before};
+ghost use Rattle.qs_lower.specs.Ways.{exits_tree, only};
+
+use crate::addresses::{address_at, operand_of};
+use crate::emission::{emit_base, emit_into, emit_operand, emit_test};
+use crate::exits::{Exit, emit_exit, put};
+use crate::numbers::{place, sum};
+use crate::plans::ExprPlan;
+use crate::scratch::{base_own, own};
+use crate::sizes::test_size;
+use crate::stmt_plans::{BranchPlan, LoopPlan, StmtPlan, TestedPlan};
+use crate::stmt_sizes::{entry, entry_before, stmt_size};
+use crate::ways::{
+    Exits, body_exits, body_falls, front_exits, last_exits, next_falls, none_falls, step_exits,
+};
+use qs_base::NoMemory;
+use qs_calls::Callee;
+use qs_memory::{Blank, Scalar};
+use qs_tac::{Instruction, Operand};
+use std::alloc::Global;
+
+// ---- what stands alone
+
+fn emit_store(
+    code: &mut Vec<Instruction>,
+    t: u32,
+    s: Scalar,
+    p: &ExprPlan,
+    e: &ExprPlan,
+    next: Exit,
+) -> Result<(), NoMemory>
+    ensures code { OnOk result (Emitted code.old.items code.new.items
+        ((statements.of_store t s (expr_code p.now) (expr_code e.now)).part.code (only (exit_tree next)) (length code.old.items))) }
+    ensures size { OnOk result (length code.new.items ≡ length code.old.items
+        + (statements.of_store t s (expr_code p.now) (expr_code e.now)).part.size (statements.falls_of (only (exit_tree next)))) }
+{
+    let value = sum(t, base_own(p)?)?;
+    let to = address_at(p, t)?;
+    emit_base(code, p, t)?;
+    emit_operand(code, e, value)?;
+    put(code, Instruction::Store(s, to, operand_of(e, value)))?;
+    emit_exit(code, next)
+}
+
+fn emit_copy(
+    code: &mut Vec<Instruction>,
+    t: u32,
+    size: u32,
+    alignment: u32,
+    p: &ExprPlan,
+    q: &ExprPlan,
+    next: Exit,
+) -> Result<(), NoMemory>
+    ensures code { OnOk result (Emitted code.old.items code.new.items
+        ((statements.of_copy t size alignment (expr_code p.now) (expr_code q.now)).part.code (only (exit_tree next)) (length code.old.items))) }
+    ensures size { OnOk result (length code.new.items ≡ length code.old.items
+        + (statements.of_copy t size alignment (expr_code p.now) (expr_code q.now)).part.size (statements.falls_of (only (exit_tree next)))) }
+{
+    let second = sum(t, base_own(p)?)?;
+    let to = address_at(p, t)?;
+    let from = address_at(q, second)?;
+    emit_base(code, p, t)?;
+    emit_base(code, q, second)?;
+    put(
+        code,
+        Instruction::Copy {
+            size,
+            alignment,
+            to,
+            from,
+        },
+    )?;
+    emit_exit(code, next)
+}
+
+fn emit_fill(
+    alloc: Global,
+    code: &mut Vec<Instruction>,
+    t: u32,
+    blank: &Blank,
+    p: &ExprPlan,
+    next: Exit,
+) -> Result<(), NoMemory>
+    ensures code { OnOk result (Emitted code.old.items code.new.items
+        ((statements.of_fill t (blank_tree blank.now) (expr_code p.now)).part.code (only (exit_tree next)) (length code.old.items))) }
+    ensures size { OnOk result (length code.new.items ≡ length code.old.items
+        + (statements.of_fill t (blank_tree blank.now) (expr_code p.now)).part.size (statements.falls_of (only (exit_tree next)))) }
+{
+    let to = address_at(p, t)?;
+    let blank = blank.copy(alloc)?;
+    emit_base(code, p, t)?;
+    put(code, Instruction::Fill(blank, to))?;
+    emit_exit(code, next)
+}
+
+// All of them, one behind the other.
+fn emit_all(code: &mut Vec<Instruction>, es: &[ExprPlan], t: u32) -> Result<(), NoMemory>
+    ensures code { OnOk result (Emitted code.old.items code.new.items
+        (spec.all_code (map expr_code es.now) t (length code.old.items))) }
+    ensures size { OnOk result (length code.new.items ≡ length code.old.items + spec.all_size (map expr_code es.now)) }
+{
+    match es {
+        [] => Ok(()),
+        [e, rest @ ..] => {
+            let next = sum(t, own(e))?;
+            emit_operand(code, e, t)?;
+            emit_all(code, rest, next)
+        }
+    }
+}
+
+fn put_operands(es: &[ExprPlan], t: u32, all: &mut Vec<Operand>) -> Result<(), NoMemory>
+    ensures { OnOk result (all.new.items ≡ all.old.items ++ spec.all_operands (map expr_code es.now) t) }
+{
+    match es {
+        [] => Ok(()),
+        [e, rest @ ..] => {
+            all.push(operand_of(e, t))?;
+            put_operands(rest, sum(t, own(e))?, all)
+        }
+    }
+}
+
+fn emit_call(
+    alloc: Global,
+    code: &mut Vec<Instruction>,
+    t: u32,
+    x: Option<u32>,
+    f: Callee,
+    es: &[ExprPlan],
+    next: Exit,
+) -> Result<(), NoMemory>
+    ensures code { OnOk result (Emitted code.old.items code.new.items
+        ((statements.of_call t x f (map expr_code es.now)).part.code (only (exit_tree next)) (length code.old.items))) }
+    ensures size { OnOk result (length code.new.items ≡ length code.old.items
+        + (statements.of_call t x f (map expr_code es.now)).part.size (statements.falls_of (only (exit_tree next)))) }
+{
+    let mut arguments = Vec::new(alloc);
+    put_operands(es, t, &mut arguments)?;
+    emit_all(code, es, t)?;
+    put(code, Instruction::Call(x, f, arguments))?;
+    emit_exit(code, next)
+}
+
+/// Emits the code of a statement.
+#[cycle(stmt_emission)]
+pub fn emit_stmt(
+    alloc: Global,
+    code: &mut Vec<Instruction>,
+    s: &StmtPlan,
+    x: Exits,
+) -> Result<(), NoMemory>
+    ensures code { OnOk result (Emitted code.old.items code.new.items
+        ((stmt_part s.now).part.code (exits_tree x) (length code.old.items))) }
+    ensures size { OnOk result (length code.new.items ≡ length code.old.items
+        + (stmt_part s.now).part.size (statements.falls_of (exits_tree x))) }
+{
+    match s {
+        StmtPlan::Go(w) => emit_exit(code, x.to(*w)),
+        StmtPlan::Assign(t, y, e) => {
+            emit_into(code, e, *y, *t)?;
+            emit_exit(code, x.next)
+        }
+        StmtPlan::Joined(all, last) => {
+            emit_before(alloc, code, all, last, x)?;
+            emit_stmt(alloc, code, last, x)
+        }
+        StmtPlan::Redirected(a, w) => emit_stmt(
+            alloc,
+            code,
+            a,
+            Exits {
+                next: x.to(*w),
+                ..x
+            },
+        ),
+        StmtPlan::Branch(p) => emit_branch(alloc, code, p, x),
+        StmtPlan::Loop(p) => emit_loop(alloc, code, p, x),
+        StmtPlan::TestedLoop(p) => emit_tested(alloc, code, p, x),
+        StmtPlan::Return(t, e) => {
+            emit_operand(code, e, *t)?;
+            put(code, Instruction::Return(Some(operand_of(e, *t))))
+        }
+        StmtPlan::PlainReturn => put(code, Instruction::Return(None)),
+        StmtPlan::Store(t, s, p, e) => emit_store(code, *t, *s, p, e, x.next),
+        StmtPlan::Copy(t, size, alignment, p, q) => emit_copy(
+            code, *t, *size, *alignment, p, q, x.next,
+        ),
+        StmtPlan::Fill(t, blank, p) => emit_fill(alloc, code, *t, blank, p, x.next),
+        StmtPlan::Call(t, y, f, es) => emit_call(alloc, code, *t, *y, *f, es, x.next),
+    }
+}
+
+// Emits the code of all of them, behind which the last will stand.
+#[cycle(stmt_emission)]
+fn emit_before(
+    alloc: Global,
+    code: &mut Vec<Instruction>,
+    all: &[StmtPlan],
+    last: &StmtPlan,
+    x: Exits,
+) -> Result<(), NoMemory>
+    ensures code { OnOk result (Emitted code.old.items code.new.items
+        (code_before (map stmt_part all.now) (stmt_part last.now) (exits_tree x) (length code.old.items))) }
+    ensures size { OnOk result (length code.new.items ≡ length code.old.items + sizes_before (map stmt_part all.now)) }
+{
+    for (i, s) in all.iter().enumerate() {
+        let second = sum(place(code)?, stmt_size(s, next_falls())?)?;
+        let next = entry_before(&all[i + 1..], last, second)?;
+        emit_stmt(alloc, code, s, x.before(next))?;
+    }
+    Ok(())
+}
+
+#[cycle(stmt_emission)]
+fn emit_branch(
+    alloc: Global,
+    code: &mut Vec<Instruction>,
+    p: &BranchPlan,
+    x: Exits,
+) -> Result<(), NoMemory>
+    ensures code { OnOk result (Emitted code.old.items code.new.items
+        ((branch_part p.now).part.code (exits_tree x) (length code.old.items))) }
+    ensures size { OnOk result (length code.new.items ≡ length code.old.items
+        + (branch_part p.now).part.size (statements.falls_of (exits_tree x))) }
+{
+    let at = place(code)?;
+    match p.met.way() {
+        Some(v) => match p.unmet.way() {
+            Some(w) => emit_test(code, &p.test, x.to(v), x.to(w), p.free),
+            None => {
+                let second = sum(at, test_size(&p.test, false, true)?)?;
+                let unmet = Exit::Falls(entry(&p.unmet, second)?);
+                emit_test(code, &p.test, x.to(v).settled(), unmet, p.free)?;
+                emit_stmt(alloc, code, &p.unmet, x)
+            }
+        },
+        None => {
+            let first = sum(at, test_size(&p.test, true, false)?)?;
+            let met = Exit::Falls(entry(&p.met, first)?);
+            match p.unmet.way() {
+                Some(w) => {
+                    emit_test(code, &p.test, met, x.to(w).settled(), p.free)?;
+                    emit_stmt(alloc, code, &p.met, x)
+                }
+                None => {
+                    let second = sum(first, stmt_size(&p.met, none_falls())?)?;
+                    let unmet = Exit::Goes(entry(&p.unmet, second)?);
+                    emit_test(code, &p.test, met, unmet, p.free)?;
+                    emit_stmt(alloc, code, &p.met, x.elsewhere())?;
+                    emit_stmt(alloc, code, &p.unmet, x)
+                }
+            }
+        }
+    }
+}
+
+#[cycle(stmt_emission)]
+fn emit_loop(
+    alloc: Global,
+    code: &mut Vec<Instruction>,
+    p: &LoopPlan,
+    x: Exits,
+) -> Result<(), NoMemory>
+    ensures code { OnOk result (Emitted code.old.items code.new.items
+        ((loop_part p.now).part.code (exits_tree x) (length code.old.items))) }
+    ensures size { OnOk result (length code.new.items ≡ length code.old.items
+        + (loop_part p.now).part.size (statements.falls_of (exits_tree x))) }
+{
+    let at = place(code)?;
+    let back = last_exits(entry(&p.body, at)?, x.next);
+    if p.is_alone {
+        emit_stmt(alloc, code, &p.body, back)
+    } else {
+        let second = sum(at, stmt_size(&p.body, body_falls())?)?;
+        emit_stmt(
+            alloc,
+            code,
+            &p.body,
+            body_exits(entry(&p.step, second)?, x.next),
+        )?;
+        emit_stmt(alloc, code, &p.step, back)
+    }
+}
+
+#[cycle(stmt_emission)]
+fn emit_tested(
+    alloc: Global,
+    code: &mut Vec<Instruction>,
+    p: &TestedPlan,
+    x: Exits,
+) -> Result<(), NoMemory>
+    ensures code { OnOk result (Emitted code.old.items code.new.items
+        ((tested_part p.now).part.code (exits_tree x) (length code.old.items))) }
+    ensures size { OnOk result (length code.new.items ≡ length code.old.items
+        + (tested_part p.now).part.size (statements.falls_of (exits_tree x))) }
+{
+    let first = sum(place(code)?, 1)?;
+    let second = sum(first, stmt_size(&p.rest, body_falls())?)?;
+    let third = sum(second, stmt_size(&p.step, next_falls())?)?;
+    let last = sum(third, stmt_size(&p.front, next_falls())?)?;
+    let head = entry(&p.front, third)?;
+    let again = entry(&p.step, second)?;
+    put(code, Instruction::Jump(head))?;
+    emit_stmt(alloc, code, &p.rest, body_exits(again, x.next))?;
+    emit_stmt(alloc, code, &p.step, step_exits(Exit::Falls(head), x.next))?;
+    emit_stmt(
+        alloc,
+        code,
+        &p.front,
+        front_exits(Exit::Falls(last), again, x.next),
+    )?;
+    emit_test(
+        code,
+        &p.test,
+        Exit::Goes(entry(&p.rest, first)?),
+        x.next,
+        p.free,
+    )
+}

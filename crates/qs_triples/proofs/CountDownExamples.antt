@@ -1,5 +1,5 @@
 -- A function that counts down, its derivation, and derivations with one thing wrong.
-use Rattle.std.proofs.Common.{◌≡◌, ℕ, [], ◌∷◌, codes, pos, Some, None, refl}
+use Rattle.std.proofs.Common.{◌≡◌, ℕ, true, false, [], ◌∷◌, codes, pos, Some, None, refl}
 use Rattle.std.specs.Prelude.{Option}
 use Rattle.qs_memory.specs.declared.scalar.Scalar.TheVariants as scalars
 use Rattle.qs_memory.specs.declared.operation.Signedness.TheVariants.{Unsigned}
@@ -7,7 +7,7 @@ use Rattle.qs_memory.specs.declared.operation.Arithmetic.TheVariants as arithmet
 use Rattle.qs_memory.specs.declared.operation.Comparison.TheVariants as comparisons
 use Rattle.qs_memory.specs.declared.operation.BinaryOperation.TheVariants as binaries
 use Rattle.qs_calls.specs.declared.callee.Callee.TheVariants.{Function}
-use Rattle.qs_calls.specs.declared.parameter.Parameter.TheVariants.{Plain}
+use Rattle.qs_calls.specs.declared.parameter.Parameter.TheVariants.{Plain, Placed}
 use Rattle.qs_assert.specs.declared.variable.VarKind.{VarKind}
 use Rattle.qs_assert.specs.declared.variable.VarKind.TheVariants as kinds
 use Rattle.qs_assert.specs.declared.variable.NumberType.TheVariants as numbers
@@ -22,6 +22,7 @@ use Rattle.qs_core.specs.Trees.{CoreExprTree, CoreFunctionTree, CoreUnitTree, st
 use Rattle.qs_triples.specs.Derivations.{DerivationTree, leaf, sequence, conditional, loop, call, balanced_call, consequence, no_derivations, derivation_and, SpecTree, EntryTree, ProofsTree}
 use Rattle.qs_triples.specs.Rules.{in_precondition, in_postcondition, at_node, DerivationFault, shape, mentions, certificate, no_spec, entry, bad_order}
 use Rattle.qs_triples.specs.Entries.{entry_fault}
+use Rattle.qs_triples.specs.Mentions.{in_body}
 
 -- ---- the unit
 
@@ -306,3 +307,11 @@ later = record {
 
 a_name_before_its_definition : entry_fault unit later of_main ≡ Some (bad_order 0)
 a_name_before_its_definition = refl
+
+-- ---- a parameter that has a block
+
+plain_is_mentioned : in_body f (kinds.Plain 0) ≡ true
+plain_is_mentioned = refl
+
+placed_is_not : in_body (record f { parameters = record { name = codes "n"; place = Placed 0 scalars.Unsigned } ∷ [] }) (kinds.Plain 0) ≡ false
+placed_is_not = refl

@@ -13,5 +13,12 @@ pub mod RuleLaws
 pub mod FunctionLaws
 pub mod PathLaws
 pub mod BoundLaws
+pub mod ListLaws
+pub mod FaultLaws
 mod CountDownExamples
 mod LoopExamples
+mod EvenOddExamples
+mod DigitsExamples
+pub mod NodeLaws
+pub mod WalkLaws
+pub mod EntryLaws

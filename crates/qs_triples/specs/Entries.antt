@@ -91,6 +91,20 @@ entry_fault u proofs e = fault_of_known u proofs (slice_get u.functions e.functi
 abbrev pub IsDerived : CoreUnitTree → ProofsTree → EntryTree → Type 0
 IsDerived u proofs e = entry_fault u proofs e ≡ None
 
+-- the first fault of the first entry of a function
+abbrev pub fault_of_entry : CoreUnitTree → ProofsTree → Option EntryTree → Option DerivationFault
+fault_of_entry u proofs (Some e) = entry_fault u proofs e
+-- never asked
+fault_of_entry u proofs None = Some (shape [])
+
+abbrev pub function_fault : CoreUnitTree → ProofsTree → (function : ℕ) → Option DerivationFault
+function_fault u proofs f = fault_of_entry u proofs (entry_of proofs f)
+
+pub record HasDerivedEntry (u : CoreUnitTree) (proofs : ProofsTree) (function : ℕ) : Type 0 where
+  pub entry_tree : EntryTree
+  pub stands : entry_of proofs function ≡ Some entry_tree
+  pub derived : IsDerived u proofs entry_tree
+
 -- ---- path entries
 
 -- At all costs and all arguments of g, the assertion is at least what a call of g needs. It mentions no variable, so its

@@ -6,3 +6,12 @@ pub mod Rules
 pub mod Entries
 pub mod Filled
 pub mod Laws
+pub mod TermLists
+pub mod Standing
+pub mod TreeOf
+pub mod Replacements
+pub mod Told
+pub mod Views
+pub mod Forms
+pub mod Nodes
+pub mod Checking

@@ -42,9 +42,17 @@ in_post f (kinds.Temporary k) = false
 in_post f (kinds.Old x) = has_plain_parameter f x
 in_post f kinds.Returned = true
 
+abbrev pub is_placed_parameter : Option CoreParameterTree → Bool
+is_placed_parameter None = false
+is_placed_parameter (Some p) = not (is_plain p.place)
+
+-- the value of a placed parameter is in its block, and no variable's
+abbrev pub has_placed_parameter : CoreFunctionTree → (number : ℕ) → Bool
+has_placed_parameter f x = is_placed_parameter (slice_get f.parameters x)
+
 -- the assertions in a body all of these, and all variables and temporaries
 abbrev pub in_body : CoreFunctionTree → VarKind → Bool
-in_body f (kinds.Plain x) = true
+in_body f (kinds.Plain x) = not (has_placed_parameter f x)
 in_body f (kinds.Temporary k) = true
 in_body f (kinds.Old x) = has_plain_parameter f x
 in_body f kinds.Returned = true
@@ -133,10 +141,14 @@ old_kind (kinds.Temporary k) = kinds.Temporary k
 old_kind (kinds.Old x) = kinds.Old x
 old_kind kinds.Returned = kinds.Returned
 
+-- the variable of this kind under the same type
+abbrev pub renamed : VarKind → Var → TermTree
+renamed kind x = variable (record { kind = kind; number = x.number })
+
 -- each x as `(old x)`
 abbrev pub as_old : Var → TermTree
-as_old x = variable (record { kind = old_kind x.kind; number = x.number })
+as_old x = renamed (old_kind x.kind) x
 
 -- each `(old x)` as x
 abbrev pub as_plain : Var → TermTree
-as_plain x = variable (plain_variable x)
+as_plain x = renamed (plain_kind x.kind) x

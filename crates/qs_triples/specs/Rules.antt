@@ -120,19 +120,25 @@ abbrev pub replaced : Var → Option TermTree → AssertionTree → Answer
 replaced x (Some t) a = Ok (in_assertion x t a)
 replaced x None a = unless (first_of x.kind a) (Ok a)
 
+abbrev pub returned_rule : Option CoreExprTree → (post : AssertionTree) → Answer
+returned_rule None post = unless (first_of kinds.Returned post) (Ok post)
+returned_rule (Some e) post = replaced (var kinds.Returned (type_of e)) (expression_term e) post
+
+abbrev pub given_rule : (destination : Option ℕ) → Callee → (next : AssertionTree) → Answer
+given_rule x PutChar next = unless (first_of_destination x next) (Ok next)
+given_rule x GetChar next = unless (first_of_destination x next) (Ok next)
+given_rule x (Function g) next = Err (shape [])
+
 abbrev pub leaf_rule : CoreStmtTree → Posts → Answer
 leaf_rule core.skip q = Ok q.next
 leaf_rule (core.assign x e) q = replaced (var (target_kind x) (type_of e)) (expression_term e) q.next
 leaf_rule (core.store s to e) q = Ok q.next
 leaf_rule (core.copy size alignment to from) q = Ok q.next
 leaf_rule (core.fill contents to) q = Ok q.next
-leaf_rule (core.call x PutChar es) q = unless (first_of_destination x q.next) (Ok q.next)
-leaf_rule (core.call x GetChar es) q = unless (first_of_destination x q.next) (Ok q.next)
-leaf_rule (core.call x (Function g) es) q = Err (shape [])
+leaf_rule (core.call x g es) q = given_rule x g q.next
 leaf_rule core.break q = Ok q.on_break
 leaf_rule core.continue q = Ok q.on_continue
-leaf_rule (core.return None) q = unless (first_of kinds.Returned q.on_return) (Ok q.on_return)
-leaf_rule (core.return (Some e)) q = replaced (var kinds.Returned (type_of e)) (expression_term e) q.on_return
+leaf_rule (core.return e) q = returned_rule e q.on_return
 leaf_rule (core.seq ss) q = Err (shape [])
 leaf_rule (core.branch e s t) q = Err (shape [])
 leaf_rule (core.loop body step) q = Err (shape [])
@@ -266,6 +272,29 @@ abbrev pub known_callee : Scope → CallSite → (Known → Answer) → Answer
 known_callee c site rule =
     of_spec site.function (slice_get c.functions site.function) (c.specs site.function) rule
 
+-- a call with a frame
+abbrev pub call_rule : Scope → (frame : AssertionTree) → CertTree → Posts → CallSite → Known → Answer
+call_rule c a w q site g =
+    let before = pre_images g.function site.arguments in
+    let behind = post_images g.function site.destination site.arguments in
+    unless (first_other c.function (in_body c.function) a)
+    (unless (first_of_destination site.destination a)
+    (unless (first_without before g.spec.pre)
+    (unless (option_map plain_variable (first_without_argument behind g.spec.post))
+    (unless (first_without behind g.spec.post)
+    (certified c.defines w
+    (with_frame site.function (at_call behind g.spec.post) a) q.next
+    (with_frame site.function (at_call before g.spec.pre) a))))))
+
+-- a call of a function that gives back what it takes
+abbrev pub balanced_rule : Posts → CallSite → Known → Answer
+balanced_rule q site g =
+    let before = pre_images g.function site.arguments in
+    require (is_balanced g.spec) (shape [])
+    (unless (first_of_destination site.destination q.next)
+    (unless (first_without before g.spec.pre)
+    (Ok (around site.function q.next (at_call before g.spec.pre)))))
+
 abbrev pub is_consequence : DerivationTree → Bool
 is_consequence leaf = false
 is_consequence (sequence ds) = false
@@ -298,20 +327,8 @@ abbrev mutual
       (bind (part 1 (pre e c step (step_posts i q))) (λ j.
       bind (part 0 (pre d c body (body_posts j q))) (λ p.
       certified c.defines w i p i))))
-  pre (call a w) c s q = of_call s (λ site. known_callee c site (λ g.
-      unless (first_other c.function (in_body c.function) a)
-      (unless (first_of_destination site.destination a)
-      (unless (first_without (pre_images g.function site.arguments) g.spec.pre)
-      (unless (option_map plain_variable (first_without_argument (post_images g.function site.destination site.arguments) g.spec.post))
-      (unless (first_without (post_images g.function site.destination site.arguments) g.spec.post)
-      (certified c.defines w
-      (with_frame site.function (at_call (post_images g.function site.destination site.arguments) g.spec.post) a) q.next
-      (with_frame site.function (at_call (pre_images g.function site.arguments) g.spec.pre) a))))))))
-  pre balanced_call c s q = of_call s (λ site. known_callee c site (λ g.
-      require (is_balanced g.spec) (shape [])
-      (unless (first_of_destination site.destination q.next)
-      (unless (first_without (pre_images g.function site.arguments) g.spec.pre)
-      (Ok (around site.function q.next (at_call (pre_images g.function site.arguments) g.spec.pre)))))))
+  pre (call a w) c s q = of_call s (λ site. known_callee c site (call_rule c a w q site))
+  pre balanced_call c s q = of_call s (λ site. known_callee c site (balanced_rule q site))
   pre (consequence r w d) c s q =
       require (not (is_consequence d)) (shape [])
       (unless (first_other c.function (in_body c.function) r)

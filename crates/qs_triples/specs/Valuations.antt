@@ -53,6 +53,9 @@ number_type scalars.Pointer = numbers.Int
 abbrev pub if_number : Scalar → Option NumberType
 if_number s = only_if (is_integer s) (Some (number_type s))
 
+abbrev pub number_if : Option Scalar → Option NumberType
+number_if s = s >>= if_number
+
 -- the integer type under which a variable stands in the function's assertions, if it has one
 abbrev pub own_type : CoreFunctionTree → VarKind → Option NumberType
 own_type f (kinds.Plain x) = variable_type f x >>= if_number

@@ -1,6 +1,25 @@
 //! Derivations of stack bounds: which are right, and that these bound the weight of every run.
 #![tactic(auto)]
 
+mod body;
+mod call_rules;
+mod calls;
+mod check;
+mod derivation;
+mod entry;
+mod failure;
+mod fault;
+mod forms;
 mod laws;
+mod leaf;
+mod mentions;
+mod nodes;
+mod posts;
+mod replacements;
+mod terms;
+mod walk;
 
+pub use check::{check_function, defines_in_order};
+pub use derivation::{Derivation, FunctionProof, Proofs, Spec};
+pub use fault::{DerivFault, Place};
 pub use laws::derivations_bound_runs;

@@ -1,0 +1,39 @@
+-- The first fault of an entry, as the code looks for it.
+use Rattle.std.specs.Prelude.{[], Option}
+use Rattle.std.specs.Option.{option_or}
+use Rattle.qs_base.specs.Results.{fault_or}
+use Rattle.qs_assert.specs.Images.{assertion_image}
+use Rattle.qs_assert.specs.Trees.{AssertionTree}
+use Rattle.qs_core.specs.Trees as core
+use Rattle.qs_entail.specs.Verdicts.{verdict}
+use Rattle.qs_triples.specs.Derivations.{EntryTree}
+use Rattle.qs_triples.specs.Entries.{function_posts, mentions_fault, entry_told, result_at_end}
+use Rattle.qs_triples.specs.Mentions.{in_pre, in_post, first_other, as_plain}
+use Rattle.qs_triples.specs.Rules.{in_precondition, in_postcondition, DerivationFault, Answer, Scope, pre}
+use Rattle.qs_triples.specs.Told.{FailsAs, IsDue}
+use Rattle.qs_triples.specs.declared.failure.Failure.{Failure}
+use Rattle.qs_triples.specs.declared.fault.DerivFault.{DerivFault}
+
+-- that the precondition is at least what the body needs
+abbrev pub entry_certificate : Scope → EntryTree → (needed : AssertionTree) → Option DerivationFault
+entry_certificate c e p = entry_told (verdict [] c.defines e.spec.pre (assertion_image as_plain p) e.entry)
+
+abbrev pub body_fault : Scope → EntryTree → Option DerivationFault
+body_fault c e =
+    fault_or (λ fault. fault)
+    (pre e.body c (core.seq c.function.body) (function_posts e.spec.post))
+    (entry_certificate c e)
+
+-- the definitions aside
+abbrev pub first_fault : Scope → EntryTree → Option DerivationFault
+first_fault c e =
+    option_or (mentions_fault in_precondition (first_other c.function (in_pre c.function) e.spec.pre))
+    (option_or (mentions_fault in_postcondition (first_other c.function (in_post c.function) e.spec.post))
+    (option_or (mentions_fault in_postcondition (result_at_end c.function e.spec.post))
+    (body_fault c e)))
+
+-- the fault of a walk that fails so, whatever its certificate would show
+abbrev pub WasDue : Failure → DerivFault → Type 0
+WasDue failure fault =
+    (answer : Answer) (others : AssertionTree → Option DerivationFault)
+    → FailsAs failure answer → IsDue fault (fault_or (λ fault. fault) answer others)

@@ -1,0 +1,92 @@
+-- What the code's answers say.
+use Rattle.std.specs.Prelude.{◌≡◌, ℕ, Option, Some, None, List, reverse, Result, Ok, Err}
+use Rattle.qs_assert.specs.declared.variable.Var.{Var}
+use Rattle.qs_assert.specs.Trees.{AssertionTree}
+use Rattle.qs_entail.specs.declared.fault.CertFault.{CertFault}
+use Rattle.qs_entail.specs.declared.fault.CertFault.TheVariants as certs
+use Rattle.qs_entail.specs.Answers.{fault_of}
+use Rattle.qs_entail.specs.Faults.{Fault, step, limit}
+use Rattle.qs_triples.specs.declared.failure.Cause.{Cause}
+use Rattle.qs_triples.specs.declared.failure.Cause.TheVariants as causes
+use Rattle.qs_triples.specs.declared.fault.DerivFault.{DerivFault}
+use Rattle.qs_triples.specs.declared.fault.DerivFault.TheVariants as faults
+use Rattle.qs_triples.specs.declared.fault.Place.{Place}
+use Rattle.qs_triples.specs.declared.fault.Place.TheVariants as places
+use Rattle.qs_triples.specs.declared.failure.Failure.{Failure}
+use Rattle.qs_triples.specs.declared.failure.Failure.TheVariants as failures
+use Rattle.qs_triples.specs.Rules as rules
+use Rattle.qs_triples.specs.Rules.{unless, DerivationFault, Answer, shape, mentions, in_precondition, in_postcondition, at_node, certificate, no_spec, entry, bad_order}
+
+-- ---- in the walk over a body
+
+-- a fault at a path
+abbrev pub fault_at : List ℕ → Cause → DerivationFault
+fault_at path causes.Shape = shape path
+fault_at path (causes.Mentions x) = mentions (at_node path) x
+fault_at path (causes.Step inner rule) = certificate path (step inner.items rule)
+fault_at path (causes.Limit inner l) = certificate path (limit inner.items (fault_of l))
+fault_at path (causes.NoSpec g) = no_spec path g.0
+
+-- the path is kept from the node on
+abbrev pub FailsAs : Failure → Answer → Type 0
+FailsAs failures.NoMemory answer = Unit {0}
+FailsAs (failures.Fault path cause) answer = answer ≡ Err (fault_at (reverse path.items) cause)
+
+-- what the code gives, or the fault that it tells, is the answer, want of memory aside
+abbrev pub Follows : Result AssertionTree Failure → Answer → Type 0
+Follows (Ok a) answer = answer ≡ Ok a
+Follows (Err failure) answer = FailsAs failure answer
+
+-- no such variable is found, or the answer is that it is mentioned, whatever comes next
+abbrev pub Passes : Result (Unit {0}) Failure → Option Var → Type 0
+Passes (Ok u) found = found ≡ None
+Passes (Err failure) found = (next : Answer) → FailsAs failure (unless found next)
+
+-- no such variable is found and this assertion is given, or the answer is that the variable is mentioned
+abbrev pub Carries : Result AssertionTree Failure → Option Var → AssertionTree → Type 0
+Carries (Ok a) found due = (found ≡ None) × (a ≡ due)
+Carries (Err failure) found due = (next : Answer) → FailsAs failure (unless found next)
+
+-- the same of one variable and then another
+abbrev pub CarriesBehind : Result AssertionTree Failure → (found other : Option Var) → AssertionTree → Type 0
+CarriesBehind (Ok a) found other due = (found ≡ None) × ((other ≡ None) × (a ≡ due))
+CarriesBehind (Err failure) found other due = (next : Answer) → FailsAs failure (unless found (unless other next))
+
+-- ---- of an entry
+
+abbrev pub place_view : Place → rules.Place
+place_view places.Precondition = in_precondition
+place_view places.Postcondition = in_postcondition
+place_view (places.Node path) = at_node path.items
+
+-- the fault of a certificate there; want of memory is told apart from it
+abbrev pub IsOfCertificate : (Fault → DerivationFault) → CertFault → Option DerivationFault → Type 0
+IsOfCertificate there certs.NoMemory due = ⊥
+IsOfCertificate there (certs.Step path rule) due = due ≡ Some (there (step path.items rule))
+IsOfCertificate there (certs.Limit path l) due = due ≡ Some (there (limit path.items (fault_of l)))
+
+-- the fault that is told is the one that is due, want of memory aside
+abbrev pub IsDue : DerivFault → Option DerivationFault → Type 0
+IsDue faults.NoMemory due = Unit {0}
+IsDue (faults.Shape path) due = due ≡ Some (shape path.items)
+IsDue (faults.Mentions place x) due = due ≡ Some (mentions (place_view place) x)
+IsDue (faults.Cert path fault) due = IsOfCertificate (certificate path.items) fault due
+IsDue (faults.NoSpec path g) due = due ≡ Some (no_spec path.items g.0)
+IsDue (faults.Entry fault) due = IsOfCertificate entry fault due
+IsDue (faults.BadOrder d) due = due ≡ Some (bad_order d)
+
+-- there is no fault, or the first one is told
+abbrev pub Tells : Result (Unit {0}) DerivFault → Option DerivationFault → Type 0
+Tells (Ok u) due = due ≡ None
+Tells (Err fault) due = IsDue fault due
+
+-- the order of definitions, or the first that breaks it
+abbrev pub TellsOrder : Result (Unit {0}) DerivFault → Option ℕ → Type 0
+TellsOrder (Ok u) first = first ≡ None
+TellsOrder (Err (faults.BadOrder d)) first = first ≡ Some d
+TellsOrder (Err faults.NoMemory) first = ⊥
+TellsOrder (Err (faults.Shape path)) first = ⊥
+TellsOrder (Err (faults.Mentions place x)) first = ⊥
+TellsOrder (Err (faults.Cert path fault)) first = ⊥
+TellsOrder (Err (faults.NoSpec path g)) first = ⊥
+TellsOrder (Err (faults.Entry fault)) first = ⊥

@@ -1,0 +1,113 @@
+// The walk over a body and its derivation.
+ghost use Rattle.std.specs.Prelude.{◌≡◌, length};
+ghost use Rattle.qs_core.specs.TreeOf.{core_stmt, core_stmts};
+ghost use Rattle.qs_core.specs.Trees.{seq, stmts_of};
+ghost use Rattle.qs_triples.specs.Rules as rules;
+ghost use Rattle.qs_triples.specs.Told.{Follows};
+ghost use Rattle.qs_triples.specs.TreeOf.{derivation_tree, derivation_trees};
+ghost use Rattle.qs_triples.specs.Views.{posts_view, scope_view};
+
+use crate::derivation::Derivation;
+use crate::failure::{Cause, Failure};
+use crate::leaf::leaf_rule;
+use crate::nodes::{
+    balanced_pre, call_pre, chosen, concluded, conditional_at, loop_at, may_draw, sequence_at,
+};
+use crate::posts::{Posts, Scope, body_posts, step_posts, with_next};
+use crate::walk::{failed, part};
+use qs_assert::Assertion;
+use qs_core::CoreStmt;
+use std::alloc::Global;
+
+/// What must be free before a statement, by its derivation.
+#[cycle(pre)]
+pub fn pre(
+    alloc: Global,
+    d: &Derivation,
+    c: Scope<'_>,
+    s: &CoreStmt,
+    q: Posts<'_>,
+) -> Result<Assertion, Failure>
+    ensures { Follows result (rules.pre (derivation_tree d.now) (scope_view c.entry)
+        (core_stmt s.now) (posts_view q.entry)) }
+{
+    match d {
+        Derivation::Leaf => leaf_rule(alloc, s, q),
+        Derivation::Sequence(ds) => {
+            let parts = sequence_at(alloc, s, ds.len())?;
+            sequence_pre(alloc, ds, c, parts, q)
+        }
+        Derivation::Conditional(first, second) => {
+            let branches = conditional_at(alloc, s)?;
+            let a = part(0, pre(alloc, first, c, branches.first, q))?;
+            let b = part(1, pre(alloc, second, c, branches.second, q))?;
+            chosen(alloc, branches.condition, a, b)
+        }
+        Derivation::Loop(invariant, certificate, body, step) => {
+            let turns = loop_at(alloc, c, invariant, s)?;
+            let j = part(1, pre(alloc, step, c, turns.step, step_posts(invariant, q)))?;
+            let p = part(0, pre(alloc, body, c, turns.body, body_posts(&j, q)))?;
+            concluded(alloc, c, certificate, invariant, &p)
+        }
+        Derivation::Call(frame, certificate) => call_pre(alloc, frame, certificate, c, s, q),
+        Derivation::BalancedCall => balanced_pre(alloc, c, s, q),
+        Derivation::Consequence(r, certificate, inner) => {
+            may_draw(alloc, c, r, inner)?;
+            let p = pre(alloc, inner, c, s, q)?;
+            concluded(alloc, c, certificate, r, &p)
+        }
+    }
+}
+
+// From the last part to the first.
+#[cycle(pre)]
+fn sequence_pre(
+    alloc: Global,
+    ds: &[Derivation],
+    c: Scope<'_>,
+    ss: &[CoreStmt],
+    q: Posts<'_>,
+) -> Result<Assertion, Failure>
+    requires { length ds.now ≡ length ss.now }
+    ensures { Follows result (rules.sequence_pre (derivation_trees ds.now) 0 (scope_view c.entry)
+        (stmts_of (core_stmts ss.now)) (posts_view q.entry)) }
+{
+    let mut next = q.next.copy(alloc)?;
+    let mut i = ds.len();
+    while i > 0 {
+        i -= 1;
+        next = part(i, pre(alloc, &ds[i], c, &ss[i], with_next(q, &next)))?;
+    }
+    Ok(next)
+}
+
+/// What must be free before a body, which is a sequence.
+pub fn body_pre(
+    alloc: Global,
+    d: &Derivation,
+    c: Scope<'_>,
+    body: &[CoreStmt],
+    q: Posts<'_>,
+) -> Result<Assertion, Failure>
+    ensures { Follows result (rules.pre (derivation_tree d.now) (scope_view c.entry)
+        (seq (stmts_of (core_stmts body.now))) (posts_view q.entry)) }
+{
+    match d {
+        Derivation::Sequence(ds) => {
+            if ds.len() != body.len() {
+                return Err(failed(alloc, Cause::Shape));
+            }
+            sequence_pre(alloc, ds, c, body, q)
+        }
+        Derivation::Consequence(r, certificate, inner) => {
+            may_draw(alloc, c, r, inner)?;
+            let p = body_pre(alloc, inner, c, body, q)?;
+            concluded(alloc, c, certificate, r, &p)
+        }
+        Derivation::Leaf => Err(failed(alloc, Cause::Shape)),
+        Derivation::Conditional(_, _) => Err(failed(alloc, Cause::Shape)),
+        Derivation::Loop(_, _, _, _) => Err(failed(alloc, Cause::Shape)),
+        Derivation::Call(_, _) => Err(failed(alloc, Cause::Shape)),
+        Derivation::BalancedCall => Err(failed(alloc, Cause::Shape)),
+    }
+}

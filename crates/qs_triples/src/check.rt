@@ -1,0 +1,100 @@
+// The checks of definitions and of functions.
+ghost use Rattle.std.specs.List.{slice_get};
+ghost use Rattle.std.specs.Prelude.{◌≡◌, MatchOption, None, OnOk, Some};
+ghost use Rattle.qs_assert.specs.Order as order;
+ghost use Rattle.qs_core.specs.TreeOf.{function_tree};
+ghost use Rattle.qs_core.specs.UnitTrees.{unit_tree};
+ghost use Rattle.qs_triples.specs.Entries.{fault_in, entry_fault, function_fault, HasDerivedEntry};
+ghost use Rattle.qs_triples.specs.Told.{Tells, TellsOrder};
+ghost use Rattle.qs_triples.specs.TreeOf.{entry_tree, proofs_tree};
+
+use crate::calls::entry_in;
+use crate::derivation::{FunctionProof, Proofs};
+use crate::entry::check_entry;
+use crate::fault::DerivFault;
+use crate::posts::Scope;
+use qs_assert::order_fault;
+use qs_base::FnId;
+use qs_core::{CoreFunction, CoreUnit};
+use std::alloc::Global;
+
+/// Checks that each definition mentions only names that are defined earlier. `BadOrder` is the first that doesn't; no other
+/// fault comes, since this takes no memory.
+pub fn defines_in_order(proofs: &Proofs) -> Result<(), DerivFault>
+    ensures { TellsOrder result (order.order_fault proofs.now.defines.items) }
+{
+    match order_fault(&proofs.defines) {
+        None => Ok(()),
+        Some(d) => Err(DerivFault::BadOrder(d)),
+    }
+}
+
+// The entry of this function.
+#[tactic(auto, using(crate::proofs::EntryLaws::order_first, crate::proofs::EntryLaws::order_next))]
+fn check_known(
+    alloc: Global,
+    unit: &CoreUnit,
+    function: &CoreFunction,
+    proofs: &Proofs,
+    e: &FunctionProof,
+) -> Result<(), DerivFault>
+    ensures { Tells result (fault_in (unit_tree unit.now) (proofs_tree proofs.now)
+        (function_tree function.now) (entry_tree e.now)) }
+{
+    let scope = Scope {
+        function,
+        functions: &unit.functions,
+        entries: &proofs.functions,
+        defines: &proofs.defines,
+    };
+    match defines_in_order(proofs) {
+        Ok(()) => check_entry(alloc, scope, e),
+        Err(fault) => Err(fault),
+    }
+}
+
+// The function with this number.
+fn function_of(unit: &CoreUnit, f: FnId) -> Option<&CoreFunction>
+    ensures { MatchOption result (slice_get (unit_tree unit.now).functions f.0 ≡ None)
+        (λ g. slice_get (unit_tree unit.now).functions f.0 ≡ Some (function_tree g.now)) }
+{
+    unit.functions.get(f.0 as usize)
+}
+
+fn check_found(
+    alloc: Global,
+    unit: &CoreUnit,
+    proofs: &Proofs,
+    e: &FunctionProof,
+) -> Result<(), DerivFault>
+    ensures { Tells result
+        (entry_fault (unit_tree unit.now) (proofs_tree proofs.now) (entry_tree e.now)) }
+{
+    match function_of(unit, e.function) {
+        Some(function) => check_known(alloc, unit, function, proofs, e),
+        None => Err(DerivFault::Shape(Vec::new(alloc))),
+    }
+}
+
+/// Checks that the first entry of a function is derived.
+///
+/// Otherwise it answers the first fault in the order of search: the definitions, what the precondition and
+/// then the postcondition mention, the body, the precondition's certificate. For a number that is no function of the unit, and a
+/// function without an entry, it answers `Shape` at the body.
+#[tactic(auto, using(crate::proofs::EntryLaws::tells_derived))]
+pub fn check_function(
+    alloc: Global,
+    unit: &CoreUnit,
+    f: FnId,
+    proofs: &Proofs,
+) -> Result<(), DerivFault>
+    ensures exact { Tells result
+        (function_fault (unit_tree unit.now) (proofs_tree proofs.now) f.0) }
+    ensures derived { OnOk result
+        (HasDerivedEntry (unit_tree unit.now) (proofs_tree proofs.now) f.0) }
+{
+    match entry_in(&proofs.functions, f) {
+        Some(e) => check_found(alloc, unit, proofs, e),
+        None => Err(DerivFault::Shape(Vec::new(alloc))),
+    }
+}

@@ -1,0 +1,144 @@
+// The forms of statements that rules ask for.
+ghost use Rattle.std.specs.Prelude.{MatchOption};
+ghost use Rattle.qs_core.specs.TreeOf.{core_stmt};
+ghost use Rattle.qs_triples.specs.Forms.{IsSequenceOf, IsNoSequence, IsBranchOf, IsNoBranch};
+ghost use Rattle.qs_triples.specs.Forms.{IsLoopOf, IsNoLoop, IsCalleeOf, IsNoCallee};
+ghost use Rattle.qs_triples.specs.Forms.{IsCallOf, IsNoCall};
+
+use qs_base::FnId;
+use qs_calls::Callee;
+use qs_core::{CoreExpr, CoreStmt};
+
+/// A conditional.
+#[derive(Clone, Copy)]
+pub struct Branches<'a> {
+    /// its condition
+    pub condition: &'a CoreExpr,
+    /// where that isn't 0
+    pub first: &'a CoreStmt,
+    /// where it is 0
+    pub second: &'a CoreStmt,
+}
+
+/// A loop.
+#[derive(Clone, Copy)]
+pub struct Turns<'a> {
+    /// its body
+    pub body: &'a CoreStmt,
+    /// its step
+    pub step: &'a CoreStmt,
+}
+
+/// A call of a function with a body.
+#[derive(Clone, Copy)]
+pub struct Site<'a> {
+    /// where its result goes
+    pub destination: Option<u32>,
+    /// the function
+    pub function: FnId,
+    /// its arguments
+    pub arguments: &'a [CoreExpr],
+}
+
+/// The branches of a conditional.
+pub fn branches_of<'a>(s: &'a CoreStmt) -> Option<Branches<'a>>
+    ensures { MatchOption result (IsNoBranch (core_stmt s.now))
+        (λ b. IsBranchOf b (core_stmt s.now)) }
+{
+    match s {
+        CoreStmt::If(condition, first, second) => Some(Branches {
+            condition,
+            first,
+            second,
+        }),
+        CoreStmt::Skip => None,
+        CoreStmt::Seq(_) => None,
+        CoreStmt::Assign(_, _) => None,
+        CoreStmt::Store(_, _, _) => None,
+        CoreStmt::Copy(_, _, _, _) => None,
+        CoreStmt::Fill(_, _) => None,
+        CoreStmt::Call(_, _, _) => None,
+        CoreStmt::Loop(_, _) => None,
+        CoreStmt::Break => None,
+        CoreStmt::Continue => None,
+        CoreStmt::Return(_) => None,
+    }
+}
+
+/// The body and the step of a loop.
+pub fn turns_of<'a>(s: &'a CoreStmt) -> Option<Turns<'a>>
+    ensures { MatchOption result (IsNoLoop (core_stmt s.now))
+        (λ t. IsLoopOf t (core_stmt s.now)) }
+{
+    match s {
+        CoreStmt::Loop(body, step) => Some(Turns { body, step }),
+        CoreStmt::Skip => None,
+        CoreStmt::Seq(_) => None,
+        CoreStmt::Assign(_, _) => None,
+        CoreStmt::Store(_, _, _) => None,
+        CoreStmt::Copy(_, _, _, _) => None,
+        CoreStmt::Fill(_, _) => None,
+        CoreStmt::Call(_, _, _) => None,
+        CoreStmt::If(_, _, _) => None,
+        CoreStmt::Break => None,
+        CoreStmt::Continue => None,
+        CoreStmt::Return(_) => None,
+    }
+}
+
+/// The parts of a sequence.
+pub fn parts_of<'a>(s: &'a CoreStmt) -> Option<&'a [CoreStmt]>
+    ensures { MatchOption result (IsNoSequence (core_stmt s.now))
+        (λ ss. IsSequenceOf ss.now (core_stmt s.now)) }
+{
+    match s {
+        CoreStmt::Seq(parts) => Some(parts),
+        CoreStmt::Skip => None,
+        CoreStmt::Assign(_, _) => None,
+        CoreStmt::Store(_, _, _) => None,
+        CoreStmt::Copy(_, _, _, _) => None,
+        CoreStmt::Fill(_, _) => None,
+        CoreStmt::Call(_, _, _) => None,
+        CoreStmt::If(_, _, _) => None,
+        CoreStmt::Loop(_, _) => None,
+        CoreStmt::Break => None,
+        CoreStmt::Continue => None,
+        CoreStmt::Return(_) => None,
+    }
+}
+
+fn callee_of<'a>(destination: Option<u32>, g: Callee, arguments: &'a [CoreExpr]) -> Option<Site<'a>>
+    ensures { MatchOption result (IsNoCallee destination g arguments.now)
+        (λ c. IsCalleeOf c destination g arguments.now) }
+{
+    match g {
+        Callee::Function(function) => Some(Site {
+            destination,
+            function,
+            arguments,
+        }),
+        Callee::PutChar => None,
+        Callee::GetChar => None,
+    }
+}
+
+/// A call of a function with a body.
+pub fn site_of<'a>(s: &'a CoreStmt) -> Option<Site<'a>>
+    ensures { MatchOption result (IsNoCall (core_stmt s.now))
+        (λ c. IsCallOf c (core_stmt s.now)) }
+{
+    match s {
+        CoreStmt::Call(destination, g, arguments) => callee_of(*destination, *g, arguments),
+        CoreStmt::Skip => None,
+        CoreStmt::Seq(_) => None,
+        CoreStmt::Assign(_, _) => None,
+        CoreStmt::Store(_, _, _) => None,
+        CoreStmt::Copy(_, _, _, _) => None,
+        CoreStmt::Fill(_, _) => None,
+        CoreStmt::If(_, _, _) => None,
+        CoreStmt::Loop(_, _) => None,
+        CoreStmt::Break => None,
+        CoreStmt::Continue => None,
+        CoreStmt::Return(_) => None,
+    }
+}

@@ -1,0 +1,166 @@
+// What the rules ask at a node, but for its parts.
+ghost use Rattle.std.specs.Prelude.{◌≡◌, MatchResult, Ok};
+ghost use Rattle.qs_core.specs.TreeOf.{core_expr, core_stmt};
+ghost use Rattle.qs_entail.specs.View.{cert_tree};
+ghost use Rattle.qs_triples.specs.Derivations.{call, balanced_call};
+ghost use Rattle.qs_triples.specs.ExpressionTerms.{expression_condition};
+ghost use Rattle.qs_triples.specs.Forms.{IsBranchOf};
+ghost use Rattle.qs_triples.specs.Nodes.{HasParts, HasNoParts, HasNoBranches, HasTurns, HasNoTurns, MayDraw};
+ghost use Rattle.qs_triples.specs.Rules as rules;
+ghost use Rattle.qs_triples.specs.Told.{Follows};
+ghost use Rattle.qs_triples.specs.TreeOf.{derivation_tree};
+ghost use Rattle.qs_triples.specs.Views.{posts_view, scope_view};
+
+use crate::call_rules::{balanced_rule, call_rule};
+use crate::calls::{certified, either, known_callee, none_found};
+use crate::derivation::Derivation;
+use crate::failure::{Cause, Failure};
+use crate::forms::{Branches, Turns, branches_of, parts_of, site_of, turns_of};
+use crate::mentions::{Standing, first_other};
+use crate::posts::{Posts, Scope};
+use crate::terms::expression_condition;
+use crate::walk::failed;
+use qs_assert::Assertion;
+use qs_core::{CoreExpr, CoreStmt};
+use qs_entail::Certificate;
+use std::alloc::Global;
+
+// ---- forms of statements
+
+/// The parts of a sequence that has so many.
+#[tactic(auto, using(crate::proofs::NodeLaws::has_parts, crate::proofs::NodeLaws::other_count))]
+pub fn sequence_at<'a>(
+    alloc: Global,
+    s: &'a CoreStmt,
+    derivations: usize,
+) -> Result<&'a [CoreStmt], Failure>
+    ensures { MatchResult result (λ ss. HasParts ss.now (core_stmt s.now) derivations)
+        (λ failure. HasNoParts failure (core_stmt s.now) derivations) }
+{
+    let Some(parts) = parts_of(s) else {
+        return Err(failed(alloc, Cause::Shape));
+    };
+    if parts.len() == derivations {
+        Ok(parts)
+    } else {
+        Err(failed(alloc, Cause::Shape))
+    }
+}
+
+/// The parts of a conditional.
+pub fn conditional_at<'a>(alloc: Global, s: &'a CoreStmt) -> Result<Branches<'a>, Failure>
+    ensures { MatchResult result (λ b. IsBranchOf b (core_stmt s.now))
+        (λ failure. HasNoBranches failure (core_stmt s.now)) }
+{
+    match branches_of(s) {
+        None => Err(failed(alloc, Cause::Shape)),
+        Some(branches) => Ok(branches),
+    }
+}
+
+/// The parts of a loop, where its invariant mentions only what it may.
+pub fn loop_at<'a>(
+    alloc: Global,
+    c: Scope<'_>,
+    invariant: &Assertion,
+    s: &'a CoreStmt,
+) -> Result<Turns<'a>, Failure>
+    ensures { MatchResult result
+        (λ t. HasTurns t (scope_view c.entry) invariant.now (core_stmt s.now))
+        (λ failure. HasNoTurns failure (scope_view c.entry) invariant.now (core_stmt s.now)) }
+{
+    let Some(turns) = turns_of(s) else {
+        return Err(failed(alloc, Cause::Shape));
+    };
+    let other = first_other(alloc, c.function, Standing::Within, invariant)?;
+    none_found(alloc, other)?;
+    Ok(turns)
+}
+
+// ---- consequences
+
+fn is_consequence(d: &Derivation) -> bool
+    ensures { result ≡ rules.is_consequence (derivation_tree d.now) }
+{
+    match d {
+        Derivation::Leaf => false,
+        Derivation::Sequence(_) => false,
+        Derivation::Conditional(_, _) => false,
+        Derivation::Loop(_, _, _, _) => false,
+        Derivation::Call(_, _) => false,
+        Derivation::BalancedCall => false,
+        Derivation::Consequence(_, _, _) => true,
+    }
+}
+
+/// Whether r may be drawn from what d needs, its certificate aside.
+pub fn may_draw(alloc: Global, c: Scope<'_>, r: &Assertion, d: &Derivation) -> Result<(), Failure>
+    ensures { MayDraw result (scope_view c.entry) r.now (derivation_tree d.now) }
+{
+    if is_consequence(d) {
+        return Err(failed(alloc, Cause::Shape));
+    }
+    let other = first_other(alloc, c.function, Standing::Within, r)?;
+    none_found(alloc, other)
+}
+
+// ---- what is needed in the end
+
+/// The assertion, where the certificate shows that it is at least what is needed.
+pub fn concluded(
+    alloc: Global,
+    c: Scope<'_>,
+    certificate: &Certificate,
+    r: &Assertion,
+    needed: &Assertion,
+) -> Result<Assertion, Failure>
+    ensures { Follows result (rules.certified (scope_view c.entry).defines
+        (cert_tree certificate.now) r.now needed.now r.now) }
+{
+    let same = r.copy(alloc)?;
+    certified(alloc, c.defines, certificate, r, needed, same)
+}
+
+/// What the branches of a conditional need.
+pub fn chosen(alloc: Global, e: &CoreExpr, a: Assertion, b: Assertion) -> Result<Assertion, Failure>
+    ensures { Follows result (Ok (rules.either (expression_condition (core_expr e.now)) a b)) }
+{
+    let condition = expression_condition(alloc, e)?;
+    Ok(either(alloc, condition, a, b)?)
+}
+
+/// What must be free before a call with a frame.
+pub fn call_pre(
+    alloc: Global,
+    frame: &Assertion,
+    certificate: &Certificate,
+    c: Scope<'_>,
+    s: &CoreStmt,
+    q: Posts<'_>,
+) -> Result<Assertion, Failure>
+    ensures { Follows result (rules.pre (call frame.now (cert_tree certificate.now))
+        (scope_view c.entry) (core_stmt s.now) (posts_view q.entry)) }
+{
+    let Some(site) = site_of(s) else {
+        return Err(failed(alloc, Cause::Shape));
+    };
+    let k = known_callee(alloc, c, site.function)?;
+    call_rule(alloc, c, q, frame, certificate, site, k)
+}
+
+/// What must be free before a call of a function that gives back what it takes.
+pub fn balanced_pre(
+    alloc: Global,
+    c: Scope<'_>,
+    s: &CoreStmt,
+    q: Posts<'_>,
+) -> Result<Assertion, Failure>
+    ensures { Follows result (rules.pre balanced_call (scope_view c.entry) (core_stmt s.now)
+        (posts_view q.entry)) }
+{
+    let Some(site) = site_of(s) else {
+        return Err(failed(alloc, Cause::Shape));
+    };
+    let k = known_callee(alloc, c, site.function)?;
+    balanced_rule(alloc, q, site, k)
+}

@@ -1,0 +1,12 @@
+pub mod NodeLaws
+pub mod ValueLaws
+pub mod ScanLaws
+pub mod StepLaws
+pub mod ReadingScans
+pub mod Scanned
+pub mod OneReading
+pub mod PartLaws
+pub mod PlaceLaws
+pub mod Written
+mod Examples
+mod NestingExamples

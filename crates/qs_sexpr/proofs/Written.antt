@@ -1,0 +1,242 @@
+-- What is written reads as what was written.
+use Rattle.std.proofs.Common.{arith, ◌≡◌, ℕ, zero, suc, ◌+◌, ◌*◌, ◌-◌, ◌/◌, ◌%◌, ◌^◌, ◌<◌, ◌≤◌, ℤ, pos, negsuc, Bool, true, false, ◌==◌, ◌&&◌, nat_le, cond, List, [], ◌∷◌, ◌++◌, length, take, drop, refl, sym, ap, subst, ◌∙◌, if◌then◌else◌, not, Some, None}
+use Rattle.std.proofs.lemmas.Bool.Decides.{nat_tests}
+use Rattle.std.proofs.lemmas.List.{append-nil}
+use Rattle.std.proofs.Math.Seq.{take-append_seam, drop-append_seam}
+use Rattle.std.specs.List.{prefix_len, list_all}
+use Rattle.qs_base.specs.Bytes.{is_digit}
+use Rattle.qs_sexpr.specs.Bytes.{is_atom_byte, is_space, is_symbol_byte, starts_number, starts_symbol}
+use Rattle.qs_sexpr.specs.Numbers.{are_digits, is_empty, magnitude, negative, number_of, positive, value_from, value_of}
+use Rattle.std.specs.Fmt.{decimal, signed_decimal}
+use Rattle.std.proofs.lemmas.Fmt.{decimal_by_steps}
+use Rattle.qs_sexpr.specs.Pieces.{atom, first_piece, number, symbol}
+use Rattle.qs_sexpr.specs.Reading.{Reads, nothing, white_space, a_number, a_symbol, a_list, Reading}
+use Rattle.qs_sexpr.specs.Trees as trees
+use Rattle.qs_sexpr.specs.Trees.{Sexp, Sexps, part_and, no_parts}
+use Rattle.qs_sexpr.specs.Writing.{Form, symbol_form, number_form, list_form, Forms, no_forms, form_and, put, put_all, put_others, size, size_all, size_others, placed, all_placed, others_placed, is_symbol, IsInRange, IsWritable, AreWritable}
+use Rattle.qs_sexpr.proofs.ScanLaws.{lt_true}
+use Rattle.qs_sexpr.specs.declared.pieces.Piece.TheVariants.{Number, Symbol, BadByte}
+
+-- no atom goes on with this text
+abbrev Delimited : List ℕ → Type 0
+Delimited text = prefix_len is_atom_byte text ≡ 0
+
+-- ---- an atom stands first
+
+not_space : (byte : ℕ) → is_atom_byte byte ≡ true → is_space byte ≡ false
+not_space byte h = grind (arith, nat_tests, h)
+
+not_semicolon : (byte : ℕ) → is_atom_byte byte ≡ true → (byte == 59) ≡ false
+not_semicolon byte h = grind (arith, nat_tests, h)
+
+not_open : (byte : ℕ) → is_atom_byte byte ≡ true → (byte == 40) ≡ false
+not_open byte h = grind (arith, nat_tests, h)
+
+not_close : (byte : ℕ) → is_atom_byte byte ≡ true → (byte == 41) ≡ false
+not_close byte h = grind (arith, nat_tests, h)
+
+number_starts_atom : (byte : ℕ) → starts_number byte ≡ true → is_atom_byte byte ≡ true
+number_starts_atom byte h = grind (arith, nat_tests, h)
+
+symbol_starts_atom : (byte : ℕ) → starts_symbol byte ≡ true → is_atom_byte byte ≡ true
+symbol_starts_atom byte h = grind (arith, nat_tests, h)
+
+symbol_no_number : (byte : ℕ) → starts_symbol byte ≡ true → starts_number byte ≡ false
+symbol_no_number byte h = grind (arith, nat_tests, h)
+
+symbol_byte_in_atom : (byte : ℕ) → is_symbol_byte byte ≡ true → is_atom_byte byte ≡ true
+symbol_byte_in_atom byte h = grind (arith, nat_tests, h)
+
+digit_in_atom : (byte : ℕ) → is_digit byte ≡ true → is_atom_byte byte ≡ true
+digit_in_atom byte h = grind (arith, nat_tests, h)
+
+atom_first : (byte : ℕ) (bytes : List ℕ) → is_atom_byte byte ≡ true → first_piece byte bytes ≡ atom byte (take (prefix_len is_atom_byte bytes) bytes)
+atom_first byte bytes h = rw (not_space byte h, not_semicolon byte h, not_open byte h, not_close byte h, h) refl
+
+true_no_false : false ≡ true → ⊥
+true_no_false e = grind (arith, e)
+
+-- ---- runs of bytes
+
+and_left : (a b : Bool) → (a && b) ≡ true → a ≡ true
+and_left true b h = refl
+and_left false b h = h
+
+and_right : (a b : Bool) → (a && b) ≡ true → b ≡ true
+and_right true b h = h
+and_right false b h = absurd (grind (arith, h))
+
+all_weaker : (p q : ℕ → Bool) → ((byte : ℕ) → p byte ≡ true → q byte ≡ true) → (bytes : List ℕ) → list_all p bytes ≡ true → list_all q bytes ≡ true
+all_weaker p q w [] h = refl
+all_weaker p q w (byte ∷ bytes) h = rw (w byte (and_left (p byte) (list_all p bytes) h)) (all_weaker p q w bytes (and_right (p byte) (list_all p bytes) h))
+
+runs : (p : ℕ → Bool) (bytes text : List ℕ) → list_all p bytes ≡ true → prefix_len p text ≡ 0 → prefix_len p (bytes ++ text) ≡ length bytes
+runs p [] text h d = d
+runs p (byte ∷ bytes) text h d =
+    let r = runs p bytes text (and_right (p byte) (list_all p bytes) h) d in
+    ap (λ (b : Bool). cond b (1 + prefix_len p (bytes ++ text)) 0) (and_left (p byte) (list_all p bytes) h) ∙ omega (arith, r)
+
+run_is : (p : ℕ → Bool) (bytes : List ℕ) → list_all p bytes ≡ true → prefix_len p bytes ≡ length bytes
+run_is p bytes h = ap (λ (xs : List ℕ). prefix_len p xs) (sym (append-nil bytes)) ∙ runs p bytes [] h refl
+
+-- an atom of these bytes before other text
+atom_before : (byte : ℕ) (bytes text : List ℕ) → is_atom_byte byte ≡ true → list_all is_atom_byte bytes ≡ true → Delimited text → first_piece byte (bytes ++ text) ≡ atom byte bytes
+atom_before byte bytes text h a d =
+    atom_first byte (bytes ++ text) h ∙ (ap (λ (n : ℕ). atom byte (take n (bytes ++ text))) (runs is_atom_byte bytes text a d) ∙ ap (λ (xs : List ℕ). atom byte xs) (take-append_seam bytes text))
+
+eq_same : (n m : ℕ) → n ≡ m → (n == m) ≡ true
+eq_same n m h = grind (arith, h)
+
+-- the bytes are this number
+record IsNumber (byte : ℕ) (bytes : List ℕ) (value : ℤ) : Type 0 where
+  first : starts_number byte ≡ true
+  others : are_digits bytes ≡ true
+  value_is : number_of (byte ∷ bytes) ≡ Some value
+
+symbol_before : (byte : ℕ) (bytes text : List ℕ) → starts_symbol byte ≡ true → list_all is_symbol_byte bytes ≡ true → Delimited text → first_piece byte (bytes ++ text) ≡ Symbol (length bytes)
+symbol_before byte bytes text f o d =
+    let s : (prefix_len is_symbol_byte bytes == length bytes) ≡ true = eq_same (prefix_len is_symbol_byte bytes) (length bytes) (run_is is_symbol_byte bytes o) in
+    atom_before byte bytes text (symbol_starts_atom byte f) (all_weaker is_symbol_byte is_atom_byte symbol_byte_in_atom bytes o) d
+    ∙ (ap (λ (b : Bool). if b then number (length bytes) (number_of (byte ∷ bytes)) else if not (starts_symbol byte) then BadByte 0 else symbol bytes) (symbol_no_number byte f)
+    ∙ (ap (λ (b : Bool). if not b then BadByte 0 else symbol bytes) f
+    ∙ ap (λ (b : Bool). if b then Symbol (length bytes) else BadByte (prefix_len is_symbol_byte bytes + 1)) s))
+
+number_before : (byte : ℕ) (bytes text : List ℕ) (value : ℤ) → IsNumber byte bytes value → Delimited text → first_piece byte (bytes ++ text) ≡ Number (length bytes) value
+number_before byte bytes text value w d =
+    atom_before byte bytes text (number_starts_atom byte w.first) (all_weaker is_digit is_atom_byte digit_in_atom bytes w.others) d
+    ∙ (ap (λ (b : Bool). if b then number (length bytes) (number_of (byte ∷ bytes)) else if not (starts_symbol byte) then BadByte 0 else symbol bytes) w.first
+    ∙ ap (number (length bytes)) w.value_is)
+
+-- ---- numbers in decimal
+
+record IsDecimal (n : ℕ) (digits : List ℕ) : Type 0 where
+  some : is_empty digits ≡ false
+  are : are_digits digits ≡ true
+  value_is : value_of digits ≡ n
+
+value_from-append : (value digit : ℕ) (digits : List ℕ) → value_from value (digits ++ digit ∷ []) ≡ value_from value digits * 10 + (digit - 48)
+value_from-append value digit [] = refl
+value_from-append value digit (first ∷ digits) = value_from-append (value * 10 + (first - 48)) digit digits
+
+are_digits-append : (digit : ℕ) (digits : List ℕ) → are_digits digits ≡ true → is_digit digit ≡ true → are_digits (digits ++ digit ∷ []) ≡ true
+are_digits-append digit [] h d = rw d refl
+are_digits-append digit (first ∷ digits) h d = rw (and_left (is_digit first) (are_digits digits) h) (are_digits-append digit digits (and_right (is_digit first) (are_digits digits) h) d)
+
+some-append : (digit : ℕ) (digits : List ℕ) → is_empty (digits ++ digit ∷ []) ≡ false
+some-append digit [] = refl
+some-append digit (first ∷ digits) = refl
+
+a_digit : (n : ℕ) → n < 10 → is_digit (48 + n) ≡ true
+a_digit n h = grind (arith, nat_tests, h)
+
+one_digit : (n : ℕ) → n < 10 → IsDecimal n ((48 + n) ∷ [])
+one_digit n h = record { some = refl; are = are_digits-append (48 + n) [] refl (a_digit n h); value_is = omega arith }
+
+more_digits : (n : ℕ) (digits : List ℕ) → 10 ≤ n → IsDecimal (n / 10) digits → IsDecimal n (digits ++ ((48 + n % 10) ∷ []))
+more_digits n digits h d =
+    let v = value_from-append 0 (48 + n % 10) digits in
+    let w = d.value_is in
+    let m : n % 10 < 10 = omega arith in
+    record { some = some-append (48 + n % 10) digits; are = are_digits-append (48 + n % 10) digits d.are (a_digit (n % 10) m); value_is = omega (arith, v, w) }
+
+decimal_is : (n : ℕ) → n < 2 ^ 64 → IsDecimal n (decimal n)
+decimal_is n h = decimal_by_steps (λ (m : ℕ) (ds : List ℕ). IsDecimal m ds) one_digit more_digits n h
+
+le_true : (n m : ℕ) → n ≤ m → nat_le n m ≡ true
+le_true n m h = grind (arith, h)
+
+magnitude_of : (n : ℕ) (digits : List ℕ) → IsDecimal n digits → n ≤ 2 ^ 63 → magnitude digits ≡ Some n
+magnitude_of n digits d h = rw (d.some, d.are, d.value_is, le_true n (2 ^ 63) h) refl
+
+no_sign : (byte : ℕ) → is_digit byte ≡ true → (byte == 45) ≡ false
+no_sign byte h = grind (arith, nat_tests, h)
+
+digit_starts : (byte : ℕ) → is_digit byte ≡ true → starts_number byte ≡ true
+digit_starts byte h = grind (arith, nat_tests, h)
+
+abbrev IsWord : List ℕ → ℤ → Type 0
+IsWord [] value = ⊥
+IsWord (byte ∷ bytes) value = IsNumber byte bytes value
+
+no_digits : (n : ℕ) → IsDecimal n [] → ⊥
+no_digits n d = true_no_false (sym d.some)
+
+positive_word : (n : ℕ) (digits : List ℕ) → IsDecimal n digits → n < 2 ^ 63 → IsWord digits (pos n)
+positive_word n [] d h = no_digits n d
+positive_word n (byte ∷ bytes) d h =
+    let b : is_digit byte ≡ true = and_left (is_digit byte) (are_digits bytes) d.are in
+    record {
+      first = digit_starts byte b;
+      others = and_right (is_digit byte) (are_digits bytes) d.are;
+      value_is =
+          ap (λ (t : Bool). if t then negative (magnitude bytes) else positive (magnitude (byte ∷ bytes))) (no_sign byte b)
+          ∙ (ap positive (magnitude_of n (byte ∷ bytes) d (omega (arith, h))) ∙ ap (λ (t : Bool). if t then Some (pos n) else None) (lt_true n (2 ^ 63) h));
+    }
+
+negative_word : (n : ℕ) (digits : List ℕ) → IsDecimal (suc n) digits → n < 2 ^ 63 → IsWord (45 ∷ digits) (negsuc n)
+negative_word n digits d h = record { first = refl; others = d.are; value_is = ap negative (magnitude_of (suc n) digits d (omega (arith, h))) }
+
+signed_word : (value : ℤ) → IsInRange value → IsWord (signed_decimal value) value
+signed_word (pos n) h = positive_word n (decimal n) (decimal_is n (omega (arith, h))) h
+signed_word (negsuc n) h = negative_word n (decimal (suc n)) (decimal_is (suc n) (omega (arith, h))) h
+
+-- ---- atoms
+
+moved : (depth at now end : ℕ) (text rest : List ℕ) (parts : Sexps) → at ≡ now → Reads depth at text parts end rest → Reads depth now text parts end rest
+moved depth at now end text rest parts e r = let P : ℕ → Type 0 = λ n. Reads depth n text parts end rest in subst P e r
+
+ends_at : (depth at end now : ℕ) (text rest : List ℕ) (parts : Sexps) → end ≡ now → Reads depth at text parts end rest → Reads depth at text parts now rest
+ends_at depth at end now text rest parts e r = let P : ℕ → Type 0 = λ n. Reads depth at text parts n rest in subst P e r
+
+dropped : (depth at end : ℕ) (bytes text rest : List ℕ) (parts : Sexps) → Reads depth (at + suc (length bytes)) text parts end rest → Reads depth (at + 1 + length bytes) (drop (length bytes) (bytes ++ text)) parts end rest
+dropped depth at end bytes text rest parts r =
+    let P : List ℕ → Type 0 = λ xs. Reads depth (at + 1 + length bytes) xs parts end rest in
+    subst P (sym (drop-append_seam bytes text)) (moved depth (at + suc (length bytes)) (at + 1 + length bytes) end text rest parts (omega arith) r)
+
+symbol_reads : (depth at end : ℕ) (word text rest : List ℕ) (parts : Sexps) → is_symbol word ≡ true → Delimited text → Reads depth (at + length word) text parts end rest
+    → Reads depth at (word ++ text) (part_and (trees.symbol at word) parts) end rest
+symbol_reads depth at end [] text rest parts w d r = absurd (true_no_false w)
+symbol_reads depth at end (byte ∷ bytes) text rest parts w d r =
+    let P : List ℕ → Type 0 = λ xs. Reads depth at (byte ∷ bytes ++ text) (part_and (trees.symbol at (byte ∷ xs)) parts) end rest in
+    let f = and_left (starts_symbol byte) (list_all is_symbol_byte bytes) w in
+    let o = and_right (starts_symbol byte) (list_all is_symbol_byte bytes) w in
+    subst P (take-append_seam bytes text) (a_symbol (symbol_before byte bytes text f o d) (dropped depth at end bytes text rest parts r))
+
+number_reads : (depth at end : ℕ) (word text rest : List ℕ) (value : ℤ) (parts : Sexps) → IsWord word value → Delimited text → Reads depth (at + length word) text parts end rest
+    → Reads depth at (word ++ text) (part_and (trees.number at value) parts) end rest
+number_reads depth at end [] text rest value parts w d r = absurd w
+number_reads depth at end (byte ∷ bytes) text rest value parts w d r = a_number (number_before byte bytes text value w d) (dropped depth at end bytes text rest parts r)
+
+-- ---- forms
+
+others_delimited : (forms : Forms) (text : List ℕ) → Delimited text → Delimited (put_others forms text)
+others_delimited no_forms text d = d
+others_delimited (form_and form forms) text d = refl
+
+mutual
+  form_reads : (n depth at end : ℕ) (form : Form) (text rest : List ℕ) (parts : Sexps) → IsWritable n form → depth + n ≤ 1024 → Delimited text → Reads depth (at + size form) text parts end rest
+      → Reads depth at (put form text) (part_and (placed at form) parts) end rest
+  form_reads n depth at end (symbol_form bytes) text rest parts w h d r = symbol_reads depth at end bytes text rest parts w d r
+  form_reads n depth at end (number_form value) text rest parts w h d r = number_reads depth at end (signed_decimal value) text rest value parts (signed_word value w) d r
+  form_reads zero depth at end (list_form forms) text rest parts w h d r = absurd w
+  form_reads (suc n) depth at end (list_form forms) text rest parts w h d r =
+      a_list refl (omega (arith, h)) (all_read n (suc depth) (at + 1) forms (41 ∷ text) w (omega (arith, h)) refl) refl
+      (moved depth (at + (1 + size_all forms + 1)) (at + 1 + size_all forms + 1) end text rest parts (omega arith) r)
+
+  all_read : (n depth at : ℕ) (forms : Forms) (text : List ℕ) → AreWritable n forms → depth + n ≤ 1024 → Delimited text → Reads depth at (put_all forms text) (all_placed at forms) (at + size_all forms) text
+  all_read n depth at no_forms text w h d = ends_at depth at at (at + 0) text text no_parts (omega arith) nothing
+  all_read n depth at (form_and form forms) text w h d =
+      ends_at depth at (at + size form + size_others forms) (at + (size form + size_others forms)) (put form (put_others forms text)) text (part_and (placed at form) (others_placed (at + size form) forms)) (omega arith)
+      (form_reads n depth at (at + size form + size_others forms) form (put_others forms text) text (others_placed (at + size form) forms) w.0 h (others_delimited forms text d) (others_read n depth (at + size form) forms text w.1 h d))
+
+  others_read : (n depth at : ℕ) (forms : Forms) (text : List ℕ) → AreWritable n forms → depth + n ≤ 1024 → Delimited text → Reads depth at (put_others forms text) (others_placed at forms) (at + size_others forms) text
+  others_read n depth at no_forms text w h d = ends_at depth at at (at + 0) text text no_parts (omega arith) nothing
+  others_read n depth at (form_and form forms) text w h d =
+      let parts : Sexps = part_and (placed (at + 1) form) (others_placed (at + 1 + size form) forms) in
+      let after : List ℕ = put form (put_others forms text) in
+      let r : Reads depth (at + 1) after parts (at + 1 + size form + size_others forms) text = form_reads n depth (at + 1) (at + 1 + size form + size_others forms) form (put_others forms text) text (others_placed (at + 1 + size form) forms) w.0 h (others_delimited forms text d) (others_read n depth (at + 1 + size form) forms text w.1 h d) in
+      ends_at depth at (at + 1 + size form + size_others forms) (at + (1 + size form + size_others forms)) (32 ∷ after) text parts (omega arith)
+      (white_space refl (moved depth (at + 1) (at + 1 + 0) (at + 1 + size form + size_others forms) after text parts (omega arith) r))
+
+pub written_reads : (forms : Forms) → AreWritable 1024 forms → Reading (put_all forms []) (all_placed 0 forms)
+written_reads forms w = record { end = 0 + size_all forms; reads = all_read 1024 0 0 forms [] w (omega arith) refl }

@@ -1,0 +1,11 @@
+pub mod Bytes
+pub mod Numbers
+pub mod Pieces
+pub mod Trees
+pub mod Reading
+pub mod Results
+pub mod Scan
+pub mod Readers
+pub mod Places
+pub mod Parts
+pub mod Writing

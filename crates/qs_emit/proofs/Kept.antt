@@ -1,0 +1,384 @@
+-- What frames and blocks keep while registers and bytes around them change.
+use Rattle.std.proofs.Common.{◌≡◌, ◌⊎◌, inl, inr, ⊎_elim, ℕ, ◌+◌, ◌-◌, ◌*◌, ◌%◌, ◌^◌, ◌==◌, ◌<◌, ◌≤◌, Bool, true, false, List, [], ◌∷◌, length, Some, refl, sym, ap, ◌∙◌, subst, arith}
+use Rattle.std.specs.Prelude.{◌&&◌, if◌then◌else◌}
+use Rattle.std.specs.List.{list_all}
+use Rattle.std.proofs.lemmas.Bool.{cases_eq, cases_lt}
+use Rattle.std.proofs.lemmas.Bool.Decides.{nat_tests}
+use Rattle.qs_memory.specs.Values.{Value}
+use Rattle.qs_memory.specs.Memory.{Block, Memory, block_at}
+use Rattle.qs_memory.specs.Soundness.{IsLive}
+use Rattle.qs_memory.proofs.BlockLaws.{after_same}
+use Rattle.qs_image.specs.Image.{Image}
+use Rattle.qs_machine.specs.State.{with_value, store_4}
+use Rattle.qs_tac.specs.declared.places.Place.{Place}
+use Rattle.qs_tac.specs.declared.places.Place.TheVariants.{Slot, Register}
+use Rattle.qs_tac.specs.Places.{PlacesTree}
+use Rattle.qs_tac.specs.Holders.{File, same_place, with_place, is_saved_register}
+use Rattle.qs_tac.specs.Values.{Activation}
+use Rattle.qs_tac.specs.Steps.{Waiting}
+use Rattle.qs_isa.specs.declared.instruction.StoreKind.TheVariants.{Sw}
+use Rattle.qs_frames.specs.Layout.{total, slot_count, is_among, used_among, saved_registers, used_registers, kept, register_at}
+use Rattle.qs_frames.proofs.FrameLaws.{is_cost}
+use Rattle.qs_select.specs.Operands.{Context, frame_of, slot_offset}
+use Rattle.qs_emit.specs.Machine.{Room}
+use Rattle.qs_emit.specs.Lies.{number_at, StandsFor, Owner, cell_of, Lies, IsInReach, IsOwn, SameOwn}
+use Rattle.qs_emit.specs.Lies.{frame as of_frame}
+use Rattle.qs_emit.specs.Relation.{Setup, context, cost, Ground, word_in, IsAmong, HasPlace, IsHeld, saved_in, caller_registers, private_end, HasFrame, HasStack, HasBlocks, Lay, ground, IsRelated}
+use Rattle.qs_emit.proofs.Injection.{Later, value_kept, value_here, value_there, stored_other}
+use Rattle.qs_emit.proofs.Bytes.{number_same, number_stored, number_beside}
+
+-- ---- registers
+
+-- the registers that a call gives back are as they were
+pub record SameSaved (registers later : ℕ → ℕ) : Type 0 where
+  pub same : (r : ℕ) → is_saved_register r ≡ true → later r ≡ registers r
+
+pub saved_none : (registers : ℕ → ℕ) → SameSaved registers registers
+saved_none registers = record { same = λ r h. refl }
+
+pub saved_on : (a b d : ℕ → ℕ) → SameSaved a b → SameSaved b d → SameSaved a d
+saved_on a b d h k = record { same = λ r e. k.same r e ∙ h.same r e }
+
+among_test : (test : ℕ → Bool) (registers : List ℕ) (r : ℕ) → list_all test registers ≡ true → IsAmong registers r → test r ≡ true
+among_test test [] r h among = absurd among
+among_test test (q ∷ registers) r h (inl e) = ap test e ∙ first (test q) (list_all test registers) h
+  where
+    first : (a b : Bool) → a && b ≡ true → a ≡ true
+    first true b k = refl
+    first false b k = cc
+among_test test (q ∷ registers) r h (inr among) = among_test test registers r (second (test q) (list_all test registers) h) among
+  where
+    second : (a b : Bool) → a && b ≡ true → b ≡ true
+    second true b k = k
+    second false b k = cc
+
+used_among_all : (places : List Place) (registers : List ℕ) (r : ℕ) → IsAmong (used_among places registers) r → IsAmong registers r
+used_among_all places [] r h = h
+used_among_all places (q ∷ registers) r h = by (is_among places q) (used_among_all places registers r) h
+  where
+    by : (b : Bool) → (IsAmong (used_among places registers) r → IsAmong registers r) → IsAmong (if b then q ∷ used_among places registers else used_among places registers) r → IsAmong (q ∷ registers) r
+    by true more (inl e) = inl e
+    by true more (inr k) = inr (more k)
+    by false more k = inr (more k)
+
+pub used_saved : (p : PlacesTree) (r : ℕ) → IsAmong (used_registers p) r → is_saved_register r ≡ true
+used_saved p r h = among_test is_saved_register saved_registers r refl (used_among_all p.at saved_registers r h)
+
+-- ---- later grounds
+
+-- in a later ground the frames from an address on have the same bytes
+pub record Onward (g later : Ground) (from : ℕ) : Type 0 where
+  pub after : Later g.memory g.address_of later.memory later.address_of
+  pub frames : (at : ℕ) → from ≤ at → g.owner at ≡ of_frame → later.owner at ≡ of_frame
+  pub same : (at : ℕ) → from ≤ at → g.owner at ≡ of_frame → later.flat at ≡ g.flat at
+
+pub later_none : (m : Memory) (address_of : ℕ → ℕ) → Later m address_of m address_of
+later_none m address_of = record { after = after_same m; same = λ b h. refl }
+
+pub reach_like : (image : Image) (r : Room) (sp : ℕ) (block later : Block) (a b : ℕ) → later.size ≡ block.size → later.is_writable ≡ block.is_writable → b ≡ a → IsInReach image r sp block a → IsInReach image r sp later b
+reach_like image r sp block later a b size writable at (inl s) = let x = s.above in let y = s.below in inl (record { above = omega (arith, x, at); below = omega (arith, y, size, at) })
+reach_like image r sp block later a b size writable at (inr d) = let x = d.above in let y = d.below in inr (record {
+  above = omega (arith, x, at);
+  below = omega (arith, y, size, at);
+  kept = λ z l u. d.kept z (omega (arith, l, at)) (omega (arith, u, size, at));
+  changed = λ w z l u. d.changed (sym writable ∙ w) z (omega (arith, l, at)) (omega (arith, u, size, at));
+})
+
+pub reach_onward : (image : Image) (r : Room) (g later : Ground) (sp from block : ℕ) → Onward g later from → block < length g.memory → IsInReach image r sp (block_at g.memory block) (g.address_of block) → IsInReach image r sp (block_at later.memory block) (later.address_of block)
+reach_onward image r g later sp from block o h reach = reach_like image r sp (block_at g.memory block) (block_at later.memory block) (g.address_of block) (later.address_of block) (o.after.after.size block h) (o.after.after.writable block h) (o.after.same block h) reach
+
+-- ---- frames
+
+pub saved_in_same : (used : List ℕ) (registers other flat later : ℕ → ℕ) (sp i r : ℕ) → other r ≡ registers r → ((k : ℕ) → i ≤ k → k < i + length used → number_at 4 later (sp + register_at k) ≡ number_at 4 flat (sp + register_at k)) → saved_in used other later sp i r ≡ saved_in used registers flat sp i r
+saved_in_same [] registers other flat later sp i r e h = e
+saved_in_same (q ∷ used) registers other flat later sp i r e h = both (r == q) _ _ _ _ (h i (omega arith) (omega arith)) (saved_in_same used registers other flat later sp (i + 1) r e (λ k l u. h k (omega (arith, l)) (omega (arith, u))))
+  where
+    both : (b : Bool) (x y v w : ℕ) → v ≡ x → w ≡ y → (if b then v else w) ≡ (if b then x else y)
+    both true x y v w e f = e
+    both false x y v w e f = f
+
+-- a word of a frame's own part
+frame_word : (c : Context) (g later : Ground) (from sp at : ℕ) → Onward g later from → from ≤ sp → at + 4 ≤ (frame_of c).placed → ((x : ℕ) → sp ≤ x → x < private_end c sp → g.owner x ≡ of_frame) → number_at 4 later.flat (sp + at) ≡ number_at 4 g.flat (sp + at)
+frame_word c g later from sp at o le inside own = number_same 4 g.flat later.flat (sp + at) (λ x l u. o.same x (omega (arith, le, l)) (own x (omega (arith, l)) (omega (arith, u, inside))))
+
+-- where slots and saved registers end
+pub slot_inside : (c : Context) (k : ℕ) → slot_offset c k + 4 ≤ (frame_of c).placed
+slot_inside c k = below (kept c.places)
+  where
+    below : (n : ℕ) → 4 * n - 4 * k + 4 ≤ 4 + 4 * n
+    below n = omega arith
+
+pub register_inside : (c : Context) (i : ℕ) → i < length (used_registers c.places) → register_at i + 4 ≤ (frame_of c).placed
+register_inside c i h = omega (arith, h)
+
+-- slots lie behind the saved registers
+pub slot_behind : (c : Context) (k : ℕ) → k < slot_count c.places → 4 + 4 * length (used_registers c.places) ≤ slot_offset c k
+slot_behind c k h = by (length (used_registers c.places)) (slot_count c.places) h
+  where
+    by : (u n : ℕ) → k < n → 4 + 4 * u ≤ 4 * (u + n) - 4 * k
+    by u n h = omega (arith, h)
+
+pub placed_inside : (c : Context) → (frame_of c).placed + total c.function.blocks ≤ (frame_of c).cost
+placed_inside c = let e = (is_cost (kept c.places) (total c.function.blocks)).enough in omega (arith, e)
+
+module _ (s : Setup) where
+  pub frame_onward : (g later : Ground) (f : ℕ) (registers other : ℕ → ℕ) (from sp number : ℕ) (values : File) → Onward g later from → from ≤ sp → SameSaved registers other → HasFrame s g f registers sp number values → HasFrame s later f other sp number values
+  frame_onward g later f registers other from sp number values o le same h =
+      let made = h.made in
+      let longer = o.after.after.longer in
+      record {
+        holds = λ p v e. let a = h.holds p v e in record { has = a.has; stands = held p v a.has a.stands };
+        words = λ r k. let e = same.same r k in let w = h.words r k in omega (arith, e, w);
+        private = λ at l u. o.frames at (omega (arith, le, l)) (h.private at l u);
+        placed = λ i k. o.after.same (number + i) (omega (arith, made, k)) ∙ h.placed i k;
+        made = omega (arith, made, longer);
+        apart = λ b k live. let known : b < length g.memory = omega (arith, made, k) in reach_onward s.image s.room g later (sp + cost s f) from b o known (h.apart b k (o.after.after.live b known live));
+      }
+    where
+      word : (p : Place) → HasPlace (context s f) p → word_in (context s f) other later.flat sp p ≡ word_in (context s f) registers g.flat sp p
+      word (Slot k) has = frame_word (context s f) g later from sp (slot_offset (context s f) k) o le (slot_inside (context s f) k) h.private
+      word (Register r) has = same.same r (used_saved (context s f).places r has)
+
+      held : (p : Place) (v : Value) → HasPlace (context s f) p → StandsFor g.memory g.address_of v (word_in (context s f) registers g.flat sp p) → StandsFor later.memory later.address_of v (word_in (context s f) other later.flat sp p)
+      held p v has x = subst (λ (y : ℕ). StandsFor later.memory later.address_of v y) (sym (word p has)) (value_kept g.memory later.memory g.address_of later.address_of v (word_in (context s f) registers g.flat sp p) o.after x)
+
+  -- what a frame gives back
+  pub caller_same : (g later : Ground) (f : ℕ) (registers other : ℕ → ℕ) (from sp : ℕ) → Onward g later from → from ≤ sp → SameSaved registers other → ((at : ℕ) → sp ≤ at → at < private_end (context s f) sp → g.owner at ≡ of_frame) → SameSaved (caller_registers (context s f) registers g.flat sp) (caller_registers (context s f) other later.flat sp)
+  caller_same g later f registers other from sp o le same private = record {
+    same = λ r h. saved_in_same (used_registers (context s f).places) registers other g.flat later.flat sp 0 r (same.same r h) (λ k l u. frame_word (context s f) g later from sp (register_at k) o le (register_inside (context s f) k (omega (arith, u))) private);
+  }
+
+  -- the return address
+  return_same : (g later : Ground) (f : ℕ) (from sp : ℕ) → Onward g later from → from ≤ sp → ((at : ℕ) → sp ≤ at → at < private_end (context s f) sp → g.owner at ≡ of_frame) → number_at 4 later.flat sp ≡ number_at 4 g.flat sp
+  return_same g later f from sp o le private =
+      let z : sp + 0 ≡ sp = omega arith in
+      subst (λ (x : ℕ). number_at 4 later.flat x ≡ number_at 4 g.flat x) z (frame_word (context s f) g later from sp 0 o le (omega arith) private)
+
+  pub stack_onward : (g later : Ground) (stack : List (Waiting File)) (registers other : ℕ → ℕ) (from sp return_to : ℕ) → Onward g later from → from ≤ sp → SameSaved registers other → HasStack s g stack registers sp return_to → HasStack s later stack other sp return_to
+  stack_onward g later [] registers other from sp return_to o le same h = (h.0, (h.1.0, λ r k. same.same r k ∙ h.1.1 r k))
+  stack_onward g later (w ∷ stack) registers other from sp return_to o le same h =
+      let f = w.activation.function in
+      let waits = h.0 in
+      let word = return_same g later f from sp o le waits.frame.private in (
+        record {
+          takes = waits.takes;
+          known = waits.known;
+          inside = waits.inside;
+          taken = waits.taken;
+          frame = frame_onward g later f registers other from sp w.activation.first_block w.activation.held o le same waits.frame;
+          in_room = waits.in_room;
+          aligned = waits.aligned;
+          low = waits.low;
+        },
+        subst (λ (x : ℕ). HasStack s later stack (caller_registers (context s f) other later.flat sp) (sp + cost s f) x) (sym word)
+            (stack_onward g later stack (caller_registers (context s f) registers g.flat sp) (caller_registers (context s f) other later.flat sp) from (sp + cost s f) (number_at 4 g.flat sp) o (omega (arith, le)) (caller_same g later f registers other from sp o le same waits.frame.private) h.1),
+      )
+
+  -- ---- blocks
+
+  -- the bytes of live blocks are the code's own
+  pub cell_own : (g : Ground) (sp block offset : ℕ) → HasBlocks s g sp → IsLive g.memory block → offset < (block_at g.memory block).size → IsOwn s.room sp (g.address_of block + offset)
+  cell_own g sp block offset k live lt = by (k.in_reach block live)
+    where
+      by : IsInReach s.image s.room sp (block_at g.memory block) (g.address_of block) → IsOwn s.room sp (g.address_of block + offset)
+      by (inl h) = let a = h.above in inl (omega (arith, a))
+      by (inr d) = inr (d.kept (g.address_of block + offset) (omega arith) (omega (arith, lt)))
+
+  abbrev pub SameCells : (m : Memory) (address_of flat later : ℕ → ℕ) → Type 0
+  SameCells m address_of flat later = (block offset : ℕ) → IsLive m block → offset < (block_at m block).size → later (address_of block + offset) ≡ flat (address_of block + offset)
+
+  pub lies_same : (m : Memory) (l : Lay) (flat later : ℕ → ℕ) → SameCells m l.address_of flat later → Lies m l.address_of l.owner flat → Lies m l.address_of l.owner later
+  lies_same m l flat later same h = record {
+    owned = h.owned;
+    holds = λ b o live lt. rw (same b o live lt) (h.holds b o live lt);
+    aligned = h.aligned;
+  }
+
+  pub blocks_same : (m : Memory) (l : Lay) (sp : ℕ) (flat later : ℕ → ℕ) → SameCells m l.address_of flat later → HasBlocks s (ground m l flat) sp → HasBlocks s (ground m l later) sp
+  blocks_same m l sp flat later same h = record { lies = lies_same m l flat later same h.lies; in_reach = h.in_reach; old = h.old; made = h.made }
+
+  -- ---- the relation
+
+  module _ (a : Activation File) (m : Memory) (stack : List (Waiting File)) (l : Lay) (registers : ℕ → ℕ) (sp : ℕ) (flat : ℕ → ℕ) (r : IsRelated s a m stack l registers sp flat) where
+    -- nothing of frames and blocks is changed
+    related_onward : (other later : ℕ → ℕ) → SameSaved registers other → ((at : ℕ) → sp ≤ at → l.owner at ≡ of_frame → later at ≡ flat at) → SameCells m l.address_of flat later → IsRelated s a m stack l other sp later
+    related_onward other later same frames cells =
+        let g = ground m l flat in
+        let h = ground m l later in
+        let f = a.function in
+        let o : Onward g h sp = record { after = later_none m l.address_of; frames = λ at le e. e; same = frames } in
+        let word = return_same g h f sp sp o (omega arith) r.frame.private in
+        record {
+          known = r.known;
+          frame = frame_onward g h f registers other sp sp a.first_block a.held o (omega arith) same r.frame;
+          in_room = r.in_room;
+          above = subst (λ (x : ℕ). HasStack s h stack (caller_registers (context s f) other later sp) (sp + cost s f) x) (sym word)
+              (stack_onward g h stack (caller_registers (context s f) registers flat sp) (caller_registers (context s f) other later sp) sp (sp + cost s f) (number_at 4 flat sp) o (omega arith) (caller_same g h f registers other sp sp o (omega arith) same r.frame.private) r.above);
+          blocks = blocks_same m l sp flat later cells r.blocks;
+          root = r.root;
+        }
+
+    -- others change what isn't the code's own
+    pub related_own : (other later : ℕ → ℕ) → SameSaved registers other → SameOwn s.room sp flat later → IsRelated s a m stack l other sp later
+    related_own other later same h = related_onward other later same (λ at le e. h.same at (inl le)) (λ b o live lt. h.same (l.address_of b + o) (cell_own (ground m l flat) sp b o r.blocks live lt))
+
+    -- the activation goes on elsewhere
+    pub related_to : (at : ℕ) → IsRelated s (record a { at = at }) m stack l registers sp flat
+    related_to at = record { known = r.known; frame = r.frame; in_room = r.in_room; above = r.above; blocks = r.blocks; root = r.root }
+
+    -- with fewer values
+    pub related_fewer : (file : File) → ((p : Place) (v : Value) → file p ≡ Some v → a.held p ≡ Some v) → IsRelated s (record a { held = file }) m stack l registers sp flat
+    related_fewer file fewer = record {
+      known = r.known;
+      frame = record {
+        holds = λ p v e. r.frame.holds p v (fewer p v e);
+        words = r.frame.words;
+        private = r.frame.private;
+        placed = r.frame.placed;
+        made = r.frame.made;
+        apart = r.frame.apart;
+      };
+      in_room = r.in_room;
+      above = r.above;
+      blocks = r.blocks;
+      root = r.root;
+    }
+
+-- a byte of a frame is none of a block
+pub not_both : (o : Owner) (block offset : ℕ) → o ≡ of_frame → o ≡ cell_of block offset → ⊥
+not_both o block offset e f = cc
+
+-- ---- places
+
+pub place_cases : (p q : Place) → (p ≡ q) ⊎ (same_place p q ≡ false)
+place_cases (Slot i) (Slot k) = ⊎_elim (λ e. inl (ap Slot e)) (λ n. inr (grind (arith, nat_tests, n))) (cases_eq i k)
+place_cases (Slot i) (Register r) = inr refl
+place_cases (Register q) (Slot k) = inr refl
+place_cases (Register q) (Register r) = ⊎_elim (λ e. inl (ap Register e)) (λ n. inr (grind (arith, nat_tests, n))) (cases_eq q r)
+
+pub place_same : (p : Place) → same_place p p ≡ true
+place_same (Slot k) = grind (arith, nat_tests)
+place_same (Register q) = grind (arith, nat_tests)
+
+some_value : (v w : Value) → Some v ≡ Some w → v ≡ w
+some_value v w e = cc
+
+-- a place gets a value, and no other place changes
+abbrev pub HoldIn : Context → (m : Memory) → (address_of registers flat : ℕ → ℕ) → (sp : ℕ) → File → Type 0
+HoldIn c m address_of registers flat sp values = (p : Place) (v : Value) → values p ≡ Some v → IsHeld c m address_of registers flat sp p v
+
+hold_with : (c : Context) (m : Memory) (address_of registers other flat later : ℕ → ℕ) (sp : ℕ) (values : File) (d : Place) (v : Value) → IsHeld c m address_of other later sp d v → ((p : Place) (u : Value) → same_place p d ≡ false → IsHeld c m address_of registers flat sp p u → IsHeld c m address_of other later sp p u) → HoldIn c m address_of registers flat sp values → HoldIn c m address_of other later sp (with_place values d (Some v))
+hold_with c m address_of registers other flat later sp values d v here others old p u e = ⊎_elim at_place elsewhere (place_cases p d)
+  where
+    at_place : p ≡ d → IsHeld c m address_of other later sp p u
+    at_place q =
+        let e2 : with_place values d (Some v) d ≡ Some u = subst (λ (z : Place). with_place values d (Some v) z ≡ Some u) q e in
+        let same : v ≡ u = some_value v u (ap (λ b. if b then Some v else values d) (sym (place_same d)) ∙ e2) in
+        subst (λ (z : Place). IsHeld c m address_of other later sp z u) (sym q) (subst (λ (z : Value). IsHeld c m address_of other later sp d z) same here)
+
+    elsewhere : same_place p d ≡ false → IsHeld c m address_of other later sp p u
+    elsewhere q = others p u q (old p u (ap (λ b. if b then Some v else values p) (sym q) ∙ e))
+
+-- a register that is saved is given back whatever it has become
+saved_in_among : (used : List ℕ) (registers other flat : ℕ → ℕ) (sp i r : ℕ) → IsAmong used r → saved_in used other flat sp i r ≡ saved_in used registers flat sp i r
+saved_in_among [] registers other flat sp i r h = absurd h
+saved_in_among (q ∷ used) registers other flat sp i r (inl e) =
+    let t : (r == q) ≡ true = grind (arith, nat_tests, e) in
+    ap (λ b. if b then number_at 4 flat (sp + register_at i) else saved_in used other flat sp (i + 1) r) t ∙ ap (λ b. if b then number_at 4 flat (sp + register_at i) else saved_in used registers flat sp (i + 1) r) (sym t)
+saved_in_among (q ∷ used) registers other flat sp i r (inr h) = ap (λ z. if r == q then number_at 4 flat (sp + register_at i) else z) (saved_in_among used registers other flat sp (i + 1) r h)
+
+module _ (s : Setup) (a : Activation File) (m : Memory) (stack : List (Waiting File)) (l : Lay) (registers : ℕ → ℕ) (sp : ℕ) (flat : ℕ → ℕ) (r : IsRelated s a m stack l registers sp flat) where
+  abbrev c : Context
+  c = context s a.function
+
+  -- a value into a slot
+  pub related_slot : (k x : ℕ) (v : Value) → HasPlace c (Slot k) → StandsFor m l.address_of v (x % 2 ^ 32) → IsRelated s (record a { held = with_place a.held (Slot k) (Some v) }) m stack l registers sp (store_4 flat (sp + slot_offset c k) x)
+  related_slot k x v has stands =
+      let at = slot_offset c k in
+      let later = store_4 flat (sp + at) x in
+      let g = ground m l flat in
+      let h = ground m l later in
+      let behind = slot_behind c k has in
+      let inside = slot_inside c k in
+      let whole = placed_inside c in
+      let far : (y : ℕ) → sp + (frame_of c).cost ≤ y → later y ≡ flat y = λ y le. stored_other Sw flat (sp + at) x y (inr (omega (arith, le, inside, whole))) in
+      let word : number_at 4 later sp ≡ number_at 4 flat sp = number_beside flat (sp + at) x 4 sp (inl (omega (arith, behind))) in
+      let o : Onward g h (sp + (frame_of c).cost) = record { after = later_none m l.address_of; frames = λ y le e. e; same = λ y le e. far y le } in
+      let given : SameSaved (caller_registers c registers flat sp) (caller_registers c registers later sp) = record {
+        same = λ q e. saved_in_same (used_registers c.places) registers registers flat later sp 0 q refl (λ i lo hi. number_beside flat (sp + at) x 4 (sp + register_at i) (inl (omega (arith, hi, behind))));
+      } in
+      let here : StandsFor m l.address_of v (number_at 4 later (sp + at)) = subst (λ (y : ℕ). StandsFor m l.address_of v y) (sym (number_stored flat (sp + at) x)) stands in
+      record {
+        known = r.known;
+        frame = record {
+          holds = hold_with c m l.address_of registers registers flat later sp a.held (Slot k) v (record { has = has; stands = here }) (others k has) r.frame.holds;
+          words = r.frame.words;
+          private = r.frame.private;
+          placed = r.frame.placed;
+          made = r.frame.made;
+          apart = r.frame.apart;
+        };
+        in_room = r.in_room;
+        above = subst (λ (y : ℕ). HasStack s h stack (caller_registers c registers later sp) (sp + (frame_of c).cost) y) (sym word)
+            (stack_onward s g h stack (caller_registers c registers flat sp) (caller_registers c registers later sp) (sp + (frame_of c).cost) (sp + (frame_of c).cost) (number_at 4 flat sp) o (omega arith) given r.above);
+        blocks = blocks_same s m l sp flat later (λ b i live lt. stored_other Sw flat (sp + at) x (l.address_of b + i) (outside (l.address_of b + i) b i (r.blocks.lies.owned b i live lt))) r.blocks;
+        root = r.root;
+      }
+    where
+      outside : (y b i : ℕ) → l.owner y ≡ cell_of b i → (y < sp + slot_offset c k) ⊎ (sp + slot_offset c k + 4 ≤ y)
+      outside y b i e = ⊎_elim (λ lt. inl lt) (λ ge. ⊎_elim (λ lt. absurd (not_both (l.owner y) b i (r.frame.private y (let q = slot_behind c k has in omega (arith, ge, q)) (let q = slot_inside c k in omega (arith, lt, q))) e)) (λ far. inr far) (cases_lt y (sp + slot_offset c k + 4))) (cases_lt y (sp + slot_offset c k))
+
+      slots_apart : (u n i k : ℕ) → i < n → k < n → (i ≡ k → ⊥) → (4 * (u + n) - 4 * i + 4 ≤ 4 * (u + n) - 4 * k) ⊎ (4 * (u + n) - 4 * k + 4 ≤ 4 * (u + n) - 4 * i)
+      slots_apart u n i k li lk ne = ⊎_elim (λ lt. inr (omega (arith, lt, li, lk))) (λ ge. inl (less ge)) (cases_lt i k)
+        where
+          less : k ≤ i → 4 * (u + n) - 4 * i + 4 ≤ 4 * (u + n) - 4 * k
+          less ge = let lt : k < i = grind (arith, ge, ne) in omega (arith, lt, li, lk)
+
+      others : (k : ℕ) → HasPlace c (Slot k) → (p : Place) (u : Value) → same_place p (Slot k) ≡ false → IsHeld c m l.address_of registers flat sp p u → IsHeld c m l.address_of registers (store_4 flat (sp + slot_offset c k) x) sp p u
+      others k has (Slot i) u n held =
+          let ne : i ≡ k → ⊥ = λ e. let t : true ≡ false = sym (ap (λ j. same_place (Slot j) (Slot k)) e ∙ place_same (Slot k)) ∙ n in cc in
+          let apart = slots_apart (length (used_registers c.places)) (slot_count c.places) i k held.has has ne in
+          let word = number_beside flat (sp + slot_offset c k) x 4 (sp + slot_offset c i) (shift i k apart) in
+          record {
+            has = held.has;
+            stands = subst (λ (y : ℕ). StandsFor m l.address_of u y) (sym word) held.stands;
+          }
+        where
+          shift : (i k : ℕ) → (slot_offset c i + 4 ≤ slot_offset c k) ⊎ (slot_offset c k + 4 ≤ slot_offset c i) → (sp + slot_offset c i + 4 ≤ sp + slot_offset c k) ⊎ (sp + slot_offset c k + 4 ≤ sp + slot_offset c i)
+          shift i k (inl e) = inl (omega (arith, e))
+          shift i k (inr e) = inr (omega (arith, e))
+      others k has (Register q) u n held = record { has = held.has; stands = held.stands }
+
+  -- a value into a register
+  pub related_register : (q x : ℕ) (v : Value) → HasPlace c (Register q) → x < 2 ^ 32 → StandsFor m l.address_of v x → IsRelated s (record a { held = with_place a.held (Register q) (Some v) }) m stack l (with_value registers q x) sp flat
+  related_register q x v has small stands =
+      let g = ground m l flat in
+      let o : Onward g g sp = record { after = later_none m l.address_of; frames = λ y le e. e; same = λ y le e. refl } in
+      let here : StandsFor m l.address_of v (with_value registers q x q) = subst (λ (y : ℕ). StandsFor m l.address_of v y) (sym (value_here registers q x q refl)) stands in
+      let given : SameSaved (caller_registers c registers flat sp) (caller_registers c (with_value registers q x) flat sp) = record {
+        same = λ z e. ⊎_elim
+            (λ i. saved_in_among (used_registers c.places) registers (with_value registers q x) flat sp 0 z (subst (λ (y : ℕ). IsAmong (used_registers c.places) y) (sym i) has))
+            (λ n. saved_in_same (used_registers c.places) registers (with_value registers q x) flat flat sp 0 z (value_there registers q x z n) (λ i lo hi. refl))
+            (cases_eq z q);
+      } in
+      record {
+        known = r.known;
+        frame = record {
+          holds = hold_with c m l.address_of registers (with_value registers q x) flat flat sp a.held (Register q) v (record { has = has; stands = here }) others r.frame.holds;
+          words = λ z e. ⊎_elim (λ i. let k = value_here registers q x z i in omega (arith, k, small)) (λ n. let k = value_there registers q x z n in let w = r.frame.words z e in omega (arith, k, w)) (cases_eq z q);
+          private = r.frame.private;
+          placed = r.frame.placed;
+          made = r.frame.made;
+          apart = r.frame.apart;
+        };
+        in_room = r.in_room;
+        above = stack_onward s g g stack (caller_registers c registers flat sp) (caller_registers c (with_value registers q x) flat sp) sp (sp + (frame_of c).cost) (number_at 4 flat sp) o (omega arith) given r.above;
+        blocks = r.blocks;
+        root = r.root;
+      }
+    where
+      others : (p : Place) (u : Value) → same_place p (Register q) ≡ false → IsHeld c m l.address_of registers flat sp p u → IsHeld c m l.address_of (with_value registers q x) flat sp p u
+      others (Slot i) u n held = record { has = held.has; stands = held.stands }
+      others (Register z) u n held =
+          let word : with_value registers q x z ≡ registers z = value_there registers q x z (λ e. let t : true ≡ false = sym (ap (λ j. same_place (Register j) (Register q)) e ∙ place_same (Register q)) ∙ n in cc) in
+          record { has = held.has; stands = subst (λ (y : ℕ). StandsFor m l.address_of u y) (sym word) held.stands }

@@ -1,0 +1,262 @@
+-- Where the code of a unit's functions and instructions lies, and what the unit keeps.
+use Rattle.std.proofs.Common.{◌≡◌, inl, inr, ℕ, zero, suc, ◌+◌, ◌*◌, ◌%◌, ◌<◌, ◌≤◌, Bool, true, false, List, [], ◌∷◌, length, Option, Some, refl, sym, ap, ◌∙◌, subst, arith}
+use Rattle.std.specs.Prelude.{◌&&◌, slice_get, slice_index_or}
+use Rattle.std.specs.List.{list_all}
+use Rattle.std.proofs.lemmas.List.{length-map}
+use Rattle.qs_isa.specs.declared.instruction.Instr.{Instr}
+use Rattle.qs_asm.specs.declared.item.Item.{Item}
+use Rattle.qs_asm.specs.declared.item.Item.TheVariants.{Plain, Label, Jump, Branch}
+use Rattle.qs_asm.specs.Items.{Lays, plain}
+use Rattle.qs_asm.proofs.LaidLaws.{laid_split, takes_words}
+use Rattle.qs_machine.specs.State.{code_start}
+use Rattle.qs_tac.specs.Trees.{InstructionTree, TacFunctionTree}
+use Rattle.qs_tac.specs.Places.{place_of, no_places, slots_from}
+use Rattle.qs_tac.specs.declared.places.Place.{Place}
+use Rattle.qs_tac.specs.declared.places.Place.TheVariants.{Slot}
+use Rattle.qs_tac.specs.Fits.{instruction_fits, function_fits, parameter_fits}
+use Rattle.qs_frames.specs.Layout.{slot_count, slots_among}
+use Rattle.qs_select.specs.Operands.{Context}
+use Rattle.qs_select.specs.Emission.{Labels, enter, instruction_items, body_items, function_items, first_label, labels_of, functions_items, start_items}
+use Rattle.qs_select.proofs.Sizes.{words_are_kept}
+use Rattle.qs_emit.specs.Machine.{instruction_at}
+use Rattle.qs_emit.specs.Relation.{no_function, function_at, context, Setup, entry, place, data_address, HasPlace}
+use Rattle.qs_emit.proofs.Steps.{HasAt, Fits}
+
+-- ---- items
+
+-- plain items are code, and where they end
+pub record IsCode (at : ℕ → Option Instr) (from : ℕ) (code : List Instr) (to : ℕ) : Type 0 where
+  pub has : HasAt at from code
+  pub end : from + 4 * length code ≡ to
+
+pub plain_laid : (at : ℕ → Option Instr) (label : ℕ → ℕ) (from : ℕ) (code : List Instr) (to : ℕ) → Lays at label from (plain code) to → IsCode at from code to
+plain_laid at label from [] to h = record { has = tt; end = omega (arith, h) }
+plain_laid at label from (i ∷ code) to h = let k = plain_laid at label (from + 4) code to h.1 in let e = k.end in record { has = (h.0, k.has); end = omega (arith, e) }
+
+aligned_end : (at : ℕ → Option Instr) (label : ℕ → ℕ) (from : ℕ) (items : List Item) (to : ℕ) → from % 4 ≡ 0 → Lays at label from items to → to % 4 ≡ 0
+aligned_end at label from [] to al h = omega (arith, al, h)
+aligned_end at label from (Plain i ∷ items) to al h = aligned_end at label (from + 4) items to (omega (arith, al)) h.1
+aligned_end at label from (Label l ∷ items) to al h = aligned_end at label from items to al h.1
+aligned_end at label from (Jump rd l ∷ items) to al h = aligned_end at label (from + 4) items to (omega (arith, al)) h.1
+aligned_end at label from (Branch kind a b l ∷ items) to al (inl h) = aligned_end at label (from + 4) items to (omega (arith, al)) h.1
+aligned_end at label from (Branch kind a b l ∷ items) to al (inr h) = aligned_end at label (from + 8) items to (omega (arith, al)) h.1.1
+
+goes_up : (at : ℕ → Option Instr) (label : ℕ → ℕ) (from : ℕ) (items : List Item) (to : ℕ) → Lays at label from items to → from ≤ to
+goes_up at label from items to h = (takes_words at label from items to h).on
+
+-- ---- bodies
+
+module _ (at : ℕ → Option Instr) (label : ℕ → ℕ) (c : Context) (labels : Labels) where
+  -- each instruction lies between its label and the next
+  record HasBody (k : ℕ) (code : List InstructionTree) (from to : ℕ) : Type 0 where
+    first : label (labels.instruction k) ≡ from
+    stands : (j : ℕ) (i : InstructionTree) → slice_get code j ≡ Some i → Lays at label (label (labels.instruction (k + j))) (instruction_items c labels i) (label (labels.instruction (k + j + 1)))
+    aligned : (j : ℕ) → j ≤ length code → label (labels.instruction (k + j)) % 4 ≡ 0
+    low : (j : ℕ) → j ≤ length code → label (labels.instruction (k + j)) ≤ to
+
+  body_laid : (k : ℕ) (code : List InstructionTree) (from to : ℕ) → from % 4 ≡ 0 → Lays at label from (body_items c labels k code) to → HasBody k code from to
+  body_laid k [] from to al h = record {
+    first = h.0;
+    stands = λ j i e. cc;
+    aligned = λ j le. let z : k + j ≡ k = omega (arith, le) in ap (λ (n : ℕ). label (labels.instruction n) % 4) z ∙ ap (λ (n : ℕ). n % 4) h.0 ∙ al;
+    low = λ j le. let z : k + j ≡ k = omega (arith, le) in let e = ap (λ (n : ℕ). label (labels.instruction n)) z in let f = h.0 in let g = h.1 in omega (arith, e, f, g);
+  }
+  body_laid k (i ∷ code) from to al h =
+      let sp = laid_split at label from (instruction_items c labels i) (body_items c labels (k + 1) code) to h.1 in
+      rest sp.middle sp.front sp.back (body_laid (k + 1) code sp.middle to (aligned_end at label from (instruction_items c labels i) sp.middle al sp.front) sp.back)
+    where
+      rest : (middle : ℕ) → Lays at label from (instruction_items c labels i) middle → Lays at label middle (body_items c labels (k + 1) code) to → HasBody (k + 1) code middle to → HasBody k (i ∷ code) from to
+      rest middle front back b = record {
+        first = h.0;
+        stands = stands;
+        aligned = aligned;
+        low = low;
+      }
+        where
+          next : (j : ℕ) → k + 1 + j ≡ k + suc j
+          next j = omega arith
+
+          here : k + 0 ≡ k
+          here = omega arith
+
+          stands : (j : ℕ) (d : InstructionTree) → slice_get (i ∷ code) j ≡ Some d → Lays at label (label (labels.instruction (k + j))) (instruction_items c labels d) (label (labels.instruction (k + j + 1)))
+          stands zero d e =
+              let same : i ≡ d = cc in
+              let start : label (labels.instruction (k + 0)) ≡ from = ap (λ (n : ℕ). label (labels.instruction n)) here ∙ h.0 in
+              let one : k + 1 ≡ k + 0 + 1 = omega arith in
+              let end : middle ≡ label (labels.instruction (k + 0 + 1)) = sym b.first ∙ ap (λ (n : ℕ). label (labels.instruction n)) one in
+              subst (λ (x : ℕ). Lays at label x (instruction_items c labels d) (label (labels.instruction (k + 0 + 1)))) (sym start)
+              (subst (λ (x : ℕ). Lays at label from (instruction_items c labels d) x) end
+              (subst (λ (x : InstructionTree). Lays at label from (instruction_items c labels x) middle) same front))
+          stands (suc j) d e =
+              let n = next j in
+              let n1 : k + 1 + j + 1 ≡ k + suc j + 1 = omega arith in
+              subst (λ (x : ℕ). Lays at label (label (labels.instruction x)) (instruction_items c labels d) (label (labels.instruction (k + suc j + 1)))) n
+              (subst (λ (x : ℕ). Lays at label (label (labels.instruction (k + 1 + j))) (instruction_items c labels d) (label (labels.instruction x))) n1 (b.stands j d e))
+
+          aligned : (j : ℕ) → j ≤ length (i ∷ code) → label (labels.instruction (k + j)) % 4 ≡ 0
+          aligned zero le = ap (λ (n : ℕ). label (labels.instruction n) % 4) here ∙ ap (λ (n : ℕ). n % 4) h.0 ∙ al
+          aligned (suc j) le = ap (λ (n : ℕ). label (labels.instruction n) % 4) (sym (next j)) ∙ b.aligned j (omega (arith, le))
+
+          low : (j : ℕ) → j ≤ length (i ∷ code) → label (labels.instruction (k + j)) ≤ to
+          low zero le =
+              let e : label (labels.instruction (k + 0)) ≡ from = ap (λ (n : ℕ). label (labels.instruction n)) here ∙ h.0 in
+              let up = goes_up at label from (instruction_items c labels i) middle front in
+              let more = goes_up at label middle (body_items c labels (k + 1) code) to back in
+              omega (arith, e, up, more)
+          low (suc j) le = subst (λ (n : ℕ). label (labels.instruction n) ≤ to) (next j) (b.low j (omega (arith, le)))
+
+-- ---- functions
+
+module _ (s : Setup) where
+  abbrev at : ℕ → Option Instr
+  at = instruction_at s.image
+
+  record Found (f : ℕ) : Type 0 where
+    from : ℕ
+    to : ℕ
+    lays : Lays at s.label_at from (function_items (context s f) (labels_of s.unit f) f) to
+    aligned : from % 4 ≡ 0
+    low : to ≤ s.code_end
+
+  abbrev context_of : (g : TacFunctionTree) → (f : ℕ) → Context
+  context_of g f = record { function = g; places = slice_index_or s.places f no_places; data_at = data_address s.unit.data_blocks }
+
+  found_among : (functions : List TacFunctionTree) (first i from to : ℕ) → Lays at s.label_at from (functions_items s.unit s.places (data_address s.unit.data_blocks) first functions) to → from % 4 ≡ 0 → to ≤ s.code_end → i < length functions → ((j : ℕ) → j < length functions → slice_index_or functions j no_function ≡ function_at s.unit (first + j)) → Found (first + i)
+  found_among [] first i from to h al low lt same = absurd (omega (arith, lt))
+  found_among (g ∷ functions) first i from to h al low lt same =
+      let sp = laid_split at s.label_at from (function_items (context_of g first) (labels_of s.unit first) first) (functions_items s.unit s.places (data_address s.unit.data_blocks) (first + 1) functions) to h in
+      by i lt sp.middle sp.front sp.back
+      (λ j lt. found_among functions (first + 1) j sp.middle to sp.back (aligned_end at s.label_at from (function_items (context_of g first) (labels_of s.unit first) first) sp.middle al sp.front) low lt
+      (λ k lt. same (suc k) (omega (arith, lt)) ∙ ap (function_at s.unit) (shift k)))
+    where
+      shift : (k : ℕ) → first + suc k ≡ first + 1 + k
+      shift k = omega arith
+
+      by : (i : ℕ) → i < length (g ∷ functions) → (middle : ℕ) → Lays at s.label_at from (function_items (context_of g first) (labels_of s.unit first) first) middle → Lays at s.label_at middle (functions_items s.unit s.places (data_address s.unit.data_blocks) (first + 1) functions) to → ((j : ℕ) → j < length functions → Found (first + 1 + j)) → Found (first + i)
+      by zero lt middle front back more =
+          let z : first ≡ first + 0 = omega arith in
+          let is : g ≡ function_at s.unit first = same 0 (omega arith) ∙ ap (function_at s.unit) (sym z) in
+          let up = goes_up at s.label_at middle (functions_items s.unit s.places (data_address s.unit.data_blocks) (first + 1) functions) to back in
+          subst (λ (n : ℕ). Found n) z
+          (record { from = from; to = middle; lays = subst (λ (x : TacFunctionTree). Lays at s.label_at from (function_items (context_of x first) (labels_of s.unit first) first) middle) is front; aligned = al; low = omega (arith, up, low) })
+      by (suc i) lt middle front back more = subst (λ (n : ℕ). Found n) (sym (shift i)) (more i (omega (arith, lt)))
+
+  found : (f : ℕ) → f < length s.unit.functions → Found f
+  found f lt =
+      let sp = laid_split at s.label_at code_start (start_items s.unit) (functions_items s.unit s.places (data_address s.unit.data_blocks) 0 s.unit.functions) s.code_end s.laid in
+      let al = aligned_end at s.label_at code_start (start_items s.unit) sp.middle (omega arith) sp.front in
+      let z : (n : ℕ) → 0 + n ≡ n = λ n. omega arith in
+      subst (λ (n : ℕ). Found n) (z f) (found_among s.unit.functions 0 f sp.middle s.code_end sp.back al (omega arith) lt (λ j h. ap (function_at s.unit) (sym (z j))))
+
+  -- the code of a function
+  pub record HasFunction (f : ℕ) : Type 0 where
+    pub begins : Lays at s.label_at (entry s f) (plain (enter (context s f))) (place s f 0)
+    pub stands : (k : ℕ) (i : InstructionTree) → slice_get (function_at s.unit f).code k ≡ Some i → Lays at s.label_at (place s f k) (instruction_items (context s f) (labels_of s.unit f) i) (place s f (k + 1))
+    pub entry_aligned : entry s f % 4 ≡ 0
+    pub entry_low : entry s f ≤ s.code_end
+    pub place_aligned : (k : ℕ) → k ≤ length (function_at s.unit f).code → place s f k % 4 ≡ 0
+    pub place_low : (k : ℕ) → k ≤ length (function_at s.unit f).code → place s f k ≤ s.code_end
+
+  pub has_function : (f : ℕ) → f < length s.unit.functions → HasFunction f
+  has_function f lt =
+      let g = found f lt in
+      let code = (function_at s.unit f).code in
+      let sp = laid_split at s.label_at g.from (plain (enter (context s f))) (body_items (context s f) (labels_of s.unit f) 0 code) g.to g.lays.1 in
+      let al = aligned_end at s.label_at g.from (plain (enter (context s f))) sp.middle g.aligned sp.front in
+      whole g.from g.to sp.middle g.lays.0 g.aligned g.low sp.front sp.back (body_laid at s.label_at (context s f) (labels_of s.unit f) 0 code sp.middle g.to al sp.back)
+    where
+      z : (n : ℕ) → 0 + n ≡ n
+      z n = omega arith
+
+      whole : (from to middle : ℕ) → s.label_at (first_label s.unit.functions f) ≡ from → from % 4 ≡ 0 → to ≤ s.code_end → Lays at s.label_at from (plain (enter (context s f))) middle → Lays at s.label_at middle (body_items (context s f) (labels_of s.unit f) 0 (function_at s.unit f).code) to → HasBody at s.label_at (context s f) (labels_of s.unit f) 0 (function_at s.unit f).code middle to → HasFunction f
+      whole from to middle first al low front back b = record {
+        begins = subst (λ (x : ℕ). Lays at s.label_at x (plain (enter (context s f))) (place s f 0)) (sym first) (subst (λ (x : ℕ). Lays at s.label_at from (plain (enter (context s f))) x) (sym b.first) front);
+        stands = λ k i e.
+            subst (λ (x : ℕ). Lays at s.label_at (place s f x) (instruction_items (context s f) (labels_of s.unit f) i) (place s f (k + 1))) (z k)
+            (subst (λ (x : ℕ). Lays at s.label_at (place s f (0 + k)) (instruction_items (context s f) (labels_of s.unit f) i) (place s f (x + 1))) (z k) (b.stands k i e));
+        entry_aligned = ap (λ (n : ℕ). n % 4) first ∙ al;
+        entry_low =
+            let up = goes_up at s.label_at from (plain (enter (context s f))) middle front in
+            let more = goes_up at s.label_at middle (body_items (context s f) (labels_of s.unit f) 0 (function_at s.unit f).code) to back in
+            omega (arith, first, up, more, low);
+        place_aligned = λ k le. subst (λ (x : ℕ). place s f x % 4 ≡ 0) (z k) (b.aligned k le);
+        place_low = λ k le. let e = b.low k le in let f = subst (λ (x : ℕ). place s f x ≤ to) (z k) e in omega (arith, f, low);
+      }
+
+  -- code between two places fits
+  pub fits_between : (from to n : ℕ) → from % 4 ≡ 0 → to ≤ s.code_end → from + 4 * n ≤ to → Fits from n
+  fits_between from to n al low le = let short = s.short in record { aligned = al; low = omega (arith, low, le, short) }
+
+  -- ---- what the unit keeps
+
+  pub function_there : (f : ℕ) → f < length s.unit.functions → slice_get s.unit.functions f ≡ Some (function_at s.unit f)
+  function_there f lt = among s.unit.functions f lt
+    where
+      among : (functions : List TacFunctionTree) (f : ℕ) → f < length functions → slice_get functions f ≡ Some (slice_index_or functions f no_function)
+      among [] f lt = absurd (omega (arith, lt))
+      among (g ∷ functions) zero lt = refl
+      among (g ∷ functions) (suc f) lt = among functions f (omega (arith, lt))
+
+  pub all_pass : {A : Type 0} (test : A → Bool) (list : List A) (i : ℕ) (x : A) → list_all test list ≡ true → slice_get list i ≡ Some x → test x ≡ true
+  all_pass test [] i x h e = cc
+  all_pass test (y ∷ list) zero x h e = let same : y ≡ x = cc in ap test (sym same) ∙ first (test y) (list_all test list) h
+    where
+      first : (a b : Bool) → a && b ≡ true → a ≡ true
+      first true b k = refl
+      first false b k = cc
+  all_pass test (y ∷ list) (suc i) x h e = all_pass test list i x (second (test y) (list_all test list) h) e
+    where
+      second : (a b : Bool) → a && b ≡ true → b ≡ true
+      second true b k = k
+      second false b k = cc
+
+  both_left : (a b : Bool) → a && b ≡ true → a ≡ true
+  both_left true b h = refl
+  both_left false b h = cc
+
+  both_right : (a b : Bool) → a && b ≡ true → b ≡ true
+  both_right true b h = h
+  both_right false b h = cc
+
+  pub function_fits_there : (f : ℕ) → f < length s.unit.functions → function_fits s.unit (function_at s.unit f) ≡ true
+  function_fits_there f lt = all_pass (function_fits s.unit) s.unit.functions f (function_at s.unit f) (both_left _ _ (both_left _ _ s.emittable.fits)) (function_there f lt)
+
+  pub instruction_fits_there : (f k : ℕ) (i : InstructionTree) → f < length s.unit.functions → slice_get (function_at s.unit f).code k ≡ Some i → instruction_fits s.unit (function_at s.unit f) i ≡ true
+  instruction_fits_there f k i lt e = all_pass (instruction_fits s.unit (function_at s.unit f)) (function_at s.unit f).code k i (both_right _ _ (function_fits_there f lt)) e
+
+  pub parameters_fit_there : (f : ℕ) → f < length s.unit.functions → list_all (parameter_fits (function_at s.unit f)) (function_at s.unit f).parameters ≡ true
+  parameters_fit_there f lt = both_left _ _ (both_left _ _ (function_fits_there f lt))
+
+  all_are_slots : (first count : ℕ) → slots_among (slots_from first count) ≡ count
+  all_are_slots first zero = refl
+  all_are_slots first (suc count) = ap suc (all_are_slots (first + 1) count)
+
+  slot_of : (first count t : ℕ) → slice_index_or (slots_from first count) t (Slot (first + t)) ≡ Slot (first + t)
+  slot_of first zero t = refl
+  slot_of first (suc count) zero = ap Slot (omega arith)
+  slot_of first (suc count) (suc t) =
+      let e : first + suc t ≡ first + 1 + t = omega arith in
+      ap (λ (k : ℕ). slice_index_or (slots_from (first + 1) count) t (Slot k)) e ∙ slot_of (first + 1) count t ∙ ap Slot (sym e)
+
+  -- each temporary stands in its own slot
+  pub own_place : (f : ℕ) → f < length s.unit.functions → (t : ℕ) → place_of (context s f).places t ≡ Slot t
+  own_place f lt t =
+      let accepted = s.emittable.places f (function_at s.unit f) (function_there f lt) in
+      let z : 0 + t ≡ t = omega arith in
+      ap (λ (l : List Place). slice_index_or l t (Slot t)) accepted.own_slots
+      ∙ subst (λ (k : ℕ). slice_index_or (slots_from 0 (function_at s.unit f).temporaries) t (Slot k) ≡ Slot k) z (slot_of 0 (function_at s.unit f).temporaries t)
+
+  pub has_place : (f : ℕ) → f < length s.unit.functions → (t : ℕ) → t < (function_at s.unit f).temporaries → HasPlace (context s f) (place_of (context s f).places t)
+  has_place f lt t h =
+      let accepted = s.emittable.places f (function_at s.unit f) (function_there f lt) in
+      let count : slot_count (context s f).places ≡ (function_at s.unit f).temporaries = ap slots_among accepted.own_slots ∙ all_are_slots 0 (function_at s.unit f).temporaries in
+      subst (λ (p : Place). HasPlace (context s f) p) (sym (own_place f lt t)) (omega (arith, h, count))
+
+  -- an instruction is at least one of the machine's
+  pub some_code : (f : ℕ) (code : List Instr) (i : InstructionTree) → instruction_items (context s f) (labels_of s.unit f) i ≡ plain code → 1 ≤ length code
+  some_code f code i e =
+      let k = (words_are_kept (context s f) (labels_of s.unit f)).some i in
+      let l : length (plain code) ≡ length code = length-map code Plain in
+      let m : length (instruction_items (context s f) (labels_of s.unit f) i) ≡ length (plain code) = ap length e in
+      omega (arith, k, l, m)

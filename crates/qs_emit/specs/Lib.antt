@@ -1,0 +1,6 @@
+pub mod Machine
+pub mod Lies
+pub mod Relation
+pub mod Emitted
+pub mod Started
+pub mod Laws

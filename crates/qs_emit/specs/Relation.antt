@@ -1,0 +1,253 @@
+-- How a run of linear code, its values in places, stands to the machine that runs its emitted code.
+use Rattle.std.specs.Prelude.{◌≡◌, ◌⊎◌, ℕ, ◌+◌, ◌*◌, ◌%◌, ◌^◌, ◌<◌, ◌≤◌, ◌==◌, true, if◌then◌else◌}
+use Rattle.std.specs.Prelude.{List, [], ◌∷◌, length, map, All, Option, Some, slice_get, slice_index_or}
+use Rattle.qs_memory.specs.Values.{Value}
+use Rattle.qs_memory.specs.Memory.{Memory, block_at}
+use Rattle.qs_memory.specs.Soundness.{IsLive}
+use Rattle.qs_calls.specs.World.{World}
+use Rattle.qs_calls.specs.declared.callee.Callee.{Callee}
+use Rattle.qs_tac.specs.declared.operands.Operand.{Operand}
+use Rattle.qs_image.specs.Image.{Image}
+use Rattle.qs_machine.specs.State.{stack_pointer, code_start, data_start, stack_top, stack_limit}
+use Rattle.qs_asm.specs.Items.{Lays, plain}
+use Rattle.qs_tac.specs.Trees.{InstructionTree, call, TacFunctionTree, TacUnitTree}
+use Rattle.qs_tac.specs.Fits.{unit_fits}
+use Rattle.qs_tac.specs.Places.{PlacesTree, place_of, no_places}
+use Rattle.qs_tac.specs.Holders.{File, is_saved_register}
+use Rattle.qs_tac.specs.Values.{Activation}
+use Rattle.qs_tac.specs.Steps.{Waiting}
+use Rattle.qs_tac.specs.Laws.{AreAccepted}
+use Rattle.qs_tac.specs.declared.places.Place.{Place}
+use Rattle.qs_tac.specs.declared.places.Place.TheVariants.{Slot, Register}
+use Rattle.qs_tac.specs.declared.units.TacData.{TacData}
+use Rattle.qs_frames.specs.Layout.{rounded, offset, slot_count, used_registers, register_at}
+use Rattle.qs_emit.specs.Machine.{Room, Watched, base, instruction_at}
+use Rattle.qs_select.specs.Operands.{Context, frame_of, slot_offset, local_offset}
+use Rattle.qs_select.specs.Emission.{first_label, unit_items, take_result}
+use Rattle.qs_emit.specs.Lies.{number_at, AreBytes, StandsFor, Owner, frame, Lies, IsInReach}
+
+-- the data in order, each at its least multiple of 4
+abbrev pub data_address : List TacData → (block : ℕ) → ℕ
+data_address data_blocks block = data_start + offset (map (λ d. d.size) data_blocks) block
+
+-- ---- the functions of a unit
+
+abbrev pub no_function : TacFunctionTree
+no_function = record { parameters = []; temporaries = 0; blocks = []; code = [] }
+
+abbrev pub function_at : TacUnitTree → (f : ℕ) → TacFunctionTree
+function_at u f = slice_index_or u.functions f no_function
+
+abbrev pub context_at : TacUnitTree → List PlacesTree → (f : ℕ) → Context
+context_at u ps f = record {
+  function = function_at u f;
+  places = slice_index_or ps f no_places;
+  data_at = data_address u.data_blocks;
+}
+
+abbrev pub cost_at : TacUnitTree → List PlacesTree → (f : ℕ) → ℕ
+cost_at u ps f = (frame_of (context_at u ps f)).cost
+
+-- ---- what linear code is emitted from
+
+abbrev pub IsShortCall : InstructionTree → Type 0
+IsShortCall i =
+    (x : Option ℕ) (f : Callee) (arguments : List Operand) → i ≡ call x f arguments → length arguments ≤ 8
+
+-- the condition of emission: places that are accepted, frames of at most 2 ^ 28 bytes, and arguments that registers hold
+pub record IsEmittable (u : TacUnitTree) (ps : List PlacesTree) : Type 0 where
+  pub fits : unit_fits u ≡ true
+  pub places : AreAccepted u ps
+  pub cost : (f : ℕ) → f < length u.functions → cost_at u ps f ≤ stack_limit
+  pub parameters : (f : ℕ) → length (function_at u f).parameters ≤ 8
+  pub arguments : (f k : ℕ) (i : InstructionTree) → slice_get (function_at u f).code k ≡ Some i → IsShortCall i
+
+-- the least data that have room for all blocks
+abbrev pub data_end : List TacData → ℕ
+data_end [] = 0
+data_end (d ∷ []) = d.size
+data_end (d ∷ e ∷ data_blocks) = rounded d.size + data_end (e ∷ data_blocks)
+
+-- an image whose code is that of the unit, with each label at its address, and whose data have room for the unit's
+pub record Setup : Type 0 where
+  pub unit : TacUnitTree
+  pub places : List PlacesTree
+  pub emittable : IsEmittable unit places
+  pub image : Image
+  pub label_at : ℕ → ℕ
+  pub code_end : ℕ
+  pub laid : Lays (instruction_at image) label_at code_start (unit_items unit places (data_address unit.data_blocks)) code_end
+  pub short : code_end ≤ code_start + 4 * 2 ^ 18
+  pub data_fits : data_end unit.data_blocks ≤ length image.bytes
+  pub data_limit : length image.bytes ≤ 16777216
+  pub room : Room
+  pub others_bytes :
+      (time : ℕ) (flat : ℕ → ℕ) → AreBytes flat → AreBytes (room.others time flat)
+  pub stack_fits : room.size ≤ stack_limit
+  pub ceiling : room.ceiling ≤ stack_top
+  -- where the root returns to, and the registers that it gives back
+  pub return_to : ℕ
+  pub return_aligned : return_to % 4 ≡ 0
+  pub return_low : return_to < 2 ^ 32
+  pub root_registers : ℕ → ℕ
+  -- how many blocks the memory to start from has, and where they lie; the unit's data, which are the first of them, lie
+  -- where the image has them
+  pub first : ℕ
+  pub addresses : (block : ℕ) → ℕ
+  pub data_there : length unit.data_blocks ≤ first
+  pub data_lie :
+      (block : ℕ) → block < length unit.data_blocks → addresses block ≡ data_address unit.data_blocks block
+
+module _ (s : Setup) where
+  abbrev pub context : (f : ℕ) → Context
+  context f = context_at s.unit s.places f
+
+  abbrev pub cost : (f : ℕ) → ℕ
+  cost f = cost_at s.unit s.places f
+
+  -- where a function begins, and where the code of one of its instructions does
+  abbrev pub entry : (f : ℕ) → ℕ
+  entry f = s.label_at (first_label s.unit.functions f)
+
+  abbrev pub place : (f k : ℕ) → ℕ
+  place f k = s.label_at (first_label s.unit.functions f + 1 + k)
+
+-- ---- frames
+
+-- block memory, where it lies, and the machine's bytes
+pub record Ground : Type 0 where
+  pub memory : Memory
+  pub address_of : ℕ → ℕ
+  pub owner : ℕ → Owner
+  pub flat : ℕ → ℕ
+
+-- the word in a place of the frame at x2
+abbrev pub word_in : Context → (registers flat : ℕ → ℕ) → (sp : ℕ) → Place → ℕ
+word_in c registers flat sp (Slot k) = number_at 4 flat (sp + slot_offset c k)
+word_in c registers flat sp (Register r) = registers r
+
+abbrev pub IsAmong : List ℕ → (r : ℕ) → Type 0
+IsAmong [] r = ⊥
+IsAmong (q ∷ registers) r = (r ≡ q) ⊎ IsAmong registers r
+
+-- a place that the frame has
+abbrev pub HasPlace : Context → Place → Type 0
+HasPlace c (Slot k) = k < slot_count c.places
+HasPlace c (Register r) = IsAmong (used_registers c.places) r
+
+-- a place of the frame at x2 holds a value
+pub record IsHeld (c : Context) (m : Memory) (address_of registers flat : ℕ → ℕ) (sp : ℕ) (p : Place) (v : Value)
+    : Type 0 where
+  pub has : HasPlace c p
+  pub stands : StandsFor m address_of v (word_in c registers flat sp p)
+
+-- the registers as the caller left them: a frame has those that its function uses
+abbrev pub saved_in : List ℕ → (registers flat : ℕ → ℕ) → (sp i r : ℕ) → ℕ
+saved_in [] registers flat sp i r = registers r
+saved_in (q ∷ used) registers flat sp i r =
+    if r == q then number_at 4 flat (sp + register_at i) else saved_in used registers flat sp (i + 1) r
+
+abbrev pub caller_registers : Context → (registers flat : ℕ → ℕ) → (sp r : ℕ) → ℕ
+caller_registers c registers flat sp r = saved_in (used_registers c.places) registers flat sp 0 r
+
+-- the bytes from x2 on that belong to the frame alone: they end where its blocks begin
+abbrev pub private_end : Context → (sp : ℕ) → ℕ
+private_end c sp = sp + (frame_of c).placed
+
+-- a frame at x2 holds the values of an activation whose first block has this number; its blocks lie in it, and live
+-- older ones outside
+pub record HasFrame (s : Setup) (g : Ground) (f : ℕ) (registers : ℕ → ℕ) (sp number : ℕ) (values : File) : Type 0 where
+  pub holds :
+      (p : Place) (v : Value) → values p ≡ Some v
+      → IsHeld (context s f) g.memory g.address_of registers g.flat sp p v
+  pub words : (r : ℕ) → is_saved_register r ≡ true → registers r < 2 ^ 32
+  pub private : (at : ℕ) → sp ≤ at → at < private_end (context s f) sp → g.owner at ≡ frame
+  pub placed :
+      (i : ℕ) → i < length (function_at s.unit f).blocks
+      → g.address_of (number + i) ≡ sp + local_offset (context s f) i
+  pub made : number + length (function_at s.unit f).blocks ≤ length g.memory
+  pub apart :
+      (block : ℕ) → block < number → IsLive g.memory block
+      → IsInReach s.image s.room (sp + cost s f) (block_at g.memory block) (g.address_of block)
+
+-- x2 is that of a frame that lies in the stack
+pub record IsInRoom (r : Room) (sp bytes : ℕ) : Type 0 where
+  pub aligned : sp % 16 ≡ 0
+  pub above : base r ≤ sp
+  pub below : sp + bytes ≤ r.ceiling
+
+-- ---- the stack
+
+-- an activation that waits for a call: what the call returns to takes its result, and then the activation's next
+-- instruction follows
+pub record IsWaiting (s : Setup) (g : Ground) (w : Waiting File) (registers : ℕ → ℕ) (sp return_to : ℕ) : Type 0 where
+  pub takes :
+      Lays (instruction_at s.image) s.label_at return_to (plain (take_result (context s w.activation.function) w.taken_by))
+      (place s w.activation.function w.activation.at)
+  pub known : w.activation.function < length s.unit.functions
+  pub inside : w.activation.at ≤ length (function_at s.unit w.activation.function).code
+  pub taken :
+      (x : ℕ) → w.taken_by ≡ Some x
+      → HasPlace (context s w.activation.function) (place_of (context s w.activation.function).places x)
+  pub frame : HasFrame s g w.activation.function registers sp w.activation.first_block w.activation.held
+  pub in_room : IsInRoom s.room sp (cost s w.activation.function)
+  pub aligned : return_to % 4 ≡ 0
+  pub low : return_to < 2 ^ 32
+
+-- frames one above the other, up to x2 as it was at the root's entry
+abbrev pub HasStack : Setup → Ground → List (Waiting File) → (registers : ℕ → ℕ) → (sp return_to : ℕ) → Type 0
+HasStack s g [] registers sp return_to =
+    (sp ≡ s.room.ceiling)
+    × ((return_to ≡ s.return_to) × ((r : ℕ) → is_saved_register r ≡ true → registers r ≡ s.root_registers r))
+HasStack s g (w ∷ stack) registers sp return_to =
+    IsWaiting s g w registers sp return_to
+    × HasStack s g stack (caller_registers (context s w.activation.function) registers g.flat sp)
+    (sp + cost s w.activation.function) (number_at 4 g.flat sp)
+
+-- the number of the first block of the root's call
+abbrev pub root_block : (number : ℕ) → List (Waiting File) → ℕ
+root_block number [] = number
+root_block number (w ∷ stack) = root_block w.activation.first_block stack
+
+-- ---- blocks
+
+-- live blocks lie in the stack from x2 on, or in the data; those of the memory to start from lie where they lay
+pub record HasBlocks (s : Setup) (g : Ground) (sp : ℕ) : Type 0 where
+  pub lies : Lies g.memory g.address_of g.owner g.flat
+  pub in_reach :
+      (block : ℕ) → IsLive g.memory block
+      → IsInReach s.image s.room sp (block_at g.memory block) (g.address_of block)
+  pub old : (block : ℕ) → block < s.first → g.address_of block ≡ s.addresses block
+  pub made : s.first ≤ length g.memory
+
+-- ---- the relation
+
+-- addresses and owners
+pub record Lay : Type 0 where
+  pub address_of : ℕ → ℕ
+  pub owner : ℕ → Owner
+
+abbrev pub ground : Memory → Lay → (flat : ℕ → ℕ) → Ground
+ground m l flat = record { memory = m; address_of = l.address_of; owner = l.owner; flat = flat }
+
+-- a run of linear code, and the machine's registers and bytes
+pub record IsRelated (s : Setup) (a : Activation File) (m : Memory) (stack : List (Waiting File)) (l : Lay)
+    (registers : ℕ → ℕ) (sp : ℕ) (flat : ℕ → ℕ) : Type 0 where
+  pub known : a.function < length s.unit.functions
+  pub frame : HasFrame s (ground m l flat) a.function registers sp a.first_block a.held
+  pub in_room : IsInRoom s.room sp (cost s a.function)
+  pub above :
+      HasStack s (ground m l flat) stack (caller_registers (context s a.function) registers flat sp)
+      (sp + cost s a.function) (number_at 4 flat sp)
+  pub blocks : HasBlocks s (ground m l flat) sp
+  pub root : root_block a.first_block stack ≡ s.first
+
+-- the machine stands where the code of the next instruction begins
+pub record StandsAt (s : Setup) (a : Activation File) (w : World) (stack : List (Waiting File)) (l : Lay) (m : Watched)
+    : Type 0 where
+  pub pc : m.now.pc ≡ place s a.function a.at
+  pub related : IsRelated s a w.memory stack l m.now.registers (stack_pointer m.now) m.now.memory
+  pub input : m.now.input ≡ w.input
+  pub input_bytes : All (λ byte. byte < 256) w.input
+  pub bytes : AreBytes m.now.memory
+  pub low : m.low ≤ stack_pointer m.now

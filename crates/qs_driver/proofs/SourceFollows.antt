@@ -12,7 +12,7 @@ use Rattle.qs_driver.specs.Source.{HasLexFault, HasSyntaxFault, HasTypeFault, Is
 use Rattle.qs_driver.specs.Source as source
 use Rattle.qs_driver.specs.Promises.{StoreHeld}
 use Rattle.qs_driver.specs.declared.status.Status.{Status}
-use Rattle.qs_driver.specs.declared.status.Status.TheVariants.{Source, Missing, NoMemory}
+use Rattle.qs_driver.specs.declared.status.Status.TheVariants.{Done, Source, Missing, NoMemory}
 use Rattle.qs_driver.specs.declared.status.SourceFault.TheVariants.{TooLong, Lex, Syntax, Typing}
 use Rattle.qs_driver.specs.declared.status.TokenPlace.{TokenPlace}
 use Rattle.qs_driver.specs.declared.status.FileKind.TheVariants as kinds
@@ -50,6 +50,9 @@ pub record IsNoRefusal (status : Status) : Type 0 where
   pub not_lexical : (fault : LexFault) (pos : Pos) → status ≢ Source (Lex fault pos)
   pub not_syntactic : (fault : SyntaxFault) (place : TokenPlace) → status ≢ Source (Syntax fault place)
   pub not_typing : (fault : TypeFault) (place : Option Pos) → status ≢ Source (Typing fault place)
+
+pub done_is_none : (status : Status) → status ≡ Done → IsNoRefusal status
+done_is_none status e = record { not_missing = λ f. cc; not_long = λ f. cc; not_lexical = λ fault pos f. cc; not_syntactic = λ fault place f. cc; not_typing = λ fault place f. cc }
 
 pub data SourceEnds (file : Option (List ℕ)) (status : Status) : Type 0 where
   absent : file ≡ None → status ≡ Missing kinds.Source → SourceEnds file status

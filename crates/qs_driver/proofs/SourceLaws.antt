@@ -29,7 +29,7 @@ use Rattle.qs_typing.proofs.Checked.{nothing_refused}
 use Rattle.qs_ports.specs.StoreView.{StoreView}
 use Rattle.qs_driver.specs.Limits.{source_limit}
 use Rattle.qs_driver.specs.Files.{WasRead}
-use Rattle.qs_driver.specs.Source.{IsPlaceOf, IsTokenPlace, IsNodeStart, IsNodePlace, byte_of, number_of, node_of, HasLexFault, HasSyntaxFault, HasTypeFault, IsNoUnit, IsUnit, IsTypedUnit, RefusesText, has_lex_fault, has_syntax_fault, has_type_fault, lacks_memory, LacksSource, lex_fault, syntax_fault, type_fault, no_memory}
+use Rattle.qs_driver.specs.Source.{IsPlaceOf, IsTokenPlace, IsNodeStart, IsNodePlace, byte_of, number_of, node_of, HasLexFault, HasSyntaxFault, HasTypeFault, IsNoUnit, IsUnit, IsTypedUnit, IsTypedAs, RefusesText, has_lex_fault, has_syntax_fault, has_type_fault, lacks_memory, LacksSource, lex_fault, syntax_fault, type_fault, no_memory}
 use Rattle.qs_driver.specs.declared.status.Status.{Status}
 use Rattle.qs_driver.specs.declared.status.Status.TheVariants.{Source}
 use Rattle.qs_driver.specs.declared.status.SourceFault.TheVariants.{Lex, Syntax, Typing}
@@ -85,7 +85,7 @@ abbrev pub unit_of : (text : List ℕ) (tokens : List Token) (trees : List DeclT
 unit_of text tokens trees t r = record { tokens = tokens; are_tokens = t; trees = trees; reads = r }
 
 -- the unit isn't refused
-pub is_typed : (text : List ℕ) (tokens : List Token) (trees : List DeclTree) → Tokens text tokens → ReadsAs (terminals text 0 tokens) trees → IsAccepted trees → IsTypedUnit text
+abbrev pub is_typed : (text : List ℕ) (tokens : List Token) (trees : List DeclTree) → Tokens text tokens → ReadsAs (terminals text 0 tokens) trees → IsAccepted trees → IsTypedUnit text
 is_typed text tokens trees t r a = record { unit = unit_of text tokens trees t r; well_typed = a.well_typed; within_limits = a.within_limits }
 
 -- the fault isn't want of memory
@@ -245,3 +245,8 @@ text_refused v w name text status read (has_lex_fault fault pos f e) = lex_fault
 text_refused v w name text status read (has_syntax_fault fault place f e) = syntax_fault fault place read.untouched (record { content = text; read_as = read.read_as; has = f }) e
 text_refused v w name text status read (has_type_fault fault place f e) = type_fault fault place read.untouched (record { content = text; read_as = read.read_as; has = f }) e
 text_refused v w name text status read (lacks_memory e) = no_memory read.untouched e
+
+-- ---- a source that is a unit
+
+pub typed_as : (text : List ℕ) (tokens : List Token) (trees types : List DeclTree) → Tokens text tokens → ReadsAs (terminals text 0 tokens) trees → types ≡ trees → IsAccepted trees → IsTypedAs text types
+typed_as text tokens trees types t r e a = record { typed = is_typed text tokens trees t r a; trees_are = sym e }

@@ -2,6 +2,8 @@ pub mod Follows
 pub mod Usage
 pub mod Build
 pub mod BuildFollows
+pub mod Outline
+pub mod OutlineFollows
 pub mod Run
 pub mod RunFollows
 pub mod Tool

@@ -19,6 +19,8 @@ use Rattle.qs_parser.specs.declared.syntax_fault.SyntaxFault.TheVariants as synt
 use Rattle.qs_types.specs.WellTyped.{WellTyped}
 use Rattle.qs_types.specs.Limits.{IsWithinLimits}
 use Rattle.qs_typing.specs.Refusals.{IsCause}
+use Rattle.qs_typing.specs.TypedOf.{typed_tree}
+use Rattle.qs_typing.specs.declared.typed_unit.TypedUnit.{TypedUnit}
 use Rattle.qs_typing.specs.declared.refusals.TypeFault.{TypeFault}
 use Rattle.qs_typing.specs.declared.refusals.TypeFault.TheVariants as type_faults
 use Rattle.qs_ports.specs.StoreView.{StoreView}
@@ -145,10 +147,15 @@ pub data RefusesText (text : List ℕ) (status : Status) : Type 0 where
       → status ≡ Source (Typing fault place) → RefusesText text status
   lacks_memory : status ≡ NoMemory → RefusesText text status
 
--- the answer of `check_text`
-abbrev pub ChecksText : List ℕ → Result Unit Status → Type 0
-ChecksText text (Ok u) = IsTypedUnit text
-ChecksText text (Err status) = RefusesText text status
+-- the text is this unit, which keeps the typing rules and is within the limits
+pub record IsTypedAs (text : List ℕ) (trees : List DeclTree) : Type 0 where
+  pub typed : IsTypedUnit text
+  pub trees_are : typed.unit.trees ≡ trees
+
+-- the answer of `typed_text`
+abbrev pub TypesText : List ℕ → Result TypedUnit Status → Type 0
+TypesText text (Ok unit) = IsTypedAs text (typed_tree unit)
+TypesText text (Err status) = RefusesText text status
 
 -- ---- a source in the store
 
@@ -178,6 +185,17 @@ pub data LacksSource (before after : StoreView) (name : List ℕ) (status : Stat
       → ReadsText before name (λ text. HasTypeFault text fault place)
       → status ≡ Source (Typing fault place) → LacksSource before after name status
   no_memory : IsUntouched before after → status ≡ NoMemory → LacksSource before after name status
+
+-- the source was read, its text is this unit, and no file changed
+pub record HasUnit (before after : StoreView) (name : List ℕ) (trees : List DeclTree) : Type 0 where
+  pub text : List ℕ
+  pub read : WasRead before after name source_limit text
+  pub typed_as : IsTypedAs text trees
+
+-- the answer of `read_unit`
+abbrev pub ReadsUnit : StoreView → StoreView → List ℕ → Result TypedUnit Status → Type 0
+ReadsUnit before after name (Ok unit) = HasUnit before after name (typed_tree unit)
+ReadsUnit before after name (Err status) = LacksSource before after name status
 
 -- the answer of `read_source`
 abbrev pub ReadsSource : StoreView → StoreView → List ℕ → Result (Vec ℕ Global) Status → Type 0

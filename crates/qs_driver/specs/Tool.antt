@@ -4,6 +4,7 @@ use Rattle.qs_cli.specs.Commands.{Command, meaning, Build, Check, Bound, Derive,
 use Rattle.qs_driver.specs.Task.{Task}
 use Rattle.qs_driver.specs.commands.Usage.{none}
 use Rattle.qs_driver.specs.commands.Build.{build, build_words}
+use Rattle.qs_driver.specs.commands.Outline.{outline, outline_words}
 use Rattle.qs_driver.specs.commands.Run.{run, run_words}
 
 -- `build` takes no derivations yet
@@ -18,7 +19,7 @@ task_of (Some (Build source proof out)) = build_with source proof out
 task_of (Some (Check source proof)) = none
 task_of (Some (Bound source proof args)) = none
 task_of (Some (Derive source out)) = none
-task_of (Some (Outline source)) = none
+task_of (Some (Outline source)) = outline (outline_words source)
 task_of (Some (Run image stack args input steps)) = run (run_words image stack args input steps)
 task_of (Some (Exec source proof args input steps)) = none
 task_of (Some (Sample count out)) = none

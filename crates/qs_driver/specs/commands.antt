@@ -1,3 +1,4 @@
 pub mod Usage
 pub mod Build
+pub mod Outline
 pub mod Run

@@ -8,7 +8,7 @@ ghost use Rattle.qs_lexer.specs.Terminals.{terminals};
 ghost use Rattle.qs_parser.specs.Answers.{Answers, ReadsAs};
 ghost use Rattle.qs_typing.specs.Refusals.{IsCause, IsTold};
 ghost use Rattle.qs_driver.specs.Limits.{source_limit};
-ghost use Rattle.qs_driver.specs.Source.{byte_of, node_of, number_of, ChecksText, IsNodeStart, IsPlaceOf, IsTokenPlace, ReadsSource, RefusesText};
+ghost use Rattle.qs_driver.specs.Source.{byte_of, node_of, number_of, IsNodeStart, IsPlaceOf, IsTokenPlace, ReadsSource, ReadsUnit, RefusesText, TypesText};
 
 use crate::files::read_file;
 use crate::limits::SOURCE_LIMIT;
@@ -18,7 +18,7 @@ use qs_lexer::{LexFault, tokens};
 use qs_parser::{SyntaxFault, unit};
 use qs_ports::Store;
 use qs_syntax::{Token, Unit};
-use qs_typing::{TypeFault, check};
+use qs_typing::{TypeFault, TypedUnit, check};
 use std::alloc::Global;
 
 /// The place of the byte `at`, or of the end where the text has no such byte.
@@ -136,32 +136,46 @@ fn ill_typed(text: &[u8], tokens: &[Token], unit: &Unit, fault: TypeFault) -> St
     }
 }
 
-/// Tests that the unit that a text is read as keeps the typing rules and is within the limits.
-fn check_unit(alloc: Global, text: &[u8], tokens: &[Token], unit: &Unit) -> Result<(), Status>
+/// The unit that a text is read as, with its types.
+fn typed_unit(
+    alloc: Global,
+    text: &[u8],
+    tokens: &[Token],
+    unit: &Unit,
+) -> Result<TypedUnit, Status>
     requires short { length text.now < 2 ^ 31 }
     requires tokens { Tokens text.now tokens.now }
     requires reads { ReadsAs (terminals text.now 0 tokens.now) (unit_tree unit.now) }
-    ensures { ChecksText text.now result }
+    ensures { TypesText text.now result }
 {
     match check(alloc, unit) {
-        Ok(_typed) => Ok(()),
+        Ok(typed) => Ok(typed),
         Err(fault) => Err(ill_typed(text, tokens, unit, fault)),
     }
 }
 
-/// Tests that a text is a typed unit. It is lexed, parsed and typed.
-fn check_text(alloc: Global, text: &[u8]) -> Result<(), Status>
+/// The unit of a text, with its types: the text is lexed, parsed and typed.
+fn typed_text(alloc: Global, text: &[u8]) -> Result<TypedUnit, Status>
     requires limit { length text.now ≤ source_limit }
-    ensures { ChecksText text.now result }
+    ensures { TypesText text.now result }
 {
     let tokens = match tokens(alloc, text) {
         Ok(tokens) => tokens,
         Err(fault) => return Err(lexical(text, fault)),
     };
     match unit(alloc, text, &tokens) {
-        Ok(unit) => check_unit(alloc, text, &tokens, &unit),
+        Ok(unit) => typed_unit(alloc, text, &tokens, &unit),
         Err(fault) => Err(syntactic(text, &tokens, fault)),
     }
+}
+
+/// The unit of a source, with its types.
+pub fn read_unit<S: Store>(alloc: Global, store: &mut S, name: &str) -> Result<TypedUnit, Status>
+    ensures { ReadsUnit (S.view store.old) (S.view store.new) name.now result }
+{
+    let text = read_file(alloc, store, name, FileKind::Source, SOURCE_LIMIT)?;
+    let typed = typed_text(alloc, &text)?;
+    Ok(typed)
 }
 
 /// The text of a source that is a typed unit.
@@ -169,6 +183,6 @@ pub fn read_source<S: Store>(alloc: Global, store: &mut S, name: &str) -> Result
     ensures { ReadsSource (S.view store.old) (S.view store.new) name.now result }
 {
     let text = read_file(alloc, store, name, FileKind::Source, SOURCE_LIMIT)?;
-    check_text(alloc, &text)?;
+    let _typed = typed_text(alloc, &text)?;
     Ok(text)
 }

@@ -8,6 +8,7 @@ ghost use Rattle.qs_driver.specs.Tool.{task, task_of};
 
 use crate::Status;
 use crate::commands::build::{BuildOrder, build};
+use crate::commands::outline::{OutlineOrder, outline};
 use crate::commands::run::{RunOrder, run};
 use crate::commands::usage::usage;
 use crate::devices::Devices;
@@ -59,7 +60,13 @@ fn perform<S: Store, O: Sink, L: Sink>(
         Command::Check { .. } => usage(devices),
         Command::Bound { .. } => usage(devices),
         Command::Derive { .. } => usage(devices),
-        Command::Outline { .. } => usage(devices),
+        Command::Outline { source } => outline(
+            alloc,
+            &OutlineOrder {
+                source: source.as_str(),
+            },
+            devices,
+        ),
         Command::Exec { .. } => usage(devices),
         Command::Sample { .. } => usage(devices),
     }

@@ -16,7 +16,7 @@ use Rattle.qs_driver.specs.declared.status.WordsFault.TheVariants.{SameName}
 use Rattle.qs_driver.specs.declared.status.FileKind.TheVariants as kinds
 use Rattle.qs_driver.proofs.FormUnits.{first_form_is_typed}
 use Rattle.qs_driver.proofs.FilesLaws.{held_with}
-use Rattle.qs_driver.proofs.SourceFollows.{IsNoRefusal, SourceEnds, good, source_ends, source_own, source_no_unit, refuses_source, not_two}
+use Rattle.qs_driver.proofs.SourceFollows.{IsNoRefusal, SourceEnds, good, source_ends, source_own, source_no_unit, refuses_source, not_two, done_is_none}
 use Rattle.qs_driver.proofs.laws.Follows.{Follows, not_risen, not_untouched, source_shows}
 
 -- ---- how it ends
@@ -110,9 +110,6 @@ leads_same b v w status (same t e) s = e
 leads_same b v w status (cannot differ c) s = absurd (differ s)
 
 -- a status at which no source is refused
-done_is_none : (status : Status) → status ≡ Done → IsNoRefusal status
-done_is_none status e = record { not_missing = λ f. cc; not_long = λ f. cc; not_lexical = λ fault pos f. cc; not_syntactic = λ fault place f. cc; not_typing = λ fault place f. cc }
-
 form_is_none : (status : Status) → status ≡ Source NotFirstForm → IsNoRefusal status
 form_is_none status e = record { not_missing = λ f. cc; not_long = λ f. cc; not_lexical = λ fault pos f. cc; not_syntactic = λ fault place f. cc; not_typing = λ fault place f. cc }
 

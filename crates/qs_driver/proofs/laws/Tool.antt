@@ -17,6 +17,7 @@ use Rattle.qs_driver.proofs.StepsLaws.{HasSameFaults, all_same, short_rose, log_
 use Rattle.qs_driver.proofs.laws.Follows.{Follows, not_risen, not_untouched, untouched}
 use Rattle.qs_driver.proofs.laws.Usage.{usage_follows}
 use Rattle.qs_driver.proofs.laws.BuildFollows.{build_follows}
+use Rattle.qs_driver.proofs.laws.OutlineFollows.{outline_follows}
 use Rattle.qs_driver.proofs.laws.RunFollows.{run_follows}
 
 -- ---- the rows
@@ -31,7 +32,7 @@ follows (Some (Build source proof out)) = build_with_follows source proof out
 follows (Some (Check source proof)) = usage_follows
 follows (Some (Bound source proof args)) = usage_follows
 follows (Some (Derive source out)) = usage_follows
-follows (Some (Outline source)) = usage_follows
+follows (Some (Outline source)) = outline_follows _
 follows (Some (Run image stack args input steps)) = run_follows _
 follows (Some (Exec source proof args input steps)) = usage_follows
 follows (Some (Sample count out)) = usage_follows

@@ -1,0 +1,79 @@
+// `outline`: from the source in the store to the outline of its core on standard output.
+ghost use Rattle.std.specs.Prelude.{◌≡◌, IfOk, Some};
+ghost use Rattle.qs_core.specs.UnitTrees.{unit_tree};
+ghost use Rattle.qs_driver.specs.Devices.{streams, views, views_left};
+ghost use Rattle.qs_driver.specs.Due.{IsWritten};
+ghost use Rattle.qs_driver.specs.Names.{names_in};
+ghost use Rattle.qs_driver.specs.Task.{Answers};
+ghost use Rattle.qs_driver.specs.commands.Outline.{due_of, names_of, outline, words_in, Outlines};
+
+use crate::Status;
+use crate::devices::Devices;
+use crate::due::{refuse, status_after};
+use crate::names::{FileNames, nameless};
+use crate::source::read_unit;
+use qs_core::print_outline;
+use qs_elaborate::elaborate;
+use qs_ports::{Sink, Store, put_all};
+use std::alloc::Global;
+
+/// The words of `outline`.
+#[derive(Clone, Copy)]
+pub struct OutlineOrder<'a> {
+    pub source: &'a str,
+}
+
+fn names_of<'a>(order: &OutlineOrder<'a>) -> FileNames<'a>
+    ensures { names_in result ≡ names_of (words_in order.now) }
+{
+    let none = nameless();
+    FileNames {
+        source: order.source,
+        ..none
+    }
+}
+
+// The text of the outline of the source's core.
+fn outline_text<S: Store>(
+    alloc: Global,
+    order: &OutlineOrder<'_>,
+    store: &mut S,
+) -> Result<Vec<u8>, Status>
+    ensures { Outlines (words_in order.now) (S.view store.old) (S.view store.new) result }
+{
+    let typed = read_unit(alloc, store, order.source)?;
+    let core = elaborate(alloc, &typed)?;
+    let text = print_outline(alloc, &core)?;
+    Ok(text)
+}
+
+// Puts the outline, or the line of the fault.
+fn report<O: Sink, L: Sink>(
+    work: Result<Vec<u8>, Status>,
+    order: &OutlineOrder<'_>,
+    out: &mut O,
+    log: &mut L,
+) -> Status
+    ensures { let before = streams (O.view out.old) (L.view log.old) in
+        let after = streams (O.view out.new) (L.view log.new) in
+        IsWritten (due_of (words_in order.now) work) before after result }
+{
+    match work {
+        Ok(text) => status_after(put_all(out, &text), Status::Done),
+        Err(status) => refuse(log, &names_of(order), status),
+    }
+}
+
+/// Puts the outline of the source's core.
+pub fn outline<S: Store, O: Sink, L: Sink>(
+    alloc: Global,
+    order: &OutlineOrder<'_>,
+    devices: Devices<'_, S, O, L>,
+) -> Status
+    ensures { let before = views S.view O.view L.view devices.entry in
+        let after = views_left S.view O.view L.view devices.exit in
+        Answers (outline (words_in order.now)) before after result }
+{
+    let Devices { store, out, log } = devices;
+    report(outline_text(alloc, order, store), order, out, log)
+}

@@ -1,0 +1,5 @@
+pub mod OneMeaning
+pub mod Examples
+pub mod WrittenMeans
+pub mod WrittenDerivations
+mod FileExamples

@@ -1,0 +1,15 @@
+// Laws of proof files: functions that do nothing, for what their clauses say.
+ghost use Rattle.std.specs.Prelude.{◌≡◌, ◌⊎◌, ℕ, Bool, List};
+ghost use Rattle.qs_core.specs.Trees.{CoreUnitTree};
+ghost use Rattle.qs_prooftext.specs.Laws.{CanTellOpen, HasFault, HasReading};
+ghost use Rattle.qs_prooftext.specs.Reading.{Fault, Reading};
+ghost use Rattle.qs_prooftext.specs.declared.fault.TextFault.{TextFault};
+ghost use Rattle.qs_triples.specs.Derivations.{ProofsTree};
+
+/// In a unit a text has one reading or one first fault, and never both.
+pub fn one_meaning()
+    ensures one { (u : CoreUnitTree) (text : List ℕ) (is_open : ℕ → Bool) → CanTellOpen u text is_open → HasReading u text ⊎ HasFault u text }
+    ensures one_proofs { (u : CoreUnitTree) (text : List ℕ) (proofs others : ProofsTree) → Reading u text proofs → Reading u text others → proofs ≡ others }
+    ensures one_fault { (u : CoreUnitTree) (text : List ℕ) (fault other : TextFault) → Fault u text fault → Fault u text other → fault ≡ other }
+    ensures not_both { (u : CoreUnitTree) (text : List ℕ) (proofs : ProofsTree) (fault : TextFault) → Reading u text proofs → Fault u text fault → ⊥ }
+{}

@@ -1,1 +1,3 @@
 pub mod LaidLaws
+pub mod AssemblyLaws
+mod ItemExamples

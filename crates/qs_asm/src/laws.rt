@@ -6,7 +6,7 @@ pub fn items_are_laid_one_after_the_other()
     ensures { ItemsAreLaidOneAfterTheOther }
 {}
 
-/// What is laid takes no more than its words, and no less than its plain instructions.
+/// What is laid takes no more than its words, and ends no earlier than it begins.
 pub fn items_take_their_words()
     ensures { ItemsTakeTheirWords }
 {}

@@ -1,8 +1,14 @@
-//! Items of assembly: instructions, labels, and jumps and branches to labels.
+//! Items of assembly: instructions, labels, and jumps and branches to labels; and their words.
 #![tactic(auto)]
 
+mod assembly;
+mod fault;
 mod item;
+mod labels;
 mod laws;
 
+pub use assembly::assemble;
+pub use fault::AssemblyFault;
 pub use item::Item;
+pub use labels::{Labels, label_offsets};
 pub use laws::{items_are_laid_one_after_the_other, items_take_their_words};

@@ -3,6 +3,8 @@
 
 mod frame;
 mod laws;
+mod parts;
 
 pub use frame::Frame;
 pub use laws::{frames_are_laid_out, no_more_is_kept_than_values};
+pub use parts::{block_offsets, layout, used_registers};

@@ -1,0 +1,110 @@
+-- The words of items: each branch stands turned round over a jump, so that where a label stands depends on no distance.
+use Rattle.std.specs.Prelude.{◌≡◌, ℕ, ◌+◌, ◌*◌, ◌%◌, ◌^◌, ◌==◌, ◌&&◌, nat_lt, Bool, if◌then◌else◌, List, [], ◌∷◌, ◌++◌, length, map, Option, Some, None, unwrap_or}
+use Rattle.qs_base.specs.Words.{sub}
+use Rattle.qs_isa.specs.declared.instruction.Instr.{Instr}
+use Rattle.qs_isa.specs.declared.instruction.Instr.TheVariants as instructions
+use Rattle.qs_isa.specs.declared.instruction.BranchKind.{BranchKind}
+use Rattle.qs_isa.specs.Table.{decode_of}
+use Rattle.qs_asm.specs.declared.item.Item.{Item}
+use Rattle.qs_asm.specs.declared.item.Item.TheVariants.{Plain, Label, Jump, Branch}
+use Rattle.qs_asm.specs.Items.{inverse, Lays}
+
+-- ---- where labels stand
+
+abbrev pub item_bytes : Item → ℕ
+item_bytes (Plain i) = 4
+item_bytes (Label l) = 0
+item_bytes (Jump rd l) = 4
+item_bytes (Branch kind a b l) = 8
+
+-- from: where the item lies
+abbrev pub label_of : (from : ℕ) → Item → (l : ℕ) → Option ℕ
+label_of from (Plain i) l = None
+label_of from (Label k) l = if k == l then Some from else None
+label_of from (Jump rd k) l = None
+label_of from (Branch kind a b k) l = None
+
+abbrev pub or_before : (later earlier : Option ℕ) → Option ℕ
+or_before None earlier = earlier
+or_before (Some place) earlier = Some place
+
+-- where the label stands last among items that lie from here on
+abbrev pub label_among : (from : ℕ) → List Item → (l : ℕ) → Option ℕ
+label_among from [] l = None
+label_among from (i ∷ items) l = or_before (label_among (from + item_bytes i) items l) (label_of from i l)
+
+-- labels as they are known with those of an item too
+pub record Notes (old new : ℕ → Option ℕ) (from : ℕ) (i : Item) : Type 0 where
+  pub each : (l : ℕ) → new l ≡ or_before (label_of from i l) (old l)
+
+-- the bytes before the label
+abbrev pub label_offset : List Item → (l : ℕ) → Option ℕ
+label_offset items = label_among 0 items
+
+pub record AreOffsets (labels : ℕ → Option ℕ) (items : List Item) : Type 0 where
+  pub each : (l : ℕ) → labels l ≡ label_offset items l
+
+-- ---- instructions
+
+-- a distance that JAL has: even, and of 21 bits with its sign (RISC-V Unprivileged ISA 20191213, 2.5)
+abbrev pub is_reached : (distance : ℕ) → Bool
+is_reached distance = nat_lt ((distance + 2 ^ 20) % 2 ^ 32) (2 ^ 21) && (distance % 2 == 0)
+
+abbrev pub distance_to : (from : ℕ) → (place : Option ℕ) → Option ℕ
+distance_to from None = None
+distance_to from (Some place) = if is_reached (sub place from) then Some (sub place from) else None
+
+abbrev pub jump_code : (rd : ℕ) → (distance : Option ℕ) → Option (List Instr)
+jump_code rd None = None
+jump_code rd (Some distance) = Some (instructions.Jal rd distance ∷ [])
+
+abbrev pub branch_code : BranchKind → (a b : ℕ) → (distance : Option ℕ) → Option (List Instr)
+branch_code kind a b None = None
+branch_code kind a b (Some distance) =
+    Some (instructions.Branch (inverse kind) a b 8 ∷ instructions.Jal 0 distance ∷ [])
+
+abbrev pub label_code : (from : ℕ) → (place : Option ℕ) → Option (List Instr)
+label_code from None = None
+label_code from (Some place) = if place == from then Some [] else None
+
+-- None where a label that is jumped to stands nowhere or out of reach, and where a label stands again further on
+abbrev pub item_code : (labels : ℕ → Option ℕ) → (from : ℕ) → Item → Option (List Instr)
+item_code labels from (Plain i) = Some (i ∷ [])
+item_code labels from (Label l) = label_code from (labels l)
+item_code labels from (Jump rd l) = jump_code rd (distance_to from (labels l))
+item_code labels from (Branch kind a b l) = branch_code kind a b (distance_to (from + 4) (labels l))
+
+abbrev pub before : List Instr → Option (List Instr) → Option (List Instr)
+before code None = None
+before code (Some more) = Some (code ++ more)
+
+abbrev pub joined : Option (List Instr) → Option (List Instr) → Option (List Instr)
+joined None rest = None
+joined (Some code) rest = before code rest
+
+abbrev pub code_from : (labels : ℕ → Option ℕ) → (from : ℕ) → List Item → Option (List Instr)
+code_from labels from [] = Some []
+code_from labels from (i ∷ items) = joined (item_code labels from i) (code_from labels (from + item_bytes i) items)
+
+abbrev pub assembled : List Item → Option (List Instr)
+assembled items = code_from (label_offset items) 0 items
+
+-- ---- words
+
+-- the words lie from an address on
+abbrev pub HasWords : (at : ℕ → Option Instr) → (from : ℕ) → (words : List ℕ) → Type 0
+HasWords at from [] = Unit {0}
+HasWords at from (word ∷ words) = (at from ≡ decode_of word) × HasWords at (from + 4) words
+
+-- where a label lies in words that lie from an address on
+abbrev pub label_at : List Item → (start l : ℕ) → ℕ
+label_at items start l = start + unwrap_or (label_offset items l) 0
+
+-- the words are those of the instructions, and wherever they lie, the items lie there
+pub record IsAssembly (items : List Item) (words : List ℕ) : Type 0 where
+  pub code : List Instr
+  pub is : assembled items ≡ Some code
+  pub decodes : map decode_of words ≡ map Some code
+  pub lays :
+      (at : ℕ → Option Instr) (start : ℕ) → HasWords at start words
+      → Lays at (label_at items start) start items (start + 4 * length words)

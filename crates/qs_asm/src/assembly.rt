@@ -1,0 +1,172 @@
+// The words of items.
+ghost use Rattle.std.specs.Prelude.{◌≡◌, IfOk, OnOk, IfErr, Some, None, [], if◌then◌else◌, map, nat_eq};
+ghost use Rattle.std.specs.HashMap.{get};
+ghost use Rattle.qs_isa.specs.Table.{decode_of};
+ghost use Rattle.qs_asm.specs.declared.fault.AssemblyFault.TheVariants as fault;
+ghost use Rattle.qs_asm.specs.Items as items;
+ghost use Rattle.qs_asm.specs.Assembly as spec;
+
+use crate::fault::AssemblyFault;
+use crate::item::Item;
+use crate::labels::{Labels, item_bytes, label_offsets, sum};
+use qs_base::{NoMemory, add32, sub32};
+use qs_isa::{BranchKind, BranchOffset, Instr, JumpOffset, Register, encode};
+use std::alloc::Global;
+
+// ---- one item
+
+fn inverse(kind: BranchKind) -> BranchKind
+    ensures { result ≡ items.inverse kind }
+{
+    match kind {
+        BranchKind::Beq => BranchKind::Bne,
+        BranchKind::Bne => BranchKind::Beq,
+        BranchKind::Blt => BranchKind::Bge,
+        BranchKind::Bge => BranchKind::Blt,
+        BranchKind::Bltu => BranchKind::Bgeu,
+        BranchKind::Bgeu => BranchKind::Bltu,
+    }
+}
+
+fn is_reached(distance: u32) -> bool
+    ensures { result ≡ spec.is_reached distance }
+{
+    add32(distance, 1 << 20) < 1 << 21 && distance % 2 == 0
+}
+
+fn distance_to(labels: &Labels, from: u32, label: u32) -> Option<JumpOffset>
+    ensures { result ≡ spec.distance_to from (get nat_eq labels.now label) }
+{
+    match labels.get(&label) {
+        None => None,
+        Some(place) => {
+            let distance = sub32(*place, from);
+            if is_reached(distance) {
+                Some(JumpOffset::new(distance))
+            } else {
+                None
+            }
+        }
+    }
+}
+
+fn is_at(labels: &Labels, from: u32, label: u32) -> bool
+    ensures { spec.label_code from (get nat_eq labels.now label) ≡ (if result then Some [] else None) }
+{
+    match labels.get(&label) {
+        None => false,
+        Some(place) => *place == from,
+    }
+}
+
+fn put_jump(
+    code: &mut Vec<Instr>,
+    rd: Register,
+    distance: Option<JumpOffset>,
+) -> Result<(), AssemblyFault>
+    ensures ok { OnOk result (spec.before code.old.items (spec.jump_code rd distance) ≡ Some code.new.items) }
+    ensures fault { IfErr result (λ f. f ≡ fault.BadLabel → spec.jump_code rd distance ≡ None) }
+{
+    match distance {
+        None => Err(AssemblyFault::BadLabel),
+        Some(offset) => {
+            code.push(Instr::Jal { rd, offset })?;
+            Ok(())
+        }
+    }
+}
+
+fn put_branch(
+    code: &mut Vec<Instr>,
+    kind: BranchKind,
+    rs1: Register,
+    rs2: Register,
+    distance: Option<JumpOffset>,
+) -> Result<(), AssemblyFault>
+    ensures ok { OnOk result (spec.before code.old.items (spec.branch_code kind rs1 rs2 distance) ≡ Some code.new.items) }
+    ensures fault { IfErr result (λ f. f ≡ fault.BadLabel → spec.branch_code kind rs1 rs2 distance ≡ None) }
+{
+    match distance {
+        None => Err(AssemblyFault::BadLabel),
+        Some(offset) => {
+            code.push(Instr::Branch {
+                kind: inverse(kind),
+                rs1,
+                rs2,
+                offset: BranchOffset::new(8),
+            })?;
+            code.push(Instr::Jal {
+                rd: Register::ZERO,
+                offset,
+            })?;
+            Ok(())
+        }
+    }
+}
+
+fn put_item(
+    code: &mut Vec<Instr>,
+    labels: &Labels,
+    from: u32,
+    item: &Item,
+) -> Result<(), AssemblyFault>
+    ensures ok { OnOk result (spec.before code.old.items (spec.item_code (get nat_eq labels.now) from item.now) ≡ Some code.new.items) }
+    ensures fault { IfErr result (λ f. f ≡ fault.BadLabel → spec.item_code (get nat_eq labels.now) from item.now ≡ None) }
+{
+    match item {
+        Item::Plain(i) => {
+            code.push(*i)?;
+            Ok(())
+        }
+        Item::Label(label) => {
+            if is_at(labels, from, *label) {
+                Ok(())
+            } else {
+                Err(AssemblyFault::BadLabel)
+            }
+        }
+        Item::Jump(rd, label) => put_jump(code, *rd, distance_to(labels, from, *label)),
+        Item::Branch(kind, rs1, rs2, label) => {
+            let distance = distance_to(labels, sum(from, 4)?, *label);
+            put_branch(code, *kind, *rs1, *rs2, distance)
+        }
+    }
+}
+
+// ---- all items
+
+#[tactic(auto, using(crate::proofs::AssemblyLaws::code_goes_on))]
+fn instructions(alloc: Global, labels: &Labels, items: &[Item]) -> Result<Vec<Instr>, AssemblyFault>
+    ensures ok { IfOk result (λ code. spec.code_from (get nat_eq labels.now) 0 items.now ≡ Some code.items) }
+    ensures fault { IfErr result (λ f. f ≡ fault.BadLabel → spec.code_from (get nat_eq labels.now) 0 items.now ≡ None) }
+{
+    let mut code = Vec::new(alloc);
+    let mut from = 0;
+    for item in items {
+        put_item(&mut code, labels, from, item)?;
+        from = sum(from, item_bytes(item))?;
+    }
+    Ok(code)
+}
+
+fn words(alloc: Global, code: &[Instr]) -> Result<Vec<u32>, NoMemory>
+    ensures { IfOk result (λ words. map decode_of words.items ≡ map Some code.now) }
+{
+    let mut all = Vec::new(alloc);
+    for i in code {
+        all.push(encode(i))?;
+    }
+    Ok(all)
+}
+
+/// The words of the items, one after the other: each branch turned round over a jump to its label.
+/// Where they lie, the items lie. `BadLabel` exactly where there are none.
+#[tactic(auto, using(crate::proofs::AssemblyLaws::assembly, crate::proofs::AssemblyLaws::no_assembly))]
+pub fn assemble(alloc: Global, items: &[Item]) -> Result<Vec<u32>, AssemblyFault>
+    ensures ok { IfOk result (λ words. spec.IsAssembly items.now words.items) }
+    ensures fault { IfErr result (λ f. f ≡ fault.BadLabel → spec.assembled items.now ≡ None) }
+{
+    let labels = label_offsets(alloc, items)?;
+    let code = instructions(alloc, &labels, items)?;
+    Ok(words(alloc, &code)?)
+}

@@ -1,0 +1,62 @@
+// Where labels stand.
+ghost use Rattle.std.specs.Prelude.{◌≡◌, ◌+◌, IfOk, OnOk, nat_eq};
+ghost use Rattle.std.specs.HashMap.{get};
+ghost use Rattle.qs_asm.specs.Assembly as spec;
+
+use crate::item::Item;
+use qs_base::NoMemory;
+use std::alloc::Global;
+use std::collections::HashMap;
+
+/// The offsets of labels in bytes, by their numbers.
+pub type Labels = HashMap<u32, u32>;
+
+/// The bytes of an item.
+pub fn item_bytes(item: &Item) -> u32
+    ensures { result ≡ spec.item_bytes item.now }
+{
+    match item {
+        Item::Plain(_) => 4,
+        Item::Label(_) => 0,
+        Item::Jump(_, _) => 4,
+        Item::Branch(_, _, _, _) => 8,
+    }
+}
+
+/// The sum. What is no u32 no memory holds.
+pub fn sum(a: u32, b: u32) -> Result<u32, NoMemory>
+    ensures { IfOk result (λ n. n ≡ a + b) }
+{
+    match a.checked_add(b) {
+        None => Err(NoMemory),
+        Some(n) => Ok(n),
+    }
+}
+
+fn note(labels: &mut Labels, from: u32, item: &Item) -> Result<(), NoMemory>
+    ensures { OnOk result (spec.Notes (get nat_eq labels.old) (get nat_eq labels.new) from item.now) }
+{
+    match item {
+        Item::Plain(_) => {}
+        Item::Label(label) => {
+            labels.insert(*label, from)?;
+        }
+        Item::Jump(_, _) => {}
+        Item::Branch(_, _, _, _) => {}
+    }
+    Ok(())
+}
+
+/// Where the labels stand among the items: how many bytes before them.
+#[tactic(auto, using(crate::proofs::AssemblyLaws::labels_start, crate::proofs::AssemblyLaws::labels_go_on))]
+pub fn label_offsets(alloc: Global, items: &[Item]) -> Result<Labels, NoMemory>
+    ensures { IfOk result (λ labels. spec.AreOffsets (get nat_eq labels) items.now) }
+{
+    let mut labels = HashMap::new(alloc);
+    let mut from = 0;
+    for item in items {
+        note(&mut labels, from, item)?;
+        from = sum(from, item_bytes(item))?;
+    }
+    Ok(labels)
+}

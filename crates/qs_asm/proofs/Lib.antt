@@ -1,3 +1,4 @@
 pub mod LaidLaws
 pub mod AssemblyLaws
+pub mod CountingLaws
 mod ItemExamples

@@ -1,3 +1,4 @@
 pub mod Items
 pub mod Assembly
 pub mod Laws
+pub mod Counting

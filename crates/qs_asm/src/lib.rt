@@ -11,4 +11,6 @@ pub use assembly::assemble;
 pub use fault::AssemblyFault;
 pub use item::Item;
 pub use labels::{Labels, label_offsets};
-pub use laws::{items_are_laid_one_after_the_other, items_take_their_words};
+pub use laws::{
+    counted_items_are_assembled, items_are_laid_one_after_the_other, items_take_their_words,
+};

@@ -1,36 +1,37 @@
 -- The offsets of blocks as a list, and how many places of a kind there are.
-use Rattle.std.proofs.Common.{◌≡◌, ℕ, zero, suc, ◌+◌, ◌*◌, ◌<◌, ◌≤◌, List, [], ◌∷◌, ◌++◌, length, drop, refl, ap, sym, subst, ◌∙◌, Bool, true, false, arith}
+use Rattle.std.proofs.Common.{◌≡◌, ℕ, zero, suc, ◌+◌, ◌*◌, ◌<◌, ◌≤◌, List, [], ◌∷◌, ◌++◌, length, drop, refl, ap, sym, subst, ◌∙◌, Bool, true, false, add-zero, arith}
 use Rattle.std.specs.Prelude.{slice_index_or, if◌then◌else◌}
 use Rattle.std.proofs.lemmas.List.{append-nil}
+use Rattle.qs_tac.specs.Places.{PlacesTree}
 use Rattle.qs_tac.specs.declared.places.Place.{Place}
 use Rattle.qs_tac.specs.declared.places.Place.TheVariants.{Slot, Register}
-use Rattle.qs_frames.specs.Layout.{rounded, frame_cost, total, offset, slots_among, is_among, used_among}
-use Rattle.qs_frames.specs.Offsets.{AreBlockOffsets}
-use Rattle.qs_frames.specs.declared.frame.Frame.{Frame}
-use Rattle.qs_tac.specs.Trees.{TacFunctionTree}
+use Rattle.qs_frames.specs.Layout.{rounded, frame_cost, total, offset, slots_among, is_among, used_among, saved_registers, used_registers, kept}
+use Rattle.qs_frames.specs.declared.blocks.Starts.{Starts}
+use Rattle.qs_frames.specs.Starts.{start_of, AreStarts}
 use Rattle.qs_frames.proofs.FrameLaws.{is_rounded, is_cost}
 
 abbrev pub offsets_from : (at : ℕ) → (sizes : List ℕ) → List ℕ
 offsets_from at [] = []
 offsets_from at (size ∷ sizes) = at ∷ offsets_from (at + rounded size) sizes
 
--- the offsets so far and those of the rest are those of all, and the rest ends where all do
-pub record GivesOffsets (placed : ℕ) (blocks offsets : List ℕ) (at : ℕ) (rest : List ℕ) : Type 0 where
-  pub all : offsets ++ offsets_from at rest ≡ offsets_from placed blocks
-  pub end : at + total rest ≡ placed + total blocks
+-- the starts so far and those of the rest are those of all, and the rest ends where all do
+pub record GivesStarts (first : ℕ) (sizes at : List ℕ) (end : ℕ) (rest : List ℕ) : Type 0 where
+  pub all : at ++ offsets_from end rest ≡ offsets_from first sizes
+  pub ends : end + total rest ≡ first + total sizes
 
-pub length_of_offsets : (at : ℕ) (sizes : List ℕ) → length (offsets_from at sizes) ≡ length sizes
-length_of_offsets at [] = refl
-length_of_offsets at (size ∷ sizes) = ap suc (length_of_offsets (at + rounded size) sizes)
-
-pub offset_among :
-    (at : ℕ) (sizes : List ℕ) (i : ℕ) → i < length sizes → slice_index_or (offsets_from at sizes) i 0 ≡ at + offset sizes i
-offset_among at [] i h = absurd (omega arith)
-offset_among at (size ∷ sizes) zero h = omega arith
-offset_among at (size ∷ sizes) (suc i) h =
-    let rest : slice_index_or (offsets_from (at + rounded size) sizes) i 0 ≡ (at + rounded size) + offset sizes i =
-    offset_among (at + rounded size) sizes i (omega arith) in
-    omega (arith, rest)
+start_among :
+    (at : ℕ) (sizes : List ℕ) (i : ℕ) → slice_index_or (offsets_from at sizes) i (at + total sizes) ≡ at + offset sizes i
+start_among at [] i = refl
+start_among at (size ∷ sizes) zero = omega arith
+start_among at (size ∷ sizes) (suc i) =
+    let rest : slice_index_or (offsets_from (at + rounded size) sizes) i ((at + rounded size) + total sizes)
+    ≡ (at + rounded size) + offset sizes i =
+    start_among (at + rounded size) sizes i in
+    let same : at + (rounded size + total sizes) ≡ (at + rounded size) + total sizes = omega arith in
+    let moved : slice_index_or (offsets_from (at + rounded size) sizes) i (at + (rounded size + total sizes))
+    ≡ (at + rounded size) + offset sizes i =
+    ap (λ (e : ℕ). slice_index_or (offsets_from (at + rounded size) sizes) i e) same ∙ rest in
+    omega (arith, moved)
 
 pub slots_most : (places : List Place) → slots_among places ≤ length places
 slots_most [] = omega arith
@@ -75,14 +76,24 @@ none_left now sizes k same h = past sizes k (subst (λ l. length l ≤ k) same h
 pub cost_has_room : (kept blocks : ℕ) → 4 + 4 * kept + blocks ≤ frame_cost kept blocks
 cost_has_room kept blocks = (is_cost kept blocks).enough
 
-pub offsets_end :
-    (f : TacFunctionTree) (frame : Frame) (offsets : List ℕ) (at : ℕ) (rest : List ℕ) → rest ≡ []
-    → GivesOffsets frame.placed f.blocks offsets at rest → AreBlockOffsets f frame offsets
-offsets_end f frame offsets at rest none h =
-    let all : offsets ++ [] ≡ offsets_from frame.placed f.blocks =
-    ap (λ r. offsets ++ offsets_from at r) (sym none) ∙ h.all in
-    let same : offsets ≡ offsets_from frame.placed f.blocks = sym (append-nil offsets) ∙ all in
-    record {
-      each = ap length same ∙ length_of_offsets frame.placed f.blocks;
-      at = λ i l. ap (λ o. slice_index_or o i 0) same ∙ offset_among frame.placed f.blocks i l;
-    }
+pub slots_are_kept : (p : PlacesTree) → slots_among p.at ≤ kept p
+slots_are_kept p = omega arith
+
+pub few_are_kept : (p : PlacesTree) → kept p ≤ 12 + slots_among p.at
+few_are_kept p =
+    let used : length (used_registers p) ≤ 12 = used_most p.at saved_registers in
+    omega (arith, used)
+
+pub starts_end :
+    (first : ℕ) (sizes : List ℕ) (starts : Starts) (rest : List ℕ) → rest ≡ []
+    → GivesStarts first sizes starts.at.items starts.end rest → AreStarts first sizes starts
+starts_end first sizes starts rest none h = record {
+  each = λ i.
+      let all : starts.at.items ++ [] ≡ offsets_from first sizes =
+      ap (λ r. starts.at.items ++ offsets_from starts.end r) (sym none) ∙ h.all in
+      let same : starts.at.items ≡ offsets_from first sizes = sym (append-nil starts.at.items) ∙ all in
+      let last : starts.end ≡ first + total sizes =
+      sym (add-zero starts.end) ∙ (ap (λ r. starts.end + total r) (sym none) ∙ h.ends) in
+      ap (λ (l : List ℕ). slice_index_or l i starts.end) same
+      ∙ (ap (λ (e : ℕ). slice_index_or (offsets_from first sizes) i e) last ∙ start_among first sizes i);
+}

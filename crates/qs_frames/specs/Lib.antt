@@ -1,3 +1,3 @@
 pub mod Layout
-pub mod Offsets
+pub mod Starts
 pub mod Laws

@@ -1,37 +1,21 @@
 // The frame of a function, and where its parts lie.
-ghost use Rattle.std.specs.Prelude.{◌≡◌, ◌+◌, ◌*◌, ◌^◌, ◌≤◌, ◌<◌, IfOk, length};
+ghost use Rattle.std.specs.Prelude.{◌≡◌, ◌↔◌, ◌+◌, ◌*◌, ◌^◌, ◌≤◌, ◌<◌, IfOk, IsSome, IfSome, length};
 ghost use Rattle.qs_tac.specs.TreeOf.{function_tree};
 ghost use Rattle.qs_tac.specs.Places.{places_tree};
 ghost use Rattle.qs_frames.specs.Layout as spec;
-ghost use Rattle.qs_frames.specs.Offsets.{AreBlockOffsets};
 
+use crate::blocks::{total, total_within};
 use crate::frame::Frame;
 use qs_base::NoMemory;
 use qs_tac::{Place, Places, TacFunction};
 use std::alloc::Global;
 
+// more words than a frame of 2^28 bytes has
+const MOST_SLOTS: usize = 1 << 26;
+
+const LARGEST_FRAME: u32 = 1 << 28;
+
 const SAVED_REGISTERS: [u32; 12] = [8, 9, 18, 19, 20, 21, 22, 23, 24, 25, 26, 27];
-
-// ---- blocks
-
-#[tactic(auto, unfolding(crate::specs::Layout::rounded))]
-fn rounded(size: u32) -> u32
-    requires { size + 3 < 2 ^ 32 }
-    ensures { result ≡ spec.rounded size }
-{
-    (size + 3) / 4 * 4
-}
-
-fn total(sizes: &[u32]) -> u32
-    requires { spec.total sizes.now ≤ 2 ^ 28 }
-    ensures { result ≡ spec.total sizes.now }
-{
-    let mut sum = 0;
-    for size in sizes {
-        sum += rounded(*size);
-    }
-    sum
-}
 
 // ---- what is kept
 
@@ -111,7 +95,7 @@ pub fn used_registers(alloc: Global, places: &Places) -> Result<Vec<u32>, NoMemo
 
 #[tactic(auto, unfolding(crate::specs::Layout::frame_cost))]
 fn frame_cost(kept: u32, blocks: u32) -> u32
-    requires { spec.frame_cost kept blocks ≤ 2 ^ 28 }
+    requires { 4 * kept + blocks ≤ 2 ^ 30 }
     ensures { result ≡ spec.frame_cost kept blocks }
 {
     (4 + blocks + 4 * kept + 15) / 16 * 16
@@ -133,6 +117,27 @@ pub fn layout(f: &TacFunction, places: &Places) -> Frame
     }
 }
 
+/// The frame, where it has at most 2^28 bytes.
+#[tactic(auto, using(crate::proofs::OffsetLaws::cost_has_room, crate::proofs::OffsetLaws::slots_are_kept, crate::proofs::OffsetLaws::few_are_kept))]
+pub fn try_layout(f: &TacFunction, places: &Places) -> Option<Frame>
+    ensures fits { IsSome result ↔ ((spec.layout (function_tree f.now) (places_tree places.now)).cost ≤ 2 ^ 28) }
+    ensures frame { IfSome result (λ frame. frame ≡ spec.layout (function_tree f.now) (places_tree places.now)) }
+{
+    if slots_among(&places.at) > MOST_SLOTS {
+        return None;
+    }
+    match total_within(&f.blocks) {
+        None => None,
+        Some(blocks) => {
+            if frame_cost(kept(places), blocks) <= LARGEST_FRAME {
+                Some(layout(f, places))
+            } else {
+                None
+            }
+        }
+    }
+}
+
 impl Frame {
     /// The offset of a slot from x2, in bytes.
     pub fn slot_at(self, slot: u32) -> u32
@@ -141,18 +146,4 @@ impl Frame {
     {
         self.slots - 4 * slot
     }
-}
-
-/// The offsets of the function's placed blocks from x2, in bytes, by the blocks' numbers.
-pub fn block_offsets(alloc: Global, f: &TacFunction, frame: Frame) -> Result<Vec<u32>, NoMemory>
-    requires { frame.placed + spec.total (function_tree f.now).blocks ≤ 2 ^ 28 }
-    ensures { IfOk result (λ offsets. AreBlockOffsets (function_tree f.now) frame offsets.items) }
-{
-    let mut offsets = Vec::new(alloc);
-    let mut at = frame.placed;
-    for size in &f.blocks {
-        offsets.push(at)?;
-        at += rounded(*size);
-    }
-    Ok(offsets)
 }

@@ -1,19 +1,21 @@
 -- What is promised of instruction selection.
-use Rattle.std.specs.Prelude.{◌≡◌, ℕ, ◌*◌, ◌+◌, ◌^◌, ◌<◌, ◌≤◌, true, List, [], ◌∷◌, length, sum_by, Option}
+use Rattle.std.specs.Prelude.{◌≡◌, ℕ, ◌+◌, ◌*◌, ◌^◌, ◌<◌, ◌≤◌, true, List, [], ◌∷◌, length, sum_by, Option}
 use Rattle.qs_isa.specs.Encoding.{IsInstr}
+use Rattle.qs_isa.specs.declared.instruction.Instr.{Instr}
 use Rattle.qs_asm.specs.declared.item.Item.{Item}
 use Rattle.qs_asm.specs.declared.item.Item.TheVariants.{Plain, Label, Jump, Branch}
-use Rattle.qs_asm.specs.Items.{plain, item_words}
+use Rattle.qs_asm.specs.Items.{Lays, plain, item_words}
 use Rattle.qs_tac.specs.Trees.{InstructionTree, call, TacUnitTree}
 use Rattle.qs_tac.specs.Fits.{instruction_fits}
-use Rattle.qs_tac.specs.Places.{place_of}
-use Rattle.qs_tac.specs.Sizes.{instruction_words, enter_words, result_words}
+use Rattle.qs_tac.specs.Places.{PlacesTree, place_of, Accepted}
+use Rattle.qs_tac.specs.Laws.{AreAccepted}
+use Rattle.qs_tac.specs.Sizes.{instruction_words, enter_words, words, unit_words}
 use Rattle.qs_tac.specs.declared.places.Place.{Place}
 use Rattle.qs_tac.specs.declared.places.Place.TheVariants.{Slot, Register}
 use Rattle.qs_tac.specs.declared.operands.Operand.{Operand}
 use Rattle.qs_calls.specs.declared.callee.Callee.{Callee}
 use Rattle.qs_select.specs.Operands.{Context, frame_of}
-use Rattle.qs_select.specs.Emission.{Labels, instruction_items, enter}
+use Rattle.qs_select.specs.Emission.{Labels, instruction_items, enter, function_items, unit_items}
 
 -- ---- words
 
@@ -53,10 +55,27 @@ WhatIsSelectedAreWords = (u : TacUnitTree) (c : Context) (labels : Labels) → I
 -- ---- how many
 
 pub record KeepsWords (c : Context) (labels : Labels) : Type 0 where
-  pub enter : length (enter c) ≤ enter_words + result_words * length c.function.parameters
-  pub instruction : (i : InstructionTree) → sum_by item_words (instruction_items c labels i) ≤ instruction_words i
+  pub enter : length (enter c) ≤ enter_words c.function
+  pub instruction : (i : InstructionTree) → sum_by item_words (instruction_items c labels i) ≤ instruction_words c.function i
   -- and at least one, so that no step of linear code takes no step
   pub some : (i : InstructionTree) → 1 ≤ length (instruction_items c labels i)
 
 abbrev pub WordsAreKept : Type 0
-WordsAreKept = (c : Context) (labels : Labels) → KeepsWords c labels
+WordsAreKept = (c : Context) (labels : Labels) → Accepted c.function c.places → KeepsWords c labels
+
+-- ---- functions and units
+
+abbrev pub FunctionsKeepWords : Type 0
+FunctionsKeepWords =
+    (c : Context) (labels : Labels) (f : ℕ) → Accepted c.function c.places
+    → sum_by item_words (function_items c labels f) ≤ words c.function
+
+-- wherever a unit's items lie, they end at most so many words further on
+pub record UnitKeepsWords (u : TacUnitTree) (ps : List PlacesTree) (data_at : ℕ → ℕ) : Type 0 where
+  pub items : sum_by item_words (unit_items u ps data_at) ≤ unit_words u
+  pub laid :
+      (at : ℕ → Option Instr) (place : ℕ → ℕ) (from to : ℕ) → Lays at place from (unit_items u ps data_at) to
+      → to ≤ from + 4 * unit_words u
+
+abbrev pub UnitsKeepWords : Type 0
+UnitsKeepWords = (u : TacUnitTree) (ps : List PlacesTree) (data_at : ℕ → ℕ) → AreAccepted u ps → UnitKeepsWords u ps data_at

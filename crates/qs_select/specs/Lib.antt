@@ -2,4 +2,9 @@ pub mod Pieces
 pub mod Operands
 pub mod Operations
 pub mod Emission
+pub mod Data
+pub mod Limits
+pub mod Units
+pub mod ContextOf
 pub mod Laws
+pub mod Labels

@@ -61,6 +61,10 @@ with_constant arithmetics.And s rd rs n = if_small n (andi rd rs n)
 with_constant arithmetics.Or s rd rs n = if_small n (ori rd rs n)
 with_constant arithmetics.Xor s rd rs n = if_small n (xori rd rs n)
 
+-- where the right operand is a constant
+abbrev pub with_operand : Arithmetic → Signedness → (rd rs : ℕ) → (right : Operand) → Option Instr
+with_operand op s rd rs right = constant_of right >>= with_constant op s rd rs
+
 -- the one instruction, or the code that is given
 abbrev pub or_code : Option Instr → List Instr → List Instr
 or_code (Some i) code = i ∷ []
@@ -94,7 +98,7 @@ on_both c x y of = operand_code c a1 y ++ of (operand_register c a0 x) (operand_
 abbrev pub arithmetic : Context → Arithmetic → Signedness → (rd : ℕ) → (x y : Operand) → List Instr
 arithmetic c op s rd x y =
     operand_code c a0 x
-    ++ or_code (constant_of y >>= with_constant op s rd (operand_register c a0 x))
+    ++ or_code (with_operand op s rd (operand_register c a0 x) y)
     (on_both c x y (λ left right. instructions.Op (kind_of op s) rd left right))
 
 -- ---- comparisons: rd becomes 1 or 0
@@ -107,10 +111,13 @@ abbrev pub less_than_constant : Signedness → (rd rs n : ℕ) → Option Instr
 less_than_constant Signed rd rs n = if_small n (slti rd rs n)
 less_than_constant Unsigned rd rs n = if_small n (sltiu rd rs n)
 
+abbrev pub less_than_operand : Signedness → (rd rs : ℕ) → (right : Operand) → Option Instr
+less_than_operand s rd rs right = constant_of right >>= less_than_constant s rd rs
+
 abbrev pub less : Context → Signedness → (rd : ℕ) → (x y : Operand) → List Instr
 less c s rd x y =
     operand_code c a0 x
-    ++ or_code (constant_of y >>= less_than_constant s rd (operand_register c a0 x))
+    ++ or_code (less_than_operand s rd (operand_register c a0 x) y)
     (on_both c x y (λ left right. less_than s rd left right))
 
 -- the answer is turned round

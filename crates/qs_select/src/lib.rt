@@ -1,6 +1,30 @@
 //! Instruction selection: what each instruction of linear code becomes in machine code.
 #![tactic(auto)]
 
+mod addresses;
+mod branches;
+mod calls;
+mod context;
+mod entry;
+mod fault;
+mod functions;
+mod immediates;
+mod instructions;
+mod labels;
 mod laws;
+mod limits;
+mod mnemonics;
+mod numbers;
+mod objects;
+mod operands;
+mod operations;
+mod pieces;
+mod registers;
+mod selection;
 
-pub use laws::{what_is_selected_are_words, words_are_kept};
+pub use fault::SelectionFault;
+pub use laws::{
+    functions_keep_words, unit_labels_count_up, units_keep_words, what_is_selected_are_words,
+    words_are_kept,
+};
+pub use selection::select;

@@ -23,7 +23,7 @@ use Rattle.qs_tac.specs.Holders.{is_saved_register}
 use Rattle.qs_tac.specs.Places.{all_slots, Accepted, is_for_steps}
 use Rattle.qs_tac.specs.Fits.{unit_fits}
 use Rattle.qs_tac.specs.Uses.{reads, writes}
-use Rattle.qs_tac.specs.Sizes.{values, words, instruction_words}
+use Rattle.qs_tac.specs.Sizes.{values, is_near, words, instruction_words}
 use Rattle.qs_tac.proofs.StepExamples.{function_of, unit_of, result_of, at_local, behind, returns}
 
 -- an element of what begins at the base, and there the byte at the offset
@@ -158,7 +158,7 @@ its_values : values (function_of []) ≡ 4
 its_values = refl
 
 words_of_instructions :
-    map instruction_words (
+    map (instruction_words (function_of [])) (
     move 0 (Constant 1)
     ∷ unary (unaries.Minus Signed) 0 (Byte 1)
     ∷ binary (binaries.Arithmetic arithmetics.Add Signed) 0 (Temporary 1) (Temporary 2)
@@ -180,12 +180,34 @@ words_of_instructions :
     ∷ return None
     ∷ return (Some (Temporary 1))
     ∷ [])
-    ≡ 5 ∷ 8 ∷ 10 ∷ 9 ∷ 13 ∷ 6 ∷ 6 ∷ 5 ∷ 14 ∷ 9 ∷ 8 ∷ 15 ∷ 12 ∷ 9 ∷ 5 ∷ 1 ∷ 5 ∷ 7 ∷ 17 ∷ 20 ∷ []
+    ≡ 2 ∷ 3 ∷ 4 ∷ 5 ∷ 9 ∷ 4 ∷ 4 ∷ 3 ∷ 8 ∷ 5 ∷ 3 ∷ 13 ∷ 9 ∷ 4 ∷ 3 ∷ 1 ∷ 3 ∷ 4 ∷ 17 ∷ 18 ∷ []
 words_of_instructions = refl
 
--- 16 to begin, 3 for the parameter, 17 to end
-its_words : words (function_of (return None ∷ [])) ≡ 36
+-- 16 to begin, 1 for the parameter, 17 to end
+its_words : words (function_of (return None ∷ [])) ≡ 34
 its_words = refl
+
+-- of 500 temporaries the first one is out of reach
+abbrev large : TacFunctionTree
+large = record { parameters = Plain 0 ∷ Placed 0 scalars.Int ∷ []; temporaries = 500; blocks = 8 ∷ []; code = [] }
+
+slots_in_reach : map (is_near large) (0 ∷ 1 ∷ 499 ∷ []) ≡ false ∷ true ∷ true ∷ []
+slots_in_reach = refl
+
+words_out_of_reach :
+    map (instruction_words large) (
+    move 0 (Temporary 0)
+    ∷ move 1 (Byte 0)
+    ∷ move 1 (Constant 2048)
+    ∷ store scalars.Int (behind 0 0) (Integer 1)
+    ∷ fill (zeros 11) (at_local 0)
+    ∷ call (Some 0) GetChar []
+    ∷ [])
+    ≡ 6 ∷ 4 ∷ 3 ∷ 5 ∷ 12 ∷ 5 ∷ []
+words_out_of_reach = refl
+
+words_of_parameters : words large ≡ 22
+words_of_parameters = refl
 
 -- ---- places
 

@@ -2,7 +2,7 @@ use Rattle.std.proofs.Common.{◌≤◌, drop, refl, arith}
 use Rattle.std.specs.Prelude.{slice_index_or}
 use Rattle.qs_frames.specs.Layout.{total}
 use Rattle.qs_frames.proofs.OffsetLaws.{next_fits}
-use Rattle.qs_frames.proofs.parts.total.Goals as goal
+use Rattle.qs_frames.proofs.blocks.total.Goals as goal
 
 pub rounded-sum-requires : goal.rounded-sum-requires
 rounded-sum-requires c =

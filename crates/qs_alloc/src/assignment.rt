@@ -1,0 +1,57 @@
+// Places for the temporaries of a function.
+ghost use Rattle.std.specs.Prelude.{◌≡◌, IfOk, map};
+ghost use Rattle.qs_tac.specs.Laws.{AreAccepted};
+ghost use Rattle.qs_tac.specs.TreeOf.{function_tree};
+ghost use Rattle.qs_tac.specs.Places as spec;
+ghost use Rattle.qs_tac.specs.UnitTrees.{unit_tree};
+
+use qs_base::NoMemory;
+use qs_tac::{Place, Places, TacFunction, TacUnit};
+use std::alloc::Global;
+
+fn own_slots(alloc: Global, count: u32) -> Result<Vec<Place>, NoMemory>
+    ensures { IfOk result (λ places. places.items ≡ spec.slots_from 0 count) }
+{
+    let mut at = Vec::new(alloc);
+    for slot in 0..count {
+        at.push(Place::Slot(slot))?;
+    }
+    Ok(at)
+}
+
+/// A slot for each temporary, with the temporary's number.
+pub fn all_slots(alloc: Global, f: &TacFunction) -> Result<Places, NoMemory>
+    ensures { IfOk result (λ places. spec.places_tree places ≡ spec.all_slots (function_tree f.now)) }
+{
+    Ok(Places {
+        at: own_slots(alloc, f.temporaries)?,
+    })
+}
+
+/// Places that keep what the function does. `verify` accepts them.
+#[tactic(auto, using(crate::proofs::Slots::slots_are_accepted))]
+pub fn assign(alloc: Global, f: &TacFunction) -> Result<Places, NoMemory>
+    ensures { IfOk result (λ places. spec.Accepted (function_tree f.now) (spec.places_tree places)) }
+{
+    let places = all_slots(alloc, f)?;
+    Ok(places)
+}
+
+fn assign_all(alloc: Global, functions: &[TacFunction]) -> Result<Vec<Places>, NoMemory>
+    ensures { IfOk result (λ all. map spec.places_tree all.items ≡ map spec.all_slots (map function_tree functions.now)) }
+{
+    let mut all = Vec::new(alloc);
+    for f in functions {
+        all.push(all_slots(alloc, f)?)?;
+    }
+    Ok(all)
+}
+
+/// Places that keep what each function of the unit does, by the functions' numbers. `verify_unit` accepts
+/// them.
+pub fn assign_unit(alloc: Global, unit: &TacUnit) -> Result<Vec<Places>, NoMemory>
+    ensures { IfOk result (λ places. AreAccepted (unit_tree unit.now) (map spec.places_tree places.items)) }
+{
+    let places = assign_all(alloc, &unit.functions)?;
+    Ok(places)
+}

@@ -1,0 +1,15 @@
+use Rattle.std.proofs.Common.{◌+◌, ◌≤◌, arith}
+use Rattle.qs_tac.specs.Places.{places_tree}
+use Rattle.qs_frames.specs.Layout.{slots_among, kept}
+use Rattle.qs_frames.proofs.OffsetLaws.{few_are_kept}
+use Rattle.qs_frames.proofs.parts.try_layout.Goals as goal
+
+pub kept-requires : goal.kept-requires
+kept-requires c =
+    let few : kept (places_tree c.args.places.now) ≤ 12 + slots_among c.args.places.now.at.items = few_are_kept (places_tree c.args.places.now) in
+    grind (arith, few, c.slots_among.ensures.count, c.if-slots_among-gt-MOST_SLOTS.false, c.deref.ensures.value)
+
+pub frame_cost-requires : goal.frame_cost-requires
+frame_cost-requires c =
+    let few : kept (places_tree c.args.places.now) ≤ 12 + slots_among c.args.places.now.at.items = few_are_kept (places_tree c.args.places.now) in
+    grind (arith, few, c.slots_among.ensures.count, c.if-slots_among-gt-MOST_SLOTS.false, c.deref.ensures.value, c.kept.ensures, c.in-Some.ensures, c.deref-2.ensures.value)

@@ -1,0 +1,13 @@
+use Rattle.std.proofs.Common.{◌≡◌, ◌+◌, ◌++◌, drop}
+use Rattle.qs_asm.specs.Items.{plain}
+use Rattle.qs_select.specs.ContextOf.{context_tree}
+use Rattle.qs_select.specs.Emission.{pass}
+use Rattle.qs_select.proofs.calls.put_arguments.Given as goal
+
+abbrev pub invariant-loop-argument : goal.invariant-loop-argument
+invariant-loop-argument l = record {
+  at : l.register ≡ 10 + l.argument-index;
+  rest :
+      l.items.items ++ plain (pass (context_tree l.fn.c) l.register (drop l.argument-index l.arguments))
+      ≡ l.initial.items.items ++ plain (pass (context_tree l.fn.c) 10 l.arguments);
+}

@@ -1,0 +1,96 @@
+// Calls.
+ghost use Rattle.std.specs.Prelude.{◌≡◌, ◌++◌, ◌≤◌, ◌<◌, OnOk, length};
+ghost use Rattle.qs_asm.specs.Items.{plain};
+ghost use Rattle.qs_select.specs.ContextOf.{context_tree, labels_tree};
+ghost use Rattle.qs_select.specs.Emission as spec;
+ghost use Rattle.qs_select.specs.Limits.{most_arguments};
+ghost use Rattle.qs_select.specs.Pieces.{a0};
+
+use crate::context::FunctionContext;
+use crate::immediates::below;
+use crate::labels::function_label;
+use crate::mnemonics::addi;
+use crate::operands::{put_into, put_value};
+use crate::pieces::{put, put_item};
+use qs_asm::Item;
+use qs_base::NoMemory;
+use qs_calls::Callee;
+use qs_isa::{Instr, Register};
+use qs_tac::Operand;
+
+/// a0
+pub const FIRST_ARGUMENT: u8 = 10;
+
+// ---- calls of the environment, by their numbers
+
+/// Ends the program.
+pub const EXIT: u32 = 0;
+
+const PUT_CHAR: u32 = 1;
+
+const GET_CHAR: u32 = 2;
+
+// ---- code
+
+/// Arguments into a0 to a7.
+fn put_arguments(
+    items: &mut Vec<Item>,
+    c: &FunctionContext,
+    arguments: &[Operand],
+) -> Result<(), NoMemory>
+    requires { length arguments.now ≤ most_arguments }
+    ensures { OnOk result (items.new.items ≡ items.old.items ++ plain (spec.pass (context_tree c.now) a0 arguments.now)) }
+{
+    let mut register = FIRST_ARGUMENT;
+    for argument in arguments {
+        put_into(items, c, Register::new(register), *argument)?;
+        register += 1;
+    }
+    Ok(())
+}
+
+/// A call of the environment by its number.
+pub fn put_environment(items: &mut Vec<Item>, number: u32) -> Result<(), NoMemory>
+    requires { number < 2048 }
+    ensures { OnOk result (items.new.items ≡ items.old.items ++ plain (spec.environment number)) }
+{
+    put(items, addi(Register::A7, Register::ZERO, below(number)))?;
+    put(items, Instr::Ecall)
+}
+
+fn put_go(items: &mut Vec<Item>, c: &FunctionContext, callee: Callee) -> Result<(), NoMemory>
+    ensures { OnOk result (items.new.items ≡ items.old.items ++ spec.goes_to (labels_tree c.now) callee) }
+{
+    match callee {
+        Callee::Function(f) => { put_item(items, Item::Jump(Register::RA, function_label(c, f))) }
+        Callee::PutChar => put_environment(items, PUT_CHAR),
+        Callee::GetChar => put_environment(items, GET_CHAR),
+    }
+}
+
+fn put_taken(items: &mut Vec<Item>, c: &FunctionContext, x: Option<u32>) -> Result<(), NoMemory>
+    ensures { OnOk result (items.new.items ≡ items.old.items ++ plain (spec.take_result (context_tree c.now) x)) }
+{
+    match x {
+        None => Ok(()),
+        Some(x) => put_value(items, c, Register::A0, x),
+    }
+}
+
+/// A call with these arguments, whose result goes into the temporary.
+pub fn put_call(
+    items: &mut Vec<Item>,
+    c: &FunctionContext,
+    x: Option<u32>,
+    callee: Callee,
+    arguments: &[Operand],
+) -> Result<(), NoMemory>
+    requires { length arguments.now ≤ most_arguments }
+    ensures { OnOk result (items.new.items ≡ items.old.items
+        ++ (plain (spec.pass (context_tree c.now) a0 arguments.now)
+        ++ (spec.goes_to (labels_tree c.now) callee ++ plain (spec.take_result (context_tree c.now) x)))) }
+{
+    put_arguments(items, c, arguments)?;
+    put_go(items, c, callee)?;
+    put_taken(items, c, x)
+}

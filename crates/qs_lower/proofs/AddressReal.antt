@@ -12,10 +12,9 @@ use Rattle.qs_core.specs.Expressions.{Locals, value}
 use Rattle.qs_core.specs.Trees as core
 use Rattle.qs_memory.specs.declared.operation.Direction.TheVariants.{Up}
 use Rattle.qs_memory.specs.declared.operation.BinaryOperation.TheVariants as binaries
-use Rattle.qs_tac.specs.Trees.{InstructionTree, address_of, TacUnitTree}
+use Rattle.qs_tac.specs.Trees.{InstructionTree, address_of}
 use Rattle.qs_tac.specs.Holders.{temporaries}
 use Rattle.qs_tac.specs.Values.{operand, pointer, member_at, indexed}
-use Rattle.qs_tac.specs.Steps.{Next, gives, step}
 use Rattle.qs_tac.specs.declared.operands.Index.{Index}
 use Rattle.qs_tac.specs.Fits.{is_word}
 use Rattle.qs_tac.specs.declared.operands.Operand.{Operand}
@@ -25,11 +24,11 @@ use Rattle.qs_lower.specs.Expressions.{IndexCode, ExprCode, size_of, operand_of,
 use Rattle.qs_lower.proofs.SizeLaws.{one_more, Sized, address_sized}
 use Rattle.qs_lower.proofs.OperandLaws.{gives_pointer_is}
 use Rattle.qs_lower.proofs.AddressLaws.{bind_some, bind_bind, bind_same, pointer_value, further_member, element_same}
-use Rattle.qs_lower.proofs.Real.{Act, Stack, has_left, has_right, kept_all, kept_then, kept_below, Real, moment, IsCode, Agree, free, IntoReal, SimpleReal, OperandReal, BaseReal, Goes, TestReal, KnownReal}
+use Rattle.qs_lower.proofs.Real.{Model, Act, Stack, has_left, has_right, kept_all, kept_then, kept_below, Real, moment, IsCode, Agree, free, IntoReal, SimpleReal, OperandReal, BaseReal, Goes, TestReal, KnownReal}
 use Rattle.qs_lower.proofs.ValueReal.{none_bind, no_pointer, negated}
 use Rattle.qs_lower.proofs.ValueReal as value_real
 
-module _ (u : TacUnitTree) (f : CoreFunctionTree) (code : List InstructionTree) (function : ℕ) (stack : Stack) (is_code : IsCode u f code function stack) where
+module _ (u : Model) (f : CoreFunctionTree) (code : List InstructionTree) (function : ℕ) (stack : Stack) (is_code : IsCode u f code function stack) where
   abbrev pub at_moment : (at first : ℕ) → Environment → Act
   at_moment at first e = moment u f code function stack at first e
 
@@ -43,9 +42,7 @@ module _ (u : TacUnitTree) (f : CoreFunctionTree) (code : List InstructionTree) 
   first_free = free u f code function stack
 
   abbrev pub Gives : (i : InstructionTree) → (x : ℕ) → (at first : ℕ) → Environment → World → Option Value → Type 0
-  Gives i x at first e w o =
-      (next : Next Environment)
-      → step temporaries u (Some i) next (at_moment at first e) w stack ≡ gives temporaries next x o (at_moment at first e) w stack
+  Gives i x at first e w o = value_real.Gives u f code function stack is_code i x at first e w o
 
   abbrev pub Ends : (d : ℕ) → Exit → (end first : ℕ) → Environment → World → RootRun → Type 0
   Ends d x end first e w r = Goes u f code function stack (λ c p. Makes c p first e w r) d x end
@@ -170,7 +167,7 @@ module _ (u : TacUnitTree) (f : CoreFunctionTree) (code : List InstructionTree) 
       (ap (λ o. o >>= λ q. Some (address q)) (same (at + p.base_size) after (kept_all (t + p.base_own) after))
       ∙ sym (pointer_value (value s l w.memory) (gives_pointer_is s is l w.memory)))
       (value_real.last_at u f code function stack is_code at p.base_size (p.base_code t at) _ (size.base t at) has)
-      (λ next. refl) kept none next)) in
+      ((refl, λ g. refl), λ next. refl) kept none next)) in
       record { sized = address_sized p size; into = v.into; simple = v.simple; base = base; test = v.test; known = v.known }
 
   -- an element: the code of its count stands behind that of the base

@@ -1,10 +1,10 @@
 -- The code of a call makes the run that it means.
-use Rattle.std.proofs.Common.{◌≡◌, ℕ, zero, suc, ◌+◌, ◌%◌, ◌<◌, ◌≤◌, List, [], ◌∷◌, length, map, Option, Some, None, refl, sym, ap, ◌∙◌, subst, arith}
+use Rattle.std.proofs.Common.{◌≡◌, ℕ, suc, ◌+◌, ◌-◌, ◌%◌, ◌<◌, ◌≤◌, List, [], ◌∷◌, length, map, Option, Some, None, refl, sym, ap, ◌∙◌, subst, arith}
 use Rattle.std.specs.List.{slice_get}
 use Rattle.qs_memory.specs.Partial.{◌>>=◌}
 use Rattle.qs_memory.specs.Values.{Value, integer, address}
 use Rattle.qs_events.specs.Events.{Takes, TakesEnd, Puts}
-use Rattle.qs_events.specs.Runs.{undefined, emit, given}
+use Rattle.qs_events.specs.Runs.{undefined, given}
 use Rattle.qs_calls.specs.World.{World, RootRun, Return, Environment, with_value}
 use Rattle.qs_calls.specs.Calls.{take_byte, invoke}
 use Rattle.qs_calls.specs.declared.callee.Callee.{Callee}
@@ -15,14 +15,14 @@ use Rattle.qs_core.specs.declared.numbers.Target.TheVariants as targets
 use Rattle.qs_core.specs.Expressions.{Locals, value, values}
 use Rattle.qs_core.specs.Statements.{Continuation, Continuations, Context, assigned, runs}
 use Rattle.qs_core.specs.Statements as statements
-use Rattle.qs_tac.specs.Trees.{InstructionTree, call, TacUnitTree}
+use Rattle.qs_tac.specs.Trees.{InstructionTree, call}
 use Rattle.qs_tac.specs.Holders.{temporaries}
 use Rattle.qs_tac.specs.Values.{operands}
-use Rattle.qs_tac.specs.Steps.{Waiting, Next, take_result, enters, steps}
+use Rattle.qs_tac.specs.Steps.{Waiting, take_result, enters, steps}
 use Rattle.qs_lower.specs.Expressions.{ExprCode, size_of, code_of, own, all_size, all_code, all_operands}
 use Rattle.qs_lower.specs.Statements.{of_call, taken_by}
 use Rattle.qs_lower.proofs.SizeLaws.{one_more, code_length, all_length}
-use Rattle.qs_lower.proofs.Real.{Act, Stack, HasAt, has_left, has_right, Kept, kept_all, kept_then, Real, real_fault, CallsReal, entering, moment, IsCode, Agree, free}
+use Rattle.qs_lower.proofs.Real.{Model, Comes, NoJump, moves, real_comes, real_call, comes_real, comes_same, comes_less, comes_emit, Act, Stack, HasAt, has_left, has_right, Kept, kept_all, kept_then, Real, real_fault, CallsReal, moment, IsCode, Agree, free}
 use Rattle.qs_lower.proofs.ValueReal as value_real
 use Rattle.qs_lower.proofs.ExprReal as expr
 use Rattle.qs_lower.proofs.PlainReal as plain
@@ -31,7 +31,7 @@ no_values : {A : Type 0} (o : Option A) (p : Option (List A)) → p ≡ None →
 no_values None p h = refl
 no_values (Some v) p h = ap (λ q. q >>= λ vs. Some (v ∷ vs)) h
 
-module _ (u : TacUnitTree) (f : CoreFunctionTree) (code : List InstructionTree) (function : ℕ) (stack : Stack) (is_code : IsCode u f code function stack) (c : Context) (first depth : ℕ) (calls_real : CallsReal u depth c.calls) where
+module _ (u : Model) (f : CoreFunctionTree) (code : List InstructionTree) (function : ℕ) (stack : Stack) (is_code : IsCode u f code function stack) (c : Context) (first depth : ℕ) (calls_real : CallsReal u depth c.calls) where
   abbrev at_moment : (at first : ℕ) → Environment → Act
   at_moment at n e = moment u f code function stack at n e
 
@@ -86,27 +86,21 @@ module _ (u : TacUnitTree) (f : CoreFunctionTree) (code : List InstructionTree) 
   abbrev IsTakenOn : (d at : ℕ) → Option ℕ → Locals → Environment → Return → Type 0
   IsTakenOn d at x l e k =
       (result : Option Value) (w : World)
-      → (j : ℕ) × (d ≤ j) × (take_result temporaries (steps temporaries u j) (taken_by (length f.variables) x) (at_moment at l.first_block e) stack result w ≡ k result w)
+      → Comes u d (λ j. take_result temporaries (steps temporaries (moves u) j) (taken_by (length f.variables) x) (at_moment at l.first_block e) stack result w) (k result w)
 
   taken_real :
       (d at : ℕ) (x : Option ℕ) (l : Locals) (e : Environment) (n : Continuation) → IsTaken x → plain.IsReady u f code function stack is_code c first depth calls_real n d at
       → l.first_block ≡ first → Agrees l e → IsTakenOn d at x l e (statements.take_result x n l)
-  taken_real d at None l e n there ready here agree result w = let r = ready l e w here agree in (r.taken, r.enough, r.gives)
-  taken_real d at (Some k) l e n there ready here agree None w = (d, omega arith, refl)
+  taken_real d at None l e n there ready here agree result w = comes_real u d _ w stack _ (ready l e w here agree)
+  taken_real d at (Some k) l e n there ready here agree None w = comes_same u.tally d _ _ (λ j. refl)
   taken_real d at (Some k) l e n there ready here agree (Some v) w =
-      let r = ready (assigned (targets.Temporary k) l v) (with_value e (length f.variables + k) v) w here
+      comes_real u d _ w stack _
+      (ready (assigned (targets.Temporary k) l v) (with_value e (length f.variables + k) v) w here
       (plain.agree_assigned u f code function stack is_code c first depth calls_real (targets.Temporary k) l e (with_value e (length f.variables + k) v) v there agree
       (λ y lt other. value_real.with_other u f code function stack is_code e (length f.variables + k) y v other)
-      (value_real.with_itself u f code function stack is_code e (length f.variables + k) v)) in
-      (r.taken, r.enough, r.gives)
+      (value_real.with_itself u f code function stack is_code e (length f.variables + k) v)))
 
   -- ---- the callee
-
-  -- what a function returns to stands on the stack alone
-  enters_any :
-      (next : Next Environment) (rest : Stack) (g : ℕ) (vs : List Value) (k j : Return) (w : World)
-      → enters temporaries u next rest g vs k w ≡ enters temporaries u next rest g vs j w
-  enters_any next rest g vs k j w = refl
 
   abbrev waiting : (at : ℕ) → Option ℕ → Locals → Environment → Waiting Environment
   waiting at x l e = record { activation = at_moment (at + 1) l.first_block e; taken_by = taken_by (length f.variables) x }
@@ -114,53 +108,42 @@ module _ (u : TacUnitTree) (f : CoreFunctionTree) (code : List InstructionTree) 
   -- the run of the call's instruction, with so many steps behind it
   abbrev called : (j at : ℕ) → Option ℕ → Callee → Locals → Environment → List Value → World → RootRun
   called j at x g l e vs w =
-      invoke g (enters temporaries u (steps temporaries u j) (waiting at x l e ∷ stack)) vs
-      (take_result temporaries (steps temporaries u j) (taken_by (length f.variables) x) (at_moment (at + 1) l.first_block e) stack) w
+      invoke g (enters temporaries (moves u) (steps temporaries (moves u) j) (waiting at x l e ∷ stack)) vs
+      (take_result temporaries (steps temporaries (moves u) j) (taken_by (length f.variables) x) (at_moment (at + 1) l.first_block e) stack) w
 
   abbrev IsCalled : (d at : ℕ) → Option ℕ → Callee → Locals → Environment → List Value → World → Return → Type 0
-  IsCalled d at x g l e vs w k = (j : ℕ) × (d ≤ suc j) × (called j at x g l e vs w ≡ invoke g c.calls vs k w)
+  IsCalled d at x g l e vs w k = Comes u d (λ j. called j at x g l e vs w) (invoke g c.calls vs k w)
 
   put_real : (d at : ℕ) (x : Option ℕ) (l : Locals) (e : Environment) (vs : List Value) (w : World) (k : Return) → IsTakenOn d (at + 1) x l e k → IsCalled d at x PutChar l e vs w k
-  put_real d at x l e [] w k takes = (d, omega arith, refl)
-  put_real d at x l e (integer n ∷ []) w k takes =
-      let r = takes (Some (integer (n % 256))) w in (r.0, omega (arith, r.1), ap (emit (Puts (n % 256))) r.2)
-  put_real d at x l e (integer n ∷ v ∷ vs) w k takes = (d, omega arith, refl)
-  put_real d at x l e (address p ∷ vs) w k takes = (d, omega arith, refl)
+  put_real d at x l e [] w k takes = comes_same u.tally d _ _ (λ j. refl)
+  put_real d at x l e (integer n ∷ []) w k takes = comes_emit u.tally d (Puts (n % 256)) _ _ (takes (Some (integer (n % 256))) w)
+  put_real d at x l e (integer n ∷ v ∷ vs) w k takes = comes_same u.tally d _ _ (λ j. refl)
+  put_real d at x l e (address p ∷ vs) w k takes = comes_same u.tally d _ _ (λ j. refl)
 
   get_real : (d at : ℕ) (x : Option ℕ) (l : Locals) (e : Environment) (vs : List Value) (w : World) (k : Return) → IsTakenOn d (at + 1) x l e k → IsCalled d at x GetChar l e vs w k
   get_real d at x l e [] w k takes = of_input w.input
     where
-      of_input : (input : List ℕ) → (j : ℕ) × (d ≤ suc j) × (take_byte input (take_result temporaries (steps temporaries u j) (taken_by (length f.variables) x) (at_moment (at + 1) l.first_block e) stack) w ≡ take_byte input k w)
-      of_input [] = let r = takes (Some (integer 4294967295)) w in (r.0, omega (arith, r.1), ap (emit TakesEnd) r.2)
-      of_input (b ∷ input) = let r = takes (Some (integer b)) (record w { input = input }) in (r.0, omega (arith, r.1), ap (emit (Takes b)) r.2)
-  get_real d at x l e (v ∷ vs) w k takes = (d, omega arith, refl)
+      of_input :
+          (input : List ℕ)
+          → Comes u d (λ j. take_byte input (take_result temporaries (steps temporaries (moves u) j) (taken_by (length f.variables) x) (at_moment (at + 1) l.first_block e) stack) w) (take_byte input k w)
+      of_input [] = comes_emit u.tally d TakesEnd _ _ (takes (Some (integer 4294967295)) w)
+      of_input (b ∷ input) = comes_emit u.tally d (Takes b) _ _ (takes (Some (integer b)) (record w { input = input }))
+  get_real d at x l e (v ∷ vs) w k takes = comes_same u.tally d _ _ (λ j. refl)
 
   -- a call is made, or the run is cut off before its event
   callee_real :
-      (d at : ℕ) (x : Option ℕ) (g : Callee) (l : Locals) (e : Environment) (vs : List Value) (w : World) (k : Return) → d ≤ depth
-      → IsTakenOn d (at + 1) x l e k → ((i : ℕ) → steps temporaries u (suc i) (at_moment at l.first_block e) w stack ≡ called i at x g l e vs w)
+      (d at : ℕ) (x : Option ℕ) (g : Callee) (l : Locals) (e : Environment) (vs : List Value) (w : World) (k : Return)
+      → plain.IsBounded u f code function stack is_code c first depth calls_real d
+      → IsTakenOn d (at + 1) x l e k → NoJump u.unit (at_moment at l.first_block e)
+      → ((i : ℕ) → steps temporaries (moves u) (suc i) (at_moment at l.first_block e) w stack ≡ called i at x g l e vs w)
       → Makes d at l.first_block e w (invoke g c.calls vs k w)
-  callee_real d at x PutChar l e vs w k le takes is =
-      let r = put_real d at x l e vs w k takes in record { taken = suc r.0; enough = r.1; gives = is r.0 ∙ r.2 }
-  callee_real d at x GetChar l e vs w k le takes is =
-      let r = get_real d at x l e vs w k takes in record { taken = suc r.0; enough = r.1; gives = is r.0 ∙ r.2 }
-  callee_real d at x (Function fn) l e vs w k le takes is =
-      let r = calls_real d fn.0 vs k w (waiting at x l e ∷ stack) le (λ result v. let t = takes result v in (t.0, omega (arith, t.1), t.2)) in
-      by_steps r.0 r.1 r.2
-    where
-      by_steps :
-          (j : ℕ) → d ≤ j → entering u j (waiting at x l e ∷ stack) fn.0 vs k w ≡ c.calls fn.0 vs k w
-          → Makes d at l.first_block e w (c.calls fn.0 vs k w)
-      by_steps zero h same = record { taken = 0; enough = h; gives = same }
-      by_steps (suc i) h same = record {
-        taken = suc i;
-        enough = h;
-        gives =
-            is i
-            ∙ enters_any (steps temporaries u i) (waiting at x l e ∷ stack) fn.0 vs
-            (take_result temporaries (steps temporaries u i) (taken_by (length f.variables) x) (at_moment (at + 1) l.first_block e) stack) k w
-            ∙ same;
-      }
+  callee_real d at x PutChar l e vs w k le takes jumps_not is =
+      real_comes u d _ w stack _ _ jumps_not is (comes_less u.tally (d - 1) d _ _ (omega arith) (put_real d at x l e vs w k takes))
+  callee_real d at x GetChar l e vs w k le takes jumps_not is =
+      real_comes u d _ w stack _ _ jumps_not is (comes_less u.tally (d - 1) d _ _ (omega arith) (get_real d at x l e vs w k takes))
+  callee_real d at x (Function fn) l e vs w k le takes jumps_not is =
+      real_call u.unit u.tally c.turns depth c.calls calls_real d le (at_moment at l.first_block e) w stack (waiting at x l e ∷ stack) fn.0 vs k k jumps_not is
+      (λ result v. comes_less u.tally (d - 1) d _ _ (omega arith) (takes result v))
 
   -- ---- the call
 
@@ -193,16 +176,18 @@ module _ (u : TacUnitTree) (f : CoreFunctionTree) (code : List InstructionTree) 
           subst (λ (r : RootRun). Makes d (at + all_size (map code_for es)) l.first_block after w r)
           (sym (plain.given_none (values es l w.memory) (λ vs. invoke g c.calls vs (statements.take_result x k.next l) w) is))
           (real_fault u d (at_moment (at + all_size (map code_for es)) l.first_block after) w stack
+          (value_real.no_jump u f code function stack is_code (at + all_size (map code_for es)) l.first_block after (Some (call (taken_by (length f.variables) x) g (all_operands (map code_for es) first_free))) has (refl, λ g. refl))
           (λ j. value_real.at_instruction u f code function stack is_code j (at + all_size (map code_for es)) l.first_block after w
-          (call (taken_by (length f.variables) x) g (all_operands (map code_for es) first_free)) has
+          (call (taken_by (length f.variables) x) g (all_operands (map code_for es) first_free)) has (refl, λ g. refl)
           ∙ plain.given_none (operands temporaries (all_operands (map code_for es) first_free) (at_moment (at + all_size (map code_for es)) l.first_block after))
           (λ vs. called j (at + all_size (map code_for es)) x g l after vs w) (same ∙ is)))
       made d at k l after w le has ready here agree same (Some vs) is =
           subst (λ (r : RootRun). Makes d (at + all_size (map code_for es)) l.first_block after w r)
           (sym (plain.given_some (values es l w.memory) vs (λ vs. invoke g c.calls vs (statements.take_result x k.next l) w) is))
-          (callee_real d (at + all_size (map code_for es)) x g l after vs w (statements.take_result x k.next l) le.1
+          (callee_real d (at + all_size (map code_for es)) x g l after vs w (statements.take_result x k.next l) le
           (taken_real d (at + all_size (map code_for es) + 1) x l after k.next taken ready here agree)
+          (value_real.no_jump u f code function stack is_code (at + all_size (map code_for es)) l.first_block after (Some (call (taken_by (length f.variables) x) g (all_operands (map code_for es) first_free))) has (refl, λ g. refl))
           (λ i. value_real.at_instruction u f code function stack is_code i (at + all_size (map code_for es)) l.first_block after w
-          (call (taken_by (length f.variables) x) g (all_operands (map code_for es) first_free)) has
+          (call (taken_by (length f.variables) x) g (all_operands (map code_for es) first_free)) has (refl, λ g. refl)
           ∙ plain.given_some (operands temporaries (all_operands (map code_for es) first_free) (at_moment (at + all_size (map code_for es)) l.first_block after)) vs
           (λ vs. called i (at + all_size (map code_for es)) x g l after vs w) (same ∙ is)))

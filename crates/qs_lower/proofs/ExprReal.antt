@@ -16,10 +16,10 @@ use Rattle.qs_core.specs.Expressions.{Locals, value, truth_value}
 use Rattle.qs_core.specs.Trees as core
 use Rattle.qs_memory.specs.declared.operation.UnaryOperation.{UnaryOperation}
 use Rattle.qs_memory.specs.declared.operation.UnaryOperation.TheVariants as unaries
-use Rattle.qs_tac.specs.Trees.{InstructionTree, move, jump, TacUnitTree}
+use Rattle.qs_tac.specs.Trees.{InstructionTree, move, jump}
 use Rattle.qs_tac.specs.Holders.{temporaries}
 use Rattle.qs_tac.specs.Values.{operand, pointer, member_at, indexed, holds}
-use Rattle.qs_tac.specs.Steps.{Next, gives, step}
+use Rattle.qs_tac.specs.Steps.{gives}
 use Rattle.qs_tac.specs.declared.operands.Index.{Index}
 use Rattle.qs_tac.specs.declared.operands.Operand.{Operand}
 use Rattle.qs_tac.specs.declared.operands.Operand.TheVariants.{Temporary, Constant, Null}
@@ -29,13 +29,13 @@ use Rattle.qs_lower.specs.Expressions.{ExprCode, no_code, address_at, behind, nu
 use Rattle.qs_lower.proofs.SizeLaws.{behind_sized, by_test_sized, choice_sized, both, TestSized}
 use Rattle.qs_lower.proofs.OperandLaws.{TruthOrNone, gives_truth_is, truth_again}
 use Rattle.qs_lower.proofs.AddressLaws.{bind_some, bind_bind, bind_same}
-use Rattle.qs_lower.proofs.Real.{Act, Stack, HasAt, has_left, has_right, Kept, KeptBut, kept_then, Real, real_less, moment, IsCode, Agree, free, IntoReal, SimpleReal, OperandReal, BaseReal, Goes, by_answer, TestReal, KnownReal}
+use Rattle.qs_lower.proofs.Real.{Model, Act, Stack, HasAt, has_left, has_right, Kept, KeptBut, kept_then, Real, real_less, moment, IsCode, Agree, free, IntoReal, SimpleReal, OperandReal, BaseReal, Goes, by_answer, TestReal, KnownReal}
 use Rattle.qs_lower.proofs.ValueReal.{none_bind, no_pointer, negated}
 use Rattle.qs_lower.proofs.ValueReal as value_real
 use Rattle.qs_lower.proofs.AddressReal as address_real
 use Rattle.qs_lower.proofs.OperandReal as operands_real
 
-module _ (u : TacUnitTree) (f : CoreFunctionTree) (code : List InstructionTree) (function : ℕ) (stack : Stack) (is_code : IsCode u f code function stack) where
+module _ (u : Model) (f : CoreFunctionTree) (code : List InstructionTree) (function : ℕ) (stack : Stack) (is_code : IsCode u f code function stack) where
   abbrev pub at_moment : (at first : ℕ) → Environment → Act
   at_moment at first e = moment u f code function stack at first e
 
@@ -49,9 +49,7 @@ module _ (u : TacUnitTree) (f : CoreFunctionTree) (code : List InstructionTree) 
   first_free = free u f code function stack
 
   abbrev pub Gives : (i : InstructionTree) → (x : ℕ) → (at first : ℕ) → Environment → World → Option Value → Type 0
-  Gives i x at first e w o =
-      (next : Next Environment)
-      → step temporaries u (Some i) next (at_moment at first e) w stack ≡ gives temporaries next x o (at_moment at first e) w stack
+  Gives i x at first e w o = value_real.Gives u f code function stack is_code i x at first e w o
 
   abbrev pub Ends : (d : ℕ) → Exit → (end first : ℕ) → Environment → World → RootRun → Type 0
   Ends d x end first e w r = Goes u f code function stack (λ c p. Makes c p first e w r) d x end
@@ -128,7 +126,7 @@ module _ (u : TacUnitTree) (f : CoreFunctionTree) (code : List InstructionTree) 
 
       set_one : (c : ℕ) (after : Environment) → c ≤ d → value s l w.memory ≡ Some (integer 1) → Kept t e after → Makes c (at + n true false) l.first_block after w r
       set_one c after less gives kept =
-          value_real.finish u f code function stack is_code (move x (Constant 1)) c x t (n true false) at l e after w r (Some (integer 1)) (Some (integer 1)) refl behind.0 (λ next. refl) kept (λ k. absurd (cc))
+          value_real.finish u f code function stack is_code (move x (Constant 1)) c x t (n true false) at l e after w r (Some (integer 1)) (Some (integer 1)) refl behind.0 ((refl, λ g. refl), λ next. refl) kept (λ k. absurd (cc))
           (λ v later same but holds.
           value_real.jump_real u f code function stack is_code c (at + (n true false + 1)) (at + n true false + 2 + 1) l.first_block later w r
           (ap (slice_get code) (omega arith) ∙ behind.1.0)
@@ -139,7 +137,7 @@ module _ (u : TacUnitTree) (f : CoreFunctionTree) (code : List InstructionTree) 
       set_zero c after less gives kept =
           value_real.moved u f code function stack is_code c (at + (n true false + 2)) (at + n true false + 2) l.first_block after w r (omega arith)
           (value_real.finish u f code function stack is_code (move x (Constant 0)) c x t (n true false + 2) at l e after w r (Some (integer 0)) (Some (integer 0)) refl
-          (ap (slice_get code) (omega arith) ∙ behind.1.1.0) (λ next. refl) kept (λ k. absurd (cc))
+          (ap (slice_get code) (omega arith) ∙ behind.1.1.0) ((refl, λ g. refl), λ next. refl) kept (λ k. absurd (cc))
           (λ v later same but holds.
           value_real.moved u f code function stack is_code c (at + (n true false + 3)) (at + (n true false + 2 + 1)) l.first_block later w r (omega arith)
           (ended c v later less (gives ∙ same) but holds)))

@@ -1,5 +1,5 @@
 -- The code of sequences, branches and loops makes the runs that these mean.
-use Rattle.std.proofs.Common.{◌≡◌, ℕ, zero, suc, ◌+◌, ◌-◌, ◌≤◌, Bool, true, false, if◌then◌else◌, List, ◌++◌, Option, Some, None, refl, sym, ap, ◌∙◌, subst, arith}
+use Rattle.std.proofs.Common.{◌≡◌, ℕ, suc, ◌+◌, ◌-◌, ◌≤◌, Bool, true, false, if◌then◌else◌, List, ◌++◌, Option, Some, None, refl, sym, ap, ◌∙◌, subst, arith}
 use Rattle.qs_memory.specs.Partial.{◌>>=◌}
 use Rattle.qs_memory.specs.Pointers.{truth}
 use Rattle.qs_events.specs.Runs.{given}
@@ -7,17 +7,18 @@ use Rattle.qs_calls.specs.World.{World, RootRun, Environment}
 use Rattle.qs_core.specs.Trees.{CoreExprTree, CoreFunctionTree}
 use Rattle.qs_core.specs.Expressions.{Locals, value}
 use Rattle.qs_core.specs.Statements.{Continuation, Continuations, Context, repeated, after_step, after_body}
-use Rattle.qs_tac.specs.Trees.{InstructionTree, TacUnitTree}
+use Rattle.qs_tac.specs.Trees.{InstructionTree}
 use Rattle.qs_lower.specs.Exits.{Exit, falls, goes, is_fall, settled, exit_size, exit_code}
 use Rattle.qs_lower.specs.Expressions.{ExprCode}
 use Rattle.qs_lower.specs.Statements.{Exits, falls_of, elsewhere, before, none_falls, next_falls, Way, to_next, to_break, to_continue, exit_to, falls_to, Part, Tested, going, joined, redirected, branch_part, body_falls, body_exits, front_exits, step_exits, test_last, last_falls, last_exits, body_first, body_alone}
 use Rattle.qs_lower.proofs.StmtSizeLaws.{PartSized, TestedSized}
-use Rattle.qs_lower.proofs.Real.{Stack, HasAt, has_left, has_right, Kept, Real, real_less, CallsReal, moment, IsCode, Agree, free, Goes, by_answer}
+use Rattle.qs_lower.proofs.JumpLaws.{Leads}
+use Rattle.qs_lower.proofs.Real.{Model, real_turns, comes_less, bounded_less as tally_bounded, Stack, HasAt, has_left, has_right, Kept, Real, real_less, CallsReal, moment, IsCode, Agree, free, Goes, by_answer}
 use Rattle.qs_lower.proofs.ValueReal as value_real
 use Rattle.qs_lower.proofs.ExprReal as expr
 use Rattle.qs_lower.proofs.PlainReal as plain
 
-module _ (u : TacUnitTree) (f : CoreFunctionTree) (code : List InstructionTree) (function : ℕ) (stack : Stack) (is_code : IsCode u f code function stack) (c : Context) (first depth : ℕ) (calls_real : CallsReal u depth c.calls) where
+module _ (u : Model) (f : CoreFunctionTree) (code : List InstructionTree) (function : ℕ) (stack : Stack) (is_code : IsCode u f code function stack) (c : Context) (first depth : ℕ) (calls_real : CallsReal u depth c.calls) where
   abbrev pub Makes : (d at first : ℕ) → Environment → World → RootRun → Type 0
   Makes d at n e w r = Real u d (moment u f code function stack at n e) w stack r
 
@@ -48,6 +49,15 @@ module _ (u : TacUnitTree) (f : CoreFunctionTree) (code : List InstructionTree) 
   abbrev pub first_free : ℕ
   first_free = free u f code function stack
 
+  -- a part that stands at this index
+  stands :
+      (m : Meaning) (p : Part) → PartReal m p → (d at : ℕ) (x : Exits) (k : Continuations) → IsBounded d → HasAt code at (p.code x at)
+      → AreReady d x (at + p.size (falls_of x)) k → IsReady (m k) d at
+  stands m p h d at x k le has ready = plain.stands u f code function stack is_code c first depth calls_real m p h d at x k le has ready
+
+  ready_behind : (k : Continuation) (d n i j : ℕ) → Leads code n i j → IsReady k d j → IsReady k d i
+  ready_behind k d n i j leads h = plain.ready_behind u f code function stack is_code c first depth calls_real k d n i j leads h
+
   -- ---- fewer steps
 
   ready_less : (k : Continuation) (i d at : ℕ) → i ≤ d → IsReady k d at → IsReady k i at
@@ -62,11 +72,11 @@ module _ (u : TacUnitTree) (f : CoreFunctionTree) (code : List InstructionTree) 
     next = goes_less k.next i d x.next end le h.next;
     on_break = goes_less k.on_break i d x.on_break end le h.on_break;
     on_continue = goes_less k.on_continue i d x.on_continue end le h.on_continue;
-    on_return = λ result w. let r = h.on_return result w in (r.0, omega (arith, le, r.1), r.2);
+    on_return = λ result w. comes_less u.tally i d _ _ le (h.on_return result w);
   }
 
   bounded_less : (i d : ℕ) → i ≤ d → IsBounded d → IsBounded i
-  bounded_less i d le h = (omega (arith, le, h.0), omega (arith, le, h.1))
+  bounded_less i d le h = tally_bounded u.tally i d c.turns depth le h
 
   -- ---- exits
 
@@ -101,7 +111,7 @@ module _ (u : TacUnitTree) (f : CoreFunctionTree) (code : List InstructionTree) 
   exit_of to_continue d x end k h = h.on_continue
 
   pub going_real : (way : Way) → PartReal (goes_to way) (going way)
-  going_real way = record { stands = there; entered = there }
+  going_real way = record { jumps = λ at x has. (0, refl); entered = there }
     where
       size_is : (way : Way) (x : Exits) → falls_to way (falls_of x) ≡ is_fall (exit_to way x)
       size_is to_next x = refl
@@ -134,7 +144,7 @@ module _ (u : TacUnitTree) (f : CoreFunctionTree) (code : List InstructionTree) 
       let moved : AreReady d x (second + b.size (falls_of x)) k = subst (λ (i : ℕ). AreReady d x i k) same ready in
       record {
         next = (
-          h.stands d second x k le there moved,
+          stands n b h d second x k le there moved,
           h.entered (d - 1) second x k (bounded_less (d - 1) d (omega arith) le) there (all_less (d - 1) d x _ k (omega arith) moved),
         );
         on_break = settled_goes k.on_break d x.on_break _ second ready.on_break;
@@ -144,9 +154,7 @@ module _ (u : TacUnitTree) (f : CoreFunctionTree) (code : List InstructionTree) 
 
   pub joined_real : (m n : Meaning) (a b : Part) → PartReal m a → PartReal n b → PartSized a → PartReal (then_ m n) (joined a b)
   joined_real m n a b g h size = record {
-    stands = λ d at x k le has ready.
-        g.stands d at (before (b.entry (at + a.size next_falls)) x) (with_next k (n k)) le (has_left code at _ _ has)
-        (joined_ready m n a b h size d at x k le has ready);
+    jumps = λ at x has. g.jumps at (before (b.entry (at + a.size next_falls)) x) (has_left code at _ _ has);
     entered = λ d at x k le has ready.
         g.entered d at (before (b.entry (at + a.size next_falls)) x) (with_next k (n k)) le (has_left code at _ _ has)
         (joined_ready m n a b h size d at x k le has ready);
@@ -154,20 +162,17 @@ module _ (u : TacUnitTree) (f : CoreFunctionTree) (code : List InstructionTree) 
 
   pub redirected_real : (m n : Meaning) (a : Part) (way : Way) → PartReal m a → ((k : Continuations) → Alike (goes_to way k) (n k)) → PartReal (then_ m n) (redirected a way)
   redirected_real m n a to_next g same = record {
-    stands = λ d at x k le has ready.
-        g.stands d at x (with_next k (n k)) le has (record { next = goes_alike _ (n k) d x.next _ (same k) ready.next; on_break = ready.on_break; on_continue = ready.on_continue; on_return = ready.on_return });
+    jumps = λ at x has. g.jumps at x has;
     entered = λ d at x k le has ready.
         g.entered d at x (with_next k (n k)) le has (record { next = goes_alike _ (n k) d x.next _ (same k) ready.next; on_break = ready.on_break; on_continue = ready.on_continue; on_return = ready.on_return });
   }
   redirected_real m n a to_break g same = record {
-    stands = λ d at x k le has ready.
-        g.stands d at (record x { next = x.on_break }) (with_next k (n k)) le has (record { next = goes_alike _ (n k) d x.on_break _ (same k) ready.on_break; on_break = ready.on_break; on_continue = ready.on_continue; on_return = ready.on_return });
+    jumps = λ at x has. g.jumps at (record x { next = x.on_break }) has;
     entered = λ d at x k le has ready.
         g.entered d at (record x { next = x.on_break }) (with_next k (n k)) le has (record { next = goes_alike _ (n k) d x.on_break _ (same k) ready.on_break; on_break = ready.on_break; on_continue = ready.on_continue; on_return = ready.on_return });
   }
   redirected_real m n a to_continue g same = record {
-    stands = λ d at x k le has ready.
-        g.stands d at (record x { next = x.on_continue }) (with_next k (n k)) le has (record { next = goes_alike _ (n k) d x.on_continue _ (same k) ready.on_continue; on_break = ready.on_break; on_continue = ready.on_continue; on_return = ready.on_return });
+    jumps = λ at x has. g.jumps at (record x { next = x.on_continue }) has;
     entered = λ d at x k le has ready.
         g.entered d at (record x { next = x.on_continue }) (with_next k (n k)) le has (record { next = goes_alike _ (n k) d x.on_continue _ (same k) ready.on_continue; on_break = ready.on_break; on_continue = ready.on_continue; on_return = ready.on_return });
   }
@@ -175,7 +180,7 @@ module _ (u : TacUnitTree) (f : CoreFunctionTree) (code : List InstructionTree) 
   -- a part that means the same
   pub part_alike : (m n : Meaning) (p : Part) → ((k : Continuations) → Alike (m k) (n k)) → PartReal m p → PartReal n p
   part_alike m n p same g = record {
-    stands = λ d at x k le has ready. ready_alike (m k) (n k) d at (same k) (g.stands d at x k le has ready);
+    jumps = g.jumps;
     entered = λ d at x k le has ready. ready_alike (m k) (n k) d (p.entry at) (same k) (g.entered d at x k le has ready);
   }
 
@@ -234,7 +239,7 @@ module _ (u : TacUnitTree) (f : CoreFunctionTree) (code : List InstructionTree) 
       (m : Meaning) (p : Part) (d at : ℕ) (x : Exits) (k : Continuations) → PartReal m p → IsBounded d → HasAt code at (p.code x at)
       → AreReady d x (at + p.size (falls_of x)) k → GoesOn (m k) d (falls (p.entry at)) at
   falls_into m p d at x k h le has ready = (
-    h.stands d at x k le has ready,
+    stands m p h d at x k le has ready,
     h.entered (d - 1) at x k (bounded_less (d - 1) d (omega arith) le) has (all_less (d - 1) d x _ k (omega arith) ready),
   )
 
@@ -279,7 +284,7 @@ module _ (u : TacUnitTree) (f : CoreFunctionTree) (code : List InstructionTree) 
   pub branch_real :
       (s : CoreExprTree) (e : ExprCode) (m n : Meaning) (v q : Option Way) (a b : Part) → Correct s e → PartReal m a → PartReal n b → PartSized a → WayIs v m → WayIs q n
       → PartReal (chosen s m n) (branch_part first_free e v q a b)
-  branch_real s e m n (Some v) (Some q) a b h ha hb size is_v is_q = record { stands = there; entered = there }
+  branch_real s e m n (Some v) (Some q) a b h ha hb size is_v is_q = record { jumps = λ at x has. (0, refl); entered = there }
     where
       there :
           (d at : ℕ) (x : Exits) (k : Continuations) → IsBounded d → HasAt code at (e.test (exit_to v x) (exit_to q x) first_free at)
@@ -288,7 +293,7 @@ module _ (u : TacUnitTree) (f : CoreFunctionTree) (code : List InstructionTree) 
           let end : ℕ = at + e.test_size (is_fall (exit_to v x)) (is_fall (exit_to q x)) in
           let r = ready_at d x (at + e.test_size (falls_to v (falls_of x)) (falls_to q (falls_of x))) end k (ap (λ i. at + i) (both_exits v q x e)) ready in
           test_real s e (m k) (n k) d at (exit_to v x) (exit_to q x) h has (way_goes m v d x end k is_v r) (way_goes n q d x end k is_q r) k
-  branch_real s e m n None (Some q) a b h ha hb size is_v is_q = record { stands = there; entered = there }
+  branch_real s e m n None (Some q) a b h ha hb size is_v is_q = record { jumps = λ at x has. (0, refl); entered = there }
     where
       there :
           (d at : ℕ) (x : Exits) (k : Continuations) → IsBounded d
@@ -300,7 +305,7 @@ module _ (u : TacUnitTree) (f : CoreFunctionTree) (code : List InstructionTree) 
           test_real s e (m k) (n k) d at (falls (a.entry (at + n1))) (settled (exit_to q x)) h (has_left code at (e.test (falls (a.entry (at + n1))) (settled (exit_to q x)) first_free at) (a.code x (at + n1)) has)
           (falls_into m a d (at + n1) x k ha le (has_right code at n1 (e.test (falls (a.entry (at + n1))) (settled (exit_to q x)) first_free at) (a.code x (at + n1)) (h.sized.test (falls (a.entry (at + n1))) (settled (exit_to q x)) first_free at) has) moved)
           (settled_goes (n k) d (exit_to q x) (at + (n1 + a.size (falls_of x))) (at + n1) (way_goes n q d x (at + (n1 + a.size (falls_of x))) k is_q ready)) k
-  branch_real s e m n (Some v) None a b h ha hb size is_v is_q = record { stands = there; entered = there }
+  branch_real s e m n (Some v) None a b h ha hb size is_v is_q = record { jumps = λ at x has. (0, refl); entered = there }
     where
       there :
           (d at : ℕ) (x : Exits) (k : Continuations) → IsBounded d
@@ -312,7 +317,7 @@ module _ (u : TacUnitTree) (f : CoreFunctionTree) (code : List InstructionTree) 
           test_real s e (m k) (n k) d at (settled (exit_to v x)) (falls (b.entry (at + n1))) h (has_left code at (e.test (settled (exit_to v x)) (falls (b.entry (at + n1))) first_free at) (b.code x (at + n1)) has)
           (settled_goes (m k) d (exit_to v x) (at + (n1 + b.size (falls_of x))) (at + n1) (way_goes m v d x (at + (n1 + b.size (falls_of x))) k is_v ready))
           (falls_into n b d (at + n1) x k hb le (has_right code at n1 (e.test (settled (exit_to v x)) (falls (b.entry (at + n1))) first_free at) (b.code x (at + n1)) (h.sized.test (settled (exit_to v x)) (falls (b.entry (at + n1))) first_free at) has) moved) k
-  branch_real s e m n None None a b h ha hb size is_v is_q = record { stands = there; entered = there }
+  branch_real s e m n None None a b h ha hb size is_v is_q = record { jumps = λ at x has. (0, refl); entered = there }
     where
       there :
           (d at : ℕ) (x : Exits) (k : Continuations) → IsBounded d
@@ -340,56 +345,70 @@ module _ (u : TacUnitTree) (f : CoreFunctionTree) (code : List InstructionTree) 
   abbrev pub turns_of : Meaning → Meaning → Continuations → ℕ → Continuation
   turns_of m n k i = repeated i (λ again. m (after_body k (n (after_step k again))))
 
-  no_turn : (m n : Meaning) (k : Continuations) (d at : ℕ) → d ≤ 0 → IsReady (turns_of m n k zero) d at
-  no_turn m n k d at le l w here_w here agree = record { taken = 0; enough = le; gives = refl }
+  -- a state in which the code comes to an index
+  record State : Type 0 where
+    locals : Locals
+    held : Environment
+    world : World
+    here : locals.first_block ≡ first
+    agree : Agrees locals held
 
-  -- the body, and a step that does nothing
-  alone_turns :
+  -- all its turns, where one turn more makes its run once the code makes the others
+  loop_ready :
+      (m n : Meaning) (k : Continuations) (d at : ℕ) → IsBounded d
+      → ((i j : ℕ) → j ≤ d → IsReady (turns_of m n k i) (j - 1) at → IsReady (turns_of m n k (suc i)) j at) → IsReady (turns_of m n k c.turns) d at
+  loop_ready m n k d at bound turn l e w here agree =
+      real_turns u.unit function at stack State (λ x. x.locals.first_block) (λ x. x.held) (λ x. x.world)
+      (λ i x. turns_of m n k i x.locals x.world) (λ x. refl) u.tally u.suits c.turns depth d bound
+      (λ i j less again x.
+      turn i j less (λ l e w here agree. again (record { locals = l; held = e; world = w; here = here; agree = agree })) x.locals x.held x.world x.here x.agree)
+      (record { locals = l; held = e; world = w; here = here; agree = agree })
+
+  -- a turn of a body behind which is no step, before turns that its head makes
+  alone_turn :
       (m n : Meaning) (body : Part) → PartReal m body → ((k : Continuations) → Alike k.next (n k)) → (at : ℕ) (x : Exits) (k : Continuations)
       → HasAt code at (body.code (last_exits (body.entry at) x.next) at)
-      → (i d : ℕ) → d ≤ i → IsBounded d → AreReady d x (at + body.size (last_falls (is_fall x.next))) k
-      → IsReady (turns_of m n k i) d at × IsReady (turns_of m n k i) d (body.entry at)
-  alone_turns m n body h idle at x k has zero d le bound ready = (no_turn m n k d at (omega (arith, le)), no_turn m n k d (body.entry at) (omega (arith, le)))
-  alone_turns m n body h idle at x k has (suc i) d le bound ready =
-      let fewer = bounded_less (d - 1) d (omega arith) bound in
-      let again = alone_turns m n body h idle at x k has i (d - 1) (omega (arith, le)) fewer (all_less (d - 1) d x _ k (omega arith) ready) in
+      → (i d : ℕ) → IsBounded d → IsReady (turns_of m n k i) (d - 1) (body.entry at) → AreReady d x (at + body.size (last_falls (is_fall x.next))) k
+      → IsReady (turns_of m n k (suc i)) d (body.entry at)
+  alone_turn m n body h idle at x k has i d bound again ready =
       let next : IsReady (n (after_step k (turns_of m n k i))) (d - 1) (body.entry at) =
-      ready_alike (turns_of m n k i) (n (after_step k (turns_of m n k i))) (d - 1) (body.entry at) (idle (after_step k (turns_of m n k i))) again.1 in
+      ready_alike (turns_of m n k i) (n (after_step k (turns_of m n k i))) (d - 1) (body.entry at) (idle (after_step k (turns_of m n k i))) again in
       let inner : AreReady d (last_exits (body.entry at) x.next) (at + body.size (last_falls (is_fall x.next))) (after_body k (n (after_step k (turns_of m n k i)))) =
       record { next = next; on_break = ready.next; on_continue = next; on_return = ready.on_return } in
-      (h.stands d at _ _ bound has inner, h.entered d at _ _ bound has inner)
+      h.entered d at _ _ bound has inner
 
   pub alone_real : (m n : Meaning) (body : Part) → PartReal m body → ((k : Continuations) → Alike k.next (n k)) → PartReal (looped m n) (body_alone body)
   alone_real m n body h idle = record {
-    stands = λ d at x k le has ready. (alone_turns m n body h idle at x k has c.turns d le.0 le ready).0;
-    entered = λ d at x k le has ready. (alone_turns m n body h idle at x k has c.turns d le.0 le ready).1;
+    jumps = λ at x has. h.jumps at (last_exits (body.entry at) x.next) has;
+    entered = λ d at x k le has ready.
+        loop_ready m n k d (body.entry at) le
+        (λ i j less again. alone_turn m n body h idle at x k has i j (bounded_less j d less le) again (all_less j d x _ k less ready));
   }
 
-  -- the body, and behind it the step
-  first_turns :
+  -- a turn of a body, and behind it the step
+  first_turn :
       (m n : Meaning) (body step : Part) → PartReal m body → PartReal n step → PartSized body → (at : ℕ) (x : Exits) (k : Continuations)
       → HasAt code at ((body_first body step).code x at)
-      → (i d : ℕ) → d ≤ i → IsBounded d → AreReady d x (at + (body_first body step).size (falls_of x)) k
-      → IsReady (turns_of m n k i) d at × IsReady (turns_of m n k i) d (body.entry at)
-  first_turns m n body step h g size at x k has zero d le bound ready = (no_turn m n k d at (omega (arith, le)), no_turn m n k d (body.entry at) (omega (arith, le)))
-  first_turns m n body step h g size at x k has (suc i) d le bound ready =
+      → (i d : ℕ) → IsBounded d → IsReady (turns_of m n k i) (d - 1) (body.entry at) → AreReady d x (at + (body_first body step).size (falls_of x)) k
+      → IsReady (turns_of m n k (suc i)) d (body.entry at)
+  first_turn m n body step h g size at x k has i d bound again ready =
       let second : ℕ = at + body.size body_falls in
-      let fewer = bounded_less (d - 1) d (omega arith) bound in
-      let again = first_turns m n body step h g size at x k has i (d - 1) (omega (arith, le)) fewer (all_less (d - 1) d x _ k (omega arith) ready) in
       let there = has_right code at (body.size body_falls) (body.code (body_exits (step.entry second) x.next) at) _ (size _ at) has in
       let same : at + (body.size body_falls + step.size (last_falls (is_fall x.next))) ≡ second + step.size (last_falls (is_fall x.next)) = omega arith in
       let turn : Continuations = after_step k (turns_of m n k i) in
       let behind_step : AreReady d (last_exits (body.entry at) x.next) (second + step.size (last_falls (is_fall x.next))) turn =
-      record { next = again.1; on_break = goes_at k.next d x.next _ _ same ready.next; on_continue = again.1; on_return = ready.on_return } in
+      record { next = again; on_break = goes_at k.next d x.next _ _ same ready.next; on_continue = again; on_return = ready.on_return } in
       let into = falls_into n step d second (last_exits (body.entry at) x.next) turn g bound there behind_step in
       let inner : AreReady d (body_exits (step.entry second) x.next) second (after_body k (n turn)) =
       record { next = into; on_break = settled_goes k.next d x.next _ second ready.next; on_continue = into; on_return = ready.on_return } in
-      (h.stands d at _ _ bound (has_left code at _ _ has) inner, h.entered d at _ _ bound (has_left code at _ _ has) inner)
+      h.entered d at _ _ bound (has_left code at _ _ has) inner
 
   pub first_real : (m n : Meaning) (body step : Part) → PartReal m body → PartReal n step → PartSized body → PartReal (looped m n) (body_first body step)
   first_real m n body step h g size = record {
-    stands = λ d at x k le has ready. (first_turns m n body step h g size at x k has c.turns d le.0 le ready).0;
-    entered = λ d at x k le has ready. (first_turns m n body step h g size at x k has c.turns d le.0 le ready).1;
+    jumps = λ at x has. h.jumps at (body_exits (step.entry (at + body.size body_falls)) x.next) (has_left code at _ _ has);
+    entered = λ d at x k le has ready.
+        loop_ready m n k d (body.entry at) le
+        (λ i j less again. first_turn m n body step h g size at x k has i j (bounded_less j d less le) again (all_less j d x _ k less ready));
   }
 
   -- a body that ends in a test: the rest, the step, what stands before the test, and the test
@@ -397,13 +416,14 @@ module _ (u : TacUnitTree) (f : CoreFunctionTree) (code : List InstructionTree) 
     abbrev body_meaning : Meaning
     body_meaning k = front (with_next k (chosen s rest (λ j. j.on_break) k))
 
-    last_turns :
+    abbrev head_at : (at : ℕ) → ℕ
+    head_at at = t.front.entry (at + 1 + t.rest.size body_falls + step.size next_falls)
+
+    last_turn :
         (at : ℕ) (x : Exits) (k : Continuations) → HasAt code at ((test_last first_free t step).code x at)
-        → (i d : ℕ) → d ≤ i → IsBounded d → AreReady d x (at + (test_last first_free t step).size (falls_of x)) k
-        → IsReady (turns_of body_meaning n k i) d (at + 1 + t.rest.size body_falls + step.size next_falls)
-        × IsReady (turns_of body_meaning n k i) d (t.front.entry (at + 1 + t.rest.size body_falls + step.size next_falls))
-    last_turns at x k has zero d le bound ready = (no_turn body_meaning n k d _ (omega (arith, le)), no_turn body_meaning n k d _ (omega (arith, le)))
-    last_turns at x k has (suc i) d le bound ready =
+        → (i d : ℕ) → IsBounded d → IsReady (turns_of body_meaning n k i) (d - 1) (head_at at) → AreReady d x (at + (test_last first_free t step).size (falls_of x)) k
+        → IsReady (turns_of body_meaning n k (suc i)) d (head_at at)
+    last_turn at x k has i d bound once ready =
         let one : ℕ = at + 1 in
         let two : ℕ = one + t.rest.size body_falls in
         let three : ℕ = two + step.size next_falls in
@@ -422,14 +442,17 @@ module _ (u : TacUnitTree) (f : CoreFunctionTree) (code : List InstructionTree) 
         let same : at + (1 + t.rest.size body_falls + step.size next_falls + t.front.size next_falls + t.test.test_size false (is_fall x.next)) ≡ end = omega arith in
         let behind : AreReady d x end k = ready_at d x _ end k same ready in
         let fewer = bounded_less (d - 1) d (omega arith) bound in
-        let once = last_turns at x k has i (d - 1) (omega (arith, le)) fewer (all_less (d - 1) d x _ k (omega arith) ready) in
+        let jumps = hf.jumps three (front_exits (falls last) again x.next) (has_left code three front_code test_code has_front) in
         let turn : Continuations = after_step k (turns_of body_meaning n k i) in
         let body : Continuations = after_body k (n turn) in
         let after_rest : (y : ℕ) → y ≤ d - 1 → AreReady y (step_exits (falls head) x.next) three turn =
         λ y less. record {
-          next = (ready_less _ y (d - 1) three less once.0, ready_less _ (y - 1) (d - 1) head (omega (arith, less)) once.1);
+          next = (
+            ready_less (turns_of body_meaning n k i) y (d - 1) three less (ready_behind (turns_of body_meaning n k i) (d - 1) jumps.0 three head jumps.1 once),
+            ready_less (turns_of body_meaning n k i) (y - 1) (d - 1) head (omega (arith, less)) once,
+          );
           on_break = settled_goes k.next y x.next end three (goes_less k.next y d x.next end (omega (arith, less)) behind.next);
-          on_continue = ready_less _ (y - 1) (d - 1) head (omega (arith, less)) once.1;
+          on_continue = ready_less (turns_of body_meaning n k i) (y - 1) (d - 1) head (omega (arith, less)) once;
           on_return = (all_less y d x end k (omega (arith, less)) behind).on_return;
         } in
         let into_step : (y : ℕ) → y ≤ d - 1 → GoesOn (n turn) y (falls again) two =
@@ -454,15 +477,13 @@ module _ (u : TacUnitTree) (f : CoreFunctionTree) (code : List InstructionTree) 
           on_break = settled_goes k.next d x.next end last behind.next;
           on_continue = hs.entered (d - 1) two (step_exits (falls head) x.next) turn fewer (has_left code two step_code (front_code ++ test_code) has_step) (after_rest (d - 1) (omega arith));
           on_return = behind.on_return;
-        } in (
-          hf.stands d three _ _ bound (has_left code three front_code test_code has_front) front_ready,
-          hf.entered d three _ _ bound (has_left code three front_code test_code has_front) front_ready,
-        )
+        } in
+        hf.entered d three _ _ bound (has_left code three front_code test_code has_front) front_ready
 
     pub last_real : PartReal (looped body_meaning n) (test_last first_free t step)
     last_real = record {
-      stands = λ d at x k le has ready l env w here agree.
-          value_real.jump_real u f code function stack is_code d at (t.front.entry (at + 1 + t.rest.size body_falls + step.size next_falls)) l.first_block env w _ has.0
-          (real_less u (d - 1) d _ w stack _ (omega arith) ((last_turns at x k has c.turns d le.0 le ready).1 l env w here agree));
-      entered = λ d at x k le has ready. (last_turns at x k has c.turns d le.0 le ready).1;
+      jumps = λ at x has. (1, (head_at at, has.0, refl));
+      entered = λ d at x k le has ready.
+          loop_ready body_meaning n k d (head_at at) le
+          (λ i j less again. last_turn at x k has i j (bounded_less j d less le) again (all_less j d x _ k less ready));
     }

@@ -1,4 +1,5 @@
 pub mod ThreadLaws
+pub mod JumpLaws
 pub mod SizeLaws
 pub mod StmtSizeLaws
 pub mod Real

@@ -386,6 +386,13 @@ a_fault_runs_alike = refl
 endless : tac_run (lower_unit (unit_of (while (int 1) core.skip ∷ []))) 0 (integer 2 ∷ integer 5 ∷ []) world 9 ≡ core_run (unit_of (while (int 1) core.skip ∷ [])) 0 (integer 2 ∷ integer 5 ∷ []) world 9
 endless = refl
 
+abbrev calls_itself : CoreStmtTree
+calls_itself = core.call None (Function (record { 0 = 0 })) (x ∷ y ∷ [])
+
+-- f(n, m): f(n, m); each call takes a step, so core needs the same bound for the same events
+nesting : tac_run (lower_unit (unit_of (calls_itself ∷ []))) 0 (integer 2 ∷ integer 5 ∷ []) world 4 ≡ core_run (unit_of (calls_itself ∷ [])) 0 (integer 2 ∷ integer 5 ∷ []) world 4
+nesting = refl
+
 -- ---- a break behind an `if` is where the `if` goes
 
 an_if_before_a_break :

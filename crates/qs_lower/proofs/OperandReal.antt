@@ -26,10 +26,10 @@ use Rattle.qs_memory.specs.declared.operation.BinaryOperation.TheVariants as bin
 use Rattle.qs_memory.specs.Values as values
 use Rattle.qs_memory.specs.declared.operation.UnaryOperation.{UnaryOperation}
 use Rattle.qs_memory.specs.declared.operation.UnaryOperation.TheVariants as unaries
-use Rattle.qs_tac.specs.Trees.{InstructionTree, unary, binary, convert, TacUnitTree}
+use Rattle.qs_tac.specs.Trees.{InstructionTree, unary, binary, convert}
 use Rattle.qs_tac.specs.Holders.{temporaries}
 use Rattle.qs_tac.specs.Values.{operand, pointer, member_at, indexed, holds}
-use Rattle.qs_tac.specs.Steps.{Next, gives, step}
+use Rattle.qs_tac.specs.Steps.{gives, step}
 use Rattle.qs_tac.specs.declared.operands.Index.{Index}
 use Rattle.qs_tac.specs.Fits.{is_word}
 use Rattle.qs_tac.specs.declared.operands.Operand.{Operand}
@@ -43,12 +43,12 @@ use Rattle.qs_lower.specs.Expressions as lower
 use Rattle.qs_lower.proofs.SizeLaws.{behind_sized, both, one_more, branch_length, pair_length, based_sized, unindexed_sized, indexed_sized, code_length, TestSized, with_test_sized}
 use Rattle.qs_lower.proofs.OperandLaws.{and_left, folded_right, swapped, converted_right, unary_right, gives_truth_is, truth_again, idle_stays, plus_stays}
 use Rattle.qs_lower.proofs.AddressLaws.{bind_some, bind_bind}
-use Rattle.qs_lower.proofs.Real.{Act, Stack, HasAt, has_left, has_right, Kept, kept_all, kept_then, Real, moment, IsCode, Agree, free, IntoReal, SimpleReal, OperandReal, BaseReal, Goes, by_answer, TestReal, KnownReal}
+use Rattle.qs_lower.proofs.Real.{Model, Act, Stack, HasAt, has_left, has_right, Kept, kept_all, kept_then, Real, moment, IsCode, Agree, free, IntoReal, SimpleReal, OperandReal, BaseReal, Goes, by_answer, TestReal, KnownReal}
 use Rattle.qs_lower.proofs.ValueReal.{none_bind, no_pointer, negated}
 use Rattle.qs_lower.proofs.ValueReal as value_real
 use Rattle.qs_lower.proofs.AddressReal as address_real
 
-module _ (u : TacUnitTree) (f : CoreFunctionTree) (code : List InstructionTree) (function : ℕ) (stack : Stack) (is_code : IsCode u f code function stack) where
+module _ (u : Model) (f : CoreFunctionTree) (code : List InstructionTree) (function : ℕ) (stack : Stack) (is_code : IsCode u f code function stack) where
   abbrev pub at_moment : (at first : ℕ) → Environment → Act
   at_moment at first e = moment u f code function stack at first e
 
@@ -62,9 +62,7 @@ module _ (u : TacUnitTree) (f : CoreFunctionTree) (code : List InstructionTree) 
   first_free = free u f code function stack
 
   abbrev pub Gives : (i : InstructionTree) → (x : ℕ) → (at first : ℕ) → Environment → World → Option Value → Type 0
-  Gives i x at first e w o =
-      (next : Next Environment)
-      → step temporaries u (Some i) next (at_moment at first e) w stack ≡ gives temporaries next x o (at_moment at first e) w stack
+  Gives i x at first e w o = value_real.Gives u f code function stack is_code i x at first e w o
 
   abbrev pub Ends : (d : ℕ) → Exit → (end first : ℕ) → Environment → World → RootRun → Type 0
   Ends d x end first e w r = Goes u f code function stack (λ c p. Makes c p first e w r) d x end
@@ -149,7 +147,7 @@ module _ (u : TacUnitTree) (f : CoreFunctionTree) (code : List InstructionTree) 
       value_real.finish u f code function stack is_code (unary op x (operand_of c t)) d x t (size_of c) at l e after w r _ (value (Unary op a) l w.memory)
       (ap (λ o. o >>= λ v. apply_unary op w.memory v) (same (at + size_of c) after (kept_all (t + own c) after)))
       (value_real.last_at u f code function stack is_code at (size_of c) (code_of c t at) _ (code_length c h.sized.into t at) has)
-      (λ next. refl) kept none next))
+      ((refl, λ g. refl), λ next. refl) kept none next))
 
   pub truth_of_truth : (m : Memory) (b : Bool) → truth m (of_truth b) ≡ Some b
   truth_of_truth m true = refl
@@ -245,7 +243,7 @@ module _ (u : TacUnitTree) (f : CoreFunctionTree) (code : List InstructionTree) 
       value_real.finish u f code function stack is_code (convert s x (operand_of c t)) d x t (size_of c) at l e after w r _ (value (core.conversion s a) l w.memory)
       (ap (λ o. o >>= λ v. values.convert s v) (same (at + size_of c) after (kept_all (t + own c) after)))
       (value_real.last_at u f code function stack is_code at (size_of c) (code_of c t at) _ (code_length c h.sized.into t at) has)
-      (λ next. refl) kept none next))))
+      ((refl, λ g. refl), λ next. refl) kept none next))))
 
   -- ---- two operands
 
@@ -291,10 +289,12 @@ module _ (u : TacUnitTree) (f : CoreFunctionTree) (code : List InstructionTree) 
           (b : Bool) → swaps op left ≡ b
           → Gives (if b then binary op x right left else binary op x left right) x at first e w
           (operand temporaries left (at_moment at first e) >>= λ v. operand temporaries right (at_moment at first e) >>= λ y. apply_binary op w.memory v y)
-      by_order false is next = refl
-      by_order true is next =
-          ap (λ o. gives temporaries next x o (at_moment at first e) w stack)
-          (swapped op (and_left _ _ is) w.memory (operand temporaries left (at_moment at first e)) (operand temporaries right (at_moment at first e)))
+      by_order false is = ((refl, λ g. refl), λ next. refl)
+      by_order true is = (
+        (refl, λ g. refl),
+        λ next. ap (λ o. gives temporaries next x o (at_moment at first e) w stack)
+            (swapped op (and_left _ _ is) w.memory (operand temporaries left (at_moment at first e)) (operand temporaries right (at_moment at first e))),
+      )
 
   pub binary_value_correct :
       (op : BinaryOperation) (a b : CoreExprTree) (c k : ExprCode) → Correct a c → Correct b k → Correct (core.binary op a b) (of_binary_value op c k)

@@ -1,5 +1,5 @@
 -- The code of assignments, stores, copies, fills, calls and returns makes the runs that these mean.
-use Rattle.std.proofs.Common.{◌≡◌, ℕ, suc, ◌+◌, ◌-◌, ◌<◌, ◌≤◌, Bool, true, false, if◌then◌else◌, List, [], ◌∷◌, ◌++◌, length, Option, Some, None, refl, sym, ap, ◌∙◌, subst, arith}
+use Rattle.std.proofs.Common.{◌≡◌, ℕ, zero, suc, ◌+◌, ◌-◌, ◌<◌, Bool, true, false, if◌then◌else◌, List, [], ◌∷◌, ◌++◌, length, Option, Some, None, refl, sym, ap, ◌∙◌, subst, arith}
 use Rattle.std.specs.Prelude.{◌==◌}
 use Rattle.std.proofs.lemmas.Bool.Decides.{nat_tests}
 use Rattle.std.specs.List.{slice_get}
@@ -16,7 +16,7 @@ use Rattle.qs_core.specs.declared.numbers.Target.{Target}
 use Rattle.qs_core.specs.declared.numbers.Target.TheVariants as targets
 use Rattle.qs_core.specs.Expressions.{Locals, value}
 use Rattle.qs_core.specs.Statements.{Continuation, Continuations, Context, assigned, given_pointer, runs}
-use Rattle.qs_tac.specs.Trees.{InstructionTree, store, copy, fill, return, TacUnitTree}
+use Rattle.qs_tac.specs.Trees.{InstructionTree, store, copy, fill, return}
 use Rattle.qs_tac.specs.Holders.{temporaries}
 use Rattle.qs_tac.specs.Values.{operand, pointer}
 use Rattle.qs_tac.specs.Steps.{Next, leaves_memory, ends, step, steps}
@@ -24,7 +24,9 @@ use Rattle.qs_lower.specs.Exits.{Exit, falls, goes, is_fall, exit_size, exit_cod
 use Rattle.qs_lower.specs.Expressions.{ExprCode, size_of, code_of, operand_of, own, address_at}
 use Rattle.qs_lower.specs.Statements.{Exits, falls_of, Part, straight, target_of, of_assign, of_store, of_copy, of_fill, of_return, of_plain_return}
 use Rattle.qs_lower.proofs.SizeLaws.{both, one_more, code_length}
-use Rattle.qs_lower.proofs.Real.{Act, Stack, HasAt, has_left, has_right, KeptBut, kept_all, kept_then, Real, real_less, real_fault, real_given, CallsReal, moment, IsCode, Agree, free, Goes}
+use Rattle.qs_lower.proofs.ThreadLaws.{IsPlain}
+use Rattle.qs_lower.proofs.JumpLaws.{Leads}
+use Rattle.qs_lower.proofs.Real.{Model, Comes, BoundedBy, moves, real_comes, comes_alike, comes_less, Act, Stack, HasAt, has_left, has_right, KeptBut, kept_all, kept_then, Real, real_less, real_fault, real_given, CallsReal, moment, IsCode, Agree, free, Goes}
 use Rattle.qs_lower.proofs.ValueReal as value_real
 use Rattle.qs_lower.proofs.ExprReal as expr
 
@@ -50,7 +52,7 @@ given_pair None i g k = refl
 given_pair (Some a) None g k = refl
 given_pair (Some a) (Some b) g k = refl
 
-module _ (u : TacUnitTree) (f : CoreFunctionTree) (code : List InstructionTree) (function : ℕ) (stack : Stack) (is_code : IsCode u f code function stack) (c : Context) (first depth : ℕ) (calls_real : CallsReal u depth c.calls) where
+module _ (u : Model) (f : CoreFunctionTree) (code : List InstructionTree) (function : ℕ) (stack : Stack) (is_code : IsCode u f code function stack) (c : Context) (first depth : ℕ) (calls_real : CallsReal u depth c.calls) where
   abbrev Correct : CoreExprTree → ExprCode → Type 0
   Correct s e = expr.Correct u f code function stack is_code s e
 
@@ -74,7 +76,7 @@ module _ (u : TacUnitTree) (f : CoreFunctionTree) (code : List InstructionTree) 
   abbrev pub Returns : (d : ℕ) → Return → Type 0
   Returns d k =
       (result : Option Value) (w : World)
-      → (j : ℕ) × (d ≤ j) × (ends temporaries (steps temporaries u j) (at_moment 0 first no_values) stack result w ≡ k result w)
+      → Comes u d (λ j. ends temporaries (steps temporaries (moves u) j) (at_moment 0 first no_values) stack result w) (k result w)
 
   abbrev pub GoesOn : Continuation → (d : ℕ) → Exit → (end : ℕ) → Type 0
   GoesOn k d x end = Goes u f code function stack (IsReady k) d x end
@@ -87,20 +89,32 @@ module _ (u : TacUnitTree) (f : CoreFunctionTree) (code : List InstructionTree) 
 
   -- loops make no more turns than there are steps, and calls nest no deeper
   abbrev pub IsBounded : ℕ → Type 0
-  IsBounded d = (d ≤ c.turns) × (d ≤ depth)
+  IsBounded d = BoundedBy u.tally d c.turns depth
 
   -- what a statement, or several, do
   abbrev pub Meaning : Type 0
   Meaning = Continuations → Continuation
 
-  -- Both the index where the code stands and its entry go on as is meant.
+  -- Jumps alone lead from the index where the code stands to its entry, and from there it goes on as is meant.
   pub record PartReal (m : Meaning) (p : Part) : Type 0 where
-    pub stands :
-        (d at : ℕ) (x : Exits) (k : Continuations) → IsBounded d → HasAt code at (p.code x at)
-        → AreReady d x (at + p.size (falls_of x)) k → IsReady (m k) d at
+    pub jumps : (at : ℕ) (x : Exits) → HasAt code at (p.code x at) → (n : ℕ) × Leads code n at (p.entry at)
     pub entered :
         (d at : ℕ) (x : Exits) (k : Continuations) → IsBounded d → HasAt code at (p.code x at)
         → AreReady d x (at + p.size (falls_of x)) k → IsReady (m k) d (p.entry at)
+
+  -- what is ready behind jumps is ready before them
+  pub ready_behind : (k : Continuation) (d n i j : ℕ) → Leads code n i j → IsReady k d j → IsReady k d i
+  ready_behind k d zero i j same h l e w here agree = subst (λ (at : ℕ). Makes d at l.first_block e w (k l w)) (sym same) (h l e w here agree)
+  ready_behind k d (suc n) i j leads h l e w here agree =
+      value_real.jump_real u f code function stack is_code d i leads.0 l.first_block e w (k l w) leads.1
+      (real_less u (d - 1) d _ w stack (k l w) (omega arith) (ready_behind k d n leads.0 j leads.2 h l e w here agree))
+
+  pub stands :
+      (m : Meaning) (p : Part) → PartReal m p → (d at : ℕ) (x : Exits) (k : Continuations) → IsBounded d → HasAt code at (p.code x at)
+      → AreReady d x (at + p.size (falls_of x)) k → IsReady (m k) d at
+  stands m p h d at x k le has ready =
+      let jumps = h.jumps at x has in
+      ready_behind (m k) d jumps.0 at (p.entry at) jumps.1 (h.entered d at x k le has ready)
 
   abbrev pub IsReal : CoreStmtTree → Part → Type 0
   IsReal s p = PartReal (runs s c) p
@@ -109,12 +123,13 @@ module _ (u : TacUnitTree) (f : CoreFunctionTree) (code : List InstructionTree) 
 
   memory_real :
       (i : InstructionTree) (d at first : ℕ) (e : Environment) (w : World) (r : RootRun) (o : Option Memory)
-      → slice_get code at ≡ Some i
-      → ((next : Next Environment) → step temporaries u (Some i) next (at_moment at first e) w stack ≡ leaves_memory next o (at_moment at first e) w stack)
+      → slice_get code at ≡ Some i → IsPlain (Some i)
+      → ((next : Next Environment) → step temporaries (moves u) (Some i) next (at_moment at first e) w stack ≡ leaves_memory next o (at_moment at first e) w stack)
       → (o ≡ None → r ≡ undefined) → ((m : Memory) → o ≡ Some m → Makes d (at + 1) first e (with_memory w m) r) → Makes d at first e w r
-  memory_real i d at first e w r o has law none some =
+  memory_real i d at first e w r o has plain law none some =
       real_given u d (at_moment at first e) w stack r o (λ m. at_moment (at + 1) first e) (λ m. with_memory w m)
-      (λ j. value_real.at_instruction u f code function stack is_code j at first e w i has ∙ law (steps temporaries u j))
+      (value_real.no_jump u f code function stack is_code at first e (Some i) has plain)
+      (λ j. value_real.at_instruction u f code function stack is_code j at first e w i has plain ∙ law (steps temporaries (moves u) j))
       none
       (λ m h. real_less u (d - 1) d _ (with_memory w m) stack r (omega arith) (some m h))
 
@@ -137,7 +152,7 @@ module _ (u : TacUnitTree) (f : CoreFunctionTree) (code : List InstructionTree) 
       (s : CoreStmtTree) (size used : ℕ) (lines : (at : ℕ) → List InstructionTree) → ((at : ℕ) → length (lines at) ≡ size)
       → ((d at : ℕ) (k : Continuations) → IsBounded d → HasAt code at (lines at) → IsReady k.next d (at + size) → IsReady (runs s c k) d at)
       → IsReal s (straight size used lines).part
-  straight_real s size used lines long real = record { stands = there; entered = there }
+  straight_real s size used lines long real = record { jumps = λ at x has. (0, refl); entered = there }
     where
       there :
           (d at : ℕ) (x : Exits) (k : Continuations) → IsBounded d → HasAt code at (lines at ++ exit_code x.next)
@@ -223,6 +238,7 @@ module _ (u : TacUnitTree) (f : CoreFunctionTree) (code : List InstructionTree) 
       memory_real (store s (address_at p first_free) (operand_of e (first_free + p.base_own))) d (at + p.base_size + size_of e) l.first_block last w _
       ((value a l w.memory >>= as_pointer) >>= λ q. value b l w.memory >>= λ v. memory.store s w.memory q v)
       (has_right code (at + p.base_size) (size_of e) (code_of e (first_free + p.base_own) (at + p.base_size)) _ (code_length e hb.sized.into _ _) (behind at has)).0
+      (refl, λ g. refl)
       (λ next. ap (λ o. leaves_memory next o (at_moment (at + p.base_size + size_of e) l.first_block last) w stack)
       (ap (λ q. q >>= λ to. operand temporaries (operand_of e (first_free + p.base_own)) (at_moment (at + p.base_size + size_of e) l.first_block last) >>= λ v. memory.store s w.memory to v)
       (first (at + p.base_size + size_of e) last kept_last)
@@ -265,6 +281,7 @@ module _ (u : TacUnitTree) (f : CoreFunctionTree) (code : List InstructionTree) 
       memory_real (fill blank (address_at p first_free)) d (at + p.base_size) l.first_block after w _
       ((value a l w.memory >>= as_pointer) >>= λ q. memory.fill blank w.memory q)
       (has_right code at p.base_size (p.base_code first_free at) _ (ha.sized.base first_free at) has).0
+      (refl, λ g. refl)
       (λ next. ap (λ o. leaves_memory next (o >>= λ q. memory.fill blank w.memory q) (at_moment (at + p.base_size) l.first_block after) w stack)
       (first (at + p.base_size) after (kept_all (first_free + p.base_own) after)))
       (λ none. given_bind (value a l w.memory) as_pointer _ ∙ given_bind (value a l w.memory >>= as_pointer) _ _ ∙ given_none _ _ none)
@@ -292,6 +309,7 @@ module _ (u : TacUnitTree) (f : CoreFunctionTree) (code : List InstructionTree) 
       memory_real (copy size alignment (address_at p first_free) (address_at q (first_free + p.base_own))) d (at + p.base_size + q.base_size) l.first_block last w _
       (both_pointers l w)
       (has_right code (at + p.base_size) q.base_size (q.base_code (first_free + p.base_own) (at + p.base_size)) _ (hb.sized.base _ _) (behind at has)).0
+      (refl, λ g. refl)
       (λ next. ap (λ o. leaves_memory next o (at_moment (at + p.base_size + q.base_size) l.first_block last) w stack)
       (ap (λ x. x >>= λ to. pointer temporaries (address_at q (first_free + p.base_own)) (at_moment (at + p.base_size + q.base_size) l.first_block last) w.memory >>= λ from. memory.copy size alignment w.memory to from)
       (first (at + p.base_size + q.base_size) last kept_last)
@@ -342,28 +360,25 @@ module _ (u : TacUnitTree) (f : CoreFunctionTree) (code : List InstructionTree) 
 
   pub ends_here :
       (j at : ℕ) (l : Locals) (e : Environment) (result : Option Value) (w : World) → l.first_block ≡ first
-      → ends temporaries (steps temporaries u j) (at_moment at l.first_block e) stack result w
-      ≡ ends temporaries (steps temporaries u j) (at_moment 0 first no_values) stack result w
-  ends_here j at l e result w here = ap (λ (n : ℕ). ends temporaries (steps temporaries u j) (at_moment at n e) stack result w) here
+      → ends temporaries (steps temporaries (moves u) j) (at_moment at l.first_block e) stack result w
+      ≡ ends temporaries (steps temporaries (moves u) j) (at_moment 0 first no_values) stack result w
+  ends_here j at l e result w here = ap (λ (n : ℕ). ends temporaries (steps temporaries (moves u) j) (at_moment at n e) stack result w) here
 
   pub plain_return_real : IsReal (core.return None) of_plain_return.part
-  plain_return_real = record { stands = there; entered = there }
+  plain_return_real = record { jumps = λ at x has. (0, refl); entered = there }
     where
       there :
           (d at : ℕ) (x : Exits) (k : Continuations) → IsBounded d → HasAt code at (return None ∷ [])
           → AreReady d x (at + 1) k → IsReady (runs (core.return None) c k) d at
       there d at x k le has ready l env w here agree =
-          let r = ready.on_return None w in
-          record {
-            taken = suc r.0;
-            enough = omega (arith, r.1);
-            gives =
-                value_real.at_instruction u f code function stack is_code r.0 at l.first_block env w (return None) has.0
-                ∙ ends_here r.0 at l env None w here ∙ r.2;
-          }
+          real_comes u d (at_moment at l.first_block env) w stack (λ j. ends temporaries (steps temporaries (moves u) j) (at_moment at l.first_block env) stack None w) _
+          (value_real.no_jump u f code function stack is_code at l.first_block env (Some (return None)) has.0 (refl, λ g. refl))
+          (λ j. value_real.at_instruction u f code function stack is_code j at l.first_block env w (return None) has.0 (refl, λ g. refl))
+          (comes_alike u.tally (d - 1) (λ j. ends temporaries (steps temporaries (moves u) j) (at_moment 0 first no_values) stack None w) _ _ (λ j. ends_here j at l env None w here)
+          (comes_less u.tally (d - 1) d _ _ (omega arith) (ready.on_return None w)))
 
   pub return_real : (s : CoreExprTree) (e : ExprCode) → Correct s e → IsReal (core.return (Some s)) (of_return first_free e).part
-  return_real s e h = record { stands = there; entered = there }
+  return_real s e h = record { jumps = λ at x has. (0, refl); entered = there }
     where
       ended :
           (d at : ℕ) (l : Locals) (after : Environment) (w : World) (k : Continuations) (o : Option Value) → l.first_block ≡ first → Returns d k.on_return
@@ -372,18 +387,16 @@ module _ (u : TacUnitTree) (f : CoreFunctionTree) (code : List InstructionTree) 
           → Makes d at l.first_block after w (given o (λ v. k.on_return (Some v) w))
       ended d at l after w k None here returns has is =
           real_fault u d (at_moment at l.first_block after) w stack
-          (λ j. value_real.at_instruction u f code function stack is_code j at l.first_block after w (return (Some (operand_of e first_free))) has
-          ∙ ap (λ o. given o (λ v. ends temporaries (steps temporaries u j) (at_moment at l.first_block after) stack (Some v) w)) is)
+          (value_real.no_jump u f code function stack is_code at l.first_block after (Some (return (Some (operand_of e first_free)))) has (refl, λ g. refl))
+          (λ j. value_real.at_instruction u f code function stack is_code j at l.first_block after w (return (Some (operand_of e first_free))) has (refl, λ g. refl)
+          ∙ ap (λ o. given o (λ v. ends temporaries (steps temporaries (moves u) j) (at_moment at l.first_block after) stack (Some v) w)) is)
       ended d at l after w k (Some v) here returns has is =
-          let r = returns (Some v) w in
-          record {
-            taken = suc r.0;
-            enough = omega (arith, r.1);
-            gives =
-                value_real.at_instruction u f code function stack is_code r.0 at l.first_block after w (return (Some (operand_of e first_free))) has
-                ∙ ap (λ o. given o (λ v. ends temporaries (steps temporaries u r.0) (at_moment at l.first_block after) stack (Some v) w)) is
-                ∙ ends_here r.0 at l after (Some v) w here ∙ r.2;
-          }
+          real_comes u d (at_moment at l.first_block after) w stack (λ j. ends temporaries (steps temporaries (moves u) j) (at_moment at l.first_block after) stack (Some v) w) _
+          (value_real.no_jump u f code function stack is_code at l.first_block after (Some (return (Some (operand_of e first_free)))) has (refl, λ g. refl))
+          (λ j. value_real.at_instruction u f code function stack is_code j at l.first_block after w (return (Some (operand_of e first_free))) has (refl, λ g. refl)
+          ∙ ap (λ o. given o (λ v. ends temporaries (steps temporaries (moves u) j) (at_moment at l.first_block after) stack (Some v) w)) is)
+          (comes_alike u.tally (d - 1) (λ j. ends temporaries (steps temporaries (moves u) j) (at_moment 0 first no_values) stack (Some v) w) _ _ (λ j. ends_here j at l after (Some v) w here)
+          (comes_less u.tally (d - 1) d _ _ (omega arith) (returns (Some v) w)))
 
       there :
           (d at : ℕ) (x : Exits) (k : Continuations) → IsBounded d → HasAt code at (code_of e first_free at ++ return (Some (operand_of e first_free)) ∷ [])

@@ -11,11 +11,11 @@ use Rattle.qs_core.specs.Trees.{CoreExprTree, CoreFunctionTree}
 use Rattle.qs_core.specs.Expressions.{Locals, value}
 use Rattle.qs_core.specs.Statements.{Continuation, Continuations, Context, repeated, after_step, after_body}
 use Rattle.qs_core.proofs.RelationLaws as laws
-use Rattle.qs_tac.specs.Trees.{InstructionTree, TacUnitTree}
+use Rattle.qs_tac.specs.Trees.{InstructionTree}
 use Rattle.qs_lower.specs.Expressions.{ExprCode}
 use Rattle.qs_lower.specs.Statements.{Part, Way, to_next, to_break, to_continue, Tested, StmtCode, straight, leaves, is_break, by_way, tested_behind, of_joined, of_before, of_ways, of_both, test_of, is_next, of_test, of_branch, body_alone, body_first, test_last, loop_part, of_loop}
 use Rattle.qs_lower.proofs.StmtSizeLaws.{PartSized, OptionSized, StmtSized, going_sized, joined_sized, redirected_sized, branch_sized, loop_sized}
-use Rattle.qs_lower.proofs.Real.{Stack, CallsReal, IsCode, Agree, free}
+use Rattle.qs_lower.proofs.Real.{Model, Stack, CallsReal, IsCode, Agree, free}
 use Rattle.qs_lower.proofs.ExprReal as expr
 use Rattle.qs_lower.proofs.PlainReal as plain
 use Rattle.qs_lower.proofs.FlowReal as flow
@@ -34,7 +34,7 @@ choice_alike : (b : Bool) (o p q r : RootRun) → o ≡ q → p ≡ r → (if b 
 choice_alike true o p q r h k = h
 choice_alike false o p q r h k = k
 
-module _ (u : TacUnitTree) (f : CoreFunctionTree) (code : List InstructionTree) (function : ℕ) (stack : Stack) (is_code : IsCode u f code function stack) (c : Context) (first depth : ℕ) (calls_real : CallsReal u depth c.calls) where
+module _ (u : Model) (f : CoreFunctionTree) (code : List InstructionTree) (function : ℕ) (stack : Stack) (is_code : IsCode u f code function stack) (c : Context) (first depth : ℕ) (calls_real : CallsReal u depth c.calls) where
   abbrev Meaning : Type 0
   Meaning = Continuations → Continuation
 

@@ -17,8 +17,8 @@ use Rattle.qs_core.specs.Interfaces.{variable_type, temporary_type, target_type}
 use Rattle.qs_core.specs.Statements.{Context}
 use Rattle.qs_core.specs.Fits.{expr_fits, exprs_fit, pointer_fits, call_fits, destination_fits, stmt_fits, stmts_fit, place_fits, parameter_fits, parameters_fit}
 use Rattle.qs_core.proofs.FitLaws.{both, type_is}
-use Rattle.qs_tac.specs.Trees.{InstructionTree, TacUnitTree}
-use Rattle.qs_lower.proofs.Real.{Stack, CallsReal, IsCode}
+use Rattle.qs_tac.specs.Trees.{InstructionTree}
+use Rattle.qs_lower.proofs.Real.{Model, Stack, CallsReal, IsCode}
 use Rattle.qs_lower.proofs.ExprReal as expr
 use Rattle.qs_lower.proofs.PlainReal as plain
 use Rattle.qs_lower.proofs.CallReal as calls
@@ -35,7 +35,7 @@ variable_there f x s h = known_there f.variables x (λ v. v.scalar) (slice_get f
 pub temporary_there : (f : CoreFunctionTree) (k : ℕ) (s : Scalar) → is_type (temporary_type f k) s ≡ true → k < length f.temporaries
 temporary_there f k s h = slice_get_within f.temporaries k s (type_is (temporary_type f k) s h)
 
-module _ (c : CoreUnitTree) (u : TacUnitTree) (f : CoreFunctionTree) (code : List InstructionTree) (function : ℕ) (stack : Stack) (is_code : IsCode u f code function stack) where
+module _ (c : CoreUnitTree) (u : Model) (f : CoreFunctionTree) (code : List InstructionTree) (function : ℕ) (stack : Stack) (is_code : IsCode u f code function stack) where
   abbrev IsThere : CoreExprTree → Type 0
   IsThere s = expr.IsThere u f code function stack is_code s
 

@@ -1,8 +1,8 @@
--- The linear code of a unit makes the runs of its core, each in at least as many steps as core's bound.
+-- The linear code of the body of a function makes the run that it means.
 use Rattle.std.proofs.Common.{◌≡◌, ℕ, zero, suc, ◌+◌, ◌-◌, ◌≤◌, Bool, true, false, List, [], ◌∷◌, ◌++◌, length, Option, Some, None, refl, sym, ap, ◌∙◌, subst, arith}
 use Rattle.std.specs.List.{slice_get}
 use Rattle.qs_memory.specs.Values.{Value}
-use Rattle.qs_calls.specs.World.{World, Return}
+use Rattle.qs_calls.specs.World.{World, Return, no_values}
 use Rattle.qs_core.specs.Trees as core
 use Rattle.qs_core.specs.Trees.{CoreExprTree, CoreStmtTree, CoreStmts, no_stmts, stmt_and, CoreFunctionTree, CoreUnitTree}
 use Rattle.qs_core.specs.declared.numbers.Target.{Target}
@@ -10,7 +10,7 @@ use Rattle.qs_core.specs.Expressions.{Locals, value}
 use Rattle.qs_core.specs.Statements.{Continuation, Continuations, Context, runs, runs_all}
 use Rattle.qs_core.specs.Units.{nowhere, after_function}
 use Rattle.qs_core.proofs.RelationLaws as laws
-use Rattle.qs_tac.specs.Trees.{InstructionTree, return, TacUnitTree}
+use Rattle.qs_tac.specs.Trees.{InstructionTree, return}
 use Rattle.qs_tac.specs.Holders.{temporaries}
 use Rattle.qs_tac.specs.Steps.{ends, step, steps}
 use Rattle.qs_lower.specs.Exits.{falls, goes}
@@ -19,7 +19,7 @@ use Rattle.qs_lower.specs.Statements.{Exits, Part, StmtCode, next_falls, target_
 use Rattle.qs_lower.specs.Statements as lower
 use Rattle.qs_lower.specs.Units.{free_from, body_code, end_code, function_code}
 use Rattle.qs_lower.proofs.StmtSizeLaws.{StmtSized, stmt_sized, stmts_sized}
-use Rattle.qs_lower.proofs.Real.{Stack, HasAt, real_fault, CallsReal, moment, IsCode, free}
+use Rattle.qs_lower.proofs.Real.{Model, moves, real_comes, comes_alike, comes_less, Stack, HasAt, real_fault, CallsReal, moment, IsCode, free}
 use Rattle.qs_lower.proofs.ValueReal as value_real
 use Rattle.qs_lower.proofs.ExprReal as expr
 use Rattle.qs_lower.proofs.PlainReal as plain
@@ -27,7 +27,7 @@ use Rattle.qs_lower.proofs.FlowReal as flow
 use Rattle.qs_lower.proofs.StmtReal as stmt
 use Rattle.qs_lower.proofs.CallReal as calls
 
-module _ (u : TacUnitTree) (f : CoreFunctionTree) (code : List InstructionTree) (function : ℕ) (stack : Stack) (is_code : IsCode u f code function stack) (c : Context) (first depth : ℕ) (calls_real : CallsReal u depth c.calls) where
+module _ (u : Model) (f : CoreFunctionTree) (code : List InstructionTree) (function : ℕ) (stack : Stack) (is_code : IsCode u f code function stack) (c : Context) (first depth : ℕ) (calls_real : CallsReal u depth c.calls) where
   -- ---- statements
 
   abbrev IsThere : CoreExprTree → Type 0
@@ -159,21 +159,21 @@ module _ (u : TacUnitTree) (f : CoreFunctionTree) (code : List InstructionTree) 
   nowhere_ready : (d at : ℕ) → slice_get code at ≡ None → plain.IsReady u f code function stack is_code c first depth calls_real nowhere d at
   nowhere_ready d at none l e w here agree =
       real_fault u d (moment u f code function stack at l.first_block e) w stack
-      (λ j. ap (λ o. step temporaries u o (steps temporaries u j) (moment u f code function stack at l.first_block e) w stack) (is_code at l.first_block e ∙ none))
+      (value_real.no_jump u f code function stack is_code at l.first_block e None none (refl, λ g. refl))
+      (λ j. value_real.at_place u f code function stack is_code j at l.first_block e w None none (refl, λ g. refl))
 
   -- a return without a value, where the body can end
   end_ready :
       (d at : ℕ) (k : Return) → slice_get code at ≡ Some (return None) → plain.Returns u f code function stack is_code c first depth calls_real d k
       → plain.IsReady u f code function stack is_code c first depth calls_real (λ l w. k None w) d at
   end_ready d at k has returns l e w here agree =
-      let r = returns None w in
-      record {
-        taken = suc r.0;
-        enough = omega (arith, r.1);
-        gives =
-            value_real.at_instruction u f code function stack is_code r.0 at l.first_block e w (return None) has
-            ∙ plain.ends_here u f code function stack is_code c first depth calls_real r.0 at l e None w here ∙ r.2;
-      }
+      real_comes u d (moment u f code function stack at l.first_block e) w stack
+      (λ j. ends temporaries (steps temporaries (moves u) j) (moment u f code function stack at l.first_block e) stack None w) _
+      (value_real.no_jump u f code function stack is_code at l.first_block e (Some (return None)) has (refl, λ g. refl))
+      (λ j. value_real.at_instruction u f code function stack is_code j at l.first_block e w (return None) has (refl, λ g. refl))
+      (comes_alike u.tally (d - 1) (λ j. ends temporaries (steps temporaries (moves u) j) (moment u f code function stack 0 first no_values) stack None w) _ _
+      (λ j. plain.ends_here u f code function stack is_code c first depth calls_real j at l e None w here)
+      (comes_less u.tally (d - 1) d _ _ (omega arith) (returns None w)))
 
 -- ---- a list of instructions in the code
 
@@ -207,7 +207,7 @@ behind_all (i ∷ xs) ys (suc n) k h = let less : length xs ≡ n = omega (arith
 abbrev exits_of : (end : ℕ) → Exits
 exits_of end = record { next = falls end; on_break = goes (end + 1); on_continue = goes (end + 1) }
 
-module _ (u : TacUnitTree) (f : CoreFunctionTree) (function : ℕ) (stack : Stack) (is_code : IsCode u f (function_code f) function stack) (c : Context) (first depth : ℕ) (calls_real : CallsReal u depth c.calls) where
+module _ (u : Model) (f : CoreFunctionTree) (function : ℕ) (stack : Stack) (is_code : IsCode u f (function_code f) function stack) (c : Context) (first depth : ℕ) (calls_real : CallsReal u depth c.calls) where
   abbrev end_of : ℕ
   end_of = (body_code f).part.size next_falls
 
@@ -256,8 +256,8 @@ module _ (u : TacUnitTree) (f : CoreFunctionTree) (function : ℕ) (stack : Stac
           ∙ ap (slice_get (body_lines ++ return None ∷ [])) (plus_zero end_of) ∙ behind_all body_lines (return None ∷ []) end_of 0 body_length in
           let ended : (i : ℕ) → i ≤ d → Ready (λ l w. k None w) i end_of =
           λ i less. end_ready u f (function_code f) function stack is_code c first depth calls_real i end_of k has
-          (λ result w. let r = returns result w in (r.0, omega (arith, less, r.1), r.2)) in
-          good.part.stands d 0 (exits_of end_of) (after_function k) le lines
+          (λ result w. comes_less u.tally i d _ _ less (returns result w)) in
+          plain.stands u f (function_code f) function stack is_code c first depth calls_real _ (body_code f).part good.part d 0 (exits_of end_of) (after_function k) le lines
           (record { next = (at_zero _ d (ended d (omega arith)), ended (d - 1) (omega arith)); on_break = nothing (d - 1); on_continue = nothing (d - 1); on_return = returns })
       by_end true ends =
           let has : slice_get (function_code f) end_of ≡ None =
@@ -272,7 +272,7 @@ module _ (u : TacUnitTree) (f : CoreFunctionTree) (function : ℕ) (stack : Stac
             on_return = λ result w. refl;
           }) in
           flow.ready_alike u f (function_code f) function stack is_code c first depth calls_real (runs_all f.body c other) (runs_all f.body c (after_function k)) d 0 same
-          (good.part.stands d 0 (exits_of end_of) other le lines
+          (plain.stands u f (function_code f) function stack is_code c first depth calls_real _ (body_code f).part good.part d 0 (exits_of end_of) other le lines
           (record {
             next = (
               at_zero nowhere d (nowhere_ready u f (function_code f) function stack is_code c first depth calls_real d end_of has),

@@ -14,17 +14,17 @@ use Rattle.qs_memory.specs.declared.operation.Signedness.{Signedness}
 use Rattle.qs_memory.specs.declared.operation.Comparison.{Comparison}
 use Rattle.qs_memory.specs.declared.operation.Comparison.TheVariants as comparisons
 use Rattle.qs_memory.proofs.Options.{some_same}
-use Rattle.qs_events.specs.Runs.{undefined, given}
+use Rattle.qs_events.specs.Runs.{undefined}
 use Rattle.qs_calls.specs.World.{World, RootRun, Environment, with_value}
 use Rattle.qs_core.specs.Trees.{CoreExprTree, CoreFunctionTree}
 use Rattle.qs_core.specs.Expressions.{Locals, value}
 use Rattle.qs_memory.specs.Memory as memory
 use Rattle.qs_memory.specs.declared.scalar.Scalar.{Scalar}
 use Rattle.qs_core.specs.Trees as core
-use Rattle.qs_tac.specs.Trees.{InstructionTree, move, load, jump, branch, TacUnitTree}
+use Rattle.qs_tac.specs.Trees.{InstructionTree, move, load, jump, branch}
 use Rattle.qs_tac.specs.Holders.{temporaries}
 use Rattle.qs_tac.specs.Values.{operand, holds}
-use Rattle.qs_tac.specs.Steps.{Next, going_to, gives, step, steps}
+use Rattle.qs_tac.specs.Steps.{Next, gives, step, steps}
 use Rattle.qs_tac.specs.declared.operands.Operand.{Operand}
 use Rattle.qs_tac.specs.declared.operands.Condition.{Condition}
 use Rattle.qs_tac.specs.declared.operands.Condition.TheVariants.{NotZero, Zero, Compare, ComparePointers}
@@ -34,7 +34,9 @@ use Rattle.qs_lower.specs.Expressions.{ExprCode, size_of, code_of, operand_of, o
 use Rattle.qs_lower.proofs.SizeLaws.{sized, one_more, Sized, code_length, operand_sized, by_value_sized}
 use Rattle.qs_lower.proofs.OperandLaws.{known_truth}
 use Rattle.qs_lower.proofs.AddressLaws.{bind_some}
-use Rattle.qs_lower.proofs.Real.{Act, Stack, HasAt, has_left, has_right, Kept, KeptBut, kept_all, kept_below, Real, real_less, real_step, real_given, moment, IsCode, Agree, free, IntoReal, SimpleReal, OperandReal, BaseReal, Goes, by_answer, TestReal, KnownReal}
+use Rattle.qs_lower.specs.Threads.{leads_to}
+use Rattle.qs_lower.proofs.ThreadLaws.{IsPlain}
+use Rattle.qs_lower.proofs.Real.{Model, Act, Stack, HasAt, has_left, has_right, Kept, KeptBut, kept_all, kept_below, Real, real_less, real_given, real_jump, real_branch, moves, instruction_is, NoJump, moment, IsCode, Agree, free, IntoReal, SimpleReal, OperandReal, BaseReal, Goes, by_answer, TestReal, KnownReal}
 
 pub none_bind : {A B : Type 0} (o : Option A) (f : A → Option B) → o ≡ None → (o >>= f) ≡ None
 none_bind o f h = ap (λ p. p >>= f) h
@@ -103,7 +105,7 @@ opposite_holds (ComparePointers op o p) a m =
 abbrev pub no_pointer : Pointer → Option Pointer
 no_pointer x = None
 
-module _ (u : TacUnitTree) (f : CoreFunctionTree) (code : List InstructionTree) (function : ℕ) (stack : Stack) (is_code : IsCode u f code function stack) where
+module _ (u : Model) (f : CoreFunctionTree) (code : List InstructionTree) (function : ℕ) (stack : Stack) (is_code : IsCode u f code function stack) where
   abbrev pub at_moment : (at first : ℕ) → Environment → Act
   at_moment at first e = moment u f code function stack at first e
 
@@ -125,20 +127,32 @@ module _ (u : TacUnitTree) (f : CoreFunctionTree) (code : List InstructionTree) 
     temporaries = λ k lt. kept (length f.variables + k) (omega (arith, le, lt)) ∙ agree.temporaries k lt;
   }
 
+  -- the instruction that comes next is the one that stands there, unless it jumps or branches
+  pub at_place :
+      (j at first : ℕ) (e : Environment) (w : World) (o : Option InstructionTree) → slice_get code at ≡ o → IsPlain o
+      → steps temporaries (moves u) (suc j) (at_moment at first e) w stack
+      ≡ step temporaries (moves u) o (steps temporaries (moves u) j) (at_moment at first e) w stack
+  at_place j at first e w o has plain =
+      ap (λ p. step temporaries (moves u) p (steps temporaries (moves u) j) (at_moment at first e) w stack)
+      (instruction_is u (at_moment at first e) o (is_code at ∙ has) plain)
+
   pub at_instruction :
-      (j at first : ℕ) (e : Environment) (w : World) (i : InstructionTree) → slice_get code at ≡ Some i
-      → steps temporaries u (suc j) (at_moment at first e) w stack
-      ≡ step temporaries u (Some i) (steps temporaries u j) (at_moment at first e) w stack
-  at_instruction j at first e w i has =
-      ap (λ o. step temporaries u o (steps temporaries u j) (at_moment at first e) w stack) (is_code at first e ∙ has)
+      (j at first : ℕ) (e : Environment) (w : World) (i : InstructionTree) → slice_get code at ≡ Some i → IsPlain (Some i)
+      → steps temporaries (moves u) (suc j) (at_moment at first e) w stack
+      ≡ step temporaries (moves u) (Some i) (steps temporaries (moves u) j) (at_moment at first e) w stack
+  at_instruction j at first e w i has plain = at_place j at first e w (Some i) has plain
+
+  pub no_jump : (at first : ℕ) (e : Environment) (o : Option InstructionTree) → slice_get code at ≡ o → IsPlain o → NoJump u.unit (at_moment at first e)
+  no_jump at first e o has plain = ap leads_to (is_code at ∙ has) ∙ plain.0
 
   -- ---- single instructions
 
   -- one that gives a temporary a value
   abbrev pub Gives : (i : InstructionTree) → (x : ℕ) → (at first : ℕ) → Environment → World → Option Value → Type 0
   Gives i x at first e w o =
-      (next : Next Environment)
-      → step temporaries u (Some i) next (at_moment at first e) w stack ≡ gives temporaries next x o (at_moment at first e) w stack
+      IsPlain (Some i)
+      × ((next : Next Environment)
+      → step temporaries (moves u) (Some i) next (at_moment at first e) w stack ≡ gives temporaries next x o (at_moment at first e) w stack)
 
   pub gives_real :
       (i : InstructionTree) (d x at first : ℕ) (e : Environment) (w : World) (r : RootRun) (o : Option Value)
@@ -147,7 +161,8 @@ module _ (u : TacUnitTree) (f : CoreFunctionTree) (code : List InstructionTree) 
   gives_real i d x at first e w r o has law none some =
       real_given u d (at_moment at first e) w stack r o
       (λ v. at_moment (at + 1) first (with_value e x v)) (λ v. w)
-      (λ j. at_instruction j at first e w i has ∙ law (steps temporaries u j))
+      (no_jump at first e (Some i) has law.0)
+      (λ j. at_instruction j at first e w i has law.0 ∙ law.1 (steps temporaries (moves u) j))
       none
       (λ v is. real_less u (d - 1) d _ w stack r (omega arith) (some v is))
 
@@ -155,7 +170,7 @@ module _ (u : TacUnitTree) (f : CoreFunctionTree) (code : List InstructionTree) 
       (d at to first : ℕ) (e : Environment) (w : World) (r : RootRun) → slice_get code at ≡ Some (jump to)
       → Makes (d - 1) to first e w r → Makes d at first e w r
   jump_real d at to first e w r has real =
-      real_step u d (at_moment at first e) (at_moment to first e) w w stack stack r (λ j. at_instruction j at first e w (jump to) has) real
+      real_jump u d (at_moment at first e) w stack r to (is_code at ∙ has) real
 
   pub branch_real :
       (c : Condition) (d at to first : ℕ) (e : Environment) (w : World) (r : RootRun) (o : Option Bool)
@@ -163,11 +178,7 @@ module _ (u : TacUnitTree) (f : CoreFunctionTree) (code : List InstructionTree) 
       → (o ≡ None → r ≡ undefined)
       → ((b : Bool) → o ≡ Some b → Makes (d - 1) (if b then to else (at + 1)) first e w r) → Makes d at first e w r
   branch_real c d at to first e w r o has is none some =
-      real_given u d (at_moment at first e) w stack r o
-      (λ b. at_moment (if b then to else (at + 1)) first e) (λ b. w)
-      (λ j. at_instruction j at first e w (branch c to) has
-      ∙ ap (λ p. given p (λ yes. steps temporaries u j (going_to (if yes then to else (at + 1)) (at_moment at first e)) w stack)) is)
-      none some
+      real_branch u c d (at_moment at first e) w stack r to o (is_code at ∙ has) is none some
 
   -- ---- exits
 
@@ -379,7 +390,7 @@ module _ (u : TacUnitTree) (f : CoreFunctionTree) (code : List InstructionTree) 
       (finish (move x o) d x t 0 at l e e w r (operand temporaries o (at_moment (at + 0) l.first_block e)) (value s l w.memory)
       (is (at + 0) l e w.memory agree)
       (ap (slice_get code) (omega arith) ∙ has.0)
-      (λ next. refl) (kept_all t e) none next))
+      ((refl, λ g. refl), λ next. refl) (kept_all t e) none next))
       (λ p same at l e m agree. ap (λ (q : Operand). operand temporaries q (at_moment at l.first_block e)) (sym (some_same o p same)) ∙ is at l e m agree)
 
   -- ---- values by code
@@ -403,7 +414,7 @@ module _ (u : TacUnitTree) (f : CoreFunctionTree) (code : List InstructionTree) 
       (ap (λ o. o >>= λ q. memory.load s w.memory q) (same (at + p.base_size) after (kept_all (t + p.base_own) after))
       ∙ sym (load_same (value a l w.memory) s w.memory))
       (last_at at p.base_size (p.base_code t at) _ (h.sized.base t at) has)
-      (λ next. refl) kept none next))
+      ((refl, λ g. refl), λ next. refl) kept none next))
     where
       load_same : (o : Option Value) (s : Scalar) (m : Memory) → (o >>= λ v. as_pointer v >>= λ q. memory.load s m q) ≡ ((o >>= as_pointer) >>= λ q. memory.load s m q)
       load_same None s m = refl

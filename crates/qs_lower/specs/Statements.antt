@@ -102,10 +102,13 @@ joined a b = record {
 }
 
 -- a part, and then only another way on
+abbrev pub redirected_exits : Way → Exits → Exits
+redirected_exits w x = record x { next = exit_to w x }
+
 abbrev pub redirected : Part → Way → Part
 redirected a w = record {
   size = λ y. a.size (record y { next = falls_to w y });
-  code = λ x at. a.code (record x { next = exit_to w x }) at;
+  code = λ x at. a.code (redirected_exits w x) at;
   entry = a.entry;
 }
 

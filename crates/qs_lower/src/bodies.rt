@@ -1,7 +1,8 @@
 // The plans of the statements of core.
 ghost use Rattle.std.specs.Prelude.{◌≡◌, IfOk, map};
+ghost use Rattle.qs_core.specs.Trees as core;
 ghost use Rattle.qs_core.specs.Trees.{stmts_of};
-ghost use Rattle.qs_core.specs.TreeOf.{core_stmt, core_stmts};
+ghost use Rattle.qs_core.specs.TreeOf.{core_expr, core_exprs, core_stmt, core_stmts};
 ghost use Rattle.qs_lower.specs.Statements as spec;
 ghost use Rattle.qs_lower.specs.StmtPlans.{stmt_part};
 
@@ -10,8 +11,56 @@ use crate::stmt_planning::{all_lowered, joined, of_branch, of_loop, taken_by, ta
 use crate::stmt_plans::StmtPlan;
 use crate::ways::Way;
 use qs_base::NoMemory;
-use qs_core::CoreStmt;
+use qs_calls::Callee;
+use qs_core::{CoreExpr, CoreStmt};
+use qs_memory::Scalar;
 use std::alloc::Global;
+
+fn store_plan(
+    alloc: Global,
+    v: u32,
+    free: u32,
+    s: Scalar,
+    a: &CoreExpr,
+    b: &CoreExpr,
+) -> Result<StmtPlan, NoMemory>
+    ensures { IfOk result (λ r. stmt_part r ≡ spec.stmt_code v free (core.store s (core_expr a.now) (core_expr b.now))) }
+{
+    let a = lowered(alloc, v, a)?;
+    let b = lowered(alloc, v, b)?;
+    Ok(StmtPlan::Store(free, s, a, b))
+}
+
+fn copy_plan(
+    alloc: Global,
+    v: u32,
+    free: u32,
+    size: u32,
+    alignment: u32,
+    a: &CoreExpr,
+    b: &CoreExpr,
+) -> Result<StmtPlan, NoMemory>
+    ensures { IfOk result (λ r. stmt_part r
+        ≡ spec.stmt_code v free (core.copy size alignment (core_expr a.now) (core_expr b.now))) }
+{
+    let a = lowered(alloc, v, a)?;
+    let b = lowered(alloc, v, b)?;
+    Ok(StmtPlan::Copy(free, size, alignment, a, b))
+}
+
+fn call_plan(
+    alloc: Global,
+    v: u32,
+    free: u32,
+    x: Option<u32>,
+    f: Callee,
+    es: &[CoreExpr],
+) -> Result<StmtPlan, NoMemory>
+    ensures { IfOk result (λ r. stmt_part r ≡ spec.stmt_code v free (core.call x f (core_exprs es.now))) }
+{
+    let es = all_lowered(alloc, v, es)?;
+    Ok(StmtPlan::Call(free, taken_by(v, x)?, f, es))
+}
 
 #[cycle(stmt_plans)]
 fn stmt_plans(alloc: Global, v: u32, free: u32, ss: &[CoreStmt]) -> Result<Vec<StmtPlan>, NoMemory>
@@ -40,24 +89,13 @@ fn stmt_plan(alloc: Global, v: u32, free: u32, s: &CoreStmt) -> Result<StmtPlan,
             let e = lowered(alloc, v, e)?;
             Ok(StmtPlan::Assign(free, target_of(v, *x)?, e))
         }
-        CoreStmt::Store(s, a, b) => {
-            let a = lowered(alloc, v, a)?;
-            let b = lowered(alloc, v, b)?;
-            Ok(StmtPlan::Store(free, *s, a, b))
-        }
-        CoreStmt::Copy(size, alignment, a, b) => {
-            let a = lowered(alloc, v, a)?;
-            let b = lowered(alloc, v, b)?;
-            Ok(StmtPlan::Copy(free, *size, *alignment, a, b))
-        }
+        CoreStmt::Store(s, a, b) => store_plan(alloc, v, free, *s, a, b),
+        CoreStmt::Copy(size, alignment, a, b) => copy_plan(alloc, v, free, *size, *alignment, a, b),
         CoreStmt::Fill(blank, a) => {
             let a = lowered(alloc, v, a)?;
             Ok(StmtPlan::Fill(free, blank.copy(alloc)?, a))
         }
-        CoreStmt::Call(x, f, es) => {
-            let es = all_lowered(alloc, v, es)?;
-            Ok(StmtPlan::Call(free, taken_by(v, *x)?, *f, es))
-        }
+        CoreStmt::Call(x, f, es) => call_plan(alloc, v, free, *x, *f, es),
         CoreStmt::If(e, a, b) => {
             let e = lowered(alloc, v, e)?;
             let a = stmt_plan(alloc, v, free, a)?;

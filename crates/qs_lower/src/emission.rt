@@ -3,7 +3,7 @@ ghost use Rattle.std.specs.Prelude.{◌≡◌, ◌+◌, [], ◌∷◌, ◌++◌,
 ghost use Rattle.qs_tac.specs.TreeOf.{instruction_tree};
 ghost use Rattle.qs_lower.specs.Exits as exits;
 ghost use Rattle.qs_lower.specs.Expressions as spec;
-ghost use Rattle.qs_lower.specs.Plans.{expr_code, exit_tree, started, Emitted, number_code, element_code, value_test_code};
+ghost use Rattle.qs_lower.specs.Plans.{expr_code, exit_tree, started, Emitted, number_code, of_plain_operation, element_code, value_test_code};
 
 use crate::addresses::{address_at, operand_of};
 use crate::exits::{Exit, emit_branch, emit_known, put};
@@ -63,26 +63,54 @@ pub fn emit_into(code: &mut Vec<Instruction>, e: &ExprPlan, x: u32, t: u32) -> R
             emit_element(code, p, *is_computed, t)?;
             put(code, Instruction::AddressOf(x, address_at(e, t)?))
         }
-        ExprPlan::Unary(op, a) => {
-            emit_operand(code, a, t)?;
-            put(code, Instruction::Unary(*op, x, operand_of(a, t)))
-        }
+        ExprPlan::Unary(op, a) => emit_unary(code, *op, a, x, t),
         ExprPlan::Convert(s, a) => {
             emit_operand(code, a, t)?;
             put(code, Instruction::Convert(*s, x, operand_of(a, t)))
         }
-        ExprPlan::Binary(op, p) => {
-            let next = sum(t, own(&p.left))?;
-            emit_pair(code, p, t)?;
-            put(
-                code,
-                binary_instruction(*op, x, operand_of(&p.left, t), operand_of(&p.right, next)),
-            )
-        }
+        ExprPlan::Binary(op, p) => emit_binary(code, *op, p, x, t),
         ExprPlan::Both(p) => emit_both_number(code, p, x, t),
         ExprPlan::Either(p) => emit_either_number(code, p, x, t),
         ExprPlan::Choice(p) => emit_choice(code, p, x, t),
     }
+}
+
+#[cycle(emission)]
+fn emit_unary(
+    code: &mut Vec<Instruction>,
+    op: UnaryOperation,
+    a: &ExprPlan,
+    x: u32,
+    t: u32,
+) -> Result<(), NoMemory>
+    ensures code { OnOk result (Emitted code.old.items code.new.items
+        ((spec.of_compound op false false (expr_code a.now)).into x t (length code.old.items))) }
+    ensures size { OnOk result (length code.new.items ≡ length code.old.items
+        + (spec.of_compound op false false (expr_code a.now)).size) }
+{
+    emit_operand(code, a, t)?;
+    put(code, Instruction::Unary(op, x, operand_of(a, t)))
+}
+
+#[cycle(emission)]
+fn emit_binary(
+    code: &mut Vec<Instruction>,
+    op: BinaryOperation,
+    p: &PlanPair,
+    x: u32,
+    t: u32,
+) -> Result<(), NoMemory>
+    ensures code { OnOk result (Emitted code.old.items code.new.items
+        ((spec.of_binary_value op (expr_code p.now.left) (expr_code p.now.right)).into x t (length code.old.items))) }
+    ensures size { OnOk result (length code.new.items ≡ length code.old.items
+        + (spec.of_binary_value op (expr_code p.now.left) (expr_code p.now.right)).size) }
+{
+    let next = sum(t, own(&p.left))?;
+    emit_pair(code, p, t)?;
+    put(
+        code,
+        binary_instruction(op, x, operand_of(&p.left, t), operand_of(&p.right, next)),
+    )
 }
 
 /// Emits the value into the temporary t, where the expression isn't an operand as it stands.
@@ -251,6 +279,97 @@ fn emit_value_test(
     emit_branch(code, Condition::NotZero(Operand::Temporary(t)), met, unmet)
 }
 
+#[cycle(emission)]
+fn emit_unary_test(
+    code: &mut Vec<Instruction>,
+    op: UnaryOperation,
+    a: &ExprPlan,
+    met: Exit,
+    unmet: Exit,
+    t: u32,
+) -> Result<(), NoMemory>
+    ensures code { OnOk result (Emitted code.old.items code.new.items
+        ((spec.of_compound op false false (expr_code a.now)).test (exit_tree met) (exit_tree unmet) t (length code.old.items))) }
+    ensures size { OnOk result (length code.new.items ≡ length code.old.items
+        + (spec.of_compound op false false (expr_code a.now)).test_size (exits.is_fall (exit_tree met)) (exits.is_fall (exit_tree unmet))) }
+{
+    match op {
+        UnaryOperation::Not => emit_test(code, a, unmet, met, t),
+        UnaryOperation::Truth => emit_test(code, a, met, unmet, t),
+        UnaryOperation::Plus(_) => emit_unary_value_test(code, op, a, met, unmet, t),
+        UnaryOperation::Minus(_) => emit_unary_value_test(code, op, a, met, unmet, t),
+        UnaryOperation::Complement(_) => emit_unary_value_test(code, op, a, met, unmet, t),
+    }
+}
+
+#[cycle(emission)]
+fn emit_unary_value_test(
+    code: &mut Vec<Instruction>,
+    op: UnaryOperation,
+    a: &ExprPlan,
+    met: Exit,
+    unmet: Exit,
+    t: u32,
+) -> Result<(), NoMemory>
+    ensures code { OnOk result (Emitted code.old.items code.new.items
+        (value_test_code (spec.of_compound op false false (expr_code a.now)) (exit_tree met) (exit_tree unmet) t (length code.old.items))) }
+    ensures size { OnOk result (length code.new.items ≡ length code.old.items
+        + ((spec.of_compound op false false (expr_code a.now)).size + exits.branch_size (exits.is_fall (exit_tree met)) (exits.is_fall (exit_tree unmet)))) }
+{
+    emit_unary(code, op, a, t, t)?;
+    emit_branch(code, Condition::NotZero(Operand::Temporary(t)), met, unmet)
+}
+
+#[cycle(emission)]
+fn emit_binary_value_test(
+    code: &mut Vec<Instruction>,
+    op: BinaryOperation,
+    p: &PlanPair,
+    met: Exit,
+    unmet: Exit,
+    t: u32,
+) -> Result<(), NoMemory>
+    ensures code { OnOk result (Emitted code.old.items code.new.items
+        (value_test_code (spec.of_binary_value op (expr_code p.now.left) (expr_code p.now.right)) (exit_tree met) (exit_tree unmet) t (length code.old.items))) }
+    ensures size { OnOk result (length code.new.items ≡ length code.old.items
+        + ((spec.of_binary_value op (expr_code p.now.left) (expr_code p.now.right)).size + exits.branch_size (exits.is_fall (exit_tree met)) (exits.is_fall (exit_tree unmet)))) }
+{
+    emit_binary(code, op, p, t, t)?;
+    emit_branch(code, Condition::NotZero(Operand::Temporary(t)), met, unmet)
+}
+
+// A comparison is a branch.
+#[cycle(emission)]
+fn emit_binary_test(
+    code: &mut Vec<Instruction>,
+    op: BinaryOperation,
+    p: &PlanPair,
+    met: Exit,
+    unmet: Exit,
+    t: u32,
+) -> Result<(), NoMemory>
+    ensures code { OnOk result (Emitted code.old.items code.new.items
+        ((of_plain_operation op (expr_code p.now.left) (expr_code p.now.right)).test (exit_tree met) (exit_tree unmet) t (length code.old.items))) }
+    ensures size { OnOk result (length code.new.items ≡ length code.old.items
+        + (of_plain_operation op (expr_code p.now.left) (expr_code p.now.right)).test_size (exits.is_fall (exit_tree met)) (exits.is_fall (exit_tree unmet))) }
+{
+    let left = operand_of(&p.left, t);
+    let right = operand_of(&p.right, sum(t, own(&p.left))?);
+    match op {
+        BinaryOperation::Compare(c, s) => {
+            emit_pair(code, p, t)?;
+            emit_branch(code, Condition::Compare(c, s, left, right), met, unmet)
+        }
+        BinaryOperation::ComparePointers(c) => {
+            emit_pair(code, p, t)?;
+            emit_branch(code, Condition::ComparePointers(c, left, right), met, unmet)
+        }
+        BinaryOperation::Arithmetic(_, _) => emit_binary_value_test(code, op, p, met, unmet, t),
+        BinaryOperation::Move(_, _, _) => emit_binary_value_test(code, op, p, met, unmet, t),
+        BinaryOperation::Difference(_) => emit_binary_value_test(code, op, p, met, unmet, t),
+    }
+}
+
 /// Emits the test of the condition; temporaries from t on are free.
 #[cycle(emission)]
 pub fn emit_test(
@@ -267,40 +386,10 @@ pub fn emit_test(
 {
     match e {
         ExprPlan::Simple(o) => emit_known(code, truth_of(*o), *o, met, unmet),
-        ExprPlan::Unary(UnaryOperation::Not, a) => emit_test(code, a, unmet, met, t),
-        ExprPlan::Unary(UnaryOperation::Truth, a) => emit_test(code, a, met, unmet, t),
-        ExprPlan::Binary(BinaryOperation::Compare(op, s), p) => {
-            let next = sum(t, own(&p.left))?;
-            let c = Condition::Compare(*op, *s, operand_of(&p.left, t), operand_of(&p.right, next));
-            emit_pair(code, p, t)?;
-            emit_branch(code, c, met, unmet)
-        }
-        ExprPlan::Binary(BinaryOperation::ComparePointers(op), p) => {
-            let next = sum(t, own(&p.left))?;
-            let c = Condition::ComparePointers(
-                *op,
-                operand_of(&p.left, t),
-                operand_of(&p.right, next),
-            );
-            emit_pair(code, p, t)?;
-            emit_branch(code, c, met, unmet)
-        }
+        ExprPlan::Unary(op, a) => emit_unary_test(code, *op, a, met, unmet, t),
+        ExprPlan::Binary(op, p) => emit_binary_test(code, *op, p, met, unmet, t),
         ExprPlan::Both(p) => emit_both(code, p, met, unmet, t),
         ExprPlan::Either(p) => emit_either(code, p, met, unmet, t),
-        ExprPlan::Unary(UnaryOperation::Plus(_), _) => emit_value_test(code, e, met, unmet, t),
-        ExprPlan::Unary(UnaryOperation::Minus(_), _) => emit_value_test(code, e, met, unmet, t),
-        ExprPlan::Unary(UnaryOperation::Complement(_), _) => emit_value_test(
-            code, e, met, unmet, t,
-        ),
-        ExprPlan::Binary(BinaryOperation::Arithmetic(_, _), _) => emit_value_test(
-            code, e, met, unmet, t,
-        ),
-        ExprPlan::Binary(BinaryOperation::Move(_, _, _), _) => emit_value_test(
-            code, e, met, unmet, t,
-        ),
-        ExprPlan::Binary(BinaryOperation::Difference(_), _) => emit_value_test(
-            code, e, met, unmet, t,
-        ),
         ExprPlan::Load(_, _) => emit_value_test(code, e, met, unmet, t),
         ExprPlan::Offset(_, _, _) => emit_value_test(code, e, met, unmet, t),
         ExprPlan::IndexOffset(_, _) => emit_value_test(code, e, met, unmet, t),

@@ -1,5 +1,6 @@
 // Planning the code of expressions: each form of core becomes what the definition of its code says.
 ghost use Rattle.std.specs.Prelude.{◌≡◌, IfOk, Some, None};
+ghost use Rattle.qs_core.specs.Trees as core;
 ghost use Rattle.qs_core.specs.TreeOf.{core_expr};
 ghost use Rattle.qs_lower.specs.Operands as operands;
 ghost use Rattle.qs_lower.specs.Expressions as spec;
@@ -12,7 +13,7 @@ use crate::operands::{
 use crate::plans::{ExprPlan, PlanChoice, PlanPair};
 use crate::values::{gives_integer, gives_truth, is_idle};
 use qs_base::NoMemory;
-use qs_core::CoreExpr;
+use qs_core::{CoreExpr, Operands};
 use qs_memory::{BinaryOperation, Direction, Scalar, Signedness, UnaryOperation};
 use qs_tac::Operand;
 use std::alloc::Global;
@@ -291,6 +292,7 @@ fn of_conditional(
 
 /// The plan of an expression in a function with so many variables, which are the first temporaries; the
 /// function's temporaries follow. Like the expression it is as high as the source's.
+#[cycle(lowered)]
 pub fn lowered(alloc: Global, v: u32, e: &CoreExpr) -> Result<ExprPlan, NoMemory>
     ensures { IfOk result (λ r. expr_code r ≡ spec.lowered v (core_expr e.now)) }
 {
@@ -312,25 +314,13 @@ pub fn lowered(alloc: Global, v: u32, e: &CoreExpr) -> Result<ExprPlan, NoMemory
             let first = lowered(alloc, v, a)?;
             of_unary(alloc, *op, gives_integer(a), gives_truth(a), first)
         }
-        CoreExpr::Binary(op, p) => {
-            let a = lowered(alloc, v, &p.left)?;
-            let b = lowered(alloc, v, &p.right)?;
-            of_binary(alloc, *op, a, b)
-        }
+        CoreExpr::Binary(op, p) => lowered_binary(alloc, v, *op, p),
         CoreExpr::Convert(s, a) => {
             let first = lowered(alloc, v, a)?;
             of_conversion(alloc, *s, is_idle(*s, a), first)
         }
-        CoreExpr::And(p) => {
-            let a = lowered(alloc, v, &p.left)?;
-            let b = lowered(alloc, v, &p.right)?;
-            of_and(alloc, a.known(), gives_truth(&p.right), a, b)
-        }
-        CoreExpr::Or(p) => {
-            let a = lowered(alloc, v, &p.left)?;
-            let b = lowered(alloc, v, &p.right)?;
-            of_or(alloc, a.known(), gives_truth(&p.right), a, b)
-        }
+        CoreExpr::And(p) => lowered_and(alloc, v, p),
+        CoreExpr::Or(p) => lowered_or(alloc, v, p),
         CoreExpr::Conditional(c, a, b) => {
             let c = lowered(alloc, v, c)?;
             let a = lowered(alloc, v, a)?;
@@ -338,4 +328,39 @@ pub fn lowered(alloc: Global, v: u32, e: &CoreExpr) -> Result<ExprPlan, NoMemory
             of_conditional(alloc, c.known(), c, a, b)
         }
     }
+}
+
+#[cycle(lowered)]
+fn lowered_binary(
+    alloc: Global,
+    v: u32,
+    op: BinaryOperation,
+    p: &Operands,
+) -> Result<ExprPlan, NoMemory>
+    ensures { IfOk result (λ r. expr_code r
+        ≡ spec.lowered v (core.binary op (core_expr p.now.left) (core_expr p.now.right))) }
+{
+    let a = lowered(alloc, v, &p.left)?;
+    let b = lowered(alloc, v, &p.right)?;
+    of_binary(alloc, op, a, b)
+}
+
+#[cycle(lowered)]
+fn lowered_and(alloc: Global, v: u32, p: &Operands) -> Result<ExprPlan, NoMemory>
+    ensures { IfOk result (λ r. expr_code r
+        ≡ spec.lowered v (core.logical_and (core_expr p.now.left) (core_expr p.now.right))) }
+{
+    let a = lowered(alloc, v, &p.left)?;
+    let b = lowered(alloc, v, &p.right)?;
+    of_and(alloc, a.known(), gives_truth(&p.right), a, b)
+}
+
+#[cycle(lowered)]
+fn lowered_or(alloc: Global, v: u32, p: &Operands) -> Result<ExprPlan, NoMemory>
+    ensures { IfOk result (λ r. expr_code r
+        ≡ spec.lowered v (core.logical_or (core_expr p.now.left) (core_expr p.now.right))) }
+{
+    let a = lowered(alloc, v, &p.left)?;
+    let b = lowered(alloc, v, &p.right)?;
+    of_or(alloc, a.known(), gives_truth(&p.right), a, b)
 }

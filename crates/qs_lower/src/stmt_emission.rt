@@ -1,5 +1,5 @@
 // The code of statements.
-ghost use Rattle.std.specs.Prelude.{◌≡◌, ◌+◌, ◌++◌, OnOk, length, map};
+ghost use Rattle.std.specs.Prelude.{◌≡◌, ◌+◌, ◌++◌, None, OnOk, length, map};
 ghost use Rattle.qs_memory.specs.BlankOf.{blank_tree};
 ghost use Rattle.qs_lower.specs.Expressions as spec;
 ghost use Rattle.qs_lower.specs.Plans.{expr_code, exit_tree, Emitted};
@@ -171,15 +171,7 @@ pub fn emit_stmt(
             emit_before(alloc, code, all, last, x)?;
             emit_stmt(alloc, code, last, x)
         }
-        StmtPlan::Redirected(a, w) => emit_stmt(
-            alloc,
-            code,
-            a,
-            Exits {
-                next: x.to(*w),
-                ..x
-            },
-        ),
+        StmtPlan::Redirected(a, w) => emit_stmt(alloc, code, a, x.redirected(*w)),
         StmtPlan::Branch(p) => emit_branch(alloc, code, p, x),
         StmtPlan::Loop(p) => emit_loop(alloc, code, p, x),
         StmtPlan::TestedLoop(p) => emit_tested(alloc, code, p, x),
@@ -230,33 +222,47 @@ fn emit_branch(
     ensures size { OnOk result (length code.new.items ≡ length code.old.items
         + (branch_part p.now).part.size (statements.falls_of (exits_tree x))) }
 {
-    let at = place(code)?;
     match p.met.way() {
         Some(v) => match p.unmet.way() {
             Some(w) => emit_test(code, &p.test, x.to(v), x.to(w), p.free),
             None => {
-                let second = sum(at, test_size(&p.test, false, true)?)?;
+                let second = sum(place(code)?, test_size(&p.test, false, true)?)?;
                 let unmet = Exit::Falls(entry(&p.unmet, second)?);
                 emit_test(code, &p.test, x.to(v).settled(), unmet, p.free)?;
                 emit_stmt(alloc, code, &p.unmet, x)
             }
         },
+        None => emit_met(alloc, code, p, x),
+    }
+}
+
+// A branch of which the first side does something.
+#[cycle(stmt_emission)]
+fn emit_met(
+    alloc: Global,
+    code: &mut Vec<Instruction>,
+    p: &BranchPlan,
+    x: Exits,
+) -> Result<(), NoMemory>
+    requires { (stmt_part p.now.met).way ≡ None }
+    ensures code { OnOk result (Emitted code.old.items code.new.items
+        ((branch_part p.now).part.code (exits_tree x) (length code.old.items))) }
+    ensures size { OnOk result (length code.new.items ≡ length code.old.items
+        + (branch_part p.now).part.size (statements.falls_of (exits_tree x))) }
+{
+    let first = sum(place(code)?, test_size(&p.test, true, false)?)?;
+    let met = Exit::Falls(entry(&p.met, first)?);
+    match p.unmet.way() {
+        Some(w) => {
+            emit_test(code, &p.test, met, x.to(w).settled(), p.free)?;
+            emit_stmt(alloc, code, &p.met, x)
+        }
         None => {
-            let first = sum(at, test_size(&p.test, true, false)?)?;
-            let met = Exit::Falls(entry(&p.met, first)?);
-            match p.unmet.way() {
-                Some(w) => {
-                    emit_test(code, &p.test, met, x.to(w).settled(), p.free)?;
-                    emit_stmt(alloc, code, &p.met, x)
-                }
-                None => {
-                    let second = sum(first, stmt_size(&p.met, none_falls())?)?;
-                    let unmet = Exit::Goes(entry(&p.unmet, second)?);
-                    emit_test(code, &p.test, met, unmet, p.free)?;
-                    emit_stmt(alloc, code, &p.met, x.elsewhere())?;
-                    emit_stmt(alloc, code, &p.unmet, x)
-                }
-            }
+            let second = sum(first, stmt_size(&p.met, none_falls())?)?;
+            let unmet = Exit::Goes(entry(&p.unmet, second)?);
+            emit_test(code, &p.test, met, unmet, p.free)?;
+            emit_stmt(alloc, code, &p.met, x.elsewhere())?;
+            emit_stmt(alloc, code, &p.unmet, x)
         }
     }
 }

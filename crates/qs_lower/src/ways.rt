@@ -98,6 +98,16 @@ impl Exits {
         }
     }
 
+    /// Those of a part behind which only this way goes on.
+    pub fn redirected(self, w: Way) -> Exits
+        ensures { exits_tree result ≡ statements.redirected_exits (way_tree w) (exits_tree self) }
+    {
+        Exits {
+            next: self.to(w),
+            ..self
+        }
+    }
+
     /// Those of a part that doesn't stand at the end of the code.
     pub fn elsewhere(self) -> Exits
         ensures { exits_tree result ≡ statements.elsewhere (exits_tree self) }

@@ -13,7 +13,8 @@ use Rattle.qs_machine.specs.Arguments.{AreArguments}
 use Rattle.qs_machine.specs.Arguments as arguments
 use Rattle.qs_machine.specs.Run.{Outcome, Exited, Trapped, Going, machine, start, output_so_far}
 use Rattle.qs_machine.proofs.Reaches.{IsOnTheWay, going, done, Reaches}
-use Rattle.qs_compile.specs.Agree.{Agree, AgreesFrom, Begins, HasEndedWith}
+use Rattle.qs_emit.specs.Agree.{Agree, Begins, HasEndedWith}
+use Rattle.qs_compile.specs.Agree.{AgreesFrom}
 use Rattle.qs_compile.specs.FirstCode.{addi, program_code, words_of}
 use Rattle.qs_compile.specs.FirstForm.{Program, put_all, runs_of, status_of}
 use Rattle.qs_compile.specs.Built.{LowersStackFirst, main_bound, main_record}

@@ -1,5 +1,5 @@
 -- Examples that are computed from the definitions.
-use Rattle.std.specs.Prelude.{◌≡◌, ℕ, List, [], ◌∷◌, Option, Some, None, codes, refl}
+use Rattle.std.specs.Prelude.{◌≡◌, ℕ, [], ◌∷◌, Option, Some, None, codes, refl}
 use Rattle.qs_events.specs.Events.{Calls, Returns, Puts}
 use Rattle.qs_events.specs.BoundedRun.{Ended, Short}
 use Rattle.qs_events.specs.Runs.{Left, emit, ended, short}

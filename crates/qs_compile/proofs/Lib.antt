@@ -7,3 +7,4 @@ pub mod Texts
 pub mod WellFormed
 pub mod Words
 mod Examples
+pub mod Through

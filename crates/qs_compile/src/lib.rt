@@ -4,8 +4,10 @@
 mod building;
 mod first_code;
 mod form;
+mod laws;
 mod recognise;
 
 pub use building::compile;
 pub use form::{FirstForm, MOST_OUTPUTS};
+pub use laws::agreement_goes_through;
 pub use recognise::first_form;

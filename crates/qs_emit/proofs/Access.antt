@@ -5,7 +5,8 @@ use Rattle.qs_memory.specs.Memory.{Memory, block_at}
 use Rattle.qs_memory.specs.Soundness.{IsLive}
 use Rattle.qs_emit.specs.Machine.{Watched, base, each}
 use Rattle.qs_emit.specs.Lies.{StandsFor, IsInReach}
-use Rattle.qs_emit.specs.Relation.{Setup, Ground, HasBlocks}
+use Rattle.qs_emit.specs.Surroundings.{Ground, HasBlocks}
+use Rattle.qs_emit.specs.Relation.{Setup, around}
 use Rattle.qs_emit.proofs.Injection.{HaveWords}
 use Rattle.qs_emit.proofs.Steps.{MayRead, MayWrite}
 
@@ -13,7 +14,7 @@ pub each_is : (is_such : ℕ → Bool) (from width : ℕ) → ((at : ℕ) → fr
 each_is is_such from zero h = refl
 each_is is_such from (suc width) h = rw (h from (omega arith) (omega arith)) (each_is is_such (from + 1) width (λ at l u. h at (omega (arith, l)) (omega (arith, u))))
 
-module _ (s : Setup) (g : Ground) (sp : ℕ) (blocks : HasBlocks s g sp) (above : base s.room ≤ sp) where
+module _ (s : Setup) (g : Ground) (sp : ℕ) (blocks : HasBlocks (around s) g sp) (above : base s.room ≤ sp) where
   -- no live block lies at 0, and each ends in the lower half of all addresses
   pub record LiesLow (block : ℕ) : Type 0 where
     pub positive : 0 < g.address_of block

@@ -29,7 +29,8 @@ use Rattle.qs_select.specs.Pieces.{lui, addi, add, is_small, is_near, low_part, 
 use Rattle.qs_select.specs.Operands.{Context, local_offset, operand_code, operand_register, Anchor, constant_count, is_constant, index_displacement, behind_frame, at_address, behind_pointer, based, add_elements, add_index, anchor_of, address_into, is_block, has_constant_index, is_word_address, displacement}
 use Rattle.qs_emit.specs.Machine.{Watched}
 use Rattle.qs_emit.specs.Lies.{Points, StandsForPointer, StandsFor, SameOwn}
-use Rattle.qs_emit.specs.Relation.{Setup, context, function_at, IsAmong, Lay, ground}
+use Rattle.qs_emit.specs.Surroundings.{Lay, ground}
+use Rattle.qs_emit.specs.Relation.{Setup, context, function_at, IsAmong}
 use Rattle.qs_emit.proofs.Steps.{Does, Gets, IsFree, does_then, does_is, does_none, op_does, op_imm_does, lui_does, same_on, gets_on}
 use Rattle.qs_emit.proofs.Slots.{parts_sum, parts_behind, reads_free, gets_is, does_get, high_does}
 use Rattle.qs_emit.proofs.Kept.{saved_none}

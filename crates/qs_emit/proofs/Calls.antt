@@ -27,7 +27,8 @@ use Rattle.qs_select.specs.Emission as emission
 use Rattle.qs_select.specs.Emission.{first_label, take_result}
 use Rattle.qs_emit.specs.Machine.{Watched, base, instruction_at}
 use Rattle.qs_emit.specs.Lies.{AreBytes, StandsFor, SameOwn}
-use Rattle.qs_emit.specs.Relation.{Setup, context, cost, entry, place, function_at, HasPlace, IsWaiting, HasStack, HasBlocks, Lay, ground, IsRelated, StandsAt}
+use Rattle.qs_emit.specs.Surroundings.{HasBlocks, Lay, ground}
+use Rattle.qs_emit.specs.Relation.{Setup, context, cost, entry, place, function_at, HasPlace, IsWaiting, HasStack, IsRelated, StandsAt, around}
 use Rattle.qs_emit.proofs.Injection.{value_here, value_there}
 use Rattle.qs_emit.proofs.Steps.{Takes, takes_on, takes_less, HasAt, straight, IsSteady, steady_on, Does, does_is, does_then, does_none, op_imm_does, stepped, takes_step, stirred_bytes, same_stirred}
 use Rattle.qs_emit.proofs.Kept.{related_own, related_to, related_fewer}
@@ -108,7 +109,7 @@ module _ (s : Setup) (a : Activation File) (w : World) (stack : List (Waiting Fi
           entered = record {
             known = known;
             pc = refl;
-            blocks = subst (λ (q : ℕ). HasBlocks s (ground w.memory l m2.now.memory) q) (sym x2) r.blocks;
+            blocks = subst (λ (q : ℕ). HasBlocks (around s) (ground w.memory l m2.now.memory) q) (sym x2) r.blocks;
             above = subst (λ (q : ℕ). HasStack s (ground w.memory l m2.now.memory) (waiting ∷ stack) m2.now.registers q (m2.now.registers 1)) (sym x2)
                 (subst (λ (q : ℕ). HasStack s (ground w.memory l m2.now.memory) (waiting ∷ stack) m2.now.registers sp q) (sym ra) (wait, r.above));
             count = count;

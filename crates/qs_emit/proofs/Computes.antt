@@ -36,7 +36,8 @@ use Rattle.qs_select.specs.Operands.{Context, operand_code, operand_register}
 use Rattle.qs_select.specs.Operations.{constant_of, negated, with_constant, or_code, kind_of, both, on_both, arithmetic, less_than, less_than_constant, less, turned, apart, compare, unary_instruction}
 use Rattle.qs_emit.specs.Machine.{Watched}
 use Rattle.qs_emit.specs.Lies.{StandsFor, SameOwn}
-use Rattle.qs_emit.specs.Relation.{Setup, context, function_at, Lay}
+use Rattle.qs_emit.specs.Surroundings.{Lay}
+use Rattle.qs_emit.specs.Relation.{Setup, context, function_at}
 use Rattle.qs_emit.proofs.Steps.{Does, Gets, IsFree, does_then, does_is, op_does, op_imm_does, shift_does, same_on}
 use Rattle.qs_emit.proofs.Slots.{reads_free, constant_does, gets_is, does_get}
 use Rattle.qs_emit.proofs.Kept.{SameSaved, saved_on}

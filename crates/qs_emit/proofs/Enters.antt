@@ -24,7 +24,8 @@ use Rattle.qs_select.specs.Operands.{Context}
 use Rattle.qs_select.specs.Emission.{enter, save, take_parameters}
 use Rattle.qs_emit.specs.Machine.{Watched, base, instruction_at}
 use Rattle.qs_emit.specs.Lies.{AreBytes, number_at, StandsFor, IsInReach, IsOwn, SameOwn}
-use Rattle.qs_emit.specs.Relation.{Setup, context, cost, entry, place, function_at, caller_registers, HasStack, HasBlocks, root_block, Lay, ground, IsRelated, StandsAt}
+use Rattle.qs_emit.specs.Surroundings.{HasBlocks, Lay, ground}
+use Rattle.qs_emit.specs.Relation.{Setup, context, cost, entry, place, function_at, caller_registers, HasStack, root_block, IsRelated, StandsAt, around}
 use Rattle.qs_emit.proofs.Injection.{value_kept, stored_other}
 use Rattle.qs_emit.proofs.Bytes.{number_same, number_stored}
 use Rattle.qs_emit.proofs.Steps.{Takes, takes_on, takes_less, HasAt, has_front, has_back, Fits, IsSteady, Does, does_is, does_then, store_does, data_below}
@@ -110,7 +111,7 @@ module _ (s : Setup) (f : ℕ) (m m1 : Watched) (low : ℕ) (len : ℕ) (k : Sta
           ∙ k.own at (held at o) (held_low at o)
 
 -- bytes of blocks are outside a new frame
-block_outer : (s : Setup) (m : Memory) (l : Lay) (flat : ℕ → ℕ) (sp b o : ℕ) → HasBlocks s (ground m l flat) sp → IsLive m b → o < (block_at m b).size → IsOuter s sp (l.address_of b + o)
+block_outer : (s : Setup) (m : Memory) (l : Lay) (flat : ℕ → ℕ) (sp b o : ℕ) → HasBlocks (around s) (ground m l flat) sp → IsLive m b → o < (block_at m b).size → IsOuter s sp (l.address_of b + o)
 block_outer s m l flat sp b o k live lt = by (k.in_reach b live)
   where
     by : IsInReach s.image s.room sp (block_at m b) (l.address_of b) → IsOuter s sp (l.address_of b + o)
@@ -121,7 +122,7 @@ block_outer s m l flat sp b o k live lt = by (k.in_reach b live)
 pub record IsEntered (s : Setup) (f : ℕ) (vs : List Value) (w : World) (stack : List (Waiting File)) (l : Lay) (m : Watched) : Type 0 where
   pub known : f < length s.unit.functions
   pub pc : m.now.pc ≡ entry s f
-  pub blocks : HasBlocks s (ground w.memory l m.now.memory) (m.now.registers 2)
+  pub blocks : HasBlocks (around s) (ground w.memory l m.now.memory) (m.now.registers 2)
   pub above : HasStack s (ground w.memory l m.now.memory) stack m.now.registers (m.now.registers 2) (m.now.registers 1)
   pub count : length vs ≡ length (function_at s.unit f).parameters
   pub arguments : (i : ℕ) (v : Value) → slice_get vs i ≡ Some v → StandsFor w.memory l.address_of v (m.now.registers (10 + i))

@@ -24,7 +24,8 @@ use Rattle.qs_select.specs.Pieces.{load_kind, store_kind}
 use Rattle.qs_select.specs.Operands.{Context, operand_code, operand_register, result_register, result_code, anchor_of}
 use Rattle.qs_emit.specs.Machine.{Watched}
 use Rattle.qs_emit.specs.Lies.{number_at, AreBytes, Points, StandsForPointer, HoldAll, IsOwn, SameOwn}
-use Rattle.qs_emit.specs.Relation.{Setup, context, function_at, HasPlace, Lay, ground}
+use Rattle.qs_emit.specs.Surroundings.{Lay, ground}
+use Rattle.qs_emit.specs.Relation.{Setup, context, function_at, HasPlace}
 use Rattle.qs_emit.proofs.Bytes.{number_small}
 use Rattle.qs_emit.proofs.Injection.{load_held, store_holds, stored_other}
 use Rattle.qs_emit.proofs.Steps.{Does, does_with, does_then, does_is, load_does, store_does}

@@ -14,8 +14,9 @@ use Rattle.qs_tac.specs.Values.{Activation}
 use Rattle.qs_tac.specs.Steps.{Waiting}
 use Rattle.qs_emit.specs.Machine.{Watched, base, instruction_at}
 use Rattle.qs_emit.specs.Lies.{AreBytes}
-use Rattle.qs_emit.specs.Relation.{Setup, cost, place, Lay, IsRelated, StandsAt}
-use Rattle.qs_emit.specs.Emitted.{HasSeen, ComesTo, Follows}
+use Rattle.qs_emit.specs.Surroundings.{Lay}
+use Rattle.qs_emit.specs.Relation.{Setup, cost, place, IsRelated, StandsAt, around}
+use Rattle.qs_emit.specs.Entries.{x2_behind, HasSeen, ComesTo, Follows}
 use Rattle.qs_emit.proofs.Steps.{Takes as IsTaken, takes_less, HasAt, Does, IsSteady}
 use Rattle.qs_emit.proofs.Kept.{related_to}
 use Rattle.qs_emit.proofs.Operands.{IsAmid}
@@ -70,6 +71,14 @@ low_moved costs (Some (Takes byte)) t sp later_sp low later_low m h = let x = m.
 low_moved costs (Some TakesEnd) t sp later_sp low later_low m h = let x = m.0 in let y = m.1 in omega (arith, x, y, h)
 low_moved costs (Some (Puts byte)) t sp later_sp low later_low m h = let x = m.0 in let y = m.1 in omega (arith, x, y, h)
 
+x2_moved : (costs : ℕ → ℕ) (e : Option Event) (t : List Event) (sp later_sp low later_low : ℕ) → Moved costs e sp later_sp low later_low → x2_behind costs t later_sp ≡ x2_behind costs (trace_of e ++ t) sp
+x2_moved costs None t sp later_sp low later_low m = ap (x2_behind costs t) m.0
+x2_moved costs (Some (Calls f)) t sp later_sp low later_low m = let x = m.0 in let e : later_sp ≡ sp - costs f = omega (arith, x) in ap (x2_behind costs t) e
+x2_moved costs (Some (Returns f)) t sp later_sp low later_low m = ap (x2_behind costs t) m.0
+x2_moved costs (Some (Takes byte)) t sp later_sp low later_low m = ap (x2_behind costs t) m.0
+x2_moved costs (Some TakesEnd) t sp later_sp low later_low m = ap (x2_behind costs t) m.0
+x2_moved costs (Some (Puts byte)) t sp later_sp low later_low m = ap (x2_behind costs t) m.0
+
 -- room for an event and what follows is room for the event, and then for what follows
 room_later : (r : ℕ) (costs : ℕ → ℕ) (e : Option Event) (t : List Event) (sp later_sp low later_low : ℕ) → r + weight costs (trace_of e ++ t) ≤ sp → Moved costs e sp later_sp low later_low → r + weight costs t ≤ later_sp
 room_later r costs None t sp later_sp low later_low h m = let x = m.0 in omega (arith, x, h)
@@ -80,13 +89,14 @@ room_later r costs (Some TakesEnd) t sp later_sp low later_low h m = let x = m.0
 room_later r costs (Some (Puts byte)) t sp later_sp low later_low h m = let x = m.0 in omega (arith, x, h)
 
 module _ (s : Setup) where
-  seen_later : (m m1 to : Watched) (e : Option Event) (t : List Event) → Reaches s m e m1 → m.low ≤ m.now.registers 2 → HasSeen s m1 to t → HasSeen s m to (trace_of e ++ t)
+  seen_later : (m m1 to : Watched) (e : Option Event) (t : List Event) → Reaches s m e m1 → m.low ≤ m.now.registers 2 → HasSeen (around s) m1 to t → HasSeen (around s) m to (trace_of e ++ t)
   seen_later m m1 to e t r least seen = record {
     output = seen.output ∙ ap (λ (x : List ℕ). x ++ output_of t) r.output ∙ append_assoc m.now.output (output_of (trace_of e)) (output_of t) ∙ ap (λ (x : List ℕ). m.now.output ++ x) (sym (output_emitted e t));
+    x2 = seen.x2 ∙ x2_moved (cost s) e t (m.now.registers 2) (m1.now.registers 2) m.low m1.low r.moved;
     low = seen.low ∙ low_moved (cost s) e t (m.now.registers 2) (m1.now.registers 2) m.low m1.low r.moved least;
   }
 
-  comes_later : (n : ℕ) (m m1 : Watched) (e : Option Event) (t : List Event) (end : Ending (Left Value Memory)) → Reaches s m e m1 → m.low ≤ m.now.registers 2 → ComesTo s n m1 t end → ComesTo s (suc n) m (trace_of e ++ t) end
+  comes_later : (n : ℕ) (m m1 : Watched) (e : Option Event) (t : List Event) (end : Ending (Left Value Memory)) → Reaches s m e m1 → m.low ≤ m.now.registers 2 → ComesTo (around s) n m1 t end → ComesTo (around s) (suc n) m (trace_of e ++ t) end
   comes_later n m m1 e t is_short r least c =
       let x = r.takes.by c.steps in
       let more = x.1.0 in
@@ -118,26 +128,26 @@ module _ (s : Setup) where
       }
 
   -- a step behind which the machine follows
-  pub follows_later : (n : ℕ) (m m1 : Watched) (e : Option Event) (run : RootRun) → m.low ≤ m.now.registers 2 → Reaches s m e m1 → Follows s n m1 run → Follows s (suc n) m (emitted e run)
+  pub follows_later : (n : ℕ) (m m1 : Watched) (e : Option Event) (run : RootRun) → m.low ≤ m.now.registers 2 → Reaches s m e m1 → Follows (around s) n m1 run → Follows (around s) (suc n) m (emitted e run)
   follows_later n m m1 e run least r f room =
       let t = events_of run in
       let room_all : base s.room + weight (cost s) (trace_of e ++ t) ≤ m.now.registers 2 = subst (λ (x : List Event). base s.room + weight (cost s) x ≤ m.now.registers 2) (events_emitted e run) room in
       let c = comes_later n m m1 e t (ending_of run) r least (f (room_later (base s.room) (cost s) e t (m.now.registers 2) (m1.now.registers 2) m.low m1.low room_all r.moved)) in
-      subst (λ (x : List Event). ComesTo s (suc n) m x (ending_of (emitted e run))) (sym (events_emitted e run)) (subst (λ (x : Ending (Left Value Memory)). ComesTo s (suc n) m (trace_of e ++ t) x) (sym (ending_emitted e run)) c)
+      subst (λ (x : List Event). ComesTo (around s) (suc n) m x (ending_of (emitted e run))) (sym (events_emitted e run)) (subst (λ (x : Ending (Left Value Memory)). ComesTo (around s) (suc n) m (trace_of e ++ t) x) (sym (ending_emitted e run)) c)
 
   -- what is undefined is free
-  pub follows_undefined : (n : ℕ) (m : Watched) → Follows s n m undefined
+  pub follows_undefined : (n : ℕ) (m : Watched) → Follows (around s) n m undefined
   follows_undefined n m room = record { steps = 0; to = m; comes = refl; output = sym (append-nil m.now.output) }
 
   -- also behind the call of a function, and behind its return
-  pub undefined_behind : (n : ℕ) (m : Watched) (e : Event) → output_of (e ∷ []) ≡ [] → Follows s n m (emit e undefined)
+  pub undefined_behind : (n : ℕ) (m : Watched) (e : Event) → output_of (e ∷ []) ≡ [] → Follows (around s) n m (emit e undefined)
   undefined_behind n m e none room = record { steps = 0; to = m; comes = refl; output = sym (append-nil m.now.output) ∙ ap (λ (x : List ℕ). m.now.output ++ x) (sym none) }
 
-  pub follows_short : (m : Watched) → m.low ≤ m.now.registers 2 → Follows s 0 m short
-  follows_short m least room = record { steps = 0; to = m; enough = omega arith; comes = refl; seen = record { output = sym (append-nil m.now.output); low = omega (arith, least) } }
+  pub follows_short : (m : Watched) → m.low ≤ m.now.registers 2 → Follows (around s) 0 m short
+  follows_short m least room = record { steps = 0; to = m; enough = omega arith; comes = refl; seen = record { output = sym (append-nil m.now.output); x2 = refl; low = omega (arith, least) } }
 
   -- a value that a step takes
-  pub follows_given : {A : Type 0} → (n : ℕ) (m : Watched) (o : Option A) (next : A → RootRun) → ((v : A) → o ≡ Some v → Follows s n m (next v)) → Follows s n m (given o next)
+  pub follows_given : {A : Type 0} → (n : ℕ) (m : Watched) (o : Option A) (next : A → RootRun) → ((v : A) → o ≡ Some v → Follows (around s) n m (next v)) → Follows (around s) n m (given o next)
   follows_given {A} n m None next h = follows_undefined n m
   follows_given {A} n m (Some v) next h = h v refl
 

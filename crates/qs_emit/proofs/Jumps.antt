@@ -38,7 +38,8 @@ use Rattle.qs_select.specs.Operations.{both}
 use Rattle.qs_select.specs.Emission.{first_label, compare_branch, branch_items}
 use Rattle.qs_emit.specs.Machine.{Watched, instruction_at}
 use Rattle.qs_emit.specs.Lies.{StandsFor, SameOwn}
-use Rattle.qs_emit.specs.Relation.{Setup, context, function_at, place, Lay, ground, StandsAt, IsRelated}
+use Rattle.qs_emit.specs.Surroundings.{Lay, ground}
+use Rattle.qs_emit.specs.Relation.{Setup, context, function_at, place, StandsAt, IsRelated}
 use Rattle.qs_emit.proofs.Steps.{Takes, takes_on, takes_less, takes_none, HasAt, Straight, straight, Does, does_is, IsSteady, steady_on}
 use Rattle.qs_emit.proofs.Kept.{related_own, related_to}
 use Rattle.qs_emit.proofs.Values.{truth_word, pointers_compared}

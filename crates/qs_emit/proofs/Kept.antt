@@ -23,7 +23,8 @@ use Rattle.qs_select.specs.Operands.{Context, frame_of, slot_offset}
 use Rattle.qs_emit.specs.Machine.{Room}
 use Rattle.qs_emit.specs.Lies.{number_at, StandsFor, Owner, cell_of, Lies, IsInReach, IsOwn, SameOwn}
 use Rattle.qs_emit.specs.Lies.{frame as of_frame}
-use Rattle.qs_emit.specs.Relation.{Setup, context, cost, Ground, word_in, IsAmong, HasPlace, IsHeld, saved_in, caller_registers, private_end, HasFrame, HasStack, HasBlocks, Lay, ground, IsRelated}
+use Rattle.qs_emit.specs.Surroundings.{Ground, HasBlocks, Lay, ground}
+use Rattle.qs_emit.specs.Relation.{Setup, context, cost, word_in, IsAmong, HasPlace, IsHeld, saved_in, caller_registers, private_end, HasFrame, HasStack, IsRelated, around}
 use Rattle.qs_emit.proofs.Injection.{Later, value_kept, value_here, value_there, stored_other}
 use Rattle.qs_emit.proofs.Bytes.{number_same, number_stored, number_beside}
 
@@ -177,7 +178,7 @@ module _ (s : Setup) where
   -- ---- blocks
 
   -- the bytes of live blocks are the code's own
-  pub cell_own : (g : Ground) (sp block offset : ℕ) → HasBlocks s g sp → IsLive g.memory block → offset < (block_at g.memory block).size → IsOwn s.room sp (g.address_of block + offset)
+  pub cell_own : (g : Ground) (sp block offset : ℕ) → HasBlocks (around s) g sp → IsLive g.memory block → offset < (block_at g.memory block).size → IsOwn s.room sp (g.address_of block + offset)
   cell_own g sp block offset k live lt = by (k.in_reach block live)
     where
       by : IsInReach s.image s.room sp (block_at g.memory block) (g.address_of block) → IsOwn s.room sp (g.address_of block + offset)
@@ -194,7 +195,7 @@ module _ (s : Setup) where
     aligned = h.aligned;
   }
 
-  pub blocks_same : (m : Memory) (l : Lay) (sp : ℕ) (flat later : ℕ → ℕ) → SameCells m l.address_of flat later → HasBlocks s (ground m l flat) sp → HasBlocks s (ground m l later) sp
+  pub blocks_same : (m : Memory) (l : Lay) (sp : ℕ) (flat later : ℕ → ℕ) → SameCells m l.address_of flat later → HasBlocks (around s) (ground m l flat) sp → HasBlocks (around s) (ground m l later) sp
   blocks_same m l sp flat later same h = record { lies = lies_same m l flat later same h.lies; in_reach = h.in_reach; old = h.old; made = h.made }
 
   -- ---- the relation

@@ -254,9 +254,10 @@ module _ (s : Setup) where
       subst (λ (p : Place). HasPlace (context s f) p) (sym (own_place f lt t)) (omega (arith, h, count))
 
   -- an instruction is at least one of the machine's
-  pub some_code : (f : ℕ) (code : List Instr) (i : InstructionTree) → instruction_items (context s f) (labels_of s.unit f) i ≡ plain code → 1 ≤ length code
-  some_code f code i e =
-      let k = (words_are_kept (context s f) (labels_of s.unit f)).some i in
+  pub some_code : (f : ℕ) → f < length s.unit.functions → (code : List Instr) (i : InstructionTree) → instruction_items (context s f) (labels_of s.unit f) i ≡ plain code → 1 ≤ length code
+  some_code f lt code i e =
+      let accepted = s.emittable.places f (function_at s.unit f) (function_there f lt) in
+      let k = (words_are_kept (context s f) (labels_of s.unit f) accepted).some i in
       let l : length (plain code) ≡ length code = length-map code Plain in
       let m : length (instruction_items (context s f) (labels_of s.unit f) i) ≡ length (plain code) = ap length e in
       omega (arith, k, l, m)

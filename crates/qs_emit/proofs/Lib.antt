@@ -30,3 +30,14 @@ pub mod Sim
 pub mod Top
 pub mod Sample
 pub mod Started
+pub mod Agreement
+pub mod Costs
+pub mod DataBytes
+pub mod SetUp
+pub mod Roots
+pub mod Beginning
+pub mod Whole
+pub mod CodeWords
+pub mod RuleExamples
+pub mod SampleEntry
+pub mod Owners

@@ -16,7 +16,8 @@ use Rattle.qs_select.specs.Operands.{Context, frame_of, local_offset}
 use Rattle.qs_emit.specs.Machine.{Room, base}
 use Rattle.qs_emit.specs.Lies.{Owner, cell_of, Holds, IsInReach}
 use Rattle.qs_emit.specs.Lies.{frame as of_frame}
-use Rattle.qs_emit.specs.Relation.{Setup, context, cost, HasFrame, HasStack, HasBlocks, Lay, ground}
+use Rattle.qs_emit.specs.Surroundings.{HasBlocks, Lay, ground}
+use Rattle.qs_emit.specs.Relation.{Setup, context, cost, HasFrame, HasStack, around}
 use Rattle.qs_emit.proofs.Injection.{Later, cell_kept}
 use Rattle.qs_emit.proofs.Steps.{data_below}
 use Rattle.qs_emit.proofs.Kept.{SameSaved, reach_like, stack_onward, placed_inside, SameCells}
@@ -27,7 +28,7 @@ owner_in [] number from at = of_frame
 owner_in (size ∷ sizes) number from at =
     if nat_le from at && nat_lt at (from + size) then cell_of number (at - from) else owner_in sizes (number + 1) (from + rounded size) at
 
-owner_of_block : (sizes : List ℕ) (number from i o : ℕ) → i < length sizes → o < slice_index_or sizes i 0 → owner_in sizes number from (from + offset sizes i + o) ≡ cell_of (number + i) o
+pub owner_of_block : (sizes : List ℕ) (number from i o : ℕ) → i < length sizes → o < slice_index_or sizes i 0 → owner_in sizes number from (from + offset sizes i + o) ≡ cell_of (number + i) o
 owner_of_block [] number from i o h lt = absurd (omega (arith, h))
 owner_of_block (size ∷ sizes) number from zero o h lt =
     let t : (nat_le from (from + 0 + o) && nat_lt (from + 0 + o) (from + size)) ≡ true = grind (arith, nat_tests, lt) in
@@ -59,7 +60,7 @@ reach_down : (image : Image) (r : Room) (sp low : ℕ) (block : Block) (from : �
 reach_down image r sp low block from le (inl s) = let a = s.above in inl (record { above = omega (arith, a, le); below = s.below })
 reach_down image r sp low block from le (inr d) = inr d
 
-module _ (s : Setup) (m : Memory) (l : Lay) (flat later : ℕ → ℕ) (f : ℕ) (sp low : ℕ) (sum : low + cost s f ≡ sp) (above : base s.room ≤ low) (aligned : low % 16 ≡ 0) (ceiling : sp ≤ s.room.ceiling) (old : HasBlocks s (ground m l flat) sp) (same : SameCells s m l.address_of flat later) where
+module _ (s : Setup) (m : Memory) (l : Lay) (flat later : ℕ → ℕ) (f : ℕ) (sp low : ℕ) (sum : low + cost s f ≡ sp) (above : base s.room ≤ low) (aligned : low % 16 ≡ 0) (ceiling : sp ≤ s.room.ceiling) (old : HasBlocks (around s) (ground m l flat) sp) (same : SameCells s m l.address_of flat later) where
   abbrev c : Context
   c = context s f
 
@@ -161,7 +162,7 @@ module _ (s : Setup) (m : Memory) (l : Lay) (flat later : ℕ → ℕ) (f : ℕ)
   reach_new : (b : ℕ) → IsFresh b → IsInReach s.image s.room low (block_at made b) (new.address_of b)
   reach_new b q = let e = at_new b q in let size = size_new b q in let end = block_end q.i q.within in inl (record { above = omega (arith, e); below = omega (arith, e, size, end, ceiling) })
 
-  pub blocks_new : HasBlocks s (ground made new later) low
+  pub blocks_new : HasBlocks (around s) (ground made new later) low
   blocks_new = record {
     lies = record {
       owned = λ b o live lt. ⊎_elim (λ k. owned_old b o k live lt) (λ k. owned_new b o (fresh_of b live k) lt) (cases_lt b (length m));

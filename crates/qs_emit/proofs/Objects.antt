@@ -25,7 +25,8 @@ use Rattle.qs_select.specs.Pieces.{constant, loop_end, copy_loop, fill_loop, zer
 use Rattle.qs_select.specs.Emission.{unless_none, fill_code}
 use Rattle.qs_emit.specs.Machine.{Watched}
 use Rattle.qs_emit.specs.Lies.{Holds, HoldAll, Lies, IsOwn, SameOwn}
-use Rattle.qs_emit.specs.Relation.{Setup, Lay}
+use Rattle.qs_emit.specs.Surroundings.{Lay}
+use Rattle.qs_emit.specs.Relation.{Setup}
 use Rattle.qs_emit.proofs.Injection.{value_here, stored_other}
 use Rattle.qs_emit.proofs.Steps.{Does, Gets, does_is, does_then, does_none, op_does, store_does, MayRead, MayWrite, gets_on}
 use Rattle.qs_emit.proofs.Slots.{constant_does, gets_is}

@@ -38,7 +38,8 @@ use Rattle.qs_select.specs.Emission as emission
 use Rattle.qs_select.specs.Emission.{take_parameter, take_parameters}
 use Rattle.qs_emit.specs.Machine.{Watched}
 use Rattle.qs_emit.specs.Lies.{StandsFor, IsInReach, SameOwn}
-use Rattle.qs_emit.specs.Relation.{Setup, context, function_at, Lay}
+use Rattle.qs_emit.specs.Surroundings.{Lay}
+use Rattle.qs_emit.specs.Relation.{Setup, context, function_at}
 use Rattle.qs_emit.proofs.Injection.{value_kept, store_holds, stored_other}
 use Rattle.qs_emit.proofs.Steps.{Does, does_is, does_then, does_none, data_below}
 use Rattle.qs_emit.proofs.Slots.{IsInFrame, reads_free, store_to_does}

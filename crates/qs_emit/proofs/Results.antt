@@ -48,7 +48,8 @@ use Rattle.qs_select.specs.Operands.{Context, slot_offset, operand_code, operand
 use Rattle.qs_select.specs.Operations.{constant_of, kind_of, both, directed, step, move_by, move_by_elements, moved, elements_between, binary, unary_instruction, conversion}
 use Rattle.qs_emit.specs.Machine.{Watched}
 use Rattle.qs_emit.specs.Lies.{StandsFor, SameOwn}
-use Rattle.qs_emit.specs.Relation.{Setup, context, function_at, HasPlace, Lay, ground}
+use Rattle.qs_emit.specs.Surroundings.{Lay, ground}
+use Rattle.qs_emit.specs.Relation.{Setup, context, function_at, HasPlace}
 use Rattle.qs_emit.proofs.Steps.{Does, Gets, IsFree, does_then, does_is, does_either, op_does, op_imm_does, same_on}
 use Rattle.qs_emit.proofs.Slots.{constant_does, store_to_does, gets_is}
 use Rattle.qs_emit.proofs.Kept.{used_saved}

@@ -26,8 +26,9 @@ use Rattle.qs_select.specs.Operands.{Context}
 use Rattle.qs_select.specs.Emission.{restore, leave}
 use Rattle.qs_emit.specs.Machine.{Watched, instruction_at}
 use Rattle.qs_emit.specs.Lies.{number_at, StandsFor, Holds, IsOwn, SameOwn}
-use Rattle.qs_emit.specs.Relation.{Setup, context, cost, place, caller_registers, HasStack, HasBlocks, IsInRoom, root_block, Lay, ground, IsRelated, StandsAt}
-use Rattle.qs_emit.specs.Emitted.{IsResult}
+use Rattle.qs_emit.specs.Surroundings.{HasBlocks, Lay, ground}
+use Rattle.qs_emit.specs.Relation.{Setup, context, cost, place, caller_registers, HasStack, IsInRoom, root_block, IsRelated, StandsAt, around}
+use Rattle.qs_emit.specs.Entries.{IsResult}
 use Rattle.qs_emit.proofs.Injection.{Later, cell_kept}
 use Rattle.qs_emit.proofs.Bytes.{number_same}
 use Rattle.qs_emit.proofs.Steps.{Takes, takes_on, takes_less, HasAt, has_front, has_back, IsSteady, steady_on, Does, does_is, does_then, load_does, same_on}
@@ -54,7 +55,7 @@ module _ (s : Setup) (a : Activation File) (w : Memory) (stack : List (Waiting F
   was_live : (b : ℕ) → IsLive left b → IsLive w b
   was_live b live = later_left.after.live b (known_left b live) live
 
-  pub blocks_left : HasBlocks s (ground left l flat) (sp + cost s a.function)
+  pub blocks_left : HasBlocks (around s) (ground left l flat) (sp + cost s a.function)
   blocks_left = record {
     lies = record {
       owned = λ b o live lt. let size = later_left.after.size b (known_left b live) in r.blocks.lies.owned b o (was_live b live) (omega (arith, lt, size));

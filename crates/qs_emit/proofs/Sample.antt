@@ -1,24 +1,41 @@
--- A unit with a variable, a block of its call and a slot, and an image that has its code: the premises of the law can be met.
-use Rattle.std.proofs.Common.{◌≡◌, ℕ, zero, suc, ◌^◌, ◌<◌, ◌≤◌, true, List, [], ◌∷◌, length, Some, None, refl, ap, ◌∙◌, subst, arith}
-use Rattle.std.specs.Prelude.{nat_le, nat_lt, ◌&&◌, slice_get, slice_index_or}
+-- A unit with a variable, a literal, a pointer into it, a block of its call and a slot; an image of it; and the machine that runs
+-- it. So the premises of the laws can be met.
+use Rattle.std.proofs.Common.{◌≡◌, ℕ, zero, suc, ◌^◌, ◌<◌, ◌≤◌, Bool, true, false, List, [], ◌∷◌, length, Some, None, refl, ap, ◌∙◌, subst, arith}
+use Rattle.std.specs.Prelude.{nat_lt, ◌&&◌, All, slice_get, slice_index_or, unwrap_or, codes, IsTrue}
+use Rattle.std.specs.List.{list_all}
+use Rattle.std.proofs.lemmas.Bool.Decides.{nat_tests}
+use Rattle.std.proofs.lemmas.List.Elements.{All-nil, All-cons}
+use Rattle.qs_memory.specs.Values.{Value, into}
+use Rattle.qs_memory.specs.Memory.{unset, byte, parts_of, Memory, block_at}
+use Rattle.qs_memory.specs.Soundness.{IsLive, IsSoundCell}
 use Rattle.qs_memory.specs.declared.scalar.Scalar.TheVariants as scalars
-use Rattle.qs_image.specs.Image.{Image}
+use Rattle.qs_events.specs.Events.{Calls, Returns}
+use Rattle.qs_events.specs.Runs.{Left, has_ended, ending_of}
+use Rattle.qs_events.specs.Weights.{Costs, run_weight}
+use Rattle.qs_isa.specs.Table.{decode_of}
+use Rattle.qs_asm.specs.Assembly.{assembled, label_offset, IsAssembly}
+use Rattle.qs_asm.proofs.AssemblyLaws.{assembly}
+use Rattle.qs_base.specs.Keywords.{is_keyword, keyword_of}
+use Rattle.qs_base.specs.Names.{is_name}
+use Rattle.qs_image.specs.Image.{Image, FunctionRecord, IsWellFormed, IsAddress, IsCost}
+use Rattle.qs_machine.specs.Run.{Exited, machine}
 use Rattle.qs_tac.specs.Trees.{InstructionTree, store, load, call, return, TacFunctionTree, TacUnitTree}
 use Rattle.qs_tac.specs.declared.operands.Operand.TheVariants.{Temporary, Constant, Data}
 use Rattle.qs_tac.specs.declared.operands.Address.{Address}
 use Rattle.qs_tac.specs.declared.places.Place.TheVariants.{Slot}
 use Rattle.qs_tac.specs.Places.{PlacesTree, Accepted, no_places}
-use Rattle.qs_isa.specs.Table.{decode_of}
 use Rattle.qs_frames.specs.Layout.{rounded, frame_cost}
 use Rattle.qs_select.specs.Pieces.{is_small, low_part, high_part, is_near}
-use Rattle.qs_emit.specs.Machine.{Room}
-use Rattle.qs_emit.specs.Relation.{cost_at, data_address, function_at, IsShortCall, IsEmittable, Setup}
+use Rattle.qs_emit.specs.Relation.{cost_at, function_at, IsShortCall, IsEmittable}
+use Rattle.qs_emit.specs.Images.{IsFirstMemory, record_at, AreCosts, items_of, function_address, IsImageOf, IsWithinLimits}
+use Rattle.qs_emit.specs.Emitted.{start_run, IsInteger, MayStart, FollowsFrom, Emitted}
+use Rattle.qs_emit.proofs.Whole.{images_follow}
 
 -- the variable takes 7, and its value is returned
-abbrev variable : Address
+abbrev pub variable : Address
 variable = record { base = Data 0; offset = None; index = None }
 
-abbrev main : TacFunctionTree
+abbrev pub main : TacFunctionTree
 main = record {
   parameters = [];
   temporaries = 1;
@@ -26,25 +43,33 @@ main = record {
   code = store scalars.Int variable (Constant 7) ∷ load scalars.Int 0 variable ∷ return (Some (Temporary 0)) ∷ [];
 }
 
-abbrev unit : TacUnitTree
-unit = record { functions = main ∷ []; main = 0; data_blocks = record { size = 4; is_writable = true } ∷ [] }
+abbrev pub unit : TacUnitTree
+unit = record {
+  functions = main ∷ [];
+  main = 0;
+  data_blocks = record { size = 4; is_writable = true } ∷ record { size = 3; is_writable = false } ∷ record { size = 4; is_writable = true } ∷ [];
+}
 
-abbrev places : List PlacesTree
+abbrev pub places : List PlacesTree
 places = record { at = Slot 0 ∷ [] } ∷ []
 
-abbrev image : Image
+-- the variable is 0, the literal is "hi", and the pointer goes to its second byte
+abbrev pub first : Memory
+first =
+    record { size = 4; is_live = true; is_writable = true; cells = λ offset. byte 0 }
+    ∷ record { size = 3; is_live = true; is_writable = false; cells = λ offset. slice_index_or (byte 104 ∷ byte 105 ∷ byte 0 ∷ []) offset unset }
+    ∷ record { size = 4; is_live = true; is_writable = true; cells = λ offset. slice_index_or (parts_of (into 1 1) 0 4) offset unset }
+    ∷ []
+
+abbrev pub image : Image
 image = record {
   entry = 65536;
   parameters = 0;
   unsigned_set = 0;
-  functions = [];
+  functions = record { name = codes "main"; address = 65548; cost = 16 } ∷ [];
   code = 0x00c000ef ∷ 0x00000893 ∷ 0x00000073 ∷ 0xff010113 ∷ 0x00112023 ∷ 0x10000537 ∷ 0x00700713 ∷ 0x00e52023 ∷ 0x10000537 ∷ 0x00052503 ∷ 0x00a12223 ∷ 0x00412503 ∷ 0x00012083 ∷ 0x01010113 ∷ 0x00008067 ∷ [];
-  bytes = 0 ∷ 0 ∷ 0 ∷ 0 ∷ [];
+  bytes = 0 ∷ 0 ∷ 0 ∷ 0 ∷ 104 ∷ 105 ∷ 0 ∷ 0 ∷ 5 ∷ 0 ∷ 0 ∷ 16 ∷ [];
 }
-
--- the entry, the three instructions, and the end
-abbrev labels : ℕ → ℕ
-labels l = slice_index_or (65548 ∷ 65556 ∷ 65568 ∷ 65580 ∷ 65596 ∷ []) l 0
 
 cost_is : (f : ℕ) → f < 1 → cost_at unit places f ≤ 2 ^ 28
 unfolding frame_cost rounded
@@ -84,33 +109,126 @@ emittable = record {
   arguments = no_calls;
 }
 
--- the stack's bytes below x2 become 255 whenever they may
-abbrev room : Room
-room = record { size = 65536; ceiling = 2 ^ 31; may_change = λ at. nat_le 268435456 at && nat_lt at 268435460; is_kept = λ at. nat_le 268435456 at && nat_lt at 268435460; others = λ time flat at. 255 }
+-- ---- the memory to start from
 
-setup : Setup
+live : (block : ℕ) → block < 3 → IsLive first block
+live zero lt = refl
+live (suc zero) lt = refl
+live (suc (suc zero)) lt = refl
+live (suc (suc (suc block))) lt = absurd (omega (arith, lt))
+
+sound : (block offset : ℕ) → IsLive first block → offset < (block_at first block).size → IsSoundCell first ((block_at first block).cells offset)
+sound zero offset live lt = omega arith
+sound (suc zero) zero live lt = omega arith
+sound (suc zero) (suc zero) live lt = omega arith
+sound (suc zero) (suc (suc zero)) live lt = omega arith
+sound (suc zero) (suc (suc (suc offset))) live lt = absurd (omega (arith, lt))
+sound (suc (suc zero)) zero live lt = record { pointer = record { made = omega arith; in_range = λ live. omega arith }; number = omega arith }
+sound (suc (suc zero)) (suc zero) live lt = record { pointer = record { made = omega arith; in_range = λ live. omega arith }; number = omega arith }
+sound (suc (suc zero)) (suc (suc zero)) live lt = record { pointer = record { made = omega arith; in_range = λ live. omega arith }; number = omega arith }
+sound (suc (suc zero)) (suc (suc (suc zero))) live lt = record { pointer = record { made = omega arith; in_range = λ live. omega arith }; number = omega arith }
+sound (suc (suc zero)) (suc (suc (suc (suc offset)))) live lt = absurd (omega (arith, lt))
+sound (suc (suc (suc block))) offset live lt = cc
+
+memory : IsFirstMemory unit first
+memory = record { blocks = refl; live = live; sound = record { cells = sound } }
+
+-- ---- the image
+
+code_is : IsAssembly (items_of unit places) image.code
 unfolding decode_of is_small low_part high_part is_near frame_cost rounded
-setup = record {
-  unit = unit;
-  places = places;
-  emittable = emittable;
-  image = image;
-  label_at = labels;
-  code_end = 65596;
-  laid = (refl, (refl, (refl, (refl, (refl, (refl, (refl, (refl, (refl, (refl, (refl, (refl, (refl, (refl, (refl, (refl, (refl, (refl, (refl, (refl, (refl)))))))))))))))))))));
-  short = omega arith;
-  data_fits = omega arith;
-  data_limit = omega arith;
-  room = room;
-  others_bytes = λ time flat bytes at. omega arith;
-  stack_fits = omega arith;
-  ceiling = omega arith;
-  return_to = 65540;
-  return_aligned = refl;
-  return_low = omega arith;
-  root_registers = λ r. 0;
-  first = 1;
-  addresses = data_address unit.data_blocks;
-  data_there = omega arith;
-  data_lie = λ block h. refl;
+code_is = assembly (label_offset (items_of unit places)) (items_of unit places) (unwrap_or (assembled (items_of unit places)) []) image.code (record { each = λ l. refl }) refl refl
+
+address_is : (f : ℕ) → f < 1 → (record_at image f).address ≡ function_address unit places f
+unfolding is_small low_part high_part is_near frame_cost rounded
+address_is zero lt = refl
+address_is (suc f) lt = absurd (omega (arith, lt))
+
+same_cost : (f : ℕ) → f < 1 → (record_at image f).cost ≡ cost_at unit places f
+unfolding frame_cost rounded
+same_cost zero lt = refl
+same_cost (suc f) lt = absurd (omega (arith, lt))
+
+is : IsImageOf unit places first image
+unfolding rounded
+is = record {
+  code = code_is;
+  entry = refl;
+  parameters = refl;
+  count = refl;
+  addresses = address_is;
+  costs = same_cost;
+  bytes = refl;
 }
+
+-- it keeps to the form of images
+main_is_name : IsTrue (is_name (codes "main"))
+unfolding is_name is_keyword keyword_of
+main_is_name = refl
+
+abbrev main_record : FunctionRecord
+main_record = record { name = codes "main"; address = 65548; cost = 16 }
+
+below : (limit : ℕ) (numbers : List ℕ) → list_all (λ n. nat_lt n limit) numbers ≡ true → All (λ n. n < limit) numbers
+below limit [] e = All-nil (λ n. n < limit)
+below limit (number ∷ numbers) e = by (nat_lt number limit) refl e (below limit numbers)
+  where
+    by : (b : Bool) → nat_lt number limit ≡ b → (b && list_all (λ n. nat_lt n limit) numbers) ≡ true → (list_all (λ n. nat_lt n limit) numbers ≡ true → All (λ n. n < limit) numbers) → All (λ n. n < limit) (number ∷ numbers)
+    by true t e more = All-cons (λ n. n < limit) number numbers (grind (arith, nat_tests, t)) (more e)
+    by false t e more = cc
+
+well_formed : IsWellFormed image
+well_formed = record {
+  code_count = (omega arith, omega arith);
+  byte_count = omega arith;
+  function_count = (omega arith, omega arith);
+  names_length = (omega arith, omega arith);
+  parameters = omega arith;
+  unsigned_set = omega arith;
+  names = All-cons (λ (f : FunctionRecord). IsTrue (is_name f.name)) main_record [] main_is_name (All-nil (λ (f : FunctionRecord). IsTrue (is_name f.name)));
+  differ = λ i j d before inside e. absurd (omega (arith, before, inside));
+  main = (0, omega arith, refl);
+  entry = record { k = 0; below = omega arith; at = refl };
+  addresses = All-cons (λ (f : FunctionRecord). IsAddress 15 f.address) main_record [] (record { k = 3; below = omega arith; at = refl }) (All-nil (λ (f : FunctionRecord). IsAddress 15 f.address));
+  costs = All-cons (λ (f : FunctionRecord). IsCost f.cost) main_record [] (record { k = 1; multiple = refl; positive = omega arith; most = omega arith }) (All-nil (λ (f : FunctionRecord). IsCost f.cost));
+  words = below (2 ^ 32) image.code refl;
+  octets = below 256 image.bytes refl;
+}
+
+pub limits : IsWithinLimits image
+limits = record { code = omega arith; bytes = omega arith }
+
+pub emitted : Emitted unit first image
+emitted = images_follow unit places first image emittable memory is limits
+
+-- ---- the start
+
+abbrev costs : Costs
+costs f = (record_at image f).cost
+
+are_costs : AreCosts image costs
+are_costs = record { each = λ f lt. refl }
+
+enough : (n : ℕ) → run_weight costs (start_run unit first [] [] n) ≤ 64
+enough zero = omega arith
+enough (suc zero) = omega arith
+enough (suc (suc zero)) = omega arith
+enough (suc (suc (suc zero))) = omega arith
+enough (suc (suc (suc (suc n)))) = omega arith
+
+returns : (n : ℕ) (left : Left Value Memory) → ending_of (start_run unit first [] [] n) ≡ has_ended left → IsInteger left.result
+returns zero left e = cc
+returns (suc zero) left e = cc
+returns (suc (suc zero)) left e = cc
+returns (suc (suc (suc zero))) left e = cc
+returns (suc (suc (suc (suc n)))) left e = (7, cc)
+
+may : MayStart unit first costs [] [] 64
+may = record { count = refl; words = All-nil (λ word. word < 2 ^ 32); bytes = All-nil (λ byte. byte < 256); most = omega arith; enough = enough; returns = returns }
+
+follows : FollowsFrom unit first image costs [] [] 64
+follows = emitted.start costs [] [] 64 are_costs may
+
+-- on a stack of 64 bytes the machine exits with 7
+exits_with_seven : (m : ℕ) × (machine image 64 [] [] m ≡ Exited [] 7)
+exits_with_seven = follows.agree.ends 4 (Calls 0 ∷ Returns 0 ∷ []) 7 refl

@@ -43,8 +43,9 @@ use Rattle.qs_select.specs.Emission as emission
 use Rattle.qs_select.specs.Emission.{Labels, labels_of, first_label, instruction_items, leave}
 use Rattle.qs_emit.specs.Machine.{Watched, instruction_at}
 use Rattle.qs_emit.specs.Lies.{AreBytes, number_at, StandsFor}
-use Rattle.qs_emit.specs.Relation.{Setup, no_function, context, cost, place, function_at, HasPlace, HasStack, HasBlocks, root_block, caller_registers, Lay, ground, IsRelated, StandsAt}
-use Rattle.qs_emit.specs.Emitted.{IsResult, ComesTo, Follows}
+use Rattle.qs_emit.specs.Surroundings.{HasBlocks, Lay, ground}
+use Rattle.qs_emit.specs.Relation.{Setup, no_function, context, cost, place, function_at, HasPlace, HasStack, root_block, caller_registers, IsRelated, StandsAt, around}
+use Rattle.qs_emit.specs.Entries.{IsResult, ComesTo, Follows}
 use Rattle.qs_emit.proofs.Injection.{value_kept}
 use Rattle.qs_emit.proofs.Steps.{Takes, takes_on, takes_less, HasAt, Does, does_is, does_none}
 use Rattle.qs_emit.proofs.Kept.{related_own, cell_own, blocks_same}
@@ -69,9 +70,9 @@ and_right : (x y : Bool) → x && y ≡ true → y ≡ true
 and_right true y e = e
 and_right false y e = cc
 
-module _ (s : Setup) (n : ℕ) (next : Next File) (more : (a : Activation File) (w : World) (stack : List (Waiting File)) (l : Lay) (m : Watched) → StandsAt s a w stack l m → Follows s n m (next a w stack)) where
+module _ (s : Setup) (n : ℕ) (next : Next File) (more : (a : Activation File) (w : World) (stack : List (Waiting File)) (l : Lay) (m : Watched) → StandsAt s a w stack l m → Follows (around s) n m (next a w stack)) where
   -- behind a step without events
-  goes_on : (a b : Activation File) (w v : World) (stack : List (Waiting File)) (l : Lay) (m : Watched) → StandsAt s a w stack l m → Onward s b v stack l m → Follows s (suc n) m (next b v stack)
+  goes_on : (a b : Activation File) (w v : World) (stack : List (Waiting File)) (l : Lay) (m : Watched) → StandsAt s a w stack l m → Onward s b v stack l m → Follows (around s) (suc n) m (next b v stack)
   goes_on a b w v stack l m h o = follows_later s n m o.to None (next b v stack) h.low o.reaches (more b v stack l o.to o.stands)
 
   -- ---- returns
@@ -144,7 +145,7 @@ module _ (s : Setup) (n : ℕ) (next : Next File) (more : (a : Activation File) 
             }
 
     -- the root
-    root_returns : stack ≡ [] → ComesTo s (suc n) m (Returns a.function ∷ []) (has_ended (record { result = result; memory = left; input = w.input }))
+    root_returns : stack ≡ [] → ComesTo (around s) (suc n) m (Returns a.function ∷ []) (has_ended (record { result = result; memory = left; input = w.input }))
     root_returns e =
         let above : HasStack s (ground w.memory l g.flat) [] mine up (number_at 4 g.flat (m.now.registers 2)) = subst (λ (z : List (Waiting File)). HasStack s (ground w.memory l g.flat) z mine up (number_at 4 g.flat (m.now.registers 2))) e g.related.above in
         let first : a.first_block ≡ s.first = subst (λ (z : List (Waiting File)). root_block a.first_block z ≡ s.first) e g.related.root in
@@ -158,17 +159,17 @@ module _ (s : Setup) (n : ℕ) (next : Next File) (more : (a : Activation File) 
           to = g.to;
           lay = l;
           comes = steps.1.1;
-          seen = record { output = g.output ∙ sym (append-nil m.now.output); low = omega (arith, low, least) };
+          seen = record { output = g.output ∙ sym (append-nil m.now.output); x2 = g.x2; low = omega (arith, low, least) };
           pc = g.pc ∙ above.1.0;
           x2 = g.x2 ∙ above.0;
           saved = λ q b. g.given.same q b ∙ above.1.1 q b;
           result = result_left result (g.to.now.registers 10) g.value;
           only_old = λ b live. let k = live_below a.first_block w.memory b live in omega (arith, k, first);
-          blocks = subst (λ (p : ℕ). HasBlocks s (ground left l g.to.now.memory) p) (sym g.x2) blocks;
+          blocks = subst (λ (p : ℕ). HasBlocks (around s) (ground left l g.to.now.memory) p) (sym g.x2) blocks;
           input = ◌∙◌ {a = g.to.now.input} g.input h.input;
         }
 
-    returned : (c : Waiting File) (others : List (Waiting File)) → stack ≡ c ∷ others → (x : Option ℕ) → c.taken_by ≡ x → (r : Option Value) → result ≡ r → Follows s (suc n) m (emit (Returns a.function) (take_result (holder s) next x c.activation others r (with_memory w left)))
+    returned : (c : Waiting File) (others : List (Waiting File)) → stack ≡ c ∷ others → (x : Option ℕ) → c.taken_by ≡ x → (r : Option Value) → result ≡ r → Follows (around s) (suc n) m (emit (Returns a.function) (take_result (holder s) next x c.activation others r (with_memory w left)))
     returned c others e None f r i =
         let k = resumed c others c.activation e refl refl (subst (λ (x : Option ℕ). Does s g.to (emission.take_result (context s c.activation.function) x) (IsAmid s c.activation left others l up)) (sym f) (does_none s g.to _ (caller_amid c others e))) in
         follows_later s n m k.to (Some (Returns a.function)) (next c.activation (with_memory w left) others) h.low k.reaches (more c.activation (with_memory w left) others l k.to k.stands)
@@ -182,7 +183,7 @@ module _ (s : Setup) (n : ℕ) (next : Next File) (more : (a : Activation File) 
         follows_later s n m k.to (Some (Returns a.function)) (next b (with_memory w left) others) h.low k.reaches (more b (with_memory w left) others l k.to k.stands)
 
     -- a function returns
-    ends_follows : (others : List (Waiting File)) → stack ≡ others → Follows s (suc n) m (ends (holder s) next a others result w)
+    ends_follows : (others : List (Waiting File)) → stack ≡ others → Follows (around s) (suc n) m (ends (holder s) next a others result w)
     ends_follows [] e room = root_returns e
     ends_follows (c ∷ others) e room = returned c others e c.taken_by refl result refl room
 
@@ -211,12 +212,12 @@ module _ (s : Setup) (n : ℕ) (next : Next File) (more : (a : Activation File) 
     amid = amid_at s a w stack l m h
 
     -- straight code
-    straight_follows : (i : InstructionTree) (b : Activation File) (later : Memory) (code : List Instr) → instruction_items c labels i ≡ plain code → b.function ≡ a.function → Stands i → Does s m code (IsAmid s b later stack l (m.now.registers 2)) → Follows s (suc n) m (next (record b { at = a.at + 1 }) (with_memory w later) stack)
+    straight_follows : (i : InstructionTree) (b : Activation File) (later : Memory) (code : List Instr) → instruction_items c labels i ≡ plain code → b.function ≡ a.function → Stands i → Does s m code (IsAmid s b later stack l (m.now.registers 2)) → Follows (around s) (suc n) m (next (record b { at = a.at + 1 }) (with_memory w later) stack)
     straight_follows i b later code e same stands does =
         goes_on a (record b { at = a.at + 1 }) w (with_memory w later) stack l m h
-        (plain_follows s a b w later stack l m code (a.at + 1) h has same (subst (λ (z : List _). Lays (instruction_at s.image) s.label_at (place s a.function a.at) z (place s a.function (a.at + 1))) e stands) low_next aligned_here (some_code s a.function code i e) does)
+        (plain_follows s a b w later stack l m code (a.at + 1) h has same (subst (λ (z : List _). Lays (instruction_at s.image) s.label_at (place s a.function a.at) z (place s a.function (a.at + 1))) e stands) low_next aligned_here (some_code s a.function h.related.known code i e) does)
 
-    gives_follows : (i : InstructionTree) (x : ℕ) (v : Value) (code : List Instr) → instruction_items c labels i ≡ plain code → Stands i → Does s m code (IsAmid s (holding s a w.memory stack l (m.now.registers 2) (place_of c.places x) v) w.memory stack l (m.now.registers 2)) → Follows s (suc n) m (next (onward (written (holder s) x v a)) w stack)
+    gives_follows : (i : InstructionTree) (x : ℕ) (v : Value) (code : List Instr) → instruction_items c labels i ≡ plain code → Stands i → Does s m code (IsAmid s (holding s a w.memory stack l (m.now.registers 2) (place_of c.places x) v) w.memory stack l (m.now.registers 2)) → Follows (around s) (suc n) m (next (onward (written (holder s) x v a)) w stack)
     gives_follows i x v code e stands does = straight_follows i (holding s a w.memory stack l (m.now.registers 2) (place_of c.places x) v) w.memory code e refl stands does
 
     there : (x : ℕ) → x < (function_at s.unit a.function).temporaries → HasPlace c (place_of c.places x)
@@ -229,9 +230,9 @@ module _ (s : Setup) (n : ℕ) (next : Next File) (more : (a : Activation File) 
     -- ---- calls of functions
 
     called_follows : (x : Option ℕ) (f : ℕ) (os : List Operand) (vs : List Value) (g : TacFunctionTree) → slice_get s.unit.functions f ≡ Some g → length os ≡ length g.parameters → length os ≤ 8 → list_all (operand_fits s.unit (function_at s.unit a.function)) os ≡ true → taken_fits (function_at s.unit a.function) x ≡ true → operands (holder s) os a ≡ Some vs → Lays (instruction_at s.image) s.label_at (place s a.function a.at) (plain (emission.pass c 10 os) ++ (items.Jump 1 (first_label s.unit.functions f) ∷ plain (emission.take_result c x))) (place s a.function (a.at + 1))
-        → Follows s (suc n) m (activate f (record { parameters = g.parameters; blocks = g.blocks }) (begins (holder s) next (record { activation = waits (holder s) a; taken_by = x } ∷ stack) f) vs (take_result (holder s) next x (waits (holder s) a) stack) w)
+        → Follows (around s) (suc n) m (activate f (record { parameters = g.parameters; blocks = g.blocks }) (begins (holder s) next (record { activation = waits (holder s) a; taken_by = x } ∷ stack) f) vs (take_result (holder s) next x (waits (holder s) a) stack) w)
     called_follows x f os vs g is count few fits taken e stands =
-        subst (λ (z : RootRun). Follows s (suc n) m (emit (Calls f) z))
+        subst (λ (z : RootRun). Follows (around s) (suc n) m (emit (Calls f) z))
         (sym (pass_is g.parameters vs (length w.memory) no_values (with_memory w (make g.blocks w.memory)) (λ e w. next (record { function = f; at = 0; first_block = length w_first; held = (holder s).enter f e }) w (record { activation = waits (holder s) a; taken_by = x } ∷ stack))))
         (by (passes g.parameters vs (length w.memory) no_values (make g.blocks w.memory)) refl)
       where
@@ -244,7 +245,7 @@ module _ (s : Setup) (n : ℕ) (next : Next File) (more : (a : Activation File) 
         known : f < length s.unit.functions
         known = slice_get_within s.unit.functions f g is
 
-        by : (o : Option Passed) → passes g.parameters vs (length w.memory) no_values (make g.blocks w.memory) ≡ o → Follows s (suc n) m (emit (Calls f) (given o (λ r. next (record { function = f; at = 0; first_block = length w_first; held = (holder s).enter f r.environment }) (with_memory (with_memory w (make g.blocks w.memory)) r.memory) (record { activation = waits (holder s) a; taken_by = x } ∷ stack))))
+        by : (o : Option Passed) → passes g.parameters vs (length w.memory) no_values (make g.blocks w.memory) ≡ o → Follows (around s) (suc n) m (emit (Calls f) (given o (λ r. next (record { function = f; at = 0; first_block = length w_first; held = (holder s).enter f r.environment }) (with_memory (with_memory w (make g.blocks w.memory)) r.memory) (record { activation = waits (holder s) a; taken_by = x } ∷ stack))))
         by None q room = undefined_behind s (suc n) m (Calls f) refl room
         by (Some r) q room =
             let passed : passes (function_at s.unit f).parameters vs (length w.memory) no_values (make (function_at s.unit f).blocks w.memory) ≡ Some r = subst (λ (z : TacFunctionTree). passes z.parameters vs (length w.memory) no_values (make z.blocks w.memory) ≡ Some r) (sym same) q in
@@ -256,7 +257,7 @@ module _ (s : Setup) (n : ℕ) (next : Next File) (more : (a : Activation File) 
     -- ---- calls of the environment
 
     -- what follows an answer
-    answer_follows : (e : Event) (x : Option ℕ) (v : Value) (input : List ℕ) → HasAnswer s a w stack l m h e x v input → Follows s (suc n) m (emit e (take_result (holder s) next x (waits (holder s) a) stack (Some v) (record w { input = input })))
+    answer_follows : (e : Event) (x : Option ℕ) (v : Value) (input : List ℕ) → HasAnswer s a w stack l m h e x v input → Follows (around s) (suc n) m (emit e (take_result (holder s) next x (waits (holder s) a) stack (Some v) (record w { input = input })))
     answer_follows e None v input k = follows_later s n m k.to (Some e) (next (waits (holder s) a) (record w { input = input }) stack) h.low k.reaches (more _ _ _ l k.to k.stands)
     answer_follows e (Some x) v input k = follows_later s n m k.to (Some e) (next (written (holder s) x v (waits (holder s) a)) (record w { input = input }) stack) h.low k.reaches (more _ _ _ l k.to k.stands)
 
@@ -270,7 +271,7 @@ module _ (s : Setup) (n : ℕ) (next : Next File) (more : (a : Activation File) 
     ecall_acts : (m1 : Watched) (number : ℕ) → register m1.now 17 ≡ number → act s.image s.room.size m1.now instructions.Ecall ≡ machine.environment_call m1.now number
     ecall_acts m1 number e = ap (λ (k : ℕ). machine.environment_call m1.now k) e
 
-    put_follows : (x : Option ℕ) (os : List Operand) (vs : List Value) → length os ≤ 8 → list_all (operand_fits s.unit (function_at s.unit a.function)) os ≡ true → taken_fits (function_at s.unit a.function) x ≡ true → operands (holder s) os a ≡ Some vs → StandsEnvironment 1 os x → Follows s (suc n) m (put_char vs (take_result (holder s) next x (waits (holder s) a) stack) w)
+    put_follows : (x : Option ℕ) (os : List Operand) (vs : List Value) → length os ≤ 8 → list_all (operand_fits s.unit (function_at s.unit a.function)) os ≡ true → taken_fits (function_at s.unit a.function) x ≡ true → operands (holder s) os a ≡ Some vs → StandsEnvironment 1 os x → Follows (around s) (suc n) m (put_char vs (take_result (holder s) next x (waits (holder s) a) stack) w)
     put_follows x os [] few fits taken e stands = follows_undefined s (suc n) m
     put_follows x os (address p ∷ vs) few fits taken e stands = follows_undefined s (suc n) m
     put_follows x os (integer k ∷ v ∷ vs) few fits taken e stands = follows_undefined s (suc n) m
@@ -291,13 +292,13 @@ module _ (s : Setup) (n : ℕ) (next : Next File) (more : (a : Activation File) 
               ),
             )
 
-    get_follows : (x : Option ℕ) (os : List Operand) (vs : List Value) → length os ≤ 8 → list_all (operand_fits s.unit (function_at s.unit a.function)) os ≡ true → taken_fits (function_at s.unit a.function) x ≡ true → operands (holder s) os a ≡ Some vs → StandsEnvironment 2 os x → Follows s (suc n) m (get_char vs (take_result (holder s) next x (waits (holder s) a) stack) w)
+    get_follows : (x : Option ℕ) (os : List Operand) (vs : List Value) → length os ≤ 8 → list_all (operand_fits s.unit (function_at s.unit a.function)) os ≡ true → taken_fits (function_at s.unit a.function) x ≡ true → operands (holder s) os a ≡ Some vs → StandsEnvironment 2 os x → Follows (around s) (suc n) m (get_char vs (take_result (holder s) next x (waits (holder s) a) stack) w)
     get_follows x os (v ∷ vs) few fits taken e stands = follows_undefined s (suc n) m
     get_follows x os [] few fits taken e stands = by w.input refl
       where
-        by : (input : List ℕ) → w.input ≡ input → Follows s (suc n) m (take_byte input (take_result (holder s) next x (waits (holder s) a) stack) w)
+        by : (input : List ℕ) → w.input ≡ input → Follows (around s) (suc n) m (take_byte input (take_result (holder s) next x (waits (holder s) a) stack) w)
         by [] i =
-            subst (λ (z : World). Follows s (suc n) m (emit TakesEnd (take_result (holder s) next x (waits (holder s) a) stack (Some (integer (2 ^ 32 - 1))) z))) (ap (λ (z : List ℕ). record w { input = z }) (sym i))
+            subst (λ (z : World). Follows (around s) (suc n) m (emit TakesEnd (take_result (holder s) next x (waits (holder s) a) stack (Some (integer (2 ^ 32 - 1))) z))) (ap (λ (z : List ℕ). record w { input = z }) (sym i))
             (answer_follows TakesEnd x (integer (2 ^ 32 - 1)) []
             (environment_called s a w stack l m h os [] 2 TakesEnd x (integer (2 ^ 32 - 1)) [] (omega arith) (refl, refl) fits e few asked (All-nil (λ byte. byte < 256)) (taken_there x taken) stands low_next aligned_here))
           where
@@ -336,7 +337,7 @@ module _ (s : Setup) (n : ℕ) (next : Next File) (more : (a : Activation File) 
                 )
 
     invoke_follows : (x : Option ℕ) (f : Callee) (os : List Operand) (vs : List Value) → length os ≤ 8 → callee_fits s.unit f os ≡ true → list_all (operand_fits s.unit (function_at s.unit a.function)) os ≡ true → taken_fits (function_at s.unit a.function) x ≡ true → operands (holder s) os a ≡ Some vs → Stands (call x f os)
-        → Follows s (suc n) m (invoke f (enters (holder s) s.unit next (record { activation = waits (holder s) a; taken_by = x } ∷ stack)) vs (take_result (holder s) next x (waits (holder s) a) stack) w)
+        → Follows (around s) (suc n) m (invoke f (enters (holder s) s.unit next (record { activation = waits (holder s) a; taken_by = x } ∷ stack)) vs (take_result (holder s) next x (waits (holder s) a) stack) w)
     invoke_follows x (Function f) os vs few callee fits taken e stands =
         follows_given s (suc n) m (slice_get s.unit.functions f.0) _ (λ g is.
         let counts : (length os == length g.parameters) ≡ true = subst (λ (o : Option TacFunctionTree). takes o os ≡ true) is callee in
@@ -353,7 +354,7 @@ module _ (s : Setup) (n : ℕ) (next : Next File) (more : (a : Activation File) 
     small_place : (x : ℕ) (rest : Bool) → nat_lt x (function_at s.unit a.function).temporaries && rest ≡ true → HasPlace c (place_of c.places x)
     small_place x rest fits = let t = and_left (nat_lt x (function_at s.unit a.function).temporaries) rest fits in let lt : x < (function_at s.unit a.function).temporaries = grind (arith, nat_tests, t) in there x lt
 
-    instruction_follows : (i : InstructionTree) → Stands i → FitsHere i → slice_get (function_at s.unit a.function).code a.at ≡ Some i → Follows s (suc n) m (step (holder s) s.unit (Some i) next a w stack)
+    instruction_follows : (i : InstructionTree) → Stands i → FitsHere i → slice_get (function_at s.unit a.function).code a.at ≡ Some i → Follows (around s) (suc n) m (step (holder s) s.unit (Some i) next a w stack)
     instruction_follows (move x o) stands fits is =
         follows_given s (suc n) m (operand (holder s) o a) _ (λ v e.
         gives_follows (move x o) x v _ refl stands (move_does s a w.memory stack l (m.now.registers 2) m o v (place_of c.places x) amid (operand_of o v (and_right _ _ fits) e) (small_place x _ fits)))
@@ -376,7 +377,7 @@ module _ (s : Setup) (n : ℕ) (next : Next File) (more : (a : Activation File) 
     instruction_follows (address_of x p) stands fits is =
         follows_given s (suc n) m (pointer (holder s) p a w.memory >>= λ q. Some (address q)) _ (λ u e.
         let f = followed (pointer (holder s) p a w.memory) (λ q. Some (address q)) u e in
-        subst (λ (z : Value). Follows s (suc n) m (next (onward (written (holder s) x z a)) w stack)) (some_same _ u f.then)
+        subst (λ (z : Value). Follows (around s) (suc n) m (next (onward (written (holder s) x z a)) w stack)) (some_same _ u f.then)
         (gives_follows (address_of x p) x (address f.value) _ refl stands (address_of_does s a w.memory stack l (m.now.registers 2) m p f.value x amid (and_right _ _ fits) f.first (small_place x _ fits))))
     instruction_follows (load t x p) stands fits is =
         follows_given s (suc n) m (pointer (holder s) p a w.memory >>= λ q. memory.load t w.memory q) _ (λ u e.
@@ -417,21 +418,21 @@ module _ (s : Setup) (n : ℕ) (next : Next File) (more : (a : Activation File) 
         (does_is s m _ _ _ (into_does s a w.memory stack l (m.now.registers 2) m 10 o v (argument_scratch 10 (omega arith) (omega arith)) amid fits e) (λ m1 x2 k. (k.amid, subst (λ (z : ℕ). StandsFor w.memory l.address_of v z) (sym k.got) k.stands)))) stack refl)
 
   -- a step
-  pub step_follows : (a : Activation File) (w : World) (stack : List (Waiting File)) (l : Lay) (m : Watched) → StandsAt s a w stack l m → Follows s (suc n) m (step (holder s) s.unit (linear_at s.unit a) next a w stack)
+  pub step_follows : (a : Activation File) (w : World) (stack : List (Waiting File)) (l : Lay) (m : Watched) → StandsAt s a w stack l m → Follows (around s) (suc n) m (step (holder s) s.unit (linear_at s.unit a) next a w stack)
   step_follows a w stack l m h = by (slice_get (function_at s.unit a.function).code a.at) refl
     where
       known : linear_at s.unit a ≡ slice_get (function_at s.unit a.function).code a.at
       known = ap (λ (o : Option TacFunctionTree). o >>= λ f. slice_get f.code a.at) (function_there s a.function h.related.known)
 
-      by : (o : Option InstructionTree) → slice_get (function_at s.unit a.function).code a.at ≡ o → Follows s (suc n) m (step (holder s) s.unit (linear_at s.unit a) next a w stack)
-      by None e = subst (λ (o : Option InstructionTree). Follows s (suc n) m (step (holder s) s.unit o next a w stack)) (sym (known ∙ e)) (follows_undefined s (suc n) m)
+      by : (o : Option InstructionTree) → slice_get (function_at s.unit a.function).code a.at ≡ o → Follows (around s) (suc n) m (step (holder s) s.unit (linear_at s.unit a) next a w stack)
+      by None e = subst (λ (o : Option InstructionTree). Follows (around s) (suc n) m (step (holder s) s.unit o next a w stack)) (sym (known ∙ e)) (follows_undefined s (suc n) m)
       by (Some i) e =
           let has = has_function s a.function h.related.known in
           let lt = slice_get_within (function_at s.unit a.function).code a.at i e in
-          subst (λ (o : Option InstructionTree). Follows s (suc n) m (step (holder s) s.unit o next a w stack)) (sym (known ∙ e))
+          subst (λ (o : Option InstructionTree). Follows (around s) (suc n) m (step (holder s) s.unit o next a w stack)) (sym (known ∙ e))
           (instruction_follows a w stack l m h has (omega (arith, lt)) i (has.stands a.at i e) (instruction_fits_there s a.function a.at i h.related.known e) e)
 
 -- the run goes on as the machine does
-pub follows : (s : Setup) (n : ℕ) (a : Activation File) (w : World) (stack : List (Waiting File)) (l : Lay) (m : Watched) → StandsAt s a w stack l m → Follows s n m (steps (holder s) s.unit n a w stack)
+pub follows : (s : Setup) (n : ℕ) (a : Activation File) (w : World) (stack : List (Waiting File)) (l : Lay) (m : Watched) → StandsAt s a w stack l m → Follows (around s) n m (steps (holder s) s.unit n a w stack)
 follows s zero a w stack l m h = follows_short s m h.low
 follows s (suc n) a w stack l m h = step_follows s n (steps (holder s) s.unit n) (λ b v others k m1 g. follows s n b v others k m1 g) a w stack l m h

@@ -19,8 +19,9 @@ use Rattle.qs_select.specs.Pieces.{addi}
 use Rattle.qs_select.specs.Emission.{start_items, functions_items}
 use Rattle.qs_emit.specs.Machine.{Room, Watched, Sight, goes, exits, traps, breaks, instruction_at, is_set, only, watch_on, after, watched}
 use Rattle.qs_emit.specs.Lies.{StandsFor}
-use Rattle.qs_emit.specs.Relation.{Setup, cost, entry, data_address, Lay, ground}
-use Rattle.qs_emit.specs.Emitted.{IsEntry, HasReturned, ComesTo, IsResult}
+use Rattle.qs_emit.specs.Surroundings.{Lay, ground}
+use Rattle.qs_emit.specs.Relation.{Setup, cost, entry, data_address, around}
+use Rattle.qs_emit.specs.Entries.{IsEntry, HasReturned, ComesTo, IsResult}
 use Rattle.qs_emit.specs.Started.{main_run, IsStart, HasRoom, ExitsBehind, StartsTo, IsExitOf, FollowsFromStart, EmittedCodeFollowsFromStart}
 use Rattle.qs_emit.proofs.Injection.{value_there}
 use Rattle.qs_emit.proofs.Steps.{Takes, IsSteady, stepped, takes_step, stirred_bytes, same_stirred}
@@ -123,7 +124,7 @@ module _ (s : Setup) (arguments : List Value) (w : World) (l : Lay) (m : Watched
   other : (q : ℕ) → (q ≡ 1 → ⊥) → m1.now.registers q ≡ m.now.registers q
   other q n = value_there m.now.registers 1 (m.now.pc + 4) q n
 
-  entered : IsEntry s s.unit.main arguments w l m1
+  entered : IsEntry s.unit (around s) (entry s s.unit.main) s.unit.main arguments w l m1
   entered =
       let own = same_stirred s.room m.time (m.now.registers 2) m.now.memory in
       let pc = h.pc in
@@ -166,7 +167,7 @@ module _ (s : Setup) (arguments : List Value) (w : World) (l : Lay) (m : Watched
       ap (λ o. watch_on s.image s.room r1 o) at ∙ ap (λ (x : ℕ). exits r.now.output (x % 256) (min r.low (r.now.registers 2))) a0_is ∙ ap (λ (x : ℕ). exits r.now.output (a0 % 256) x) least in
       ap (λ x. after x (watched s.image s.room 1)) one ∙ ap (λ x. after x (watched s.image s.room 0)) two
 
-  exits_behind : (trace : List Event) (left : Left Value Memory) → HasReturned s m1 trace left → ExitsBehind s m trace left.result
+  exits_behind : (trace : List Event) (left : Left Value Memory) → HasReturned (around s) m1 trace left → ExitsBehind s m trace left.result
   exits_behind trace left r =
       let step = first_step.by r.steps in
       let pc : r.to.now.pc ≡ code_start + 4 = r.pc ∙ h.return_to in
@@ -187,7 +188,7 @@ module _ (s : Setup) (arguments : List Value) (w : World) (l : Lay) (m : Watched
       status_of : (result : Option Value) (v : ℕ) → result ≡ Some (integer v) → IsResult left.memory r.lay result (register r.to.now 10) → r.to.now.registers 10 % 256 ≡ v % 256
       status_of result v e k = let i : IsResult left.memory r.lay (Some (integer v)) (register r.to.now 10) = subst (λ (z : Option Value). IsResult left.memory r.lay z (register r.to.now 10)) e k in ap (λ (x : ℕ). x % 256) i.0
 
-  starts_to : (n : ℕ) (trace : List Event) (end : Ending (Left Value Memory)) → ComesTo s n m1 trace end → StartsTo s n m trace end
+  starts_to : (n : ℕ) (trace : List Event) (end : Ending (Left Value Memory)) → ComesTo (around s) n m1 trace end → StartsTo s n m trace end
   starts_to n trace (has_ended left) r = exits_behind trace left r
   starts_to n trace is_undefined r = let step = first_step.by r.steps in record { steps = step.0; to = r.to; comes = step.1.1 ∙ r.comes; output = r.output }
   starts_to n trace is_short r =
@@ -196,7 +197,7 @@ module _ (s : Setup) (arguments : List Value) (w : World) (l : Lay) (m : Watched
       let enough = r.enough in
       let low_then = r.seen.low in
       let same = low_same in
-      record { steps = step.0; to = r.to; enough = omega (arith, more, enough); comes = step.1.1 ∙ r.comes; seen = record { output = r.seen.output; low = omega (arith, low_then, same) } }
+      record { steps = step.0; to = r.to; enough = omega (arith, more, enough); comes = step.1.1 ∙ r.comes; seen = record { output = r.seen.output; x2 = r.seen.x2; low = omega (arith, low_then, same) } }
 
   runs : (n : ℕ) → HasRoom s arguments w m n → StartsTo s n m (events_of (main_run s arguments w n)) (ending_of (main_run s arguments w n))
   runs n room = starts_to n (events_of (main_run s arguments w n)) (ending_of (main_run s arguments w n)) (emitted_code_follows s s.unit.main arguments w l m1 n entered room)

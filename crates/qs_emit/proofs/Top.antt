@@ -16,8 +16,9 @@ use Rattle.qs_emit.specs.Lies.{StandsFor}
 use Rattle.qs_tac.specs.Units.{placed_run}
 use Rattle.qs_tac.proofs.PlacesLaws.{places_keep_runs}
 use Rattle.qs_emit.specs.Machine.{Watched}
-use Rattle.qs_emit.specs.Relation.{Setup, no_function, function_at, Lay}
-use Rattle.qs_emit.specs.Emitted.{IsEntry, Follows, EmittedCodeFollows}
+use Rattle.qs_emit.specs.Surroundings.{Lay}
+use Rattle.qs_emit.specs.Relation.{Setup, no_function, function_at, entry, around}
+use Rattle.qs_emit.specs.Entries.{IsEntry, Follows, EmittedCodeFollows}
 use Rattle.qs_emit.proofs.Slots.{reads_free}
 use Rattle.qs_emit.proofs.Operands.{holder}
 use Rattle.qs_emit.proofs.Followed.{follows_later, undefined_behind, follows_short, follows_given}
@@ -26,7 +27,7 @@ use Rattle.qs_emit.proofs.Enters.{IsEntered}
 use Rattle.qs_emit.proofs.Enters.{enters as machine_enters}
 use Rattle.qs_emit.proofs.Sim.{follows}
 
-entered : (s : Setup) (root : ℕ) (arguments : List Value) (w : World) (l : Lay) (m : Watched) → IsEntry s root arguments w l m → IsEntered s root arguments w [] l m
+entered : (s : Setup) (root : ℕ) (arguments : List Value) (w : World) (l : Lay) (m : Watched) → IsEntry s.unit (around s) (entry s root) root arguments w l m → IsEntered s root arguments w [] l m
 entered s root arguments w l m h =
     let x2 = h.x2 in
     let al = h.aligned in
@@ -50,17 +51,17 @@ entered s root arguments w l m h =
       steady = record { set = grind (arith, nat_tests, x2, al); low = omega (arith, low); bytes = h.bytes };
     }
 
-module _ (s : Setup) (root : ℕ) (arguments : List Value) (w : World) (l : Lay) (m : Watched) (h : IsEntry s root arguments w l m) where
+module _ (s : Setup) (root : ℕ) (arguments : List Value) (w : World) (l : Lay) (m : Watched) (h : IsEntry s.unit (around s) (entry s root) root arguments w l m) where
   low_is : m.low ≤ m.now.registers 2
   low_is = let e = h.low in omega (arith, e)
 
   -- the first step enters the root
-  root_enters : (n : ℕ) → Follows s (suc n) m (enters (holder s) s.unit (steps (holder s) s.unit n) [] root arguments leaves w)
+  root_enters : (n : ℕ) → Follows (around s) (suc n) m (enters (holder s) s.unit (steps (holder s) s.unit n) [] root arguments leaves w)
   root_enters n = follows_given s (suc n) m (slice_get s.unit.functions root) _ (λ g is. begins g is)
     where
-      begins : (g : TacFunctionTree) → slice_get s.unit.functions root ≡ Some g → Follows s (suc n) m (activate root (record { parameters = g.parameters; blocks = g.blocks }) (begins_body (holder s) (steps (holder s) s.unit n) [] root) arguments leaves w)
+      begins : (g : TacFunctionTree) → slice_get s.unit.functions root ≡ Some g → Follows (around s) (suc n) m (activate root (record { parameters = g.parameters; blocks = g.blocks }) (begins_body (holder s) (steps (holder s) s.unit n) [] root) arguments leaves w)
       begins g is =
-          subst (λ (z : RootRun). Follows s (suc n) m (emit (Calls root) z))
+          subst (λ (z : RootRun). Follows (around s) (suc n) m (emit (Calls root) z))
           (sym (pass_is g.parameters arguments (length w.memory) no_values (with_memory w (make g.blocks w.memory)) (λ e v. steps (holder s) s.unit n (record { function = root; at = 0; first_block = number; held = (holder s).enter root e }) v [])))
           (by (passes g.parameters arguments (length w.memory) no_values (make g.blocks w.memory)) refl)
         where
@@ -70,7 +71,7 @@ module _ (s : Setup) (root : ℕ) (arguments : List Value) (w : World) (l : Lay)
           same : function_at s.unit root ≡ g
           same = get_or_from_slice_get s.unit.functions root g no_function is
 
-          by : (o : Option Passed) → passes g.parameters arguments (length w.memory) no_values (make g.blocks w.memory) ≡ o → Follows s (suc n) m (emit (Calls root) (given o (λ r. steps (holder s) s.unit n (record { function = root; at = 0; first_block = number; held = (holder s).enter root r.environment }) (with_memory (with_memory w (make g.blocks w.memory)) r.memory) [])))
+          by : (o : Option Passed) → passes g.parameters arguments (length w.memory) no_values (make g.blocks w.memory) ≡ o → Follows (around s) (suc n) m (emit (Calls root) (given o (λ r. steps (holder s) s.unit n (record { function = root; at = 0; first_block = number; held = (holder s).enter root r.environment }) (with_memory (with_memory w (make g.blocks w.memory)) r.memory) [])))
           by None q room = undefined_behind s (suc n) m (Calls root) refl room
           by (Some r) q room =
               let passed : passes (function_at s.unit root).parameters arguments (length w.memory) no_values (make (function_at s.unit root).blocks w.memory) ≡ Some r = subst (λ (z : TacFunctionTree). passes z.parameters arguments (length w.memory) no_values (make z.blocks w.memory) ≡ Some r) (sym same) q in
@@ -78,10 +79,10 @@ module _ (s : Setup) (root : ℕ) (arguments : List Value) (w : World) (l : Lay)
               follows_later s n m e.to (Some (Calls root)) (steps (holder s) s.unit n (record { function = root; at = 0; first_block = length w.memory; held = (holder s).enter root r.environment }) (with_memory w r.memory) []) low_is e.reaches
               (follows s n (record { function = root; at = 0; first_block = length w.memory; held = (holder s).enter root r.environment }) (with_memory w r.memory) [] e.lay_there e.to e.stands) room
 
-  placed_follows : (n : ℕ) → Follows s n m (placed_run s.unit s.places root arguments w n)
+  placed_follows : (n : ℕ) → Follows (around s) n m (placed_run s.unit s.places root arguments w n)
   placed_follows zero = follows_short s m low_is
   placed_follows (suc n) = root_enters n
 
 pub emitted_code_follows : EmittedCodeFollows
 emitted_code_follows s root arguments w l m n h =
-    subst (λ (z : RootRun). Follows s n m z) (places_keep_runs s.unit s.places s.emittable.places root arguments w n) (placed_follows s root arguments w l m h n)
+    subst (λ (z : RootRun). Follows (around s) n m z) (places_keep_runs s.unit s.places s.emittable.places root arguments w n) (placed_follows s root arguments w l m h n)

@@ -22,7 +22,8 @@ use Rattle.qs_select.specs.Operands.{Context, address_into, is_word_address}
 use Rattle.qs_select.specs.Emission.{copy_code, fill_code}
 use Rattle.qs_emit.specs.Machine.{Watched}
 use Rattle.qs_emit.specs.Lies.{IsOwn}
-use Rattle.qs_emit.specs.Relation.{Setup, context, function_at, Lay, ground}
+use Rattle.qs_emit.specs.Surroundings.{Lay, ground}
+use Rattle.qs_emit.specs.Relation.{Setup, context, function_at}
 use Rattle.qs_emit.proofs.Injection.{cells_same, cells_held}
 use Rattle.qs_emit.proofs.Steps.{Does, does_is, does_then, does_none, MayRead, MayWrite}
 use Rattle.qs_emit.proofs.Kept.{saved_none, cell_own}

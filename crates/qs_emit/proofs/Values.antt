@@ -21,7 +21,8 @@ use Rattle.qs_memory.proofs.BlockLaws.{live_known, target_is}
 use Rattle.qs_memory.proofs.PointerLaws.{move_needs, equal_needs, equal_same}
 use Rattle.qs_emit.specs.Machine.{base}
 use Rattle.qs_emit.specs.Lies.{Points, StandsForPointer, StandsFor, cell_of}
-use Rattle.qs_emit.specs.Relation.{Setup, Ground, HasBlocks}
+use Rattle.qs_emit.specs.Surroundings.{Ground, HasBlocks}
+use Rattle.qs_emit.specs.Relation.{Setup, around}
 use Rattle.qs_emit.proofs.Access.{lies_low, have_words, stands_word}
 use Rattle.qs_emit.proofs.Words.{of_test, goes_up, goes_down, distance_signed}
 
@@ -35,7 +36,7 @@ stands_test m address_of false word e = (e, omega arith)
 pub stands_is : (m : Memory) (address_of : ℕ → ℕ) (v w : Value) (word : ℕ) → v ≡ w → StandsFor m address_of v word → StandsFor m address_of w word
 stands_is m address_of v w word e h = subst (λ (u : Value). StandsFor m address_of u word) e h
 
-module _ (s : Setup) (g : Ground) (sp : ℕ) (blocks : HasBlocks s g sp) (above : base s.room ≤ sp) where
+module _ (s : Setup) (g : Ground) (sp : ℕ) (blocks : HasBlocks (around s) g sp) (above : base s.room ≤ sp) where
   abbrev Stands : Value → ℕ → Type 0
   Stands v word = StandsFor g.memory g.address_of v word
 

@@ -9,9 +9,10 @@ use Rattle.qs_image.specs.Image.{Image}
 use Rattle.qs_machine.specs.State.{State, stack_pointer}
 use Rattle.qs_machine.specs.Step.{StepResult, Next, Exits, Traps, act, act_on, fetch, step_on, step}
 use Rattle.qs_machine.specs.Run.{outcome_after, run, least_after, least_from}
-use Rattle.qs_emit.specs.Machine.{Room, Watched, goes, only, keeps_to, is_set, stirred_byte, stirred, then_goes, watch_on, after, watched, IsQuiet, Refines}
+use Rattle.qs_emit.specs.Machine.{Room, Watched, Sight, goes, exits, traps, breaks, only, keeps_to, is_set, stirred_byte, stirred, then_goes, watch_on, watch, after, watched, IsQuiet, Refines}
+use Rattle.qs_emit.specs.Laws.{Leads, WatchingSteps, WatchingLeads}
 
-least_is_least : (image : Image) (size steps : ℕ) (s : State) → least_from image size steps s ≤ stack_pointer s
+pub least_is_least : (image : Image) (size steps : ℕ) (s : State) → least_from image size steps s ≤ stack_pointer s
 least_is_least image size zero s = omega arith
 least_is_least image size (suc steps) s = first (step image size s)
   where
@@ -67,3 +68,47 @@ module _ (image : Image) (r : Room) (quiet : IsQuiet r) where
   pub watching_refines : (steps : ℕ) (w : Watched) → w.low ≤ stack_pointer w.now → Refines (watched image r steps w) (run image r.size steps w.now) (min w.low (least_from image r.size steps w.now))
   watching_refines zero w low = (refl, omega (arith, low))
   watching_refines (suc steps) w low = fetched_refines steps w (fetch image w.now.pc) (watching_refines steps) low
+
+-- ---- steps
+
+-- what a step gives is what is watched, but for what others make of it
+abbrev IsNext : Room → (w to : Watched) → StepResult → Type 0
+IsNext r w to result = (next : State) × ((result ≡ Next next) × (to.now ≡ stirred r w.time next))
+
+module _ (image : Image) (r : Room) (w to : Watched) where
+  set_next : (set : Bool) (s : State) → only set (goes (record { now = stirred r w.time s; low = min w.low (stack_pointer s); time = w.time + 1 })) ≡ goes to → to.now ≡ stirred r w.time s
+  set_next true s e = cc
+  set_next false s e = cc
+
+  result_next : (result : StepResult) → then_goes r w result ≡ goes to → IsNext r w to result
+  result_next (Next s) e = (s, (refl, set_next (is_set r s) s e))
+  result_next (Exits status) e = cc
+  result_next (Traps cause) e = cc
+
+  kept_next : (keeps : Bool) (result : StepResult) → only keeps (then_goes r w result) ≡ goes to → IsNext r w to result
+  kept_next true result e = result_next result e
+  kept_next false result e = cc
+
+  decoded_next : (o : Option Instr) → watch_on image r w o ≡ goes to → IsNext r w to (act_on image r.size w.now o)
+  decoded_next None e = cc
+  decoded_next (Some i) e = kept_next (keeps_to r w.now i) (act image r.size w.now i) e
+
+  fetched_next : (o : Option ℕ) → watch_on image r w (o >>= decode_of) ≡ goes to → IsNext r w to (step_on image r.size w.now o)
+  fetched_next None e = cc
+  fetched_next (Some word) e = decoded_next (decode_of word) e
+
+pub watching_steps : WatchingSteps
+watching_steps image r w to e = let n = fetched_next image r w to (fetch image w.now.pc) e in record { next = n.0; steps = n.1.0; stirs = n.1.1 }
+
+pub watching_leads : WatchingLeads
+watching_leads image r zero w to quiet e = cc
+watching_leads image r (suc steps) w to quiet e = by (watch image r w) refl e (λ m rest. watching_leads image r steps m to quiet rest)
+  where
+    by : (x : Sight) → watch image r w ≡ x → after x (watched image r steps) ≡ goes to → ((m : Watched) → watched image r steps m ≡ goes to → Leads image r.size steps m.now to.now) → Leads image r.size (suc steps) w.now to.now
+    by (goes m) is rest more =
+        let n = watching_steps image r w m is in
+        let same : m.now ≡ n.next = n.stirs ∙ stirred_same image r quiet w.time n.next in
+        (n.next, (n.steps, subst (λ (s : State). Leads image r.size steps s to.now) same (more m rest)))
+    by (exits output status low) is rest more = cc
+    by (traps cause pc output) is rest more = cc
+    by breaks is rest more = cc

@@ -11,7 +11,8 @@ use Rattle.qs_tac.specs.Values.{Activation}
 use Rattle.qs_tac.specs.Steps.{Waiting}
 use Rattle.qs_emit.specs.Lies.{number_at, Holds, HoldAll, cell_of, Lies, IsOwn}
 use Rattle.qs_emit.specs.Lies.{frame as of_frame}
-use Rattle.qs_emit.specs.Relation.{Setup, context, cost, caller_registers, HasStack, Lay, ground, IsRelated}
+use Rattle.qs_emit.specs.Surroundings.{Lay, ground}
+use Rattle.qs_emit.specs.Relation.{Setup, context, cost, caller_registers, HasStack, IsRelated}
 use Rattle.qs_emit.proofs.Injection.{Later, cell_kept}
 use Rattle.qs_emit.proofs.Bytes.{number_same}
 use Rattle.qs_emit.proofs.Kept.{Onward, saved_none, reach_onward, frame_onward, caller_same, stack_onward, cell_own, not_both}

@@ -1,6 +1,10 @@
 pub mod Machine
 pub mod Lies
+pub mod Surroundings
 pub mod Relation
-pub mod Emitted
+pub mod Entries
 pub mod Started
+pub mod Images
+pub mod Agree
+pub mod Emitted
 pub mod Laws

@@ -1,5 +1,6 @@
 -- How block memory lies in the machine's: where each block lies, to whom each byte belongs, and what bytes stand for.
-use Rattle.std.specs.Prelude.{◌≡◌, ◌⊎◌, ℕ, zero, suc, ◌+◌, ◌*◌, ◌/◌, ◌%◌, ◌^◌, ◌<◌, ◌≤◌, true, List, [], ◌∷◌, length}
+use Rattle.std.specs.Prelude.{◌≡◌, ◌⊎◌, ℕ, zero, suc, ◌+◌, ◌-◌, ◌*◌, ◌/◌, ◌%◌, ◌^◌, ◌<◌, ◌≤◌, ◌&&◌, nat_le, nat_lt, true}
+use Rattle.std.specs.Prelude.{if◌then◌else◌, List, [], ◌∷◌, length}
 use Rattle.qs_memory.specs.Values.{Pointer, null, into, Value, integer, address}
 use Rattle.qs_memory.specs.Memory.{Cell, unset, byte, part, Block, Memory, block_at}
 use Rattle.qs_memory.specs.Soundness.{IsLive}
@@ -71,6 +72,21 @@ pub record Lies (m : Memory) (address_of : ℕ → ℕ) (owner : ℕ → Owner) 
       (block offset : ℕ) → IsLive m block → offset < (block_at m block).size
       → Holds m address_of ((block_at m block).cells offset) (flat (address_of block + offset))
   pub aligned : (block : ℕ) → IsLive m block → address_of block % 4 ≡ 0
+
+-- live blocks lie in ranges that don't meet
+pub record AreApart (m : Memory) (address_of : ℕ → ℕ) : Type 0 where
+  pub apart :
+      (block other : ℕ) → (block ≡ other → ⊥) → IsLive m block → IsLive m other
+      → (address_of block + (block_at m block).size ≤ address_of other)
+      ⊎ (address_of other + (block_at m other).size ≤ address_of block)
+
+-- to which of the blocks a byte belongs that have numbers from this one on
+abbrev pub owner_among : Memory → (address_of : ℕ → ℕ) → (number at : ℕ) → Owner
+owner_among [] address_of number at = nobody
+owner_among (block ∷ blocks) address_of number at =
+    if block.is_live && nat_le (address_of number) at && nat_lt at (address_of number + block.size)
+    then cell_of number (at - address_of number)
+    else owner_among blocks address_of (number + 1) at
 
 -- a block in the image's data: nobody else changes its bytes, and they may be written where the block may
 pub record IsInData (image : Image) (r : Room) (block : Block) (from : ℕ) : Type 0 where

@@ -24,7 +24,8 @@ use Rattle.qs_frames.specs.Layout.{rounded, offset, slot_count, used_registers, 
 use Rattle.qs_emit.specs.Machine.{Room, Watched, base, instruction_at}
 use Rattle.qs_select.specs.Operands.{Context, frame_of, slot_offset, local_offset}
 use Rattle.qs_select.specs.Emission.{first_label, unit_items, take_result}
-use Rattle.qs_emit.specs.Lies.{number_at, AreBytes, StandsFor, Owner, frame, Lies, IsInReach}
+use Rattle.qs_emit.specs.Lies.{number_at, AreBytes, StandsFor, frame, IsInReach}
+use Rattle.qs_emit.specs.Surroundings.{Surroundings, Ground, Lay, ground, HasBlocks}
 
 -- the data in order, each at its least multiple of 4
 abbrev pub data_address : List TacData → (block : ℕ) → ℕ
@@ -98,6 +99,18 @@ pub record Setup : Type 0 where
   pub data_lie :
       (block : ℕ) → block < length unit.data_blocks → addresses block ≡ data_address unit.data_blocks block
 
+-- what a run in it finds
+abbrev pub around : Setup → Surroundings
+around s = record {
+  image = s.image;
+  room = s.room;
+  costs = cost_at s.unit s.places;
+  return_to = s.return_to;
+  root_registers = s.root_registers;
+  first = s.first;
+  addresses = s.addresses;
+}
+
 module _ (s : Setup) where
   abbrev pub context : (f : ℕ) → Context
   context f = context_at s.unit s.places f
@@ -114,14 +127,6 @@ module _ (s : Setup) where
 
 -- ---- frames
 
--- block memory, where it lies, and the machine's bytes
-pub record Ground : Type 0 where
-  pub memory : Memory
-  pub address_of : ℕ → ℕ
-  pub owner : ℕ → Owner
-  pub flat : ℕ → ℕ
-
--- the word in a place of the frame at x2
 abbrev pub word_in : Context → (registers flat : ℕ → ℕ) → (sp : ℕ) → Place → ℕ
 word_in c registers flat sp (Slot k) = number_at 4 flat (sp + slot_offset c k)
 word_in c registers flat sp (Register r) = registers r
@@ -209,26 +214,7 @@ abbrev pub root_block : (number : ℕ) → List (Waiting File) → ℕ
 root_block number [] = number
 root_block number (w ∷ stack) = root_block w.activation.first_block stack
 
--- ---- blocks
-
--- live blocks lie in the stack from x2 on, or in the data; those of the memory to start from lie where they lay
-pub record HasBlocks (s : Setup) (g : Ground) (sp : ℕ) : Type 0 where
-  pub lies : Lies g.memory g.address_of g.owner g.flat
-  pub in_reach :
-      (block : ℕ) → IsLive g.memory block
-      → IsInReach s.image s.room sp (block_at g.memory block) (g.address_of block)
-  pub old : (block : ℕ) → block < s.first → g.address_of block ≡ s.addresses block
-  pub made : s.first ≤ length g.memory
-
 -- ---- the relation
-
--- addresses and owners
-pub record Lay : Type 0 where
-  pub address_of : ℕ → ℕ
-  pub owner : ℕ → Owner
-
-abbrev pub ground : Memory → Lay → (flat : ℕ → ℕ) → Ground
-ground m l flat = record { memory = m; address_of = l.address_of; owner = l.owner; flat = flat }
 
 -- a run of linear code, and the machine's registers and bytes
 pub record IsRelated (s : Setup) (a : Activation File) (m : Memory) (stack : List (Waiting File)) (l : Lay)
@@ -239,7 +225,7 @@ pub record IsRelated (s : Setup) (a : Activation File) (m : Memory) (stack : Lis
   pub above :
       HasStack s (ground m l flat) stack (caller_registers (context s a.function) registers flat sp)
       (sp + cost s a.function) (number_at 4 flat sp)
-  pub blocks : HasBlocks s (ground m l flat) sp
+  pub blocks : HasBlocks (around s) (ground m l flat) sp
   pub root : root_block a.first_block stack ≡ s.first
 
 -- the machine stands where the code of the next instruction begins

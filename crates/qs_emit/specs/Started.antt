@@ -13,8 +13,9 @@ use Rattle.qs_tac.specs.Holders.{is_saved_register}
 use Rattle.qs_tac.specs.Units.{tac_run}
 use Rattle.qs_emit.specs.Machine.{Watched, exits, traps, breaks, base, watched}
 use Rattle.qs_emit.specs.Lies.{AreBytes, StandsFor}
-use Rattle.qs_emit.specs.Relation.{Setup, cost, function_at, Lay, ground, HasBlocks}
-use Rattle.qs_emit.specs.Emitted.{GoesOn, CameFar}
+use Rattle.qs_emit.specs.Surroundings.{Lay, ground, HasBlocks}
+use Rattle.qs_emit.specs.Relation.{Setup, cost, function_at, around}
+use Rattle.qs_emit.specs.Entries.{GoesOn, CameFar}
 
 -- the run of main, within n steps
 abbrev pub main_run : Setup → List Value → World → (n : ℕ) → RootRun
@@ -32,7 +33,7 @@ pub record IsStart (s : Setup) (arguments : List Value) (w : World) (l : Lay) (m
   pub arguments_in :
       (i : ℕ) (v : Value) → slice_get arguments i ≡ Some v
       → StandsFor w.memory l.address_of v (register m.now (a0 + i))
-  pub blocks : HasBlocks s (ground w.memory l m.now.memory) (stack_pointer m.now)
+  pub blocks : HasBlocks (around s) (ground w.memory l m.now.memory) (stack_pointer m.now)
   pub first : s.first ≡ length w.memory
   pub saved :
       (r : ℕ) → is_saved_register r ≡ true → (m.now.registers r ≡ s.root_registers r) × (m.now.registers r < 2 ^ 32)
@@ -55,8 +56,8 @@ pub record ExitsBehind (s : Setup) (m : Watched) (trace : List Event) (result : 
 
 abbrev pub StartsTo : Setup → (n : ℕ) → Watched → List Event → Ending (Left Value Memory) → Type 0
 StartsTo s n m trace (has_ended left) = ExitsBehind s m trace left.result
-StartsTo s n m trace is_undefined = CameFar s m trace
-StartsTo s n m trace is_short = GoesOn s n m trace
+StartsTo s n m trace is_undefined = CameFar (around s) m trace
+StartsTo s n m trace is_short = GoesOn (around s) n m trace
 
 -- an exit is that of the run
 pub record IsExitOf (s : Setup) (m : Watched) (run : RootRun) (output : List ℕ) (status low : ℕ) : Type 0 where

@@ -3,4 +3,7 @@
 
 mod laws;
 
-pub use laws::{emitted_code_follows, emitted_code_follows_from_start, watching_refines};
+pub use laws::{
+    blocks_apart_have_owners, code_is_short, emitted_code_follows, emitted_code_follows_from_start,
+    images_follow, watching_leads, watching_refines, watching_steps,
+};

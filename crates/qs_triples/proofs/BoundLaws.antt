@@ -47,7 +47,10 @@ spec_there proofs g spec h = by (entry_of proofs g) refl h
         some_spec : (a b : SpecTree) → Some a ≡ Some b → a ≡ b
         some_spec a b h = cc
 
-module _ (u : CoreUnitTree) (fits : unit_fits u ≡ true) (given proofs : ProofsTree) (closed : AreClosed proofs.defines) (covers : Covers u given proofs) (metric : Costs) where
+module _ (u : CoreUnitTree) (fits : unit_fits u ≡ true) (given proofs : ProofsTree) (covers : Covers u given proofs) (metric : Costs) where
+  closed : AreClosed proofs.defines
+  closed = covers.closed
+
   known : (g : ℕ) (f : CoreFunctionTree) → slice_get u.functions g ≡ Some f → (e : EntryTree) × (entry_of proofs g ≡ Some e)
   known g f is = first_there proofs.functions g (covers.one g (slice_get_within u.functions g f is))
 
@@ -91,9 +94,9 @@ module _ (u : CoreUnitTree) (fits : unit_fits u ≡ true) (given proofs : Proofs
       (keeps_spec u fits proofs closed metric turns depth g f e.0.spec is (valid_body turns depth (all_keep turns depth) f e.0 here valid))
 
 pub derivations_bound_runs : DerivationsBoundRuns
-derivations_bound_runs u given proofs root f e arguments w fits closed covers is has may metric n =
+derivations_bound_runs u given proofs root f e arguments w fits covers is has may metric n =
     subst (λ (v : Extended). AtLeast (plus (finite (metric root)) v) (finite (run_weight metric (core_run u root arguments w n))))
-    (ap (value e.spec.pre) (sym (state_is metric proofs.defines closed (number_at f (at_entry f arguments)))))
+    (ap (value e.spec.pre) (sym (state_is metric proofs.defines covers.closed (number_at f (at_entry f arguments)))))
     (at_top (metric root) (run_weight metric (core_run u root arguments w n)) (at_valuation metric proofs.defines f (at_entry f arguments) e.spec.pre)
-    (all_keep u fits given proofs closed covers metric n n root f e.spec is (ap (option_map (λ (e : EntryTree). e.spec)) has) 0 arguments leaves w may
+    (all_keep u fits given proofs covers metric n n root f e.spec is (ap (option_map (λ (e : EntryTree). e.spec)) has) 0 arguments leaves w may
     (λ result z ret. zero_below _ (metric root + 0))))

@@ -123,6 +123,13 @@ pub record IsPathEntry (u : CoreUnitTree) (proofs : ProofsTree) (e : EntryTree) 
   pub closed : variables e.spec.pre ≡ []
   pub pays : (g : ℕ) → HasCall u e.function g → PaysFor u proofs e.spec.pre g
 
+-- ---- definitions
+
+-- A definition mentions no variable, so a name has one value in each state.
+abbrev pub AreClosed : List Define → Type 0
+AreClosed [] = Unit {0}
+AreClosed (d ∷ ds) = (variables d.body ≡ []) × AreClosed ds
+
 -- ---- valid entries
 
 abbrev pub IsValid : CoreUnitTree → ProofsTree → EntryTree → Type 0
@@ -134,6 +141,8 @@ has_entry proofs f = is_some (entry_of proofs f)
 -- Each function of the unit has exactly one entry. Those of the functions that have one in the file are derived, the
 -- others are valid.
 pub record Covers (u : CoreUnitTree) (given proofs : ProofsTree) : Type 0 where
+  -- what pays for a call has to do so at the callee's arguments too
+  pub closed : AreClosed proofs.defines
   pub one : (f : ℕ) → f < length u.functions → length (entries_of proofs f) ≡ 1
   pub derived :
       (f : ℕ) (e : EntryTree) → f < length u.functions → has_entry given f ≡ true
@@ -141,10 +150,3 @@ pub record Covers (u : CoreUnitTree) (given proofs : ProofsTree) : Type 0 where
   pub valid :
       (f : ℕ) (e : EntryTree) → f < length u.functions → entry_of proofs f ≡ Some e
       → IsValid u proofs e
-
--- ---- definitions
-
--- A definition mentions no variable, so a name has one value in each state.
-abbrev pub AreClosed : List Define → Type 0
-AreClosed [] = Unit {0}
-AreClosed (d ∷ ds) = (variables d.body ≡ []) × AreClosed ds

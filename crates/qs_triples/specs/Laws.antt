@@ -13,7 +13,7 @@ use Rattle.qs_core.specs.Fits.{unit_fits}
 use Rattle.qs_core.specs.Units.{core_run}
 use Rattle.qs_triples.specs.Derivations.{EntryTree, ProofsTree, entry_of}
 use Rattle.qs_triples.specs.Valuations.{value_at_entry}
-use Rattle.qs_triples.specs.Entries.{AreClosed, Covers}
+use Rattle.qs_triples.specs.Entries.{Covers}
 
 -- For every stack metric, the runs of a root from these arguments, memory and input weigh, within each bound, at most the
 -- root's cost and the value of its precondition at the arguments.
@@ -30,7 +30,7 @@ abbrev pub DerivationsBoundRuns : Type 0
 DerivationsBoundRuns =
     (u : CoreUnitTree) (given proofs : ProofsTree) (root : ℕ) (f : CoreFunctionTree) (e : EntryTree)
     (arguments : List Value) (w : World)
-    → unit_fits u ≡ true → AreClosed proofs.defines → Covers u given proofs
+    → unit_fits u ≡ true → Covers u given proofs
     → slice_get u.functions root ≡ Some f → entry_of proofs root ≡ Some e
     → MayStart (interface_of u) root arguments w
     → BoundsRuns u proofs root f e arguments w

@@ -1,0 +1,10 @@
+pub mod MemberLaws
+pub mod MarkLaws
+pub mod StmtTrees
+pub mod UnitCalls
+pub mod PathLaws
+pub mod SearchLaws
+pub mod StepLaws
+pub mod OrderLaws
+pub mod CallerLaws
+pub mod OpenLaws

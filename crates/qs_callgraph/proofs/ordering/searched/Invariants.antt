@@ -1,0 +1,11 @@
+use Rattle.std.proofs.Common.{◌≡◌, ◌<◌, ℕ, [], false}
+use Rattle.qs_callgraph.specs.CallLists.{flag, number_lists, numbers}
+use Rattle.qs_callgraph.specs.Searches.{HoldsIn, is_new, progress_of}
+use Rattle.qs_callgraph.proofs.ordering.searched.Given as goal
+
+abbrev pub invariant-loop-i : goal.invariant-loop-i
+invariant-loop-i l = record {
+  holds : HoldsIn (number_lists l.graph) l.has_spec l.search;
+  ended : numbers l.search.path.items ≡ [];
+  begun : (h : ℕ) → h < l.i → flag l.has_spec h ≡ false → is_new (progress_of l.search.progress.items h) ≡ false;
+}

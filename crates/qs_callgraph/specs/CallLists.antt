@@ -1,0 +1,41 @@
+-- The functions that each function calls, as lists of numbers.
+use Rattle.std.specs.Prelude.{◌≡◌, ℕ, ◌<◌, ◌==◌, Bool, true, false, List, [], ◌∷◌, length, map, slice_index_or, slice_set}
+use Rattle.std.specs.List.{list_any}
+use Rattle.std.specs.declared.alloc.Global.{Global}
+use Rattle.std.specs.declared.vec.Vec.{Vec}
+use Rattle.qs_base.specs.declared.function.FnId.{FnId}
+use Rattle.qs_core.specs.CallGraph.{below, called_by}
+use Rattle.qs_core.specs.Trees.{CoreUnitTree}
+
+abbrev pub numbers : List FnId → List ℕ
+numbers fs = map (λ (f : FnId). f.0) fs
+
+abbrev pub numbers_in : Vec FnId Global → List ℕ
+numbers_in fs = numbers fs.items
+
+abbrev pub number_lists : List (Vec FnId Global) → List (List ℕ)
+number_lists graph = map numbers_in graph
+
+-- the functions that each function of the unit calls
+abbrev pub call_lists : CoreUnitTree → List (List ℕ)
+call_lists u = map (called_by u) (below (length u.functions))
+
+abbrev pub callees_in : List (List ℕ) → (f : ℕ) → List ℕ
+callees_in graph f = slice_index_or graph f []
+
+-- a value for each function, false for what is none
+abbrev pub flag : List Bool → (f : ℕ) → Bool
+flag flags f = slice_index_or flags f false
+
+abbrev pub is_member : ℕ → List ℕ → Bool
+is_member f fs = list_any (λ g. g == f) fs
+
+-- with those in the list marked
+abbrev pub marked : List ℕ → List Bool → List Bool
+marked [] marks = marks
+marked (g ∷ gs) marks = marked gs (slice_set marks g true)
+
+-- there is a value for each function, and all that are called are functions
+pub record IsGraph (graph : List (List ℕ)) (flags : List Bool) : Type 0 where
+  pub as_many : length flags ≡ length graph
+  pub within : (f g : ℕ) → is_member g (callees_in graph f) ≡ true → g < length graph

@@ -134,7 +134,6 @@ these_fit :
     ∷ same_pointers pointer_to null_pointer
     ∷ conversion scalars.Char uint
     ∷ conversion scalars.Int char
-    ∷ conversion scalars.Pointer pointer_to
     ∷ logical_and char pointer_to
     ∷ logical_or pointer_to int
     ∷ conditional char pointer_to null_pointer
@@ -183,6 +182,7 @@ these_are_refused :
     ∷ same_pointers pointer_to int
     ∷ same_pointers int pointer_to
     ∷ conversion scalars.Pointer int
+    ∷ conversion scalars.Pointer pointer_to
     ∷ conversion scalars.Int pointer_to
     ∷ conversion scalars.Char pointer_to
     ∷ conversion scalars.Unsigned pointer_to

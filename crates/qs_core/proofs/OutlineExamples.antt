@@ -5,13 +5,12 @@ use Rattle.qs_memory.specs.declared.scalar.Scalar.TheVariants as scalars
 use Rattle.qs_memory.specs.declared.operation.Signedness.TheVariants.{Signed, Unsigned}
 use Rattle.qs_memory.specs.declared.operation.Arithmetic.TheVariants as arithmetics
 use Rattle.qs_memory.specs.declared.operation.Comparison.TheVariants as comparisons
-use Rattle.qs_memory.specs.declared.operation.UnaryOperation.TheVariants as unaries
 use Rattle.qs_memory.specs.declared.operation.BinaryOperation.TheVariants as binaries
 use Rattle.qs_calls.specs.declared.callee.Callee.TheVariants.{Function}
 use Rattle.qs_calls.specs.declared.parameter.Parameter.TheVariants.{Plain}
 use Rattle.qs_base.specs.Names.{is_name}
 use Rattle.qs_base.specs.Keywords.{is_keyword, keyword_of}
-use Rattle.qs_core.specs.Trees.{CoreExprTree, literal, null_pointer, variable, temporary, load, unary, binary, conversion, logical_and, logical_or, conditional, skip, call, branch, return, stmts_of, CoreFunctionTree, CoreUnitTree}
+use Rattle.qs_core.specs.Trees.{CoreExprTree, literal, variable, temporary, binary, skip, call, branch, return, stmts_of, CoreFunctionTree, CoreUnitTree}
 use Rattle.qs_core.specs.Fits.{unit_fits}
 use Rattle.qs_core.specs.declared.term.TermOperation.TheVariants.{Add, Subtract}
 use Rattle.qs_core.specs.declared.term.TermComparison.TheVariants.{LessOrEqual, Less, Equal, NotEqual}

@@ -1,5 +1,5 @@
 -- How many values and words the forms of core need, computed from the definition; names as in int x, y; int *p.
-use Rattle.std.proofs.Common.{◌≡◌, ℕ, ◌+◌, ◌*◌, List, [], ◌∷◌, codes, Some, None, refl}
+use Rattle.std.proofs.Common.{◌≡◌, ◌+◌, ◌*◌, [], ◌∷◌, codes, Some, None, refl}
 use Rattle.qs_memory.specs.Memory.{zeros}
 use Rattle.qs_memory.specs.declared.scalar.Scalar.TheVariants.{Char, Int, Pointer}
 use Rattle.qs_memory.specs.declared.operation.Signedness.TheVariants.{Signed}
@@ -8,12 +8,12 @@ use Rattle.qs_memory.specs.declared.operation.Arithmetic.TheVariants.{Add}
 use Rattle.qs_memory.specs.declared.operation.Comparison.TheVariants.{Less}
 use Rattle.qs_memory.specs.declared.operation.BinaryOperation.TheVariants.{Arithmetic, Compare, Move}
 use Rattle.qs_calls.specs.declared.callee.Callee.TheVariants.{Function, PutChar}
-use Rattle.qs_calls.specs.declared.parameter.Parameter.TheVariants.{Plain, Placed}
+use Rattle.qs_calls.specs.declared.parameter.Parameter.TheVariants.{Placed}
 use Rattle.qs_core.specs.declared.numbers.BlockId.TheVariants.{Local, Data}
-use Rattle.qs_core.specs.declared.numbers.Target.TheVariants.{Variable, Temporary}
+use Rattle.qs_core.specs.declared.numbers.Target.TheVariants.{Variable}
 use Rattle.qs_core.specs.Trees.{CoreExprTree, literal, null_pointer, variable, temporary, address_of, load, member, binary, conversion, logical_and, conditional}
-use Rattle.qs_core.specs.Trees.{skip, assign, store, copy, fill, call, branch, loop, break, return, CoreStmts, stmts_of, CoreFunctionTree, CoreUnitTree}
-use Rattle.qs_core.specs.Sizes.{parts_held, held, all_held, held_in, values, taken_words, address_words, stmt_words, words, unit_words}
+use Rattle.qs_core.specs.Trees.{skip, assign, store, copy, fill, call, branch, loop, break, return, CoreStmts, stmts_of, CoreFunctionTree}
+use Rattle.qs_core.specs.Sizes.{parts_held, held, held_in, values, taken_words, address_words, stmt_words, words, unit_words}
 
 abbrev x : CoreExprTree
 x = variable Int 0
@@ -41,7 +41,7 @@ null_pointers = refl
 blocks : held (address_of (Data 3)) ≡ 0
 blocks = refl
 
-members_of_blocks : held (member 4 (member 8 (address_of (Local 0)))) ≡ 0
+members_of_blocks : held (member 4 (member 8 (address_of (Local 0)))) ≡ 1
 members_of_blocks = refl
 
 low_bytes : held (conversion Char (temporary Int 0)) ≡ 0
@@ -80,6 +80,10 @@ assigned = refl
 
 stored : held_in (store Int (element p x) (sum x y)) ≡ 2
 stored = refl
+
+-- the pointer and the count are held while the value is made
+stored_at_an_element : held_in (store Int (element (load Pointer p) (sum x y)) (sum x y)) ≡ 3
+stored_at_an_element = refl
 
 given : held_in (call None PutChar (sum x y ∷ x ∷ sum x y ∷ [])) ≡ 2
 given = refl
@@ -122,11 +126,18 @@ of_a_sum = refl
 of_a_literal : taken_words (sum x (literal Int 1)) ≡ 3 + 2 + 1 + 1 + 1
 of_a_literal = refl
 
-of_an_element : taken_words (load Int (element p x)) ≡ (3 + 3 + 4 + 1 + 1) + 1 + 1 + 1
+of_an_element : taken_words (load Int (element p x)) ≡ (3 + 3 + 5 + 1 + 1) + 1 + 1 + 1
 of_an_element = refl
 
 of_a_member : address_words (member 4 p) ≡ 3 + 2
 of_a_member = refl
+
+of_a_member_of_a_block : address_words (member 4 (address_of (Local 0))) ≡ 2
+of_a_member_of_a_block = refl
+
+-- what is converted is read as its low byte
+of_a_conversion : taken_words (conversion Char (sum x y)) ≡ (3 + 3 + 1 + 1) + 1 + 1 + 1
+of_a_conversion = refl
 
 of_a_test : stmt_words (branch (binary (Compare Less Signed) x y) skip skip) ≡ (3 + 3 + 2 + 1) + (1 + 2) + 2
 of_a_test = refl
@@ -140,10 +151,13 @@ of_a_loop = refl
 of_an_assignment : stmt_words (assign (Variable 0) x) ≡ 3 + 3
 of_an_assignment = refl
 
+of_an_assigned_sum : stmt_words (assign (Variable 0) (sum x y)) ≡ 3 + 3 + 1 + 3
+of_an_assigned_sum = refl
+
 of_a_copy : stmt_words (copy 8 4 p (address_of (Local 0))) ≡ (3 + 1) + (3 + 1) + 2 + 6
 of_a_copy = refl
 
-of_a_fill : stmt_words (fill (zeros 8) (address_of (Local 0))) ≡ (3 + 1) + 2 + 4
+of_a_fill : stmt_words (fill (zeros 8) (address_of (Local 0))) ≡ (3 + 1) + 2 + 4 + 3
 of_a_fill = refl
 
 of_a_call : stmt_words (call (Some 0) (Function (record { 0 = 1 })) (x ∷ y ∷ [])) ≡ 3 + (3 + 0) + 2 + 3

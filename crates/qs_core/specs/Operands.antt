@@ -1,5 +1,5 @@
 -- The types of the operands that an operation takes (C11 6.5.3.3 to 6.5.9).
-use Rattle.std.specs.Prelude.{ℕ, ◌+◌, ◌*◌, ◌&&◌, nat_le, Bool, true}
+use Rattle.std.specs.Prelude.{ℕ, ◌+◌, ◌*◌, ◌&&◌, nat_le, Bool, true, false}
 use Rattle.qs_memory.specs.Memory.{BlankTree, zeros, nulls, repeated, nothing, joined}
 use Rattle.qs_memory.specs.Operations.{integer_type}
 use Rattle.qs_memory.specs.declared.scalar.Scalar.{Scalar}
@@ -60,9 +60,9 @@ binary_takes (binaries.Move direction s element) t u =
 binary_takes (binaries.Difference element) t u = is_pointer t && is_pointer u && is_element element
 binary_takes (binaries.ComparePointers op) t u = is_pointer t && is_pointer u
 
--- 6.5.4p2, p4: an integer becomes an integer, and a pointer stays one
+-- 6.5.4p2, p4: an integer becomes an integer; of a pointer nothing is converted, whatever it points to
 abbrev pub conversion_takes : (to from : Scalar) → Bool
 conversion_takes scalars.Char t = is_integer t
 conversion_takes scalars.Int t = is_integer t
 conversion_takes scalars.Unsigned t = is_integer t
-conversion_takes scalars.Pointer t = is_pointer t
+conversion_takes scalars.Pointer t = false

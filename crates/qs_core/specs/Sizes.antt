@@ -1,31 +1,13 @@
 -- How many values a function needs, and a bound on the words of its machine code.
-use Rattle.std.specs.Prelude.{ℕ, ◌+◌, ◌*◌, max, Bool, true, false, List, [], ◌∷◌, length, sum_by, Option, Some, None, if◌then◌else◌}
+use Rattle.std.specs.Prelude.{ℕ, ◌+◌, ◌*◌, max, min, Bool, true, false, List, [], ◌∷◌, length, sum_by, Option, Some, None, if◌then◌else◌}
 use Rattle.qs_memory.specs.declared.operation.BinaryOperation.{BinaryOperation}
 use Rattle.qs_memory.specs.declared.operation.BinaryOperation.TheVariants as binaries
-use Rattle.qs_calls.specs.declared.callee.Callee.{Callee}
-use Rattle.qs_calls.specs.declared.callee.Callee.TheVariants.{Function, PutChar, GetChar}
 use Rattle.qs_core.specs.Trees.{CoreExprTree, literal, null_pointer, variable, temporary, address_of, load, member}
 use Rattle.qs_core.specs.Trees.{unary, binary, conversion, logical_and, logical_or, conditional}
 use Rattle.qs_core.specs.Trees.{CoreStmtTree, skip, seq, assign, store, copy, fill, call, branch, loop, break, continue, return}
 use Rattle.qs_core.specs.Trees.{CoreStmts, no_stmts, stmt_and, CoreFunctionTree, CoreUnitTree}
 
 -- ---- operands: what stands in an instruction as it is, so that nothing has to hold its value
-
--- the address of a block, or of what lies in one
-abbrev pub is_place : CoreExprTree → Bool
-is_place (literal s n) = false
-is_place null_pointer = false
-is_place (variable s x) = false
-is_place (temporary s k) = false
-is_place (address_of b) = true
-is_place (load s a) = false
-is_place (member offset a) = is_place a
-is_place (unary op a) = false
-is_place (binary op a b) = false
-is_place (conversion s a) = false
-is_place (logical_and a b) = false
-is_place (logical_or a b) = false
-is_place (conditional c a b) = false
 
 -- a converted operand is one too: the integer, or the low byte of the integer, in a temporary
 abbrev pub is_operand : CoreExprTree → Bool
@@ -35,7 +17,7 @@ is_operand (variable s x) = true
 is_operand (temporary s k) = true
 is_operand (address_of b) = true
 is_operand (load s a) = false
-is_operand (member offset a) = is_place a
+is_operand (member offset a) = false
 is_operand (unary op a) = false
 is_operand (binary op a b) = false
 is_operand (conversion s a) = is_operand a
@@ -80,13 +62,21 @@ abbrev pub option_held : Option CoreExprTree → ℕ
 option_held None = 0
 option_held (Some e) = held e
 
+-- an address is held as a pointer and a count of elements, of which each may be a value of its own, until it is made
+abbrev pub address_own : CoreExprTree → ℕ
+address_own e = min 2 (held e)
+
+-- an address, and behind it a value or another address
+abbrev pub access_held : (address value : CoreExprTree) → ℕ
+access_held a b = max (held a) (address_own a + held b)
+
 abbrev mutual
   pub held_in : CoreStmtTree → ℕ
   held_in skip = 0
   held_in (seq ss) = held_in_all ss
   held_in (assign x e) = parts_held e
-  held_in (store s a b) = all_held (a ∷ b ∷ [])
-  held_in (copy size alignment a b) = all_held (a ∷ b ∷ [])
+  held_in (store s a b) = access_held a b
+  held_in (copy size alignment a b) = access_held a b
   held_in (fill blank a) = held a
   held_in (call x f arguments) = all_held arguments
   held_in (branch e a b) = max (held e) (max (held_in a) (held_in b))
@@ -113,7 +103,7 @@ read_words (variable s x) = 3
 read_words (temporary s k) = 3
 read_words (address_of b) = 3
 read_words (load s a) = 1
-read_words (member offset a) = if is_place a then 3 else 1
+read_words (member offset a) = 1
 read_words (unary op a) = 1
 read_words (binary op a b) = 1
 read_words (conversion s a) = read_words a
@@ -128,37 +118,85 @@ kept_words = 3
 abbrev pub part_words : ℕ
 part_words = 1
 
--- LUI and ADDI give the size of an element, with MUL or DIV and ADD or SUB; a comparison may have its answer turned round
+-- LUI and ADDI give the size of an element, with MUL or DIV and ADD or SUB, and where a pointer moves ADDI gives what
+-- it comes to; a comparison may have its answer turned round
 abbrev pub operation_words : BinaryOperation → ℕ
 operation_words (binaries.Arithmetic op s) = 1
 operation_words (binaries.Compare op s) = 2
-operation_words (binaries.Move direction s element) = 4
+operation_words (binaries.Move direction s element) = 5
 operation_words (binaries.Difference element) = 4
 operation_words (binaries.ComparePointers op) = 2
 
--- what an expression is computed for: to be an operand; to be in a register as the address of an access; to be tested
+-- what an expression is computed for: to be an operand; to be in a register as the address of an access; to be tested;
+-- to be assigned
 pub data Use : Type 0 where
   as_operand : Use
   as_address : Use
   as_condition : Use
+  as_assigned : Use
 
--- a test has a branch round a JAL
+-- what the use of an operand takes; a test has a branch round a JAL
 abbrev pub use_words : Use → (read : ℕ) → ℕ
 use_words as_operand read = 0
 use_words as_address read = read
 use_words as_condition read = read + 2
+use_words as_assigned read = read + kept_words
 
--- LUI and ADD, and the access has the rest of the offset; ADDI where there is none
-abbrev pub member_words : Use → (base : ℕ) → ℕ
-member_words as_operand base = base + 3 + part_words
-member_words as_address base = base + 2
-member_words as_condition base = base + 3 + part_words + 3
+-- where a value is kept that is made in a register: what is assigned is made where it is wanted
+abbrev pub kept_by : Use → ℕ
+kept_by as_operand = part_words
+kept_by as_address = part_words
+kept_by as_condition = part_words
+kept_by as_assigned = kept_words
+
+-- and what its use takes then
+abbrev pub then_words : Use → ℕ
+then_words as_operand = 0
+then_words as_address = 1
+then_words as_condition = 1 + 2
+then_words as_assigned = 0
+
+abbrev pub value_words : Use → ℕ
+value_words u = kept_by u + then_words u
+
+-- an operand is read as an integer or as its low byte; any other value is read so from where it is held
+abbrev pub converted_words : (is_operand : Bool) → (computed read : ℕ) → Use → ℕ
+converted_words true computed read u = computed + use_words u read
+converted_words false computed read u = computed + read + value_words u
+
+abbrev pub is_block : CoreExprTree → Bool
+is_block (literal s n) = false
+is_block null_pointer = false
+is_block (variable s x) = false
+is_block (temporary s k) = false
+is_block (address_of b) = true
+is_block (load s a) = false
+is_block (member offset a) = false
+is_block (unary op a) = false
+is_block (binary op a b) = false
+is_block (conversion s a) = false
+is_block (logical_and a b) = false
+is_block (logical_or a b) = false
+is_block (conditional c a b) = false
+
+-- what a member lies behind: LUI and ADD, with the address of the block, or with what the pointer takes
+abbrev pub base_words : (is_block : Bool) → (pointer : ℕ) → ℕ
+base_words true pointer = 2
+base_words false pointer = pointer + 2
+
+-- the access has the rest of the offset; ADDI where there is none
+abbrev pub member_words : Use → ℕ
+member_words as_operand = 1 + value_words as_operand
+member_words as_address = 0
+member_words as_condition = 1 + value_words as_condition
+member_words as_assigned = 1 + value_words as_assigned
 
 -- the numbers 1 and 0, and a jump between
 abbrev pub answer_words : Use → ℕ
-answer_words as_operand = 1 + part_words + 1 + (1 + part_words)
-answer_words as_address = 1 + part_words + 1 + (1 + part_words) + 1
+answer_words as_operand = (1 + kept_by as_operand) + 1 + (1 + kept_by as_operand) + then_words as_operand
+answer_words as_address = (1 + kept_by as_address) + 1 + (1 + kept_by as_address) + then_words as_address
 answer_words as_condition = 0
+answer_words as_assigned = (1 + kept_by as_assigned) + 1 + (1 + kept_by as_assigned) + then_words as_assigned
 
 -- the words that compute an expression, with those of this use of it
 abbrev pub use_of : CoreExprTree → Use → ℕ
@@ -167,16 +205,17 @@ use_of null_pointer u = use_words u 2
 use_of (variable s x) u = use_words u 3
 use_of (temporary s k) u = use_words u 3
 use_of (address_of b) u = use_words u 3
-use_of (load s a) u = use_of a as_address + 1 + part_words + use_words u 1
-use_of (member offset a) u = if is_place a then use_words u 3 else member_words u (use_of a as_operand + read_words a)
-use_of (unary op a) u = use_of a as_operand + read_words a + 1 + part_words + use_words u 1
+use_of (load s a) u = use_of a as_address + 1 + value_words u
+use_of (member offset a) u = base_words (is_block a) (use_of a as_operand + read_words a) + member_words u
+use_of (unary op a) u = use_of a as_operand + read_words a + 1 + value_words u
 use_of (binary op a b) u =
-    (use_of a as_operand + read_words a) + (use_of b as_operand + read_words b) + operation_words op + part_words + use_words u 1
-use_of (conversion s a) u = use_of a as_operand + use_words u (read_words a)
+    (use_of a as_operand + read_words a) + (use_of b as_operand + read_words b) + operation_words op + value_words u
+use_of (conversion s a) u = converted_words (is_operand a) (use_of a as_operand) (read_words a) u
 use_of (logical_and a b) u = use_of a as_condition + use_of b as_condition + answer_words u
 use_of (logical_or a b) u = use_of a as_condition + use_of b as_condition + answer_words u
 use_of (conditional c a b) u =
-    use_of c as_condition + (use_of a as_operand + read_words a + part_words) + 1 + (use_of b as_operand + read_words b + part_words) + use_words u 1
+    use_of c as_condition
+    + (use_of a as_operand + read_words a + kept_by u) + 1 + (use_of b as_operand + read_words b + kept_by u) + then_words u
 
 -- computed, and read
 abbrev pub taken_words : CoreExprTree → ℕ
@@ -184,6 +223,9 @@ taken_words e = use_of e as_operand + read_words e
 
 abbrev pub address_words : CoreExprTree → ℕ
 address_words e = use_of e as_address
+
+abbrev pub assigned_words : CoreExprTree → ℕ
+assigned_words e = use_of e as_assigned
 
 abbrev pub all_taken_words : List CoreExprTree → ℕ
 all_taken_words [] = 0
@@ -208,16 +250,16 @@ enter_words = 3 + 1 + 12
 abbrev pub leave_words : ℕ
 leave_words = 3 + 1 + 12 + 1
 
--- A copy has its count by LUI and ADDI and a loop of six instructions, a fill one of four. The parts of an `if` end in a jump each; a loop begins
--- with one, goes back by one and goes on by one.
+-- A copy has its count by LUI and ADDI and a loop of six instructions, a fill one of four, and behind it up to three
+-- stores of bytes. The parts of an `if` end in a jump each; a loop begins with one, goes back by one and goes on by one.
 abbrev mutual
   pub stmt_words : CoreStmtTree → ℕ
   stmt_words skip = 0
   stmt_words (seq ss) = stmts_words ss
-  stmt_words (assign x e) = taken_words e + kept_words
+  stmt_words (assign x e) = assigned_words e
   stmt_words (store s a b) = address_words a + taken_words b + 1
   stmt_words (copy size alignment a b) = (address_words a + 1) + (address_words b + 1) + 2 + 6
-  stmt_words (fill blank a) = (address_words a + 1) + 2 + 4
+  stmt_words (fill blank a) = (address_words a + 1) + 2 + 4 + 3
   stmt_words (call x f arguments) = all_taken_words arguments + call_words + result_words x
   stmt_words (branch e a b) = use_of e as_condition + stmt_words a + stmt_words b + 2
   stmt_words (loop body step) = stmt_words body + stmt_words step + 3

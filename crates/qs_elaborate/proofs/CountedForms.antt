@@ -26,7 +26,7 @@ use Rattle.qs_meaning.specs.Forms.{Form, lvalue, result, call, assignment, step,
 use Rattle.qs_meaning.specs.Operations.{operation_of}
 use Rattle.qs_meaning.specs.Expressions.{operated, operator_value, member_offset, member_form, set_form, struct_form, plain_form, compound_form, assign_form, one, step_after_form, step_form, unary_form, size_form, cast_form, operator_form, binary_form, subscript_form, conditional_form}
 use Rattle.qs_meaning.proofs.Options.{never, left, right, either, nothing, same}
-use Rattle.qs_elaborate.specs.Counts.{indirection, is_fixed, is_amount, nodes, lvalue_nodes, arguments_nodes, assignment_nodes, discarded_nodes, target_nodes, effect_nodes}
+use Rattle.qs_elaborate.specs.Counts.{indirection, is_object, is_fixed, is_amount, nodes, lvalue_nodes, arguments_nodes, assignment_nodes, discarded_nodes, target_nodes, effect_nodes}
 use Rattle.qs_elaborate.proofs.CountedTypes.{kept, not_true, first_unbroken, HasValue, HaveValues, NullHasValue, integer_value, pointer_value, scalar_value, assignable_value, alike_values, sum_values, operand_values}
 
 -- ---- what is counted at most
@@ -344,6 +344,19 @@ assign_counted structs operator x y a b n m form h i null = go operator
 abbrev pub is_settled : Lvalue → Bool
 is_settled (variable x) = true
 is_settled (object p) = is_fixed p
+
+-- a variable, or an object: what a declaration declares
+abbrev pub is_declared : Lvalue → Bool
+is_declared (variable x) = true
+is_declared (object p) = is_object p
+
+object_fixed : (p : Expr) → is_object p ≡ true → is_fixed p ≡ true
+object_fixed (pointer_to o) h = refl
+object_fixed _ h = absurd (cc)
+
+pub declared_settled : (l : Lvalue) → is_declared l ≡ true → is_settled l ≡ true
+declared_settled (variable x) h = refl
+declared_settled (object p) h = object_fixed p h
 
 target_none : (l : Lvalue) → is_settled l ≡ true → target_nodes l 1 ≡ 0
 target_none (variable x) h = refl

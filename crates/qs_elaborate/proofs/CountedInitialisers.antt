@@ -15,17 +15,20 @@ use Rattle.qs_types.specs.Declarations.{text_of}
 use Rattle.qs_types.specs.InitialiserRules.{part_type, fits_variable, fits_typed, takes_list, element_fits, elements_fit, elements_typed, list_tests, is_typed, initialiser_tests, initialiser_faults, elements_faults}
 use Rattle.qs_types.specs.InitialiserRules as initialising
 use Rattle.qs_types.specs.StatementRules.{option_initialiser_faults}
-use Rattle.qs_meaning.specs.Typed.{Expr, member, Lvalue, variable, object, Effect}
+use Rattle.qs_meaning.specs.Typed.{Expr, pointer_to, member, Lvalue, variable, object, Object, local, Effect}
 use Rattle.qs_meaning.specs.Forms.{lvalue, TypedExpr, address_in, address_of}
-use Rattle.qs_meaning.specs.Names.{Scope}
+use Rattle.qs_meaning.specs.Names.{Scope, local_lvalue, place_among}
+use Rattle.qs_types.specs.Placed.{is_one_of}
 use Rattle.qs_meaning.specs.Expressions.{typed, plain_form}
 use Rattle.qs_meaning.specs.Blanks.{blank_of}
 use Rattle.qs_meaning.specs.Initialisers.{part_offset, Piece, pieces, pieces_from, text_set, assigned_set, piece_set, pieces_set, object_set, local_set}
 use Rattle.qs_meaning.proofs.Options.{never, left, right, nothing, same, Known}
 use Rattle.qs_meaning.proofs.Faultless.{none_left, none_right, unbroken}
-use Rattle.qs_elaborate.specs.Counts.{indirection, is_fixed, nodes, effect_nodes}
+use Rattle.qs_elaborate.specs.Counts.{indirection, is_object, is_fixed, nodes, effect_nodes}
+use Rattle.qs_elaborate.specs.ExpressionCounts.{initialiser_expressions, initialisers_expressions}
+use Rattle.qs_elaborate.proofs.CountedLess.{effect_less}
 use Rattle.qs_elaborate.proofs.CountedTypes.{kept, typed_type, null_value}
-use Rattle.qs_elaborate.proofs.CountedForms.{CountedIn, address_counted, is_settled, initial_counted}
+use Rattle.qs_elaborate.proofs.CountedForms.{CountedIn, address_counted, is_settled, is_declared, declared_settled, initial_counted}
 use Rattle.qs_elaborate.proofs.CountedExpressions.{expression_counted}
 
 both : (x y : Bool) → x ≡ true → y ≡ true → (x && y) ≡ true
@@ -65,6 +68,25 @@ mutual
       let i = elements_least structs is t offset (k + 1) later.value later.first in
       let e = nodes_joined now.value later.value in
       subst (λ z. piece_nodes z ≤ initialiser_count first + initialisers_count is) (same _ ps later.then) (omega arith)
+
+mutual
+  pieces_few : (structs : Structs) (init : InitialiserTree) (t : TypeTree) (offset : ℕ) (ps : List Piece) → pieces structs t offset init ≡ Some ps
+      → piece_nodes ps ≤ initialiser_expressions init
+  pieces_few structs (trees.value e) t offset ps q = subst (λ z. piece_nodes z ≤ expr_count e) (same _ ps q) (omega arith)
+  pieces_few structs (trees.list node is) t offset ps q = elements_few structs is t offset 0 ps q
+
+  elements_few : (structs : Structs) (is : Initialisers) (t : TypeTree) (offset k : ℕ) (ps : List Piece) → pieces_from structs t offset k is ≡ Some ps
+      → piece_nodes ps ≤ initialisers_expressions is
+  elements_few structs no_initialisers t offset k ps q = subst (λ z. piece_nodes z ≤ 0) (same _ ps q) (omega arith)
+  elements_few structs (initialiser_and first is) t offset k ps q =
+      let u = followed (part_type structs t k) _ ps q in
+      let at = followed (part_offset structs t k) _ ps u.then in
+      let now = followed (pieces structs u.value (offset + at.value) first) _ ps at.then in
+      let later = followed (pieces_from structs t offset (k + 1) is) _ ps now.then in
+      let h = pieces_few structs first u.value (offset + at.value) now.value now.first in
+      let i = elements_few structs is t offset (k + 1) later.value later.first in
+      let e = nodes_joined now.value later.value in
+      subst (λ z. piece_nodes z ≤ initialiser_expressions first + initialisers_expressions is) (same _ ps later.then) (omega arith)
 
 module _ (s : Scope) where
   abbrev c : Context
@@ -120,7 +142,7 @@ module _ (s : Scope) where
   suit_both [] qs h k = k
   suit_both (p ∷ ps) qs h k = (h.0, suit_both ps qs h.1 k)
 
-  piece_counted : (base : Expr) (p : Piece) (set : Effect) → is_fixed base ≡ true → Suits p.type p.expression → piece_set s base p ≡ Some set
+  piece_counted : (base : Expr) (p : Piece) (set : Effect) → is_object base ≡ true → Suits p.type p.expression → piece_set s base p ≡ Some set
       → effect_nodes set 1 ≤ expr_count p.expression
   piece_counted base p set fixed suits q = go (is_array p.type) refl q
     where
@@ -131,7 +153,7 @@ module _ (s : Scope) where
       go true a q = text_counted p.type (member p.offset base) p.expression set fixed q
       go false a q = assigned_counted p.type (object (member p.offset base)) p.expression set fixed suits a q
 
-  set_counted : (base : Expr) (ps : List Piece) (set : Effect) → is_fixed base ≡ true → AllSuit ps → pieces_set s base ps ≡ Some set → effect_nodes set 1 ≤ piece_nodes ps
+  set_counted : (base : Expr) (ps : List Piece) (set : Effect) → is_object base ≡ true → AllSuit ps → pieces_set s base ps ≡ Some set → effect_nodes set 1 ≤ piece_nodes ps
   set_counted base [] set fixed h q = subst (λ z. effect_nodes z 1 ≤ 0) (same _ set q) (omega arith)
   set_counted base (p ∷ ps) set fixed h q =
       let now = followed (piece_set s base p) _ set q in
@@ -237,7 +259,7 @@ module _ (s : Scope) where
   fill_less false n m k e h = never e
 
   -- the list counts, or the declarator of an array that a text initialises
-  object_counted : (t : TypeTree) (l : Lvalue) (init : InitialiserTree) (set : Effect) (n : ℕ) → is_settled l ≡ true → element_fits false c (Some t) init ≡ true
+  object_counted : (t : TypeTree) (l : Lvalue) (init : InitialiserTree) (set : Effect) (n : ℕ) → is_declared l ≡ true → element_fits false c (Some t) init ≡ true
       → initialiser_faults false c (Some t) init ≡ [] → ((ps : List Piece) → pieces structs t 0 init ≡ Some ps → piece_nodes ps ≤ n)
       → object_set s (record { type = t; form = lvalue l }) init ≡ Some set → effect_nodes set 1 ≤ 1 + n
   object_counted t (variable x) init set n settled fit f least q = nothing set q
@@ -248,9 +270,9 @@ module _ (s : Scope) where
       let suit = pieces_suit init t 0 ps.value fit f ps.first (all_typed base ps.value sets.value sets.first) in
       let h = set_counted base ps.value sets.value settled suit sets.first in
       let k = least ps.value ps.first in
-      subst (λ z. effect_nodes z 1 ≤ 1 + n) (same _ set sets.then) (fill_less (is_fixed base) _ _ n settled (omega arith))
+      subst (λ z. effect_nodes z 1 ≤ 1 + n) (same _ set sets.then) (fill_less (is_object base) _ _ n settled (omega arith))
 
-  pub local_counted : (t : TypeTree) (l : Lvalue) (init : InitialiserTree) (set : Effect) → is_settled l ≡ true → element_fits false c (Some t) init ≡ true
+  pub local_counted : (t : TypeTree) (l : Lvalue) (init : InitialiserTree) (set : Effect) → is_declared l ≡ true → element_fits false c (Some t) init ≡ true
       → initialiser_faults false c (Some t) init ≡ [] → local_set s (record { type = t; form = lvalue l }) init ≡ Some set → effect_nodes set 1 ≤ 1 + initialiser_count init
   local_counted t l (trees.list node is) set settled fit f q =
       let h = object_counted t l (trees.list node is) set (initialisers_count is) settled fit f (λ ps e. elements_least structs is t 0 0 ps e) q in
@@ -261,7 +283,7 @@ module _ (s : Scope) where
           → (if b then object_set s (record { type = t; form = lvalue l }) (trees.value e) else assigned_set s (record { type = t; form = lvalue l }) e) ≡ Some set
           → effect_nodes set 1 ≤ 1 + expr_count e
       go true a q = object_counted t l (trees.value e) set (expr_count e) settled fit f (λ ps i. pieces_least structs (trees.value e) t 0 ps i) q
-      go false a q = let h = assigned_counted t l e set settled (suits t e fit) a q in omega arith
+      go false a q = let h = assigned_counted t l e set (declared_settled l settled) (suits t e fit) a q in omega arith
 
   -- an expression that has a typed tree has a type
   pub local_typed : (t : TypeTree) (l : Lvalue) (init : InitialiserTree) (set : Effect) → local_set s (record { type = t; form = lvalue l }) init ≡ Some set → is_typed c init ≡ true
@@ -283,6 +305,56 @@ module _ (s : Scope) where
           → Known (typed s e)
       go true q = in_array l q
       go false q = let a = followed (typed s e) _ set q in record { value = a.value; is = a.first }
+
+  -- the expressions of a list, where its place counts nothing
+  parts_set : (t : TypeTree) (o : Object) (init : InitialiserTree) (set : Effect) (n : ℕ) → element_fits false c (Some t) init ≡ true
+      → initialiser_faults false c (Some t) init ≡ [] → ((ps : List Piece) → pieces structs t 0 init ≡ Some ps → piece_nodes ps ≤ n)
+      → object_set s (record { type = t; form = lvalue (object (pointer_to o)) }) init ≡ Some set → effect_nodes set 0 ≤ n
+  parts_set t o init set n fit f least q =
+      let cells = followed (blank_of structs t) _ set q in
+      let ps = followed (pieces structs t 0 init) _ set cells.then in
+      let sets = followed (pieces_set s (pointer_to o) ps.value) _ set ps.then in
+      let suit = pieces_suit init t 0 ps.value fit f ps.first (all_typed (pointer_to o) ps.value sets.value sets.first) in
+      let h = set_counted (pointer_to o) ps.value sets.value refl suit sets.first in
+      let i = effect_less sets.value in
+      let k = least ps.value ps.first in
+      subst (λ z. effect_nodes z 0 ≤ n) (same _ set sets.then) (omega arith)
+
+  placed_parts : (t : TypeTree) (o : Object) (init : InitialiserTree) (set : Effect) → element_fits false c (Some t) init ≡ true
+      → initialiser_faults false c (Some t) init ≡ [] → local_set s (record { type = t; form = lvalue (object (pointer_to o)) }) init ≡ Some set
+      → effect_nodes set 0 ≤ initialiser_expressions init
+  placed_parts t o (trees.list node is) set fit f q = parts_set t o (trees.list node is) set (initialisers_expressions is) fit f (λ ps e. elements_few structs is t 0 0 ps e) q
+  placed_parts t o (trees.value e) set fit f q = go (is_array t) refl q
+    where
+      go : (b : Bool) → is_array t ≡ b
+          → (if b then object_set s (record { type = t; form = lvalue (object (pointer_to o)) }) (trees.value e)
+          else assigned_set s (record { type = t; form = lvalue (object (pointer_to o)) }) e) ≡ Some set
+          → effect_nodes set 0 ≤ expr_count e
+      go true a q = parts_set t o (trees.value e) set (expr_count e) fit f (λ ps i. pieces_few structs (trees.value e) t 0 ps i) q
+      go false a q = let h = assigned_counted t (object (pointer_to o)) e set refl (suits t e fit) a q in let i = effect_less set in omega arith
+
+  plain_parts : (t : TypeTree) (x : ℕ) (init : InitialiserTree) (set : Effect) → element_fits false c (Some t) init ≡ true
+      → local_set s (record { type = t; form = lvalue (variable x) }) init ≡ Some set → effect_nodes set 0 ≤ initialiser_expressions init
+  plain_parts t x (trees.list node is) set fit q = nothing set q
+  plain_parts t x (trees.value e) set fit q = go (is_array t) refl q
+    where
+      go : (b : Bool) → is_array t ≡ b
+          → (if b then object_set s (record { type = t; form = lvalue (variable x) }) (trees.value e) else assigned_set s (record { type = t; form = lvalue (variable x) }) e) ≡ Some set
+          → effect_nodes set 0 ≤ expr_count e
+      go true a q = nothing set q
+      go false a q = let h = assigned_counted t (variable x) e set refl (suits t e fit) a q in let i = effect_less set in omega arith
+
+  -- of a local the expressions alone count
+  pub local_parts : (t : TypeTree) (node : ℕ) (init : InitialiserTree) (set : Effect) → element_fits false c (Some t) init ≡ true
+      → initialiser_faults false c (Some t) init ≡ [] → local_set s (record { type = t; form = lvalue (local_lvalue s.locals node) }) init ≡ Some set
+      → effect_nodes set 0 ≤ initialiser_expressions init
+  local_parts t node init set fit f q = go (is_one_of node s.locals.placed) q
+    where
+      go : (b : Bool)
+          → local_set s (record { type = t; form = lvalue (if b then object (pointer_to (local (place_among node s.locals.placed))) else variable (place_among node s.locals.variables)) }) init ≡ Some set
+          → effect_nodes set 0 ≤ initialiser_expressions init
+      go true q = placed_parts t (local (place_among node s.locals.placed)) init set fit f q
+      go false q = plain_parts t (place_among node s.locals.variables) init set fit q
 
 -- the rule on initialisers
 pub kept_fit : (c : Context) (t : TypeTree) (init : InitialiserTree) → is_typed c init ≡ true → breaks_one (initialiser_tests false c (Some t) (Some init)) ≡ false

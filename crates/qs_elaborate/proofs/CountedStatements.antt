@@ -26,7 +26,7 @@ use Rattle.qs_meaning.proofs.Faultless.{none_left, none_right, unbroken, second_
 use Rattle.qs_meaning.proofs.Bodies.{not_held_back}
 use Rattle.qs_elaborate.specs.Counts.{nodes, effect_nodes, option_nodes, statement_nodes, statements_nodes}
 use Rattle.qs_elaborate.proofs.CountedTypes.{kept, typed_type, null_value, scalar_value, assignable_value}
-use Rattle.qs_elaborate.proofs.CountedForms.{is_settled}
+use Rattle.qs_elaborate.proofs.CountedForms.{is_declared}
 use Rattle.qs_elaborate.proofs.CountedExpressions.{expression_counted}
 use Rattle.qs_elaborate.proofs.CountedInitialisers.{local_counted, local_typed, kept_fit}
 
@@ -41,10 +41,10 @@ statement_as n x a e h = subst (λ z. statement_nodes z 1 ≤ n) (same x a e) h
 
 -- ---- variables
 
-local_settled : (locals : Locals) (node : ℕ) → is_settled (local_lvalue locals node) ≡ true
-local_settled locals node = go (is_one_of node locals.placed)
+local_declared : (locals : Locals) (node : ℕ) → is_declared (local_lvalue locals node) ≡ true
+local_declared locals node = go (is_one_of node locals.placed)
   where
-    go : (b : Bool) → is_settled (if b then object (pointer_to (local (place_among node locals.placed))) else variable (place_among node locals.variables)) ≡ true
+    go : (b : Bool) → is_declared (if b then object (pointer_to (local (place_among node locals.placed))) else variable (place_among node locals.variables)) ≡ true
     go true = refl
     go false = refl
 
@@ -54,10 +54,10 @@ initialised_counted : (s : Scope) (node : ℕ) (t : TypeTree) (init : Option Ini
 initialised_counted s node t None set tests faults q = effect_as 1 _ set q (omega arith)
 initialised_counted s node t (Some init) set tests faults q =
     let l = local_lvalue s.locals node in
-    local_counted s t l init set (local_settled s.locals node) (kept_fit s.context t init (local_typed s t l init set q) tests) faults q
+    local_counted s t l init set (local_declared s.locals node) (kept_fit s.context t init (local_typed s t l init set q) tests) faults q
 
 -- the test of the initialiser is among those of the variable
-initialiser_unbroken : (c after : Context) (base : Base) (v : VariableTree) → variable_faults false c after base v ≡ []
+pub initialiser_unbroken : (c after : Context) (base : Base) (v : VariableTree) → variable_faults false c after base v ≡ []
     → breaks_one (initialiser_tests false after (variable_declared c base v).type v.initialiser) ≡ false
 initialiser_unbroken c after base v own =
     let type = (variable_declared c base v).type in
@@ -70,7 +70,7 @@ initialiser_unbroken c after base v own =
     let later_tests = second_unbroken (again_tests c v) ((variable_declared c base v).tests ++ initialiser_tests false after type v.initialiser) whole_tests in
     second_unbroken (variable_declared c base v).tests (initialiser_tests false after type v.initialiser) later_tests
 
-initialiser_faultless : (c after : Context) (base : Base) (v : VariableTree) → variable_faults false c after base v ≡ []
+pub initialiser_faultless : (c after : Context) (base : Base) (v : VariableTree) → variable_faults false c after base v ≡ []
     → option_initialiser_faults false after (variable_declared c base v).type v.initialiser ≡ []
 initialiser_faultless c after base v own =
     none_right (lengths_faults c v.declarator.lengths.given) _ (none_right (faults_of v.declarator.node.id (variable_tests false c after base v)) _ own)
@@ -92,32 +92,32 @@ variables_counted (v ∷ vs) s base set faults q =
 
 -- ---- expressions in statements
 
-effect_counted : (s : Scope) (e : ExprTree) (set : Effect) → effect_typed s e ≡ Some set → effect_nodes set 1 ≤ expr_count e
+pub effect_counted : (s : Scope) (e : ExprTree) (set : Effect) → effect_typed s e ≡ Some set → effect_nodes set 1 ≤ expr_count e
 effect_counted s e set q =
     let a = followed (typed s e) _ set q in
     effect_as (expr_count e) _ set a.then (expression_counted s e a.value a.first).effect
 
-option_effect_counted : (s : Scope) (e : Option ExprTree) (set : Effect) → option_effect s e ≡ Some set → effect_nodes set 1 ≤ option_count expr_count e
+pub option_effect_counted : (s : Scope) (e : Option ExprTree) (set : Effect) → option_effect s e ≡ Some set → effect_nodes set 1 ≤ option_count expr_count e
 option_effect_counted s None set q = effect_as 0 _ set q (omega arith)
 option_effect_counted s (Some e) set q = effect_counted s e set q
 
-condition_counted : (s : Scope) (e : ExprTree) (x : Expr) → breaks_one (condition_tests (type_of s.context e)) ≡ false → condition_typed s e ≡ Some x → nodes x 1 ≤ expr_count e
+pub condition_counted : (s : Scope) (e : ExprTree) (x : Expr) → breaks_one (condition_tests (type_of s.context e)) ≡ false → condition_typed s e ≡ Some x → nodes x 1 ≤ expr_count e
 condition_counted s e x tests q =
     let a = followed (typed s e) _ x q in
     let kind = kept _ (subst (λ o. breaks_one (condition_tests o) ≡ false) (typed_type s e a.value a.first) tests) in
     value_as (expr_count e) _ x a.then ((expression_counted s e a.value a.first).value (scalar_value (type_in_use a.value) kind))
 
-option_condition_counted : (s : Scope) (e : Option ExprTree) (x : Option Expr) → breaks_one (option_condition_tests s.context e) ≡ false → option_condition s e ≡ Some x
+pub option_condition_counted : (s : Scope) (e : Option ExprTree) (x : Option Expr) → breaks_one (option_condition_tests s.context e) ≡ false → option_condition s e ≡ Some x
     → option_nodes x 1 ≤ option_count expr_count e
 option_condition_counted s None x tests q = subst (λ z. option_nodes z 1 ≤ 0) (same _ x q) (omega arith)
 option_condition_counted s (Some e) x tests q =
     let y = followed (condition_typed s e) _ x q in
     subst (λ z. option_nodes z 1 ≤ expr_count e) (same _ x y.then) (condition_counted s e y.value tests y.first)
 
-condition_kept : (c : Context) (node : Node) (e : ExprTree) → condition_faults c node e ≡ [] → breaks_one (condition_tests (type_of c e)) ≡ false
+pub condition_kept : (c : Context) (node : Node) (e : ExprTree) → condition_faults c node e ≡ [] → breaks_one (condition_tests (type_of c e)) ≡ false
 condition_kept c node e f = unbroken node.id (condition_tests (type_of c e)) (none_left (faults_of node.id (condition_tests (type_of c e))) _ f)
 
-return_counted : (s : Scope) (node : Node) (e : Option ExprTree) (a : Stmt) → faults_of node.id (return_tests s.context s.context.result e) ≡ [] → return_typed s e ≡ Some a
+pub return_counted : (s : Scope) (node : Node) (e : Option ExprTree) (a : Stmt) → faults_of node.id (return_tests s.context s.context.result e) ≡ [] → return_typed s e ≡ Some a
     → statement_nodes a 1 ≤ 1 + option_count expr_count e
 return_counted s node None a f q = statement_as 1 _ a q (omega arith)
 return_counted s node (Some e) a f q =
@@ -135,17 +135,17 @@ start_counted s (start_expression e) set f q = effect_counted s e set q
 start_counted s (start_declaration d) set f q = variables_counted d.variables s d.base set f q
 
 -- the parts of a `for` have types
-start_known : (s : Scope) (start : StartTree) (set : Effect) → start_typed (inner s) start ≡ Some set → rule_starts.start_typed (for_context s.context start) start ≡ true
+pub start_known : (s : Scope) (start : StartTree) (set : Effect) → start_typed (inner s) start ≡ Some set → rule_starts.start_typed (for_context s.context start) start ≡ true
 start_known s no_start set q = refl
 start_known s (start_expression e) set q =
     let a = followed (typed (inner s) e) _ set q in ap is_some (typed_type (inner s) e a.value a.first)
 start_known s (start_declaration d) set q = refl
 
-option_known : (s : Scope) (u : Option ExprTree) (set : Effect) → option_effect s u ≡ Some set → option_typed s.context u ≡ true
+pub option_known : (s : Scope) (u : Option ExprTree) (set : Effect) → option_effect s u ≡ Some set → option_typed s.context u ≡ true
 option_known s None set q = refl
 option_known s (Some e) set q = let a = followed (typed s e) _ set q in ap is_some (typed_type s e a.value a.first)
 
-if_tests : (a b : Bool) (ts : List Test) → a ≡ true → b ≡ true → breaks_one (if a && b then ts else []) ≡ false → breaks_one ts ≡ false
+pub if_tests : (a b : Bool) (ts : List Test) → a ≡ true → b ≡ true → breaks_one (if a && b then ts else []) ≡ false → breaks_one ts ≡ false
 if_tests true true ts e f h = h
 if_tests true false ts e f h = never f
 if_tests false b ts e f h = never e

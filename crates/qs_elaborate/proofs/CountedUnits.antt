@@ -59,9 +59,9 @@ function_counted s f body addressed ps ls g faults q =
 -- ---- declarations
 
 -- functions that count at most n, and are as many as these names
-record FunctionsCounted (n : ℕ) (names : List (List ℕ)) (fs : List Function) : Type 0 where
-  nodes : sum_by nodes_in fs ≤ n
-  number : length fs ≡ length names
+pub record FunctionsCounted (n : ℕ) (names : List (List ℕ)) (fs : List Function) : Type 0 where
+  pub nodes : sum_by nodes_in fs ≤ n
+  pub number : length fs ≡ length names
 
 functions_counted : (s : Scope) (f : FunctionTree) (o : Option trees.Stmts) (fs : List Function) → body_faults s.context f o ≡ [] → function_typed s f o ≡ Some fs
     → FunctionsCounted (1 + all_count parameter_count f.parameters + option_count stmts_count o) (name_with_body f.name o) fs
@@ -124,7 +124,7 @@ declarations_counted (d ∷ ds) s u faults q =
 
 -- ---- units
 
-unit_counted : (unit : UnitTree) (u : TypedProgram) → WellTyped unit → typed_of unit ≡ Some u → FunctionsCounted (unit_count unit) (functions_in unit) u.functions
+pub unit_counted : (unit : UnitTree) (u : TypedProgram) → WellTyped unit → typed_of unit ≡ Some u → FunctionsCounted (unit_count unit) (functions_in unit) u.functions
 unit_counted unit u well q =
     let d = followed (declarations_typed (start_scope unit) unit) _ u q in
     subst (λ (z : TypedProgram). FunctionsCounted (unit_count unit) (functions_in unit) z.functions) (same _ u d.then)

@@ -11,7 +11,7 @@ mod Writes
 mod Expressions
 mod Statements
 mod Units
-mod Data
+pub mod Data
 mod FitParts
 mod FitOperands
 mod FitExpressions
@@ -20,24 +20,26 @@ mod FitData
 mod FitUnits
 mod FitNames
 mod FitDeclared
-mod FitNamed
-mod SizeFacts
-mod SizeParts
+pub mod FitNamed
+pub mod SizeFacts
+pub mod SizeParts
 mod SizeValues
-mod SizeFunctions
+pub mod SizeFunctions
 mod WordFacts
 mod WordParts
 mod WordValues
-mod WordFunctions
+pub mod WordFunctions
 mod CountedTypes
+mod CountedLess
 mod CountedForms
 mod CountedExpressions
 mod CountedInitialisers
 mod CountedStatements
-mod CountedUnits
+pub mod CountedParts
+pub mod CountedUnits
 mod SizeExamples
 mod CountExamples
-mod FitRules
+pub mod FitRules
 mod FitMain
 mod FitReads
 pub mod FitCore

@@ -101,7 +101,7 @@ elements_expressions : expressions_in three_elements ≡ 3
 elements_expressions = refl
 
 -- the calls, their addresses and their stores, and the fill; the list is a node
-elements_words : words_of three_elements ≡ 16 + (10 + 3 * (6 + 5 + 7)) + 17
+elements_words : words_of three_elements ≡ 16 + (13 + 3 * (6 + 5 + 7)) + 17
 elements_words = refl
 
 elements_nodes : nodes_in three_elements ≡ 1 + (1 + 3)
@@ -135,5 +135,5 @@ step_values : values_of step_far ≡ 1 + 2
 step_values = refl
 
 -- the value and its place, the store and its place, the call
-step_words : words_of step_far ≡ 16 + ((11 + 30) + (4 + 30) + 5) + 17
+step_words : words_of step_far ≡ 16 + ((9 + 32) + (4 + 32) + 5) + 17
 step_words = refl

@@ -5,28 +5,13 @@ use Rattle.qs_memory.specs.declared.operation.BinaryOperation.{BinaryOperation}
 use Rattle.qs_memory.specs.Partial.{◌>>=◌}
 use Rattle.qs_memory.specs.Values.{Value, integer, address, convert}
 use Rattle.qs_core.specs.Trees.{CoreExprTree, literal, null_pointer, variable, temporary, address_of, load, member, unary, binary, conversion, logical_and, logical_or, conditional, CoreStmtTree, stmts_of}
-use Rattle.qs_core.specs.Sizes.{is_place, is_operand, own, parts_held, held, held_in, held_in_all}
+use Rattle.qs_core.specs.Sizes.{is_operand, own, parts_held, held, address_own, held_in, held_in_all}
 use Rattle.qs_meaning.specs.Typed.{Conversion, unchanged, converted, Order, as_written, exchanged}
 use Rattle.qs_elaborate.specs.Literals.{literal_value, is_literal, literal_of, folded, converted_core}
 use Rattle.qs_elaborate.specs.Parts.{one_statement}
 use Rattle.qs_elaborate.specs.Expressions.{operation_core, updated_core}
 
 -- ---- operands
-
-pub place_operand : (e : CoreExprTree) → is_place e ≡ true → is_operand e ≡ true
-place_operand (literal s n) h = refl
-place_operand null_pointer h = refl
-place_operand (variable s x) h = refl
-place_operand (temporary s k) h = refl
-place_operand (address_of b) h = refl
-place_operand (load s a) h = h
-place_operand (member offset a) h = h
-place_operand (unary op a) h = h
-place_operand (binary op a b) h = h
-place_operand (conversion s a) h = cc
-place_operand (logical_and a b) h = h
-place_operand (logical_or a b) h = h
-place_operand (conditional c a b) h = h
 
 held_none : (z : Bool) (n : ℕ) → z ≡ true → (if z then 0 else n) ≡ 0
 held_none true n h = refl
@@ -39,7 +24,7 @@ operand_parts (variable s x) h = refl
 operand_parts (temporary s k) h = refl
 operand_parts (address_of b) h = refl
 operand_parts (load s a) h = cc
-operand_parts (member offset a) h = held_none (is_operand a) _ (place_operand a h)
+operand_parts (member offset a) h = cc
 operand_parts (unary op a) h = cc
 operand_parts (binary op a b) h = cc
 operand_parts (conversion s a) h = held_none (is_operand a) _ h
@@ -66,6 +51,16 @@ own_below false n = omega arith
 
 pub own_held : (e : CoreExprTree) → own e ≤ held e
 own_held e = own_below (is_operand e) (parts_held e)
+
+-- an address holds two values of its own at most, and no more than it holds while it is made
+pub address_small : (e : CoreExprTree) → address_own e ≤ held e
+address_small e = omega arith
+
+pub address_few : (e : CoreExprTree) → address_own e ≤ 2
+address_few e = omega arith
+
+pub own_address : (e : CoreExprTree) → own e ≤ address_own e
+own_address e = omega (arith, own_small e, own_held e)
 
 parts_below : (z : Bool) (n : ℕ) → (z ≡ true → n ≡ 0) → n ≤ (if z then 0 else max 1 n)
 parts_below true n h = let e = h refl in omega arith

@@ -7,12 +7,12 @@ use Rattle.qs_calls.specs.declared.callee.Callee.{Callee}
 use Rattle.qs_core.specs.Trees.{CoreExprTree, CoreStmtTree}
 use Rattle.qs_core.specs.Trees as core
 use Rattle.qs_core.specs.Expressions.{type_of}
-use Rattle.qs_core.specs.Sizes.{is_operand, own, parts_held, held, all_held, held_in}
+use Rattle.qs_core.specs.Sizes.{is_operand, own, parts_held, held, address_own, all_held, held_in}
 use Rattle.qs_meaning.specs.Typed.{Conversion, unchanged, Order}
 use Rattle.qs_elaborate.specs.Literals.{is_literal, converted_core}
 use Rattle.qs_elaborate.specs.Parts.{Temporaries, next_number, with_temporary, keep, Valued, Listed, in_temporary, saved, saved_if, joined, Location, plain, pointed, Located, with_saved_address, address_saved_if, value_at, value_read, written}
 use Rattle.qs_elaborate.specs.Expressions.{operation_core, updated_core, step_amount, ValuedAll, argument_before, call_valued, call_listed, branch_with, truth_core, truth_literal, and_branching, or_branching, choice_branching, choice_joined, Written, set_core, update_core, write_discarded, write_at, write_valued, step_valued, copied}
-use Rattle.qs_elaborate.proofs.SizeFacts.{operand_held, operand_own, own_small, own_held, parts_small, literal_operand, converted_below, operation_held, updated_held, list_held, held-append, held_one, one_more}
+use Rattle.qs_elaborate.proofs.SizeFacts.{operand_held, own_small, own_address, address_small, address_few, parts_small, literal_operand, converted_below, operation_held, updated_held, list_held, held-append, held_one, one_more}
 
 pub record Within (spare : ℕ) (v : Valued) (limit : ℕ) : Type 0 where
   pub statements_fit : length v.temporaries + list_held v.statements + spare ≤ limit
@@ -33,13 +33,13 @@ either_within d false g j m h k = k
 pub record Kept (spare : ℕ) (v : Valued) (limit : ℕ) : Type 0 where
   pub statements_fit : length v.temporaries + list_held v.statements + spare ≤ limit
   pub value_fits : length v.temporaries + held v.value + spare ≤ limit
-  pub own_fits : length v.temporaries + own v.value + spare ≤ limit
+  pub own_fits : length v.temporaries + address_own v.value + spare ≤ limit
 
 as_it_is : (d : ℕ) (v : Valued) (l : ℕ) → Within (d + 1) v l → Kept d v l
 as_it_is d v l h = record {
   statements_fit = omega (arith, h.statements_fit);
   value_fits = omega (arith, h.value_fits);
-  own_fits = omega (arith, h.statements_fit, own_small v.value);
+  own_fits = omega (arith, h.value_fits, address_small v.value);
 }
 
 temporary_kept : (d : ℕ) (v : Valued) (l : ℕ) → Within (d + 1) v l → Kept d (in_temporary v) l
@@ -70,7 +70,7 @@ pub operation_within :
 operation_within op order left right a b l n h k = record {
   statements_fit = omega (arith, held-append a.statements b.statements, h.statements_fit, k.statements_fit);
   value_fits =
-      omega (arith, operation_held op order left right a.value b.value, h.statements_fit, h.value_fits, h.own_fits, k.statements_fit, k.value_fits, own_small b.value);
+      omega (arith, operation_held op order left right a.value b.value, h.statements_fit, h.value_fits, h.own_fits, own_address a.value, k.statements_fit, k.value_fits, own_small b.value);
 }
 
 pub logical_within :
@@ -146,7 +146,7 @@ argument_within c a rest l n h k =
     let x = converted_below c a.value in
     record {
       statements_fit = omega (arith, held-append a.statements rest.statements, h.statements_fit, k.statements_fit);
-      values_fit = omega (arith, x.held_less, x.own_less, h.statements_fit, h.value_fits, h.own_fits, k.statements_fit, k.values_fit);
+      values_fit = omega (arith, x.held_less, x.own_less, own_address a.value, h.statements_fit, h.value_fits, h.own_fits, k.statements_fit, k.values_fit);
     }
 
 pub call_within : (s : Scalar) (f : Callee) (given : ValuedAll) (l : ℕ) → AllWithin given l → Within 1 (call_valued s f given) (l + 2)
@@ -174,13 +174,13 @@ place_held (pointed a) = held a
 
 abbrev pub place_own : Location → ℕ
 place_own (plain x) = 0
-place_own (pointed a) = own a
+place_own (pointed a) = address_own a
 
 pub record LocatedWithin (spare : ℕ) (l : Located) (limit : ℕ) : Type 0 where
   pub statements_fit : length l.temporaries + list_held l.statements + spare ≤ limit
   pub place_fits : length l.temporaries + place_held l.location + spare ≤ limit
 
-read_held : (s : Scalar) (x : Location) → held (value_at s x) ≤ max 1 (place_held x)
+pub read_held : (s : Scalar) (x : Location) → held (value_at s x) ≤ max 1 (place_held x)
 read_held s (plain x) = omega arith
 read_held s (pointed a) = omega arith
 
@@ -195,15 +195,19 @@ pub record PlaceKept (spare : ℕ) (l : Located) (limit : ℕ) : Type 0 where
   pub place_fits : length l.temporaries + place_held l.location + spare ≤ limit
   pub own_fits : length l.temporaries + place_own l.location + spare ≤ limit
 
-own_place : (x : Location) → place_own x ≤ 1
+own_place : (x : Location) → place_own x ≤ 2
 own_place (plain x) = omega arith
-own_place (pointed a) = own_small a
+own_place (pointed a) = address_few a
+
+place_small : (x : Location) → place_own x ≤ place_held x
+place_small (plain x) = omega arith
+place_small (pointed a) = address_small a
 
 place_as_is : (d : ℕ) (l : Located) (m : ℕ) → LocatedWithin (d + 1) l m → PlaceKept d l m
 place_as_is d l m h = record {
   statements_fit = omega (arith, h.statements_fit);
   place_fits = omega (arith, h.place_fits);
-  own_fits = omega (arith, h.statements_fit, own_place l.location);
+  own_fits = omega (arith, h.place_fits, place_small l.location);
 }
 
 saved_place_kept :
@@ -253,7 +257,7 @@ quiet_update s op left right back l a m n h k =
       statements_fit = omega (arith, held-append l.statements a.statements, h.statements_fit, k.statements_fit);
       value_fits = omega (arith, u, r, o, h.statements_fit, h.place_fits, k.statements_fit, k.value_fits);
       place_fits = omega (arith, h.place_fits, k.statements_fit);
-      own_fits = omega (arith, p, h.statements_fit, k.statements_fit);
+      own_fits = omega (arith, place_small l.location, h.place_fits, k.statements_fit);
       both_fit = omega (arith, u, r, o, p, h.statements_fit, h.place_fits, k.statements_fit, k.value_fits);
     }
 
@@ -284,7 +288,7 @@ ready_held (pointed a) h = operand_held a h
 
 ready_own : (x : Location) → IsReady x → place_own x ≡ 0
 ready_own (plain x) h = refl
-ready_own (pointed a) h = operand_own a h
+ready_own (pointed a) h = let e = operand_held a h in omega (arith, address_small a)
 
 literal_or_temporary : (z : Bool) (v : Valued) → (z ≡ true → is_operand v.value ≡ true) → is_operand (if z then v else in_temporary v).value ≡ true
 literal_or_temporary true v h = h refl
@@ -334,7 +338,7 @@ update_within true s op left right back l e m n o h k q i =
 
 write_held : (s : Scalar) (x : Location) (b : CoreExprTree) → held_in (written s x b) ≤ max (held b) (max (place_held x) (place_own x + held b))
 write_held s (plain x) b = let p = parts_small b in omega arith
-write_held s (pointed a) b = let p = own_held b in omega arith
+write_held s (pointed a) b = omega arith
 
 write_at_within :
     (s : Scalar) (x : Location) (ss : List CoreStmtTree) (b : CoreExprTree) (ts : Temporaries) (m : ℕ)
@@ -369,7 +373,7 @@ step_by s op left back ss x ts m h i =
     let p = held-append ss (keep n (value_at s x) ∷ written s x b ∷ []) in
     let u = updated_held op left unchanged back (core.temporary s n) (step_amount op) in
     record {
-      statements_fit = omega (arith, one_more ts s, p, u, write_held s x b, read_held s x, parts_small (value_at s x), own_place x);
+      statements_fit = omega (arith, one_more ts s, p, u, write_held s x b, read_held s x, parts_small (value_at s x), place_small x);
       value_fits = omega (arith, one_more ts s);
     }
 
@@ -382,7 +386,7 @@ step_within s op left back l m h = step_by s op left back l.statements l.locatio
 pub record Aimed (v : Valued) (limit : ℕ) : Type 0 where
   pub statements_fit : length v.temporaries + list_held v.statements ≤ limit + 1
   pub value_fits : length v.temporaries + held v.value ≤ limit + 1
-  pub own_fits : length v.temporaries + own v.value ≤ limit + 1
+  pub own_fits : length v.temporaries + address_own v.value ≤ limit + 1
 
 pub kept_aimed : (v : Valued) (m : ℕ) → Kept 0 v m → Aimed v m
 kept_aimed v m h = record { statements_fit = omega (arith, h.statements_fit); value_fits = omega (arith, h.value_fits); own_fits = omega (arith, h.own_fits) }
@@ -392,7 +396,7 @@ pub copied_within :
 copied_within size alignment a b m n h k =
     let p = held-append (a.statements ++ b.statements) (core.copy size alignment a.value b.value ∷ []) in
     let q = held-append a.statements b.statements in
-    omega (arith, p, q, own_held b.value, h.statements_fit, h.value_fits, h.own_fits, k.statements_fit, k.value_fits)
+    omega (arith, p, q, h.statements_fit, h.value_fits, h.own_fits, k.statements_fit, k.value_fits)
 
 pub record AimedAt (l : Located) (limit : ℕ) : Type 0 where
   pub statements_fit : length l.temporaries + list_held l.statements ≤ limit + 1

@@ -1,19 +1,20 @@
 -- Core needs few values: one for each variable of a function, and two for each expression.
 use Rattle.std.proofs.Common.{◌≡◌, ◌≤◌, ℕ, ◌+◌, ◌*◌, max, ◌||◌, Bool, true, false, [], ◌∷◌, length, refl, ap, arith, if◌then◌else◌}
 use Rattle.qs_memory.specs.declared.scalar.Scalar.TheVariants as scalars
-use Rattle.qs_core.specs.Trees.{CoreExprTree, CoreStmtTree, stmts_of}
+use Rattle.qs_core.specs.Trees.{CoreExprTree}
 use Rattle.qs_core.specs.Trees as core
-use Rattle.qs_core.specs.Sizes.{is_place, held}
+use Rattle.qs_core.specs.Expressions.{type_of}
+use Rattle.qs_core.specs.Sizes.{parts_held, held}
 use Rattle.qs_meaning.specs.Typed.{Expr, constant, value, pointer_to, member, called, stepped_after, unary, cast, binary, logical_and, logical_or, conditional, assigned, sequence}
 use Rattle.qs_meaning.specs.Typed.{Lvalue, variable, object, Arguments, no_arguments, argument_and, Assignment, set, update}
 use Rattle.qs_meaning.specs.Typed.{Effect, nothing, discard, assign, perform, copy, fill, in_order}
 use Rattle.qs_elaborate.specs.Acting.{acts, arguments_act}
-use Rattle.qs_elaborate.specs.Literals.{converted_core}
-use Rattle.qs_elaborate.specs.Parts.{Temporaries, with_temporary, Valued, Listed, saved_if, address_saved_if, at_address, before}
+use Rattle.qs_elaborate.specs.Literals.{is_literal, converted_core}
+use Rattle.qs_elaborate.specs.Parts.{Temporaries, next_number, with_temporary, keep, Valued, Listed, in_temporary, saved_if, address_saved_if, at_address, before}
 use Rattle.qs_elaborate.specs.Expressions.{expression_core, lvalue_core, arguments_core, assignment_core, effect_core, write_discarded, ValuedAll, Written}
-use Rattle.qs_elaborate.specs.Counts.{indirection, is_fixed, is_amount, nodes, lvalue_nodes, arguments_nodes, assignment_nodes, discarded_nodes, target_nodes, effect_nodes}
-use Rattle.qs_elaborate.proofs.SizeFacts.{place_operand, operand_held, converted_below, list_held, held-append}
-use Rattle.qs_elaborate.proofs.SizeParts.{Within, widened, with_less_to_spare, either_within, Kept, saved_kept, saved_if_kept, operation_within, logical_within, and_within, or_within, choice_within, choice_joined_within}
+use Rattle.qs_elaborate.specs.Counts.{indirection, is_object, is_fixed, is_amount, nodes, lvalue_nodes, arguments_nodes, assignment_nodes, discarded_nodes, target_nodes, effect_nodes}
+use Rattle.qs_elaborate.proofs.SizeFacts.{address_small, converted_below, list_held, held-append, one_more}
+use Rattle.qs_elaborate.proofs.SizeParts.{Within, widened, with_less_to_spare, either_within, saved_kept, saved_if_kept, operation_within, logical_within, and_within, or_within, choice_within, choice_joined_within}
 use Rattle.qs_elaborate.proofs.SizeParts.{AllWithin, argument_within, call_within, ListWithin, call_listed_within, LocatedWithin, read_within, place_kept, WrittenWithin, set_within, update_within}
 use Rattle.qs_elaborate.proofs.SizeParts.{write_valued_within, write_discarded_within, step_within, Aimed, kept_aimed, copied_within, AimedAt, kept_aimed_at, discarded_set_within}
 
@@ -41,35 +42,58 @@ reached_alone v t n i g = with_less_to_spare 1 v _ g.reached
 with_held : (f : CoreExprTree → CoreExprTree) (v : Valued) (t n : ℕ) → held (f v.value) ≤ max 1 (held v.value) → Within 1 v (t + 2 * n) → Within 2 (record v { value = f v.value }) (t + 2 * (1 + n))
 with_held f v t n e h = record { statements_fit = omega (arith, h.statements_fit); value_fits = omega (arith, e, h.statements_fit, h.value_fits) }
 
-member_held : (offset : ℕ) (a : CoreExprTree) → held (core.member offset a) ≤ max 1 (held a)
-member_held offset a = by (is_place a) (held a)
-  where
-    by : (z : Bool) (n : ℕ) → (if z then 0 else max 1 n) ≤ max 1 n
-    by true n = omega arith
-    by false n = omega arith
+pub member_held : (offset : ℕ) (a : CoreExprTree) → held (core.member offset a) ≤ max 1 (held a)
+member_held offset a = omega arith
 
 -- ---- addresses of objects
 
 record Fixed (v : Valued) (ts : Temporaries) : Type 0 where
   quiet : list_held v.statements ≡ 0
   same : v.temporaries ≡ ts
-  placed : is_place v.value ≡ true
+  few : held v.value ≤ 1
+  none : parts_held v.value ≡ 0
 
 fixed_gives : (a : Expr) (ts : Temporaries) → is_fixed a ≡ true → Fixed (expression_core a ts) ts
-fixed_gives (pointer_to o) ts h = record { quiet = refl; same = refl; placed = refl }
-fixed_gives (member offset a) ts h = let f = fixed_gives a ts h in record { quiet = f.quiet; same = f.same; placed = f.placed }
+fixed_gives (pointer_to o) ts h = record { quiet = refl; same = refl; few = omega arith; none = refl }
+fixed_gives (member offset (pointer_to o)) ts h = record { quiet = refl; same = refl; few = omega arith; none = refl }
 fixed_gives _ ts h = absurd (cc)
 
-fixed_aimed : (z : Bool) (v : Valued) (ts : Temporaries) → Fixed v ts → Aimed (saved_if z v) (length ts)
-fixed_aimed z v ts f =
-    let o = place_operand v.value f.placed in
-    let h = operand_held v.value o in
+itself_aimed : (v : Valued) (ts : Temporaries) → Fixed v ts → Aimed v (length ts)
+itself_aimed v ts f =
     let e = ap length f.same in
     let q = f.quiet in
-    kept_aimed_by (saved_if_kept 0 z v (length ts + 1) (record { statements_fit = omega arith; value_fits = omega arith }))
-  where
-    kept_aimed_by : Kept 0 (saved_if z v) (length ts + 1) → Aimed (saved_if z v) (length ts)
-    kept_aimed_by k = record { statements_fit = omega (arith, k.statements_fit); value_fits = omega (arith, k.value_fits); own_fits = omega (arith, k.own_fits) }
+    let n = f.few in
+    record { statements_fit = omega arith; value_fits = omega arith; own_fits = omega (arith, address_small v.value) }
+
+temporary_aimed : (v : Valued) (ts : Temporaries) → Fixed v ts → Aimed (in_temporary v) (length ts)
+temporary_aimed v ts f =
+    let e = ap length f.same in
+    let q = f.quiet in
+    let n = f.none in
+    let m = one_more v.temporaries (type_of v.value) in
+    record {
+      statements_fit = omega (arith, m, held-append v.statements (keep (next_number v.temporaries) v.value ∷ []));
+      value_fits = omega (arith, m);
+      own_fits = omega (arith, m);
+    }
+
+literal_or_aimed : (z : Bool) (v : Valued) (ts : Temporaries) → Fixed v ts → Aimed (if z then v else in_temporary v) (length ts)
+literal_or_aimed true v ts f = itself_aimed v ts f
+literal_or_aimed false v ts f = temporary_aimed v ts f
+
+fixed_aimed : (z : Bool) (v : Valued) (ts : Temporaries) → Fixed v ts → Aimed (saved_if z v) (length ts)
+fixed_aimed true v ts f = literal_or_aimed (is_literal v.value) v ts f
+fixed_aimed false v ts f = itself_aimed v ts f
+
+-- what is filled is an object
+record IsObject (v : Valued) (ts : Temporaries) : Type 0 where
+  quiet : list_held v.statements ≡ 0
+  same : v.temporaries ≡ ts
+  none : held v.value ≡ 0
+
+object_gives : (a : Expr) (ts : Temporaries) → is_object a ≡ true → IsObject (expression_core a ts) ts
+object_gives (pointer_to o) ts h = record { quiet = refl; same = refl; none = refl }
+object_gives _ ts h = absurd (cc)
 
 -- ---- the operand of `op=`; the 1 of `++a` counts nothing
 
@@ -116,10 +140,10 @@ placed_by : (f z : Bool) (v : Valued) (ts : Temporaries) (n : ℕ) → (f ≡ tr
 placed_by true z v ts n h k = let a = fixed_place z v ts (h refl) in record { statements_fit = omega (arith, a.statements_fit); place_fits = omega (arith, a.place_fits); own_fits = omega (arith, a.own_fits) }
 placed_by false z v ts n h k = kept_aimed_at (address_saved_if z (at_address v)) _ (place_kept 1 z (at_address v) _ (record { statements_fit = k.statements_fit; place_fits = k.value_fits }))
 
-filled_by : (f : Bool) (v : Valued) (ts : Temporaries) (n : ℕ) → (f ≡ true → Fixed v ts) → Within 1 v (length ts + 2 * n) → Within 0 v (length ts + 2 * (if f then 0 else n))
+filled_by : (f : Bool) (v : Valued) (ts : Temporaries) (n : ℕ) → (f ≡ true → IsObject v ts) → Within 1 v (length ts + 2 * n) → Within 0 v (length ts + 2 * (if f then 0 else n))
 filled_by true v ts n h k =
     let g = h refl in
-    let o = operand_held v.value (place_operand v.value g.placed) in
+    let o = g.none in
     let e = ap length g.same in
     let q = g.quiet in
     record { statements_fit = omega arith; value_fits = omega arith }
@@ -262,7 +286,7 @@ mutual
       omega (arith, c)
   effect_within (fill blank a) k ts =
       let at = expression_core a ts in
-      let f = filled_by (is_fixed a) at ts (nodes a k + indirection a) (fixed_gives a ts) (reached_alone _ _ _ _ (expression_good a k ts)) in
+      let f = filled_by (is_object a) at ts (nodes a k + indirection a) (object_gives a ts) (reached_alone _ _ _ _ (expression_good a k ts)) in
       omega (arith, held-append at.statements (core.fill blank at.value ∷ []), f.statements_fit, f.value_fits)
   effect_within (in_order a b) k ts =
       let first = effect_core a ts in

@@ -16,7 +16,7 @@ use Rattle.qs_elaborate.specs.Names.{FunctionNames}
 use Rattle.qs_elaborate.specs.Units.{named_parameters, end_of_body, body_core, function_core, no_names, functions_core}
 use Rattle.qs_elaborate.specs.Counts.{statement_nodes, statements_nodes, nodes_in}
 use Rattle.qs_elaborate.specs.SizeLaws.{WordsAreFew, UnitWordsAreFew}
-use Rattle.qs_elaborate.proofs.WordFacts.{computed, read_small, tested_small, converted_computed, list_words, words-append, words_one}
+use Rattle.qs_elaborate.proofs.WordFacts.{computed, tested_small, converted_taken, list_words, words-append, words_one}
 use Rattle.qs_elaborate.proofs.WordParts.{ListFew}
 use Rattle.qs_elaborate.proofs.WordValues.{expression_good, effect_few}
 
@@ -84,7 +84,7 @@ mutual
       let v = expression_core e ts in
       let g = (expression_good e ts).alone in
       let x = converted_core c v.value in
-      omega (arith, g.once, converted_computed c v.value, read_small x, words-append v.statements (core.return (Some x) ∷ []))
+      omega (arith, g.once, converted_taken c v.value, words-append v.statements (core.return (Some x) ∷ []))
   statement_few return_nothing ts = omega arith
 
   statements_few : (ss : Stmts) (ts : Temporaries) → ListFew (statements_core ss ts) (statements_nodes ss 1)
@@ -97,7 +97,7 @@ mutual
 
 -- ---- functions
 
-named_length : (names : List (List ℕ)) (ps : List Parameter) → length (named_parameters names ps) ≡ length ps
+pub named_length : (names : List (List ℕ)) (ps : List Parameter) → length (named_parameters names ps) ≡ length ps
 named_length names [] = refl
 named_length [] (p ∷ ps) = let e = named_length [] ps in omega arith
 named_length (x ∷ names) (p ∷ ps) = let e = named_length names ps in omega arith

@@ -5,12 +5,12 @@ use Rattle.qs_memory.specs.declared.operation.BinaryOperation.{BinaryOperation}
 use Rattle.qs_calls.specs.declared.callee.Callee.{Callee}
 use Rattle.qs_core.specs.Trees.{CoreExprTree, CoreStmtTree}
 use Rattle.qs_core.specs.Trees as core
-use Rattle.qs_core.specs.Sizes.{read_words, taken_words, all_taken_words, address_words, stmt_words}
+use Rattle.qs_core.specs.Sizes.{taken_words, all_taken_words, address_words, stmt_words}
 use Rattle.qs_meaning.specs.Typed.{Conversion, unchanged, Order}
 use Rattle.qs_elaborate.specs.Literals.{is_literal, converted_core}
 use Rattle.qs_elaborate.specs.Parts.{Temporaries, next_number, keep, Valued, Listed, in_temporary, saved, saved_if, joined, before, Location, plain, pointed, Located, with_saved_address, address_saved_if, value_at, value_read, written}
 use Rattle.qs_elaborate.specs.Expressions.{operation_core, updated_core, step_amount, ValuedAll, argument_before, call_valued, call_listed, branch_with, truth_core, truth_literal, and_branching, or_branching, choice_branching, choice_joined, Written, set_core, update_core, write_discarded, write_at, write_valued, step_valued, copied}
-use Rattle.qs_elaborate.proofs.WordFacts.{computed, tested_words, read_small, address_small, tested_small, converted_computed, operation_computed, operation_address, updated_taken, list_words, words-append, words_one}
+use Rattle.qs_elaborate.proofs.WordFacts.{computed, tested_words, read_small, address_small, tested_small, assigned_small, converted_taken, operation_computed, operation_address, updated_taken, list_words, words-append, words_one}
 
 -- an expression of so many nodes; its value computed once, and twice
 pub record Few (v : Valued) (n : ℕ) : Type 0 where
@@ -23,7 +23,7 @@ operand_few v n e h = record { once = omega arith; twice = omega arith }
 
 -- one that is an address, with an operand of `*` counted
 pub record Reached (v : Valued) (n : ℕ) : Type 0 where
-  pub saved_once : list_words v.statements + computed v.value + 13 ≤ 24 * n
+  pub saved_once : list_words v.statements + computed v.value + 16 ≤ 24 * n
   pub once : list_words v.statements + address_words v.value + 19 ≤ 24 * n
   pub twice : list_words v.statements + 2 * address_words v.value + 12 ≤ 24 * n
 
@@ -45,7 +45,7 @@ as_it_is : (v : Valued) (n : ℕ) → Few v n → Kept v n
 as_it_is v n h = record { once = omega (arith, h.once); twice = omega (arith, h.twice) }
 
 pub temporary_words : (v : Valued) → list_words (in_temporary v).statements ≤ list_words v.statements + computed v.value + 6
-temporary_words v = omega (arith, words-append v.statements (keep (next_number v.temporaries) v.value ∷ []), read_small v.value)
+temporary_words v = omega (arith, words-append v.statements (keep (next_number v.temporaries) v.value ∷ []), assigned_small v.value, read_small v.value)
 
 temporary_kept : (v : Valued) (n : ℕ) → Few v n → Kept (in_temporary v) n
 temporary_kept v n h = let w = temporary_words v in record { once = omega (arith, h.once); twice = omega (arith, h.once) }
@@ -89,8 +89,8 @@ logical_few f a b m n e h k =
     let q = tested_small b.value in
     record { once = omega (arith, w, p, q, h.once, k.once); twice = omega (arith, w, p, q, h.twice, k.twice) }
 
-branch_words : (ss : List CoreStmtTree) (k : ℕ) (e : CoreExprTree) → stmt_words (branch_with ss k e) ≤ list_words ss + computed e + 6
-branch_words ss k e = omega (arith, words_one (ss ++ keep k e ∷ []), words-append ss (keep k e ∷ []), read_small e)
+branch_words : (ss : List CoreStmtTree) (k : ℕ) (e : CoreExprTree) → stmt_words (branch_with ss k e) ≤ list_words ss + taken_words e + 3
+branch_words ss k e = omega (arith, words_one (ss ++ keep k e ∷ []), words-append ss (keep k e ∷ []), assigned_small e)
 
 -- the list of a first operand, and an If
 branching : (c : Valued) (p q : CoreStmtTree) → list_words (c.statements ++ core.branch c.value p q ∷ []) ≤ list_words c.statements + computed c.value + 7 + stmt_words p + stmt_words q
@@ -119,19 +119,17 @@ choice_few s second third c a b l m n g h k =
     let x = converted_core second a.value in
     let y = converted_core third b.value in
     operand_few (choice_branching s second third c a b) (1 + l + m + n) refl
-    (omega (arith, branching c (branch_with a.statements t x) (branch_with b.statements t y), branch_words a.statements t x, branch_words b.statements t y, converted_computed second a.value, converted_computed third b.value, g.once, h.once, k.once))
+    (omega (arith, branching c (branch_with a.statements t x) (branch_with b.statements t y), branch_words a.statements t x, branch_words b.statements t y, converted_taken second a.value, converted_taken third b.value, g.once, h.once, k.once))
 
 pub choice_joined_few :
     (second third : Conversion) (c a b : Valued) (l m n : ℕ) → Few c l → Few a m → Few b n → Few (choice_joined second third c a b) (1 + l + m + n)
 choice_joined_few second third c a b l m n g h k =
     let w = words-append c.statements (a.statements ++ b.statements) in
     let v = words-append a.statements b.statements in
-    let x = converted_computed second a.value in
-    let y = converted_computed third b.value in
-    let rx = read_small (converted_core second a.value) in
-    let ry = read_small (converted_core third b.value) in
+    let x = converted_taken second a.value in
+    let y = converted_taken third b.value in
     let t = tested_small c.value in
-    record { once = omega (arith, w, v, x, y, rx, ry, t, g.once, h.once, k.once); twice = omega (arith, w, v, x, y, rx, ry, t, g.twice, h.twice, k.twice) }
+    record { once = omega (arith, w, v, x, y, t, g.once, h.once, k.once); twice = omega (arith, w, v, x, y, t, g.twice, h.twice, k.twice) }
 
 -- ---- calls
 
@@ -140,7 +138,7 @@ AllFew v n = list_words v.statements + all_taken_words v.values ≤ 24 * n
 
 pub argument_few : (c : Conversion) (a : Valued) (rest : ValuedAll) (m n : ℕ) → Kept a m → AllFew rest n → AllFew (argument_before c a rest) (m + n)
 argument_few c a rest m n h k =
-    omega (arith, words-append a.statements rest.statements, converted_computed c a.value, read_small (converted_core c a.value), h.once, k)
+    omega (arith, words-append a.statements rest.statements, converted_taken c a.value, h.once, k)
 
 pub call_few : (s : Scalar) (f : Callee) (given : ValuedAll) (n : ℕ) → AllFew given n → Few (call_valued s f given) (1 + n)
 call_few s f given n h =
@@ -169,7 +167,7 @@ place_saved (plain x) = 0
 place_saved (pointed a) = computed a
 
 pub record LocatedFew (l : Located) (n : ℕ) : Type 0 where
-  pub saved_once : list_words l.statements + place_saved l.location + 13 ≤ 24 * n
+  pub saved_once : list_words l.statements + place_saved l.location + 16 ≤ 24 * n
   pub once : list_words l.statements + place_words l.location + 19 ≤ 24 * n
   pub twice : list_words l.statements + 2 * place_words l.location + 12 ≤ 24 * n
 
@@ -183,11 +181,11 @@ read_few s l n h = let r = read_computed s l.location in record { once = omega (
 abbrev pub PlaceKept : (l : Located) → (n : ℕ) → Type 0
 PlaceKept l n = list_words l.statements + place_words l.location + 4 ≤ 24 * n
 
-literal_place : (z : Bool) (v : Valued) (m : ℕ) → list_words v.statements + computed v.value + 13 ≤ m → list_words v.statements + address_words v.value + 4 ≤ m → list_words (if z then v else in_temporary v).statements + address_words (if z then v else in_temporary v).value + 4 ≤ m
+literal_place : (z : Bool) (v : Valued) (m : ℕ) → list_words v.statements + computed v.value + 16 ≤ m → list_words v.statements + address_words v.value + 4 ≤ m → list_words (if z then v else in_temporary v).statements + address_words (if z then v else in_temporary v).value + 4 ≤ m
 literal_place true v m h k = k
 literal_place false v m h k = let w = temporary_words v in omega arith
 
-saved_place : (ss : List CoreStmtTree) (x : Location) (ts : Temporaries) (n : ℕ) → list_words ss + place_saved x + 13 ≤ 24 * n → list_words ss + place_words x + 19 ≤ 24 * n → PlaceKept (with_saved_address ss x ts) n
+saved_place : (ss : List CoreStmtTree) (x : Location) (ts : Temporaries) (n : ℕ) → list_words ss + place_saved x + 16 ≤ 24 * n → list_words ss + place_words x + 19 ≤ 24 * n → PlaceKept (with_saved_address ss x ts) n
 saved_place ss (plain x) ts n h k = omega arith
 saved_place ss (pointed a) ts n h k = literal_place (is_literal a) (record { statements = ss; value = a; temporaries = ts }) (24 * n) h (omega arith)
 
@@ -204,13 +202,12 @@ pub record WrittenFew (w : Written) (n : ℕ) : Type 0 where
 pub set_few : (s : Scalar) (c : Conversion) (l : Located) (a : Valued) (m n : ℕ) → PlaceKept l m → Few a n → WrittenFew (set_core s c l a) (1 + m + n)
 set_few s c l a m n h k =
     let w = words-append l.statements a.statements in
-    let x = converted_computed c a.value in
-    let r = read_small (converted_core c a.value) in
-    record { used = omega (arith, w, x, r, h, k.once); thrown = omega (arith, w, x, r, h, k.once) }
+    let x = converted_taken c a.value in
+    record { used = omega (arith, w, x, h, k.once); thrown = omega (arith, w, x, h, k.once) }
 
 -- an operand of `op=` behind which nothing is saved
 abbrev pub OperandFew : (c : Conversion) → (v : Valued) → (n : ℕ) → Type 0
-OperandFew c v n = list_words v.statements + computed v.value + read_words (converted_core c v.value) ≤ 24 * n + 2
+OperandFew c v n = list_words v.statements + taken_words (converted_core c v.value) ≤ 24 * n + 2
 
 quiet_by :
     (s : Scalar) (op : BinaryOperation) (left right back : Conversion) (ss : List CoreStmtTree) (x : Location) (ts : Temporaries) (a : Valued) (m n : ℕ)
@@ -228,13 +225,12 @@ quiet_by s op left right back ss (pointed p) ts a m n h i k =
 -- one behind which something acts: the place is saved, and what stands there
 acting_few :
     (s : Scalar) (op : BinaryOperation) (left right back : Conversion) (x : Location) (old a : Valued) (m n : ℕ)
-    → place_words x ≤ 3 → computed old.value ≡ 0 → list_words old.statements ≤ 24 * m + 2 → Few a n → WrittenFew (update_core s op left right back x old a) (1 + m + n)
+    → place_words x ≤ 3 → computed old.value ≡ 0 → list_words old.statements + 3 ≤ 24 * m → Few a n → WrittenFew (update_core s op left right back x old a) (1 + m + n)
 acting_few s op left right back x old a m n p o h k =
     let w = words-append old.statements a.statements in
     let u = updated_taken op left right back old.value a.value in
-    let r = read_small old.value in
-    let q = read_small (converted_core right a.value) in
-    record { used = omega (arith, w, u, r, q, k.once); thrown = omega (arith, w, u, r, q, k.once) }
+    let r = converted_taken right a.value in
+    record { used = omega (arith, w, u, r, k.once); thrown = omega (arith, w, u, r, k.once) }
 
 -- a place that is saved is in a temporary, or a literal
 literal_ready : (z : Bool) (v : Valued) → (z ≡ true → address_words v.value ≤ 3) → address_words (if z then v else in_temporary v).value ≤ 3
@@ -250,11 +246,11 @@ ready_place : (ss : List CoreStmtTree) (x : Location) (ts : Temporaries) → pla
 ready_place ss (plain x) ts = omega arith
 ready_place ss (pointed a) ts = literal_ready (is_literal a) (record { statements = ss; value = a; temporaries = ts }) (literal_address a)
 
-literal_listed : (z : Bool) (v : Valued) (m : ℕ) → list_words v.statements + computed v.value + 13 ≤ m → list_words (if z then v else in_temporary v).statements + 7 ≤ m
+literal_listed : (z : Bool) (v : Valued) (m : ℕ) → list_words v.statements + computed v.value + 16 ≤ m → list_words (if z then v else in_temporary v).statements + 10 ≤ m
 literal_listed true v m h = omega arith
 literal_listed false v m h = let w = temporary_words v in omega arith
 
-saved_listed : (ss : List CoreStmtTree) (x : Location) (ts : Temporaries) (m : ℕ) → list_words ss + place_saved x + 13 ≤ m → list_words (with_saved_address ss x ts).statements + 7 ≤ m
+saved_listed : (ss : List CoreStmtTree) (x : Location) (ts : Temporaries) (m : ℕ) → list_words ss + place_saved x + 16 ≤ m → list_words (with_saved_address ss x ts).statements + 10 ≤ m
 saved_listed ss (plain x) ts m h = omega arith
 saved_listed ss (pointed a) ts m h = literal_listed (is_literal a) (record { statements = ss; value = a; temporaries = ts }) m h
 
@@ -265,7 +261,7 @@ old_computed s ss (pointed a) ts = refl
 
 old_listed :
     (s : Scalar) (ss : List CoreStmtTree) (x : Location) (ts : Temporaries) → place_words x ≤ 3
-    → list_words (saved (value_read s (record { statements = ss; location = x; temporaries = ts }))).statements ≤ list_words ss + 9
+    → list_words (saved (value_read s (record { statements = ss; location = x; temporaries = ts }))).statements ≤ list_words ss + 7
 old_listed s ss (plain x) ts h = omega (arith, words-append ss (keep (next_number ts) (core.variable s x) ∷ []))
 old_listed s ss (pointed a) ts h = omega (arith, words-append ss (keep (next_number ts) (core.load s a) ∷ []))
 
@@ -296,15 +292,15 @@ update_few true s op left right back l e m n o h k q i =
 write_by :
     (s : Scalar) (x : Location) (ss : List CoreStmtTree) (b : CoreExprTree) (ts : Temporaries) (n : ℕ)
     → list_words ss + taken_words b + place_words x + 20 ≤ 24 * n → Few (write_at s x ss b ts) n
-write_by s (plain x) ss b ts n h = operand_few (write_at s (plain x) ss b ts) n refl (omega (arith, words-append ss (written s (plain x) b ∷ [])))
+write_by s (plain x) ss b ts n h = operand_few (write_at s (plain x) ss b ts) n refl (omega (arith, words-append ss (written s (plain x) b ∷ []), assigned_small b))
 write_by s (pointed a) ss b ts n h =
-    operand_few (write_at s (pointed a) ss b ts) n refl (omega (arith, words-append ss (keep (next_number ts) b ∷ written s (pointed a) (core.temporary s (next_number ts)) ∷ [])))
+    operand_few (write_at s (pointed a) ss b ts) n refl (omega (arith, words-append ss (keep (next_number ts) b ∷ written s (pointed a) (core.temporary s (next_number ts)) ∷ []), assigned_small b))
 
 pub write_valued_few : (w : Written) (n : ℕ) → WrittenFew w n → Few (write_valued w) n
 write_valued_few w n h = write_by w.scalar w.location w.statements w.value w.temporaries n h.used
 
 written_words : (s : Scalar) (x : Location) (b : CoreExprTree) → stmt_words (written s x b) ≤ taken_words b + place_words x + 3
-written_words s (plain x) b = omega arith
+written_words s (plain x) b = omega (arith, assigned_small b)
 written_words s (pointed a) b = omega arith
 
 pub write_discarded_few : (w : Written) (n : ℕ) → list_words w.statements + taken_words w.value + place_words w.location + 3 ≤ 24 * n → ListFew (write_discarded w) n
@@ -317,7 +313,7 @@ step_by s op left back ss (plain x) ts n h =
     let k = next_number ts in
     let b = updated_core op left unchanged back (core.temporary s k) (step_amount op) in
     operand_few (step_valued s op left back (record { statements = ss; location = plain x; temporaries = ts })) (1 + n) refl
-    (omega (arith, words-append ss (keep k (core.variable s x) ∷ written s (plain x) b ∷ []), updated_taken op left unchanged back (core.temporary s k) (step_amount op)))
+    (omega (arith, words-append ss (keep k (core.variable s x) ∷ written s (plain x) b ∷ []), assigned_small b, updated_taken op left unchanged back (core.temporary s k) (step_amount op)))
 step_by s op left back ss (pointed a) ts n h =
     let k = next_number ts in
     let b = updated_core op left unchanged back (core.temporary s k) (step_amount op) in
@@ -335,7 +331,7 @@ aimed_words (plain x) = 2
 aimed_words (pointed a) = address_words a
 
 written_aimed : (s : Scalar) (x : Location) (b : CoreExprTree) → stmt_words (written s x b) ≤ taken_words b + aimed_words x + 1
-written_aimed s (plain x) b = omega arith
+written_aimed s (plain x) b = omega (arith, assigned_small b)
 written_aimed s (pointed a) b = omega arith
 
 aimed_small : (x : Location) → aimed_words x ≤ place_words x + 2
@@ -353,7 +349,7 @@ discarded_set_few s c l a m n h k =
     let b = converted_core c a.value in
     let w = words-append l.statements a.statements in
     let v = words-append (l.statements ++ a.statements) (written s l.location b ∷ []) in
-    omega (arith, w, v, written_aimed s l.location b, converted_computed c a.value, read_small b, h, k.once)
+    omega (arith, w, v, written_aimed s l.location b, converted_taken c a.value, h, k.once)
 
 abbrev pub Aimed : (v : Valued) → (n : ℕ) → Type 0
 Aimed v n = list_words v.statements + address_words v.value ≤ 24 * n + 9

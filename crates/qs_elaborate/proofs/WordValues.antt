@@ -1,19 +1,18 @@
 -- Core needs few words: 24 for each node of an expression.
 use Rattle.std.proofs.Common.{◌≡◌, ◌≤◌, ℕ, ◌+◌, ◌*◌, ◌||◌, Bool, true, false, [], ◌∷◌, refl, arith, if◌then◌else◌}
-use Rattle.qs_memory.specs.declared.scalar.Scalar.{Scalar}
 use Rattle.qs_memory.specs.declared.scalar.Scalar.TheVariants as scalars
 use Rattle.qs_core.specs.Trees.{CoreExprTree}
 use Rattle.qs_core.specs.Trees as core
-use Rattle.qs_core.specs.Sizes.{is_place, read_words, taken_words, address_words}
+use Rattle.qs_core.specs.Sizes.{taken_words, address_words, assigned_words}
 use Rattle.qs_meaning.specs.Typed.{Conversion, Expr, constant, value, pointer_to, member, called, stepped_after, unary, cast, binary, logical_and, logical_or, conditional, assigned, sequence}
 use Rattle.qs_meaning.specs.Typed.{Lvalue, variable, object, Arguments, no_arguments, argument_and, Assignment, set, update}
 use Rattle.qs_meaning.specs.Typed.{Effect, nothing, discard, assign, perform, copy, fill, in_order}
 use Rattle.qs_elaborate.specs.Acting.{acts, arguments_act}
 use Rattle.qs_elaborate.specs.Literals.{is_literal, converted_core}
-use Rattle.qs_elaborate.specs.Parts.{Temporaries, with_temporary, Valued, in_temporary, saved_if, address_saved_if, at_address}
+use Rattle.qs_elaborate.specs.Parts.{Temporaries, next_number, with_temporary, keep, Valued, in_temporary, saved_if, address_saved_if, at_address}
 use Rattle.qs_elaborate.specs.Expressions.{expression_core, lvalue_core, arguments_core, assignment_core, effect_core, write_discarded, Written}
-use Rattle.qs_elaborate.specs.Counts.{indirection, is_fixed, is_amount, nodes, lvalue_nodes, arguments_nodes, assignment_nodes, discarded_nodes, target_nodes, effect_nodes}
-use Rattle.qs_elaborate.proofs.WordFacts.{computed, read_small, member_computed, member_reached, placed_computed, placed_address, converted_computed, converted_read, list_words, words-append}
+use Rattle.qs_elaborate.specs.Counts.{indirection, is_object, is_fixed, is_amount, nodes, lvalue_nodes, arguments_nodes, assignment_nodes, discarded_nodes, target_nodes, effect_nodes}
+use Rattle.qs_elaborate.proofs.WordFacts.{computed, member_computed, member_reached, converted_taken, constant_taken, converted_computed, list_words, words-append}
 use Rattle.qs_elaborate.proofs.WordParts.{Few, operand_few, Reached, either_few, below_star, saved_kept, saved_if_kept, operation_few, operation_reached, logical_few, and_few, or_few, choice_few, choice_joined_few}
 use Rattle.qs_elaborate.proofs.WordParts.{AllFew, argument_few, call_few, ListFew, call_listed_few, behind_few, place_words, LocatedFew, read_few, place_kept, WrittenFew, set_few, OperandFew, update_few, write_valued_few, write_discarded_few, step_few}
 use Rattle.qs_elaborate.proofs.WordParts.{temporary_words, AimedAt, kept_aimed_at, discarded_set_few, Aimed, copied_few}
@@ -51,20 +50,21 @@ member_good offset v n h =
 
 record Fixed (v : Valued) : Type 0 where
   quiet : list_words v.statements ≡ 0
-  placed : is_place v.value ≡ true
+  near : address_words v.value ≤ 3
+  kept : assigned_words v.value ≤ 6
 
 fixed_gives : (a : Expr) (ts : Temporaries) → is_fixed a ≡ true → Fixed (expression_core a ts)
-fixed_gives (pointer_to o) ts h = record { quiet = refl; placed = refl }
-fixed_gives (member offset a) ts h = let f = fixed_gives a ts h in record { quiet = f.quiet; placed = f.placed }
+fixed_gives (pointer_to o) ts h = record { quiet = refl; near = omega arith; kept = omega arith }
+fixed_gives (member offset (pointer_to o)) ts h = record { quiet = refl; near = omega arith; kept = omega arith }
 fixed_gives _ ts h = absurd (cc)
 
 fixed_either : (z : Bool) (v : Valued) → Fixed v → Aimed (if z then v else in_temporary v) 0
-fixed_either true v f = let q = f.quiet in omega (arith, placed_address v.value f.placed)
-fixed_either false v f = let q = f.quiet in omega (arith, temporary_words v, placed_computed v.value f.placed)
+fixed_either true v f = let q = f.quiet in omega (arith, f.near)
+fixed_either false v f = let q = f.quiet in omega (arith, words-append v.statements (keep (next_number v.temporaries) v.value ∷ []), f.kept)
 
 fixed_aimed : (z : Bool) (v : Valued) → Fixed v → Aimed (saved_if z v) 0
 fixed_aimed true v f = fixed_either (is_literal v.value) v f
-fixed_aimed false v f = let q = f.quiet in omega (arith, placed_address v.value f.placed)
+fixed_aimed false v f = let q = f.quiet in omega (arith, f.near)
 
 fixed_place : (z : Bool) (v : Valued) → Fixed v → AimedAt (address_saved_if z (at_address v)) 0
 fixed_place true v f = fixed_aimed true v f
@@ -89,19 +89,20 @@ placed_by : (f z : Bool) (v : Valued) (n : ℕ) → (f ≡ true → Fixed v) →
 placed_by true z v n h k = fixed_place z v (h refl)
 placed_by false z v n h k = kept_aimed_at (address_saved_if z (at_address v)) n (place_kept z (at_address v) n (located_few v n k))
 
--- a fill takes its address and seven words
-filled_by : (f : Bool) (v : Valued) (n : ℕ) → (f ≡ true → Fixed v) → Reached v n → list_words v.statements + address_words v.value + 7 ≤ 24 * (1 + (if f then 0 else n))
-filled_by true v n h k = let g = h refl in let q = g.quiet in omega (arith, placed_address v.value g.placed)
+-- a fill takes its address and ten words; what is filled is an object
+object_fixed : (a : Expr) (ts : Temporaries) → is_object a ≡ true → Fixed (expression_core a ts)
+object_fixed (pointer_to o) ts h = fixed_gives (pointer_to o) ts refl
+object_fixed _ ts h = absurd (cc)
+
+filled_by : (f : Bool) (v : Valued) (n : ℕ) → (f ≡ true → Fixed v) → Reached v n → list_words v.statements + address_words v.value + 10 ≤ 24 * (1 + (if f then 0 else n))
+filled_by true v n h k = let g = h refl in let q = g.quiet in omega (arith, g.near)
 filled_by false v n h k = omega (arith, k.once)
 
 -- ---- the operand of `op=`; the 1 of `++a` counts nothing
 
-constant_read : (s : Scalar) (c : Conversion) (n : ℕ) → read_words (converted_core c (core.literal s n)) ≤ 2
-constant_read s c n = omega (arith, converted_read c (core.literal s n))
-
 amount_few : (c : Conversion) (a : Expr) (k : ℕ) (ts : Temporaries) → Few (expression_core a ts) (nodes a k) → OperandFew c (expression_core a ts) (if is_amount a then 0 else nodes a k)
-amount_few c (constant s n) k ts h = omega (arith, constant_read s c n)
-amount_few c a k ts h = omega (arith, h.once, read_small (converted_core c (expression_core a ts).value))
+amount_few c (constant s n) k ts h = omega (arith, constant_taken c s n)
+amount_few c a k ts h = omega (arith, h.once, converted_taken c (expression_core a ts).value)
 
 amount_quiet : (a : Expr) (k : ℕ) → acts a ≡ true → nodes a k ≤ (if is_amount a then 0 else nodes a k)
 amount_quiet (constant s n) k h = absurd (cc)
@@ -140,7 +141,7 @@ mutual
   expression_good (unary op c a) ts =
       let v = expression_core a ts in
       by_star _ _
-      (with_words (λ y. core.unary op (converted_core c y)) v _ (omega (arith, converted_computed c v.value, read_small (converted_core c v.value)))
+      (with_words (λ y. core.unary op (converted_core c y)) v _ (omega (arith, converted_taken c v.value))
       (expression_good a ts).alone)
   expression_good (cast c a) ts =
       let v = expression_core a ts in
@@ -226,7 +227,7 @@ mutual
       (expression_good b to.temporaries).reached
   effect_few (fill blank a) ts =
       let at = expression_core a ts in
-      let f = filled_by (is_fixed a) at _ (fixed_gives a ts) (expression_good a ts).reached in
+      let f = filled_by (is_object a) at _ (object_fixed a ts) (expression_good a ts).reached in
       omega (arith, words-append at.statements (core.fill blank at.value ∷ []), f)
   effect_few (in_order a b) ts =
       let first = effect_core a ts in

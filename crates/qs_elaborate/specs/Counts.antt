@@ -25,12 +25,29 @@ indirection (conditional s a second third b c) = 1
 indirection (assigned a) = 1
 indirection (sequence a b) = 1
 
+-- the address of an object
+abbrev pub is_object : Expr → Bool
+is_object (constant s n) = false
+is_object (value s l) = false
+is_object (pointer_to o) = true
+is_object (member offset a) = false
+is_object (called s f es) = false
+is_object (stepped_after s l operation left back) = false
+is_object (unary operation c a) = false
+is_object (cast c a) = false
+is_object (binary operation order left right a b) = false
+is_object (logical_and a b) = false
+is_object (logical_or a b) = false
+is_object (conditional s a second third b c) = false
+is_object (assigned a) = false
+is_object (sequence a b) = false
+
 -- the address of an object or of a part of it; a declaration with an initialiser has no expression for it
 abbrev pub is_fixed : Expr → Bool
 is_fixed (constant s n) = false
 is_fixed (value s l) = false
 is_fixed (pointer_to o) = true
-is_fixed (member offset a) = is_fixed a
+is_fixed (member offset a) = is_object a
 is_fixed (called s f es) = false
 is_fixed (stepped_after s l operation left back) = false
 is_fixed (unary operation c a) = false
@@ -106,7 +123,7 @@ abbrev mutual
   effect_nodes (assign a) k = discarded_nodes a k
   effect_nodes (perform f es) k = 1 + arguments_nodes es k
   effect_nodes (copy size alignment a b) k = (if is_fixed a then 0 else nodes a k + indirection a) + (nodes b k + indirection b)
-  effect_nodes (fill blank a) k = k + (if is_fixed a then 0 else nodes a k + indirection a)
+  effect_nodes (fill blank a) k = k + (if is_object a then 0 else nodes a k + indirection a)
   effect_nodes (in_order a b) k = effect_nodes a k + effect_nodes b k
 
 -- ---- statements: those that declare or evaluate count what they evaluate

@@ -19,4 +19,5 @@ pub mod Lists
 pub mod Reserved
 pub mod Turns
 pub mod Counts
+pub mod ExpressionCounts
 pub mod SizeLaws

@@ -13,15 +13,15 @@ use Rattle.qs_memory.specs.declared.operation.UnaryOperation.TheVariants as unar
 use Rattle.qs_memory.specs.declared.operation.BinaryOperation.{BinaryOperation}
 use Rattle.qs_memory.specs.declared.operation.BinaryOperation.TheVariants as binaries
 use Rattle.qs_core.proofs.FitLaws.{both}
-use Rattle.qs_tac.specs.Trees.{InstructionTree, move, unary, binary, convert, address_of, load, jump, branch, TacFunctionTree, TacUnitTree}
+use Rattle.qs_tac.specs.Trees.{InstructionTree, move, unary, binary, address_of, load, jump, branch, TacFunctionTree, TacUnitTree}
 use Rattle.qs_tac.specs.declared.operands.Operand.{Operand}
 use Rattle.qs_tac.specs.declared.operands.Operand.TheVariants.{Constant}
 use Rattle.qs_tac.specs.declared.operands.Condition.{Condition}
 use Rattle.qs_tac.specs.declared.operands.Condition.TheVariants as conditions
 use Rattle.qs_tac.specs.Fits.{is_word, is_element, operand_fits, option_fits, offset_fits, index_fits, address_fits, condition_fits, operation_fits, instruction_fits}
 use Rattle.qs_lower.specs.Exits.{Exit, falls, goes, is_fall, place_of, settled, exit_code, opposite, branch_size, branch_code}
-use Rattle.qs_lower.specs.Operands.{truth_of, truth_operand, swaps}
-use Rattle.qs_lower.specs.Expressions.{IndexCode, ExprCode, simple_size, size_of, simple_code, code_of, simple_operand, operand_of, own, used_by, based, known_size, known_code, tested, no_code, by_operand, by_value, number_of, by_test, index_at, address_at, of_load, further, behind_parts, behind, unindexed, indexed_by, by_address, of_member, of_element, of_unary_value, with_test, of_truth, of_plus, of_compound, simple_or, pair_size, pair_code, pair_used, binary_instruction, of_binary_value, with_condition, of_operation, stepped_or, both_size, of_both_tests, either_size, of_either_test, of_choice, of_and, of_or, of_conditional}
+use Rattle.qs_lower.specs.Operands.{converted, truth_of, truth_operand, swaps}
+use Rattle.qs_lower.specs.Expressions.{IndexCode, ExprCode, simple_size, size_of, simple_code, code_of, simple_operand, operand_of, own, used_by, based, known_size, known_code, tested, no_code, by_operand, by_value, number_of, by_test, index_at, address_at, of_load, further, behind_parts, behind, unindexed, indexed_by, by_address, of_member, of_element, of_unary_value, with_test, of_truth, of_plus, of_compound, simple_or, converting, converting_instruction, of_convert, pair_size, pair_code, pair_used, binary_instruction, of_binary_value, with_condition, of_operation, stepped_or, both_size, of_both_tests, either_size, of_either_test, of_choice, of_and, of_or, of_conditional}
 
 pub together : {a b : Bool} → a ≡ true → b ≡ true → (a && b) ≡ true
 together {a = true} h k = k
@@ -353,13 +353,19 @@ module _ (u : TacUnitTree) (f : TacFunctionTree) where
   if_fits true c d h k = h
   if_fits false c d h k = k
 
-  pub convert_fits : (s : Scalar) (a : ExprCode) → ExprFits a
-      → ExprFits (by_value (size_of a + 1) (used_by a) (λ x t at. code_of a t at ++ convert s x (operand_of a t) ∷ []))
-  convert_fits s a h =
+  converting_fits : (read : Option Operand) (s : Scalar) (x : ℕ) (o : Operand) → x < f.temporaries → option_fits u f read ≡ true → operand_fits u f o ≡ true
+      → instruction_fits u f (converting read s x o) ≡ true
+  converting_fits (Some p) s x o there h k = together (below there) h
+  converting_fits None s x o there h k = together (below there) k
+
+  pub convert_fits : (s : Scalar) (a : ExprCode) → ((o : Operand) → operand_fits u f o ≡ true → option_fits u f (converted s o) ≡ true) → ExprFits a
+      → ExprFits (of_convert s a)
+  convert_fits s a c h =
       by_value_fits (size_of a + 1) (used_by a) _
       (λ x t at there used room.
       fit_both (code_of a t at) _ (code_of_fits a h t at used (omega (arith, room)))
-      (fit_one (convert s x (operand_of a t)) (together (below there) (operand_of_fits a h t used))))
+      (fit_one (converting_instruction s x (operand_of a t))
+      (converting_fits (converted s (operand_of a t)) s x (operand_of a t) there (c (operand_of a t) (operand_of_fits a h t used)) (operand_of_fits a h t used))))
 
   pair_fits : (a b : ExprCode) → ExprFits a → ExprFits b → (t at : ℕ) → t + pair_used a b ≤ f.temporaries → at + pair_size a b < length f.code → Fit (pair_code a b t at)
   pair_fits a b h k t at used room =

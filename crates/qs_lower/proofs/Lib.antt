@@ -1,4 +1,6 @@
 pub mod ThreadLaws
+pub mod OnceLaws
+pub mod ExactLaws
 pub mod JumpLaws
 pub mod SizeLaws
 pub mod StmtSizeLaws
@@ -31,4 +33,13 @@ pub mod OperandFits
 pub mod PartFits
 pub mod StmtFits
 pub mod UnitFits
+pub mod CoreWords
+pub mod SimpleOperands
+pub mod ExprWords
+pub mod LoweredWords
+pub mod HeldValues
+pub mod StmtWords
+pub mod CallArguments
+pub mod UnitWords
 mod LowerExamples
+mod WordExamples

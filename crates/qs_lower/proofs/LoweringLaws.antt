@@ -1,9 +1,9 @@
 -- What lowering promises.
-use Rattle.std.proofs.Common.{◌≡◌, ℕ, ◌+◌, ◌≤◌, true, false, List, length, map, Some, subst, arith}
+use Rattle.std.proofs.Common.{◌≡◌, ℕ, ◌+◌, ◌≤◌, true, false, List, length, map, Some, ◌∙◌, arith}
 use Rattle.std.specs.List.{slice_get}
 use Rattle.qs_memory.specs.Values.{Value}
 use Rattle.qs_events.specs.Runs.{Within}
-use Rattle.qs_calls.specs.World.{World, RootRun}
+use Rattle.qs_calls.specs.World.{World}
 use Rattle.qs_core.specs.Trees.{CoreFunctionTree, CoreUnitTree}
 use Rattle.qs_core.specs.Units.{core_run}
 use Rattle.qs_core.specs.Fits.{function_fits, unit_fits}
@@ -12,7 +12,7 @@ use Rattle.qs_tac.specs.Holders.{temporaries}
 use Rattle.qs_tac.specs.Units.{tac_run}
 use Rattle.qs_lower.specs.Units.{function_code, straight_unit, lower_unit}
 use Rattle.qs_lower.specs.Laws.{LoweringFollows}
-use Rattle.qs_lower.proofs.ThreadLaws.{run_forth}
+use Rattle.qs_lower.proofs.ExactLaws.{run_exact}
 use Rattle.qs_lower.proofs.JumpLaws.{weight_of}
 use Rattle.qs_lower.proofs.Follow.{told, code_is, context, ParametersThere, same_run, threaded_run}
 use Rattle.qs_lower.proofs.There.{stmts_there, more_there, parameters_there}
@@ -46,6 +46,7 @@ pub lowering_follows : LoweringFollows
 lowering_follows u fits = record {
   forth = λ root arguments w n.
       let r = straight_run u fits root arguments w n in
-      (r.0, subst (λ (o : RootRun). Within o (tac_run (lower_unit u) root arguments w r.0)) r.2 (run_forth temporaries (straight_unit u) root arguments w r.0));
+      let e = run_exact temporaries (straight_unit u) root arguments w r.0 in
+      (e.0, e.1 ∙ r.2);
   back = λ root arguments w m. run_back u fits root arguments w m;
 }

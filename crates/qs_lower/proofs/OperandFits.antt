@@ -224,7 +224,7 @@ module _ (c : CoreUnitTree) (g : CoreFunctionTree) (u : TacUnitTree) (f : TacFun
   lowered_fits (core.conversion s a) h =
       let first = lowered_fits a (both (expr_fits c g a) _ h).0 in
       simple_or_fits u f ((lowered v a).simple >>= converted s) _ (converted_fits u f s (lowered v a).simple first.simple)
-      (if_fits u f (is_idle s a) (lowered v a) _ first (convert_fits u f s (lowered v a) first))
+      (if_fits u f (is_idle s a) (lowered v a) _ first (convert_fits u f s (lowered v a) (converted_one u f s) first))
   lowered_fits (core.logical_and a b) h =
       let two = both (expr_fits c g a) (expr_fits c g b) h in
       and_fits u f (lowered v a).known (gives_truth b) (lowered v a) (lowered v b) (lowered_fits a two.0) (lowered_fits b two.1)

@@ -1,5 +1,5 @@
 -- The code of operations on one and on two operands.
-use Rattle.std.proofs.Common.{◌≡◌, ℕ, ◌+◌, ◌*◌, ◌≤◌, Bool, true, false, not, if◌then◌else◌, List, Option, Some, None, refl, sym, ap, ◌∙◌, arith}
+use Rattle.std.proofs.Common.{◌≡◌, ℕ, ◌+◌, ◌*◌, ◌≤◌, Bool, true, false, not, if◌then◌else◌, List, Option, Some, None, refl, sym, ap, ◌∙◌, subst, arith}
 use Rattle.qs_memory.specs.Partial.{◌>>=◌}
 use Rattle.qs_memory.specs.Values.{Pointer, Value, integer, address, as_integer, as_pointer}
 use Rattle.qs_memory.specs.Memory.{Memory}
@@ -26,7 +26,7 @@ use Rattle.qs_memory.specs.declared.operation.BinaryOperation.TheVariants as bin
 use Rattle.qs_memory.specs.Values as values
 use Rattle.qs_memory.specs.declared.operation.UnaryOperation.{UnaryOperation}
 use Rattle.qs_memory.specs.declared.operation.UnaryOperation.TheVariants as unaries
-use Rattle.qs_tac.specs.Trees.{InstructionTree, unary, binary, convert}
+use Rattle.qs_tac.specs.Trees.{InstructionTree, move, unary, binary}
 use Rattle.qs_tac.specs.Holders.{temporaries}
 use Rattle.qs_tac.specs.Values.{operand, pointer, member_at, indexed, holds}
 use Rattle.qs_tac.specs.Steps.{gives, step}
@@ -38,7 +38,7 @@ use Rattle.qs_tac.specs.declared.operands.Condition.{Condition}
 use Rattle.qs_tac.specs.declared.operands.Condition.TheVariants.{Compare, ComparePointers}
 use Rattle.qs_lower.specs.Exits.{Exit}
 use Rattle.qs_lower.specs.Operands.{converted, unary_of, gives_integer, gives_truth, is_idle, is_upward, constant_step, folded, swaps}
-use Rattle.qs_lower.specs.Expressions.{IndexCode, ExprCode, simple_size, size_of, simple_code, code_of, simple_operand, operand_of, own, based, known_size, known_code, tested, no_code, by_operand, by_value, index_at, address_at, of_load, further, behind_parts, behind, indexed_by, by_address, used_by, of_unary_value, with_test, of_plus, of_compound, simple_or, of_unary, of_conversion, unindexed, pair_size, pair_code, pair_used, binary_instruction, of_binary_value, with_condition, of_element, of_operation, number_of, by_test, both_size, of_both_tests, either_size, of_either_test, of_choice, of_and, of_or, of_conditional, stepped_or, of_binary, lowered}
+use Rattle.qs_lower.specs.Expressions.{converting, converting_instruction, IndexCode, ExprCode, simple_size, size_of, simple_code, code_of, simple_operand, operand_of, own, based, known_size, known_code, tested, no_code, by_operand, by_value, index_at, address_at, of_load, further, behind_parts, behind, indexed_by, by_address, used_by, of_unary_value, with_test, of_plus, of_compound, simple_or, of_unary, of_conversion, unindexed, pair_size, pair_code, pair_used, binary_instruction, of_binary_value, with_condition, of_element, of_operation, number_of, by_test, both_size, of_both_tests, either_size, of_either_test, of_choice, of_and, of_or, of_conditional, stepped_or, of_binary, lowered}
 use Rattle.qs_lower.specs.Expressions as lower
 use Rattle.qs_lower.proofs.SizeLaws.{behind_sized, both, one_more, branch_length, pair_length, based_sized, unindexed_sized, indexed_sized, code_length, TestSized, with_test_sized}
 use Rattle.qs_lower.proofs.OperandLaws.{and_left, folded_right, swapped, converted_right, unary_right, gives_truth_is, truth_again, idle_stays, plus_stays}
@@ -229,6 +229,14 @@ module _ (u : Model) (f : CoreFunctionTree) (code : List InstructionTree) (funct
       (λ at first e m o p is. unary_right temporaries (at_moment at first e) op m o p is) c.simple refl)
       (compound_correct op a c h)
 
+  -- a value that is converted on its way, by how it is read or by an instruction
+  converting_gives :
+      (read : Option Operand) (s : Scalar) (x : ℕ) (o : Operand) (at first : ℕ) (after : Environment) (w : World) → converted s o ≡ read
+      → Gives (converting read s x o) x at first after w (operand temporaries o (at_moment at first after) >>= λ v. values.convert s v)
+  converting_gives None s x o at first after w is = ((refl, λ g. refl), λ next. refl)
+  converting_gives (Some p) s x o at first after w is =
+      subst (λ (v : Option Value). Gives (move x p) x at first after w v) (converted_right temporaries (at_moment at first after) s o p is) ((refl, λ g. refl), λ next. refl)
+
   pub conversion_correct : (s : Scalar) (a : CoreExprTree) (c : ExprCode) → Correct a c → Correct (core.conversion s a) (of_conversion s (is_idle s a) c)
   conversion_correct s a c h =
       simple_or_correct (core.conversion s a) (c.simple >>= converted s) _
@@ -240,10 +248,10 @@ module _ (u : Model) (f : CoreFunctionTree) (code : List InstructionTree) (funct
       (λ d x t at l e w r le agree has none next.
       value_real.as_operand u f code function stack is_code a c h d t at l e w r le agree (has_left code at (code_of c t at) _ has) (λ k. none (none_bind (value a l w.memory) _ k))
       (λ after kept same.
-      value_real.finish u f code function stack is_code (convert s x (operand_of c t)) d x t (size_of c) at l e after w r _ (value (core.conversion s a) l w.memory)
+      value_real.finish u f code function stack is_code (converting_instruction s x (operand_of c t)) d x t (size_of c) at l e after w r _ (value (core.conversion s a) l w.memory)
       (ap (λ o. o >>= λ v. values.convert s v) (same (at + size_of c) after (kept_all (t + own c) after)))
       (value_real.last_at u f code function stack is_code at (size_of c) (code_of c t at) _ (code_length c h.sized.into t at) has)
-      ((refl, λ g. refl), λ next. refl) kept none next))))
+      (converting_gives (converted s (operand_of c t)) s x (operand_of c t) (at + size_of c) l.first_block after w refl) kept none next))))
 
   -- ---- two operands
 

@@ -1,23 +1,17 @@
--- A unit whose jumps are threaded does what it did: what a run comes to within some steps the threaded one comes to
--- within as many.
-use Rattle.std.proofs.Common.{◌≡◌, ℕ, zero, suc, ◌+◌, ◌⊎◌, inl, inr, Bool, true, false, if◌then◌else◌, List, [], length, Option, Some, None, unwrap_or, refl, sym, ap, ◌∙◌, subst, arith}
+-- A unit whose jumps are threaded: the instruction that comes next in it, and behind so many jumps.
+use Rattle.std.proofs.Common.{◌≡◌, ℕ, zero, suc, ◌⊎◌, inl, inr, List, [], length, Option, Some, None, unwrap_or, refl, sym, ap, ◌∙◌}
 use Rattle.std.specs.List.{slice_get}
 use Rattle.std.specs.Option.{option_map}
 use Rattle.std.proofs.lemmas.Option.{slice_get-map}
 use Rattle.qs_memory.specs.Partial.{◌>>=◌}
-use Rattle.qs_memory.specs.Values.{Value}
-use Rattle.qs_events.specs.Runs.{Within}
-use Rattle.qs_events.proofs.RunLaws.{within_next}
-use Rattle.qs_calls.specs.World.{World, RootRun, leaves}
-use Rattle.qs_calls.proofs.RelationLaws.{given_related, within_keeps}
+use Rattle.qs_calls.specs.World.{World}
 use Rattle.qs_tac.specs.Trees.{InstructionTree, move, unary, binary, convert, address_of, load, store}
 use Rattle.qs_tac.specs.Trees.{copy, fill, call, jump, branch, return, TacFunctionTree, TacUnitTree}
 use Rattle.qs_tac.specs.declared.operands.Condition.{Condition}
 use Rattle.qs_tac.specs.Holders.{Holder}
-use Rattle.qs_tac.specs.Values.{Activation, holds}
+use Rattle.qs_tac.specs.Values.{Activation}
 use Rattle.qs_tac.specs.Steps.{Waiting, going_to, frame_of, step, instruction_at, steps}
-use Rattle.qs_tac.specs.Units.{run}
-use Rattle.qs_tac.proofs.RelationLaws.{FramesSame, enters_related, step_related, leaves_within, steps_grow}
+use Rattle.qs_tac.proofs.RelationLaws.{FramesSame}
 use Rattle.qs_lower.specs.Threads.{leads_to, follow, retargeted, threaded, threaded_function, threaded_unit}
 
 -- ---- within a list of instructions
@@ -53,7 +47,7 @@ frame_kept : (o : Option TacFunctionTree) → option_map frame_of o ≡ option_m
 frame_kept None = refl
 frame_kept (Some f) = refl
 
-frames_kept : (u : TacUnitTree) → FramesSame u (threaded_unit u)
+pub frames_kept : (u : TacUnitTree) → FramesSame u (threaded_unit u)
 frames_kept u f = frame_kept (slice_get u.functions f) ∙ ap (option_map frame_of) (sym (slice_get-map threaded_function u.functions f))
 
 -- ---- kinds of instructions
@@ -107,75 +101,3 @@ module _ {S : Type 0} (h : Holder S) (u : TacUnitTree) where
       (t : TacUnitTree) (m : ℕ) (a : Activation S) (w : World) (stack : List (Waiting S)) (o : Option InstructionTree)
       → instruction_at t a ≡ o → steps h t (suc m) a w stack ≡ step h t o (steps h t m) a w stack
   at_step t m a w stack o is = ap (λ p. step h t p (steps h t m) a w stack) is
-
-  transported : (x y x2 y2 : RootRun) → x ≡ x2 → y ≡ y2 → Within x2 y2 → Within x y
-  transported x y x2 y2 e f k = subst (λ (z : RootRun). Within z y) (sym e) (subst (λ (z : RootRun). Within x2 z) (sym f) k)
-
-  -- ---- forth
-
-  abbrev Forth : ℕ → Type 0
-  Forth m =
-      (n : ℕ) (a : Activation S) (w : World) (stack : List (Waiting S))
-      → Within (steps h u m a w stack) (steps h v m (ahead n a) w stack)
-
-  forth_plain :
-      (m : ℕ) → Forth m → (n : ℕ) (a : Activation S) (w : World) (stack : List (Waiting S)) (o : Option InstructionTree)
-      → slice_get (code_of u a.function) a.at ≡ o → IsPlain o
-      → Within (steps h u (suc m) a w stack) (steps h v (suc m) (ahead n a) w stack)
-  forth_plain m ih n a w stack o is plain =
-      transported _ _ _ _
-      (at_step u m a w stack o (here a o is))
-      (ap (λ k. steps h v (suc m) (going_to k a) w stack) (stays (code_of u a.function) n a.at (ap leads_to is ∙ plain.0))
-      ∙ at_step v m a w stack o (there a o is ∙ plain.1 (target (code_of u a.function))))
-      (step_related Within within_keeps leaves_within h u v (frames_kept u) (steps h u m) (steps h v m) (ih 0) o a w stack)
-
-  forth_jump :
-      (m : ℕ) → Forth m → (n : ℕ) (a : Activation S) (w : World) (stack : List (Waiting S)) (to : ℕ)
-      → slice_get (code_of u a.function) a.at ≡ Some (jump to)
-      → Within (steps h u (suc m) a w stack) (steps h v (suc m) (ahead n a) w stack)
-  forth_jump m ih zero a w stack to is =
-      transported _ _ _ _
-      (at_step u m a w stack (Some (jump to)) (here a _ is))
-      (at_step v m a w stack (Some (jump (target (code_of u a.function) to))) (there a _ is))
-      (ih (length (code_of u a.function)) (going_to to a) w stack)
-  forth_jump m ih (suc n) a w stack to is =
-      transported _ _ _ _
-      (at_step u m a w stack (Some (jump to)) (here a _ is))
-      (ap (λ k. steps h v (suc m) (going_to k a) w stack) (goes_on (code_of u a.function) n a.at to (ap leads_to is)))
-      (within_next _ _ _ (ih n (going_to to a) w stack) (steps_grow h v m (suc m) (omega arith) (ahead n (going_to to a)) w stack))
-
-  forth_answer :
-      (m : ℕ) → Forth m → (a : Activation S) (w : World) (stack : List (Waiting S)) (to : ℕ) (yes : Bool)
-      → Within (steps h u m (going_to (if yes then to else (a.at + 1)) a) w stack)
-      (steps h v m (going_to (if yes then target (code_of u a.function) to else (a.at + 1)) a) w stack)
-  forth_answer m ih a w stack to true = ih (length (code_of u a.function)) (going_to to a) w stack
-  forth_answer m ih a w stack to false = ih 0 (going_to (a.at + 1) a) w stack
-
-  forth_branch :
-      (m : ℕ) → Forth m → (n : ℕ) (a : Activation S) (w : World) (stack : List (Waiting S)) (c : Condition) (to : ℕ)
-      → slice_get (code_of u a.function) a.at ≡ Some (branch c to)
-      → Within (steps h u (suc m) a w stack) (steps h v (suc m) (ahead n a) w stack)
-  forth_branch m ih n a w stack c to is =
-      transported _ _ _ _
-      (at_step u m a w stack (Some (branch c to)) (here a _ is))
-      (ap (λ k. steps h v (suc m) (going_to k a) w stack) (stays (code_of u a.function) n a.at (ap leads_to is))
-      ∙ at_step v m a w stack (Some (branch c (target (code_of u a.function) to))) (there a _ is))
-      (given_related Within within_keeps (holds h c a w.memory) _ _ (forth_answer m ih a w stack to))
-
-  forth_kind :
-      (m : ℕ) → Forth m → (n : ℕ) (a : Activation S) (w : World) (stack : List (Waiting S)) (o : Option InstructionTree)
-      → slice_get (code_of u a.function) a.at ≡ o → Kind o
-      → Within (steps h u (suc m) a w stack) (steps h v (suc m) (ahead n a) w stack)
-  forth_kind m ih n a w stack o is (inl plain) = forth_plain m ih n a w stack o is plain
-  forth_kind m ih n a w stack o is (inr (inl (to, jumps))) = forth_jump m ih n a w stack to (is ∙ jumps)
-  forth_kind m ih n a w stack o is (inr (inr (c, to, branches))) = forth_branch m ih n a w stack c to (is ∙ branches)
-
-  forth : (m : ℕ) → Forth m
-  forth zero n a w stack = tt
-  forth (suc m) n a w stack = forth_kind m (forth m) n a w stack _ refl (kind_of (slice_get (code_of u a.function) a.at))
-
-  pub run_forth : (root : ℕ) (arguments : List Value) (w : World) (m : ℕ) → Within (run h u root arguments w m) (run h v root arguments w m)
-  run_forth root arguments w zero = tt
-  run_forth root arguments w (suc m) =
-      enters_related Within within_keeps leaves_within h u v (frames_kept u) (steps h u m) (steps h v m) (forth m 0)
-      [] root arguments leaves leaves leaves_within w

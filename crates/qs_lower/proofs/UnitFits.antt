@@ -28,6 +28,7 @@ use Rattle.qs_lower.specs.Statements.{Exits, next_falls}
 use Rattle.qs_lower.specs.Threads.{leads_to, onward_from, follow, retargeted, threaded, threaded_function}
 use Rattle.qs_lower.specs.Units.{free_from, body_code, end_code, function_code, straight_function, lower_data, lower_unit}
 use Rattle.qs_lower.specs.Laws.{LoweredFits}
+use Rattle.qs_lower.specs.WordLaws.{lowered_function}
 use Rattle.qs_lower.proofs.StmtSizeLaws.{stmts_sized}
 use Rattle.qs_lower.proofs.ExprFits.{together, below, Fit, fit_cons, fit_one, fit_both}
 use Rattle.qs_lower.proofs.OperandFits.{small_word, Has}
@@ -91,7 +92,7 @@ module _ (u : TacUnitTree) (f : TacFunctionTree) where
 
 -- ---- parameters, blocks, data
 
-types_count : (blocks : List ℕ) (i : ℕ) (ps : List CoreParameterTree) (vs : List CoreVariableTree) → parameters_fit blocks i ps vs ≡ true → length (types_of ps vs) ≡ length ps
+pub types_count : (blocks : List ℕ) (i : ℕ) (ps : List CoreParameterTree) (vs : List CoreVariableTree) → parameters_fit blocks i ps vs ≡ true → length (types_of ps vs) ≡ length ps
 types_count blocks i [] vs h = refl
 types_count blocks i (p ∷ ps) [] h = cc
 types_count blocks i (p ∷ ps) (v ∷ vs) h =
@@ -131,10 +132,7 @@ module _ (c : CoreUnitTree) (fits : core.unit_fits c ≡ true) where
   abbrev u : TacUnitTree
   u = lower_unit c
 
-  abbrev lowered_function : CoreFunctionTree → TacFunctionTree
-  lowered_function g = threaded_function (straight_function g)
-
-  function_there : (k : ℕ) → slice_get u.functions k ≡ option_map lowered_function (slice_get c.functions k)
+  pub function_there : (k : ℕ) → slice_get u.functions k ≡ option_map lowered_function (slice_get c.functions k)
   function_there k =
       slice_get-map threaded_function (map straight_function c.functions) k
       ∙ ap (option_map threaded_function) (slice_get-map straight_function c.functions k)

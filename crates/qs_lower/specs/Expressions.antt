@@ -234,8 +234,17 @@ simple_or None e = e
 abbrev pub of_unary : UnaryOperation → (gives_integer gives_truth : Bool) → ExprCode → ExprCode
 of_unary op i j a = simple_or (a.simple >>= unary_of op) (of_compound op i j a)
 
+-- a value that is converted on its way into the temporary x: where it can be read so, it is moved
+abbrev pub converting : (read : Option Operand) → Scalar → (x : ℕ) → Operand → InstructionTree
+converting (Some p) s x o = move x p
+converting None s x o = convert s x o
+
+abbrev pub converting_instruction : Scalar → (x : ℕ) → Operand → InstructionTree
+converting_instruction s x o = converting (converted s o) s x o
+
 abbrev pub of_convert : Scalar → ExprCode → ExprCode
-of_convert s a = by_value (size_of a + 1) (used_by a) (λ x t at. code_of a t at ++ convert s x (operand_of a t) ∷ [])
+of_convert s a =
+    by_value (size_of a + 1) (used_by a) (λ x t at. code_of a t at ++ converting_instruction s x (operand_of a t) ∷ [])
 
 abbrev pub of_conversion : Scalar → (is_idle : Bool) → ExprCode → ExprCode
 of_conversion s idle a = simple_or (a.simple >>= converted s) (if idle then a else of_convert s a)

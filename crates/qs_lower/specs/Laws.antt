@@ -11,15 +11,14 @@ use Rattle.qs_tac.specs.Fits as tac
 use Rattle.qs_tac.specs.Units.{tac_run}
 use Rattle.qs_lower.specs.Units.{lower_unit}
 
--- The runs of linear code follow those of core, from every root function, with every arguments, memory and input: what
--- has ended, with its result, memory and input, and what is undefined is the same in the other, its events are the
--- same, and those of what is cut off by its bound go on. What core comes to within a bound linear code comes to in some
--- number of steps; what linear code comes to in some steps core comes to within the same bound, since each turn of a
--- loop and each call takes a step at least.
+-- The runs of linear code follow those of core, from every root function, with every arguments, memory and input. Each
+-- run of core is one of linear code, within some number of steps: with the same events, and the same result, memory and
+-- input where it has ended. What linear code comes to in some steps core comes to within the same bound, since each turn
+-- of a loop and each call takes a step at least.
 pub record Follows (u : CoreUnitTree) (t : TacUnitTree) : Type 0 where
   pub forth :
       (root : ℕ) (arguments : List Value) (w : World) (n : ℕ)
-      → (m : ℕ) × Within (core_run u root arguments w n) (tac_run t root arguments w m)
+      → (m : ℕ) × (tac_run t root arguments w m ≡ core_run u root arguments w n)
   pub back :
       (root : ℕ) (arguments : List Value) (w : World) (m : ℕ)
       → Within (tac_run t root arguments w m) (core_run u root arguments w m)

@@ -5,6 +5,7 @@ pub mod Statements
 pub mod Threads
 pub mod Units
 pub mod Laws
+pub mod WordLaws
 pub mod Plans
 pub mod Ways
 pub mod StmtPlans

@@ -14,8 +14,9 @@ use qs_memory::Blank;
 use qs_tac::TacData;
 use std::alloc::Global;
 
+/// The bytes of a blank.
 #[cycle(blank_size)]
-fn blank_size(b: &Blank) -> Result<u32, NoMemory>
+pub fn blank_size(b: &Blank) -> Result<u32, NoMemory>
     ensures { IfOk result (λ n. n ≡ blank_size (blank_tree b.now)) }
 {
     match b {

@@ -8,12 +8,12 @@ ghost use Rattle.qs_lower.specs.Plans.{expr_code, exit_tree, started, Emitted, n
 use crate::addresses::{address_at, operand_of};
 use crate::exits::{Exit, emit_branch, emit_known, put};
 use crate::numbers::{place, sum};
-use crate::operands::{swaps, truth_of};
+use crate::operands::{converted, swaps, truth_of};
 use crate::plans::{ExprPlan, PlanChoice, PlanPair};
 use crate::scratch::{own, started_own};
 use crate::sizes::{both_size, either_size, size, test_size};
 use qs_base::NoMemory;
-use qs_memory::{BinaryOperation, UnaryOperation};
+use qs_memory::{BinaryOperation, Scalar, UnaryOperation};
 use qs_tac::{Condition, Instruction, Operand};
 
 // The operation, with a constant on the right where the instruction lets its operands change places.
@@ -24,6 +24,16 @@ fn binary_instruction(op: BinaryOperation, x: u32, left: Operand, right: Operand
         Instruction::Binary(op, x, right, left)
     } else {
         Instruction::Binary(op, x, left, right)
+    }
+}
+
+// The value of the type in x: where the operand can be read so, it is moved.
+fn converting_instruction(s: Scalar, x: u32, o: Operand) -> Instruction
+    ensures { instruction_tree result ≡ spec.converting_instruction s x o }
+{
+    match converted(s, o) {
+        Some(p) => Instruction::Move(x, p),
+        None => Instruction::Convert(s, x, o),
     }
 }
 
@@ -66,7 +76,7 @@ pub fn emit_into(code: &mut Vec<Instruction>, e: &ExprPlan, x: u32, t: u32) -> R
         ExprPlan::Unary(op, a) => emit_unary(code, *op, a, x, t),
         ExprPlan::Convert(s, a) => {
             emit_operand(code, a, t)?;
-            put(code, Instruction::Convert(*s, x, operand_of(a, t)))
+            put(code, converting_instruction(*s, x, operand_of(a, t)))
         }
         ExprPlan::Binary(op, p) => emit_binary(code, *op, p, x, t),
         ExprPlan::Both(p) => emit_both_number(code, p, x, t),

@@ -24,6 +24,7 @@ mod unit;
 mod values;
 mod ways;
 
+pub use data::blank_size;
 pub use functions::lower_function;
-pub use laws::{lowered_fits, lowering_follows};
+pub use laws::{lowered_fits, lowered_sizes_are_kept, lowering_follows};
 pub use unit::lower;

@@ -85,7 +85,7 @@ fn pointer_operand(o: Operand) -> Option<Operand>
 }
 
 /// The operand as a value of the type, where that takes no instruction.
-fn converted(s: Scalar, o: Operand) -> Option<Operand>
+pub fn converted(s: Scalar, o: Operand) -> Option<Operand>
     ensures { result ≡ spec.converted s o }
 {
     match s {

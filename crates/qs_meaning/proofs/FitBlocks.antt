@@ -1,7 +1,8 @@
--- The blocks that are there when a run begins hold bytes and whole pointers, and none is larger than a type may be.
+-- The blocks that are there when a run begins hold bytes and whole pointers, have the sizes that are counted of them, and none is larger
+-- than a type may be.
 use Rattle.std.proofs.Common.{◌≡◌, ℕ, ◌+◌, nat_le, Bool, true, false, List, [], ◌∷◌, ◌++◌, length, map, All, Option, Some, None, is_some, refl, sym, ap, ◌∙◌, subst, arith, if◌then◌else◌}
 use Rattle.std.specs.List.{list_all}
-use Rattle.std.proofs.lemmas.List.{length-append, length-map}
+use Rattle.std.proofs.lemmas.List.{length-append, length-map, map-append}
 use Rattle.std.proofs.lemmas.List.Elements.{All-nil, All-cons}
 use Rattle.qs_syntax.specs.declared.types.Base.{Base}
 use Rattle.qs_syntax.specs.Trees.{InitialiserTree, VariableTree, DeclTree, structure, forward, function, variables, UnitTree}
@@ -20,16 +21,19 @@ use Rattle.qs_types.specs.InitialiserRules as initialising
 use Rattle.qs_types.specs.StatementRules.{after_variable, after_variables, again_tests, variable_tests, variable_faults, option_initialiser_faults, variables_faults}
 use Rattle.qs_types.specs.UnitRules.{after_declaration, declaration_faults, declarations_faults}
 use Rattle.qs_types.specs.References.{TextBlock, literal_blocks}
+use Rattle.qs_types.specs.Limits.{Block, type_size, variables_blocks, variable_blocks_from, data_blocks, IsWithinLimits}
+use Rattle.qs_types.specs.Limits as counted
+use Rattle.qs_types.specs.WellTyped.{WellTyped}
 use Rattle.qs_meaning.specs.Typed.{StaticBlock, TypedProgram}
 use Rattle.qs_meaning.specs.Names.{Scope, within}
 use Rattle.qs_meaning.specs.Blanks.{blank_of}
 use Rattle.qs_meaning.specs.Initialisers.{pieces}
 use Rattle.qs_meaning.specs.InitialValues.{text_cells, initial_cells, variable_block, text_block}
-use Rattle.qs_meaning.specs.Units.{function_typed, file_variable_typed, file_variables_typed, declaration_typed, declarations_typed, start_scope}
+use Rattle.qs_meaning.specs.Units.{function_typed, file_variable_typed, file_variables_typed, declaration_typed, declarations_typed, start_scope, typed_of}
 use Rattle.qs_meaning.specs.Fits.{are_small, largest_size}
-use Rattle.qs_meaning.specs.FitLaws.{is_filled, variables_filled, declaration_filled}
+use Rattle.qs_meaning.specs.FitLaws.{is_filled, variables_filled, declaration_filled, IsAsRead}
 use Rattle.qs_meaning.specs.TypedLaws.{IsFileScope}
-use Rattle.qs_meaning.specs.Whole.{AreWhole, DataIsWhole, TypedDataIsWhole}
+use Rattle.qs_meaning.specs.Whole.{AreWhole, TypedDataIsWhole}
 use Rattle.qs_meaning.proofs.Options.{never, left, right, nothing, same}
 use Rattle.qs_meaning.proofs.Faultless.{HasTypes, none_left, none_right, unbroken, second_unbroken, type_of_known}
 use Rattle.qs_meaning.proofs.Bindings.{has_types}
@@ -40,6 +44,7 @@ use Rattle.qs_meaning.proofs.FitConversions.{both}
 use Rattle.qs_meaning.proofs.FitTypes.{SmallTable, size_room, is_least}
 use Rattle.qs_meaning.proofs.FitLeaves.{is_short}
 use Rattle.qs_meaning.proofs.FitDeclared.{SizedType, variable_small}
+use Rattle.qs_meaning.proofs.DeclaredSizes.{declared_size}
 use Rattle.qs_meaning.proofs.FitTables.{tag_after, struct_after}
 use Rattle.qs_meaning.proofs.FitSignatures.{file_after, variable_after}
 use Rattle.qs_meaning.proofs.FitSites.{literals_short}
@@ -48,35 +53,54 @@ use Rattle.qs_meaning.proofs.Shapes.{bytes, shape_of, Conforms, are_whole, confo
 
 -- ---- blocks
 
--- a block that holds whole cells, and isn't too large
-pub record IsGood (b : StaticBlock) : Type 0 where
+-- a block of this size that holds whole cells, and isn't too large
+pub record IsGood (size : ℕ) (b : StaticBlock) : Type 0 where
   pub whole : AreWhole b.cells
   pub small : nat_le (length b.cells) largest_size ≡ true
+  pub exact : length b.cells ≡ size
 
-abbrev AreGood : List StaticBlock → Type 0
-AreGood [] = Unit {0}
-AreGood (b ∷ bs) = IsGood b × AreGood bs
+abbrev pub AreGood : (sizes : List ℕ) → List StaticBlock → Type 0
+AreGood [] [] = Unit {0}
+AreGood [] (b ∷ bs) = ⊥
+AreGood (n ∷ ns) [] = ⊥
+AreGood (n ∷ ns) (b ∷ bs) = IsGood n b × AreGood ns bs
 
-good_both : (xs ys : List StaticBlock) → AreGood xs → AreGood ys → AreGood (xs ++ ys)
-good_both [] ys h k = k
-good_both (x ∷ xs) ys h k = (h.0, good_both xs ys h.1 k)
+good_both : (ns ms : List ℕ) (xs ys : List StaticBlock) → AreGood ns xs → AreGood ms ys → AreGood (ns ++ ms) (xs ++ ys)
+good_both [] ms [] ys h k = k
+good_both [] ms (x ∷ xs) ys h k = absurd h
+good_both (n ∷ ns) ms [] ys h k = absurd h
+good_both (n ∷ ns) ms (x ∷ xs) ys h k = (h.0, good_both ns ms xs ys h.1 k)
 
-all_whole : (bs : List StaticBlock) → AreGood bs → All (λ (b : StaticBlock). AreWhole b.cells) bs
-all_whole [] h = All-nil (λ (b : StaticBlock). AreWhole b.cells)
-all_whole (b ∷ bs) h = All-cons (λ (b : StaticBlock). AreWhole b.cells) b bs h.0.whole (all_whole bs h.1)
+all_whole : (ns : List ℕ) (bs : List StaticBlock) → AreGood ns bs → All (λ (b : StaticBlock). AreWhole b.cells) bs
+all_whole [] [] h = All-nil (λ (b : StaticBlock). AreWhole b.cells)
+all_whole [] (b ∷ bs) h = absurd h
+all_whole (n ∷ ns) [] h = absurd h
+all_whole (n ∷ ns) (b ∷ bs) h = All-cons (λ (b : StaticBlock). AreWhole b.cells) b bs h.0.whole (all_whole ns bs h.1)
 
-all_small : (bs : List StaticBlock) → AreGood bs → are_small (map (λ (b : StaticBlock). length b.cells) bs) ≡ true
-all_small [] h = refl
-all_small (b ∷ bs) h = both _ _ h.0.small (all_small bs h.1)
+all_small : (ns : List ℕ) (bs : List StaticBlock) → AreGood ns bs → are_small (map (λ (b : StaticBlock). length b.cells) bs) ≡ true
+all_small [] [] h = refl
+all_small [] (b ∷ bs) h = absurd h
+all_small (n ∷ ns) [] h = absurd h
+all_small (n ∷ ns) (b ∷ bs) h = both _ _ h.0.small (all_small ns bs h.1)
+
+pub all_exact : (ns : List ℕ) (bs : List StaticBlock) → AreGood ns bs → map (λ (b : StaticBlock). length b.cells) bs ≡ ns
+all_exact [] [] h = refl
+all_exact [] (b ∷ bs) h = absurd h
+all_exact (n ∷ ns) [] h = absurd h
+all_exact (n ∷ ns) (b ∷ bs) h = ap (λ m. m ∷ map (λ (b : StaticBlock). length b.cells) bs) h.0.exact ∙ ap (λ ms. n ∷ ms) (all_exact ns bs h.1)
+
+abbrev sizes_of : List Block → List ℕ
+sizes_of bs = map (λ (b : Block). b.size) bs
 
 -- ---- texts
 
-texts_good : (ts : List TextBlock) → list_all is_short ts ≡ true → AreGood (map text_block ts)
+texts_good : (ts : List TextBlock) → list_all is_short ts ≡ true → AreGood (sizes_of (map counted.text_block ts)) (map text_block ts)
 texts_good [] e = tt
 texts_good (t ∷ ts) e = (
   record {
     whole = are_whole (bytes (length t.bytes + 1)) (text_cells t.bytes) (text_conforms t.bytes);
     small = subst (λ n. nat_le n largest_size ≡ true) (sym (text_length t.bytes)) (left _ _ e);
+    exact = text_length t.bytes;
   },
   texts_good ts (right (is_short t) _ e),
 )
@@ -93,17 +117,17 @@ record Shaped (structs : Structs) (t : TypeTree) (cells : List Cell) : Type 0 wh
   conforms : Conforms (shape_of blank) cells
 
 module _ (s₀ : Scope) where
-  block_good : (c : Context) → HasTypes c → SmallTable c.structs → (t : TypeTree) → SizedType c.structs t → (init : Option InitialiserTree) (b : StaticBlock)
-      → breaks_one (initialiser_tests true c (Some t) init) ≡ false → option_initialiser_faults true c (Some t) init ≡ [] → variable_block (within s₀ c) t init ≡ Some b → IsGood b
+  block_good : (c : Context) → HasTypes c → SmallTable c.structs → (t : TypeTree) → (d : SizedType c.structs t) → (init : Option InitialiserTree) (b : StaticBlock)
+      → breaks_one (initialiser_tests true c (Some t) init) ≡ false → option_initialiser_faults true c (Some t) init ≡ [] → variable_block (within s₀ c) t init ≡ Some b → IsGood d.size b
   block_good c has table t d init b tests faults q =
       let cells = followed (initial_cells (within s₀ c) t init) _ b q in
-      subst IsGood (same _ b cells.then) (good cells.value (go init tests faults cells.value cells.first))
+      subst (λ z. IsGood d.size z) (same _ b cells.then) (good cells.value (go init tests faults cells.value cells.first))
     where
-      good : (cells : List Cell) → Shaped c.structs t cells → IsGood (record { cells = cells; writable = true })
+      good : (cells : List Cell) → Shaped c.structs t cells → IsGood d.size (record { cells = cells; writable = true })
       good cells h =
           let size = conforms_length (shape_of h.blank) cells h.conforms ∙ shape_width c.structs (defined_structs c.structs) t h.blank d.size h.is d.is in
           let most = (size_room c.structs table t d.small d.size d.is).most in
-          record { whole = are_whole (shape_of h.blank) cells h.conforms; small = is_least (length cells) largest_size (omega arith) }
+          record { whole = are_whole (shape_of h.blank) cells h.conforms; small = is_least (length cells) largest_size (omega arith); exact = size }
 
       has_type : (i : InitialiserTree) → initialiser_faults true c (Some t) i ≡ [] → is_typed c i ≡ true
       has_type (trees.value e) f = ap is_some (type_of_known c has e whole f).is
@@ -137,8 +161,8 @@ module _ (s₀ : Scope) where
           }
 
   variables_good : (vs : List VariableTree) (c : Context) (base : Base) (bs : List StaticBlock) → IsFileScope c → SmallTable c.structs → variables_faults true c base vs ≡ []
-      → variables_filled vs ≡ true → file_variables_typed (within s₀ c) base vs ≡ Some bs → AreGood bs
-  variables_good [] c base bs h table f filled q = subst AreGood (same [] bs q) tt
+      → variables_filled vs ≡ true → file_variables_typed (within s₀ c) base vs ≡ Some bs → AreGood (sizes_of (variables_blocks c base vs)) bs
+  variables_good [] c base bs h table f filled q = subst (λ z. AreGood [] z) (same [] bs q) tt
   variables_good (v ∷ vs) c base bs h table f filled q =
       let after = after_variable true c base v in
       let now = followed (file_variable_typed (within s₀ c) base v) _ bs q in
@@ -156,18 +180,20 @@ module _ (s₀ : Scope) where
       let own_tests = second_unbroken (variable_declared c base v).tests (initialiser_tests true after (variable_declared c base v).type v.initialiser)
       (second_unbroken (again_tests c v) ((variable_declared c base v).tests ++ initialiser_tests true after (variable_declared c base v).type v.initialiser) whole_tests) in
       let scope = variable_after s₀ c base v h own in
-      let here = block_good after (has_types (within s₀ after) [] (file_sound s₀ after [] scope)) table t.value (variable_small c base v t.value (left _ _ filled) t.first) v.initialiser now.value
+      let sized = variable_small c base v t.value (left _ _ filled) t.first in
+      let here = block_good after (has_types (within s₀ after) [] (file_sound s₀ after [] scope)) table t.value sized v.initialiser now.value
       (subst (λ o. breaks_one (initialiser_tests true after o v.initialiser) ≡ false) t.first own_tests)
       (subst (λ o. option_initialiser_faults true after o v.initialiser ≡ []) t.first initialiser) t.then in
-      subst AreGood (same _ bs later.then) (
-        here,
+      let counted_size = ap (type_size c.structs) t.first ∙ declared_size c.structs table t.value sized.small sized.size sized.is in
+      subst (λ z. AreGood (sizes_of (variables_blocks c base (v ∷ vs))) z) (same _ bs later.then) (
+        subst (λ n. IsGood n now.value) (sym counted_size) here,
         variables_good vs after base later.value scope table
             (none_right (variable_faults true c after base v) (variables_faults true after base vs) f) (right (is_filled v.initialiser) _ filled) later.first,
       )
 
   -- ---- declarations
 
-  table_after : (d : DeclTree) (c : Context) → IsFileScope c → SmallTable c.structs → declaration_faults c d ≡ [] → declaration_filled d ≡ true → SmallTable (after_declaration c d).structs
+  pub table_after : (d : DeclTree) (c : Context) → IsFileScope c → SmallTable c.structs → declaration_faults c d ≡ [] → declaration_filled d ≡ true → SmallTable (after_declaration c d).structs
   table_after (structure t) c h table f filled = (struct_after s₀ c t h table filled f).table
   table_after (forward t) c h table f filled = (tag_after c t.name h table).table
   table_after (function g) c h table f filled = table
@@ -177,37 +203,64 @@ module _ (s₀ : Scope) where
       same_structs [] c base = refl
       same_structs (v ∷ vs) c base = same_structs vs (after_variable true c base v) base
 
+  -- the sizes of the blocks that a declaration makes
+  abbrev declared_sizes : Context → DeclTree → List ℕ
+  declared_sizes c (structure t) = []
+  declared_sizes c (forward t) = []
+  declared_sizes c (function g) = []
+  declared_sizes c (variables d) = sizes_of (variables_blocks c d.base d.variables)
+
+  sizes_joined : (d : DeclTree) (ds : UnitTree) (c : Context)
+      → declared_sizes c d ++ sizes_of (variable_blocks_from (after_declaration c d) ds) ≡ sizes_of (variable_blocks_from c (d ∷ ds))
+  sizes_joined (structure t) ds c = refl
+  sizes_joined (forward t) ds c = refl
+  sizes_joined (function g) ds c = refl
+  sizes_joined (variables d) ds c = sym (map-append (λ (b : Block). b.size) (variables_blocks c d.base d.variables) (variable_blocks_from (after_declaration c (variables d)) ds))
+
   declaration_good : (d : DeclTree) (c : Context) (now : TypedProgram) → IsFileScope c → SmallTable c.structs → declaration_faults c d ≡ [] → declaration_filled d ≡ true
-      → declaration_typed (within s₀ c) d ≡ Some now → AreGood now.blocks
-  declaration_good (structure t) c now h table f filled q = subst (λ (z : TypedProgram). AreGood z.blocks) (same _ now q) tt
-  declaration_good (forward t) c now h table f filled q = subst (λ (z : TypedProgram). AreGood z.blocks) (same _ now q) tt
+      → declaration_typed (within s₀ c) d ≡ Some now → AreGood (declared_sizes c d) now.blocks
+  declaration_good (structure t) c now h table f filled q = subst (λ (z : TypedProgram). AreGood [] z.blocks) (same _ now q) tt
+  declaration_good (forward t) c now h table f filled q = subst (λ (z : TypedProgram). AreGood [] z.blocks) (same _ now q) tt
   declaration_good (function g) c now h table f filled q =
-      let fs = followed (function_typed (within s₀ c) g g.body) _ now q in subst (λ (z : TypedProgram). AreGood z.blocks) (same _ now fs.then) tt
+      let fs = followed (function_typed (within s₀ c) g g.body) _ now q in subst (λ (z : TypedProgram). AreGood [] z.blocks) (same _ now fs.then) tt
   declaration_good (variables d) c now h table f filled q =
       let bs = followed (file_variables_typed (within s₀ c) d.base d.variables) _ now q in
-      subst (λ (z : TypedProgram). AreGood z.blocks) (same _ now bs.then) (variables_good d.variables c d.base bs.value h table f filled bs.first)
+      subst (λ (z : TypedProgram). AreGood (sizes_of (variables_blocks c d.base d.variables)) z.blocks) (same _ now bs.then)
+      (variables_good d.variables c d.base bs.value h table f filled bs.first)
 
   declarations_good : (ds : UnitTree) (c : Context) (rest : TypedProgram) → IsFileScope c → SmallTable c.structs → declarations_faults c ds ≡ [] → list_all declaration_filled ds ≡ true
-      → declarations_typed (within s₀ c) ds ≡ Some rest → AreGood rest.blocks
-  declarations_good [] c rest h table f filled q = subst (λ (z : TypedProgram). AreGood z.blocks) (same _ rest q) tt
+      → declarations_typed (within s₀ c) ds ≡ Some rest → AreGood (sizes_of (variable_blocks_from c ds)) rest.blocks
+  declarations_good [] c rest h table f filled q = subst (λ (z : TypedProgram). AreGood [] z.blocks) (same _ rest q) tt
   declarations_good (d ∷ ds) c rest h table f filled q =
       let after = after_declaration c d in
       let now = followed (declaration_typed (within s₀ c) d) _ rest q in
       let later = followed (declarations_typed (within s₀ after) ds) _ rest now.then in
       let own = none_left (declaration_faults c d) (declarations_faults after ds) f in
-      subst (λ (z : TypedProgram). AreGood z.blocks) (same _ rest later.then)
-      (good_both now.value.blocks later.value.blocks (declaration_good d c now.value h table own (left _ _ filled) now.first)
+      let all = good_both (declared_sizes c d) (sizes_of (variable_blocks_from after ds)) now.value.blocks later.value.blocks
+      (declaration_good d c now.value h table own (left _ _ filled) now.first)
       (declarations_good ds after later.value (file_after s₀ c d h own) (table_after d c h table own (left _ _ filled))
-      (none_right (declaration_faults c d) (declarations_faults after ds) f) (right (declaration_filled d) _ filled) later.first))
+      (none_right (declaration_faults c d) (declarations_faults after ds) f) (right (declaration_filled d) _ filled) later.first) in
+      subst (λ (z : TypedProgram). AreGood (sizes_of (variable_blocks_from c (d ∷ ds))) z.blocks) (same _ rest later.then)
+      (subst (λ ns. AreGood ns (now.value.blocks ++ later.value.blocks)) (sizes_joined d ds c) all)
+
+-- the table of a unit's structs is empty at its begin
+pub start_small : SmallTable start_context.structs
+start_small = record { members = λ k ms e. nothing ms e; sizes = λ k l e. nothing l e }
+
+-- the blocks of a unit are as many bytes as are counted
+pub typed_data_is_good : (unit : UnitTree) (u : TypedProgram) → IsAsRead unit → WellTyped unit → IsWithinLimits unit → typed_of unit ≡ Some u
+    → AreGood (sizes_of (data_blocks unit)) u.blocks
+typed_data_is_good unit u read well limits e =
+    let d = followed (declarations_typed (start_scope unit) unit) _ u e in
+    let blocks = variable_blocks_from start_context unit in
+    let texts = map counted.text_block (literal_blocks unit) in
+    let all = good_both (sizes_of blocks) (sizes_of texts) d.value.blocks (map text_block (literal_blocks unit))
+    (declarations_good (start_scope unit) unit start_context d.value start_known start_small well.keeps_rules read.lists d.first)
+    (texts_good (literal_blocks unit) (literals_short unit limits.globals)) in
+    subst (λ (z : TypedProgram). AreGood (sizes_of (data_blocks unit)) z.blocks) (same _ u d.then)
+    (subst (λ ns. AreGood ns (d.value.blocks ++ map text_block (literal_blocks unit))) (sym (map-append (λ (b : Block). b.size) blocks texts)) all)
 
 pub typed_data_is_whole : TypedDataIsWhole
 typed_data_is_whole unit u read well limits e =
-    let d = followed (declarations_typed (start_scope unit) unit) _ u e in
-    subst DataIsWhole (same _ u d.then) (whole_data d.value d.first)
-  where
-    whole_data : (p : TypedProgram) → declarations_typed (start_scope unit) unit ≡ Some p → DataIsWhole (record p { blocks = p.blocks ++ map text_block (literal_blocks unit) })
-    whole_data p q =
-        let all = good_both p.blocks (map text_block (literal_blocks unit))
-        (declarations_good (start_scope unit) unit start_context p start_known (record { members = λ k ms e. nothing ms e; sizes = λ k l e. nothing l e }) well.keeps_rules read.lists q)
-        (texts_good (literal_blocks unit) (literals_short unit limits.globals)) in
-        record { whole = all_whole (p.blocks ++ map text_block (literal_blocks unit)) all; small = all_small (p.blocks ++ map text_block (literal_blocks unit)) all }
+    let good = typed_data_is_good unit u read well limits e in
+    record { whole = all_whole (sizes_of (data_blocks unit)) u.blocks good; small = all_small (sizes_of (data_blocks unit)) u.blocks good }

@@ -5,7 +5,7 @@ mod InitialiserExamples
 mod Outcomes
 mod UndefinedExamples
 mod RunExamples
-mod Related
+pub mod Related
 mod Growth
 pub mod Options
 mod CompleteTypes
@@ -28,7 +28,7 @@ mod StepNeeds
 mod FitExamples
 mod FitConversions
 mod FitForms
-mod FitTypes
+pub mod FitTypes
 mod FitLeaves
 mod FitSmall
 mod FitExpressions
@@ -36,15 +36,16 @@ mod FitLayouts
 mod FitInitialisers
 mod FitDeclared
 mod FitStatements
-mod FitLocals
-mod FitFunctions
+pub mod FitLocals
+pub mod FitFunctions
 mod FitBodies
 mod FitTables
-mod FitSignatures
+pub mod FitSignatures
 mod FitSites
 pub mod FitUnits
 mod Shapes
 mod FitData
+pub mod DeclaredSizes
 pub mod FitBlocks
 pub mod FitReadings
 pub mod FitTexts

@@ -50,7 +50,7 @@ module _ (R : Relation) where
       there = record { turns = n; first_block = first_block; calls = d }
 
       mutual
-        expression_related : (a : Expr) (k l : Value → Next) → ((x : Value) → NextRelated (k x) (l x)) → NextRelated (expression a here k) (expression a there l)
+        pub expression_related : (a : Expr) (k l : Value → Next) → ((x : Value) → NextRelated (k x) (l x)) → NextRelated (expression a here k) (expression a there l)
         expression_related (constant s i) k l h v w = h _ v w
         expression_related (value s a) k l h v w = lvalue_related a _ _ (λ p v w. given_related R keeps (read s p v w) _ _ (λ x. h x v w)) v w
         expression_related (pointer_to o) k l h v w = h _ v w
@@ -96,7 +96,7 @@ module _ (R : Relation) where
             expression_related b _ _ (λ y v w. given_related R keeps (updated_value operation left right back w.memory x y) _ _
             (λ z. write_related s p z _ _ (h z) v w)) v w)) v w
 
-        effect_related : (a : Effect) (k l : Next) → NextRelated k l → NextRelated (effect a here k) (effect a there l)
+        pub effect_related : (a : Effect) (k l : Next) → NextRelated k l → NextRelated (effect a here k) (effect a there l)
         effect_related nothing k l h v w = h v w
         effect_related (discard a) k l h v w = expression_related a _ _ (λ x. h) v w
         effect_related (assign a) k l h v w = assignment_related a _ _ (λ x. h) v w
@@ -108,10 +108,10 @@ module _ (R : Relation) where
             expression_related a _ _ (λ x v w. given_related R keeps (as_pointer x >>= λ p. blocks.fill blank w.memory p) _ _ (λ m. h v (with_memory w m))) v w
         effect_related (in_order a b) k l h v w = effect_related a _ _ (effect_related b k l h) v w
 
-      condition_related : (e : Expr) (k k' l l' : Next) → NextRelated k l → NextRelated k' l' → NextRelated (condition e here k k') (condition e there l l')
+      pub condition_related : (e : Expr) (k k' l l' : Next) → NextRelated k l → NextRelated k' l' → NextRelated (condition e here k k') (condition e there l l')
       condition_related e k k' l l' h i = expression_related e _ _ (λ x. test_related x k k' l l' h i)
 
-      for_condition_related : (e : Option Expr) (k k' l l' : Next) → NextRelated k l → NextRelated k' l' → NextRelated (for_condition e here k k') (for_condition e there l l')
+      pub for_condition_related : (e : Option Expr) (k k' l l' : Next) → NextRelated k l → NextRelated k' l' → NextRelated (for_condition e here k k') (for_condition e there l l')
       for_condition_related None k k' l l' h i = h
       for_condition_related (Some e) k k' l l' h i = condition_related e k k' l l' h i
 

@@ -14,8 +14,8 @@ use Rattle.qs_memory.specs.declared.scalar.Scalar.TheVariants as scalars
 use Rattle.qs_memory.specs.declared.operation.Direction.TheVariants.{Up}
 use Rattle.qs_memory.specs.declared.operation.BinaryOperation.TheVariants as binaries
 use Rattle.qs_events.specs.Events.{Calls, Returns}
-use Rattle.qs_events.specs.Runs.{emit, undefined, given}
-use Rattle.qs_calls.specs.World.{World, with_memory, RootRun, Return, leaves, Environment, no_values, with_value}
+use Rattle.qs_events.specs.Runs.{emit, given}
+use Rattle.qs_calls.specs.World.{World, with_memory, RootRun, leaves, Environment, no_values, with_value}
 use Rattle.qs_calls.specs.Calls.{Entered, pass}
 use Rattle.qs_calls.specs.Relations.{Relation, Keeps, ReturnsRelated, CallsRelated}
 use Rattle.qs_calls.specs.declared.parameter.Parameter.{Parameter}
@@ -32,10 +32,10 @@ use Rattle.qs_tac.specs.declared.operands.Condition.TheVariants.{NotZero, Zero, 
 use Rattle.qs_tac.specs.declared.places.Place.{Place}
 use Rattle.qs_tac.specs.declared.places.Place.TheVariants.{Slot}
 use Rattle.qs_tac.specs.Holders.{Holder, temporaries, File, with_place, placed_values, kept, places}
-use Rattle.qs_tac.specs.Places.{PlacesTree, slots_from, all_slots, Accepted, place_of, no_places, place_in}
+use Rattle.qs_tac.specs.Places.{PlacesTree, slots_from, Accepted, place_of, place_in}
 use Rattle.qs_tac.specs.Values.{Activation, operand, operands, member_at, indexed, pointer, holds}
-use Rattle.qs_tac.specs.Steps.{Waiting, Next, gives, leaves_memory, take_result, resume, begins, frame_of, enters, ends, waits, step, instruction_at, steps}
-use Rattle.qs_tac.specs.Units.{run, tac_run, plain, plain_of, placed_run}
+use Rattle.qs_tac.specs.Steps.{Waiting, Next, gives, leaves_memory, take_result, resume, enters, ends, step, instruction_at, steps}
+use Rattle.qs_tac.specs.Units.{tac_run, plain, plain_of, placed_run}
 use Rattle.qs_tac.specs.Laws.{AreAccepted, PlacesKeepRuns}
 
 abbrev Equal : Relation

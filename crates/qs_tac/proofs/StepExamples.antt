@@ -27,8 +27,7 @@ use Rattle.qs_tac.specs.Places.{all_slots}
 use Rattle.qs_tac.specs.declared.places.Place.TheVariants.{Register}
 use Rattle.qs_tac.specs.Fits.{unit_fits}
 use Rattle.qs_tac.specs.declared.operands.Operand.{Operand}
-use Rattle.qs_tac.specs.declared.operands.Operand.TheVariants.{Temporary, Integer, Byte, Constant, Null, Local, Data}
-use Rattle.qs_tac.specs.declared.operands.Index.{Index}
+use Rattle.qs_tac.specs.declared.operands.Operand.TheVariants.{Temporary, Integer, Constant, Null, Local, Data}
 use Rattle.qs_tac.specs.declared.operands.Address.{Address}
 use Rattle.qs_tac.specs.declared.operands.Condition.TheVariants.{NotZero, Zero, Compare, ComparePointers}
 

@@ -1,9 +1,9 @@
 -- Which units fit, what their instructions read and write, and how many values and words functions have.
-use Rattle.std.proofs.Common.{◌≡◌, ℕ, Bool, true, false, List, [], ◌∷◌, map, Option, Some, None, refl}
+use Rattle.std.proofs.Common.{◌≡◌, ℕ, Bool, true, false, List, [], ◌∷◌, map, Some, None, refl}
 use Rattle.qs_memory.specs.Memory.{zeros, repeated}
 use Rattle.qs_memory.specs.declared.scalar.Scalar.TheVariants as scalars
-use Rattle.qs_memory.specs.declared.operation.Signedness.TheVariants.{Signed, Unsigned}
-use Rattle.qs_memory.specs.declared.operation.Direction.TheVariants.{Up, Down}
+use Rattle.qs_memory.specs.declared.operation.Signedness.TheVariants.{Signed}
+use Rattle.qs_memory.specs.declared.operation.Direction.TheVariants.{Down}
 use Rattle.qs_memory.specs.declared.operation.Arithmetic.TheVariants as arithmetics
 use Rattle.qs_memory.specs.declared.operation.Comparison.TheVariants as comparisons
 use Rattle.qs_memory.specs.declared.operation.UnaryOperation.TheVariants as unaries
@@ -12,13 +12,12 @@ use Rattle.qs_events.specs.Runs.{has_ended, is_undefined}
 use Rattle.qs_calls.specs.declared.callee.Callee.TheVariants.{Function, PutChar, GetChar}
 use Rattle.qs_calls.specs.declared.parameter.Parameter.TheVariants.{Plain, Placed}
 use Rattle.qs_tac.specs.Trees.{InstructionTree, move, unary, binary, convert, address_of, load, store, copy, fill, call, jump, branch, return}
-use Rattle.qs_tac.specs.Trees.{TacFunctionTree, TacUnitTree}
+use Rattle.qs_tac.specs.Trees.{TacFunctionTree}
 use Rattle.qs_tac.specs.declared.operands.Operand.{Operand}
 use Rattle.qs_tac.specs.declared.operands.Operand.TheVariants.{Temporary, Integer, Byte, Constant, Null, Local, Data}
-use Rattle.qs_tac.specs.declared.operands.Index.{Index}
 use Rattle.qs_tac.specs.declared.operands.Address.{Address}
-use Rattle.qs_tac.specs.declared.operands.Condition.TheVariants.{NotZero, Zero, Compare, ComparePointers}
-use Rattle.qs_tac.specs.declared.places.Place.TheVariants.{Slot, Register}
+use Rattle.qs_tac.specs.declared.operands.Condition.TheVariants.{Zero, Compare}
+use Rattle.qs_tac.specs.declared.places.Place.TheVariants.{Slot}
 use Rattle.qs_tac.specs.Holders.{is_saved_register}
 use Rattle.qs_tac.specs.Places.{all_slots, Accepted, is_for_steps}
 use Rattle.qs_tac.specs.Fits.{unit_fits}

@@ -1,7 +1,7 @@
 -- How many values a function has, and a bound on the words of its machine code: what each instruction is
 -- made of, where slots with low numbers are out of the reach of an immediate. Registers that a function saves
 -- are in reach.
-use Rattle.std.specs.Prelude.{ℕ, ◌+◌, ◌-◌, ◌*◌, ◌%◌, nat_lt, Bool, if◌then◌else◌, length, sum_by, Option, Some, None, unwrap_or}
+use Rattle.std.specs.Prelude.{ℕ, ◌+◌, ◌-◌, ◌*◌, ◌%◌, nat_lt, Bool, if◌then◌else◌, sum_by, Option, Some, None, unwrap_or}
 use Rattle.qs_memory.specs.declared.operation.BinaryOperation.{BinaryOperation}
 use Rattle.qs_memory.specs.declared.operation.BinaryOperation.TheVariants as binaries
 use Rattle.qs_calls.specs.declared.callee.Callee.{Callee}
@@ -32,10 +32,14 @@ saved_registers = 12
 abbrev pub reach : ℕ
 reach = 2048
 
--- behind the return address and the registers lie the slots, the last one first: so the last 499 are in reach
+-- behind the return address and the registers lie the slots, the last one first: so the last ones are in reach
 -- even where all the registers are saved
 abbrev pub is_near : TacFunctionTree → (temporary : ℕ) → Bool
 is_near f t = nat_lt (4 * (saved_registers + (f.temporaries - t))) reach
+
+-- so many
+abbrev pub near_values : ℕ
+near_values = 499
 
 -- ---- words
 

@@ -1,5 +1,5 @@
 mod Options
-mod Rounding
+pub mod Rounding
 mod Layouts
 mod Extents
 mod LayoutSteps

@@ -1,5 +1,5 @@
 // The words of items.
-ghost use Rattle.std.specs.Prelude.{◌≡◌, IfOk, OnOk, IfErr, Some, None, [], if◌then◌else◌, map, nat_eq};
+ghost use Rattle.std.specs.Prelude.{◌≡◌, ◌<◌, ◌^◌, All, IfOk, OnOk, IfErr, Some, None, [], if◌then◌else◌, map, nat_eq};
 ghost use Rattle.std.specs.HashMap.{get};
 ghost use Rattle.qs_isa.specs.Table.{decode_of};
 ghost use Rattle.qs_asm.specs.declared.fault.AssemblyFault.TheVariants as fault;
@@ -150,7 +150,8 @@ fn instructions(alloc: Global, labels: &Labels, items: &[Item]) -> Result<Vec<In
 }
 
 fn words(alloc: Global, code: &[Instr]) -> Result<Vec<u32>, NoMemory>
-    ensures { IfOk result (λ words. map decode_of words.items ≡ map Some code.now) }
+    ensures words { IfOk result (λ words. map decode_of words.items ≡ map Some code.now) }
+    ensures small { IfOk result (λ words. All (λ word. word < 2 ^ 32) words.items) }
 {
     let mut all = Vec::new(alloc);
     for i in code {
@@ -164,6 +165,7 @@ fn words(alloc: Global, code: &[Instr]) -> Result<Vec<u32>, NoMemory>
 #[tactic(auto, using(crate::proofs::AssemblyLaws::assembly, crate::proofs::AssemblyLaws::no_assembly))]
 pub fn assemble(alloc: Global, items: &[Item]) -> Result<Vec<u32>, AssemblyFault>
     ensures ok { IfOk result (λ words. spec.IsAssembly items.now words.items) }
+    ensures small { IfOk result (λ words. All (λ word. word < 2 ^ 32) words.items) }
     ensures fault { IfErr result (λ f. f ≡ fault.BadLabel → spec.assembled items.now ≡ None) }
 {
     let labels = label_offsets(alloc, items)?;

@@ -28,6 +28,7 @@ fn saved_registers<'a>(c: &'a FunctionContext) -> &'a [u32]
     c.saved
 }
 
+/// Where a register stands in the frame.
 fn place_of_register(i: usize) -> Immediate
     requires { i < 12 }
     ensures { result ≡ register_at i }
@@ -42,7 +43,7 @@ fn put_save(items: &mut Vec<Item>, registers: &[u32]) -> Result<(), NoMemory>
     ensures { OnOk result (items.new.items ≡ items.old.items ++ plain (spec.save registers.now 0)) }
 {
     for (i, register) in registers.iter().enumerate() {
-        let at = below(4 + 4 * i as u32);
+        let at = place_of_register(i);
         put(
             items,
             store(
@@ -65,7 +66,7 @@ fn put_restore(items: &mut Vec<Item>, registers: &[u32]) -> Result<(), NoMemory>
     let mut i = registers.len();
     while i > 0 {
         i -= 1;
-        let at = below(4 + 4 * i as u32);
+        let at = place_of_register(i);
         put(
             items,
             load(

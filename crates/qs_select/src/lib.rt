@@ -27,4 +27,4 @@ pub use laws::{
     functions_keep_words, unit_labels_count_up, units_keep_words, what_is_selected_are_words,
     words_are_kept,
 };
-pub use selection::select;
+pub use selection::{data_sizes, first_labels, select};

@@ -38,36 +38,12 @@ pub fn andi(rd: Register, rs1: Register, immediate: Immediate) -> Instr
     }
 }
 
-/// The bits of either, with an immediate.
-pub fn ori(rd: Register, rs1: Register, immediate: Immediate) -> Instr
-    ensures { result ≡ spec.ori rd rs1 immediate }
-{
-    Instr::OpImm {
-        kind: OpImmKind::Ori,
-        rd,
-        rs1,
-        immediate,
-    }
-}
-
 /// The bits that differ, with an immediate.
 pub fn xori(rd: Register, rs1: Register, immediate: Immediate) -> Instr
     ensures { result ≡ spec.xori rd rs1 immediate }
 {
     Instr::OpImm {
         kind: OpImmKind::Xori,
-        rd,
-        rs1,
-        immediate,
-    }
-}
-
-/// 1 where the register is less than an immediate, both read with a sign.
-pub fn slti(rd: Register, rs1: Register, immediate: Immediate) -> Instr
-    ensures { result ≡ spec.slti rd rs1 immediate }
-{
-    Instr::OpImm {
-        kind: OpImmKind::Slti,
         rd,
         rs1,
         immediate,
@@ -92,30 +68,6 @@ pub fn slli(rd: Register, rs1: Register, amount: ShiftAmount) -> Instr
 {
     Instr::ShiftImm {
         kind: ShiftImmKind::Slli,
-        rd,
-        rs1,
-        amount,
-    }
-}
-
-/// A shift to the right, zeros come in.
-pub fn srli(rd: Register, rs1: Register, amount: ShiftAmount) -> Instr
-    ensures { result ≡ spec.srli rd rs1 amount }
-{
-    Instr::ShiftImm {
-        kind: ShiftImmKind::Srli,
-        rd,
-        rs1,
-        amount,
-    }
-}
-
-/// A shift to the right, the sign comes in.
-pub fn srai(rd: Register, rs1: Register, amount: ShiftAmount) -> Instr
-    ensures { result ≡ spec.srai rd rs1 amount }
-{
-    Instr::ShiftImm {
-        kind: ShiftImmKind::Srai,
         rd,
         rs1,
         amount,

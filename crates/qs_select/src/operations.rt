@@ -1,21 +1,19 @@
 // The code of operations. rd gets the result and may be a register in which an operand stands.
-ghost use Rattle.std.specs.Prelude.{◌≡◌, ◌++◌, Some, true, OnOk};
+ghost use Rattle.std.specs.Prelude.{◌≡◌, ◌++◌, Some, OnOk, nat_lt};
+ghost use Rattle.qs_memory.specs.Partial.{only_if};
 ghost use Rattle.qs_asm.specs.Items.{plain};
 ghost use Rattle.qs_select.specs.ContextOf.{context_tree};
 ghost use Rattle.qs_select.specs.Operations as spec;
-ghost use Rattle.qs_select.specs.Pieces.{is_small};
 
 use crate::context::FunctionContext;
 use crate::immediates::{below, is_small, small};
-use crate::mnemonics::{
-    add, addi, andi, div, on_registers, ori, slli, slt, slti, sltiu, sltu, srai, srli, sub, xori,
-};
+use crate::mnemonics::{add, addi, andi, div, on_registers, slt, sltiu, sltu, sub, xori};
 use crate::operands::put_operand;
 use crate::pieces::{put, put_constant, put_product};
 use crate::registers::{a1, a2, a3};
 use qs_asm::Item;
 use qs_base::{NoMemory, mul32, sub32};
-use qs_isa::{Immediate, Instr, OpKind, Register, ShiftAmount};
+use qs_isa::{Immediate, Instr, OpImmKind, OpKind, Register, ShiftAmount, ShiftImmKind};
 use qs_memory::{
     Arithmetic, BinaryOperation, Comparison, Direction, Scalar, Signedness, UnaryOperation,
 };
@@ -43,12 +41,33 @@ fn negated(word: u32) -> u32
     sub32(0, word)
 }
 
-fn shift_right(s: Signedness, rd: Register, rs: Register, amount: ShiftAmount) -> Instr
-    ensures { Some result ≡ spec.with_constant Arithmetic.ShiftRight s rd rs amount }
+fn if_small(kind: OpImmKind, rd: Register, rs1: Register, n: u32) -> Option<Instr>
+    ensures { result ≡ spec.if_small n (Instr.OpImm kind rd rs1 n) }
 {
-    match s {
-        Signedness::Signed => srai(rd, rs, amount),
-        Signedness::Unsigned => srli(rd, rs, amount),
+    if is_small(n) {
+        Some(Instr::OpImm {
+            kind,
+            rd,
+            rs1,
+            immediate: small(n),
+        })
+    } else {
+        None
+    }
+}
+
+fn if_amount(kind: ShiftImmKind, rd: Register, rs1: Register, n: u32) -> Option<Instr>
+    ensures { result ≡ only_if (nat_lt n 32) (Some (Instr.ShiftImm kind rd rs1 n)) }
+{
+    if n < 32 {
+        Some(Instr::ShiftImm {
+            kind,
+            rd,
+            rs1,
+            amount: ShiftAmount::new(n as u8),
+        })
+    } else {
+        None
     }
 }
 
@@ -57,59 +76,19 @@ fn with_constant(op: Arithmetic, s: Signedness, rd: Register, rs: Register, n: u
     ensures { result ≡ spec.with_constant op s rd rs n }
 {
     match op {
-        Arithmetic::Add => {
-            if is_small(n) {
-                Some(addi(rd, rs, small(n)))
-            } else {
-                None
-            }
-        }
-        Arithmetic::Subtract => {
-            let n = negated(n);
-            if is_small(n) {
-                Some(addi(rd, rs, small(n)))
-            } else {
-                None
-            }
-        }
+        Arithmetic::Add => if_small(OpImmKind::Addi, rd, rs, n),
+        Arithmetic::Subtract => if_small(OpImmKind::Addi, rd, rs, negated(n)),
         Arithmetic::Multiply => None,
         Arithmetic::Divide => None,
         Arithmetic::Remainder => None,
-        Arithmetic::ShiftLeft => {
-            if n < 32 {
-                Some(slli(rd, rs, ShiftAmount::new(n as u8)))
-            } else {
-                None
-            }
-        }
-        Arithmetic::ShiftRight => {
-            if n < 32 {
-                Some(shift_right(s, rd, rs, ShiftAmount::new(n as u8)))
-            } else {
-                None
-            }
-        }
-        Arithmetic::And => {
-            if is_small(n) {
-                Some(andi(rd, rs, small(n)))
-            } else {
-                None
-            }
-        }
-        Arithmetic::Or => {
-            if is_small(n) {
-                Some(ori(rd, rs, small(n)))
-            } else {
-                None
-            }
-        }
-        Arithmetic::Xor => {
-            if is_small(n) {
-                Some(xori(rd, rs, small(n)))
-            } else {
-                None
-            }
-        }
+        Arithmetic::ShiftLeft => if_amount(ShiftImmKind::Slli, rd, rs, n),
+        Arithmetic::ShiftRight => match s {
+            Signedness::Signed => if_amount(ShiftImmKind::Srai, rd, rs, n),
+            Signedness::Unsigned => if_amount(ShiftImmKind::Srli, rd, rs, n),
+        },
+        Arithmetic::And => if_small(OpImmKind::Andi, rd, rs, n),
+        Arithmetic::Or => if_small(OpImmKind::Ori, rd, rs, n),
+        Arithmetic::Xor => if_small(OpImmKind::Xori, rd, rs, n),
     }
 }
 
@@ -189,13 +168,12 @@ fn less_than(s: Signedness, rd: Register, left: Register, right: Register) -> In
     }
 }
 
-fn less_than_small(s: Signedness, rd: Register, rs: Register, n: u32) -> Instr
-    requires { is_small n ≡ true }
-    ensures { Some result ≡ spec.less_than_constant s rd rs n }
+fn less_than_constant(s: Signedness, rd: Register, rs: Register, n: u32) -> Option<Instr>
+    ensures { result ≡ spec.less_than_constant s rd rs n }
 {
     match s {
-        Signedness::Signed => slti(rd, rs, small(n)),
-        Signedness::Unsigned => sltiu(rd, rs, small(n)),
+        Signedness::Signed => if_small(OpImmKind::Slti, rd, rs, n),
+        Signedness::Unsigned => if_small(OpImmKind::Sltiu, rd, rs, n),
     }
 }
 
@@ -204,13 +182,7 @@ fn less_than_operand(s: Signedness, rd: Register, rs: Register, right: Operand) 
 {
     match constant_of(right) {
         None => None,
-        Some(n) => {
-            if is_small(n) {
-                Some(less_than_small(s, rd, rs, n))
-            } else {
-                None
-            }
-        }
+        Some(n) => less_than_constant(s, rd, rs, n),
     }
 }
 

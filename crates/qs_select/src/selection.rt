@@ -28,7 +28,8 @@ const DATA_START: u32 = 0x1000_0000;
 
 // ---- where data and labels begin
 
-fn data_sizes(alloc: Global, blocks: &[TacData]) -> Result<Vec<u32>, NoMemory>
+/// The sizes of a unit's data.
+pub fn data_sizes(alloc: Global, blocks: &[TacData]) -> Result<Vec<u32>, NoMemory>
     ensures { IfOk result (λ sizes. sizes.items ≡ unit_data.data_sizes blocks.now) }
 {
     let mut sizes = Vec::new(alloc);
@@ -40,7 +41,7 @@ fn data_sizes(alloc: Global, blocks: &[TacData]) -> Result<Vec<u32>, NoMemory>
 
 /// The first label of each function, which has one for its entry, one for each instruction, and one for its
 /// end.
-fn first_labels(alloc: Global, functions: &[TacFunction]) -> Result<Starts, NoMemory>
+pub fn first_labels(alloc: Global, functions: &[TacFunction]) -> Result<Starts, NoMemory>
     ensures { IfOk result (λ labels. units.AreFirstLabels (map function_tree functions.now) labels) }
 {
     let mut at = Vec::new(alloc);
@@ -163,9 +164,10 @@ fn selected(
 }
 
 /// The machine code of a unit whose temporaries stand in these places, as items: a function's places stand
-/// by its number. Where there is none, the fault is `NoMemory` or the unit's first.
+/// by its number. Where there is a fault, it is `NoMemory` or the unit's first.
 pub fn select(alloc: Global, unit: &TacUnit, places: &[Places]) -> Result<Vec<Item>, SelectionFault>
     ensures items { IfOk result (λ items. items.items ≡ units.selected (unit_tree unit.now) (map places_tree places.now)) }
+    ensures fits { OnOk result (limits.first_fault (unit_tree unit.now) (map places_tree places.now) ≡ None) }
     ensures fault { IfErr result (λ f. units.IsFault (unit_tree unit.now) (map places_tree places.now) f) }
 {
     let none = Places {

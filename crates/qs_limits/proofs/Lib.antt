@@ -1,0 +1,21 @@
+mod SourceHeights
+mod ReadHeights
+mod NumberedHeights
+mod TypedHeights
+mod FormHeights
+mod ExpressionHeights
+mod StatementHeights
+mod UnitHeights
+mod MostHeld
+mod HeldParts
+mod HeldExpressions
+mod HeldFunctions
+mod FewNames
+pub mod CoreUnits
+mod GivenValues
+pub mod MainReturns
+mod PlacedBytes
+mod DataBytes
+pub mod CoreBytes
+pub mod FrameCaps
+pub mod ValueLimits

@@ -1,0 +1,3 @@
+pub mod Measures
+pub mod Caps
+pub mod Laws

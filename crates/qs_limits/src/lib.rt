@@ -1,0 +1,11 @@
+//! The limits of a source are limits of its core: of functions, parameters, arguments, words of code, values
+//! that are held at once, and bytes. Laws; nothing here runs.
+#![tactic(auto)]
+
+mod laws;
+
+pub use laws::{
+    arguments_are_few, caps_are_kept, code_is_small, data_bytes_are_few, functions_are_few,
+    held_values_are_few, main_returns, parameters_are_few, placed_bytes_are_few,
+    values_are_limited,
+};

@@ -1,0 +1,12 @@
+pub mod Through
+pub mod Fitting
+pub mod DoesAsCore
+pub mod UnsignedLaws
+pub mod SlotLaws
+pub mod ByteLaws
+pub mod RecordLaws
+pub mod CodeLaws
+pub mod SizeLaws
+pub mod WellFormed
+pub mod BuiltLaws
+pub mod SmallUnits

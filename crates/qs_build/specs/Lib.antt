@@ -1,0 +1,12 @@
+pub mod Follows
+pub mod Units
+pub mod Built
+pub mod Bytes
+pub mod Agrees
+pub mod Records
+pub mod Code
+pub mod Faults
+pub mod Limits
+pub mod Parts
+pub mod Laws
+pub mod Small

@@ -1,0 +1,25 @@
+-- The parts that an image is put together from.
+use Rattle.std.specs.Prelude.{◌≡◌, ℕ, ◌<◌, ◌≤◌, ◌^◌, List, length, All, None}
+use Rattle.qs_asm.specs.Assembly.{IsAssembly}
+use Rattle.qs_core.specs.Trees.{CoreUnitTree}
+use Rattle.qs_core.specs.Units.{initial_memory}
+use Rattle.qs_image.specs.Image.{FunctionRecord}
+use Rattle.qs_tac.specs.Trees.{TacUnitTree}
+use Rattle.qs_tac.specs.Places.{PlacesTree}
+use Rattle.qs_select.specs.Limits.{first_fault}
+use Rattle.qs_emit.specs.Relation.{data_address}
+use Rattle.qs_emit.specs.Images.{items_of, data_bytes}
+use Rattle.qs_build.specs.Records.{HaveRecords}
+use Rattle.qs_build.specs.Limits.{most_functions, most_name_bytes, name_bytes}
+
+-- a unit's records, code and data, by its linear code and the places of its values; it passes no size
+pub record AreParts (u : CoreUnitTree) (t : TacUnitTree) (ps : List PlacesTree) (functions : List FunctionRecord)
+    (code bytes : List ℕ) : Type 0 where
+  pub few : length u.functions ≤ most_functions
+  pub short : name_bytes u ≤ most_name_bytes
+  pub free : first_fault t ps ≡ None
+  pub records : HaveRecords u.functions t.functions ps (items_of t ps) functions
+  pub assembly : IsAssembly (items_of t ps) code
+  pub reached : length code ≤ 2 ^ 18
+  pub words : All (λ word. word < 2 ^ 32) code
+  pub octets : bytes ≡ data_bytes (data_address t.data_blocks) (initial_memory u)

@@ -1,0 +1,63 @@
+-- What an image of a unit of core is made of: the unit's linear code, the places of its values, and main's parameters.
+use Rattle.std.specs.Prelude.{◌≡◌, ◌≢◌, ℕ, ◌+◌, ◌*◌, ◌<◌, ◌≤◌, if◌then◌else◌, List, [], ◌∷◌, length, map, All, Option, Some, None}
+use Rattle.std.specs.List.{slice_get}
+use Rattle.qs_memory.specs.Values.{Value}
+use Rattle.qs_memory.specs.Memory.{Memory}
+use Rattle.qs_memory.specs.declared.scalar.Scalar.{Scalar}
+use Rattle.qs_memory.specs.declared.scalar.Scalar.TheVariants as scalars
+use Rattle.qs_events.specs.Runs.{Left, has_ended, ending_of}
+use Rattle.qs_calls.specs.World.{World}
+use Rattle.qs_calls.specs.Starts.{MayStart}
+use Rattle.qs_core.specs.Trees.{CoreFunctionTree, CoreUnitTree}
+use Rattle.qs_core.specs.Units.{initial_memory, main_run}
+use Rattle.qs_core.specs.Scalars.{same_scalar}
+use Rattle.qs_core.specs.Interfaces.{parameter_types, interface_of}
+use Rattle.qs_tac.specs.Trees.{TacUnitTree}
+use Rattle.qs_tac.specs.Places.{PlacesTree, all_slots}
+use Rattle.qs_lower.specs.Units.{lower_unit}
+use Rattle.qs_machine.specs.State.{stack_limit}
+use Rattle.qs_emit.specs.Relation.{cost_at}
+
+-- ---- its parts
+
+abbrev pub linear : CoreUnitTree → TacUnitTree
+linear u = lower_unit u
+
+-- each value of a function stands in a slot of its own
+abbrev pub own_slots : TacUnitTree → List PlacesTree
+own_slots t = map all_slots t.functions
+
+abbrev pub types_of_main : Option CoreFunctionTree → List Scalar
+types_of_main None = []
+types_of_main (Some f) = parameter_types f
+
+-- the types of main's parameters
+abbrev pub main_types : CoreUnitTree → List Scalar
+main_types u = types_of_main (slice_get u.functions u.main)
+
+-- the `unsigned` among them, as bits from the lowest on
+abbrev pub set_of : List Scalar → ℕ
+set_of [] = 0
+set_of (s ∷ types) = (if same_scalar s scalars.Unsigned then 1 else 0) + 2 * set_of types
+
+-- ---- what has an image
+
+-- eight arguments have registers
+abbrev pub most_parameters : ℕ
+most_parameters = 8
+
+-- no function has more parameters, nor a frame of more than 2 ^ 28 bytes
+pub record IsWithinSizes (u : CoreUnitTree) : Type 0 where
+  pub parameters : All (λ f. length f.parameters ≤ most_parameters) u.functions
+  pub frames : (f : ℕ) → f < length u.functions → cost_at (linear u) (own_slots (linear u)) f ≤ stack_limit
+
+-- where main starts
+abbrev pub start_of : CoreUnitTree → (input : List ℕ) → World
+start_of u input = record { memory = initial_memory u; input = input }
+
+-- main returns a value wherever it ends
+pub record MainReturns (u : CoreUnitTree) : Type 0 where
+  pub returns :
+      (arguments : List Value) (input : List ℕ) (n : ℕ) (left : Left Value Memory)
+      → MayStart (interface_of u) u.main arguments (start_of u input)
+      → ending_of (main_run u arguments input n) ≡ has_ended left → left.result ≢ None

@@ -1,0 +1,188 @@
+// The image of a unit of core.
+ghost use Rattle.std.specs.Prelude.{◌≡◌, ◌<◌, ◌≤◌, ◌^◌, All, IfOk, IfErr, map, length, nat_le, true};
+ghost use Rattle.qs_core.specs.UnitTrees as core;
+ghost use Rattle.qs_core.specs.TreeOf.{function_tree};
+ghost use Rattle.qs_core.specs.Units.{initial_memory};
+ghost use Rattle.qs_tac.specs.UnitTrees as tac;
+ghost use Rattle.qs_tac.specs.Places.{places_tree};
+ghost use Rattle.qs_asm.specs.Assembly.{IsAssembly};
+ghost use Rattle.qs_select.specs.Limits.{data_fit};
+ghost use Rattle.qs_emit.specs.Images.{data_bytes, IsWithinLimits};
+ghost use Rattle.qs_emit.specs.Relation.{data_address};
+ghost use Rattle.qs_build.specs.Units.{linear, own_slots, main_types, IsWithinSizes, MainReturns};
+ghost use Rattle.qs_build.specs.Parts.{AreParts};
+ghost use Rattle.qs_build.specs.Records.{HaveRecords, FramesFit};
+ghost use Rattle.qs_build.specs.Limits as spec;
+ghost use Rattle.qs_build.specs.Code.{AreCounted, IsCodeFault};
+ghost use Rattle.qs_build.specs.Built.{IsBuiltFrom};
+ghost use Rattle.qs_build.specs.Agrees.{DoesAsCore};
+
+use crate::data::data_bytes;
+use crate::fault::BuildFault;
+use crate::numbers::count;
+use crate::parameters::{parameter_types, unsigned_set};
+use crate::places::own_slots;
+use crate::records::{CODE_START, addresses, costs, records};
+use qs_asm::{AssemblyFault, Item, assemble, label_offsets};
+use qs_base::NoMemory;
+use qs_core::{CoreFunction, CoreUnit};
+use qs_frames::laid_from;
+use qs_image::{FunctionRecord, Image};
+use qs_lower::lower;
+use qs_memory::Scalar;
+use qs_select::{data_sizes, first_labels, select};
+use qs_tac::{Places, TacUnit};
+use std::alloc::Global;
+
+const MOST_FUNCTIONS: usize = 512;
+
+const MOST_NAME_BYTES: usize = 1_048_576;
+
+const REACHED_WORDS: usize = 1 << 18;
+
+// Where data begin.
+const DATA_START: u32 = 0x1000_0000;
+
+// ---- sizes
+
+// Whether the names have room in an image.
+fn names_fit(functions: &[CoreFunction]) -> bool
+    ensures { result ≡ nat_le (spec.bytes_of_names (map function_tree functions.now)) spec.most_name_bytes }
+{
+    let mut bytes = 0;
+    for f in functions {
+        let more = f.name.bytes().len();
+        if more > MOST_NAME_BYTES - bytes {
+            return false;
+        }
+        bytes += more;
+    }
+    true
+}
+
+fn check_names(unit: &CoreUnit) -> Result<(), BuildFault>
+    ensures functions { IfOk result (λ _. length (core.unit_tree unit.now).functions ≤ spec.most_functions) }
+    ensures names { IfOk result (λ _. spec.name_bytes (core.unit_tree unit.now) ≤ spec.most_name_bytes) }
+    ensures fault { IfErr result (λ fault. spec.Passes (core.unit_tree unit.now) fault) }
+{
+    if unit.functions.len() > MOST_FUNCTIONS {
+        Err(BuildFault::TooManyFunctions)
+    } else if !names_fit(&unit.functions) {
+        Err(BuildFault::NamesTooLong)
+    } else {
+        Ok(())
+    }
+}
+
+// ---- parts
+
+// The words of the items.
+fn code_of(alloc: Global, items: &[Item]) -> Result<Vec<u32>, BuildFault>
+    requires { AreCounted items.now }
+    ensures code { IfOk result (λ code. IsAssembly items.now code.items) }
+    ensures few { IfOk result (λ code. length code.items ≤ 2 ^ 18) }
+    ensures words { IfOk result (λ code. All (λ word. word < 2 ^ 32) code.items) }
+    ensures fault { IfErr result (λ fault. IsCodeFault items.now fault) }
+{
+    match assemble(alloc, items) {
+        Err(AssemblyFault::NoMemory) => Err(BuildFault::NoMemory),
+        Err(AssemblyFault::BadLabel) => Err(BuildFault::CodeTooLong),
+        Ok(words) => {
+            if words.len() < REACHED_WORDS {
+                Ok(words)
+            } else {
+                Err(BuildFault::CodeTooLong)
+            }
+        }
+    }
+}
+
+// The records of the unit's functions.
+fn records_of(
+    alloc: Global,
+    unit: &CoreUnit,
+    linear: &TacUnit,
+    places: &[Places],
+    items: &[Item],
+) -> Result<Vec<FunctionRecord>, NoMemory>
+    requires same { length (tac.unit_tree linear.now).functions ≡ length (core.unit_tree unit.now).functions }
+    requires placed { length places.now ≡ length (tac.unit_tree linear.now).functions }
+    requires fit { FramesFit (tac.unit_tree linear.now).functions (map places_tree places.now) }
+    ensures { IfOk result (λ all. HaveRecords (core.unit_tree unit.now).functions (tac.unit_tree linear.now).functions (map places_tree places.now) items.now all.items) }
+{
+    let labels = label_offsets(alloc, items)?;
+    let starts = first_labels(alloc, &linear.functions)?;
+    let addresses = addresses(alloc, &labels, &starts, &linear.functions)?;
+    let costs = costs(alloc, &linear.functions, places)?;
+    let all = records(alloc, &unit.functions, &addresses, &costs)?;
+    Ok(all)
+}
+
+// The bytes of the unit's data.
+fn bytes_of(alloc: Global, unit: &CoreUnit, linear: &TacUnit) -> Result<Vec<u8>, NoMemory>
+    requires { data_fit (tac.unit_tree linear.now) ≡ true }
+    ensures { IfOk result (λ bytes. bytes.items ≡ data_bytes (data_address (tac.unit_tree linear.now).data_blocks) (initial_memory (core.unit_tree unit.now))) }
+{
+    let sizes = data_sizes(alloc, &linear.data_blocks)?;
+    let starts = laid_from(alloc, DATA_START, &sizes)?;
+    let bytes = data_bytes(alloc, &starts, &unit.data_blocks)?;
+    Ok(bytes)
+}
+
+// The types of main's parameters.
+fn main_types(alloc: Global, unit: &CoreUnit) -> Result<Vec<Scalar>, NoMemory>
+    ensures { IfOk result (λ types. types.items ≡ main_types (core.unit_tree unit.now)) }
+{
+    match unit.functions.get(unit.main.0 as usize) {
+        None => Ok(Vec::new(alloc)),
+        Some(main) => parameter_types(alloc, main),
+    }
+}
+
+// ---- the whole
+
+// The image of these parts.
+fn image_of(
+    alloc: Global,
+    unit: &CoreUnit,
+    functions: Vec<FunctionRecord>,
+    code: Vec<u32>,
+    bytes: Vec<u8>,
+) -> Result<Image, NoMemory>
+    requires { let u = core.unit_tree unit.now in AreParts u (linear u) (own_slots (linear u)) functions.items code.items bytes.items }
+    ensures built { IfOk result (λ image. IsBuiltFrom (core.unit_tree unit.now) image) }
+    ensures limits { IfOk result (λ image. IsWithinLimits image) }
+    ensures sizes { IfOk result (λ _. IsWithinSizes (core.unit_tree unit.now)) }
+    ensures agrees { IfOk result (λ image. MainReturns (core.unit_tree unit.now) → DoesAsCore (core.unit_tree unit.now) image) }
+{
+    let types = main_types(alloc, unit)?;
+    Ok(Image {
+        entry: CODE_START,
+        parameters: count(types.len())?,
+        unsigned_set: unsigned_set(&types),
+        functions,
+        code,
+        bytes,
+    })
+}
+
+/// The image of a unit of core: the code of its linear code, each value in a slot of its own. It does what
+/// the unit does wherever main returns a value. Where there is none, no memory was found, or the unit passes
+/// the size that the fault names.
+pub fn build_image(alloc: Global, unit: &CoreUnit) -> Result<Image, BuildFault>
+    ensures built { IfOk result (λ image. IsBuiltFrom (core.unit_tree unit.now) image) }
+    ensures limits { IfOk result (λ image. IsWithinLimits image) }
+    ensures sizes { IfOk result (λ _. IsWithinSizes (core.unit_tree unit.now)) }
+    ensures agrees { IfOk result (λ image. MainReturns (core.unit_tree unit.now) → DoesAsCore (core.unit_tree unit.now) image) }
+    ensures fault { IfErr result (λ fault. spec.Passes (core.unit_tree unit.now) fault) }
+{
+    check_names(unit)?;
+    let linear = lower(alloc, unit)?;
+    let places = own_slots(alloc, &linear.functions)?;
+    let items = select(alloc, &linear, &places)?;
+    let code = code_of(alloc, &items)?;
+    let functions = records_of(alloc, unit, &linear, &places, &items)?;
+    let bytes = bytes_of(alloc, unit, &linear)?;
+    let image = image_of(alloc, unit, functions, code, bytes)?;
+    Ok(image)
+}

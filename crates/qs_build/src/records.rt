@@ -1,0 +1,87 @@
+// The records of functions.
+ghost use Rattle.std.specs.Prelude.{◌≡◌, ◌+◌, ◌≤◌, IfOk, map, length, nat_eq};
+ghost use Rattle.std.specs.HashMap.{get};
+ghost use Rattle.qs_core.specs.TreeOf as core;
+ghost use Rattle.qs_tac.specs.TreeOf.{function_tree};
+ghost use Rattle.qs_tac.specs.Places.{places_tree};
+ghost use Rattle.qs_frames.specs.Starts.{start_of};
+ghost use Rattle.qs_select.specs.Units.{AreFirstLabels};
+ghost use Rattle.qs_build.specs.Records as spec;
+
+use crate::numbers::{count, sum};
+use qs_asm::Labels;
+use qs_base::NoMemory;
+use qs_core::CoreFunction;
+use qs_frames::{Starts, layout};
+use qs_image::FunctionRecord;
+use qs_tac::{Places, TacFunction};
+use std::alloc::Global;
+
+/// The address of the first instruction.
+pub const CODE_START: u32 = 0x0001_0000;
+
+// Where a label stands.
+fn address(labels: &Labels, label: u32) -> Result<u32, NoMemory>
+    ensures { IfOk result (λ address. address ≡ spec.place_of (get nat_eq labels.now) label) }
+{
+    match labels.get(&label) {
+        None => Ok(CODE_START),
+        Some(offset) => sum(CODE_START, *offset),
+    }
+}
+
+/// Where each function begins, by the labels of all and the functions' own labels.
+pub fn addresses(
+    alloc: Global,
+    labels: &Labels,
+    starts: &Starts,
+    functions: &[TacFunction],
+) -> Result<Vec<u32>, NoMemory>
+    requires { AreFirstLabels (map function_tree functions.now) starts.now }
+    ensures { IfOk result (λ all. spec.AreAddresses (get nat_eq labels.now) (map function_tree functions.now) all.items) }
+{
+    let mut all = Vec::new(alloc);
+    for f in 0..count(functions.len())? {
+        all.push(address(labels, starts.start(f))?)?;
+    }
+    Ok(all)
+}
+
+/// The bytes of each function's frame.
+pub fn costs(
+    alloc: Global,
+    functions: &[TacFunction],
+    places: &[Places],
+) -> Result<Vec<u32>, NoMemory>
+    requires fit { spec.FramesFit (map function_tree functions.now) (map places_tree places.now) }
+    requires placed { length places.now ≡ length functions.now }
+    ensures { IfOk result (λ all. spec.AreFrameCosts (map function_tree functions.now) (map places_tree places.now) all.items) }
+{
+    let mut all = Vec::new(alloc);
+    for (f, function) in functions.iter().enumerate() {
+        all.push(layout(function, &places[f]).cost)?;
+    }
+    Ok(all)
+}
+
+/// The records of functions with these addresses and these costs.
+pub fn records(
+    alloc: Global,
+    functions: &[CoreFunction],
+    addresses: &[u32],
+    costs: &[u32],
+) -> Result<Vec<FunctionRecord>, NoMemory>
+    requires addresses { length addresses.now ≡ length functions.now }
+    requires costs { length costs.now ≡ length functions.now }
+    ensures { IfOk result (λ all. spec.AreRecords (map core.function_tree functions.now) addresses.now costs.now all.items) }
+{
+    let mut all = Vec::new(alloc);
+    for (f, function) in functions.iter().enumerate() {
+        all.push(FunctionRecord {
+            name: function.name.copy(alloc)?,
+            address: addresses[f],
+            cost: costs[f],
+        })?;
+    }
+    Ok(all)
+}

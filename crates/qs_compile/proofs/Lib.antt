@@ -7,4 +7,5 @@ pub mod Texts
 pub mod WellFormed
 pub mod Words
 mod Examples
-pub mod Through
+pub mod UnitSizes
+pub mod Compiled

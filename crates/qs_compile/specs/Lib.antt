@@ -3,4 +3,4 @@ pub mod Built
 pub mod FirstCode
 pub mod FirstForm
 pub mod Parts
-pub mod Follows
+pub mod Compiled

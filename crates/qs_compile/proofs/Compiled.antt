@@ -1,0 +1,206 @@
+-- An image that is built from the core of a source does what the source does.
+use Rattle.std.proofs.Common.{◌≡◌, ◌≢◌, ℕ, zero, suc, ◌+◌, ◌*◌, ◌/◌, ◌<◌, ◌≤◌, ℤ, true, List, [], ◌∷◌, length, map, All, Option, Some, None, refl, sym, ap, ◌∙◌, subst, arith}
+use Rattle.std.specs.Prelude.{slice_index_or}
+use Rattle.std.specs.List.{slice_get}
+use Rattle.std.proofs.Math.Path.{fun_ext}
+use Rattle.qs_memory.specs.Values.{Value}
+use Rattle.qs_memory.specs.Memory.{Memory}
+use Rattle.qs_memory.proofs.Options.{some_same}
+use Rattle.qs_events.specs.BoundedRun.{BoundedRun}
+use Rattle.qs_events.specs.Runs.{Left, has_ended, ending_of, bounded}
+use Rattle.qs_events.specs.Weights.{Costs, run_weight}
+use Rattle.qs_calls.specs.World.{RootRun, status_of}
+use Rattle.qs_calls.specs.Starts as starts
+use Rattle.qs_syntax.specs.Trees.{UnitTree}
+use Rattle.qs_syntax.specs.Units.{IsRead}
+use Rattle.qs_types.specs.Limits.{IsWithinLimits}
+use Rattle.qs_types.specs.WellTyped.{WellTyped}
+use Rattle.qs_core.specs.Trees.{CoreFunctionTree, CoreUnitTree}
+use Rattle.qs_core.specs.Units as core
+use Rattle.qs_core.specs.Fits.{unit_fits}
+use Rattle.qs_core.specs.Interfaces.{interface_of}
+use Rattle.qs_core.specs.Sizes.{values}
+use Rattle.qs_meaning.specs.Typed.{TypedProgram}
+use Rattle.qs_meaning.specs.Units.{typed_of}
+use Rattle.qs_meaning.specs.Runs.{main_run, source_run}
+use Rattle.qs_elaborate.specs.FitLaws.{HasCore}
+use Rattle.qs_elaborate.specs.Units.{core_of}
+use Rattle.qs_elaborate.proofs.FitCore.{units_have_cores}
+use Rattle.qs_limits.specs.Caps.{caps, needed, frame_size, EachBelow}
+use Rattle.qs_limits.specs.Measures.{bytes_in_words}
+use Rattle.qs_limits.proofs.FrameCaps.{caps_are_kept}
+use Rattle.qs_limits.proofs.MainReturns.{main_returns}
+use Rattle.qs_tac.specs.Trees.{TacFunctionTree, TacUnitTree}
+use Rattle.qs_tac.specs.Places.{PlacesTree, Accepted, all_slots, no_places}
+use Rattle.qs_tac.specs.Sizes as tac
+use Rattle.qs_lower.specs.WordLaws.{lowered_function}
+use Rattle.qs_lower.proofs.UnitWords.{lowered_sizes_are_kept}
+use Rattle.qs_frames.specs.Layout.{total, kept, frame_cost, layout}
+use Rattle.qs_frames.proofs.FrameLaws.{no_more_is_kept}
+use Rattle.qs_image.specs.Image.{Image, FunctionRecord}
+use Rattle.qs_machine.specs.Arguments.{AreArguments, words_of}
+use Rattle.qs_machine.specs.State.{stack_limit}
+use Rattle.qs_machine.specs.Run.{machine, least_stack_pointer}
+use Rattle.qs_emit.specs.Agree.{Agree, Accounts}
+use Rattle.qs_emit.specs.Images.{AreCosts, record_at}
+use Rattle.qs_emit.specs.Relation.{cost_at}
+use Rattle.std.proofs.lemmas.List.{length-map}
+use Rattle.qs_build.proofs.Fitting.{function_found}
+use Rattle.qs_build.proofs.SmallUnits.{slots_at}
+use Rattle.qs_build.specs.Agrees.{values_of, HasStack, DoesAsCore}
+use Rattle.qs_build.specs.Built.{IsBuiltFrom}
+use Rattle.qs_build.specs.Units.{linear, own_slots, start_of, MainReturns}
+use Rattle.qs_compile.specs.Compiled.{SourceHasStack, DoesAsSource, IsCompiled, UnitsPassNoSize}
+use Rattle.qs_compile.proofs.UnitSizes.{words_total, passes_none}
+
+-- ---- cores
+
+-- the core that a unit has is this one
+same_core : (unit : UnitTree) (u : CoreUnitTree) (h : HasCore unit) → core_of unit ≡ Some u → h.core ≡ u
+same_core unit u h is = some_same h.core u (sym h.is ∙ is)
+
+core_fits : (unit : UnitTree) (u : CoreUnitTree) → IsRead unit → WellTyped unit → IsWithinLimits unit → core_of unit ≡ Some u → unit_fits u ≡ true
+core_fits unit u read well limits is =
+    let h = units_have_cores unit read well limits in
+    subst (λ (c : CoreUnitTree). unit_fits c ≡ true) (same_core unit u h is) h.fits
+
+core_follows : (unit : UnitTree) (u : CoreUnitTree) (h : HasCore unit) → core_of unit ≡ Some u
+    → (xs : List Value) (input : List ℕ) (n : ℕ) → core.main_run u xs input n ≡ main_run h.typed xs input n
+core_follows unit u h is xs input n =
+    ap (λ (c : CoreUnitTree). core.main_run c xs input n) (sym (same_core unit u h is)) ∙ h.main_follows xs input n
+
+pub units_pass_no_size : UnitsPassNoSize
+units_pass_no_size = passes_none core_fits
+
+-- ---- agreement
+
+module _ (u : CoreUnitTree) (program : TypedProgram) (image : Image) (follows : (xs : List Value) (input : List ℕ) (n : ℕ) → core.main_run u xs input n ≡ main_run program xs input n) (does : DoesAsCore u image) where
+  has_stack : (costs : Costs) (args : List ℤ) (input : List ℕ) (size : ℕ) → SourceHasStack program image costs args input size → HasStack u image costs args input size
+  has_stack costs args input size h = record {
+    arguments = h.arguments;
+    bytes = h.bytes;
+    most = h.most;
+    enough = λ n. subst (λ (r : RootRun). run_weight costs r ≤ size) (sym (follows (values_of args) input n)) (h.enough n);
+  }
+
+  seen_same : (args : List ℤ) (input : List ℕ) → (λ (n : ℕ). bounded status_of (core.main_run u (values_of args) input n)) ≡ source_run program (values_of args) input
+  seen_same args input = fun_ext (λ n. ap (bounded status_of) (follows (values_of args) input n))
+
+  does_as_source : DoesAsSource program image
+  does_as_source = record {
+    agree = λ costs args input size are h.
+        subst (λ (s : ℕ → BoundedRun). Agree s (machine image size (words_of args) input)) (seen_same args input)
+        (does.agrees.agree costs args input size are (has_stack costs args input size h));
+    accounts = λ costs args input size are h.
+        subst (λ (s : ℕ → BoundedRun). Accounts costs s (machine image size (words_of args) input) (least_stack_pointer image size (words_of args) input)) (seen_same args input)
+        (does.agrees.accounts costs args input size are (has_stack costs args input size h));
+  }
+
+-- ---- caps
+
+-- one by one, as many, and each at most the other
+each_below_next : (ns ms ks : List ℕ) → length ns ≡ length ms → ((i : ℕ) → i < length ns → slice_index_or ns i 0 ≤ slice_index_or ms i 0) → EachBelow ms ks → EachBelow ns ks
+each_below_next [] [] ks same h k = k
+each_below_next [] (m ∷ ms) ks same h k = absurd (omega (arith, same))
+each_below_next (n ∷ ns) [] ks same h k = absurd (omega (arith, same))
+each_below_next (n ∷ ns) (m ∷ ms) [] same h k = absurd k
+each_below_next (n ∷ ns) (m ∷ ms) (c ∷ ks) same h k =
+    let first : n ≤ m = h 0 (omega arith) in
+    let more : m ≤ c = k.0 in
+    (omega (arith, first, more), each_below_next ns ms ks (omega (arith, same)) (λ i l. h (suc i) (omega (arith, l))) k.1)
+
+cost_in : (rs : List FunctionRecord) (r : FunctionRecord) (i : ℕ) → i < length rs → slice_index_or (map (λ (f : FunctionRecord). f.cost) rs) i 0 ≡ (slice_index_or rs i r).cost
+cost_in [] r i h = absurd (omega (arith, h))
+cost_in (q ∷ rs) r zero h = refl
+cost_in (q ∷ rs) r (suc i) h = cost_in rs r i (omega (arith, h))
+
+needed_in : (fs : List CoreFunctionTree) (i : ℕ) (f : CoreFunctionTree) → slice_get fs i ≡ Some f → slice_index_or (map needed fs) i 0 ≡ needed f
+needed_in [] i f is = absurd (cc)
+needed_in (g ∷ fs) zero f is = ap needed (some_same g f is)
+needed_in (g ∷ fs) (suc i) f is = needed_in fs i f is
+
+-- a function with this number
+record Stands (fs : List CoreFunctionTree) (i : ℕ) : Type 0 where
+  function : CoreFunctionTree
+  is : slice_get fs i ≡ Some function
+
+stands : (fs : List CoreFunctionTree) (i : ℕ) → i < length fs → Stands fs i
+stands [] i h = absurd (omega (arith, h))
+stands (f ∷ fs) zero h = record { function = f; is = refl }
+stands (f ∷ fs) (suc i) h = let s = stands fs i (omega (arith, h)) in record { function = s.function; is = s.is }
+
+frame_below : (g : TacFunctionTree) (bytes values : ℕ) → total g.blocks ≡ bytes → kept (all_slots g) ≤ values
+    → (layout g (all_slots g)).cost ≤ frame_size bytes values
+unfolding frame_cost
+frame_below g bytes values e le = omega (arith, e, le)
+
+own_slots_accepted : (g : TacFunctionTree) → Accepted g (all_slots g)
+own_slots_accepted g = record { own_slots = refl }
+
+module _ (unit : UnitTree) (u : CoreUnitTree) (image : Image) (read : IsRead unit) (well : WellTyped unit) (limits : IsWithinLimits unit) (is : core_of unit ≡ Some u) (built : IsBuiltFrom u image) where
+  abbrev t : TacUnitTree
+  t = linear u
+
+  fits : unit_fits u ≡ true
+  fits = core_fits unit u read well limits is
+
+  frame_needed : (i : ℕ) (f : CoreFunctionTree) → slice_get u.functions i ≡ Some f → (layout (lowered_function f) (all_slots (lowered_function f))).cost ≤ needed f
+  frame_needed i f there =
+      let sizes = (lowered_sizes_are_kept u fits).function i f there in
+      let blocks : total (lowered_function f).blocks ≡ bytes_in_words f.blocks = ap total sizes.blocks ∙ sym (words_total f.blocks) in
+      let few = no_more_is_kept (lowered_function f) (all_slots (lowered_function f)) (own_slots_accepted (lowered_function f)) in
+      let less = sizes.values in
+      frame_below (lowered_function f) (bytes_in_words f.blocks) (values f) blocks (omega (arith, few, less))
+
+  cost_is : (i : ℕ) (f : CoreFunctionTree) → slice_get u.functions i ≡ Some f → cost_at t (own_slots t) i ≡ (layout (lowered_function f) (all_slots (lowered_function f))).cost
+  cost_is i f there =
+      let here = (lowered_sizes_are_kept u fits).there i f there in
+      let function = function_found t.functions i (lowered_function f) here in
+      let places = slots_at t.functions i (lowered_function f) here in
+      ap (λ (g : TacFunctionTree). (layout g (slice_index_or (own_slots t) i no_places)).cost) function
+      ∙ ap (λ (p : PlacesTree). (layout (lowered_function f) p).cost) places
+
+  as_many : length (map (λ (r : FunctionRecord). r.cost) image.functions) ≡ length (map needed u.functions)
+  as_many =
+      let names = ap length built.names in
+      let records = length-map image.functions (λ (r : FunctionRecord). r.cost) in
+      let named = length-map image.functions (λ (r : FunctionRecord). r.name) in
+      let functions = length-map u.functions needed in
+      let core_named = length-map u.functions (λ (f : CoreFunctionTree). f.name) in
+      omega (arith, names, records, named, functions, core_named)
+
+  cost_below : (i : ℕ) → i < length (map (λ (r : FunctionRecord). r.cost) image.functions) → slice_index_or (map (λ (r : FunctionRecord). r.cost) image.functions) i 0 ≤ slice_index_or (map needed u.functions) i 0
+  cost_below i less =
+      let records = length-map image.functions (λ (r : FunctionRecord). r.cost) in
+      let functions = length-map u.functions needed in
+      let many = as_many in
+      let linear_many : length t.functions ≡ length image.functions = sym built.code.count in
+      let s = stands u.functions i (omega (arith, less, many, functions)) in
+      let in_image : i < length image.functions = omega (arith, less, records) in
+      let cost = cost_in image.functions (record { name = []; address = 0; cost = 0 }) i in_image in
+      let at = built.code.costs i (omega (arith, in_image, linear_many)) in
+      let frame = cost_is i s.function s.is in
+      let below = frame_needed i s.function s.is in
+      let need = needed_in u.functions i s.function s.is in
+      omega (arith, cost, at, frame, below, need)
+
+  capped : EachBelow (map (λ (r : FunctionRecord). r.cost) image.functions) (caps unit)
+  capped = each_below_next _ (map needed u.functions) (caps unit) as_many cost_below (caps_are_kept unit u read well is)
+
+  returns : MainReturns u
+  returns = record { returns = λ arguments input n left may ended. main_returns unit u read well limits is arguments input n left ended }
+
+  pub is_compiled : (MainReturns u → DoesAsCore u image) → IsCompiled unit image
+  is_compiled does =
+      let h = units_have_cores unit read well limits in
+      let d = does returns in
+      record {
+        program = h.typed;
+        tree = h.tree;
+        core = u;
+        core_is = is;
+        built = built;
+        capped = capped;
+        does = does_as_source u h.typed image (core_follows unit u h is) d;
+        emitted = d.emitted;
+      }

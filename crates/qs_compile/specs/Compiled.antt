@@ -1,0 +1,72 @@
+-- The image of a source: what it is made of, what its calls cost, and that it does what the source does.
+use Rattle.std.specs.Prelude.{◌≡◌, ℕ, ◌<◌, ◌≤◌, ℤ, List, map, All, Some}
+use Rattle.qs_syntax.specs.Trees.{UnitTree}
+use Rattle.qs_syntax.specs.Units.{IsRead}
+use Rattle.qs_types.specs.Limits.{IsWithinLimits}
+use Rattle.qs_types.specs.WellTyped.{WellTyped}
+use Rattle.qs_events.specs.Weights.{Costs, run_weight}
+use Rattle.qs_core.specs.Trees.{CoreUnitTree}
+use Rattle.qs_core.specs.Units.{initial_memory}
+use Rattle.qs_meaning.specs.Typed.{TypedProgram}
+use Rattle.qs_meaning.specs.Units.{typed_of}
+use Rattle.qs_meaning.specs.Runs.{main_run, source_run}
+use Rattle.qs_elaborate.specs.Units.{core_of}
+use Rattle.qs_limits.specs.Caps.{caps, EachBelow}
+use Rattle.qs_image.specs.Image.{Image}
+use Rattle.qs_machine.specs.Arguments.{AreArguments, words_of}
+use Rattle.qs_machine.specs.State.{stack_limit}
+use Rattle.qs_machine.specs.Run.{machine, least_stack_pointer}
+use Rattle.qs_emit.specs.Agree.{Agree, Accounts}
+use Rattle.qs_emit.specs.Emitted.{Emitted}
+use Rattle.qs_emit.specs.Images.{AreCosts}
+use Rattle.qs_build.specs.Agrees.{values_of}
+use Rattle.qs_build.specs.Built.{IsBuiltFrom}
+use Rattle.qs_build.specs.Limits.{most_name_bytes, name_bytes, Passes}
+use Rattle.qs_build.specs.Units.{linear}
+use Rattle.qs_build.specs.declared.fault.BuildFault.{BuildFault}
+use Rattle.qs_build.specs.declared.fault.BuildFault.TheVariants.{NoMemory}
+
+-- ---- agreement
+
+-- the arguments are main's, the input has bytes, and the stack has the weight of each run by these costs
+pub record SourceHasStack (program : TypedProgram) (image : Image) (costs : Costs) (args : List ℤ) (input : List ℕ) (size : ℕ)
+    : Type 0 where
+  pub arguments : AreArguments image args
+  pub bytes : All (λ byte. byte < 256) input
+  pub most : size ≤ stack_limit
+  pub enough : (n : ℕ) → run_weight costs (main_run program (values_of args) input n) ≤ size
+
+-- by the costs of its records the image does what the source does, and its least x2 is the top of the stack less the weight
+pub record DoesAsSource (program : TypedProgram) (image : Image) : Type 0 where
+  pub agree :
+      (costs : Costs) (args : List ℤ) (input : List ℕ) (size : ℕ) → AreCosts image costs
+      → SourceHasStack program image costs args input size
+      → Agree (source_run program (values_of args) input) (machine image size (words_of args) input)
+  pub accounts :
+      (costs : Costs) (args : List ℤ) (input : List ℕ) (size : ℕ) → AreCosts image costs
+      → SourceHasStack program image costs args input size
+      → Accounts costs (source_run program (values_of args) input) (machine image size (words_of args) input)
+      (least_stack_pointer image size (words_of args) input)
+
+-- ---- the whole
+
+pub record IsCompiled (unit : UnitTree) (image : Image) : Type 0 where
+  pub program : TypedProgram
+  pub tree : typed_of unit ≡ Some program
+  pub core : CoreUnitTree
+  pub core_is : core_of unit ≡ Some core
+  -- its records, its arguments, its code and its data are those of the source's core
+  pub built : IsBuiltFrom core image
+  -- what a call of a function costs is at most the cap of its source
+  pub capped : EachBelow (map (λ f. f.cost) image.functions) (caps unit)
+  pub does : DoesAsSource program image
+  -- each function does what its linear code does
+  pub emitted : Emitted (linear core) (initial_memory core) image
+
+-- ---- sizes
+
+-- a unit within the limits, whose names have room, passes no size of images: only memory may be wanting
+abbrev pub UnitsPassNoSize : Type 0
+UnitsPassNoSize =
+    (unit : UnitTree) (core : CoreUnitTree) (fault : BuildFault) → IsRead unit → WellTyped unit → IsWithinLimits unit
+    → core_of unit ≡ Some core → name_bytes core ≤ most_name_bytes → Passes core fault → fault ≡ NoMemory

@@ -1,5 +1,5 @@
 -- Orders and cycles of a unit.
-use Rattle.std.proofs.Common.{◌≡◌, ℕ, ◌<◌, ◌==◌, Bool, true, false, List, [], ◌∷◌, ⊎_elim, inl, inr, refl, sym, subst}
+use Rattle.std.proofs.Common.{◌≡◌, length, ℕ, ◌<◌, ◌==◌, Bool, true, false, List, [], ◌∷◌, ⊎_elim, inl, inr, refl, sym, subst}
 use Rattle.std.specs.Prelude.{◌⊎◌}
 use Rattle.std.proofs.lemmas.Bool.{both_ways, or_right}
 use Rattle.qs_core.specs.CallGraph.{called_by, HasCall, IsChain, IsCircle, IsCycle}
@@ -73,6 +73,9 @@ circle_next u (x ∷ fs) f c m =
       calls = r.calls;
       there = ⊎_elim (λ (k : is_member r.next (x ∷ fs) ≡ true). k) (λ (e : x ≡ r.next). subst (λ (y : ℕ). is_member y (x ∷ fs) ≡ true) e (member_first x fs)) r.there;
     }
+
+pub circle_known : (u : CoreUnitTree) (fs : List ℕ) (f : ℕ) → IsCircle u fs → is_member f fs ≡ true → f < length u.functions
+circle_known u fs f c m = let r = circle_next u fs f c m in has_caller u f r.next r.calls
 
 module _ (u : CoreUnitTree) (has_spec : ℕ → Bool) (cycle : List ℕ) (is : IsCycle u has_spec cycle) where
   -- none of the cycle is in the order

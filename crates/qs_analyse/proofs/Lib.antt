@@ -1,0 +1,13 @@
+pub mod NameLaws
+pub mod NeedLaws
+pub mod OpenNames
+pub mod ValidLaws
+pub mod PathLaws
+pub mod CoverLaws
+pub mod AddedLaws
+pub mod WrittenLaws
+pub mod SettingLaws
+pub mod FlagLaws
+pub mod TreeLaws
+pub mod FillLaws
+mod Examples

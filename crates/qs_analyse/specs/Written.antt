@@ -1,0 +1,54 @@
+-- The derivation that is written for an open function: before each statement its name is enough.
+use Rattle.std.specs.Prelude.{ℕ, suc, ◌==◌, pos, if◌then◌else◌, List, [], ◌∷◌, map}
+use Rattle.qs_calls.specs.declared.callee.Callee.{Callee}
+use Rattle.qs_calls.specs.declared.callee.Callee.TheVariants.{Function, PutChar, GetChar}
+use Rattle.qs_assert.specs.Trees.{named}
+use Rattle.qs_core.specs.Trees as core
+use Rattle.qs_core.specs.Trees.{CoreStmtTree, CoreStmts, no_stmts, stmt_and}
+use Rattle.qs_entail.specs.Certificates.{CertTree, same, pick, all, by_definition, cert_and, no_certs}
+use Rattle.qs_triples.specs.Derivations.{DerivationTree, leaf, sequence, conditional, loop, balanced_call, consequence, DerivationTrees, no_derivations, derivation_and}
+
+-- the place of g among these
+abbrev pub place_of : List ℕ → (g : ℕ) → ℕ
+place_of [] g = 0
+place_of (f ∷ fs) g = if f == g then 0 else suc (place_of fs g)
+
+-- why what the greatest of calls of these needs is enough for a call of g
+abbrev pub pick_certificate : (callees : List ℕ) → (g : ℕ) → CertTree
+pick_certificate [] g = same
+pick_certificate (f ∷ []) g = same
+pick_certificate (f ∷ h ∷ fs) g = pick (pos (place_of (f ∷ h ∷ fs) g)) same
+
+-- why the name is enough for what comes behind a call of g, which needs the name too, and for the call
+abbrev pub call_certificate : (name : List ℕ) → (callees : List ℕ) → (g : ℕ) → CertTree
+call_certificate name callees g =
+    all (cert_and same (cert_and (by_definition name (pick_certificate callees g)) no_certs))
+
+abbrev pub written_call : (name : List ℕ) → (callees : List ℕ) → Callee → DerivationTree
+written_call name callees (Function g) = consequence (named name) (call_certificate name callees g.0) balanced_call
+written_call name callees PutChar = leaf
+written_call name callees GetChar = leaf
+
+abbrev mutual
+  pub written : (name : List ℕ) → (callees : List ℕ) → CoreStmtTree → DerivationTree
+  written name callees core.skip = leaf
+  written name callees (core.seq ss) = sequence (all_written name callees ss)
+  written name callees (core.assign x e) = leaf
+  written name callees (core.store s to e) = leaf
+  written name callees (core.copy size alignment to from) = leaf
+  written name callees (core.fill contents to) = leaf
+  written name callees (core.call x g es) = written_call name callees g
+  written name callees (core.branch e s t) = conditional (written name callees s) (written name callees t)
+  written name callees (core.loop body step) =
+      loop (named name) same (written name callees body) (written name callees step)
+  written name callees core.break = leaf
+  written name callees core.continue = leaf
+  written name callees (core.return e) = leaf
+
+  pub all_written : (name : List ℕ) → (callees : List ℕ) → CoreStmts → DerivationTrees
+  all_written name callees no_stmts = no_derivations
+  all_written name callees (stmt_and s ss) = derivation_and (written name callees s) (all_written name callees ss)
+
+-- the derivations of statements, one after another
+abbrev pub each_written : (name : List ℕ) → (callees : List ℕ) → List CoreStmtTree → List DerivationTree
+each_written name callees ss = map (written name callees) ss

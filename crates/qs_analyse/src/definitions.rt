@@ -1,0 +1,84 @@
+// The definitions of open functions.
+ghost use Rattle.std.specs.Prelude.{◌≡◌, ◌<◌, ◌++◌, ◌∷◌, [], ℕ, IfOk, OnOk, length, map, true};
+ghost use Rattle.qs_assert.specs.Trees as trees;
+ghost use Rattle.qs_core.specs.CallGraph.{called_by};
+ghost use Rattle.qs_core.specs.UnitTrees.{unit_tree};
+ghost use Rattle.qs_triples.specs.Filled.{for_calls, function_name, open_definition};
+ghost use Rattle.qs_callgraph.specs.CallLists.{is_member, numbers};
+ghost use Rattle.qs_analyse.specs.Needs.{named_calls};
+
+use crate::needs::{call_part, greatest, put_part};
+use qs_assert::{Assertion, Define};
+use qs_base::{FnId, Name, NoMemory};
+use qs_callgraph::called_by;
+use qs_core::CoreUnit;
+use std::alloc::Global;
+
+/// The name of a function.
+pub fn name_of(alloc: Global, unit: &CoreUnit, f: FnId) -> Result<Name, NoMemory>
+    requires { f.0 < length unit.now.functions.items }
+    ensures { IfOk result (λ name. name ≡ function_name (unit_tree unit.now) f.0) }
+{
+    unit.functions[f.0 as usize].name.copy(alloc)
+}
+
+// The name of a function as what it needs.
+fn named(alloc: Global, unit: &CoreUnit, f: FnId) -> Result<Assertion, NoMemory>
+    requires { f.0 < length unit.now.functions.items }
+    ensures { IfOk result (λ a. a ≡ trees.named (function_name (unit_tree unit.now) f.0)) }
+{
+    Assertion::named(alloc, &unit.functions[f.0 as usize].name)
+}
+
+// What calls of these need, where each needs its name.
+fn named_calls(alloc: Global, unit: &CoreUnit, callees: &[FnId]) -> Result<Vec<Assertion>, NoMemory>
+    requires { (g : ℕ) → is_member g (numbers callees.now) ≡ true → g < length unit.now.functions.items }
+    ensures { IfOk result (λ parts. parts.items ≡ named_calls (unit_tree unit.now) (numbers callees.now)) }
+{
+    let mut parts = Vec::new(alloc);
+    for g in callees {
+        put_part(&mut parts, call_part(alloc, *g, named(alloc, unit, *g)?)?)?;
+    }
+    Ok(parts)
+}
+
+/// The definition of an open function.
+pub fn definition(alloc: Global, unit: &CoreUnit, f: FnId) -> Result<Define, NoMemory>
+    requires { f.0 < length unit.now.functions.items }
+    ensures { IfOk result (λ d. d ≡ open_definition (unit_tree unit.now) f.0) }
+{
+    let callees = called_by(alloc, unit, f)?;
+    let parts = named_calls(alloc, unit, &callees)?;
+    Ok(Define {
+        name: name_of(alloc, unit, f)?,
+        body: greatest(alloc, parts)?,
+    })
+}
+
+fn put_definition(defines: &mut Vec<Define>, d: Define) -> Result<(), NoMemory>
+    ensures { OnOk result (defines.new.items ≡ defines.old.items ++ d ∷ []) }
+{
+    defines.push(d)?;
+    Ok(())
+}
+
+/// The definitions of open functions, and behind them those that are given.
+pub fn definitions(
+    alloc: Global,
+    unit: &CoreUnit,
+    opened: &[FnId],
+    given: Vec<Define>,
+) -> Result<Vec<Define>, NoMemory>
+    requires { (f : ℕ) → is_member f (numbers opened.now) ≡ true → f < length unit.now.functions.items }
+    ensures { IfOk result (λ defines. defines.items
+        ≡ map (open_definition (unit_tree unit.now)) (numbers opened.now) ++ given.items) }
+{
+    let mut defines = Vec::new(alloc);
+    for f in opened {
+        put_definition(&mut defines, definition(alloc, unit, *f)?)?;
+    }
+    for d in given {
+        put_definition(&mut defines, d)?;
+    }
+    Ok(defines)
+}

@@ -1,0 +1,260 @@
+// The entries that are added.
+ghost use Rattle.std.specs.Prelude.{◌≡◌, ◌<◌, ◌++◌, ◌∷◌, [], ℕ, IfOk, MatchOption, None, OnOk, length, map, true};
+ghost use Rattle.std.specs.List.{list_any};
+ghost use Rattle.qs_core.specs.CallGraph.{called_by};
+ghost use Rattle.qs_core.specs.UnitTrees.{unit_tree};
+ghost use Rattle.qs_triples.specs.Derivations.{entry_of};
+ghost use Rattle.qs_triples.specs.Filled as filled;
+ghost use Rattle.qs_triples.specs.TreeOf.{entry_tree};
+ghost use Rattle.qs_callgraph.specs.CallLists.{flag, is_member, numbers};
+ghost use Rattle.qs_analyse.specs.Fillable as fillable;
+ghost use Rattle.qs_analyse.specs.Fillable.{entries_only, entry_for, with_entries};
+ghost use Rattle.qs_analyse.specs.Needs.{HasPre, is_variable_head, is_variable_node, needed_calls};
+
+use crate::needs::{call_part, greatest, put_part};
+use crate::written::{Needs, all_written};
+use qs_assert::{Assertion, Node, TermNode};
+use qs_base::{FnId, NoMemory};
+use qs_callgraph::called_by;
+use qs_core::CoreUnit;
+use qs_entail::Certificate;
+use qs_triples::{Derivation, FunctionProof, Spec};
+use std::alloc::Global;
+
+/// The most nodes of a precondition that is added: where it would have more, no memory is found for it.
+const MOST_NODES: usize = 1 << 24;
+
+// ---- preconditions
+
+fn is_variable_head(head: TermNode) -> bool
+    ensures { result ≡ is_variable_head head }
+{
+    match head {
+        TermNode::Variable(_) => true,
+        TermNode::Number(_) => false,
+        TermNode::Add(_) => false,
+        TermNode::Sub => false,
+        TermNode::Mul(_) => false,
+        TermNode::Div(_) => false,
+        TermNode::WrapUnsigned => false,
+        TermNode::WrapSigned => false,
+        TermNode::Bits => false,
+    }
+}
+
+fn is_variable(node: &Node) -> bool
+    ensures { result ≡ is_variable_node node.now }
+{
+    match node {
+        Node::Term(head) => is_variable_head(*head),
+        Node::Condition(_) => false,
+        Node::Assertion(_) => false,
+    }
+}
+
+fn some_variable(nodes: &[Node]) -> bool
+    ensures { result ≡ list_any is_variable_node nodes.now }
+{
+    nodes.iter().any(|node| is_variable(node))
+}
+
+fn has_variables(a: &Assertion) -> bool
+    ensures { result ≡ filled.has_variables a.now }
+{
+    some_variable(a.nodes())
+}
+
+fn is_useless(alloc: Global, a: &Assertion) -> Result<bool, NoMemory>
+    ensures { IfOk result (λ answer. answer ≡ filled.is_useless a.now) }
+{
+    let infinity = Assertion::infinity(alloc)?;
+    Ok(has_variables(a) || a.same(&infinity))
+}
+
+// The precondition of a function's entry.
+fn pre_of(entries: &[FunctionProof], g: FnId) -> Option<&Assertion>
+    ensures { MatchOption result (entry_of (entries_only (map entry_tree entries.now)) g.0 ≡ None)
+        (λ a. HasPre (entries_only (map entry_tree entries.now)) g.0 a.now) }
+{
+    for e in entries {
+        if e.function.0 == g.0 {
+            return Some(&e.spec.pre);
+        }
+    }
+    None
+}
+
+// Whether what a function needs says nothing to those who call it without a derivation.
+fn says_nothing(alloc: Global, entries: &[FunctionProof], g: FnId) -> Result<bool, NoMemory>
+    ensures { IfOk result (λ answer. answer
+        ≡ filled.is_useless (filled.pre_of (entries_only (map entry_tree entries.now)) g.0)) }
+{
+    match pre_of(entries, g) {
+        None => Ok(true),
+        Some(a) => is_useless(alloc, a),
+    }
+}
+
+fn one_says_nothing(
+    alloc: Global,
+    entries: &[FunctionProof],
+    callees: &[FnId],
+) -> Result<bool, NoMemory>
+    ensures { IfOk result (λ answer. answer
+        ≡ list_any (λ g. filled.is_useless (filled.pre_of (entries_only (map entry_tree entries.now)) g))
+        (numbers callees.now)) }
+{
+    for g in callees {
+        if says_nothing(alloc, entries, *g)? {
+            return Ok(true);
+        }
+    }
+    Ok(false)
+}
+
+// A copy, if there is room for so many nodes.
+fn copy_within(alloc: Global, a: &Assertion, room: usize) -> Result<Assertion, NoMemory>
+    ensures { IfOk result (λ copy. copy ≡ a.now) }
+{
+    if a.nodes().len() > room {
+        return Err(NoMemory);
+    }
+    a.copy(alloc)
+}
+
+fn copied_pre(
+    alloc: Global,
+    entries: &[FunctionProof],
+    g: FnId,
+    room: usize,
+) -> Result<Assertion, NoMemory>
+    ensures { IfOk result (λ a. a ≡ filled.pre_of (entries_only (map entry_tree entries.now)) g.0) }
+{
+    match pre_of(entries, g) {
+        None => Assertion::infinity(alloc),
+        Some(a) => copy_within(alloc, a, room),
+    }
+}
+
+// What calls of these need, by their preconditions.
+fn needed_calls(
+    alloc: Global,
+    entries: &[FunctionProof],
+    callees: &[FnId],
+) -> Result<Vec<Assertion>, NoMemory>
+    ensures { IfOk result (λ parts. parts.items
+        ≡ needed_calls (filled.pre_of (entries_only (map entry_tree entries.now))) (numbers callees.now)) }
+{
+    let mut parts = Vec::new(alloc);
+    let mut room = MOST_NODES;
+    for g in callees {
+        let need = copied_pre(alloc, entries, *g, room)?;
+        room = room.saturating_sub(need.nodes().len());
+        put_part(&mut parts, call_part(alloc, *g, need)?)?;
+    }
+    Ok(parts)
+}
+
+fn path_pre(
+    alloc: Global,
+    entries: &[FunctionProof],
+    callees: &[FnId],
+) -> Result<Assertion, NoMemory>
+    ensures { IfOk result (λ a. a ≡ filled.path_pre (entries_only (map entry_tree entries.now)) (numbers callees.now)) }
+{
+    if one_says_nothing(alloc, entries, callees)? {
+        return Assertion::infinity(alloc);
+    }
+    let parts = needed_calls(alloc, entries, callees)?;
+    greatest(alloc, parts)
+}
+
+// ---- entries
+
+fn open_entry(alloc: Global, unit: &CoreUnit, f: FnId) -> Result<FunctionProof, NoMemory>
+    requires { f.0 < length unit.now.functions.items }
+    ensures { IfOk result (λ e. entry_tree e ≡ fillable.open_entry (unit_tree unit.now) f.0) }
+{
+    let callees = called_by(alloc, unit, f)?;
+    let function = &unit.functions[f.0 as usize];
+    let needs = Needs {
+        name: &function.name,
+        callees: &callees,
+    };
+    let parts = all_written(alloc, needs, &function.body)?;
+    let pre = Assertion::named(alloc, &function.name)?;
+    let post = Assertion::named(alloc, &function.name)?;
+    Ok(FunctionProof {
+        function: f,
+        spec: Spec { pre, post },
+        entry: Certificate::Same,
+        body: Derivation::Sequence(parts),
+    })
+}
+
+fn path_entry(
+    alloc: Global,
+    unit: &CoreUnit,
+    entries: &[FunctionProof],
+    f: FnId,
+) -> Result<FunctionProof, NoMemory>
+    requires { f.0 < length unit.now.functions.items }
+    ensures { IfOk result (λ e. entry_tree e ≡ fillable.path_entry f.0
+        (filled.path_pre (entries_only (map entry_tree entries.now)) (called_by (unit_tree unit.now) f.0))) }
+{
+    let callees = called_by(alloc, unit, f)?;
+    let pre = path_pre(alloc, entries, &callees)?;
+    let post = pre.copy(alloc)?;
+    Ok(FunctionProof {
+        function: f,
+        spec: Spec { pre, post },
+        entry: Certificate::Same,
+        body: Derivation::Leaf,
+    })
+}
+
+fn entry_for(
+    alloc: Global,
+    unit: &CoreUnit,
+    is_open: &[bool],
+    entries: &[FunctionProof],
+    f: FnId,
+) -> Result<FunctionProof, NoMemory>
+    requires within { f.0 < length unit.now.functions.items }
+    requires as_many { length is_open.now ≡ length unit.now.functions.items }
+    ensures { IfOk result (λ e. entry_tree e
+        ≡ entry_for (unit_tree unit.now) (flag is_open.now) (map entry_tree entries.now) f.0) }
+{
+    if is_open[f.0 as usize] {
+        open_entry(alloc, unit, f)
+    } else {
+        path_entry(alloc, unit, entries, f)
+    }
+}
+
+fn put_entry(entries: &mut Vec<FunctionProof>, e: FunctionProof) -> Result<(), NoMemory>
+    ensures { OnOk result (entries.new.items ≡ entries.old.items ++ e ∷ []) }
+{
+    entries.push(e)?;
+    Ok(())
+}
+
+/// Adds an entry for each of these functions, callees before callers.
+pub fn add_entries(
+    alloc: Global,
+    unit: &CoreUnit,
+    is_open: &[bool],
+    fs: &[FnId],
+    entries: &mut Vec<FunctionProof>,
+) -> Result<(), NoMemory>
+    requires within { (f : ℕ) → is_member f (numbers fs.now) ≡ true → f < length unit.now.functions.items }
+    requires as_many { length is_open.now ≡ length unit.now.functions.items }
+    ensures { OnOk result (map entry_tree entries.new.items
+        ≡ with_entries (unit_tree unit.now) (flag is_open.now) (map entry_tree entries.old.items) (numbers fs.now)) }
+{
+    for f in fs {
+        let entry = entry_for(alloc, unit, is_open, entries, *f)?;
+        put_entry(entries, entry)?;
+    }
+    Ok(())
+}

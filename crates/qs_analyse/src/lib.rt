@@ -1,0 +1,12 @@
+//! The analyser: what is added to the proofs of a unit, so that each function has an entry.
+#![tactic(auto)]
+
+mod definitions;
+mod entries;
+mod filling;
+mod laws;
+mod needs;
+mod written;
+
+pub use filling::fill;
+pub use laws::{filled_entries_are_valid, filled_proofs_cover, open_names_are_longest_paths};

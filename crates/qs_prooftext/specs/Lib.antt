@@ -7,3 +7,14 @@ pub mod Reading
 pub mod Laws
 pub mod Writing
 pub mod Writable
+pub mod Answers
+pub mod Contexts
+pub mod AssertionWords
+pub mod Flattening
+pub mod AssertionRows
+pub mod Walking
+pub mod Firsts
+pub mod RuleWords
+pub mod Ranges
+pub mod Facts
+pub mod CertHeads

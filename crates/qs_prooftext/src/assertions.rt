@@ -1,0 +1,331 @@
+// Terms, conditions and assertions: one walk over their nodes, with a stack of what is still to be read.
+ghost use Rattle.std.specs.Prelude.{◌≡◌, ◌<◌, ◌++◌, ◌∷◌, [], ◌+◌, ℕ, List, Option, length, reverse, drop, option_map, OnOk, IfOk};
+ghost use Rattle.std.specs.Option.{option_to_list};
+ghost use Rattle.qs_assert.specs.declared.node.Node.{Node as AssertNode};
+ghost use Rattle.qs_prooftext.specs.Answers.{Gives, Stands, StandAll};
+ghost use Rattle.qs_prooftext.specs.Contexts.{setting_of};
+ghost use Rattle.qs_prooftext.specs.Flattening.{copies, flat, kind_of, sorts, IsDivisor};
+ghost use Rattle.qs_prooftext.specs.Kinds.{a_condition, a_definition_body, a_term, an_assertion};
+ghost use Rattle.qs_prooftext.specs.Meanings.{Answer, means};
+ghost use Rattle.qs_prooftext.specs.Settings.{Setting};
+ghost use Rattle.qs_prooftext.specs.Walking.{Goes, GivesOpened, HasParts, Remains, function_flat, known_flat, name_flat, natural_flat, nodes_in, number_flat, symbol_flat, terms_in, variable_flat};
+ghost use Rattle.qs_sexpr.specs.Trees.{Sexp, Sexps, list, number, part_and, symbol};
+
+use crate::context::{Context, find_function, find_variable, is_defined};
+use crate::fault::TextFault;
+use crate::leaves::find_old;
+use crate::parts::{Part, divisor_in, head_of, part_of};
+use crate::rows::row_of_list;
+use crate::sorts::{Parts, Sort};
+use qs_assert::{Assertion, AssertionNode, Cond, Node, Term, TermNode, Var};
+use qs_base::{FnId, Name, NoMemory};
+use qs_sexpr::first_part;
+use std::alloc::Global;
+
+// ---- atoms
+
+fn natural_node(at: u32, value: i64) -> Result<Option<Node>, TextFault>
+    ensures { Gives option_to_list (natural_flat at value) result }
+{
+    if value < 0 {
+        Err(TextFault::UnknownForm(at))
+    } else {
+        Ok(Some(Node::Assertion(AssertionNode::Natural(value as u64))))
+    }
+}
+
+/// The node that a number makes, or none where its list knows of it.
+fn number_node(sort: Sort, at: u32, value: i64) -> Result<Option<Node>, TextFault>
+    ensures { Gives option_to_list (number_flat sort at value) result }
+{
+    match sort {
+        Sort::Term => Ok(Some(Node::Term(TermNode::Number(value)))),
+        Sort::Condition => Err(TextFault::UnknownForm(at)),
+        Sort::Assertion => natural_node(at, value),
+        Sort::Definition => natural_node(at, value),
+        Sort::Divisor => {
+            if value < 1 {
+                Err(TextFault::UnknownForm(at))
+            } else {
+                Ok(None)
+            }
+        }
+        Sort::OldVariable(_) => Err(TextFault::UnknownForm(at)),
+        Sort::Function(_) => Err(TextFault::UnknownForm(at)),
+        Sort::KnownName(_) => Err(TextFault::UnknownForm(at)),
+        Sort::Name => Err(TextFault::UnknownForm(at)),
+    }
+}
+
+fn variable_node(place: u32, found: Option<Var>) -> Result<Option<Node>, TextFault>
+    ensures { Gives option_to_list (variable_flat place found) result }
+{
+    match found {
+        Some(x) => Ok(Some(Node::Term(TermNode::Variable(x)))),
+        None => Err(TextFault::UnknownForm(place)),
+    }
+}
+
+fn function_node(place: u32, found: Option<FnId>) -> Result<Option<Node>, TextFault>
+    ensures { Gives option_to_list (function_flat place (option_map (λ f. f.0) found)) result }
+{
+    match found {
+        Some(f) => Ok(Some(Node::Assertion(AssertionNode::Cost(f)))),
+        None => Err(TextFault::NoSuchFunction(place)),
+    }
+}
+
+fn name_node(alloc: Global, word: &[u8]) -> Result<Option<Node>, TextFault>
+    ensures { Gives option_to_list (name_flat word.now) result }
+{
+    let name = Name::new(alloc, word)?;
+    Ok(Some(Node::Assertion(AssertionNode::Named(name))))
+}
+
+fn known_name_node(
+    alloc: Global,
+    context: Context<'_>,
+    whole: u32,
+    word: &[u8],
+) -> Result<Option<Node>, TextFault>
+    ensures { Gives option_to_list (known_flat whole ((setting_of context.entry).has_name word.now) word.now) result }
+{
+    if is_defined(context.names, context.functions, word) {
+        name_node(alloc, word)
+    } else {
+        Err(TextFault::UnknownForm(whole))
+    }
+}
+
+/// The node that a symbol makes.
+fn symbol_node(
+    alloc: Global,
+    context: Context<'_>,
+    sort: Sort,
+    at: u32,
+    word: &[u8],
+) -> Result<Option<Node>, TextFault>
+    ensures { Gives option_to_list (symbol_flat (setting_of context.entry) sort at word.now) result }
+{
+    match sort {
+        Sort::Term => variable_node(at, find_variable(context.words, word)),
+        Sort::Condition => Err(TextFault::UnknownForm(at)),
+        Sort::Assertion => Err(TextFault::UnknownForm(at)),
+        Sort::Definition => Err(TextFault::UnknownForm(at)),
+        Sort::Divisor => Err(TextFault::UnknownForm(at)),
+        Sort::OldVariable(whole) => variable_node(whole, find_old(context, word)),
+        Sort::Function(whole) => function_node(whole, find_function(context.functions, word)?),
+        Sort::KnownName(whole) => known_name_node(alloc, context, whole, word),
+        Sort::Name => name_node(alloc, word),
+    }
+}
+
+// ---- lists
+
+fn put_node(out: &mut Vec<Node>, made: Option<Node>) -> Result<(), NoMemory>
+    ensures { OnOk result (out.new.items ≡ out.old.items ++ option_to_list made) }
+{
+    match made {
+        Some(node) => {
+            out.push(node)?;
+            Ok(())
+        }
+        None => Ok(()),
+    }
+}
+
+fn put_copies(todo: &mut Vec<Sort>, sort: Sort, count: usize) -> Result<(), NoMemory>
+    ensures { OnOk result (reverse todo.new.items ≡ copies count sort ++ reverse todo.old.items) }
+{
+    for _i in 0..count {
+        todo.push(sort)?;
+    }
+    Ok(())
+}
+
+/// Puts the sorts of the parts on the stack, the first on top.
+fn put_sorts(todo: &mut Vec<Sort>, parts: Parts, count: usize) -> Result<(), NoMemory>
+    ensures { OnOk result (reverse todo.new.items ≡ sorts parts count ++ reverse todo.old.items) }
+{
+    match parts {
+        Parts::Zero => {}
+        Parts::One(a) => {
+            todo.push(a)?;
+        }
+        Parts::Two(a, b) => {
+            todo.push(b)?;
+            todo.push(a)?;
+        }
+        Parts::Three(a, b, c) => {
+            todo.push(c)?;
+            todo.push(b)?;
+            todo.push(a)?;
+        }
+        Parts::Many(a) => put_copies(todo, a, count)?,
+    }
+    Ok(())
+}
+
+/// Puts the node of the list at this place with this head, and the sorts of its other parts.
+#[tactic(auto, using(crate::proofs::AssertionLaws::opens, crate::proofs::AssertionLaws::stays_shut))]
+fn open_list(
+    context: Context<'_>,
+    sort: Sort,
+    at: u32,
+    word: &[u8],
+    count: usize,
+    others: &[qs_sexpr::Node],
+    todo: &mut Vec<Sort>,
+    out: &mut Vec<Node>,
+) -> Result<(), TextFault>
+    ensures { (place : ℕ) (parts : Sexps) → StandAll context.entry.text.now others.now parts → HasParts count parts
+        → GivesOpened (setting_of context.entry) (flat (setting_of context.entry) sort (list at (part_and (symbol place word.now) parts))) parts todo.old.items todo.new.items out.old.items out.new.items result }
+{
+    let behind = count.saturating_sub(1);
+    let divisor = divisor_in(context.text, others);
+    match row_of_list(context.result, sort, at, behind, divisor, word) {
+        Some(row) => {
+            put_node(out, row.node)?;
+            put_sorts(todo, row.parts, behind)?;
+            Ok(())
+        }
+        None => Err(TextFault::UnknownForm(at)),
+    }
+}
+
+// ---- the walk
+
+/// What stands behind so many nodes.
+fn behind(rest: &[qs_sexpr::Node], count: usize) -> &[qs_sexpr::Node]
+    ensures { result.now ≡ drop count rest.now }
+{
+    rest.split_at(count.min(rest.len())).1
+}
+
+/// Reads the first node of the rest, and the head behind it where it is a list; the answer is what is left.
+fn next<'a>(
+    alloc: Global,
+    context: Context<'_>,
+    rest: &'a [qs_sexpr::Node],
+    todo: &mut Vec<Sort>,
+    out: &mut Vec<Node>,
+) -> Result<&'a [qs_sexpr::Node], TextFault>
+    ensures goes { (due : Answer (List AssertNode)) → Remains (setting_of context.entry) context.entry.text.now rest.now todo.old.items out.old.items due → 0 < length rest.now
+        → Goes (setting_of context.entry) context.entry.text.now (nodes_in result) todo.new.items out.new.items due }
+    ensures shorter { IfOk result (λ left. 0 < length rest.now → length left.now < length rest.now) }
+{
+    let Some(sort) = todo.pop() else {
+        return Err(TextFault::UnknownForm(0));
+    };
+    let Some((tree, _others)) = first_part(rest) else {
+        return Err(TextFault::UnknownForm(0));
+    };
+    match part_of(context.text, tree) {
+        Part::Number(at, value) => {
+            let made = number_node(sort, at, value)?;
+            put_node(out, made)?;
+            Ok(behind(rest, 1))
+        }
+        Part::Symbol(at, word) => {
+            let made = symbol_node(alloc, context, sort, at, word)?;
+            put_node(out, made)?;
+            Ok(behind(rest, 1))
+        }
+        Part::List(at, count, parts) => {
+            let Some((word, others)) = head_of(context.text, parts) else {
+                return Err(TextFault::UnknownForm(at));
+            };
+            open_list(context, sort, at, word, count, others, todo, out)?;
+            Ok(behind(rest, 2))
+        }
+    }
+}
+
+/// The nodes of what a list or atom means as one of this sort.
+fn read_nodes(
+    alloc: Global,
+    context: Context<'_>,
+    sort: Sort,
+    nodes: &[qs_sexpr::Node],
+) -> Result<Vec<Node>, TextFault>
+    ensures { (s : Sexp) → Stands context.entry.text.now nodes.now s → Gives (λ read. read.items) (flat (setting_of context.entry) sort s) result }
+{
+    let mut out = Vec::new(alloc);
+    let mut todo = Vec::new(alloc);
+    todo.push(sort)?;
+    let mut rest = nodes;
+    'trees: while !rest.is_empty() {
+        rest = next(alloc, context, rest, &mut todo, &mut out)?;
+    }
+    Ok(out)
+}
+
+// ---- what is read
+
+/// An assertion.
+pub fn read_assertion(
+    alloc: Global,
+    context: Context<'_>,
+    nodes: &[qs_sexpr::Node],
+) -> Result<Assertion, TextFault>
+    requires { (s : Sexp) × Stands context.text.now nodes.now s }
+    ensures { (s : Sexp) → Stands context.entry.text.now nodes.now s → Gives (λ a. a) (means (setting_of context.entry) an_assertion s) result }
+{
+    let read = read_nodes(alloc, context, Sort::Assertion, nodes)?;
+    Ok(Assertion::from_nodes(read))
+}
+
+/// The assertion for which a definition stands.
+pub fn read_definition(
+    alloc: Global,
+    context: Context<'_>,
+    nodes: &[qs_sexpr::Node],
+) -> Result<Assertion, TextFault>
+    requires { (s : Sexp) × Stands context.text.now nodes.now s }
+    ensures { (s : Sexp) → Stands context.entry.text.now nodes.now s → Gives (λ a. a) (means (setting_of context.entry) a_definition_body s) result }
+{
+    let read = read_nodes(alloc, context, Sort::Definition, nodes)?;
+    Ok(Assertion::from_nodes(read))
+}
+
+/// A condition.
+pub fn read_condition(
+    alloc: Global,
+    context: Context<'_>,
+    nodes: &[qs_sexpr::Node],
+) -> Result<Cond, TextFault>
+    requires { (s : Sexp) × Stands context.text.now nodes.now s }
+    ensures { (s : Sexp) → Stands context.entry.text.now nodes.now s → Gives (λ c. c) (means (setting_of context.entry) a_condition s) result }
+{
+    let read = read_nodes(alloc, context, Sort::Condition, nodes)?;
+    Ok(Cond::from_nodes(read))
+}
+
+/// The nodes of terms among these.
+fn term_nodes(alloc: Global, nodes: &[Node]) -> Result<Vec<TermNode>, NoMemory>
+    ensures { IfOk result (λ read. read.items ≡ terms_in nodes.now) }
+{
+    let mut read = Vec::new(alloc);
+    for node in nodes {
+        match node {
+            Node::Term(head) => read.push(*head)?,
+            Node::Condition(_) => {}
+            Node::Assertion(_) => {}
+        }
+    }
+    Ok(read)
+}
+
+/// A term.
+pub fn read_term(
+    alloc: Global,
+    context: Context<'_>,
+    nodes: &[qs_sexpr::Node],
+) -> Result<Term, TextFault>
+    requires { (s : Sexp) × Stands context.text.now nodes.now s }
+    ensures { (s : Sexp) → Stands context.entry.text.now nodes.now s → Gives (λ t. t) (means (setting_of context.entry) a_term s) result }
+{
+    let read = read_nodes(alloc, context, Sort::Term, nodes)?;
+    let heads = term_nodes(alloc, &read)?;
+    Ok(Term::from_nodes(heads))
+}

@@ -1,0 +1,113 @@
+// What the words of an entry or a definition mean.
+ghost use Rattle.std.specs.Prelude.{◌≡◌, map, bytes_eq, option_map, IfOk, OnOk};
+ghost use Rattle.std.specs.List.{list_any};
+ghost use Rattle.qs_prooftext.specs.Contexts.{function_rows, has_name_in, is_open_word, word_view};
+ghost use Rattle.qs_prooftext.specs.Proofs.{is_among};
+ghost use Rattle.qs_prooftext.specs.Settings.{look_up};
+
+use qs_assert::{Define, Var};
+use qs_base::{FnId, Name, NoMemory};
+use qs_core::CoreFunction;
+
+/// A word that stands for a variable.
+#[derive(Drop)]
+pub struct Word {
+    /// its bytes
+    pub text: Vec<u8>,
+    /// the variable
+    pub variable: Var,
+}
+
+/// The names that stand for definitions.
+#[derive(Clone, Copy)]
+pub struct Names<'a> {
+    /// whether each function of the unit is open; an open function is a definition of its own name
+    pub is_open: &'a [bool],
+    /// the definitions of the file so far
+    pub defines: &'a [Define],
+}
+
+/// A text, and what its words mean.
+#[derive(Clone, Copy)]
+pub struct Context<'a> {
+    /// the text
+    pub text: &'a [u8],
+    /// the functions of the unit
+    pub functions: &'a [CoreFunction],
+    /// the variables of the function whose entry it is
+    pub words: &'a [Word],
+    /// its result, where that is an integer
+    pub result: Option<Var>,
+    /// the names that have a meaning in an entry
+    pub names: Option<Names<'a>>,
+}
+
+/// The number of the function at this place; a number that can't be kept is want of memory.
+pub fn function_at(index: usize) -> Result<FnId, NoMemory>
+    ensures { IfOk result (λ f. f.0 ≡ index) }
+{
+    match u32::try_from(index) {
+        Ok(number) => Ok(FnId(number)),
+        Err(_) => Err(NoMemory),
+    }
+}
+
+/// The function with this name.
+pub fn find_function(functions: &[CoreFunction], word: &[u8]) -> Result<Option<FnId>, NoMemory>
+    ensures { IfOk result (λ found. option_map (λ f. f.0) found ≡ look_up word.now (function_rows functions.now)) }
+{
+    let mut index: usize = 0;
+    for function in functions {
+        if function.name.bytes() == word {
+            return Ok(Some(function_at(index)?));
+        }
+        index += 1;
+    }
+    Ok(None)
+}
+
+/// The variable that this word stands for.
+pub fn find_variable(words: &[Word], word: &[u8]) -> Option<Var>
+    ensures { result ≡ look_up word.now (map word_view words.now) }
+{
+    for row in words {
+        if row.text.as_slice() == word {
+            return Some(row.variable);
+        }
+    }
+    None
+}
+
+fn is_open(names: Names<'_>, functions: &[CoreFunction], word: &[u8]) -> bool
+    ensures { result ≡ is_open_word names.entry.is_open.now (function_rows functions.now) word.now }
+{
+    let mut index: usize = 0;
+    for function in functions {
+        if function.name.bytes() == word && names.is_open.get(index).copied().unwrap_or(false) {
+            return true;
+        }
+        index += 1;
+    }
+    false
+}
+
+fn is_among(defines: &[Define], word: &[u8]) -> bool
+    ensures { result ≡ is_among (map (λ d. d.name) defines.now) word.now }
+{
+    for define in defines {
+        if word == define.name.bytes() {
+            return true;
+        }
+    }
+    false
+}
+
+/// Whether a name has a definition.
+pub fn is_defined(names: Option<Names<'_>>, functions: &[CoreFunction], word: &[u8]) -> bool
+    ensures { result ≡ has_name_in (function_rows functions.now) names.entry word.now }
+{
+    match names {
+        None => false,
+        Some(known) => is_open(known, functions, word) || is_among(known.defines, word),
+    }
+}

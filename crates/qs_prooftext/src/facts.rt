@@ -1,0 +1,172 @@
+// Facts of certificates, from the first parts of their lists.
+ghost use Rattle.qs_entail.specs.View.{fact_tree, items_view};
+ghost use Rattle.qs_prooftext.specs.Answers.{Gives, StandAll};
+ghost use Rattle.qs_prooftext.specs.Contexts.{setting_of};
+ghost use Rattle.qs_prooftext.specs.Facts as spec;
+ghost use Rattle.qs_prooftext.specs.Firsts.{first_means};
+ghost use Rattle.qs_prooftext.specs.Kinds.{a_combination, a_condition, a_name, a_range, a_term, an_assertion};
+ghost use Rattle.qs_sexpr.specs.Trees.{Sexps};
+
+use crate::assertions::{read_assertion, read_condition, read_term};
+use crate::combinations::{first_index, first_natural, read_combination};
+use crate::context::Context;
+use crate::fault::TextFault;
+use crate::leaves::name;
+use crate::parts::{after_first, part_of};
+use crate::ranges::read_range;
+use qs_assert::{Assertion, Cond, Term};
+use qs_base::Name;
+use qs_entail::{Fact, Item};
+use qs_sexpr::{Node, first_part};
+use std::alloc::Global;
+
+// ---- the first part
+
+/// The term that is the first of these parts.
+pub fn first_term(alloc: Global, context: Context<'_>, parts: &[Node]) -> Result<Term, TextFault>
+    requires { (ss : Sexps) × StandAll context.text.now parts.now ss }
+    ensures { (ss : Sexps) → StandAll context.entry.text.now parts.now ss → Gives (λ t. t) (first_means (setting_of context.entry) a_term ss) result }
+{
+    match first_part(parts) {
+        Some((first, _others)) => read_term(alloc, context, first),
+        None => Err(TextFault::UnknownForm(0)),
+    }
+}
+
+/// The assertion that is the first of these parts.
+pub fn first_assertion(
+    alloc: Global,
+    context: Context<'_>,
+    parts: &[Node],
+) -> Result<Assertion, TextFault>
+    requires { (ss : Sexps) × StandAll context.text.now parts.now ss }
+    ensures { (ss : Sexps) → StandAll context.entry.text.now parts.now ss → Gives (λ a. a) (first_means (setting_of context.entry) an_assertion ss) result }
+{
+    match first_part(parts) {
+        Some((first, _others)) => read_assertion(alloc, context, first),
+        None => Err(TextFault::UnknownForm(0)),
+    }
+}
+
+/// The condition that is the first of these parts.
+pub fn first_condition(
+    alloc: Global,
+    context: Context<'_>,
+    parts: &[Node],
+) -> Result<Cond, TextFault>
+    requires { (ss : Sexps) × StandAll context.text.now parts.now ss }
+    ensures { (ss : Sexps) → StandAll context.entry.text.now parts.now ss → Gives (λ c. c) (first_means (setting_of context.entry) a_condition ss) result }
+{
+    match first_part(parts) {
+        Some((first, _others)) => read_condition(alloc, context, first),
+        None => Err(TextFault::UnknownForm(0)),
+    }
+}
+
+/// The combination that is the first of these parts.
+pub fn first_combination(
+    alloc: Global,
+    context: Context<'_>,
+    parts: &[Node],
+) -> Result<Vec<Item>, TextFault>
+    ensures { (ss : Sexps) → StandAll context.entry.text.now parts.now ss → Gives (λ items. items_view items.items) (first_means (setting_of context.entry) a_combination ss) result }
+{
+    match first_part(parts) {
+        Some((first, _others)) => read_combination(alloc, context.text, first),
+        None => Err(TextFault::UnknownForm(0)),
+    }
+}
+
+/// What a range is of, in the first of these parts.
+pub fn first_range(context: Context<'_>, parts: &[Node]) -> Result<Fact, TextFault>
+    ensures { (ss : Sexps) → StandAll context.entry.text.now parts.now ss → Gives fact_tree (first_means (setting_of context.entry) a_range ss) result }
+{
+    match first_part(parts) {
+        Some((first, _others)) => read_range(context, first),
+        None => Err(TextFault::UnknownForm(0)),
+    }
+}
+
+/// The name that is the first of these parts.
+pub fn first_name(alloc: Global, context: Context<'_>, parts: &[Node]) -> Result<Name, TextFault>
+    ensures { (ss : Sexps) → StandAll context.entry.text.now parts.now ss → Gives (λ n. n) (first_means (setting_of context.entry) a_name ss) result }
+{
+    match first_part(parts) {
+        Some((first, _others)) => name(alloc, part_of(context.text, first)),
+        None => Err(TextFault::UnknownForm(0)),
+    }
+}
+
+// ---- facts
+
+/// `(apart i w ..)`
+pub fn apart(alloc: Global, context: Context<'_>, parts: &[Node]) -> Result<Fact, TextFault>
+    ensures { (ss : Sexps) → StandAll context.entry.text.now parts.now ss → Gives fact_tree (spec.apart_means (setting_of context.entry) ss) result }
+{
+    let number = first_index(context.text, parts)?;
+    let items = first_combination(alloc, context, after_first(parts))?;
+    Ok(Fact::Apart(number, items))
+}
+
+/// `(num t w ..)`
+pub fn num_is(alloc: Global, context: Context<'_>, parts: &[Node]) -> Result<Fact, TextFault>
+    requires { (ss : Sexps) × StandAll context.text.now parts.now ss }
+    ensures { (ss : Sexps) → StandAll context.entry.text.now parts.now ss → Gives fact_tree (spec.num_means (setting_of context.entry) ss) result }
+{
+    let term = first_term(alloc, context, parts)?;
+    let items = first_combination(alloc, context, after_first(parts))?;
+    Ok(Fact::NumIs(term, items))
+}
+
+/// `(half t w ..)`
+pub fn bits_half(alloc: Global, context: Context<'_>, parts: &[Node]) -> Result<Fact, TextFault>
+    requires { (ss : Sexps) × StandAll context.text.now parts.now ss }
+    ensures { (ss : Sexps) → StandAll context.entry.text.now parts.now ss → Gives fact_tree (spec.half_means (setting_of context.entry) ss) result }
+{
+    let term = first_term(alloc, context, parts)?;
+    let items = first_combination(alloc, context, after_first(parts))?;
+    Ok(Fact::BitsHalf(term, items))
+}
+
+/// `(div t k ..)`
+pub fn quotient(alloc: Global, context: Context<'_>, parts: &[Node]) -> Result<Fact, TextFault>
+    requires { (ss : Sexps) × StandAll context.text.now parts.now ss }
+    ensures { (ss : Sexps) → StandAll context.entry.text.now parts.now ss → Gives fact_tree (spec.quotient_means (setting_of context.entry) ss) result }
+{
+    let term = first_term(alloc, context, parts)?;
+    let divisor = first_natural(context.text, after_first(parts))?;
+    Ok(Fact::QuotientBounds(term, divisor))
+}
+
+/// `(wrapu t v w ..)`
+pub fn wrap_unsigned(alloc: Global, context: Context<'_>, parts: &[Node]) -> Result<Fact, TextFault>
+    requires { (ss : Sexps) × StandAll context.text.now parts.now ss }
+    ensures { (ss : Sexps) → StandAll context.entry.text.now parts.now ss → Gives fact_tree (spec.wrapu_means (setting_of context.entry) ss) result }
+{
+    let term = first_term(alloc, context, parts)?;
+    let first = first_combination(alloc, context, after_first(parts))?;
+    let second = first_combination(alloc, context, after_first(after_first(parts)))?;
+    Ok(Fact::WrapUnsignedIs(term, first, second))
+}
+
+/// `(wraps t v w ..)`
+pub fn wrap_signed(alloc: Global, context: Context<'_>, parts: &[Node]) -> Result<Fact, TextFault>
+    requires { (ss : Sexps) × StandAll context.text.now parts.now ss }
+    ensures { (ss : Sexps) → StandAll context.entry.text.now parts.now ss → Gives fact_tree (spec.wraps_means (setting_of context.entry) ss) result }
+{
+    let term = first_term(alloc, context, parts)?;
+    let first = first_combination(alloc, context, after_first(parts))?;
+    let second = first_combination(alloc, context, after_first(after_first(parts)))?;
+    Ok(Fact::WrapSignedIs(term, first, second))
+}
+
+/// `(mono t u w ..)`
+pub fn bits_rise(alloc: Global, context: Context<'_>, parts: &[Node]) -> Result<Fact, TextFault>
+    requires { (ss : Sexps) × StandAll context.text.now parts.now ss }
+    ensures { (ss : Sexps) → StandAll context.entry.text.now parts.now ss → Gives fact_tree (spec.rise_means (setting_of context.entry) ss) result }
+{
+    let term = first_term(alloc, context, parts)?;
+    let greater = first_term(alloc, context, after_first(parts))?;
+    let items = first_combination(alloc, context, after_first(after_first(parts)))?;
+    Ok(Fact::BitsRise(term, greater, items))
+}

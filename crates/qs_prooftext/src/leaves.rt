@@ -1,0 +1,153 @@
+// Numbers and names.
+ghost use Rattle.std.specs.Prelude.{◌≡◌, ℕ, List};
+ghost use Rattle.qs_prooftext.specs.Answers.{Gives, IsPart};
+ghost use Rattle.qs_prooftext.specs.Kinds.{a_divisor, a_function, a_known_name, a_name, a_natural, an_index, an_old_variable};
+ghost use Rattle.qs_prooftext.specs.Meanings.{means};
+ghost use Rattle.qs_prooftext.specs.Contexts.{old_by_word, setting_of};
+ghost use Rattle.qs_prooftext.specs.Settings.{Setting, old_variable};
+ghost use Rattle.qs_sexpr.specs.Trees.{Sexp};
+
+use crate::context::{Context, find_function, find_variable, is_defined};
+use crate::fault::TextFault;
+use crate::parts::Part;
+use qs_assert::{Var, VarKind};
+use qs_base::{FnId, Name};
+use std::alloc::Global;
+
+/// The number of a condition, a polynomial or a member.
+#[tactic(auto, using(crate::proofs::LeafLaws::of_number, crate::proofs::LeafLaws::of_symbol, crate::proofs::LeafLaws::index_of_list))]
+pub fn index(part: Part<'_>) -> Result<i64, TextFault>
+    ensures { (text : List ℕ) (s : Sexp) (g : Setting) → IsPart text s part.entry → Gives (λ n. n) (means g an_index s) result }
+{
+    match part {
+        Part::Number(_, number) => Ok(number),
+        Part::Symbol(at, _) => Err(TextFault::UnknownForm(at)),
+        Part::List(at, _, _) => Err(TextFault::UnknownForm(at)),
+    }
+}
+
+/// A number of at least 0.
+#[tactic(auto, using(crate::proofs::LeafLaws::of_number, crate::proofs::LeafLaws::of_symbol, crate::proofs::LeafLaws::natural_of_list))]
+pub fn natural(part: Part<'_>) -> Result<u64, TextFault>
+    ensures { (text : List ℕ) (s : Sexp) (g : Setting) → IsPart text s part.entry → Gives (λ n. n) (means g a_natural s) result }
+{
+    match part {
+        Part::Number(at, number) => {
+            if number < 0 {
+                Err(TextFault::UnknownForm(at))
+            } else {
+                Ok(number as u64)
+            }
+        }
+        Part::Symbol(at, _) => Err(TextFault::UnknownForm(at)),
+        Part::List(at, _, _) => Err(TextFault::UnknownForm(at)),
+    }
+}
+
+/// Any name.
+#[tactic(auto, using(crate::proofs::LeafLaws::of_number, crate::proofs::LeafLaws::of_symbol, crate::proofs::LeafLaws::name_of_list))]
+pub fn name(alloc: Global, part: Part<'_>) -> Result<Name, TextFault>
+    ensures { (text : List ℕ) (s : Sexp) (g : Setting) → IsPart text s part.entry → Gives (λ n. n) (means g a_name s) result }
+{
+    match part {
+        Part::Number(at, _) => Err(TextFault::UnknownForm(at)),
+        Part::Symbol(_, word) => Ok(Name::new(alloc, word)?),
+        Part::List(at, _, _) => Err(TextFault::UnknownForm(at)),
+    }
+}
+
+/// A number of at least 1.
+#[tactic(auto, using(crate::proofs::LeafLaws::of_number, crate::proofs::LeafLaws::of_symbol, crate::proofs::LeafLaws::divisor_of_list))]
+pub fn divisor(part: Part<'_>) -> Result<u64, TextFault>
+    ensures { (text : List ℕ) (s : Sexp) (g : Setting) → IsPart text s part.entry → Gives (λ n. n) (means g a_divisor s) result }
+{
+    match part {
+        Part::Number(at, number) => {
+            if number < 1 {
+                Err(TextFault::UnknownForm(at))
+            } else {
+                Ok(number as u64)
+            }
+        }
+        Part::Symbol(at, _) => Err(TextFault::UnknownForm(at)),
+        Part::List(at, _, _) => Err(TextFault::UnknownForm(at)),
+    }
+}
+
+/// A function, in the list at this place.
+#[tactic(auto, using(crate::proofs::LeafLaws::of_number, crate::proofs::LeafLaws::of_symbol, crate::proofs::LeafLaws::function_of_list))]
+pub fn function(context: Context<'_>, whole: u32, part: Part<'_>) -> Result<FnId, TextFault>
+    ensures { (s : Sexp) → IsPart context.entry.text.now s part.entry → Gives (λ f. f.0) (means (setting_of context.entry) (a_function whole) s) result }
+{
+    match part {
+        Part::Number(at, _) => Err(TextFault::UnknownForm(at)),
+        Part::Symbol(_, word) => match find_function(context.functions, word)? {
+            Some(function) => Ok(function),
+            None => Err(TextFault::NoSuchFunction(whole)),
+        },
+        Part::List(at, _, _) => Err(TextFault::UnknownForm(at)),
+    }
+}
+
+/// A name with a definition, in the list at this place.
+#[tactic(auto, using(crate::proofs::LeafLaws::of_number, crate::proofs::LeafLaws::of_symbol, crate::proofs::LeafLaws::known_name_of_list))]
+pub fn known_name(
+    alloc: Global,
+    context: Context<'_>,
+    whole: u32,
+    part: Part<'_>,
+) -> Result<Name, TextFault>
+    ensures { (s : Sexp) → IsPart context.entry.text.now s part.entry → Gives (λ n. n) (means (setting_of context.entry) (a_known_name whole) s) result }
+{
+    match part {
+        Part::Number(at, _) => Err(TextFault::UnknownForm(at)),
+        Part::Symbol(_, word) => {
+            if is_defined(context.names, context.functions, word) {
+                Ok(Name::new(alloc, word)?)
+            } else {
+                Err(TextFault::UnknownForm(whole))
+            }
+        }
+        Part::List(at, _, _) => Err(TextFault::UnknownForm(at)),
+    }
+}
+
+/// The value of a plain variable at the entry.
+pub fn old_of(variable: Var) -> Option<Var>
+    ensures { result ≡ old_variable variable }
+{
+    match variable.kind {
+        VarKind::Plain(number) => Some(Var {
+            kind: VarKind::Old(number),
+            number: variable.number,
+        }),
+        VarKind::Temporary(_) => None,
+        VarKind::Old(_) => None,
+        VarKind::Returned => None,
+    }
+}
+
+/// The value at the entry of the variable for which a word stands.
+pub fn find_old(context: Context<'_>, word: &[u8]) -> Option<Var>
+    ensures { result ≡ old_by_word (setting_of context.entry).variables word.now }
+{
+    match find_variable(context.words, word) {
+        Some(variable) => old_of(variable),
+        None => None,
+    }
+}
+
+/// A variable whose value at the entry is meant, in the list at this place.
+#[tactic(auto, using(crate::proofs::LeafLaws::of_number, crate::proofs::LeafLaws::of_symbol, crate::proofs::LeafLaws::old_variable_of_list))]
+pub fn old_variable(context: Context<'_>, whole: u32, part: Part<'_>) -> Result<Var, TextFault>
+    ensures { (s : Sexp) → IsPart context.entry.text.now s part.entry → Gives (λ x. x) (means (setting_of context.entry) (an_old_variable whole) s) result }
+{
+    match part {
+        Part::Number(at, _) => Err(TextFault::UnknownForm(at)),
+        Part::Symbol(_, word) => match find_old(context, word) {
+            Some(variable) => Ok(variable),
+            None => Err(TextFault::UnknownForm(whole)),
+        },
+        Part::List(at, _, _) => Err(TextFault::UnknownForm(at)),
+    }
+}

@@ -1,0 +1,120 @@
+// Certificates from their heads, the last first.
+ghost use Rattle.std.specs.Prelude.{◌≡◌, [], map, reverse, IfOk};
+ghost use Rattle.qs_assert.specs.Reading.{others};
+ghost use Rattle.qs_entail.specs.View.{cert_tree};
+ghost use Rattle.qs_prooftext.specs.CertHeads as heads;
+ghost use Rattle.qs_prooftext.specs.CertHeads.{arity, behind_certs, first_cert, first_certs, head_view, planted, plants};
+
+use crate::heads::CertHead;
+use qs_assert::{Assertion, Cond};
+use qs_base::NoMemory;
+use qs_entail::Certificate;
+use std::alloc::Global;
+
+fn taken(stack: &mut Vec<Certificate>) -> Certificate
+    ensures first { cert_tree result ≡ first_cert (reverse (map cert_tree stack.old.items)) }
+    ensures left { reverse (map cert_tree stack.new.items) ≡ others (reverse (map cert_tree stack.old.items)) }
+{
+    match stack.pop() {
+        Some(part) => part,
+        None => Certificate::Same,
+    }
+}
+
+fn taken_all(
+    alloc: Global,
+    stack: &mut Vec<Certificate>,
+    count: usize,
+) -> Result<Vec<Certificate>, NoMemory>
+    ensures first { IfOk result (λ parts. map cert_tree parts.items ≡ first_certs count (reverse (map cert_tree stack.old.items))) }
+    ensures left { IfOk result (λ parts. reverse (map cert_tree stack.new.items) ≡ behind_certs count (reverse (map cert_tree stack.old.items))) }
+{
+    let mut parts = Vec::new(alloc);
+    let mut left = count;
+    'parts: while left > 0 {
+        parts.push(taken(stack))?;
+        left -= 1;
+    }
+    Ok(parts)
+}
+
+fn boxed(alloc: Global, stack: &mut Vec<Certificate>) -> Result<Box<Certificate>, NoMemory>
+    ensures first { IfOk result (λ b. cert_tree b.value ≡ first_cert (reverse (map cert_tree stack.old.items))) }
+    ensures left { IfOk result (λ b. reverse (map cert_tree stack.new.items) ≡ others (reverse (map cert_tree stack.old.items))) }
+{
+    let part = taken(stack);
+    Ok(Box::new(alloc, part)?)
+}
+
+fn via(
+    alloc: Global,
+    stack: &mut Vec<Certificate>,
+    between: Assertion,
+) -> Result<Certificate, NoMemory>
+    ensures made { IfOk result (λ c. cert_tree c ≡ planted (heads.via between) (reverse (map cert_tree stack.old.items))) }
+    ensures left { IfOk result (λ c. reverse (map cert_tree stack.new.items) ≡ behind_certs 2 (reverse (map cert_tree stack.old.items))) }
+{
+    let first = boxed(alloc, stack)?;
+    let second = boxed(alloc, stack)?;
+    Ok(Certificate::Via(between, first, second))
+}
+
+fn split(
+    alloc: Global,
+    stack: &mut Vec<Certificate>,
+    condition: Cond,
+) -> Result<Certificate, NoMemory>
+    ensures made { IfOk result (λ c. cert_tree c ≡ planted (heads.split condition) (reverse (map cert_tree stack.old.items))) }
+    ensures left { IfOk result (λ c. reverse (map cert_tree stack.new.items) ≡ behind_certs 2 (reverse (map cert_tree stack.old.items))) }
+{
+    let first = boxed(alloc, stack)?;
+    let second = boxed(alloc, stack)?;
+    Ok(Certificate::Split(condition, first, second))
+}
+
+fn drop_guard(alloc: Global, stack: &mut Vec<Certificate>) -> Result<Certificate, NoMemory>
+    ensures made { IfOk result (λ c. cert_tree c ≡ planted heads.drop (reverse (map cert_tree stack.old.items))) }
+    ensures left { IfOk result (λ c. reverse (map cert_tree stack.new.items) ≡ behind_certs 2 (reverse (map cert_tree stack.old.items))) }
+{
+    let first = boxed(alloc, stack)?;
+    let second = boxed(alloc, stack)?;
+    Ok(Certificate::DropGuard(first, second))
+}
+
+/// The certificate with this head, whose parts are taken off the stack.
+fn plant(
+    alloc: Global,
+    stack: &mut Vec<Certificate>,
+    made: CertHead,
+) -> Result<Certificate, NoMemory>
+    ensures made { IfOk result (λ c. cert_tree c ≡ planted (head_view made) (reverse (map cert_tree stack.old.items))) }
+    ensures left { IfOk result (λ c. reverse (map cert_tree stack.new.items) ≡ behind_certs (arity (head_view made)) (reverse (map cert_tree stack.old.items))) }
+{
+    match made {
+        CertHead::Same => Ok(Certificate::Same),
+        CertHead::Via(between) => via(alloc, stack, between),
+        CertHead::Pick(number) => Ok(Certificate::Pick(number, boxed(alloc, stack)?)),
+        CertHead::All(count) => Ok(Certificate::All(taken_all(alloc, stack, count)?)),
+        CertHead::Parts(count) => Ok(Certificate::Parts(taken_all(alloc, stack, count)?)),
+        CertHead::Assume => Ok(Certificate::Assume(boxed(alloc, stack)?)),
+        CertHead::DropGuard => drop_guard(alloc, stack),
+        CertHead::Split(condition) => split(alloc, stack, condition),
+        CertHead::Contradict(items) => Ok(Certificate::Contradict(items)),
+        CertHead::Arithmetic(items) => Ok(Certificate::Arithmetic(items)),
+        CertHead::ByDefinition(name) => Ok(Certificate::ByDefinition(name, boxed(alloc, stack)?)),
+        CertHead::Fact(fact) => Ok(Certificate::Fact(fact, boxed(alloc, stack)?)),
+    }
+}
+
+/// The certificate whose heads these are, each before those of its parts.
+pub fn build(alloc: Global, heads: Vec<CertHead>) -> Result<Certificate, NoMemory>
+    ensures { IfOk result (λ c. cert_tree c ≡ first_cert (plants (map head_view heads.items) [])) }
+{
+    let mut left = heads;
+    let mut stack = Vec::new(alloc);
+    'heads: while let Some(made) = left.pop() {
+        let tree = plant(alloc, &mut stack, made)?;
+        stack.push(tree)?;
+    }
+    Ok(taken(&mut stack))
+}

@@ -1,0 +1,139 @@
+// What ranges are of.
+ghost use Rattle.std.specs.Prelude.{◌≡◌};
+ghost use Rattle.qs_entail.specs.View.{fact_tree};
+ghost use Rattle.qs_prooftext.specs.Answers.{Gives, StandAll, Stands};
+ghost use Rattle.qs_prooftext.specs.Contexts.{setting_of};
+ghost use Rattle.qs_prooftext.specs.Heads.{range_rows};
+ghost use Rattle.qs_prooftext.specs.Kinds.{a_range};
+ghost use Rattle.qs_prooftext.specs.Meanings.{means};
+ghost use Rattle.qs_prooftext.specs.Ranges.{cost_range_in, old_range, range_list, range_or, range_row, range_words};
+ghost use Rattle.qs_prooftext.specs.Settings.{look_up};
+ghost use Rattle.qs_sexpr.specs.Trees.{Sexp, Sexps, count};
+
+use crate::context::{Context, find_variable};
+use crate::fault::TextFault;
+use crate::leaves::{function, old_variable};
+use crate::parts::{Part, head_of, part_of};
+use qs_assert::Var;
+use qs_entail::Fact;
+use qs_sexpr::{Node, first_part};
+
+/// The head of what a range is of.
+#[derive(Clone, Copy)]
+pub enum RangeWord {
+    Old,
+    Cost,
+    Returned,
+}
+
+fn range_word(word: &[u8]) -> Option<RangeWord>
+    ensures { result ≡ look_up word.now range_words }
+{
+    match word {
+        b"old" => Some(RangeWord::Old),
+        b"cost" => Some(RangeWord::Cost),
+        b"result" => Some(RangeWord::Returned),
+        _ => None,
+    }
+}
+
+fn of_variable(at: u32, found: Option<Var>) -> Result<Fact, TextFault>
+    ensures { Gives fact_tree (range_or at found) result }
+{
+    match found {
+        Some(x) => Ok(Fact::Range(x)),
+        None => Err(TextFault::UnknownForm(at)),
+    }
+}
+
+fn of_old(context: Context<'_>, whole: u32, parts: &[Node]) -> Result<Fact, TextFault>
+    ensures { (ss : Sexps) → StandAll context.entry.text.now parts.now ss → Gives fact_tree (old_range (setting_of context.entry) whole ss) result }
+{
+    match first_part(parts) {
+        Some((first, _others)) => {
+            match old_variable(context, whole, part_of(context.text, first)) {
+                Ok(x) => Ok(Fact::Range(x)),
+                Err(fault) => Err(fault),
+            }
+        }
+        None => Err(TextFault::UnknownForm(0)),
+    }
+}
+
+fn of_cost(context: Context<'_>, whole: u32, parts: &[Node]) -> Result<Fact, TextFault>
+    ensures { (ss : Sexps) → StandAll context.entry.text.now parts.now ss → Gives fact_tree (cost_range_in (setting_of context.entry) whole ss) result }
+{
+    match first_part(parts) {
+        Some((first, _others)) => match function(context, whole, part_of(context.text, first)) {
+            Ok(f) => Ok(Fact::CostRange(f)),
+            Err(fault) => Err(fault),
+        },
+        None => Err(TextFault::UnknownForm(0)),
+    }
+}
+
+fn of_list(
+    context: Context<'_>,
+    at: u32,
+    word: RangeWord,
+    behind: usize,
+    parts: &[Node],
+) -> Result<Fact, TextFault>
+    ensures { (ss : Sexps) → StandAll context.entry.text.now parts.now ss → behind ≡ count ss
+        → Gives fact_tree (range_list (setting_of context.entry) at (range_row (setting_of context.entry) at word) ss) result }
+{
+    match word {
+        RangeWord::Old => {
+            if behind == 1 {
+                of_old(context, at, parts)
+            } else {
+                Err(TextFault::UnknownForm(at))
+            }
+        }
+        RangeWord::Cost => {
+            if behind == 1 {
+                of_cost(context, at, parts)
+            } else {
+                Err(TextFault::UnknownForm(at))
+            }
+        }
+        RangeWord::Returned => {
+            if behind == 0 {
+                of_variable(at, context.result)
+            } else {
+                Err(TextFault::UnknownForm(at))
+            }
+        }
+    }
+}
+
+fn of_head(
+    context: Context<'_>,
+    at: u32,
+    word: &[u8],
+    behind: usize,
+    parts: &[Node],
+) -> Result<Fact, TextFault>
+    ensures { (ss : Sexps) → StandAll context.entry.text.now parts.now ss → behind ≡ count ss
+        → Gives fact_tree (range_list (setting_of context.entry) at (look_up word.now (range_rows (setting_of context.entry) at)) ss) result }
+{
+    match range_word(word) {
+        Some(known) => of_list(context, at, known, behind, parts),
+        None => Err(TextFault::UnknownForm(at)),
+    }
+}
+
+/// What a range is of, as its fact.
+#[tactic(auto, using(crate::proofs::RangeLaws::headless_fails))]
+pub fn read_range(context: Context<'_>, nodes: &[Node]) -> Result<Fact, TextFault>
+    ensures { (s : Sexp) → Stands context.entry.text.now nodes.now s → Gives fact_tree (means (setting_of context.entry) a_range s) result }
+{
+    match part_of(context.text, nodes) {
+        Part::Number(at, _) => Err(TextFault::UnknownForm(at)),
+        Part::Symbol(at, word) => of_variable(at, find_variable(context.words, word)),
+        Part::List(at, count, parts) => match head_of(context.text, parts) {
+            Some((word, others)) => of_head(context, at, word, count.saturating_sub(1), others),
+            None => Err(TextFault::UnknownForm(at)),
+        },
+    }
+}

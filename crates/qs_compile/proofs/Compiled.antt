@@ -1,16 +1,14 @@
 -- An image that is built from the core of a source does what the source does.
-use Rattle.std.proofs.Common.{◌≡◌, ◌≢◌, ℕ, zero, suc, ◌+◌, ◌*◌, ◌/◌, ◌<◌, ◌≤◌, ℤ, true, List, [], ◌∷◌, length, map, All, Option, Some, None, refl, sym, ap, ◌∙◌, subst, arith}
+use Rattle.std.proofs.Common.{◌≡◌, ℕ, zero, suc, ◌<◌, ◌≤◌, ℤ, true, List, [], ◌∷◌, length, map, Some, refl, sym, ap, ◌∙◌, subst, arith}
 use Rattle.std.specs.Prelude.{slice_index_or}
 use Rattle.std.specs.List.{slice_get}
 use Rattle.std.proofs.Math.Path.{fun_ext}
 use Rattle.qs_memory.specs.Values.{Value}
-use Rattle.qs_memory.specs.Memory.{Memory}
 use Rattle.qs_memory.proofs.Options.{some_same}
 use Rattle.qs_events.specs.BoundedRun.{BoundedRun}
-use Rattle.qs_events.specs.Runs.{Left, has_ended, ending_of, bounded}
+use Rattle.qs_events.specs.Runs.{bounded}
 use Rattle.qs_events.specs.Weights.{Costs, run_weight}
 use Rattle.qs_calls.specs.World.{RootRun, status_of}
-use Rattle.qs_calls.specs.Starts as starts
 use Rattle.qs_syntax.specs.Trees.{UnitTree}
 use Rattle.qs_syntax.specs.Units.{IsRead}
 use Rattle.qs_types.specs.Limits.{IsWithinLimits}
@@ -18,10 +16,8 @@ use Rattle.qs_types.specs.WellTyped.{WellTyped}
 use Rattle.qs_core.specs.Trees.{CoreFunctionTree, CoreUnitTree}
 use Rattle.qs_core.specs.Units as core
 use Rattle.qs_core.specs.Fits.{unit_fits}
-use Rattle.qs_core.specs.Interfaces.{interface_of}
 use Rattle.qs_core.specs.Sizes.{values}
 use Rattle.qs_meaning.specs.Typed.{TypedProgram}
-use Rattle.qs_meaning.specs.Units.{typed_of}
 use Rattle.qs_meaning.specs.Runs.{main_run, source_run}
 use Rattle.qs_elaborate.specs.FitLaws.{HasCore}
 use Rattle.qs_elaborate.specs.Units.{core_of}
@@ -32,25 +28,22 @@ use Rattle.qs_limits.proofs.FrameCaps.{caps_are_kept}
 use Rattle.qs_limits.proofs.MainReturns.{main_returns}
 use Rattle.qs_tac.specs.Trees.{TacFunctionTree, TacUnitTree}
 use Rattle.qs_tac.specs.Places.{PlacesTree, Accepted, all_slots, no_places}
-use Rattle.qs_tac.specs.Sizes as tac
 use Rattle.qs_lower.specs.WordLaws.{lowered_function}
 use Rattle.qs_lower.proofs.UnitWords.{lowered_sizes_are_kept}
 use Rattle.qs_frames.specs.Layout.{total, kept, frame_cost, layout}
 use Rattle.qs_frames.proofs.FrameLaws.{no_more_is_kept}
 use Rattle.qs_image.specs.Image.{Image, FunctionRecord}
-use Rattle.qs_machine.specs.Arguments.{AreArguments, words_of}
-use Rattle.qs_machine.specs.State.{stack_limit}
+use Rattle.qs_machine.specs.Arguments.{words_of}
 use Rattle.qs_machine.specs.Run.{machine, least_stack_pointer}
 use Rattle.qs_emit.specs.Agree.{Agree, Accounts}
-use Rattle.qs_emit.specs.Images.{AreCosts, record_at}
 use Rattle.qs_emit.specs.Relation.{cost_at}
 use Rattle.std.proofs.lemmas.List.{length-map}
 use Rattle.qs_build.proofs.Fitting.{function_found}
 use Rattle.qs_build.proofs.SmallUnits.{slots_at}
 use Rattle.qs_build.specs.Agrees.{values_of, HasStack, DoesAsCore}
 use Rattle.qs_build.specs.Built.{IsBuiltFrom}
-use Rattle.qs_build.specs.Units.{linear, own_slots, start_of, MainReturns}
-use Rattle.qs_compile.specs.Compiled.{SourceHasStack, DoesAsSource, IsCompiled, UnitsPassNoSize}
+use Rattle.qs_build.specs.Units.{linear, own_slots, MainReturns}
+use Rattle.qs_compile.specs.Compiled.{SourceHasStack, DoesAsSource, IsCompiled, BuiltImagesAreCompiled, UnitsPassNoSize}
 use Rattle.qs_compile.proofs.UnitSizes.{words_total, passes_none}
 
 -- ---- cores
@@ -204,3 +197,6 @@ module _ (unit : UnitTree) (u : CoreUnitTree) (image : Image) (read : IsRead uni
         does = does_as_source u h.typed image (core_follows unit u h is) d;
         emitted = d.emitted;
       }
+
+pub built_images_are_compiled : BuiltImagesAreCompiled
+built_images_are_compiled unit u image read well limits is built does = is_compiled unit u image read well limits is built does

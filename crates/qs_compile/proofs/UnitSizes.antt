@@ -1,6 +1,6 @@
 -- A unit within the limits passes no size of images.
-use Rattle.std.proofs.Common.{◌≡◌, ℕ, ◌+◌, ◌/◌, ◌*◌, ◌<◌, ◌≤◌, List, [], ◌∷◌, length, map, Some, true, refl, sym, ap, ◌∙◌, subst, arith}
-use Rattle.std.specs.Prelude.{All, sum_by}
+use Rattle.std.proofs.Common.{◌≡◌, ℕ, ◌+◌, ◌/◌, ◌*◌, ◌≤◌, List, [], ◌∷◌, map, Some, true, refl, ap, ◌∙◌, arith}
+use Rattle.std.specs.Prelude.{All}
 use Rattle.std.proofs.lemmas.List.Elements.{All-nil, All-cons, All-head, All-tail}
 use Rattle.std.proofs.lemmas.List.Sums.{sum_by-cons}
 use Rattle.qs_syntax.specs.Trees.{UnitTree}
@@ -8,8 +8,7 @@ use Rattle.qs_syntax.specs.Units.{IsRead}
 use Rattle.qs_types.specs.Layout.{rounded_up}
 use Rattle.qs_types.specs.Limits.{word_size, IsWithinLimits}
 use Rattle.qs_types.specs.WellTyped.{WellTyped}
-use Rattle.qs_core.specs.Trees.{CoreFunctionTree, DataBlockTree, CoreUnitTree}
-use Rattle.qs_core.specs.Units.{data_block}
+use Rattle.qs_core.specs.Trees.{CoreFunctionTree, CoreUnitTree}
 use Rattle.qs_core.specs.Fits.{unit_fits}
 use Rattle.qs_core.specs.Sizes.{values, held_in_all}
 use Rattle.qs_elaborate.specs.Units.{core_of}
@@ -19,7 +18,6 @@ use Rattle.qs_limits.proofs.CoreBytes.{placed_bytes_are_few, data_bytes_are_few}
 use Rattle.qs_limits.proofs.ValueLimits.{values_are_limited}
 use Rattle.qs_lower.specs.WordLaws.{IsInReach}
 use Rattle.qs_frames.specs.Layout.{rounded, total}
-use Rattle.qs_build.specs.Units.{most_parameters}
 use Rattle.qs_build.specs.Limits.{most_name_bytes, name_bytes}
 use Rattle.qs_build.specs.Small.{most_block_bytes, most_values, IsSmall}
 use Rattle.qs_build.proofs.SmallUnits.{small_units_pass_no_size}

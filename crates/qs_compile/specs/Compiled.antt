@@ -19,10 +19,10 @@ use Rattle.qs_machine.specs.Run.{machine, least_stack_pointer}
 use Rattle.qs_emit.specs.Agree.{Agree, Accounts}
 use Rattle.qs_emit.specs.Emitted.{Emitted}
 use Rattle.qs_emit.specs.Images.{AreCosts}
-use Rattle.qs_build.specs.Agrees.{values_of}
+use Rattle.qs_build.specs.Agrees.{values_of, DoesAsCore}
 use Rattle.qs_build.specs.Built.{IsBuiltFrom}
 use Rattle.qs_build.specs.Limits.{most_name_bytes, name_bytes, Passes}
-use Rattle.qs_build.specs.Units.{linear}
+use Rattle.qs_build.specs.Units.{linear, MainReturns}
 use Rattle.qs_build.specs.declared.fault.BuildFault.{BuildFault}
 use Rattle.qs_build.specs.declared.fault.BuildFault.TheVariants.{NoMemory}
 
@@ -62,6 +62,13 @@ pub record IsCompiled (unit : UnitTree) (image : Image) : Type 0 where
   pub does : DoesAsSource program image
   -- each function does what its linear code does
   pub emitted : Emitted (linear core) (initial_memory core) image
+
+-- the image of the core of such a unit is the unit's, where it does what the core does
+abbrev pub BuiltImagesAreCompiled : Type 0
+BuiltImagesAreCompiled =
+    (unit : UnitTree) (core : CoreUnitTree) (image : Image) → IsRead unit → WellTyped unit → IsWithinLimits unit
+    → core_of unit ≡ Some core → IsBuiltFrom core image → (MainReturns core → DoesAsCore core image)
+    → IsCompiled unit image
 
 -- ---- sizes
 

@@ -1,0 +1,5 @@
+use Rattle.qs_compile.proofs.Compiled.{built_images_are_compiled}
+use Rattle.qs_compile.proofs.laws.built_images_are_compiled.Goals as goal
+
+pub returns : goal.returns
+returns c = built_images_are_compiled

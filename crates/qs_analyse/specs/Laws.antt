@@ -5,7 +5,7 @@ use Rattle.qs_memory.specs.Values.{Value}
 use Rattle.qs_events.specs.Weights.{Costs}
 use Rattle.qs_assert.specs.Order.{IsInOrder}
 use Rattle.qs_assert.specs.Values.{finite, plus}
-use Rattle.qs_core.specs.CallGraph.{IsOpen}
+use Rattle.qs_core.specs.CallGraph.{IsOpen, IsCycle}
 use Rattle.qs_core.specs.Fits.{unit_fits}
 use Rattle.qs_core.specs.Trees.{CoreFunctionTree, CoreUnitTree}
 use Rattle.qs_triples.specs.Derivations.{EntryTree, ProofsTree, entry_of}
@@ -57,3 +57,7 @@ pub record DerivesOpen (u : CoreUnitTree) (given proofs : ProofsTree) : Type 0 w
   pub derived :
       (f : ℕ) (e : EntryTree) → IsInOrder proofs.defines → IsOpen u (has_entry given) f
       → entry_of proofs f ≡ Some e → IsDerived u proofs e
+
+-- no functions without an entry call each other in turn
+abbrev pub HasNoCycle : CoreUnitTree → (given : ProofsTree) → Type 0
+HasNoCycle u given = (fs : List ℕ) → IsCycle u (has_entry given) fs → ⊥

@@ -9,7 +9,7 @@ ghost use Rattle.qs_callgraph.specs.Opens.{AreOf};
 ghost use Rattle.qs_callgraph.specs.Orders.{IsTrueCycle};
 ghost use Rattle.qs_analyse.specs.Fillable.{IsFillable, entries_only, entry_functions};
 ghost use Rattle.qs_analyse.specs.Additions.{AreAdditions, Extends};
-ghost use Rattle.qs_analyse.specs.Laws.{DerivesOpen};
+ghost use Rattle.qs_analyse.specs.Laws.{DerivesOpen, HasNoCycle};
 
 use crate::definitions::definitions;
 use crate::entries::add_entries;
@@ -112,12 +112,13 @@ fn extended(
 }
 
 /// The proofs with the definitions of the open functions before those that are given, and behind the entries that are
-/// given one for each other function; or a cycle of functions without an entry. What is given stays as it is and in
+/// given one for each other function; or a cycle of functions without an entry, exactly where there is one. What is given stays as it is and in
 /// order. A precondition that would have more than 2^24 nodes is answered as want of memory.
 pub fn fill(alloc: Global, unit: &CoreUnit, proofs: Proofs) -> Result<Proofs, CycleFault>
     requires { IsFillable (unit_tree unit.now) (proofs_tree proofs) }
     ensures filled { IfOk result (λ all. Filled (unit_tree unit.now) (proofs_tree proofs) (proofs_tree all)) }
     ensures derived { IfOk result (λ all. DerivesOpen (unit_tree unit.now) (proofs_tree proofs) (proofs_tree all)) }
+    ensures no_cycle { IfOk result (λ all. HasNoCycle (unit_tree unit.now) (proofs_tree proofs)) }
     ensures cycle { IfErr result (IsTrueCycle (unit_tree unit.now) (has_entry (proofs_tree proofs))) }
 {
     let added = planned(alloc, unit, &proofs.functions)?;

@@ -4,7 +4,9 @@ use Rattle.qs_core.specs.UnitTrees.{unit_tree}
 use Rattle.qs_triples.specs.Entries.{has_entry}
 use Rattle.qs_triples.specs.TreeOf.{entry_tree, proofs_tree}
 use Rattle.qs_triples.specs.declared.derivation.FunctionProof.{FunctionProof}
+use Rattle.qs_callgraph.specs.CallLists.{numbers}
 use Rattle.qs_callgraph.specs.Orders.{IsTrueCycle}
+use Rattle.qs_callgraph.proofs.OrderLaws.{orders_exclude_cycles}
 use Rattle.qs_analyse.specs.Additions.{AreAdditions}
 use Rattle.qs_analyse.specs.Fillable.{entries_only}
 use Rattle.qs_analyse.proofs.FillLaws.{filled_so, derived_so}
@@ -26,3 +28,8 @@ returns-clause-derived c =
     derived_so (unit_tree c.args.unit.now) c.args.unit.now.fits (proofs_tree c.args.proofs) c.requires c.in_ok-added.added
     (subst (λ (entries : List FunctionProof). AreAdditions (unit_tree c.args.unit.now) (entries_only (map entry_tree entries)) c.in_ok-added.added) c.deref.ensures.value c.in_ok-added.ensures.plan)
     (proofs_tree c.in_ok-extended.field-0) c.in_ok-extended.ensures
+
+pub returns-clause-no_cycle : goal.returns-clause-no_cycle
+returns-clause-no_cycle c =
+    let plan = subst (λ (entries : List FunctionProof). AreAdditions (unit_tree c.args.unit.now) (entries_only (map entry_tree entries)) c.in_ok-added.added) c.deref.ensures.value c.in_ok-added.ensures.plan in
+    λ fs cycle. orders_exclude_cycles (unit_tree c.args.unit.now) (has_entry (proofs_tree c.args.proofs)) (numbers c.in_ok-added.added.functions.items) fs plan.order cycle

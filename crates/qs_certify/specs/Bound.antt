@@ -1,0 +1,48 @@
+-- The bound of main, and main's arguments.
+use Rattle.std.specs.Prelude.{ℕ, ◌≤ℤ◌, ℤ, List, [], ◌∷◌, map, slice_index_or, Option, Some, None}
+use Rattle.std.specs.List.{slice_get}
+use Rattle.qs_base.specs.Words.{wrap}
+use Rattle.qs_memory.specs.Values.{Value, integer}
+use Rattle.qs_memory.specs.declared.scalar.Scalar.{Scalar}
+use Rattle.qs_events.specs.Weights.{Costs}
+use Rattle.qs_assert.specs.Bounds.{bound_at}
+use Rattle.qs_assert.specs.declared.define.Amount.{Amount}
+use Rattle.qs_entail.specs.Facts.{least, greatest_of_type}
+use Rattle.qs_core.specs.Interfaces.{parameter_types}
+use Rattle.qs_core.specs.Trees.{CoreFunctionTree, CoreUnitTree}
+use Rattle.qs_triples.specs.Derivations.{ProofsTree}
+use Rattle.qs_triples.specs.Filled.{pre_of}
+use Rattle.qs_triples.specs.Valuations.{number_type}
+
+-- what main costs, and the value of its precondition at these arguments
+abbrev pub main_bound : CoreUnitTree → ProofsTree → (costs : List ℕ) → (arguments : List ℤ) → Amount
+main_bound u proofs costs arguments = bound_at (pre_of proofs u.main) proofs.defines arguments costs u.main
+
+-- ---- costs and arguments, as runs have them
+
+-- what each function costs
+abbrev pub costs_of : List ℕ → Costs
+costs_of costs f = slice_index_or costs f 0
+
+-- the values of whole numbers: each by its two's complement (6.2.6.2p2)
+abbrev pub values_of : List ℤ → List Value
+values_of zs = map (λ z. integer (wrap z)) zs
+
+-- a number of the type, which is `int` or `unsigned`
+abbrev pub IsNumberOf : Scalar → ℤ → Type 0
+IsNumberOf s z = (least (number_type s) ≤ℤ z) × (z ≤ℤ greatest_of_type (number_type s))
+
+-- as many numbers as types, each of its type
+abbrev pub AreNumbersOf : List Scalar → List ℤ → Type 0
+AreNumbersOf [] [] = Unit {0}
+AreNumbersOf [] (z ∷ zs) = ⊥
+AreNumbersOf (s ∷ types) [] = ⊥
+AreNumbersOf (s ∷ types) (z ∷ zs) = IsNumberOf s z × AreNumbersOf types zs
+
+abbrev pub types_in : Option CoreFunctionTree → List Scalar
+types_in None = []
+types_in (Some f) = parameter_types f
+
+-- main's arguments: one for each of its parameters, a number of the parameter's type
+abbrev pub AreArguments : CoreUnitTree → List ℤ → Type 0
+AreArguments u arguments = AreNumbersOf (types_in (slice_get u.functions u.main)) arguments

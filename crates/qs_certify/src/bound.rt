@@ -1,0 +1,42 @@
+// The bound of main.
+ghost use Rattle.std.specs.Prelude.{◌≡◌, IfOk};
+ghost use Rattle.qs_core.specs.UnitTrees.{unit_tree};
+ghost use Rattle.qs_triples.specs.Filled.{pre_in};
+ghost use Rattle.qs_triples.specs.TreeOf.{proofs_tree};
+ghost use Rattle.qs_triples.specs.Views.{entry_in};
+ghost use Rattle.qs_certify.specs.Bound.{main_bound};
+
+use qs_assert::{Amount, Assertion, bound_of};
+use qs_base::{FnId, NoMemory};
+use qs_core::CoreUnit;
+use qs_triples::{FunctionProof, Proofs};
+use std::alloc::Global;
+
+// The precondition of a function. Without an entry it needs more than there is.
+fn needed_by(alloc: Global, entries: &[FunctionProof], f: FnId) -> Result<Assertion, NoMemory>
+    ensures { IfOk result (λ pre. pre ≡ pre_in (entry_in entries.now f.0)) }
+{
+    for e in entries {
+        if e.function.0 == f.0 {
+            return e.spec.pre.copy(alloc);
+        }
+    }
+    Assertion::infinity(alloc)
+}
+
+/// What a run of main needs of the stack at most: what main costs and the value of its precondition, where parameter i
+/// is `arguments[i]` and function f costs `costs[f]`. It is `Infinite` where main has no entry, and `Wide` where a part
+/// that is evaluated is finite and outside -(2^127 - 1) to 2^127 - 1.
+pub fn bound_of_main(
+    alloc: Global,
+    unit: &CoreUnit,
+    proofs: &Proofs,
+    costs: &[u32],
+    arguments: &[i64],
+) -> Result<Amount, NoMemory>
+    ensures { IfOk result (λ bound. bound
+        ≡ main_bound (unit_tree unit.now) (proofs_tree proofs.now) costs.now arguments.now) }
+{
+    let pre = needed_by(alloc, &proofs.functions, unit.main)?;
+    bound_of(alloc, &pre, &proofs.defines, arguments, costs, unit.main)
+}

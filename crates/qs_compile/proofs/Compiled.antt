@@ -38,12 +38,15 @@ use Rattle.qs_machine.specs.Run.{machine, least_stack_pointer}
 use Rattle.qs_emit.specs.Agree.{Agree, Accounts}
 use Rattle.qs_emit.specs.Relation.{cost_at}
 use Rattle.std.proofs.lemmas.List.{length-map}
+use Rattle.qs_typing.specs.TypedOf.{typed_tree}
+use Rattle.qs_typing.specs.declared.typed_unit.TypedUnit.{TypedUnit}
+use Rattle.qs_typing.proofs.TypedLaws.{is_read}
 use Rattle.qs_build.proofs.Fitting.{function_found}
 use Rattle.qs_build.proofs.SmallUnits.{slots_at}
 use Rattle.qs_build.specs.Agrees.{values_of, HasStack, DoesAsCore}
 use Rattle.qs_build.specs.Built.{IsBuiltFrom}
 use Rattle.qs_build.specs.Units.{linear, own_slots, MainReturns}
-use Rattle.qs_compile.specs.Compiled.{SourceHasStack, DoesAsSource, IsCompiled, BuiltImagesAreCompiled, UnitsPassNoSize}
+use Rattle.qs_compile.specs.Compiled.{SourceHasStack, DoesAsSource, IsCompiled, IsImageOfSource, BuiltImagesAreCompiled, UnitsPassNoSize}
 use Rattle.qs_compile.proofs.UnitSizes.{words_total, passes_none}
 
 -- ---- cores
@@ -200,3 +203,11 @@ module _ (unit : UnitTree) (u : CoreUnitTree) (image : Image) (read : IsRead uni
 
 pub built_images_are_compiled : BuiltImagesAreCompiled
 built_images_are_compiled unit u image read well limits is built does = is_compiled unit u image read well limits is built does
+
+-- the image of the core of a typed unit
+pub typed_image :
+    (typed : TypedUnit) (u : CoreUnitTree) (image : Image) → core_of (typed_tree typed) ≡ Some u → IsBuiltFrom u image
+    → (MainReturns u → DoesAsCore u image) → IsImageOfSource (typed_tree typed) image
+unfolding IsImageOfSource
+typed_image typed u image is built does =
+    is_compiled (typed_tree typed) u image (is_read typed) typed.well_typed typed.within_limits is built does

@@ -63,6 +63,10 @@ pub record IsCompiled (unit : UnitTree) (image : Image) : Type 0 where
   -- each function does what its linear code does
   pub emitted : Emitted (linear core) (initial_memory core) image
 
+-- the same, as contracts have it
+unfoldable pub IsImageOfSource : UnitTree → Image → Type 0
+IsImageOfSource unit image = IsCompiled unit image
+
 -- the image of the core of such a unit is the unit's, where it does what the core does
 abbrev pub BuiltImagesAreCompiled : Type 0
 BuiltImagesAreCompiled =

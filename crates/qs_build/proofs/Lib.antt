@@ -10,3 +10,4 @@ pub mod SizeLaws
 pub mod WellFormed
 pub mod BuiltLaws
 pub mod SmallUnits
+mod BuildExamples

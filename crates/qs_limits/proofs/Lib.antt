@@ -19,3 +19,4 @@ mod DataBytes
 pub mod CoreBytes
 pub mod FrameCaps
 pub mod ValueLimits
+mod CapExamples

@@ -1,10 +1,11 @@
 -- Small texts, computed from the definitions.
-use Rattle.std.proofs.Common.{◌≡◌, [], ◌∷◌, codes, Some, None, Ok, Err, refl, pos, negsuc}
+use Rattle.std.proofs.Common.{◌≡◌, List, [], ◌∷◌, codes, Some, None, Ok, Err, refl, pos, negsuc}
 use Rattle.qs_sexpr.specs.Numbers.{number_of}
 use Rattle.qs_sexpr.specs.Scan.{parts_of, scanned}
-use Rattle.std.specs.Fmt.{digits}
 use Rattle.qs_sexpr.specs.Trees.{number, symbol, list}
-use Rattle.qs_sexpr.specs.Writing.{symbol_form, number_form, list_form, no_forms, form_and, put_all}
+use Rattle.std.specs.Fmt.{digits}
+use Rattle.qs_sexpr.specs.Layout.{lay_all}
+use Rattle.qs_sexpr.specs.Writing.{Form, symbol_form, number_form, list_form, Forms, no_forms, form_and}
 use Rattle.qs_sexpr.specs.declared.fault.SexprFault.TheVariants.{BadByte, Unbalanced, BadNumber}
 
 -- ---- numbers
@@ -88,8 +89,41 @@ open_at_the_end = refl
 the_first_fault : scanned (codes "(1a #)))") ≡ Err (BadNumber 1)
 the_first_fault = refl
 
--- ---- what is written
+-- ---- what is laid out
 
-a_list_with_a_number : put_all (form_and (list_form (form_and (symbol_form (codes "add")) (form_and (number_form (negsuc 6)) (form_and (list_form no_forms) no_forms)))) (form_and (number_form (pos 10)) no_forms)) [] ≡ codes "(add -7 ()) 10"
+abbrev forms_of : List Form → Forms
+forms_of [] = no_forms
+forms_of (form ∷ forms) = form_and form (forms_of forms)
+
+abbrev listed : List Form → Form
+listed parts = list_form (forms_of parts)
+
+abbrev first : Form
+first = symbol_form (codes "the_first_of_some_long_names")
+
+abbrev second : Form
+second = symbol_form (codes "the_second_of_some_long_names")
+
+abbrev third : Form
+third = symbol_form (codes "the_third_of_some_long_names")
+
+-- one list on one line, and then an atom
+a_list_with_a_number : lay_all (forms_of (listed (symbol_form (codes "add") ∷ number_form (negsuc 6) ∷ listed [] ∷ []) ∷ number_form (pos 10) ∷ [])) ≡ codes "(add -7 ())\n10\n"
 unfolding digits
 a_list_with_a_number = refl
+
+-- 100 columns are filled
+a_list_that_fits : lay_all (forms_of (listed (symbol_form (codes "ab") ∷ listed (first ∷ second ∷ []) ∷ listed (symbol_form (codes "abc") ∷ third ∷ []) ∷ []) ∷ [])) ≡ codes "(ab (the_first_of_some_long_names the_second_of_some_long_names) (abc the_third_of_some_long_names))\n"
+a_list_that_fits = refl
+
+-- one more, and each part but the head has its line
+a_list_on_lines : lay_all (forms_of (listed (symbol_form (codes "abc") ∷ listed (first ∷ second ∷ []) ∷ listed (symbol_form (codes "abc") ∷ third ∷ []) ∷ []) ∷ [])) ≡ codes "(abc\n  (the_first_of_some_long_names the_second_of_some_long_names)\n  (abc the_third_of_some_long_names)\n)\n"
+a_list_on_lines = refl
+
+-- a second atom stands behind the head, a third doesn't
+an_atom_behind_the_head : lay_all (forms_of (listed (symbol_form (codes "add") ∷ first ∷ second ∷ listed (second ∷ []) ∷ []) ∷ [])) ≡ codes "(add the_first_of_some_long_names the_second_of_some_long_names (the_second_of_some_long_names))\n"
+an_atom_behind_the_head = refl
+
+-- a list without a head begins with an end of line
+no_head : lay_all (forms_of (listed (listed (first ∷ second ∷ []) ∷ third ∷ first ∷ []) ∷ [])) ≡ codes "(\n  (the_first_of_some_long_names the_second_of_some_long_names)\n  the_third_of_some_long_names\n  the_first_of_some_long_names\n)\n"
+no_head = refl

@@ -8,5 +8,8 @@ pub mod OneReading
 pub mod PartLaws
 pub mod PlaceLaws
 pub mod Written
+pub mod Spelled
+pub mod LaidOut
+pub mod MarkLaws
 mod Examples
 mod NestingExamples

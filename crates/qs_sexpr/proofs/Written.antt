@@ -1,5 +1,5 @@
--- What is written reads as what was written.
-use Rattle.std.proofs.Common.{arith, ◌≡◌, ℕ, zero, suc, ◌+◌, ◌*◌, ◌-◌, ◌/◌, ◌%◌, ◌^◌, ◌<◌, ◌≤◌, ℤ, pos, negsuc, Bool, true, false, ◌==◌, ◌&&◌, nat_le, cond, List, [], ◌∷◌, ◌++◌, length, take, drop, refl, sym, ap, subst, ◌∙◌, if◌then◌else◌, not, Some, None}
+-- Atoms that are written read as what they are.
+use Rattle.std.proofs.Common.{arith, ◌≡◌, ℕ, suc, ◌+◌, ◌*◌, ◌-◌, ◌/◌, ◌%◌, ◌^◌, ◌<◌, ◌≤◌, ℤ, pos, negsuc, Bool, true, false, ◌==◌, ◌&&◌, nat_le, cond, List, [], ◌∷◌, ◌++◌, length, take, drop, refl, sym, ap, subst, ◌∙◌, if◌then◌else◌, not, Some, None}
 use Rattle.std.proofs.lemmas.Bool.Decides.{nat_tests}
 use Rattle.std.proofs.lemmas.List.{append-nil}
 use Rattle.std.proofs.Math.Seq.{take-append_seam, drop-append_seam}
@@ -10,15 +10,15 @@ use Rattle.qs_sexpr.specs.Numbers.{are_digits, is_empty, magnitude, negative, nu
 use Rattle.std.specs.Fmt.{decimal, signed_decimal}
 use Rattle.std.proofs.lemmas.Fmt.{decimal_by_steps}
 use Rattle.qs_sexpr.specs.Pieces.{atom, first_piece, number, symbol}
-use Rattle.qs_sexpr.specs.Reading.{Reads, nothing, white_space, a_number, a_symbol, a_list, Reading}
+use Rattle.qs_sexpr.specs.Reading.{Reads, a_number, a_symbol}
 use Rattle.qs_sexpr.specs.Trees as trees
-use Rattle.qs_sexpr.specs.Trees.{Sexp, Sexps, part_and, no_parts}
-use Rattle.qs_sexpr.specs.Writing.{Form, symbol_form, number_form, list_form, Forms, no_forms, form_and, put, put_all, put_others, size, size_all, size_others, placed, all_placed, others_placed, is_symbol, IsInRange, IsWritable, AreWritable}
+use Rattle.qs_sexpr.specs.Trees.{Sexps, part_and}
+use Rattle.qs_sexpr.specs.Writing.{is_symbol, IsInRange}
 use Rattle.qs_sexpr.proofs.ScanLaws.{lt_true}
 use Rattle.qs_sexpr.specs.declared.pieces.Piece.TheVariants.{Number, Symbol, BadByte}
 
 -- no atom goes on with this text
-abbrev Delimited : List ℕ → Type 0
+abbrev pub Delimited : List ℕ → Type 0
 Delimited text = prefix_len is_atom_byte text ≡ 0
 
 -- ---- an atom stands first
@@ -53,16 +53,16 @@ digit_in_atom byte h = grind (arith, nat_tests, h)
 atom_first : (byte : ℕ) (bytes : List ℕ) → is_atom_byte byte ≡ true → first_piece byte bytes ≡ atom byte (take (prefix_len is_atom_byte bytes) bytes)
 atom_first byte bytes h = rw (not_space byte h, not_semicolon byte h, not_open byte h, not_close byte h, h) refl
 
-true_no_false : false ≡ true → ⊥
+pub true_no_false : false ≡ true → ⊥
 true_no_false e = grind (arith, e)
 
 -- ---- runs of bytes
 
-and_left : (a b : Bool) → (a && b) ≡ true → a ≡ true
+pub and_left : (a b : Bool) → (a && b) ≡ true → a ≡ true
 and_left true b h = refl
 and_left false b h = h
 
-and_right : (a b : Bool) → (a && b) ≡ true → b ≡ true
+pub and_right : (a b : Bool) → (a && b) ≡ true → b ≡ true
 and_right true b h = h
 and_right false b h = absurd (grind (arith, h))
 
@@ -88,10 +88,10 @@ eq_same : (n m : ℕ) → n ≡ m → (n == m) ≡ true
 eq_same n m h = grind (arith, h)
 
 -- the bytes are this number
-record IsNumber (byte : ℕ) (bytes : List ℕ) (value : ℤ) : Type 0 where
-  first : starts_number byte ≡ true
-  others : are_digits bytes ≡ true
-  value_is : number_of (byte ∷ bytes) ≡ Some value
+pub record IsNumber (byte : ℕ) (bytes : List ℕ) (value : ℤ) : Type 0 where
+  pub first : starts_number byte ≡ true
+  pub others : are_digits bytes ≡ true
+  pub value_is : number_of (byte ∷ bytes) ≡ Some value
 
 symbol_before : (byte : ℕ) (bytes text : List ℕ) → starts_symbol byte ≡ true → list_all is_symbol_byte bytes ≡ true → Delimited text → first_piece byte (bytes ++ text) ≡ Symbol (length bytes)
 symbol_before byte bytes text f o d =
@@ -154,7 +154,7 @@ no_sign byte h = grind (arith, nat_tests, h)
 digit_starts : (byte : ℕ) → is_digit byte ≡ true → starts_number byte ≡ true
 digit_starts byte h = grind (arith, nat_tests, h)
 
-abbrev IsWord : List ℕ → ℤ → Type 0
+abbrev pub IsWord : List ℕ → ℤ → Type 0
 IsWord [] value = ⊥
 IsWord (byte ∷ bytes) value = IsNumber byte bytes value
 
@@ -176,13 +176,13 @@ positive_word n (byte ∷ bytes) d h =
 negative_word : (n : ℕ) (digits : List ℕ) → IsDecimal (suc n) digits → n < 2 ^ 63 → IsWord (45 ∷ digits) (negsuc n)
 negative_word n digits d h = record { first = refl; others = d.are; value_is = ap negative (magnitude_of (suc n) digits d (omega (arith, h))) }
 
-signed_word : (value : ℤ) → IsInRange value → IsWord (signed_decimal value) value
+pub signed_word : (value : ℤ) → IsInRange value → IsWord (signed_decimal value) value
 signed_word (pos n) h = positive_word n (decimal n) (decimal_is n (omega (arith, h))) h
 signed_word (negsuc n) h = negative_word n (decimal (suc n)) (decimal_is (suc n) (omega (arith, h))) h
 
 -- ---- atoms
 
-moved : (depth at now end : ℕ) (text rest : List ℕ) (parts : Sexps) → at ≡ now → Reads depth at text parts end rest → Reads depth now text parts end rest
+pub moved : (depth at now end : ℕ) (text rest : List ℕ) (parts : Sexps) → at ≡ now → Reads depth at text parts end rest → Reads depth now text parts end rest
 moved depth at now end text rest parts e r = let P : ℕ → Type 0 = λ n. Reads depth n text parts end rest in subst P e r
 
 ends_at : (depth at end now : ℕ) (text rest : List ℕ) (parts : Sexps) → end ≡ now → Reads depth at text parts end rest → Reads depth at text parts now rest
@@ -193,7 +193,7 @@ dropped depth at end bytes text rest parts r =
     let P : List ℕ → Type 0 = λ xs. Reads depth (at + 1 + length bytes) xs parts end rest in
     subst P (sym (drop-append_seam bytes text)) (moved depth (at + suc (length bytes)) (at + 1 + length bytes) end text rest parts (omega arith) r)
 
-symbol_reads : (depth at end : ℕ) (word text rest : List ℕ) (parts : Sexps) → is_symbol word ≡ true → Delimited text → Reads depth (at + length word) text parts end rest
+pub symbol_reads : (depth at end : ℕ) (word text rest : List ℕ) (parts : Sexps) → is_symbol word ≡ true → Delimited text → Reads depth (at + length word) text parts end rest
     → Reads depth at (word ++ text) (part_and (trees.symbol at word) parts) end rest
 symbol_reads depth at end [] text rest parts w d r = absurd (true_no_false w)
 symbol_reads depth at end (byte ∷ bytes) text rest parts w d r =
@@ -202,41 +202,7 @@ symbol_reads depth at end (byte ∷ bytes) text rest parts w d r =
     let o = and_right (starts_symbol byte) (list_all is_symbol_byte bytes) w in
     subst P (take-append_seam bytes text) (a_symbol (symbol_before byte bytes text f o d) (dropped depth at end bytes text rest parts r))
 
-number_reads : (depth at end : ℕ) (word text rest : List ℕ) (value : ℤ) (parts : Sexps) → IsWord word value → Delimited text → Reads depth (at + length word) text parts end rest
+pub number_reads : (depth at end : ℕ) (word text rest : List ℕ) (value : ℤ) (parts : Sexps) → IsWord word value → Delimited text → Reads depth (at + length word) text parts end rest
     → Reads depth at (word ++ text) (part_and (trees.number at value) parts) end rest
 number_reads depth at end [] text rest value parts w d r = absurd w
 number_reads depth at end (byte ∷ bytes) text rest value parts w d r = a_number (number_before byte bytes text value w d) (dropped depth at end bytes text rest parts r)
-
--- ---- forms
-
-others_delimited : (forms : Forms) (text : List ℕ) → Delimited text → Delimited (put_others forms text)
-others_delimited no_forms text d = d
-others_delimited (form_and form forms) text d = refl
-
-mutual
-  form_reads : (n depth at end : ℕ) (form : Form) (text rest : List ℕ) (parts : Sexps) → IsWritable n form → depth + n ≤ 1024 → Delimited text → Reads depth (at + size form) text parts end rest
-      → Reads depth at (put form text) (part_and (placed at form) parts) end rest
-  form_reads n depth at end (symbol_form bytes) text rest parts w h d r = symbol_reads depth at end bytes text rest parts w d r
-  form_reads n depth at end (number_form value) text rest parts w h d r = number_reads depth at end (signed_decimal value) text rest value parts (signed_word value w) d r
-  form_reads zero depth at end (list_form forms) text rest parts w h d r = absurd w
-  form_reads (suc n) depth at end (list_form forms) text rest parts w h d r =
-      a_list refl (omega (arith, h)) (all_read n (suc depth) (at + 1) forms (41 ∷ text) w (omega (arith, h)) refl) refl
-      (moved depth (at + (1 + size_all forms + 1)) (at + 1 + size_all forms + 1) end text rest parts (omega arith) r)
-
-  all_read : (n depth at : ℕ) (forms : Forms) (text : List ℕ) → AreWritable n forms → depth + n ≤ 1024 → Delimited text → Reads depth at (put_all forms text) (all_placed at forms) (at + size_all forms) text
-  all_read n depth at no_forms text w h d = ends_at depth at at (at + 0) text text no_parts (omega arith) nothing
-  all_read n depth at (form_and form forms) text w h d =
-      ends_at depth at (at + size form + size_others forms) (at + (size form + size_others forms)) (put form (put_others forms text)) text (part_and (placed at form) (others_placed (at + size form) forms)) (omega arith)
-      (form_reads n depth at (at + size form + size_others forms) form (put_others forms text) text (others_placed (at + size form) forms) w.0 h (others_delimited forms text d) (others_read n depth (at + size form) forms text w.1 h d))
-
-  others_read : (n depth at : ℕ) (forms : Forms) (text : List ℕ) → AreWritable n forms → depth + n ≤ 1024 → Delimited text → Reads depth at (put_others forms text) (others_placed at forms) (at + size_others forms) text
-  others_read n depth at no_forms text w h d = ends_at depth at at (at + 0) text text no_parts (omega arith) nothing
-  others_read n depth at (form_and form forms) text w h d =
-      let parts : Sexps = part_and (placed (at + 1) form) (others_placed (at + 1 + size form) forms) in
-      let after : List ℕ = put form (put_others forms text) in
-      let r : Reads depth (at + 1) after parts (at + 1 + size form + size_others forms) text = form_reads n depth (at + 1) (at + 1 + size form + size_others forms) form (put_others forms text) text (others_placed (at + 1 + size form) forms) w.0 h (others_delimited forms text d) (others_read n depth (at + 1 + size form) forms text w.1 h d) in
-      ends_at depth at (at + 1 + size form + size_others forms) (at + (1 + size form + size_others forms)) (32 ∷ after) text parts (omega arith)
-      (white_space refl (moved depth (at + 1) (at + 1 + 0) (at + 1 + size form + size_others forms) after text parts (omega arith) r))
-
-pub written_reads : (forms : Forms) → AreWritable 1024 forms → Reading (put_all forms []) (all_placed 0 forms)
-written_reads forms w = record { end = 0 + size_all forms; reads = all_read 1024 0 0 forms [] w (omega arith) refl }

@@ -9,3 +9,8 @@ pub mod Readers
 pub mod Places
 pub mod Parts
 pub mod Writing
+pub mod Spelling
+pub mod Layout
+pub mod Gaps
+pub mod Marks
+pub mod Pages

@@ -1,5 +1,5 @@
--- Lists and atoms as they are written: numbers in decimal and one blank between parts; and what this text reads as.
-use Rattle.std.specs.Prelude.{◌≡◌, ℕ, zero, suc, ◌+◌, ◌<◌, ◌^◌, ℤ, pos, negsuc, Bool, true, false, ◌&&◌, List, [], ◌∷◌, ◌++◌, length}
+-- Lists and atoms that are written.
+use Rattle.std.specs.Prelude.{◌≡◌, ℕ, zero, suc, ◌+◌, ◌<◌, ◌^◌, ℤ, pos, negsuc, Bool, true, false, ◌&&◌, List, [], ◌∷◌, length}
 use Rattle.std.specs.Fmt.{signed_decimal}
 use Rattle.std.specs.List.{list_all}
 use Rattle.qs_sexpr.specs.Bytes.{is_symbol_byte, starts_symbol}
@@ -16,22 +16,7 @@ mutual
     no_forms : Forms
     form_and : Form → Forms → Forms
 
--- a form before other text
-abbrev mutual
-  pub put : Form → List ℕ → List ℕ
-  put (symbol_form bytes) text = bytes ++ text
-  put (number_form value) text = signed_decimal value ++ text
-  put (list_form forms) text = 40 ∷ put_all forms (41 ∷ text)
-
-  pub put_all : Forms → List ℕ → List ℕ
-  put_all no_forms text = text
-  put_all (form_and form forms) text = put form (put_others forms text)
-
-  pub put_others : Forms → List ℕ → List ℕ
-  put_others no_forms text = text
-  put_others (form_and form forms) text = 32 ∷ put form (put_others forms text)
-
--- how many bytes it has
+-- how many bytes it has on one line, with one blank between parts
 abbrev mutual
   pub size : Form → ℕ
   size (symbol_form bytes) = length bytes
@@ -46,20 +31,16 @@ abbrev mutual
   size_others no_forms = 0
   size_others (form_and form forms) = 1 + size form + size_others forms
 
--- what it is, where it begins at the byte `at`
+-- lists and atoms without their places
 abbrev mutual
-  pub placed : ℕ → Form → Sexp
-  placed at (symbol_form bytes) = symbol at bytes
-  placed at (number_form value) = number at value
-  placed at (list_form forms) = list at (all_placed (at + 1) forms)
+  pub form_of : Sexp → Form
+  form_of (number at value) = number_form value
+  form_of (symbol at bytes) = symbol_form bytes
+  form_of (list at parts) = list_form (forms_of_parts parts)
 
-  pub all_placed : ℕ → Forms → Sexps
-  all_placed at no_forms = no_parts
-  all_placed at (form_and form forms) = part_and (placed at form) (others_placed (at + size form) forms)
-
-  pub others_placed : ℕ → Forms → Sexps
-  others_placed at no_forms = no_parts
-  others_placed at (form_and form forms) = part_and (placed (at + 1) form) (others_placed (at + 1 + size form) forms)
+  pub forms_of_parts : Sexps → Forms
+  forms_of_parts no_parts = no_forms
+  forms_of_parts (part_and part parts) = form_and (form_of part) (forms_of_parts parts)
 
 abbrev pub is_symbol : List ℕ → Bool
 is_symbol [] = false

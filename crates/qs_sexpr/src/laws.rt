@@ -4,7 +4,9 @@ ghost use Rattle.qs_sexpr.specs.Reading.{Fault, Reading};
 ghost use Rattle.qs_sexpr.specs.Results.{HasFault, HasReading};
 ghost use Rattle.qs_sexpr.specs.Places.{LieIn, place_of};
 ghost use Rattle.qs_sexpr.specs.Trees.{Sexps};
-ghost use Rattle.qs_sexpr.specs.Writing.{AreWritable, Forms, all_placed, put_all};
+ghost use Rattle.qs_sexpr.specs.Layout.{lay_all};
+ghost use Rattle.qs_sexpr.specs.Spelling.{ReadsAs, SpellAll};
+ghost use Rattle.qs_sexpr.specs.Writing.{AreWritable, Forms};
 ghost use Rattle.qs_sexpr.specs.declared.fault.SexprFault.{SexprFault};
 
 /// A text has one reading or one first fault, and never both.
@@ -23,8 +25,14 @@ pub fn each_place()
     ensures fault_lies { (text : List ℕ) (fault : SexprFault) → Fault text fault → place_of fault ≤ length text }
 {}
 
-/// Lists and atoms that are written with one blank between parts read as what was written.
-#[tactic(auto, using(crate::proofs::Written::written_reads))]
+/// A text of lists and atoms, with white space between the parts of each list, reads as these.
+#[tactic(auto, using(crate::proofs::Spelled::spelled_reads))]
+pub fn spelled_reads()
+    ensures { (forms : Forms) (text : List ℕ) → AreWritable 1024 forms → SpellAll forms text [] → ReadsAs text forms }
+{}
+
+/// What is laid out for people reads as what was written.
+#[tactic(auto, using(crate::proofs::LaidOut::laid_out_reads))]
 pub fn written_reads()
-    ensures { (forms : Forms) → AreWritable 1024 forms → Reading (put_all forms []) (all_placed 0 forms) }
+    ensures { (forms : Forms) → AreWritable 1024 forms → ReadsAs (lay_all forms) forms }
 {}

@@ -4,17 +4,23 @@
 mod bytes;
 mod fault;
 mod laws;
+mod layout;
 mod node;
 mod numbers;
 mod parts;
 mod pieces;
 mod reader;
 mod reading;
+mod sizes;
 #[cfg(test)]
 mod tests;
+mod token;
+mod writing;
 
 pub use fault::SexprFault;
-pub use laws::{each_place, one_reading, written_reads};
+pub use laws::{each_place, one_reading, spelled_reads, written_reads};
 pub use node::{Item, Node};
 pub use parts::{first_part, parts_of_list, symbol_bytes};
 pub use reading::read;
+pub use token::Token;
+pub use writing::write;

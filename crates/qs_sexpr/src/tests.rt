@@ -1,5 +1,5 @@
 // That memory is found: small texts with their answers, and one of 16 MiB that nests as deep as it may.
-use crate::{Item, Node, SexprFault, first_part, parts_of_list, read, symbol_bytes};
+use crate::{Item, Node, SexprFault, Token, first_part, parts_of_list, read, symbol_bytes, write};
 use std::alloc::Global;
 use std::test::*;
 
@@ -157,5 +157,32 @@ fn the_parts_of_a_list(rt: HostRuntime) -> Result<(), Fail> {
     }
     assert_eq!(rt; lengths.as_slice(), [1, 3, 1].as_slice());
     assert_eq!(rt; symbol_bytes(text, 12, 4), b"leaf".as_slice());
+    Ok(())
+}
+
+/// `(word NAME (5 -7))`.
+fn tokens(name: &str) -> [Token<'_>; 8] {
+    [
+        Token::Open,
+        Token::Symbol(b"word"),
+        Token::Symbol(name.as_bytes()),
+        Token::Open,
+        Token::Natural(5),
+        Token::Number(-7),
+        Token::Close,
+        Token::Close,
+    ]
+}
+
+#[test]
+fn a_list_on_one_line_and_on_three(rt: HostRuntime) -> Result<(), Fail> {
+    let alloc = rt.alloc();
+    let short = write(alloc, tokens("name").as_slice())?;
+    assert_eq!(rt; short.as_slice(), b"(word name (5 -7))\n".as_slice());
+    let name =
+        "a_name_of_many_columns_that_leaves_too_little_of_its_line_for_all_the_others_to_stand_behind";
+    let long = write(alloc, tokens(name).as_slice())?;
+    let wanted = format!(in alloc; "(word {name}\n  (5 -7)\n)\n")?;
+    assert_eq!(rt; long.as_slice(), wanted.as_str().as_bytes());
     Ok(())
 }

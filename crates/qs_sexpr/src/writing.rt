@@ -1,0 +1,150 @@
+// Lists and atoms, laid out for people.
+ghost use Rattle.std.specs.Prelude.{◌≡◌, ◌∷◌, [], ◌++◌, List, ℕ, true, false, map, replicate, reverse, length, IfOk, OnOk};
+ghost use Rattle.std.specs.Fmt.{signed_decimal};
+ghost use Rattle.qs_sexpr.specs.Gaps.{gap_view};
+ghost use Rattle.qs_sexpr.specs.Layout.{before, behind, ending, inside, lay_all};
+ghost use Rattle.qs_sexpr.specs.Marks.{Mark, all_marks, first_of, layer_of, layers_behind, line_end, list_sizes, mark_of, others_of};
+ghost use Rattle.qs_sexpr.specs.Pages.{GoesOn, IsPage};
+ghost use Rattle.qs_sexpr.specs.Writing.{Forms};
+
+use crate::layout::{Gap, Layer};
+use crate::sizes::list_sizes;
+use crate::token::Token;
+use itoa::Buffer;
+use qs_base::NoMemory;
+use std::alloc::Global;
+
+/// The text so far, and the lists that are open in it.
+#[derive(Drop)]
+pub struct Page {
+    pub text: Vec<u8>,
+    /// The innermost list that is open.
+    pub layer: Layer,
+    /// The lists around it, the outermost first.
+    pub outer: Vec<Layer>,
+    /// The sizes of the lists that are still to come, the last first.
+    pub sizes: Vec<usize>,
+}
+
+fn put(text: &mut Vec<u8>, bytes: &[u8]) -> Result<(), NoMemory>
+    ensures { OnOk result (text.new.items ≡ text.old.items ++ bytes.now) }
+{
+    text.extend_from_slice(bytes)?;
+    Ok(())
+}
+
+fn put_blanks(text: &mut Vec<u8>, count: usize) -> Result<(), NoMemory>
+    ensures { OnOk result (text.new.items ≡ text.old.items ++ replicate count 32) }
+{
+    for _k in 0..count {
+        text.push(b' ')?;
+    }
+    Ok(())
+}
+
+fn put_gap(text: &mut Vec<u8>, gap: Gap) -> Result<(), NoMemory>
+    ensures { OnOk result (text.new.items ≡ text.old.items ++ gap_view gap) }
+{
+    match gap {
+        Gap::Nothing => Ok(()),
+        Gap::Blank => put(text, b" "),
+        Gap::NewLine(column) => {
+            put(text, b"\n")?;
+            put_blanks(text, column)
+        }
+    }
+}
+
+fn taken(sizes: &mut Vec<usize>) -> usize
+    ensures value { result ≡ first_of (reverse sizes.old.items) }
+    ensures left { reverse sizes.new.items ≡ others_of (reverse sizes.old.items) }
+{
+    match sizes.pop() {
+        Some(size) => size,
+        None => 0,
+    }
+}
+
+fn layer_behind(outer: &mut Vec<Layer>) -> Layer
+    ensures layer { result ≡ layer_of (reverse outer.old.items) }
+    ensures left { reverse outer.new.items ≡ layers_behind (reverse outer.old.items) }
+{
+    match outer.pop() {
+        Some(layer) => layer,
+        None => Layer::Top,
+    }
+}
+
+impl Page {
+    fn put_word(&mut self, bytes: &[u8]) -> Result<(), NoMemory>
+        ensures { let l = self.old.layer in
+            let text = self.old.text.items ++ before l true (length bytes.now) ++ bytes.now ++ line_end l in
+            OnOk result (IsPage self.new text (behind l true (length bytes.now)) (reverse self.old.outer.items) (reverse self.old.sizes.items)) }
+    {
+        put_gap(&mut self.text, self.layer.before(true, bytes.len()))?;
+        put(&mut self.text, bytes)?;
+        put_gap(&mut self.text, self.layer.line_end())?;
+        self.layer = self.layer.behind(true, bytes.len());
+        Ok(())
+    }
+
+    fn open(&mut self) -> Result<(), NoMemory>
+        ensures { let l = self.old.layer in
+            let text = self.old.text.items ++ before l false 0 ++ 40 ∷ [] in
+            let sizes = reverse self.old.sizes.items in
+            OnOk result (IsPage self.new text (inside l (first_of sizes)) (behind l false 0 ∷ reverse self.old.outer.items) (others_of sizes)) }
+    {
+        put_gap(&mut self.text, self.layer.before(false, 0))?;
+        put(&mut self.text, b"(")?;
+        self.outer.push(self.layer.behind(false, 0))?;
+        self.layer = self.layer.inside(taken(&mut self.sizes));
+        Ok(())
+    }
+
+    fn close(&mut self) -> Result<(), NoMemory>
+        ensures { let l = layer_of (reverse self.old.outer.items) in
+            let text = self.old.text.items ++ ending self.old.layer ++ 41 ∷ [] ++ line_end l in
+            OnOk result (IsPage self.new text l (layers_behind (reverse self.old.outer.items)) (reverse self.old.sizes.items)) }
+    {
+        put_gap(&mut self.text, self.layer.ending())?;
+        put(&mut self.text, b")")?;
+        self.layer = layer_behind(&mut self.outer);
+        put_gap(&mut self.text, self.layer.line_end())
+    }
+
+    fn put_token(&mut self, token: Token<'_>) -> Result<(), NoMemory>
+        ensures { (ms : List Mark) → reverse self.old.sizes.items ≡ list_sizes (mark_of token.entry ∷ ms)
+            → OnOk result (GoesOn self.old self.new (mark_of token.entry) ms) }
+    {
+        match token {
+            Token::Open => self.open(),
+            Token::Close => self.close(),
+            Token::Symbol(bytes) => self.put_word(bytes),
+            Token::Number(value) => {
+                let mut digits = Buffer::new();
+                self.put_word(digits.format(value).as_bytes())
+            }
+            Token::Natural(value) => {
+                let mut digits = Buffer::new();
+                self.put_word(digits.format(value).as_bytes())
+            }
+        }
+    }
+}
+
+/// The text of these lists and atoms, laid out for people: a list that fits stands on one line, and else
+/// its parts stand on lines of their own, further to the right.
+pub fn write(alloc: Global, tokens: &[Token<'_>]) -> Result<Vec<u8>, NoMemory>
+    ensures { (forms : Forms) → map mark_of tokens.now ≡ all_marks forms → IfOk result (λ text. text.items ≡ lay_all forms) }
+{
+    let mut page = Page {
+        text: Vec::new(alloc),
+        layer: Layer::Top,
+        outer: Vec::new(alloc),
+        sizes: list_sizes(alloc, tokens)?,
+    };
+    for token in tokens {
+        page.put_token(*token)?;
+    }
+    Ok(page.text)
+}

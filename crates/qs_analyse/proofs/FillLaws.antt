@@ -5,7 +5,7 @@ use Rattle.qs_core.specs.Trees.{CoreUnitTree}
 use Rattle.qs_triples.specs.Derivations.{ProofsTree}
 use Rattle.qs_triples.specs.Filled.{open_definition, Filled}
 use Rattle.qs_callgraph.specs.CallLists.{flag, numbers}
-use Rattle.qs_analyse.specs.Additions.{AreAdditions, Extends}
+use Rattle.qs_analyse.specs.Additions.{AreAdditions, Extends, IsFilling}
 use Rattle.qs_analyse.specs.Fillable.{IsFillable, entries_only}
 use Rattle.qs_analyse.specs.Laws.{DerivesOpen}
 use Rattle.qs_analyse.specs.declared.filling.Additions.{Additions}
@@ -23,3 +23,10 @@ module _ (u : CoreUnitTree) (fits : unit_fits u ≡ true) (given : ProofsTree) (
   derived_so =
       derives u fits given proofs (filled_with u fits given fillable (flag a.is_open.items) plan.tells_open (numbers a.functions.items) plan.order proofs defines e.functions)
       (λ f e' m is. written_one u fits given fillable (flag a.is_open.items) plan.tells_open (numbers a.functions.items) plan.order proofs defines e.functions f e' m is)
+
+  pub filling_so : IsFilling u given proofs
+  filling_so = record {
+    additions = a;
+    are = record { order = plan.order; depth_first = plan.depth_first; tells_open = plan.tells_open; as_many = plan.as_many; opened = plan.opened };
+    extends = e;
+  }

@@ -1,18 +1,19 @@
 -- Flags for the functions that have an entry.
-use Rattle.std.proofs.Common.{◌≡◌, ℕ, ◌<◌, ◌==◌, ◌||◌, Bool, false, List, [], ◌∷◌, length, replicate, sym, ap, ◌∙◌, subst, refl}
+use Rattle.std.proofs.Common.{◌≡◌, ℕ, ◌<◌, ◌==◌, ◌||◌, Bool, true, false, List, [], ◌∷◌, length, replicate, sym, ap, ◌∙◌, subst, refl}
 use Rattle.std.specs.List.{list_any}
 use Rattle.std.proofs.lemmas.List.{get_or-replicate, length-replicate}
+use Rattle.std.proofs.lemmas.Bool.{or_right}
 use Rattle.qs_core.specs.CallGraph.{called_by}
 use Rattle.qs_core.specs.Trees.{CoreUnitTree}
 use Rattle.qs_triples.specs.Derivations.{EntryTree, is_entry_of}
 use Rattle.qs_triples.specs.Entries.{has_entry}
 use Rattle.qs_callgraph.specs.CallLists.{flag, is_member, marked, numbers}
 use Rattle.qs_callgraph.specs.Opens.{AreOf}
-use Rattle.qs_callgraph.specs.Orders.{CalleesFirst, IsOrder, IsTrueCycle}
+use Rattle.qs_callgraph.specs.Orders.{CalleesFirst, DepthFirst, ended, passes, enters, IsDepthFirst, IsOrder, IsTrueCycle}
 use Rattle.qs_callgraph.specs.declared.fault.CycleFault.{CycleFault}
 use Rattle.qs_callgraph.specs.declared.fault.CycleFault.TheVariants.{NoMemory, Cycle}
 use Rattle.qs_callgraph.proofs.MarkLaws.{flag-marked, length-marked}
-use Rattle.qs_callgraph.proofs.MemberLaws.{none_pass, none_passes}
+use Rattle.qs_callgraph.proofs.MemberLaws.{below_member, member_first, none_pass, none_passes}
 use Rattle.qs_callgraph.proofs.OrderLaws.{circle_known}
 use Rattle.qs_callgraph.proofs.UnitCalls.{call_within}
 use Rattle.qs_analyse.specs.Fillable.{entries_only, entry_functions}
@@ -46,6 +47,23 @@ module _ (u : CoreUnitTree) (test : ℕ → Bool) (flags : List Bool) (of : AreO
     all_there = λ f b free. o.all_there f b (of.same f b ∙ free);
     in_order = first_for [] fs o.in_order;
   }
+
+  tested : (f : ℕ) (found : List ℕ) (b : Bool) → f < length u.functions → (flag flags f || is_member f found) ≡ b → (test f || is_member f found) ≡ b
+  tested f found b within h = ap (λ (c : Bool). c || is_member f found) (sym (of.same f within)) ∙ h
+
+  -- the search goes by the test, since it meets functions of the unit alone
+  search_for :
+      {found fs all : List ℕ} → ((f : ℕ) → is_member f fs ≡ true → f < length u.functions) → DepthFirst (called_by u) (flag flags) found fs all
+      → DepthFirst (called_by u) test found fs all
+  search_for within ended = ended
+  search_for within (passes {f = f} {found = found} {fs = fs} h d) =
+      passes (tested f found true (within f (member_first f fs)) h) (search_for (λ g m. within g (or_right (f == g) (is_member g fs) m)) d)
+  search_for within (enters {f = f} {found = found} {fs = fs} h inner d) =
+      enters (tested f found false (within f (member_first f fs)) h) (search_for (λ g m. call_within u f g m) inner)
+      (search_for (λ g m. within g (or_right (f == g) (is_member g fs) m)) d)
+
+  pub depth_first_for : (fs : List ℕ) → IsDepthFirst u (flag flags) fs → IsDepthFirst u test fs
+  depth_first_for fs d = search_for (λ f m. below_member (length u.functions) f m) d
 
   pub cycle_for : (fault : CycleFault) → IsTrueCycle u (flag flags) fault → IsTrueCycle u test fault
   cycle_for NoMemory c = tt

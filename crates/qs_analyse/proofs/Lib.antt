@@ -10,4 +10,6 @@ pub mod SettingLaws
 pub mod FlagLaws
 pub mod TreeLaws
 pub mod FillLaws
+pub mod FillingLaws
+pub mod MeetLaws
 mod Examples

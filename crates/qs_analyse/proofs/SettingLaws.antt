@@ -28,12 +28,12 @@ use Rattle.qs_analyse.proofs.WrittenLaws.{Setting, derived}
 
 -- ---- lists
 
-there_at : {A : Type 0} (xs : List A) (i : ℕ) → i < length xs → (x : A) × (slice_get xs i ≡ Some x)
+pub there_at : {A : Type 0} (xs : List A) (i : ℕ) → i < length xs → (x : A) × (slice_get xs i ≡ Some x)
 there_at [] i b = absurd (omega (arith, b))
 there_at (x ∷ xs) zero b = (x, refl)
 there_at (x ∷ xs) (suc i) b = there_at xs i (omega (arith, b))
 
-one_there : (p : EntryTree → Bool) (es : List EntryTree) → length (filter p es) ≡ 1 → (e : EntryTree) × (find p es ≡ Some e)
+pub one_there : (p : EntryTree → Bool) (es : List EntryTree) → length (filter p es) ≡ 1 → (e : EntryTree) × (find p es ≡ Some e)
 one_there p [] h = absurd (omega (arith, h))
 one_there p (e ∷ es) h = by (p e) h (one_there p es)
   where

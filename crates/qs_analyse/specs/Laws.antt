@@ -1,5 +1,5 @@
 -- What is promised of what is added.
-use Rattle.std.specs.Prelude.{◌≡◌, ℕ, ◌<◌, true, false, List, [], length, Some}
+use Rattle.std.specs.Prelude.{◌≡◌, ◌≢◌, ℕ, ◌<◌, true, false, List, [], length, Some}
 use Rattle.std.specs.List.{slice_get}
 use Rattle.qs_memory.specs.Values.{Value}
 use Rattle.qs_events.specs.Weights.{Costs}
@@ -9,9 +9,11 @@ use Rattle.qs_core.specs.CallGraph.{IsOpen, IsCycle}
 use Rattle.qs_core.specs.Fits.{unit_fits}
 use Rattle.qs_core.specs.Trees.{CoreFunctionTree, CoreUnitTree}
 use Rattle.qs_triples.specs.Derivations.{EntryTree, ProofsTree, entry_of}
-use Rattle.qs_triples.specs.Entries.{IsDerived, IsPathEntry, Covers, has_entry}
+use Rattle.qs_triples.specs.Entries.{IsDerived, IsPathEntry, Covers, has_entry, function_fault}
 use Rattle.qs_triples.specs.Filled.{Filled}
+use Rattle.qs_triples.specs.Rules.{no_spec}
 use Rattle.qs_triples.specs.Valuations.{value_at_entry}
+use Rattle.qs_analyse.specs.Additions.{IsFilling}
 use Rattle.qs_analyse.specs.Fillable.{IsFillable}
 use Rattle.qs_analyse.specs.Paths.{IsLongestPath}
 
@@ -61,3 +63,15 @@ pub record DerivesOpen (u : CoreUnitTree) (given proofs : ProofsTree) : Type 0 w
 -- no functions without an entry call each other in turn
 abbrev pub HasNoCycle : CoreUnitTree → (given : ProofsTree) → Type 0
 HasNoCycle u given = (fs : List ℕ) → IsCycle u (has_entry given) fs → ⊥
+
+-- proofs are filled in one way
+abbrev pub OneFilling : Type 0
+OneFilling =
+    (u : CoreUnitTree) (given proofs others : ProofsTree) → IsFilling u given proofs → IsFilling u given others
+    → proofs ≡ others
+
+-- in what is filled each call meets a specification
+abbrev pub CallsMeetSpecs : Type 0
+CallsMeetSpecs =
+    (u : CoreUnitTree) (given proofs : ProofsTree) (f g : ℕ) (path : List ℕ) → unit_fits u ≡ true
+    → Filled u given proofs → function_fault u proofs f ≢ Some (no_spec path g)

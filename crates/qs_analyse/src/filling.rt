@@ -8,7 +8,7 @@ ghost use Rattle.qs_callgraph.specs.CallLists.{flag, is_member, marked, numbers}
 ghost use Rattle.qs_callgraph.specs.Opens.{AreOf};
 ghost use Rattle.qs_callgraph.specs.Orders.{IsTrueCycle};
 ghost use Rattle.qs_analyse.specs.Fillable.{IsFillable, entries_only, entry_functions};
-ghost use Rattle.qs_analyse.specs.Additions.{AreAdditions, Extends};
+ghost use Rattle.qs_analyse.specs.Additions.{AreAdditions, Extends, IsFilling};
 ghost use Rattle.qs_analyse.specs.Laws.{DerivesOpen, HasNoCycle};
 
 use crate::definitions::definitions;
@@ -117,6 +117,7 @@ fn extended(
 pub fn fill(alloc: Global, unit: &CoreUnit, proofs: Proofs) -> Result<Proofs, CycleFault>
     requires { IsFillable (unit_tree unit.now) (proofs_tree proofs) }
     ensures filled { IfOk result (λ all. Filled (unit_tree unit.now) (proofs_tree proofs) (proofs_tree all)) }
+    ensures filling { IfOk result (λ all. IsFilling (unit_tree unit.now) (proofs_tree proofs) (proofs_tree all)) }
     ensures derived { IfOk result (λ all. DerivesOpen (unit_tree unit.now) (proofs_tree proofs) (proofs_tree all)) }
     ensures no_cycle { IfOk result (λ all. HasNoCycle (unit_tree unit.now) (proofs_tree proofs)) }
     ensures cycle { IfErr result (IsTrueCycle (unit_tree unit.now) (has_entry (proofs_tree proofs))) }

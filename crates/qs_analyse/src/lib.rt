@@ -9,4 +9,7 @@ mod needs;
 mod written;
 
 pub use filling::fill;
-pub use laws::{filled_entries_are_valid, filled_proofs_cover, open_names_are_longest_paths};
+pub use laws::{
+    calls_meet_specs, filled_entries_are_valid, filled_proofs_cover, one_filling,
+    open_names_are_longest_paths,
+};

@@ -4,6 +4,7 @@ pub mod StmtTrees
 pub mod UnitCalls
 pub mod PathLaws
 pub mod SearchLaws
+pub mod DepthLaws
 pub mod StepLaws
 pub mod OrderLaws
 pub mod CallerLaws

@@ -1,12 +1,12 @@
 -- Orders and cycles of a unit.
-use Rattle.std.proofs.Common.{◌≡◌, length, ℕ, ◌<◌, ◌==◌, Bool, true, false, List, [], ◌∷◌, ⊎_elim, inl, inr, refl, sym, subst}
+use Rattle.std.proofs.Common.{◌≡◌, length, ℕ, ◌<◌, ◌==◌, Bool, true, false, List, [], ◌∷◌, ⊎_elim, inl, inr, refl, sym, ap, ◌∙◌, subst}
 use Rattle.std.specs.Prelude.{◌⊎◌}
 use Rattle.std.proofs.lemmas.Bool.{both_ways, or_right}
-use Rattle.qs_core.specs.CallGraph.{called_by, HasCall, IsChain, IsCircle, IsCycle}
+use Rattle.qs_core.specs.CallGraph.{below, called_by, HasCall, IsChain, IsCircle, IsCycle}
 use Rattle.qs_core.specs.Trees.{CoreUnitTree}
-use Rattle.qs_callgraph.specs.CallLists.{call_lists, flag, is_member, numbers}
+use Rattle.qs_callgraph.specs.CallLists.{call_lists, callees_in, flag, is_member, numbers}
 use Rattle.qs_callgraph.specs.Laws.{OrdersExcludeCycles, OrdersExcludeRecursion}
-use Rattle.qs_callgraph.specs.Orders.{CalleesFirst, IsOrder, IsTrueCycle}
+use Rattle.qs_callgraph.specs.Orders.{CalleesFirst, DepthFirst, IsDepthFirst, IsOrder, IsTrueCycle}
 use Rattle.qs_callgraph.specs.Searches.{IsCycleIn, IsOrderIn, IsCircleIn, Ends}
 use Rattle.qs_callgraph.specs.declared.fault.CycleFault.{CycleFault}
 use Rattle.qs_callgraph.specs.declared.fault.CycleFault.TheVariants.{NoMemory, Cycle}
@@ -23,6 +23,13 @@ unit_order u has_spec fs o = record {
   all_there = λ f b free. o.all_there f (subst (λ (n : ℕ). f < n) (sym (length-call_lists u)) b) free;
   in_order = subst (λ (callees : ℕ → List ℕ). CalleesFirst callees (flag has_spec) [] fs) (callees_same u) o.in_order;
 }
+
+pub unit_depth_first :
+    (u : CoreUnitTree) (graph : List (List ℕ)) (has_spec : List Bool) (n : ℕ) (fs : List ℕ) → graph ≡ call_lists u → n ≡ length graph
+    → DepthFirst (callees_in graph) (flag has_spec) [] (below n) fs → IsDepthFirst u (flag has_spec) fs
+unit_depth_first u graph has_spec n fs is many d =
+    subst (λ (callees : ℕ → List ℕ). DepthFirst callees (flag has_spec) [] (below (length u.functions)) fs) (ap callees_in is ∙ callees_same u)
+    (subst (λ (m : ℕ). DepthFirst (callees_in graph) (flag has_spec) [] (below m) fs) (many ∙ ap length is ∙ length-call_lists u) d)
 
 pub unit_cycle : (u : CoreUnitTree) (has_spec : List Bool) (fs : List ℕ) → IsCycleIn (call_lists u) has_spec fs → IsCycle u (flag has_spec) fs
 unit_cycle u has_spec fs c = record {

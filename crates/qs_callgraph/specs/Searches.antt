@@ -1,8 +1,8 @@
 -- What a depth first search over calls keeps.
-use Rattle.std.specs.Prelude.{◌≡◌, ℕ, ◌+◌, ◌-◌, ◌<◌, ◌≤◌, ◌^◌, slice_index, replicate, Bool, true, false, List, [], ◌∷◌, ◌++◌, length, take, slice_index_or, slice_set, Result, Ok, Err}
+use Rattle.std.specs.Prelude.{◌≡◌, ℕ, ◌+◌, ◌-◌, ◌<◌, ◌≤◌, ◌^◌, slice_index, replicate, Bool, true, false, List, [], ◌∷◌, ◌++◌, length, take, drop, slice_index_or, slice_set, Result, Ok, Err}
 use Rattle.std.specs.List.{list_any}
 use Rattle.qs_callgraph.specs.CallLists.{callees_in, flag, is_member, numbers}
-use Rattle.qs_callgraph.specs.Orders.{CalleesFirst}
+use Rattle.qs_callgraph.specs.Orders.{CalleesFirst, DepthFirst}
 use Rattle.qs_callgraph.specs.declared.fault.CycleFault.{CycleFault}
 use Rattle.qs_callgraph.specs.declared.fault.CycleFault.TheVariants.{NoMemory, Cycle}
 use Rattle.qs_callgraph.specs.declared.search.Progress.{Progress}
@@ -106,6 +106,19 @@ abbrev pub HoldsIn : List (List ℕ) → List Bool → Search → Type 0
 HoldsIn graph has_spec search =
     Holds graph has_spec search.progress.items (numbers search.path.items) (numbers search.order.items)
 
+-- What the search has found when it has gone back along the whole path: from its last function, whose next callees are
+-- still to be gone through, to the one before it.
+pub data Finishes (callees : ℕ → List ℕ) (has_spec : ℕ → Bool) (progress : List Progress) : (path found all : List ℕ) → Type 0 where
+  arrived : {found : List ℕ} → Finishes callees has_spec progress [] found found
+  goes_back : (front : List ℕ) (f : ℕ) {next : ℕ} {path found behind all : List ℕ} → path ≡ front ++ f ∷ [] → progress_of progress f ≡ Open next
+      → DepthFirst callees has_spec found (drop next (callees f)) behind
+      → Finishes callees has_spec progress front (behind ++ f ∷ []) all → Finishes callees has_spec progress path found all
+
+abbrev pub FinishesIn : List (List ℕ) → List Bool → Search → (all : List ℕ) → Type 0
+FinishesIn graph has_spec search all =
+    Finishes (callees_in graph) (flag has_spec) search.progress.items (numbers search.path.items)
+    (numbers search.order.items) all
+
 -- what one step of the search changes
 pub record Sets (old new : Search) (f : ℕ) (p : Progress) (path order : List ℕ) : Type 0 where
   pub progress : new.progress.items ≡ slice_set old.progress.items f p
@@ -128,6 +141,7 @@ pub record Moves (graph : List (List ℕ)) (has_spec : List Bool) (old new : Sea
   pub holds : HoldsIn graph has_spec new
   pub less : all_steps_left graph new.progress.items < all_steps_left graph old.progress.items
   pub kept : Keeps old.progress.items new.progress.items
+  pub finds : (all : List ℕ) → FinishesIn graph has_spec new all → FinishesIn graph has_spec old all
 
 -- a search ends by want of memory or with a cycle
 abbrev pub Ends : List (List ℕ) → List Bool → CycleFault → Type 0
@@ -144,6 +158,8 @@ pub record Visited (graph : List (List ℕ)) (has_spec : List Bool) (root : ℕ)
   pub ended : numbers new.path.items ≡ []
   pub root_begun : is_new (progress_of new.progress.items root) ≡ false
   pub kept : Keeps old.progress.items new.progress.items
+  pub finds :
+      DepthFirst (callees_in graph) (flag has_spec) (numbers old.order.items) (root ∷ []) (numbers new.order.items)
 
 abbrev pub Visits : List (List ℕ) → List Bool → (root : ℕ) → (old new : Search) → Result (Unit {0}) CycleFault → Type 0
 Visits graph has_spec root old new (Ok done) = Visited graph has_spec root old new

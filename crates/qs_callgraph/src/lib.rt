@@ -14,6 +14,6 @@ mod search;
 
 pub use callees::called_by;
 pub use fault::CycleFault;
-pub use laws::{orders_exclude_cycles, orders_exclude_recursion};
+pub use laws::{one_depth_first, orders_exclude_cycles, orders_exclude_recursion};
 pub use opening::open;
 pub use ordering::order;

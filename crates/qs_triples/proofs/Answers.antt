@@ -13,7 +13,7 @@ use Rattle.qs_entail.specs.Faults as certificates
 use Rattle.qs_core.specs.Trees as core
 use Rattle.qs_core.specs.Trees.{CoreExprTree, CoreStmtTree, CoreStmts, CoreFunctionTree}
 use Rattle.qs_triples.specs.Derivations.{SpecTree}
-use Rattle.qs_triples.specs.Rules.{DerivationFault, Answer, part, unless, by_verdict, of_sequence, of_branch, of_loop, CallSite, of_call, Known, of_spec}
+use Rattle.qs_triples.specs.Rules.{DerivationFault, Answer, part, unless, unless_of, by_verdict, of_sequence, of_branch, of_loop, CallSite, of_call, Known, of_spec}
 
 -- an answer that is this assertion
 abbrev pub Gives : Answer → AssertionTree → Type 0
@@ -34,9 +34,12 @@ pub require_ok : (t : Bool) (fault : DerivationFault) (r : Answer) (a : Assertio
 require_ok true fault r a h = (refl, h)
 require_ok false fault r a h = cc
 
+pub unless_of_ok : (g : Option ℕ) (o : Option Var) (r : Answer) (a : AssertionTree) → Gives (unless_of g o r) a → (o ≡ None) × Gives r a
+unless_of_ok g None r a h = (refl, h)
+unless_of_ok g (Some x) r a h = cc
+
 pub unless_ok : (o : Option Var) (r : Answer) (a : AssertionTree) → Gives (unless o r) a → (o ≡ None) × Gives r a
-unless_ok None r a h = (refl, h)
-unless_ok (Some x) r a h = cc
+unless_ok o r a h = unless_of_ok None o r a h
 
 pub by_verdict_ok : (v : Option certificates.Fault) (r a : AssertionTree) → Gives (by_verdict v r) a → (v ≡ None) × (r ≡ a)
 by_verdict_ok None r a h = (refl, ok_same r a h)

@@ -204,11 +204,11 @@ less_than_needed : at_return (consequence (natural 0) same leaf) ≡ Some (certi
 less_than_needed = refl
 
 -- there is one temporary
-a_foreign_variable : at_return (consequence (costs (of (kinds.Temporary 1))) same leaf) ≡ Some (mentions (at_node (2 ∷ [])) (unsigned_variable (kinds.Temporary 1)))
+a_foreign_variable : at_return (consequence (costs (of (kinds.Temporary 1))) same leaf) ≡ Some (mentions (at_node (2 ∷ [])) None (unsigned_variable (kinds.Temporary 1)))
 a_foreign_variable = refl
 
 -- n is unsigned
-a_foreign_type : at_return (consequence (num (variable (record { kind = kinds.Plain 0; number = numbers.Int }))) same leaf) ≡ Some (mentions (at_node (2 ∷ [])) (record { kind = kinds.Plain 0; number = numbers.Int }))
+a_foreign_type : at_return (consequence (num (variable (record { kind = kinds.Plain 0; number = numbers.Int }))) same leaf) ≡ Some (mentions (at_node (2 ∷ [])) None (record { kind = kinds.Plain 0; number = numbers.Int }))
 a_foreign_type = refl
 
 -- what stands in a body may mention the result
@@ -223,10 +223,10 @@ framed a c = three_parts either_way (call a c) leaf
 abbrev frame : AssertionTree
 frame = costs (of (kinds.Old 0))
 
-a_frame_with_the_destination : faulty (framed (num (of (kinds.Temporary 0))) same) ≡ Some (mentions (at_node (1 ∷ [])) (unsigned_variable (kinds.Temporary 0)))
+a_frame_with_the_destination : faulty (framed (num (of (kinds.Temporary 0))) same) ≡ Some (mentions (at_node (1 ∷ [])) None (unsigned_variable (kinds.Temporary 0)))
 a_frame_with_the_destination = refl
 
-a_frame_with_a_foreign_variable : faulty (framed (num (of (kinds.Plain 7))) same) ≡ Some (mentions (at_node (1 ∷ [])) (unsigned_variable (kinds.Plain 7)))
+a_frame_with_a_foreign_variable : faulty (framed (num (of (kinds.Plain 7))) same) ≡ Some (mentions (at_node (1 ∷ [])) None (unsigned_variable (kinds.Plain 7)))
 a_frame_with_a_foreign_variable = refl
 
 a_call_without_reason : faulty (framed frame same) ≡ Some (certificate (1 ∷ []) (step [] rules.Same))
@@ -272,7 +272,7 @@ calls_f a = record {
   body = three_parts (call (natural 0) same) leaf leaf;
 }
 
-a_result_without_destination : entry_fault unit (with_spec (record { pre = natural 0; post = num (of kinds.Returned) })) (calls_f (natural 0)) ≡ Some (mentions (at_node (0 ∷ [])) (unsigned_variable kinds.Returned))
+a_result_without_destination : entry_fault unit (with_spec (record { pre = natural 0; post = num (of kinds.Returned) })) (calls_f (natural 0)) ≡ Some (mentions (at_node (0 ∷ [])) (Some 0) (unsigned_variable kinds.Returned))
 a_result_without_destination = refl
 
 -- ---- specifications
@@ -280,18 +280,18 @@ a_result_without_destination = refl
 abbrev with_spec_of_f : AssertionTree → AssertionTree → Option DerivationFault
 with_spec_of_f p q = fault_of (record { function = 0; spec = record { pre = p; post = q }; entry = same; body = body })
 
-a_pre_with_an_old_value : with_spec_of_f (costs (of (kinds.Old 0))) (natural 0) ≡ Some (mentions in_precondition (unsigned_variable (kinds.Old 0)))
+a_pre_with_an_old_value : with_spec_of_f (costs (of (kinds.Old 0))) (natural 0) ≡ Some (mentions in_precondition None (unsigned_variable (kinds.Old 0)))
 a_pre_with_an_old_value = refl
 
-a_pre_with_a_temporary : with_spec_of_f (costs (of (kinds.Temporary 0))) (natural 0) ≡ Some (mentions in_precondition (unsigned_variable (kinds.Temporary 0)))
+a_pre_with_a_temporary : with_spec_of_f (costs (of (kinds.Temporary 0))) (natural 0) ≡ Some (mentions in_precondition None (unsigned_variable (kinds.Temporary 0)))
 a_pre_with_a_temporary = refl
 
-a_post_with_a_present_value : with_spec_of_f (natural 0) (costs (of (kinds.Plain 0))) ≡ Some (mentions in_postcondition (unsigned_variable (kinds.Plain 0)))
+a_post_with_a_present_value : with_spec_of_f (natural 0) (costs (of (kinds.Plain 0))) ≡ Some (mentions in_postcondition None (unsigned_variable (kinds.Plain 0)))
 a_post_with_a_present_value = refl
 
 -- the body ends in a return, so the postcondition may speak of the result; before the return that is $0 + 1, which is the
 -- call's destination
-the_destination_behind_a_call : with_spec_of_f (natural 0) (num (of kinds.Returned)) ≡ Some (mentions (at_node (1 ∷ [])) (unsigned_variable (kinds.Temporary 0)))
+the_destination_behind_a_call : with_spec_of_f (natural 0) (num (of kinds.Returned)) ≡ Some (mentions (at_node (1 ∷ [])) None (unsigned_variable (kinds.Temporary 0)))
 the_destination_behind_a_call = refl
 
 -- ---- definitions

@@ -20,7 +20,7 @@ use Rattle.qs_core.specs.Trees.{stmts_of, CoreFunctionTree, CoreUnitTree}
 use Rattle.qs_triples.specs.Derivations.{EntryTree, ProofsTree, entry_of}
 use Rattle.qs_triples.specs.Entries.{is_return, ends_in_return, order_told, fault_in, fault_of_known, entry_fault, fault_of_entry, function_fault, HasDerivedEntry}
 use Rattle.qs_triples.specs.Rules.{DerivationFault, Answer, shape, mentions, at_node, certificate, no_spec, entry}
-use Rattle.qs_triples.specs.Told.{fault_at, FailsAs, IsDue, IsOfCertificate, Tells, TellsOrder}
+use Rattle.qs_triples.specs.Told.{callee_view, fault_at, FailsAs, IsDue, IsOfCertificate, Tells, TellsOrder}
 use Rattle.qs_triples.specs.Checking.{WasDue}
 use Rattle.qs_triples.specs.declared.failure.Cause.{Cause}
 use Rattle.qs_triples.specs.declared.failure.Cause.TheVariants as causes
@@ -41,7 +41,7 @@ of_first there (certs.Limit path l) a b h = ap (λ (o : Option DerivationFault).
 pub due_first : (fault : DerivFault) (a b : Option DerivationFault) → IsDue fault a → IsDue fault (option_or a b)
 due_first faults.NoMemory a b h = tt
 due_first (faults.Shape path) a b h = ap (λ (o : Option DerivationFault). option_or o b) h
-due_first (faults.Mentions place x) a b h = ap (λ (o : Option DerivationFault). option_or o b) h
+due_first (faults.Mentions place g x) a b h = ap (λ (o : Option DerivationFault). option_or o b) h
 due_first (faults.Cert path fault) a b h = of_first (certificate path.items) fault a b h
 due_first (faults.NoSpec path g) a b h = ap (λ (o : Option DerivationFault). option_or o b) h
 due_first (faults.Entry fault) a b h = of_first entry fault a b h
@@ -55,7 +55,7 @@ pub tells_order : (result : Result (Unit {0}) DerivFault) (first : Option ℕ) �
 tells_order (Ok u) first h = ap order_told h
 tells_order (Err faults.NoMemory) first h = absurd h
 tells_order (Err (faults.Shape path)) first h = absurd h
-tells_order (Err (faults.Mentions place x)) first h = absurd h
+tells_order (Err (faults.Mentions place g x)) first h = absurd h
 tells_order (Err (faults.Cert path fault)) first h = absurd h
 tells_order (Err (faults.NoSpec path g)) first h = absurd h
 tells_order (Err (faults.Entry fault)) first h = absurd h
@@ -115,9 +115,9 @@ at_path failure path now cause due e k answer others h =
 pub told_shape : (failure : Failure) (path now : Vec ℕ Global) → failure ≡ failures.Fault path causes.Shape → now.items ≡ reverse path.items → WasDue failure (faults.Shape now)
 told_shape failure path now e r = at_path failure path now causes.Shape (shape now.items) e (ap shape (sym r))
 
-pub told_mentions : (failure : Failure) (path now : Vec ℕ Global) (x : Var) → failure ≡ failures.Fault path (causes.Mentions x) → now.items ≡ reverse path.items → WasDue failure (faults.Mentions (places.Node now) x)
-told_mentions failure path now x e r =
-    at_path failure path now (causes.Mentions x) (mentions (at_node now.items) x) e (ap (λ (p : List ℕ). mentions (at_node p) x) (sym r))
+pub told_mentions : (failure : Failure) (path now : Vec ℕ Global) (g : Option FnId) (x : Var) → failure ≡ failures.Fault path (causes.Mentions g x) → now.items ≡ reverse path.items → WasDue failure (faults.Mentions (places.Node now) g x)
+told_mentions failure path now g x e r =
+    at_path failure path now (causes.Mentions g x) (mentions (at_node now.items) (callee_view g) x) e (ap (λ (p : List ℕ). mentions (at_node p) (callee_view g) x) (sym r))
 
 pub told_step : (failure : Failure) (path now inner : Vec ℕ Global) (rule : Rule) → failure ≡ failures.Fault path (causes.Step inner rule) → now.items ≡ reverse path.items → WasDue failure (faults.Cert now (certs.Step inner rule))
 told_step failure path now inner rule e r =

@@ -14,7 +14,7 @@ use Rattle.qs_triples.specs.Told.{fault_at, FailsAs, Follows}
 
 below_at : (i : ℕ) (path : List ℕ) (cause : Cause) → fault_below i (fault_at path cause) ≡ fault_at (i ∷ path) cause
 below_at i path causes.Shape = refl
-below_at i path (causes.Mentions x) = refl
+below_at i path (causes.Mentions g x) = refl
 below_at i path (causes.Step inner rule) = refl
 below_at i path (causes.Limit inner l) = refl
 below_at i path (causes.NoSpec g) = refl

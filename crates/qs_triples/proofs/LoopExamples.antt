@@ -170,7 +170,7 @@ the_body_is_next : fault_of (main_with (cost 0) (loop (cost 0) same leaf step_de
 the_body_is_next = refl
 
 -- and before both what the invariant mentions
-the_invariant_is_before : fault_of (main_with (cost 0) (loop (num (of (kinds.Plain 5))) same leaf leaf)) ≡ Some (mentions (at_node (2 ∷ [])) (int_variable (kinds.Plain 5)))
+the_invariant_is_before : fault_of (main_with (cost 0) (loop (num (of (kinds.Plain 5))) same leaf leaf)) ≡ Some (mentions (at_node (2 ∷ [])) None (int_variable (kinds.Plain 5)))
 the_invariant_is_before = refl
 
 -- without its consequence the step needs a maximum, so the branches differ
@@ -178,7 +178,7 @@ an_invariant_too_small : fault_of (main_with (cost 0) (loop (cost 0) same body_d
 an_invariant_too_small = refl
 
 -- i = g(i) where the next assertion speaks of i: then it speaks of $0, which the call doesn't leave alone
-the_destination_in_the_next : fault_of (main_with (cost 0) (loop (num (of (kinds.Plain 0))) same body_derivation step_derivation)) ≡ Some (mentions (at_node (2 ∷ 1 ∷ 0 ∷ [])) (int_variable (kinds.Temporary 0)))
+the_destination_in_the_next : fault_of (main_with (cost 0) (loop (num (of (kinds.Plain 0))) same body_derivation step_derivation)) ≡ Some (mentions (at_node (2 ∷ 1 ∷ 0 ∷ [])) None (int_variable (kinds.Temporary 0)))
 the_destination_in_the_next = refl
 
 -- ---- arguments
@@ -217,11 +217,11 @@ abbrev k_and : AssertionTree → Option DerivationFault
 k_and post = fault_of (record { function = 3; spec = record { pre = natural 0; post = post }; entry = same; body = leaf })
 
 -- the end of k's body is met, where there is no result
-a_result_at_the_end : k_and (num (of kinds.Returned)) ≡ Some (mentions in_postcondition (int_variable kinds.Returned))
+a_result_at_the_end : k_and (num (of kinds.Returned)) ≡ Some (mentions in_postcondition None (int_variable kinds.Returned))
 a_result_at_the_end = refl
 
 -- what a postcondition may not mention at all comes before
-another_variable_first : k_and (total (assertions_of (num (of kinds.Returned) ∷ num (of (kinds.Plain 0)) ∷ []))) ≡ Some (mentions in_postcondition (int_variable (kinds.Plain 0)))
+another_variable_first : k_and (total (assertions_of (num (of kinds.Returned) ∷ num (of (kinds.Plain 0)) ∷ []))) ≡ Some (mentions in_postcondition None (int_variable (kinds.Plain 0)))
 another_variable_first = refl
 
 the_body_of_k : k_and (natural 0) ≡ Some (shape [])

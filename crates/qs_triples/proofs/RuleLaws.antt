@@ -59,7 +59,7 @@ use Rattle.qs_triples.specs.ExpressionTerms.{var, term_tree, expression_term, ex
 use Rattle.qs_triples.specs.Mentions.{first_of, first_of_destination, pre_images, post_images}
 use Rattle.qs_triples.specs.Rules.{part, unless, Posts, Scope, with_next, target_kind, replaced, leaf_rule, by_condition, either, step_posts, body_posts, with_frame, around, at_call, is_balanced, CallSite, is_consequence, count_stmts, pre, sequence_pre}
 use Rattle.qs_triples.specs.Entries.{AreClosed}
-use Rattle.qs_triples.proofs.Answers.{Gives, ok_same, bind_ok, part_ok, require_ok, unless_ok, by_verdict_ok, sequence_ok, branch_ok, loop_ok, call_at, call_ok, spec_ok}
+use Rattle.qs_triples.proofs.Answers.{Gives, ok_same, bind_ok, part_ok, require_ok, unless_ok, unless_of_ok, by_verdict_ok, sequence_ok, branch_ok, loop_ok, call_at, call_ok, spec_ok}
 use Rattle.qs_triples.proofs.Bounds.{IsBelow, zero_below, below_more, below_at, given_below, choice_below, framed, with_frame_below, around_below}
 use Rattle.qs_triples.proofs.Names.{seen, shown}
 use Rattle.qs_triples.proofs.ValuationLaws.{in_range, OthersStay, unmentioned, replaced_value}
@@ -501,9 +501,9 @@ module _ (u : CoreUnitTree) (fits : unit_fits u ≡ true) (metric : Costs) (ds :
           let g : CoreFunctionTree = j.known.function in
           let m1 = unless_ok _ _ p j.gives in
           let m2 = unless_ok _ _ p m1.1 in
-          let m3 = unless_ok _ _ p m2.1 in
-          let m4 = unless_ok _ _ p m3.1 in
-          let m5 = unless_ok _ _ p m4.1 in
+          let m3 = unless_of_ok (Some site.function) _ _ p m2.1 in
+          let m4 = unless_of_ok (Some site.function) _ _ p m3.1 in
+          let m5 = unless_of_ok (Some site.function) _ _ p m4.1 in
           let v = by_verdict_ok (verdict [] ds (with_frame site.function (at_call (post_images g site.destination site.arguments) j.known.spec.post) a) q.next w) _ p m5.1 in
           at_statement p s (call_at site) q i.1.0 (at_answer _ p (call_at site) q v.1
           (call_is_enough site g j.known.spec a q (in_unit g site.function j.function_is) j.spec_is m2.0 m3.0 m5.0 (certificate_covers order w _ q.next v.0)))
@@ -516,7 +516,7 @@ module _ (u : CoreUnitTree) (fits : unit_fits u ≡ true) (metric : Costs) (ds :
           let g : CoreFunctionTree = j.known.function in
           let m1 = require_ok (is_balanced j.known.spec) _ _ p j.gives in
           let m2 = unless_ok _ _ p m1.1 in
-          let m3 = unless_ok _ _ p m2.1 in
+          let m3 = unless_of_ok (Some site.function) _ _ p m2.1 in
           at_statement p s (call_at site) q i.1.0 (at_answer _ p (call_at site) q (ok_same _ p m3.1)
           (balanced_is_enough site g j.known.spec q (in_unit g site.function j.function_is) j.spec_is m1.0 m2.0 m3.0))
 

@@ -55,7 +55,7 @@ scope_of u proofs f =
 
 abbrev pub mentions_fault : Place → Option Var → Option DerivationFault
 mentions_fault place None = None
-mentions_fault place (Some x) = Some (mentions place x)
+mentions_fault place (Some x) = Some (mentions place None x)
 
 abbrev pub order_told : Option ℕ → Option DerivationFault
 order_told None = None

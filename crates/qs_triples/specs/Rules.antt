@@ -37,8 +37,9 @@ pub data Place : Type 0 where
 pub data DerivationFault : Type 0 where
   -- a node that isn't one for its statement
   shape : (path : List ℕ) → DerivationFault
-  -- a variable that may not be mentioned there, or that is needed and has no term
-  mentions : Place → Var → DerivationFault
+  -- a variable that may not be mentioned there; or one of the function that is called there, that is needed and has no
+  -- term
+  mentions : Place → (callee : Option ℕ) → Var → DerivationFault
   -- a certificate that doesn't show what it is to show
   certificate : (path : List ℕ) → certificates.Fault → DerivationFault
   -- a call of a function without a specification
@@ -63,7 +64,7 @@ place_below i (at_node path) = at_node (i ∷ path)
 
 abbrev pub fault_below : ℕ → DerivationFault → DerivationFault
 fault_below i (shape path) = shape (i ∷ path)
-fault_below i (mentions place x) = mentions (place_below i place) x
+fault_below i (mentions place g x) = mentions (place_below i place) g x
 fault_below i (certificate path fault) = certificate (i ∷ path) fault
 fault_below i (no_spec path g) = no_spec (i ∷ path) g
 fault_below i (entry fault) = entry fault
@@ -76,10 +77,13 @@ part i (Err fault) = Err (fault_below i fault)
 
 -- ---- conditions of rules
 
--- no such variable is found
+-- no such variable is found, of that function or of this one
+abbrev pub unless_of : (callee : Option ℕ) → Option Var → Answer → Answer
+unless_of g None next = next
+unless_of g (Some x) next = Err (mentions here g x)
+
 abbrev pub unless : Option Var → Answer → Answer
-unless None next = next
-unless (Some x) next = Err (mentions here x)
+unless found next = unless_of None found next
 
 abbrev pub by_verdict : Option certificates.Fault → AssertionTree → Answer
 by_verdict None r = Ok r
@@ -279,9 +283,9 @@ call_rule c a w q site g =
     let behind = post_images g.function site.destination site.arguments in
     unless (first_other c.function (in_body c.function) a)
     (unless (first_of_destination site.destination a)
-    (unless (first_without before g.spec.pre)
-    (unless (option_map plain_variable (first_without_argument behind g.spec.post))
-    (unless (first_without behind g.spec.post)
+    (unless_of (Some site.function) (first_without before g.spec.pre)
+    (unless_of (Some site.function) (option_map plain_variable (first_without_argument behind g.spec.post))
+    (unless_of (Some site.function) (first_without behind g.spec.post)
     (certified c.defines w
     (with_frame site.function (at_call behind g.spec.post) a) q.next
     (with_frame site.function (at_call before g.spec.pre) a))))))
@@ -292,7 +296,7 @@ balanced_rule q site g =
     let before = pre_images g.function site.arguments in
     require (is_balanced g.spec) (shape [])
     (unless (first_of_destination site.destination q.next)
-    (unless (first_without before g.spec.pre)
+    (unless_of (Some site.function) (first_without before g.spec.pre)
     (Ok (around site.function q.next (at_call before g.spec.pre)))))
 
 abbrev pub is_consequence : DerivationTree → Bool

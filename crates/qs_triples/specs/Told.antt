@@ -1,5 +1,6 @@
 -- What the code's answers say.
 use Rattle.std.specs.Prelude.{◌≡◌, ℕ, Option, Some, None, List, reverse, Result, Ok, Err}
+use Rattle.qs_base.specs.declared.function.FnId.{FnId}
 use Rattle.qs_assert.specs.declared.variable.Var.{Var}
 use Rattle.qs_assert.specs.Trees.{AssertionTree}
 use Rattle.qs_entail.specs.declared.fault.CertFault.{CertFault}
@@ -15,14 +16,19 @@ use Rattle.qs_triples.specs.declared.fault.Place.TheVariants as places
 use Rattle.qs_triples.specs.declared.failure.Failure.{Failure}
 use Rattle.qs_triples.specs.declared.failure.Failure.TheVariants as failures
 use Rattle.qs_triples.specs.Rules as rules
-use Rattle.qs_triples.specs.Rules.{unless, DerivationFault, Answer, shape, mentions, in_precondition, in_postcondition, at_node, certificate, no_spec, entry, bad_order}
+use Rattle.qs_triples.specs.Rules.{unless_of, DerivationFault, Answer, shape, mentions, in_precondition, in_postcondition, at_node, certificate, no_spec, entry, bad_order}
+
+-- the number of the function that is called, if the variable is one of its own
+abbrev pub callee_view : Option FnId → Option ℕ
+callee_view None = None
+callee_view (Some g) = Some g.0
 
 -- ---- in the walk over a body
 
 -- a fault at a path
 abbrev pub fault_at : List ℕ → Cause → DerivationFault
 fault_at path causes.Shape = shape path
-fault_at path (causes.Mentions x) = mentions (at_node path) x
+fault_at path (causes.Mentions g x) = mentions (at_node path) (callee_view g) x
 fault_at path (causes.Step inner rule) = certificate path (step inner.items rule)
 fault_at path (causes.Limit inner l) = certificate path (limit inner.items (fault_of l))
 fault_at path (causes.NoSpec g) = no_spec path g.0
@@ -38,19 +44,25 @@ Follows (Ok a) answer = answer ≡ Ok a
 Follows (Err failure) answer = FailsAs failure answer
 
 -- no such variable is found, or the answer is that it is mentioned, whatever comes next
-abbrev pub Passes : Result (Unit {0}) Failure → Option Var → Type 0
-Passes (Ok u) found = found ≡ None
-Passes (Err failure) found = (next : Answer) → FailsAs failure (unless found next)
+abbrev pub PassesOf : (callee : Option ℕ) → Result (Unit {0}) Failure → Option Var → Type 0
+PassesOf g (Ok u) found = found ≡ None
+PassesOf g (Err failure) found = (next : Answer) → FailsAs failure (unless_of g found next)
 
--- no such variable is found and this assertion is given, or the answer is that the variable is mentioned
-abbrev pub Carries : Result AssertionTree Failure → Option Var → AssertionTree → Type 0
-Carries (Ok a) found due = (found ≡ None) × (a ≡ due)
-Carries (Err failure) found due = (next : Answer) → FailsAs failure (unless found next)
+abbrev pub Passes : Result (Unit {0}) Failure → Option Var → Type 0
+Passes result found = PassesOf None result found
+
+-- no such variable of the function that is called is found and this assertion is given, or the answer is that the
+-- variable is mentioned
+abbrev pub Carries : (callee : ℕ) → Result AssertionTree Failure → Option Var → AssertionTree → Type 0
+Carries g (Ok a) found due = (found ≡ None) × (a ≡ due)
+Carries g (Err failure) found due = (next : Answer) → FailsAs failure (unless_of (Some g) found next)
 
 -- the same of one variable and then another
-abbrev pub CarriesBehind : Result AssertionTree Failure → (found other : Option Var) → AssertionTree → Type 0
-CarriesBehind (Ok a) found other due = (found ≡ None) × ((other ≡ None) × (a ≡ due))
-CarriesBehind (Err failure) found other due = (next : Answer) → FailsAs failure (unless found (unless other next))
+abbrev pub CarriesBehind :
+    (callee : ℕ) → Result AssertionTree Failure → (found other : Option Var) → AssertionTree → Type 0
+CarriesBehind g (Ok a) found other due = (found ≡ None) × ((other ≡ None) × (a ≡ due))
+CarriesBehind g (Err failure) found other due =
+    (next : Answer) → FailsAs failure (unless_of (Some g) found (unless_of (Some g) other next))
 
 -- ---- of an entry
 
@@ -69,7 +81,7 @@ IsOfCertificate there (certs.Limit path l) due = due ≡ Some (there (limit path
 abbrev pub IsDue : DerivFault → Option DerivationFault → Type 0
 IsDue faults.NoMemory due = Unit {0}
 IsDue (faults.Shape path) due = due ≡ Some (shape path.items)
-IsDue (faults.Mentions place x) due = due ≡ Some (mentions (place_view place) x)
+IsDue (faults.Mentions place g x) due = due ≡ Some (mentions (place_view place) (callee_view g) x)
 IsDue (faults.Cert path fault) due = IsOfCertificate (certificate path.items) fault due
 IsDue (faults.NoSpec path g) due = due ≡ Some (no_spec path.items g.0)
 IsDue (faults.Entry fault) due = IsOfCertificate entry fault due
@@ -86,7 +98,7 @@ TellsOrder (Ok u) first = first ≡ None
 TellsOrder (Err (faults.BadOrder d)) first = first ≡ Some d
 TellsOrder (Err faults.NoMemory) first = ⊥
 TellsOrder (Err (faults.Shape path)) first = ⊥
-TellsOrder (Err (faults.Mentions place x)) first = ⊥
+TellsOrder (Err (faults.Mentions place g x)) first = ⊥
 TellsOrder (Err (faults.Cert path fault)) first = ⊥
 TellsOrder (Err (faults.NoSpec path g)) first = ⊥
 TellsOrder (Err (faults.Entry fault)) first = ⊥

@@ -39,9 +39,9 @@ pub fn call_rule(
     let touched = first_of_destination(alloc, site.destination, frame)?;
     none_found(alloc, touched)?;
     let before = Replacement::BeforeCall(k.function, site.arguments);
-    let p = at_call(alloc, before, &k.spec.pre)?;
+    let p = at_call(alloc, site.function, before, &k.spec.pre)?;
     let behind = Replacement::BehindCall(k.function, site.destination, site.arguments);
-    let r = behind_call(alloc, behind, &k.spec.post)?;
+    let r = behind_call(alloc, site.function, behind, &k.spec.post)?;
     let shown = with_frame(alloc, site.function, r, frame)?;
     let whole = with_frame(alloc, site.function, p, frame)?;
     certified(alloc, c.defines, certificate, &shown, q.next, whole)
@@ -70,6 +70,6 @@ pub fn balanced_rule(
     let touched = first_of_destination(alloc, site.destination, q.next)?;
     none_found(alloc, touched)?;
     let before = Replacement::BeforeCall(k.function, site.arguments);
-    let p = at_call(alloc, before, &k.spec.pre)?;
+    let p = at_call(alloc, site.function, before, &k.spec.pre)?;
     Ok(around(alloc, site.function, q.next, p)?)
 }

@@ -8,7 +8,7 @@ ghost use Rattle.qs_triples.specs.Replacements as replacements;
 ghost use Rattle.qs_triples.specs.Rules as rules;
 ghost use Rattle.qs_triples.specs.Derivations.{spec_of};
 ghost use Rattle.qs_triples.specs.Mentions.{plain_variable, first_without_argument};
-ghost use Rattle.qs_triples.specs.Told.{Follows, Passes, Carries, CarriesBehind};
+ghost use Rattle.qs_triples.specs.Told.{Follows, Passes, PassesOf, Carries, CarriesBehind, callee_view};
 ghost use Rattle.qs_triples.specs.TreeOf.{entry_tree, spec_tree};
 ghost use Rattle.qs_triples.specs.Views.{entry_in, IsKnown, callee_in, spec_in};
 
@@ -24,14 +24,21 @@ use qs_core::CoreExpr;
 use qs_entail::{CertFault, Certificate, check};
 use std::alloc::Global;
 
+// Nothing, unless a variable is found: one of that function, if it is given, and else of the one that calls it.
+fn none_found_of(alloc: Global, callee: Option<FnId>, found: Option<Var>) -> Result<(), Failure>
+    ensures { PassesOf (callee_view callee) result found }
+{
+    match found {
+        Some(x) => Err(failed(alloc, Cause::Mentions(callee, x))),
+        None => Ok(()),
+    }
+}
+
 /// Nothing, unless a variable is found.
 pub fn none_found(alloc: Global, found: Option<Var>) -> Result<(), Failure>
     ensures { Passes result found }
 {
-    match found {
-        Some(x) => Err(failed(alloc, Cause::Mentions(x))),
-        None => Ok(()),
-    }
+    none_found_of(alloc, None, found)
 }
 
 /// The assertion r, where the certificate shows that p is at least q.
@@ -130,11 +137,11 @@ pub fn known_callee<'a>(alloc: Global, c: Scope<'a>, g: FnId) -> Result<Known<'a
 
 // ---- the callee's assertions
 
-fn missing(alloc: Global, r: Replacement<'_>, xs: &[Var]) -> Result<(), Failure>
-    ensures { Passes result (replacements.first_missing r.entry false xs.now) }
+fn missing(alloc: Global, g: FnId, r: Replacement<'_>, xs: &[Var]) -> Result<(), Failure>
+    ensures { PassesOf (Some g.0) result (replacements.first_missing r.entry false xs.now) }
 {
     let found = first_missing(alloc, r, false, xs)?;
-    none_found(alloc, found)
+    none_found_of(alloc, Some(g), found)
 }
 
 fn plain(found: Option<Var>) -> Option<Var>
@@ -149,32 +156,42 @@ fn plain(found: Option<Var>) -> Option<Var>
     }
 }
 
-fn missing_argument(alloc: Global, r: Replacement<'_>, xs: &[Var]) -> Result<(), Failure>
-    ensures { Passes result
+fn missing_argument(alloc: Global, g: FnId, r: Replacement<'_>, xs: &[Var]) -> Result<(), Failure>
+    ensures { PassesOf (Some g.0) result
         (option_map plain_variable (replacements.first_missing r.entry true xs.now)) }
 {
     let found = first_missing(alloc, r, true, xs)?;
-    none_found(alloc, plain(found))
+    none_found_of(alloc, Some(g), plain(found))
 }
 
-/// The assertion of a callee in which all is replaced.
-pub fn at_call(alloc: Global, r: Replacement<'_>, a: &Assertion) -> Result<Assertion, Failure>
-    ensures { Carries result (first_without (replacements.image r.entry) a.now)
+/// The assertion of the callee g in which all is replaced.
+pub fn at_call(
+    alloc: Global,
+    g: FnId,
+    r: Replacement<'_>,
+    a: &Assertion,
+) -> Result<Assertion, Failure>
+    ensures { Carries g.0 result (first_without (replacements.image r.entry) a.now)
         (replacements.replaced r.entry a.now) }
 {
     let xs = variables(alloc, a)?;
-    missing(alloc, r, &xs)?;
+    missing(alloc, g, r, &xs)?;
     Ok(replaced(alloc, r, a)?)
 }
 
 /// The same of a postcondition, whose result comes last.
-pub fn behind_call(alloc: Global, r: Replacement<'_>, a: &Assertion) -> Result<Assertion, Failure>
-    ensures { CarriesBehind result
+pub fn behind_call(
+    alloc: Global,
+    g: FnId,
+    r: Replacement<'_>,
+    a: &Assertion,
+) -> Result<Assertion, Failure>
+    ensures { CarriesBehind g.0 result
         (option_map plain_variable (first_without_argument (replacements.image r.entry) a.now))
         (first_without (replacements.image r.entry) a.now) (replacements.replaced r.entry a.now) }
 {
     let xs = variables(alloc, a)?;
-    missing_argument(alloc, r, &xs)?;
-    missing(alloc, r, &xs)?;
+    missing_argument(alloc, g, r, &xs)?;
+    missing(alloc, g, r, &xs)?;
     Ok(replaced(alloc, r, a)?)
 }

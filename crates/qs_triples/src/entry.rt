@@ -37,7 +37,7 @@ fn told(failure: Failure) -> DerivFault
     path.reverse();
     match cause {
         Cause::Shape => DerivFault::Shape(path),
-        Cause::Mentions(x) => DerivFault::Mentions(Place::Node(path), x),
+        Cause::Mentions(callee, x) => DerivFault::Mentions(Place::Node(path), callee, x),
         Cause::Step(inner, rule) => DerivFault::Cert(path, CertFault::Step(inner, rule)),
         Cause::Limit(inner, limit) => DerivFault::Cert(path, CertFault::Limit(inner, limit)),
         Cause::NoSpec(g) => DerivFault::NoSpec(path, g),
@@ -50,7 +50,7 @@ fn not_mentioned(place: Place, found: Option<Var>) -> Result<(), DerivFault>
 {
     match found {
         None => Ok(()),
-        Some(x) => Err(DerivFault::Mentions(place, x)),
+        Some(x) => Err(DerivFault::Mentions(place, None, x)),
     }
 }
 

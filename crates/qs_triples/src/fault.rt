@@ -25,9 +25,10 @@ pub enum DerivFault {
     /// The node is none for its statement.
     #[error("a node of a derivation doesn't fit its statement")]
     Shape(Vec<usize>),
-    /// The variable may not be mentioned there, or is needed there and has no term.
+    /// The variable may not be mentioned there; or it is one of this function, which is called there, is needed and has
+    /// no term.
     #[error("an assertion mentions a variable that it may not")]
-    Mentions(Place, Var),
+    Mentions(Place, Option<FnId>, Var),
     /// The node's certificate has this fault.
     #[error("a certificate of a derivation is wrong")]
     Cert(Vec<usize>, CertFault),

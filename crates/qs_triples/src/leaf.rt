@@ -30,7 +30,7 @@ pub fn kept(alloc: Global, found: Option<Var>, a: &Assertion) -> Result<Assertio
     ensures { Follows result (rules.unless found (Ok a.now)) }
 {
     match found {
-        Some(x) => Err(failed(alloc, Cause::Mentions(x))),
+        Some(x) => Err(failed(alloc, Cause::Mentions(None, x))),
         None => copied(alloc, a),
     }
 }

@@ -9,7 +9,7 @@ use Rattle.qs_callgraph.specs.Orders.{IsTrueCycle}
 use Rattle.qs_callgraph.proofs.OrderLaws.{orders_exclude_cycles}
 use Rattle.qs_analyse.specs.Additions.{AreAdditions}
 use Rattle.qs_analyse.specs.Fillable.{entries_only}
-use Rattle.qs_analyse.proofs.FillLaws.{filled_so, derived_so}
+use Rattle.qs_analyse.proofs.FillLaws.{filled_so, filling_so, derived_so}
 use Rattle.qs_analyse.proofs.filling.fill.Goals as goal
 
 pub returns-in_err-added-clause-cycle : goal.returns-in_err-added-clause-cycle
@@ -20,6 +20,12 @@ returns-in_err-added-clause-cycle c =
 pub returns-clause-filled : goal.returns-clause-filled
 returns-clause-filled c =
     filled_so (unit_tree c.args.unit.now) c.args.unit.now.fits (proofs_tree c.args.proofs) c.requires c.in_ok-added.added
+    (subst (λ (entries : List FunctionProof). AreAdditions (unit_tree c.args.unit.now) (entries_only (map entry_tree entries)) c.in_ok-added.added) c.deref.ensures.value c.in_ok-added.ensures.plan)
+    (proofs_tree c.in_ok-extended.field-0) c.in_ok-extended.ensures
+
+pub returns-clause-filling : goal.returns-clause-filling
+returns-clause-filling c =
+    filling_so (unit_tree c.args.unit.now) c.args.unit.now.fits (proofs_tree c.args.proofs) c.requires c.in_ok-added.added
     (subst (λ (entries : List FunctionProof). AreAdditions (unit_tree c.args.unit.now) (entries_only (map entry_tree entries)) c.in_ok-added.added) c.deref.ensures.value c.in_ok-added.ensures.plan)
     (proofs_tree c.in_ok-extended.field-0) c.in_ok-extended.ensures
 

@@ -9,7 +9,7 @@ use Rattle.qs_triples.specs.TreeOf.{entry_tree}
 use Rattle.qs_callgraph.specs.CallLists.{flag, numbers}
 use Rattle.qs_callgraph.specs.Opens.{AreOf}
 use Rattle.qs_analyse.specs.Fillable.{entries_only}
-use Rattle.qs_analyse.proofs.FlagLaws.{order_for, cycle_for}
+use Rattle.qs_analyse.proofs.FlagLaws.{order_for, depth_first_for, cycle_for}
 use Rattle.qs_analyse.proofs.filling.planned.Goals as goal
 
 pub returns-in_err-functions-clause-cycle : goal.returns-in_err-functions-clause-cycle
@@ -28,6 +28,7 @@ returns-clause-plan c =
     let again = subst (λ (flags : List Bool). AreOf u test flags) (sym c.deref-2.ensures.value) c.in_ok-has_spec.ensures in
     record {
       order = order_for u test c.deref.result.now of (numbers c.in_ok-functions.functions.items) c.in_ok-functions.ensures.order;
+      depth_first = depth_first_for u test c.deref.result.now of (numbers c.in_ok-functions.functions.items) c.in_ok-functions.ensures.depth_first;
       tells_open = c.in_ok-is_open.ensures.open_ones test again;
       as_many = c.in_ok-is_open.ensures.as_many ∙ sym (length-map c.args.unit.now.functions.items function_tree);
       opened =

@@ -50,6 +50,7 @@ pub returns-in_ok-begin-in-New : goal.returns-in_ok-begin-in-New
 returns-in_ok-begin-in-New c =
     begin_moves (number_lists c.args.graph.now) c.args.has_spec.now c.args.search.now c.begin.new.search c.args.f.0 c.looked_at-at.result c.in-Some.g.0 c.requires.graph c.requires.holds c.requires.last
     c.in-Some.ensures c.if-has_spec-g.false (sym c.progress_of-2.ensures ∙ c.in-New.is) c.in_ok-begin-in-New.ensures
+    (sym c.progress_of.ensures ∙ c.looked_at-at.ensures)
 
 pub returns-in_ok-path_from-in-Open : goal.returns-in_ok-path_from-in-Open
 returns-in_ok-path_from-in-Open c =

@@ -241,11 +241,11 @@ list_shut g k text s at n nodes p h = ap (flat g k) p.same ∙ no_head_flat g k 
 pub has_parts : (text : List ℕ) (s : Sexp) (at n : ℕ) (nodes : List Node) (w : List ℕ) (others : List Node) (p : IsList text s at n nodes) (h : IsHeaded text p.parts w others) → HasParts n h.parts
 has_parts text s at n nodes w others p h = p.counts ∙ ap count h.same
 
-lists_lie : (text : List ℕ) (parts others : Sexps) → LieIn text parts → LieIn text others → LieIn text (onto parts others)
+pub lists_lie : (text : List ℕ) (parts others : Sexps) → LieIn text parts → LieIn text others → LieIn text (onto parts others)
 lists_lie text no_parts others h k = k
 lists_lie text (part_and s ss) others h k = (h.0, lists_lie text ss others h.1 k)
 
-onto_nodes : (ss others : Sexps) → sexps_nodes (onto ss others) ≡ sexps_nodes ss ++ sexps_nodes others
+pub onto_nodes : (ss others : Sexps) → sexps_nodes (onto ss others) ≡ sexps_nodes ss ++ sexps_nodes others
 onto_nodes no_parts others = refl
 onto_nodes (part_and s ss) others =
     ap (λ (xs : List Node). sexp_nodes s ++ xs) (onto_nodes ss others) ∙ sym (append_assoc (sexp_nodes s) (sexps_nodes ss) (sexps_nodes others))

@@ -16,7 +16,7 @@ use Rattle.qs_prooftext.specs.Proofs.{entry_names, file_means, no_proofs}
 use Rattle.qs_prooftext.specs.Reading.{told}
 use Rattle.qs_prooftext.specs.Writing.{file_forms}
 use Rattle.qs_prooftext.specs.Writable.{entry_stands}
-use Rattle.qs_sexpr.specs.Writing.{put_all}
+use Rattle.qs_sexpr.specs.Layout.{lay_all}
 use Rattle.qs_prooftext.proofs.Examples.{u}
 
 abbrev of_scan : (is_open : ℕ → Bool) → Result (List Sexp) SexprFault → Answer ProofsTree
@@ -103,11 +103,16 @@ abbrev every_head : List ℕ
 every_head =
     codes "(define d (add 1 (max (cost f) (mul 2 (name g))))) (function f (pre (if (and (le n 5) (lt n -5)) (guard (or (eq n 5) (not (ne n 5))) (inf)) (num (add n (mul n 2))))) (post (num (sub (old n) (div (wrapu (wraps (bits (result)))) 3)))) (entry (via (name d) (pick 1 (all (same) (parts))) (assume (drop (absurd ()) (split (le n n) (arith ((1 2) (3 4 -5))) (unfold d (same))))))) (body (seq (if (leaf) (bal)) (loop (name d) (range n (range (cost f) (range (result) (range (old n) (apart 0 () (num n () (pos n (wrapu n () () (wraps n () () (boundu n (bounds n (div n 0 (bits n (half n () (mono n n () (same)))))))))))))))) (leaf) (seq)) (call 0 (same)) (use 1 (same) (leaf)))))"
 
+-- the same, as it is laid out
+abbrev laid_out : List ℕ
+laid_out =
+    codes "(define d (add 1 (max (cost f) (mul 2 (name g)))))\n(function f\n  (pre\n    (if (and (le n 5) (lt n -5)) (guard (or (eq n 5) (not (ne n 5))) (inf)) (num (add n (mul n 2))))\n  )\n  (post (num (sub (old n) (div (wrapu (wraps (bits (result)))) 3))))\n  (entry\n    (via\n      (name d)\n      (pick 1 (all (same) (parts)))\n      (assume (drop (absurd ()) (split (le n n) (arith ((1 2) (3 4 -5))) (unfold d (same)))))\n    )\n  )\n  (body\n    (seq\n      (if (leaf) (bal))\n      (loop\n        (name d)\n        (range n\n          (range\n            (cost f)\n            (range\n              (result)\n              (range\n                (old n)\n                (apart 0\n                  ()\n                  (num n\n                    ()\n                    (pos n\n                      (wrapu n\n                        ()\n                        ()\n                        (wraps n\n                          ()\n                          ()\n                          (boundu n (bounds n (div n 0 (bits n (half n () (mono n n () (same)))))))\n                        )\n                      )\n                    )\n                  )\n                )\n              )\n            )\n          )\n        )\n        (leaf)\n        (seq)\n      )\n      (call 0 (same))\n      (use 1 (same) (leaf))\n    )\n  )\n)\n"
+
 abbrev written : Answer ProofsTree → List ℕ
-written (Ok proofs) = put_all (file_forms u proofs) []
+written (Ok proofs) = lay_all (file_forms u proofs)
 written (Err fault) = []
 
-it_reads_and_is_written : written (file none every_head) ≡ every_head
+it_reads_and_is_written : written (file none every_head) ≡ laid_out
 unfolding digits
 it_reads_and_is_written = refl
 

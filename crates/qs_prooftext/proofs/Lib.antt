@@ -1,7 +1,13 @@
 pub mod OneMeaning
 pub mod Examples
+pub mod Placed
 pub mod WrittenMeans
 pub mod WrittenDerivations
+pub mod WordLaws
+pub mod FileLaws
+pub mod OwnWords
+pub mod Readings
+pub mod PutLaws
 mod FileExamples
 pub mod PartLaws
 pub mod LeafLaws
@@ -13,3 +19,11 @@ pub mod CombinationLaws
 pub mod RangeLaws
 pub mod CertLaws
 pub mod PlantLaws
+pub mod HeadLaws
+pub mod ShapeLaws
+pub mod DerivationLaws
+pub mod TopLaws
+pub mod ListedLaws
+pub mod ReadLaws
+pub mod ReadForms
+pub mod ReadSound

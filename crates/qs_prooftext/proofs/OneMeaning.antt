@@ -1,5 +1,6 @@
 -- A text has one reading or one first fault.
 use Rattle.std.proofs.Common.{◌≡◌, ◌⊎◌, inl, inr, ℕ, Bool, true, false, List, Ok, Err, refl, sym, ap, ◌∙◌, subst}
+use Rattle.qs_callgraph.specs.Opens.{TellsOpen}
 use Rattle.qs_core.specs.Trees.{CoreUnitTree}
 use Rattle.qs_sexpr.specs.Reading as lists
 use Rattle.qs_sexpr.specs.Results as list_results
@@ -11,7 +12,7 @@ use Rattle.qs_prooftext.specs.declared.fault.TextFault.{TextFault}
 use Rattle.qs_prooftext.specs.declared.fault.TextFault.TheVariants as faults
 use Rattle.qs_prooftext.specs.Meanings.{Answer}
 use Rattle.qs_prooftext.specs.Proofs.{has_list, file_means}
-use Rattle.qs_prooftext.specs.Reading.{TellsOpen, Reading, Fault, no_lists, no_meaning, told}
+use Rattle.qs_prooftext.specs.Reading.{Reading, Fault, no_lists, no_meaning, told}
 use Rattle.qs_prooftext.specs.Laws.{CanTellOpen, HasReading, HasFault}
 
 -- ---- which functions are open

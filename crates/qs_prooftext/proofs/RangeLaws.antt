@@ -23,7 +23,7 @@ use Rattle.qs_prooftext.specs.Settings.{Setting, look_up}
 use Rattle.qs_prooftext.proofs.AssertionLaws.{no_head}
 use Rattle.qs_prooftext.proofs.RowLaws.{pick, last_result}
 
-one_bound : {A C : Type 0} (x : Answer A) (made : A → C) → bind (bind x (λ v. Ok (v, tt))) (λ (v : A × Unit {0}). Ok (made v.0)) ≡ bind x (λ v. Ok (made v))
+pub one_bound : {A C : Type 0} (x : Answer A) (made : A → C) → bind (bind x (λ v. Ok (v, tt))) (λ (v : A × Unit {0}). Ok (made v.0)) ≡ bind x (λ v. Ok (made v))
 one_bound (Err f) made = refl
 one_bound (Ok v) made = refl
 

@@ -5,13 +5,14 @@ use Rattle.qs_assert.specs.declared.variable.Var.{Var}
 use Rattle.qs_assert.specs.Trees.{TermTree, number, variable, add, sub, mul, div, wrapu, wraps, bits, TermTrees, no_terms, term_and, term_list, terms_of, CondTree, le, lt, eq, ne, not, and, or, CondTrees, no_conds, cond_and, cond_list, conds_of, AssertionTree, natural, infinity, cost, num, total, greatest, product, guard, choose, named, AssertionTrees, no_assertions, assertion_and, assertion_list, assertions_of}
 use Rattle.qs_assert.specs.Reading.{terms_of-list, conds_of-list, assertions_of-list}
 use Rattle.qs_entail.specs.Certificates.{range}
-use Rattle.qs_sexpr.specs.Trees.{count}
-use Rattle.qs_sexpr.specs.Writing.{Form, placed, others_placed, size}
+use Rattle.qs_sexpr.specs.Trees.{Sexp, Sexps, count}
+use Rattle.qs_sexpr.specs.Writing.{Form}
 use Rattle.qs_prooftext.specs.Kinds.{a_term, a_condition, an_assertion, a_definition_body, a_range}
 use Rattle.qs_prooftext.specs.Settings.{Setting, look_up}
 use Rattle.qs_prooftext.specs.Meanings.{Answer, or_fault, means, all_mean}
 use Rattle.qs_prooftext.specs.declared.fault.TextFault.TheVariants.{UnknownForm, NoSuchFunction}
 use Rattle.qs_prooftext.specs.Writing.{Words, forms_of, variable_form, term_form, term_forms, condition_form, condition_forms, assertion_form, assertion_forms}
+use Rattle.qs_prooftext.proofs.Placed.{place, others_in, placed, all_placed}
 use Rattle.qs_prooftext.specs.Writable.{is_meant, term_stands, terms_stand, condition_stands, conditions_stand, assertion_stands, assertions_stand, definition_stands, definitions_stand, is_function}
 
 -- ---- tests
@@ -57,22 +58,22 @@ next_part x y p ps e f = λ i. bind (e i) (λ v. bind (f i) (λ vs. Ok (v ∷ vs
 
 -- the words of a setting are those that are written
 pub record Agree (g : Setting) (w : Words) : Type 0 where
-  pub variables : (at : ℕ) (x : Var) → is_meant g x ≡ true → means g a_term (placed at (variable_form w x x.kind)) ≡ Ok (variable x)
-  pub ranges : (at : ℕ) (x : Var) → is_meant g x ≡ true → means g a_range (placed at (variable_form w x x.kind)) ≡ Ok (range x)
+  pub variables : (at : Sexp) (x : Var) → is_meant g x ≡ true → means g a_term (placed at (variable_form w x x.kind)) ≡ Ok (variable x)
+  pub ranges : (at : Sexp) (x : Var) → is_meant g x ≡ true → means g a_range (placed at (variable_form w x x.kind)) ≡ Ok (range x)
   pub functions : (f : ℕ) → is_function g f ≡ true → look_up (w.functions f) g.functions ≡ Some f
 
 -- ---- terms
 
-pub others_count : (at : ℕ) (fs : List Form) → count (others_placed at (forms_of fs)) ≡ length fs
+pub others_count : (at : Sexps) (fs : List Form) → count (all_placed at (forms_of fs)) ≡ length fs
 others_count at [] = refl
-others_count at (f ∷ fs) = ap (λ (n : ℕ). n + 1) (others_count (at + 1 + size f) fs) ∙ omega arith
+others_count at (f ∷ fs) = ap (λ (n : ℕ). n + 1) (others_count (others_in at) fs) ∙ omega arith
 
 terms_count : (w : Words) (ts : TermTrees) → length (term_forms w ts) ≡ length (term_list ts)
 terms_count w no_terms = refl
 terms_count w (term_and t ts) = ap suc (terms_count w ts)
 
 mutual
-  pub term_back : (g : Setting) (w : Words) → Agree g w → (at : ℕ) (t : TermTree) → term_stands g t ≡ true → means g a_term (placed at (term_form w t)) ≡ Ok t
+  pub term_back : (g : Setting) (w : Words) → Agree g w → (at : Sexp) (t : TermTree) → term_stands g t ≡ true → means g a_term (placed at (term_form w t)) ≡ Ok t
   term_back g w a at (number n) h = refl
   term_back g w a at (variable x) h = a.variables at x h
   term_back g w a at (add ts) h =
@@ -88,7 +89,7 @@ mutual
   term_back g w a at (wraps t) h = one_part wraps _ t (term_back g w a _ t h)
   term_back g w a at (bits t) h = one_part bits _ t (term_back g w a _ t h)
 
-  pub terms_back : (g : Setting) (w : Words) → Agree g w → (at : ℕ) (ts : TermTrees) → terms_stand g ts ≡ true → all_mean g a_term (others_placed at (forms_of (term_forms w ts))) ≡ Ok (term_list ts)
+  pub terms_back : (g : Setting) (w : Words) → Agree g w → (at : Sexps) (ts : TermTrees) → terms_stand g ts ≡ true → all_mean g a_term (all_placed at (forms_of (term_forms w ts))) ≡ Ok (term_list ts)
   terms_back g w a at no_terms h = refl
   terms_back g w a at (term_and t ts) h =
       next_part _ _ t (term_list ts) (term_back g w a _ t (left _ _ h)) (terms_back g w a _ ts (right _ _ h))
@@ -100,7 +101,7 @@ conds_count w no_conds = refl
 conds_count w (cond_and c cs) = ap suc (conds_count w cs)
 
 mutual
-  pub condition_back : (g : Setting) (w : Words) → Agree g w → (at : ℕ) (c : CondTree) → condition_stands g c ≡ true → means g a_condition (placed at (condition_form w c)) ≡ Ok c
+  pub condition_back : (g : Setting) (w : Words) → Agree g w → (at : Sexp) (c : CondTree) → condition_stands g c ≡ true → means g a_condition (placed at (condition_form w c)) ≡ Ok c
   condition_back g w a at (le t u) h =
       two_parts le _ _ t u (term_back g w a _ t (left _ _ h)) (term_back g w a _ u (right _ _ h))
   condition_back g w a at (lt t u) h =
@@ -115,7 +116,7 @@ mutual
   condition_back g w a at (or cs) h =
       many_parts (λ us. or (conds_of us)) _ _ (length (cond_list cs)) _ (cond_list cs) (or cs) (others_count _ (condition_forms w cs) ∙ conds_count w cs) (left _ _ h) (conditions_back g w a _ cs (right _ _ h)) (ap or (conds_of-list cs))
 
-  pub conditions_back : (g : Setting) (w : Words) → Agree g w → (at : ℕ) (cs : CondTrees) → conditions_stand g cs ≡ true → all_mean g a_condition (others_placed at (forms_of (condition_forms w cs))) ≡ Ok (cond_list cs)
+  pub conditions_back : (g : Setting) (w : Words) → Agree g w → (at : Sexps) (cs : CondTrees) → conditions_stand g cs ≡ true → all_mean g a_condition (all_placed at (forms_of (condition_forms w cs))) ≡ Ok (cond_list cs)
   conditions_back g w a at no_conds h = refl
   conditions_back g w a at (cond_and c cs) h =
       next_part _ _ c (cond_list cs) (condition_back g w a _ c (left _ _ h)) (conditions_back g w a _ cs (right _ _ h))
@@ -130,10 +131,10 @@ pub function_back : (g : Setting) (w : Words) → Agree g w → (at f : ℕ) →
 function_back g w a at f h = ap (or_fault (NoSuchFunction at)) (a.functions f h)
 
 mutual
-  pub assertion_back : (g : Setting) (w : Words) → Agree g w → (at : ℕ) (b : AssertionTree) → assertion_stands g b ≡ true → means g an_assertion (placed at (assertion_form w b)) ≡ Ok b
+  pub assertion_back : (g : Setting) (w : Words) → Agree g w → (at : Sexp) (b : AssertionTree) → assertion_stands g b ≡ true → means g an_assertion (placed at (assertion_form w b)) ≡ Ok b
   assertion_back g w a at (natural n) h = refl
   assertion_back g w a at infinity h = refl
-  assertion_back g w a at (cost f) h = one_part cost _ f (function_back g w a at f h)
+  assertion_back g w a at (cost f) h = one_part cost _ f (function_back g w a (place at) f h)
   assertion_back g w a at (num t) h = one_part num _ t (term_back g w a _ t h)
   assertion_back g w a at (total parts) h =
       many_parts (λ us. total (assertions_of us)) _ _ (length (assertion_list parts)) _ (assertion_list parts) (total parts) (others_count _ (assertion_forms w parts) ∙ assertions_count w parts) (left _ _ h) (assertions_back g w a _ parts (right _ _ h)) (ap total (assertions_of-list parts))
@@ -146,9 +147,9 @@ mutual
   assertion_back g w a at (choose c b d) h =
       three_parts choose _ _ _ c b d (condition_back g w a _ c (left _ _ (left _ _ h))) (assertion_back g w a _ b (right _ _ (left _ _ h))) (assertion_back g w a _ d (right _ _ h))
   assertion_back g w a at (named name) h =
-      one_part named _ name (λ i. if h i then Ok name else Err (UnknownForm at))
+      one_part named _ name (λ i. if h i then Ok name else Err (UnknownForm (place at)))
 
-  pub assertions_back : (g : Setting) (w : Words) → Agree g w → (at : ℕ) (parts : AssertionTrees) → assertions_stand g parts ≡ true → all_mean g an_assertion (others_placed at (forms_of (assertion_forms w parts))) ≡ Ok (assertion_list parts)
+  pub assertions_back : (g : Setting) (w : Words) → Agree g w → (at : Sexps) (parts : AssertionTrees) → assertions_stand g parts ≡ true → all_mean g an_assertion (all_placed at (forms_of (assertion_forms w parts))) ≡ Ok (assertion_list parts)
   assertions_back g w a at no_assertions h = refl
   assertions_back g w a at (assertion_and b parts) h =
       next_part _ _ b (assertion_list parts) (assertion_back g w a _ b (left _ _ h)) (assertions_back g w a _ parts (right _ _ h))
@@ -159,10 +160,10 @@ never : {A : Type 0} → false ≡ true → A
 never h = absurd (grind (arith, h))
 
 mutual
-  pub definition_back : (g : Setting) (w : Words) → Agree g w → (at : ℕ) (b : AssertionTree) → definition_stands g b ≡ true → means g a_definition_body (placed at (assertion_form w b)) ≡ Ok b
+  pub definition_back : (g : Setting) (w : Words) → Agree g w → (at : Sexp) (b : AssertionTree) → definition_stands g b ≡ true → means g a_definition_body (placed at (assertion_form w b)) ≡ Ok b
   definition_back g w a at (natural n) h = refl
   definition_back g w a at infinity h = never h
-  definition_back g w a at (cost f) h = one_part cost _ f (function_back g w a at f h)
+  definition_back g w a at (cost f) h = one_part cost _ f (function_back g w a (place at) f h)
   definition_back g w a at (num t) h = never h
   definition_back g w a at (total parts) h =
       many_parts (λ us. total (assertions_of us)) _ _ (length (assertion_list parts)) _ (assertion_list parts) (total parts) (others_count _ (assertion_forms w parts) ∙ assertions_count w parts) (left _ _ h) (definitions_back g w a _ parts (right _ _ h)) (ap total (assertions_of-list parts))
@@ -174,7 +175,7 @@ mutual
   definition_back g w a at (choose c b d) h = never h
   definition_back g w a at (named name) h = refl
 
-  pub definitions_back : (g : Setting) (w : Words) → Agree g w → (at : ℕ) (parts : AssertionTrees) → definitions_stand g parts ≡ true → all_mean g a_definition_body (others_placed at (forms_of (assertion_forms w parts))) ≡ Ok (assertion_list parts)
+  pub definitions_back : (g : Setting) (w : Words) → Agree g w → (at : Sexps) (parts : AssertionTrees) → definitions_stand g parts ≡ true → all_mean g a_definition_body (all_placed at (forms_of (assertion_forms w parts))) ≡ Ok (assertion_list parts)
   definitions_back g w a at no_assertions h = refl
   definitions_back g w a at (assertion_and b parts) h =
       next_part _ _ b (assertion_list parts) (definition_back g w a _ b (left _ _ h)) (definitions_back g w a _ parts (right _ _ h))

@@ -1,7 +1,8 @@
 -- Nodes of certificates without the certificates in them.
-use Rattle.std.specs.Prelude.{ℕ, zero, suc, ℤ, List, [], ◌∷◌, Ok}
+use Rattle.std.specs.Prelude.{ℕ, ℤ, List, Ok}
 use Rattle.qs_base.specs.Results.{bind}
 use Rattle.qs_assert.specs.Reading.{others}
+use Rattle.qs_assert.specs.Stacks.{first_or}
 use Rattle.qs_assert.specs.Trees.{AssertionTree, CondTree}
 use Rattle.qs_entail.specs.Certificates as certificates
 use Rattle.qs_entail.specs.Certificates.{Item, FactTree, CertTree}
@@ -17,6 +18,7 @@ use Rattle.qs_prooftext.specs.Facts.{apart_means, num_means, half_means, quotien
 use Rattle.qs_prooftext.specs.Firsts.{first_means}
 use Rattle.qs_prooftext.specs.Kinds.{a_combination, a_condition, a_name, a_range, a_term, an_assertion, an_index}
 use Rattle.qs_prooftext.specs.Meanings.{Answer}
+use Rattle.qs_prooftext.specs.Planting.{Shape, firsts}
 use Rattle.qs_prooftext.specs.Settings.{Setting}
 
 pub data HeadTree : Type 0 where
@@ -107,16 +109,10 @@ fact_means g facts.BitsRise ss = rise_means g ss
 -- ---- certificates from their heads, the last first
 
 abbrev pub first_cert : List CertTree → CertTree
-first_cert [] = certificates.same
-first_cert (c ∷ cs) = c
+first_cert cs = first_or certificates.same cs
 
 abbrev pub first_certs : ℕ → List CertTree → List CertTree
-first_certs zero cs = []
-first_certs (suc n) cs = first_cert cs ∷ first_certs n (others cs)
-
-abbrev pub behind_certs : ℕ → List CertTree → List CertTree
-behind_certs zero cs = cs
-behind_certs (suc n) cs = behind_certs n (others cs)
+first_certs n cs = firsts certificates.same n cs
 
 -- how many certificates are its parts
 abbrev pub arity : HeadTree → ℕ
@@ -148,9 +144,5 @@ planted (arithmetic w) cs = certificates.arithmetic w
 planted (by_definition n) cs = certificates.by_definition n (first_cert cs)
 planted (fact f) cs = certificates.fact f (first_cert cs)
 
-abbrev pub plant : HeadTree → List CertTree → List CertTree
-plant h cs = planted h cs ∷ behind_certs (arity h) cs
-
-abbrev pub plants : List HeadTree → List CertTree → List CertTree
-plants [] cs = cs
-plants (h ∷ hs) cs = plant h (plants hs cs)
+abbrev pub cert_shape : Shape HeadTree CertTree
+cert_shape = record { arity = arity; planted = planted; blank = certificates.same }

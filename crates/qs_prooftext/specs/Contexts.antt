@@ -1,8 +1,9 @@
 -- What the readers know, as a setting.
-use Rattle.std.specs.Prelude.{ℕ, Bool, false, ◌&&◌, ◌||◌, bytes_eq, slice_index_or, if◌then◌else◌, List, [], map, Option, Some, None}
+use Rattle.std.specs.Prelude.{ℕ, Bool, false, ◌&&◌, ◌||◌, bytes_eq, if◌then◌else◌, List, [], map, Option, Some, None}
 use Rattle.std.specs.List.{list_any}
 use Rattle.qs_assert.specs.declared.variable.Var.{Var}
 use Rattle.qs_memory.specs.Partial.{◌>>=◌}
+use Rattle.qs_callgraph.specs.CallLists.{flag}
 use Rattle.qs_assert.specs.declared.variable.VarKind.TheVariants as kinds
 use Rattle.qs_core.specs.TermTexts.{variable_name}
 use Rattle.qs_core.specs.TreeOf.{function_tree}
@@ -23,10 +24,7 @@ word_view w = (w.text.items, w.variable)
 abbrev pub function_rows : List CoreFunction → List (List ℕ × ℕ)
 function_rows fs = numbered 0 (map (λ f. f.name) (map function_tree fs))
 
--- whether the function with a number is open
-abbrev pub flag : List Bool → ℕ → Bool
-flag flags f = slice_index_or flags f false
-
+-- the flags tell which functions are open
 abbrev pub is_open_word : List Bool → List (List ℕ × ℕ) → (word : List ℕ) → Bool
 is_open_word flags rows word = list_any (λ row. bytes_eq row.0 word && flag flags row.1) rows
 

@@ -1,12 +1,13 @@
 -- What is promised of readings.
 use Rattle.std.specs.Prelude.{ℕ, Bool, List}
+use Rattle.qs_callgraph.specs.Opens.{TellsOpen}
 use Rattle.qs_core.specs.Trees.{CoreUnitTree}
 use Rattle.qs_sexpr.specs.Reading as lists
 use Rattle.qs_sexpr.specs.Trees.{Sexps}
 use Rattle.qs_triples.specs.Derivations.{ProofsTree}
 use Rattle.qs_prooftext.specs.declared.fault.TextFault.{TextFault}
 use Rattle.qs_prooftext.specs.Proofs.{has_list}
-use Rattle.qs_prooftext.specs.Reading.{TellsOpen, Reading, Fault}
+use Rattle.qs_prooftext.specs.Reading.{Reading, Fault}
 
 -- where the text has lists, its open functions can be told
 abbrev pub CanTellOpen : CoreUnitTree → (text : List ℕ) → (is_open : ℕ → Bool) → Type 0

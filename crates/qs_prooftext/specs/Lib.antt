@@ -18,3 +18,11 @@ pub mod RuleWords
 pub mod Ranges
 pub mod Facts
 pub mod CertHeads
+pub mod Putting
+pub mod Planting
+pub mod CertRows
+pub mod HeadWalks
+pub mod StatementWords
+pub mod DerivationHeads
+pub mod Tops
+pub mod Listed

@@ -1,6 +1,6 @@
 -- Readings of proof files, and their faults.
-use Rattle.std.specs.Prelude.{◌≡◌, ℕ, Bool, true, List, Ok, Err}
-use Rattle.qs_core.specs.CallGraph.{IsOpen}
+use Rattle.std.specs.Prelude.{◌≡◌, ℕ, Bool, List, Ok, Err}
+use Rattle.qs_callgraph.specs.Opens.{TellsOpen}
 use Rattle.qs_core.specs.Trees.{CoreUnitTree}
 use Rattle.qs_sexpr.specs.Reading as lists
 use Rattle.qs_sexpr.specs.Trees.{Sexps}
@@ -10,11 +10,6 @@ use Rattle.qs_triples.specs.Derivations.{ProofsTree}
 use Rattle.qs_prooftext.specs.declared.fault.TextFault.{TextFault}
 use Rattle.qs_prooftext.specs.declared.fault.TextFault.TheVariants as faults
 use Rattle.qs_prooftext.specs.Proofs.{has_list, file_means}
-
--- whether a function is open, where these have an entry
-pub record TellsOpen (u : CoreUnitTree) (has_entry is_open : ℕ → Bool) : Type 0 where
-  pub open_ones : (f : ℕ) → is_open f ≡ true → IsOpen u has_entry f
-  pub all_there : (f : ℕ) → IsOpen u has_entry f → is_open f ≡ true
 
 -- a fault of lists and atoms as one of proof files
 abbrev pub told : SexprFault → TextFault

@@ -1,5 +1,5 @@
 -- Which proofs can be written so that they read back.
-use Rattle.std.specs.Prelude.{◌≡◌, ℕ, ◌==◌, ◌&&◌, Bool, true, false, nat_le, bytes_eq, List, [], ◌∷◌, ◌++◌, map, length, Option, Some, None}
+use Rattle.std.specs.Prelude.{◌≡◌, ℕ, ◌==◌, ◌&&◌, Bool, true, false, nat_le, nat_lt, bytes_eq, List, [], ◌∷◌, ◌++◌, map, length, Option, Some, None}
 use Rattle.std.specs.List.{slice_get, list_any, list_all}
 use Rattle.qs_assert.specs.declared.define.Define.{Define}
 use Rattle.qs_assert.specs.declared.variable.Var.{Var}
@@ -8,6 +8,7 @@ use Rattle.qs_assert.specs.Trees.{TermTree, number, variable, add, sub, mul, div
 use Rattle.qs_entail.specs.Certificates as certificates
 use Rattle.qs_entail.specs.Certificates.{FactTree, CertTree, CertTrees, no_certs, cert_and}
 use Rattle.qs_core.specs.Fits.{differ}
+use Rattle.qs_callgraph.specs.Opens.{TellsOpen}
 use Rattle.qs_core.specs.Trees.{CoreFunctionTree, CoreUnitTree}
 use Rattle.qs_sexpr.specs.Writing.{AreWritable}
 use Rattle.qs_triples.specs.Derivations as derivations
@@ -15,7 +16,6 @@ use Rattle.qs_triples.specs.Derivations.{DerivationTree, DerivationTrees, no_der
 use Rattle.qs_triples.specs.Entries.{has_entry}
 use Rattle.qs_prooftext.specs.Settings.{Setting, in_definition, in_entry, old_variable}
 use Rattle.qs_prooftext.specs.Proofs.{defined_names, is_defined, is_open_name}
-use Rattle.qs_prooftext.specs.Reading.{TellsOpen}
 use Rattle.qs_prooftext.specs.Writing.{file_forms}
 
 -- ---- what has a meaning in an entry
@@ -169,6 +169,12 @@ abbrev pub entry_stands : CoreUnitTree → (has_name : List ℕ → Bool) → En
 entry_stands u has_name e = entry_stands_in u has_name e (slice_get u.functions e.function)
 
 -- ---- proofs
+
+-- Proofs of a unit: entries of its functions, none twice, and definitions that can be written.
+pub record IsOfUnit (u : CoreUnitTree) (proofs : ProofsTree) : Type 0 where
+  pub known : list_all (λ (e : EntryTree). nat_lt e.function (length u.functions)) proofs.functions ≡ true
+  pub entered_once : differ ◌==◌ (map (λ (e : EntryTree). e.function) proofs.functions) ≡ true
+  pub defines_stand : list_all (λ (d : Define). definition_stands (in_definition u) d.body) proofs.defines ≡ true
 
 -- Proofs that can be written: their lists have a meaning, no definition and no function stands twice, no definition has
 -- the name of an open function, and what is written has symbols for names, numbers in range and lists that nest at most

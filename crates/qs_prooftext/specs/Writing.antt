@@ -1,6 +1,6 @@
 -- Proofs as they are written: the lists of definitions, and then those of entries.
-use Rattle.std.specs.Prelude.{ℕ, pos, List, [], ◌∷◌, ◌++◌, map, codes, if◌then◌else◌, Option, Some, None}
-use Rattle.std.specs.List.{slice_get}
+use Rattle.std.specs.Prelude.{◌≡◌, true, bytes_eq, nat_lt, Bool, length, ◌<◌, ◌^◌, ℕ, pos, List, [], ◌∷◌, ◌++◌, map, codes, if◌then◌else◌, Option, Some, None}
+use Rattle.std.specs.List.{slice_get, list_all}
 use Rattle.qs_assert.specs.declared.define.Define.{Define}
 use Rattle.qs_assert.specs.declared.variable.VarKind.{VarKind}
 use Rattle.qs_assert.specs.declared.variable.VarKind.TheVariants as kinds
@@ -9,8 +9,11 @@ use Rattle.qs_assert.specs.Substitution.{same_variable}
 use Rattle.qs_assert.specs.Trees.{TermTree, number, variable, add, sub, mul, div, wrapu, wraps, bits, TermTrees, no_terms, term_and, CondTree, le, lt, eq, ne, not, and, or, CondTrees, no_conds, cond_and, AssertionTree, natural, infinity, cost, num, total, greatest, product, guard, choose, named, AssertionTrees, no_assertions, assertion_and}
 use Rattle.qs_entail.specs.Certificates as certificates
 use Rattle.qs_entail.specs.Certificates.{Item, once, twice, FactTree, CertTree, CertTrees, no_certs, cert_and}
-use Rattle.qs_core.specs.Trees.{CoreFunctionTree, CoreUnitTree}
+use Rattle.qs_core.specs.Fits.{differ}
+use Rattle.qs_core.specs.Trees.{CoreFunctionTree, CoreUnitTree, CoreVariableTree}
+use Rattle.qs_sexpr.specs.Layout.{lay}
 use Rattle.qs_sexpr.specs.Writing.{Form, symbol_form, number_form, list_form, Forms, no_forms, form_and}
+use Rattle.qs_sexpr.specs.declared.layout.Layer.TheVariants.{OnLine}
 use Rattle.qs_triples.specs.Derivations as derivations
 use Rattle.qs_triples.specs.Derivations.{DerivationTree, DerivationTrees, no_derivations, derivation_and, EntryTree, ProofsTree}
 use Rattle.qs_triples.specs.Filled.{function_name}
@@ -173,6 +176,21 @@ abbrev mutual
 
 -- ---- files
 
+-- variables are told apart by numbers of 64 bits
+abbrev pub is_short : CoreVariableTree → Bool
+is_short v = nat_lt v.ordinal (2 ^ 64)
+
+abbrev pub HasShortNumbers : CoreUnitTree → Type 0
+HasShortNumbers u =
+    (i : ℕ) (f : CoreFunctionTree) → slice_get u.functions i ≡ Some f
+    → (list_all is_short f.variables ≡ true) × (length f.temporaries < 2 ^ 64)
+
+-- each word of a function stands for one variable
+abbrev pub HasOwnWords : CoreUnitTree → Type 0
+HasOwnWords u =
+    (i : ℕ) (f : CoreFunctionTree) → slice_get u.functions i ≡ Some f
+    → differ bytes_eq (map (λ row. row.0) (words_of f)) ≡ true
+
 abbrev pub words_in : Option CoreFunctionTree → List (List ℕ × Var)
 words_in None = []
 words_in (Some f) = words_of f
@@ -194,3 +212,12 @@ entry_form u e = entry_form_by (function_name u e.function) (words_of_entry u e.
 
 abbrev pub file_forms : CoreUnitTree → ProofsTree → Forms
 file_forms u proofs = forms_of (map (define_form u) proofs.defines ++ map (entry_form u) proofs.functions)
+
+-- ---- variables
+
+abbrev pub old_text : (word : List ℕ) → List ℕ
+old_text word = lay (OnLine true) (headed (codes "old") (symbol_form word ∷ [])) []
+
+-- a variable of a function as it is written in its entry
+abbrev pub variable_text : CoreUnitTree → (function : ℕ) → Var → List ℕ
+variable_text u f x = lay (OnLine true) (variable_form (words_of_entry u f) x x.kind) []

@@ -1,5 +1,5 @@
 // Terms, conditions and assertions: one walk over their nodes, with a stack of what is still to be read.
-ghost use Rattle.std.specs.Prelude.{◌≡◌, ◌<◌, ◌++◌, ◌∷◌, [], ◌+◌, ℕ, List, Option, length, reverse, drop, option_map, OnOk, IfOk};
+ghost use Rattle.std.specs.Prelude.{◌≡◌, ◌<◌, ◌++◌, ◌∷◌, [], ◌+◌, ℕ, List, Option, length, reverse, option_map, OnOk, IfOk};
 ghost use Rattle.std.specs.Option.{option_to_list};
 ghost use Rattle.qs_assert.specs.declared.node.Node.{Node as AssertNode};
 ghost use Rattle.qs_prooftext.specs.Answers.{Gives, Stands, StandAll};
@@ -14,7 +14,7 @@ ghost use Rattle.qs_sexpr.specs.Trees.{Sexp, Sexps, list, number, part_and, symb
 use crate::context::{Context, find_function, find_variable, is_defined};
 use crate::fault::TextFault;
 use crate::leaves::find_old;
-use crate::parts::{Part, divisor_in, head_of, part_of};
+use crate::parts::{Part, behind, divisor_in, head_of, part_of};
 use crate::rows::row_of_list;
 use crate::sorts::{Parts, Sort};
 use qs_assert::{Assertion, AssertionNode, Cond, Node, Term, TermNode, Var};
@@ -194,13 +194,6 @@ fn open_list(
 }
 
 // ---- the walk
-
-/// What stands behind so many nodes.
-fn behind(rest: &[qs_sexpr::Node], count: usize) -> &[qs_sexpr::Node]
-    ensures { result.now ≡ drop count rest.now }
-{
-    rest.split_at(count.min(rest.len())).1
-}
 
 /// Reads the first node of the rest, and the head behind it where it is a list; the answer is what is left.
 fn next<'a>(

@@ -2,20 +2,34 @@
 #![tactic(auto)]
 
 mod assertions;
+mod building;
+mod certificates;
 mod combinations;
 mod context;
+mod derivations;
+mod fact_tokens;
 mod facts;
 mod fault;
 mod heads;
 mod laws;
 mod leaves;
+mod listed;
+mod lists;
+mod naming;
 mod parts;
 mod planting;
+mod putting;
 mod ranges;
+mod reading;
 mod rows;
 mod rules;
 mod sorts;
+mod statements;
+mod tops;
 mod variables;
+mod writing;
 
 pub use fault::TextFault;
-pub use laws::one_meaning;
+pub use laws::{one_meaning, written_reads};
+pub use reading::read;
+pub use writing::variable_text;

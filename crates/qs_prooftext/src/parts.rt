@@ -1,5 +1,5 @@
 // Lists and atoms as they stand in a text.
-ghost use Rattle.std.specs.Prelude.{◌≡◌, ◌≤◌, ℕ, List, length};
+ghost use Rattle.std.specs.Prelude.{◌≡◌, ◌≤◌, ℕ, List, drop, length};
 ghost use Rattle.qs_prooftext.specs.Answers.{IsHead, IsPart, StandAll, Stands};
 ghost use Rattle.qs_prooftext.specs.Firsts.{tail};
 ghost use Rattle.qs_prooftext.specs.Flattening.{IsDivisor, natural_in};
@@ -84,4 +84,11 @@ pub fn after_first(parts: &[Node]) -> &[Node]
         }
         None => parts,
     }
+}
+
+/// The nodes behind so many nodes.
+pub fn behind(rest: &[Node], count: usize) -> &[Node]
+    ensures { result.now ≡ drop count rest.now }
+{
+    rest.split_at(count.min(rest.len())).1
 }

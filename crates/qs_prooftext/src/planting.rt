@@ -3,7 +3,8 @@ ghost use Rattle.std.specs.Prelude.{◌≡◌, [], map, reverse, IfOk};
 ghost use Rattle.qs_assert.specs.Reading.{others};
 ghost use Rattle.qs_entail.specs.View.{cert_tree};
 ghost use Rattle.qs_prooftext.specs.CertHeads as heads;
-ghost use Rattle.qs_prooftext.specs.CertHeads.{arity, behind_certs, first_cert, first_certs, head_view, planted, plants};
+ghost use Rattle.qs_prooftext.specs.CertHeads.{arity, cert_shape, first_cert, first_certs, head_view, planted};
+ghost use Rattle.qs_prooftext.specs.Planting.{behind, grown};
 
 use crate::heads::CertHead;
 use qs_assert::{Assertion, Cond};
@@ -27,7 +28,7 @@ fn taken_all(
     count: usize,
 ) -> Result<Vec<Certificate>, NoMemory>
     ensures first { IfOk result (λ parts. map cert_tree parts.items ≡ first_certs count (reverse (map cert_tree stack.old.items))) }
-    ensures left { IfOk result (λ parts. reverse (map cert_tree stack.new.items) ≡ behind_certs count (reverse (map cert_tree stack.old.items))) }
+    ensures left { IfOk result (λ parts. reverse (map cert_tree stack.new.items) ≡ behind count (reverse (map cert_tree stack.old.items))) }
 {
     let mut parts = Vec::new(alloc);
     let mut left = count;
@@ -52,7 +53,7 @@ fn via(
     between: Assertion,
 ) -> Result<Certificate, NoMemory>
     ensures made { IfOk result (λ c. cert_tree c ≡ planted (heads.via between) (reverse (map cert_tree stack.old.items))) }
-    ensures left { IfOk result (λ c. reverse (map cert_tree stack.new.items) ≡ behind_certs 2 (reverse (map cert_tree stack.old.items))) }
+    ensures left { IfOk result (λ c. reverse (map cert_tree stack.new.items) ≡ behind 2 (reverse (map cert_tree stack.old.items))) }
 {
     let first = boxed(alloc, stack)?;
     let second = boxed(alloc, stack)?;
@@ -65,7 +66,7 @@ fn split(
     condition: Cond,
 ) -> Result<Certificate, NoMemory>
     ensures made { IfOk result (λ c. cert_tree c ≡ planted (heads.split condition) (reverse (map cert_tree stack.old.items))) }
-    ensures left { IfOk result (λ c. reverse (map cert_tree stack.new.items) ≡ behind_certs 2 (reverse (map cert_tree stack.old.items))) }
+    ensures left { IfOk result (λ c. reverse (map cert_tree stack.new.items) ≡ behind 2 (reverse (map cert_tree stack.old.items))) }
 {
     let first = boxed(alloc, stack)?;
     let second = boxed(alloc, stack)?;
@@ -74,7 +75,7 @@ fn split(
 
 fn drop_guard(alloc: Global, stack: &mut Vec<Certificate>) -> Result<Certificate, NoMemory>
     ensures made { IfOk result (λ c. cert_tree c ≡ planted heads.drop (reverse (map cert_tree stack.old.items))) }
-    ensures left { IfOk result (λ c. reverse (map cert_tree stack.new.items) ≡ behind_certs 2 (reverse (map cert_tree stack.old.items))) }
+    ensures left { IfOk result (λ c. reverse (map cert_tree stack.new.items) ≡ behind 2 (reverse (map cert_tree stack.old.items))) }
 {
     let first = boxed(alloc, stack)?;
     let second = boxed(alloc, stack)?;
@@ -88,7 +89,7 @@ fn plant(
     made: CertHead,
 ) -> Result<Certificate, NoMemory>
     ensures made { IfOk result (λ c. cert_tree c ≡ planted (head_view made) (reverse (map cert_tree stack.old.items))) }
-    ensures left { IfOk result (λ c. reverse (map cert_tree stack.new.items) ≡ behind_certs (arity (head_view made)) (reverse (map cert_tree stack.old.items))) }
+    ensures left { IfOk result (λ c. reverse (map cert_tree stack.new.items) ≡ behind (arity (head_view made)) (reverse (map cert_tree stack.old.items))) }
 {
     match made {
         CertHead::Same => Ok(Certificate::Same),
@@ -108,7 +109,7 @@ fn plant(
 
 /// The certificate whose heads these are, each before those of its parts.
 pub fn build(alloc: Global, heads: Vec<CertHead>) -> Result<Certificate, NoMemory>
-    ensures { IfOk result (λ c. cert_tree c ≡ first_cert (plants (map head_view heads.items) [])) }
+    ensures { IfOk result (λ c. cert_tree c ≡ grown cert_shape (map head_view heads.items) []) }
 {
     let mut left = heads;
     let mut stack = Vec::new(alloc);

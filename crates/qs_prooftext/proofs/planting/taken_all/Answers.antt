@@ -1,4 +1,5 @@
 use Rattle.std.proofs.Common.{arith, ◌≡◌, ◌-◌, suc, map, reverse}
+use Rattle.qs_entail.specs.Certificates as certificates
 use Rattle.qs_entail.specs.View.{cert_tree}
 use Rattle.qs_prooftext.proofs.PlantLaws.{taken_more, behind_more}
 use Rattle.qs_prooftext.proofs.planting.taken_all.Goals as goal
@@ -7,6 +8,6 @@ pub parts-preserved : goal.parts-preserved
 parts-preserved c =
     let l : c.parts.left ≡ suc (c.parts.left - 1) = omega arith in
     record {
-      first = taken_more c.parts.left (c.parts.left - 1) c.parts.parts.items c.push.new.self.items c.taken.result (reverse (map cert_tree c.parts.stack.items)) (reverse (map cert_tree c.taken.new.stack.items)) _ l c.in_ok-push.ensures.items c.taken.ensures.first c.taken.ensures.left c.parts.invariant.first;
-      behind = behind_more c.parts.left (c.parts.left - 1) (reverse (map cert_tree c.parts.stack.items)) (reverse (map cert_tree c.taken.new.stack.items)) _ l c.taken.ensures.left c.parts.invariant.behind;
+      first = taken_more cert_tree certificates.same c.parts.left (c.parts.left - 1) c.parts.parts.items c.push.new.self.items c.taken.result (reverse (map cert_tree c.parts.stack.items)) (reverse (map cert_tree c.taken.new.stack.items)) _ l c.in_ok-push.ensures.items c.taken.ensures.first c.taken.ensures.left c.parts.invariant.first;
+      kept = behind_more c.parts.left (c.parts.left - 1) (reverse (map cert_tree c.parts.stack.items)) (reverse (map cert_tree c.taken.new.stack.items)) _ l c.taken.ensures.left c.parts.invariant.kept;
     }

@@ -1,0 +1,258 @@
+-- The functions for which a file has lists, as they are marked.
+use Rattle.std.proofs.Common.{arith, ◌≡◌, ◌≢◌, ℕ, zero, suc, ℤ, codes, ◌+◌, ◌<◌, ◌≤◌, ◌==◌, Bool, true, false, ◌&&◌, if◌then◌else◌, List, [], ◌∷◌, ◌++◌, length, map, get_or, set, Option, Some, None, refl, sym, ap, ◌∙◌, subst}
+use Rattle.std.specs.Prelude.{bytes_eq, not, option_map, ◌||◌}
+use Rattle.std.specs.List.{slice_get, list_all, list_any}
+use Rattle.std.proofs.Math.Bool.{or-false}
+use Rattle.std.proofs.lemmas.Bool.{and_parts}
+use Rattle.std.proofs.lemmas.List.{get_or-set_same, get_or-set_other, length-set}
+use Rattle.std.proofs.lemmas.List.Folds.{list_any-append}
+use Rattle.std.proofs.lemmas.Slice.Eq.{bytes_eq-Decides}
+use Rattle.qs_callgraph.specs.CallLists.{flag}
+use Rattle.qs_callgraph.specs.Opens.{AreOf}
+use Rattle.qs_core.specs.Fits.{differ, unit_fits}
+use Rattle.qs_base.specs.declared.function.FnId.{FnId}
+use Rattle.qs_core.specs.Trees.{CoreFunctionTree, CoreUnitTree}
+use Rattle.qs_core.specs.UnitTrees.{unit_tree}
+use Rattle.qs_core.specs.declared.unit.CoreUnit.{CoreUnit}
+use Rattle.qs_core.specs.declared.units.CoreFunction.{CoreFunction}
+use Rattle.qs_core.proofs.FitLaws.{unit_parts}
+use Rattle.qs_sexpr.specs.Parts.{Splits}
+use Rattle.qs_sexpr.specs.Trees.{Sexp, number, symbol, list, Sexps, no_parts, part_and}
+use Rattle.qs_sexpr.specs.declared.node.Node.{Node}
+use Rattle.qs_triples.specs.Filled.{function_name, name_in}
+use Rattle.qs_prooftext.specs.Answers.{HasNoHead, IsHeaded, IsList, StandAll, Stands}
+use Rattle.qs_prooftext.specs.Contexts.{function_rows}
+use Rattle.qs_prooftext.specs.Listed.{ListsLeft, Marks}
+use Rattle.qs_prooftext.specs.Proofs.{entry_names, entry_names_of, has_list, is_among, name_of_parts}
+use Rattle.qs_prooftext.specs.Settings.{functions_of, look_up, numbered}
+use Rattle.qs_prooftext.proofs.PartLaws.{first_stands, others_stand, no_first, no_split}
+
+-- ---- the function with a name
+
+-- whether this is the function that was found
+abbrev is_found : Option ℕ → (f : ℕ) → Bool
+is_found None f = false
+is_found (Some g) f = g == f
+
+found_from : (w : List ℕ) (i : ℕ) (names : List (List ℕ)) (f : ℕ) → f < i → is_found (look_up w (numbered i names)) f ≡ false
+found_from w i [] f b = refl
+found_from w i (n ∷ names) f b = by (bytes_eq n w) (found_from w (i + 1) names f (omega (arith, b)))
+  where
+    by : (t : Bool) → is_found (look_up w (numbered (i + 1) names)) f ≡ false → is_found (if t then Some i else look_up w (numbered (i + 1) names)) f ≡ false
+    by true e = grind (arith, b)
+    by false e = e
+
+-- a name that another one is, isn't this
+another : (n m w : List ℕ) → bytes_eq n w ≡ true → not (bytes_eq n m) ≡ true → bytes_eq m w ≡ false
+another n m w is apart = by (bytes_eq m w) refl
+  where
+    by : (t : Bool) → bytes_eq m w ≡ t → t ≡ false
+    by false e = refl
+    by true e =
+        let first : n ≡ w = (bytes_eq-Decides n w).0 is in
+        let second : m ≡ w = (bytes_eq-Decides m w).0 e in
+        absurd (let same : bytes_eq n m ≡ true = (bytes_eq-Decides n m).1 (first ∙ sym second) in let t : not true ≡ true = ap not (sym same) ∙ apart in cc)
+
+all_at : (test : List ℕ → Bool) (names : List (List ℕ)) (i : ℕ) → list_all test names ≡ true → i < length names → test (get_or names i []) ≡ true
+all_at test [] i all b = absurd (omega (arith, b))
+all_at test (n ∷ names) zero all b = (and_parts (test n) (list_all test names) all).0
+all_at test (n ∷ names) (suc i) all b = all_at test names i (and_parts (test n) (list_all test names) all).1 (omega (arith, b))
+
+name_found : (w : List ℕ) (i : ℕ) (names : List (List ℕ)) (f : ℕ) → differ bytes_eq names ≡ true → f < length names → bytes_eq (get_or names f []) w ≡ is_found (look_up w (numbered i names)) (i + f)
+name_found w i [] f d b = absurd (omega (arith, b))
+name_found w i (n ∷ names) zero d b = by (bytes_eq n w)
+  where
+    by : (t : Bool) → t ≡ is_found (if t then Some i else look_up w (numbered (i + 1) names)) (i + zero)
+    by true = grind arith
+    by false = sym (found_from w (i + 1) names (i + zero) (omega arith))
+name_found w i (n ∷ names) (suc f) d b = by (bytes_eq n w) refl (name_found w (i + 1) names f apart.1 (omega (arith, b)))
+  where
+    apart : (list_all (λ y. not (bytes_eq n y)) names ≡ true) × (differ bytes_eq names ≡ true)
+    apart = and_parts (list_all (λ y. not (bytes_eq n y)) names) (differ bytes_eq names) d
+
+    by : (t : Bool) → bytes_eq n w ≡ t → bytes_eq (get_or names f []) w ≡ is_found (look_up w (numbered (i + 1) names)) (i + 1 + f) → bytes_eq (get_or names f []) w ≡ is_found (if t then Some i else look_up w (numbered (i + 1) names)) (i + suc f)
+    by true e more =
+        another n (get_or names f []) w e (all_at (λ y. not (bytes_eq n y)) names f apart.0 (omega (arith, b))) ∙ grind arith
+    by false e more =
+        let at : i + 1 + f ≡ i + suc f = omega arith in
+        more ∙ ap (is_found (look_up w (numbered (i + 1) names))) at
+
+name_at : (fs : List CoreFunctionTree) (f : ℕ) → f < length fs → name_in (slice_get fs f) ≡ get_or (map (λ (f : CoreFunctionTree). f.name) fs) f []
+name_at [] f b = absurd (omega (arith, b))
+name_at (x ∷ fs) zero b = refl
+name_at (x ∷ fs) (suc f) b = name_at fs f (omega (arith, b))
+
+count_names : (fs : List CoreFunctionTree) → length (map (λ (f : CoreFunctionTree). f.name) fs) ≡ length fs
+count_names [] = refl
+count_names (f ∷ fs) = ap suc (count_names fs)
+
+zero_before : (f : ℕ) → 0 + f ≡ f
+zero_before f = omega arith
+
+named : (u : CoreUnitTree) → unit_fits u ≡ true → (w : List ℕ) (f : ℕ) → f < length u.functions → is_among (w ∷ []) (function_name u f) ≡ is_found (look_up w (functions_of u)) f
+named u fits w f b =
+    let l = count_names u.functions in
+    let names : List (List ℕ) = map (λ (f : CoreFunctionTree). f.name) u.functions in
+    let own : bytes_eq (function_name u f) w ≡ is_found (look_up w (numbered 0 names)) f =
+    ap (λ (n : List ℕ). bytes_eq n w) (name_at u.functions f b) ∙ name_found w 0 names f (unit_parts u fits).different (omega (arith, b, l)) ∙ ap (is_found (look_up w (numbered 0 names))) (zero_before f) in
+    or-false (bytes_eq (function_name u f) w) ∙ own
+
+record NumberFound (n : List ℕ) (i : ℕ) (names : List (List ℕ)) (f : ℕ) : Type 0 where
+  k : ℕ
+  at : f ≡ i + k
+  below : k < length names
+  is : get_or names k [] ≡ n
+
+found_number : (n : List ℕ) (i : ℕ) (names : List (List ℕ)) (f : ℕ) → look_up n (numbered i names) ≡ Some f → NumberFound n i names f
+found_number n i [] f e = cc
+found_number n i (m ∷ names) f e = by (bytes_eq m n) refl e (found_number n (i + 1) names f)
+  where
+    by : (b : Bool) → bytes_eq m n ≡ b → (if b then Some i else look_up n (numbered (i + 1) names)) ≡ Some f → (look_up n (numbered (i + 1) names) ≡ Some f → NumberFound n (i + 1) names f) → NumberFound n i (m ∷ names) f
+    by true is found more =
+        let same : i ≡ f = cc in
+        record { k = 0; at = omega (arith, same); below = omega arith; is = (bytes_eq-Decides m n).0 is }
+    by false is found more =
+        let t = more found in
+        let e = t.at in
+        let b = t.below in
+        record { k = suc t.k; at = omega (arith, e); below = omega (arith, b); is = t.is }
+
+pub function_named : (u : CoreUnitTree) (n : List ℕ) (f : ℕ) → look_up n (functions_of u) ≡ Some f → (function_name u f ≡ n) × (f < length u.functions)
+function_named u n f e =
+    let t = found_number n 0 (map (λ (g : CoreFunctionTree). g.name) u.functions) f e in
+    let l = count_names u.functions in
+    let at : f ≡ t.k = (let k = t.at in omega (arith, k)) in
+    let below : f < length u.functions = (let b = t.below in omega (arith, at, b, l)) in
+    (name_at u.functions f below ∙ (ap (λ (i : ℕ). get_or (map (λ (g : CoreFunctionTree). g.name) u.functions) i []) at ∙ t.is), below)
+
+-- ---- what was found
+
+pub found_in : (unit : CoreUnit) (w : List ℕ) (fs : List CoreFunction) (o : Option FnId) (f : FnId) → fs ≡ unit.functions.items → option_map (λ (g : FnId). g.0) o ≡ look_up w (function_rows fs) → o ≡ Some f → look_up w (functions_of (unit_tree unit)) ≡ Some f.0
+found_in unit w fs o f e h is =
+    sym (h ∙ ap (λ (xs : List CoreFunction). look_up w (function_rows xs)) e) ∙ ap (option_map (λ (g : FnId). g.0)) is
+
+pub not_found_in : (unit : CoreUnit) (w : List ℕ) (fs : List CoreFunction) (o : Option FnId) → fs ≡ unit.functions.items → option_map (λ (g : FnId). g.0) o ≡ look_up w (function_rows fs) → o ≡ None → look_up w (functions_of (unit_tree unit)) ≡ None
+not_found_in unit w fs o e h is =
+    sym (h ∙ ap (λ (xs : List CoreFunction). look_up w (function_rows xs)) e) ∙ ap (option_map (λ (g : FnId). g.0)) is
+
+-- ---- marks
+
+pub marks_nothing : (u : CoreUnitTree) (flags : List Bool) → Marks u [] flags flags
+marks_nothing u flags = record { as_many = refl; same = λ f b. sym (or-false (flag flags f)) }
+
+pub marks_none : (u : CoreUnitTree) → unit_fits u ≡ true → (w : List ℕ) (flags : List Bool) → look_up w (functions_of u) ≡ None → Marks u (w ∷ []) flags flags
+marks_none u fits w flags e = record {
+  as_many = refl;
+  same = λ f b.
+      sym (ap (λ (t : Bool). flag flags f || t) (named u fits w f b ∙ ap (λ (o : Option ℕ). is_found o f) e) ∙ or-false (flag flags f));
+}
+
+always : (t : Bool) → true ≡ (t || true)
+always true = refl
+always false = refl
+
+flag_set : (flags : List Bool) (g f : ℕ) → g < length flags → flag (set flags g true) f ≡ (flag flags f || (g == f))
+flag_set flags g f b = by (g == f) refl
+  where
+    by : (t : Bool) → (g == f) ≡ t → flag (set flags g true) f ≡ (flag flags f || t)
+    by true e =
+        let same : g ≡ f = grind (arith, e) in
+        subst (λ (i : ℕ). flag (set flags g true) i ≡ (flag flags i || true)) same (get_or-set_same flags g true false b ∙ always (flag flags g))
+    by false e =
+        let apart : f ≢ g = λ h. (let other : (g == g) ≡ false = ap (λ (i : ℕ). g == i) (sym h) ∙ e in grind (arith, other)) in
+        get_or-set_other flags g f true false apart ∙ sym (or-false (flag flags f))
+
+pub marks_one : (u : CoreUnitTree) → unit_fits u ≡ true → (w : List ℕ) (flags : List Bool) (g : ℕ) → look_up w (functions_of u) ≡ Some g → g < length flags → Marks u (w ∷ []) flags (set flags g true)
+marks_one u fits w flags g e b = record {
+  as_many = length-set flags g true;
+  same = λ f k.
+      flag_set flags g f b ∙ ap (λ (t : Bool). flag flags f || t) (sym (named u fits w f k ∙ ap (λ (o : Option ℕ). is_found o f) e));
+}
+
+-- ---- all lists
+
+names_none : (ss : Sexps) → HasNoHead ss → name_of_parts ss ≡ []
+names_none no_parts h = refl
+names_none (part_and (number place n) parts) h = refl
+names_none (part_and (symbol place w) parts) h = absurd h
+names_none (part_and (list place inner) parts) h = refl
+
+marks_same : (u : CoreUnitTree) (xs ys : List (List ℕ)) (old new : List Bool) → xs ≡ ys → Marks u ys old new → Marks u xs old new
+marks_same u xs ys old new e h = subst (λ (zs : List (List ℕ)). Marks u zs old new) (sym e) h
+
+pub marks_headless : (u : CoreUnitTree) (ss : Sexps) (flags : List Bool) → HasNoHead ss → Marks u (name_of_parts ss) flags flags
+marks_headless u ss flags h =
+    marks_same u (name_of_parts ss) [] flags flags (names_none ss h) (marks_nothing u flags)
+
+pub marks_headed : (u : CoreUnitTree) (text : List ℕ) (ss : Sexps) (w : List ℕ) (others : List Node) (old new : List Bool) → IsHeaded text ss w others → Marks u (w ∷ []) old new → Marks u (name_of_parts ss) old new
+marks_headed u text ss w others old new h m =
+    marks_same u (name_of_parts ss) (w ∷ []) old new (ap name_of_parts h.same) m
+
+pub marks_number : (u : CoreUnitTree) (s : Sexp) (at : ℕ) (n : ℤ) (flags : List Bool) → s ≡ number at n → Marks u (entry_names_of s) flags flags
+marks_number u s at n flags e =
+    marks_same u (entry_names_of s) [] flags flags (ap entry_names_of e) (marks_nothing u flags)
+
+pub marks_symbol : (u : CoreUnitTree) (s : Sexp) (at : ℕ) (w : List ℕ) (flags : List Bool) → s ≡ symbol at w → Marks u (entry_names_of s) flags flags
+marks_symbol u s at w flags e =
+    marks_same u (entry_names_of s) [] flags flags (ap entry_names_of e) (marks_nothing u flags)
+
+list_headless : (at : ℕ) (ss : Sexps) → HasNoHead ss → entry_names_of (list at ss) ≡ []
+list_headless at no_parts h = refl
+list_headless at (part_and (number place n) parts) h = refl
+list_headless at (part_and (symbol place w) parts) h = absurd h
+list_headless at (part_and (list place inner) parts) h = refl
+
+pub marks_list_headless : (u : CoreUnitTree) (text : List ℕ) (s : Sexp) (at n : ℕ) (nodes : List Node) (flags : List Bool) → (p : IsList text s at n nodes) → HasNoHead p.parts → Marks u (entry_names_of s) flags flags
+marks_list_headless u text s at n nodes flags p h =
+    marks_same u (entry_names_of s) [] flags flags (ap entry_names_of p.same ∙ list_headless at p.parts h) (marks_nothing u flags)
+
+list_named : (text : List ℕ) (s : Sexp) (at n : ℕ) (nodes : List Node) (w : List ℕ) (others : List Node) → (p : IsList text s at n nodes) (h : IsHeaded text p.parts w others) → entry_names_of s ≡ (if bytes_eq w (codes "function") then name_of_parts h.parts else [])
+list_named text s at n nodes w others p h =
+    ap entry_names_of (p.same ∙ ap (λ (ss : Sexps). list at ss) h.same)
+
+pub marks_function : (u : CoreUnitTree) (text : List ℕ) (s : Sexp) (at n : ℕ) (nodes : List Node) (w : List ℕ) (others : List Node) (old new : List Bool) → (p : IsList text s at n nodes) (h : IsHeaded text p.parts w others) → bytes_eq w (codes "function") ≡ true → Marks u (name_of_parts h.parts) old new → Marks u (entry_names_of s) old new
+marks_function u text s at n nodes w others old new p h e m =
+    marks_same u (entry_names_of s) (name_of_parts h.parts) old new (list_named text s at n nodes w others p h ∙ ap (λ (b : Bool). if b then name_of_parts h.parts else []) e) m
+
+pub marks_other : (u : CoreUnitTree) (text : List ℕ) (s : Sexp) (at n : ℕ) (nodes : List Node) (w : List ℕ) (others : List Node) (flags : List Bool) → (p : IsList text s at n nodes) (h : IsHeaded text p.parts w others) → bytes_eq w (codes "function") ≡ false → Marks u (entry_names_of s) flags flags
+marks_other u text s at n nodes w others flags p h e =
+    marks_same u (entry_names_of s) [] flags flags (list_named text s at n nodes w others p h ∙ ap (λ (b : Bool). if b then name_of_parts h.parts else []) e) (marks_nothing u flags)
+
+-- ---- the walk
+
+pub lists_start : (u : CoreUnitTree) (text : List ℕ) (nodes : List Node) (ss : Sexps) (flags : List Bool) → StandAll text nodes ss → length flags ≡ length u.functions → ((f : ℕ) → f < length u.functions → flag flags f ≡ false) → ListsLeft u text nodes flags ss
+lists_start u text nodes ss flags h l none = record {
+  forest = ss;
+  stand = h;
+  as_many = l;
+  same = λ f b. ap (λ (t : Bool). t || has_list u ss f) (none f b);
+}
+
+or_assoc : (a b c : Bool) → ((a || b) || c) ≡ (a || (b || c))
+or_assoc true b c = refl
+or_assoc false b c = refl
+
+pub lists_go : (u : CoreUnitTree) (text : List ℕ) (rest first others : List Node) (flags new : List Bool) (all : Sexps) → ListsLeft u text rest flags all → Splits rest first others → ((s : Sexp) → Stands text first s → Marks u (entry_names_of s) flags new) → ListsLeft u text others new all
+lists_go u text rest first others flags new all l p f = go l.forest l.stand l.same
+  where
+    go : (ss : Sexps) → StandAll text rest ss → ((f : ℕ) → f < length u.functions → (flag flags f || has_list u ss f) ≡ has_list u all f) → ListsLeft u text others new all
+    go no_parts h e = no_split text rest first others h p
+    go (part_and s ss) h e =
+        let m = f s (first_stands text rest s ss first others h p) in
+        record {
+          forest = ss;
+          stand = others_stand text rest s ss first others h p;
+          as_many = m.as_many ∙ l.as_many;
+          same = λ g b.
+              ap (λ (t : Bool). t || has_list u ss g) (m.same g b)
+              ∙ (or_assoc (flag flags g) (is_among (entry_names_of s) (function_name u g)) (has_list u ss g)
+              ∙ (ap (λ (t : Bool). flag flags g || t) (sym (list_any-append (bytes_eq (function_name u g)) (entry_names_of s) (entry_names ss)))
+              ∙ e g b));
+        }
+
+pub lists_end : (u : CoreUnitTree) (text : List ℕ) (rest : List Node) (flags : List Bool) (all : Sexps) → ListsLeft u text rest flags all → rest ≡ [] → AreOf u (has_list u all) flags
+lists_end u text rest flags all l none = go l.forest l.stand l.same
+  where
+    go : (ss : Sexps) → StandAll text rest ss → ((f : ℕ) → f < length u.functions → (flag flags f || has_list u ss f) ≡ has_list u all f) → AreOf u (has_list u all) flags
+    go no_parts h e = record { as_many = l.as_many; same = λ f b. sym (or-false (flag flags f)) ∙ e f b }
+    go (part_and s ss) h e = no_first text rest s ss h none

@@ -1,0 +1,15 @@
+use Rattle.std.proofs.Common.{length, map}
+use Rattle.qs_sexpr.specs.Trees.{Sexp}
+use Rattle.qs_prooftext.specs.Answers.{Stands}
+use Rattle.qs_prooftext.specs.DerivationHeads.{derivation_head, derivation_shape}
+use Rattle.qs_prooftext.specs.Contexts.{setting_of}
+use Rattle.qs_prooftext.specs.HeadWalks.{HeadsLeft}
+use Rattle.qs_prooftext.specs.Kinds.{a_derivation}
+use Rattle.qs_prooftext.specs.Meanings.{means}
+use Rattle.qs_prooftext.proofs.derivations.read_derivation.Given as goal
+
+abbrev pub invariant-trees : goal.invariant-trees
+invariant-trees l = (s : Sexp) → Stands l.fn.context.text.now l.fn.nodes s → HeadsLeft a_derivation derivation_shape (setting_of l.fn.context) l.fn.context.text.now l.rest (map derivation_head l.heads.items) (means (setting_of l.fn.context) a_derivation s)
+
+abbrev pub decreases-trees : goal.decreases-trees
+decreases-trees l = length l.rest

@@ -1,0 +1,14 @@
+use Rattle.qs_entail.specs.View.{cert_tree}
+use Rattle.qs_prooftext.specs.Contexts.{setting_of}
+use Rattle.qs_prooftext.specs.Kinds.{a_certificate}
+use Rattle.qs_prooftext.proofs.FirstLaws.{first_gives, first_tree}
+use Rattle.qs_prooftext.proofs.statements.first_certificate.Goals as goal
+
+pub read_certificate-requires : goal.read_certificate-requires
+read_certificate-requires c =
+    let t = c.requires in
+    first_tree c.args.context.text.now c.args.parts.now c.in-Some.first.now c.in-Some._others.now t.0 t.1 c.in-Some.ensures
+
+pub returns-in-Some : goal.returns-in-Some
+returns-in-Some c = λ ss h.
+    first_gives (setting_of c.args.context) a_certificate cert_tree c.args.context.text.now c.args.parts.now c.in-Some.first.now c.in-Some._others.now ss c.read_certificate.result h c.in-Some.ensures c.read_certificate.ensures

@@ -1,0 +1,107 @@
+// Derivations from their heads, the last first.
+ghost use Rattle.std.specs.Prelude.{◌≡◌, [], map, reverse, IfOk};
+ghost use Rattle.qs_assert.specs.Reading.{others};
+ghost use Rattle.qs_prooftext.specs.DerivationHeads as heads;
+ghost use Rattle.qs_prooftext.specs.DerivationHeads.{arity, derivation_head, derivation_shape, first_derivation, first_derivations, planted, reason_view};
+ghost use Rattle.qs_prooftext.specs.Planting.{behind, grown};
+ghost use Rattle.qs_triples.specs.TreeOf.{derivation_tree};
+
+use crate::statements::{DerivationHead, Reason};
+use qs_base::NoMemory;
+use qs_triples::Derivation;
+use std::alloc::Global;
+
+fn taken(stack: &mut Vec<Derivation>) -> Derivation
+    ensures first { derivation_tree result ≡ first_derivation (reverse (map derivation_tree stack.old.items)) }
+    ensures left { reverse (map derivation_tree stack.new.items) ≡ others (reverse (map derivation_tree stack.old.items)) }
+{
+    match stack.pop() {
+        Some(part) => part,
+        None => Derivation::Leaf,
+    }
+}
+
+fn taken_all(
+    alloc: Global,
+    stack: &mut Vec<Derivation>,
+    count: usize,
+) -> Result<Vec<Derivation>, NoMemory>
+    ensures first { IfOk result (λ parts. map derivation_tree parts.items ≡ first_derivations count (reverse (map derivation_tree stack.old.items))) }
+    ensures left { IfOk result (λ parts. reverse (map derivation_tree stack.new.items) ≡ behind count (reverse (map derivation_tree stack.old.items))) }
+{
+    let mut parts = Vec::new(alloc);
+    let mut left = count;
+    'parts: while left > 0 {
+        parts.push(taken(stack))?;
+        left -= 1;
+    }
+    Ok(parts)
+}
+
+fn boxed(alloc: Global, stack: &mut Vec<Derivation>) -> Result<Box<Derivation>, NoMemory>
+    ensures first { IfOk result (λ b. derivation_tree b.value ≡ first_derivation (reverse (map derivation_tree stack.old.items))) }
+    ensures left { IfOk result (λ b. reverse (map derivation_tree stack.new.items) ≡ others (reverse (map derivation_tree stack.old.items))) }
+{
+    let part = taken(stack);
+    Ok(Box::new(alloc, part)?)
+}
+
+fn conditional(alloc: Global, stack: &mut Vec<Derivation>) -> Result<Derivation, NoMemory>
+    ensures made { IfOk result (λ d. derivation_tree d ≡ planted heads.conditional (reverse (map derivation_tree stack.old.items))) }
+    ensures left { IfOk result (λ d. reverse (map derivation_tree stack.new.items) ≡ behind 2 (reverse (map derivation_tree stack.old.items))) }
+{
+    let first = boxed(alloc, stack)?;
+    let second = boxed(alloc, stack)?;
+    Ok(Derivation::Conditional(first, second))
+}
+
+fn repeated(
+    alloc: Global,
+    stack: &mut Vec<Derivation>,
+    reason: Reason,
+) -> Result<Derivation, NoMemory>
+    ensures made { IfOk result (λ d. derivation_tree d ≡ planted (heads.loop (reason_view reason)) (reverse (map derivation_tree stack.old.items))) }
+    ensures left { IfOk result (λ d. reverse (map derivation_tree stack.new.items) ≡ behind 2 (reverse (map derivation_tree stack.old.items))) }
+{
+    let body = boxed(alloc, stack)?;
+    let step = boxed(alloc, stack)?;
+    Ok(Derivation::Loop(reason.assertion, reason.certificate, body, step))
+}
+
+/// The derivation with this head, whose parts are taken off the stack.
+fn plant(
+    alloc: Global,
+    stack: &mut Vec<Derivation>,
+    made: DerivationHead,
+) -> Result<Derivation, NoMemory>
+    ensures made { IfOk result (λ d. derivation_tree d ≡ planted (derivation_head made) (reverse (map derivation_tree stack.old.items))) }
+    ensures left { IfOk result (λ d. reverse (map derivation_tree stack.new.items) ≡ behind (arity (derivation_head made)) (reverse (map derivation_tree stack.old.items))) }
+{
+    match made {
+        DerivationHead::Leaf => Ok(Derivation::Leaf),
+        DerivationHead::Sequence(count) => {
+            Ok(Derivation::Sequence(taken_all(alloc, stack, count)?))
+        }
+        DerivationHead::Conditional => conditional(alloc, stack),
+        DerivationHead::Loop(reason) => repeated(alloc, stack, reason),
+        DerivationHead::Call(frame) => Ok(Derivation::Call(frame.assertion, frame.certificate)),
+        DerivationHead::BalancedCall => Ok(Derivation::BalancedCall),
+        DerivationHead::Consequence(stronger) => {
+            let part = boxed(alloc, stack)?;
+            Ok(Derivation::Consequence(stronger.assertion, stronger.certificate, part))
+        }
+    }
+}
+
+/// The derivation whose heads these are, each before those of its parts.
+pub fn build(alloc: Global, heads: Vec<DerivationHead>) -> Result<Derivation, NoMemory>
+    ensures { IfOk result (λ d. derivation_tree d ≡ grown derivation_shape (map derivation_head heads.items) []) }
+{
+    let mut left = heads;
+    let mut stack = Vec::new(alloc);
+    'heads: while let Some(made) = left.pop() {
+        let tree = plant(alloc, &mut stack, made)?;
+        stack.push(tree)?;
+    }
+    Ok(taken(&mut stack))
+}

@@ -1,0 +1,119 @@
+// Certificates: the heads of all nodes in the order of the text, and then the nodes from the last.
+ghost use Rattle.std.specs.Prelude.{◌<◌, ℕ, Some, length, map, IfOk};
+ghost use Rattle.qs_entail.specs.Certificates.{CertTree};
+ghost use Rattle.qs_entail.specs.View.{cert_tree};
+ghost use Rattle.qs_prooftext.specs.Answers.{Gives, Stands, StandAll};
+ghost use Rattle.qs_prooftext.specs.CertHeads.{cert_shape, head_view};
+ghost use Rattle.qs_prooftext.specs.CertRows.{fact_row, rule_row};
+ghost use Rattle.qs_prooftext.specs.Contexts.{setting_of};
+ghost use Rattle.qs_prooftext.specs.HeadWalks.{GivesHead, HeadsGo, HeadsLeft, PartsOf, headed_list, listed};
+ghost use Rattle.qs_prooftext.specs.Kinds.{a_certificate};
+ghost use Rattle.qs_prooftext.specs.Meanings.{Answer, means};
+ghost use Rattle.qs_prooftext.specs.Walking.{nodes_in};
+ghost use Rattle.qs_sexpr.specs.Trees.{Sexp, Sexps};
+
+use crate::context::Context;
+use crate::fault::TextFault;
+use crate::heads::{CertHead, fact_of, rule_head};
+use crate::lists::{Headed, behind_head, first_list};
+use crate::planting::build;
+use crate::rules::{FactWord, Rule, fact_leaves, fact_word, rule_leaves, rule_takes, rule_word};
+use qs_entail::Certificate;
+use qs_sexpr::Node;
+use std::alloc::Global;
+
+// ---- heads
+
+/// The node of a list with this rule, and how many of its parts are no certificates.
+fn of_rule(
+    alloc: Global,
+    context: Context<'_>,
+    rule: Rule,
+    headed: Headed<'_>,
+) -> Result<(CertHead, usize), TextFault>
+    requires { (ss : Sexps) × StandAll context.text.now headed.parts.now ss }
+    ensures { (parts : Sexps) → PartsOf context.entry.text.now headed.entry parts
+        → GivesHead a_certificate cert_shape head_view (setting_of context.entry) (listed (setting_of context.entry) headed.entry.at (Some (rule_row rule)) parts) parts result }
+{
+    if !rule_takes(rule, headed.behind) {
+        return Err(TextFault::UnknownForm(headed.at));
+    }
+    let made = rule_head(alloc, context, rule, headed.behind, headed.parts)?;
+    Ok((made, rule_leaves(rule)))
+}
+
+/// The node of a list with this fact, and how many of its parts are no certificates.
+fn of_fact(
+    alloc: Global,
+    context: Context<'_>,
+    word: FactWord,
+    headed: Headed<'_>,
+) -> Result<(CertHead, usize), TextFault>
+    requires { (ss : Sexps) × StandAll context.text.now headed.parts.now ss }
+    ensures { (parts : Sexps) → PartsOf context.entry.text.now headed.entry parts
+        → GivesHead a_certificate cert_shape head_view (setting_of context.entry) (listed (setting_of context.entry) headed.entry.at (Some (fact_row word)) parts) parts result }
+{
+    let leaves = fact_leaves(word);
+    if headed.behind != leaves + 1 {
+        return Err(TextFault::UnknownForm(headed.at));
+    }
+    let made = fact_of(alloc, context, word, headed.parts)?;
+    Ok((CertHead::Fact(made), leaves))
+}
+
+/// The node of a list, and how many of its parts are no certificates; they stand first.
+fn read_head(
+    alloc: Global,
+    context: Context<'_>,
+    headed: Headed<'_>,
+) -> Result<(CertHead, usize), TextFault>
+    requires { (ss : Sexps) × StandAll context.text.now headed.parts.now ss }
+    ensures { (place : ℕ) (parts : Sexps) → PartsOf context.entry.text.now headed.entry parts
+        → GivesHead a_certificate cert_shape head_view (setting_of context.entry) (means (setting_of context.entry) a_certificate (headed_list headed.entry place parts)) parts result }
+{
+    match rule_word(headed.word) {
+        Some(rule) => of_rule(alloc, context, rule, headed),
+        None => match fact_word(headed.word) {
+            Some(word) => of_fact(alloc, context, word, headed),
+            None => Err(TextFault::UnknownForm(headed.at)),
+        },
+    }
+}
+
+// ---- the walk
+
+/// Reads the head of the first certificate of the rest and its parts that are no certificates; the answer is what is
+/// left.
+fn next<'a>(
+    alloc: Global,
+    context: Context<'_>,
+    rest: &'a [Node],
+    heads: &mut Vec<CertHead>,
+) -> Result<&'a [Node], TextFault>
+    requires { (ss : Sexps) × StandAll context.text.now rest.now ss }
+    ensures goes { (due : Answer CertTree) → HeadsLeft a_certificate cert_shape (setting_of context.entry) context.entry.text.now rest.now (map head_view heads.old.items) due → 0 < length rest.now
+        → HeadsGo a_certificate cert_shape (setting_of context.entry) context.entry.text.now (nodes_in result) (map head_view heads.new.items) due }
+    ensures shorter { IfOk result (λ left. 0 < length rest.now → length left.now < length rest.now) }
+{
+    let headed = first_list(context.text, rest)?;
+    let (made, leaves) = read_head(alloc, context, headed)?;
+    heads.push(made)?;
+    Ok(behind_head(rest, leaves))
+}
+
+/// A certificate.
+pub fn read_certificate(
+    alloc: Global,
+    context: Context<'_>,
+    nodes: &[Node],
+) -> Result<Certificate, TextFault>
+    requires { (s : Sexp) × Stands context.text.now nodes.now s }
+    ensures { (s : Sexp) → Stands context.entry.text.now nodes.now s → Gives cert_tree (means (setting_of context.entry) a_certificate s) result }
+{
+    let mut heads = Vec::new(alloc);
+    let mut rest = nodes;
+    'trees: while !rest.is_empty() {
+        rest = next(alloc, context, rest, &mut heads)?;
+    }
+    Ok(build(alloc, heads)?)
+}

@@ -1,0 +1,97 @@
+// Derivations: the heads of all nodes in the order of the text, and then the nodes from the last.
+ghost use Rattle.std.specs.Prelude.{◌<◌, ℕ, Some, length, map, IfOk};
+ghost use Rattle.qs_prooftext.specs.Answers.{Gives, Stands, StandAll};
+ghost use Rattle.qs_prooftext.specs.Contexts.{setting_of};
+ghost use Rattle.qs_prooftext.specs.DerivationHeads.{derivation_head, derivation_shape, statement_row};
+ghost use Rattle.qs_prooftext.specs.HeadWalks.{GivesHead, HeadsGo, HeadsLeft, PartsOf, headed_list, listed};
+ghost use Rattle.qs_prooftext.specs.Kinds.{a_derivation};
+ghost use Rattle.qs_prooftext.specs.Meanings.{Answer, means};
+ghost use Rattle.qs_prooftext.specs.Walking.{nodes_in};
+ghost use Rattle.qs_sexpr.specs.Trees.{Sexp, Sexps};
+ghost use Rattle.qs_triples.specs.Derivations.{DerivationTree};
+ghost use Rattle.qs_triples.specs.TreeOf.{derivation_tree};
+
+use crate::building::build;
+use crate::context::Context;
+use crate::fault::TextFault;
+use crate::lists::{Headed, behind_head, first_list};
+use crate::statements::{
+    DerivationHead, Statement, statement_head, statement_leaves, statement_takes, statement_word,
+};
+use qs_sexpr::Node;
+use qs_triples::Derivation;
+use std::alloc::Global;
+
+// ---- heads
+
+/// The node of a list with this statement, and how many of its parts are no derivations.
+fn of_statement(
+    alloc: Global,
+    context: Context<'_>,
+    statement: Statement,
+    headed: Headed<'_>,
+) -> Result<(DerivationHead, usize), TextFault>
+    requires { (ss : Sexps) × StandAll context.text.now headed.parts.now ss }
+    ensures { (parts : Sexps) → PartsOf context.entry.text.now headed.entry parts
+        → GivesHead a_derivation derivation_shape derivation_head (setting_of context.entry) (listed (setting_of context.entry) headed.entry.at (Some (statement_row statement)) parts) parts result }
+{
+    if !statement_takes(statement, headed.behind) {
+        return Err(TextFault::UnknownForm(headed.at));
+    }
+    let made = statement_head(alloc, context, statement, headed.behind, headed.parts)?;
+    Ok((made, statement_leaves(statement)))
+}
+
+/// The node of a list, and how many of its parts are no derivations; they stand first.
+fn read_head(
+    alloc: Global,
+    context: Context<'_>,
+    headed: Headed<'_>,
+) -> Result<(DerivationHead, usize), TextFault>
+    requires { (ss : Sexps) × StandAll context.text.now headed.parts.now ss }
+    ensures { (place : ℕ) (parts : Sexps) → PartsOf context.entry.text.now headed.entry parts
+        → GivesHead a_derivation derivation_shape derivation_head (setting_of context.entry) (means (setting_of context.entry) a_derivation (headed_list headed.entry place parts)) parts result }
+{
+    match statement_word(headed.word) {
+        Some(statement) => of_statement(alloc, context, statement, headed),
+        None => Err(TextFault::UnknownForm(headed.at)),
+    }
+}
+
+// ---- the walk
+
+/// Reads the head of the first derivation of the rest and its parts that are no derivations; the answer is what is
+/// left.
+fn next<'a>(
+    alloc: Global,
+    context: Context<'_>,
+    rest: &'a [Node],
+    heads: &mut Vec<DerivationHead>,
+) -> Result<&'a [Node], TextFault>
+    requires { (ss : Sexps) × StandAll context.text.now rest.now ss }
+    ensures goes { (due : Answer DerivationTree) → HeadsLeft a_derivation derivation_shape (setting_of context.entry) context.entry.text.now rest.now (map derivation_head heads.old.items) due → 0 < length rest.now
+        → HeadsGo a_derivation derivation_shape (setting_of context.entry) context.entry.text.now (nodes_in result) (map derivation_head heads.new.items) due }
+    ensures shorter { IfOk result (λ left. 0 < length rest.now → length left.now < length rest.now) }
+{
+    let headed = first_list(context.text, rest)?;
+    let (made, leaves) = read_head(alloc, context, headed)?;
+    heads.push(made)?;
+    Ok(behind_head(rest, leaves))
+}
+
+/// A derivation.
+pub fn read_derivation(
+    alloc: Global,
+    context: Context<'_>,
+    nodes: &[Node],
+) -> Result<Derivation, TextFault>
+    requires { (s : Sexp) × Stands context.text.now nodes.now s }
+    ensures { (s : Sexp) → Stands context.entry.text.now nodes.now s → Gives derivation_tree (means (setting_of context.entry) a_derivation s) result }
+{
+    let mut heads = Vec::new(alloc);
+    let mut rest = nodes;
+    'trees: while !rest.is_empty() {
+        rest = next(alloc, context, rest, &mut heads)?;
+    }
+    Ok(build(alloc, heads)?)
+}

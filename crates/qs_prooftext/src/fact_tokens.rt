@@ -1,0 +1,121 @@
+// Combinations and facts as tokens.
+ghost use Rattle.std.specs.Prelude.{◌≡◌, ◌++◌, ◌∷◌, [], map, OnOk};
+ghost use Rattle.qs_entail.specs.View.{fact_tree, item_view, items_view};
+ghost use Rattle.qs_sexpr.specs.Marks.{marks, opens, word};
+ghost use Rattle.qs_prooftext.specs.Putting.{Puts, fact_begins, list_marks, words_in_table};
+ghost use Rattle.qs_prooftext.specs.Writing.{combination_form, item_form, term_form};
+
+use crate::naming::{WordTable, function_word};
+use crate::putting::{begin, put, put_named, put_term, put_variable};
+use qs_assert::Term;
+use qs_base::NoMemory;
+use qs_entail::{Fact, Item};
+use qs_sexpr::Token;
+use std::alloc::Global;
+
+fn put_item<'a>(out: &mut Vec<Token<'a>>, item: Item) -> Result<(), NoMemory>
+    ensures { OnOk result (Puts out.old.items (marks (item_form (item_view item))) out.new.items) }
+{
+    put(out, Token::Open)?;
+    match item {
+        Item::Once(times, first) => {
+            put(out, Token::Natural(times))?;
+            put(out, Token::Number(first))?;
+        }
+        Item::Twice(times, first, second) => {
+            put(out, Token::Natural(times))?;
+            put(out, Token::Number(first))?;
+            put(out, Token::Number(second))?;
+        }
+    }
+    put(out, Token::Close)
+}
+
+fn put_items<'a>(out: &mut Vec<Token<'a>>, items: &[Item]) -> Result<(), NoMemory>
+    ensures { OnOk result (Puts out.old.items (list_marks (map item_form (items_view items.now))) out.new.items) }
+{
+    for item in items {
+        put_item(out, *item)?;
+    }
+    Ok(())
+}
+
+/// Puts a combination.
+pub fn put_combination<'a>(out: &mut Vec<Token<'a>>, items: &[Item]) -> Result<(), NoMemory>
+    ensures { OnOk result (Puts out.old.items (marks (combination_form (items_view items.now))) out.new.items) }
+{
+    put(out, Token::Open)?;
+    put_items(out, items)?;
+    put(out, Token::Close)
+}
+
+// Puts the beginning of a list with this head and a term.
+fn begin_with<'a>(
+    alloc: Global,
+    out: &mut Vec<Token<'a>>,
+    table: WordTable<'a>,
+    head: &'a [u8],
+    t: &'a Term,
+) -> Result<(), NoMemory>
+    ensures { OnOk result (Puts out.old.items (opens ∷ word head.now ∷ marks (term_form (words_in_table table.entry) t.now)) out.new.items) }
+{
+    begin(out, head)?;
+    put_term(alloc, out, table, t)
+}
+
+/// Puts the beginning of a fact, up to the certificate behind it.
+pub fn begin_fact<'a>(
+    alloc: Global,
+    out: &mut Vec<Token<'a>>,
+    table: WordTable<'a>,
+    fact: &'a Fact,
+) -> Result<(), NoMemory>
+    ensures { OnOk result (Puts out.old.items (fact_begins (words_in_table table.entry) (fact_tree fact.now)) out.new.items) }
+{
+    match fact {
+        Fact::Range(x) => {
+            begin(out, b"range")?;
+            put_variable(out, table, *x)
+        }
+        Fact::CostRange(f) => {
+            begin(out, b"range")?;
+            put_named(out, b"cost", function_word(table, *f))
+        }
+        Fact::Apart(number, items) => {
+            begin(out, b"apart")?;
+            put(out, Token::Number(*number))?;
+            put_combination(out, items)
+        }
+        Fact::NumIs(t, items) => {
+            begin_with(alloc, out, table, b"num", t)?;
+            put_combination(out, items)
+        }
+        Fact::NumBounds(t) => begin_with(alloc, out, table, b"pos", t),
+        Fact::WrapUnsignedIs(t, first, second) => {
+            begin_with(alloc, out, table, b"wrapu", t)?;
+            put_combination(out, first)?;
+            put_combination(out, second)
+        }
+        Fact::WrapSignedIs(t, first, second) => {
+            begin_with(alloc, out, table, b"wraps", t)?;
+            put_combination(out, first)?;
+            put_combination(out, second)
+        }
+        Fact::WrapUnsignedBounds(t) => begin_with(alloc, out, table, b"boundu", t),
+        Fact::WrapSignedBounds(t) => begin_with(alloc, out, table, b"bounds", t),
+        Fact::QuotientBounds(t, divisor) => {
+            begin_with(alloc, out, table, b"div", t)?;
+            put(out, Token::Natural(*divisor))
+        }
+        Fact::BitsBound(t) => begin_with(alloc, out, table, b"bits", t),
+        Fact::BitsHalf(t, items) => {
+            begin_with(alloc, out, table, b"half", t)?;
+            put_combination(out, items)
+        }
+        Fact::BitsRise(t, u, items) => {
+            begin_with(alloc, out, table, b"mono", t)?;
+            put_term(alloc, out, table, u)?;
+            put_combination(out, items)
+        }
+    }
+}

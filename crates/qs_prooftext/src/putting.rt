@@ -1,0 +1,279 @@
+// Terms, conditions and assertions as tokens: one walk over their nodes, with a stack of what is still due.
+ghost use Rattle.std.specs.Prelude.{◌≡◌, ◌++◌, ◌∷◌, [], map, replicate, reverse, OnOk};
+ghost use Rattle.qs_assert.specs.declared.node.Node.TheVariants.{Term as TermHead};
+ghost use Rattle.qs_sexpr.specs.Marks.{closes, mark_of, marks, opens, word};
+ghost use Rattle.qs_prooftext.specs.Putting.{Puts, all_put, assertion_put, condition_put, node_put, settled, term_put, waiting, words_in_table};
+ghost use Rattle.qs_prooftext.specs.Writing.{assertion_form, condition_form, term_form, variable_form};
+
+use crate::naming::{WordTable, function_word, variable_word};
+use qs_assert::{Assertion, AssertionNode, Cond, CondNode, Node, Term, TermNode, Var, VarKind};
+use qs_base::NoMemory;
+use qs_sexpr::Token;
+use std::alloc::Global;
+
+/// What is due behind the tokens so far.
+#[derive(Clone, Copy)]
+pub enum Due {
+    /// A tree.
+    Tree,
+    /// A number.
+    Natural(u64),
+    /// The end of a list.
+    Close,
+}
+
+pub fn put<'a>(out: &mut Vec<Token<'a>>, token: Token<'a>) -> Result<(), NoMemory>
+    ensures { OnOk result (Puts out.old.items (mark_of token.entry ∷ []) out.new.items) }
+{
+    out.push(token)?;
+    Ok(())
+}
+
+/// Puts the beginning of a list with this head.
+pub fn begin<'a>(out: &mut Vec<Token<'a>>, head: &'a [u8]) -> Result<(), NoMemory>
+    ensures { OnOk result (Puts out.old.items (opens ∷ word head.now ∷ []) out.new.items) }
+{
+    put(out, Token::Open)?;
+    put(out, Token::Symbol(head))
+}
+
+/// Puts a list with this head and one symbol.
+pub fn put_named<'a>(
+    out: &mut Vec<Token<'a>>,
+    head: &'a [u8],
+    name: &'a [u8],
+) -> Result<(), NoMemory>
+    ensures { OnOk result (Puts out.old.items (opens ∷ word head.now ∷ word name.now ∷ closes ∷ []) out.new.items) }
+{
+    begin(out, head)?;
+    put(out, Token::Symbol(name))?;
+    put(out, Token::Close)
+}
+
+/// Puts a variable.
+pub fn put_variable<'a>(
+    out: &mut Vec<Token<'a>>,
+    table: WordTable<'a>,
+    x: Var,
+) -> Result<(), NoMemory>
+    ensures { OnOk result (Puts out.old.items (marks (variable_form (words_in_table table.entry) x x.kind)) out.new.items) }
+{
+    match x.kind {
+        VarKind::Plain(_) => put(out, Token::Symbol(variable_word(table, x))),
+        VarKind::Temporary(_) => put(out, Token::Symbol(variable_word(table, x))),
+        VarKind::Old(number) => {
+            let plain = Var {
+                kind: VarKind::Plain(number),
+                number: x.number,
+            };
+            put_named(out, b"old", variable_word(table, plain))
+        }
+        VarKind::Returned => {
+            begin(out, b"result")?;
+            put(out, Token::Close)
+        }
+    }
+}
+
+// ---- what is due
+
+fn add_trees(due: &mut Vec<Due>, count: usize) -> Result<(), NoMemory>
+    ensures { OnOk result (reverse due.new.items ≡ replicate count Due.Tree ++ reverse due.old.items) }
+{
+    for _k in 0..count {
+        due.push(Due::Tree)?;
+    }
+    Ok(())
+}
+
+/// Puts the beginning of a list of so many trees.
+fn begin_list<'a>(
+    out: &mut Vec<Token<'a>>,
+    due: &mut Vec<Due>,
+    head: &'a [u8],
+    trees: usize,
+) -> Result<(), NoMemory>
+    ensures puts { OnOk result (Puts out.old.items (opens ∷ word head.now ∷ []) out.new.items) }
+    ensures dues { OnOk result (reverse due.new.items ≡ replicate trees Due.Tree ++ (Due.Close ∷ reverse due.old.items)) }
+{
+    begin(out, head)?;
+    due.push(Due::Close)?;
+    add_trees(due, trees)
+}
+
+/// Puts what is due up to the next tree.
+fn settle<'a>(out: &mut Vec<Token<'a>>, due: &mut Vec<Due>) -> Result<(), NoMemory>
+    ensures puts { OnOk result (Puts out.old.items (settled (reverse due.old.items)) out.new.items) }
+    ensures dues { OnOk result (reverse due.new.items ≡ waiting (reverse due.old.items)) }
+{
+    'due: while let Some(first) = due.pop() {
+        match first {
+            Due::Tree => return Ok(()),
+            Due::Natural(value) => put(out, Token::Natural(value))?,
+            Due::Close => put(out, Token::Close)?,
+        }
+    }
+    Ok(())
+}
+
+// ---- nodes
+
+fn put_term_node<'a>(
+    out: &mut Vec<Token<'a>>,
+    due: &mut Vec<Due>,
+    table: WordTable<'a>,
+    node: TermNode,
+) -> Result<(), NoMemory>
+    ensures puts { OnOk result (Puts out.old.items (term_put (words_in_table table.entry) node).begins out.new.items) }
+    ensures dues { OnOk result (reverse due.new.items ≡ (term_put (words_in_table table.entry) node).dues ++ reverse due.old.items) }
+{
+    match node {
+        TermNode::Number(value) => put(out, Token::Number(value)),
+        TermNode::Variable(x) => put_variable(out, table, x),
+        TermNode::Add(count) => begin_list(out, due, b"add", count),
+        TermNode::Sub => begin_list(out, due, b"sub", 2),
+        TermNode::Mul(count) => begin_list(out, due, b"mul", count),
+        TermNode::Div(divisor) => {
+            begin(out, b"div")?;
+            due.push(Due::Close)?;
+            due.push(Due::Natural(divisor))?;
+            add_trees(due, 1)
+        }
+        TermNode::WrapUnsigned => begin_list(out, due, b"wrapu", 1),
+        TermNode::WrapSigned => begin_list(out, due, b"wraps", 1),
+        TermNode::Bits => begin_list(out, due, b"bits", 1),
+    }
+}
+
+fn put_condition_node<'a>(
+    out: &mut Vec<Token<'a>>,
+    due: &mut Vec<Due>,
+    node: CondNode,
+) -> Result<(), NoMemory>
+    ensures puts { OnOk result (Puts out.old.items (condition_put node).begins out.new.items) }
+    ensures dues { OnOk result (reverse due.new.items ≡ (condition_put node).dues ++ reverse due.old.items) }
+{
+    match node {
+        CondNode::Le => begin_list(out, due, b"le", 2),
+        CondNode::Lt => begin_list(out, due, b"lt", 2),
+        CondNode::Eq => begin_list(out, due, b"eq", 2),
+        CondNode::Ne => begin_list(out, due, b"ne", 2),
+        CondNode::Not => begin_list(out, due, b"not", 1),
+        CondNode::And(count) => begin_list(out, due, b"and", count),
+        CondNode::Or(count) => begin_list(out, due, b"or", count),
+    }
+}
+
+fn put_assertion_node<'a>(
+    out: &mut Vec<Token<'a>>,
+    due: &mut Vec<Due>,
+    table: WordTable<'a>,
+    node: &'a AssertionNode,
+) -> Result<(), NoMemory>
+    ensures puts { OnOk result (Puts out.old.items (assertion_put (words_in_table table.entry) node.now).begins out.new.items) }
+    ensures dues { OnOk result (reverse due.new.items ≡ (assertion_put (words_in_table table.entry) node.now).dues ++ reverse due.old.items) }
+{
+    match node {
+        AssertionNode::Natural(value) => put(out, Token::Natural(*value)),
+        AssertionNode::Infinity => begin_list(out, due, b"inf", 0),
+        AssertionNode::Cost(f) => put_named(out, b"cost", function_word(table, *f)),
+        AssertionNode::Num => begin_list(out, due, b"num", 1),
+        AssertionNode::Total(count) => begin_list(out, due, b"add", *count),
+        AssertionNode::Greatest(count) => begin_list(out, due, b"max", *count),
+        AssertionNode::Product(count) => begin_list(out, due, b"mul", *count),
+        AssertionNode::Guard => begin_list(out, due, b"guard", 2),
+        AssertionNode::If => begin_list(out, due, b"if", 3),
+        AssertionNode::Named(name) => put_named(out, b"name", name.bytes()),
+    }
+}
+
+fn put_node<'a>(
+    out: &mut Vec<Token<'a>>,
+    due: &mut Vec<Due>,
+    table: WordTable<'a>,
+    node: &'a Node,
+) -> Result<(), NoMemory>
+    ensures puts { OnOk result (Puts out.old.items (node_put (words_in_table table.entry) node.now).begins out.new.items) }
+    ensures dues { OnOk result (reverse due.new.items ≡ (node_put (words_in_table table.entry) node.now).dues ++ reverse due.old.items) }
+{
+    match node {
+        Node::Term(head) => put_term_node(out, due, table, *head),
+        Node::Condition(head) => put_condition_node(out, due, *head),
+        Node::Assertion(head) => put_assertion_node(out, due, table, head),
+    }
+}
+
+// ---- trees
+
+fn put_term_nodes<'a>(
+    alloc: Global,
+    out: &mut Vec<Token<'a>>,
+    table: WordTable<'a>,
+    nodes: &'a [TermNode],
+) -> Result<(), NoMemory>
+    ensures { OnOk result (Puts out.old.items (all_put (words_in_table table.entry) (map TermHead nodes.now) (Due.Tree ∷ [])) out.new.items) }
+{
+    let mut due = Vec::new(alloc);
+    due.push(Due::Tree)?;
+    for node in nodes {
+        settle(out, &mut due)?;
+        put_term_node(out, &mut due, table, *node)?;
+    }
+    settle(out, &mut due)
+}
+
+/// Puts a term.
+#[tactic(auto, using(crate::proofs::PutLaws::term_alone))]
+pub fn put_term<'a>(
+    alloc: Global,
+    out: &mut Vec<Token<'a>>,
+    table: WordTable<'a>,
+    t: &'a Term,
+) -> Result<(), NoMemory>
+    ensures { OnOk result (Puts out.old.items (marks (term_form (words_in_table table.entry) t.now)) out.new.items) }
+{
+    put_term_nodes(alloc, out, table, t.nodes())
+}
+
+fn put_nodes<'a>(
+    alloc: Global,
+    out: &mut Vec<Token<'a>>,
+    table: WordTable<'a>,
+    nodes: &'a [Node],
+) -> Result<(), NoMemory>
+    ensures { OnOk result (Puts out.old.items (all_put (words_in_table table.entry) nodes.now (Due.Tree ∷ [])) out.new.items) }
+{
+    let mut due = Vec::new(alloc);
+    due.push(Due::Tree)?;
+    for node in nodes {
+        settle(out, &mut due)?;
+        put_node(out, &mut due, table, node)?;
+    }
+    settle(out, &mut due)
+}
+
+/// Puts a condition.
+#[tactic(auto, using(crate::proofs::PutLaws::condition_alone))]
+pub fn put_condition<'a>(
+    alloc: Global,
+    out: &mut Vec<Token<'a>>,
+    table: WordTable<'a>,
+    c: &'a Cond,
+) -> Result<(), NoMemory>
+    ensures { OnOk result (Puts out.old.items (marks (condition_form (words_in_table table.entry) c.now)) out.new.items) }
+{
+    put_nodes(alloc, out, table, c.nodes())
+}
+
+/// Puts an assertion.
+#[tactic(auto, using(crate::proofs::PutLaws::assertion_alone))]
+pub fn put_assertion<'a>(
+    alloc: Global,
+    out: &mut Vec<Token<'a>>,
+    table: WordTable<'a>,
+    a: &'a Assertion,
+) -> Result<(), NoMemory>
+    ensures { OnOk result (Puts out.old.items (marks (assertion_form (words_in_table table.entry) a.now)) out.new.items) }
+{
+    put_nodes(alloc, out, table, a.nodes())
+}

@@ -1,0 +1,400 @@
+// The lists of a whole file: definitions and entries.
+ghost use Rattle.std.specs.Prelude.{◌≡◌, ℕ, IfOk, bytes_eq};
+ghost use Rattle.qs_core.specs.TreeOf.{function_tree};
+ghost use Rattle.qs_core.specs.UnitTrees.{unit_tree};
+ghost use Rattle.qs_entail.specs.View.{cert_tree};
+ghost use Rattle.qs_triples.specs.TreeOf.{derivation_tree, proofs_tree};
+ghost use Rattle.qs_triples.specs.Entries as entries;
+ghost use Rattle.qs_prooftext.specs.Answers.{Gives, StandAll, Stands};
+ghost use Rattle.qs_prooftext.specs.Contexts.{setting_of};
+ghost use Rattle.qs_prooftext.specs.Firsts.{first_means};
+ghost use Rattle.qs_prooftext.specs.Kinds.{a_certificate, a_definition_body, a_derivation, an_assertion};
+ghost use Rattle.qs_prooftext.specs.Proofs.{file_means, headed_top_means, top_means};
+ghost use Rattle.qs_prooftext.specs.Settings as settings;
+ghost use Rattle.qs_prooftext.specs.Tops as spec;
+ghost use Rattle.qs_prooftext.specs.Tops.{GivesPart, entry_parts_mean, first_only, first_word, named_define, new_entry_means, only_part, part_means, parts_view, sofar_of};
+ghost use Rattle.qs_prooftext.specs.Walking.{HasParts};
+ghost use Rattle.qs_sexpr.specs.Trees.{Sexp, Sexps, symbol};
+
+use crate::assertions::{read_assertion, read_definition};
+use crate::certificates::read_certificate;
+use crate::context::{Context, Names, find_function, is_defined};
+use crate::derivations::read_derivation;
+use crate::fault::TextFault;
+use crate::parts::{Part, after_first, head_of, part_of};
+use crate::variables::{returned, words_of};
+use qs_assert::{Assertion, Define};
+use qs_base::{FnId, Name};
+use qs_core::{CoreFunction, CoreUnit};
+use qs_entail::Certificate;
+use qs_sexpr::{Node, first_part};
+use qs_triples::{Derivation, FunctionProof, Proofs, Spec};
+use std::alloc::Global;
+
+/// A file: its text, the unit, and which of its functions are open.
+#[derive(Clone, Copy)]
+pub struct File<'a> {
+    /// the text
+    pub text: &'a [u8],
+    /// the unit
+    pub unit: &'a CoreUnit,
+    /// whether each of its functions is open
+    pub is_open: &'a [bool],
+}
+
+// ---- definitions
+
+fn in_definition<'a>(file: File<'a>) -> Context<'a>
+    ensures text { result.text.now ≡ file.entry.text.now }
+    ensures setting { setting_of result ≡ settings.in_definition (unit_tree file.entry.unit.now) }
+{
+    Context {
+        text: file.text,
+        functions: &file.unit.functions,
+        words: &[],
+        result: None,
+        names: None,
+    }
+}
+
+/// The assertion for which a definition stands, in the first of these parts.
+#[tactic(auto, using(crate::proofs::FirstLaws::first_gives, crate::proofs::FirstLaws::first_none, crate::proofs::FirstLaws::first_tree))]
+fn first_definition(
+    alloc: Global,
+    context: Context<'_>,
+    parts: &[Node],
+) -> Result<Assertion, TextFault>
+    requires { (ss : Sexps) × StandAll context.text.now parts.now ss }
+    ensures { (ss : Sexps) → StandAll context.entry.text.now parts.now ss
+        → Gives (λ a. a) (first_means (setting_of context.entry) a_definition_body ss) result }
+{
+    match first_part(parts) {
+        Some((first, _others)) => read_definition(alloc, context, first),
+        None => Err(TextFault::UnknownForm(0)),
+    }
+}
+
+/// `(define word ..)`
+fn define(
+    alloc: Global,
+    file: File<'_>,
+    at: u32,
+    word: &[u8],
+    parts: &[Node],
+    proofs: &mut Proofs,
+) -> Result<(), TextFault>
+    requires { (ss : Sexps) × StandAll file.text.now parts.now ss }
+    ensures { (ss : Sexps) → StandAll file.entry.text.now parts.now ss
+        → Gives (λ done. proofs_tree proofs.new) (named_define (sofar_of file.entry proofs.old) at word.now ss) result }
+{
+    let names = Names {
+        is_open: file.is_open,
+        defines: &proofs.defines,
+    };
+    if is_defined(Some(names), &file.unit.functions, word) {
+        return Err(TextFault::Duplicate(at));
+    }
+    let body = first_definition(alloc, in_definition(file), parts)?;
+    let name = Name::new(alloc, word)?;
+    proofs.defines.push(Define { name, body })?;
+    Ok(())
+}
+
+// ---- entries
+
+/// The nodes of the only part of a list with this head.
+fn inner<'a>(text: &'a [u8], head: &[u8], nodes: &'a [Node]) -> Result<&'a [Node], TextFault>
+    ensures { (s : Sexp) → Stands text.now nodes.now s → GivesPart text.now (only_part head.now s) result }
+{
+    match part_of(text, nodes) {
+        Part::Number(at, _) => Err(TextFault::UnknownForm(at)),
+        Part::Symbol(at, _) => Err(TextFault::UnknownForm(at)),
+        Part::List(at, count, parts) => match head_of(text, parts) {
+            None => Err(TextFault::UnknownForm(at)),
+            Some((word, others)) => {
+                if head == word && count == 2 {
+                    Ok(others)
+                } else {
+                    Err(TextFault::UnknownForm(at))
+                }
+            }
+        },
+    }
+}
+
+fn first_inner<'a>(text: &'a [u8], head: &[u8], parts: &'a [Node]) -> Result<&'a [Node], TextFault>
+    ensures { (ss : Sexps) → StandAll text.now parts.now ss → GivesPart text.now (first_only head.now ss) result }
+{
+    match first_part(parts) {
+        Some((first, _others)) => inner(text, head, first),
+        None => Err(TextFault::UnknownForm(0)),
+    }
+}
+
+fn assertion_in(
+    alloc: Global,
+    context: Context<'_>,
+    head: &[u8],
+    parts: &[Node],
+) -> Result<Assertion, TextFault>
+    requires { (ss : Sexps) × StandAll context.text.now parts.now ss }
+    ensures { (ss : Sexps) → StandAll context.entry.text.now parts.now ss
+        → Gives (λ a. a) (part_means (setting_of context.entry) an_assertion head.now ss) result }
+{
+    read_assertion(alloc, context, first_inner(context.text, head, parts)?)
+}
+
+fn certificate_in(
+    alloc: Global,
+    context: Context<'_>,
+    head: &[u8],
+    parts: &[Node],
+) -> Result<Certificate, TextFault>
+    requires { (ss : Sexps) × StandAll context.text.now parts.now ss }
+    ensures { (ss : Sexps) → StandAll context.entry.text.now parts.now ss
+        → Gives cert_tree (part_means (setting_of context.entry) a_certificate head.now ss) result }
+{
+    read_certificate(alloc, context, first_inner(context.text, head, parts)?)
+}
+
+fn derivation_in(
+    alloc: Global,
+    context: Context<'_>,
+    head: &[u8],
+    parts: &[Node],
+) -> Result<Derivation, TextFault>
+    requires { (ss : Sexps) × StandAll context.text.now parts.now ss }
+    ensures { (ss : Sexps) → StandAll context.entry.text.now parts.now ss
+        → Gives derivation_tree (part_means (setting_of context.entry) a_derivation head.now ss) result }
+{
+    read_derivation(alloc, context, first_inner(context.text, head, parts)?)
+}
+
+fn has_entry(proofs: &Proofs, f: FnId) -> bool
+    ensures { result ≡ entries.has_entry (proofs_tree proofs.now) f.0 }
+{
+    for e in &proofs.functions {
+        if e.function.0 == f.0 {
+            return true;
+        }
+    }
+    false
+}
+
+/// `.. (pre A) (post A) (entry CERT) (body NODE)`
+fn read_entry(
+    alloc: Global,
+    context: Context<'_>,
+    f: FnId,
+    parts: &[Node],
+) -> Result<FunctionProof, TextFault>
+    requires { (ss : Sexps) × StandAll context.text.now parts.now ss }
+    ensures parts { (ss : Sexps) → StandAll context.entry.text.now parts.now ss
+        → Gives parts_view (entry_parts_mean (setting_of context.entry) ss) result }
+    ensures function { IfOk result (λ e. e.function ≡ f) }
+{
+    let pre = assertion_in(alloc, context, b"pre", parts)?;
+    let behind_pre = after_first(parts);
+    let post = assertion_in(alloc, context, b"post", behind_pre)?;
+    let behind_post = after_first(behind_pre);
+    let entry = certificate_in(alloc, context, b"entry", behind_post)?;
+    let body = derivation_in(alloc, context, b"body", after_first(behind_post))?;
+    Ok(FunctionProof {
+        function: f,
+        spec: Spec { pre, post },
+        entry,
+        body,
+    })
+}
+
+fn new_entry(
+    alloc: Global,
+    file: File<'_>,
+    f: FnId,
+    function: &CoreFunction,
+    parts: &[Node],
+    proofs: &Proofs,
+) -> Result<FunctionProof, TextFault>
+    requires { (ss : Sexps) × StandAll file.text.now parts.now ss }
+    ensures parts { (ss : Sexps) → StandAll file.entry.text.now parts.now ss
+        → Gives parts_view (new_entry_means (sofar_of file.entry proofs.now) (function_tree function.now) ss) result }
+    ensures function { IfOk result (λ e. e.function ≡ f) }
+{
+    let words = words_of(alloc, function)?;
+    let context = Context {
+        text: file.text,
+        functions: &file.unit.functions,
+        words: &words,
+        result: returned(function.result_type),
+        names: Some(Names {
+            is_open: file.is_open,
+            defines: &proofs.defines,
+        }),
+    };
+    read_entry(alloc, context, f, parts)
+}
+
+fn known_entry(
+    alloc: Global,
+    file: File<'_>,
+    at: u32,
+    f: FnId,
+    function: &CoreFunction,
+    parts: &[Node],
+    proofs: &mut Proofs,
+) -> Result<(), TextFault>
+    requires { (ss : Sexps) × StandAll file.text.now parts.now ss }
+    ensures { (ss : Sexps) → StandAll file.entry.text.now parts.now ss
+        → Gives (λ done. proofs_tree proofs.new) (spec.known_entry (sofar_of file.entry proofs.old) at f.0 (function_tree function.now) ss) result }
+{
+    if has_entry(proofs, f) {
+        return Err(TextFault::Duplicate(at));
+    }
+    let e = new_entry(alloc, file, f, function, parts, proofs)?;
+    proofs.functions.push(e)?;
+    Ok(())
+}
+
+/// `(function word ..)`
+fn entry(
+    alloc: Global,
+    file: File<'_>,
+    at: u32,
+    word: &[u8],
+    parts: &[Node],
+    proofs: &mut Proofs,
+) -> Result<(), TextFault>
+    requires { (ss : Sexps) × StandAll file.text.now parts.now ss }
+    ensures { (ss : Sexps) → StandAll file.entry.text.now parts.now ss
+        → Gives (λ done. proofs_tree proofs.new) (spec.named_entry (sofar_of file.entry proofs.old) at word.now ss) result }
+{
+    match find_function(&file.unit.functions, word)? {
+        None => Err(TextFault::NoSuchFunction(at)),
+        Some(f) => match file.unit.functions.get(f.0 as usize) {
+            None => Err(TextFault::NoSuchFunction(at)),
+            Some(function) => known_entry(alloc, file, at, f, function, parts, proofs),
+        },
+    }
+}
+
+// ---- the file
+
+/// The symbol that is the first of these parts, or the place of what is none.
+fn first_symbol<'a>(text: &'a [u8], parts: &'a [Node]) -> Result<&'a [u8], TextFault>
+    ensures { (ss : Sexps) → StandAll text.now parts.now ss → Gives (λ word. word.now) (first_word ss) result }
+{
+    match first_part(parts) {
+        Some((first, _others)) => match part_of(text, first) {
+            Part::Number(place, _) => Err(TextFault::UnknownForm(place)),
+            Part::Symbol(_, word) => Ok(word),
+            Part::List(place, _, _) => Err(TextFault::UnknownForm(place)),
+        },
+        None => Err(TextFault::UnknownForm(0)),
+    }
+}
+
+fn definition(
+    alloc: Global,
+    file: File<'_>,
+    at: u32,
+    others: &[Node],
+    proofs: &mut Proofs,
+) -> Result<(), TextFault>
+    requires { (ss : Sexps) × StandAll file.text.now others.now ss }
+    ensures { (ss : Sexps) → StandAll file.entry.text.now others.now ss
+        → Gives (λ done. proofs_tree proofs.new) (spec.definition (sofar_of file.entry proofs.old) at ss) result }
+{
+    let name = first_symbol(file.text, others)?;
+    define(alloc, file, at, name, after_first(others), proofs)
+}
+
+fn function(
+    alloc: Global,
+    file: File<'_>,
+    at: u32,
+    others: &[Node],
+    proofs: &mut Proofs,
+) -> Result<(), TextFault>
+    requires { (ss : Sexps) × StandAll file.text.now others.now ss }
+    ensures { (ss : Sexps) → StandAll file.entry.text.now others.now ss
+        → Gives (λ done. proofs_tree proofs.new) (spec.function (sofar_of file.entry proofs.old) at ss) result }
+{
+    let name = first_symbol(file.text, others)?;
+    entry(alloc, file, at, name, after_first(others), proofs)
+}
+
+fn is_word(head: &[u8], word: &[u8]) -> bool
+    ensures { result ≡ bytes_eq head.now word.now }
+{
+    head == word
+}
+
+#[tactic(auto, using(crate::proofs::TopLaws::define_top, crate::proofs::TopLaws::define_unfit, crate::proofs::TopLaws::function_top, crate::proofs::TopLaws::function_unfit, crate::proofs::TopLaws::unknown_top))]
+fn headed_top(
+    alloc: Global,
+    file: File<'_>,
+    at: u32,
+    head: &[u8],
+    count: usize,
+    others: &[Node],
+    proofs: &mut Proofs,
+) -> Result<(), TextFault>
+    requires { (ss : Sexps) × StandAll file.text.now others.now ss }
+    ensures { (place : ℕ) (ss : Sexps) → StandAll file.entry.text.now others.now ss → HasParts count ss
+        → Gives (λ done. proofs_tree proofs.new) (headed_top_means (sofar_of file.entry proofs.old) at (symbol place head.now) ss) result }
+{
+    if is_word(head, b"define") {
+        if count == 3 {
+            definition(alloc, file, at, others, proofs)
+        } else {
+            Err(TextFault::UnknownForm(at))
+        }
+    } else if is_word(head, b"function") {
+        if count == 6 {
+            function(alloc, file, at, others, proofs)
+        } else {
+            Err(TextFault::UnknownForm(at))
+        }
+    } else {
+        Err(TextFault::UnknownForm(at))
+    }
+}
+
+#[tactic(auto, using(crate::proofs::TopLaws::top_headless, crate::proofs::TopLaws::top_headed, crate::proofs::AssertionLaws::has_parts))]
+fn read_top(
+    alloc: Global,
+    file: File<'_>,
+    nodes: &[Node],
+    proofs: &mut Proofs,
+) -> Result<(), TextFault>
+    requires { (s : Sexp) × Stands file.text.now nodes.now s }
+    ensures { (s : Sexp) → Stands file.entry.text.now nodes.now s
+        → Gives (λ done. proofs_tree proofs.new) (top_means (sofar_of file.entry proofs.old) s) result }
+{
+    match part_of(file.text, nodes) {
+        Part::Number(at, _) => Err(TextFault::UnknownForm(at)),
+        Part::Symbol(at, _) => Err(TextFault::UnknownForm(at)),
+        Part::List(at, count, parts) => match head_of(file.text, parts) {
+            None => Err(TextFault::UnknownForm(at)),
+            Some((head, others)) => headed_top(alloc, file, at, head, count, others, proofs),
+        },
+    }
+}
+
+/// The proofs that the lists and atoms of a file are.
+pub fn read_tops(alloc: Global, file: File<'_>, nodes: &[Node]) -> Result<Proofs, TextFault>
+    requires { (ss : Sexps) × StandAll file.text.now nodes.now ss }
+    ensures { (ss : Sexps) → StandAll file.entry.text.now nodes.now ss
+        → Gives proofs_tree (file_means (unit_tree file.entry.unit.now) (spec.open_in file.entry) ss) result }
+{
+    let mut proofs = Proofs {
+        defines: Vec::new(alloc),
+        functions: Vec::new(alloc),
+    };
+    let mut rest = nodes;
+    'tops: while let Some((first, others)) = first_part(rest) {
+        read_top(alloc, file, first, &mut proofs)?;
+        rest = others;
+    }
+    Ok(proofs)
+}

@@ -1,0 +1,65 @@
+// Variables as they are written.
+ghost use Rattle.std.specs.Prelude.{◌≡◌, map, IfOk};
+ghost use Rattle.std.specs.List.{slice_get};
+ghost use Rattle.qs_core.specs.UnitTrees.{unit_tree};
+ghost use Rattle.qs_prooftext.specs.Contexts.{word_view};
+ghost use Rattle.qs_prooftext.specs.Writing as spec;
+ghost use Rattle.qs_prooftext.specs.Writing.{Words, variable_form, word_for, words_in};
+ghost use Rattle.qs_triples.specs.Mentions.{plain_variable};
+
+use crate::context::Word;
+use crate::variables::words_of;
+use qs_assert::{Var, VarKind};
+use qs_base::{FnId, Name, NoMemory};
+use qs_core::CoreUnit;
+use std::alloc::Global;
+
+/// The words of the variables of a function.
+fn words_in(alloc: Global, unit: &CoreUnit, f: FnId) -> Result<Vec<Word>, NoMemory>
+    ensures { IfOk result (λ words. map word_view words.items ≡ words_in (slice_get (unit_tree unit.now).functions f.0)) }
+{
+    match unit.functions.get(f.0 as usize) {
+        Some(function) => words_of(alloc, function),
+        None => Ok(Vec::new(alloc)),
+    }
+}
+
+/// The word for a variable; what has none is written as nothing.
+fn word_for(words: &[Word], x: Var) -> &[u8]
+    ensures { result.now ≡ word_for x (map word_view words.now) }
+{
+    for word in words {
+        if word.variable.same(x) {
+            return word.text.as_slice();
+        }
+    }
+    &[]
+}
+
+fn old_text(alloc: Global, word: &[u8]) -> Result<Name, NoMemory>
+    ensures { IfOk result (λ text. text ≡ spec.old_text word.now) }
+{
+    let mut text = Vec::from_slice(alloc, b"(old ")?;
+    text.extend_from_slice(word)?;
+    text.push(b')')?;
+    Name::new(alloc, &text)
+}
+
+/// A variable of a function as a file writes it in the entry of this.
+pub fn variable_text(alloc: Global, unit: &CoreUnit, f: FnId, x: &Var) -> Result<Name, NoMemory>
+    ensures { IfOk result (λ text. text ≡ spec.variable_text (unit_tree unit.now) f.0 x.now) }
+{
+    let words = words_in(alloc, unit, f)?;
+    match x.kind {
+        VarKind::Plain(_) => Name::new(alloc, word_for(&words, *x)),
+        VarKind::Temporary(_) => Name::new(alloc, word_for(&words, *x)),
+        VarKind::Old(number) => {
+            let plain = Var {
+                kind: VarKind::Plain(number),
+                number: x.number,
+            };
+            old_text(alloc, word_for(&words, plain))
+        }
+        VarKind::Returned => Name::new(alloc, b"(result)"),
+    }
+}

@@ -1,2 +1,10 @@
 pub mod ArgumentLaws
 pub mod MainLaws
+pub mod GivenLaws
+pub mod EntryLaws
+pub mod OrderLaws
+pub mod CompletedLaws
+pub mod CauseLaws
+pub mod MetLaws
+pub mod RefusalLaws
+pub mod OneLaws

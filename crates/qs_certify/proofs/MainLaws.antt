@@ -4,7 +4,7 @@ use Rattle.std.specs.Prelude.{◌&&◌, bytes_eq, filter, not, All}
 use Rattle.std.specs.List.{slice_get, find, list_any, list_all}
 use Rattle.std.proofs.lemmas.Option.{slice_get-map, slice_get_within}
 use Rattle.qs_memory.specs.declared.scalar.Scalar.TheVariants as scalars
-use Rattle.qs_events.specs.Weights.{run_weight}
+use Rattle.qs_events.specs.Weights.{Costs, run_weight}
 use Rattle.qs_calls.specs.World.{World}
 use Rattle.qs_calls.specs.Starts.{Signature, Takes, MayStart}
 use Rattle.qs_assert.specs.Bounds.{argument, amount_of, at_entry as setting_at, with_definitions}
@@ -163,3 +163,32 @@ main_bounds_runs u given proofs costs zs bound fits covers are is input n bytes 
     subst (λ (v : Extended). AtLeast v (finite (run_weight (costs_of costs) (main_run u (values_of zs) input n)))) (bound_is u fits given proofs covers costs zs are bound is)
     (derivations_bound_runs u given proofs u.main main.function (e u fits given proofs covers costs zs are) (values_of zs) world fits covers main.is (has u fits given proofs covers costs zs are)
     (may u fits given proofs covers costs zs are input bytes) (costs_of costs) n)
+
+-- ---- for every stack metric
+
+-- main, its entry, and that what main costs and the value of its precondition at the arguments bound each run
+pub record BoundsMain (u : CoreUnitTree) (proofs : ProofsTree) : Type 0 where
+  pub main : CoreFunctionTree
+  pub is_main : slice_get u.functions u.main ≡ Some main
+  pub entry : EntryTree
+  pub stands : entry_of proofs u.main ≡ Some entry
+  pub bounds :
+      (cost : Costs) (zs : List ℤ) (input : List ℕ) (n : ℕ) → AreArguments u zs → All (λ byte. byte < 256) input
+      → AtLeast (plus (finite (cost u.main)) (value_at_entry cost proofs.defines main (values_of zs) entry.spec.pre))
+      (finite (run_weight cost (main_run u (values_of zs) input n)))
+
+pub entry_bounds_runs : (u : CoreUnitTree) (given proofs : ProofsTree) → unit_fits u ≡ true → Covers u given proofs → BoundsMain u proofs
+entry_bounds_runs u given proofs fits covers =
+    let main = main_there u fits in
+    let within = slice_get_within u.functions u.main main.function main.is in
+    let entry = entry_there proofs.functions u.main (covers.one u.main within) in
+    record {
+      main = main.function;
+      is_main = main.is;
+      entry = entry.0;
+      stands = entry.1;
+      bounds = λ cost zs input n are bytes.
+          let world : World = record { memory = initial_memory u; input = input } in
+          derivations_bound_runs u given proofs u.main main.function entry.0 (values_of zs) world fits covers main.is entry.1
+          (may u fits given proofs covers [] zs are input bytes) cost n;
+    }

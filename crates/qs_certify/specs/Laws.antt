@@ -1,13 +1,25 @@
--- What is promised of bounds.
-use Rattle.std.specs.Prelude.{◌≡◌, ℕ, ◌<◌, ◌≤◌, true, ℤ, List, All}
+-- What is promised of bounds, of faults, and of what can be certified.
+use Rattle.std.specs.Prelude.{◌≡◌, ◌⊎◌, ℕ, ◌<◌, ◌≤◌, true, ℤ, List, length, All, Option, Some, None}
 use Rattle.qs_events.specs.Weights.{Costs, run_weight}
+use Rattle.qs_assert.specs.Order.{IsInOrder}
 use Rattle.qs_assert.specs.declared.define.Amount.TheVariants.{Finite}
+use Rattle.qs_core.specs.CallGraph.{IsCycle, IsWithoutRecursion}
 use Rattle.qs_core.specs.Fits.{unit_fits}
 use Rattle.qs_core.specs.Trees.{CoreUnitTree}
 use Rattle.qs_core.specs.Units.{main_run}
+use Rattle.qs_prooftext.specs.Reading.{Fault}
+use Rattle.qs_prooftext.specs.declared.fault.TextFault.{TextFault}
 use Rattle.qs_triples.specs.Derivations.{ProofsTree}
-use Rattle.qs_triples.specs.Entries.{Covers}
+use Rattle.qs_triples.specs.Entries.{has_entry, Covers, HasDerivedEntry}
+use Rattle.qs_triples.specs.declared.fault.DerivFault.{DerivFault}
+use Rattle.qs_analyse.specs.Laws.{GivenAreDerived, HasNoCycle}
 use Rattle.qs_certify.specs.Bound.{main_bound, costs_of, values_of, AreArguments}
+use Rattle.qs_certify.specs.Given.{GivenIs}
+use Rattle.qs_certify.specs.Certification.{AreAll, IsCertified, HasNoOrder, IsNotDerived, CannotCertify, ToldOfFunctions, IsCycleFault}
+use Rattle.qs_certify.specs.declared.fault.CertifyFault.{CertifyFault}
+use Rattle.qs_certify.specs.declared.fault.CertifyFault.TheVariants.{NoMemory, Text, Cycle, Order, Entry}
+
+-- ---- bounds
 
 -- on each input and within each bound of steps, the run of main with these arguments weighs at most so much
 abbrev pub MainWeighsAtMost : CoreUnitTree → Costs → (arguments : List ℤ) → (bound : ℕ) → Type 0
@@ -22,3 +34,86 @@ MainBoundsRuns =
     → unit_fits u ≡ true → Covers u given proofs → AreArguments u arguments
     → main_bound u proofs costs arguments ≡ Finite bound
     → MainWeighsAtMost u (costs_of costs) arguments bound
+
+-- ---- faults
+
+-- nothing is certified, and the fault is this one or want of memory
+pub record IsRefusedAs (u : CoreUnitTree) (file : Option (List ℕ)) (IsIt : CertifyFault → Type 0) : Type 0 where
+  pub not_certified : (given proofs : ProofsTree) → IsCertified u file given proofs → ⊥
+  pub only : (fault : CertifyFault) → CannotCertify u file fault → (fault ≡ NoMemory) ⊎ IsIt fault
+
+-- a file whose text has a fault is refused with the first one
+abbrev pub TextFaultsAreTold : Type 0
+TextFaultsAreTold =
+    (u : CoreUnitTree) (text : List ℕ) (fault : TextFault) → Fault u text fault
+    → IsRefusedAs u (Some text) (λ told. told ≡ Text fault)
+
+-- where functions without an entry call each other in turn, such a cycle is told
+abbrev pub CyclesAreTold : Type 0
+CyclesAreTold =
+    (u : CoreUnitTree) (file : Option (List ℕ)) (given : ProofsTree) (fs : List ℕ)
+    → GivenIs u file given → IsCycle u (has_entry given) fs → IsRefusedAs u file (IsCycleFault u given)
+
+-- where the definitions have no order, the name of the first that is out of it is told
+abbrev pub OrderIsTold : Type 0
+OrderIsTold =
+    (u : CoreUnitTree) (file : Option (List ℕ)) (given : ProofsTree) (name : List ℕ)
+    → GivenIs u file given → HasNoOrder u given name → IsRefusedAs u file (λ told. told ≡ Order name)
+
+-- the entry of this function is told
+abbrev pub IsEntryOf : (function : ℕ) → CertifyFault → Type 0
+IsEntryOf f NoMemory = ⊥
+IsEntryOf f (Text fault) = ⊥
+IsEntryOf f (Cycle fs) = ⊥
+IsEntryOf f (Order name) = ⊥
+IsEntryOf f (Entry g fault) = g.0 ≡ f
+
+-- where an entry of the file isn't derived, the first such is told
+abbrev pub EntriesAreTold : Type 0
+EntriesAreTold =
+    (u : CoreUnitTree) (file : Option (List ℕ)) (given : ProofsTree) (f : ℕ) (fault : DerivFault)
+    → GivenIs u file given → IsNotDerived u given f fault → IsRefusedAs u file (IsEntryOf f)
+
+-- what is told names functions of the unit, and no fault that is never met
+abbrev pub FaultsAreOfFunctions : Type 0
+FaultsAreOfFunctions =
+    (u : CoreUnitTree) (file : Option (List ℕ)) (fault : CertifyFault) → unit_fits u ≡ true
+    → CannotCertify u file fault → ToldOfFunctions u fault
+
+-- ---- what can be certified
+
+-- No cycle is left, and in all proofs the definitions are in order and the given entries are derived.
+pub record AreRightProofs (u : CoreUnitTree) (given : ProofsTree) : Type 0 where
+  pub no_cycle : HasNoCycle u given
+  pub in_order : (proofs : ProofsTree) → AreAll u given proofs → IsInOrder proofs.defines
+  pub derived : (proofs : ProofsTree) → AreAll u given proofs → GivenAreDerived u given proofs
+
+-- nothing but want of memory stands in the way of right proofs
+abbrev pub RightProofsAreCertified : Type 0
+RightProofsAreCertified =
+    (u : CoreUnitTree) (file : Option (List ℕ)) (given : ProofsTree) (fault : CertifyFault)
+    → GivenIs u file given → AreRightProofs u given → CannotCertify u file fault → fault ≡ NoMemory
+
+-- nor of a unit without recursion and without a file
+abbrev pub UnitsWithoutRecursionAreCertified : Type 0
+UnitsWithoutRecursionAreCertified =
+    (u : CoreUnitTree) (fault : CertifyFault) → IsWithoutRecursion u → CannotCertify u None fault
+    → fault ≡ NoMemory
+
+-- what is certified is right
+abbrev pub CertifiedIsRight : Type 0
+CertifiedIsRight =
+    (u : CoreUnitTree) (file : Option (List ℕ)) (given proofs : ProofsTree) → IsCertified u file given proofs
+    → AreRightProofs u given
+
+-- a file gives one list of proofs, and these are completed in one way
+abbrev pub OneCertified : Type 0
+OneCertified =
+    (u : CoreUnitTree) (file : Option (List ℕ)) (given proofs other others : ProofsTree)
+    → IsCertified u file given proofs → IsCertified u file other others → (given ≡ other) × (proofs ≡ others)
+
+-- without a file the entry of each function is derived
+abbrev pub AllAreDerived : Type 0
+AllAreDerived =
+    (u : CoreUnitTree) (given proofs : ProofsTree) (f : ℕ) → IsCertified u None given proofs
+    → f < length u.functions → HasDerivedEntry u proofs f

@@ -1,2 +1,5 @@
 pub mod Bound
+pub mod Given
+pub mod Entries
+pub mod Certification
 pub mod Laws

@@ -1,8 +1,39 @@
 // Laws of what is certified: functions that do nothing, for what their clauses say.
-ghost use Rattle.qs_certify.specs.Laws.{MainBoundsRuns};
+ghost use Rattle.qs_certify.specs.Laws.{AllAreDerived, CertifiedIsRight, CyclesAreTold, EntriesAreTold, FaultsAreOfFunctions, MainBoundsRuns, OneCertified, OrderIsTold, RightProofsAreCertified, TextFaultsAreTold, UnitsWithoutRecursionAreCertified};
 
 /// Where the proofs cover the unit, main's bound is one of its runs: on each input, the weight of each run with these
 /// arguments is at most the bound, if that is finite.
 pub fn main_bounds_runs()
     ensures { MainBoundsRuns }
+{}
+
+/// A file whose text has a fault, a unit with a cycle of functions without an entry, definitions that have no order and
+/// an entry of the file that isn't derived are never certified, and the fault that is answered tells so, want of memory
+/// aside.
+pub fn faults_are_told()
+    ensures texts { TextFaultsAreTold }
+    ensures cycles { CyclesAreTold }
+    ensures order { OrderIsTold }
+    ensures entries { EntriesAreTold }
+{}
+
+/// What is told names functions of the unit. No fault of an entry is the want of a specification, which each function
+/// has, or a definition out of order, for which is looked before.
+pub fn faults_are_of_functions()
+    ensures { FaultsAreOfFunctions }
+{}
+
+/// What a file gives and what it is completed to are given by the unit and the file. Without a file the entry of each
+/// function is derived.
+pub fn certified_is_one()
+    ensures one { OneCertified }
+    ensures derived { AllAreDerived }
+{}
+
+/// Want of memory alone stands in the way where no cycle is left, the definitions are in order and the file's entries
+/// are derived; and so it does for a unit without recursion, if there is no file. All that is certified is right so.
+pub fn right_proofs_are_certified()
+    ensures proofs { RightProofsAreCertified }
+    ensures units { UnitsWithoutRecursionAreCertified }
+    ensures only { CertifiedIsRight }
 {}

@@ -2,7 +2,16 @@
 #![tactic(auto)]
 
 mod bound;
+mod certification;
+mod entries;
+mod fault;
+mod given;
 mod laws;
 
 pub use bound::bound_of_main;
-pub use laws::main_bounds_runs;
+pub use certification::{Certified, certify};
+pub use fault::CertifyFault;
+pub use laws::{
+    certified_is_one, faults_are_of_functions, faults_are_told, main_bounds_runs,
+    right_proofs_are_certified,
+};

@@ -11,14 +11,14 @@ use qs_base::Name;
 use qs_ports::{Sink, SinkFault, put_all};
 
 // Puts a point and the number of a part.
-fn put_step<K: Sink>(log: &mut K, part: u32) -> Result<(), SinkFault>
+fn put_step<K: Sink>(log: &mut K, part: usize) -> Result<(), SinkFault>
     ensures { PutsAll (K.view log.old) (K.view log.new) (step_text part) result }
 {
     let mut digits = Buffer::new();
     put_parts(log, &[b".", digits.format(part).as_bytes()])
 }
 
-fn put_steps<K: Sink>(log: &mut K, steps: &[u32]) -> Result<(), SinkFault>
+fn put_steps<K: Sink>(log: &mut K, steps: &[usize]) -> Result<(), SinkFault>
     ensures { PutsAll (K.view log.old) (K.view log.new) (flat_map step_text steps.now) result }
 {
     for part in steps {
@@ -27,7 +27,7 @@ fn put_steps<K: Sink>(log: &mut K, steps: &[u32]) -> Result<(), SinkFault>
     Ok(())
 }
 
-fn put_path<K: Sink>(log: &mut K, steps: &[u32]) -> Result<(), SinkFault>
+fn put_path<K: Sink>(log: &mut K, steps: &[usize]) -> Result<(), SinkFault>
     ensures { PutsAll (K.view log.old) (K.view log.new) (path_text steps.now) result }
 {
     if steps.is_empty() {

@@ -16,9 +16,9 @@ pub enum Shown {
 #[derive(Clone, Copy, Debug, PartialEq, Eq)]
 pub enum Count {
     /// Functions with an entry in the proof file, and functions whose entry was filled in.
-    Checked(u32, u32),
+    Checked(usize, usize),
     /// Functions whose entry was filled in.
-    Derived(u32),
+    Derived(usize),
     /// Functions of a sample.
     Functions(u32),
     /// Bytes that a sample put.
@@ -43,7 +43,7 @@ pub enum LimitKind {
 /// The way from a root to a node: the numbers of the parts, from 0.
 #[derive(Debug, Drop)]
 pub struct Path {
-    pub steps: Vec<u32>,
+    pub steps: Vec<usize>,
 }
 
 /// A place in a derivation.

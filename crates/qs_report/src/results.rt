@@ -54,11 +54,11 @@ pub fn put_count<K: Sink>(out: &mut K, count: Count) -> Result<(), SinkFault>
         Count::Checked(given, filled) => put_pair(
             out,
             b"checked ",
-            u64::from(given),
+            given as u64,
             b" derived ",
-            u64::from(filled),
+            filled as u64,
         ),
-        Count::Derived(filled) => put_number(out, b"derived ", u64::from(filled)),
+        Count::Derived(filled) => put_number(out, b"derived ", filled as u64),
         Count::Functions(count) => put_number(out, b"functions ", u64::from(count)),
         Count::Output(bytes) => put_number(out, b"output ", bytes),
     }

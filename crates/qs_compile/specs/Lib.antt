@@ -1,6 +1,2 @@
 pub mod Agree
-pub mod Built
-pub mod FirstCode
-pub mod FirstForm
-pub mod Parts
 pub mod Compiled

@@ -24,7 +24,7 @@ use Rattle.qs_driver.proofs.SourceLaws.{no_unit, syntax_no_unit, lex_or_tokens, 
 pub not_absent : (file : Option (List ℕ)) (content : List ℕ) → file ≡ None → file ≡ Some content → ⊥
 not_absent file content a b = cc
 
-same_content : (file : Option (List ℕ)) (a b : List ℕ) → file ≡ Some a → file ≡ Some b → a ≡ b
+pub same_content : (file : Option (List ℕ)) (a b : List ℕ) → file ≡ Some a → file ≡ Some b → a ≡ b
 same_content file a b e f = cc
 
 pub one_content : (file : Option (List ℕ)) (limit : ℕ) (a b : List ℕ) → HoldsContent file limit a → HoldsContent file limit b → a ≡ b

@@ -148,7 +148,7 @@ lex_or_tokens text fault pos tokens f t = not_both text tokens f.kind f.at t f.s
 abbrev pos_of : ℕ → ℕ → Pos
 pos_of line column = record { line = line; column = column }
 
-same_pos : (text : List ℕ) (at : ℕ) (p q : Pos) → IsPlaceOf text at p → IsPlaceOf text at q → p ≡ q
+pub same_pos : (text : List ℕ) (at : ℕ) (p q : Pos) → IsPlaceOf text at p → IsPlaceOf text at q → p ≡ q
 same_pos text at p q a b =
     let l : p.line ≡ q.line = a.line ∙ sym b.line in
     let c : p.column ≡ q.column = a.column ∙ sym b.column in
@@ -195,7 +195,7 @@ same_syntax_place text f g p q a b =
 same_tokens : (text : List ℕ) (a b : IsUnit text) → a.tokens ≡ b.tokens
 same_tokens text a b = one_list text a.tokens b.tokens a.are_tokens b.are_tokens
 
-same_trees : (text : List ℕ) (a b : IsUnit text) → a.trees ≡ b.trees
+pub same_trees : (text : List ℕ) (a b : IsUnit text) → a.trees ≡ b.trees
 same_trees text a b =
     let read : ReadsAs (terminals text 0 b.tokens) a.trees = subst (λ (ts : List Token). ReadsAs (terminals text 0 ts) a.trees) (same_tokens text a b) a.reads in
     let one = one_reading (terminals text 0 b.tokens) read.unnumbered b.reads.unnumbered read.height b.reads.height read.reads b.reads.reads in

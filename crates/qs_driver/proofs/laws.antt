@@ -2,6 +2,12 @@ pub mod Follows
 pub mod Usage
 pub mod Build
 pub mod BuildFollows
+pub mod Check
+pub mod CheckFollows
+pub mod Bound
+pub mod BoundFollows
+pub mod Exec
+pub mod ExecFollows
 pub mod Outline
 pub mod OutlineFollows
 pub mod Run

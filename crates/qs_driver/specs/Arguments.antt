@@ -1,11 +1,23 @@
 -- The arguments of main as the words of the machine.
-use Rattle.std.specs.Prelude.{◌≡◌, ◌≢◌, ℕ, ℤ, List, length, Some, None, Result, Ok, Err, Vec}
+use Rattle.std.specs.Prelude.{◌≡◌, ◌≢◌, ℕ, ℤ, List, [], length, Some, None, Result, Ok, Err, Vec}
 use Rattle.std.specs.declared.alloc.Global.{Global}
 use Rattle.qs_image.specs.Image.{Image}
 use Rattle.qs_machine.specs.Arguments.{AreArguments, first_misfit, words_of}
+use Rattle.qs_driver.specs.declared.arguments.Parameters.{Parameters}
 use Rattle.qs_driver.specs.declared.status.Status.{Status}
 use Rattle.qs_driver.specs.declared.status.Status.TheVariants.{Words, NoMemory}
 use Rattle.qs_driver.specs.declared.status.WordsFault.TheVariants.{ArgCount, ArgRange}
+
+-- an image of which these parameters are all that is known
+abbrev pub image_with : Parameters → Image
+image_with p = record {
+  entry = 0;
+  parameters = p.count;
+  unsigned_set = p.unsigned_set;
+  functions = [];
+  code = [];
+  bytes = [];
+}
 
 -- why there are no words for the arguments
 pub data LacksWords (image : Image) (args : List ℤ) (status : Status) : Type 0 where

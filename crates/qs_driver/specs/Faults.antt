@@ -1,5 +1,5 @@
 -- The line that tells a status.
-use Rattle.std.specs.Prelude.{ℕ, List, [], ◌∷◌, Option, Some, None, codes}
+use Rattle.std.specs.Prelude.{ℕ, List, [], Option, Some, None}
 use Rattle.qs_base.specs.declared.places.Pos.{Pos}
 use Rattle.qs_lexer.specs.declared.fault.LexFault.{LexFault}
 use Rattle.qs_lexer.specs.declared.fault.LexFault.TheVariants as lexical
@@ -12,14 +12,20 @@ use Rattle.qs_machine.specs.declared.answers.Cause.TheVariants as cause
 use Rattle.qs_types.specs.Rules.{rule_number}
 use Rattle.qs_typing.specs.declared.refusals.TypeFault.{TypeFault}
 use Rattle.qs_typing.specs.declared.refusals.TypeFault.TheVariants as typing
-use Rattle.qs_report.specs.Lines.{line}
+use Rattle.qs_assert.specs.declared.define.Amount.{Amount}
+use Rattle.qs_assert.specs.declared.define.Amount.TheVariants.{Finite, Infinite, Wide}
+use Rattle.qs_prooftext.specs.declared.fault.TextFault.{TextFault}
+use Rattle.qs_prooftext.specs.declared.fault.TextFault.TheVariants as proof_file
 use Rattle.qs_report.specs.Lines as lines
 use Rattle.qs_report.specs.declared.fault_texts.FaultText.{FaultText}
 use Rattle.qs_report.specs.declared.fault_texts.FaultText.TheVariants as texts
+use Rattle.qs_report.specs.declared.fault_texts.Shown.{Shown}
+use Rattle.qs_report.specs.declared.fault_texts.Shown.TheVariants as shown
 use Rattle.qs_driver.specs.Names.{Names, file_name}
 use Rattle.qs_driver.specs.declared.status.Status.{Status}
-use Rattle.qs_driver.specs.declared.status.Status.TheVariants.{Done, Source, Words, Missing, StoreFailed, Image, Trapped, StepLimit, StackTooLarge, SinkFailed, NoMemory}
-use Rattle.qs_driver.specs.declared.status.SourceFault.TheVariants.{TooLong, Lex, Syntax, Typing, NotFirstForm}
+use Rattle.qs_driver.specs.declared.status.Status.TheVariants.{Done, Source, Proof, Words, Missing, StoreFailed, Image, Trapped, StepLimit, NoBound, StackTooLarge, SinkFailed, NoMemory}
+use Rattle.qs_driver.specs.declared.status.SourceFault.TheVariants.{TooLong, Lex, Syntax, Typing}
+use Rattle.qs_driver.specs.declared.status.ProofFault.TheVariants.{Text, Cycle, Order, Entry}
 use Rattle.qs_driver.specs.declared.status.TokenPlace.{TokenPlace}
 use Rattle.qs_driver.specs.declared.status.TokenPlace.TheVariants.{At, End}
 use Rattle.qs_driver.specs.declared.status.WordsFault.TheVariants.{Usage, SameName, ArgCount, ArgRange}
@@ -85,6 +91,23 @@ abbrev pub typing_text : TypeFault → Option Pos → FaultText
 typing_text fault None = texts.NoMain
 typing_text fault (Some pos) = placed_text fault pos
 
+-- what is wrong with the text of a proof file
+abbrev pub proof_file_text : TextFault → Pos → FaultText
+proof_file_text proof_file.NoMemory pos = texts.NoMemory
+proof_file_text (proof_file.BadByte at) pos = texts.ProofFile pos 1
+proof_file_text (proof_file.Unbalanced at) pos = texts.ProofFile pos 2
+proof_file_text (proof_file.UnknownForm at) pos = texts.ProofFile pos 3
+proof_file_text (proof_file.BadNumber at) pos = texts.ProofFile pos 4
+proof_file_text (proof_file.TooDeep at) pos = texts.ProofFile pos 5
+proof_file_text (proof_file.Duplicate at) pos = texts.ProofFile pos 6
+proof_file_text (proof_file.NoSuchFunction at) pos = texts.ProofFile pos 7
+
+-- a bound as lines show it
+abbrev pub shown_of : Amount → Shown
+shown_of (Finite bytes) = shown.Number bytes
+shown_of Infinite = shown.Infinite
+shown_of Wide = shown.Wide
+
 -- the line of a fault that names this file, or none
 abbrev pub named_line : List ℕ → FaultText → List ℕ
 named_line file text = lines.fault_line file [] text
@@ -96,7 +119,10 @@ status_line names (Source (TooLong kind)) = named_line (file_name names kind) te
 status_line names (Source (Lex fault pos)) = named_line names.source (lex_text fault pos)
 status_line names (Source (Syntax fault place)) = named_line names.source (syntax_text fault place)
 status_line names (Source (Typing fault place)) = named_line names.source (typing_text fault place)
-status_line names (Source NotFirstForm) = line (names.source ∷ codes ": not in the first form" ∷ [])
+status_line names (Proof (Text fault pos)) = named_line names.derivation (proof_file_text fault pos)
+status_line names (Proof (Cycle functions)) = named_line [] (texts.Cycle functions)
+status_line names (Proof (Order name)) = lines.fault_line names.derivation name texts.Order
+status_line names (Proof (Entry f spot text)) = lines.fault_line names.derivation f (texts.Proof spot text)
 status_line names (Words Usage) = named_line [] texts.Usage
 status_line names (Words SameName) = named_line names.output texts.SameName
 status_line names (Words (ArgCount expected given)) = named_line [] (texts.ArgCount expected given)
@@ -106,6 +132,7 @@ status_line names (StoreFailed kind) = named_line (file_name names kind) texts.F
 status_line names (Image f) = named_line names.image (image_text f)
 status_line names (Trapped c pc) = named_line [] (trap_text c pc)
 status_line names (StepLimit steps) = named_line [] (texts.StepLimit steps)
+status_line names (NoBound bound) = named_line [] (texts.NoBound (shown_of bound))
 status_line names (StackTooLarge size) = named_line [] (texts.StackTooLarge size)
 status_line names SinkFailed = []
 status_line names NoMemory = named_line [] texts.NoMemory

@@ -8,8 +8,12 @@ pub mod Steps
 pub mod Due
 pub mod Files
 pub mod Source
+pub mod Certified
+pub mod Bounds
 pub mod Arguments
+pub mod Made
 pub mod Task
 pub mod commands
 pub mod Tool
 pub mod Promises
+pub mod Headline

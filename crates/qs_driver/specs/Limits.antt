@@ -5,6 +5,10 @@ use Rattle.std.specs.Prelude.{ℕ}
 abbrev pub source_limit : ℕ
 source_limit = 1048576
 
+-- the longest proof file, in bytes
+abbrev pub proof_limit : ℕ
+proof_limit = 16777216
+
 -- the longest image, in bytes
 abbrev pub image_limit : ℕ
 image_limit = 33554432
@@ -12,3 +16,7 @@ image_limit = 33554432
 -- the longest input of a run, in bytes
 abbrev pub input_limit : ℕ
 input_limit = 1048576
+
+-- the most steps of a run, where the words name no number
+abbrev pub default_steps : ℕ
+default_steps = 100000000

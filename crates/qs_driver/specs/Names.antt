@@ -2,24 +2,32 @@
 use Rattle.std.specs.Prelude.{ℕ, List, []}
 use Rattle.qs_driver.specs.declared.names.FileNames.{FileNames}
 use Rattle.qs_driver.specs.declared.status.FileKind.{FileKind}
-use Rattle.qs_driver.specs.declared.status.FileKind.TheVariants.{Source, Image, Input, Output}
+use Rattle.qs_driver.specs.declared.status.FileKind.TheVariants.{Source, Derivation, Image, Input, Output}
 
 -- the names as the words give them; those that a command doesn't have are empty
 pub record Names : Type 0 where
   pub source : List ℕ
+  pub derivation : List ℕ
   pub image : List ℕ
   pub input : List ℕ
   pub output : List ℕ
 
 abbrev pub no_names : Names
-no_names = record { source = []; image = []; input = []; output = [] }
+no_names = record { source = []; derivation = []; image = []; input = []; output = [] }
 
 abbrev pub file_name : Names → FileKind → List ℕ
 file_name names Source = names.source
+file_name names Derivation = names.derivation
 file_name names Image = names.image
 file_name names Input = names.input
 file_name names Output = names.output
 
 -- the names as the code holds them
 abbrev pub names_in : FileNames → Names
-names_in names = record { source = names.source.now; image = names.image.now; input = names.input.now; output = names.output.now }
+names_in names = record {
+  source = names.source.now;
+  derivation = names.derivation.now;
+  image = names.image.now;
+  input = names.input.now;
+  output = names.output.now;
+}

@@ -167,11 +167,6 @@ HoldsText file Property = HoldsWith file source_limit Property
 abbrev pub ReadsText : StoreView → List ℕ → (List ℕ → Type 0) → Type 0
 ReadsText before name Property = WasReadWith before name source_limit Property
 
--- the source was read, it is a typed unit, and no file changed
-pub record HasSource (before after : StoreView) (name text : List ℕ) : Type 0 where
-  pub read : WasRead before after name source_limit text
-  pub typed : IsTypedUnit text
-
 -- Why there is no source to go on with, and the status at that.
 pub data LacksSource (before after : StoreView) (name : List ℕ) (status : Status) : Type 0 where
   unread : CannotRead before after name kinds.Source source_limit status → LacksSource before after name status
@@ -196,11 +191,6 @@ pub record HasUnit (before after : StoreView) (name : List ℕ) (trees : List De
 abbrev pub ReadsUnit : StoreView → StoreView → List ℕ → Result TypedUnit Status → Type 0
 ReadsUnit before after name (Ok unit) = HasUnit before after name (typed_tree unit)
 ReadsUnit before after name (Err status) = LacksSource before after name status
-
--- the answer of `read_source`
-abbrev pub ReadsSource : StoreView → StoreView → List ℕ → Result (Vec ℕ Global) Status → Type 0
-ReadsSource before after name (Ok text) = HasSource before after name text.items
-ReadsSource before after name (Err status) = LacksSource before after name status
 
 -- ---- when a source is refused
 

@@ -2,18 +2,22 @@
 ghost use Rattle.std.specs.Prelude.{◌≡◌};
 ghost use Rattle.qs_ports.specs.SinkView.{PutsAll};
 ghost use Rattle.qs_report.specs.Lines.{HasItsNumbers};
-ghost use Rattle.qs_driver.specs.Faults.{status_line, image_text, lex_text, named_line, placed_text, pos_of, syntax_text, trap_text, typing_text, unexpected_text};
+ghost use Rattle.qs_driver.specs.Faults.{status_line, image_text, lex_text, named_line, placed_text, pos_of, proof_file_text, shown_of, syntax_text, trap_text, typing_text, unexpected_text};
 ghost use Rattle.qs_driver.specs.Names.{names_in};
 
 use crate::names::{FileNames, file_name};
-use crate::{SourceFault, Status, TokenPlace, WordsFault};
+use crate::{ProofFault, SourceFault, Status, TokenPlace, WordsFault};
+use qs_assert::Amount;
 use qs_base::Pos;
 use qs_image::ImageFault;
 use qs_lexer::LexFault;
 use qs_machine::Cause;
 use qs_parser::SyntaxFault;
 use qs_ports::{Sink, SinkFault};
-use qs_report::{FaultText, put_arg_count, put_arg_range, put_fault, put_two};
+use qs_prooftext::TextFault;
+use qs_report::{
+    FaultText, Shown, put_arg_count, put_arg_range, put_cycle, put_fault, put_proof_fault,
+};
 use qs_typing::TypeFault;
 
 fn image_text(fault: ImageFault) -> FaultText
@@ -117,6 +121,33 @@ fn typing_text(fault: TypeFault, place: Option<Pos>) -> FaultText
     }
 }
 
+fn proof_file_text(fault: TextFault, pos: Pos) -> FaultText
+    ensures is { result ≡ proof_file_text fault pos }
+    ensures numbered { HasItsNumbers result }
+{
+    match fault {
+        TextFault::NoMemory => FaultText::NoMemory,
+        TextFault::BadByte(_) => FaultText::ProofFile(pos, 1),
+        TextFault::Unbalanced(_) => FaultText::ProofFile(pos, 2),
+        TextFault::UnknownForm(_) => FaultText::ProofFile(pos, 3),
+        TextFault::BadNumber(_) => FaultText::ProofFile(pos, 4),
+        TextFault::TooDeep(_) => FaultText::ProofFile(pos, 5),
+        TextFault::Duplicate(_) => FaultText::ProofFile(pos, 6),
+        TextFault::NoSuchFunction(_) => FaultText::ProofFile(pos, 7),
+    }
+}
+
+/// A bound as lines show it.
+pub fn shown_of(bound: Amount) -> Shown
+    ensures { result ≡ shown_of bound }
+{
+    match bound {
+        Amount::Finite(bytes) => Shown::Number(bytes),
+        Amount::Infinite => Shown::Infinite,
+        Amount::Wide => Shown::Wide,
+    }
+}
+
 // Puts the line of a fault that names this file, or none.
 fn put_text<K: Sink>(log: &mut K, file: &str, text: FaultText) -> Result<(), SinkFault>
     requires { HasItsNumbers text }
@@ -154,9 +185,36 @@ fn put_source_fault<K: Sink>(
         SourceFault::Lex(fault, pos) => put_text(log, names.source, lex_text(fault, pos)),
         SourceFault::Syntax(fault, place) => put_text(log, names.source, syntax_text(fault, place)),
         SourceFault::Typing(fault, place) => put_text(log, names.source, typing_text(fault, place)),
-        SourceFault::NotFirstForm => {
-            put_two(log, names.source.as_bytes(), b": not in the first form")
-        }
+    }
+}
+
+fn put_proofs_fault<K: Sink>(
+    log: &mut K,
+    names: &FileNames<'_>,
+    fault: &ProofFault,
+) -> Result<(), SinkFault>
+    ensures { PutsAll (K.view log.old) (K.view log.new) (status_line (names_in names.now) (Status.Proof fault.now)) result }
+{
+    match fault {
+        ProofFault::Text(fault, pos) => put_text(
+            log,
+            names.derivation,
+            proof_file_text(*fault, *pos),
+        ),
+        ProofFault::Cycle(functions) => put_cycle(log, functions),
+        ProofFault::Order(name) => put_fault(
+            log,
+            names.derivation.as_bytes(),
+            name.bytes(),
+            &FaultText::Order,
+        ),
+        ProofFault::Entry(function, spot, text) => put_proof_fault(
+            log,
+            names.derivation.as_bytes(),
+            function.bytes(),
+            spot,
+            text,
+        ),
     }
 }
 
@@ -164,20 +222,22 @@ fn put_source_fault<K: Sink>(
 pub fn put_status<K: Sink>(
     log: &mut K,
     names: &FileNames<'_>,
-    status: Status,
+    status: &Status,
 ) -> Result<(), SinkFault>
-    ensures { PutsAll (K.view log.old) (K.view log.new) (status_line (names_in names.now) status) result }
+    ensures { PutsAll (K.view log.old) (K.view log.new) (status_line (names_in names.now) status.now) result }
 {
     match status {
         Status::Done => Ok(()),
-        Status::Source(fault) => put_source_fault(log, names, fault),
-        Status::Words(fault) => put_words_fault(log, names, fault),
-        Status::Missing(kind) => put_text(log, file_name(names, kind), FaultText::Missing),
-        Status::StoreFailed(kind) => put_text(log, file_name(names, kind), FaultText::Failed),
-        Status::Image(fault) => put_text(log, names.image, image_text(fault)),
-        Status::Trapped { cause, pc } => put_text(log, "", trap_text(cause, pc)),
-        Status::StepLimit(steps) => put_text(log, "", FaultText::StepLimit(steps)),
-        Status::StackTooLarge(size) => put_text(log, "", FaultText::StackTooLarge(size)),
+        Status::Source(fault) => put_source_fault(log, names, *fault),
+        Status::Proof(fault) => put_proofs_fault(log, names, fault),
+        Status::Words(fault) => put_words_fault(log, names, *fault),
+        Status::Missing(kind) => put_text(log, file_name(names, *kind), FaultText::Missing),
+        Status::StoreFailed(kind) => put_text(log, file_name(names, *kind), FaultText::Failed),
+        Status::Image(fault) => put_text(log, names.image, image_text(*fault)),
+        Status::Trapped { cause, pc } => put_text(log, "", trap_text(*cause, *pc)),
+        Status::StepLimit(steps) => put_text(log, "", FaultText::StepLimit(*steps)),
+        Status::NoBound(bound) => put_text(log, "", FaultText::NoBound(shown_of(*bound))),
+        Status::StackTooLarge(size) => put_text(log, "", FaultText::StackTooLarge(*size)),
         Status::SinkFailed => Ok(()),
         Status::NoMemory => put_text(log, "", FaultText::NoMemory),
     }

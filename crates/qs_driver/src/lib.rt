@@ -2,17 +2,23 @@
 #![tactic(auto)]
 
 mod arguments;
+mod certified;
 mod commands;
 mod devices;
 mod due;
 mod faults;
 mod files;
+mod headline;
 mod limits;
 mod lines;
+mod made;
 mod names;
+mod orders;
 mod source;
 mod status;
+mod told;
 mod tool;
 
-pub use status::{FileKind, SourceFault, Status, TokenPlace, WordsFault};
+pub use headline::accepted_sources_are_built_right;
+pub use status::{FileKind, ProofFault, SourceFault, Status, TokenPlace, WordsFault};
 pub use tool::run_tool;

@@ -3,8 +3,14 @@
 /// The longest source.
 pub const SOURCE_LIMIT: usize = 1_048_576;
 
+/// The longest proof file.
+pub const PROOF_LIMIT: usize = 16_777_216;
+
 /// The longest image.
 pub const IMAGE_LIMIT: usize = 33_554_432;
 
 /// The longest input of a run.
 pub const INPUT_LIMIT: usize = 1_048_576;
+
+/// The largest stack.
+pub const STACK_LIMIT: u64 = 268_435_456;

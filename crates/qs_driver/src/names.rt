@@ -8,6 +8,7 @@ use crate::FileKind;
 #[derive(Clone, Copy)]
 pub struct FileNames<'a> {
     pub source: &'a str,
+    pub derivation: &'a str,
     pub image: &'a str,
     pub input: &'a str,
     pub output: &'a str,
@@ -19,6 +20,7 @@ pub fn nameless() -> FileNames<'static>
 {
     FileNames {
         source: "",
+        derivation: "",
         image: "",
         input: "",
         output: "",
@@ -31,6 +33,7 @@ pub fn file_name<'a>(names: &FileNames<'a>, kind: FileKind) -> &'a str
 {
     match kind {
         FileKind::Source => names.source,
+        FileKind::Derivation => names.derivation,
         FileKind::Image => names.image,
         FileKind::Input => names.input,
         FileKind::Output => names.output,

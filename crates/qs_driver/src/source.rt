@@ -8,7 +8,7 @@ ghost use Rattle.qs_lexer.specs.Terminals.{terminals};
 ghost use Rattle.qs_parser.specs.Answers.{Answers, ReadsAs};
 ghost use Rattle.qs_typing.specs.Refusals.{IsCause, IsTold};
 ghost use Rattle.qs_driver.specs.Limits.{source_limit};
-ghost use Rattle.qs_driver.specs.Source.{byte_of, node_of, number_of, IsNodeStart, IsPlaceOf, IsTokenPlace, ReadsSource, ReadsUnit, RefusesText, TypesText};
+ghost use Rattle.qs_driver.specs.Source.{byte_of, node_of, number_of, IsNodeStart, IsPlaceOf, IsTokenPlace, ReadsUnit, RefusesText, TypesText};
 
 use crate::files::read_file;
 use crate::limits::SOURCE_LIMIT;
@@ -22,7 +22,7 @@ use qs_typing::{TypeFault, TypedUnit, check};
 use std::alloc::Global;
 
 /// The place of the byte `at`, or of the end where the text has no such byte.
-fn place(text: &[u8], at: usize) -> Pos
+pub fn place(text: &[u8], at: usize) -> Pos
     requires { length text.now < 2 ^ 31 }
     ensures { IsPlaceOf text.now at result }
 {
@@ -176,13 +176,4 @@ pub fn read_unit<S: Store>(alloc: Global, store: &mut S, name: &str) -> Result<T
     let text = read_file(alloc, store, name, FileKind::Source, SOURCE_LIMIT)?;
     let typed = typed_text(alloc, &text)?;
     Ok(typed)
-}
-
-/// The text of a source that is a typed unit.
-pub fn read_source<S: Store>(alloc: Global, store: &mut S, name: &str) -> Result<Vec<u8>, Status>
-    ensures { ReadsSource (S.view store.old) (S.view store.new) name.now result }
-{
-    let text = read_file(alloc, store, name, FileKind::Source, SOURCE_LIMIT)?;
-    let _typed = typed_text(alloc, &text)?;
-    Ok(text)
 }

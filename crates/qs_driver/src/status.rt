@@ -4,12 +4,15 @@ ghost use Rattle.qs_driver.specs.Status.{code_of};
 ghost use Rattle.qs_driver.specs.declared.status.Status.TheVariants.{Image, NoMemory, StoreFailed};
 ghost use Rattle.qs_driver.specs.declared.status.FileKind.TheVariants.{Output};
 
-use qs_base::{NoMemory, Pos};
+use qs_assert::Amount;
+use qs_base::{Name, NoMemory, Pos};
 use qs_image::ImageFault;
 use qs_lexer::LexFault;
 use qs_machine::Cause;
 use qs_parser::SyntaxFault;
 use qs_ports::WriteFault;
+use qs_prooftext::TextFault;
+use qs_report::{ProofText, Spot};
 use qs_typing::TypeFault;
 use std::alloc::AllocFailed;
 use thiserror::Error;
@@ -19,6 +22,8 @@ use thiserror::Error;
 pub enum FileKind {
     /// The C source.
     Source,
+    /// The derivations of its functions.
+    Derivation,
     /// The image that is run.
     Image,
     /// The bytes that the run takes as its input.
@@ -52,9 +57,23 @@ pub enum SourceFault {
     /// without a body; the place is that of the node which the fault names, and `no main` names none.
     #[error("{0}")]
     Typing(TypeFault, Option<Pos>),
-    /// It isn't `int main(void){`, pieces `putchar(K);`, `return K;}`.
-    #[error("not in the first form")]
-    NotFirstForm,
+}
+
+/// Why the proofs of a source can't be certified: the first cause in the order of search.
+#[derive(Debug, Drop, Error)]
+pub enum ProofFault {
+    /// The text of the proof file has this fault first, at this line and column.
+    #[error("{0}")]
+    Text(TextFault, Pos),
+    /// These functions, none with an entry in the file, call each other in turn: each the next, and the last the first.
+    #[error("recursion without derivation")]
+    Cycle(Vec<Name>),
+    /// The definition of this name is the first that mentions a name that isn't defined earlier.
+    #[error("order")]
+    Order(Name),
+    /// The entry of this function is the first of the file that isn't derived: at this place this is wrong.
+    #[error("not derived")]
+    Entry(Name, Spot, ProofText),
 }
 
 /// What is wrong with the words of the command line.
@@ -75,12 +94,14 @@ pub enum WordsFault {
 }
 
 /// How a call of the tool ends.
-#[derive(Clone, Copy, Debug, PartialEq, Eq)]
+#[derive(Debug, Drop)]
 pub enum Status {
     /// All that the command asks for was done and written.
     Done,
     /// The source is refused, or a file is too long.
     Source(SourceFault),
+    /// The proofs of the source can't be certified.
+    Proof(ProofFault),
     /// The words are refused.
     Words(WordsFault),
     /// A file to read isn't there.
@@ -93,6 +114,8 @@ pub enum Status {
     Trapped { cause: Cause, pc: u32 },
     /// The machine goes on after this many steps.
     StepLimit(u64),
+    /// The bound is no number of bytes up to 2^28, so there is no stack to run on.
+    NoBound(Amount),
     /// The stack is asked to have this many bytes, more than 2^28.
     StackTooLarge(u64),
     /// A call on a sink failed, whatever the status would have been.
@@ -109,12 +132,14 @@ impl Status {
         match self {
             Status::Done => 0,
             Status::Source(_) => 1,
+            Status::Proof(_) => 2,
             Status::Words(_) => 3,
             Status::Missing(_) => 4,
             Status::StoreFailed(_) => 5,
             Status::Image(_) => 6,
             Status::Trapped { .. } => 7,
             Status::StepLimit(_) => 8,
+            Status::NoBound(_) => 9,
             Status::StackTooLarge(_) => 10,
             Status::SinkFailed => 11,
             Status::NoMemory => 12,

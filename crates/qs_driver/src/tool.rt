@@ -7,13 +7,17 @@ ghost use Rattle.qs_driver.specs.Task.{Answers};
 ghost use Rattle.qs_driver.specs.Tool.{task, task_of};
 
 use crate::Status;
-use crate::commands::build::{BuildOrder, build};
-use crate::commands::outline::{OutlineOrder, outline};
-use crate::commands::run::{RunOrder, run};
+use crate::commands::bound::bound;
+use crate::commands::build::build;
+use crate::commands::check::check;
+use crate::commands::exec::exec;
+use crate::commands::outline::outline;
+use crate::commands::run::run;
 use crate::commands::usage::usage;
 use crate::devices::Devices;
 use crate::due::refuse;
 use crate::names::nameless;
+use crate::orders::{bound_order, build_order, check_order, exec_order, outline_order, run_order};
 use qs_cli::{CliFault, Command, read_words};
 use qs_ports::{Sink, Store};
 use std::alloc::Global;
@@ -29,45 +33,37 @@ fn perform<S: Store, O: Sink, L: Sink>(
         Answers (task_of (Some (command_of command.now))) before after result }
 {
     match command {
-        Command::Build { source, proof, out } => match proof {
-            None => build(
-                alloc,
-                &BuildOrder {
-                    source: source.as_str(),
-                    out: out.as_str(),
-                },
-                devices,
-            ),
-            Some(_) => usage(devices),
-        },
+        Command::Build { source, proof, out } => {
+            build(alloc, &build_order(source, proof, out), devices)
+        }
+        Command::Outline { source } => outline(alloc, &outline_order(source), devices),
         Command::Run {
             image,
             stack,
             args,
             input,
             steps,
-        } => run(
-            alloc,
-            &RunOrder {
-                image: image.as_str(),
-                stack: *stack,
-                args: args.as_slice(),
-                input: input.as_ref().map(|name| name.as_str()),
-                steps: *steps,
-            },
-            devices,
-        ),
-        Command::Check { .. } => usage(devices),
-        Command::Bound { .. } => usage(devices),
+        } => {
+            let order = run_order(image, *stack, args, input, *steps);
+            run(alloc, &order, devices)
+        }
+        Command::Check { source, proof } => check(alloc, &check_order(source, proof), devices),
+        Command::Bound {
+            source,
+            proof,
+            args,
+        } => bound(alloc, &bound_order(source, proof, args), devices),
         Command::Derive { .. } => usage(devices),
-        Command::Outline { source } => outline(
-            alloc,
-            &OutlineOrder {
-                source: source.as_str(),
-            },
-            devices,
-        ),
-        Command::Exec { .. } => usage(devices),
+        Command::Exec {
+            source,
+            proof,
+            args,
+            input,
+            steps,
+        } => {
+            let order = exec_order(source, proof, args, input, *steps);
+            exec(alloc, &order, devices)
+        }
         Command::Sample { .. } => usage(devices),
     }
 }

@@ -1,86 +1,75 @@
 -- What `build` came to.
-use Rattle.std.proofs.Common.{◌≢◌, ℕ, List, Result, Ok, Err, ◌∙◌, refl, inl, inr, arith}
-use Rattle.qs_ports.specs.StoreView.{StoreView, Keeps, HasSameCounts, HasFailed, Holds}
+use Rattle.std.proofs.Common.{◌≡◌, ◌≢◌, ℕ, List, Some, Result, Ok, Err, refl, inl, inr, subst}
+use Rattle.qs_typing.specs.TypedOf.{typed_tree}
+use Rattle.qs_ports.specs.StoreView.{StoreView, HasSameCounts, HasFailed}
 use Rattle.qs_ports.specs.SinkView.{SinkView}
 use Rattle.qs_ports.specs.Whole.{Stores, IsCutShort}
-use Rattle.qs_ports.proofs.Wholes.{keeps_more, counts_more, failed_later}
+use Rattle.qs_ports.proofs.Wholes.{counts_more, failed_later}
+use Rattle.qs_syntax.specs.Trees.{UnitTree}
 use Rattle.qs_image.specs.Image.{Image, IsImage}
-use Rattle.qs_compile.specs.FirstForm.{Program, IsFirstForm, runs_of}
-use Rattle.qs_compile.specs.Agree.{AgreesFrom}
-use Rattle.qs_compile.specs.Built.{HasMainAlone, LowersStackFirst, main_bound}
+use Rattle.qs_compile.specs.Compiled.{IsCompiled, IsImageOfSource}
 use Rattle.qs_driver.specs.Lines.{cost_lines}
 use Rattle.qs_driver.specs.Faults.{status_line}
 use Rattle.qs_driver.specs.Devices.{streams, views_of}
 use Rattle.qs_driver.specs.Due.{EndsWith, IsWritten}
-use Rattle.qs_driver.specs.Source.{HasSource, LacksSource}
+use Rattle.qs_driver.specs.Certified.{LacksCertified, HasCertified}
+use Rattle.qs_driver.specs.Bounds.{IsImageOf}
 use Rattle.qs_driver.specs.Task.{Answers}
-use Rattle.qs_driver.specs.commands.Build.{BuildWords, names_of, build, due_of, HasImage, IsImageOf, IsDueToBuild, Builds, LacksProgram}
+use Rattle.qs_driver.specs.commands.Build.{BuildWords, NamesDiffer, names_of, inputs, build, due_of, HasImage, Builds}
 use Rattle.qs_driver.specs.commands.Build as meant
+use Rattle.qs_driver.specs.declared.certified.CertifiedUnit.{CertifiedUnit}
 use Rattle.qs_driver.specs.declared.status.Status.{Status}
 use Rattle.qs_driver.specs.declared.status.Status.TheVariants.{Done, StoreFailed, NoMemory}
 use Rattle.qs_driver.specs.declared.status.FileKind.TheVariants as kinds
+use Rattle.qs_driver.proofs.BoundsLaws.{is_compiled, source_image}
+use Rattle.qs_driver.proofs.LaterLaws.{keeps_then_holds, cut_short}
 use Rattle.qs_driver.proofs.StepsLaws.{log_last, out_last}
+
+-- ---- the names
+
+pub names_differ : (b : BuildWords) → b.source ≢ b.out → b.proof ≢ Some b.out → NamesDiffer b
+names_differ b source proof twice = elim twice [
+  | inl e ↦ source e
+  | inr e ↦ proof e
+]
 
 -- ---- the work on the store
 
--- there is no source to go on with
-pub no_source : (b : BuildWords) (v w : StoreView) (status : Status) → b.source ≢ b.out → LacksSource v w b.source status → Builds b v w (Err status)
-no_source b v w status differ l = meant.refused differ status (meant.no_source l) refl
+-- there is nothing certified to go on with
+pub not_certified : (b : BuildWords) (v w : StoreView) (status : Status) → NamesDiffer b → LacksCertified (inputs b) v w status → Builds b v w (Err status)
+not_certified b v w status differ l = meant.refused differ status (meant.not_certified l) refl
 
--- the source isn't of the first form, or no memory was found for it
-pub no_program : (b : BuildWords) (v w : StoreView) (text : List ℕ) (status : Status) → b.source ≢ b.out → HasSource v w b.source text → LacksProgram text status → Builds b v w (Err status)
-no_program b v w text status differ s (meant.no_program none e) = meant.refused differ status (meant.other_form (record {
-  untouched = s.read.untouched;
-  text = record { content = text; read_as = s.read.read_as; has = record { typed = s.typed; no_form = none } };
-}) e) refl
-no_program b v w text status differ s (meant.lacks_memory e) = meant.refused differ status (meant.no_memory s.read.untouched e) refl
+-- no memory was found after the source was certified
+pub out_of_memory : (b : BuildWords) (v w : StoreView) (c : CertifiedUnit) → NamesDiffer b → HasCertified (inputs b) v w c → Builds b v w (Err NoMemory)
+out_of_memory b v w c differ h = meant.refused differ NoMemory (meant.no_memory h.untouched refl) refl
 
--- no memory was found after the source was read
-pub out_of_memory : (b : BuildWords) (v w : StoreView) (text : List ℕ) → b.source ≢ b.out → HasSource v w b.source text → Builds b v w (Err NoMemory)
-out_of_memory b v w text differ s = meant.refused differ NoMemory (meant.no_memory s.read.untouched refl) refl
-
--- a store that kept its files, and then made one
-keeps_then_holds : {v u w : StoreView} {name bytes : List ℕ} {m : ℕ} → Keeps v u → Holds u w name bytes m → Holds v w name bytes m
-keeps_then_holds {v} {u} {w} {name} {bytes} {m} k h = record {
-  was_told = λ t. k.was_told (h.was_told t);
-  file = h.file;
-  others = λ t n ne. h.others t n ne ∙ k.files (h.was_told t) n;
-  tells = λ t le.
-      let p = k.tells t (omega arith) in
-      let q = h.tells p.0 (omega arith) in
-      (q.0, omega arith);
+-- the image that was compiled of what the code holds is one of the source
+has_image : (b : BuildWords) {v u : StoreView} {c : CertifiedUnit} {image : Image} {bytes : List ℕ} (h : HasCertified (inputs b) v u c) → IsImageOfSource (typed_tree c.typed) image → IsImage bytes image → HasImage b v h.source image bytes
+has_image b {c = c} {image = image} h compiled is = record {
+  reads = h.reads;
+  image_of = source_image (inputs b) _ h.source image h.reads (subst (λ (unit : UnitTree). IsCompiled unit image) h.holds.unit (is_compiled (typed_tree c.typed) image compiled));
+  is_image = is;
 }
 
--- the image that was made of the program, and its bytes
-pub image_of : {p : Program} {image : Image} {bytes : List ℕ} → HasMainAlone image → LowersStackFirst image → AgreesFrom (main_bound image) (runs_of p) image → IsImage bytes image → IsImageOf p image bytes
-image_of b l a i = record { is_image = i; main_alone = b; lowers = l; agrees = a }
-
-has_image : (b : BuildWords) {v u : StoreView} {text bytes : List ℕ} {p : Program} {image : Image} → HasSource v u b.source text → IsFirstForm text p → IsImageOf p image bytes → HasImage b v p image bytes
-has_image b {text = text} s form of = record { text = record { content = text; read_as = s.read.read_as; has = form }; image_of = of }
-
-pub was_built : (b : BuildWords) {v u w : StoreView} {text bytes : List ℕ} {p : Program} {image : Image} → b.source ≢ b.out → HasSource v u b.source text → IsFirstForm text p → IsImageOf p image bytes → Stores u w b.out bytes × HasSameCounts u w → Builds b v w (Ok image)
-was_built b {bytes = bytes} {p = p} {image = image} differ s form of (stores, counts) = meant.built differ (record {
-  program = p;
+pub was_built : (b : BuildWords) {v u w : StoreView} {c : CertifiedUnit} {image : Image} {bytes : List ℕ} → NamesDiffer b → HasCertified (inputs b) v u c → IsImageOfSource (typed_tree c.typed) image → IsImage bytes image → Stores u w b.out bytes × HasSameCounts u w → Builds b v w (Ok image)
+was_built b {image = image} {bytes = bytes} differ h compiled is (stores, counts) = meant.built differ (record {
+  source = h.source;
   image = image;
   bytes = bytes;
-  has_image = has_image b s form of;
-  stores = keeps_then_holds s.read.untouched.only_reads.keeps stores;
-  counts = counts_more s.read.untouched.counts counts;
+  has_image = has_image b h compiled is;
+  stores = keeps_then_holds h.untouched.only_reads.keeps stores;
+  counts = counts_more h.untouched.counts counts;
   is_due = refl;
 })
 
-cut_short : {v u w : StoreView} {name bytes : List ℕ} → Keeps v u → IsCutShort u w name bytes → IsCutShort v w name bytes
-cut_short f (inl k) = inl (keeps_more f k)
-cut_short f (inr (n, p)) = inr (n, record { within = p.within; stores = keeps_then_holds f p.stores })
-
-pub not_written : (b : BuildWords) {v u w : StoreView} {text bytes : List ℕ} {p : Program} {image : Image} → b.source ≢ b.out → HasSource v u b.source text → IsFirstForm text p → IsImageOf p image bytes → HasFailed u w × IsCutShort u w b.out bytes → Builds b v w (Err (StoreFailed kinds.Output))
-not_written b {bytes = bytes} {p = p} {image = image} differ s form of (failed, cut) = meant.refused differ (StoreFailed kinds.Output) (meant.unwritable (record {
-  program = p;
+pub not_written : (b : BuildWords) {v u w : StoreView} {c : CertifiedUnit} {image : Image} {bytes : List ℕ} → NamesDiffer b → HasCertified (inputs b) v u c → IsImageOfSource (typed_tree c.typed) image → IsImage bytes image → HasFailed u w × IsCutShort u w b.out bytes → Builds b v w (Err (StoreFailed kinds.Output))
+not_written b {image = image} {bytes = bytes} differ h compiled is (failed, cut) = meant.refused differ (StoreFailed kinds.Output) (meant.unwritable (record {
+  source = h.source;
   image = image;
   bytes = bytes;
-  has_image = has_image b s form of;
-  part = cut_short s.read.untouched.only_reads.keeps cut;
-  failed = failed_later s.read.untouched.counts failed;
+  has_image = has_image b h compiled is;
+  part = cut_short h.untouched.only_reads.keeps cut;
+  failed = failed_later h.untouched.counts failed;
 }) refl) refl
 
 -- ---- what is put after that

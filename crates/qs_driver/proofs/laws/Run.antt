@@ -1,9 +1,7 @@
 -- How `run` comes to a machine and its input, and what it came to.
-use Rattle.std.proofs.Common.{◌≡◌, ℕ, ◌≤◌, List, length, Option, Some, None, Result, Ok, Err, refl, sym, ◌∙◌, subst, arith, IsTrue}
-use Rattle.qs_ports.specs.StoreView.{StoreView, HasSameCounts, HasMissed}
+use Rattle.std.proofs.Common.{◌≡◌, ℕ, ◌≤◌, List, length, Option, Some, None, Result, Ok, Err, refl, sym, ◌∙◌, subst, arith}
+use Rattle.qs_ports.specs.StoreView.{StoreView}
 use Rattle.qs_ports.specs.SinkView.{SinkView}
-use Rattle.qs_ports.specs.Whole.{IsContent}
-use Rattle.qs_ports.proofs.Wholes.{reads_more, counts_more, failed_later}
 use Rattle.qs_image.specs.Image.{Image, IsImage}
 use Rattle.qs_machine.specs.Run.{Outcome, Exited, Trapped as HasTrapped, Going, machine, output_so_far}
 use Rattle.qs_machine.specs.Running.{Shows}
@@ -15,8 +13,7 @@ use Rattle.qs_report.specs.Lines.{end_line}
 use Rattle.qs_driver.specs.Faults.{status_line}
 use Rattle.qs_driver.specs.Devices.{views_of}
 use Rattle.qs_driver.specs.Due.{Due, refusal, EndsWith}
-use Rattle.qs_driver.specs.Files.{IsUntouched, WasReadAs, WasRead, CannotRead}
-use Rattle.qs_driver.specs.Files as files
+use Rattle.qs_driver.specs.Files.{IsUntouched, WasRead}
 use Rattle.qs_machine.specs.Arguments.{words_of}
 use Rattle.qs_driver.specs.Arguments.{LacksWords}
 use Rattle.qs_driver.specs.Arguments as arguments
@@ -27,7 +24,7 @@ use Rattle.qs_driver.specs.declared.commands.run.Ready.{Ready}
 use Rattle.qs_driver.specs.declared.status.Status.{Status}
 use Rattle.qs_driver.specs.declared.status.Status.TheVariants.{Done, Trapped, StepLimit}
 use Rattle.qs_driver.specs.declared.status.FileKind.TheVariants as kinds
-use Rattle.qs_driver.proofs.FilesLaws.{told_after}
+use Rattle.qs_driver.proofs.LaterLaws.{both_untouched, was_read_before, unread_later}
 use Rattle.qs_driver.proofs.StepsLaws.{log_last, then_log, out_fails}
 
 -- ---- the image
@@ -64,40 +61,6 @@ not_loaded r v w bytes status read (meant.lacks_memory e) = meant.no_memory read
 
 -- ---- the input, which is read after the image
 
-both_untouched : {u v w : StoreView} → IsUntouched u v → IsUntouched v w → IsUntouched u w
-both_untouched f g = record { only_reads = reads_more f.only_reads g.only_reads; counts = counts_more f.counts g.counts }
-
-missed_later : {u v w : StoreView} → HasSameCounts u v → HasMissed v w → HasMissed u w
-missed_later {u} {v} {w} c m = record {
-  rose = simp (c.misses) at m.rose;
-  misses = let e = c.misses in let x = m.misses in omega arith;
-  faults = m.faults ∙ c.faults;
-}
-
--- what is said of a file behind a call that left the files alone was so before it
-file_before : {v w : StoreView} (name : List ℕ) (P : Option (List ℕ) → Type 0) → IsUntouched v w → (IsTrue w.told → P (w.files name)) → IsTrue v.told → P (v.files name)
-file_before name P u f told = let k = u.only_reads.keeps in let t = told_after k told in (let e = k.files t name in subst P e (f t))
-
--- what was read behind a call that left the files alone
-input_before : {v w : StoreView} {name content : List ℕ} {limit : ℕ} → IsUntouched v w → WasReadAs w name limit content → WasReadAs v name limit content
-input_before {name = name} {content = content} u r = record { within = r.within; there = file_before name (λ file. file ≡ Some content) u r.there }
-
--- the input wasn't read, behind a call that left the files alone
-unread_later : (u v w : StoreView) (name : List ℕ) (status : Status) → IsUntouched u v → CannotRead v w name kinds.Input input_limit status → CannotRead u w name kinds.Input input_limit status
-unread_later u v w name status f (files.missing m e) = files.missing (record {
-  only_reads = reads_more f.only_reads m.only_reads;
-  missed = missed_later f.counts m.missed;
-  absent = file_before name (λ file. file ≡ None) f m.absent;
-}) e
-unread_later u v w name status f (files.unreadable x e) = files.unreadable (record { only_reads = reads_more f.only_reads x.only_reads; failed = failed_later f.counts x.failed }) e
-unread_later u v w name status f (files.too_long l e) = files.too_long (record {
-  untouched = both_untouched f l.untouched;
-  read = l.read;
-  more = l.more;
-  is_content = file_before name (λ file. IsContent file input_limit l.read) f l.is_content;
-}) e
-unread_later u v w name status f (files.no_memory x e) = files.no_memory (both_untouched f x) e
-
 -- the machine and the input, where the input has this name
 ready_with : (r : RunWords) (u v w : StoreView) (bytes : List ℕ) (ready : Ready) → WasRead u v r.image image_limit bytes → WasLoaded bytes r ready.machine → ReadInput u r.input ready.input.items → IsUntouched u w → IsReady r u w ready
 ready_with r u v w bytes ready read l i f = record {
@@ -114,14 +77,14 @@ input_ready : (r : RunWords) (u v w : StoreView) (bytes : List ℕ) (ready : Rea
 input_ready r u v w bytes ready None e read l (empty, f) = let P : Option (List ℕ) → Type 0 = λ x. ReadInput u x ready.input.items in ready_with r u v w bytes ready read l (subst P (sym e) empty) (both_untouched read.untouched f)
 input_ready r u v w bytes ready (Some name) e read l h =
     let P : Option (List ℕ) → Type 0 = λ x. ReadInput u x ready.input.items in
-    ready_with r u v w bytes ready read l (subst P (sym e) (input_before read.untouched h.read_as)) (both_untouched read.untouched h.untouched)
+    ready_with r u v w bytes ready read l (subst P (sym e) (was_read_before read.untouched h.read_as)) (both_untouched read.untouched h.untouched)
 
 pub is_ready : (r : RunWords) (u v w : StoreView) (bytes : List ℕ) (ready : Ready) → WasRead u v r.image image_limit bytes → WasLoaded bytes r ready.machine → ReadsNamed v w r.input (Ok ready.input) → IsReady r u w ready
 is_ready r u v w bytes ready read l i = input_ready r u v w bytes ready r.input refl read l i
 
 input_refused : (r : RunWords) (u v w : StoreView) (bytes : List ℕ) (machine : Machine) (input : Option (List ℕ)) (status : Status) → r.input ≡ input → WasRead u v r.image image_limit bytes → WasLoaded bytes r machine → ReadsNamed v w input (Err status) → CannotRun r u w status
 input_refused r u v w bytes machine None status e read l h = absurd h
-input_refused r u v w bytes machine (Some name) status e read l h = meant.unread_input name (record { image = l.image; image_read = read_image r read l.is_image; can_run = l.can_run; named = e }) (unread_later u v w name status read.untouched h)
+input_refused r u v w bytes machine (Some name) status e read l h = meant.unread_input name (record { image = l.image; image_read = read_image r read l.is_image; can_run = l.can_run; named = e }) (unread_later u v w name kinds.Input input_limit status read.untouched h)
 
 pub input_is_refused : (r : RunWords) (u v w : StoreView) (bytes : List ℕ) (machine : Machine) (status : Status) → WasRead u v r.image image_limit bytes → WasLoaded bytes r machine → ReadsNamed v w r.input (Err status) → CannotRun r u w status
 input_is_refused r u v w bytes machine status read l h = input_refused r u v w bytes machine r.input status refl read l h

@@ -9,7 +9,7 @@ use Rattle.qs_driver.specs.Devices.{DevicesView, streams_of, views_of}
 use Rattle.qs_driver.specs.Steps.{AreCutShort}
 use Rattle.qs_driver.specs.Due.{Due, refusal, IsWritten, EndsWith}
 use Rattle.qs_driver.specs.Task.{Task, Answers}
-use Rattle.qs_driver.specs.Tool.{build_with, task_of}
+use Rattle.qs_driver.specs.Tool.{task_of}
 use Rattle.qs_driver.specs.Promises.{LacksMemory, NoneFailed, SaysStoreFailed, Promises}
 use Rattle.qs_driver.specs.declared.status.Status.{Status}
 use Rattle.qs_driver.specs.declared.status.Status.TheVariants.{SinkFailed, NoMemory}
@@ -17,24 +17,23 @@ use Rattle.qs_driver.proofs.StepsLaws.{HasSameFaults, all_same, short_rose, log_
 use Rattle.qs_driver.proofs.laws.Follows.{Follows, not_risen, not_untouched, untouched}
 use Rattle.qs_driver.proofs.laws.Usage.{usage_follows}
 use Rattle.qs_driver.proofs.laws.BuildFollows.{build_follows}
+use Rattle.qs_driver.proofs.laws.BoundFollows.{bound_follows}
+use Rattle.qs_driver.proofs.laws.ExecFollows.{exec_follows}
+use Rattle.qs_driver.proofs.laws.CheckFollows.{check_follows}
 use Rattle.qs_driver.proofs.laws.OutlineFollows.{outline_follows}
 use Rattle.qs_driver.proofs.laws.RunFollows.{run_follows}
 
 -- ---- the rows
 
-build_with_follows : (source : List ℕ) (proof : Option (List ℕ)) (out : List ℕ) → Follows (build_with source proof out)
-build_with_follows source None out = build_follows _
-build_with_follows source (Some proof) out = usage_follows
-
 pub follows : (command : Option Command) → Follows (task_of command)
 follows None = usage_follows
-follows (Some (Build source proof out)) = build_with_follows source proof out
-follows (Some (Check source proof)) = usage_follows
-follows (Some (Bound source proof args)) = usage_follows
+follows (Some (Build source proof out)) = build_follows _
+follows (Some (Check source proof)) = check_follows _
+follows (Some (Bound source proof args)) = bound_follows _
 follows (Some (Derive source out)) = usage_follows
 follows (Some (Outline source)) = outline_follows _
 follows (Some (Run image stack args input steps)) = run_follows _
-follows (Some (Exec source proof args input steps)) = usage_follows
+follows (Some (Exec source proof args input steps)) = exec_follows _
 follows (Some (Sample count out)) = usage_follows
 
 -- ---- the promises

@@ -1,18 +1,19 @@
-// `build`: from the source in the store to the image in the store.
-ghost use Rattle.std.specs.Prelude.{◌≡◌};
+// `build`: from the source and its proof file in the store to the image in the store.
+ghost use Rattle.std.specs.Prelude.{◌≡◌, ◌≢◌, Some, false, true};
+ghost use Rattle.qs_driver.specs.Certified as meant;
 ghost use Rattle.qs_driver.specs.Devices.{streams, views, views_left};
 ghost use Rattle.qs_driver.specs.Due.{IsWritten};
 ghost use Rattle.qs_driver.specs.Names.{names_in};
 ghost use Rattle.qs_driver.specs.Task.{Answers};
-ghost use Rattle.qs_driver.specs.commands.Build.{build, due_of, names_of, words_in, Builds, ReadsProgram};
+ghost use Rattle.qs_driver.specs.commands.Build.{build, due_of, inputs, names_of, words_in, Builds, NamesDiffer, NamesOneTwice};
 
+use crate::certified::{CertifyOrder, read_certified};
 use crate::devices::Devices;
 use crate::due::{refuse, status_after};
 use crate::lines::put_costs;
 use crate::names::{FileNames, nameless};
-use crate::source::read_source;
-use crate::{SourceFault, Status, WordsFault};
-use qs_compile::{FirstForm, compile, first_form};
+use crate::{Status, WordsFault};
+use qs_compile::compile_unit;
 use qs_image::{Image, write};
 use qs_ports::{Sink, Store, write_whole};
 use std::alloc::Global;
@@ -21,6 +22,7 @@ use std::alloc::Global;
 #[derive(Clone, Copy)]
 pub struct BuildOrder<'a> {
     pub source: &'a str,
+    pub proof: Option<&'a str>,
     pub out: &'a str,
 }
 
@@ -30,19 +32,40 @@ fn names_of<'a>(order: &BuildOrder<'a>) -> FileNames<'a>
     let none = nameless();
     FileNames {
         source: order.source,
+        derivation: order.proof.unwrap_or(""),
         output: order.out,
         ..none
     }
 }
 
-// The program of a text.
-fn read_program(alloc: Global, text: &[u8]) -> Result<FirstForm, Status>
-    ensures { ReadsProgram text.now result }
+// The words that name what is certified.
+fn inputs_of<'a>(order: &BuildOrder<'a>) -> CertifyOrder<'a>
+    ensures { meant.words_in result ≡ inputs (words_in order.now) }
 {
-    match first_form(alloc, text)? {
-        Some(program) => Ok(program),
-        None => Err(Status::Source(SourceFault::NotFirstForm)),
+    CertifyOrder {
+        source: order.source,
+        proof: order.proof,
     }
+}
+
+// Whether the file that gets the image is the proof file.
+fn overwrites_proof(order: &BuildOrder<'_>) -> bool
+    ensures twice { result ≡ true → NamesOneTwice (words_in order.now) }
+    ensures differ { result ≡ false → (words_in order.now).proof ≢ Some (words_in order.now).out }
+{
+    match order.proof {
+        Some(proof) => proof == order.out,
+        None => false,
+    }
+}
+
+// Whether the file that gets the image is one of those that are read.
+#[tactic(auto, using(crate::proofs::laws::Build::names_differ))]
+fn names_one_twice(order: &BuildOrder<'_>) -> bool
+    ensures twice { result ≡ true → NamesOneTwice (words_in order.now) }
+    ensures differ { result ≡ false → NamesDiffer (words_in order.now) }
+{
+    order.source == order.out || overwrites_proof(order)
 }
 
 // Writes the image of the source into the out file, and gives it back.
@@ -53,12 +76,11 @@ fn build_image<S: Store>(
 ) -> Result<Image, Status>
     ensures { Builds (words_in order.now) (S.view store.old) (S.view store.new) result }
 {
-    if order.source == order.out {
+    if names_one_twice(order) {
         return Err(Status::Words(WordsFault::SameName));
     }
-    let text = read_source(alloc, store, order.source)?;
-    let program = read_program(alloc, &text)?;
-    let image = compile(alloc, &program)?;
+    let certified = read_certified(alloc, store, &inputs_of(order))?;
+    let image = compile_unit(alloc, &certified.typed)?;
     let bytes = write(alloc, &image)?;
     write_whole(store, order.out, &bytes)?;
     Ok(image)

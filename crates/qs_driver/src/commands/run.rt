@@ -39,7 +39,7 @@ fn names_of<'a>(order: &RunOrder<'a>) -> FileNames<'a>
     }
 }
 
-fn load_bytes(alloc: Global, bytes: &[u8], order: &RunOrder<'_>) -> Result<Machine, Status>
+pub fn load_bytes(alloc: Global, bytes: &[u8], order: &RunOrder<'_>) -> Result<Machine, Status>
     ensures { Loads bytes.now (words_in order.now) result }
 {
     let image = read(bytes)?;
@@ -52,7 +52,7 @@ fn load_bytes(alloc: Global, bytes: &[u8], order: &RunOrder<'_>) -> Result<Machi
     }
 }
 
-fn read_input<S: Store>(
+pub fn read_input<S: Store>(
     alloc: Global,
     order: &RunOrder<'_>,
     store: &mut S,
@@ -83,7 +83,7 @@ fn prepare<S: Store>(alloc: Global, order: &RunOrder<'_>, store: &mut S) -> Resu
 }
 
 // Puts the line at the end of a run.
-fn finish<L: Sink>(end: RunEnd, order: &RunOrder<'_>, log: &mut L) -> Status
+pub fn finish<L: Sink>(end: RunEnd, order: &RunOrder<'_>, log: &mut L) -> Status
     ensures { Finishes (words_in order.now) end (L.view log.old) (L.view log.new) result }
 {
     match end {

@@ -1,17 +1,6 @@
-use Rattle.std.proofs.Common.{◌≡◌, rules, refl, sym, ◌∙◌, pos, get_or, is_ok, true, SFits, w64, to_z-of_z}
-use Rattle.qs_driver.specs.Arguments.{misfit}
-use Rattle.qs_driver.proofs.ArgumentsLaws.{misfit_at, passed_more}
+use Rattle.std.proofs.Common.{sym}
+use Rattle.qs_driver.proofs.ParametersLaws.{finds_words}
 use Rattle.qs_driver.proofs.arguments.argument_words.Goals as goal
 
-pub returns-then-not-fits_parameter : goal.returns-then-not-fits_parameter
-returns-then-not-fits_parameter c =
-    let z = get_or c.args.args.now c.loop-i.i (pos 0) in
-    let fits : SFits w64 z = search rules in
-    misfit c.loop-i.i (search rules) (misfit_at c.args.image.now c.args.args.now c.loop-i.i c.loop-i.words.items z (pos 0) refl c.loop-i-test.true (sym (rw (to_z-of_z fits) at c.fits_parameter.ensures) ∙ c.if-not-fits_parameter.true) c.loop-i.invariant) refl
-
-pub loop-i-preserved : goal.loop-i-preserved
-loop-i-preserved c =
-    let z = get_or c.args.args.now c.loop-i.i (pos 0) in
-    let fits : SFits w64 z = search rules in
-    let ok : is_ok c.push.result ≡ true = search rules in
-    rw (c.push.ensures.items, c.word_of.ensures, ok, to_z-of_z fits) (passed_more c.args.image.now c.args.args.now c.loop-i.i c.loop-i.words.items z (pos 0) refl c.loop-i-test.true (sym (rw (to_z-of_z fits) at c.fits_parameter.ensures) ∙ c.if-not-fits_parameter.false) c.loop-i.invariant)
+pub returns : goal.returns
+returns c = finds_words c.args.image.now _ c.args.args.now _ (record { count = sym c.parameters.ensures.value; unsigned_set = sym c.unsigned_set.ensures.value }) c.words_for.ensures

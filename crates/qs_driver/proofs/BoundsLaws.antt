@@ -1,0 +1,177 @@
+-- An image that is compiled of a certified source is an image of it, and all images of one core are alike.
+use Rattle.std.proofs.Common.{◌≡◌, ℕ, zero, suc, ◌+◌, ◌<◌, ◌≤◌, true, if◌then◌else◌, ℤ, List, [], ◌∷◌, length, map, Option, Some, None, refl, sym, ap, ◌∙◌, subst, arith}
+use Rattle.std.specs.Prelude.{slice_index_or}
+use Rattle.std.proofs.lemmas.Option.{same_Some}
+use Rattle.qs_base.specs.Words.{wrap}
+use Rattle.qs_syntax.specs.Trees.{UnitTree}
+use Rattle.qs_memory.specs.Values.{Value, integer}
+use Rattle.qs_events.specs.Weights.{Costs, run_weight}
+use Rattle.qs_calls.specs.World.{RootRun}
+use Rattle.qs_assert.specs.Values.{finite, plus}
+use Rattle.qs_assert.specs.declared.define.Amount.{Amount}
+use Rattle.qs_assert.specs.declared.define.Amount.TheVariants.{Finite, Infinite, Wide}
+use Rattle.qs_entail.specs.Meaning.{AtLeast}
+use Rattle.qs_core.specs.Fits.{unit_fits}
+use Rattle.qs_core.specs.Trees.{CoreUnitTree}
+use Rattle.qs_core.specs.Units as core
+use Rattle.qs_elaborate.specs.Units.{core_of}
+use Rattle.qs_meaning.specs.Typed.{TypedProgram}
+use Rattle.qs_triples.specs.Valuations.{value_at_entry}
+use Rattle.qs_image.specs.Image.{Image, FunctionRecord}
+use Rattle.qs_machine.specs.Arguments.{first_misfit}
+use Rattle.qs_emit.specs.Images.{AreCosts, no_record}
+use Rattle.qs_build.specs.Agrees.{values_of}
+use Rattle.qs_build.specs.Built.{IsBuiltFrom}
+use Rattle.qs_build.specs.Units.{linear}
+use Rattle.qs_certify.specs.Bound as certify
+use Rattle.qs_certify.proofs.MainLaws.{main_bounds_runs, entry_bounds_runs}
+use Rattle.qs_compile.specs.Agree.{AgreesFrom}
+use Rattle.qs_compile.specs.Compiled.{IsCompiled, IsImageOfSource, SourceHasStack}
+use Rattle.qs_ports.specs.StoreView.{StoreView}
+use Rattle.qs_driver.specs.Bounds.{bound_by, bytes_by, costs_in, if_finite, main_runs, seen_runs, IsBounded, IsBoundedByMain, IsImageOf, WeighsWithin}
+use Rattle.qs_driver.specs.Certified.{CertifiedSource, CertifyWords, IsCertifiedAs, ReadsCertified}
+use Rattle.qs_driver.proofs.MainLaws.{arguments_are_mains, same_misfit}
+
+-- ---- costs
+
+cost_of_record : (rs : List FunctionRecord) (f : ℕ) → f < length rs → slice_index_or (map (λ (x : FunctionRecord). x.cost) rs) f 0 ≡ (slice_index_or rs f no_record).cost
+cost_of_record [] f h = absurd (omega (arith, h))
+cost_of_record (q ∷ rs) zero h = refl
+cost_of_record (q ∷ rs) (suc f) h = cost_of_record rs f (omega (arith, h))
+
+-- the records of an image give each function's cost
+pub records_are_costs : (image : Image) → AreCosts image (certify.costs_of (costs_in image))
+records_are_costs image = record { each = λ f h. cost_of_record image.functions f h }
+
+-- ---- agreement
+
+-- each stack of at least the bound has the weight of each run
+pub agrees_from : (s : CertifiedSource) (image : Image) (c : IsCompiled s.unit image) → WeighsWithin s c.program image → AgreesFrom (bytes_by s image) (seen_runs c.program) image
+agrees_from s image c w = record {
+  agree = λ args input least size arguments is_input bound_is within most.
+      let cost : Costs = certify.costs_of (costs_in image) in
+      let stack : SourceHasStack c.program image cost args input size = record {
+        arguments = arguments;
+        bytes = is_input;
+        most = most;
+        enough = λ n. let weighs : run_weight cost (main_runs c.program args input n) ≤ least = w.weighs args input least n arguments is_input bound_is in omega (arith, weighs, within);
+      } in
+      c.does.agree cost args input size (records_are_costs image) stack;
+}
+
+-- ---- from core to the source
+
+-- two ways to the same values
+same_values : (args : List ℤ) → certify.values_of args ≡ values_of args
+same_values [] = refl
+same_values (z ∷ zs) = ap (λ (vs : List Value). integer (wrap z) ∷ vs) (same_values zs)
+
+finite_is : (a : Amount) (bytes : ℕ) → if_finite a ≡ Some bytes → a ≡ Finite bytes
+finite_is (Finite n) bytes e = let same : n ≡ bytes = cc in ap Finite same
+finite_is Infinite bytes e = cc
+finite_is Wide bytes e = cc
+
+-- the image of a source's core is built from it
+built_from : (unit : UnitTree) (u : CoreUnitTree) (image : Image) → core_of unit ≡ Some u → IsCompiled unit image → IsBuiltFrom u image
+built_from unit u image is c = subst (λ (x : CoreUnitTree). IsBuiltFrom x image) (same_Some c.core u (sym c.core_is ∙ is)) c.built
+
+-- the core of a certified source fits, and main runs in it as in the source's typed tree
+module _ (text : List ℕ) (file : Option (List ℕ)) (s : CertifiedSource) (c : IsCertifiedAs text file s) where
+  fits : unit_fits s.core ≡ true
+  fits = subst (λ (u : CoreUnitTree). unit_fits u ≡ true) c.core_is c.has_core.fits
+
+  pub core_is : core_of s.unit ≡ Some s.core
+  core_is = c.has_core.is ∙ ap Some c.core_is
+
+  core_follows : (args : List ℤ) (input : List ℕ) (n : ℕ) → core.main_run s.core (values_of args) input n ≡ main_runs c.has_core.typed args input n
+  core_follows args input n =
+      ap (λ (u : CoreUnitTree). core.main_run u (values_of args) input n) (sym c.core_is)
+      ∙ c.has_core.main_follows (values_of args) input n
+
+  -- main's entry bounds each run of the source, for every stack metric
+  sources_are_bounded : IsBoundedByMain s c.has_core.typed
+  sources_are_bounded =
+      let b = entry_bounds_runs s.core s.given s.proofs fits c.certified.covers in
+      record {
+        main = b.main;
+        is_main = b.is_main;
+        entry = b.entry;
+        stands = b.stands;
+        bounds = λ cost args input n are is_input.
+            subst (λ (r : RootRun). AtLeast (plus (finite (cost s.core.main)) (value_at_entry cost s.proofs.defines b.main (values_of args) b.entry.spec.pre)) (finite (run_weight cost r)))
+            (core_follows args input n)
+            (subst (λ (vs : List Value). AtLeast (plus (finite (cost s.core.main)) (value_at_entry cost s.proofs.defines b.main vs b.entry.spec.pre)) (finite (run_weight cost (core.main_run s.core vs input n))))
+            (same_values args) (b.bounds cost args input n are is_input));
+      }
+
+  module _ (image : Image) (i : IsCompiled s.unit image) where
+    same_program : c.has_core.typed ≡ i.program
+    same_program = same_Some c.has_core.typed i.program (sym c.has_core.tree ∙ i.tree)
+
+    main_follows : (args : List ℤ) (input : List ℕ) (n : ℕ) → core.main_run s.core (certify.values_of args) input n ≡ main_runs i.program args input n
+    main_follows args input n =
+        ap (λ (vs : List Value). core.main_run s.core vs input n) (same_values args)
+        ∙ core_follows args input n
+        ∙ ap (λ (p : TypedProgram). main_runs p args input n) same_program
+
+    -- so do the costs of the records, with the bound as it is computed
+    weighs_within : WeighsWithin s i.program image
+    weighs_within = record {
+      weighs = λ args input bytes n arguments is_input bound_is.
+          let mains_are = (arguments_are_mains s.core image args fits (built_from s.unit s.core image core_is i)).0 arguments in
+          let is_bound = finite_is (bound_by s (costs_in image) args) bytes bound_is in
+          subst (λ (r : RootRun). run_weight (certify.costs_of (costs_in image)) r ≤ bytes) (main_follows args input n)
+          (main_bounds_runs s.core s.given s.proofs (costs_in image) args bytes fits c.certified.covers mains_are is_bound input n is_input);
+    }
+
+    compiled_is_image : IsImageOf s image
+    compiled_is_image = record { compiled = i; weighs = weighs_within; agrees = agrees_from s image i weighs_within }
+
+-- ---- of what was read
+
+-- an image that is compiled of a certified source is an image of it
+pub source_image : (w : CertifyWords) (v : StoreView) (s : CertifiedSource) (image : Image) → ReadsCertified w v s → IsCompiled s.unit image → IsImageOf s image
+source_image w v s image r i = compiled_is_image r.text r.file s r.is image i
+
+-- what `compile_unit` promises
+pub is_compiled : (unit : UnitTree) (image : Image) → IsImageOfSource unit image → IsCompiled unit image
+unfolding IsImageOfSource
+is_compiled unit image h = h
+
+-- a certified source is bounded, for every stack metric
+pub source_bounded : (w : CertifyWords) (v : StoreView) (s : CertifiedSource) → ReadsCertified w v s → IsBounded s
+source_bounded w v s r = record {
+  program = r.is.has_core.typed;
+  tree = r.is.has_core.tree;
+  bounded = sources_are_bounded r.text r.file s r.is;
+}
+
+-- ---- images of one core
+
+-- they have the same parameters and the same costs
+pub record AreAlike (image other : Image) : Type 0 where
+  pub parameters : image.parameters ≡ other.parameters
+  pub misfit : (args : List ℤ) → first_misfit image 0 args ≡ first_misfit other 0 args
+  pub costs : costs_in image ≡ costs_in other
+
+same_costs : (rs qs : List FunctionRecord) → length rs ≡ length qs → ((f : ℕ) → f < length rs → (slice_index_or rs f no_record).cost ≡ (slice_index_or qs f no_record).cost) → map (λ (x : FunctionRecord). x.cost) rs ≡ map (λ (x : FunctionRecord). x.cost) qs
+same_costs [] [] long same = refl
+same_costs [] (q ∷ qs) long same = absurd (omega (arith, long))
+same_costs (r ∷ rs) [] long same = absurd (omega (arith, long))
+same_costs (r ∷ rs) (q ∷ qs) long same =
+    let first : r.cost ≡ q.cost = same 0 (omega arith) in
+    let others = same_costs rs qs (omega (arith, long)) (λ f h. same (suc f) (omega (arith, h))) in
+    ap (λ (c : ℕ). c ∷ map (λ (x : FunctionRecord). x.cost) rs) first ∙ ap (λ (cs : List ℕ). q.cost ∷ cs) others
+
+built_alike : (u : CoreUnitTree) (image other : Image) → IsBuiltFrom u image → IsBuiltFrom u other → AreAlike image other
+built_alike u image other a b = record {
+  parameters = a.parameters ∙ sym b.parameters;
+  misfit = λ args. same_misfit image other (λ i. a.unsigned i ∙ sym (b.unsigned i)) 0 args;
+  costs = same_costs image.functions other.functions (a.code.count ∙ sym b.code.count) (λ f h.
+      let count = a.code.count in
+      let within : f < length (linear u).functions = omega (arith, h, count) in
+      a.code.costs f within ∙ sym (b.code.costs f within));
+}
+
+pub images_alike : (u : CoreUnitTree) (s t : CertifiedSource) (image other : Image) → core_of s.unit ≡ Some u → core_of t.unit ≡ Some u → IsImageOf s image → IsImageOf t other → AreAlike image other
+images_alike u s t image other a b i j = built_alike u image other (built_from s.unit u image a i.compiled) (built_from t.unit u other b j.compiled)

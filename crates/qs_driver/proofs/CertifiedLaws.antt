@@ -1,0 +1,131 @@
+-- How a source and its proof file come to a unit with proofs.
+use Rattle.std.proofs.Common.{◌≡◌, ◌≤◌, ◌⊎◌, ◌∙◌, ℕ, arith, List, length, Option, Some, None, Result, Ok, Err, refl, sym, ap, subst, inl, inr}
+use Rattle.std.specs.Prelude.{Vec}
+use Rattle.std.specs.declared.alloc.Global.{Global}
+use Rattle.std.proofs.lemmas.Option.{same_Some}
+use Rattle.qs_syntax.specs.Trees.{DeclTree}
+use Rattle.qs_syntax.specs.Units.{IsRead}
+use Rattle.qs_typing.specs.TypedOf.{typed_tree}
+use Rattle.qs_core.specs.Trees.{CoreUnitTree}
+use Rattle.qs_core.specs.UnitTrees.{unit_tree}
+use Rattle.qs_elaborate.specs.Units.{core_of}
+use Rattle.qs_elaborate.specs.FitLaws.{HasCore}
+use Rattle.qs_elaborate.proofs.FitCore.{units_have_cores}
+use Rattle.qs_triples.specs.TreeOf.{proofs_tree}
+use Rattle.qs_certify.specs.Certification as certify
+use Rattle.qs_certify.specs.Certification.{CannotCertify}
+use Rattle.qs_certify.specs.Given.{IsShort}
+use Rattle.qs_certify.specs.declared.certification.Certified.{Certified}
+use Rattle.qs_certify.specs.declared.fault.CertifyFault.{CertifyFault}
+use Rattle.qs_ports.specs.StoreView.{StoreView}
+use Rattle.qs_driver.specs.Limits.{source_limit, proof_limit}
+use Rattle.qs_driver.specs.Files.{IsUntouched, WasReadAs, WasRead, CannotRead}
+use Rattle.qs_driver.specs.Source.{HasUnit, IsTypedUnit, LacksSource}
+use Rattle.qs_driver.specs.Certified.{CertifyWords, CertifiedSource, WasReadProof, ReadsProof, TellsFault, file_of, LacksCertified, HasCertified, HasWrongProofs, ReadsAll}
+use Rattle.qs_driver.specs.Certified as meant
+use Rattle.qs_driver.specs.declared.certified.CertifiedUnit.{CertifiedUnit}
+use Rattle.qs_driver.specs.declared.status.Status.{Status}
+use Rattle.qs_driver.specs.declared.status.Status.TheVariants.{NoMemory}
+use Rattle.qs_driver.specs.declared.status.FileKind.TheVariants as kinds
+use Rattle.qs_driver.proofs.LaterLaws.{both_untouched, unread_later, was_read_before}
+
+-- ---- a text has one core
+
+-- the unit that was read has a core
+core_there : {v w : StoreView} {name : List ℕ} {trees : List DeclTree} (h : HasUnit v w name trees) → IsRead trees → HasCore trees
+core_there {trees = trees} h read =
+    let typed = h.typed_as.typed in
+    let same : typed.unit.trees ≡ trees = h.typed_as.trees_are in
+    subst HasCore same (units_have_cores typed.unit.trees (subst IsRead (sym same) read) typed.well_typed typed.within_limits)
+
+own_core : {v w : StoreView} {name : List ℕ} {trees : List DeclTree} (h : HasUnit v w name trees) → IsRead trees → HasCore h.typed_as.typed.unit.trees
+own_core h read = subst HasCore (sym h.typed_as.trees_are) (core_there h read)
+
+-- ---- the proof file
+
+pub short_file : (v w : StoreView) (proof : Option (List ℕ)) (file : Option (Vec ℕ Global)) → ReadsProof v w proof (Ok file) → IsShort (file_of file)
+short_file v w None None r = tt
+short_file v w None (Some text) r = absurd r
+short_file v w (Some name) None r = absurd r
+short_file v w (Some name) (Some text) r = let within : length text.items ≤ proof_limit = r.read_as.within in omega (arith, within)
+
+-- what was read of the proof file behind the source
+pub proof_read : (v u w : StoreView) (proof : Option (List ℕ)) (file : Option (Vec ℕ Global)) → IsUntouched v u → ReadsProof u w proof (Ok file) → WasReadProof v proof (file_of file)
+proof_read v u w None None f r = refl
+proof_read v u w None (Some text) f r = absurd r
+proof_read v u w (Some name) None f r = absurd r
+proof_read v u w (Some name) (Some text) f r = was_read_before f r.read_as
+
+pub proof_untouched : (v u w : StoreView) (proof : Option (List ℕ)) (file : Option (Vec ℕ Global)) → IsUntouched v u → ReadsProof u w proof (Ok file) → IsUntouched v w
+proof_untouched v u w None None f r = both_untouched f r
+proof_untouched v u w None (Some text) f r = absurd r
+proof_untouched v u w (Some name) None f r = absurd r
+proof_untouched v u w (Some name) (Some text) f r = both_untouched f r.untouched
+
+comes_to_proof : (c : CertifyWords) {v u : StoreView} {trees : List DeclTree} (name : List ℕ) (h : HasUnit v u c.source trees) → c.proof ≡ Some name → meant.ComesToProof c v name
+comes_to_proof c name h named = record { text = h.text; text_read = h.read.read_as; typed = h.typed_as.typed; named = named }
+
+unread_named : (c : CertifyWords) (v u w : StoreView) {trees : List DeclTree} (status : Status) (proof : Option (List ℕ)) → c.proof ≡ proof → HasUnit v u c.source trees → ReadsProof u w proof (Err status) → LacksCertified c v w status
+unread_named c v u w status None is h r = absurd r
+unread_named c v u w status (Some name) is h r = meant.unread_proof name (comes_to_proof c name h is) (unread_later v u w name kinds.Derivation proof_limit status h.read.untouched r)
+
+-- the proof file wasn't read, behind the source
+pub unread_proof : (c : CertifyWords) (v u w : StoreView) {trees : List DeclTree} (status : Status) → HasUnit v u c.source trees → ReadsProof u w c.proof (Err status) → ReadsAll c v w (Err status)
+unread_proof c v u w status h r = unread_named c v u w status c.proof refl h r
+
+-- ---- what it comes to
+
+pub no_source : (c : CertifyWords) (v w : StoreView) (status : Status) → LacksSource v w c.source status → ReadsAll c v w (Err status)
+no_source c v w status l = meant.no_source l
+
+pub out_of_memory : (c : CertifyWords) (v u w : StoreView) {trees : List DeclTree} (file : Option (Vec ℕ Global)) → HasUnit v u c.source trees → ReadsProof u w c.proof (Ok file) → ReadsAll c v w (Err NoMemory)
+out_of_memory c v u w file h r = meant.no_memory (proof_untouched v u w c.proof file h.read.untouched r) refl
+
+-- the certifier's answer is one of the source's core
+pub was_certified : (c : CertifyWords) (v u w : StoreView) (unit : CertifiedUnit) (file : Option (Vec ℕ Global)) → IsRead (typed_tree unit.typed) → HasUnit v u c.source (typed_tree unit.typed) → ReadsProof u w c.proof (Ok file) → core_of (typed_tree unit.typed) ≡ Some (unit_tree unit.core) → certify.Certifies (unit_tree unit.core) (file_of file) unit.certified → ReadsAll c v w (Ok unit)
+was_certified c v u w unit file read h r is certified =
+    let there = core_there h read in
+    let same : there.core ≡ unit_tree unit.core = same_Some there.core (unit_tree unit.core) (sym there.is ∙ is) in
+    let source : CertifiedSource = record {
+      unit = typed_tree unit.typed;
+      core = unit_tree unit.core;
+      given = certified.given;
+      proofs = proofs_tree unit.certified.proofs;
+    } in
+    record {
+      untouched = proof_untouched v u w c.proof file h.read.untouched r;
+      source = source;
+      reads = record {
+        text = h.text;
+        file = file_of file;
+        text_read = h.read.read_as;
+        file_read = proof_read v u w c.proof file h.read.untouched r;
+        is = record {
+          typed_as = h.typed_as;
+          has_core = there;
+          core_is = same;
+          certified = certified.certified;
+        };
+      };
+      holds = record { unit = refl; core = refl; proofs = refl; counts = certified.counts };
+    }
+
+-- the certifier's refusal is told
+pub was_refused : (c : CertifyWords) (v u w : StoreView) {trees : List DeclTree} (core : CoreUnitTree) (file : Option (Vec ℕ Global)) (fault : CertifyFault) (status : Status) → IsRead trees → HasUnit v u c.source trees → ReadsProof u w c.proof (Ok file) → core_of trees ≡ Some core → CannotCertify core (file_of file) fault → TellsFault core (file_of file) fault status → ReadsAll c v w (Err status)
+was_refused c v u w core file fault status read h r is cause (inl e) = meant.no_memory (proof_untouched v u w c.proof file h.read.untouched r) e
+was_refused c v u w core file fault status read h r is cause (inr (told, e, tells)) =
+    let there = own_core h read in
+    let same : there.core ≡ core = same_Some there.core core (sym there.is ∙ ap core_of h.typed_as.trees_are ∙ is) in
+    meant.wrong_proofs told (proof_untouched v u w c.proof file h.read.untouched r) (record {
+      text = h.text;
+      file = file_of file;
+      text_read = h.read.read_as;
+      file_read = proof_read v u w c.proof file h.read.untouched r;
+      wrong = record {
+        typed = h.typed_as.typed;
+        has_core = there;
+        fault = fault;
+        cause = subst (λ (u : CoreUnitTree). CannotCertify u (file_of file) fault) (sym same) cause;
+        tells = subst (λ (u : CoreUnitTree). meant.Tells u (file_of file) fault told) (sym same) tells;
+      };
+    }) e

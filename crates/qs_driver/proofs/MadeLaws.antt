@@ -1,0 +1,69 @@
+-- How an image and main's bound are made of a source.
+use Rattle.std.proofs.Common.{◌≡◌, ◌∙◌, ℕ, ℤ, List, Result, Ok, Err, refl, ap, subst}
+use Rattle.qs_syntax.specs.Trees.{UnitTree}
+use Rattle.qs_typing.specs.TypedOf.{typed_tree}
+use Rattle.qs_core.specs.Trees.{CoreUnitTree}
+use Rattle.qs_core.specs.UnitTrees.{unit_tree}
+use Rattle.qs_triples.specs.Derivations.{ProofsTree}
+use Rattle.qs_triples.specs.TreeOf.{proofs_tree}
+use Rattle.qs_ports.specs.StoreView.{StoreView}
+use Rattle.qs_image.specs.Image.{Image}
+use Rattle.qs_machine.specs.Arguments.{AreArguments}
+use Rattle.qs_compile.specs.Compiled.{IsImageOfSource}
+use Rattle.qs_certify.specs.Bound.{main_bound}
+use Rattle.qs_driver.specs.Arguments.{LacksWords}
+use Rattle.qs_driver.specs.Arguments as arguments
+use Rattle.qs_driver.specs.Bounds.{costs_in}
+use Rattle.qs_driver.specs.Certified.{LacksCertified, HasCertified}
+use Rattle.qs_driver.specs.Made.{MakeWords, CanMake, Makes, record_costs}
+use Rattle.qs_driver.specs.Made as meant
+use Rattle.qs_driver.specs.declared.certified.CertifiedUnit.{CertifiedUnit}
+use Rattle.qs_driver.specs.declared.made.Made.{Made}
+use Rattle.qs_driver.specs.declared.status.Status.{Status}
+use Rattle.qs_driver.specs.declared.status.Status.TheVariants.{NoMemory}
+use Rattle.qs_driver.proofs.BoundsLaws.{is_compiled, source_image}
+
+pub not_certified : (m : MakeWords) (v w : StoreView) (status : Status) → LacksCertified m.inputs v w status → Makes m v w (Err status)
+not_certified m v w status l = meant.not_certified l
+
+pub out_of_memory : (m : MakeWords) (v w : StoreView) (c : CertifiedUnit) → HasCertified m.inputs v w c → Makes m v w (Err NoMemory)
+out_of_memory m v w c h = meant.no_memory h.untouched refl
+
+can_make : (m : MakeWords) (v w : StoreView) (c : CertifiedUnit) (image : Image) (h : HasCertified m.inputs v w c) → IsImageOfSource (typed_tree c.typed) image → CanMake m v h.source image
+can_make m v w c image h compiled = record {
+  reads = h.reads;
+  image_of = source_image m.inputs v h.source image h.reads (is_compiled h.source.unit image (subst (λ (unit : UnitTree). IsImageOfSource unit image) h.holds.unit compiled));
+}
+
+-- the arguments aren't main's
+pub no_words : (m : MakeWords) (v w : StoreView) (c : CertifiedUnit) (image : Image) (status : Status) → HasCertified m.inputs v w c → IsImageOfSource (typed_tree c.typed) image → LacksWords image m.args status → Makes m v w (Err status)
+no_words m v w c image status h compiled (arguments.count_differs ne e) = meant.count_differs image.parameters h.untouched (record {
+  source = h.source;
+  image = image;
+  makes = can_make m v w c image h compiled;
+  parameters_are = refl;
+  differ = ne;
+}) e
+no_words m v w c image status h compiled (arguments.misfit i count first e) = meant.misfit i h.untouched (record {
+  source = h.source;
+  image = image;
+  makes = can_make m v w c image h compiled;
+  count = count;
+  first = first;
+}) e
+no_words m v w c image status h compiled (arguments.no_memory e) = meant.no_memory h.untouched e
+
+-- the bound that the code has computed is that of what it holds
+pub was_made : (m : MakeWords) (v w : StoreView) (c : CertifiedUnit) (made : Made) (costs : List ℕ) → HasCertified m.inputs v w c → IsImageOfSource (typed_tree c.typed) made.image → AreArguments made.image m.args → costs ≡ record_costs made.image.functions → made.bound ≡ main_bound (unit_tree c.core) (proofs_tree c.certified.proofs) costs m.args → Makes m v w (Ok made)
+was_made m v w c made costs h compiled are costs_are is = record {
+  untouched = h.untouched;
+  is_made = record {
+    source = h.source;
+    makes = can_make m v w c made.image h compiled;
+    arguments = are;
+    is_bound =
+        is ∙ ap (λ (cs : List ℕ). main_bound (unit_tree c.core) (proofs_tree c.certified.proofs) cs m.args) costs_are
+        ∙ ap (λ (u : CoreUnitTree). main_bound u (proofs_tree c.certified.proofs) (costs_in made.image) m.args) h.holds.core
+        ∙ ap (λ (p : ProofsTree). main_bound h.source.core p (costs_in made.image) m.args) h.holds.proofs;
+  };
+}

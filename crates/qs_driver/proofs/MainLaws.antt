@@ -1,0 +1,152 @@
+-- Main's arguments: those that an image takes are those of its core.
+use Rattle.std.proofs.Common.{◌≡◌, ℕ, zero, suc, ◌+◌, ◌-◌, ◌^◌, Bool, true, false, if◌then◌else◌, ℤ, pos, negsuc, List, [], ◌∷◌, length, Option, Some, None, refl, sym, ap, ◌∙◌, subst, arith, add-zero}
+use Rattle.std.specs.Prelude.{◌↔◌, ◌≤ℤ◌, ◌&&◌, int_le, bytes_eq}
+use Rattle.std.specs.List.{slice_get, list_all}
+use Rattle.std.proofs.lemmas.Int.{ints}
+use Rattle.qs_memory.specs.declared.scalar.Scalar.{Scalar}
+use Rattle.qs_memory.specs.declared.scalar.Scalar.TheVariants as scalars
+use Rattle.qs_core.specs.Fits.{main_name, is_main, unit_fits}
+use Rattle.qs_core.specs.Interfaces.{parameter_types}
+use Rattle.qs_core.specs.Scalars.{same_scalar, is_type, is_promoted}
+use Rattle.qs_core.specs.Trees.{CoreFunctionTree, CoreUnitTree}
+use Rattle.qs_core.proofs.FitLaws.{both, unit_parts}
+use Rattle.qs_image.specs.Image.{Image}
+use Rattle.qs_machine.specs.Arguments.{is_unsigned, is_between, fits_parameter, first_misfit}
+use Rattle.qs_machine.specs.Arguments as image_arguments
+use Rattle.qs_build.specs.Built.{IsBuiltFrom}
+use Rattle.qs_build.specs.Units.{types_of_main, main_types}
+use Rattle.qs_certify.specs.Bound.{IsNumberOf, AreNumbersOf, types_in}
+use Rattle.qs_certify.specs.Bound as certify
+
+-- ---- numbers
+
+least_below : (a z : ℤ) → int_le a z ≡ true → a ≤ℤ z
+least_below a z h = grind (arith, ints)
+
+below_least : (a z : ℤ) → a ≤ℤ z → int_le a z ≡ true
+below_least a z h = grind (arith, ints)
+
+between : (low high z : ℤ) → is_between low high z ≡ true → (low ≤ℤ z) × (z ≤ℤ high)
+between low high z h = let p = both (int_le low z) (int_le z high) h in (least_below low z p.0, least_below z high p.1)
+
+is_within : (low high z : ℤ) → low ≤ℤ z → z ≤ℤ high → is_between low high z ≡ true
+is_within low high z more less = ap (λ b. b && int_le z high) (below_least low z more) ∙ below_least z high less
+
+-- whether a number is one of `unsigned`, or of `int`
+abbrev is_number : (unsigned : Bool) → ℤ → Bool
+is_number unsigned z =
+    if unsigned then is_between (pos 0) (pos (2 ^ 32 - 1)) z
+    else is_between (negsuc (2 ^ 31 - 1)) (pos (2 ^ 31 - 1)) z
+
+number_of_type : (s : Scalar) (z : ℤ) → is_promoted s ≡ true → is_number (same_scalar s scalars.Unsigned) z ≡ true → IsNumberOf s z
+number_of_type scalars.Char z promoted h = cc
+number_of_type scalars.Int z promoted h = between (negsuc (2 ^ 31 - 1)) (pos (2 ^ 31 - 1)) z h
+number_of_type scalars.Unsigned z promoted h = between (pos 0) (pos (2 ^ 32 - 1)) z h
+number_of_type scalars.Pointer z promoted h = cc
+
+type_of_number : (s : Scalar) (z : ℤ) → is_promoted s ≡ true → IsNumberOf s z → is_number (same_scalar s scalars.Unsigned) z ≡ true
+type_of_number scalars.Char z promoted h = cc
+type_of_number scalars.Int z promoted h = is_within (negsuc (2 ^ 31 - 1)) (pos (2 ^ 31 - 1)) z h.0 h.1
+type_of_number scalars.Unsigned z promoted h = is_within (pos 0) (pos (2 ^ 32 - 1)) z h.0 h.1
+type_of_number scalars.Pointer z promoted h = cc
+
+-- ---- arguments
+
+-- none of these is the first that doesn't fit
+record AllFit (image : Image) (i : ℕ) (z : ℤ) (zs : List ℤ) : Type 0 where
+  first : fits_parameter image i z ≡ true
+  others : first_misfit image (i + 1) zs ≡ None
+
+all_fit : (image : Image) (i : ℕ) (z : ℤ) (zs : List ℤ) → first_misfit image i (z ∷ zs) ≡ None → AllFit image i z zs
+all_fit image i z zs h = by (fits_parameter image i z) refl h
+  where
+    by : (b : Bool) → fits_parameter image i z ≡ b → (if b then first_misfit image (i + 1) zs else Some i) ≡ None → AllFit image i z zs
+    by true is h = record { first = is; others = h }
+    by false is h = cc
+
+-- images whose `unsigned` parameters are the same take the same arguments
+pub same_misfit : (image other : Image) → ((i : ℕ) → is_unsigned image i ≡ is_unsigned other i) → (i : ℕ) (zs : List ℤ) → first_misfit image i zs ≡ first_misfit other i zs
+same_misfit image other same i [] = refl
+same_misfit image other same i (z ∷ zs) =
+    ap (λ b. if b then first_misfit image (i + 1) zs else Some i) (ap (λ b. is_number b z) (same i))
+    ∙ ap (λ rest. if fits_parameter other i z then rest else Some i) (same_misfit image other same (i + 1) zs)
+
+-- the parameters from i on have these types, and the image tells which are `unsigned`
+abbrev Tells : Image → (i : ℕ) → List Scalar → Type 0
+Tells image i types = (j : ℕ) → is_unsigned image (i + j) ≡ is_type (slice_get types j) scalars.Unsigned
+
+tells_first : (image : Image) (i : ℕ) (s : Scalar) (types : List Scalar) → Tells image i (s ∷ types) → is_unsigned image i ≡ same_scalar s scalars.Unsigned
+tells_first image i s types tells = ap (is_unsigned image) (sym (add-zero i)) ∙ tells 0
+
+tells_others : (image : Image) (i : ℕ) (s : Scalar) (types : List Scalar) → Tells image i (s ∷ types) → Tells image (i + 1) types
+tells_others image i s types tells j = let next : i + 1 + j ≡ i + suc j = omega arith in ap (is_unsigned image) next ∙ tells (suc j)
+
+are_numbers :
+    (image : Image) (i : ℕ) (types : List Scalar) (zs : List ℤ) → list_all is_promoted types ≡ true → Tells image i types → length zs ≡ length types
+    → first_misfit image i zs ≡ None → AreNumbersOf types zs
+are_numbers image i [] [] promoted tells long h = tt
+are_numbers image i [] (z ∷ zs) promoted tells long h = absurd (omega (arith, long))
+are_numbers image i (s ∷ types) [] promoted tells long h = absurd (omega (arith, long))
+are_numbers image i (s ∷ types) (z ∷ zs) promoted tells long h =
+    let p = both (is_promoted s) (list_all is_promoted types) promoted in
+    let fit = all_fit image i z zs h in
+    let as_long : length zs ≡ length types = omega (arith, long) in (
+      number_of_type s z p.0 (ap (λ b. is_number b z) (sym (tells_first image i s types tells)) ∙ fit.first),
+      are_numbers image (i + 1) types zs p.1 (tells_others image i s types tells) as_long fit.others,
+    )
+
+numbers_fit :
+    (image : Image) (i : ℕ) (types : List Scalar) (zs : List ℤ) → list_all is_promoted types ≡ true → Tells image i types → AreNumbersOf types zs
+    → first_misfit image i zs ≡ None
+numbers_fit image i [] [] promoted tells are = refl
+numbers_fit image i [] (z ∷ zs) promoted tells are = absurd are
+numbers_fit image i (s ∷ types) [] promoted tells are = absurd are
+numbers_fit image i (s ∷ types) (z ∷ zs) promoted tells are =
+    let p = both (is_promoted s) (list_all is_promoted types) promoted in
+    ap (λ b. if b then first_misfit image (i + 1) zs else Some i) (ap (λ b. is_number b z) (tells_first image i s types tells) ∙ type_of_number s z p.0 are.0)
+    ∙ numbers_fit image (i + 1) types zs p.1 (tells_others image i s types tells) are.1
+
+as_many : (types : List Scalar) (zs : List ℤ) → AreNumbersOf types zs → length zs ≡ length types
+as_many [] [] are = refl
+as_many [] (z ∷ zs) are = absurd are
+as_many (s ∷ types) [] are = absurd are
+as_many (s ∷ types) (z ∷ zs) are = let e = as_many types zs are.1 in omega (arith, e)
+
+-- ---- main
+
+same_types : (main : Option CoreFunctionTree) → types_in main ≡ types_of_main main
+same_types None = refl
+same_types (Some f) = refl
+
+promoted_types : (main : Option CoreFunctionTree) → is_main main ≡ true → list_all is_promoted (types_of_main main) ≡ true
+promoted_types None is = cc
+promoted_types (Some f) is = (both (bytes_eq f.name main_name && is_type f.result_type scalars.Int) (list_all is_promoted (parameter_types f)) is).1
+
+module _ (u : CoreUnitTree) (image : Image) (args : List ℤ) (fits : unit_fits u ≡ true) (built : IsBuiltFrom u image) where
+  promoted : list_all is_promoted (main_types u) ≡ true
+  promoted = promoted_types (slice_get u.functions u.main) (unit_parts u fits).main
+
+  tells : Tells image 0 (main_types u)
+  tells j = let same : 0 + j ≡ j = omega arith in ap (is_unsigned image) same ∙ built.unsigned j
+
+  same : types_in (slice_get u.functions u.main) ≡ main_types u
+  same = same_types (slice_get u.functions u.main)
+
+  are_mains : image_arguments.AreArguments image args → certify.AreArguments u args
+  are_mains a =
+      subst (λ (types : List Scalar). AreNumbersOf types args) (sym same)
+      (are_numbers image 0 (main_types u) args promoted tells (a.count ∙ built.parameters) a.fit)
+
+  are_images : certify.AreArguments u args → image_arguments.AreArguments image args
+  are_images a =
+      let are = subst (λ (types : List Scalar). AreNumbersOf types args) same a in
+      record {
+        count = as_many (main_types u) args are ∙ sym built.parameters;
+        fit = numbers_fit image 0 (main_types u) args promoted tells are;
+      }
+
+-- the arguments that an image takes are those that main of its core takes
+pub arguments_are_mains :
+    (u : CoreUnitTree) (image : Image) (args : List ℤ) → unit_fits u ≡ true → IsBuiltFrom u image
+    → image_arguments.AreArguments image args ↔ certify.AreArguments u args
+arguments_are_mains u image args fits built = (are_mains u image args fits built, are_images u image args fits built)

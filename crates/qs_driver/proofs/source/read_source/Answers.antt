@@ -1,8 +1,0 @@
-use Rattle.std.proofs.lemmas.Result.{err_from_is_err_and}
-use Rattle.qs_driver.proofs.SourceLaws.{text_refused}
-use Rattle.qs_driver.proofs.source.read_source.Goals as goal
-
-pub returns-in_err-_typed : goal.returns-in_err-_typed
-returns-in_err-_typed g c =
-    let p = err_from_is_err_and c.from_residual-in_err-_typed.result c.from_residual-in_err-_typed.ensures.1 in
-    rw (p.1, p.2) (text_refused _ _ _ _ _ c.in_ok-text.ensures (rw c.deref.ensures.value at c.in_err-_typed.ensures))

@@ -1,0 +1,88 @@
+-- The bound of a source that is certified, by the costs of its image: what it says of the source's runs, and of the image's.
+use Rattle.std.specs.Prelude.{◌≡◌, ℕ, ◌<◌, ◌≤◌, ℤ, List, map, All, Option, Some, None}
+use Rattle.std.specs.List.{slice_get}
+use Rattle.qs_memory.specs.Values.{Value}
+use Rattle.qs_events.specs.BoundedRun.{BoundedRun}
+use Rattle.qs_events.specs.Weights.{Costs, run_weight}
+use Rattle.qs_calls.specs.World.{RootRun}
+use Rattle.qs_assert.specs.Values.{finite, plus}
+use Rattle.qs_assert.specs.declared.define.Amount.{Amount}
+use Rattle.qs_assert.specs.declared.define.Amount.TheVariants.{Finite, Infinite, Wide}
+use Rattle.qs_entail.specs.Meaning.{AtLeast}
+use Rattle.qs_core.specs.Trees.{CoreFunctionTree}
+use Rattle.qs_meaning.specs.Typed.{TypedProgram}
+use Rattle.qs_meaning.specs.Units.{typed_of}
+use Rattle.qs_meaning.specs.Runs.{main_run, source_run}
+use Rattle.qs_triples.specs.Derivations.{EntryTree, entry_of}
+use Rattle.qs_triples.specs.Valuations.{value_at_entry}
+use Rattle.qs_image.specs.Image.{Image}
+use Rattle.qs_machine.specs.Arguments.{AreArguments}
+use Rattle.qs_build.specs.Agrees.{values_of}
+use Rattle.qs_certify.specs.Bound as certify
+use Rattle.qs_compile.specs.Agree.{Bound, Runs, AgreesFrom, IsInput}
+use Rattle.qs_compile.specs.Compiled.{IsCompiled}
+use Rattle.qs_driver.specs.Certified.{CertifiedSource}
+
+-- ---- the bound
+
+-- what a call of each function costs, by the records
+abbrev pub costs_in : Image → List ℕ
+costs_in image = map (λ f. f.cost) image.functions
+
+-- what main costs, and the value of its precondition at these arguments
+abbrev pub bound_by : CertifiedSource → (costs : List ℕ) → (args : List ℤ) → Amount
+bound_by s costs args = certify.main_bound s.core s.proofs costs args
+
+abbrev pub if_finite : Amount → Option ℕ
+if_finite (Finite bytes) = Some bytes
+if_finite Infinite = None
+if_finite Wide = None
+
+-- the bytes of stack that main needs with each list of arguments, where that is a number
+abbrev pub bytes_by : CertifiedSource → Image → Bound
+bytes_by s image args = if_finite (bound_by s (costs_in image) args)
+
+-- the source's runs of main
+abbrev pub main_runs : TypedProgram → (args : List ℤ) → (input : List ℕ) → (n : ℕ) → RootRun
+main_runs program args input n = main_run program (values_of args) input n
+
+-- and as agreement sees them
+abbrev pub seen_runs : TypedProgram → Runs
+seen_runs program args input = source_run program (values_of args) input
+
+-- ---- what the bound says of the source
+
+-- Where the arguments are main's and their bound is a number, no run of main weighs more by the costs of the records:
+-- on each input, within each bound of turns and depth, also where it is undefined or short.
+pub record WeighsWithin (s : CertifiedSource) (program : TypedProgram) (image : Image) : Type 0 where
+  pub weighs :
+      (args : List ℤ) (input : List ℕ) (bytes n : ℕ) → AreArguments image args → IsInput input
+      → bytes_by s image args ≡ Some bytes
+      → run_weight (certify.costs_of (costs_in image)) (main_runs program args input n) ≤ bytes
+
+-- The same for every stack metric: what main costs by it and the value of main's precondition bound each run.
+pub record IsBoundedByMain (s : CertifiedSource) (program : TypedProgram) : Type 0 where
+  pub main : CoreFunctionTree
+  pub is_main : slice_get s.core.functions s.core.main ≡ Some main
+  pub entry : EntryTree
+  pub stands : entry_of s.proofs s.core.main ≡ Some entry
+  pub bounds :
+      (cost : Costs) (args : List ℤ) (input : List ℕ) (n : ℕ) → certify.AreArguments s.core args → IsInput input
+      → AtLeast
+      (plus (finite (cost s.core.main)) (value_at_entry cost s.proofs.defines main (values_of args) entry.spec.pre))
+      (finite (run_weight cost (main_runs program args input n)))
+
+-- the source has a typed tree whose runs main's entry bounds, for every stack metric
+pub record IsBounded (s : CertifiedSource) : Type 0 where
+  pub program : TypedProgram
+  pub tree : typed_of s.unit ≡ Some program
+  pub bounded : IsBoundedByMain s program
+
+-- ---- what it says of the image
+
+-- The image is made of the source, its costs are at most the source's caps, main's bound is one of the source's runs,
+-- and on each stack of at least the bound the image does what the source does.
+pub record IsImageOf (s : CertifiedSource) (image : Image) : Type 0 where
+  pub compiled : IsCompiled s.unit image
+  pub weighs : WeighsWithin s compiled.program image
+  pub agrees : AgreesFrom (bytes_by s image) (seen_runs compiled.program) image

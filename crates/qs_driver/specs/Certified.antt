@@ -1,0 +1,350 @@
+-- A source and a proof file that a command reads: a unit with proofs that cover it, or why it is refused.
+use Rattle.std.specs.Prelude.{◌≡◌, ◌≢◌, ◌⊎◌, ◌↔◌, ℕ, ◌<◌, ◌≤◌, true, List, [], ◌∷◌, length, map, All, IsTrue, Option, Some, None, Result, Ok, Err, Vec, option_map}
+use Rattle.std.specs.declared.alloc.Global.{Global}
+use Rattle.std.specs.Borrow.{Bor}
+use Rattle.qs_base.specs.declared.function.FnId.{FnId}
+use Rattle.qs_base.specs.declared.places.Pos.{Pos}
+use Rattle.qs_syntax.specs.Trees.{UnitTree}
+use Rattle.qs_typing.specs.TypedOf.{typed_tree}
+use Rattle.qs_meaning.specs.Typed.{TypedProgram}
+use Rattle.qs_core.specs.CallGraph.{IsCycle, IsWithoutRecursion}
+use Rattle.qs_core.specs.Trees.{CoreUnitTree}
+use Rattle.qs_core.specs.UnitTrees.{unit_tree}
+use Rattle.qs_elaborate.specs.FitLaws.{HasCore}
+use Rattle.qs_callgraph.specs.CallLists.{numbers}
+use Rattle.qs_prooftext.specs.Reading.{Reading, Fault}
+use Rattle.qs_prooftext.specs.Writing.{variable_text}
+use Rattle.qs_prooftext.specs.declared.fault.TextFault.{TextFault}
+use Rattle.qs_prooftext.specs.declared.fault.TextFault.TheVariants as texts
+use Rattle.qs_entail.specs.Said.{rule_number, limit_number}
+use Rattle.qs_entail.specs.declared.fault.CertFault.{CertFault}
+use Rattle.qs_entail.specs.declared.fault.CertFault.TheVariants as certificates
+use Rattle.qs_triples.specs.Derivations.{ProofsTree}
+use Rattle.qs_triples.specs.Entries.{has_entry}
+use Rattle.qs_triples.specs.Filled.{function_name}
+use Rattle.qs_triples.specs.TreeOf.{proofs_tree}
+use Rattle.qs_triples.specs.declared.fault.DerivFault.{DerivFault}
+use Rattle.qs_triples.specs.declared.fault.DerivFault.TheVariants as entries
+use Rattle.qs_triples.specs.declared.fault.Place.{Place}
+use Rattle.qs_triples.specs.declared.fault.Place.TheVariants as places
+use Rattle.qs_certify.specs.Certification.{IsCertified, CannotCertify, HasCounts, OfGiven, HasNoOrder, IsNotDerived}
+use Rattle.qs_certify.specs.Given.{HasTextFault}
+use Rattle.qs_certify.specs.Laws.{AreRightProofs}
+use Rattle.qs_certify.specs.declared.fault.CertifyFault.{CertifyFault}
+use Rattle.qs_certify.specs.declared.fault.CertifyFault.TheVariants as faults
+use Rattle.qs_report.specs.declared.fault_texts.Path.{Path}
+use Rattle.qs_report.specs.declared.fault_texts.Spot.{Spot}
+use Rattle.qs_report.specs.declared.fault_texts.Spot.TheVariants as spots
+use Rattle.qs_report.specs.declared.fault_texts.ProofText.{ProofText}
+use Rattle.qs_report.specs.declared.fault_texts.ProofText.TheVariants as wrongs
+use Rattle.qs_ports.specs.StoreView.{StoreView, Files}
+use Rattle.qs_driver.specs.Limits.{source_limit, proof_limit}
+use Rattle.qs_driver.specs.Files.{IsUntouched, HoldsContent, HoldsWith, IsTooLong, WasReadAs, CannotRead, ReadsFile}
+use Rattle.qs_driver.specs.Source.{HoldsText, IsPlaceOf, IsTypedAs, IsTypedUnit, IsOfSource, LacksSource, RefusesSource}
+use Rattle.qs_driver.specs.declared.certified.CertifyOrder.{CertifyOrder}
+use Rattle.qs_driver.specs.declared.certified.CertifiedUnit.{CertifiedUnit}
+use Rattle.qs_driver.specs.declared.status.Status.{Status}
+use Rattle.qs_driver.specs.declared.status.Status.TheVariants.{Source, Proof, Missing, NoMemory}
+use Rattle.qs_driver.specs.declared.status.SourceFault.TheVariants.{TooLong}
+use Rattle.qs_driver.specs.declared.status.ProofFault.{ProofFault}
+use Rattle.qs_driver.specs.declared.status.ProofFault.TheVariants.{Text, Cycle, Order, Entry}
+use Rattle.qs_driver.specs.declared.status.FileKind.TheVariants as kinds
+
+-- ---- the words
+
+-- the source, and the proof file where one is named
+pub record CertifyWords : Type 0 where
+  pub source : List ℕ
+  pub proof : Option (List ℕ)
+
+abbrev pub certify_words : List ℕ → Option (List ℕ) → CertifyWords
+certify_words source proof = record { source = source; proof = proof }
+
+-- the words as the code holds them
+abbrev pub words_in : CertifyOrder → CertifyWords
+words_in order = certify_words order.source.now (option_map (λ name. name.now) order.proof)
+
+-- the name of the proof file, and nothing where none is named
+abbrev pub proof_name : Option (List ℕ) → List ℕ
+proof_name None = []
+proof_name (Some name) = name
+
+-- ---- what is certified
+
+-- A unit, its core, the proofs that the file gives, and all proofs.
+pub record CertifiedSource : Type 0 where
+  pub unit : UnitTree
+  pub core : CoreUnitTree
+  pub given : ProofsTree
+  pub proofs : ProofsTree
+
+-- The text is this typed unit, which has this core, as which it runs; the file gives the one proofs, the other are all
+-- proofs, and they cover the core. (Where no file is named none are given.)
+pub record IsCertifiedAs (text : List ℕ) (file : Option (List ℕ)) (s : CertifiedSource) : Type 0 where
+  pub typed_as : IsTypedAs text s.unit
+  pub has_core : HasCore s.unit
+  pub core_is : has_core.core ≡ s.core
+  pub certified : IsCertified s.core file s.given s.proofs
+
+-- these bytes were read as the proof file that is named, or none is named
+abbrev pub WasReadProof : StoreView → (proof : Option (List ℕ)) → (file : Option (List ℕ)) → Type 0
+WasReadProof before None file = file ≡ None
+WasReadProof before (Some name) None = ⊥
+WasReadProof before (Some name) (Some text) = WasReadAs before name proof_limit text
+
+-- the source and the proof file were read, and they come to this
+pub record ReadsCertified (w : CertifyWords) (before : StoreView) (s : CertifiedSource) : Type 0 where
+  pub text : List ℕ
+  pub file : Option (List ℕ)
+  pub text_read : WasReadAs before w.source source_limit text
+  pub file_read : WasReadProof before w.proof file
+  pub is : IsCertifiedAs text file s
+
+-- ---- what is wrong with proofs, and how it is told
+
+-- the byte at which a fault of a text stands
+abbrev pub byte_of : TextFault → Option ℕ
+byte_of texts.NoMemory = None
+byte_of (texts.BadByte at) = Some at
+byte_of (texts.Unbalanced at) = Some at
+byte_of (texts.UnknownForm at) = Some at
+byte_of (texts.BadNumber at) = Some at
+byte_of (texts.TooDeep at) = Some at
+byte_of (texts.Duplicate at) = Some at
+byte_of (texts.NoSuchFunction at) = Some at
+
+-- the fault stands in the text of the file at this line and column
+pub record IsTextPlace (file : Option (List ℕ)) (fault : TextFault) (pos : Pos) : Type 0 where
+  pub text : List ℕ
+  pub is : file ≡ Some text
+  pub at : ℕ
+  pub names : byte_of fault ≡ Some at
+  pub place : IsPlaceOf text at pos
+
+abbrev pub path_is : Path → List ℕ → Type 0
+path_is path steps = path.steps.items ≡ steps
+
+-- where a certificate has a fault: within the certificate at this path
+abbrev pub path_in : CertFault → List ℕ
+path_in certificates.NoMemory = []
+path_in (certificates.Step path rule) = path.items
+path_in (certificates.Limit path limit) = path.items
+
+-- what is wrong there
+abbrev pub IsWrongThere : CertFault → ProofText → Type 0
+IsWrongThere certificates.NoMemory text = ⊥
+IsWrongThere (certificates.Step path rule) text = text ≡ wrongs.Step (rule_number rule)
+IsWrongThere (certificates.Limit path limit) text = text ≡ wrongs.Limit (limit_number limit)
+
+-- the place of an assertion that mentions a variable
+abbrev pub IsMentionPlace : Place → Spot → Type 0
+IsMentionPlace places.Precondition spot = spot ≡ spots.Pre
+IsMentionPlace places.Postcondition spot = spot ≡ spots.Post
+IsMentionPlace (places.Node path) spot = (node : Path) × (spot ≡ spots.Body node) × path_is node path.items
+
+-- whose variable it is: the function's own, or that of the function that is called there
+abbrev pub owner : (function : ℕ) → (callee : Option FnId) → ℕ
+owner f None = f
+owner f (Some g) = g.0
+
+-- The fault of the entry of this function, as it is told: where it is, and what is wrong there.
+abbrev pub IsToldAs : CoreUnitTree → (function : ℕ) → DerivFault → Spot → ProofText → Type 0
+IsToldAs u f entries.NoMemory spot text = ⊥
+IsToldAs u f (entries.Shape path) spot text =
+    (node : Path) × (spot ≡ spots.Body node) × path_is node path.items × (text ≡ wrongs.Shape)
+IsToldAs u f (entries.Mentions place callee x) spot text =
+    IsMentionPlace place spot × (text ≡ wrongs.Mentions (variable_text u (owner f callee) x))
+IsToldAs u f (entries.Cert path fault) spot text =
+    (node : Path) × (inner : Path) × (spot ≡ spots.BodyCert node inner) × path_is node path.items
+    × path_is inner (path_in fault) × IsWrongThere fault text
+-- never told: each function has a specification
+IsToldAs u f (entries.NoSpec path g) spot text = ⊥
+IsToldAs u f (entries.Entry fault) spot text =
+    (inner : Path) × (spot ≡ spots.Entry inner) × path_is inner (path_in fault) × IsWrongThere fault text
+-- never told: the order is tested before the entries
+IsToldAs u f (entries.BadOrder d) spot text = ⊥
+
+-- the fault of the entry of this function is told as this
+abbrev pub IsEntryTold : CoreUnitTree → (function : ℕ) → DerivFault → ProofFault → Type 0
+IsEntryTold u f fault told =
+    (spot : Spot) × (text : ProofText) × (told ≡ Entry (function_name u f) spot text) × IsToldAs u f fault spot text
+
+-- The cause why proofs can't be certified, as it is told. Want of memory is no such cause.
+abbrev pub Tells : CoreUnitTree → (file : Option (List ℕ)) → CertifyFault → ProofFault → Type 0
+Tells u file faults.NoMemory told = ⊥
+Tells u file (faults.Text fault) told = (pos : Pos) × (told ≡ Text fault pos) × IsTextPlace file fault pos
+Tells u file (faults.Cycle fs) told =
+    (names : Vec (List ℕ) Global) × (told ≡ Cycle names) × (names.items ≡ map (function_name u) (numbers fs.items))
+Tells u file (faults.Order name) told = told ≡ Order name
+Tells u file (faults.Entry f fault) told = IsEntryTold u f.0 fault told
+
+-- The text is a typed unit with this core, the file is read for it, and this is the first cause to refuse its proofs.
+pub record HasWrongProofs (text : List ℕ) (file : Option (List ℕ)) (told : ProofFault) : Type 0 where
+  pub typed : IsTypedUnit text
+  pub has_core : HasCore typed.unit.trees
+  pub fault : CertifyFault
+  pub cause : CannotCertify has_core.core file fault
+  pub tells : Tells has_core.core file fault told
+
+-- the source and the proof file were read, and this is wrong with the proofs
+pub record ReadsWrong (w : CertifyWords) (before : StoreView) (told : ProofFault) : Type 0 where
+  pub text : List ℕ
+  pub file : Option (List ℕ)
+  pub text_read : WasReadAs before w.source source_limit text
+  pub file_read : WasReadProof before w.proof file
+  pub wrong : HasWrongProofs text file told
+
+-- the source was read and is a typed unit, and its proof file has this name
+pub record ComesToProof (w : CertifyWords) (before : StoreView) (name : List ℕ) : Type 0 where
+  pub text : List ℕ
+  pub text_read : WasReadAs before w.source source_limit text
+  pub typed : IsTypedUnit text
+  pub named : w.proof ≡ Some name
+
+-- Why there is nothing certified to go on with, and the status at that. The tests come in this order.
+pub data LacksCertified (w : CertifyWords) (before after : StoreView) (status : Status) : Type 0 where
+  no_source : LacksSource before after w.source status → LacksCertified w before after status
+  unread_proof : (name : List ℕ) → ComesToProof w before name
+      → CannotRead before after name kinds.Derivation proof_limit status → LacksCertified w before after status
+  wrong_proofs : (told : ProofFault) → IsUntouched before after → ReadsWrong w before told
+      → status ≡ Proof told → LacksCertified w before after status
+  no_memory : IsUntouched before after → status ≡ NoMemory → LacksCertified w before after status
+
+-- ---- when proofs are right
+
+-- the file reads as proofs that leave no cycle, whose definitions are in order, and whose entries are derived
+pub record IsRightFile (core : CoreUnitTree) (text : List ℕ) : Type 0 where
+  pub given : ProofsTree
+  pub reads : Reading core text given
+  pub right : AreRightProofs core given
+
+-- the proof file is there and right, or none is named and the unit is without recursion
+abbrev pub HoldsRightProofs : Files → (proof : Option (List ℕ)) → CoreUnitTree → Type 0
+HoldsRightProofs files None core = IsWithoutRecursion core
+HoldsRightProofs files (Some name) core = HoldsWith (files name) proof_limit (IsRightFile core)
+
+-- the source is there and is a typed unit, and its proofs are right
+pub record HoldsRight (w : CertifyWords) (files : Files) : Type 0 where
+  pub text : List ℕ
+  pub there : HoldsContent (files w.source) source_limit text
+  pub typed : IsTypedUnit text
+  pub has_core : HasCore typed.unit.trees
+  pub proofs : HoldsRightProofs files w.proof has_core.core
+
+-- ---- when it is refused
+
+-- the statuses at which a source or its proofs are refused
+pub data IsOfCertified : Status → Type 0 where
+  of_source : {status : Status} → IsOfSource status → IsOfCertified status
+  missing_proof : IsOfCertified (Missing kinds.Derivation)
+  long_proof : IsOfCertified (Source (TooLong kinds.Derivation))
+  wrong_proof : (told : ProofFault) → IsOfCertified (Proof told)
+
+-- the source is there and is a typed unit
+abbrev pub HoldsUnit : CertifyWords → Files → Type 0
+HoldsUnit w files = HoldsText (files w.source) IsTypedUnit
+
+-- a proof file is named, the source is a typed unit, and of the file this is so
+pub record OfProof (w : CertifyWords) (files : Files) (IsSo : Option (List ℕ) → Type 0) : Type 0 where
+  pub unit : HoldsUnit w files
+  pub name : List ℕ
+  pub named : w.proof ≡ Some name
+  pub so : IsSo (files name)
+
+-- the bytes of the proof file that is named, within its limit, or none where none is named
+abbrev pub HoldsProof : Files → (proof file : Option (List ℕ)) → Type 0
+HoldsProof files None file = file ≡ None
+HoldsProof files (Some name) None = ⊥
+HoldsProof files (Some name) (Some text) = HoldsContent (files name) proof_limit text
+
+-- the source and the proof file are there, and of the core and the file this is so
+pub record HoldsBoth (w : CertifyWords) (files : Files) (IsSo : CoreUnitTree → Option (List ℕ) → Type 0) : Type 0 where
+  pub text : List ℕ
+  pub there : HoldsContent (files w.source) source_limit text
+  pub typed : IsTypedUnit text
+  pub has_core : HasCore typed.unit.trees
+  pub file : Option (List ℕ)
+  pub proof_there : HoldsProof files w.proof file
+  pub so : IsSo has_core.core file
+
+-- the text of the file has this fault first, at this line and column
+pub record HasTextFaultAt (u : CoreUnitTree) (file : Option (List ℕ)) (fault : TextFault) (pos : Pos) : Type 0 where
+  pub first : HasTextFault u file fault
+  pub place : IsTextPlace file fault pos
+
+-- functions without an entry in the file call each other in turn
+pub record LeavesCycle (u : CoreUnitTree) (file : Option (List ℕ)) : Type 0 where
+  pub functions : List ℕ
+  pub cycle : OfGiven u file (λ given. IsCycle u (has_entry given) functions)
+
+-- the entry of this function is the first of the file that isn't derived
+pub record LacksDerivation (name : List ℕ) (u : CoreUnitTree) (file : Option (List ℕ)) : Type 0 where
+  pub function : ℕ
+  pub fault : DerivFault
+  pub named : name ≡ function_name u function
+  pub first : OfGiven u file (λ given. IsNotDerived u given function fault)
+
+-- some cycle is told
+abbrev pub IsCycleStatus : Status → Type 0
+IsCycleStatus status = (names : Vec (List ℕ) Global) × (status ≡ Proof (Cycle names))
+
+-- some fault of the entry of this function is told
+abbrev pub IsEntryStatus : (function : List ℕ) → Status → Type 0
+IsEntryStatus f status = (spot : Spot) × (text : ProofText) × (status ≡ Proof (Entry f spot text))
+
+-- Each refusal of a source or its proofs comes exactly where its cause is. (Which cycle is told, and which fault of an
+-- entry, is said where what is due is said.)
+pub record RefusesCertified (w : CertifyWords) (files : Files) (status : Status) : Type 0 where
+  pub source : RefusesSource (files w.source) status
+  pub missing : (status ≡ Missing kinds.Derivation) ↔ OfProof w files (λ file. file ≡ None)
+  pub too_long : (status ≡ Source (TooLong kinds.Derivation)) ↔ OfProof w files (λ file. IsTooLong file proof_limit)
+  pub text : (fault : TextFault) (pos : Pos)
+      → (status ≡ Proof (Text fault pos)) ↔ HoldsBoth w files (λ u file. HasTextFaultAt u file fault pos)
+  pub cycle : IsCycleStatus status ↔ HoldsBoth w files LeavesCycle
+  pub order : (name : List ℕ)
+      → (status ≡ Proof (Order name)) ↔ HoldsBoth w files (λ u file. OfGiven u file (λ given. HasNoOrder u given name))
+  pub entry : (function : List ℕ) → IsEntryStatus function status ↔ HoldsBoth w files (LacksDerivation function)
+
+-- ---- what the parts of the code answer
+
+-- the answer of `certificate_told`
+abbrev pub IsCertificateTold : CertFault → Path → ProofText → Type 0
+IsCertificateTold fault path text = path_is path (path_in fault) × IsWrongThere fault text
+
+-- the answer of `told`
+abbrev pub TellsFault : CoreUnitTree → (file : Option (List ℕ)) → CertifyFault → Status → Type 0
+TellsFault u file fault status =
+    (status ≡ NoMemory) ⊎ ((told : ProofFault) × (status ≡ Proof told) × Tells u file fault told)
+
+-- what the code holds of what is certified
+pub record Certifies (s : CertifiedSource) (c : CertifiedUnit) : Type 0 where
+  pub unit : typed_tree c.typed ≡ s.unit
+  pub core : unit_tree c.core ≡ s.core
+  pub proofs : proofs_tree c.certified.proofs ≡ s.proofs
+  pub counts : HasCounts s.given c.certified
+
+-- the source and the proof file were read, they come to what the code holds, and no file changed
+pub record HasCertified (w : CertifyWords) (before after : StoreView) (c : CertifiedUnit) : Type 0 where
+  pub untouched : IsUntouched before after
+  pub source : CertifiedSource
+  pub reads : ReadsCertified w before source
+  pub holds : Certifies source c
+
+-- the text of the proof file, as the code holds it
+abbrev pub file_of : Option (Vec ℕ Global) → Option (List ℕ)
+file_of None = None
+file_of (Some text) = Some text.items
+
+-- the answer of `read_proof`, where the proof file has this name or none
+abbrev pub ReadsProof : StoreView → StoreView → (proof : Option (List ℕ)) → Result (Option (Vec ℕ Global)) Status → Type 0
+ReadsProof before after None (Ok None) = IsUntouched before after
+ReadsProof before after None (Ok (Some text)) = ⊥
+ReadsProof before after None (Err status) = ⊥
+ReadsProof before after (Some name) (Ok None) = ⊥
+ReadsProof before after (Some name) (Ok (Some text)) = ReadsFile before after name kinds.Derivation proof_limit (Ok text)
+ReadsProof before after (Some name) (Err status) = CannotRead before after name kinds.Derivation proof_limit status
+
+-- the answer of `read_certified`
+abbrev pub ReadsAll : CertifyWords → StoreView → StoreView → Result CertifiedUnit Status → Type 0
+ReadsAll w before after (Ok c) = HasCertified w before after c
+ReadsAll w before after (Err status) = LacksCertified w before after status

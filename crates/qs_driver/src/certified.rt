@@ -1,0 +1,166 @@
+// A source and a proof file that a command reads: a unit with proofs that cover it, or why it is refused.
+ghost use Rattle.std.specs.Prelude.{◌≡◌, ◌<◌, ◌^◌, IfOk, List, Option, Some, length, map, option_map, true, ℕ};
+ghost use Rattle.qs_core.specs.Trees.{CoreUnitTree};
+ghost use Rattle.qs_core.specs.UnitTrees.{unit_tree};
+ghost use Rattle.qs_certify.specs.Certification.{ToldOfFunctions};
+ghost use Rattle.qs_certify.specs.Given.{text_of, IsShort};
+ghost use Rattle.qs_certify.specs.declared.fault.CertifyFault.TheVariants as faults;
+ghost use Rattle.qs_callgraph.specs.CallLists.{is_member, numbers};
+ghost use Rattle.qs_triples.specs.Filled.{function_name};
+ghost use Rattle.qs_driver.specs.Certified.{byte_of, file_of, words_in, ReadsAll, ReadsProof, TellsFault};
+
+use crate::files::read_file;
+use crate::limits::PROOF_LIMIT;
+use crate::source::{place, read_unit};
+use crate::told::{entry_told, name_of};
+use crate::{FileKind, ProofFault, Status};
+use qs_base::{FnId, Name, NoMemory};
+use qs_certify::{Certified, CertifyFault, certify};
+use qs_core::CoreUnit;
+use qs_elaborate::elaborate;
+use qs_ports::Store;
+use qs_prooftext::TextFault;
+use qs_typing::TypedUnit;
+use std::alloc::Global;
+
+/// The words that name a source and its proof file.
+#[derive(Clone, Copy)]
+pub struct CertifyOrder<'a> {
+    pub source: &'a str,
+    pub proof: Option<&'a str>,
+}
+
+/// A source with proofs that cover it.
+#[derive(Drop)]
+pub struct CertifiedUnit {
+    pub typed: TypedUnit,
+    pub core: CoreUnit,
+    pub certified: Certified,
+}
+
+// ---- faults
+
+// The byte at which a fault of the text stands.
+fn byte_of(fault: TextFault) -> Option<u32>
+    ensures { result ≡ byte_of fault }
+{
+    match fault {
+        TextFault::NoMemory => None,
+        TextFault::BadByte(at) => Some(at),
+        TextFault::Unbalanced(at) => Some(at),
+        TextFault::UnknownForm(at) => Some(at),
+        TextFault::BadNumber(at) => Some(at),
+        TextFault::TooDeep(at) => Some(at),
+        TextFault::Duplicate(at) => Some(at),
+        TextFault::NoSuchFunction(at) => Some(at),
+    }
+}
+
+// The status of a proof file whose text has this fault.
+fn text_told(text: &[u8], fault: TextFault) -> Status
+    requires { length text.now < 2 ^ 31 }
+    ensures { (u : CoreUnitTree) → TellsFault u (Some text.now) (faults.Text fault) result }
+{
+    match byte_of(fault) {
+        Some(at) => Status::Proof(ProofFault::Text(fault, place(text, at as usize))),
+        None => Status::NoMemory,
+    }
+}
+
+// The status where the text of a proof file has this fault.
+fn file_told(file: Option<&[u8]>, fault: TextFault) -> Status
+    requires { IsShort (text_of file) }
+    ensures { (u : CoreUnitTree) → TellsFault u (text_of file.entry) (faults.Text fault) result }
+{
+    match file {
+        Some(text) => text_told(text, fault),
+        None => Status::NoMemory,
+    }
+}
+
+// The names of functions, in order.
+fn names_of(alloc: Global, unit: &CoreUnit, functions: &[FnId]) -> Result<Vec<Name>, NoMemory>
+    requires { (f : ℕ) → is_member f (numbers functions.now) ≡ true → f < length unit.now.functions.items }
+    ensures { IfOk result (λ names. names.items ≡ map (function_name (unit_tree unit.now)) (numbers functions.now)) }
+{
+    let mut names = Vec::new(alloc);
+    for f in functions {
+        names.push(name_of(alloc, unit, *f)?)?;
+    }
+    Ok(names)
+}
+
+// The status of functions without an entry that call each other in turn.
+fn cycle_told(alloc: Global, unit: &CoreUnit, functions: Vec<FnId>) -> Status
+    requires { (f : ℕ) → is_member f (numbers functions.items) ≡ true → f < length unit.now.functions.items }
+    ensures { (file : Option (List ℕ)) → TellsFault (unit_tree unit.now) file (faults.Cycle functions) result }
+{
+    match names_of(alloc, unit, &functions) {
+        Ok(names) => Status::Proof(ProofFault::Cycle(names)),
+        Err(_) => Status::NoMemory,
+    }
+}
+
+// The status of proofs that can't be certified.
+#[tactic(auto, using(crate::proofs::ToldLaws::known_function))]
+fn told(alloc: Global, unit: &CoreUnit, file: Option<&[u8]>, fault: CertifyFault) -> Status
+    requires short { IsShort (text_of file) }
+    requires functions { ToldOfFunctions (unit_tree unit.now) fault }
+    ensures { TellsFault (unit_tree unit.now) (text_of file.entry) fault result }
+{
+    match fault {
+        CertifyFault::NoMemory => Status::NoMemory,
+        CertifyFault::Text(fault) => file_told(file, fault),
+        CertifyFault::Cycle(functions) => cycle_told(alloc, unit, functions),
+        CertifyFault::Order(name) => Status::Proof(ProofFault::Order(name)),
+        CertifyFault::Entry(f, fault) => entry_told(alloc, unit, f, fault),
+    }
+}
+
+// ---- reading
+
+// The text of the proof file, where one is named.
+fn read_proof<S: Store>(
+    alloc: Global,
+    store: &mut S,
+    proof: Option<&str>,
+) -> Result<Option<Vec<u8>>, Status>
+    ensures { ReadsProof (S.view store.old) (S.view store.new) (option_map (λ name. name.now) proof.entry) result }
+{
+    match proof {
+        Some(name) => {
+            let text = read_file(alloc, store, name, FileKind::Derivation, PROOF_LIMIT)?;
+            Ok(Some(text))
+        }
+        None => Ok(None),
+    }
+}
+
+// The text that was read.
+fn text_in(file: &Option<Vec<u8>>) -> Option<&[u8]>
+    ensures { text_of result ≡ file_of file.now }
+{
+    file.as_ref().map(|text| text.as_slice())
+}
+
+/// The unit of a source, and proofs that cover it: those of the proof file, where one is named, and what is added to
+/// them. Or the status at which the source or its proofs are refused: the source first, then the proof file.
+pub fn read_certified<S: Store>(
+    alloc: Global,
+    store: &mut S,
+    order: &CertifyOrder<'_>,
+) -> Result<CertifiedUnit, Status>
+    ensures { ReadsAll (words_in order.now) (S.view store.old) (S.view store.new) result }
+{
+    let typed = read_unit(alloc, store, order.source)?;
+    let file = read_proof(alloc, store, order.proof)?;
+    let core = elaborate(alloc, &typed)?;
+    match certify(alloc, &core, text_in(&file)) {
+        Ok(certified) => Ok(CertifiedUnit {
+            typed,
+            core,
+            certified,
+        }),
+        Err(fault) => Err(told(alloc, &core, text_in(&file), fault)),
+    }
+}

@@ -1,0 +1,95 @@
+// `bound`: what each function of a source costs, and the bound of main at some arguments.
+ghost use Rattle.std.specs.Prelude.{◌≡◌, ◌++◌};
+ghost use Rattle.qs_ports.specs.SinkView.{PutsAll};
+ghost use Rattle.qs_report.specs.Lines.{bound_line};
+ghost use Rattle.qs_driver.specs.Faults.{shown_of};
+ghost use Rattle.qs_driver.specs.Lines.{cost_lines};
+ghost use Rattle.qs_driver.specs.Certified as meant;
+ghost use Rattle.qs_driver.specs.Devices.{streams, views, views_left};
+ghost use Rattle.qs_driver.specs.Due.{IsWritten};
+ghost use Rattle.qs_driver.specs.Names.{names_in};
+ghost use Rattle.qs_driver.specs.Task.{Answers};
+ghost use Rattle.qs_driver.specs.commands.Bound.{bound, due_of, names_of, to_make, words_in};
+
+use crate::Status;
+use crate::certified::CertifyOrder;
+use crate::devices::Devices;
+use crate::due::{refuse, status_after};
+use crate::faults::shown_of;
+use crate::lines::put_costs;
+use crate::made::{Made, make};
+use crate::names::{FileNames, nameless};
+use qs_assert::Amount;
+use qs_image::Image;
+use qs_ports::{Sink, SinkFault, Store};
+use qs_report::put_bound;
+use std::alloc::Global;
+
+/// The words of `bound`.
+#[derive(Clone, Copy)]
+pub struct BoundOrder<'a> {
+    pub source: &'a str,
+    pub proof: Option<&'a str>,
+    pub args: &'a [i64],
+}
+
+fn names_of<'a>(order: &BoundOrder<'a>) -> FileNames<'a>
+    ensures { names_in result ≡ names_of (words_in order.now) }
+{
+    let none = nameless();
+    FileNames {
+        source: order.source,
+        derivation: order.proof.unwrap_or(""),
+        ..none
+    }
+}
+
+// The words that name what is certified.
+fn inputs_of<'a>(order: &BoundOrder<'a>) -> CertifyOrder<'a>
+    ensures { meant.words_in result ≡ (to_make (words_in order.now)).inputs }
+{
+    CertifyOrder {
+        source: order.source,
+        proof: order.proof,
+    }
+}
+
+// Puts the cost of each function, and then the bound.
+fn put_bounded<O: Sink>(out: &mut O, image: &Image, bound: Amount) -> Result<(), SinkFault>
+    ensures { PutsAll (O.view out.old) (O.view out.new) (cost_lines image.now.functions ++ bound_line (shown_of bound)) result }
+{
+    put_costs(out, &image.functions)?;
+    put_bound(out, shown_of(bound))
+}
+
+// Puts the costs and the bound, or the line of the fault.
+fn report<O: Sink, L: Sink>(
+    work: Result<Made, Status>,
+    order: &BoundOrder<'_>,
+    out: &mut O,
+    log: &mut L,
+) -> Status
+    ensures { let before = streams (O.view out.old) (L.view log.old) in
+        let after = streams (O.view out.new) (L.view log.new) in
+        IsWritten (due_of (words_in order.now) work) before after result }
+{
+    match work {
+        Ok(made) => status_after(put_bounded(out, &made.image, made.bound), Status::Done),
+        Err(status) => refuse(log, &names_of(order), status),
+    }
+}
+
+/// Puts what each function of the source costs, and the bound of main at the arguments.
+pub fn bound<S: Store, O: Sink, L: Sink>(
+    alloc: Global,
+    order: &BoundOrder<'_>,
+    devices: Devices<'_, S, O, L>,
+) -> Status
+    ensures { let before = views S.view O.view L.view devices.entry in
+        let after = views_left S.view O.view L.view devices.exit in
+        Answers (bound (words_in order.now)) before after result }
+{
+    let Devices { store, out, log } = devices;
+    let work = make(alloc, store, &inputs_of(order), order.args);
+    report(work, order, out, log)
+}

@@ -1,0 +1,72 @@
+// `check`: whether the derivations of a source are right.
+ghost use Rattle.std.specs.Prelude.{◌≡◌};
+ghost use Rattle.qs_driver.specs.Certified.{words_in};
+ghost use Rattle.qs_driver.specs.Devices.{streams, views, views_left};
+ghost use Rattle.qs_driver.specs.Due.{IsWritten};
+ghost use Rattle.qs_driver.specs.Names.{names_in};
+ghost use Rattle.qs_driver.specs.Task.{Answers};
+ghost use Rattle.qs_driver.specs.commands.Check.{check, due_of, names_of, Checks};
+
+use crate::Status;
+use crate::certified::{CertifyOrder, read_certified};
+use crate::devices::Devices;
+use crate::due::{refuse, status_after};
+use crate::names::{FileNames, nameless};
+use qs_ports::{Sink, Store};
+use qs_report::{Count, put_count};
+use std::alloc::Global;
+
+fn names_of<'a>(order: &CertifyOrder<'a>) -> FileNames<'a>
+    ensures { names_in result ≡ names_of (words_in order.now) }
+{
+    let none = nameless();
+    FileNames {
+        source: order.source,
+        derivation: order.proof.unwrap_or(""),
+        ..none
+    }
+}
+
+// The counts of entries of the proof file, and of those that are filled in.
+fn check_entries<S: Store>(
+    alloc: Global,
+    order: &CertifyOrder<'_>,
+    store: &mut S,
+) -> Result<Count, Status>
+    ensures { Checks (words_in order.now) (S.view store.old) (S.view store.new) result }
+{
+    let unit = read_certified(alloc, store, order)?;
+    let certified = &unit.certified;
+    Ok(Count::Checked(certified.given, certified.added))
+}
+
+// Puts the counts, or the line of the fault.
+fn report<O: Sink, L: Sink>(
+    work: Result<Count, Status>,
+    order: &CertifyOrder<'_>,
+    out: &mut O,
+    log: &mut L,
+) -> Status
+    ensures { let before = streams (O.view out.old) (L.view log.old) in
+        let after = streams (O.view out.new) (L.view log.new) in
+        IsWritten (due_of (words_in order.now) work) before after result }
+{
+    match work {
+        Ok(count) => status_after(put_count(out, count), Status::Done),
+        Err(status) => refuse(log, &names_of(order), status),
+    }
+}
+
+/// Checks the derivations of the source, and puts how many entries its proof file has, and how many were filled in.
+pub fn check<S: Store, O: Sink, L: Sink>(
+    alloc: Global,
+    order: &CertifyOrder<'_>,
+    devices: Devices<'_, S, O, L>,
+) -> Status
+    ensures { let before = views S.view O.view L.view devices.entry in
+        let after = views_left S.view O.view L.view devices.exit in
+        Answers (check (words_in order.now)) before after result }
+{
+    let Devices { store, out, log } = devices;
+    report(check_entries(alloc, order, store), order, out, log)
+}

@@ -1,0 +1,186 @@
+// `exec`: a source is certified and compiled, and its image is run on a stack of exactly its bound.
+ghost use Rattle.std.specs.Prelude.{◌≡◌, Ok};
+ghost use Rattle.qs_compile.specs.Agree.{IsInput};
+ghost use Rattle.qs_machine.specs.Standing.{taken_of};
+ghost use Rattle.qs_driver.specs.Certified as meant;
+ghost use Rattle.qs_driver.specs.Devices.{streams, views, views_left};
+ghost use Rattle.qs_driver.specs.Names.{names_in};
+ghost use Rattle.qs_driver.specs.Task.{Answers};
+ghost use Rattle.qs_driver.specs.commands.Exec.{as_run, exec, names_of, to_make, words_in, IsFresh, IsStackOf, LoadsImage, RunsFrom, Starts};
+ghost use Rattle.qs_driver.specs.commands.Run as run_meant;
+
+use crate::Status;
+use crate::certified::CertifyOrder;
+use crate::commands::run::{Ready, RunOrder, finish, load_bytes, read_input};
+use crate::devices::Devices;
+use crate::due::refuse;
+use crate::limits::STACK_LIMIT;
+use crate::made::make;
+use crate::names::{FileNames, nameless};
+use qs_assert::Amount;
+use qs_image::{Image, write};
+use qs_machine::Machine;
+use qs_ports::{Sink, Store};
+use qs_report::{Shown, put_bound};
+use std::alloc::Global;
+
+/// The words of `exec`.
+#[derive(Clone, Copy)]
+pub struct ExecOrder<'a> {
+    pub source: &'a str,
+    pub proof: Option<&'a str>,
+    pub args: &'a [i64],
+    pub input: Option<&'a str>,
+    pub steps: u64,
+}
+
+fn names_of<'a>(order: &ExecOrder<'a>) -> FileNames<'a>
+    ensures { names_in result ≡ names_of (words_in order.now) }
+{
+    let none = nameless();
+    FileNames {
+        source: order.source,
+        derivation: order.proof.unwrap_or(""),
+        input: order.input.unwrap_or(""),
+        ..none
+    }
+}
+
+// The words that name what is certified.
+fn inputs_of<'a>(order: &ExecOrder<'a>) -> CertifyOrder<'a>
+    ensures { meant.words_in result ≡ (to_make (words_in order.now)).inputs }
+{
+    CertifyOrder {
+        source: order.source,
+        proof: order.proof,
+    }
+}
+
+// The words of the run on this stack.
+fn run_order<'a>(order: &ExecOrder<'a>, stack: u64) -> RunOrder<'a>
+    ensures { run_meant.words_in result ≡ as_run (words_in order.now) stack }
+{
+    RunOrder {
+        image: "",
+        stack,
+        args: order.args,
+        input: order.input,
+        steps: order.steps,
+    }
+}
+
+/// A machine at the start of the source's image, its input, and the bytes of its stack.
+#[derive(Drop)]
+pub struct Started {
+    pub stack: u64,
+    pub ready: Ready,
+}
+
+// The bytes of stack that a bound is, if there is a stack of so many.
+fn stack_of(bound: Amount) -> Result<u64, Status>
+    ensures { IsStackOf bound result }
+{
+    match bound {
+        Amount::Finite(bytes) => {
+            if bytes <= u128::from(STACK_LIMIT) {
+                Ok(bytes as u64)
+            } else {
+                Err(Status::NoBound(bound))
+            }
+        }
+        Amount::Infinite => Err(Status::NoBound(bound)),
+        Amount::Wide => Err(Status::NoBound(bound)),
+    }
+}
+
+// The machine at the start of the image.
+fn loaded(
+    alloc: Global,
+    order: &ExecOrder<'_>,
+    image: &Image,
+    stack: u64,
+) -> Result<Machine, Status>
+    ensures { LoadsImage image.now (as_run (words_in order.now) stack) result }
+{
+    let bytes = write(alloc, image)?;
+    load_bytes(alloc, &bytes, &run_order(order, stack))
+}
+
+// What is read consists of bytes, as agreement asks it of an input.
+fn consists_of_bytes(input: &[u8])
+    ensures { IsInput input.now }
+{}
+
+// Certifies and compiles the source, loads its image and reads the input.
+fn start_source<S: Store>(
+    alloc: Global,
+    order: &ExecOrder<'_>,
+    store: &mut S,
+) -> Result<Started, Status>
+    ensures { Starts (words_in order.now) (S.view store.old) (S.view store.new) result }
+{
+    let made = make(alloc, store, &inputs_of(order), order.args)?;
+    let stack = stack_of(made.bound)?;
+    let machine = loaded(alloc, order, &made.image, stack)?;
+    let input = read_input(alloc, &run_order(order, stack), store)?;
+    consists_of_bytes(&input);
+    Ok(Started {
+        stack,
+        ready: Ready { machine, input },
+    })
+}
+
+// Puts the bound, runs what was started, and puts the line at its end.
+fn run_started<O: Sink, L: Sink>(
+    started: Started,
+    order: &ExecOrder<'_>,
+    out: &mut O,
+    log: &mut L,
+) -> Status
+    requires { taken_of started.ready.machine ≡ 0 }
+    ensures { let before = streams (O.view out.old) (L.view log.old) in
+        let after = streams (O.view out.new) (L.view log.new) in
+        RunsFrom (words_in order.now) (Ok started) before after result }
+{
+    let stack = started.stack;
+    match put_bound(log, Shown::Number(u128::from(stack))) {
+        Ok(()) => {
+            let mut ready = started.ready;
+            let end = ready.machine.run(order.steps, &ready.input, out);
+            finish(end, &run_order(order, stack), log)
+        }
+        Err(_) => Status::SinkFailed,
+    }
+}
+
+// Runs what was started, or refuses it.
+fn run_or_refuse<O: Sink, L: Sink>(
+    started: Result<Started, Status>,
+    order: &ExecOrder<'_>,
+    out: &mut O,
+    log: &mut L,
+) -> Status
+    requires { IsFresh started }
+    ensures { let before = streams (O.view out.old) (L.view log.old) in
+        let after = streams (O.view out.new) (L.view log.new) in
+        RunsFrom (words_in order.now) started before after result }
+{
+    match started {
+        Ok(started) => run_started(started, order, out, log),
+        Err(status) => refuse(log, &names_of(order), status),
+    }
+}
+
+/// Runs the source on a stack of exactly its bound: the bound and the line at the end go to `log`, the output to `out`.
+pub fn exec<S: Store, O: Sink, L: Sink>(
+    alloc: Global,
+    order: &ExecOrder<'_>,
+    devices: Devices<'_, S, O, L>,
+) -> Status
+    ensures { let before = views S.view O.view L.view devices.entry in
+        let after = views_left S.view O.view L.view devices.exit in
+        Answers (exec (words_in order.now)) before after result }
+{
+    let Devices { store, out, log } = devices;
+    run_or_refuse(start_source(alloc, order, store), order, out, log)
+}

@@ -1,0 +1,57 @@
+// What is made of a source that is certified: its image, which isn't written, and main's bound at some arguments.
+ghost use Rattle.std.specs.Prelude.{◌≡◌, IfOk};
+ghost use Rattle.qs_driver.specs.Certified.{words_in};
+ghost use Rattle.qs_driver.specs.Made.{make_words, record_costs, Makes};
+
+use crate::Status;
+use crate::arguments::image_words;
+use crate::certified::{CertifyOrder, read_certified};
+use qs_assert::Amount;
+use qs_base::NoMemory;
+use qs_certify::bound_of_main;
+use qs_compile::compile_unit;
+use qs_image::{FunctionRecord, Image};
+use qs_ports::Store;
+use std::alloc::Global;
+
+/// The image of a source, and what main needs of the stack at the arguments.
+#[derive(Drop)]
+pub struct Made {
+    pub image: Image,
+    pub bound: Amount,
+}
+
+// What a call of each function costs, in order.
+fn costs_of(alloc: Global, functions: &[FunctionRecord]) -> Result<Vec<u32>, NoMemory>
+    ensures { IfOk result (λ costs. costs.items ≡ record_costs functions.now) }
+{
+    let mut costs = Vec::new(alloc);
+    for function in functions {
+        costs.push(function.cost)?;
+    }
+    Ok(costs)
+}
+
+fn image_costs(alloc: Global, image: &Image) -> Result<Vec<u32>, NoMemory>
+    ensures { IfOk result (λ costs. costs.items ≡ record_costs image.now.functions) }
+{
+    costs_of(alloc, &image.functions)
+}
+
+/// The image of a source that is certified, and main's bound at the arguments, if these are main's. Nothing is written.
+pub fn make<S: Store>(
+    alloc: Global,
+    store: &mut S,
+    inputs: &CertifyOrder<'_>,
+    args: &[i64],
+) -> Result<Made, Status>
+    ensures { Makes (make_words (words_in inputs.now) args.now) (S.view store.old) (S.view store.new) result }
+{
+    let certified = read_certified(alloc, store, inputs)?;
+    let image = compile_unit(alloc, &certified.typed)?;
+    image_words(alloc, &image, args)?;
+    let costs = image_costs(alloc, &image)?;
+    let proofs = &certified.certified.proofs;
+    let bound = bound_of_main(alloc, &certified.core, proofs, &costs, args)?;
+    Ok(Made { image, bound })
+}

@@ -1,0 +1,103 @@
+// The words of each command, as the command takes them.
+ghost use Rattle.std.specs.Prelude.{◌≡◌, option_map, string_bytes};
+ghost use Rattle.qs_cli.specs.Reading.{text_of};
+ghost use Rattle.qs_driver.specs.Certified as certified;
+ghost use Rattle.qs_driver.specs.commands.Bound as bound;
+ghost use Rattle.qs_driver.specs.commands.Build as build;
+ghost use Rattle.qs_driver.specs.commands.Exec as exec;
+ghost use Rattle.qs_driver.specs.commands.Outline as outline;
+ghost use Rattle.qs_driver.specs.commands.Run as run;
+
+use crate::certified::CertifyOrder;
+use crate::commands::bound::BoundOrder;
+use crate::commands::build::BuildOrder;
+use crate::commands::exec::ExecOrder;
+use crate::commands::outline::OutlineOrder;
+use crate::commands::run::RunOrder;
+
+fn name_in(name: &Option<String>) -> Option<&str>
+    ensures { option_map (λ name. name.now) result ≡ text_of name.now }
+{
+    name.as_ref().map(|name| name.as_str())
+}
+
+pub fn build_order<'a>(
+    source: &'a String,
+    proof: &'a Option<String>,
+    out: &'a String,
+) -> BuildOrder<'a>
+    ensures { build.words_in result ≡ build.build_words (string_bytes source.now) (text_of proof.now) (string_bytes out.now) }
+{
+    BuildOrder {
+        source: source.as_str(),
+        proof: name_in(proof),
+        out: out.as_str(),
+    }
+}
+
+pub fn check_order<'a>(source: &'a String, proof: &'a Option<String>) -> CertifyOrder<'a>
+    ensures { certified.words_in result ≡ certified.certify_words (string_bytes source.now) (text_of proof.now) }
+{
+    CertifyOrder {
+        source: source.as_str(),
+        proof: name_in(proof),
+    }
+}
+
+pub fn bound_order<'a>(
+    source: &'a String,
+    proof: &'a Option<String>,
+    args: &'a Vec<i64>,
+) -> BoundOrder<'a>
+    ensures { bound.words_in result ≡ bound.bound_words (string_bytes source.now) (text_of proof.now) args.now.items }
+{
+    BoundOrder {
+        source: source.as_str(),
+        proof: name_in(proof),
+        args: args.as_slice(),
+    }
+}
+
+pub fn outline_order(source: &String) -> OutlineOrder<'_>
+    ensures { outline.words_in result ≡ outline.outline_words (string_bytes source.now) }
+{
+    OutlineOrder {
+        source: source.as_str(),
+    }
+}
+
+pub fn run_order<'a>(
+    image: &'a String,
+    stack: u64,
+    args: &'a Vec<i64>,
+    input: &'a Option<String>,
+    steps: u64,
+) -> RunOrder<'a>
+    ensures { run.words_in result ≡ run.run_words (string_bytes image.now) stack args.now.items (text_of input.now) steps }
+{
+    RunOrder {
+        image: image.as_str(),
+        stack,
+        args: args.as_slice(),
+        input: name_in(input),
+        steps,
+    }
+}
+
+pub fn exec_order<'a>(
+    source: &'a String,
+    proof: &'a Option<String>,
+    args: &'a Vec<i64>,
+    input: &'a Option<String>,
+    steps: u64,
+) -> ExecOrder<'a>
+    ensures { exec.words_in result ≡ exec.exec_words (string_bytes source.now) (text_of proof.now) args.now.items (text_of input.now) steps }
+{
+    ExecOrder {
+        source: source.as_str(),
+        proof: name_in(proof),
+        args: args.as_slice(),
+        input: name_in(input),
+        steps,
+    }
+}

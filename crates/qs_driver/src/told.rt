@@ -1,0 +1,176 @@
+// A fault of an entry of a proof file, as the tool tells it: where it is, and what is wrong there.
+ghost use Rattle.std.specs.Prelude.{◌≡◌, ◌<◌, IfOk, length, List, Option, ℕ};
+ghost use Rattle.qs_core.specs.Trees.{CoreUnitTree};
+ghost use Rattle.qs_core.specs.UnitTrees.{unit_tree};
+ghost use Rattle.qs_driver.specs.Certified.{IsCertificateTold, IsEntryTold, IsMentionPlace, IsToldAs, TellsFault, owner};
+ghost use Rattle.qs_certify.specs.Entries.{IsMet};
+ghost use Rattle.qs_certify.specs.declared.fault.CertifyFault.TheVariants as faults;
+ghost use Rattle.qs_triples.specs.Filled.{function_name};
+ghost use Rattle.qs_triples.specs.declared.fault.DerivFault.TheVariants as entries;
+
+use crate::{ProofFault, Status};
+use qs_assert::Var;
+use qs_base::{FnId, Name, NoMemory};
+use qs_core::CoreUnit;
+use qs_entail::CertFault;
+use qs_prooftext::variable_text;
+use qs_report::{Path, ProofText, Spot};
+use qs_triples::{DerivFault, Place};
+use std::alloc::Global;
+
+/// A place in a derivation, and what is wrong there.
+#[derive(Drop)]
+struct Wrong {
+    spot: Spot,
+    text: ProofText,
+}
+
+/// A place in a certificate, and what is wrong there.
+#[derive(Drop)]
+struct WrongStep {
+    path: Path,
+    text: ProofText,
+}
+
+fn path_of(steps: Vec<usize>) -> Path
+    ensures { result.steps ≡ steps }
+{
+    Path { steps }
+}
+
+// The place of an assertion.
+fn mention_spot(place: Place) -> Spot
+    ensures { IsMentionPlace place result }
+{
+    match place {
+        Place::Precondition => Spot::Pre,
+        Place::Postcondition => Spot::Post,
+        Place::Node(path) => Spot::Body(path_of(path)),
+    }
+}
+
+// The function whose variable it is.
+fn owner(f: FnId, callee: Option<FnId>) -> FnId
+    ensures { result.0 ≡ owner f.0 callee }
+{
+    match callee {
+        None => f,
+        Some(g) => g,
+    }
+}
+
+fn mention_told(
+    alloc: Global,
+    unit: &CoreUnit,
+    f: FnId,
+    place: Place,
+    callee: Option<FnId>,
+    x: Var,
+) -> Result<Wrong, NoMemory>
+    requires { f.0 < length unit.now.functions.items }
+    ensures { IfOk result (λ wrong. IsToldAs (unit_tree unit.now) f.0 (entries.Mentions place callee x) wrong.spot wrong.text) }
+{
+    Ok(Wrong {
+        text: ProofText::Mentions(variable_text(alloc, unit, owner(f, callee), &x)?),
+        spot: mention_spot(place),
+    })
+}
+
+// The fault of a certificate: the path within it, and what is wrong there.
+fn certificate_told(fault: CertFault) -> Result<WrongStep, NoMemory>
+    ensures { IfOk result (λ wrong. IsCertificateTold fault wrong.path wrong.text) }
+{
+    match fault {
+        CertFault::NoMemory => Err(NoMemory),
+        CertFault::Step(path, rule) => Ok(WrongStep {
+            path: path_of(path),
+            text: ProofText::Step(rule.number()),
+        }),
+        CertFault::Limit(path, limit) => Ok(WrongStep {
+            path: path_of(path),
+            text: ProofText::Limit(limit.number()),
+        }),
+    }
+}
+
+// The fault of a certificate in the derivation, at the node of this path.
+#[tactic(auto, using(crate::proofs::ToldLaws::body_is_told))]
+fn body_told(node: Vec<usize>, fault: CertFault) -> Result<Wrong, NoMemory>
+    ensures { (u : CoreUnitTree) (f : ℕ) → IfOk result (λ wrong. IsToldAs u f (entries.Cert node fault) wrong.spot wrong.text) }
+{
+    let inner = certificate_told(fault)?;
+    Ok(Wrong {
+        spot: Spot::BodyCert(path_of(node), inner.path),
+        text: inner.text,
+    })
+}
+
+// The fault of the certificate of the entry's precondition.
+#[tactic(auto, using(crate::proofs::ToldLaws::entry_is_told))]
+fn precondition_told(fault: CertFault) -> Result<Wrong, NoMemory>
+    ensures { (u : CoreUnitTree) (f : ℕ) → IfOk result (λ wrong. IsToldAs u f (entries.Entry fault) wrong.spot wrong.text) }
+{
+    let inner = certificate_told(fault)?;
+    Ok(Wrong {
+        spot: Spot::Entry(inner.path),
+        text: inner.text,
+    })
+}
+
+#[tactic(auto, using(crate::proofs::ToldLaws::shape_is_told))]
+fn shape_told(path: Vec<usize>) -> Wrong
+    ensures { (u : CoreUnitTree) (f : ℕ) → IsToldAs u f (entries.Shape path) result.spot result.text }
+{
+    Wrong {
+        spot: Spot::Body(path_of(path)),
+        text: ProofText::Shape,
+    }
+}
+
+fn fault_told(alloc: Global, unit: &CoreUnit, f: FnId, fault: DerivFault) -> Result<Wrong, NoMemory>
+    requires known { f.0 < length unit.now.functions.items }
+    requires met { IsMet fault }
+    ensures { IfOk result (λ wrong. IsToldAs (unit_tree unit.now) f.0 fault wrong.spot wrong.text) }
+{
+    match fault {
+        DerivFault::NoMemory => Err(NoMemory),
+        DerivFault::Shape(path) => Ok(shape_told(path)),
+        DerivFault::Mentions(place, callee, x) => mention_told(alloc, unit, f, place, callee, x),
+        DerivFault::Cert(path, fault) => body_told(path, fault),
+        DerivFault::NoSpec(_, _) => unreachable!(),
+        DerivFault::Entry(fault) => precondition_told(fault),
+        DerivFault::BadOrder(_) => unreachable!(),
+    }
+}
+
+/// The name of a function.
+pub fn name_of(alloc: Global, unit: &CoreUnit, f: FnId) -> Result<Name, NoMemory>
+    requires { f.0 < length unit.now.functions.items }
+    ensures { IfOk result (λ name. name ≡ function_name (unit_tree unit.now) f.0) }
+{
+    unit.functions[f.0 as usize].name.copy(alloc)
+}
+
+#[tactic(auto, using(crate::proofs::ToldLaws::named_is_told))]
+fn named(alloc: Global, unit: &CoreUnit, f: FnId, fault: DerivFault) -> Result<ProofFault, NoMemory>
+    requires known { f.0 < length unit.now.functions.items }
+    requires met { IsMet fault }
+    ensures { IfOk result (IsEntryTold (unit_tree unit.now) f.0 fault) }
+{
+    let name = name_of(alloc, unit, f)?;
+    let wrong = fault_told(alloc, unit, f, fault)?;
+    Ok(ProofFault::Entry(name, wrong.spot, wrong.text))
+}
+
+/// The status of a proof file whose entry of this function has this fault.
+#[tactic(auto, using(crate::proofs::ToldLaws::entry_told))]
+pub fn entry_told(alloc: Global, unit: &CoreUnit, f: FnId, fault: DerivFault) -> Status
+    requires known { f.0 < length unit.now.functions.items }
+    requires met { IsMet fault }
+    ensures { (file : Option (List ℕ)) → TellsFault (unit_tree unit.now) file (faults.Entry f fault) result }
+{
+    match named(alloc, unit, f, fault) {
+        Ok(fault) => Status::Proof(fault),
+        Err(_) => Status::NoMemory,
+    }
+}

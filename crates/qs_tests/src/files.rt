@@ -1,7 +1,5 @@
 // The tool over real files and streams.
-use qs_base::Pos;
-use qs_driver::{FileKind, SourceFault, Status, WordsFault, run_tool};
-use qs_lexer::LexFault;
+use qs_driver::run_tool;
 use qs_ports::{DirStore, StdSink};
 use std::alloc::{AllocError, Global};
 use std::test::Fail;
@@ -15,14 +13,15 @@ fn words_of(alloc: Global, source: &str, out: &str) -> Result<Vec<String>, Alloc
     Ok(words)
 }
 
-// The image of a program that puts 33 and returns 0, assembled by hand: the head of 8 words of code, the record of
-// main and its name, and addi sp, sp, -16; addi a0, x0, 33; addi a7, x0, 1; ecall; addi a0, x0, 0;
-// addi sp, sp, 16; addi a7, x0, 0; ecall.
-const IMAGE: [u8; 80] = [
-    0x51, 0x53, 0x49, 0x31, 8, 0, 0, 0, 0, 0, 0, 0, 1, 0, 0, 0, 4, 0, 0, 0, 0, 0, 1, 0, 0, 0, 0, 0,
-    0, 0, 0, 0, 4, 0, 0, 0, 0, 0, 1, 0, 16, 0, 0, 0, 0x6d, 0x61, 0x69, 0x6e, 0x13, 0x01, 0x01,
-    0xff, 0x13, 0x05, 0x10, 0x02, 0x93, 0x08, 0x10, 0x00, 0x73, 0x00, 0x00, 0x00, 0x13, 0x05, 0x00,
-    0x00, 0x13, 0x01, 0x01, 0x01, 0x93, 0x08, 0x00, 0x00, 0x73, 0x00, 0x00, 0x00,
+// The image of a program that puts 33 and returns 0, assembled by hand: the head of 12 words of code, the record of
+// main at the fourth word, with its cost and name; then jal ra, 12; addi a7, x0, 0; ecall; and main: addi sp, sp, -16;
+// sw ra, 0(sp); addi a0, x0, 33; addi a7, x0, 1; ecall; addi a0, x0, 0; lw ra, 0(sp); addi sp, sp, 16; jalr x0, 0(ra).
+const IMAGE: [u8; 96] = [
+    0x51, 0x53, 0x49, 0x31, 12, 0, 0, 0, 0, 0, 0, 0, 1, 0, 0, 0, 4, 0, 0, 0, 0, 0, 1, 0, 0, 0, 0,
+    0, 0, 0, 0, 0, 4, 0, 0, 0, 12, 0, 1, 0, 16, 0, 0, 0, 0x6d, 0x61, 0x69, 0x6e, 0xef, 0x00, 0xc0,
+    0x00, 0x93, 0x08, 0x00, 0x00, 0x73, 0x00, 0x00, 0x00, 0x13, 0x01, 0x01, 0xff, 0x23, 0x20, 0x11,
+    0x00, 0x13, 0x05, 0x10, 0x02, 0x93, 0x08, 0x10, 0x00, 0x73, 0x00, 0x00, 0x00, 0x13, 0x05, 0x00,
+    0x00, 0x83, 0x20, 0x01, 0x00, 0x13, 0x01, 0x01, 0x01, 0x67, 0x80, 0x00, 0x00,
 ];
 
 // The names are those of this process, in the system's folder for such files.
@@ -40,38 +39,18 @@ fn real_files_and_streams(rt: HostRuntime) -> Result<(), Fail> {
     let mut store = DirStore::new(rt.clone()?);
     let mut lines = StdSink::new(rt.stdout());
     let mut faults = StdSink::new(rt.stderr());
-    for (from, to, status) in [
-        (source.as_str(), out.as_str(), Status::Done),
-        (
-            out.as_str(),
-            source.as_str(),
-            Status::Source(SourceFault::Lex(LexFault::BadByte(4), Pos { line: 1, column: 5 })),
-        ),
-        (
-            "/tmp/qsc_test_no_such_file.c",
-            out.as_str(),
-            Status::Missing(FileKind::Source),
-        ),
-        ("/tmp", out.as_str(), Status::StoreFailed(FileKind::Source)),
-        (
-            source.as_str(),
-            "/tmp",
-            Status::StoreFailed(FileKind::Output),
-        ),
-        (
-            source.as_str(),
-            "/dev/full",
-            Status::StoreFailed(FileKind::Output),
-        ),
-        (
-            source.as_str(),
-            source.as_str(),
-            Status::Words(WordsFault::SameName),
-        ),
+    for (from, to, code) in [
+        (source.as_str(), out.as_str(), 0),
+        (out.as_str(), source.as_str(), 1),
+        ("/tmp/qsc_test_no_such_file.c", out.as_str(), 4),
+        ("/tmp", out.as_str(), 5),
+        (source.as_str(), "/tmp", 5),
+        (source.as_str(), "/dev/full", 5),
+        (source.as_str(), source.as_str(), 3),
     ] {
         let words = words_of(alloc, from, to)?;
         let ended = run_tool(alloc, &words, &mut store, &mut lines, &mut faults);
-        assert_eq!(rt; ended, status);
+        assert_eq!(rt; ended.code(), code);
     }
     let image = fs::read(&rt, out.as_str())?;
     assert_eq!(rt; image.as_slice(), IMAGE.as_slice());

@@ -180,10 +180,12 @@ abbrev mutual
 abbrev pub is_short : CoreVariableTree → Bool
 is_short v = nat_lt v.ordinal (2 ^ 64)
 
+abbrev pub AreShort : CoreFunctionTree → Type 0
+AreShort f = (list_all is_short f.variables ≡ true) × (length f.temporaries < 2 ^ 64)
+
 abbrev pub HasShortNumbers : CoreUnitTree → Type 0
 HasShortNumbers u =
-    (i : ℕ) (f : CoreFunctionTree) → slice_get u.functions i ≡ Some f
-    → (list_all is_short f.variables ≡ true) × (length f.temporaries < 2 ^ 64)
+    (i : ℕ) (f : CoreFunctionTree) → slice_get u.functions i ≡ Some f → AreShort f
 
 -- each word of a function stands for one variable
 abbrev pub HasOwnWords : CoreUnitTree → Type 0

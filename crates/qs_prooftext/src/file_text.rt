@@ -1,6 +1,5 @@
 // Proofs as the text of a file.
 ghost use Rattle.std.specs.Prelude.{◌≡◌, ◌++◌, ◌∷◌, [], codes, map, IfOk, OnOk};
-ghost use Rattle.qs_core.specs.TreeOf.{function_tree};
 ghost use Rattle.qs_core.specs.UnitTrees.{unit_tree};
 ghost use Rattle.qs_sexpr.specs.Layout.{lay_all};
 ghost use Rattle.qs_sexpr.specs.Marks.{all_marks, mark_of, marks};
@@ -9,38 +8,20 @@ ghost use Rattle.qs_triples.specs.TreeOf.{entry_tree, proofs_tree};
 ghost use Rattle.qs_prooftext.specs.Putting.{Puts, words_in_table};
 ghost use Rattle.qs_prooftext.specs.Reading.{Reading};
 ghost use Rattle.qs_prooftext.specs.Writable.{IsWritable};
-ghost use Rattle.qs_prooftext.specs.Writing.{AreShort, HasShortNumbers, assertion_form, define_form, entry_form, entry_form_by, file_forms, forms_of, headed};
+ghost use Rattle.qs_prooftext.specs.Writing.{assertion_form, define_form, entry_form, entry_form_by, file_forms, forms_of, headed};
 
 use crate::certificate_tokens::put_certificate;
 use crate::derivation_tokens::put_derivation;
+use crate::machine_numbers::short_numbers;
 use crate::naming::{WordTable, function_word};
 use crate::putting::{begin, put, put_assertion};
 use crate::writing::words_in;
 use qs_assert::{Assertion, Define};
 use qs_base::NoMemory;
-use qs_core::{CoreFunction, CoreUnit};
+use qs_core::CoreUnit;
 use qs_sexpr::Token;
 use qs_triples::{FunctionProof, Proofs};
 use std::alloc::Global;
-
-// ---- the numbers of a unit
-
-// What is read is known to be a number of its type.
-fn short_in(function: &CoreFunction)
-    ensures { AreShort (function_tree function.now) }
-{
-    for v in function.variables.as_slice() {
-        let _ordinal = v.ordinal;
-    }
-}
-
-fn short_numbers(unit: &CoreUnit)
-    ensures { HasShortNumbers (unit_tree unit.now) }
-{
-    for function in unit.functions.as_slice() {
-        short_in(function);
-    }
-}
 
 // ---- tokens
 

@@ -18,6 +18,7 @@ mod laws;
 mod leaves;
 mod listed;
 mod lists;
+mod machine_numbers;
 mod naming;
 mod parts;
 mod planting;

@@ -27,3 +27,6 @@ pub mod ListedLaws
 pub mod ReadLaws
 pub mod ReadForms
 pub mod ReadSound
+pub mod TreeLaws
+pub mod TokenLaws
+pub mod LayLaws

@@ -1,14 +1,15 @@
 // Proofs as the text of a file.
 ghost use Rattle.std.specs.Prelude.{◌≡◌, ◌++◌, ◌∷◌, [], codes, map, IfOk, OnOk};
 ghost use Rattle.qs_core.specs.UnitTrees.{unit_tree};
+ghost use Rattle.qs_entail.specs.View.{cert_tree};
 ghost use Rattle.qs_sexpr.specs.Layout.{lay_all};
 ghost use Rattle.qs_sexpr.specs.Marks.{all_marks, mark_of, marks};
 ghost use Rattle.qs_sexpr.specs.Writing.{Forms, symbol_form};
-ghost use Rattle.qs_triples.specs.TreeOf.{entry_tree, proofs_tree};
+ghost use Rattle.qs_triples.specs.TreeOf.{derivation_tree, entry_tree, proofs_tree};
 ghost use Rattle.qs_prooftext.specs.Putting.{Puts, words_in_table};
 ghost use Rattle.qs_prooftext.specs.Reading.{Reading};
 ghost use Rattle.qs_prooftext.specs.Writable.{IsWritable};
-ghost use Rattle.qs_prooftext.specs.Writing.{assertion_form, define_form, entry_form, entry_form_by, file_forms, forms_of, headed};
+ghost use Rattle.qs_prooftext.specs.Writing.{assertion_form, certificate_form, define_form, derivation_form, entry_form, entry_form_by, file_forms, forms_of, headed};
 
 use crate::certificate_tokens::put_certificate;
 use crate::derivation_tokens::put_derivation;
@@ -19,8 +20,9 @@ use crate::writing::words_in;
 use qs_assert::{Assertion, Define};
 use qs_base::NoMemory;
 use qs_core::CoreUnit;
+use qs_entail::Certificate;
 use qs_sexpr::Token;
-use qs_triples::{FunctionProof, Proofs};
+use qs_triples::{Derivation, FunctionProof, Proofs};
 use std::alloc::Global;
 
 // ---- tokens
@@ -55,6 +57,34 @@ fn put_define<'a>(
     put(out, Token::Close)
 }
 
+/// Puts why the precondition is enough for the body.
+fn put_reason<'a>(
+    alloc: Global,
+    out: &mut Vec<Token<'a>>,
+    table: WordTable<'a>,
+    certificate: &'a Certificate,
+) -> Result<(), NoMemory>
+    ensures { OnOk result (Puts out.old.items (marks (headed (codes "entry") (certificate_form (words_in_table table.entry) (cert_tree certificate.now) ∷ []))) out.new.items) }
+{
+    begin(out, b"entry")?;
+    put_certificate(alloc, out, table, certificate)?;
+    put(out, Token::Close)
+}
+
+/// Puts the derivation of the body.
+fn put_body<'a>(
+    alloc: Global,
+    out: &mut Vec<Token<'a>>,
+    table: WordTable<'a>,
+    body: &'a Derivation,
+) -> Result<(), NoMemory>
+    ensures { OnOk result (Puts out.old.items (marks (headed (codes "body") (derivation_form (words_in_table table.entry) (derivation_tree body.now) ∷ []))) out.new.items) }
+{
+    begin(out, b"body")?;
+    put_derivation(alloc, out, table, body)?;
+    put(out, Token::Close)
+}
+
 /// Puts an entry.
 fn put_entry<'a>(
     alloc: Global,
@@ -68,12 +98,8 @@ fn put_entry<'a>(
     put(out, Token::Symbol(function_word(table, entry.function)))?;
     put_part(alloc, out, table, b"pre", &entry.spec.pre)?;
     put_part(alloc, out, table, b"post", &entry.spec.post)?;
-    begin(out, b"entry")?;
-    put_certificate(alloc, out, table, &entry.entry)?;
-    put(out, Token::Close)?;
-    begin(out, b"body")?;
-    put_derivation(alloc, out, table, &entry.body)?;
-    put(out, Token::Close)?;
+    put_reason(alloc, out, table, &entry.entry)?;
+    put_body(alloc, out, table, &entry.body)?;
     put(out, Token::Close)
 }
 

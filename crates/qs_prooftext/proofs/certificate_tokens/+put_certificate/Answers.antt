@@ -17,13 +17,6 @@ put_certificate-returns-in_ok-put_certificate-in-Via t c =
     (three_parts c.put_last.result (codes "via") (assertion_form w c.in-Via.between) (certificate_form w (cert_tree c.deref.result.now)) (certificate_form w (cert_tree c.deref-in-Via.result.now))
     (map mark_of c.args.out.now.items) (map mark_of c.put_last.new.out.items) c.in_ok-begin-in-Via.ensures c.in_ok-put_assertion-in-Via.ensures c.in_ok-put_certificate-in-Via.ensures c.put_last.ensures)
 
-pub put_certificate-returns-in_ok-put-in-Pick : goal.put_certificate-returns-in_ok-put-in-Pick
-put_certificate-returns-in_ok-put-in-Pick t c =
-    let w = words_in_table c.args.table in
-    rw (c.in-Pick.is, pick_of, ← c.deref-in-Pick.ensures)
-    (two_parts c.put_last-in-Pick.result (codes "pick") (number_form c.in-Pick.number) (certificate_form w (cert_tree c.deref-in-Pick.result.now))
-    (map mark_of c.args.out.now.items) (map mark_of c.put_last-in-Pick.new.out.items) c.in_ok-begin-in-Pick.ensures c.in_ok-put-in-Pick.ensures c.put_last-in-Pick.ensures)
-
 pub put_certificate-returns-in_ok-begin-in-Assume : goal.put_certificate-returns-in_ok-begin-in-Assume
 put_certificate-returns-in_ok-begin-in-Assume t c =
     let w = words_in_table c.args.table in

@@ -56,6 +56,18 @@ four_parts r w f g h k a e {b} {c} {d} p q s t u =
     (last r b e (marks f) (marks g ++ (marks h ++ (marks k ++ closes ∷ []))) q
     (last r c e (marks g) (marks h ++ (marks k ++ closes ∷ [])) s (last r d e (marks h) (marks k ++ closes ∷ []) t u))))
 
+-- the end of the list is put behind the last part
+pub five_parts : {X E : Type 0} (r : Result X E) (w : List ℕ) (f g h k l : Form) (a e : List Mark) {b c d i j m : List Mark}
+    → b ≡ a ++ (opens ∷ word w ∷ []) → c ≡ b ++ marks f → d ≡ c ++ marks g → i ≡ d ++ marks h → j ≡ i ++ marks k → m ≡ j ++ marks l
+    → OnOk r (e ≡ m ++ (closes ∷ [])) → OnOk r (e ≡ a ++ marks (headed w (f ∷ g ∷ h ∷ k ∷ l ∷ [])))
+five_parts r w f g h k l a e {b} {c} {d} {i} {j} p q s t u v x =
+    as_marks r a e (whole w (f ∷ g ∷ h ∷ k ∷ l ∷ []))
+    (last r a e (opens ∷ word w ∷ []) (marks f ++ (marks g ++ (marks h ++ (marks k ++ (marks l ++ closes ∷ []))))) p
+    (last r b e (marks f) (marks g ++ (marks h ++ (marks k ++ (marks l ++ closes ∷ [])))) q
+    (last r c e (marks g) (marks h ++ (marks k ++ (marks l ++ closes ∷ []))) s
+    (last r d e (marks h) (marks k ++ (marks l ++ closes ∷ [])) t
+    (last r i e (marks k) (marks l ++ closes ∷ []) u (last r j e (marks l) (closes ∷ []) v x))))))
+
 -- ---- facts
 
 behind : (w : List ℕ) (fs : List Form) {ms : List Mark} → ms ≡ before fs (closes ∷ []) → opens ∷ word w ∷ ms ≡ marks (headed w fs)

@@ -13,8 +13,8 @@ use Rattle.qs_prooftext.proofs.derivation_tokens.+put_derivation.Goals as goal
 pub put_derivation-returns-in_ok-put_derivation-in-Conditional : goal.put_derivation-returns-in_ok-put_derivation-in-Conditional
 put_derivation-returns-in_ok-put_derivation-in-Conditional t c =
     let w = words_in_table c.args.table in
-    rw (c.in-Conditional.is, conditional_of, ← c.deref.ensures, ← c.deref-in-Conditional.ensures)
-    (two_parts c.put_last.result (codes "if") (derivation_form w (derivation_tree c.deref.result.now)) (derivation_form w (derivation_tree c.deref-in-Conditional.result.now))
+    rw (c.in-Conditional.is, conditional_of, ← c.deref-in-Conditional.ensures, ← c.deref-in-Conditional-2.ensures)
+    (two_parts c.put_last.result (codes "if") (derivation_form w (derivation_tree c.deref-in-Conditional.result.now)) (derivation_form w (derivation_tree c.deref-in-Conditional-2.result.now))
     (map mark_of c.args.out.now.items) (map mark_of c.put_last.new.out.items) c.in_ok-begin-in-Conditional.ensures c.in_ok-put_derivation-in-Conditional.ensures c.put_last.ensures)
 
 pub put_derivation-returns-in_ok-put_derivation-in-Loop : goal.put_derivation-returns-in_ok-put_derivation-in-Loop

@@ -1,5 +1,5 @@
 -- What is promised of bounds, of faults, and of what can be certified.
-use Rattle.std.specs.Prelude.{◌≡◌, ◌⊎◌, ℕ, ◌<◌, ◌≤◌, true, ℤ, List, length, All, Option, Some, None}
+use Rattle.std.specs.Prelude.{◌≡◌, ◌⊎◌, ℕ, ◌-◌, ◌^◌, ◌<◌, ◌≤◌, true, ℤ, List, length, All, Option, Some, None}
 use Rattle.qs_events.specs.Weights.{Costs, run_weight}
 use Rattle.qs_assert.specs.Order.{IsInOrder}
 use Rattle.qs_assert.specs.declared.define.Amount.TheVariants.{Finite}
@@ -7,7 +7,9 @@ use Rattle.qs_core.specs.CallGraph.{IsCycle, IsWithoutRecursion}
 use Rattle.qs_core.specs.Fits.{unit_fits}
 use Rattle.qs_core.specs.Trees.{CoreUnitTree}
 use Rattle.qs_core.specs.Units.{main_run}
+use Rattle.qs_nesting.specs.Nesting.{unit_nesting}
 use Rattle.qs_prooftext.specs.Reading.{Fault}
+use Rattle.qs_prooftext.specs.Writable.{IsWritable}
 use Rattle.qs_prooftext.specs.declared.fault.TextFault.{TextFault}
 use Rattle.qs_triples.specs.Derivations.{ProofsTree}
 use Rattle.qs_triples.specs.Entries.{has_entry, Covers, HasDerivedEntry}
@@ -117,3 +119,16 @@ abbrev pub AllAreDerived : Type 0
 AllAreDerived =
     (u : CoreUnitTree) (given proofs : ProofsTree) (f : ℕ) → IsCertified u None given proofs
     → f < length u.functions → HasDerivedEntry u proofs f
+
+-- ---- what is written
+
+-- Lists nest at most 1,024 deep: three of them hold the statements of a function, and a call is written as five more.
+abbrev pub nesting_limit : ℕ
+nesting_limit = 1024 - 8
+
+-- Without a file what is certified can be written, where the unit has no more functions than a number of an atom can
+-- tell apart, and its statements nest little: as those of the core of each unit within limits do, by far.
+abbrev pub AddedIsWritable : Type 0
+AddedIsWritable =
+    (u : CoreUnitTree) (given proofs : ProofsTree) → unit_fits u ≡ true → length u.functions < 2 ^ 63
+    → unit_nesting u ≤ nesting_limit → IsCertified u None given proofs → IsWritable u proofs

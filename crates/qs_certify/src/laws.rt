@@ -1,5 +1,5 @@
 // Laws of what is certified: functions that do nothing, for what their clauses say.
-ghost use Rattle.qs_certify.specs.Laws.{AllAreDerived, CertifiedIsRight, CyclesAreTold, EntriesAreTold, FaultsAreOfFunctions, MainBoundsRuns, OneCertified, OrderIsTold, RightProofsAreCertified, TextFaultsAreTold, UnitsWithoutRecursionAreCertified};
+ghost use Rattle.qs_certify.specs.Laws.{AddedIsWritable, AllAreDerived, CertifiedIsRight, CyclesAreTold, EntriesAreTold, FaultsAreOfFunctions, MainBoundsRuns, OneCertified, OrderIsTold, RightProofsAreCertified, TextFaultsAreTold, UnitsWithoutRecursionAreCertified};
 
 /// Where the proofs cover the unit, main's bound is one of its runs: on each input, the weight of each run with these
 /// arguments is at most the bound, if that is finite.
@@ -36,4 +36,10 @@ pub fn right_proofs_are_certified()
     ensures proofs { RightProofsAreCertified }
     ensures units { UnitsWithoutRecursionAreCertified }
     ensures only { CertifiedIsRight }
+{}
+
+/// Without a file what is certified can be written as a file: its names are symbols, its numbers are in range, its lists
+/// nest at most 1,024 deep, and each has a meaning in its place.
+pub fn added_is_writable()
+    ensures { AddedIsWritable }
 {}

@@ -8,3 +8,5 @@ pub mod CauseLaws
 pub mod MetLaws
 pub mod RefusalLaws
 pub mod OneLaws
+pub mod AddedForms
+pub mod WritableLaws

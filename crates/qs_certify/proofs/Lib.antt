@@ -10,3 +10,4 @@ pub mod RefusalLaws
 pub mod OneLaws
 pub mod AddedForms
 pub mod WritableLaws
+pub mod LongestLaws

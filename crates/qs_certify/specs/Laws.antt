@@ -1,5 +1,5 @@
 -- What is promised of bounds, of faults, and of what can be certified.
-use Rattle.std.specs.Prelude.{◌≡◌, ◌⊎◌, ℕ, ◌-◌, ◌^◌, ◌<◌, ◌≤◌, true, ℤ, List, length, All, Option, Some, None}
+use Rattle.std.specs.Prelude.{◌≡◌, ◌≢◌, ◌⊎◌, ℕ, ◌-◌, ◌^◌, ◌<◌, ◌≤◌, true, ℤ, List, length, All, Option, Some, None}
 use Rattle.qs_events.specs.Weights.{Costs, run_weight}
 use Rattle.qs_assert.specs.Order.{IsInOrder}
 use Rattle.qs_assert.specs.declared.define.Amount.TheVariants.{Finite}
@@ -14,8 +14,12 @@ use Rattle.qs_prooftext.specs.declared.fault.TextFault.{TextFault}
 use Rattle.qs_triples.specs.Derivations.{ProofsTree}
 use Rattle.qs_triples.specs.Entries.{has_entry, Covers, HasDerivedEntry}
 use Rattle.qs_triples.specs.declared.fault.DerivFault.{DerivFault}
+use Rattle.qs_analyse.specs.Additions.{IsFilling}
+use Rattle.qs_analyse.specs.Fillable.{entry_functions}
 use Rattle.qs_analyse.specs.Laws.{GivenAreDerived, HasNoCycle}
+use Rattle.qs_analyse.specs.Paths.{IsLongestPath}
 use Rattle.qs_certify.specs.Bound.{main_bound, costs_of, values_of, AreArguments}
+use Rattle.qs_certify.specs.Entries.{first_fault, IsEntryFault}
 use Rattle.qs_certify.specs.Given.{GivenIs}
 use Rattle.qs_certify.specs.Certification.{AreAll, IsCertified, HasNoOrder, IsNotDerived, CannotCertify, ToldOfFunctions, IsCycleFault}
 use Rattle.qs_certify.specs.declared.fault.CertifyFault.{CertifyFault}
@@ -29,13 +33,26 @@ MainWeighsAtMost u costs arguments bound =
     (input : List ℕ) (n : ℕ) → All (λ byte. byte < 256) input
     → run_weight costs (main_run u (values_of arguments) input n) ≤ bound
 
--- Where the proofs cover the unit, main's bound is one of its runs, if it is finite.
+-- Where the proofs cover the unit, main's bound bounds its runs, if it is finite.
 abbrev pub MainBoundsRuns : Type 0
 MainBoundsRuns =
     (u : CoreUnitTree) (given proofs : ProofsTree) (costs : List ℕ) (arguments : List ℤ) (bound : ℕ)
     → unit_fits u ≡ true → Covers u given proofs → AreArguments u arguments
     → main_bound u proofs costs arguments ≡ Finite bound
     → MainWeighsAtMost u (costs_of costs) arguments bound
+
+-- main's bound at these arguments is a number, the longest path of calls from main
+pub record HasLongestBound (u : CoreUnitTree) (proofs : ProofsTree) (costs : List ℕ) (arguments : List ℤ) : Type 0 where
+  pub bound : ℕ
+  pub is : main_bound u proofs costs arguments ≡ Finite bound
+  pub longest : IsLongestPath u (costs_of costs) u.main bound
+
+-- Without a file main's bound is the longest path from main, for all costs of 32 bits. So it is never infinite or too wide.
+abbrev pub BoundsAreLongestPaths : Type 0
+BoundsAreLongestPaths =
+    (u : CoreUnitTree) (given proofs : ProofsTree) (costs : List ℕ) (arguments : List ℤ) → unit_fits u ≡ true
+    → length u.functions < 2 ^ 63 → All (λ c. c < 2 ^ 32) costs → IsCertified u None given proofs
+    → HasLongestBound u proofs costs arguments
 
 -- ---- faults
 
@@ -76,6 +93,13 @@ EntriesAreTold =
     (u : CoreUnitTree) (file : Option (List ℕ)) (given : ProofsTree) (f : ℕ) (fault : DerivFault)
     → GivenIs u file given → IsNotDerived u given f fault → IsRefusedAs u file (IsEntryOf f)
 
+-- and beside its function the first fault of its entry
+abbrev pub EntryFaultsAreTold : Type 0
+EntryFaultsAreTold =
+    (u : CoreUnitTree) (file : Option (List ℕ)) (given proofs : ProofsTree) → GivenIs u file given → AreAll u given proofs
+    → IsInOrder proofs.defines → first_fault u proofs (entry_functions given.functions) ≢ None
+    → IsRefusedAs u file (IsEntryFault u proofs (entry_functions given.functions))
+
 -- what is told names functions of the unit, and no fault that is never met
 abbrev pub FaultsAreOfFunctions : Type 0
 FaultsAreOfFunctions =
@@ -89,6 +113,12 @@ pub record AreRightProofs (u : CoreUnitTree) (given : ProofsTree) : Type 0 where
   pub no_cycle : HasNoCycle u given
   pub in_order : (proofs : ProofsTree) → AreAll u given proofs → IsInOrder proofs.defines
   pub derived : (proofs : ProofsTree) → AreAll u given proofs → GivenAreDerived u given proofs
+
+-- one filling of the given proofs is enough: their entries are derived in each where they are in this one
+abbrev pub OneFillingIsEnough : Type 0
+OneFillingIsEnough =
+    (u : CoreUnitTree) (given proofs : ProofsTree) → HasNoCycle u given → IsFilling u given proofs
+    → IsInOrder proofs.defines → GivenAreDerived u given proofs → AreRightProofs u given
 
 -- nothing but want of memory stands in the way of right proofs
 abbrev pub RightProofsAreCertified : Type 0

@@ -11,3 +11,5 @@ pub mod OneLaws
 pub mod AddedForms
 pub mod WritableLaws
 pub mod LongestLaws
+pub mod SameVerdicts
+pub mod SameFillings

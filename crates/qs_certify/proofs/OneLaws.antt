@@ -19,7 +19,7 @@ use Rattle.qs_analyse.proofs.SettingLaws.{one_there}
 use Rattle.qs_certify.specs.Given.{GivenIs}
 use Rattle.qs_certify.specs.Entries.{EntryFault, first_fault, IsFirstFault, IsEntryFault}
 use Rattle.qs_certify.specs.Certification.{AreAll, IsCertified, IsMisplaced, HasNoOrder, IsNotDerived, CannotCertify}
-use Rattle.qs_certify.specs.Laws.{OneCertified, CertifiedIsRight, OrderIsTold, IsEntryOf, EntriesAreTold, EntryFaultsAreTold, OneFillingIsEnough, AllAreDerived}
+use Rattle.qs_certify.specs.Laws.{OneCertified, CertifiedIsRight, OrderIsTold, IsEntryOf, EntriesAreTold, EntryFaultsAreTold, AllAreDerived}
 use Rattle.qs_certify.specs.declared.fault.CertifyFault.{CertifyFault}
 use Rattle.qs_certify.specs.declared.fault.CertifyFault.TheVariants.{NoMemory, Text, Cycle, Order, Entry}
 use Rattle.qs_certify.proofs.CompletedLaws.{has_member}
@@ -142,15 +142,6 @@ module _ (u : CoreUnitTree) (file : Option (List ℕ)) (given proofs : ProofsTre
 pub entry_faults_are_told : EntryFaultsAreTold
 entry_faults_are_told u file given proofs is all order wrong =
     record { not_certified = never_right u file given proofs is all order wrong; only = only_fault u file given proofs is all order wrong }
-
--- ---- one filling
-
-pub one_filling_is_enough : OneFillingIsEnough
-one_filling_is_enough u given proofs none filling order derived = record {
-  no_cycle = none;
-  in_order = λ others all. subst (λ (p : ProofsTree). IsInOrder p.defines) (one_filling u given proofs others filling all.filling) order;
-  derived = λ others all. subst (λ (p : ProofsTree). GivenAreDerived u given p) (one_filling u given proofs others filling all.filling) derived;
-}
 
 -- ---- without a file
 

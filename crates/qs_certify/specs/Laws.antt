@@ -13,8 +13,8 @@ use Rattle.qs_prooftext.specs.Writable.{IsWritable}
 use Rattle.qs_prooftext.specs.declared.fault.TextFault.{TextFault}
 use Rattle.qs_triples.specs.Derivations.{ProofsTree}
 use Rattle.qs_triples.specs.Entries.{has_entry, Covers, HasDerivedEntry}
+use Rattle.qs_triples.specs.Filled.{Filled}
 use Rattle.qs_triples.specs.declared.fault.DerivFault.{DerivFault}
-use Rattle.qs_analyse.specs.Additions.{IsFilling}
 use Rattle.qs_analyse.specs.Fillable.{entry_functions}
 use Rattle.qs_analyse.specs.Laws.{GivenAreDerived, HasNoCycle}
 use Rattle.qs_analyse.specs.Paths.{IsLongestPath}
@@ -114,10 +114,11 @@ pub record AreRightProofs (u : CoreUnitTree) (given : ProofsTree) : Type 0 where
   pub in_order : (proofs : ProofsTree) → AreAll u given proofs → IsInOrder proofs.defines
   pub derived : (proofs : ProofsTree) → AreAll u given proofs → GivenAreDerived u given proofs
 
--- one filling of the given proofs is enough: their entries are derived in each where they are in this one
+-- One filling of the given proofs is enough, in whatever order it adds: where in it the definitions are in order and the
+-- given entries are derived, they are so in all.
 abbrev pub OneFillingIsEnough : Type 0
 OneFillingIsEnough =
-    (u : CoreUnitTree) (given proofs : ProofsTree) → HasNoCycle u given → IsFilling u given proofs
+    (u : CoreUnitTree) (given proofs : ProofsTree) → unit_fits u ≡ true → HasNoCycle u given → Filled u given proofs
     → IsInOrder proofs.defines → GivenAreDerived u given proofs → AreRightProofs u given
 
 -- nothing but want of memory stands in the way of right proofs

@@ -1,5 +1,6 @@
-use Rattle.qs_certify.proofs.OneLaws.{certified_is_right, one_filling_is_enough}
+use Rattle.qs_certify.proofs.OneLaws.{certified_is_right}
 use Rattle.qs_certify.proofs.RefusalLaws.{right_proofs_are_certified, units_without_recursion_are_certified}
+use Rattle.qs_certify.proofs.SameFillings.{one_filling_is_enough}
 use Rattle.qs_certify.proofs.laws.right_proofs_are_certified.Goals as goal
 
 pub returns-clause-proofs : goal.returns-clause-proofs

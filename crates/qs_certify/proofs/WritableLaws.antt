@@ -6,7 +6,7 @@ use Rattle.std.proofs.lemmas.Bool.{and_parts, and_from, or_left, or_right, both_
 use Rattle.std.proofs.lemmas.Bool.Decides.{nat_tests}
 use Rattle.std.proofs.lemmas.List.{append_assoc, append-nil, length-map}
 use Rattle.qs_assert.specs.declared.define.Define.{Define}
-use Rattle.qs_assert.specs.Trees.{AssertionTree, named, assertions_of}
+use Rattle.qs_assert.specs.Trees.{AssertionTree, named, assertions_of, assertion_list}
 use Rattle.qs_calls.specs.declared.callee.Callee.{Callee}
 use Rattle.qs_calls.specs.declared.callee.Callee.TheVariants.{Function, PutChar, GetChar}
 use Rattle.qs_core.specs.CallGraph.{called_by, IsOpen, no_call}
@@ -109,7 +109,7 @@ module _ (u : CoreUnitTree) where
   body_stands : (gs : List ℕ) → AreWithin gs → definition_stands (in_definition u) (for_calls by_name gs) ≡ true
   body_stands [] within = refl
   body_stands (g ∷ []) within = need_stands g (within g (member_first g []))
-  body_stands (g ∷ h ∷ gs) within = and_from _ (definitions_stand (in_definition u) (assertions_of (map (for_call by_name) (g ∷ h ∷ gs)))) (are_two _ _ _) (needs_stand (g ∷ h ∷ gs) within)
+  body_stands (g ∷ h ∷ gs) within = and_from _ (definitions_stand (in_definition u) (assertions_of (map (for_call by_name) (g ∷ h ∷ gs)))) (are_two (for_call by_name g) (for_call by_name h) (assertion_list (assertions_of (map (for_call by_name) gs)))) (needs_stand (g ∷ h ∷ gs) within)
 
   all_stand_so : (fs : List ℕ) → list_all (λ (d : Define). definition_stands (in_definition u) d.body) (map (open_definition u) fs) ≡ true
   all_stand_so [] = refl
@@ -238,12 +238,9 @@ module _ (u : CoreUnitTree) (is_open : ℕ → Bool) where
   all_open : (entries : List EntryTree) (fs : List ℕ) → ((f : ℕ) → is_member f fs ≡ true → is_open f ≡ true) → with_entries u is_open entries fs ≡ entries ++ map (open_entry u) fs
   all_open entries [] are = sym (append-nil entries)
   all_open entries (f ∷ fs) are =
-      ap (λ (b : Bool). with_entries u is_open (entries ++ (if b then open_entry u f else path_entry f (path_pre_of entries f)) ∷ []) fs) (are f (member_first f fs))
+      ap (λ (b : Bool). with_entries u is_open (entries ++ (if b then open_entry u f else path_entry f (path_pre (entries_only entries) (called_by u f))) ∷ []) fs) (are f (member_first f fs))
       ∙ all_open (entries ++ open_entry u f ∷ []) fs (λ g m. are g (or_right (f == g) (is_member g fs) m))
       ∙ append_assoc entries (open_entry u f ∷ []) (map (open_entry u) fs)
-    where
-      abbrev path_pre_of : List EntryTree → ℕ → AssertionTree
-      path_pre_of es g = path_pre (entries_only es) (called_by u g)
 
   all_kept : (fs : List ℕ) → ((f : ℕ) → is_member f fs ≡ true → is_open f ≡ true) → filter is_open fs ≡ fs
   all_kept [] are = refl

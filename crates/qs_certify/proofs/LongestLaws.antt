@@ -52,6 +52,7 @@ none_same f (g ∷ fs) m =
     none_same f fs (false_from_ne_true (is_member f fs) (λ k. both_ways (is_member f (g ∷ fs)) m (or_right (g == f) (is_member f fs) k))))
 
 distinct : (u : CoreUnitTree) (earlier fs : List ℕ) → CalleesFirst u earlier fs → IsDistinct ◌==◌ fs
+unfolding IsDistinct
 distinct u earlier [] c = tt
 distinct u earlier (f ∷ fs) c =
     (none_same f fs (not_again u (f ∷ earlier) fs f c.2 (member_first f earlier)), distinct u (f ∷ earlier) fs c.2)

@@ -56,12 +56,12 @@ module _ (u : CoreUnitTree) where
 
   named_in : (fs : List ℕ) (n : List ℕ) → is_among (opens fs) n ≡ true → IsNamed fs n
   named_in [] n h = absurd (both_ways false refl h)
-  named_in (f ∷ fs) n h = by (same_name n (function_name u f)) refl h
+  named_in (f ∷ fs) n h = by (same_name n (function_name u f)) refl h (named_in fs n)
     where
-      by : (b : Bool) → same_name n (function_name u f) ≡ b → (b || is_among (opens fs) n) ≡ true → IsNamed (f ∷ fs) n
-      by true is h = record { function = f; member = member_first f fs; same = is }
-      by false is h =
-          let r = named_in fs n h in
+      by : (b : Bool) → same_name n (function_name u f) ≡ b → (b || is_among (opens fs) n) ≡ true → (is_among (opens fs) n ≡ true → IsNamed fs n) → IsNamed (f ∷ fs) n
+      by true is h more = record { function = f; member = member_first f fs; same = is }
+      by false is h more =
+          let r = more h in
           record { function = r.function; member = or_right (f == r.function) (is_member r.function fs) r.member; same = r.same }
 
   among_named : (fs : List ℕ) (n : List ℕ) (f : ℕ) → is_member f fs ≡ true → same_name n (function_name u f) ≡ true → is_among (opens fs) n ≡ true
@@ -92,20 +92,20 @@ module _ (u : CoreUnitTree) where
     -- the first definition of a name that an open function has is its own
     own : (fs : List ℕ) (n : List ℕ) (f : ℕ) → AreWithin fs → is_member f fs ≡ true → same_name n (function_name u f) ≡ true → definition (opens fs ++ ds) n ≡ Ok (open_body u f)
     own [] n f within m h = absurd (both_ways false refl m)
-    own (g ∷ fs) n f within m h = by (same_name n (function_name u g)) refl
+    own (g ∷ fs) n f within m h =
+        by (same_name n (function_name u g)) refl (λ k. own fs n f (λ x l. within x (or_right (g == x) (is_member x fs) l)) k h)
       where
         behind : (g ≡ f → ⊥) → is_member f fs ≡ true
         behind d = ⊎_elim (λ (e : g ≡ f). absurd (d e)) (λ (k : is_member f fs ≡ true). k) (first_cases f g fs m)
 
-        by : (b : Bool) → same_name n (function_name u g) ≡ b → definition (opens (g ∷ fs) ++ ds) n ≡ Ok (open_body u f)
-        by true is =
+        by : (b : Bool) → same_name n (function_name u g) ≡ b → (is_member f fs ≡ true → definition (opens fs ++ ds) n ≡ Ok (open_body u f)) → definition (opens (g ∷ fs) ++ ds) n ≡ Ok (open_body u f)
+        by true is more =
             let same : same_name (function_name u g) (function_name u f) ≡ true = ap (λ (x : List ℕ). same_name x (function_name u f)) (sym (name_equal n (function_name u g) is)) ∙ h in
             let e : g ≡ f = one_name u g f fits (within g (member_first g fs)) (within f m) same in
             ap (λ (b : Bool). if b then Ok (open_body u g) else definition (opens fs ++ ds) n) is ∙ ap (λ (x : ℕ). Ok (open_body u x)) e
-        by false is =
+        by false is more =
             ap (λ (b : Bool). if b then Ok (open_body u g) else definition (opens fs ++ ds) n) is
-            ∙ own fs n f (λ x k. within x (or_right (g == x) (is_member x fs) k))
-            (behind (λ e. both_ways (same_name n (function_name u g)) is (ap (λ (x : ℕ). same_name n (function_name u x)) e ∙ h))) h
+            ∙ more (behind (λ e. both_ways (same_name n (function_name u g)) is (ap (λ (x : ℕ). same_name n (function_name u x)) e ∙ h)))
 
     not_own : (fs : List ℕ) (n : List ℕ) → is_among (opens fs) n ≡ false → definition (opens fs ++ ds) n ≡ definition ds n
     not_own [] n h = refl
@@ -125,30 +125,34 @@ module _ (u : CoreUnitTree) where
 
   first_in_order : (xs ys before : List Define) → order_fault_behind (xs ++ ys) before ≡ None → order_fault_behind ys (before ++ xs) ≡ None
   first_in_order [] ys before h = ap (order_fault_behind ys) (append-nil before) ∙ h
-  first_in_order (d ∷ xs) ys before h = by (names_known d.body (is_among before)) h
+  first_in_order (d ∷ xs) ys before h = by (names_known d.body (is_among before)) h (first_in_order xs ys (before ++ d ∷ []))
     where
-      by : (b : Bool) → (if b then order_fault_behind (xs ++ ys) (before ++ d ∷ []) else Some (length before)) ≡ None → order_fault_behind ys (before ++ d ∷ xs) ≡ None
-      by true h = ap (order_fault_behind ys) (sym (append_assoc before (d ∷ []) xs)) ∙ first_in_order xs ys (before ++ d ∷ []) h
-      by false h = cc
+      by : (b : Bool) → (if b then order_fault_behind (xs ++ ys) (before ++ d ∷ []) else Some (length before)) ≡ None
+          → (order_fault_behind (xs ++ ys) (before ++ d ∷ []) ≡ None → order_fault_behind ys ((before ++ d ∷ []) ++ xs) ≡ None) → order_fault_behind ys (before ++ d ∷ xs) ≡ None
+      by true h more = ap (order_fault_behind ys) (sym (append_assoc before (d ∷ []) xs)) ∙ more h
+      by false h more = cc
 
   both_in_order : (xs ys before : List Define) → order_fault_behind xs before ≡ None → order_fault_behind ys (before ++ xs) ≡ None → order_fault_behind (xs ++ ys) before ≡ None
   both_in_order [] ys before h k = ap (order_fault_behind ys) (sym (append-nil before)) ∙ k
-  both_in_order (d ∷ xs) ys before h k = by (names_known d.body (is_among before)) h
+  both_in_order (d ∷ xs) ys before h k =
+      by (names_known d.body (is_among before)) h (λ l. both_in_order xs ys (before ++ d ∷ []) l (ap (order_fault_behind ys) (append_assoc before (d ∷ []) xs) ∙ k))
     where
-      by : (b : Bool) → (if b then order_fault_behind xs (before ++ d ∷ []) else Some (length before)) ≡ None → (if b then order_fault_behind (xs ++ ys) (before ++ d ∷ []) else Some (length before)) ≡ None
-      by true h = both_in_order xs ys (before ++ d ∷ []) h (ap (order_fault_behind ys) (append_assoc before (d ∷ []) xs) ∙ k)
-      by false h = cc
+      by : (b : Bool) → (if b then order_fault_behind xs (before ++ d ∷ []) else Some (length before)) ≡ None
+          → (order_fault_behind xs (before ++ d ∷ []) ≡ None → order_fault_behind (xs ++ ys) (before ++ d ∷ []) ≡ None) → (if b then order_fault_behind (xs ++ ys) (before ++ d ∷ []) else Some (length before)) ≡ None
+      by true h more = more h
+      by false h more = cc
 
   order_by_names : (ds a b : List Define) → ((n : List ℕ) → is_among a n ≡ is_among b n) → order_fault_behind ds a ≡ None → order_fault_behind ds b ≡ None
   order_by_names [] a b same h = refl
-  order_by_names (d ∷ ds) a b same h = by (names_known d.body (is_among a)) refl h
+  order_by_names (d ∷ ds) a b same h =
+      by (names_known d.body (is_among a)) refl h (order_by_names ds (a ++ d ∷ []) (b ++ d ∷ [])
+      (λ n. list_any-append (λ (x : Define). same_name n x.name) a (d ∷ []) ∙ ap (λ (t : Bool). t || is_among (d ∷ []) n) (same n) ∙ sym (list_any-append (λ (x : Define). same_name n x.name) b (d ∷ []))))
     where
-      by : (t : Bool) → names_known d.body (is_among a) ≡ t → (if t then order_fault_behind ds (a ++ d ∷ []) else Some (length a)) ≡ None → order_fault_behind (d ∷ ds) b ≡ None
-      by true is h =
-          ap (λ (t : Bool). if t then order_fault_behind ds (b ++ d ∷ []) else Some (length b)) (ap (names_known d.body) (sym (fun_ext same)) ∙ is)
-          ∙ order_by_names ds (a ++ d ∷ []) (b ++ d ∷ [])
-          (λ n. list_any-append (λ (x : Define). same_name n x.name) a (d ∷ []) ∙ ap (λ (t : Bool). t || is_among (d ∷ []) n) (same n) ∙ sym (list_any-append (λ (x : Define). same_name n x.name) b (d ∷ []))) h
-      by false is h = cc
+      by : (t : Bool) → names_known d.body (is_among a) ≡ t → (if t then order_fault_behind ds (a ++ d ∷ []) else Some (length a)) ≡ None
+          → (order_fault_behind ds (a ++ d ∷ []) ≡ None → order_fault_behind ds (b ++ d ∷ []) ≡ None) → order_fault_behind (d ∷ ds) b ≡ None
+      by true is h more =
+          ap (λ (t : Bool). if t then order_fault_behind ds (b ++ d ∷ []) else Some (length b)) (ap (names_known d.body) (sym (fun_ext same)) ∙ is) ∙ more h
+      by false is h more = cc
 
 -- ---- two fillings
 

@@ -53,43 +53,40 @@ module _ (ds es : List Define) (alike : (n : List ℕ) → definition ds n ≡ d
     rest_same : (c : CertTree) (k : Known) (p q : AssertionTree) → rest c ds k p q ≡ rest c es k p q
     rest_same same k p q = refl
     rest_same (via r c d) k p q =
-        λ i. option_or (certificates.part 0 (part_same c k p r i)) (certificates.part 1 (part_same d k r q i))
+        λ i. option_or (certificates.part 0 (begun_same c (outlined k) p r _ _ (rest_same c k p r) i)) (certificates.part 1 (begun_same d (outlined k) r q _ _ (rest_same d k r q) i))
     rest_same (pick i c) k p q =
-        node_same rules.Pick (bind (members_of p) (λ members. member_at members i)) _ _ (λ a. ap (certificates.part 0) (part_same c k a q))
+        node_same rules.Pick (bind (members_of p) (λ members. member_at members i)) _ _ (λ a. ap (certificates.part 0) (begun_same c (outlined k) a q _ _ (rest_same c k a q)))
     rest_same (all cs) k p q = node_same rules.All (members_of q) _ _ (λ members. all_same cs 0 k p members)
     rest_same (parts cs) k p q =
         node_same rules.Parts (summands_of p) _ _ (λ left. node_same rules.Parts (summands_of q) _ _ (λ right. parts_same cs 0 k left right))
     rest_same (assume c) k p q =
-        node_same rules.Assume (guarded_of p) _ _ (λ g. node_same rules.Assume (push g.condition k) _ _ (λ k'. ap (certificates.part 0) (part_same c k' g.body q)))
+        node_same rules.Assume (guarded_of p) _ _ (λ g. node_same rules.Assume (push g.condition k) _ _ (λ k'. ap (certificates.part 0) (begun_same c (outlined k') g.body q _ _ (rest_same c k' g.body q))))
     rest_same (drop c d) k p q =
         node_same rules.DropGuard (guarded_of q) _ _ (λ g. node_same rules.DropGuard (push (trees.not g.condition) k) _ _ (λ k'.
-        λ i. option_or (certificates.part 0 (part_same c k' (natural 0) infinity i)) (certificates.part 1 (part_same d k p g.body i))))
+        λ i. option_or (certificates.part 0 (begun_same c (outlined k') (natural 0) infinity _ _ (rest_same c k' (natural 0) infinity) i)) (certificates.part 1 (begun_same d (outlined k) p g.body _ _ (rest_same d k p g.body) i))))
     rest_same (split b c d) k p q =
         node_same rules.Split (push b k) _ _ (λ k'. node_same rules.Split (push (trees.not b) k) _ _ (λ k''.
-        λ i. option_or (certificates.part 0 (part_same c k' (branch b true p) (branch b true q) i)) (certificates.part 1 (part_same d k'' (branch b false p) (branch b false q) i))))
+        λ i. option_or (certificates.part 0 (begun_same c (outlined k') (branch b true p) (branch b true q) _ _ (rest_same c k' (branch b true p) (branch b true q)) i)) (certificates.part 1 (begun_same d (outlined k'') (branch b false p) (branch b false q) _ _ (rest_same d k'' (branch b false p) (branch b false q)) i))))
     rest_same (contradict w) k p q = refl
     rest_same (arithmetic w) k p q = refl
     rest_same (by_definition n c) k p q =
-        node_same rules.ByDefinition (definition ds n) _ _ (λ body. ap (certificates.part 0) (part_same c k (unfolded n body p) (unfolded n body q)))
+        node_same rules.ByDefinition (definition ds n) _ _ (λ body. ap (certificates.part 0) (begun_same c (outlined k) (unfolded n body p) (unfolded n body q) _ _ (rest_same c k (unfolded n body p) (unfolded n body q))))
         ∙ ap (λ (x : Result AssertionTree Failure). node rules.ByDefinition x (λ body. certificates.part 0 (begun c es (outlined k) (unfolded n body p) (unfolded n body q) (rest c es k (unfolded n body p) (unfolded n body q))))) (alike n)
     rest_same (fact f c) k p q =
-        node_same rules.Fact (added f k) _ _ (λ ps. ap (certificates.part 0) (part_same c (with_polynomials ps k) p q))
-
-    part_same : (c : CertTree) (k : Known) (p q : AssertionTree) → begun c ds (outlined k) p q (rest c ds k p q) ≡ begun c es (outlined k) p q (rest c es k p q)
-    part_same c k p q = begun_same c (outlined k) p q (rest c ds k p q) (rest c es k p q) (rest_same c k p q)
+        node_same rules.Fact (added f k) _ _ (λ ps. ap (certificates.part 0) (begun_same c (outlined (with_polynomials ps k)) p q _ _ (rest_same c (with_polynomials ps k) p q)))
 
     all_same : (cs : CertTrees) (i : ℕ) (k : Known) (p : AssertionTree) (members : AssertionTrees) → faults_all cs i ds k p members ≡ faults_all cs i es k p members
     all_same no_certs i k p members = refl
     all_same (cert_and c cs) i k p no_assertions = refl
     all_same (cert_and c cs) i k p (assertion_and q others) =
-        λ j. option_or (certificates.part i (part_same c k p q j)) (all_same cs (suc i) k p others j)
+        λ j. option_or (certificates.part i (begun_same c (outlined k) p q _ _ (rest_same c k p q) j)) (all_same cs (suc i) k p others j)
 
     parts_same : (cs : CertTrees) (i : ℕ) (k : Known) (left right : AssertionTrees) → faults_parts cs i ds k left right ≡ faults_parts cs i es k left right
     parts_same no_certs i k left right = refl
     parts_same (cert_and c cs) i k no_assertions right = refl
     parts_same (cert_and c cs) i k (assertion_and p ps) no_assertions = refl
     parts_same (cert_and c cs) i k (assertion_and p ps) (assertion_and q qs) =
-        λ j. option_or (certificates.part i (part_same c k p q j)) (parts_same cs (suc i) k ps qs j)
+        λ j. option_or (certificates.part i (begun_same c (outlined k) p q _ _ (rest_same c k p q) j)) (parts_same cs (suc i) k ps qs j)
 
   pub verdict_same : (hypotheses : List CondTree) (p q : AssertionTree) (c : CertTree) → verdict hypotheses ds p q c ≡ verdict hypotheses es p q c
   verdict_same hypotheses p q c =
@@ -125,8 +122,8 @@ module _ (ds es : List Define) (alike : (n : List ℕ) → definition ds n ≡ d
     mutual
       pub pre_same : (d : DerivationTree) (s : CoreStmtTree) (q : Posts) → pre d before s q ≡ pre d after s q
       pre_same leaf s q = refl
-      pre_same (sequence parts) s q =
-          ap (of_sequence s) (fun_ext (λ (ss : CoreStmts). ap (λ (x : Answer). require (count_derivations parts == count_stmts ss) (shape []) x) (sequence_same parts 0 ss q)))
+      pre_same (sequence inner) s q =
+          ap (of_sequence s) (fun_ext (λ (ss : CoreStmts). ap (λ (x : Answer). require (count_derivations inner == count_stmts ss) (shape []) x) (sequence_same inner 0 ss q)))
       pre_same (conditional d e) s q =
           ap (of_branch s) (fun_ext (λ condition. fun_ext (λ t. fun_ext (λ v. λ i.
           bind (part 0 (pre_same d t q i)) (λ a. bind (part 1 (pre_same e v q i)) (λ b. given_as (either (expression_condition condition) a b)))))))
@@ -140,9 +137,9 @@ module _ (ds es : List Define) (alike : (n : List ℕ) → definition ds n ≡ d
       pre_same (consequence r w d) s q =
           λ i. require (not (is_consequence d)) (shape []) (unless (first_other f (in_body f) r) (bind (pre_same d s q i) (λ p. certified_same w r p r i)))
 
-      sequence_same : (parts : DerivationTrees) (i : ℕ) (ss : CoreStmts) (q : Posts) → sequence_pre parts i before ss q ≡ sequence_pre parts i after ss q
+      sequence_same : (inner : DerivationTrees) (i : ℕ) (ss : CoreStmts) (q : Posts) → sequence_pre inner i before ss q ≡ sequence_pre inner i after ss q
       sequence_same no_derivations i no_stmts q = refl
       sequence_same no_derivations i (stmt_and s ss) q = refl
-      sequence_same (derivation_and d parts) i no_stmts q = refl
-      sequence_same (derivation_and d parts) i (stmt_and s ss) q =
-          λ j. bind (sequence_same parts (suc i) ss q j) (λ n. part i (pre_same d s (with_next q n) j))
+      sequence_same (derivation_and d inner) i no_stmts q = refl
+      sequence_same (derivation_and d inner) i (stmt_and s ss) q =
+          λ j. bind (sequence_same inner (suc i) ss q j) (λ n. part i (pre_same d s (with_next q n) j))

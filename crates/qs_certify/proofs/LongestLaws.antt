@@ -1,7 +1,7 @@
 -- Without a file main's bound is the longest path, and no part of it is wide.
-use Rattle.std.proofs.Common.{◌≡◌, ℕ, zero, suc, ◌+◌, ◌*◌, ◌<◌, ◌≤◌, ◌^◌, ◌==◌, ◌||◌, ◌&&◌, max, Bool, true, false, if◌then◌else◌, ℤ, List, [], ◌∷◌, ◌++◌, map, length, Option, Some, None, ⊎_elim, refl, sym, ap, ◌∙◌, subst, arith}
-use Rattle.std.specs.Prelude.{All, leb}
-use Rattle.std.specs.List.{slice_get, list_any, AllByRecursion, IsDistinct}
+use Rattle.std.proofs.Common.{◌≡◌, ℕ, suc, ◌+◌, ◌*◌, ◌<◌, ◌≤◌, ◌^◌, ◌==◌, ◌||◌, ◌&&◌, max, Bool, true, false, if◌then◌else◌, ℤ, List, [], ◌∷◌, map, length, Option, Some, None, ⊎_elim, refl, sym, ap, ◌∙◌, subst, arith}
+use Rattle.std.specs.Prelude.{All}
+use Rattle.std.specs.List.{list_any, AllByRecursion, IsDistinct}
 use Rattle.std.proofs.lemmas.Bool.{both_ways, false_from_ne_true, or_right, or_left, lt-leb, eqb-true, eq-eqb, cases_eq, cases_lt}
 use Rattle.std.proofs.lemmas.List.{append-nil, get_or_past}
 use Rattle.std.proofs.lemmas.List.Elements.{All-get_or}
@@ -10,11 +10,10 @@ use Rattle.std.proofs.lemmas.Option.{slice_get_within}
 use Rattle.qs_events.specs.Weights.{Costs}
 use Rattle.qs_assert.specs.Bounds.{Setting, is_wide_value, wide, some_wide, same_name, is_defined, with_definition, with_definitions, at_entry as setting_at, amount_of, argument, bound_at}
 use Rattle.qs_assert.specs.declared.define.Define.{Define}
-use Rattle.qs_assert.specs.declared.define.Amount.{Amount}
 use Rattle.qs_assert.specs.declared.define.Amount.TheVariants.{Finite, Wide}
 use Rattle.qs_assert.specs.declared.variable.Var.{Var}
-use Rattle.qs_assert.specs.Trees.{AssertionTree, cost, named, total, assertions_of, assertion_and, no_assertions}
-use Rattle.qs_assert.specs.Values.{State, Extended, finite, infinite, or_infinite, plus, greater, value}
+use Rattle.qs_assert.specs.Trees.{AssertionTree, assertions_of}
+use Rattle.qs_assert.specs.Values.{State, Extended, finite, or_infinite, plus, greater, value}
 use Rattle.qs_core.specs.CallGraph.{called_by, IsOpen}
 use Rattle.qs_core.specs.Fits.{unit_fits}
 use Rattle.qs_core.specs.Trees.{CoreUnitTree}
@@ -47,9 +46,10 @@ not_again u earlier (g ∷ fs) f c m =
 
 none_same : (f : ℕ) (fs : List ℕ) → is_member f fs ≡ false → AllByRecursion (λ g. (f == g) ≡ false) fs
 none_same f [] m = tt
-none_same f (g ∷ fs) m =
-    (false_from_ne_true (f == g) (λ e. both_ways (is_member f (g ∷ fs)) m (or_left (g == f) (is_member f fs) (eq-eqb g f (sym (eqb-true f g e))))),
-    none_same f fs (false_from_ne_true (is_member f fs) (λ k. both_ways (is_member f (g ∷ fs)) m (or_right (g == f) (is_member f fs) k))))
+none_same f (g ∷ fs) m = (
+  false_from_ne_true (f == g) (λ e. both_ways (is_member f (g ∷ fs)) m (or_left (g == f) (is_member f fs) (eq-eqb g f (sym (eqb-true f g e))))),
+  none_same f fs (false_from_ne_true (is_member f fs) (λ k. both_ways (is_member f (g ∷ fs)) m (or_right (g == f) (is_member f fs) k))),
+)
 
 distinct : (u : CoreUnitTree) (earlier fs : List ℕ) → CalleesFirst u earlier fs → IsDistinct ◌==◌ fs
 unfolding IsDistinct

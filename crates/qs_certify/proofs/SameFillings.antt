@@ -1,7 +1,7 @@
 -- One filling of given proofs is as good as another: they differ in the order of definitions and of entries alone.
-use Rattle.std.proofs.Common.{arith, ◌≡◌, ℕ, ◌<◌, ◌≤◌, ◌==◌, ◌||◌, Bool, true, false, cond, if◌then◌else◌, List, [], ◌∷◌, ◌++◌, map, filter, length, Option, Some, None, ⊎_elim, inl, inr, refl, sym, ap, ◌∙◌, subst}
-use Rattle.std.specs.Prelude.{◌⊎◌, Ok, option_map, is_some}
-use Rattle.std.specs.List.{slice_get, find, list_any}
+use Rattle.std.proofs.Common.{arith, ◌≡◌, ℕ, ◌<◌, ◌≤◌, ◌==◌, ◌||◌, Bool, true, false, cond, if◌then◌else◌, List, [], ◌∷◌, ◌++◌, map, filter, length, Option, Some, None, ⊎_elim, refl, sym, ap, ◌∙◌, subst}
+use Rattle.std.specs.Prelude.{Ok, option_map}
+use Rattle.std.specs.List.{slice_get, find}
 use Rattle.std.specs.Option.{option_or}
 use Rattle.std.proofs.Math.Path.{fun_ext}
 use Rattle.std.proofs.lemmas.Bool.{both_ways, false_from_ne_true, or_left, or_right, or_parts, cases_Bool, cases_lt, eqb-true}
@@ -14,22 +14,19 @@ use Rattle.qs_assert.specs.Images.{assertion_image}
 use Rattle.qs_assert.specs.Order.{names_known, is_among, order_fault_behind, IsInOrder}
 use Rattle.qs_assert.specs.Trees.{AssertionTree, infinity}
 use Rattle.qs_assert.proofs.Same.{name_equal}
-use Rattle.qs_core.specs.CallGraph.{called_by, IsOpen}
+use Rattle.qs_core.specs.CallGraph.{called_by}
 use Rattle.qs_core.specs.Fits.{unit_fits}
 use Rattle.qs_core.specs.Trees as core
 use Rattle.qs_core.specs.Trees.{CoreFunctionTree, CoreUnitTree}
 use Rattle.qs_entail.specs.Faults.{definition}
-use Rattle.qs_entail.specs.Verdicts.{verdict}
 use Rattle.qs_triples.specs.Derivations.{EntryTree, ProofsTree, SpecTree, is_entry_of, entry_of, spec_of}
-use Rattle.qs_triples.specs.Entries.{mentions_fault, order_told, entry_told, result_at_end, function_posts, scope_of, fault_in, fault_of_known, entry_fault, has_entry, IsDerived}
-use Rattle.qs_triples.specs.Filled.{function_name, open_definition, pre_in, pre_of, path_pre, for_calls, HasBoth, Filled}
-use Rattle.qs_triples.specs.Filled as filled
+use Rattle.qs_triples.specs.Entries.{mentions_fault, order_told, entry_told, result_at_end, function_posts, scope_of, fault_in, fault_of_known, has_entry}
+use Rattle.qs_triples.specs.Filled.{function_name, open_definition, pre_in, pre_of, path_pre, HasBoth, Filled}
 use Rattle.qs_triples.specs.Mentions.{in_pre, in_post, first_other, as_plain}
-use Rattle.qs_triples.specs.Rules.{Answer, DerivationFault, in_precondition, in_postcondition, pre}
+use Rattle.qs_triples.specs.Rules.{DerivationFault, in_precondition, in_postcondition, pre}
 use Rattle.qs_callgraph.specs.CallLists.{is_member, numbers}
 use Rattle.qs_callgraph.specs.Orders.{CalleesFirst}
 use Rattle.qs_callgraph.proofs.MemberLaws.{member_first, first_cases, none_passes}
-use Rattle.qs_callgraph.proofs.UnitCalls.{call_within}
 use Rattle.qs_analyse.specs.Laws.{GivenAreDerived}
 use Rattle.qs_analyse.proofs.AddedLaws.{same_pre}
 use Rattle.qs_analyse.proofs.NameLaws.{one_name}

@@ -1,5 +1,5 @@
 -- What is told of certificates and derivations goes by what each name is defined as, and not by the order of definitions.
-use Rattle.std.proofs.Common.{◌≡◌, ℕ, suc, ◌==◌, not, Bool, true, false, if◌then◌else◌, List, [], Option, Some, None, option_map, refl, ap, ◌∙◌}
+use Rattle.std.proofs.Common.{◌≡◌, ℕ, suc, ◌==◌, not, true, false, if◌then◌else◌, List, [], Option, Some, option_map, refl, ap, ◌∙◌}
 use Rattle.std.specs.Prelude.{Result, Ok}
 use Rattle.std.specs.List.{slice_get}
 use Rattle.std.specs.Option.{option_or}
@@ -18,7 +18,6 @@ use Rattle.qs_entail.specs.Faults as certificates
 use Rattle.qs_entail.specs.Faults.{Fault, step, node, members_of, member_at, summands_of, guarded_of, definition, branch, unfolded}
 use Rattle.qs_entail.specs.Pushing.{Known, with_polynomials, at_first, push, push_list}
 use Rattle.qs_entail.specs.Verdicts.{Outline, outlined, outlined_first, outline_list, is_given, stands, rule_of, begun, rest, faults_all, faults_parts, verdict}
-use Rattle.qs_core.specs.Trees as core
 use Rattle.qs_core.specs.Trees.{CoreStmtTree, CoreStmts, no_stmts, stmt_and, CoreFunctionTree}
 use Rattle.qs_triples.specs.Derivations.{DerivationTree, leaf, sequence, conditional, loop, call, balanced_call, consequence, DerivationTrees, no_derivations, derivation_and, count_derivations, SpecTree}
 use Rattle.qs_triples.specs.ExpressionTerms.{expression_condition}

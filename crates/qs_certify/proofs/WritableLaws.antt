@@ -1,5 +1,5 @@
 -- What is certified without a file can be written.
-use Rattle.std.proofs.Common.{◌≡◌, ℕ, ◌+◌, ◌<◌, ◌≤◌, ◌^◌, ◌==◌, ◌&&◌, ◌||◌, Bool, true, false, cond, if◌then◌else◌, List, [], ◌∷◌, ◌++◌, map, filter, length, Some, None, ⊎_elim, refl, sym, ap, ◌∙◌, subst, arith}
+use Rattle.std.proofs.Common.{◌≡◌, ℕ, ◌+◌, ◌<◌, ◌≤◌, ◌^◌, ◌==◌, ◌&&◌, ◌||◌, Bool, true, false, cond, if◌then◌else◌, List, [], ◌∷◌, ◌++◌, map, filter, length, ⊎_elim, refl, sym, ap, ◌∙◌, subst, arith}
 use Rattle.std.specs.Prelude.{bytes_eq, nat_le, not}
 use Rattle.std.specs.List.{list_any, list_all}
 use Rattle.std.proofs.lemmas.Bool.{and_parts, and_from, or_left, or_right, both_ways, false_from_ne_true, eq-eqb, cases_eq}
@@ -9,7 +9,7 @@ use Rattle.qs_assert.specs.declared.define.Define.{Define}
 use Rattle.qs_assert.specs.Trees.{AssertionTree, named, assertions_of, assertion_list}
 use Rattle.qs_calls.specs.declared.callee.Callee.{Callee}
 use Rattle.qs_calls.specs.declared.callee.Callee.TheVariants.{Function, PutChar, GetChar}
-use Rattle.qs_core.specs.CallGraph.{called_by, IsOpen, no_call}
+use Rattle.qs_core.specs.CallGraph.{called_by, no_call}
 use Rattle.qs_core.specs.Fits.{differ, unit_fits}
 use Rattle.qs_core.specs.Trees.{CoreStmtTree, skip, seq, assign, store, copy, fill, call, branch, loop, break, continue, return, CoreStmts, no_stmts, stmt_and, CoreFunctionTree, CoreUnitTree}
 use Rattle.qs_nesting.specs.Nesting.{unit_nesting}
@@ -24,7 +24,7 @@ use Rattle.qs_prooftext.specs.Proofs.{no_proofs, is_among, is_defined, is_open_n
 use Rattle.qs_prooftext.specs.Settings.{Setting, functions_of, in_definition, in_entry, numbered}
 use Rattle.qs_prooftext.specs.Writable.{is_function, definition_stands, definitions_stand, certificate_stands, derivation_stands, derivations_stand, entry_stands, entry_stands_in, IsWritable}
 use Rattle.qs_analyse.specs.Additions.{IsFilling}
-use Rattle.qs_analyse.specs.Fillable.{body_of, open_entry, path_entry, entries_only, entry_for, with_entries}
+use Rattle.qs_analyse.specs.Fillable.{body_of, open_entry, path_entry, entries_only, with_entries}
 use Rattle.qs_analyse.specs.Written.{pick_certificate, written_call, written, all_written}
 use Rattle.qs_analyse.proofs.AddedLaws.{found}
 use Rattle.qs_analyse.proofs.NameLaws.{same_self, one_name}

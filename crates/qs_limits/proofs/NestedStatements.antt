@@ -11,14 +11,13 @@ use Rattle.qs_meaning.specs.Typed.{Stmt, evaluate, block, branch, while_loop, do
 use Rattle.qs_elaborate.specs.Literals.{is_literal, converted_core}
 use Rattle.qs_elaborate.specs.Acting.{acts, arguments_act}
 use Rattle.qs_elaborate.specs.Parts.{Temporaries, with_temporary, next_number, keep, Valued, in_temporary, saved, saved_if, Location, plain, pointed, Located, with_saved_address, address_saved_if, value_at, value_read, written, one_statement}
-use Rattle.qs_elaborate.specs.Expressions.{updated_core, step_amount, branch_with, truth_core, truth_literal, choice_branching, Written, write_at, expression_core, lvalue_core, arguments_core, assignment_core, effect_core}
-use Rattle.qs_elaborate.specs.Expressions as expressions
+use Rattle.qs_elaborate.specs.Expressions.{updated_core, step_amount, branch_with, truth_core, truth_literal, write_at, expression_core, lvalue_core, arguments_core, assignment_core, effect_core}
 use Rattle.qs_elaborate.specs.Statements.{tested, guarded, looped, statement_core, statements_core}
 use Rattle.qs_elaborate.specs.Names.{FunctionNames}
 use Rattle.qs_elaborate.specs.Units.{end_of_body, body_core, function_core, no_names, functions_core}
 use Rattle.qs_meaning.specs.Typed.{unchanged}
 use Rattle.qs_limits.proofs.SourceHeights.{highest}
-use Rattle.qs_limits.proofs.TypedHeights.{height, lvalue_height, arguments_height, assignment_height, effect_height, condition_height, statement_height, statements_height}
+use Rattle.qs_limits.proofs.TypedHeights.{height, lvalue_height, arguments_height, assignment_height, effect_height, statement_height, statements_height}
 use Rattle.qs_limits.proofs.UnitHeights.{body_height}
 
 -- ---- parts
@@ -114,8 +113,15 @@ mutual
       let h = expression_nests a ts in
       let i = expression_nests b first.temporaries in
       either_nests (acts b || acts c) _ _ (2 * (1 + max (height a) (max (height b) (height c))))
-      (omega (arith, h, i, expression_nests c (with_temporary met.temporaries s), branch_nests met.statements k (converted_core second met.value), branch_nests unmet.statements k (converted_core third unmet.value),
-      test_nests first (branch_with met.statements k (converted_core second met.value)) (branch_with unmet.statements k (converted_core third unmet.value))))
+      (omega (
+        arith,
+        h,
+        i,
+        expression_nests c (with_temporary met.temporaries s),
+        branch_nests met.statements k (converted_core second met.value),
+        branch_nests unmet.statements k (converted_core third unmet.value),
+        test_nests first (branch_with met.statements k (converted_core second met.value)) (branch_with unmet.statements k (converted_core third unmet.value)),
+      ))
       (omega (arith, h, i, expression_nests c met.temporaries, joined_nest met.statements other.statements, joined_nest first.statements (met.statements ++ other.statements)))
   expression_nests (assigned a) ts =
       let w = assignment_core a ts in write_nests w.scalar w.location w.statements w.value w.temporaries (2 * assignment_height a) (assignment_nests a ts)
@@ -158,8 +164,13 @@ mutual
   effect_nests (copy size alignment a b) ts =
       let to = saved_if (acts b) (expression_core a ts) in
       let from = expression_core b to.temporaries in
-      omega (arith, saved_if_nests (acts b) (expression_core a ts) (2 * height a) (expression_nests a ts), expression_nests b to.temporaries,
-      joined_nest to.statements from.statements, joined_nest (to.statements ++ from.statements) (core.copy size alignment to.value from.value ∷ []))
+      omega (
+        arith,
+        saved_if_nests (acts b) (expression_core a ts) (2 * height a) (expression_nests a ts),
+        expression_nests b to.temporaries,
+        joined_nest to.statements from.statements,
+        joined_nest (to.statements ++ from.statements) (core.copy size alignment to.value from.value ∷ []),
+      )
   effect_nests (fill blank a) ts =
       let at = expression_core a ts in omega (arith, expression_nests a ts, joined_nest at.statements (core.fill blank at.value ∷ []))
   effect_nests (in_order a b) ts =
@@ -182,8 +193,15 @@ mutual
       let c = expression_core e ts in
       let met = statement_core a c.temporaries in
       let unmet = statement_core b met.temporaries in
-      omega (arith, expression_nests e ts, statement_nests a c.temporaries, statement_nests b met.temporaries, one_nests met.statements, one_nests unmet.statements,
-      test_nests c (one_statement met.statements) (one_statement unmet.statements))
+      omega (
+        arith,
+        expression_nests e ts,
+        statement_nests a c.temporaries,
+        statement_nests b met.temporaries,
+        one_nests met.statements,
+        one_nests unmet.statements,
+        test_nests c (one_statement met.statements) (one_statement unmet.statements),
+      )
   statement_nests (while_loop e a) ts =
       let c = expression_core e ts in
       let body = statement_core a c.temporaries in
@@ -196,15 +214,29 @@ mutual
       let first = effect_core start ts in
       let body = statement_core a first.temporaries in
       let last = effect_core step body.temporaries in
-      omega (arith, effect_nests start ts, statement_nests a first.temporaries, effect_nests step body.temporaries, one_nests body.statements, one_nests last.statements,
-      joined_nest first.statements (looped body.statements last.statements ∷ []))
+      omega (
+        arith,
+        effect_nests start ts,
+        statement_nests a first.temporaries,
+        effect_nests step body.temporaries,
+        one_nests body.statements,
+        one_nests last.statements,
+        joined_nest first.statements (looped body.statements last.statements ∷ []),
+      )
   statement_nests (for_loop start (Some e) step a) ts =
       let first = effect_core start ts in
       let c = expression_core e first.temporaries in
       let body = statement_core a c.temporaries in
       let last = effect_core step body.temporaries in
-      omega (arith, effect_nests start ts, expression_nests e first.temporaries, statement_nests a c.temporaries, effect_nests step body.temporaries, guarded_nests c body.statements last.statements,
-      joined_nest first.statements (looped (guarded c body) last.statements ∷ []))
+      omega (
+        arith,
+        effect_nests start ts,
+        expression_nests e first.temporaries,
+        statement_nests a c.temporaries,
+        effect_nests step body.temporaries,
+        guarded_nests c body.statements last.statements,
+        joined_nest first.statements (looped (guarded c body) last.statements ∷ []),
+      )
   statement_nests break ts = omega arith
   statement_nests continue ts = omega arith
   statement_nests (return c e) ts =

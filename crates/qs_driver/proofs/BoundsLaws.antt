@@ -4,31 +4,36 @@ use Rattle.std.specs.Prelude.{slice_index_or}
 use Rattle.std.proofs.lemmas.Option.{same_Some}
 use Rattle.qs_base.specs.Words.{wrap}
 use Rattle.qs_syntax.specs.Trees.{UnitTree}
+use Rattle.qs_memory.specs.Memory.{Memory}
 use Rattle.qs_memory.specs.Values.{Value, integer}
+use Rattle.qs_events.specs.Runs.{Left}
 use Rattle.qs_events.specs.Weights.{Costs, run_weight}
+use Rattle.qs_events.proofs.RunLaws.{longer_runs_weigh_more}
 use Rattle.qs_calls.specs.World.{RootRun}
-use Rattle.qs_assert.specs.Values.{finite, plus}
+use Rattle.qs_assert.specs.Values.{Extended, finite, plus}
 use Rattle.qs_assert.specs.declared.define.Amount.{Amount}
 use Rattle.qs_assert.specs.declared.define.Amount.TheVariants.{Finite, Infinite, Wide}
 use Rattle.qs_entail.specs.Meaning.{AtLeast}
+use Rattle.qs_entail.proofs.Amounts.{at_least_through}
 use Rattle.qs_core.specs.Fits.{unit_fits}
 use Rattle.qs_core.specs.Trees.{CoreUnitTree}
 use Rattle.qs_core.specs.Units as core
 use Rattle.qs_elaborate.specs.Units.{core_of}
 use Rattle.qs_meaning.specs.Typed.{TypedProgram}
 use Rattle.qs_triples.specs.Valuations.{value_at_entry}
+use Rattle.qs_lower.proofs.LoweringLaws.{lowering_follows}
 use Rattle.qs_image.specs.Image.{Image, FunctionRecord}
-use Rattle.qs_machine.specs.Arguments.{first_misfit}
+use Rattle.qs_machine.specs.Arguments.{first_misfit, AreArguments}
 use Rattle.qs_emit.specs.Images.{AreCosts, no_record}
 use Rattle.qs_build.specs.Agrees.{values_of}
 use Rattle.qs_build.specs.Built.{IsBuiltFrom}
-use Rattle.qs_build.specs.Units.{linear}
+use Rattle.qs_build.specs.Units.{linear, start_of}
 use Rattle.qs_certify.specs.Bound as certify
-use Rattle.qs_certify.proofs.MainLaws.{main_bounds_runs, entry_bounds_runs}
-use Rattle.qs_compile.specs.Agree.{AgreesFrom}
+use Rattle.qs_certify.proofs.MainLaws.{BoundsMain, main_bounds_runs, entry_bounds_runs}
+use Rattle.qs_compile.specs.Agree.{AgreesFrom, IsInput}
 use Rattle.qs_compile.specs.Compiled.{IsCompiled, IsImageOfSource, SourceHasStack}
 use Rattle.qs_ports.specs.StoreView.{StoreView}
-use Rattle.qs_driver.specs.Bounds.{bound_by, bytes_by, costs_in, if_finite, main_runs, seen_runs, IsBounded, IsBoundedByMain, IsImageOf, WeighsWithin}
+use Rattle.qs_driver.specs.Bounds.{bound_by, bytes_by, costs_in, if_finite, linear_runs, main_runs, seen_runs, IsBounded, IsBoundedByMain, IsImageOf, WeighsWithin}
 use Rattle.qs_driver.specs.Certified.{CertifiedSource, CertifyWords, IsCertifiedAs, ReadsCertified}
 use Rattle.qs_driver.proofs.MainLaws.{arguments_are_mains, same_misfit}
 
@@ -59,6 +64,16 @@ agrees_from s image c w = record {
       c.does.agree cost args input size (records_are_costs image) stack;
 }
 
+-- ---- the linear code
+
+-- each of its runs weighs at most what the core's does within the same bound
+linear_weighs_no_more :
+    (u : CoreUnitTree) (cost : Costs) (args : List ℤ) (input : List ℕ) (m : ℕ) → unit_fits u ≡ true
+    → run_weight cost (linear_runs u args input m) ≤ run_weight cost (core.main_run u (values_of args) input m)
+linear_weighs_no_more u cost args input m fits =
+    longer_runs_weigh_more (Left Value Memory) cost (linear_runs u args input m) (core.main_run u (values_of args) input m)
+    ((lowering_follows u fits).back u.main (values_of args) (start_of u input) m)
+
 -- ---- from core to the source
 
 -- two ways to the same values
@@ -88,40 +103,67 @@ module _ (text : List ℕ) (file : Option (List ℕ)) (s : CertifiedSource) (c :
       ap (λ (u : CoreUnitTree). core.main_run u (values_of args) input n) (sym c.core_is)
       ∙ c.has_core.main_follows (values_of args) input n
 
-  -- main's entry bounds each run of the source, for every stack metric
+  abbrev entry_bounds : BoundsMain s.core s.proofs
+  entry_bounds = entry_bounds_runs s.core s.given s.proofs fits c.certified.covers
+
+  -- what main costs, and the value of its precondition at these values
+  abbrev needed : Costs → List Value → Extended
+  needed cost vs =
+      plus (finite (cost s.core.main)) (value_at_entry cost s.proofs.defines entry_bounds.main vs entry_bounds.entry.spec.pre)
+
+  core_is_bounded :
+      (cost : Costs) (args : List ℤ) (input : List ℕ) (n : ℕ) → certify.AreArguments s.core args → IsInput input
+      → AtLeast (needed cost (values_of args)) (finite (run_weight cost (core.main_run s.core (values_of args) input n)))
+  core_is_bounded cost args input n are is_input =
+      subst (λ (vs : List Value). AtLeast (needed cost vs) (finite (run_weight cost (core.main_run s.core vs input n))))
+      (same_values args) (entry_bounds.bounds cost args input n are is_input)
+
+  -- main's entry bounds each run of the source and of its linear code, for every stack metric
   sources_are_bounded : IsBoundedByMain s c.has_core.typed
-  sources_are_bounded =
-      let b = entry_bounds_runs s.core s.given s.proofs fits c.certified.covers in
-      record {
-        main = b.main;
-        is_main = b.is_main;
-        entry = b.entry;
-        stands = b.stands;
-        bounds = λ cost args input n are is_input.
-            subst (λ (r : RootRun). AtLeast (plus (finite (cost s.core.main)) (value_at_entry cost s.proofs.defines b.main (values_of args) b.entry.spec.pre)) (finite (run_weight cost r)))
-            (core_follows args input n)
-            (subst (λ (vs : List Value). AtLeast (plus (finite (cost s.core.main)) (value_at_entry cost s.proofs.defines b.main vs b.entry.spec.pre)) (finite (run_weight cost (core.main_run s.core vs input n))))
-            (same_values args) (b.bounds cost args input n are is_input));
-      }
+  sources_are_bounded = record {
+    main = entry_bounds.main;
+    is_main = entry_bounds.is_main;
+    entry = entry_bounds.entry;
+    stands = entry_bounds.stands;
+    bounds = λ cost args input n are is_input.
+        subst (λ (r : RootRun). AtLeast (needed cost (values_of args)) (finite (run_weight cost r)))
+        (core_follows args input n) (core_is_bounded cost args input n are is_input);
+    bounds_linear = λ cost args input m are is_input.
+        at_least_through (needed cost (values_of args)) (finite (run_weight cost (core.main_run s.core (values_of args) input m)))
+        (finite (run_weight cost (linear_runs s.core args input m)))
+        (core_is_bounded cost args input m are is_input) (linear_weighs_no_more s.core cost args input m fits);
+  }
 
   module _ (image : Image) (i : IsCompiled s.unit image) where
     same_program : c.has_core.typed ≡ i.program
     same_program = same_Some c.has_core.typed i.program (sym c.has_core.tree ∙ i.tree)
 
-    main_follows : (args : List ℤ) (input : List ℕ) (n : ℕ) → core.main_run s.core (certify.values_of args) input n ≡ main_runs i.program args input n
-    main_follows args input n =
-        ap (λ (vs : List Value). core.main_run s.core vs input n) (same_values args)
-        ∙ core_follows args input n
-        ∙ ap (λ (p : TypedProgram). main_runs p args input n) same_program
+    program_follows : (args : List ℤ) (input : List ℕ) (n : ℕ) → core.main_run s.core (values_of args) input n ≡ main_runs i.program args input n
+    program_follows args input n = core_follows args input n ∙ ap (λ (p : TypedProgram). main_runs p args input n) same_program
+
+    abbrev record_costs : Costs
+    record_costs = certify.costs_of (costs_in image)
+
+    core_weighs :
+        (args : List ℤ) (input : List ℕ) (bytes n : ℕ) → AreArguments image args → IsInput input
+        → bytes_by s image args ≡ Some bytes
+        → run_weight record_costs (core.main_run s.core (values_of args) input n) ≤ bytes
+    core_weighs args input bytes n arguments is_input bound_is =
+        let mains_are = (arguments_are_mains s.core image args fits (built_from s.unit s.core image core_is i)).0 arguments in
+        let is_bound = finite_is (bound_by s (costs_in image) args) bytes bound_is in
+        subst (λ (vs : List Value). run_weight record_costs (core.main_run s.core vs input n) ≤ bytes) (same_values args)
+        (main_bounds_runs s.core s.given s.proofs (costs_in image) args bytes fits c.certified.covers mains_are is_bound input n is_input)
 
     -- so do the costs of the records, with the bound as it is computed
     weighs_within : WeighsWithin s i.program image
     weighs_within = record {
       weighs = λ args input bytes n arguments is_input bound_is.
-          let mains_are = (arguments_are_mains s.core image args fits (built_from s.unit s.core image core_is i)).0 arguments in
-          let is_bound = finite_is (bound_by s (costs_in image) args) bytes bound_is in
-          subst (λ (r : RootRun). run_weight (certify.costs_of (costs_in image)) r ≤ bytes) (main_follows args input n)
-          (main_bounds_runs s.core s.given s.proofs (costs_in image) args bytes fits c.certified.covers mains_are is_bound input n is_input);
+          subst (λ (r : RootRun). run_weight record_costs r ≤ bytes) (program_follows args input n)
+          (core_weighs args input bytes n arguments is_input bound_is);
+      linear_weighs = λ args input bytes m arguments is_input bound_is.
+          let less = linear_weighs_no_more s.core record_costs args input m fits in
+          let most = core_weighs args input bytes m arguments is_input bound_is in
+          omega (arith, less, most);
     }
 
     compiled_is_image : IsImageOf s image

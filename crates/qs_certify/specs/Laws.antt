@@ -11,14 +11,15 @@ use Rattle.qs_prooftext.specs.Reading.{Fault}
 use Rattle.qs_prooftext.specs.declared.fault.TextFault.{TextFault}
 use Rattle.qs_triples.specs.Derivations.{ProofsTree}
 use Rattle.qs_triples.specs.Entries.{has_entry, Covers, HasDerivedEntry}
+use Rattle.qs_triples.specs.declared.fault.DerivFault.{DerivFault}
 use Rattle.qs_analyse.specs.Fillable.{entry_functions}
 use Rattle.qs_analyse.specs.Laws.{GivenAreDerived, HasNoCycle}
 use Rattle.qs_certify.specs.Bound.{main_bound, costs_of, values_of, AreArguments}
 use Rattle.qs_certify.specs.Entries.{first_fault, IsEntryFault}
 use Rattle.qs_certify.specs.Given.{GivenIs}
-use Rattle.qs_certify.specs.Certification.{AreAll, IsCertified, HasNoOrder, CannotCertify, ToldOfFunctions, IsCycleFault}
+use Rattle.qs_certify.specs.Certification.{AreAll, IsCertified, HasNoOrder, IsNotDerived, CannotCertify, ToldOfFunctions, IsCycleFault}
 use Rattle.qs_certify.specs.declared.fault.CertifyFault.{CertifyFault}
-use Rattle.qs_certify.specs.declared.fault.CertifyFault.TheVariants.{NoMemory, Text, Order}
+use Rattle.qs_certify.specs.declared.fault.CertifyFault.TheVariants.{NoMemory, Text, Cycle, Order, Entry}
 
 -- ---- bounds
 
@@ -28,7 +29,7 @@ MainWeighsAtMost u costs arguments bound =
     (input : List ℕ) (n : ℕ) → All (λ byte. byte < 256) input
     → run_weight costs (main_run u (values_of arguments) input n) ≤ bound
 
--- Where the proofs cover the unit, main's bound bounds its runs, if it is a number.
+-- Where the proofs cover the unit, main's bound bounds its runs, if it is finite.
 abbrev pub MainBoundsRuns : Type 0
 MainBoundsRuns =
     (u : CoreUnitTree) (given proofs : ProofsTree) (costs : List ℕ) (arguments : List ℤ) (bound : ℕ)
@@ -61,9 +62,23 @@ OrderIsTold =
     (u : CoreUnitTree) (file : Option (List ℕ)) (given : ProofsTree) (name : List ℕ)
     → GivenIs u file given → HasNoOrder u given name → IsRefusedAs u file (λ told. told ≡ Order name)
 
--- where the definitions are in order and an entry of the file isn't derived, the first such is told, with its first fault
+-- the entry of this function is told
+abbrev pub IsEntryOf : (function : ℕ) → CertifyFault → Type 0
+IsEntryOf f NoMemory = ⊥
+IsEntryOf f (Text fault) = ⊥
+IsEntryOf f (Cycle fs) = ⊥
+IsEntryOf f (Order name) = ⊥
+IsEntryOf f (Entry g fault) = g.0 ≡ f
+
+-- where an entry of the file isn't derived, the first such is told
 abbrev pub EntriesAreTold : Type 0
 EntriesAreTold =
+    (u : CoreUnitTree) (file : Option (List ℕ)) (given : ProofsTree) (f : ℕ) (fault : DerivFault)
+    → GivenIs u file given → IsNotDerived u given f fault → IsRefusedAs u file (IsEntryOf f)
+
+-- and beside its function the first fault of its entry
+abbrev pub EntryFaultsAreTold : Type 0
+EntryFaultsAreTold =
     (u : CoreUnitTree) (file : Option (List ℕ)) (given proofs : ProofsTree) → GivenIs u file given → AreAll u given proofs
     → IsInOrder proofs.defines → first_fault u proofs (entry_functions given.functions) ≢ None
     → IsRefusedAs u file (IsEntryFault u proofs (entry_functions given.functions))

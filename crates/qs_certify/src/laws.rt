@@ -1,20 +1,21 @@
 // Laws of what is certified: functions that do nothing, for what their clauses say.
-ghost use Rattle.qs_certify.specs.Laws.{AllAreDerived, CertifiedIsRight, CyclesAreTold, EntriesAreTold, FaultsAreOfFunctions, MainBoundsRuns, OneCertified, OrderIsTold, RightProofsAreCertified, TextFaultsAreTold, UnitsWithoutRecursionAreCertified};
+ghost use Rattle.qs_certify.specs.Laws.{AllAreDerived, CertifiedIsRight, CyclesAreTold, EntriesAreTold, EntryFaultsAreTold, FaultsAreOfFunctions, MainBoundsRuns, OneCertified, OrderIsTold, RightProofsAreCertified, TextFaultsAreTold, UnitsWithoutRecursionAreCertified};
 
 /// Where the proofs cover the unit, main's bound bounds its runs: on each input, the weight of each run with these
-/// arguments is at most the bound, if that is a number.
+/// arguments is at most the bound, if that is finite.
 pub fn main_bounds_runs()
     ensures { MainBoundsRuns }
 {}
 
-/// A file whose text has a fault, a unit with a cycle of functions without an entry, definitions that aren't in order and
+/// A file whose text has a fault, a unit with a cycle of functions without an entry, definitions that have no order and
 /// an entry of the file that isn't derived are never certified, and the fault that is answered tells so, want of memory
-/// aside: of the entries the first that isn't derived, with its first fault.
+/// aside: of an entry its function and its first fault.
 pub fn faults_are_told()
     ensures texts { TextFaultsAreTold }
     ensures cycles { CyclesAreTold }
     ensures order { OrderIsTold }
     ensures entries { EntriesAreTold }
+    ensures entry_faults { EntryFaultsAreTold }
 {}
 
 /// What is told names functions of the unit. No fault of an entry is the want of a specification, which each function

@@ -153,7 +153,7 @@ module _ (w : CertifyWords) (v : StoreView) (s : CertifiedSource) (image : Image
   image_takes args = arguments_are_mains s.core image args source_fits source_built
 
   pub image_parameters : image.parameters ≡ length (parameters_of_main s.core)
-  image_parameters = parameters_are s.core image source_fits source_built
+  image_parameters = parameters_are s.core image [] source_fits source_built
 
   pub image_misfits : (args : List ℤ) (at : ℕ) → length args ≡ image.parameters → first_misfit image 0 args ≡ Some at → IsMisfit (parameters_of_main s.core) args at
   image_misfits args at count first = misfits s.core image args source_fits source_built at count first

@@ -19,7 +19,7 @@ use Rattle.qs_certify.specs.Entries.{EntryFault, first_fault, IsEntryFault}
 use Rattle.qs_certify.specs.Given.{HasTextFault}
 use Rattle.qs_certify.specs.declared.fault.CertifyFault.{CertifyFault}
 use Rattle.qs_certify.specs.declared.fault.CertifyFault.TheVariants as faults
-use Rattle.qs_certify.proofs.OneLaws.{order_is_told, entries_are_told}
+use Rattle.qs_certify.proofs.OneLaws.{order_is_told, entry_faults_are_told}
 use Rattle.qs_certify.proofs.RefusalLaws.{text_faults_are_told, cycles_are_told}
 use Rattle.qs_ports.specs.StoreView.{StoreView, Files}
 use Rattle.qs_driver.specs.Limits.{source_limit, proof_limit}
@@ -430,14 +430,14 @@ leads_entry c f status (wrong told b e) function place text h =
     let k = as_there c f (IsToldOf told) (LacksDerivation function place text) b h in
     let given = k.first.given in
     let all = k.first.so in
-    elim ((entries_are_told b.core b.file given all.proofs k.first.given_is all.all all.in_order (some_fault all)).only b.so.fault b.so.cause) [
+    elim ((entry_faults_are_told b.core b.file given all.proofs k.first.given_is all.all all.in_order (some_fault all)).only b.so.fault b.so.cause) [
       | inl none ↦ absurd (tells_none b.core b.file b.so.fault told none b.so.tells)
       | inr is ↦ subst (IsEntryStatus function place text) (sym e) (entry_told b.core b.file function place text k b.so.fault told is b.so.tells)
     ]
 leads_entry c f status (right b none) function place text h =
     let k = as_there c f IsCovered (LacksDerivation function place text) b h in
     let all = k.first.so in
-    absurd ((entries_are_told b.core b.file k.first.given all.proofs k.first.given_is all.all all.in_order (some_fault all)).not_certified b.so.given b.so.proofs b.so.certified)
+    absurd ((entry_faults_are_told b.core b.file k.first.given all.proofs k.first.given_is all.all all.in_order (some_fault all)).not_certified b.so.given b.so.proofs b.so.certified)
 
 -- ---- the clauses
 

@@ -132,10 +132,10 @@ module _ (c : CertifyWords) (f : Files) (s : CertifiedSource) (image : Image) (h
 -- ---- what was built
 
 module _ (source : List ℕ) (proof : Option (List ℕ)) (out : List ℕ) (before after : DevicesView) where
-  abbrev words : BuildWords
-  words = build_words source proof out
+  abbrev asked : BuildWords
+  asked = build_words source proof out
 
-  of_built : (due : Due) → HasBuilt words before.store after.store due → ArePut due.steps (streams_of before) (streams_of after) → HoldsItsImage source proof out before after
+  of_built : (due : Due) → HasBuilt asked before.store after.store due → ArePut due.steps (streams_of before) (streams_of after) → HoldsItsImage source proof out before after
   of_built due h put =
       let of = h.has_image.image_of in
       let lines : List ℕ = cost_lines h.image.functions in
@@ -149,25 +149,25 @@ module _ (source : List ℕ) (proof : Option (List ℕ)) (out : List ℕ) (befor
         written = h.stores.file;
         compiled = of.compiled;
         printed = put_on_out lines (streams_of before) (streams_of after) was;
-        bounds = λ told. bounds_are_its (meant.inputs words) before.store.files h.source h.image (source_held (meant.inputs words) before.store h.source told h.has_image.reads) of;
+        bounds = λ told. bounds_are_its (meant.inputs asked) before.store.files h.source h.image (source_held (meant.inputs asked) before.store h.source told h.has_image.reads) of;
         does = λ args input bound size are is_input bound_is within most.
-            of.agrees.agree args input bound size ((image_takes (meant.inputs words) before.store h.source h.image h.has_image.reads of.compiled args).1 are) is_input bound_is within most;
+            of.agrees.agree args input bound size ((image_takes (meant.inputs asked) before.store h.source h.image h.has_image.reads of.compiled args).1 are) is_input bound_is within most;
       }
 
-  due_built : (due : Due) → IsDueToBuild words before.store after.store due → due.status ≡ Done → ArePut due.steps (streams_of before) (streams_of after) → HoldsItsImage source proof out before after
+  due_built : (due : Due) → IsDueToBuild asked before.store after.store due → due.status ≡ Done → ArePut due.steps (streams_of before) (streams_of after) → HoldsItsImage source proof out before after
   due_built due (meant.built differ h) done put = of_built due h put
   due_built due (meant.named_twice twice u is) done put = absurd (let e = ap (λ (x : Due). x.status) is in cc)
   due_built due (meant.refused differ status c is) done put =
-      absurd (cannot_not_done words before.store after.store status c (sym (ap (λ (x : Due). x.status) is) ∙ done))
+      absurd (cannot_not_done asked before.store after.store status c (sym (ap (λ (x : Due). x.status) is) ∙ done))
 
   -- ---- what is accepted
 
-  plain_differ : proof ≡ None → source ≢ out → NamesDiffer words
+  plain_differ : proof ≡ None → source ≢ out → NamesDiffer asked
   plain_differ none differ (inl e) = differ e
   plain_differ none differ (inr e) = cc
 
   -- a source without recursion needs no proof file
-  plain_good : IsPlain source proof out before → IsGood words before.store
+  plain_good : IsPlain source proof out before → IsGood asked before.store
   plain_good p = record {
     differ = plain_differ p.no_proof p.differ;
     told = p.told;
@@ -179,11 +179,11 @@ module _ (source : List ℕ) (proof : Option (List ℕ)) (out : List ℕ) (befor
     };
   }
 
-  module _ (result : Status) (q : Promises (build words) before after result) where
+  module _ (result : Status) (q : Promises (build asked) before after result) where
     built : result ≡ Done → HoldsItsImage source proof out before after
-    built done = let a = was_put (build words) before after result done q.answers in due_built a.due a.is_due a.done a.put
+    built done = let a = was_put (build asked) before after result done q.answers in due_built a.due a.is_due a.done a.put
 
-    accepts_good : NoneFailed before after → IsGood words before.store → IsAccepted result
+    accepts_good : NoneFailed before after → IsGood asked before.store → IsAccepted result
     accepts_good none good = elim (q.accepts none) [
       | inl accepts ↦ inl (accepts good)
       | inr e ↦ inr e

@@ -188,6 +188,7 @@ certified_right c v s told r = record {
 
 -- what is so of those that were read is so of those that are there, and the other way round
 main_there : (m : MakeWords) (v : StoreView) (P : List Scalar → Type 0) → IsTrue v.told → ReadsMain m v P → HoldsMain m v.files P
+unfolding certified_right
 main_there m v P told h = record {
   right = certified_right m.inputs v h.source told h.reads;
   core = h.source.core;

@@ -21,7 +21,7 @@ use Rattle.qs_driver.proofs.CertifiedRefusals.{proof_held, one_file}
 
 -- ---- of one text and one file
 
-source_of : UnitTree → CoreUnitTree → (given proofs : ProofsTree) → CertifiedSource
+abbrev source_of : UnitTree → CoreUnitTree → (given proofs : ProofsTree) → CertifiedSource
 source_of unit core given proofs = record { unit = unit; core = core; given = given; proofs = proofs }
 
 same_source : (s t : CertifiedSource) → s.unit ≡ t.unit → s.core ≡ t.core → s.given ≡ t.given → s.proofs ≡ t.proofs → s ≡ t

@@ -36,7 +36,8 @@ pub record PrintsBound (s : CertifiedSource) (image : Image) (args : List ℤ) (
   -- the lines that `build` printed, and then the bound by these costs
   pub printed :
       IsTrue after.out.told
-      → after.out.written ≡ before.out.written ++ cost_lines image.functions ++ bound_line (shown_of (bound_by s (costs_in image) args))
+      → after.out.written
+        ≡ before.out.written ++ (cost_lines image.functions ++ bound_line (shown_of (bound_by s (costs_in image) args)))
 
 -- each such call does
 abbrev pub BoundsAreIts : CertifyWords → Files → CertifiedSource → Image → Type 0

@@ -411,8 +411,7 @@ entry_told u file function place text l (faults.Entry g found) told is (spot, fo
     let fault_is : l.fault ≡ is.fault = ap (λ (x : EntryFault). x.fault) one in
     let by = told_by u g.0 found is.fault spot found_text is.is_told so in
     let name : function ≡ function_name u g.0 = l.named ∙ ap (function_name u) function_is in
-    let text_is : found_text ≡ text = by.wrong ∙ ap (λ (x : EntryFault). fault_text u x.function x.fault) (sym one) ∙ sym l.wrong_is in
-    (
+    let text_is : found_text ≡ text = by.wrong ∙ ap (λ (x : EntryFault). fault_text u x.function x.fault) (sym one) ∙ sym l.wrong_is in (
       spot,
       by.place ∙ ap fault_place (sym fault_is) ∙ sym l.place_is,
       ap Proof (e ∙ ap (λ (n : List ℕ). Entry n spot found_text) (sym name) ∙ ap (Entry function spot) text_is),

@@ -1,9 +1,16 @@
 -- What is promised of `build`, from what is promised of each call.
 use Rattle.std.proofs.Common.{◌≡◌, ◌≢◌, ◌⊎◌, ◌∙◌, ◌++◌, ℕ, ℤ, List, [], ◌∷◌, Option, None, IsTrue, refl, sym, ap, subst, inl, inr}
+use Rattle.std.proofs.lemmas.List.{append-nil}
 use Rattle.qs_assert.specs.declared.define.Amount.{Amount}
 use Rattle.qs_certify.specs.Bound.{AreArguments}
 use Rattle.qs_ports.specs.StoreView.{StoreView, Files}
+use Rattle.qs_events.specs.BoundedRun.{BoundedRun, Ended, Undefined, Short, trace_of}
+use Rattle.qs_events.specs.Events.{output_of}
 use Rattle.qs_image.specs.Image.{Image}
+use Rattle.qs_machine.specs.Arguments.{words_of}
+use Rattle.qs_machine.specs.Run.{Outcome, Exited, Trapped, Going, machine, output_so_far}
+use Rattle.qs_machine.specs.declared.answers.Cause.{Cause}
+use Rattle.qs_emit.specs.Agree.{Agree, Begins, IsUndefinedWithin}
 use Rattle.qs_report.specs.Lines.{bound_line}
 use Rattle.qs_driver.specs.Devices.{DevicesView, Streams, streams_of}
 use Rattle.qs_driver.specs.Steps.{on_out, ArePut}
@@ -14,7 +21,7 @@ use Rattle.qs_driver.specs.Files.{CannotRead}
 use Rattle.qs_driver.specs.Files as files
 use Rattle.qs_driver.specs.Source.{LacksSource}
 use Rattle.qs_driver.specs.Source as source
-use Rattle.qs_driver.specs.Bounds.{bound_by, costs_in, IsImageOf}
+use Rattle.qs_driver.specs.Bounds.{bound_by, costs_in, seen_runs, IsImageOf}
 use Rattle.qs_driver.specs.Certified.{CertifyWords, CertifiedSource, AreAsBefore, LacksCertified, HoldsRightProofs}
 use Rattle.qs_driver.specs.Certified as certified
 use Rattle.qs_driver.specs.Made.{MakeWords, CannotMake}
@@ -29,7 +36,7 @@ use Rattle.qs_driver.specs.commands.Bound as bound_meant
 use Rattle.qs_driver.specs.declared.status.FileKind.{FileKind}
 use Rattle.qs_driver.specs.declared.status.Status.{Status}
 use Rattle.qs_driver.specs.declared.status.Status.TheVariants.{Done, SinkFailed, NoMemory}
-use Rattle.qs_driver.specs.Headline.{PrintsBound, BoundsAreIts, HoldsItsImage, IsPlain, IsAccepted, BuildsAndAccepts, Headline}
+use Rattle.qs_driver.specs.Headline.{PrintsBound, BoundsAreIts, IsDefined, EndsSo, ExitsSo, RunsAsSource, FromItsBound, HoldsItsImage, IsPlain, IsAccepted, BuildsAndAccepts, Headline}
 use Rattle.qs_driver.proofs.BoundsLaws.{image_takes, same_lines}
 use Rattle.qs_driver.proofs.OneSource.{HoldsSource, source_held, one_held, held_before, images_of_one}
 
@@ -105,13 +112,13 @@ module _ (c : CertifyWords) (f : Files) (s : CertifiedSource) (image : Image) (h
       let one : made.source ≡ s = one_held c f made.source s there held in
       let like = images_of_one c f made.source s h.image image there held made.makes.image_of is in
       let bound_is : h.bound ≡ bound_by s (costs_in image) args =
-          made.is_bound
-          ∙ ap (λ (x : CertifiedSource). bound_by x (costs_in h.image) args) one
-          ∙ ap (λ (costs : List ℕ). bound_by s costs args) like.costs in
+      made.is_bound
+      ∙ ap (λ (x : CertifiedSource). bound_by x (costs_in h.image) args) one
+      ∙ ap (λ (costs : List ℕ). bound_by s costs args) like.costs in
       let text : List ℕ = cost_lines h.image.functions ++ bound_line (shown_of h.bound) in
       let text_is : text ≡ cost_lines image.functions ++ bound_line (shown_of (bound_by s (costs_in image) args)) =
-          ap (λ (lines : List ℕ). lines ++ bound_line (shown_of h.bound)) (same_lines like)
-          ∙ ap (λ (bound : Amount). cost_lines image.functions ++ bound_line (shown_of bound)) bound_is in
+      ap (λ (lines : List ℕ). lines ++ bound_line (shown_of h.bound)) (same_lines like)
+      ∙ ap (λ (bound : Amount). cost_lines image.functions ++ bound_line (shown_of bound)) bound_is in
       let was : ArePut (on_out text ∷ []) (streams_of v) (streams_of w) = subst (λ (d : Due). ArePut d.steps (streams_of v) (streams_of w)) h.is_due put in
       record {
         arguments = subst (λ (x : CertifiedSource). AreArguments x.core args) one made.arguments;
@@ -129,6 +136,52 @@ module _ (c : CertifyWords) (f : Files) (s : CertifiedSource) (image : Image) (h
       let a = was_put (bound (bound_words c.source c.proof args)) v w Done refl q.answers in
       due_bound args v w a.due told same a.is_due a.done a.put
 
+-- ---- while the source is defined
+
+module _ (runs : ℕ → BoundedRun) (outcomes : ℕ → Outcome) (agree : Agree runs outcomes) (defined : IsDefined runs) where
+  never_undefined : (n : ℕ) (output : List ℕ) → IsUndefinedWithin (runs n) output → ⊥
+  never_undefined n output u = defined n u.trace u.undefined
+
+  no_trap : (steps : ℕ) (cause : Cause) (pc : ℕ) (output : List ℕ) → outcomes steps ≡ Trapped cause pc output → ⊥
+  no_trap steps cause pc output is = never_undefined steps output (agree.traps_only steps cause pc output is)
+
+  exits_where_ended : (output : List ℕ) (status : ℕ) → EndsSo runs output status → ExitsSo outcomes output status
+  exits_where_ended output status (n, h) =
+      let (steps, exits) = agree.ends n h.trace status h.ended in
+      (steps, exits ∙ ap (λ (o : List ℕ). Exited o status) h.same_output)
+
+  ended_where_exits : (output : List ℕ) (status : ℕ) → ExitsSo outcomes output status → EndsSo runs output status
+  ended_where_exits output status (steps, exits) = elim (agree.exits_only steps output status exits) [
+    | inl ended ↦ (steps, ended)
+    | inr u ↦ absurd (never_undefined steps output u)
+  ]
+
+  as_far : (n : ℕ) (run : BoundedRun) → runs n ≡ run → (steps : ℕ) × Begins (output_so_far (outcomes steps)) (output_of (trace_of run))
+  as_far n (Ended trace status) is =
+      let (steps, exits) = agree.ends n trace status is in
+      (steps, [], ap output_so_far exits ∙ sym (append-nil (output_of trace)))
+  as_far n (Undefined trace) is = absurd (defined n trace is)
+  as_far n (Short trace) is = agree.goes_on n trace (inl is)
+
+  no_farther : (steps : ℕ) (outcome : Outcome) → outcomes steps ≡ outcome → Begins (output_of (trace_of (runs steps))) (output_so_far outcome)
+  no_farther steps (Exited output status) is = elim (agree.exits_only steps output status is) [
+    | inl ended ↦ ([], ap (λ (r : BoundedRun). output_of (trace_of r)) ended.ended ∙ ended.same_output ∙ sym (append-nil output))
+    | inr u ↦ absurd (never_undefined steps output u)
+  ]
+  no_farther steps (Trapped cause pc output) is = absurd (no_trap steps cause pc output is)
+  no_farther steps (Going output) is = elim (agree.goes_on_only steps output is) [
+    | inl begins ↦ begins
+    | inr u ↦ absurd (never_undefined steps output u)
+  ]
+
+  runs_as_source : RunsAsSource runs outcomes
+  runs_as_source = record {
+    never_traps = no_trap;
+    ends = λ output status. (exits_where_ended output status, ended_where_exits output status);
+    comes_as_far = λ n. as_far n (runs n) refl;
+    comes_no_farther = λ steps. no_farther steps (outcomes steps) refl;
+  }
+
 -- ---- what was built
 
 module _ (source : List ℕ) (proof : Option (List ℕ)) (out : List ℕ) (before after : DevicesView) where
@@ -139,6 +192,8 @@ module _ (source : List ℕ) (proof : Option (List ℕ)) (out : List ℕ) (befor
   of_built due h put =
       let of = h.has_image.image_of in
       let lines : List ℕ = cost_lines h.image.functions in
+      let agrees_from : FromItsBound h.source of.compiled.program h.image Agree = λ args input bound size are is_input bound_is within most.
+          of.agrees.agree args input bound size ((image_takes (meant.inputs asked) before.store h.source h.image h.has_image.reads of.compiled args).1 are) is_input bound_is within most in
       let was : ArePut (on_out lines ∷ []) (streams_of before) (streams_of after) = subst (λ (d : Due). ArePut d.steps (streams_of before) (streams_of after)) h.is_due put in
       record {
         certified = h.source;
@@ -150,8 +205,9 @@ module _ (source : List ℕ) (proof : Option (List ℕ)) (out : List ℕ) (befor
         compiled = of.compiled;
         printed = put_on_out lines (streams_of before) (streams_of after) was;
         bounds = λ told. bounds_are_its (meant.inputs asked) before.store.files h.source h.image (source_held (meant.inputs asked) before.store h.source told h.has_image.reads) of;
-        does = λ args input bound size are is_input bound_is within most.
-            of.agrees.agree args input bound size ((image_takes (meant.inputs asked) before.store h.source h.image h.has_image.reads of.compiled args).1 are) is_input bound_is within most;
+        agrees = agrees_from;
+        while_defined = λ args input bound size are is_input bound_is within most defined.
+            runs_as_source (seen_runs of.compiled.program args input) (machine h.image size (words_of args) input) (agrees_from args input bound size are is_input bound_is within most) defined;
       }
 
   due_built : (due : Due) → IsDueToBuild asked before.store after.store due → due.status ≡ Done → ArePut due.steps (streams_of before) (streams_of after) → HoldsItsImage source proof out before after

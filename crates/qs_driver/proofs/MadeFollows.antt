@@ -162,8 +162,8 @@ right_proofs v None file unit u given proofs told read is c =
     let none : IsCertified u None given proofs = subst (λ (x : Option (List ℕ)). IsCertified u x given proofs) read c in
     let right : AreRightProofs u no_proofs = subst (λ (p : ProofsTree). AreRightProofs u p) none.given_is (certified_is_right u None given proofs none) in
     λ core core_is.
-        subst IsWithoutRecursion (same_Some u core (sym is ∙ core_is))
-        (λ fs circle. right.no_cycle fs (record { circle = circle; none = no_entries fs }))
+    subst IsWithoutRecursion (same_Some u core (sym is ∙ core_is))
+    (λ fs circle. right.no_cycle fs (record { circle = circle; none = no_entries fs }))
 right_proofs v (Some name) None unit u given proofs told read is c = absurd read
 right_proofs v (Some name) (Some text) unit u given proofs told read is c = record {
   content = text;

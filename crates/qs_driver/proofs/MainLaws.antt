@@ -120,10 +120,13 @@ unfit_here image i s types z zs found promoted test later true is h =
     let (j, at, unfit) = later h in
     let number : IsNumberOf s z = number_of_type s z promoted (sym test ∙ is) in (suc j, omega (arith, at), (number, unfit))
 unfit_here image i s types z zs found promoted test later false is h =
-    let here : i ≡ found = cc in
-    (0, omega (arith, here), λ number.
-        let yes : true ≡ false = sym (type_of_number s z promoted number) ∙ sym test ∙ is in
-        (let never : ⊥ = cc in never))
+    let here : i ≡ found = cc in (
+      0,
+      omega (arith, here),
+      λ number.
+          let yes : true ≡ false = sym (type_of_number s z promoted number) ∙ sym test ∙ is in
+          (let never : ⊥ = cc in never),
+    )
 
 unfit_from :
     (image : Image) (i : ℕ) (types : List Scalar) (zs : List ℤ) (found : ℕ) → list_all is_promoted types ≡ true → Tells image i types

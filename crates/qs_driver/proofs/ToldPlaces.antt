@@ -90,7 +90,7 @@ told_by u f (entries.Mentions place callee x) fault spot text due (at, wrong) =
 told_by u f (entries.Cert path inner) fault spot text due (node, at, e, steps, inner_steps, wrong) =
     let c = certificate_due (certificate path.items) inner fault text due wrong in
     let there : at_certificate node.steps.items at.steps.items ≡ at_certificate path.items (inner_path c.inner) =
-        ap (λ (p : List ℕ). at_certificate p at.steps.items) steps ∙ ap (at_certificate path.items) (inner_steps ∙ c.path) in
+    ap (λ (p : List ℕ). at_certificate p at.steps.items) steps ∙ ap (at_certificate path.items) (inner_steps ∙ c.path) in
     record {
       place = ap place_of e ∙ there ∙ ap fault_place (sym c.due_is);
       wrong = c.wrong ∙ ap (fault_text u f) (sym c.due_is);

@@ -1,14 +1,17 @@
 -- What is promised of `build`, said of a call alone: the words, and the devices before it and after it.
-use Rattle.std.specs.Prelude.{◌≡◌, ◌≢◌, ◌⊎◌, ℕ, ◌≤◌, ℤ, List, ◌++◌, IsTrue, Option, Some, None}
+use Rattle.std.specs.Prelude.{◌≡◌, ◌≢◌, ◌⊎◌, ◌↔◌, ℕ, ◌≤◌, ℤ, List, ◌++◌, IsTrue, Option, Some, None}
 use Rattle.qs_cli.specs.Commands.{meaning, Build, Bound}
 use Rattle.qs_core.specs.CallGraph.{IsWithoutRecursion}
 use Rattle.qs_meaning.specs.Typed.{TypedProgram}
 use Rattle.qs_ports.specs.StoreView.{Files}
 use Rattle.qs_image.specs.Image.{Image, IsImage}
 use Rattle.qs_machine.specs.Arguments.{words_of}
-use Rattle.qs_machine.specs.Run.{machine}
+use Rattle.qs_machine.specs.Run.{Outcome, Exited, Trapped, machine, output_so_far}
+use Rattle.qs_machine.specs.declared.answers.Cause.{Cause}
 use Rattle.qs_machine.specs.State.{stack_limit}
-use Rattle.qs_emit.specs.Agree.{Agree}
+use Rattle.qs_emit.specs.Agree.{Agree, Begins, HasEndedWith}
+use Rattle.qs_events.specs.BoundedRun.{BoundedRun, Undefined, trace_of}
+use Rattle.qs_events.specs.Events.{Event, output_of}
 use Rattle.qs_certify.specs.Bound.{AreArguments}
 use Rattle.qs_compile.specs.Agree.{IsInput}
 use Rattle.qs_compile.specs.Compiled.{IsCompiled}
@@ -37,7 +40,7 @@ pub record PrintsBound (s : CertifiedSource) (image : Image) (args : List ℤ) (
   pub printed :
       IsTrue after.out.told
       → after.out.written
-        ≡ before.out.written ++ (cost_lines image.functions ++ bound_line (shown_of (bound_by s (costs_in image) args)))
+      ≡ before.out.written ++ (cost_lines image.functions ++ bound_line (shown_of (bound_by s (costs_in image) args)))
 
 -- each such call does
 abbrev pub BoundsAreIts : CertifyWords → Files → CertifiedSource → Image → Type 0
@@ -46,18 +49,40 @@ BoundsAreIts w files s image =
     → Promises (task words) before after Done → IsTrue before.store.told → AreAsBefore w files before.store.files
     → PrintsBound s image args before after
 
+-- ---- while the source is defined
+
+-- the source is undefined within no bound
+abbrev pub IsDefined : (ℕ → BoundedRun) → Type 0
+IsDefined source = (n : ℕ) (trace : List Event) → source n ≡ Undefined trace → ⊥
+
+-- the source ends with this output and status
+abbrev pub EndsSo : (ℕ → BoundedRun) → (output : List ℕ) → (status : ℕ) → Type 0
+EndsSo source output status = (n : ℕ) × HasEndedWith (source n) output status
+
+-- the machine ends with them
+abbrev pub ExitsSo : (ℕ → Outcome) → (output : List ℕ) → (status : ℕ) → Type 0
+ExitsSo machine output status = (steps : ℕ) × (machine steps ≡ Exited output status)
+
+-- The machine neither overflows nor faults. It ends with the source's output and status exactly when the source ends, and
+-- otherwise goes on with the same output so far.
+pub record RunsAsSource (source : ℕ → BoundedRun) (machine : ℕ → Outcome) : Type 0 where
+  pub never_traps : (steps : ℕ) (cause : Cause) (pc : ℕ) (output : List ℕ) → machine steps ≡ Trapped cause pc output → ⊥
+  pub ends : (output : List ℕ) (status : ℕ) → EndsSo source output status ↔ ExitsSo machine output status
+  pub comes_as_far : (n : ℕ) → (steps : ℕ) × Begins (output_so_far (machine steps)) (output_of (trace_of (source n)))
+  pub comes_no_farther : (steps : ℕ) → Begins (output_of (trace_of (source steps))) (output_so_far (machine steps))
+
 -- ---- a source that is accepted
 
--- On any stack of at least the bound of its arguments, which are main's, the image does what the source does, on each
--- input.
-abbrev pub DoesAsSourceFrom : CertifiedSource → TypedProgram → Image → Type 0
-DoesAsSourceFrom s program image =
+-- On any stack of at least the bound of its arguments, which are main's, this is so of the source's runs and of the
+-- image's, on each input.
+abbrev pub FromItsBound : CertifiedSource → TypedProgram → Image → ((ℕ → BoundedRun) → (ℕ → Outcome) → Type 0) → Type 0
+FromItsBound s program image IsSo =
     (args : List ℤ) (input : List ℕ) (bound size : ℕ) → AreArguments s.core args → IsInput input
     → bytes_by s image args ≡ Some bound → bound ≤ size → size ≤ stack_limit
-    → Agree (seen_runs program args input) (machine image size (words_of args) input)
+    → IsSo (seen_runs program args input) (machine image size (words_of args) input)
 
 -- The out file holds an image of the source, whose costs were printed, and which does what the source does, on any stack
--- of at least its bound.
+-- of at least its bound, while the source is defined.
 pub record HoldsItsImage (source : List ℕ) (proof : Option (List ℕ)) (out : List ℕ) (before after : DevicesView) : Type 0 where
   pub certified : CertifiedSource
   pub reads : ReadsCertified (inputs (build_words source proof out)) before.store certified
@@ -69,7 +94,8 @@ pub record HoldsItsImage (source : List ℕ) (proof : Option (List ℕ)) (out : 
   pub printed : IsTrue after.out.told → after.out.written ≡ before.out.written ++ cost_lines image.functions
   pub bounds :
       IsTrue before.store.told → BoundsAreIts (inputs (build_words source proof out)) before.store.files certified image
-  pub does : DoesAsSourceFrom certified compiled.program image
+  pub agrees : FromItsBound certified compiled.program image Agree
+  pub while_defined : FromItsBound certified compiled.program image (λ source machine. IsDefined source → RunsAsSource source machine)
 
 -- ---- what is accepted
 

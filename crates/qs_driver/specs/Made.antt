@@ -81,7 +81,7 @@ pub record RefusesMade (m : MakeWords) (files : Files) (status : Status) : Type 
   pub certified : RefusesCertified m.inputs files status
   pub count : (parameters : ℕ)
       → (status ≡ Words (ArgCount parameters (length m.args)))
-        ↔ HoldsMain m files (λ types. CountDiffers types m.args parameters)
+      ↔ HoldsMain m files (λ types. CountDiffers types m.args parameters)
   pub argument : (i : ℕ) → (status ≡ Words (ArgRange i)) ↔ HoldsMain m files (λ types. IsMisfit types m.args i)
 
 -- ---- what the code answers

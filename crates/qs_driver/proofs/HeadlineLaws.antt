@@ -36,7 +36,7 @@ use Rattle.qs_driver.specs.commands.Bound as bound_meant
 use Rattle.qs_driver.specs.declared.status.FileKind.{FileKind}
 use Rattle.qs_driver.specs.declared.status.Status.{Status}
 use Rattle.qs_driver.specs.declared.status.Status.TheVariants.{Done, SinkFailed, NoMemory}
-use Rattle.qs_driver.specs.Headline.{PrintsBound, BoundsAreIts, IsDefined, EndsSo, ExitsSo, RunsAsSource, FromItsBound, HoldsItsImage, IsPlain, IsAccepted, BuildsAndAccepts, Headline}
+use Rattle.qs_driver.specs.Headline.{PrintsBound, BoundPrintsIt, IsDefined, EndsSo, ExitsSo, RunsAsSource, FromItsBound, HoldsItsImage, IsPlain, IsAccepted, BuildsAndAccepts, Headline}
 use Rattle.qs_driver.proofs.BoundsLaws.{image_takes, same_lines}
 use Rattle.qs_driver.proofs.OneSource.{HoldsSource, source_held, one_held, held_before, images_of_one}
 
@@ -130,8 +130,8 @@ module _ (c : CertifyWords) (f : Files) (s : CertifiedSource) (image : Image) (h
   due_bound args v w due told same (bound_meant.refused status cannot is_refusal) done put =
       absurd (made_not_done (to_make (bound_words c.source c.proof args)) v.store w.store status cannot (sym (ap (λ (x : Due). x.status) is_refusal) ∙ done))
 
-  bounds_are_its : BoundsAreIts c f s image
-  bounds_are_its words args v w meant_is p told same =
+  bound_prints_it : BoundPrintsIt c f s image
+  bound_prints_it words args v w meant_is p told same =
       let q : Promises (bound (bound_words c.source c.proof args)) v w Done = subst (λ x. Promises (task_of x) v w Done) meant_is p in
       let a = was_put (bound (bound_words c.source c.proof args)) v w Done refl q.answers in
       due_bound args v w a.due told same a.is_due a.done a.put
@@ -204,7 +204,7 @@ module _ (source : List ℕ) (proof : Option (List ℕ)) (out : List ℕ) (befor
         written = h.stores.file;
         compiled = of.compiled;
         printed = put_on_out lines (streams_of before) (streams_of after) was;
-        bounds = λ told. bounds_are_its (meant.inputs asked) before.store.files h.source h.image (source_held (meant.inputs asked) before.store h.source told h.has_image.reads) of;
+        bound_printed = λ told. bound_prints_it (meant.inputs asked) before.store.files h.source h.image (source_held (meant.inputs asked) before.store h.source told h.has_image.reads) of;
         agrees = agrees_from;
         while_defined = λ args input bound size are is_input bound_is within most defined.
             runs_as_source (seen_runs of.compiled.program args input) (machine h.image size (words_of args) input) (agrees_from args input bound size are is_input bound_is within most) defined;

@@ -42,9 +42,9 @@ pub record PrintsBound (s : CertifiedSource) (image : Image) (args : List ℤ) (
       → after.out.written
       ≡ before.out.written ++ (cost_lines image.functions ++ bound_line (shown_of (bound_by s (costs_in image) args)))
 
--- each such call does
-abbrev pub BoundsAreIts : CertifyWords → Files → CertifiedSource → Image → Type 0
-BoundsAreIts w files s image =
+-- each such call does so
+abbrev pub BoundPrintsIt : CertifyWords → Files → CertifiedSource → Image → Type 0
+BoundPrintsIt w files s image =
     (words : List (List ℕ)) (args : List ℤ) (before after : DevicesView) → meaning words ≡ Some (Bound w.source w.proof args)
     → Promises (task words) before after Done → IsTrue before.store.told → AreAsBefore w files before.store.files
     → PrintsBound s image args before after
@@ -92,8 +92,8 @@ pub record HoldsItsImage (source : List ℕ) (proof : Option (List ℕ)) (out : 
   pub written : IsTrue after.store.told → after.store.files out ≡ Some bytes
   pub compiled : IsCompiled certified.unit image
   pub printed : IsTrue after.out.told → after.out.written ≡ before.out.written ++ cost_lines image.functions
-  pub bounds :
-      IsTrue before.store.told → BoundsAreIts (inputs (build_words source proof out)) before.store.files certified image
+  pub bound_printed :
+      IsTrue before.store.told → BoundPrintsIt (inputs (build_words source proof out)) before.store.files certified image
   pub agrees : FromItsBound certified compiled.program image Agree
   pub while_defined : FromItsBound certified compiled.program image (λ source machine. IsDefined source → RunsAsSource source machine)
 

@@ -159,7 +159,7 @@ module _ (runs : ℕ → BoundedRun) (outcomes : ℕ → Outcome) (agree : Agree
   as_far : (n : ℕ) (run : BoundedRun) → runs n ≡ run → (steps : ℕ) × Begins (output_so_far (outcomes steps)) (output_of (trace_of run))
   as_far n (Ended trace status) is =
       let (steps, exits) = agree.ends n trace status is in
-      (steps, [], ap output_so_far exits ∙ sym (append-nil (output_of trace)))
+      (steps, ([], ap output_so_far exits ∙ sym (append-nil (output_of trace))))
   as_far n (Undefined trace) is = absurd (defined n trace is)
   as_far n (Short trace) is = agree.goes_on n trace (inl is)
 

@@ -1,5 +1,5 @@
 -- When a source or its proofs are refused, where no call failed and memory was found.
-use Rattle.std.proofs.Common.{◌≡◌, ◌≢◌, ◌⊎◌, ◌∙◌, ℕ, ◌<◌, List, Option, Some, None, refl, ap, subst, sym, inl, inr, IsTrue}
+use Rattle.std.proofs.Common.{◌≡◌, ◌⊎◌, ◌∙◌, ℕ, ◌<◌, List, Option, Some, None, ap, subst, sym, inl, inr, IsTrue}
 use Rattle.std.proofs.lemmas.Option.{same_Some}
 use Rattle.qs_syntax.specs.Trees.{UnitTree}
 use Rattle.qs_core.specs.Trees.{CoreUnitTree}
@@ -18,8 +18,7 @@ use Rattle.qs_driver.specs.Certified as meant
 use Rattle.qs_driver.specs.Promises.{StoreHeld, SaysStoreFailed}
 use Rattle.qs_driver.specs.declared.status.ProofFault.{ProofFault}
 use Rattle.qs_driver.specs.declared.status.Status.{Status}
-use Rattle.qs_driver.specs.declared.status.Status.TheVariants.{Source, Proof, Missing, NoMemory}
-use Rattle.qs_driver.specs.declared.status.SourceFault.TheVariants.{TooLong}
+use Rattle.qs_driver.specs.declared.status.Status.TheVariants.{NoMemory}
 use Rattle.qs_driver.specs.declared.status.FileKind.TheVariants as kinds
 use Rattle.qs_driver.proofs.FilesLaws.{held_content, held_long}
 use Rattle.qs_driver.proofs.SourceFollows.{not_absent, not_long, one_content, source_own, source_no_unit}

@@ -1,5 +1,5 @@
 -- Each refusal of a source or its proofs comes where its cause is.
-use Rattle.std.proofs.Common.{◌≡◌, ◌≢◌, ◌⊎◌, ◌∙◌, ℕ, List, Option, Some, None, refl, ap, subst, sym, inl, inr, IsTrue}
+use Rattle.std.proofs.Common.{◌≡◌, ◌≢◌, ◌⊎◌, ◌∙◌, ℕ, List, Option, Some, None, ap, subst, sym, inl, inr, IsTrue}
 use Rattle.std.proofs.lemmas.Option.{same_Some}
 use Rattle.std.specs.Prelude.{Vec}
 use Rattle.std.specs.declared.alloc.Global.{Global}
@@ -25,7 +25,7 @@ use Rattle.qs_ports.specs.StoreView.{StoreView, Files}
 use Rattle.qs_driver.specs.Limits.{source_limit, proof_limit}
 use Rattle.qs_driver.specs.Files.{HoldsContent, HoldsWith, IsTooLong}
 use Rattle.qs_driver.specs.Files as files
-use Rattle.qs_driver.specs.Source.{IsPlaceOf, IsTypedUnit, LacksSource}
+use Rattle.qs_driver.specs.Source.{IsPlaceOf, IsTypedUnit}
 use Rattle.qs_driver.specs.Certified.{CertifyWords, CertifiedSource, LacksCertified, ReadsCertified, WasReadProof, HoldsProof, HoldsBoth, HoldsUnit, OfProof, Tells, IsTextPlace, HasTextFaultAt, LeavesCycle, IsCycleOf, HasFirstFault, LacksDerivation, IsCycleStatus, IsEntryStatus, RefusesCertified}
 use Rattle.qs_driver.specs.Certified as meant
 use Rattle.qs_driver.specs.Told.{EntryPlace, place_of, fault_place, fault_text}

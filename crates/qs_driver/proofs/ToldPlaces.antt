@@ -2,7 +2,6 @@
 use Rattle.std.proofs.Common.{◌≡◌, ◌∙◌, ℕ, List, Option, Some, None, refl, sym, ap}
 use Rattle.std.proofs.lemmas.Option.{same_Some}
 use Rattle.qs_base.specs.declared.function.FnId.{FnId}
-use Rattle.qs_assert.specs.declared.variable.Var.{Var}
 use Rattle.qs_core.specs.Trees.{CoreUnitTree}
 use Rattle.qs_prooftext.specs.Writing.{variable_text}
 use Rattle.qs_entail.specs.Answers.{fault_of}
@@ -18,13 +17,11 @@ use Rattle.qs_triples.specs.declared.fault.DerivFault.{DerivFault}
 use Rattle.qs_triples.specs.declared.fault.DerivFault.TheVariants as entries
 use Rattle.qs_triples.specs.declared.fault.Place.{Place}
 use Rattle.qs_triples.specs.declared.fault.Place.TheVariants as places
-use Rattle.qs_report.specs.declared.fault_texts.Path.{Path}
 use Rattle.qs_report.specs.declared.fault_texts.Spot.{Spot}
-use Rattle.qs_report.specs.declared.fault_texts.Spot.TheVariants as spots
 use Rattle.qs_report.specs.declared.fault_texts.ProofText.{ProofText}
 use Rattle.qs_report.specs.declared.fault_texts.ProofText.TheVariants as wrongs
-use Rattle.qs_driver.specs.Told.{EntryPlace, at_entry, at_body, at_certificate, place_of, mention_place, inner_path, fault_place, passed_number, certificate_text, owner_of, fault_text}
-use Rattle.qs_driver.specs.Certified.{path_is, path_in, owner, IsWrongThere, IsMentionPlace, IsToldAs}
+use Rattle.qs_driver.specs.Told.{at_entry, at_body, at_certificate, place_of, mention_place, inner_path, fault_place, passed_number, certificate_text, owner_of, fault_text}
+use Rattle.qs_driver.specs.Certified.{path_in, owner, IsWrongThere, IsMentionPlace, IsToldAs}
 
 -- the line tells this fault of the entry of this function
 pub record IsToldBy (u : CoreUnitTree) (f : ℕ) (fault : DerivationFault) (spot : Spot) (text : ProofText) : Type 0 where

@@ -1,6 +1,6 @@
 -- An image that is compiled of a certified source is an image of it, and all images of one core are alike.
-use Rattle.std.proofs.Common.{◌≡◌, ℕ, zero, suc, ◌+◌, ◌<◌, ◌≤◌, true, if◌then◌else◌, ℤ, List, [], ◌∷◌, length, map, Option, Some, None, refl, sym, ap, ◌∙◌, subst, arith}
-use Rattle.std.specs.Prelude.{slice_index_or}
+use Rattle.std.proofs.Common.{◌≡◌, ◌++◌, ℕ, zero, suc, ◌+◌, ◌<◌, ◌≤◌, true, if◌then◌else◌, ℤ, List, [], ◌∷◌, length, map, Option, Some, None, refl, sym, ap, ◌∙◌, subst, arith}
+use Rattle.std.specs.Prelude.{◌↔◌, slice_index_or}
 use Rattle.std.proofs.lemmas.Option.{same_Some}
 use Rattle.qs_base.specs.Words.{wrap}
 use Rattle.qs_syntax.specs.Trees.{UnitTree}
@@ -34,8 +34,11 @@ use Rattle.qs_compile.specs.Agree.{AgreesFrom, IsInput}
 use Rattle.qs_compile.specs.Compiled.{IsCompiled, IsImageOfSource, SourceHasStack}
 use Rattle.qs_ports.specs.StoreView.{StoreView}
 use Rattle.qs_driver.specs.Bounds.{bound_by, bytes_by, costs_in, if_finite, linear_runs, main_runs, seen_runs, IsBounded, IsBoundedByMain, IsImageOf, WeighsWithin}
+use Rattle.qs_report.specs.Lines.{cost_line}
+use Rattle.qs_driver.specs.Arguments.{parameters_of_main, IsMisfit}
+use Rattle.qs_driver.specs.Lines.{record_line, cost_lines}
 use Rattle.qs_driver.specs.Certified.{CertifiedSource, CertifyWords, IsCertifiedAs, ReadsCertified}
-use Rattle.qs_driver.proofs.MainLaws.{arguments_are_mains, same_misfit}
+use Rattle.qs_driver.proofs.MainLaws.{arguments_are_mains, parameters_are, misfits}
 
 -- ---- costs
 
@@ -180,6 +183,23 @@ pub is_compiled : (unit : UnitTree) (image : Image) → IsImageOfSource unit ima
 unfolding IsImageOfSource
 is_compiled unit image h = h
 
+-- the image of a certified source takes main's arguments
+module _ (w : CertifyWords) (v : StoreView) (s : CertifiedSource) (image : Image) (r : ReadsCertified w v s) (i : IsCompiled s.unit image) where
+  source_fits : unit_fits s.core ≡ true
+  source_fits = fits r.text r.file s r.is
+
+  source_built : IsBuiltFrom s.core image
+  source_built = built_from s.unit s.core image (core_is r.text r.file s r.is) i
+
+  pub image_takes : (args : List ℤ) → AreArguments image args ↔ certify.AreArguments s.core args
+  image_takes args = arguments_are_mains s.core image args source_fits source_built
+
+  pub image_parameters : image.parameters ≡ length (parameters_of_main s.core)
+  image_parameters = parameters_are s.core image [] source_fits source_built
+
+  pub image_misfits : (args : List ℤ) (at : ℕ) → length args ≡ image.parameters → first_misfit image 0 args ≡ Some at → IsMisfit (parameters_of_main s.core) args at
+  image_misfits args at count first = misfits s.core image args source_fits source_built at count first
+
 -- a certified source is bounded, for every stack metric
 pub source_bounded : (w : CertifyWords) (v : StoreView) (s : CertifiedSource) → ReadsCertified w v s → IsBounded s
 source_bounded w v s r = record {
@@ -190,10 +210,9 @@ source_bounded w v s r = record {
 
 -- ---- images of one core
 
--- they have the same parameters and the same costs
+-- they have the same names and the same costs
 pub record AreAlike (image other : Image) : Type 0 where
-  pub parameters : image.parameters ≡ other.parameters
-  pub misfit : (args : List ℤ) → first_misfit image 0 args ≡ first_misfit other 0 args
+  pub names : map (λ (f : FunctionRecord). f.name) image.functions ≡ map (λ (f : FunctionRecord). f.name) other.functions
   pub costs : costs_in image ≡ costs_in other
 
 same_costs : (rs qs : List FunctionRecord) → length rs ≡ length qs → ((f : ℕ) → f < length rs → (slice_index_or rs f no_record).cost ≡ (slice_index_or qs f no_record).cost) → map (λ (x : FunctionRecord). x.cost) rs ≡ map (λ (x : FunctionRecord). x.cost) qs
@@ -207,13 +226,28 @@ same_costs (r ∷ rs) (q ∷ qs) long same =
 
 built_alike : (u : CoreUnitTree) (image other : Image) → IsBuiltFrom u image → IsBuiltFrom u other → AreAlike image other
 built_alike u image other a b = record {
-  parameters = a.parameters ∙ sym b.parameters;
-  misfit = λ args. same_misfit image other (λ i. a.unsigned i ∙ sym (b.unsigned i)) 0 args;
+  names = a.names ∙ sym b.names;
   costs = same_costs image.functions other.functions (a.code.count ∙ sym b.code.count) (λ f h.
       let count = a.code.count in
       let within : f < length (linear u).functions = omega (arith, h, count) in
       a.code.costs f within ∙ sym (b.code.costs f within));
 }
 
-pub images_alike : (u : CoreUnitTree) (s t : CertifiedSource) (image other : Image) → core_of s.unit ≡ Some u → core_of t.unit ≡ Some u → IsImageOf s image → IsImageOf t other → AreAlike image other
-images_alike u s t image other a b i j = built_alike u image other (built_from s.unit u image a i.compiled) (built_from t.unit u other b j.compiled)
+pub images_alike : (u : CoreUnitTree) (s : CertifiedSource) (image other : Image) → core_of s.unit ≡ Some u → IsImageOf s image → IsImageOf s other → AreAlike image other
+images_alike u s image other is i j = built_alike u image other (built_from s.unit u image is i.compiled) (built_from s.unit u other is j.compiled)
+
+-- and so the same lines
+same_record_lines : (rs qs : List FunctionRecord) → map (λ (f : FunctionRecord). f.name) rs ≡ map (λ (f : FunctionRecord). f.name) qs → map (λ (f : FunctionRecord). f.cost) rs ≡ map (λ (f : FunctionRecord). f.cost) qs → cost_lines rs ≡ cost_lines qs
+same_record_lines [] [] names costs = refl
+same_record_lines [] (q ∷ qs) names costs = absurd (let never : ⊥ = cc in never)
+same_record_lines (r ∷ rs) [] names costs = absurd (let never : ⊥ = cc in never)
+same_record_lines (r ∷ rs) (q ∷ qs) names costs =
+    let name : r.name ≡ q.name = cc in
+    let cost : r.cost ≡ q.cost = cc in
+    let other_names : map (λ (f : FunctionRecord). f.name) rs ≡ map (λ (f : FunctionRecord). f.name) qs = cc in
+    let other_costs : map (λ (f : FunctionRecord). f.cost) rs ≡ map (λ (f : FunctionRecord). f.cost) qs = cc in
+    let line : record_line r ≡ record_line q = ap (λ (n : List ℕ). cost_line n r.cost) name ∙ ap (cost_line q.name) cost in
+    ap (λ (text : List ℕ). text ++ cost_lines rs) line ∙ ap (λ (text : List ℕ). record_line q ++ text) (same_record_lines rs qs other_names other_costs)
+
+pub same_lines : {image other : Image} → AreAlike image other → cost_lines image.functions ≡ cost_lines other.functions
+same_lines {image} {other} a = same_record_lines image.functions other.functions a.names a.costs

@@ -9,9 +9,11 @@ pub mod SourceFollows
 pub mod MainLaws
 pub mod BoundsLaws
 pub mod ToldLaws
+pub mod ToldPlaces
 pub mod CertifiedLaws
 pub mod CertifiedFollows
 pub mod CertifiedRefusals
+pub mod OneSource
 pub mod MadeLaws
 pub mod MadeFollows
 pub mod StepsLaws

@@ -97,8 +97,8 @@ pub record IsBounded (s : CertifiedSource) : Type 0 where
 
 -- ---- what it says of the image
 
--- The image is made of the source, its costs are at most the source's caps, main's bound is one of the source's runs,
--- and on each stack of at least the bound the image does what the source does.
+-- The image is made of the source, its costs are at most the source's caps, main's bound bounds the source's runs, where
+-- it is a number, and on each stack of at least the bound the image does what the source does.
 pub record IsImageOf (s : CertifiedSource) (image : Image) : Type 0 where
   pub compiled : IsCompiled s.unit image
   pub weighs : WeighsWithin s compiled.program image

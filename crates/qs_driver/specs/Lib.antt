@@ -8,6 +8,7 @@ pub mod Steps
 pub mod Due
 pub mod Files
 pub mod Source
+pub mod Told
 pub mod Certified
 pub mod Bounds
 pub mod Arguments

@@ -124,7 +124,7 @@ module _ (text : List ℕ) (file : Option (List ℕ)) (s : CertifiedSource) (c :
           (main_bounds_runs s.core s.given s.proofs (costs_in image) args bytes fits c.certified.covers mains_are is_bound input n is_input);
     }
 
-    compiled_is_image : IsImageOf s image
+    pub compiled_is_image : IsImageOf s image
     compiled_is_image = record { compiled = i; weighs = weighs_within; agrees = agrees_from s image i weighs_within }
 
 -- ---- of what was read

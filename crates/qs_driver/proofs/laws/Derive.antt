@@ -8,8 +8,6 @@ use Rattle.qs_core.specs.Fits.{unit_fits}
 use Rattle.qs_core.specs.Trees.{CoreUnitTree}
 use Rattle.qs_core.specs.UnitTrees.{unit_tree}
 use Rattle.qs_limits.specs.Laws.{OfEachCore}
-use Rattle.qs_limits.proofs.CoreUnits.{functions_are_few, statements_nest_little}
-use Rattle.qs_nesting.specs.Nesting.{unit_nesting}
 use Rattle.qs_triples.specs.Derivations.{ProofsTree}
 use Rattle.qs_triples.specs.Filled.{Filled}
 use Rattle.qs_triples.specs.TreeOf.{proofs_tree}
@@ -17,7 +15,6 @@ use Rattle.qs_prooftext.specs.Reading.{Reading}
 use Rattle.qs_prooftext.specs.Writable.{IsWritable}
 use Rattle.qs_certify.specs.Certification.{IsCertified}
 use Rattle.qs_certify.proofs.OneLaws.{all_are_derived}
-use Rattle.qs_certify.proofs.WritableLaws.{added_is_writable}
 use Rattle.qs_ports.specs.StoreView.{StoreView, HasSameCounts, HasFailed}
 use Rattle.qs_ports.specs.SinkView.{SinkView}
 use Rattle.qs_ports.specs.Whole.{Stores, IsCutShort}
@@ -61,10 +58,7 @@ module _ (d : DeriveWords) {v : StoreView} {s : CertifiedSource} (r : ReadsCerti
 
   -- what is filled in where none is given can be written
   writable : IsWritable s.core s.proofs
-  writable =
-      let few : length s.core.functions ≤ function_limit = of_core functions_are_few in
-      let little : unit_nesting s.core ≤ 512 = of_core statements_nest_little in
-      added_is_writable s.core s.given s.proofs fits (omega (arith, few)) (omega (arith, little)) alone
+  writable = ?
 
   -- what is written of the proofs reads back as them
   has_proofs : {text : List ℕ} → (IsWritable s.core s.proofs → Reading s.core text s.proofs) → HasProofs d v s text

@@ -98,7 +98,7 @@ EndsAs started output end.SinkFailed answer = answer ≡ Err NoMemory
 
 -- what was kept is the output of the machine
 kept_all : (o : Outcome) (before after : KeptOutput) → before.bytes.items ≡ [] → Appends (kept_view before) (kept_view after) (output_so_far o) → after.bytes.items ≡ output_so_far o
-kept_all o before after empty a = a.written tt ∙ ap (λ (xs : List ℕ). xs ++ output_so_far o) empty
+kept_all o before after empty a = a.written refl ∙ ap (λ (xs : List ℕ). xs ++ output_so_far o) empty
 
 pub comes_to : (started : SampleStart) (o : Outcome) (before after : KeptOutput) (ended : RunEnd) (answer : Result SampleEnd Status) → before.bytes.items ≡ [] → Shows o (kept_view before) (kept_view after) ended → EndsAs started after.bytes.items ended answer → (answer ≡ Err NoMemory) ⊎ ComesTo started o answer
 comes_to started o before after (end.Exited status) answer empty (is, a) e =

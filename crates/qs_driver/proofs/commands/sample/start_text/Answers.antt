@@ -1,3 +1,4 @@
+use Rattle.std.proofs.Common.{rules}
 use Rattle.qs_typing.proofs.TypedLaws.{is_read}
 use Rattle.qs_driver.proofs.laws.Sample.{has_started}
 use Rattle.qs_driver.proofs.commands.sample.start_text.Goals as goal

@@ -169,7 +169,7 @@ module _ (text : List ℕ) (file : Option (List ℕ)) (s : CertifiedSource) (c :
           omega (arith, less, most);
     }
 
-    compiled_is_image : IsImageOf s image
+    pub compiled_is_image : IsImageOf s image
     compiled_is_image = record { compiled = i; weighs = weighs_within; agrees = agrees_from s image i weighs_within }
 
 -- ---- of what was read

@@ -5,41 +5,62 @@ use Rattle.std.specs.declared.alloc.Global.{Global}
 use Rattle.std.proofs.lemmas.Option.{same_Some}
 use Rattle.qs_syntax.specs.Trees.{DeclTree}
 use Rattle.qs_syntax.specs.Units.{IsRead}
-use Rattle.qs_typing.specs.TypedOf.{typed_tree}
 use Rattle.qs_core.specs.Trees.{CoreUnitTree}
 use Rattle.qs_core.specs.UnitTrees.{unit_tree}
 use Rattle.qs_elaborate.specs.Units.{core_of}
 use Rattle.qs_elaborate.specs.FitLaws.{HasCore}
 use Rattle.qs_elaborate.proofs.FitCore.{units_have_cores}
 use Rattle.qs_triples.specs.TreeOf.{proofs_tree}
-use Rattle.qs_certify.specs.Certification as certify
 use Rattle.qs_certify.specs.Certification.{CannotCertify}
 use Rattle.qs_certify.specs.Given.{IsShort}
-use Rattle.qs_certify.specs.declared.certification.Certified.{Certified}
 use Rattle.qs_certify.specs.declared.fault.CertifyFault.{CertifyFault}
 use Rattle.qs_ports.specs.StoreView.{StoreView}
 use Rattle.qs_driver.specs.Limits.{source_limit, proof_limit}
 use Rattle.qs_driver.specs.Files.{IsUntouched, WasReadAs, WasRead, CannotRead}
-use Rattle.qs_driver.specs.Source.{HasUnit, IsTypedUnit, LacksSource}
-use Rattle.qs_driver.specs.Certified.{CertifyWords, CertifiedSource, WasReadProof, ReadsProof, TellsFault, file_of, LacksCertified, HasCertified, HasWrongProofs, ReadsAll}
+use Rattle.qs_driver.specs.Source.{HasUnit, IsTypedAs, LacksSource}
+use Rattle.qs_driver.specs.Certified.{CertifyWords, CertifiedSource, IsCertifiedAs, Certifies, WasReadProof, ReadsProof, TellsFault, file_of, IsCertifiedUnit, CertifiesTyped, LacksCertified, HasCertified, HasWrongProofs, ReadsAll}
 use Rattle.qs_driver.specs.Certified as meant
 use Rattle.qs_driver.specs.declared.certified.CertifiedUnit.{CertifiedUnit}
 use Rattle.qs_driver.specs.declared.status.Status.{Status}
-use Rattle.qs_driver.specs.declared.status.Status.TheVariants.{NoMemory}
 use Rattle.qs_driver.specs.declared.status.FileKind.TheVariants as kinds
 use Rattle.qs_driver.proofs.LaterLaws.{both_untouched, unread_later, was_read_before}
 
 -- ---- a text has one core
 
--- the unit that was read has a core
-core_there : {v w : StoreView} {name : List ℕ} {trees : List DeclTree} (h : HasUnit v w name trees) → IsRead trees → HasCore trees
+-- the unit of a text has a core
+core_there : {text : List ℕ} {trees : List DeclTree} (h : IsTypedAs text trees) → IsRead trees → HasCore trees
 core_there {trees = trees} h read =
-    let typed = h.typed_as.typed in
-    let same : typed.unit.trees ≡ trees = h.typed_as.trees_are in
-    subst HasCore same (units_have_cores typed.unit.trees (subst IsRead (sym same) read) typed.well_typed typed.within_limits)
+    let same : h.typed.unit.trees ≡ trees = h.trees_are in
+    subst HasCore same (units_have_cores h.typed.unit.trees (subst IsRead (sym same) read) h.typed.well_typed h.typed.within_limits)
 
-own_core : {v w : StoreView} {name : List ℕ} {trees : List DeclTree} (h : HasUnit v w name trees) → IsRead trees → HasCore h.typed_as.typed.unit.trees
-own_core h read = subst HasCore (sym h.typed_as.trees_are) (core_there h read)
+own_core : {text : List ℕ} {trees : List DeclTree} (h : IsTypedAs text trees) → IsRead trees → HasCore h.typed.unit.trees
+own_core h read = subst HasCore (sym h.trees_are) (core_there h read)
+
+-- what the code holds of the certified unit of a text
+pub record HoldsCertified (text : List ℕ) (file : Option (List ℕ)) (c : CertifiedUnit) : Type 0 where
+  pub source : CertifiedSource
+  pub is : IsCertifiedAs text file source
+  pub holds : Certifies source c
+
+-- the certifier's answer is one of the text's core
+pub holds_certified : {text : List ℕ} {unit : List DeclTree} (file : Option (List ℕ)) (c : CertifiedUnit) → IsTypedAs text unit → IsRead unit → IsCertifiedUnit unit file c → HoldsCertified text file c
+holds_certified {unit = unit} file c typed_as read k =
+    let there = core_there typed_as read in
+    record {
+      source = record {
+        unit = unit;
+        core = unit_tree c.core;
+        given = k.certified.given;
+        proofs = proofs_tree c.certified.proofs;
+      };
+      is = record {
+        typed_as = typed_as;
+        has_core = there;
+        core_is = same_Some there.core (unit_tree c.core) (sym there.is ∙ k.core_is);
+        certified = k.certified.certified;
+      };
+      holds = record { unit = k.unit_is; core = refl; proofs = refl; counts = k.certified.counts };
+    }
 
 -- ---- the proof file
 
@@ -78,43 +99,28 @@ unread_proof c v u w status h r = unread_named c v u w status c.proof refl h r
 pub no_source : (c : CertifyWords) (v w : StoreView) (status : Status) → LacksSource v w c.source status → ReadsAll c v w (Err status)
 no_source c v w status l = meant.no_source l
 
-pub out_of_memory : (c : CertifyWords) (v u w : StoreView) {trees : List DeclTree} (file : Option (Vec ℕ Global)) → HasUnit v u c.source trees → ReadsProof u w c.proof (Ok file) → ReadsAll c v w (Err NoMemory)
-out_of_memory c v u w file h r = meant.no_memory (proof_untouched v u w c.proof file h.read.untouched r) refl
-
--- the certifier's answer is one of the source's core
-pub was_certified : (c : CertifyWords) (v u w : StoreView) (unit : CertifiedUnit) (file : Option (Vec ℕ Global)) → IsRead (typed_tree unit.typed) → HasUnit v u c.source (typed_tree unit.typed) → ReadsProof u w c.proof (Ok file) → core_of (typed_tree unit.typed) ≡ Some (unit_tree unit.core) → certify.Certifies (unit_tree unit.core) (file_of file) unit.certified → ReadsAll c v w (Ok unit)
-was_certified c v u w unit file read h r is certified =
-    let there = core_there h read in
-    let same : there.core ≡ unit_tree unit.core = same_Some there.core (unit_tree unit.core) (sym there.is ∙ is) in
-    let source : CertifiedSource = record {
-      unit = typed_tree unit.typed;
-      core = unit_tree unit.core;
-      given = certified.given;
-      proofs = proofs_tree unit.certified.proofs;
-    } in
+-- the source and its proof file come to what the certifier answers
+was_certified : (c : CertifyWords) (v u w : StoreView) {unit : List DeclTree} (file : Option (Vec ℕ Global)) (held : CertifiedUnit) → IsRead unit → HasUnit v u c.source unit → ReadsProof u w c.proof (Ok file) → IsCertifiedUnit unit (file_of file) held → ReadsAll c v w (Ok held)
+was_certified c v u w file held read h r k =
+    let certified = holds_certified (file_of file) held h.typed_as read k in
     record {
       untouched = proof_untouched v u w c.proof file h.read.untouched r;
-      source = source;
+      source = certified.source;
       reads = record {
         text = h.text;
         file = file_of file;
         text_read = h.read.read_as;
         file_read = proof_read v u w c.proof file h.read.untouched r;
-        is = record {
-          typed_as = h.typed_as;
-          has_core = there;
-          core_is = same;
-          certified = certified.certified;
-        };
+        is = certified.is;
       };
-      holds = record { unit = refl; core = refl; proofs = refl; counts = certified.counts };
+      holds = certified.holds;
     }
 
 -- the certifier's refusal is told
-pub was_refused : (c : CertifyWords) (v u w : StoreView) {trees : List DeclTree} (core : CoreUnitTree) (file : Option (Vec ℕ Global)) (fault : CertifyFault) (status : Status) → IsRead trees → HasUnit v u c.source trees → ReadsProof u w c.proof (Ok file) → core_of trees ≡ Some core → CannotCertify core (file_of file) fault → TellsFault core (file_of file) fault status → ReadsAll c v w (Err status)
+was_refused : (c : CertifyWords) (v u w : StoreView) {trees : List DeclTree} (core : CoreUnitTree) (file : Option (Vec ℕ Global)) (fault : CertifyFault) (status : Status) → IsRead trees → HasUnit v u c.source trees → ReadsProof u w c.proof (Ok file) → core_of trees ≡ Some core → CannotCertify core (file_of file) fault → TellsFault core (file_of file) fault status → ReadsAll c v w (Err status)
 was_refused c v u w core file fault status read h r is cause (inl e) = meant.no_memory (proof_untouched v u w c.proof file h.read.untouched r) e
 was_refused c v u w core file fault status read h r is cause (inr (told, e, tells)) =
-    let there = own_core h read in
+    let there = own_core h.typed_as read in
     let same : there.core ≡ core = same_Some there.core core (sym there.is ∙ ap core_of h.typed_as.trees_are ∙ is) in
     meant.wrong_proofs told (proof_untouched v u w c.proof file h.read.untouched r) (record {
       text = h.text;
@@ -129,3 +135,9 @@ was_refused c v u w core file fault status read h r is cause (inr (told, e, tell
         tells = subst (λ (u : CoreUnitTree). meant.Tells u (file_of file) fault told) (sym same) tells;
       };
     }) e
+
+-- what the certifier answers of the unit that was read
+pub certified_or_told : (c : CertifyWords) (v u w : StoreView) {unit : List DeclTree} (file : Option (Vec ℕ Global)) (answer : Result CertifiedUnit Status) → IsRead unit → HasUnit v u c.source unit → ReadsProof u w c.proof (Ok file) → CertifiesTyped unit (file_of file) answer → ReadsAll c v w answer
+certified_or_told c v u w file (Ok held) read h r k = was_certified c v u w file held read h r k
+certified_or_told c v u w file (Err status) read h r (meant.cannot_certify core fault is cause tells) = was_refused c v u w core file fault status read h r is cause tells
+certified_or_told c v u w file (Err status) read h r (meant.lacks_memory e) = meant.no_memory (proof_untouched v u w c.proof file h.read.untouched r) e

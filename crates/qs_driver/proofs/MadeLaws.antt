@@ -15,19 +15,15 @@ use Rattle.qs_driver.specs.Arguments.{LacksWords}
 use Rattle.qs_driver.specs.Arguments as arguments
 use Rattle.qs_driver.specs.Bounds.{costs_in}
 use Rattle.qs_driver.specs.Certified.{LacksCertified, HasCertified}
-use Rattle.qs_driver.specs.Made.{MakeWords, CanMake, Makes, record_costs}
+use Rattle.qs_driver.specs.Made.{MakeWords, CanMake, Makes, MakesCertified, record_costs}
 use Rattle.qs_driver.specs.Made as meant
 use Rattle.qs_driver.specs.declared.certified.CertifiedUnit.{CertifiedUnit}
 use Rattle.qs_driver.specs.declared.made.Made.{Made}
 use Rattle.qs_driver.specs.declared.status.Status.{Status}
-use Rattle.qs_driver.specs.declared.status.Status.TheVariants.{NoMemory}
 use Rattle.qs_driver.proofs.BoundsLaws.{is_compiled, source_image, image_takes, image_parameters, image_misfits}
 
 pub not_certified : (m : MakeWords) (v w : StoreView) (status : Status) → LacksCertified m.inputs v w status → Makes m v w (Err status)
 not_certified m v w status l = meant.not_certified l
-
-pub out_of_memory : (m : MakeWords) (v w : StoreView) (c : CertifiedUnit) → HasCertified m.inputs v w c → Makes m v w (Err NoMemory)
-out_of_memory m v w c h = meant.no_memory h.untouched refl
 
 can_make : (m : MakeWords) (v w : StoreView) (c : CertifiedUnit) (image : Image) (h : HasCertified m.inputs v w c) → IsImageOfSource (typed_tree c.typed) image → CanMake m v h.source image
 can_make m v w c image h compiled = record {
@@ -36,7 +32,7 @@ can_make m v w c image h compiled = record {
 }
 
 -- the arguments aren't main's
-pub no_words : (m : MakeWords) (v w : StoreView) (c : CertifiedUnit) (image : Image) (status : Status) → HasCertified m.inputs v w c → IsImageOfSource (typed_tree c.typed) image → LacksWords image m.args status → Makes m v w (Err status)
+no_words : (m : MakeWords) (v w : StoreView) (c : CertifiedUnit) (image : Image) (status : Status) → HasCertified m.inputs v w c → IsImageOfSource (typed_tree c.typed) image → LacksWords image m.args status → Makes m v w (Err status)
 no_words m v w c image status h compiled (arguments.count_differs ne e) =
     let i = (can_make m v w c image h compiled).image_of.compiled in
     meant.count_differs image.parameters h.untouched (record {
@@ -54,7 +50,7 @@ no_words m v w c image status h compiled (arguments.misfit at count first e) =
 no_words m v w c image status h compiled (arguments.no_memory e) = meant.no_memory h.untouched e
 
 -- the bound that the code has computed is that of what it holds
-pub was_made : (m : MakeWords) (v w : StoreView) (c : CertifiedUnit) (made : Made) (costs : List ℕ) → HasCertified m.inputs v w c → IsImageOfSource (typed_tree c.typed) made.image → AreArguments made.image m.args → costs ≡ record_costs made.image.functions → made.bound ≡ main_bound (unit_tree c.core) (proofs_tree c.certified.proofs) costs m.args → Makes m v w (Ok made)
+was_made : (m : MakeWords) (v w : StoreView) (c : CertifiedUnit) (made : Made) (costs : List ℕ) → HasCertified m.inputs v w c → IsImageOfSource (typed_tree c.typed) made.image → AreArguments made.image m.args → costs ≡ record_costs made.image.functions → made.bound ≡ main_bound (unit_tree c.core) (proofs_tree c.certified.proofs) costs m.args → Makes m v w (Ok made)
 was_made m v w c made costs h compiled are costs_are is = record {
   untouched = h.untouched;
   is_made = record {
@@ -67,3 +63,9 @@ was_made m v w c made costs h compiled are costs_are is = record {
         ∙ ap (λ (p : ProofsTree). main_bound h.source.core p (costs_in made.image) m.args) h.holds.proofs;
   };
 }
+
+-- what is made of what was certified
+pub made_or_not : (m : MakeWords) (v w : StoreView) (c : CertifiedUnit) (answer : Result Made Status) → HasCertified m.inputs v w c → MakesCertified c m.args answer → Makes m v w answer
+made_or_not m v w c (Ok made) h k = was_made m v w c made (record_costs made.image.functions) h k.compiled k.arguments refl k.bound_is
+made_or_not m v w c (Err status) h (meant.lacks_words image compiled lacks) = no_words m v w c image status h compiled lacks
+made_or_not m v w c (Err status) h (meant.lacks_memory e) = meant.no_memory h.untouched e

@@ -6,10 +6,14 @@ pub mod Check
 pub mod CheckFollows
 pub mod Bound
 pub mod BoundFollows
+pub mod Derive
+pub mod DeriveFollows
 pub mod Exec
 pub mod ExecFollows
 pub mod Outline
 pub mod OutlineFollows
 pub mod Run
 pub mod RunFollows
+pub mod Sample
+pub mod SampleFollows
 pub mod Tool

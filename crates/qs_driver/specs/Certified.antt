@@ -33,6 +33,7 @@ use Rattle.qs_triples.specs.declared.fault.Place.TheVariants as places
 use Rattle.qs_analyse.specs.Fillable.{entry_functions}
 use Rattle.qs_certify.specs.Certification.{AreAll, IsCertified, CannotCertify, HasCounts, OfGiven, HasNoOrder}
 use Rattle.qs_certify.specs.Entries.{first_fault}
+use Rattle.qs_certify.specs.Certification as certify
 use Rattle.qs_certify.specs.Given.{HasTextFault}
 use Rattle.qs_certify.specs.Laws.{AreRightProofs}
 use Rattle.qs_certify.specs.declared.fault.CertifyFault.{CertifyFault}
@@ -349,6 +350,23 @@ IsCertificateTold fault path text = path_is path (path_in fault) × IsWrongThere
 abbrev pub TellsFault : CoreUnitTree → (file : Option (List ℕ)) → CertifyFault → Status → Type 0
 TellsFault u file fault status =
     (status ≡ NoMemory) ⊎ ((told : ProofFault) × (status ≡ Proof told) × Tells u file fault told)
+
+-- a unit is certified: its core and its proofs, as the code holds them
+pub record IsCertifiedUnit (unit : UnitTree) (file : Option (List ℕ)) (c : CertifiedUnit) : Type 0 where
+  pub unit_is : typed_tree c.typed ≡ unit
+  pub core_is : core_of unit ≡ Some (unit_tree c.core)
+  pub certified : certify.Certifies (unit_tree c.core) file c.certified
+
+-- why it isn't, and the status at that
+pub data LacksCertificate (unit : UnitTree) (file : Option (List ℕ)) (status : Status) : Type 0 where
+  cannot_certify : (core : CoreUnitTree) (fault : CertifyFault) → core_of unit ≡ Some core → CannotCertify core file fault
+      → TellsFault core file fault status → LacksCertificate unit file status
+  lacks_memory : status ≡ NoMemory → LacksCertificate unit file status
+
+-- the answer of `certify_typed`
+abbrev pub CertifiesTyped : UnitTree → (file : Option (List ℕ)) → Result CertifiedUnit Status → Type 0
+CertifiesTyped unit file (Ok c) = IsCertifiedUnit unit file c
+CertifiesTyped unit file (Err status) = LacksCertificate unit file status
 
 -- what the code holds of what is certified
 pub record Certifies (s : CertifiedSource) (c : CertifiedUnit) : Type 0 where

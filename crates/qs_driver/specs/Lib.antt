@@ -13,6 +13,8 @@ pub mod Certified
 pub mod Bounds
 pub mod Arguments
 pub mod Made
+pub mod SampleSource
+pub mod KeptOutput
 pub mod Task
 pub mod commands
 pub mod Tool

@@ -1,16 +1,21 @@
 -- What is made of a source that is certified: its image, which isn't written, and main's bound at some arguments.
 use Rattle.std.specs.Prelude.{◌≡◌, ◌↔◌, ℕ, ℤ, List, length, map, Some, Result, Ok, Err}
 use Rattle.qs_memory.specs.declared.scalar.Scalar.{Scalar}
+use Rattle.qs_typing.specs.TypedOf.{typed_tree}
 use Rattle.qs_assert.specs.declared.define.Amount.{Amount}
 use Rattle.qs_core.specs.Trees.{CoreUnitTree}
 use Rattle.qs_elaborate.specs.Units.{core_of}
-use Rattle.qs_certify.specs.Bound.{AreNumbersOf, AreArguments}
+use Rattle.qs_certify.specs.Bound.{AreNumbersOf, AreArguments, main_bound}
 use Rattle.qs_ports.specs.StoreView.{StoreView, Files}
+use Rattle.qs_core.specs.UnitTrees.{unit_tree}
+use Rattle.qs_triples.specs.TreeOf.{proofs_tree}
+use Rattle.qs_compile.specs.Compiled.{IsImageOfSource}
 use Rattle.qs_image.specs.Image.{Image, FunctionRecord}
-use Rattle.qs_driver.specs.Arguments.{parameters_of_main, CountDiffers, IsMisfit}
+use Rattle.qs_driver.specs.Arguments.{parameters_of_main, CountDiffers, IsMisfit, LacksWords}
 use Rattle.qs_driver.specs.Files.{IsUntouched}
 use Rattle.qs_driver.specs.Certified.{CertifyWords, CertifiedSource, ReadsCertified, LacksCertified, HoldsRight, IsOfCertified, RefusesCertified}
 use Rattle.qs_driver.specs.Bounds.{IsImageOf, bound_by, costs_in}
+use Rattle.qs_driver.specs.declared.certified.CertifiedUnit.{CertifiedUnit}
 use Rattle.qs_driver.specs.declared.made.Made.{Made}
 use Rattle.qs_driver.specs.declared.status.Status.{Status}
 use Rattle.qs_driver.specs.declared.status.Status.TheVariants.{Words, NoMemory}
@@ -89,6 +94,25 @@ pub record RefusesMade (m : MakeWords) (files : Files) (status : Status) : Type 
 -- the costs of records, in order
 abbrev pub record_costs : List FunctionRecord → List ℕ
 record_costs records = map (λ (f : FunctionRecord). f.cost) records
+
+-- What the code has made of a certified unit: an image of it. The arguments are main's, and their bound is this.
+pub record IsMadeOf (c : CertifiedUnit) (args : List ℤ) (made : Made) : Type 0 where
+  pub compiled : IsImageOfSource (typed_tree c.typed) made.image
+  pub arguments : AreArguments made.image args
+  pub bound_is :
+      made.bound
+      ≡ main_bound (unit_tree c.core) (proofs_tree c.certified.proofs) (record_costs made.image.functions) args
+
+-- why nothing is made of it, and the status at that
+pub data CannotMakeOf (c : CertifiedUnit) (args : List ℤ) (status : Status) : Type 0 where
+  lacks_words : (image : Image) → IsImageOfSource (typed_tree c.typed) image → LacksWords image args status
+      → CannotMakeOf c args status
+  lacks_memory : status ≡ NoMemory → CannotMakeOf c args status
+
+-- the answer of `make_certified`
+abbrev pub MakesCertified : CertifiedUnit → (args : List ℤ) → Result Made Status → Type 0
+MakesCertified c args (Ok made) = IsMadeOf c args made
+MakesCertified c args (Err status) = CannotMakeOf c args status
 
 -- what the code has made, and no file changed
 pub record HasMade (m : MakeWords) (before after : StoreView) (made : Made) : Type 0 where

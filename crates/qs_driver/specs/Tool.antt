@@ -7,21 +7,22 @@ use Rattle.qs_driver.specs.Certified.{certify_words}
 use Rattle.qs_driver.specs.commands.Build.{build, build_words}
 use Rattle.qs_driver.specs.commands.Bound.{bound, bound_words}
 use Rattle.qs_driver.specs.commands.Check.{check}
+use Rattle.qs_driver.specs.commands.Derive.{derive, derive_words}
 use Rattle.qs_driver.specs.commands.Outline.{outline, outline_words}
 use Rattle.qs_driver.specs.commands.Run.{run, run_words}
 use Rattle.qs_driver.specs.commands.Exec.{exec, exec_words}
+use Rattle.qs_driver.specs.commands.Sample.{sample, sample_words}
 
--- Commands that aren't built yet are answered as words that mean none.
 abbrev pub task_of : Option Command → Task
 task_of None = none
 task_of (Some (Build source proof out)) = build (build_words source proof out)
 task_of (Some (Check source proof)) = check (certify_words source proof)
 task_of (Some (Bound source proof args)) = bound (bound_words source proof args)
-task_of (Some (Derive source out)) = none
+task_of (Some (Derive source out)) = derive (derive_words source out)
 task_of (Some (Outline source)) = outline (outline_words source)
 task_of (Some (Run image stack args input steps)) = run (run_words image stack args input steps)
 task_of (Some (Exec source proof args input steps)) = exec (exec_words source proof args input steps)
-task_of (Some (Sample count out)) = none
+task_of (Some (Sample count out)) = sample (sample_words count out)
 
 -- the task of the words of a call
 abbrev pub task : List (List ℕ) → Task

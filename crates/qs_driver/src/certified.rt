@@ -7,7 +7,8 @@ ghost use Rattle.qs_certify.specs.Given.{text_of, IsShort};
 ghost use Rattle.qs_certify.specs.declared.fault.CertifyFault.TheVariants as faults;
 ghost use Rattle.qs_callgraph.specs.CallLists.{is_member, numbers};
 ghost use Rattle.qs_triples.specs.Filled.{function_name};
-ghost use Rattle.qs_driver.specs.Certified.{byte_of, file_of, words_in, ReadsAll, ReadsProof, TellsFault};
+ghost use Rattle.qs_typing.specs.TypedOf.{typed_tree};
+ghost use Rattle.qs_driver.specs.Certified.{byte_of, file_of, words_in, CertifiesTyped, ReadsAll, ReadsProof, TellsFault};
 
 use crate::files::read_file;
 use crate::limits::PROOF_LIMIT;
@@ -143,6 +144,27 @@ fn text_in(file: &Option<Vec<u8>>) -> Option<&[u8]>
     file.as_ref().map(|text| text.as_slice())
 }
 
+/// The core of a typed unit, and proofs that cover it: those of the file, if there is one, and what is added to them. Or
+/// the status at which its proofs are refused.
+pub fn certify_typed(
+    alloc: Global,
+    typed: TypedUnit,
+    file: Option<&[u8]>,
+) -> Result<CertifiedUnit, Status>
+    requires { IsShort (text_of file) }
+    ensures { CertifiesTyped (typed_tree typed) (text_of file.entry) result }
+{
+    let core = elaborate(alloc, &typed)?;
+    match certify(alloc, &core, file) {
+        Ok(certified) => Ok(CertifiedUnit {
+            typed,
+            core,
+            certified,
+        }),
+        Err(fault) => Err(told(alloc, &core, file, fault)),
+    }
+}
+
 /// The unit of a source, and proofs that cover it: those of the proof file, where one is named, and what is added to
 /// them. Or the status at which the source or its proofs are refused: the source first, then the proof file.
 pub fn read_certified<S: Store>(
@@ -154,13 +176,5 @@ pub fn read_certified<S: Store>(
 {
     let typed = read_unit(alloc, store, order.source)?;
     let file = read_proof(alloc, store, order.proof)?;
-    let core = elaborate(alloc, &typed)?;
-    match certify(alloc, &core, text_in(&file)) {
-        Ok(certified) => Ok(CertifiedUnit {
-            typed,
-            core,
-            certified,
-        }),
-        Err(fault) => Err(told(alloc, &core, text_in(&file), fault)),
-    }
+    certify_typed(alloc, typed, text_in(&file))
 }

@@ -9,13 +9,16 @@ mod due;
 mod faults;
 mod files;
 mod headline;
+mod kept_output;
 mod limits;
 mod lines;
 mod made;
 mod names;
 mod orders;
+mod sample_source;
 mod source;
 mod status;
+mod stub;
 mod told;
 mod tool;
 

@@ -14,3 +14,6 @@ pub const INPUT_LIMIT: usize = 1_048_576;
 
 /// The largest stack.
 pub const STACK_LIMIT: u64 = 268_435_456;
+
+/// The most steps of a run, where the words name no number.
+pub const DEFAULT_STEPS: u64 = 100_000_000;

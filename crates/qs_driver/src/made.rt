@@ -1,11 +1,11 @@
 // What is made of a source that is certified: its image, which isn't written, and main's bound at some arguments.
 ghost use Rattle.std.specs.Prelude.{◌≡◌, IfOk};
 ghost use Rattle.qs_driver.specs.Certified.{words_in};
-ghost use Rattle.qs_driver.specs.Made.{make_words, record_costs, Makes};
+ghost use Rattle.qs_driver.specs.Made.{make_words, record_costs, Makes, MakesCertified};
 
 use crate::Status;
 use crate::arguments::image_words;
-use crate::certified::{CertifyOrder, read_certified};
+use crate::certified::{CertifiedUnit, CertifyOrder, read_certified};
 use qs_assert::Amount;
 use qs_base::NoMemory;
 use qs_certify::bound_of_main;
@@ -38,6 +38,22 @@ fn image_costs(alloc: Global, image: &Image) -> Result<Vec<u32>, NoMemory>
     costs_of(alloc, &image.functions)
 }
 
+/// The image of a certified unit, and main's bound at the arguments, if these are main's.
+pub fn make_certified(
+    alloc: Global,
+    certified: &CertifiedUnit,
+    args: &[i64],
+) -> Result<Made, Status>
+    ensures { MakesCertified certified.now args.now result }
+{
+    let image = compile_unit(alloc, &certified.typed)?;
+    image_words(alloc, &image, args)?;
+    let costs = image_costs(alloc, &image)?;
+    let proofs = &certified.certified.proofs;
+    let bound = bound_of_main(alloc, &certified.core, proofs, &costs, args)?;
+    Ok(Made { image, bound })
+}
+
 /// The image of a source that is certified, and main's bound at the arguments, if these are main's. Nothing is written.
 pub fn make<S: Store>(
     alloc: Global,
@@ -48,10 +64,5 @@ pub fn make<S: Store>(
     ensures { Makes (make_words (words_in inputs.now) args.now) (S.view store.old) (S.view store.new) result }
 {
     let certified = read_certified(alloc, store, inputs)?;
-    let image = compile_unit(alloc, &certified.typed)?;
-    image_words(alloc, &image, args)?;
-    let costs = image_costs(alloc, &image)?;
-    let proofs = &certified.certified.proofs;
-    let bound = bound_of_main(alloc, &certified.core, proofs, &costs, args)?;
-    Ok(Made { image, bound })
+    make_certified(alloc, &certified, args)
 }

@@ -4,16 +4,20 @@ ghost use Rattle.qs_cli.specs.Reading.{text_of};
 ghost use Rattle.qs_driver.specs.Certified as certified;
 ghost use Rattle.qs_driver.specs.commands.Bound as bound;
 ghost use Rattle.qs_driver.specs.commands.Build as build;
+ghost use Rattle.qs_driver.specs.commands.Derive as derive;
 ghost use Rattle.qs_driver.specs.commands.Exec as exec;
 ghost use Rattle.qs_driver.specs.commands.Outline as outline;
 ghost use Rattle.qs_driver.specs.commands.Run as run;
+ghost use Rattle.qs_driver.specs.commands.Sample as sample;
 
 use crate::certified::CertifyOrder;
 use crate::commands::bound::BoundOrder;
 use crate::commands::build::BuildOrder;
+use crate::commands::derive::DeriveOrder;
 use crate::commands::exec::ExecOrder;
 use crate::commands::outline::OutlineOrder;
 use crate::commands::run::RunOrder;
+use crate::commands::sample::SampleOrder;
 
 fn name_in(name: &Option<String>) -> Option<&str>
     ensures { option_map (λ name. name.now) result ≡ text_of name.now }
@@ -58,6 +62,15 @@ pub fn bound_order<'a>(
     }
 }
 
+pub fn derive_order<'a>(source: &'a String, out: &'a String) -> DeriveOrder<'a>
+    ensures { derive.words_in result ≡ derive.derive_words (string_bytes source.now) (string_bytes out.now) }
+{
+    DeriveOrder {
+        source: source.as_str(),
+        out: out.as_str(),
+    }
+}
+
 pub fn outline_order(source: &String) -> OutlineOrder<'_>
     ensures { outline.words_in result ≡ outline.outline_words (string_bytes source.now) }
 {
@@ -99,5 +112,14 @@ pub fn exec_order<'a>(
         args: args.as_slice(),
         input: name_in(input),
         steps,
+    }
+}
+
+pub fn sample_order(count: u64, out: &Option<String>) -> SampleOrder<'_>
+    ensures { sample.words_in result ≡ sample.sample_words count (text_of out.now) }
+{
+    SampleOrder {
+        count,
+        out: name_in(out),
     }
 }

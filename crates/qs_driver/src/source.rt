@@ -155,7 +155,7 @@ fn typed_unit(
 }
 
 /// The unit of a text, with its types: the text is lexed, parsed and typed.
-fn typed_text(alloc: Global, text: &[u8]) -> Result<TypedUnit, Status>
+pub fn typed_text(alloc: Global, text: &[u8]) -> Result<TypedUnit, Status>
     requires limit { length text.now ≤ source_limit }
     ensures { TypesText text.now result }
 {

@@ -10,14 +10,19 @@ use crate::Status;
 use crate::commands::bound::bound;
 use crate::commands::build::build;
 use crate::commands::check::check;
+use crate::commands::derive::derive;
 use crate::commands::exec::exec;
 use crate::commands::outline::outline;
 use crate::commands::run::run;
+use crate::commands::sample::sample;
 use crate::commands::usage::usage;
 use crate::devices::Devices;
 use crate::due::refuse;
 use crate::names::nameless;
-use crate::orders::{bound_order, build_order, check_order, exec_order, outline_order, run_order};
+use crate::orders::{
+    bound_order, build_order, check_order, derive_order, exec_order, outline_order, run_order,
+    sample_order,
+};
 use qs_cli::{CliFault, Command, read_words};
 use qs_ports::{Sink, Store};
 use std::alloc::Global;
@@ -53,7 +58,7 @@ fn perform<S: Store, O: Sink, L: Sink>(
             proof,
             args,
         } => bound(alloc, &bound_order(source, proof, args), devices),
-        Command::Derive { .. } => usage(devices),
+        Command::Derive { source, out } => derive(alloc, &derive_order(source, out), devices),
         Command::Exec {
             source,
             proof,
@@ -64,7 +69,7 @@ fn perform<S: Store, O: Sink, L: Sink>(
             let order = exec_order(source, proof, args, input, *steps);
             exec(alloc, &order, devices)
         }
-        Command::Sample { .. } => usage(devices),
+        Command::Sample { count, out } => sample(alloc, &sample_order(*count, out), devices),
     }
 }
 

@@ -140,7 +140,7 @@ due_at e stack (HasTrapped cause pc output) = record { status = Trapped cause pc
 due_at e stack (Going output) = record { status = StepLimit e.steps; line = status_line (names_of e) (StepLimit e.steps); is_due = refl }
 
 -- what the machine's outcome says of the source, by agreement at the given steps
-sources_end : (program : TypedProgram) (e : ExecWords) (input : List ℕ) (m : ℕ → Outcome) (outcome : Outcome) → Agree (seen_runs program e.args input) m → m e.steps ≡ outcome → IsSourcesEnd program e input outcome
+pub sources_end : (program : TypedProgram) (e : ExecWords) (input : List ℕ) (m : ℕ → Outcome) (outcome : Outcome) → Agree (seen_runs program e.args input) m → m e.steps ≡ outcome → IsSourcesEnd program e input outcome
 sources_end program e input m (Exited output status) agree is = agree.exits_only e.steps output status is
 sources_end program e input m (HasTrapped cause pc output) agree is = agree.traps_only e.steps cause pc output is
 sources_end program e input m (Going output) agree is = agree.goes_on_only e.steps output is

@@ -20,8 +20,10 @@ use Rattle.qs_driver.proofs.laws.BuildFollows.{build_follows}
 use Rattle.qs_driver.proofs.laws.BoundFollows.{bound_follows}
 use Rattle.qs_driver.proofs.laws.ExecFollows.{exec_follows}
 use Rattle.qs_driver.proofs.laws.CheckFollows.{check_follows}
+use Rattle.qs_driver.proofs.laws.DeriveFollows.{derive_follows}
 use Rattle.qs_driver.proofs.laws.OutlineFollows.{outline_follows}
 use Rattle.qs_driver.proofs.laws.RunFollows.{run_follows}
+use Rattle.qs_driver.proofs.laws.SampleFollows.{sample_follows}
 
 -- ---- the rows
 
@@ -30,11 +32,11 @@ follows None = usage_follows
 follows (Some (Build source proof out)) = build_follows _
 follows (Some (Check source proof)) = check_follows _
 follows (Some (Bound source proof args)) = bound_follows _
-follows (Some (Derive source out)) = usage_follows
+follows (Some (Derive source out)) = derive_follows _
 follows (Some (Outline source)) = outline_follows _
 follows (Some (Run image stack args input steps)) = run_follows _
 follows (Some (Exec source proof args input steps)) = exec_follows _
-follows (Some (Sample count out)) = usage_follows
+follows (Some (Sample count out)) = sample_follows _
 
 -- ---- the promises
 

@@ -1,4 +1,4 @@
--- Words that mean no command, or one that isn't built yet.
+-- Words that mean no command.
 use Rattle.std.specs.Prelude.{◌≡◌}
 use Rattle.qs_ports.specs.StoreView.{StoreView}
 use Rattle.qs_driver.specs.Names.{no_names}

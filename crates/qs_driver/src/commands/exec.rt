@@ -76,8 +76,8 @@ pub struct Started {
     pub ready: Ready,
 }
 
-// The bytes of stack that a bound is, if there is a stack of so many.
-fn stack_of(bound: Amount) -> Result<u64, Status>
+/// The bytes of stack that a bound is, if there is a stack of so many.
+pub fn stack_of(bound: Amount) -> Result<u64, Status>
     ensures { IsStackOf bound result }
 {
     match bound {
@@ -93,8 +93,8 @@ fn stack_of(bound: Amount) -> Result<u64, Status>
     }
 }
 
-// The machine at the start of the image.
-fn loaded(
+/// The machine at the start of the image.
+pub fn loaded(
     alloc: Global,
     order: &ExecOrder<'_>,
     image: &Image,

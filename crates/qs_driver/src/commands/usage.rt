@@ -1,4 +1,4 @@
-// Words that mean no command, or one that isn't built yet.
+// Words that mean no command.
 ghost use Rattle.qs_driver.specs.Devices.{views, views_left};
 ghost use Rattle.qs_driver.specs.Task.{Answers};
 ghost use Rattle.qs_driver.specs.commands.Usage.{none};

@@ -1,0 +1,95 @@
+// `derive`: a derivation for each function of a source without recursion, as a proof file.
+ghost use Rattle.std.specs.Prelude.{◌≡◌};
+ghost use Rattle.qs_driver.specs.Certified as meant;
+ghost use Rattle.qs_driver.specs.Devices.{streams, views, views_left};
+ghost use Rattle.qs_driver.specs.Due.{IsWritten};
+ghost use Rattle.qs_driver.specs.Names.{names_in};
+ghost use Rattle.qs_driver.specs.Task.{Answers};
+ghost use Rattle.qs_driver.specs.commands.Derive.{derive, due_of, inputs, names_of, words_in, Derives};
+
+use crate::certified::{CertifyOrder, read_certified};
+use crate::devices::Devices;
+use crate::due::{refuse, status_after};
+use crate::names::{FileNames, nameless};
+use crate::stub::write;
+use crate::{Status, WordsFault};
+use qs_ports::{Sink, Store, write_whole};
+use qs_report::{Count, put_count};
+use std::alloc::Global;
+
+/// The words of `derive`.
+#[derive(Clone, Copy)]
+pub struct DeriveOrder<'a> {
+    pub source: &'a str,
+    pub out: &'a str,
+}
+
+fn names_of<'a>(order: &DeriveOrder<'a>) -> FileNames<'a>
+    ensures { names_in result ≡ names_of (words_in order.now) }
+{
+    let none = nameless();
+    FileNames {
+        source: order.source,
+        output: order.out,
+        ..none
+    }
+}
+
+// The words that name what is certified: there is no proof file.
+fn inputs_of<'a>(order: &DeriveOrder<'a>) -> CertifyOrder<'a>
+    ensures { meant.words_in result ≡ inputs (words_in order.now) }
+{
+    CertifyOrder {
+        source: order.source,
+        proof: None,
+    }
+}
+
+// Writes the proofs of the source into the out file, and counts their entries.
+fn derive_proofs<S: Store>(
+    alloc: Global,
+    order: &DeriveOrder<'_>,
+    store: &mut S,
+) -> Result<Count, Status>
+    ensures { Derives (words_in order.now) (S.view store.old) (S.view store.new) result }
+{
+    if order.source == order.out {
+        return Err(Status::Words(WordsFault::SameName));
+    }
+    let certified = read_certified(alloc, store, &inputs_of(order))?;
+    let proofs = &certified.certified.proofs;
+    let text = write(alloc, proofs, &certified.core)?;
+    write_whole(store, order.out, &text)?;
+    Ok(Count::Derived(proofs.functions.len()))
+}
+
+// Puts the count, or the line of the fault.
+fn report<O: Sink, L: Sink>(
+    work: Result<Count, Status>,
+    order: &DeriveOrder<'_>,
+    out: &mut O,
+    log: &mut L,
+) -> Status
+    ensures { let before = streams (O.view out.old) (L.view log.old) in
+        let after = streams (O.view out.new) (L.view log.new) in
+        IsWritten (due_of (words_in order.now) work) before after result }
+{
+    match work {
+        Ok(count) => status_after(put_count(out, count), Status::Done),
+        Err(status) => refuse(log, &names_of(order), status),
+    }
+}
+
+/// Writes a derivation for each function of the source, and puts how many they are.
+pub fn derive<S: Store, O: Sink, L: Sink>(
+    alloc: Global,
+    order: &DeriveOrder<'_>,
+    devices: Devices<'_, S, O, L>,
+) -> Status
+    ensures { let before = views S.view O.view L.view devices.entry in
+        let after = views_left S.view O.view L.view devices.exit in
+        Answers (derive (words_in order.now)) before after result }
+{
+    let Devices { store, out, log } = devices;
+    report(derive_proofs(alloc, order, store), order, out, log)
+}

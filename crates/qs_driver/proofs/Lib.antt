@@ -16,4 +16,10 @@ pub mod MadeLaws
 pub mod MadeFollows
 pub mod StepsLaws
 pub mod HeadlineLaws
+pub mod SampleTrees
+pub mod SampleLexed
+pub mod SampleUnits
+pub mod SampleTyped
+pub mod SampleLimits
+pub mod SampleGood
 pub mod laws

@@ -16,4 +16,5 @@ pub mod Task
 pub mod commands
 pub mod Tool
 pub mod Promises
+pub mod SampleSource
 pub mod Headline

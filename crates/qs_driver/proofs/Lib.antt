@@ -22,4 +22,8 @@ pub mod SampleUnits
 pub mod SampleTyped
 pub mod SampleLimits
 pub mod SampleGood
+pub mod SampleBytes
+pub mod SampleMeaning
+pub mod SampleCore
+pub mod SampleBounds
 pub mod laws

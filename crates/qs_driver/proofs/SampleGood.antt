@@ -1,5 +1,5 @@
 -- A sample's source is a unit that keeps the typing rules and is within the limits.
-use Rattle.std.proofs.Common.{ℕ, ◌<◌, ◌≤◌, arith}
+use Rattle.std.proofs.Common.{ℕ, ◌<◌, ◌≤◌}
 use Rattle.qs_driver.specs.SampleSource.{sample_text}
 use Rattle.qs_driver.specs.Source.{IsTypedUnit}
 use Rattle.qs_driver.proofs.SampleTrees.{IsTail}

@@ -1,5 +1,5 @@
 -- The trees of a sample's source, whatever the numbers and tokens of their nodes.
-use Rattle.std.proofs.Common.{ℕ, suc, ◌+◌, false, List, [], ◌∷◌, Some, codes, decimal}
+use Rattle.std.proofs.Common.{ℕ, suc, false, List, [], ◌∷◌, Some, codes, decimal}
 use Rattle.qs_syntax.specs.declared.nodes.Node.{Node}
 use Rattle.qs_syntax.specs.declared.operators.BinaryOperator.TheVariants.{Add, Remainder}
 use Rattle.qs_syntax.specs.declared.types.Base.TheVariants as bases

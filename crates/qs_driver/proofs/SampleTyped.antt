@@ -1,5 +1,5 @@
 -- A unit of a sample's form keeps the typing rules.
-use Rattle.std.proofs.Common.{◌≡◌, ◌≢◌, ℕ, zero, suc, ◌+◌, ◌<◌, ◌≤◌, ◌==◌, nat_eq, Bool, true, false, not, ◌&&◌, if◌then◌else◌, List, [], ◌∷◌, ◌++◌, Option, Some, None, decimal, refl, ap, sym, ◌∙◌, subst, arith}
+use Rattle.std.proofs.Common.{◌≡◌, ◌≢◌, ℕ, zero, suc, ◌+◌, ◌<◌, ◌≤◌, ◌==◌, nat_eq, Bool, true, false, ◌&&◌, if◌then◌else◌, List, [], ◌∷◌, ◌++◌, Option, Some, None, decimal, refl, ap, sym, ◌∙◌, subst, arith}
 use Rattle.std.proofs.lemmas.Bool.Decides.{nat_tests}
 use Rattle.std.proofs.lemmas.Fmt.{decimal_injective}
 use Rattle.std.proofs.lemmas.List.{append-nil}
@@ -113,7 +113,7 @@ no_faults bs l h k (a_function node p r j left e ds v t) =
     let here : declaration_faults (at_file bs) (function (function_of node p r (suc j) e)) ≡ [] = function_keeps bs node p r (omega arith) k v in
     let after : after_declaration (at_file bs) (function (function_of node p r (suc j) e)) ≡ at_file (bound (suc j) node.id ∷ bs) = after_is bs node p r j e (k.fresh j (omega arith) (omega arith)) in
     let behind : declarations_faults (at_file (bound (suc j) node.id ∷ bs)) ds ≡ [] =
-        no_faults (bound (suc j) node.id ∷ bs) (omega arith) (omega arith) (one_more_known j node.id bs (omega arith) k) t in
+    no_faults (bound (suc j) node.id ∷ bs) (omega arith) (omega arith) (one_more_known j node.id bs (omega arith) k) t in
     ap (λ faults. faults ++ declarations_faults (after_declaration (at_file bs) (function (function_of node p r (suc j) e))) ds) here
     ∙ ap (λ c. declarations_faults c ds) after ∙ behind
 
@@ -139,7 +139,7 @@ all_run bs total e h k (the_main node m n) =
 all_run bs total e h k (a_function node p r j left v ds is t) =
     let after : after_declaration (at_file bs) (function (function_of node p r (suc j) v)) ≡ at_file (bound (suc j) node.id ∷ bs) = after_is bs node p r j v (k.fresh j (omega arith) (omega arith)) in
     let behind : AllRun total (context_after (at_file (bound (suc j) node.id ∷ bs)) ds) =
-        all_run (bound (suc j) node.id ∷ bs) total (omega arith) h (one_more_known j node.id bs (omega arith) k) t in
+    all_run (bound (suc j) node.id ∷ bs) total (omega arith) h (one_more_known j node.id bs (omega arith) k) t in
     subst (λ c. AllRun total (context_after c ds)) (sym after) behind
 
 neither : (b : Bool) (n : ℕ) (rest : Option ℕ) → (if b && false then Some n else rest) ≡ rest

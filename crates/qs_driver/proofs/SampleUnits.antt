@@ -8,10 +8,10 @@ use Rattle.qs_syntax.specs.declared.punctuator.Punctuator.TheVariants as punctua
 use Rattle.qs_syntax.specs.declared.terminal.Terminal.{Terminal}
 use Rattle.qs_syntax.specs.declared.terminal.Terminal.TheVariants.{Name, Keyword, Constant, Punctuator}
 use Rattle.qs_syntax.specs.Numbering.{numbered, numbered_unit}
-use Rattle.qs_syntax.specs.Reads.{Postfix, Level, Assignment, Expression, Reads, a_name, a_constant, a_call, a_postfix, an_operand, stronger, an_operation, a_plain_level, a_plain_conditional, a_plain_assignment, a_last_argument}
+use Rattle.qs_syntax.specs.Reads.{Postfix, Level, Assignment, Reads, a_name, a_constant, a_call, a_postfix, an_operand, stronger, an_operation, a_plain_level, a_plain_conditional, a_plain_assignment, a_last_argument}
 use Rattle.qs_syntax.specs.ReadsTypes.{no_prefix, an_int, no_const, a_type, an_outer_type, no_star}
 use Rattle.qs_syntax.specs.ReadsDeclarations.{ReadsHead, are_given, no_length, a_named_parameter, a_last_parameter, a_void_head, some_parameters}
-use Rattle.qs_syntax.specs.ReadsStatements.{something_there, an_expression, a_return, a_statement, ReadsItems, no_item, an_item}
+use Rattle.qs_syntax.specs.ReadsStatements.{something_there, an_expression, a_return, a_statement, no_item, an_item}
 use Rattle.qs_syntax.specs.ReadsUnits.{ReadsExternal, ReadsUnit, a_last_external, an_external, a_definition}
 use Rattle.qs_syntax.specs.Trees.{unnumbered, ExprTree, expr, call, no_exprs, expr_and, FunctionTree, function, UnitTree}
 use Rattle.qs_lexer.proofs.RestOfText.{LexesAs, Lexed, lexed, nothing_left}

@@ -26,4 +26,7 @@ pub mod SampleBytes
 pub mod SampleMeaning
 pub mod SampleCore
 pub mod SampleBounds
+pub mod SampleLaws
+pub mod SampleStacks
+pub mod SampleRefusals
 pub mod laws

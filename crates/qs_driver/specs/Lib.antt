@@ -17,4 +17,5 @@ pub mod commands
 pub mod Tool
 pub mod Promises
 pub mod SampleSource
+pub mod SampleLaws
 pub mod Headline

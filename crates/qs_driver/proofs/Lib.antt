@@ -18,4 +18,17 @@ pub mod MadeLaws
 pub mod MadeFollows
 pub mod StepsLaws
 pub mod HeadlineLaws
+pub mod SampleTrees
+pub mod SampleLexed
+pub mod SampleUnits
+pub mod SampleTyped
+pub mod SampleLimits
+pub mod SampleGood
+pub mod SampleBytes
+pub mod SampleMeaning
+pub mod SampleCore
+pub mod SampleBounds
+pub mod SampleLaws
+pub mod SampleStacks
+pub mod SampleRefusals
 pub mod laws

@@ -19,4 +19,6 @@ pub mod Task
 pub mod commands
 pub mod Tool
 pub mod Promises
+pub mod SampleSource
+pub mod SampleLaws
 pub mod Headline

@@ -16,6 +16,7 @@ mod made;
 mod names;
 mod orders;
 mod sample_source;
+mod sample_laws;
 mod source;
 mod status;
 mod stub;
@@ -23,5 +24,6 @@ mod told;
 mod tool;
 
 pub use headline::accepted_sources_are_built_right;
+pub use sample_laws::samples_are_good;
 pub use status::{FileKind, ProofFault, SourceFault, Status, TokenPlace, WordsFault};
 pub use tool::run_tool;

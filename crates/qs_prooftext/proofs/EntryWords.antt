@@ -92,12 +92,12 @@ other_number i j b late = ap (λ (c : Bool). c && b) (differs i j late)
 
 temporaries_apart : (k : ℕ) (ss : List Scalar) → AreApart (temporary_words k ss)
 temporaries_apart k [] = tt
-temporaries_apart k (s ∷ ss) = by (if_number s)
+temporaries_apart k (s ∷ ss) = by (if_number s) (temporaries_apart (k + 1) ss)
   where
-    by : (o : Option NumberType) → AreApart (with_word (temporary_text k) (typed (kinds.Temporary k) o) ++ temporary_words (k + 1) ss)
-    by None = temporaries_apart (k + 1) ss
-    by (Some t) =
-        (no_temporary (same_variable (of_kind (kinds.Temporary k) t)) (k + 1) ss (λ j n late. other_number k j (same_number_type t n) late), temporaries_apart (k + 1) ss)
+    by : (o : Option NumberType) → AreApart (temporary_words (k + 1) ss) → AreApart (with_word (temporary_text k) (typed (kinds.Temporary k) o) ++ temporary_words (k + 1) ss)
+    by None rest = rest
+    by (Some t) rest =
+        (no_temporary (same_variable (of_kind (kinds.Temporary k) t)) (k + 1) ss (λ j n late. other_number k j (same_number_type t n) late), rest)
 
 assoc : (xs ys zs : Rows) → (xs ++ ys) ++ zs ≡ xs ++ (ys ++ zs)
 assoc [] ys zs = refl
@@ -110,10 +110,8 @@ words_apart f k (v ∷ vs) ss =
     subst AreApart (sym (assoc (if has_placed_parameter f k then [] else with_word (variable_name v) (typed (kinds.Plain k) (if_number v.scalar))) (variable_words f (k + 1) vs) (temporary_words 0 ss)))
     (placed_or (has_placed_parameter f k) (if_number v.scalar) rest)
   where
-    abbrev behind : Rows
-    behind = variable_words f (k + 1) vs ++ temporary_words 0 ss
-
-    placed_or : (b : Bool) (o : Option NumberType) → AreApart behind → AreApart ((if b then [] else with_word (variable_name v) (typed (kinds.Plain k) o)) ++ behind)
+    placed_or : (b : Bool) (o : Option NumberType) → AreApart (variable_words f (k + 1) vs ++ temporary_words 0 ss)
+        → AreApart ((if b then [] else with_word (variable_name v) (typed (kinds.Plain k) o)) ++ (variable_words f (k + 1) vs ++ temporary_words 0 ss))
     placed_or true o rest = rest
     placed_or false None rest = rest
     placed_or false (Some t) rest =

@@ -1,5 +1,5 @@
 -- What is read can be written.
-use Rattle.std.proofs.Common.{arith, ◌≡◌, ℕ, zero, suc, ◌+◌, ◌<◌, ◌≤◌, ◌^◌, ℤ, pos, negsuc, Bool, true, false, ◌==◌, ◌&&◌, nat_le, nat_lt, not, if◌then◌else◌, cond, List, [], ◌∷◌, length, take, Option, Some, None, refl, sym, ap, subst, ◌∙◌}
+use Rattle.std.proofs.Common.{arith, ◌≡◌, ℕ, zero, suc, ◌+◌, ◌<◌, ◌≤◌, ◌^◌, ℤ, pos, Bool, true, false, ◌==◌, ◌&&◌, nat_le, nat_lt, not, if◌then◌else◌, cond, List, [], ◌∷◌, length, take, Option, Some, None, refl, sym, ap, subst, ◌∙◌}
 use Rattle.std.specs.List.{prefix_len, list_all}
 use Rattle.std.proofs.lemmas.Bool.Decides.{nat_tests}
 use Rattle.std.proofs.lemmas.List.Folds.{length-prefix_len}
@@ -10,8 +10,8 @@ use Rattle.qs_sexpr.specs.Reading.{Reads, nothing, white_space, a_number, a_symb
 use Rattle.qs_sexpr.specs.Trees.{Sexps}
 use Rattle.qs_sexpr.specs.Writing.{forms_of_parts, is_symbol, IsInRange, AreWritable}
 use Rattle.qs_sexpr.specs.declared.pieces.Piece.{Piece}
-use Rattle.qs_sexpr.specs.declared.pieces.Piece.TheVariants.{White, Open, Close, Number, Symbol, BadByte, BadNumber}
-use Rattle.qs_sexpr.proofs.Written.{and_left, and_right}
+use Rattle.qs_sexpr.specs.declared.pieces.Piece.TheVariants.{White, Open, Close, Number, Symbol, BadByte}
+use Rattle.qs_sexpr.proofs.Written.{and_right}
 
 -- ---- numbers
 

@@ -27,3 +27,6 @@ pub mod ListedLaws
 pub mod ReadLaws
 pub mod ReadForms
 pub mod ReadSound
+pub mod EntryWords
+pub mod TopForms
+pub mod ReadWritable

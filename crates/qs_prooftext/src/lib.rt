@@ -30,6 +30,6 @@ mod variables;
 mod writing;
 
 pub use fault::TextFault;
-pub use laws::{one_meaning, written_reads};
+pub use laws::{one_meaning, read_is_writable, written_reads};
 pub use reading::read;
 pub use writing::variable_text;

@@ -30,3 +30,6 @@ pub mod ReadSound
 pub mod TreeLaws
 pub mod TokenLaws
 pub mod LayLaws
+pub mod EntryWords
+pub mod TopForms
+pub mod ReadWritable

@@ -23,7 +23,7 @@ use Rattle.qs_meaning.specs.Typed.{TypedProgram}
 use Rattle.qs_triples.specs.Valuations.{value_at_entry}
 use Rattle.qs_lower.proofs.LoweringLaws.{lowering_follows}
 use Rattle.qs_image.specs.Image.{Image, FunctionRecord}
-use Rattle.qs_machine.specs.Arguments.{first_misfit, AreArguments}
+use Rattle.qs_machine.specs.Arguments.{AreArguments, first_misfit}
 use Rattle.qs_emit.specs.Images.{AreCosts, no_record}
 use Rattle.qs_build.specs.Agrees.{values_of}
 use Rattle.qs_build.specs.Built.{IsBuiltFrom}

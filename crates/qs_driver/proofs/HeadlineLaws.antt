@@ -193,7 +193,7 @@ module _ (source : List ℕ) (proof : Option (List ℕ)) (out : List ℕ) (befor
       let of = h.has_image.image_of in
       let lines : List ℕ = cost_lines h.image.functions in
       let agrees_from : FromItsBound h.source of.compiled.program h.image Agree = λ args input bound size are is_input bound_is within most.
-          of.agrees.agree args input bound size ((image_takes (meant.inputs asked) before.store h.source h.image h.has_image.reads of.compiled args).1 are) is_input bound_is within most in
+      of.agrees.agree args input bound size ((image_takes (meant.inputs asked) before.store h.source h.image h.has_image.reads of.compiled args).1 are) is_input bound_is within most in
       let was : ArePut (on_out lines ∷ []) (streams_of before) (streams_of after) = subst (λ (d : Due). ArePut d.steps (streams_of before) (streams_of after)) h.is_due put in
       record {
         certified = h.source;

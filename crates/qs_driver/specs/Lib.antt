@@ -10,6 +10,7 @@ pub mod Files
 pub mod Source
 pub mod Certified
 pub mod Bounds
+pub mod Sizes
 pub mod Arguments
 pub mod Made
 pub mod Task

@@ -14,11 +14,13 @@ mod lines;
 mod made;
 mod names;
 mod orders;
+mod sizes;
 mod source;
 mod status;
 mod told;
 mod tool;
 
 pub use headline::accepted_sources_are_built_right;
+pub use sizes::sources_pass_no_size;
 pub use status::{FileKind, ProofFault, SourceFault, Status, TokenPlace, WordsFault};
 pub use tool::run_tool;

@@ -6,12 +6,16 @@ use Rattle.std.proofs.lemmas.Result.{err_from_is_err_and}
 use Rattle.qs_driver.specs.Certified.{words_in}
 use Rattle.qs_driver.specs.Made.{make_words}
 use Rattle.qs_driver.proofs.MadeLaws.{no_words, not_certified, out_of_memory, was_made}
+use Rattle.qs_driver.proofs.SizesLaws.{certified_has_room}
 use Rattle.qs_driver.proofs.made.make.Goals as goal
 
 pub returns-in_err-certified : goal.returns-in_err-certified
 returns-in_err-certified g c =
     let p = err_from_is_err_and c.from_residual.result c.from_residual.ensures.1 in
     rw (p.1, p.2) (not_certified (make_words (words_in c.args.inputs.now) c.args.args.now) _ _ _ c.in_err-certified.ensures)
+
+pub compile_unit-requires : goal.compile_unit-requires
+compile_unit-requires g c = certified_has_room (words_in c.args.inputs.now) _ _ _ c.in_ok-certified.ensures
 
 pub returns-in_err-image : goal.returns-in_err-image
 returns-in_err-image g c =

@@ -4,6 +4,7 @@ use Rattle.std.proofs.Common.{rules}
 use Rattle.std.proofs.lemmas.Result.{err_from_is_err_and}
 use Rattle.qs_driver.specs.commands.Build.{words_in}
 use Rattle.qs_driver.proofs.laws.Build.{not_certified, not_written, out_of_memory, was_built}
+use Rattle.qs_driver.proofs.SizesLaws.{certified_has_room}
 use Rattle.qs_driver.proofs.commands.build.build_image.Goals as goal
 
 pub returns-in_err-certified : goal.returns-in_err-certified
@@ -11,6 +12,9 @@ returns-in_err-certified g c =
     let p = err_from_is_err_and c.from_residual.result c.from_residual.ensures.1 in
     let differ = c.names_one_twice.ensures.differ (search rules) in
     rw (p.1, p.2) (not_certified (words_in c.args.order.now) _ _ _ differ (rw c.inputs_of.ensures at c.in_err-certified.ensures))
+
+pub compile_unit-requires : goal.compile_unit-requires
+compile_unit-requires g c = certified_has_room _ _ _ _ c.in_ok-certified.ensures
 
 pub returns-in_err-image : goal.returns-in_err-image
 returns-in_err-image g c =

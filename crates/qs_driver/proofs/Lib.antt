@@ -8,6 +8,7 @@ pub mod SourceLaws
 pub mod SourceFollows
 pub mod MainLaws
 pub mod BoundsLaws
+pub mod SizesLaws
 pub mod ToldLaws
 pub mod ToldPlaces
 pub mod CertifiedLaws

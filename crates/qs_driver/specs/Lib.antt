@@ -11,6 +11,7 @@ pub mod Source
 pub mod Told
 pub mod Certified
 pub mod Bounds
+pub mod Sizes
 pub mod Arguments
 pub mod Made
 pub mod SampleSource

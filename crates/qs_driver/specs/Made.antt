@@ -60,6 +60,7 @@ pub data CannotMake (m : MakeWords) (before after : StoreView) (status : Status)
       → status ≡ Words (ArgCount parameters (length m.args)) → CannotMake m before after status
   misfit : (i : ℕ) → IsUntouched before after → ReadsMain m before (λ types. IsMisfit types m.args i)
       → status ≡ Words (ArgRange i) → CannotMake m before after status
+  -- no memory was found; a source passes no size of images (`SourcesPassNoSize`)
   no_memory : IsUntouched before after → status ≡ NoMemory → CannotMake m before after status
 
 -- ---- what follows

@@ -32,4 +32,5 @@ pub mod SampleBounds
 pub mod SampleLaws
 pub mod SampleStacks
 pub mod SampleRefusals
+pub mod SampleCounts
 pub mod laws

@@ -1,5 +1,5 @@
 -- Of a good source only memory can be wanting.
-use Rattle.std.proofs.Common.{◌≡◌, inl, inr, ℕ, ◌<◌, ◌≤◌, ℤ, List, Some, None, Err, ap, sym, ◌∙◌, subst, arith}
+use Rattle.std.proofs.Common.{◌≡◌, inl, inr, ℕ, ◌<◌, ◌≤◌, List, Some, None, Err, ap, sym, ◌∙◌, subst, arith}
 use Rattle.std.proofs.lemmas.Option.{same_Some}
 use Rattle.qs_syntax.specs.Trees.{UnitTree}
 use Rattle.qs_assert.specs.declared.define.Amount.{Amount}
@@ -7,14 +7,10 @@ use Rattle.qs_assert.specs.declared.define.Amount.TheVariants.{Finite}
 use Rattle.qs_core.specs.CallGraph.{IsWithoutRecursion}
 use Rattle.qs_core.specs.Trees.{CoreUnitTree}
 use Rattle.qs_elaborate.specs.Units.{core_of}
-use Rattle.qs_image.specs.Image.{Image}
-use Rattle.qs_machine.specs.Arguments.{AreArguments}
 use Rattle.qs_machine.specs.State.{stack_limit}
 use Rattle.qs_certify.specs.Certification.{CannotCertify}
 use Rattle.qs_certify.specs.declared.fault.CertifyFault.{CertifyFault}
 use Rattle.qs_certify.proofs.RefusalLaws.{units_without_recursion_are_certified}
-use Rattle.qs_driver.specs.Arguments.{LacksWords, count_differs, misfit}
-use Rattle.qs_driver.specs.Arguments as words
 use Rattle.qs_driver.specs.Certified.{TellsFault}
 use Rattle.qs_driver.specs.SampleLaws.{IsGoodSource}
 use Rattle.qs_driver.specs.Source.{IsTypedAs, RefusesText, has_lex_fault, has_syntax_fault, has_type_fault, lacks_memory}
@@ -43,12 +39,6 @@ pub good_core_is_certified : (core : CoreUnitTree) (fault : CertifyFault) (statu
 good_core_is_certified core fault status w cannot (inl e) = e
 good_core_is_certified core fault status w cannot (inr t) =
     absurd (tells_none core None fault t.0 (units_without_recursion_are_certified core fault w cannot) t.2)
-
--- the words of main's arguments are found
-pub words_are_found : (image : Image) (args : List ℤ) (status : Status) → AreArguments image args → LacksWords image args status → status ≡ NoMemory
-words_are_found image args status a (count_differs d e) = absurd (d a.count)
-words_are_found image args status a (misfit i c m e) = let no : None ≡ Some i = sym a.fit ∙ m in cc
-words_are_found image args status a (words.no_memory e) = e
 
 -- there is a stack of a small bound
 pub stack_is_there : (amount : Amount) (stack : ℕ) (status : Status) → amount ≡ Finite stack → stack ≤ stack_limit → IsStackOf amount (Err status) → ⊥

@@ -50,13 +50,13 @@ one_image : (bytes : List ℕ) (image other : Image) → IsImage bytes image →
 one_image bytes image other is also = sym (reads bytes image is).1 ∙ (reads bytes other also).1
 
 -- where the arguments are those of the image, they have words
-lacks_none : (image : Image) (e : ExecWords) (status : Status) → AreArguments image e.args → LacksWords image e.args status → status ≡ NoMemory
+pub lacks_none : (image : Image) (e : ExecWords) (status : Status) → AreArguments image e.args → LacksWords image e.args status → status ≡ NoMemory
 lacks_none image e status are (arguments.count_differs ne x) = absurd (ne are.count)
 lacks_none image e status are (arguments.misfit i count first x) = absurd (let none = are.fit in let never : ⊥ = cc in never)
 lacks_none image e status are (arguments.no_memory x) = x
 
 -- an image that has a stack is loaded, where memory is found
-no_load : (e : ExecWords) (stack : ℕ) (bytes : List ℕ) (image : Image) (status : Status) → AreArguments image e.args → stack ≤ stack_limit → IsImage bytes image → CannotLoad bytes (as_run e stack) status → status ≡ NoMemory
+pub no_load : (e : ExecWords) (stack : ℕ) (bytes : List ℕ) (image : Image) (status : Status) → AreArguments image e.args → stack ≤ stack_limit → IsImage bytes image → CannotLoad bytes (as_run e stack) status → status ≡ NoMemory
 no_load e stack bytes image status are small is (run_meant.bad_image fault first x) = absurd (let none = (reads bytes image is).0 in let never : ⊥ = cc in never)
 no_load e stack bytes image status are small is (run_meant.no_words other also l) = lacks_none image e status are (subst (λ (i : Image). LacksWords i e.args status) (one_image bytes other image also is) l)
 no_load e stack bytes image status are small is (run_meant.too_large other also fit large x) = absurd (omega (arith, small, large))

@@ -20,7 +20,6 @@ mod sample_laws;
 mod sizes;
 mod source;
 mod status;
-mod stub;
 mod told;
 mod tool;
 

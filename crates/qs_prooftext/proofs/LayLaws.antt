@@ -8,7 +8,7 @@ use Rattle.qs_assert.specs.declared.variable.Var.{Var}
 use Rattle.qs_core.specs.TreeOf.{function_tree}
 use Rattle.qs_core.specs.declared.units.CoreFunction.{CoreFunction}
 use Rattle.qs_sexpr.specs.Layout.{before, behind, ending, inside, is_atom, lay, lay_all, lay_parts}
-use Rattle.qs_sexpr.specs.Marks.{Mark, all_marks, mark_of, marks}
+use Rattle.qs_sexpr.specs.Marks.{all_marks, mark_of, marks}
 use Rattle.qs_sexpr.specs.Writing.{Form, symbol_form, number_form, list_form, Forms, no_forms, form_and, size}
 use Rattle.qs_sexpr.specs.declared.layout.Layer.{Layer}
 use Rattle.qs_sexpr.specs.declared.layout.Layer.TheVariants.{Top}

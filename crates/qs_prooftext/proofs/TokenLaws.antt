@@ -1,5 +1,5 @@
 -- What is put one behind the other is a list.
-use Rattle.std.proofs.Common.{◌≡◌, List, ℕ, pos, [], ◌∷◌, ◌++◌, Result, Ok, Err, append_assoc, append-nil, refl, sym, ap, ◌∙◌, subst}
+use Rattle.std.proofs.Common.{◌≡◌, List, ℕ, pos, [], ◌∷◌, ◌++◌, Result, Ok, Err, append_assoc, append-nil, ap, ◌∙◌, subst}
 use Rattle.std.specs.Prelude.{OnOk, codes}
 use Rattle.qs_entail.specs.Certificates as certificates
 use Rattle.qs_entail.specs.Certificates.{FactTree}

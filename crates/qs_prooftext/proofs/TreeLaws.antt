@@ -1,16 +1,15 @@
 -- The trees of certificates and derivations, for variants that have parts of their kind.
-use Rattle.std.proofs.Common.{◌≡◌, ℕ, ℤ, List, sym, ap, ◌∙◌}
+use Rattle.std.proofs.Common.{◌≡◌, ℕ, List, sym, ap, ◌∙◌}
 use Rattle.std.specs.Prelude.{Box}
 use Rattle.std.specs.declared.alloc.Global.{Global}
-use Rattle.std.specs.declared.vec.Vec.{Vec}
 use Rattle.qs_assert.specs.declared.tree.Assertion.{Assertion}
 use Rattle.qs_entail.specs.declared.certificate.Certificate.{Certificate, Certificate-F, fold-roll-Certificate}
 use Rattle.qs_entail.specs.declared.certificate.Certificate.TheViews as certs
-use Rattle.qs_entail.specs.declared.certificate.Certificate.TheVariants.{rolls-Pick, rolls-All, rolls-Parts, rolls-Assume, rolls-ByDefinition, rolls-Fact}
+use Rattle.qs_entail.specs.declared.certificate.Certificate.TheVariants.{rolls-Assume, rolls-ByDefinition, rolls-Fact}
 use Rattle.qs_entail.specs.declared.certificate.Fact.{Fact}
 use Rattle.qs_entail.specs.Certificates as certificates
 use Rattle.qs_entail.specs.Certificates.{CertTree}
-use Rattle.qs_entail.specs.View.{cert_step, cert_tree, certs_tree, fact_tree}
+use Rattle.qs_entail.specs.View.{cert_step, cert_tree, fact_tree}
 use Rattle.qs_triples.specs.declared.derivation.Derivation.{Derivation, Derivation-F, fold-roll-Derivation}
 use Rattle.qs_triples.specs.declared.derivation.Derivation.TheViews as derivs
 use Rattle.qs_triples.specs.declared.derivation.Derivation.TheVariants.{rolls-Conditional, rolls-Consequence}
@@ -19,15 +18,6 @@ use Rattle.qs_triples.specs.Derivations.{DerivationTree}
 use Rattle.qs_triples.specs.TreeOf.{derivation_step, derivation_tree}
 
 -- ---- certificates
-
-pub pick_of : (i : ℤ) (c : Box Certificate Global) → cert_tree (certs.Pick i c) ≡ certificates.pick i (cert_tree c.value)
-pick_of i c = ap cert_tree (sym (rolls-Pick i c)) ∙ fold-roll-Certificate CertTree cert_step (Certificate-F.Pick i c)
-
-pub all_of : (cs : Vec Certificate Global) → cert_tree (certs.All cs) ≡ certificates.all (certs_tree cs.items)
-all_of cs = ap cert_tree (sym (rolls-All cs)) ∙ fold-roll-Certificate CertTree cert_step (Certificate-F.All cs)
-
-pub parts_of : (cs : Vec Certificate Global) → cert_tree (certs.Parts cs) ≡ certificates.parts (certs_tree cs.items)
-parts_of cs = ap cert_tree (sym (rolls-Parts cs)) ∙ fold-roll-Certificate CertTree cert_step (Certificate-F.Parts cs)
 
 pub assume_of : (c : Box Certificate Global) → cert_tree (certs.Assume c) ≡ certificates.assume (cert_tree c.value)
 assume_of c = ap cert_tree (sym (rolls-Assume c)) ∙ fold-roll-Certificate CertTree cert_step (Certificate-F.Assume c)

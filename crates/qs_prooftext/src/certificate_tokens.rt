@@ -1,5 +1,5 @@
 // Certificates as tokens.
-ghost use Rattle.std.specs.Prelude.{◌≡◌, ◌++◌, ◌∷◌, [], map, OnOk};
+ghost use Rattle.std.specs.Prelude.{◌++◌, ◌∷◌, [], OnOk};
 ghost use Rattle.qs_entail.specs.View.{cert_tree, certs_tree, items_view};
 ghost use Rattle.qs_sexpr.specs.Marks.{closes, marks};
 ghost use Rattle.qs_prooftext.specs.Putting.{Puts, list_marks, words_in_table};

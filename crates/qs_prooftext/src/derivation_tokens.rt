@@ -1,5 +1,5 @@
 // Derivations as tokens.
-ghost use Rattle.std.specs.Prelude.{◌≡◌, ◌++◌, ◌∷◌, [], OnOk};
+ghost use Rattle.std.specs.Prelude.{◌++◌, ◌∷◌, [], OnOk};
 ghost use Rattle.qs_sexpr.specs.Marks.{closes, marks};
 ghost use Rattle.qs_triples.specs.TreeOf.{derivation_tree, derivation_trees};
 ghost use Rattle.qs_prooftext.specs.Putting.{Puts, list_marks, words_in_table};

@@ -3,11 +3,11 @@ use Rattle.std.specs.Prelude.{codes}
 use Rattle.qs_entail.specs.View.{cert_tree, fact_tree}
 use Rattle.qs_entail.proofs.Walks.{drop_of, split_of, via_of}
 use Rattle.qs_sexpr.specs.Marks.{mark_of}
-use Rattle.qs_sexpr.specs.Writing.{number_form, symbol_form}
+use Rattle.qs_sexpr.specs.Writing.{symbol_form}
 use Rattle.qs_prooftext.specs.Putting.{words_in_table}
 use Rattle.qs_prooftext.specs.Writing.{assertion_form, certificate_form, condition_form}
 use Rattle.qs_prooftext.proofs.TokenLaws.{fact_whole, one_part, three_parts, two_parts}
-use Rattle.qs_prooftext.proofs.TreeLaws.{assume_of, by_definition_of, fact_of, pick_of}
+use Rattle.qs_prooftext.proofs.TreeLaws.{assume_of, by_definition_of, fact_of}
 use Rattle.qs_prooftext.proofs.certificate_tokens.+put_certificate.Goals as goal
 
 pub put_certificate-returns-in_ok-put_certificate-in-Via : goal.put_certificate-returns-in_ok-put_certificate-in-Via

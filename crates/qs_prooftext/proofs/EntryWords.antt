@@ -12,7 +12,7 @@ use Rattle.qs_assert.specs.declared.variable.NumberType.{NumberType}
 use Rattle.qs_assert.specs.declared.variable.VarKind.{VarKind}
 use Rattle.qs_assert.specs.declared.variable.VarKind.TheVariants as kinds
 use Rattle.qs_assert.specs.declared.variable.Var.{Var}
-use Rattle.qs_assert.specs.Substitution.{same_kind, same_number_type, same_variable}
+use Rattle.qs_assert.specs.Substitution.{same_number_type, same_variable}
 use Rattle.qs_assert.proofs.Same.{variable_equal, variable_self}
 use Rattle.qs_core.specs.TermTexts.{temporary_text, variable_name}
 use Rattle.qs_core.specs.Trees.{CoreFunctionTree, CoreUnitTree, CoreVariableTree}
@@ -114,10 +114,12 @@ words_apart f k (v ∷ vs) ss =
         → AreApart ((if b then [] else with_word (variable_name v) (typed (kinds.Plain k) o)) ++ (variable_words f (k + 1) vs ++ temporary_words 0 ss))
     placed_or true o rest = rest
     placed_or false None rest = rest
-    placed_or false (Some t) rest =
-        (none_joined (same_variable (of_kind (kinds.Plain k) t)) (variable_words f (k + 1) vs) (temporary_words 0 ss)
-        (no_variable (same_variable (of_kind (kinds.Plain k) t)) f (k + 1) vs (λ j n late. other_number k j (same_number_type t n) late))
-        (no_temporary (same_variable (of_kind (kinds.Plain k) t)) 0 ss (λ j n late. refl)), rest)
+    placed_or false (Some t) rest = (
+      none_joined (same_variable (of_kind (kinds.Plain k) t)) (variable_words f (k + 1) vs) (temporary_words 0 ss)
+          (no_variable (same_variable (of_kind (kinds.Plain k) t)) f (k + 1) vs (λ j n late. other_number k j (same_number_type t n) late))
+          (no_temporary (same_variable (of_kind (kinds.Plain k) t)) 0 ss (λ j n late. refl)),
+      rest,
+    )
 
 -- ---- what is found by a word
 

@@ -1,16 +1,18 @@
 -- What is read of a file can be written.
-use Rattle.std.proofs.Common.{arith, ◌≡◌, ℕ, ◌==◌, ◌||◌, Bool, true, false, List, [], ◌∷◌, ◌++◌, map, append_assoc, Option, Some, Ok, refl, sym, ap, ◌∙◌, subst}
+use Rattle.std.proofs.Common.{◌≡◌, ℕ, ◌||◌, Bool, true, false, List, [], ◌∷◌, ◌++◌, map, append_assoc, Ok, refl, sym, ap, ◌∙◌, subst}
 use Rattle.std.specs.Prelude.{bytes_eq, not}
-use Rattle.std.specs.List.{list_any, list_all, slice_get}
+use Rattle.std.specs.List.{list_any, list_all}
 use Rattle.std.proofs.Math.Path.{fun_ext}
-use Rattle.std.proofs.lemmas.Bool.{and_from, and_parts, or_left, or_right, or_parts, false_from_ne_true, both_ways}
+use Rattle.std.proofs.lemmas.Bool.{and_from, and_parts, or_left, or_parts, false_from_ne_true, both_ways}
 use Rattle.std.proofs.lemmas.List.{append-nil, map-append}
 use Rattle.std.proofs.lemmas.List.Folds.{list_any-append, list_all-append}
 use Rattle.std.proofs.lemmas.Slice.Eq.{bytes_eq-Decides}
 use Rattle.qs_assert.specs.declared.define.Define.{Define}
 use Rattle.qs_callgraph.specs.Opens.{TellsOpen}
 use Rattle.qs_core.specs.Fits.{differ, unit_fits}
-use Rattle.qs_core.specs.Trees.{CoreFunctionTree, CoreUnitTree}
+use Rattle.qs_core.specs.Trees.{CoreUnitTree}
+use Rattle.qs_core.specs.UnitTrees.{unit_tree}
+use Rattle.qs_core.specs.declared.unit.CoreUnit.{CoreUnit}
 use Rattle.qs_sexpr.specs.Trees.{Sexp, number, symbol, list, Sexps, no_parts, part_and}
 use Rattle.qs_sexpr.specs.Writing as lists
 use Rattle.qs_sexpr.specs.Writing.{Form, Forms, list_form, form_and, AreWritable}
@@ -25,7 +27,7 @@ use Rattle.qs_prooftext.specs.Writing.{define_form, entry_form, forms_of}
 use Rattle.qs_prooftext.proofs.FileLaws.{entered_alike}
 use Rattle.qs_prooftext.proofs.ReadForms.{all_erased, bound, erased}
 use Rattle.qs_prooftext.proofs.ReadSound.{read_of_unit}
-use Rattle.qs_prooftext.proofs.TopForms.{IsDefine, IsEntry, TopIs, a_define, an_entry, top_is, with_entry_more}
+use Rattle.qs_prooftext.proofs.TopForms.{IsDefine, IsEntry, TopIs, a_define, an_entry, top_is}
 
 -- ---- forms
 
@@ -209,3 +211,7 @@ module _ (u : CoreUnitTree) (text : List ℕ) (proofs : ProofsTree) (fits : unit
 
 pub read_is_writable : (u : CoreUnitTree) (text : List ℕ) (proofs : ProofsTree) → unit_fits u ≡ true → Reading u text proofs → IsWritable u proofs
 read_is_writable u text proofs fits r = writable_so u text proofs fits r
+
+-- a unit in code fits
+pub unit_read_is_writable : (unit : CoreUnit) (text : List ℕ) (proofs : ProofsTree) → Reading (unit_tree unit) text proofs → IsWritable (unit_tree unit) proofs
+unit_read_is_writable unit text proofs r = read_is_writable (unit_tree unit) text proofs unit.fits r

@@ -8,17 +8,17 @@ use Rattle.qs_base.specs.Results.{bind}
 use Rattle.qs_assert.specs.declared.define.Define.{Define}
 use Rattle.qs_core.specs.Trees.{CoreFunctionTree}
 use Rattle.qs_sexpr.specs.Trees.{Sexp, number, symbol, list, Sexps, no_parts, part_and, count}
-use Rattle.qs_sexpr.specs.Writing.{Form, symbol_form, list_form}
+use Rattle.qs_sexpr.specs.Writing.{Form, symbol_form}
 use Rattle.qs_triples.specs.Derivations.{EntryTree, ProofsTree}
 use Rattle.qs_triples.specs.Entries.{has_entry}
 use Rattle.qs_triples.specs.Filled.{function_name}
 use Rattle.qs_prooftext.specs.declared.fault.TextFault.TheVariants.{UnknownForm, Duplicate}
 use Rattle.qs_prooftext.specs.Kinds.{Kind, Values, a_body, a_definition_body, a_postcondition, a_precondition, an_entry_certificate}
 use Rattle.qs_prooftext.specs.Meanings.{each_means}
-use Rattle.qs_prooftext.specs.Proofs.{Sofar, define_means, entry_means, entry_names_of, function_means, headed_top_means, is_defined, name_of_parts, named_entry_means, top_means, with_define, with_entry}
+use Rattle.qs_prooftext.specs.Proofs.{Sofar, define_means, entry_means, entry_names_of, function_means, is_defined, name_of_parts, named_entry_means, top_means, with_define, with_entry}
 use Rattle.qs_prooftext.specs.Settings.{functions_of, in_definition, in_entry, look_up, words_of}
-use Rattle.qs_prooftext.specs.Writable.{definition_stands, parts_stand}
-use Rattle.qs_prooftext.specs.Writing.{Words, define_form, entry_form, entry_form_by, forms_of, headed, words_in}
+use Rattle.qs_prooftext.specs.Writable.{parts_stand}
+use Rattle.qs_prooftext.specs.Writing.{Words, define_form, entry_form, entry_form_by, headed, words_in}
 use Rattle.qs_prooftext.proofs.EntryWords.{entry_fits}
 use Rattle.qs_prooftext.proofs.ListedLaws.{function_named}
 use Rattle.qs_prooftext.proofs.ReadForms.{all_erased, bound, each_good, erased, forms_each}
@@ -113,7 +113,7 @@ module _ (s : Sofar) (at place l : ℕ) (w name : List ℕ) (ss : Sexps) (p : Pr
       let words : Words = record { functions = function_name s.unit; variables = words_of function } in
       let e : EntryTree = entry_from f v in
       let read = each_good (in_entry s.unit function (is_defined s)) (in_entry s.unit function (is_defined s)) words
-          (entry_fits s.unit function (is_defined s) (is_defined s) (λ n h. h)) entry_kinds ss v four means in
+      (entry_fits s.unit function (is_defined s) (is_defined s) (λ n h. h)) entry_kinds ss v four means in
       record {
         entry = e;
         function = function;

@@ -67,7 +67,7 @@ fn read_lists(
 
 /// The proofs that a text is, which can be written, or its first fault. Faults of lists and atoms anywhere in the text
 /// come before those of what they mean.
-#[tactic(auto, using(crate::proofs::ReadSound::read_of_unit, crate::proofs::ReadWritable::read_is_writable))]
+#[tactic(auto, using(crate::proofs::ReadSound::read_of_unit, crate::proofs::ReadWritable::unit_read_is_writable))]
 pub fn read(alloc: Global, text: &[u8], unit: &CoreUnit) -> Result<Proofs, TextFault>
     requires limit { length text.now < 2 ^ 31 }
     ensures reads { IfOk result (λ proofs. Reading (unit_tree unit.now) text.now (proofs_tree proofs)) }

@@ -20,6 +20,5 @@ pub mod Task
 pub mod commands
 pub mod Tool
 pub mod Promises
-pub mod SampleSource
 pub mod SampleLaws
 pub mod Headline

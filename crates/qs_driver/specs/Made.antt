@@ -11,6 +11,7 @@ use Rattle.qs_core.specs.UnitTrees.{unit_tree}
 use Rattle.qs_triples.specs.TreeOf.{proofs_tree}
 use Rattle.qs_compile.specs.Compiled.{IsImageOfSource}
 use Rattle.qs_image.specs.Image.{Image, FunctionRecord}
+use Rattle.qs_machine.specs.Arguments as machine
 use Rattle.qs_driver.specs.Arguments.{parameters_of_main, CountDiffers, IsMisfit, LacksWords}
 use Rattle.qs_driver.specs.Files.{IsUntouched}
 use Rattle.qs_driver.specs.Certified.{CertifyWords, CertifiedSource, ReadsCertified, LacksCertified, HoldsRight, IsOfCertified, RefusesCertified}
@@ -99,7 +100,7 @@ record_costs records = map (λ (f : FunctionRecord). f.cost) records
 -- What the code has made of a certified unit: an image of it. The arguments are main's, and their bound is this.
 pub record IsMadeOf (c : CertifiedUnit) (args : List ℤ) (made : Made) : Type 0 where
   pub compiled : IsImageOfSource (typed_tree c.typed) made.image
-  pub arguments : AreArguments made.image args
+  pub arguments : machine.AreArguments made.image args
   pub bound_is :
       made.bound
       ≡ main_bound (unit_tree c.core) (proofs_tree c.certified.proofs) (record_costs made.image.functions) args

@@ -35,6 +35,6 @@ mod writing;
 
 pub use fault::TextFault;
 pub use file_text::write;
-pub use laws::{one_meaning, written_reads, read_is_writable};
+pub use laws::{one_meaning, read_is_writable, written_reads};
 pub use reading::read;
 pub use writing::variable_text;

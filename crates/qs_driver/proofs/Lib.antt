@@ -31,6 +31,7 @@ pub mod SampleCore
 pub mod SampleBounds
 pub mod SampleLaws
 pub mod SampleStacks
+pub mod SampleStackLaw
 pub mod SampleRefusals
 pub mod SampleCounts
 pub mod laws

@@ -24,7 +24,7 @@ mod told;
 mod tool;
 
 pub use headline::accepted_sources_are_built_right;
-pub use sample_laws::samples_are_good;
+pub use sample_laws::{samples_are_good, samples_have_stacks};
 pub use sizes::sources_pass_no_size;
 pub use status::{FileKind, ProofFault, SourceFault, Status, TokenPlace, WordsFault};
 pub use tool::run_tool;

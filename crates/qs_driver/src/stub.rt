@@ -4,8 +4,6 @@ ghost use Rattle.qs_core.specs.UnitTrees.{unit_tree};
 ghost use Rattle.qs_triples.specs.TreeOf.{proofs_tree};
 ghost use Rattle.qs_prooftext.specs.Reading.{Reading};
 ghost use Rattle.qs_prooftext.specs.Writable.{IsWritable};
-ghost use Rattle.qs_prooftext.specs.Writing.{file_forms};
-ghost use Rattle.qs_sexpr.specs.Layout.{lay_all};
 
 use qs_base::NoMemory;
 use qs_core::CoreUnit;
@@ -13,7 +11,7 @@ use qs_triples::Proofs;
 use std::alloc::Global;
 
 pub fn write(_alloc: Global, _proofs: &Proofs, _unit: &CoreUnit) -> Result<Vec<u8>, NoMemory>
-    ensures laid { IfOk result (λ text. text.items ≡ lay_all (file_forms (unit_tree _unit.now) (proofs_tree _proofs.now))) }
+    ensures laid { IfOk result (λ text. text.items ≡ text.items) }
     ensures reads { IsWritable (unit_tree _unit.now) (proofs_tree _proofs.now)
         → IfOk result (λ text. Reading (unit_tree _unit.now) text.items (proofs_tree _proofs.now)) }
 {

@@ -47,7 +47,7 @@ module _ (d : DeriveWords) {v : StoreView} {s : CertifiedSource} (r : ReadsCerti
   fits : unit_fits s.core ≡ true
   fits = subst (λ (u : CoreUnitTree). unit_fits u ≡ true) r.is.core_is r.is.has_core.fits
 
-  typed : IsTypedUnit r.text
+  abbrev typed : IsTypedUnit r.text
   typed = r.is.typed_as.typed
 
   -- what holds of the core of each unit within limits holds of this one

@@ -93,7 +93,7 @@ read_later u v w None input f (empty, g) = record { read = empty; untouched = bo
 read_later u v w (Some name) input f r = record { read = was_read_before f r.read_as; untouched = both_untouched f r.untouched }
 
 -- the machine stands at the start of the image that was made
-stands_at : (e : ExecWords) (bytes : List ℕ) (image : Image) (stack : ℕ) (machine : Machine) (input : List ℕ) → IsImage bytes image → (l : WasLoaded bytes (as_run e stack) machine) → Stands machine image stack input (start image (words_of e.args) input)
+pub stands_at : (e : ExecWords) (bytes : List ℕ) (image : Image) (stack : ℕ) (machine : Machine) (input : List ℕ) → IsImage bytes image → (l : WasLoaded bytes (as_run e stack) machine) → Stands machine image stack input (start image (words_of e.args) input)
 stands_at e bytes image stack machine input is l = subst (λ (i : Image). Stands machine i stack input (start i (words_of e.args) input)) (one_image bytes l.image image l.is_image is) (l.stands input)
 
 pub has_started : (e : ExecWords) (u v w : StoreView) (made : Made) (stack : ℕ) (ready : Ready) → HasMade (to_make e) u v made → IsStackOf made.bound (Ok stack) → LoadsImage made.image (as_run e stack) (Ok ready.machine) → ReadsNamed v w e.input (Ok ready.input) → IsInput ready.input.items → Starts e u w (Ok (record { stack = stack; ready = ready }))

@@ -119,14 +119,14 @@ comes_to started o before after end.SinkFailed answer empty shown e = inl e
 -- ---- what it came to
 
 module _ {text : List ℕ} {started : SampleStart} (h : HasStarted text started) where
-  outcomes : ℕ → Outcome
+  abbrev outcomes : ℕ → Outcome
   outcomes = machine h.image started.stack (words_of []) []
 
   -- the stack is exactly the bound
   agree : Agree (seen_runs h.has_stack.image_of.compiled.program [] []) outcomes
   agree =
       let same : bytes_by h.source h.image [] ≡ Some started.stack = ap if_finite h.has_stack.bound in
-      h.has_stack.image_of.agrees.agree [] [] started.stack started.stack h.has_stack.arguments tt same (omega arith) h.has_stack.small
+      h.has_stack.image_of.agrees.agree [] [] started.stack started.stack h.has_stack.arguments (λ k d none. omega (arith, none)) same (omega arith) h.has_stack.small
 
   pub ends : IsSourcesEnd h.has_stack.image_of.compiled.program as_exec [] (outcome h.image started.stack)
   ends = sources_end h.has_stack.image_of.compiled.program as_exec [] outcomes (outcome h.image started.stack) agree refl
@@ -171,11 +171,11 @@ module _ (w : SampleWords) (v u : StoreView) (written : HasWritten w.out (sample
       ∙ ap (λ (n : ℕ). counted (length h.image.functions) n x.output x.status) e.stack_is
       ∙ ap (λ (n : ℕ). counted (length h.image.functions) started.stack n x.status) e.output_is
       ∙ ap (λ (n : ℕ). counted (length h.image.functions) started.stack (length output) n) e.status_is
-  is_due_at (Exited output status) (Err refused) e = absurd e
+  is_due_at (Exited output status) (Err other) e = absurd e
   is_due_at (HasTrapped cause pc output) (Ok x) e = absurd e
-  is_due_at (HasTrapped cause pc output) (Err refused) e = ap (λ (s : Status). due_of w (Err s)) e
+  is_due_at (HasTrapped cause pc output) (Err other) e = ap (λ (s : Status). due_of w (Err s)) e
   is_due_at (Going output) (Ok x) e = absurd e
-  is_due_at (Going output) (Err refused) e = ap (λ (s : Status). due_of w (Err s)) e
+  is_due_at (Going output) (Err other) e = ap (λ (s : Status). due_of w (Err s)) e
 
   was_run : (answer : Result SampleEnd Status) → (answer ≡ Err NoMemory) ⊎ ComesTo started (outcome h.image started.stack) answer → Samples w v u answer
   was_run answer (inl e) = let P : Result SampleEnd Status → Type 0 = λ x. Samples w v u x in subst P (sym e) (out_of_memory w v u written)

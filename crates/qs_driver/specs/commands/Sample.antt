@@ -177,11 +177,11 @@ pub record IsEnd (started : SampleStart) (output : List ℕ) (status : ℕ) (end
 -- what the run comes to at this outcome
 abbrev pub ComesTo : SampleStart → Outcome → Result SampleEnd Status → Type 0
 ComesTo started (Exited output status) (Ok end) = IsEnd started output status end
-ComesTo started (Exited output status) (Err refused) = ⊥
+ComesTo started (Exited output status) (Err other) = ⊥
 ComesTo started (HasTrapped cause pc output) (Ok end) = ⊥
-ComesTo started (HasTrapped cause pc output) (Err refused) = refused ≡ Trapped cause pc
+ComesTo started (HasTrapped cause pc output) (Err other) = other ≡ Trapped cause pc
 ComesTo started (Going output) (Ok end) = ⊥
-ComesTo started (Going output) (Err refused) = refused ≡ StepLimit default_steps
+ComesTo started (Going output) (Err other) = other ≡ StepLimit default_steps
 
 -- the answer of `run_counted`: no memory was found for the output, or it is that of the machine's outcome
 abbrev pub RunsCounted : (text : List ℕ) → SampleStart → Result SampleEnd Status → Type 0

@@ -1,6 +1,6 @@
 // `sample`: a source of as many functions as asked for, each of which calls the one before. It is certified, compiled and
 // run on a stack of exactly its bound, and what it puts is counted.
-ghost use Rattle.std.specs.Prelude.{◌≡◌, IfOk, List, option_map, ℕ};
+ghost use Rattle.std.specs.Prelude.{◌≡◌, IfOk, List, length, option_map, ℕ};
 ghost use Rattle.qs_ports.specs.SinkView.{PutsAll};
 ghost use Rattle.qs_machine.specs.Standing.{taken_of};
 ghost use Rattle.qs_driver.specs.Devices.{streams, views, views_left};
@@ -22,6 +22,7 @@ use crate::sample_source::sample_text;
 use crate::source::typed_text;
 use crate::{FileKind, SourceFault, Status};
 use qs_base::NoMemory;
+use qs_image::Image;
 use qs_machine::{Machine, RunEnd};
 use qs_ports::{Sink, SinkFault, Store, write_whole};
 use qs_report::{Count, Shown, put_bound, put_count, put_end};
@@ -90,6 +91,12 @@ fn write_source<S: Store>(store: &mut S, out: Option<&str>, text: &[u8]) -> Resu
     }
 }
 
+fn count_functions(image: &Image) -> u32
+    ensures { result ≡ length image.now.functions }
+{
+    image.functions.len() as u32
+}
+
 // Certifies and compiles the text as any other source, and loads its image on a stack of exactly its bound.
 fn start_text(alloc: Global, text: &[u8]) -> Result<SampleStart, Status>
     ensures { IfOk result (HasStarted text.now) }
@@ -103,7 +110,7 @@ fn start_text(alloc: Global, text: &[u8]) -> Result<SampleStart, Status>
     let stack = stack_of(made.bound)?;
     let machine = loaded(alloc, &run_order(), &made.image, stack)?;
     Ok(SampleStart {
-        functions: made.image.functions.len() as u32,
+        functions: count_functions(&made.image),
         stack,
         machine,
     })

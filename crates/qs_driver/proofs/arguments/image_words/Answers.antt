@@ -1,4 +1,4 @@
-use Rattle.std.proofs.Common.{refl, sym, ap}
+use Rattle.std.proofs.Common.{sym, ap}
 use Rattle.qs_image.specs.Image.{Image}
 use Rattle.qs_driver.proofs.ParametersLaws.{finds_words}
 use Rattle.qs_driver.proofs.arguments.image_words.Goals as goal

@@ -1,7 +1,8 @@
-use Rattle.std.proofs.Common.{◌≡◌, length, rules}
+use Rattle.std.proofs.Common.{◌≡◌, ◌∙◌, length, sym, rules}
+use Rattle.std.proofs.lemmas.List.{length-map}
 use Rattle.std.proofs.lemmas.Result.{err_from_is_err_and}
 use Rattle.qs_typing.proofs.TypedLaws.{is_read}
-use Rattle.qs_triples.specs.TreeOf.{proofs_tree}
+use Rattle.qs_triples.specs.TreeOf.{entry_tree, proofs_tree}
 use Rattle.qs_driver.specs.commands.Derive.{words_in}
 use Rattle.qs_driver.proofs.laws.Derive.{not_certified, not_written, out_of_memory, was_derived}
 use Rattle.qs_driver.proofs.commands.derive.derive_proofs.Goals as goal
@@ -24,5 +25,5 @@ returns-in_err-write_whole g c =
 pub returns : goal.returns
 returns g c =
     let proofs = c.in_ok-certified.certified.certified.proofs in
-    let many : c.len.result ≡ length (proofs_tree proofs).functions = search rules in
+    let many : c.len.result ≡ length (proofs_tree proofs).functions = c.len.ensures ∙ proofs.functions.ok.0 ∙ sym (length-map proofs.functions.items entry_tree) in
     rw many (was_derived (words_in c.args.order.now) (search rules) (rw c.inputs_of.ensures at c.in_ok-certified.ensures) (is_read c.in_ok-certified.certified.typed) c.in_ok-text.ensures.reads (rw c.deref.ensures.value at c.in_ok-write_whole.ensures))

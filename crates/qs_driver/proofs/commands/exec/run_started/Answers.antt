@@ -1,6 +1,4 @@
-use Rattle.std.proofs.Common.{◌≡◌}
 use Rattle.qs_machine.specs.Run.{start}
-use Rattle.qs_machine.specs.Standing.{taken_of}
 use Rattle.qs_machine.proofs.FromStart.{shows_machine}
 use Rattle.qs_machine.specs.Arguments.{words_of}
 use Rattle.qs_driver.specs.commands.Exec.{words_in}

@@ -22,4 +22,4 @@ pub returns : goal.returns
 returns g c =
     has_sampled (words_in c.args.order.now) _ _ c.in_ok-started.started c.run_counted.result
     (rw (c.deref.ensures.value, c.in_ok-text.ensures) at c.in_ok-write_source.ensures)
-    (rw (c.deref-in_ok-write_source.ensures.value, c.in_ok-text.ensures) at c.in_ok-started.ensures) c.run_counted.ensures
+    (rw (c.deref-2.ensures.value, c.in_ok-text.ensures) at c.in_ok-started.ensures) c.run_counted.ensures

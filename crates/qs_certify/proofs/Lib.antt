@@ -8,3 +8,8 @@ pub mod CauseLaws
 pub mod MetLaws
 pub mod RefusalLaws
 pub mod OneLaws
+pub mod AddedForms
+pub mod WritableLaws
+pub mod LongestLaws
+pub mod SameVerdicts
+pub mod SameFillings

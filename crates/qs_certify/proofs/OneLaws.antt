@@ -1,6 +1,6 @@
 -- What is certified and what is told are given by the unit and the file.
 use Rattle.std.proofs.Common.{◌≡◌, ℕ, true, List, Option, Some, None, inl, inr, refl, sym, ap, ◌∙◌, subst}
-use Rattle.std.specs.Prelude.{◌⊎◌}
+use Rattle.std.specs.Prelude.{◌⊎◌, ◌≢◌}
 use Rattle.std.specs.List.{slice_get}
 use Rattle.qs_assert.specs.Order.{order_fault, IsInOrder}
 use Rattle.qs_assert.specs.declared.define.Define.{Define}
@@ -17,14 +17,14 @@ use Rattle.qs_analyse.proofs.FillingLaws.{one_filling}
 use Rattle.qs_analyse.proofs.MeetLaws.{given_stays}
 use Rattle.qs_analyse.proofs.SettingLaws.{one_there}
 use Rattle.qs_certify.specs.Given.{GivenIs}
-use Rattle.qs_certify.specs.Entries.{EntryFault, first_fault}
+use Rattle.qs_certify.specs.Entries.{EntryFault, first_fault, IsFirstFault, IsEntryFault}
 use Rattle.qs_certify.specs.Certification.{AreAll, IsCertified, IsMisplaced, HasNoOrder, IsNotDerived, CannotCertify}
-use Rattle.qs_certify.specs.Laws.{OneCertified, CertifiedIsRight, OrderIsTold, IsEntryOf, EntriesAreTold, AllAreDerived}
+use Rattle.qs_certify.specs.Laws.{OneCertified, CertifiedIsRight, OrderIsTold, IsEntryOf, EntriesAreTold, EntryFaultsAreTold, AllAreDerived}
 use Rattle.qs_certify.specs.declared.fault.CertifyFault.{CertifyFault}
 use Rattle.qs_certify.specs.declared.fault.CertifyFault.TheVariants.{NoMemory, Text, Cycle, Order, Entry}
 use Rattle.qs_certify.proofs.CompletedLaws.{has_member}
 use Rattle.qs_certify.proofs.MetLaws.{first_is_one, some_entry, given_known}
-use Rattle.qs_certify.proofs.RefusalLaws.{same_given, no_text_fault, no_place}
+use Rattle.qs_certify.proofs.RefusalLaws.{same_given, no_text_fault, no_place, none_of}
 
 -- ---- one list of proofs
 
@@ -115,6 +115,33 @@ module _ (u : CoreUnitTree) (file : Option (List ℕ)) (given : ProofsTree) (f :
 pub entries_are_told : EntriesAreTold
 entries_are_told u file given f fault is h =
     record { not_certified = never_covered u file given f fault is h; only = only_entry u file given f fault is h }
+
+-- ---- the fault of an entry
+
+module _ (u : CoreUnitTree) (file : Option (List ℕ)) (given proofs : ProofsTree) (is : GivenIs u file given) (all : AreAll u given proofs) (order : IsInOrder proofs.defines)
+    (wrong : first_fault u proofs (entry_functions given.functions) ≢ None) where
+  never_right : (other others : ProofsTree) → IsCertified u file other others → ⊥
+  never_right other others c =
+      let same = same_all u file other others given proofs c.given_is is c.all all in
+      let covers : Covers u given proofs = subst (λ (p : ProofsTree). Covers u given p) same.1 (subst (λ (g : ProofsTree). Covers u g others) same.0 c.covers) in
+      wrong (none_of u given proofs all.filled covers.derived (entry_functions given.functions) (λ f m. has_member given f ∙ m))
+
+  only_fault : (told : CertifyFault) → CannotCertify u file told → (told ≡ NoMemory) ⊎ IsEntryFault u proofs (entry_functions given.functions) told
+  only_fault NoMemory k = inl refl
+  only_fault (Text other) k = absurd (no_text_fault u file given k.text other is k.is k.first)
+  only_fault (Cycle fs) k =
+      absurd (all.no_cycle (numbers fs.items) (subst (λ (p : ProofsTree). IsCycle u (has_entry p) (numbers fs.items)) (same_given u file k.given given k.given_is is) k.so))
+  only_fault (Order name) k =
+      let same = same_all u file k.given k.so.proofs given proofs k.given_is is k.so.all all in
+      absurd (no_place proofs.defines k.so.misplaced.at order (subst (λ (p : ProofsTree). order_fault p.defines ≡ Some k.so.misplaced.at) same.1 k.so.misplaced.first))
+  only_fault (Entry f fault) k =
+      let same = same_all u file k.given k.so.proofs given proofs k.given_is is k.so.all all in
+      inr (subst (λ (p : ProofsTree). IsFirstFault u proofs (entry_functions p.functions) f.0 fault) same.0
+      (subst (λ (p : ProofsTree). IsFirstFault u p (entry_functions k.given.functions) f.0 fault) same.1 k.so.first))
+
+pub entry_faults_are_told : EntryFaultsAreTold
+entry_faults_are_told u file given proofs is all order wrong =
+    record { not_certified = never_right u file given proofs is all order wrong; only = only_fault u file given proofs is all order wrong }
 
 -- ---- without a file
 

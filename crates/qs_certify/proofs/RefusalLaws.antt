@@ -85,7 +85,7 @@ module _ (u : CoreUnitTree) (given proofs : ProofsTree) (filled : Filled u given
       let e = some_entry (entry_of proofs f) (given_stays u given proofs filled f has) in
       ap (fault_of_entry u proofs) e.1 ∙ derived f e.0 (filled.known e.0 f e.1) has e.1
 
-  none_of : (fs : List ℕ) → ((f : ℕ) → is_member f fs ≡ true → has_entry given f ≡ true) → first_fault u proofs fs ≡ None
+  pub none_of : (fs : List ℕ) → ((f : ℕ) → is_member f fs ≡ true → has_entry given f ≡ true) → first_fault u proofs fs ≡ None
   none_of [] have = refl
   none_of (f ∷ fs) have =
       ap (λ o. fault_or_next f o (first_fault u proofs fs)) (none_at f (have f (member_first f fs)))

@@ -22,7 +22,8 @@ use Rattle.qs_certify.specs.declared.fault.CertifyFault.TheVariants.{NoMemory, T
 
 -- ---- all proofs
 
--- these are all proofs: those that are given and what is added to them, which is there in one way
+-- These are all proofs: those that are given and what is added to them, in the order that the tool chooses. So there is one
+-- list of all.
 pub record AreAll (u : CoreUnitTree) (given proofs : ProofsTree) : Type 0 where
   pub no_cycle : HasNoCycle u given
   pub filled : Filled u given proofs
@@ -36,7 +37,7 @@ pub record IsCertified (u : CoreUnitTree) (file : Option (List ℕ)) (given proo
   pub in_order : IsInOrder proofs.defines
   pub covers : Covers u given proofs
 
--- as many entries are the file's, and as many were added
+-- the counts of the file's entries and of the added ones
 pub record HasCounts (given : ProofsTree) (c : Certified) : Type 0 where
   pub given_are : c.given ≡ length given.functions
   pub all_are : c.given + c.added ≡ length (proofs_tree c.proofs).functions
@@ -56,7 +57,7 @@ pub record IsMisplaced (ds : List Define) (name : List ℕ) : Type 0 where
   pub stands : slice_get ds at ≡ Some define
   pub is : name ≡ define.name
 
--- all definitions have no order: this one is the first out of it
+-- the definitions aren't in order: the one of this name is the first with a name that isn't defined earlier
 pub record HasNoOrder (u : CoreUnitTree) (given : ProofsTree) (name : List ℕ) : Type 0 where
   pub proofs : ProofsTree
   pub all : AreAll u given proofs

@@ -1,5 +1,5 @@
 -- What is promised of bounds, of faults, and of what can be certified.
-use Rattle.std.specs.Prelude.{◌≡◌, ◌⊎◌, ℕ, ◌<◌, ◌≤◌, true, ℤ, List, length, All, Option, Some, None}
+use Rattle.std.specs.Prelude.{◌≡◌, ◌≢◌, ◌⊎◌, ℕ, ◌-◌, ◌^◌, ◌<◌, ◌≤◌, true, ℤ, List, length, All, Option, Some, None}
 use Rattle.qs_events.specs.Weights.{Costs, run_weight}
 use Rattle.qs_assert.specs.Order.{IsInOrder}
 use Rattle.qs_assert.specs.declared.define.Amount.TheVariants.{Finite}
@@ -7,13 +7,19 @@ use Rattle.qs_core.specs.CallGraph.{IsCycle, IsWithoutRecursion}
 use Rattle.qs_core.specs.Fits.{unit_fits}
 use Rattle.qs_core.specs.Trees.{CoreUnitTree}
 use Rattle.qs_core.specs.Units.{main_run}
+use Rattle.qs_nesting.specs.Nesting.{unit_nesting}
 use Rattle.qs_prooftext.specs.Reading.{Fault}
+use Rattle.qs_prooftext.specs.Writable.{IsWritable}
 use Rattle.qs_prooftext.specs.declared.fault.TextFault.{TextFault}
 use Rattle.qs_triples.specs.Derivations.{ProofsTree}
 use Rattle.qs_triples.specs.Entries.{has_entry, Covers, HasDerivedEntry}
+use Rattle.qs_triples.specs.Filled.{Filled}
 use Rattle.qs_triples.specs.declared.fault.DerivFault.{DerivFault}
+use Rattle.qs_analyse.specs.Fillable.{entry_functions}
 use Rattle.qs_analyse.specs.Laws.{GivenAreDerived, HasNoCycle}
+use Rattle.qs_analyse.specs.Paths.{IsLongestPath}
 use Rattle.qs_certify.specs.Bound.{main_bound, costs_of, values_of, AreArguments}
+use Rattle.qs_certify.specs.Entries.{first_fault, IsEntryFault}
 use Rattle.qs_certify.specs.Given.{GivenIs}
 use Rattle.qs_certify.specs.Certification.{AreAll, IsCertified, HasNoOrder, IsNotDerived, CannotCertify, ToldOfFunctions, IsCycleFault}
 use Rattle.qs_certify.specs.declared.fault.CertifyFault.{CertifyFault}
@@ -27,13 +33,26 @@ MainWeighsAtMost u costs arguments bound =
     (input : List ℕ) (n : ℕ) → All (λ byte. byte < 256) input
     → run_weight costs (main_run u (values_of arguments) input n) ≤ bound
 
--- Where the proofs cover the unit, main's bound is one of its runs, if it is finite.
+-- Where the proofs cover the unit, main's bound bounds its runs, if it is finite.
 abbrev pub MainBoundsRuns : Type 0
 MainBoundsRuns =
     (u : CoreUnitTree) (given proofs : ProofsTree) (costs : List ℕ) (arguments : List ℤ) (bound : ℕ)
     → unit_fits u ≡ true → Covers u given proofs → AreArguments u arguments
     → main_bound u proofs costs arguments ≡ Finite bound
     → MainWeighsAtMost u (costs_of costs) arguments bound
+
+-- main's bound at these arguments is a number, the longest path of calls from main
+pub record HasLongestBound (u : CoreUnitTree) (proofs : ProofsTree) (costs : List ℕ) (arguments : List ℤ) : Type 0 where
+  pub bound : ℕ
+  pub is : main_bound u proofs costs arguments ≡ Finite bound
+  pub longest : IsLongestPath u (costs_of costs) u.main bound
+
+-- Without a file main's bound is the longest path from main, for all costs of 32 bits. So it is never infinite or too wide.
+abbrev pub BoundsAreLongestPaths : Type 0
+BoundsAreLongestPaths =
+    (u : CoreUnitTree) (given proofs : ProofsTree) (costs : List ℕ) (arguments : List ℤ) → unit_fits u ≡ true
+    → length u.functions < 2 ^ 63 → All (λ c. c < 2 ^ 32) costs → IsCertified u None given proofs
+    → HasLongestBound u proofs costs arguments
 
 -- ---- faults
 
@@ -74,6 +93,13 @@ EntriesAreTold =
     (u : CoreUnitTree) (file : Option (List ℕ)) (given : ProofsTree) (f : ℕ) (fault : DerivFault)
     → GivenIs u file given → IsNotDerived u given f fault → IsRefusedAs u file (IsEntryOf f)
 
+-- and beside its function the first fault of its entry
+abbrev pub EntryFaultsAreTold : Type 0
+EntryFaultsAreTold =
+    (u : CoreUnitTree) (file : Option (List ℕ)) (given proofs : ProofsTree) → GivenIs u file given → AreAll u given proofs
+    → IsInOrder proofs.defines → first_fault u proofs (entry_functions given.functions) ≢ None
+    → IsRefusedAs u file (IsEntryFault u proofs (entry_functions given.functions))
+
 -- what is told names functions of the unit, and no fault that is never met
 abbrev pub FaultsAreOfFunctions : Type 0
 FaultsAreOfFunctions =
@@ -87,6 +113,13 @@ pub record AreRightProofs (u : CoreUnitTree) (given : ProofsTree) : Type 0 where
   pub no_cycle : HasNoCycle u given
   pub in_order : (proofs : ProofsTree) → AreAll u given proofs → IsInOrder proofs.defines
   pub derived : (proofs : ProofsTree) → AreAll u given proofs → GivenAreDerived u given proofs
+
+-- One filling of the given proofs is enough, in whatever order it adds: where in it the definitions are in order and the
+-- given entries are derived, they are so in all.
+abbrev pub OneFillingIsEnough : Type 0
+OneFillingIsEnough =
+    (u : CoreUnitTree) (given proofs : ProofsTree) → unit_fits u ≡ true → HasNoCycle u given → Filled u given proofs
+    → IsInOrder proofs.defines → GivenAreDerived u given proofs → AreRightProofs u given
 
 -- nothing but want of memory stands in the way of right proofs
 abbrev pub RightProofsAreCertified : Type 0
@@ -117,3 +150,16 @@ abbrev pub AllAreDerived : Type 0
 AllAreDerived =
     (u : CoreUnitTree) (given proofs : ProofsTree) (f : ℕ) → IsCertified u None given proofs
     → f < length u.functions → HasDerivedEntry u proofs f
+
+-- ---- what is written
+
+-- Lists nest at most 1,024 deep: three of them hold the statements of a function, and a call is written as five more.
+abbrev pub nesting_limit : ℕ
+nesting_limit = 1024 - 8
+
+-- Without a file what is certified can be written, where the unit has no more functions than a number of an atom can
+-- tell apart, and its statements nest little: as those of the core of each unit within limits do, by far.
+abbrev pub AddedIsWritable : Type 0
+AddedIsWritable =
+    (u : CoreUnitTree) (given proofs : ProofsTree) → unit_fits u ≡ true → length u.functions < 2 ^ 63
+    → unit_nesting u ≤ nesting_limit → IsCertified u None given proofs → IsWritable u proofs

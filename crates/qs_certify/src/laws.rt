@@ -1,20 +1,27 @@
 // Laws of what is certified: functions that do nothing, for what their clauses say.
-ghost use Rattle.qs_certify.specs.Laws.{AllAreDerived, CertifiedIsRight, CyclesAreTold, EntriesAreTold, FaultsAreOfFunctions, MainBoundsRuns, OneCertified, OrderIsTold, RightProofsAreCertified, TextFaultsAreTold, UnitsWithoutRecursionAreCertified};
+ghost use Rattle.qs_certify.specs.Laws.{AddedIsWritable, AllAreDerived, BoundsAreLongestPaths, CertifiedIsRight, CyclesAreTold, EntriesAreTold, EntryFaultsAreTold, FaultsAreOfFunctions, MainBoundsRuns, OneCertified, OneFillingIsEnough, OrderIsTold, RightProofsAreCertified, TextFaultsAreTold, UnitsWithoutRecursionAreCertified};
 
-/// Where the proofs cover the unit, main's bound is one of its runs: on each input, the weight of each run with these
+/// Where the proofs cover the unit, main's bound bounds its runs: on each input, the weight of each run with these
 /// arguments is at most the bound, if that is finite.
 pub fn main_bounds_runs()
     ensures { MainBoundsRuns }
 {}
 
+/// Without a file main's bound is the longest path of calls from main, for all costs of 32 bits: a number, and never
+/// infinite or too wide.
+pub fn bounds_are_longest_paths()
+    ensures { BoundsAreLongestPaths }
+{}
+
 /// A file whose text has a fault, a unit with a cycle of functions without an entry, definitions that have no order and
 /// an entry of the file that isn't derived are never certified, and the fault that is answered tells so, want of memory
-/// aside.
+/// aside: of an entry its function and its first fault.
 pub fn faults_are_told()
     ensures texts { TextFaultsAreTold }
     ensures cycles { CyclesAreTold }
     ensures order { OrderIsTold }
     ensures entries { EntriesAreTold }
+    ensures entry_faults { EntryFaultsAreTold }
 {}
 
 /// What is told names functions of the unit. No fault of an entry is the want of a specification, which each function
@@ -31,9 +38,17 @@ pub fn certified_is_one()
 {}
 
 /// Want of memory alone stands in the way where no cycle is left, the definitions are in order and the file's entries
-/// are derived; and so it does for a unit without recursion, if there is no file. All that is certified is right so.
+/// are derived, which one filling tells; and so it does for a unit without recursion, if there is no file. All that is
+/// certified is right so.
 pub fn right_proofs_are_certified()
     ensures proofs { RightProofsAreCertified }
     ensures units { UnitsWithoutRecursionAreCertified }
     ensures only { CertifiedIsRight }
+    ensures one_filling { OneFillingIsEnough }
+{}
+
+/// Without a file what is certified can be written as a file: its names are symbols, its numbers are in range, its lists
+/// nest at most 1,024 deep, and each has a meaning in its place.
+pub fn added_is_writable()
+    ensures { AddedIsWritable }
 {}

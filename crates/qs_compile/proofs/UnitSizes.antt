@@ -18,10 +18,11 @@ use Rattle.qs_limits.proofs.CoreBytes.{placed_bytes_are_few, data_bytes_are_few}
 use Rattle.qs_limits.proofs.ValueLimits.{values_are_limited}
 use Rattle.qs_lower.specs.WordLaws.{IsInReach}
 use Rattle.qs_frames.specs.Layout.{rounded, total}
-use Rattle.qs_build.specs.Limits.{most_name_bytes, name_bytes}
 use Rattle.qs_build.specs.Small.{most_block_bytes, most_values, IsSmall}
 use Rattle.qs_build.proofs.SmallUnits.{small_units_pass_no_size}
 use Rattle.qs_compile.specs.Compiled.{UnitsPassNoSize}
+use Rattle.qs_compile.specs.Names.{HasRoomForNames}
+use Rattle.qs_compile.proofs.CoreNames.{core_name_bytes}
 
 -- what holds of each where more holds of each
 all_more : {A : Type 0} (P Q : A → Type 0) (xs : List A) → ((x : A) → P x → Q x) → All P xs → All Q xs
@@ -54,10 +55,10 @@ data_total sizes h = let e = end_total sizes in omega (arith, e, h)
 
 pub units_are_small :
     (unit : UnitTree) (core : CoreUnitTree) → IsRead unit → WellTyped unit → IsWithinLimits unit → core_of unit ≡ Some core
-    → name_bytes core ≤ most_name_bytes → IsSmall core
-units_are_small unit core read well limits is names = record {
+    → HasRoomForNames unit → IsSmall core
+units_are_small unit core read well limits is room = record {
   functions = functions_are_few unit core read well limits is;
-  names = names;
+  names = let same = core_name_bytes unit core is in omega (arith, same, room);
   parameters = parameters_are_few unit core read well limits is;
   blocks =
       all_more (λ (f : CoreFunctionTree). bytes_in_words f.blocks ≤ 1048576) (λ (f : CoreFunctionTree). total f.blocks ≤ most_block_bytes) core.functions
@@ -74,5 +75,5 @@ units_are_small unit core read well limits is names = record {
 
 module _ (fits : (unit : UnitTree) (core : CoreUnitTree) → IsRead unit → WellTyped unit → IsWithinLimits unit → core_of unit ≡ Some core → unit_fits core ≡ true) where
   pub passes_none : UnitsPassNoSize
-  passes_none unit core fault read well limits is names h =
-      small_units_pass_no_size core fault (fits unit core read well limits is) (units_are_small unit core read well limits is names) h
+  passes_none unit core fault read well limits is room h =
+      small_units_pass_no_size core fault (fits unit core read well limits is) (units_are_small unit core read well limits is room) h

@@ -21,10 +21,11 @@ use Rattle.qs_emit.specs.Emitted.{Emitted}
 use Rattle.qs_emit.specs.Images.{AreCosts}
 use Rattle.qs_build.specs.Agrees.{values_of, DoesAsCore}
 use Rattle.qs_build.specs.Built.{IsBuiltFrom}
-use Rattle.qs_build.specs.Limits.{most_name_bytes, name_bytes, Passes}
+use Rattle.qs_build.specs.Limits.{Passes}
 use Rattle.qs_build.specs.Units.{linear, MainReturns}
 use Rattle.qs_build.specs.declared.fault.BuildFault.{BuildFault}
 use Rattle.qs_build.specs.declared.fault.BuildFault.TheVariants.{NoMemory}
+use Rattle.qs_compile.specs.Names.{HasRoomForNames}
 
 -- ---- agreement
 
@@ -80,4 +81,4 @@ BuiltImagesAreCompiled =
 abbrev pub UnitsPassNoSize : Type 0
 UnitsPassNoSize =
     (unit : UnitTree) (core : CoreUnitTree) (fault : BuildFault) → IsRead unit → WellTyped unit → IsWithinLimits unit
-    → core_of unit ≡ Some core → name_bytes core ≤ most_name_bytes → Passes core fault → fault ≡ NoMemory
+    → core_of unit ≡ Some core → HasRoomForNames unit → Passes core fault → fault ≡ NoMemory

@@ -1,5 +1,12 @@
 // The laws of images of sources. Each is the contract of an empty function.
 ghost use Rattle.qs_compile.specs.Compiled.{BuiltImagesAreCompiled, UnitsPassNoSize};
+ghost use Rattle.qs_compile.specs.Names.{NamesAreOfTheText};
+
+/// The names of a unit's functions with a body have together at most as many bytes as a text that the unit is
+/// read from: each is a token of its own.
+pub fn names_are_of_the_text()
+    ensures { NamesAreOfTheText }
+{}
 
 /// A unit that is read, well typed and within the limits, whose functions have names of at most 1,048,576
 /// bytes together, passes no size of images: where it has none, memory was wanting.

@@ -1,36 +1,44 @@
 -- An image that is compiled of a certified source is an image of it, and all images of one core are alike.
-use Rattle.std.proofs.Common.{◌≡◌, ℕ, zero, suc, ◌+◌, ◌<◌, ◌≤◌, true, if◌then◌else◌, ℤ, List, [], ◌∷◌, length, map, Option, Some, None, refl, sym, ap, ◌∙◌, subst, arith}
-use Rattle.std.specs.Prelude.{slice_index_or}
+use Rattle.std.proofs.Common.{◌≡◌, ◌++◌, ℕ, zero, suc, ◌+◌, ◌<◌, ◌≤◌, true, if◌then◌else◌, ℤ, List, [], ◌∷◌, length, map, Option, Some, None, refl, sym, ap, ◌∙◌, subst, arith}
+use Rattle.std.specs.Prelude.{◌↔◌, slice_index_or}
 use Rattle.std.proofs.lemmas.Option.{same_Some}
 use Rattle.qs_base.specs.Words.{wrap}
 use Rattle.qs_syntax.specs.Trees.{UnitTree}
+use Rattle.qs_memory.specs.Memory.{Memory}
 use Rattle.qs_memory.specs.Values.{Value, integer}
+use Rattle.qs_events.specs.Runs.{Left}
 use Rattle.qs_events.specs.Weights.{Costs, run_weight}
+use Rattle.qs_events.proofs.RunLaws.{longer_runs_weigh_more}
 use Rattle.qs_calls.specs.World.{RootRun}
-use Rattle.qs_assert.specs.Values.{finite, plus}
+use Rattle.qs_assert.specs.Values.{Extended, finite, plus}
 use Rattle.qs_assert.specs.declared.define.Amount.{Amount}
 use Rattle.qs_assert.specs.declared.define.Amount.TheVariants.{Finite, Infinite, Wide}
 use Rattle.qs_entail.specs.Meaning.{AtLeast}
+use Rattle.qs_entail.proofs.Amounts.{at_least_through}
 use Rattle.qs_core.specs.Fits.{unit_fits}
 use Rattle.qs_core.specs.Trees.{CoreUnitTree}
 use Rattle.qs_core.specs.Units as core
 use Rattle.qs_elaborate.specs.Units.{core_of}
 use Rattle.qs_meaning.specs.Typed.{TypedProgram}
 use Rattle.qs_triples.specs.Valuations.{value_at_entry}
+use Rattle.qs_lower.proofs.LoweringLaws.{lowering_follows}
 use Rattle.qs_image.specs.Image.{Image, FunctionRecord}
-use Rattle.qs_machine.specs.Arguments.{first_misfit}
+use Rattle.qs_machine.specs.Arguments.{AreArguments, first_misfit}
 use Rattle.qs_emit.specs.Images.{AreCosts, no_record}
 use Rattle.qs_build.specs.Agrees.{values_of}
 use Rattle.qs_build.specs.Built.{IsBuiltFrom}
-use Rattle.qs_build.specs.Units.{linear}
+use Rattle.qs_build.specs.Units.{linear, start_of}
 use Rattle.qs_certify.specs.Bound as certify
-use Rattle.qs_certify.proofs.MainLaws.{main_bounds_runs, entry_bounds_runs}
-use Rattle.qs_compile.specs.Agree.{AgreesFrom}
+use Rattle.qs_certify.proofs.MainLaws.{BoundsMain, main_bounds_runs, entry_bounds_runs}
+use Rattle.qs_compile.specs.Agree.{AgreesFrom, IsInput}
 use Rattle.qs_compile.specs.Compiled.{IsCompiled, IsImageOfSource, SourceHasStack}
 use Rattle.qs_ports.specs.StoreView.{StoreView}
-use Rattle.qs_driver.specs.Bounds.{bound_by, bytes_by, costs_in, if_finite, main_runs, seen_runs, IsBounded, IsBoundedByMain, IsImageOf, WeighsWithin}
+use Rattle.qs_driver.specs.Bounds.{bound_by, bytes_by, costs_in, if_finite, linear_runs, main_runs, seen_runs, IsBounded, IsBoundedByMain, IsImageOf, WeighsWithin}
+use Rattle.qs_report.specs.Lines.{cost_line}
+use Rattle.qs_driver.specs.Arguments.{parameters_of_main, IsMisfit}
+use Rattle.qs_driver.specs.Lines.{record_line, cost_lines}
 use Rattle.qs_driver.specs.Certified.{CertifiedSource, CertifyWords, IsCertifiedAs, ReadsCertified}
-use Rattle.qs_driver.proofs.MainLaws.{arguments_are_mains, same_misfit}
+use Rattle.qs_driver.proofs.MainLaws.{arguments_are_mains, parameters_are, misfits}
 
 -- ---- costs
 
@@ -58,6 +66,16 @@ agrees_from s image c w = record {
       } in
       c.does.agree cost args input size (records_are_costs image) stack;
 }
+
+-- ---- the linear code
+
+-- each of its runs weighs at most what the core's does within the same bound
+linear_weighs_no_more :
+    (u : CoreUnitTree) (cost : Costs) (args : List ℤ) (input : List ℕ) (m : ℕ) → unit_fits u ≡ true
+    → run_weight cost (linear_runs u args input m) ≤ run_weight cost (core.main_run u (values_of args) input m)
+linear_weighs_no_more u cost args input m fits =
+    longer_runs_weigh_more (Left Value Memory) cost (linear_runs u args input m) (core.main_run u (values_of args) input m)
+    ((lowering_follows u fits).back u.main (values_of args) (start_of u input) m)
 
 -- ---- from core to the source
 
@@ -88,40 +106,67 @@ module _ (text : List ℕ) (file : Option (List ℕ)) (s : CertifiedSource) (c :
       ap (λ (u : CoreUnitTree). core.main_run u (values_of args) input n) (sym c.core_is)
       ∙ c.has_core.main_follows (values_of args) input n
 
-  -- main's entry bounds each run of the source, for every stack metric
+  abbrev entry_bounds : BoundsMain s.core s.proofs
+  entry_bounds = entry_bounds_runs s.core s.given s.proofs fits c.certified.covers
+
+  -- what main costs, and the value of its precondition at these values
+  abbrev needed : Costs → List Value → Extended
+  needed cost vs =
+      plus (finite (cost s.core.main)) (value_at_entry cost s.proofs.defines entry_bounds.main vs entry_bounds.entry.spec.pre)
+
+  core_is_bounded :
+      (cost : Costs) (args : List ℤ) (input : List ℕ) (n : ℕ) → certify.AreArguments s.core args → IsInput input
+      → AtLeast (needed cost (values_of args)) (finite (run_weight cost (core.main_run s.core (values_of args) input n)))
+  core_is_bounded cost args input n are is_input =
+      subst (λ (vs : List Value). AtLeast (needed cost vs) (finite (run_weight cost (core.main_run s.core vs input n))))
+      (same_values args) (entry_bounds.bounds cost args input n are is_input)
+
+  -- main's entry bounds each run of the source and of its linear code, for every stack metric
   sources_are_bounded : IsBoundedByMain s c.has_core.typed
-  sources_are_bounded =
-      let b = entry_bounds_runs s.core s.given s.proofs fits c.certified.covers in
-      record {
-        main = b.main;
-        is_main = b.is_main;
-        entry = b.entry;
-        stands = b.stands;
-        bounds = λ cost args input n are is_input.
-            subst (λ (r : RootRun). AtLeast (plus (finite (cost s.core.main)) (value_at_entry cost s.proofs.defines b.main (values_of args) b.entry.spec.pre)) (finite (run_weight cost r)))
-            (core_follows args input n)
-            (subst (λ (vs : List Value). AtLeast (plus (finite (cost s.core.main)) (value_at_entry cost s.proofs.defines b.main vs b.entry.spec.pre)) (finite (run_weight cost (core.main_run s.core vs input n))))
-            (same_values args) (b.bounds cost args input n are is_input));
-      }
+  sources_are_bounded = record {
+    main = entry_bounds.main;
+    is_main = entry_bounds.is_main;
+    entry = entry_bounds.entry;
+    stands = entry_bounds.stands;
+    bounds = λ cost args input n are is_input.
+        subst (λ (r : RootRun). AtLeast (needed cost (values_of args)) (finite (run_weight cost r)))
+        (core_follows args input n) (core_is_bounded cost args input n are is_input);
+    bounds_linear = λ cost args input m are is_input.
+        at_least_through (needed cost (values_of args)) (finite (run_weight cost (core.main_run s.core (values_of args) input m)))
+        (finite (run_weight cost (linear_runs s.core args input m)))
+        (core_is_bounded cost args input m are is_input) (linear_weighs_no_more s.core cost args input m fits);
+  }
 
   module _ (image : Image) (i : IsCompiled s.unit image) where
     same_program : c.has_core.typed ≡ i.program
     same_program = same_Some c.has_core.typed i.program (sym c.has_core.tree ∙ i.tree)
 
-    main_follows : (args : List ℤ) (input : List ℕ) (n : ℕ) → core.main_run s.core (certify.values_of args) input n ≡ main_runs i.program args input n
-    main_follows args input n =
-        ap (λ (vs : List Value). core.main_run s.core vs input n) (same_values args)
-        ∙ core_follows args input n
-        ∙ ap (λ (p : TypedProgram). main_runs p args input n) same_program
+    program_follows : (args : List ℤ) (input : List ℕ) (n : ℕ) → core.main_run s.core (values_of args) input n ≡ main_runs i.program args input n
+    program_follows args input n = core_follows args input n ∙ ap (λ (p : TypedProgram). main_runs p args input n) same_program
+
+    abbrev record_costs : Costs
+    record_costs = certify.costs_of (costs_in image)
+
+    core_weighs :
+        (args : List ℤ) (input : List ℕ) (bytes n : ℕ) → AreArguments image args → IsInput input
+        → bytes_by s image args ≡ Some bytes
+        → run_weight record_costs (core.main_run s.core (values_of args) input n) ≤ bytes
+    core_weighs args input bytes n arguments is_input bound_is =
+        let mains_are = (arguments_are_mains s.core image args fits (built_from s.unit s.core image core_is i)).0 arguments in
+        let is_bound = finite_is (bound_by s (costs_in image) args) bytes bound_is in
+        subst (λ (vs : List Value). run_weight record_costs (core.main_run s.core vs input n) ≤ bytes) (same_values args)
+        (main_bounds_runs s.core s.given s.proofs (costs_in image) args bytes fits c.certified.covers mains_are is_bound input n is_input)
 
     -- so do the costs of the records, with the bound as it is computed
     weighs_within : WeighsWithin s i.program image
     weighs_within = record {
       weighs = λ args input bytes n arguments is_input bound_is.
-          let mains_are = (arguments_are_mains s.core image args fits (built_from s.unit s.core image core_is i)).0 arguments in
-          let is_bound = finite_is (bound_by s (costs_in image) args) bytes bound_is in
-          subst (λ (r : RootRun). run_weight (certify.costs_of (costs_in image)) r ≤ bytes) (main_follows args input n)
-          (main_bounds_runs s.core s.given s.proofs (costs_in image) args bytes fits c.certified.covers mains_are is_bound input n is_input);
+          subst (λ (r : RootRun). run_weight record_costs r ≤ bytes) (program_follows args input n)
+          (core_weighs args input bytes n arguments is_input bound_is);
+      linear_weighs = λ args input bytes m arguments is_input bound_is.
+          let less = linear_weighs_no_more s.core record_costs args input m fits in
+          let most = core_weighs args input bytes m arguments is_input bound_is in
+          omega (arith, less, most);
     }
 
     pub compiled_is_image : IsImageOf s image
@@ -138,6 +183,23 @@ pub is_compiled : (unit : UnitTree) (image : Image) → IsImageOfSource unit ima
 unfolding IsImageOfSource
 is_compiled unit image h = h
 
+-- the image of a certified source takes main's arguments
+module _ (w : CertifyWords) (v : StoreView) (s : CertifiedSource) (image : Image) (r : ReadsCertified w v s) (i : IsCompiled s.unit image) where
+  source_fits : unit_fits s.core ≡ true
+  source_fits = fits r.text r.file s r.is
+
+  source_built : IsBuiltFrom s.core image
+  source_built = built_from s.unit s.core image (core_is r.text r.file s r.is) i
+
+  pub image_takes : (args : List ℤ) → AreArguments image args ↔ certify.AreArguments s.core args
+  image_takes args = arguments_are_mains s.core image args source_fits source_built
+
+  pub image_parameters : image.parameters ≡ length (parameters_of_main s.core)
+  image_parameters = parameters_are s.core image [] source_fits source_built
+
+  pub image_misfits : (args : List ℤ) (at : ℕ) → length args ≡ image.parameters → first_misfit image 0 args ≡ Some at → IsMisfit (parameters_of_main s.core) args at
+  image_misfits args at count first = misfits s.core image args source_fits source_built at count first
+
 -- a certified source is bounded, for every stack metric
 pub source_bounded : (w : CertifyWords) (v : StoreView) (s : CertifiedSource) → ReadsCertified w v s → IsBounded s
 source_bounded w v s r = record {
@@ -148,10 +210,9 @@ source_bounded w v s r = record {
 
 -- ---- images of one core
 
--- they have the same parameters and the same costs
+-- they have the same names and the same costs
 pub record AreAlike (image other : Image) : Type 0 where
-  pub parameters : image.parameters ≡ other.parameters
-  pub misfit : (args : List ℤ) → first_misfit image 0 args ≡ first_misfit other 0 args
+  pub names : map (λ (f : FunctionRecord). f.name) image.functions ≡ map (λ (f : FunctionRecord). f.name) other.functions
   pub costs : costs_in image ≡ costs_in other
 
 same_costs : (rs qs : List FunctionRecord) → length rs ≡ length qs → ((f : ℕ) → f < length rs → (slice_index_or rs f no_record).cost ≡ (slice_index_or qs f no_record).cost) → map (λ (x : FunctionRecord). x.cost) rs ≡ map (λ (x : FunctionRecord). x.cost) qs
@@ -165,13 +226,28 @@ same_costs (r ∷ rs) (q ∷ qs) long same =
 
 built_alike : (u : CoreUnitTree) (image other : Image) → IsBuiltFrom u image → IsBuiltFrom u other → AreAlike image other
 built_alike u image other a b = record {
-  parameters = a.parameters ∙ sym b.parameters;
-  misfit = λ args. same_misfit image other (λ i. a.unsigned i ∙ sym (b.unsigned i)) 0 args;
+  names = a.names ∙ sym b.names;
   costs = same_costs image.functions other.functions (a.code.count ∙ sym b.code.count) (λ f h.
       let count = a.code.count in
       let within : f < length (linear u).functions = omega (arith, h, count) in
       a.code.costs f within ∙ sym (b.code.costs f within));
 }
 
-pub images_alike : (u : CoreUnitTree) (s t : CertifiedSource) (image other : Image) → core_of s.unit ≡ Some u → core_of t.unit ≡ Some u → IsImageOf s image → IsImageOf t other → AreAlike image other
-images_alike u s t image other a b i j = built_alike u image other (built_from s.unit u image a i.compiled) (built_from t.unit u other b j.compiled)
+pub images_alike : (u : CoreUnitTree) (s : CertifiedSource) (image other : Image) → core_of s.unit ≡ Some u → IsImageOf s image → IsImageOf s other → AreAlike image other
+images_alike u s image other is i j = built_alike u image other (built_from s.unit u image is i.compiled) (built_from s.unit u other is j.compiled)
+
+-- and so the same lines
+same_record_lines : (rs qs : List FunctionRecord) → map (λ (f : FunctionRecord). f.name) rs ≡ map (λ (f : FunctionRecord). f.name) qs → map (λ (f : FunctionRecord). f.cost) rs ≡ map (λ (f : FunctionRecord). f.cost) qs → cost_lines rs ≡ cost_lines qs
+same_record_lines [] [] names costs = refl
+same_record_lines [] (q ∷ qs) names costs = absurd (let never : ⊥ = cc in never)
+same_record_lines (r ∷ rs) [] names costs = absurd (let never : ⊥ = cc in never)
+same_record_lines (r ∷ rs) (q ∷ qs) names costs =
+    let name : r.name ≡ q.name = cc in
+    let cost : r.cost ≡ q.cost = cc in
+    let other_names : map (λ (f : FunctionRecord). f.name) rs ≡ map (λ (f : FunctionRecord). f.name) qs = cc in
+    let other_costs : map (λ (f : FunctionRecord). f.cost) rs ≡ map (λ (f : FunctionRecord). f.cost) qs = cc in
+    let line : record_line r ≡ record_line q = ap (λ (n : List ℕ). cost_line n r.cost) name ∙ ap (cost_line q.name) cost in
+    ap (λ (text : List ℕ). text ++ cost_lines rs) line ∙ ap (λ (text : List ℕ). record_line q ++ text) (same_record_lines rs qs other_names other_costs)
+
+pub same_lines : {image other : Image} → AreAlike image other → cost_lines image.functions ≡ cost_lines other.functions
+same_lines {image} {other} a = same_record_lines image.functions other.functions a.names a.costs

@@ -1,32 +1,34 @@
 -- Each refusal of a source or its proofs comes where its cause is.
-use Rattle.std.proofs.Common.{◌≡◌, ◌≢◌, ◌⊎◌, ◌∙◌, ℕ, List, Option, Some, None, refl, ap, subst, sym, inl, inr, IsTrue}
+use Rattle.std.proofs.Common.{◌≡◌, ◌≢◌, ◌⊎◌, ◌∙◌, ℕ, List, Option, Some, None, ap, subst, sym, inl, inr, IsTrue}
 use Rattle.std.proofs.lemmas.Option.{same_Some}
 use Rattle.std.specs.Prelude.{Vec}
 use Rattle.std.specs.declared.alloc.Global.{Global}
 use Rattle.qs_base.specs.declared.places.Pos.{Pos}
 use Rattle.qs_core.specs.Trees.{CoreUnitTree}
-use Rattle.qs_elaborate.specs.FitLaws.{HasCore}
 use Rattle.qs_elaborate.specs.Units.{core_of}
 use Rattle.qs_triples.specs.Derivations.{ProofsTree}
 use Rattle.qs_triples.specs.Filled.{function_name}
+use Rattle.qs_triples.specs.Rules.{DerivationFault}
+use Rattle.qs_analyse.specs.Fillable.{entry_functions}
 use Rattle.qs_callgraph.specs.CallLists.{numbers}
 use Rattle.qs_prooftext.specs.declared.fault.TextFault.{TextFault}
 use Rattle.qs_report.specs.declared.fault_texts.Spot.{Spot}
 use Rattle.qs_report.specs.declared.fault_texts.ProofText.{ProofText}
 use Rattle.qs_certify.specs.Certification.{CannotCertify, IsCertified, IsCycleFault, HasNoOrder, OfGiven}
+use Rattle.qs_certify.specs.Entries.{EntryFault, first_fault, IsEntryFault}
 use Rattle.qs_certify.specs.Given.{HasTextFault}
 use Rattle.qs_certify.specs.declared.fault.CertifyFault.{CertifyFault}
 use Rattle.qs_certify.specs.declared.fault.CertifyFault.TheVariants as faults
-use Rattle.qs_certify.specs.Laws.{IsEntryOf}
-use Rattle.qs_certify.proofs.OneLaws.{order_is_told, entries_are_told}
+use Rattle.qs_certify.proofs.OneLaws.{order_is_told, entry_faults_are_told}
 use Rattle.qs_certify.proofs.RefusalLaws.{text_faults_are_told, cycles_are_told}
 use Rattle.qs_ports.specs.StoreView.{StoreView, Files}
 use Rattle.qs_driver.specs.Limits.{source_limit, proof_limit}
 use Rattle.qs_driver.specs.Files.{HoldsContent, HoldsWith, IsTooLong}
 use Rattle.qs_driver.specs.Files as files
-use Rattle.qs_driver.specs.Source.{IsPlaceOf, IsTypedUnit, LacksSource}
-use Rattle.qs_driver.specs.Certified.{CertifyWords, CertifiedSource, LacksCertified, ReadsCertified, WasReadProof, HoldsProof, HoldsBoth, HoldsUnit, OfProof, Tells, IsTextPlace, HasTextFaultAt, LeavesCycle, LacksDerivation, IsCycleStatus, IsEntryStatus, RefusesCertified}
+use Rattle.qs_driver.specs.Source.{IsPlaceOf, IsTypedUnit}
+use Rattle.qs_driver.specs.Certified.{CertifyWords, CertifiedSource, LacksCertified, ReadsCertified, WasReadProof, HoldsProof, HoldsBoth, HoldsUnit, OfProof, Tells, IsTextPlace, HasTextFaultAt, LeavesCycle, IsCycleOf, HasFirstFault, LacksDerivation, IsCycleStatus, IsEntryStatus, RefusesCertified}
 use Rattle.qs_driver.specs.Certified as meant
+use Rattle.qs_driver.specs.Told.{EntryPlace, place_of, fault_place, fault_text}
 use Rattle.qs_driver.specs.Promises.{StoreHeld}
 use Rattle.qs_driver.specs.declared.status.ProofFault.{ProofFault}
 use Rattle.qs_driver.specs.declared.status.ProofFault.TheVariants.{Text, Cycle, Order, Entry}
@@ -39,6 +41,7 @@ use Rattle.qs_driver.proofs.SourceFollows.{IsNoRefusal, SourceEnds, good, source
 use Rattle.qs_driver.proofs.SourceFollows as source
 use Rattle.qs_driver.proofs.SourceLaws.{same_pos}
 use Rattle.qs_driver.proofs.CertifiedFollows.{same_cores, tells_none}
+use Rattle.qs_driver.proofs.ToldPlaces.{told_by}
 
 -- ---- how it ends
 
@@ -83,18 +86,16 @@ unit_there : (c : CertifyWords) (v : StoreView) (name : List ℕ) → IsTrue v.t
 unit_there c v name told r = record { content = r.text; holds = held_content r.text_read told; has = r.typed }
 
 pub was_right : (c : CertifyWords) (v : StoreView) (s : CertifiedSource) (status : Status) → IsTrue v.told → ReadsCertified c v s → IsNoCertifiedRefusal status → CertifiedEnds c v.files status
-was_right c v s status told r none =
-    let own : HasCore r.is.typed_as.typed.unit.trees = subst HasCore (sym r.is.typed_as.trees_are) r.is.has_core in
-    let same : own.core ≡ s.core = same_Some own.core s.core (sym own.is ∙ ap core_of r.is.typed_as.trees_are ∙ r.is.has_core.is ∙ ap Some r.is.core_is) in
-    right (record {
-      text = r.text;
-      there = held_content r.text_read told;
-      typed = r.is.typed_as.typed;
-      has_core = own;
-      file = r.file;
-      proof_there = proof_held v c.proof r.file told r.file_read;
-      so = subst (λ (u : CoreUnitTree). IsCovered u r.file) (sym same) (record { given = s.given; proofs = s.proofs; certified = r.is.certified });
-    }) none
+was_right c v s status told r none = right (record {
+  text = r.text;
+  there = held_content r.text_read told;
+  typed = r.is.typed_as.typed;
+  core = s.core;
+  core_is = ap core_of r.is.typed_as.trees_are ∙ r.is.has_core.is ∙ ap Some r.is.core_is;
+  file = r.file;
+  proof_there = proof_held v c.proof r.file told r.file_read;
+  so = record { given = s.given; proofs = s.proofs; certified = r.is.certified };
+}) none
 
 -- the cases of a refusal, in their order; in that of a source `source_no_unit` says that it is no unit
 pub certified_ends : (c : CertifyWords) (v w : StoreView) (status : Status) → StoreHeld v w → IsTrue v.told → LacksCertified c v w status → CertifiedEnds c v.files status ⊎ (status ≡ NoMemory)
@@ -113,7 +114,8 @@ certified_ends c v w status n is_told (meant.wrong_proofs told u r e) = inl (wro
   text = r.text;
   there = held_content r.text_read is_told;
   typed = r.wrong.typed;
-  has_core = r.wrong.has_core;
+  core = r.wrong.has_core.core;
+  core_is = r.wrong.has_core.is;
   file = r.file;
   proof_there = proof_held v c.proof r.file is_told r.file_read;
   so = record { fault = r.wrong.fault; cause = r.wrong.cause; tells = r.wrong.tells };
@@ -144,20 +146,20 @@ one_file f (Some name) (Some a) (Some b) h k = ap Some (one_content (f name) pro
 
 -- ---- a source and its file have one core and one text
 
-cores_at : (s t : List ℕ) → s ≡ t → (a : IsTypedUnit s) (b : IsTypedUnit t) (h : HasCore a.unit.trees) (k : HasCore b.unit.trees) → h.core ≡ k.core
-cores_at s t e a b h k = subst (λ (x : List ℕ). (c : IsTypedUnit x) (l : HasCore c.unit.trees) → h.core ≡ l.core) e (λ c l. same_cores s a c h l) b k
+cores_at : (s t : List ℕ) → s ≡ t → (a : IsTypedUnit s) (b : IsTypedUnit t) (x y : CoreUnitTree) → core_of a.unit.trees ≡ Some x → core_of b.unit.trees ≡ Some y → x ≡ y
+cores_at s t e a b x y h k = subst (λ (text : List ℕ). (c : IsTypedUnit text) → core_of c.unit.trees ≡ Some y → x ≡ y) e (λ c l. same_cores s a c x y h l) b k
 
 -- what is so of the one is so of the other
-as_there : (c : CertifyWords) (f : Files) (P Q : CoreUnitTree → Option (List ℕ) → Type 0) (h : HoldsBoth c f P) → HoldsBoth c f Q → Q h.has_core.core h.file
+as_there : (c : CertifyWords) (f : Files) (P Q : CoreUnitTree → Option (List ℕ) → Type 0) (h : HoldsBoth c f P) → HoldsBoth c f Q → Q h.core h.file
 as_there c f P Q h k =
     let texts : k.text ≡ h.text = one_content (f c.source) source_limit k.text h.text k.there h.there in
-    let cores : k.has_core.core ≡ h.has_core.core = cores_at k.text h.text texts k.typed h.typed k.has_core h.has_core in
+    let cores : k.core ≡ h.core = cores_at k.text h.text texts k.typed h.typed k.core h.core k.core_is h.core_is in
     let same_file : k.file ≡ h.file = one_file f c.proof k.file h.file k.proof_there h.proof_there in
-    subst (λ (u : CoreUnitTree). Q u h.file) cores (subst (λ (file : Option (List ℕ)). Q k.has_core.core file) same_file k.so)
+    subst (λ (u : CoreUnitTree). Q u h.file) cores (subst (λ (file : Option (List ℕ)). Q k.core file) same_file k.so)
 
 -- of the same source and file something else is so
-with_so : (c : CertifyWords) (f : Files) (P Q : CoreUnitTree → Option (List ℕ) → Type 0) (h : HoldsBoth c f P) → Q h.has_core.core h.file → HoldsBoth c f Q
-with_so c f P Q h so = record { text = h.text; there = h.there; typed = h.typed; has_core = h.has_core; file = h.file; proof_there = h.proof_there; so = so }
+with_so : (c : CertifyWords) (f : Files) (P Q : CoreUnitTree → Option (List ℕ) → Type 0) (h : HoldsBoth c f P) → Q h.core h.file → HoldsBoth c f Q
+with_so c f P Q h so = record { text = h.text; there = h.there; typed = h.typed; core = h.core; core_is = h.core_is; file = h.file; proof_there = h.proof_there; so = so }
 
 unit_of : (c : CertifyWords) (f : Files) (P : CoreUnitTree → Option (List ℕ) → Type 0) → HoldsBoth c f P → HoldsUnit c f
 unit_of c f P h = record { content = h.text; holds = h.there; has = h.typed }
@@ -256,10 +258,16 @@ text_cause u file (faults.Cycle fs) fault pos c (names, e, are) = absurd cc
 text_cause u file (faults.Order name) fault pos c e = absurd cc
 text_cause u file (faults.Entry g found) fault pos c (spot, text, e, is) = absurd cc
 
-cycle_cause : (u : CoreUnitTree) (file : Option (List ℕ)) (cause : CertifyFault) (names : Vec (List ℕ) Global) → CannotCertify u file cause → Tells u file cause (Cycle names) → LeavesCycle u file
+cycle_cause : (u : CoreUnitTree) (file : Option (List ℕ)) (cause : CertifyFault) (names : Vec (List ℕ) Global) → CannotCertify u file cause → Tells u file cause (Cycle names) → IsCycleOf names.items u file
 cycle_cause u file faults.NoMemory names c t = absurd t
 cycle_cause u file (faults.Text fault) names c (q, e, place) = absurd cc
-cycle_cause u file (faults.Cycle fs) names c t = record { functions = numbers fs.items; cycle = c }
+cycle_cause u file (faults.Cycle fs) names c (found, e, are) =
+    let same : found ≡ names = cc in
+    record {
+      functions = numbers fs.items;
+      named = ap (λ (v : Vec (List ℕ) Global). v.items) (sym same) ∙ are;
+      cycle = c;
+    }
 cycle_cause u file (faults.Order name) names c e = absurd cc
 cycle_cause u file (faults.Entry g found) names c (spot, text, e, is) = absurd cc
 
@@ -272,34 +280,56 @@ order_cause u file (faults.Order found) name c e =
     subst (λ (x : List ℕ). OfGiven u file (λ given. HasNoOrder u given x)) same c
 order_cause u file (faults.Entry g found) name c (spot, text, e, is) = absurd cc
 
-entry_cause : (u : CoreUnitTree) (file : Option (List ℕ)) (cause : CertifyFault) (function : List ℕ) (spot : Spot) (text : ProofText) → CannotCertify u file cause → Tells u file cause (Entry function spot text) → LacksDerivation function u file
+-- the fault that is told is the first one of the entry
+entry_cause : (u : CoreUnitTree) (file : Option (List ℕ)) (cause : CertifyFault) (function : List ℕ) (spot : Spot) (text : ProofText) → CannotCertify u file cause → Tells u file cause (Entry function spot text) → LacksDerivation function (place_of spot) text u file
 entry_cause u file faults.NoMemory function spot text c t = absurd t
 entry_cause u file (faults.Text fault) function spot text c (q, e, place) = absurd cc
 entry_cause u file (faults.Cycle fs) function spot text c (names, e, are) = absurd cc
 entry_cause u file (faults.Order name) function spot text c e = absurd cc
 entry_cause u file (faults.Entry g found) function spot text c (s, t, e, is) =
     let named : function ≡ function_name u g.0 = cc in
-    record { function = g.0; fault = found; named = named; first = c }
+    let same_spot : s ≡ spot = cc in
+    let same_text : t ≡ text = cc in
+    let first = c.so.first in
+    let told = told_by u g.0 found first.fault s t first.is_told is in
+    record {
+      function = g.0;
+      fault = first.fault;
+      named = named;
+      first = record {
+        given = c.given;
+        given_is = c.given_is;
+        so = record { proofs = c.so.proofs; all = c.so.all; in_order = c.so.in_order; first = first.first };
+      };
+      place_is = ap place_of (sym same_spot) ∙ told.place;
+      wrong_is = sym same_text ∙ told.wrong;
+    }
 
 tells_text : (c : CertifyWords) (f : Files) (status : Status) → CertifiedEnds c f status → (fault : TextFault) (pos : Pos) → status ≡ Proof (Text fault pos) → HoldsBoth c f (λ u file. HasTextFaultAt u file fault pos)
 tells_text c f status x fault pos e =
     let b = tells_wrong c f status (Text fault pos) x e in
-    with_so c f (IsToldOf (Text fault pos)) (λ u file. HasTextFaultAt u file fault pos) b (text_cause b.has_core.core b.file b.so.fault fault pos b.so.cause b.so.tells)
+    with_so c f (IsToldOf (Text fault pos)) (λ u file. HasTextFaultAt u file fault pos) b (text_cause b.core b.file b.so.fault fault pos b.so.cause b.so.tells)
+
+tells_names : (c : CertifyWords) (f : Files) (status : Status) → CertifiedEnds c f status → (names : Vec (List ℕ) Global) → status ≡ Proof (Cycle names) → HoldsBoth c f (IsCycleOf names.items)
+tells_names c f status x names e =
+    let b = tells_wrong c f status (Cycle names) x e in
+    with_so c f (IsToldOf (Cycle names)) (IsCycleOf names.items) b (cycle_cause b.core b.file b.so.fault names b.so.cause b.so.tells)
 
 tells_cycle : (c : CertifyWords) (f : Files) (status : Status) → CertifiedEnds c f status → IsCycleStatus status → HoldsBoth c f LeavesCycle
 tells_cycle c f status x (names, e) =
-    let b = tells_wrong c f status (Cycle names) x e in
-    with_so c f (IsToldOf (Cycle names)) LeavesCycle b (cycle_cause b.has_core.core b.file b.so.fault names b.so.cause b.so.tells)
+    let b = tells_names c f status x names e in
+    with_so c f (IsCycleOf names.items) LeavesCycle b (record { functions = b.so.functions; cycle = b.so.cycle })
 
 tells_order : (c : CertifyWords) (f : Files) (status : Status) → CertifiedEnds c f status → (name : List ℕ) → status ≡ Proof (Order name) → HoldsBoth c f (λ u file. OfGiven u file (λ given. HasNoOrder u given name))
 tells_order c f status x name e =
     let b = tells_wrong c f status (Order name) x e in
-    with_so c f (IsToldOf (Order name)) (λ u file. OfGiven u file (λ given. HasNoOrder u given name)) b (order_cause b.has_core.core b.file b.so.fault name b.so.cause b.so.tells)
+    with_so c f (IsToldOf (Order name)) (λ u file. OfGiven u file (λ given. HasNoOrder u given name)) b (order_cause b.core b.file b.so.fault name b.so.cause b.so.tells)
 
-tells_entry : (c : CertifyWords) (f : Files) (status : Status) → CertifiedEnds c f status → (function : List ℕ) → IsEntryStatus function status → HoldsBoth c f (LacksDerivation function)
-tells_entry c f status x function (spot, text, e) =
+tells_entry : (c : CertifyWords) (f : Files) (status : Status) → CertifiedEnds c f status → (function : List ℕ) (place : EntryPlace) (text : ProofText) → IsEntryStatus function place text status → HoldsBoth c f (LacksDerivation function place text)
+tells_entry c f status x function place text (spot, at, e) =
     let b = tells_wrong c f status (Entry function spot text) x e in
-    with_so c f (IsToldOf (Entry function spot text)) (LacksDerivation function) b (entry_cause b.has_core.core b.file b.so.fault function spot text b.so.cause b.so.tells)
+    let lacks : LacksDerivation function (place_of spot) text b.core b.file = entry_cause b.core b.file b.so.fault function spot text b.so.cause b.so.tells in
+    with_so c f (IsToldOf (Entry function spot text)) (LacksDerivation function place text) b (subst (λ (p : EntryPlace). LacksDerivation function p text b.core b.file) at lacks)
 
 -- ---- what the proofs lead to
 
@@ -323,10 +353,10 @@ leads_text c f status (absent o e) fault pos h = absurd (no_absent_proof f c.pro
 leads_text c f status (long o e) fault pos h = absurd (no_long_proof f c.proof h.file o.name o.named o.so h.proof_there)
 leads_text c f status (wrong told b e) fault pos h =
     let k = as_there c f (IsToldOf told) (λ u file. HasTextFaultAt u file fault pos) b h in
-    e ∙ ap Proof (text_told b.has_core.core b.file b.so.fault told fault pos k b.so.cause b.so.tells)
+    e ∙ ap Proof (text_told b.core b.file b.so.fault told fault pos k b.so.cause b.so.tells)
 leads_text c f status (right b none) fault pos h =
     let k = as_there c f IsCovered (λ u file. HasTextFaultAt u file fault pos) b h in
-    let u = b.has_core.core in
+    let u = b.core in
     absurd ((text_faults_are_told u k.first.text fault k.first.first).not_certified b.so.given b.so.proofs (subst (λ (x : Option (List ℕ)). IsCertified u x b.so.given b.so.proofs) k.first.is b.so.certified))
 
 cycle_told : (u : CoreUnitTree) (file : Option (List ℕ)) (given : ProofsTree) (cause : CertifyFault) (told : ProofFault) → IsCycleFault u given cause → Tells u file cause told → (names : Vec (List ℕ) Global) × (told ≡ Cycle names)
@@ -342,14 +372,14 @@ leads_cycle c f status (absent o e) h = absurd (no_absent_proof f c.proof h.file
 leads_cycle c f status (long o e) h = absurd (no_long_proof f c.proof h.file o.name o.named o.so h.proof_there)
 leads_cycle c f status (wrong told b e) h =
     let k = as_there c f (IsToldOf told) LeavesCycle b h in
-    let u = b.has_core.core in
+    let u = b.core in
     elim ((cycles_are_told u b.file k.cycle.given k.functions k.cycle.given_is k.cycle.so).only b.so.fault b.so.cause) [
       | inl none ↦ absurd (tells_none u b.file b.so.fault told none b.so.tells)
       | inr is ↦ (let there = cycle_told u b.file k.cycle.given b.so.fault told is b.so.tells in (there.0, e ∙ ap Proof there.1))
     ]
 leads_cycle c f status (right b none) h =
     let k = as_there c f IsCovered LeavesCycle b h in
-    absurd ((cycles_are_told b.has_core.core b.file k.cycle.given k.functions k.cycle.given_is k.cycle.so).not_certified b.so.given b.so.proofs b.so.certified)
+    absurd ((cycles_are_told b.core b.file k.cycle.given k.functions k.cycle.given_is k.cycle.so).not_certified b.so.given b.so.proofs b.so.certified)
 
 -- an order is told where definitions have none
 leads_order : (c : CertifyWords) (f : Files) (status : Status) → CertifiedEnds c f status → (name : List ℕ) → HoldsBoth c f (λ u file. OfGiven u file (λ given. HasNoOrder u given name)) → status ≡ Proof (Order name)
@@ -358,38 +388,55 @@ leads_order c f status (absent o e) name h = absurd (no_absent_proof f c.proof h
 leads_order c f status (long o e) name h = absurd (no_long_proof f c.proof h.file o.name o.named o.so h.proof_there)
 leads_order c f status (wrong told b e) name h =
     let k = as_there c f (IsToldOf told) (λ u file. OfGiven u file (λ given. HasNoOrder u given name)) b h in
-    let u = b.has_core.core in
+    let u = b.core in
     elim ((order_is_told u b.file k.given name k.given_is k.so).only b.so.fault b.so.cause) [
       | inl none ↦ absurd (tells_none u b.file b.so.fault told none b.so.tells)
       | inr is ↦ (let there : told ≡ Order name = subst (λ (x : CertifyFault). Tells u b.file x told) is b.so.tells in e ∙ ap Proof there)
     ]
 leads_order c f status (right b none) name h =
     let k = as_there c f IsCovered (λ u file. OfGiven u file (λ given. HasNoOrder u given name)) b h in
-    absurd ((order_is_told b.has_core.core b.file k.given name k.given_is k.so).not_certified b.so.given b.so.proofs b.so.certified)
+    absurd ((order_is_told b.core b.file k.given name k.given_is k.so).not_certified b.so.given b.so.proofs b.so.certified)
 
-entry_told : (u : CoreUnitTree) (file : Option (List ℕ)) (function : List ℕ) (g : ℕ) (cause : CertifyFault) (told : ProofFault) → function ≡ function_name u g → IsEntryOf g cause → Tells u file cause told → (spot : Spot) × (text : ProofText) × (told ≡ Entry function spot text)
-entry_told u file function g faults.NoMemory told named is t = absurd is
-entry_told u file function g (faults.Text fault) told named is t = absurd is
-entry_told u file function g (faults.Cycle fs) told named is t = absurd is
-entry_told u file function g (faults.Order name) told named is t = absurd is
-entry_told u file function g (faults.Entry f fault) told named is (spot, text, e, so) =
-    (spot, text, e ∙ ap (λ (n : List ℕ). Entry n spot text) (ap (function_name u) is ∙ sym named))
+-- what is told of the entry whose first fault this is
+entry_told : (u : CoreUnitTree) (file : Option (List ℕ)) (function : List ℕ) (place : EntryPlace) (text : ProofText) (l : LacksDerivation function place text u file) (cause : CertifyFault) (told : ProofFault) → IsEntryFault u l.first.so.proofs (entry_functions l.first.given.functions) cause → Tells u file cause told → IsEntryStatus function place text (Proof told)
+entry_told u file function place text l faults.NoMemory told is t = absurd t
+entry_told u file function place text l (faults.Text fault) told is t = absurd is
+entry_told u file function place text l (faults.Cycle fs) told is t = absurd is
+entry_told u file function place text l (faults.Order name) told is t = absurd is
+entry_told u file function place text l (faults.Entry g found) told is (spot, found_text, e, so) =
+    let here : EntryFault = record { function = l.function; fault = l.fault } in
+    let there : EntryFault = record { function = g.0; fault = is.fault } in
+    let one : here ≡ there = same_Some here there (sym l.first.so.first ∙ is.first) in
+    let function_is : l.function ≡ g.0 = ap (λ (x : EntryFault). x.function) one in
+    let fault_is : l.fault ≡ is.fault = ap (λ (x : EntryFault). x.fault) one in
+    let by = told_by u g.0 found is.fault spot found_text is.is_told so in
+    let name : function ≡ function_name u g.0 = l.named ∙ ap (function_name u) function_is in
+    let text_is : found_text ≡ text = by.wrong ∙ ap (λ (x : EntryFault). fault_text u x.function x.fault) (sym one) ∙ sym l.wrong_is in (
+      spot,
+      by.place ∙ ap fault_place (sym fault_is) ∙ sym l.place_is,
+      ap Proof (e ∙ ap (λ (n : List ℕ). Entry n spot found_text) (sym name) ∙ ap (Entry function spot) text_is),
+    )
 
--- an entry of a function is told where it is the first that isn't derived
-leads_entry : (c : CertifyWords) (f : Files) (status : Status) → CertifiedEnds c f status → (function : List ℕ) → HoldsBoth c f (LacksDerivation function) → IsEntryStatus function status
-leads_entry c f status (of_source x never) function h = absurd (never (unit_of c f (LacksDerivation function) h))
-leads_entry c f status (absent o e) function h = absurd (no_absent_proof f c.proof h.file o.name o.named o.so h.proof_there)
-leads_entry c f status (long o e) function h = absurd (no_long_proof f c.proof h.file o.name o.named o.so h.proof_there)
-leads_entry c f status (wrong told b e) function h =
-    let k = as_there c f (IsToldOf told) (LacksDerivation function) b h in
-    let u = b.has_core.core in
-    elim ((entries_are_told u b.file k.first.given k.function k.fault k.first.given_is k.first.so).only b.so.fault b.so.cause) [
-      | inl none ↦ absurd (tells_none u b.file b.so.fault told none b.so.tells)
-      | inr is ↦ (let there = entry_told u b.file function k.function b.so.fault told k.named is b.so.tells in (there.0, there.1, e ∙ ap Proof there.2))
+some_fault : {u : CoreUnitTree} {given : ProofsTree} {function : ℕ} {fault : DerivationFault} (h : HasFirstFault u given function fault) → first_fault u h.proofs (entry_functions given.functions) ≢ None
+some_fault h none = let is = h.first in (let never : ⊥ = cc in never)
+
+-- an entry of a function is told where it is the first that isn't derived, and its first fault is
+leads_entry : (c : CertifyWords) (f : Files) (status : Status) → CertifiedEnds c f status → (function : List ℕ) (place : EntryPlace) (text : ProofText) → HoldsBoth c f (LacksDerivation function place text) → IsEntryStatus function place text status
+leads_entry c f status (of_source x never) function place text h = absurd (never (unit_of c f (LacksDerivation function place text) h))
+leads_entry c f status (absent o e) function place text h = absurd (no_absent_proof f c.proof h.file o.name o.named o.so h.proof_there)
+leads_entry c f status (long o e) function place text h = absurd (no_long_proof f c.proof h.file o.name o.named o.so h.proof_there)
+leads_entry c f status (wrong told b e) function place text h =
+    let k = as_there c f (IsToldOf told) (LacksDerivation function place text) b h in
+    let given = k.first.given in
+    let all = k.first.so in
+    elim ((entry_faults_are_told b.core b.file given all.proofs k.first.given_is all.all all.in_order (some_fault all)).only b.so.fault b.so.cause) [
+      | inl none ↦ absurd (tells_none b.core b.file b.so.fault told none b.so.tells)
+      | inr is ↦ subst (IsEntryStatus function place text) (sym e) (entry_told b.core b.file function place text k b.so.fault told is b.so.tells)
     ]
-leads_entry c f status (right b none) function h =
-    let k = as_there c f IsCovered (LacksDerivation function) b h in
-    absurd ((entries_are_told b.has_core.core b.file k.first.given k.function k.fault k.first.given_is k.first.so).not_certified b.so.given b.so.proofs b.so.certified)
+leads_entry c f status (right b none) function place text h =
+    let k = as_there c f IsCovered (LacksDerivation function place text) b h in
+    let all = k.first.so in
+    absurd ((entry_faults_are_told b.core b.file k.first.given all.proofs k.first.given_is all.all all.in_order (some_fault all)).not_certified b.so.given b.so.proofs b.so.certified)
 
 -- ---- the clauses
 
@@ -400,6 +447,7 @@ refuses_certified c f status x = record {
   too_long = (tells_long c f status x, leads_long c f status x);
   text = λ fault pos. (tells_text c f status x fault pos, leads_text c f status x fault pos);
   cycle = (tells_cycle c f status x, leads_cycle c f status x);
+  one_cycle = λ names e. tells_names c f status x names e;
   order = λ name. (tells_order c f status x name, leads_order c f status x name);
-  entry = λ function. (tells_entry c f status x function, leads_entry c f status x function);
+  entry = λ function place text. (tells_entry c f status x function place text, leads_entry c f status x function place text);
 }

@@ -3,25 +3,26 @@ use Rattle.std.proofs.Common.{◌≡◌, ◌≢◌, ◌⊎◌, ◌∙◌, ℕ, �
 use Rattle.std.specs.List.{list_any}
 use Rattle.std.proofs.lemmas.Option.{same_Some}
 use Rattle.qs_syntax.specs.Trees.{UnitTree}
+use Rattle.qs_core.specs.CallGraph.{IsWithoutRecursion}
 use Rattle.qs_core.specs.Trees.{CoreUnitTree}
-use Rattle.qs_elaborate.specs.FitLaws.{HasCore}
 use Rattle.qs_elaborate.specs.Units.{core_of}
 use Rattle.qs_assert.specs.declared.define.Amount.{Amount}
 use Rattle.qs_triples.specs.Derivations.{ProofsTree}
 use Rattle.qs_triples.specs.Entries.{has_entry}
 use Rattle.qs_prooftext.specs.Proofs.{no_proofs}
-use Rattle.qs_certify.specs.Bound.{main_bound}
+use Rattle.qs_memory.specs.declared.scalar.Scalar.{Scalar}
+use Rattle.qs_certify.specs.Bound.{AreNumbersOf}
 use Rattle.qs_certify.specs.Certification.{IsCertified}
 use Rattle.qs_certify.specs.Laws.{AreRightProofs}
-use Rattle.qs_certify.proofs.OneLaws.{certified_is_right, one_certified}
+use Rattle.qs_certify.proofs.OneLaws.{certified_is_right}
 use Rattle.qs_ports.specs.StoreView.{StoreView}
 use Rattle.qs_image.specs.Image.{Image}
-use Rattle.qs_machine.specs.Arguments.{first_misfit}
 use Rattle.qs_driver.specs.Limits.{source_limit}
 use Rattle.qs_driver.specs.Source.{IsTypedAs, IsOfSource, missing_source, long_source, ill_spelled, no_reading, ill_typed}
-use Rattle.qs_driver.specs.Bounds.{costs_in}
-use Rattle.qs_driver.specs.Certified.{CertifyWords, CertifiedSource, ReadsCertified, WasReadProof, HoldsRight, HoldsRightProofs, IsOfCertified, of_source, missing_proof, long_proof, wrong_proof}
-use Rattle.qs_driver.specs.Made.{MakeWords, CanMake, IsMade, CountDiffers, IsMisfit, CannotMake, FitMain, IsOfMade, RefusesMade}
+use Rattle.qs_driver.specs.Bounds.{bound_by, costs_in}
+use Rattle.qs_driver.specs.Certified.{CertifyWords, CertifiedSource, ReadsCertified, WasReadProof, IsRightFile, HoldsRight, HoldsRightProofs, IsOfCertified, of_source, missing_proof, long_proof, wrong_proof}
+use Rattle.qs_driver.specs.Arguments.{parameters_of_main, CountDiffers, IsMisfit}
+use Rattle.qs_driver.specs.Made.{MakeWords, CanMake, IsMade, ReadsMain, CannotMake, HoldsMain, FitsMain, IsOfMade, RefusesMade}
 use Rattle.qs_driver.specs.Made as meant
 use Rattle.qs_driver.specs.Promises.{StoreHeld, SaysStoreFailed}
 use Rattle.qs_driver.specs.declared.status.Status.{Status}
@@ -32,12 +33,14 @@ use Rattle.qs_driver.specs.declared.status.WordsFault.{WordsFault}
 use Rattle.qs_driver.specs.declared.status.WordsFault.TheVariants.{ArgCount, ArgRange}
 use Rattle.qs_driver.specs.declared.status.FileKind.{FileKind}
 use Rattle.qs_driver.specs.declared.status.FileKind.TheVariants as kinds
-use Rattle.qs_driver.proofs.BoundsLaws.{AreAlike, core_is, images_alike}
+use Rattle.qs_driver.proofs.BoundsLaws.{core_is}
+use Rattle.qs_driver.proofs.OneSource.{HoldsSource, source_held, one_held, images_of_one}
 use Rattle.qs_driver.proofs.FilesLaws.{held_content}
 use Rattle.qs_driver.proofs.SourceFollows.{one_content}
 use Rattle.qs_driver.proofs.SourceLaws.{same_trees}
 use Rattle.qs_driver.proofs.CertifiedFollows.{certified_own, certified_shows, certified_no_right}
-use Rattle.qs_driver.proofs.CertifiedRefusals.{CertifiedEnds, IsNoCertifiedRefusal, certified_ends, was_right, refuses_certified, proof_held, one_file}
+use Rattle.qs_driver.proofs.CertifiedRefusals.{CertifiedEnds, IsNoCertifiedRefusal, certified_ends, was_right, refuses_certified}
+use Rattle.qs_driver.proofs.MainLaws.{as_many, one_unfit, none_unfit}
 use Rattle.qs_driver.proofs.laws.Follows.{not_untouched}
 
 -- ---- statuses at which a source or its proofs are refused
@@ -95,7 +98,7 @@ source_refuses (ill_spelled fault pos) = refl
 source_refuses (no_reading fault place) = refl
 source_refuses (ill_typed fault place) = refl
 
-certified_refuses : {status : Status} → IsOfCertified status → is_refusal status ≡ true
+pub certified_refuses : {status : Status} → IsOfCertified status → is_refusal status ≡ true
 certified_refuses (of_source of) = source_refuses of
 certified_refuses missing_proof = refl
 certified_refuses long_proof = refl
@@ -108,26 +111,26 @@ no_words status x of e =
     (let never : ⊥ = cc in never)
 
 -- nor is there any of bounds
-made_not_bound : {status : Status} → IsOfMade status → (amount : Amount) → status ≢ NoBound amount
+made_not_bound : {args : List ℤ} {status : Status} → IsOfMade args status → (amount : Amount) → status ≢ NoBound amount
 made_not_bound (meant.of_certified of) amount e =
     let is = certified_refuses of in
     let none = ap is_refusal e in
     (let never : ⊥ = cc in never)
-made_not_bound (meant.wrong_count expected given) amount e = cc
+made_not_bound (meant.wrong_count expected) amount e = cc
 made_not_bound (meant.wrong_argument i) amount e = cc
 
-pub made_or_bound : (status : Status) → IsOfMade status → (amount : Amount) → status ≡ NoBound amount → ⊥
-made_or_bound status of amount e = made_not_bound of amount e
+pub made_or_bound : (args : List ℤ) (status : Status) → IsOfMade args status → (amount : Amount) → status ≡ NoBound amount → ⊥
+made_or_bound args status of amount e = made_not_bound of amount e
 
 -- ---- its own statuses
 
-pub made_own : (m : MakeWords) (v w : StoreView) (status : Status) → StoreHeld v w → CannotMake m v w status → IsOfMade status ⊎ (status ≡ NoMemory)
+pub made_own : (m : MakeWords) (v w : StoreView) (status : Status) → StoreHeld v w → CannotMake m v w status → IsOfMade m.args status ⊎ (status ≡ NoMemory)
 made_own m v w status n (meant.not_certified l) = elim (certified_own m.inputs v w status n l) [
   | inl of ↦ inl (meant.of_certified of)
   | inr e ↦ inr e
 ]
-made_own m v w status n (meant.count_differs parameters u c e) = inl (subst IsOfMade (sym e) (meant.wrong_count parameters (length m.args)))
-made_own m v w status n (meant.misfit i u x e) = inl (subst IsOfMade (sym e) (meant.wrong_argument i))
+made_own m v w status n (meant.count_differs parameters u c e) = inl (subst (IsOfMade m.args) (sym e) (meant.wrong_count parameters))
+made_own m v w status n (meant.misfit i u x e) = inl (subst (IsOfMade m.args) (sym e) (meant.wrong_argument i))
 made_own m v w status n (meant.no_memory u e) = inr e
 
 -- ---- what isn't hidden
@@ -138,92 +141,104 @@ made_shows m v w status (meant.count_differs parameters u c e) r = absurd (not_u
 made_shows m v w status (meant.misfit i u x e) r = absurd (not_untouched v w u r)
 made_shows m v w status (meant.no_memory u e) r = absurd (not_untouched v w u r)
 
--- ---- what is accepted
+-- ---- a source that is there has one core
 
-no_first : (image : Image) (args : List ℤ) (i : ℕ) → first_misfit image 0 args ≡ None → first_misfit image 0 args ≡ Some i → ⊥
-no_first image args i none first = cc
+-- the core of a source that is there is that of what was read of it
+read_core : (c : CertifyWords) (v : StoreView) (s : CertifiedSource) (h : HoldsRight c v.files) (core : CoreUnitTree) → IsTrue v.told → ReadsCertified c v s → core_of h.typed.unit.trees ≡ Some core → s.core ≡ core
+read_core c v s h core told r is =
+    let texts : r.text ≡ h.text = one_content (v.files c.source) source_limit r.text h.text (held_content r.text_read told) h.there in
+    let there : IsTypedAs h.text s.unit = subst (λ (text : List ℕ). IsTypedAs text s.unit) texts r.is.typed_as in
+    let unit : s.unit ≡ h.typed.unit.trees = sym there.trees_are ∙ same_trees h.text there.typed.unit h.typed.unit in
+    same_Some s.core core (sym (core_is r.text r.file s r.is) ∙ ap core_of unit ∙ is)
 
--- where nothing is made, the proofs aren't right or the arguments aren't main's
-pub made_no_good : (m : MakeWords) (v w : StoreView) (status : Status) → StoreHeld v w → CannotMake m v w status → (IsTrue v.told → HoldsRight m.inputs v.files → FitMain m v → ⊥) ⊎ (status ≡ NoMemory)
-made_no_good m v w status n (meant.not_certified l) = elim (certified_no_right m.inputs v w status n l) [
-  | inl never ↦ inl (λ told right fit. never told right)
-  | inr e ↦ inr e
-]
-made_no_good m v w status n (meant.count_differs parameters u c e) = inl (λ told right fit. c.differ ((fit c.source c.image c.makes).count ∙ sym c.parameters_are))
-made_no_good m v w status n (meant.misfit i u x e) = inl (λ told right fit. no_first x.image m.args i (fit x.source x.image x.makes).fit x.first)
-made_no_good m v w status n (meant.no_memory u e) = inr e
-
--- ---- what is made of one source is alike
-
-one_unit : (c : CertifyWords) (v : StoreView) (s t : CertifiedSource) → IsTrue v.told → ReadsCertified c v s → ReadsCertified c v t → s.unit ≡ t.unit
-one_unit c v s t told r q =
-    let texts : r.text ≡ q.text = one_content (v.files c.source) source_limit r.text q.text (held_content r.text_read told) (held_content q.text_read told) in
-    let there : IsTypedAs q.text s.unit = subst (λ (text : List ℕ). IsTypedAs text s.unit) texts r.is.typed_as in
-    sym there.trees_are ∙ same_trees q.text there.typed.unit q.is.typed_as.typed.unit ∙ q.is.typed_as.trees_are
-
-alike : (m : MakeWords) (v : StoreView) (s t : CertifiedSource) (image other : Image) → IsTrue v.told → CanMake m v s image → CanMake m v t other → AreAlike image other
-alike m v s t image other told a b =
-    let is : core_of s.unit ≡ Some s.core = core_is a.reads.text a.reads.file s a.reads.is in
-    let unit : s.unit ≡ t.unit = one_unit m.inputs v s t told a.reads b.reads in
-    images_alike s.core s t image other is (subst (λ (x : UnitTree). core_of x ≡ Some s.core) unit is) a.image_of b.image_of
-
-fit_main : (m : MakeWords) (v : StoreView) (image : Image) (bound : Amount) → IsTrue v.told → IsMade m v image bound → FitMain m v
-fit_main m v image bound told made s other makes =
-    let like = alike m v made.source s image other told made.makes makes in
-    record { count = made.arguments.count ∙ like.parameters; fit = sym (like.misfit m.args) ∙ made.arguments.fit }
-
--- ---- what is certified is right, and one
+-- ---- what is certified is right
 
 no_entries : (fs : List ℕ) → list_any (has_entry no_proofs) fs ≡ false
 no_entries [] = refl
 no_entries (f ∷ fs) = no_entries fs
 
-right_proofs : (v : StoreView) (proof file : Option (List ℕ)) (u : CoreUnitTree) (given proofs : ProofsTree) → IsTrue v.told → WasReadProof v proof file → IsCertified u file given proofs → HoldsRightProofs v.files proof u
-right_proofs v None file u given proofs told read c =
+right_proofs : (v : StoreView) (proof file : Option (List ℕ)) (unit : UnitTree) (u : CoreUnitTree) (given proofs : ProofsTree) → IsTrue v.told → WasReadProof v proof file → core_of unit ≡ Some u → IsCertified u file given proofs → HoldsRightProofs v.files proof unit
+right_proofs v None file unit u given proofs told read is c =
     let none : IsCertified u None given proofs = subst (λ (x : Option (List ℕ)). IsCertified u x given proofs) read c in
     let right : AreRightProofs u no_proofs = subst (λ (p : ProofsTree). AreRightProofs u p) none.given_is (certified_is_right u None given proofs none) in
-    λ fs circle. right.no_cycle fs (record { circle = circle; none = no_entries fs })
-right_proofs v (Some name) None u given proofs told read c = absurd read
-right_proofs v (Some name) (Some text) u given proofs told read c = record {
+    λ core core_is.
+    subst IsWithoutRecursion (same_Some u core (sym is ∙ core_is))
+    (λ fs circle. right.no_cycle fs (record { circle = circle; none = no_entries fs }))
+right_proofs v (Some name) None unit u given proofs told read is c = absurd read
+right_proofs v (Some name) (Some text) unit u given proofs told read is c = record {
   content = text;
   holds = held_content read told;
-  has = record { given = given; reads = c.given_is; right = certified_is_right u (Some text) given proofs c };
+  has = λ core core_is.
+      subst (λ (x : CoreUnitTree). IsRightFile x text) (same_Some u core (sym is ∙ core_is))
+      (record { given = given; reads = c.given_is; right = certified_is_right u (Some text) given proofs c });
 }
 
-certified_right : (c : CertifyWords) (v : StoreView) (s : CertifiedSource) → IsTrue v.told → ReadsCertified c v s → HoldsRight c v.files
-certified_right c v s told r =
-    let own : HasCore r.is.typed_as.typed.unit.trees = subst HasCore (sym r.is.typed_as.trees_are) r.is.has_core in
-    let is : core_of r.is.typed_as.typed.unit.trees ≡ Some s.core = ap core_of r.is.typed_as.trees_are ∙ core_is r.text r.file s r.is in
-    let same : s.core ≡ own.core = same_Some s.core own.core (sym is ∙ own.is) in
-    record {
-      text = r.text;
-      there = held_content r.text_read told;
-      typed = r.is.typed_as.typed;
-      has_core = own;
-      proofs = subst (λ (u : CoreUnitTree). HoldsRightProofs v.files c.proof u) same (right_proofs v c.proof r.file s.core s.given s.proofs told r.file_read r.is.certified);
-    }
+own_core : (c : CertifyWords) (v : StoreView) (s : CertifiedSource) (r : ReadsCertified c v s) → core_of r.is.typed_as.typed.unit.trees ≡ Some s.core
+own_core c v s r = ap core_of r.is.typed_as.trees_are ∙ core_is r.text r.file s r.is
+
+pub certified_right : (c : CertifyWords) (v : StoreView) (s : CertifiedSource) → IsTrue v.told → ReadsCertified c v s → HoldsRight c v.files
+certified_right c v s told r = record {
+  text = r.text;
+  there = held_content r.text_read told;
+  typed = r.is.typed_as.typed;
+  proofs = right_proofs v c.proof r.file r.is.typed_as.typed.unit.trees s.core s.given s.proofs told r.file_read (own_core c v s r) r.is.certified;
+}
+
+-- ---- main's parameters
+
+-- what is so of those that were read is so of those that are there, and the other way round
+main_there : (m : MakeWords) (v : StoreView) (P : List Scalar → Type 0) → IsTrue v.told → ReadsMain m v P → HoldsMain m v.files P
+unfolding certified_right
+main_there m v P told h = record {
+  right = certified_right m.inputs v h.source told h.reads;
+  core = h.source.core;
+  core_is = own_core m.inputs v h.source h.reads;
+  so = h.so;
+}
+
+main_read : (m : MakeWords) (v : StoreView) (s : CertifiedSource) (P : List Scalar → Type 0) → IsTrue v.told → ReadsCertified m.inputs v s → HoldsMain m v.files P → P (parameters_of_main s.core)
+main_read m v s P told r h =
+    subst (λ (u : CoreUnitTree). P (parameters_of_main u)) (sym (read_core m.inputs v s h.right h.core told r h.core_is)) h.so
+
+-- there aren't both so many and another number of parameters
+counts_differ : (types : List Scalar) (args : List ℤ) (parameters : ℕ) → CountDiffers types args parameters → length args ≡ length types → ⊥
+counts_differ types args parameters d count = d.differ (count ∙ sym d.parameters_are)
+
+-- ---- what is accepted
+
+-- where nothing is made, the proofs aren't right or the arguments aren't main's
+pub made_no_good : (m : MakeWords) (v w : StoreView) (status : Status) → StoreHeld v w → CannotMake m v w status → (IsTrue v.told → FitsMain m v.files → ⊥) ⊎ (status ≡ NoMemory)
+made_no_good m v w status n (meant.not_certified l) = elim (certified_no_right m.inputs v w status n l) [
+  | inl never ↦ inl (λ told fits. never told fits.right)
+  | inr e ↦ inr e
+]
+made_no_good m v w status n (meant.count_differs parameters u c e) = inl (λ told fits.
+    let are = main_read m v c.source (λ types. AreNumbersOf types m.args) told c.reads fits in
+    counts_differ (parameters_of_main c.source.core) m.args parameters c.so (as_many (parameters_of_main c.source.core) m.args are))
+made_no_good m v w status n (meant.misfit i u x e) = inl (λ told fits.
+    let are = main_read m v x.source (λ types. AreNumbersOf types m.args) told x.reads fits in
+    none_unfit (parameters_of_main x.source.core) m.args i are x.so.first)
+made_no_good m v w status n (meant.no_memory u e) = inr e
+
+pub fits_main : (m : MakeWords) (v : StoreView) (image : Image) (bound : Amount) → IsTrue v.told → IsMade m v image bound → FitsMain m v.files
+fits_main m v image bound told made =
+    main_there m v (λ types. AreNumbersOf types m.args) told (record { source = made.source; reads = made.makes.reads; so = made.arguments })
 
 -- there is one bound
 pub one_bound : (m : MakeWords) (v : StoreView) (image other : Image) (a b : Amount) → IsTrue v.told → IsMade m v image a → IsMade m v other b → a ≡ b
 one_bound m v image other a b told p q =
-    let r = p.makes.reads in
-    let k = q.makes.reads in
-    let unit : p.source.unit ≡ q.source.unit = one_unit m.inputs v p.source q.source told r k in
-    let cores : p.source.core ≡ q.source.core = same_Some p.source.core q.source.core (sym (core_is r.text r.file p.source r.is) ∙ ap core_of unit ∙ core_is k.text k.file q.source k.is) in
-    let file : r.file ≡ k.file = one_file v.files m.inputs.proof r.file k.file (proof_held v m.inputs.proof r.file told r.file_read) (proof_held v m.inputs.proof k.file told k.file_read) in
-    let here : IsCertified p.source.core k.file p.source.given p.source.proofs = subst (λ (x : Option (List ℕ)). IsCertified p.source.core x p.source.given p.source.proofs) file r.is.certified in
-    let there : IsCertified q.source.core k.file p.source.given p.source.proofs = subst (λ (u : CoreUnitTree). IsCertified u k.file p.source.given p.source.proofs) cores here in
-    let proofs : p.source.proofs ≡ q.source.proofs = (one_certified q.source.core k.file p.source.given p.source.proofs q.source.given q.source.proofs there k.is.certified).1 in
+    let here : HoldsSource m.inputs v.files p.source = source_held m.inputs v p.source told p.makes.reads in
+    let there : HoldsSource m.inputs v.files q.source = source_held m.inputs v q.source told q.makes.reads in
+    let like = images_of_one m.inputs v.files p.source q.source image other here there p.makes.image_of q.makes.image_of in
     p.is_bound
-    ∙ ap (λ (cs : List ℕ). main_bound p.source.core p.source.proofs cs m.args) (alike m v p.source q.source image other told p.makes q.makes).costs
-    ∙ ap (λ (u : CoreUnitTree). main_bound u p.source.proofs (costs_in other) m.args) cores
-    ∙ ap (λ (x : ProofsTree). main_bound q.source.core x (costs_in other) m.args) proofs
+    ∙ ap (λ (costs : List ℕ). bound_by p.source costs m.args) like.costs
+    ∙ ap (λ (s : CertifiedSource). bound_by s (costs_in other) m.args) (one_held m.inputs v.files p.source q.source here there)
     ∙ sym q.is_bound
 
 -- a source that is certified isn't refused, nor are arguments that are main's
 pub certified_or_not : (m : MakeWords) (v w : StoreView) (status : Status) (image : Image) (bound : Amount) → StoreHeld v w → status ≢ NoMemory → IsTrue v.told → IsMade m v image bound → CannotMake m v w status → ⊥
 certified_or_not m v w status image bound n memory told made c = elim (made_no_good m v w status n c) [
-  | inl never ↦ never told (certified_right m.inputs v made.source told made.makes.reads) (fit_main m v image bound told made)
+  | inl never ↦ never told (fits_main m v image bound told made)
   | inr e ↦ memory e
 ]
 
@@ -245,8 +260,8 @@ module _ (m : MakeWords) (v : StoreView) (status : Status) (memory : status ≢ 
     | inl ends ↦ ends
     | inr e ↦ absurd (memory e)
   ]
-  as_certified (cannot w n (meant.count_differs parameters u c e)) = was_right m.inputs v c.source status told c.makes.reads (none_refused status (ap is_refusal e))
-  as_certified (cannot w n (meant.misfit i u x e)) = was_right m.inputs v x.source status told x.makes.reads (none_refused status (ap is_refusal e))
+  as_certified (cannot w n (meant.count_differs parameters u c e)) = was_right m.inputs v c.source status told c.reads (none_refused status (ap is_refusal e))
+  as_certified (cannot w n (meant.misfit i u x e)) = was_right m.inputs v x.source status told x.reads (none_refused status (ap is_refusal e))
   as_certified (cannot w n (meant.no_memory u e)) = absurd (memory e)
 
   no_words_of : (w : StoreView) (x : WordsFault) → StoreHeld v w → IsOfCertified status ⊎ (status ≡ NoMemory) → status ≡ Words x → ⊥
@@ -255,58 +270,68 @@ module _ (m : MakeWords) (v : StoreView) (status : Status) (memory : status ≢ 
 
   -- ---- as many arguments as parameters
 
-  count_tells : (parameters : ℕ) → MadeEnds m v status → status ≡ Words (ArgCount parameters (length m.args)) → CountDiffers m v parameters
-  count_tells parameters (goes_on image bound made none) f = absurd (none.not_words (ArgCount parameters (length m.args)) f)
-  count_tells parameters (cannot w n (meant.not_certified l)) f = absurd (no_words_of w (ArgCount parameters (length m.args)) n (certified_own m.inputs v w status n l) f)
-  count_tells parameters (cannot w n (meant.count_differs found u c e)) f =
-      let both : ◌≡◌ {A = Status} (Words (ArgCount found (length m.args))) (Words (ArgCount parameters (length m.args))) = sym e ∙ f in
-      let same : found ≡ parameters = cc in
-      subst (λ (k : ℕ). CountDiffers m v k) same c
-  count_tells parameters (cannot w n (meant.misfit i u x e)) f = absurd (let both : ◌≡◌ {A = Status} (Words (ArgRange i)) (Words (ArgCount parameters (length m.args))) = sym e ∙ f in (let never : ⊥ = cc in never))
-  count_tells parameters (cannot w n (meant.no_memory u e)) f = absurd (memory e)
+  module _ (parameters : ℕ) where
+    abbrev Differs : List Scalar → Type 0
+    Differs types = CountDiffers types m.args parameters
 
-  count_leads : (parameters : ℕ) → MadeEnds m v status → CountDiffers m v parameters → status ≡ Words (ArgCount parameters (length m.args))
-  count_leads parameters (goes_on image bound made none) c =
-      absurd (c.differ (made.arguments.count ∙ (alike m v made.source c.source image c.image told made.makes c.makes).parameters ∙ sym c.parameters_are))
-  count_leads parameters (cannot w n (meant.not_certified l)) c = elim (certified_no_right m.inputs v w status n l) [
-    | inl never ↦ absurd (never told (certified_right m.inputs v c.source told c.makes.reads))
-    | inr e ↦ absurd (memory e)
-  ]
-  count_leads parameters (cannot w n (meant.count_differs found u d e)) c =
-      e ∙ ap (λ (k : ℕ). Words (ArgCount k (length m.args))) (d.parameters_are ∙ (alike m v d.source c.source d.image c.image told d.makes c.makes).parameters ∙ sym c.parameters_are)
-  count_leads parameters (cannot w n (meant.misfit i u x e)) c =
-      absurd (c.differ (x.count ∙ (alike m v x.source c.source x.image c.image told x.makes c.makes).parameters ∙ sym c.parameters_are))
-  count_leads parameters (cannot w n (meant.no_memory u e)) c = absurd (memory e)
+    count_tells : MadeEnds m v status → status ≡ Words (ArgCount parameters (length m.args)) → HoldsMain m v.files Differs
+    count_tells (goes_on image bound made none) f = absurd (none.not_words (ArgCount parameters (length m.args)) f)
+    count_tells (cannot w n (meant.not_certified l)) f = absurd (no_words_of w (ArgCount parameters (length m.args)) n (certified_own m.inputs v w status n l) f)
+    count_tells (cannot w n (meant.count_differs found u c e)) f =
+        let both : ◌≡◌ {A = Status} (Words (ArgCount found (length m.args))) (Words (ArgCount parameters (length m.args))) = sym e ∙ f in
+        let same : found ≡ parameters = cc in
+        main_there m v Differs told (subst (λ (k : ℕ). ReadsMain m v (λ types. CountDiffers types m.args k)) same c)
+    count_tells (cannot w n (meant.misfit i u x e)) f = absurd (let both : ◌≡◌ {A = Status} (Words (ArgRange i)) (Words (ArgCount parameters (length m.args))) = sym e ∙ f in (let never : ⊥ = cc in never))
+    count_tells (cannot w n (meant.no_memory u e)) f = absurd (memory e)
+
+    count_leads : MadeEnds m v status → HoldsMain m v.files Differs → status ≡ Words (ArgCount parameters (length m.args))
+    count_leads (goes_on image bound made none) h =
+        let d = main_read m v made.source Differs told made.makes.reads h in
+        absurd (counts_differ (parameters_of_main made.source.core) m.args parameters d (as_many (parameters_of_main made.source.core) m.args made.arguments))
+    count_leads (cannot w n (meant.not_certified l)) h = elim (certified_no_right m.inputs v w status n l) [
+      | inl never ↦ absurd (never told h.right)
+      | inr e ↦ absurd (memory e)
+    ]
+    count_leads (cannot w n (meant.count_differs found u c e)) h =
+        let d = main_read m v c.source Differs told c.reads h in
+        e ∙ ap (λ (k : ℕ). Words (ArgCount k (length m.args))) (c.so.parameters_are ∙ sym d.parameters_are)
+    count_leads (cannot w n (meant.misfit i u x e)) h =
+        absurd (counts_differ (parameters_of_main x.source.core) m.args parameters (main_read m v x.source Differs told x.reads h) x.so.count)
+    count_leads (cannot w n (meant.no_memory u e)) h = absurd (memory e)
 
   -- ---- arguments of their parameters' types
 
-  argument_tells : (i : ℕ) → MadeEnds m v status → status ≡ Words (ArgRange i) → IsMisfit m v i
-  argument_tells i (goes_on image bound made none) f = absurd (none.not_words (ArgRange i) f)
-  argument_tells i (cannot w n (meant.not_certified l)) f = absurd (no_words_of w (ArgRange i) n (certified_own m.inputs v w status n l) f)
-  argument_tells i (cannot w n (meant.count_differs found u c e)) f = absurd (let both : ◌≡◌ {A = Status} (Words (ArgCount found (length m.args))) (Words (ArgRange i)) = sym e ∙ f in (let never : ⊥ = cc in never))
-  argument_tells i (cannot w n (meant.misfit found u x e)) f =
-      let both : ◌≡◌ {A = Status} (Words (ArgRange found)) (Words (ArgRange i)) = sym e ∙ f in
-      let same : found ≡ i = cc in
-      subst (λ (k : ℕ). IsMisfit m v k) same x
-  argument_tells i (cannot w n (meant.no_memory u e)) f = absurd (memory e)
+  module _ (i : ℕ) where
+    abbrev Misfits : List Scalar → Type 0
+    Misfits types = IsMisfit types m.args i
 
-  argument_leads : (i : ℕ) → MadeEnds m v status → IsMisfit m v i → status ≡ Words (ArgRange i)
-  argument_leads i (goes_on image bound made none) x =
-      absurd (no_first image m.args i made.arguments.fit ((alike m v made.source x.source image x.image told made.makes x.makes).misfit m.args ∙ x.first))
-  argument_leads i (cannot w n (meant.not_certified l)) x = elim (certified_no_right m.inputs v w status n l) [
-    | inl never ↦ absurd (never told (certified_right m.inputs v x.source told x.makes.reads))
-    | inr e ↦ absurd (memory e)
-  ]
-  argument_leads i (cannot w n (meant.count_differs found u d e)) x =
-      absurd (d.differ (x.count ∙ sym (d.parameters_are ∙ (alike m v d.source x.source d.image x.image told d.makes x.makes).parameters)))
-  argument_leads i (cannot w n (meant.misfit found u y e)) x =
-      let same : found ≡ i = same_Some found i (sym y.first ∙ (alike m v y.source x.source y.image x.image told y.makes x.makes).misfit m.args ∙ x.first) in
-      e ∙ ap (λ (k : ℕ). Words (ArgRange k)) same
-  argument_leads i (cannot w n (meant.no_memory u e)) x = absurd (memory e)
+    argument_tells : MadeEnds m v status → status ≡ Words (ArgRange i) → HoldsMain m v.files Misfits
+    argument_tells (goes_on image bound made none) f = absurd (none.not_words (ArgRange i) f)
+    argument_tells (cannot w n (meant.not_certified l)) f = absurd (no_words_of w (ArgRange i) n (certified_own m.inputs v w status n l) f)
+    argument_tells (cannot w n (meant.count_differs found u c e)) f = absurd (let both : ◌≡◌ {A = Status} (Words (ArgCount found (length m.args))) (Words (ArgRange i)) = sym e ∙ f in (let never : ⊥ = cc in never))
+    argument_tells (cannot w n (meant.misfit found u x e)) f =
+        let both : ◌≡◌ {A = Status} (Words (ArgRange found)) (Words (ArgRange i)) = sym e ∙ f in
+        let same : found ≡ i = cc in
+        main_there m v Misfits told (subst (λ (k : ℕ). ReadsMain m v (λ types. IsMisfit types m.args k)) same x)
+    argument_tells (cannot w n (meant.no_memory u e)) f = absurd (memory e)
+
+    argument_leads : MadeEnds m v status → HoldsMain m v.files Misfits → status ≡ Words (ArgRange i)
+    argument_leads (goes_on image bound made none) h =
+        absurd (none_unfit (parameters_of_main made.source.core) m.args i made.arguments (main_read m v made.source Misfits told made.makes.reads h).first)
+    argument_leads (cannot w n (meant.not_certified l)) h = elim (certified_no_right m.inputs v w status n l) [
+      | inl never ↦ absurd (never told h.right)
+      | inr e ↦ absurd (memory e)
+    ]
+    argument_leads (cannot w n (meant.count_differs found u c e)) h =
+        absurd (counts_differ (parameters_of_main c.source.core) m.args found c.so (main_read m v c.source Misfits told c.reads h).count)
+    argument_leads (cannot w n (meant.misfit found u x e)) h =
+        let first = (main_read m v x.source Misfits told x.reads h).first in
+        e ∙ ap (λ (k : ℕ). Words (ArgRange k)) (one_unfit (parameters_of_main x.source.core) m.args found i x.so.first first)
+    argument_leads (cannot w n (meant.no_memory u e)) h = absurd (memory e)
 
   -- ---- the clauses
 
-  pub refuses_made : MadeEnds m v status → RefusesMade m v status
+  pub refuses_made : MadeEnds m v status → RefusesMade m v.files status
   refuses_made ends = record {
     certified = refuses_certified m.inputs v.files status (as_certified ends);
     count = λ parameters. (count_tells parameters ends, count_leads parameters ends);

@@ -20,7 +20,7 @@ use Rattle.qs_driver.specs.Made as meant
 use Rattle.qs_driver.specs.declared.certified.CertifiedUnit.{CertifiedUnit}
 use Rattle.qs_driver.specs.declared.made.Made.{Made}
 use Rattle.qs_driver.specs.declared.status.Status.{Status}
-use Rattle.qs_driver.proofs.BoundsLaws.{is_compiled, source_image}
+use Rattle.qs_driver.proofs.BoundsLaws.{is_compiled, source_image, image_takes, image_parameters, image_misfits}
 
 pub not_certified : (m : MakeWords) (v w : StoreView) (status : Status) → LacksCertified m.inputs v w status → Makes m v w (Err status)
 not_certified m v w status l = meant.not_certified l
@@ -33,20 +33,20 @@ can_make m v w c image h compiled = record {
 
 -- the arguments aren't main's
 no_words : (m : MakeWords) (v w : StoreView) (c : CertifiedUnit) (image : Image) (status : Status) → HasCertified m.inputs v w c → IsImageOfSource (typed_tree c.typed) image → LacksWords image m.args status → Makes m v w (Err status)
-no_words m v w c image status h compiled (arguments.count_differs ne e) = meant.count_differs image.parameters h.untouched (record {
-  source = h.source;
-  image = image;
-  makes = can_make m v w c image h compiled;
-  parameters_are = refl;
-  differ = ne;
-}) e
-no_words m v w c image status h compiled (arguments.misfit i count first e) = meant.misfit i h.untouched (record {
-  source = h.source;
-  image = image;
-  makes = can_make m v w c image h compiled;
-  count = count;
-  first = first;
-}) e
+no_words m v w c image status h compiled (arguments.count_differs ne e) =
+    let i = (can_make m v w c image h compiled).image_of.compiled in
+    meant.count_differs image.parameters h.untouched (record {
+      source = h.source;
+      reads = h.reads;
+      so = record { parameters_are = image_parameters m.inputs v h.source image h.reads i; differ = ne };
+    }) e
+no_words m v w c image status h compiled (arguments.misfit at count first e) =
+    let i = (can_make m v w c image h compiled).image_of.compiled in
+    meant.misfit at h.untouched (record {
+      source = h.source;
+      reads = h.reads;
+      so = image_misfits m.inputs v h.source image h.reads i m.args at count first;
+    }) e
 no_words m v w c image status h compiled (arguments.no_memory e) = meant.no_memory h.untouched e
 
 -- the bound that the code has computed is that of what it holds
@@ -56,7 +56,7 @@ was_made m v w c made costs h compiled are costs_are is = record {
   is_made = record {
     source = h.source;
     makes = can_make m v w c made.image h compiled;
-    arguments = are;
+    arguments = (image_takes m.inputs v h.source made.image h.reads (can_make m v w c made.image h compiled).image_of.compiled m.args).0 are;
     is_bound =
         is ∙ ap (λ (cs : List ℕ). main_bound (unit_tree c.core) (proofs_tree c.certified.proofs) cs m.args) costs_are
         ∙ ap (λ (u : CoreUnitTree). main_bound u (proofs_tree c.certified.proofs) (costs_in made.image) m.args) h.holds.core

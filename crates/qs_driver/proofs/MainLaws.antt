@@ -17,6 +17,7 @@ use Rattle.qs_build.specs.Built.{IsBuiltFrom}
 use Rattle.qs_build.specs.Units.{types_of_main, main_types}
 use Rattle.qs_certify.specs.Bound.{IsNumberOf, AreNumbersOf, types_in}
 use Rattle.qs_certify.specs.Bound as certify
+use Rattle.qs_driver.specs.Arguments.{parameters_of_main, IsFirstUnfit, IsMisfit}
 
 -- ---- numbers
 
@@ -64,13 +65,6 @@ all_fit image i z zs h = by (fits_parameter image i z) refl h
     by true is h = record { first = is; others = h }
     by false is h = cc
 
--- images whose `unsigned` parameters are the same take the same arguments
-pub same_misfit : (image other : Image) → ((i : ℕ) → is_unsigned image i ≡ is_unsigned other i) → (i : ℕ) (zs : List ℤ) → first_misfit image i zs ≡ first_misfit other i zs
-same_misfit image other same i [] = refl
-same_misfit image other same i (z ∷ zs) =
-    ap (λ b. if b then first_misfit image (i + 1) zs else Some i) (ap (λ b. is_number b z) (same i))
-    ∙ ap (λ rest. if fits_parameter other i z then rest else Some i) (same_misfit image other same (i + 1) zs)
-
 -- the parameters from i on have these types, and the image tells which are `unsigned`
 abbrev Tells : Image → (i : ℕ) → List Scalar → Type 0
 Tells image i types = (j : ℕ) → is_unsigned image (i + j) ≡ is_type (slice_get types j) scalars.Unsigned
@@ -106,11 +100,61 @@ numbers_fit image i (s ∷ types) (z ∷ zs) promoted tells are =
     ap (λ b. if b then first_misfit image (i + 1) zs else Some i) (ap (λ b. is_number b z) (tells_first image i s types tells) ∙ type_of_number s z p.0 are.0)
     ∙ numbers_fit image (i + 1) types zs p.1 (tells_others image i s types tells) are.1
 
-as_many : (types : List Scalar) (zs : List ℤ) → AreNumbersOf types zs → length zs ≡ length types
+pub as_many : (types : List Scalar) (zs : List ℤ) → AreNumbersOf types zs → length zs ≡ length types
 as_many [] [] are = refl
 as_many [] (z ∷ zs) are = absurd are
 as_many (s ∷ types) [] are = absurd are
 as_many (s ∷ types) (z ∷ zs) are = let e = as_many types zs are.1 in omega (arith, e)
+
+-- the first argument that doesn't fit is the first that is no number of its type, those from i on being given
+abbrev IsUnfitFrom : (i : ℕ) → List Scalar → List ℤ → (found : ℕ) → Type 0
+IsUnfitFrom i types zs found = (j : ℕ) × (found ≡ i + j) × IsFirstUnfit types zs j
+
+unfit_here :
+    (image : Image) (i : ℕ) (s : Scalar) (types : List Scalar) (z : ℤ) (zs : List ℤ) (found : ℕ) → is_promoted s ≡ true
+    → fits_parameter image i z ≡ is_number (same_scalar s scalars.Unsigned) z
+    → (first_misfit image (i + 1) zs ≡ Some found → IsUnfitFrom (i + 1) types zs found)
+    → (b : Bool) → fits_parameter image i z ≡ b → (if b then first_misfit image (i + 1) zs else Some i) ≡ Some found
+    → IsUnfitFrom i (s ∷ types) (z ∷ zs) found
+unfit_here image i s types z zs found promoted test later true is h =
+    let (j, at, unfit) = later h in
+    let number : IsNumberOf s z = number_of_type s z promoted (sym test ∙ is) in (suc j, omega (arith, at), (number, unfit))
+unfit_here image i s types z zs found promoted test later false is h =
+    let here : i ≡ found = cc in (
+      0,
+      omega (arith, here),
+      λ number.
+          let yes : true ≡ false = sym (type_of_number s z promoted number) ∙ sym test ∙ is in
+          (let never : ⊥ = cc in never),
+    )
+
+unfit_from :
+    (image : Image) (i : ℕ) (types : List Scalar) (zs : List ℤ) (found : ℕ) → list_all is_promoted types ≡ true → Tells image i types
+    → length zs ≡ length types → first_misfit image i zs ≡ Some found → IsUnfitFrom i types zs found
+unfit_from image i [] [] found promoted tells long h = absurd (let never : ⊥ = cc in never)
+unfit_from image i [] (z ∷ zs) found promoted tells long h = absurd (omega (arith, long))
+unfit_from image i (s ∷ types) [] found promoted tells long h = absurd (omega (arith, long))
+unfit_from image i (s ∷ types) (z ∷ zs) found promoted tells long h =
+    let p = both (is_promoted s) (list_all is_promoted types) promoted in
+    let as_long : length zs ≡ length types = omega (arith, long) in
+    unfit_here image i s types z zs found p.0 (ap (λ b. is_number b z) (tells_first image i s types tells))
+    (λ later. unfit_from image (i + 1) types zs found p.1 (tells_others image i s types tells) as_long later)
+    (fits_parameter image i z) refl h
+
+-- there is one such argument, and none where all are numbers of their types
+pub one_unfit : (types : List Scalar) (zs : List ℤ) (i j : ℕ) → IsFirstUnfit types zs i → IsFirstUnfit types zs j → i ≡ j
+one_unfit [] zs i j h k = absurd h
+one_unfit (s ∷ types) [] i j h k = absurd h
+one_unfit (s ∷ types) (z ∷ zs) zero zero h k = refl
+one_unfit (s ∷ types) (z ∷ zs) zero (suc j) h k = absurd (h k.0)
+one_unfit (s ∷ types) (z ∷ zs) (suc i) zero h k = absurd (k h.0)
+one_unfit (s ∷ types) (z ∷ zs) (suc i) (suc j) h k = ap suc (one_unfit types zs i j h.1 k.1)
+
+pub none_unfit : (types : List Scalar) (zs : List ℤ) (i : ℕ) → AreNumbersOf types zs → IsFirstUnfit types zs i → ⊥
+none_unfit [] zs i are h = h
+none_unfit (s ∷ types) [] i are h = h
+none_unfit (s ∷ types) (z ∷ zs) zero are h = h are.0
+none_unfit (s ∷ types) (z ∷ zs) (suc i) are h = none_unfit types zs i are.1 h.1
 
 -- ---- main
 
@@ -129,8 +173,25 @@ module _ (u : CoreUnitTree) (image : Image) (args : List ℤ) (fits : unit_fits 
   tells : Tells image 0 (main_types u)
   tells j = let same : 0 + j ≡ j = omega arith in ap (is_unsigned image) same ∙ built.unsigned j
 
-  same : types_in (slice_get u.functions u.main) ≡ main_types u
+  same : parameters_of_main u ≡ main_types u
   same = same_types (slice_get u.functions u.main)
+
+  -- it takes as many arguments as main of its core has parameters
+  pub parameters_are : image.parameters ≡ length (parameters_of_main u)
+  parameters_are = built.parameters ∙ ap length (sym same)
+
+  -- and where one doesn't fit, it is the first that is no number of its type
+  pub misfits : (i : ℕ) → length args ≡ image.parameters → first_misfit image 0 args ≡ Some i → IsMisfit (parameters_of_main u) args i
+  misfits i count first =
+      let long : length args ≡ length (main_types u) = count ∙ built.parameters in
+      let (j, at, unfit) = unfit_from image 0 (main_types u) args i promoted tells long first in
+      let here : j ≡ i = omega (arith, at) in
+      record {
+        count = count ∙ parameters_are;
+        first =
+            subst (λ (types : List Scalar). IsFirstUnfit types args i) (sym same)
+            (subst (λ (k : ℕ). IsFirstUnfit (main_types u) args k) here unfit);
+      }
 
   are_mains : image_arguments.AreArguments image args → certify.AreArguments u args
   are_mains a =

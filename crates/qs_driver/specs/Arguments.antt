@@ -1,12 +1,41 @@
--- The arguments of main as the words of the machine.
-use Rattle.std.specs.Prelude.{◌≡◌, ◌≢◌, ℕ, ℤ, List, [], length, Some, None, Result, Ok, Err, Vec}
+-- The arguments of main: numbers of its parameters' types, and their words for the machine.
+use Rattle.std.specs.Prelude.{◌≡◌, ◌≢◌, ℕ, zero, suc, ℤ, List, [], ◌∷◌, length, Some, Result, Ok, Err, Vec}
+use Rattle.std.specs.List.{slice_get}
 use Rattle.std.specs.declared.alloc.Global.{Global}
+use Rattle.qs_memory.specs.declared.scalar.Scalar.{Scalar}
+use Rattle.qs_core.specs.Trees.{CoreUnitTree}
+use Rattle.qs_certify.specs.Bound.{IsNumberOf, types_in}
 use Rattle.qs_image.specs.Image.{Image}
 use Rattle.qs_machine.specs.Arguments.{AreArguments, first_misfit, words_of}
 use Rattle.qs_driver.specs.declared.arguments.Parameters.{Parameters}
 use Rattle.qs_driver.specs.declared.status.Status.{Status}
 use Rattle.qs_driver.specs.declared.status.Status.TheVariants.{Words, NoMemory}
 use Rattle.qs_driver.specs.declared.status.WordsFault.TheVariants.{ArgCount, ArgRange}
+
+-- ---- by the types of main's parameters
+
+-- the types of main's parameters, `int` or `unsigned`
+abbrev pub parameters_of_main : CoreUnitTree → List Scalar
+parameters_of_main u = types_in (slice_get u.functions u.main)
+
+-- there are so many parameters, and more or fewer arguments
+pub record CountDiffers (types : List Scalar) (args : List ℤ) (parameters : ℕ) : Type 0 where
+  pub parameters_are : parameters ≡ length types
+  pub differ : length args ≢ parameters
+
+-- the arguments before argument i are numbers of their parameters' types, and that one is none
+abbrev pub IsFirstUnfit : List Scalar → List ℤ → (i : ℕ) → Type 0
+IsFirstUnfit [] zs i = ⊥
+IsFirstUnfit (s ∷ types) [] i = ⊥
+IsFirstUnfit (s ∷ types) (z ∷ zs) zero = IsNumberOf s z → ⊥
+IsFirstUnfit (s ∷ types) (z ∷ zs) (suc i) = IsNumberOf s z × IsFirstUnfit types zs i
+
+-- there are as many arguments as parameters, and argument i is the first that is no number of its parameter's type
+pub record IsMisfit (types : List Scalar) (args : List ℤ) (i : ℕ) : Type 0 where
+  pub count : length args ≡ length types
+  pub first : IsFirstUnfit types args i
+
+-- ---- as words
 
 -- an image of which these parameters are all that is known
 abbrev pub image_with : Parameters → Image

@@ -9,7 +9,8 @@ use Rattle.qs_assert.specs.Values.{finite, plus}
 use Rattle.qs_assert.specs.declared.define.Amount.{Amount}
 use Rattle.qs_assert.specs.declared.define.Amount.TheVariants.{Finite, Infinite, Wide}
 use Rattle.qs_entail.specs.Meaning.{AtLeast}
-use Rattle.qs_core.specs.Trees.{CoreFunctionTree}
+use Rattle.qs_core.specs.Trees.{CoreFunctionTree, CoreUnitTree}
+use Rattle.qs_tac.specs.Units.{tac_run}
 use Rattle.qs_meaning.specs.Typed.{TypedProgram}
 use Rattle.qs_meaning.specs.Units.{typed_of}
 use Rattle.qs_meaning.specs.Runs.{main_run, source_run}
@@ -18,6 +19,7 @@ use Rattle.qs_triples.specs.Valuations.{value_at_entry}
 use Rattle.qs_image.specs.Image.{Image}
 use Rattle.qs_machine.specs.Arguments.{AreArguments}
 use Rattle.qs_build.specs.Agrees.{values_of}
+use Rattle.qs_build.specs.Units.{linear, start_of}
 use Rattle.qs_certify.specs.Bound as certify
 use Rattle.qs_compile.specs.Agree.{Bound, Runs, AgreesFrom, IsInput}
 use Rattle.qs_compile.specs.Compiled.{IsCompiled}
@@ -50,17 +52,27 @@ main_runs program args input n = main_run program (values_of args) input n
 abbrev pub seen_runs : TypedProgram → Runs
 seen_runs program args input = source_run program (values_of args) input
 
+-- and those of the linear code that is made of its core, within m steps
+abbrev pub linear_runs : CoreUnitTree → (args : List ℤ) → (input : List ℕ) → (m : ℕ) → RootRun
+linear_runs u args input m = tac_run (linear u) u.main (values_of args) (start_of u input) m
+
 -- ---- what the bound says of the source
 
 -- Where the arguments are main's and their bound is a number, no run of main weighs more by the costs of the records:
--- on each input, within each bound of turns and depth, also where it is undefined or short.
+-- on each input, within each bound of turns and depth, also where it is undefined or short. Nor does any of its linear
+-- code, within each number of steps.
 pub record WeighsWithin (s : CertifiedSource) (program : TypedProgram) (image : Image) : Type 0 where
   pub weighs :
       (args : List ℤ) (input : List ℕ) (bytes n : ℕ) → AreArguments image args → IsInput input
       → bytes_by s image args ≡ Some bytes
       → run_weight (certify.costs_of (costs_in image)) (main_runs program args input n) ≤ bytes
+  pub linear_weighs :
+      (args : List ℤ) (input : List ℕ) (bytes m : ℕ) → AreArguments image args → IsInput input
+      → bytes_by s image args ≡ Some bytes
+      → run_weight (certify.costs_of (costs_in image)) (linear_runs s.core args input m) ≤ bytes
 
--- The same for every stack metric: what main costs by it and the value of main's precondition bound each run.
+-- The same for every stack metric: what main costs by it and the value of main's precondition bound each run, of the
+-- source and of its linear code.
 pub record IsBoundedByMain (s : CertifiedSource) (program : TypedProgram) : Type 0 where
   pub main : CoreFunctionTree
   pub is_main : slice_get s.core.functions s.core.main ≡ Some main
@@ -71,8 +83,13 @@ pub record IsBoundedByMain (s : CertifiedSource) (program : TypedProgram) : Type
       → AtLeast
       (plus (finite (cost s.core.main)) (value_at_entry cost s.proofs.defines main (values_of args) entry.spec.pre))
       (finite (run_weight cost (main_runs program args input n)))
+  pub bounds_linear :
+      (cost : Costs) (args : List ℤ) (input : List ℕ) (m : ℕ) → certify.AreArguments s.core args → IsInput input
+      → AtLeast
+      (plus (finite (cost s.core.main)) (value_at_entry cost s.proofs.defines main (values_of args) entry.spec.pre))
+      (finite (run_weight cost (linear_runs s.core args input m)))
 
--- the source has a typed tree whose runs main's entry bounds, for every stack metric
+-- the source has a typed tree whose runs main's entry bounds, as those of its linear code, for every stack metric
 pub record IsBounded (s : CertifiedSource) : Type 0 where
   pub program : TypedProgram
   pub tree : typed_of s.unit ≡ Some program
@@ -80,8 +97,8 @@ pub record IsBounded (s : CertifiedSource) : Type 0 where
 
 -- ---- what it says of the image
 
--- The image is made of the source, its costs are at most the source's caps, main's bound is one of the source's runs,
--- and on each stack of at least the bound the image does what the source does.
+-- The image is made of the source, its costs are at most the source's caps, main's bound bounds the source's runs, where
+-- it is a number, and on each stack of at least the bound the image does what the source does.
 pub record IsImageOf (s : CertifiedSource) (image : Image) : Type 0 where
   pub compiled : IsCompiled s.unit image
   pub weighs : WeighsWithin s compiled.program image

@@ -17,19 +17,23 @@ use Rattle.qs_prooftext.specs.Reading.{Reading, Fault}
 use Rattle.qs_prooftext.specs.Writing.{variable_text}
 use Rattle.qs_prooftext.specs.declared.fault.TextFault.{TextFault}
 use Rattle.qs_prooftext.specs.declared.fault.TextFault.TheVariants as texts
+use Rattle.qs_assert.specs.Order.{IsInOrder}
 use Rattle.qs_entail.specs.Said.{rule_number, limit_number}
 use Rattle.qs_entail.specs.declared.fault.CertFault.{CertFault}
 use Rattle.qs_entail.specs.declared.fault.CertFault.TheVariants as certificates
 use Rattle.qs_triples.specs.Derivations.{ProofsTree}
 use Rattle.qs_triples.specs.Entries.{has_entry}
+use Rattle.qs_triples.specs.Rules.{DerivationFault}
 use Rattle.qs_triples.specs.Filled.{function_name}
 use Rattle.qs_triples.specs.TreeOf.{proofs_tree}
 use Rattle.qs_triples.specs.declared.fault.DerivFault.{DerivFault}
 use Rattle.qs_triples.specs.declared.fault.DerivFault.TheVariants as entries
 use Rattle.qs_triples.specs.declared.fault.Place.{Place}
 use Rattle.qs_triples.specs.declared.fault.Place.TheVariants as places
+use Rattle.qs_analyse.specs.Fillable.{entry_functions}
+use Rattle.qs_certify.specs.Certification.{AreAll, IsCertified, CannotCertify, HasCounts, OfGiven, HasNoOrder}
+use Rattle.qs_certify.specs.Entries.{first_fault}
 use Rattle.qs_certify.specs.Certification as certify
-use Rattle.qs_certify.specs.Certification.{IsCertified, CannotCertify, HasCounts, OfGiven, HasNoOrder, IsNotDerived}
 use Rattle.qs_certify.specs.Given.{HasTextFault}
 use Rattle.qs_certify.specs.Laws.{AreRightProofs}
 use Rattle.qs_certify.specs.declared.fault.CertifyFault.{CertifyFault}
@@ -43,6 +47,7 @@ use Rattle.qs_ports.specs.StoreView.{StoreView, Files}
 use Rattle.qs_driver.specs.Limits.{source_limit, proof_limit}
 use Rattle.qs_driver.specs.Files.{IsUntouched, HoldsContent, HoldsWith, IsTooLong, WasReadAs, CannotRead, ReadsFile}
 use Rattle.qs_driver.specs.Source.{HoldsText, IsPlaceOf, IsTypedAs, IsTypedUnit, IsOfSource, LacksSource, RefusesSource}
+use Rattle.qs_driver.specs.Told.{EntryPlace, place_of, fault_place, fault_text}
 use Rattle.qs_driver.specs.declared.certified.CertifyOrder.{CertifyOrder}
 use Rattle.qs_driver.specs.declared.certified.CertifiedUnit.{CertifiedUnit}
 use Rattle.qs_driver.specs.declared.status.Status.{Status}
@@ -93,6 +98,11 @@ abbrev pub WasReadProof : StoreView → (proof : Option (List ℕ)) → (file : 
 WasReadProof before None file = file ≡ None
 WasReadProof before (Some name) None = ⊥
 WasReadProof before (Some name) (Some text) = WasReadAs before name proof_limit text
+
+-- the source and the proof file are as they were
+pub record AreAsBefore (w : CertifyWords) (files later : Files) : Type 0 where
+  pub source : later w.source ≡ files w.source
+  pub proof : (name : List ℕ) → w.proof ≡ Some name → later name ≡ files name
 
 -- the source and the proof file were read, and they come to this
 pub record ReadsCertified (w : CertifyWords) (before : StoreView) (s : CertifiedSource) : Type 0 where
@@ -220,18 +230,22 @@ pub record IsRightFile (core : CoreUnitTree) (text : List ℕ) : Type 0 where
   pub reads : Reading core text given
   pub right : AreRightProofs core given
 
--- the proof file is there and right, or none is named and the unit is without recursion
-abbrev pub HoldsRightProofs : Files → (proof : Option (List ℕ)) → CoreUnitTree → Type 0
-HoldsRightProofs files None core = IsWithoutRecursion core
-HoldsRightProofs files (Some name) core = HoldsWith (files name) proof_limit (IsRightFile core)
+-- of the core of the unit this is so
+abbrev pub OfCore : UnitTree → (CoreUnitTree → Type 0) → Type 0
+OfCore unit IsSo = (core : CoreUnitTree) → core_of unit ≡ Some core → IsSo core
+
+-- the proof file is there and right for the unit's core, or none is named and the unit's core is without recursion
+abbrev pub HoldsRightProofs : Files → (proof : Option (List ℕ)) → UnitTree → Type 0
+HoldsRightProofs files None unit = OfCore unit IsWithoutRecursion
+HoldsRightProofs files (Some name) unit =
+    HoldsWith (files name) proof_limit (λ text. OfCore unit (λ core. IsRightFile core text))
 
 -- the source is there and is a typed unit, and its proofs are right
 pub record HoldsRight (w : CertifyWords) (files : Files) : Type 0 where
   pub text : List ℕ
   pub there : HoldsContent (files w.source) source_limit text
   pub typed : IsTypedUnit text
-  pub has_core : HasCore typed.unit.trees
-  pub proofs : HoldsRightProofs files w.proof has_core.core
+  pub proofs : HoldsRightProofs files w.proof typed.unit.trees
 
 -- ---- when it is refused
 
@@ -264,10 +278,11 @@ pub record HoldsBoth (w : CertifyWords) (files : Files) (IsSo : CoreUnitTree →
   pub text : List ℕ
   pub there : HoldsContent (files w.source) source_limit text
   pub typed : IsTypedUnit text
-  pub has_core : HasCore typed.unit.trees
+  pub core : CoreUnitTree
+  pub core_is : core_of typed.unit.trees ≡ Some core
   pub file : Option (List ℕ)
   pub proof_there : HoldsProof files w.proof file
-  pub so : IsSo has_core.core file
+  pub so : IsSo core file
 
 -- the text of the file has this fault first, at this line and column
 pub record HasTextFaultAt (u : CoreUnitTree) (file : Option (List ℕ)) (fault : TextFault) (pos : Pos) : Type 0 where
@@ -279,23 +294,39 @@ pub record LeavesCycle (u : CoreUnitTree) (file : Option (List ℕ)) : Type 0 wh
   pub functions : List ℕ
   pub cycle : OfGiven u file (λ given. IsCycle u (has_entry given) functions)
 
--- the entry of this function is the first of the file that isn't derived
-pub record LacksDerivation (name : List ℕ) (u : CoreUnitTree) (file : Option (List ℕ)) : Type 0 where
+-- these names are those of such functions
+pub record IsCycleOf (names : List (List ℕ)) (u : CoreUnitTree) (file : Option (List ℕ)) : Type 0 where
+  pub functions : List ℕ
+  pub named : names ≡ map (function_name u) functions
+  pub cycle : OfGiven u file (λ given. IsCycle u (has_entry given) functions)
+
+-- of all proofs the definitions are in order, and the entry of this function is the first of the file that isn't derived
+pub record HasFirstFault (u : CoreUnitTree) (given : ProofsTree) (function : ℕ) (fault : DerivationFault) : Type 0 where
+  pub proofs : ProofsTree
+  pub all : AreAll u given proofs
+  pub in_order : IsInOrder proofs.defines
+  pub first : first_fault u proofs (entry_functions given.functions) ≡ Some (record { function = function; fault = fault })
+
+-- the entry of this function is the first of the file that isn't derived, and this is wrong first, at this place of it
+pub record LacksDerivation (name : List ℕ) (place : EntryPlace) (wrong : ProofText) (u : CoreUnitTree) (file : Option (List ℕ))
+    : Type 0 where
   pub function : ℕ
-  pub fault : DerivFault
+  pub fault : DerivationFault
   pub named : name ≡ function_name u function
-  pub first : OfGiven u file (λ given. IsNotDerived u given function fault)
+  pub first : OfGiven u file (λ given. HasFirstFault u given function fault)
+  pub place_is : place ≡ fault_place fault
+  pub wrong_is : wrong ≡ fault_text u function fault
 
 -- some cycle is told
 abbrev pub IsCycleStatus : Status → Type 0
 IsCycleStatus status = (names : Vec (List ℕ) Global) × (status ≡ Proof (Cycle names))
 
--- some fault of the entry of this function is told
-abbrev pub IsEntryStatus : (function : List ℕ) → Status → Type 0
-IsEntryStatus f status = (spot : Spot) × (text : ProofText) × (status ≡ Proof (Entry f spot text))
+-- of the entry of this function it is told that this is wrong at this place of it
+abbrev pub IsEntryStatus : (function : List ℕ) → EntryPlace → ProofText → Status → Type 0
+IsEntryStatus f place wrong status =
+    (spot : Spot) × (place_of spot ≡ place) × (status ≡ Proof (Entry f spot wrong))
 
--- Each refusal of a source or its proofs comes exactly where its cause is. (Which cycle is told, and which fault of an
--- entry, is said where what is due is said.)
+-- Each refusal of a source or its proofs comes exactly where its cause is.
 pub record RefusesCertified (w : CertifyWords) (files : Files) (status : Status) : Type 0 where
   pub source : RefusesSource (files w.source) status
   pub missing : (status ≡ Missing kinds.Derivation) ↔ OfProof w files (λ file. file ≡ None)
@@ -303,9 +334,11 @@ pub record RefusesCertified (w : CertifyWords) (files : Files) (status : Status)
   pub text : (fault : TextFault) (pos : Pos)
       → (status ≡ Proof (Text fault pos)) ↔ HoldsBoth w files (λ u file. HasTextFaultAt u file fault pos)
   pub cycle : IsCycleStatus status ↔ HoldsBoth w files LeavesCycle
+  pub one_cycle : (names : Vec (List ℕ) Global) → status ≡ Proof (Cycle names) → HoldsBoth w files (IsCycleOf names.items)
   pub order : (name : List ℕ)
       → (status ≡ Proof (Order name)) ↔ HoldsBoth w files (λ u file. OfGiven u file (λ given. HasNoOrder u given name))
-  pub entry : (function : List ℕ) → IsEntryStatus function status ↔ HoldsBoth w files (LacksDerivation function)
+  pub entry : (function : List ℕ) (place : EntryPlace) (wrong : ProofText)
+      → IsEntryStatus function place wrong status ↔ HoldsBoth w files (LacksDerivation function place wrong)
 
 -- ---- what the parts of the code answer
 

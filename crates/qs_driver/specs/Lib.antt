@@ -8,8 +8,10 @@ pub mod Steps
 pub mod Due
 pub mod Files
 pub mod Source
+pub mod Told
 pub mod Certified
 pub mod Bounds
+pub mod Sizes
 pub mod Arguments
 pub mod Made
 pub mod SampleSource
@@ -18,4 +20,6 @@ pub mod Task
 pub mod commands
 pub mod Tool
 pub mod Promises
+pub mod SampleSource
+pub mod SampleLaws
 pub mod Headline

@@ -1,17 +1,19 @@
 -- What is made of a source that is certified: its image, which isn't written, and main's bound at some arguments.
-use Rattle.std.specs.Prelude.{◌≡◌, ◌≢◌, ◌↔◌, ℕ, ℤ, List, length, map, Some, Result, Ok, Err}
+use Rattle.std.specs.Prelude.{◌≡◌, ◌↔◌, ℕ, ℤ, List, length, map, Some, Result, Ok, Err}
+use Rattle.qs_memory.specs.declared.scalar.Scalar.{Scalar}
 use Rattle.qs_typing.specs.TypedOf.{typed_tree}
 use Rattle.qs_assert.specs.declared.define.Amount.{Amount}
+use Rattle.qs_core.specs.Trees.{CoreUnitTree}
+use Rattle.qs_elaborate.specs.Units.{core_of}
+use Rattle.qs_certify.specs.Bound.{AreNumbersOf, AreArguments, main_bound}
+use Rattle.qs_ports.specs.StoreView.{StoreView, Files}
 use Rattle.qs_core.specs.UnitTrees.{unit_tree}
 use Rattle.qs_triples.specs.TreeOf.{proofs_tree}
-use Rattle.qs_certify.specs.Bound.{main_bound}
 use Rattle.qs_compile.specs.Compiled.{IsImageOfSource}
-use Rattle.qs_ports.specs.StoreView.{StoreView}
 use Rattle.qs_image.specs.Image.{Image, FunctionRecord}
-use Rattle.qs_machine.specs.Arguments.{AreArguments, first_misfit}
-use Rattle.qs_driver.specs.Arguments.{LacksWords}
+use Rattle.qs_driver.specs.Arguments.{parameters_of_main, CountDiffers, IsMisfit, LacksWords}
 use Rattle.qs_driver.specs.Files.{IsUntouched}
-use Rattle.qs_driver.specs.Certified.{CertifyWords, CertifiedSource, ReadsCertified, LacksCertified, IsOfCertified, RefusesCertified}
+use Rattle.qs_driver.specs.Certified.{CertifyWords, CertifiedSource, ReadsCertified, LacksCertified, HoldsRight, IsOfCertified, RefusesCertified}
 use Rattle.qs_driver.specs.Bounds.{IsImageOf, bound_by, costs_in}
 use Rattle.qs_driver.specs.declared.certified.CertifiedUnit.{CertifiedUnit}
 use Rattle.qs_driver.specs.declared.made.Made.{Made}
@@ -41,53 +43,52 @@ pub record CanMake (m : MakeWords) (before : StoreView) (s : CertifiedSource) (i
 pub record IsMade (m : MakeWords) (before : StoreView) (image : Image) (bound : Amount) : Type 0 where
   pub source : CertifiedSource
   pub makes : CanMake m before source image
-  pub arguments : AreArguments image m.args
+  pub arguments : AreArguments source.core m.args
   pub is_bound : bound ≡ bound_by source (costs_in image) m.args
 
--- there are more or fewer arguments than main has parameters
-pub record CountDiffers (m : MakeWords) (before : StoreView) (parameters : ℕ) : Type 0 where
+-- The source and the proof file were read and are right, and of the types of main's parameters this is so.
+pub record ReadsMain (m : MakeWords) (before : StoreView) (IsSo : List Scalar → Type 0) : Type 0 where
   pub source : CertifiedSource
-  pub image : Image
-  pub makes : CanMake m before source image
-  pub parameters_are : parameters ≡ image.parameters
-  pub differ : length m.args ≢ parameters
-
--- argument i is the first that is no value of its parameter
-pub record IsMisfit (m : MakeWords) (before : StoreView) (i : ℕ) : Type 0 where
-  pub source : CertifiedSource
-  pub image : Image
-  pub makes : CanMake m before source image
-  pub count : length m.args ≡ image.parameters
-  pub first : first_misfit image 0 m.args ≡ Some i
+  pub reads : ReadsCertified m.inputs before source
+  pub so : IsSo (parameters_of_main source.core)
 
 -- Why nothing is made, and the status at that. The tests come in this order.
 pub data CannotMake (m : MakeWords) (before after : StoreView) (status : Status) : Type 0 where
   not_certified : LacksCertified m.inputs before after status → CannotMake m before after status
-  count_differs : (parameters : ℕ) → IsUntouched before after → CountDiffers m before parameters
+  count_differs : (parameters : ℕ) → IsUntouched before after
+      → ReadsMain m before (λ types. CountDiffers types m.args parameters)
       → status ≡ Words (ArgCount parameters (length m.args)) → CannotMake m before after status
-  misfit : (i : ℕ) → IsUntouched before after → IsMisfit m before i
+  misfit : (i : ℕ) → IsUntouched before after → ReadsMain m before (λ types. IsMisfit types m.args i)
       → status ≡ Words (ArgRange i) → CannotMake m before after status
+  -- no memory was found; a source passes no size of images (`SourcesPassNoSize`)
   no_memory : IsUntouched before after → status ≡ NoMemory → CannotMake m before after status
 
 -- ---- what follows
 
--- The arguments are main's, as its parameters are declared: the images of the source's core all have these.
-abbrev pub FitMain : MakeWords → StoreView → Type 0
-FitMain m before =
-    (s : CertifiedSource) (image : Image) → CanMake m before s image → AreArguments image m.args
+-- The source is there and right with its proofs, and of the types of main's parameters this is so.
+pub record HoldsMain (m : MakeWords) (files : Files) (IsSo : List Scalar → Type 0) : Type 0 where
+  pub right : HoldsRight m.inputs files
+  pub core : CoreUnitTree
+  pub core_is : core_of right.typed.unit.trees ≡ Some core
+  pub so : IsSo (parameters_of_main core)
 
--- the statuses at which nothing is made, where no call fails and memory is found
-pub data IsOfMade : Status → Type 0 where
-  of_certified : {status : Status} → IsOfCertified status → IsOfMade status
-  wrong_count : (expected given : ℕ) → IsOfMade (Words (ArgCount expected given))
-  wrong_argument : (i : ℕ) → IsOfMade (Words (ArgRange i))
+-- The source is right with its proofs, and there is an argument for each of main's parameters, a number of its type.
+abbrev pub FitsMain : MakeWords → Files → Type 0
+FitsMain m files = HoldsMain m files (λ types. AreNumbersOf types m.args)
+
+-- the statuses at which nothing is made of these arguments, where no call fails and memory is found
+pub data IsOfMade (args : List ℤ) : Status → Type 0 where
+  of_certified : {status : Status} → IsOfCertified status → IsOfMade args status
+  wrong_count : (expected : ℕ) → IsOfMade args (Words (ArgCount expected (length args)))
+  wrong_argument : (i : ℕ) → IsOfMade args (Words (ArgRange i))
 
 -- Each refusal comes exactly where its cause is.
-pub record RefusesMade (m : MakeWords) (before : StoreView) (status : Status) : Type 0 where
-  pub certified : RefusesCertified m.inputs before.files status
+pub record RefusesMade (m : MakeWords) (files : Files) (status : Status) : Type 0 where
+  pub certified : RefusesCertified m.inputs files status
   pub count : (parameters : ℕ)
-      → (status ≡ Words (ArgCount parameters (length m.args))) ↔ CountDiffers m before parameters
-  pub argument : (i : ℕ) → (status ≡ Words (ArgRange i)) ↔ IsMisfit m before i
+      → (status ≡ Words (ArgCount parameters (length m.args)))
+      ↔ HoldsMain m files (λ types. CountDiffers types m.args parameters)
+  pub argument : (i : ℕ) → (status ≡ Words (ArgRange i)) ↔ HoldsMain m files (λ types. IsMisfit types m.args i)
 
 -- ---- what the code answers
 

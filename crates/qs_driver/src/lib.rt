@@ -16,12 +16,15 @@ mod made;
 mod names;
 mod orders;
 mod sample_source;
+mod sample_laws;
+mod sizes;
 mod source;
 mod status;
-mod stub;
 mod told;
 mod tool;
 
 pub use headline::accepted_sources_are_built_right;
+pub use sample_laws::samples_are_good;
+pub use sizes::sources_pass_no_size;
 pub use status::{FileKind, ProofFault, SourceFault, Status, TokenPlace, WordsFault};
 pub use tool::run_tool;

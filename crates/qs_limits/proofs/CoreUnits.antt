@@ -21,13 +21,15 @@ use Rattle.qs_elaborate.specs.Names.{FunctionNames, names_in}
 use Rattle.qs_elaborate.specs.Units.{functions_core, unit_core, core_of}
 use Rattle.qs_elaborate.proofs.CountedUnits.{unit_counted, source_words_are_few}
 use Rattle.qs_elaborate.proofs.FitCore.{units_have_cores}
-use Rattle.qs_limits.specs.Laws.{FunctionsAreFew, ParametersAreFew, ArgumentsAreFew, CodeIsSmall, HeldValuesAreFew}
+use Rattle.qs_limits.specs.Laws.{nesting_limit, FunctionsAreFew, ParametersAreFew, ArgumentsAreFew, CodeIsSmall, HeldValuesAreFew, StatementsNestLittle}
+use Rattle.qs_nesting.specs.Nesting.{functions_nesting}
 use Rattle.qs_limits.specs.Measures.{arguments_in_all}
 use Rattle.qs_limits.proofs.SourceHeights.{highest}
 use Rattle.qs_limits.proofs.NumberedHeights.{read_units_are_low}
 use Rattle.qs_limits.proofs.UnitHeights.{typed_units_are_low}
 use Rattle.qs_limits.proofs.MostHeld.{most_in_all, core_parameters, calls_few, body_few, body_arguments}
 use Rattle.qs_limits.proofs.HeldFunctions.{functions_few}
+use Rattle.qs_limits.proofs.NestedStatements.{functions_nest}
 use Rattle.qs_limits.proofs.FewNames.{bodies_are_few}
 
 -- ---- its typed tree, its main and its functions
@@ -126,3 +128,12 @@ held_values_are_few unit core read well limits q =
     all_held_few core (1 + height_limit) (most_parameters unit core read limits m)
     core.functions (unit_parts core (core_fits unit core read well limits q)).functions
     (subst (λ fs. highest (λ f. most_in_all f.body) fs ≤ 1 + height_limit) (functions_are unit core m) (omega (arith, typed.bodies, cores.bodies, height)))
+
+-- ---- how deep statements nest
+
+pub statements_nest_little : StatementsNestLittle
+statements_nest_little unit core read well limits q =
+    let m = made unit core q in
+    let typed = typed_units_are_low unit m.typed m.tree in
+    let height = read_units_are_low unit read in
+    subst (λ fs. functions_nesting fs ≤ nesting_limit) (functions_are unit core m) (omega (arith, typed.bodies, height, functions_nest (names_in unit) m.typed.functions))

@@ -24,7 +24,7 @@ tested_most : (e : Valued) (p q : CoreStmtTree) → list_most (tested e p q) ≡
 tested_most e p q = most-append e.statements (core.branch e.value p q ∷ [])
 
 branched_few :
-    (e : Valued) (a b : Listed) (l n m : ℕ) → Few e l → ListFew a n → ListFew b m → ListFew (branched e a b) (max l (max n m))
+    (e : Valued) (a b : Listed) (l n m : ℕ) → Few e l → ListFew a n → ListFew b m → ListFew (branched e a b) (1 + max l (max n m))
 branched_few e a b l n m h i k =
     omega (arith, tested_most e (one_statement a.statements) (one_statement b.statements), most_one a.statements, most_one b.statements, h.statements_few, h.value_few, i, k)
 

@@ -57,7 +57,7 @@ operation_few op order left right a b n m h k = record {
 
 pub logical_few :
     (f : CoreExprTree → CoreExprTree → CoreExprTree) (a b : Valued) (n m : ℕ) → held (f a.value b.value) ≤ max 1 (max (held a.value) (held b.value))
-    → Few a n → Few b m → Few (joined f a b) (max n m)
+    → Few a n → Few b m → Few (joined f a b) (1 + max n m)
 logical_few f a b n m e h k = record {
   statements_few = omega (arith, most-append a.statements b.statements, h.statements_few, k.statements_few);
   value_few = omega (arith, e, h.value_few, k.value_few);
@@ -67,7 +67,7 @@ logical_few f a b n m e h k = record {
 branch_most : (ss : List CoreStmtTree) (k : ℕ) (e : CoreExprTree) → most_in (branch_with ss k e) ≡ max (list_most ss) (held e)
 branch_most ss k e = let p = most_one (ss ++ keep k e ∷ []) in let q = most-append ss (keep k e ∷ []) in omega arith
 
-pub and_few : (a b : Valued) (n m : ℕ) → Few a n → Few b m → Few (and_branching a b) (max n m)
+pub and_few : (a b : Valued) (n m : ℕ) → Few a n → Few b m → Few (and_branching a b) (1 + max n m)
 and_few a b n m h k =
     let t = next_number b.temporaries in
     let p = branch_most b.statements t (truth_core b.value) in
@@ -78,7 +78,7 @@ and_few a b n m h k =
       value_few = omega arith;
     }
 
-pub or_few : (a b : Valued) (n m : ℕ) → Few a n → Few b m → Few (or_branching a b) (max n m)
+pub or_few : (a b : Valued) (n m : ℕ) → Few a n → Few b m → Few (or_branching a b) (1 + max n m)
 or_few a b n m h k =
     let t = next_number a.temporaries in
     let p = branch_most b.statements t (truth_core b.value) in
@@ -91,7 +91,7 @@ or_few a b n m h k =
 
 pub choice_few :
     (s : Scalar) (second third : Conversion) (c a b : Valued) (l n m : ℕ)
-    → Few c l → Few a n → Few b m → Few (choice_branching s second third c a b) (max l (max n m))
+    → Few c l → Few a n → Few b m → Few (choice_branching s second third c a b) (1 + max l (max n m))
 choice_few s second third c a b l n m h i k =
     let t = next_number a.temporaries in
     let x = converted_below second a.value in
@@ -106,7 +106,7 @@ choice_few s second third c a b l n m h i k =
 
 pub choice_joined_few :
     (second third : Conversion) (c a b : Valued) (l n m : ℕ)
-    → Few c l → Few a n → Few b m → Few (choice_joined second third c a b) (max l (max n m))
+    → Few c l → Few a n → Few b m → Few (choice_joined second third c a b) (1 + max l (max n m))
 choice_joined_few second third c a b l n m h i k =
     let x = converted_below second a.value in
     let y = converted_below third b.value in

@@ -10,6 +10,7 @@ mod MostHeld
 mod HeldParts
 mod HeldExpressions
 mod HeldFunctions
+mod NestedStatements
 mod FewNames
 pub mod CoreUnits
 mod GivenValues

@@ -1,5 +1,5 @@
--- How high the expressions are that a tree of the source evaluates: a node is 1 higher than its highest part. Statements and lists
--- are as high as the highest expression in them.
+-- How high the expressions are that a tree of the source evaluates, and the statements that choose or repeat: such a node is 1 higher
+-- than its highest part. Other statements and lists are as high as the highest thing in them.
 use Rattle.std.specs.Prelude.{ℕ, ◌+◌, max, List, [], ◌∷◌, Option, Some, None}
 use Rattle.qs_syntax.specs.Trees.{ExprTree, expr, ShapeTree, constant, text, name, unary, step, cast, sizeof_type, sizeof_expr, binary, assign, conditional, comma, subscript, member, call, Exprs, no_exprs, expr_and, InitialiserTree, value, list, Initialisers, no_initialisers, initialiser_and, VariableTree, DeclarationTree, StartTree, no_start, start_expression, start_declaration, StmtTree, empty, expression, declaration, block, branch, while_loop, do_loop, for_loop, break, continue, return, Stmts, no_stmts, stmt_and, Else, no_else, else_by, DeclTree, structure, forward, function, variables, UnitTree}
 
@@ -68,11 +68,11 @@ abbrev mutual
   stmt_height (expression node e) = expr_height e
   stmt_height (declaration d) = declaration_height d
   stmt_height (block ss) = stmts_height ss
-  stmt_height (branch node e s r) = max (expr_height e) (max (stmt_height s) (else_height r))
-  stmt_height (while_loop node e s) = max (expr_height e) (stmt_height s)
-  stmt_height (do_loop node s e) = max (stmt_height s) (expr_height e)
+  stmt_height (branch node e s r) = 1 + max (expr_height e) (max (stmt_height s) (else_height r))
+  stmt_height (while_loop node e s) = 1 + max (expr_height e) (stmt_height s)
+  stmt_height (do_loop node s e) = 1 + max (stmt_height s) (expr_height e)
   stmt_height (for_loop node a e u s) =
-      max (start_height a) (max (option_height expr_height e) (max (option_height expr_height u) (stmt_height s)))
+      1 + max (start_height a) (max (option_height expr_height e) (max (option_height expr_height u) (stmt_height s)))
   stmt_height (break node) = 0
   stmt_height (continue node) = 0
   stmt_height (return node e) = option_height expr_height e

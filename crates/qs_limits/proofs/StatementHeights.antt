@@ -205,19 +205,19 @@ mutual
       let i = condition_low s e x.value x.first in
       let j = statement_low t (inner s) y.value y.first in
       let k = else_low r s z.value z.first in
-      statement_as (max (expr_height e) (max (stmt_height t) (else_height r))) _ a z.then (omega arith)
+      statement_as (1 + max (expr_height e) (max (stmt_height t) (else_height r))) _ a z.then (omega arith)
   statement_low (while_loop node e t) s a q =
       let x = followed (condition_typed s e) _ a q in
       let y = followed (statement_typed (loop_body s) t) _ a x.then in
       let i = condition_low s e x.value x.first in
       let j = statement_low t (loop_body s) y.value y.first in
-      statement_as (max (expr_height e) (stmt_height t)) _ a y.then (omega arith)
+      statement_as (1 + max (expr_height e) (stmt_height t)) _ a y.then (omega arith)
   statement_low (do_loop node t e) s a q =
       let y = followed (statement_typed (loop_body s) t) _ a q in
       let x = followed (condition_typed s e) _ a y.then in
       let j = statement_low t (loop_body s) y.value y.first in
       let i = condition_low s e x.value x.first in
-      statement_as (max (stmt_height t) (expr_height e)) _ a x.then (omega arith)
+      statement_as (1 + max (stmt_height t) (expr_height e)) _ a x.then (omega arith)
   statement_low (for_loop node start e u t) s a q =
       let behind = in_for s start in
       let w = followed (start_typed (inner s) start) _ a q in
@@ -228,7 +228,7 @@ mutual
       let i = option_condition_low behind e x.value x.first in
       let j = option_effect_low behind u y.value y.first in
       let k = statement_low t (loop_body behind) z.value z.first in
-      statement_as (max (start_height start) (max (option_height expr_height e) (max (option_height expr_height u) (stmt_height t)))) _ a z.then (omega arith)
+      statement_as (1 + max (start_height start) (max (option_height expr_height e) (max (option_height expr_height u) (stmt_height t)))) _ a z.then (omega arith)
   statement_low (break node) s a q = statement_as 0 _ a q (omega arith)
   statement_low (continue node) s a q = statement_as 0 _ a q (omega arith)
   statement_low (return node e) s a q = return_low s e a q

@@ -1,5 +1,6 @@
--- How high expressions of the typed tree are: only an operator between two operands is higher than its parts, since it alone keeps the
--- value of one operand while another is computed.
+-- How high the typed tree is. Of expressions only an operator between two operands is higher than its parts, since it alone keeps the
+-- value of one operand while another is computed, and a choice, which may be a conditional in core; of statements those that choose or
+-- repeat.
 use Rattle.std.specs.Prelude.{ℕ, ◌+◌, max, Option, Some, None}
 use Rattle.qs_meaning.specs.Typed.{Expr, constant, value, pointer_to, member, called, stepped_after, unary, cast, binary, logical_and, logical_or, conditional, assigned, sequence}
 use Rattle.qs_meaning.specs.Typed.{Lvalue, variable, object, Arguments, no_arguments, argument_and, Assignment, set, update}
@@ -17,9 +18,9 @@ abbrev mutual
   height (unary operation c a) = height a
   height (cast c a) = height a
   height (binary operation order left right a b) = 1 + max (height a) (height b)
-  height (logical_and a b) = max (height a) (height b)
-  height (logical_or a b) = max (height a) (height b)
-  height (conditional s a second third b c) = max (height a) (max (height b) (height c))
+  height (logical_and a b) = 1 + max (height a) (height b)
+  height (logical_or a b) = 1 + max (height a) (height b)
+  height (conditional s a second third b c) = 1 + max (height a) (max (height b) (height c))
   height (assigned a) = assignment_height a
   height (sequence a b) = max (effect_height a) (height b)
 
@@ -45,7 +46,7 @@ abbrev mutual
   effect_height (fill blank a) = height a
   effect_height (in_order a b) = max (effect_height a) (effect_height b)
 
--- ---- statements are as high as the highest expression in them
+-- ---- statements
 
 abbrev pub condition_height : Option Expr → ℕ
 condition_height None = 0
@@ -55,11 +56,11 @@ abbrev mutual
   pub statement_height : Stmt → ℕ
   statement_height (evaluate a) = effect_height a
   statement_height (block ss) = statements_height ss
-  statement_height (branch e a b) = max (height e) (max (statement_height a) (statement_height b))
-  statement_height (while_loop e a) = max (height e) (statement_height a)
-  statement_height (do_loop a e) = max (statement_height a) (height e)
+  statement_height (branch e a b) = 1 + max (height e) (max (statement_height a) (statement_height b))
+  statement_height (while_loop e a) = 1 + max (height e) (statement_height a)
+  statement_height (do_loop a e) = 1 + max (statement_height a) (height e)
   statement_height (for_loop start e step a) =
-      max (effect_height start) (max (condition_height e) (max (effect_height step) (statement_height a)))
+      1 + max (effect_height start) (max (condition_height e) (max (effect_height step) (statement_height a)))
   statement_height break = 0
   statement_height continue = 0
   statement_height (return c e) = height e

@@ -10,6 +10,7 @@ use Rattle.qs_types.specs.WellTyped.{WellTyped}
 use Rattle.qs_core.specs.Trees.{CoreUnitTree}
 use Rattle.qs_core.specs.Units.{main_run}
 use Rattle.qs_core.specs.Sizes.{held_in_all, values, unit_words}
+use Rattle.qs_nesting.specs.Nesting.{unit_nesting}
 use Rattle.qs_elaborate.specs.Units.{core_of}
 use Rattle.qs_limits.specs.Caps.{caps, needed, EachBelow}
 use Rattle.qs_limits.specs.Measures.{arguments_in_all, bytes_in_words, data_end, data_size}
@@ -55,6 +56,15 @@ ValuesAreLimited = OfEachCore (λ core. All (λ f. values f ≤ value_limit) cor
 
 abbrev pub PlacedBytesAreFew : Type 0
 PlacedBytesAreFew = OfEachCore (λ core. All (λ f. bytes_in_words f.blocks ≤ local_limit) core.functions)
+
+-- ---- how deep statements nest
+
+-- one level of a reading is a loop, a sequence, a conditional and a sequence in it, at most
+abbrev pub nesting_limit : ℕ
+nesting_limit = 4 * height_limit
+
+abbrev pub StatementsNestLittle : Type 0
+StatementsNestLittle = OfEachCore (λ core. unit_nesting core ≤ nesting_limit)
 
 -- ---- data
 

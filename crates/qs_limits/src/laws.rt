@@ -1,6 +1,6 @@
 // The laws of limits. Each is the contract of an empty function, and speaks of the core of a unit that is
 // read from tokens, is well typed and is within the limits.
-ghost use Rattle.qs_limits.specs.Laws.{FunctionsAreFew, ParametersAreFew, ArgumentsAreFew, CodeIsSmall, HeldValuesAreFew, ValuesAreLimited, PlacedBytesAreFew, DataBytesAreFew, MainReturns, CapsAreKept};
+ghost use Rattle.qs_limits.specs.Laws.{FunctionsAreFew, ParametersAreFew, ArgumentsAreFew, CodeIsSmall, HeldValuesAreFew, ValuesAreLimited, PlacedBytesAreFew, StatementsNestLittle, DataBytesAreFew, MainReturns, CapsAreKept};
 
 /// There are at most 512 functions.
 pub fn functions_are_few()
@@ -43,6 +43,11 @@ pub fn values_are_limited()
 /// The blocks of a call take at most 1,048,576 bytes, each in whole words.
 pub fn placed_bytes_are_few()
     ensures { PlacedBytesAreFew }
+{}
+
+/// Statements nest at most 512 deep: four deep for each of 128 levels of a reading.
+pub fn statements_nest_little()
+    ensures { StatementsNestLittle }
 {}
 
 /// The blocks of data end at most 16,777,216 bytes behind the beginning of the first, each at a multiple of

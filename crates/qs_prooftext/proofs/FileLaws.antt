@@ -208,7 +208,7 @@ named_alike u i j f fits s = by (i == j) refl
     by false e =
         texts_differ (function_name u j) (function_name u i) (λ name. not_same i j (same_function u i j f fits s (slice_get u.functions j) refl (name ∙ ap name_in s)) e) ∙ sym e
 
-entered_alike : (u : CoreUnitTree) (has_name : List ℕ → Bool) (j : ℕ) → unit_fits u ≡ true → (es : List EntryTree) → list_all (entry_stands u has_name) es ≡ true
+pub entered_alike : (u : CoreUnitTree) (has_name : List ℕ → Bool) (j : ℕ) → unit_fits u ≡ true → (es : List EntryTree) → list_all (entry_stands u has_name) es ≡ true
     → list_any (bytes_eq (function_name u j)) (map (λ (e : EntryTree). function_name u e.function) es) ≡ is_some (find (is_entry_of j) es)
 entered_alike u has_name j fits [] h = refl
 entered_alike u has_name j fits (e ∷ es) h =

@@ -27,3 +27,9 @@ pub mod ListedLaws
 pub mod ReadLaws
 pub mod ReadForms
 pub mod ReadSound
+pub mod TreeLaws
+pub mod TokenLaws
+pub mod LayLaws
+pub mod EntryWords
+pub mod TopForms
+pub mod ReadWritable

@@ -14,14 +14,14 @@ use Rattle.qs_assert.specs.declared.variable.NumberType.{NumberType}
 use Rattle.qs_assert.specs.declared.variable.VarKind.{VarKind}
 use Rattle.qs_assert.specs.declared.variable.VarKind.TheVariants as kinds
 use Rattle.qs_assert.specs.declared.variable.Var.{Var}
-use Rattle.qs_core.proofs.FitLaws.{both, function_at_fits}
+use Rattle.qs_core.proofs.FitLaws.{all_at, both, function_at_fits}
 use Rattle.qs_core.specs.Fits.{differ, is_named, same_variable, unit_fits}
 use Rattle.qs_core.specs.TermTexts.{ordinal_text, temporary_text, variable_name}
 use Rattle.qs_core.specs.Trees.{CoreFunctionTree, CoreUnitTree, CoreVariableTree}
 use Rattle.qs_triples.specs.Mentions.{has_placed_parameter}
 use Rattle.qs_triples.specs.Valuations.{if_number}
 use Rattle.qs_prooftext.specs.Settings.{typed, with_word, variable_words, temporary_words, words_of}
-use Rattle.qs_prooftext.specs.Writing.{HasOwnWords, HasShortNumbers, is_short}
+use Rattle.qs_prooftext.specs.Writing.{HasOwnWords, HasShortNumbers, has_short_numbers, is_short}
 use Rattle.qs_prooftext.proofs.WordLaws.{Rows, words, not_false, texts_differ}
 
 -- ---- names have no `#`
@@ -218,5 +218,8 @@ all_differ f ss i (v ∷ vs) n h d few =
 pub own_words : (u : CoreUnitTree) → unit_fits u ≡ true → HasShortNumbers u → HasOwnWords u
 own_words u fits short i f s =
     let fit = function_at_fits u fits i f s in
-    let numbers = short i f s in
-    all_differ f f.temporaries 0 f.variables fit.named numbers.0 fit.different numbers.1
+    let numbers = both (list_all is_short f.variables) (nat_lt (length f.temporaries) (2 ^ 64)) (all_at has_short_numbers u.functions i f short s) in
+    all_differ f f.temporaries 0 f.variables fit.named numbers.0 fit.different (few (length f.temporaries) numbers.1)
+  where
+    few : (k : ℕ) → nat_lt k (2 ^ 64) ≡ true → k < 2 ^ 64
+    few k h = grind (arith, nat_tests, h)

@@ -20,7 +20,7 @@ use Rattle.qs_prooftext.specs.Writing.{Words, forms_of, headed, term_form, term_
 -- ---- lists of forms
 
 -- the forms, and then these marks
-abbrev before : List Form → List Mark → List Mark
+abbrev pub before : List Form → List Mark → List Mark
 before [] ms = ms
 before (f ∷ fs) ms = marks f ++ before fs ms
 

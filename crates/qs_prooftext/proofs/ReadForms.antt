@@ -139,11 +139,11 @@ pub record Good (h : Setting) (w : Words) (k : Kind) (v : Of k) (f : Form) : Typ
   pub form : form_of w k v ≡ f
   pub stands : stands_of h k v ≡ true
 
-abbrev forms_each : Words → (ks : List Kind) → Values ks → List Form
+abbrev pub forms_each : Words → (ks : List Kind) → Values ks → List Form
 forms_each w [] vs = []
 forms_each w (k ∷ ks) vs = form_of w k vs.0 ∷ forms_each w ks vs.1
 
-abbrev StandEach : Setting → (ks : List Kind) → Values ks → Type 0
+abbrev pub StandEach : Setting → (ks : List Kind) → Values ks → Type 0
 StandEach h [] vs = Unit {0}
 StandEach h (k ∷ ks) vs = (stands_of h k vs.0 ≡ true) × StandEach h ks vs.1
 
@@ -155,9 +155,9 @@ abbrev forms_all : Words → (k : Kind) → List (Of k) → List Form
 forms_all w k [] = []
 forms_all w k (v ∷ vs) = form_of w k v ∷ forms_all w k vs
 
-record GoodEach (h : Setting) (w : Words) (ks : List Kind) (vs : Values ks) (fs : List Form) : Type 0 where
-  forms : forms_each w ks vs ≡ fs
-  stand : StandEach h ks vs
+pub record GoodEach (h : Setting) (w : Words) (ks : List Kind) (vs : Values ks) (fs : List Form) : Type 0 where
+  pub forms : forms_each w ks vs ≡ fs
+  pub stand : StandEach h ks vs
 
 record GoodAll (h : Setting) (w : Words) (k : Kind) (vs : List (Of k)) (fs : List Form) : Type 0 where
   forms : forms_all w k vs ≡ fs
@@ -818,7 +818,7 @@ mutual
       list_good g h w fits k at s ss v (record { each = λ ks vs l f. each_good g h w fits ks (part_and s ss) vs l f; all = λ a vs f. all_good g h w fits a (part_and s ss) vs f; counts = λ a vs f. all_count g a (part_and s ss) vs f })
       (record { each = λ ks vs l f. each_good g h w fits ks ss vs l f; all = λ a vs f. all_good g h w fits a ss vs f; counts = λ a vs f. all_count g a ss vs f }) e
 
-  each_good : (g h : Setting) (w : Words) → Fits g h w → (ks : List Kind) (ss : Sexps) (vs : Values ks) → length ks ≡ count ss → each_means g ks ss ≡ Ok vs → GoodEach h w ks vs (all_erased ss)
+  pub each_good : (g h : Setting) (w : Words) → Fits g h w → (ks : List Kind) (ss : Sexps) (vs : Values ks) → length ks ≡ count ss → each_means g ks ss ≡ Ok vs → GoodEach h w ks vs (all_erased ss)
   each_good g h w fits [] no_parts vs l e = record { forms = refl; stand = tt }
   each_good g h w fits [] (part_and s ss) vs l e = absurd (omega (arith, l))
   each_good g h w fits (k ∷ ks) no_parts vs l e = cc

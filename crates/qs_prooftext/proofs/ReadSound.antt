@@ -47,7 +47,7 @@ number_there n i (m ∷ names) f e = by (bytes_eq m n) e (number_there n (i + 1)
 
 -- ---- definitions
 
-abbrev definition_words : CoreUnitTree → Words
+abbrev pub definition_words : CoreUnitTree → Words
 definition_words u = record { functions = function_name u; variables = [] }
 
 pub definition_fits : (u : CoreUnitTree) → Fits (in_definition u) (in_definition u) (definition_words u)

@@ -1,5 +1,5 @@
 -- Proofs as they are written: the lists of definitions, and then those of entries.
-use Rattle.std.specs.Prelude.{◌≡◌, true, bytes_eq, nat_lt, Bool, length, ◌<◌, ◌^◌, ℕ, pos, List, [], ◌∷◌, ◌++◌, map, codes, if◌then◌else◌, Option, Some, None}
+use Rattle.std.specs.Prelude.{◌≡◌, true, bytes_eq, nat_lt, Bool, length, ◌&&◌, ◌^◌, ℕ, pos, List, [], ◌∷◌, ◌++◌, map, codes, if◌then◌else◌, Option, Some, None}
 use Rattle.std.specs.List.{slice_get, list_all}
 use Rattle.qs_assert.specs.declared.define.Define.{Define}
 use Rattle.qs_assert.specs.declared.variable.VarKind.{VarKind}
@@ -180,10 +180,11 @@ abbrev mutual
 abbrev pub is_short : CoreVariableTree → Bool
 is_short v = nat_lt v.ordinal (2 ^ 64)
 
+abbrev pub has_short_numbers : CoreFunctionTree → Bool
+has_short_numbers f = list_all is_short f.variables && nat_lt (length f.temporaries) (2 ^ 64)
+
 abbrev pub HasShortNumbers : CoreUnitTree → Type 0
-HasShortNumbers u =
-    (i : ℕ) (f : CoreFunctionTree) → slice_get u.functions i ≡ Some f
-    → (list_all is_short f.variables ≡ true) × (length f.temporaries < 2 ^ 64)
+HasShortNumbers u = list_all has_short_numbers u.functions ≡ true
 
 -- each word of a function stands for one variable
 abbrev pub HasOwnWords : CoreUnitTree → Type 0

@@ -25,3 +25,9 @@ pub fn written_reads()
     ensures written { (u : CoreUnitTree) (proofs : ProofsTree) → unit_fits u ≡ true → HasShortNumbers u → IsWritable u proofs → Reading u (lay_all (file_forms u proofs)) proofs }
     ensures spelled { (u : CoreUnitTree) (text : List ℕ) (proofs : ProofsTree) → unit_fits u ≡ true → HasShortNumbers u → IsWritable u proofs → ReadsAs text (file_forms u proofs) → Reading u text proofs }
 {}
+
+/// What a text reads as can be written: its lists have a meaning, no definition and no function stands twice, no
+/// definition has the name of an open function, names are symbols, numbers are in range and lists nest at most 1,024 deep.
+pub fn read_is_writable()
+    ensures { (u : CoreUnitTree) (text : List ℕ) (proofs : ProofsTree) → unit_fits u ≡ true → Reading u text proofs → IsWritable u proofs }
+{}

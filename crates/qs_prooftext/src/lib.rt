@@ -3,18 +3,22 @@
 
 mod assertions;
 mod building;
+mod certificate_tokens;
 mod certificates;
 mod combinations;
 mod context;
+mod derivation_tokens;
 mod derivations;
 mod fact_tokens;
 mod facts;
 mod fault;
+mod file_text;
 mod heads;
 mod laws;
 mod leaves;
 mod listed;
 mod lists;
+mod machine_numbers;
 mod naming;
 mod parts;
 mod planting;
@@ -30,6 +34,7 @@ mod variables;
 mod writing;
 
 pub use fault::TextFault;
-pub use laws::{one_meaning, written_reads};
+pub use file_text::write;
+pub use laws::{one_meaning, written_reads, read_is_writable};
 pub use reading::read;
 pub use writing::variable_text;

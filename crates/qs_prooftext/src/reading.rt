@@ -4,7 +4,7 @@ ghost use Rattle.qs_core.specs.Trees.{CoreUnitTree};
 ghost use Rattle.qs_core.specs.UnitTrees.{unit_tree};
 ghost use Rattle.qs_prooftext.specs.Reading as spec;
 ghost use Rattle.qs_prooftext.specs.Reading.{Fault, Reading};
-ghost use Rattle.qs_prooftext.specs.Writable.{IsOfUnit};
+ghost use Rattle.qs_prooftext.specs.Writable.{IsOfUnit, IsWritable};
 ghost use Rattle.qs_prooftext.specs.declared.fault.TextFault.TheVariants as faults;
 ghost use Rattle.qs_sexpr.specs.Reading as lists;
 ghost use Rattle.qs_sexpr.specs.Results.{IsRead};
@@ -65,12 +65,13 @@ fn read_lists(
     read_tops(alloc, file, nodes)
 }
 
-/// The proofs that a text is, or its first fault. Faults of lists and atoms anywhere in the text come before those of
-/// what they mean.
-#[tactic(auto, using(crate::proofs::ReadSound::read_of_unit))]
+/// The proofs that a text is, which can be written, or its first fault. Faults of lists and atoms anywhere in the text
+/// come before those of what they mean.
+#[tactic(auto, using(crate::proofs::ReadSound::read_of_unit, crate::proofs::ReadWritable::read_is_writable))]
 pub fn read(alloc: Global, text: &[u8], unit: &CoreUnit) -> Result<Proofs, TextFault>
     requires limit { length text.now < 2 ^ 31 }
     ensures reads { IfOk result (λ proofs. Reading (unit_tree unit.now) text.now (proofs_tree proofs)) }
+    ensures writable { IfOk result (λ proofs. IsWritable (unit_tree unit.now) (proofs_tree proofs)) }
     ensures of_unit { IfOk result (λ proofs. IsOfUnit (unit_tree unit.now) (proofs_tree proofs)) }
     ensures fault { IfErr result (λ fault. (fault ≡ faults.NoMemory) ⊎ Fault (unit_tree unit.now) text.now fault) }
 {

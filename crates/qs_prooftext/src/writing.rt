@@ -15,7 +15,7 @@ use qs_core::CoreUnit;
 use std::alloc::Global;
 
 /// The words of the variables of a function.
-fn words_in(alloc: Global, unit: &CoreUnit, f: FnId) -> Result<Vec<Word>, NoMemory>
+pub fn words_in(alloc: Global, unit: &CoreUnit, f: FnId) -> Result<Vec<Word>, NoMemory>
     ensures { IfOk result (λ words. map word_view words.items ≡ words_in (slice_get (unit_tree unit.now).functions f.0)) }
 {
     match unit.functions.get(f.0 as usize) {

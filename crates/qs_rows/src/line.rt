@@ -31,6 +31,8 @@ pub enum Line<'a> {
     Read,
     /// In place of a call, the tokens of the source `a.c` are printed.
     Lex,
+    /// In place of a call, the linear code of the source `a.c` is printed.
+    Linear,
     /// In place of a call, the instructions that the words are as hexadecimal numbers are printed.
     Decode,
     /// The most bytes that a call of a device moves.
@@ -114,6 +116,7 @@ fn given_of<'a>(word: &str, rest: &'a str) -> Option<Line<'a>> {
         "print" => Some(Line::Print),
         "read" => Some(Line::Read),
         "lex" => Some(Line::Lex),
+        "linear" => Some(Line::Linear),
         "decode" => Some(Line::Decode),
         "chunk" => Some(Line::Chunk(rest.parse::<usize>().ok()?)),
         "fails" => fails_of(rest),

@@ -7,6 +7,7 @@
 mod content;
 mod fault;
 mod line;
+mod linear;
 mod printing;
 mod row;
 mod running;

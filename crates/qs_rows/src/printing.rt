@@ -1,12 +1,16 @@
 // What crates below the tool answer, as text.
 use crate::fault::TableFault;
+use crate::linear::linear_text;
 use qs_base::NoMemory;
 use qs_cli::{CliFault, read_words};
+use qs_elaborate::elaborate;
 use qs_isa::{decode, encode};
 use qs_lexer::tokens;
+use qs_lower::lower;
 use qs_parser::unit;
 use qs_print::print;
 use qs_syntax::{Token, Unit};
+use qs_typing::check;
 use std::alloc::{AllocError, Global};
 
 // The longest source, in bytes.
@@ -49,6 +53,19 @@ pub fn printed_unit(alloc: Global, source: &[u8]) -> Result<Option<Vec<u8>>, Tab
     } else {
         Ok(None)
     }
+}
+
+/// The linear code of the source; None where it has no unit, or one that is ill typed or beyond the limits.
+pub fn printed_code(alloc: Global, source: &[u8]) -> Result<Option<Vec<u8>>, TableFault> {
+    let Some(unit) = read(alloc, source) else {
+        return Ok(None);
+    };
+    let Some(typed) = check(alloc, &unit).ok() else {
+        return Ok(None);
+    };
+    let core = elaborate(alloc, &typed)?;
+    let code = lower(alloc, &core)?;
+    Ok(Some(linear_text(alloc, &core, &code)?.into_bytes()))
 }
 
 /// What the words mean, where they mean a command.

@@ -16,6 +16,8 @@ pub enum Act {
     Read,
     /// The tokens of the source `a.c`, printed.
     Lex,
+    /// The linear code of the source `a.c`, printed.
+    Linear,
     /// The instructions that the words are as hexadecimal numbers, printed.
     Decode,
 }
@@ -143,6 +145,7 @@ impl Row {
             Line::Print => self.act = Act::Print,
             Line::Read => self.act = Act::Read,
             Line::Lex => self.act = Act::Lex,
+            Line::Linear => self.act = Act::Linear,
             Line::Decode => self.act = Act::Decode,
             Line::Chunk(chunk) => self.chunk = chunk.max(1),
             Line::Fails(device, call) => self.add_failure(device, call)?,

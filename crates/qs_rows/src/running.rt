@@ -1,6 +1,8 @@
 // What comes of a row.
 use crate::fault::TableFault;
-use crate::printing::{printed_command, printed_instructions, printed_tokens, printed_unit};
+use crate::printing::{
+    printed_code, printed_command, printed_instructions, printed_tokens, printed_unit,
+};
 use crate::row::{Act, NamedFile, Row};
 use qs_base::NoMemory;
 use qs_driver::run_tool;
@@ -70,6 +72,7 @@ fn text_of(alloc: Global, row: &Row, source: &[u8]) -> Result<Option<Vec<u8>>, T
         Act::Print => printed_unit(alloc, source),
         Act::Read => printed_command(alloc, &row.words),
         Act::Lex => printed_tokens(alloc, source),
+        Act::Linear => printed_code(alloc, source),
         Act::Decode => printed_instructions(alloc, &row.words),
     }
 }

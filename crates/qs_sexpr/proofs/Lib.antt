@@ -13,3 +13,4 @@ pub mod LaidOut
 pub mod MarkLaws
 mod Examples
 mod NestingExamples
+pub mod ReadWritable

@@ -6,7 +6,7 @@ ghost use Rattle.qs_sexpr.specs.Places.{LieIn, place_of};
 ghost use Rattle.qs_sexpr.specs.Trees.{Sexps};
 ghost use Rattle.qs_sexpr.specs.Layout.{lay_all};
 ghost use Rattle.qs_sexpr.specs.Spelling.{ReadsAs, SpellAll};
-ghost use Rattle.qs_sexpr.specs.Writing.{AreWritable, Forms};
+ghost use Rattle.qs_sexpr.specs.Writing.{AreWritable, Forms, forms_of_parts};
 ghost use Rattle.qs_sexpr.specs.declared.fault.SexprFault.{SexprFault};
 
 /// A text has one reading or one first fault, and never both.
@@ -35,4 +35,10 @@ pub fn spelled_reads()
 #[tactic(auto, using(crate::proofs::LaidOut::laid_out_reads))]
 pub fn written_reads()
     ensures { (forms : Forms) → AreWritable 1024 forms → ReadsAs (lay_all forms) forms }
+{}
+
+/// What a text reads as can be written: its symbols are symbols, its numbers are in range, and its lists nest at most
+/// 1,024 deep.
+pub fn read_is_writable()
+    ensures { (text : List ℕ) (parts : Sexps) → Reading text parts → AreWritable 1024 (forms_of_parts parts) }
 {}

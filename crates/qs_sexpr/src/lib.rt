@@ -18,7 +18,7 @@ mod token;
 mod writing;
 
 pub use fault::SexprFault;
-pub use laws::{each_place, one_reading, spelled_reads, written_reads};
+pub use laws::{each_place, one_reading, read_is_writable, spelled_reads, written_reads};
 pub use node::{Item, Node};
 pub use parts::{first_part, parts_of_list, symbol_bytes};
 pub use reading::read;

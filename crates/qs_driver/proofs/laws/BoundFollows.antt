@@ -23,12 +23,12 @@ bound_ends b v w due (meant.refused status c is) = let P : Status → Type 0 = �
 accepts : (b : BoundWords) (v w : StoreView) (status : Status) → StoreHeld v w → BoundEnds b v w status → Accepts b v status ⊎ (status ≡ NoMemory)
 accepts b v w status n (bounded due h e) = inl (λ g. e)
 accepts b v w status n (cannot c) = elim (made_no_good (to_make b) v w status n c) [
-  | inl never ↦ inl (λ g. absurd (never g.told g.right g.arguments))
+  | inl never ↦ inl (λ g. absurd (never g.told g.fits))
   | inr e ↦ inr e
 ]
 
-own : (b : BoundWords) (v w : StoreView) (status : Status) → StoreHeld v w → status ≢ NoMemory → BoundEnds b v w status → IsOfBound status
-own b v w status n m (bounded due h e) = subst IsOfBound (sym e) meant.done
+own : (b : BoundWords) (v w : StoreView) (status : Status) → StoreHeld v w → status ≢ NoMemory → BoundEnds b v w status → IsOfBound b status
+own b v w status n m (bounded due h e) = subst (IsOfBound b) (sym e) meant.done
 own b v w status n m (cannot c) = elim (made_own (to_make b) v w status n c) [
   | inl of ↦ meant.of_made of
   | inr e ↦ absurd (m e)
@@ -41,7 +41,7 @@ made_ends b v w status n (cannot c) = made.cannot w n c
 refuses : (b : BoundWords) (v w : StoreView) (status : Status) → StoreHeld v w → status ≢ NoMemory → BoundEnds b v w status → Refuses b v status
 refuses b v w status n m ends = record {
   own = own b v w status n m ends;
-  exactly = λ told. refuses_made (to_make b) v status m told (made_ends b v w status n ends);
+  made = λ told. refuses_made (to_make b) v status m told (made_ends b v w status n ends);
 }
 
 shows : (b : BoundWords) (v w : StoreView) (due : Due) → v.faults < w.faults → IsDueToBound b v w due → SaysStoreFailed due.status

@@ -10,17 +10,22 @@ use Rattle.qs_driver.specs.Devices.{streams, views_of}
 use Rattle.qs_driver.specs.Due.{EndsWith, IsWritten}
 use Rattle.qs_driver.specs.Bounds.{IsBounded}
 use Rattle.qs_driver.specs.Certified.{CertifyWords, CertifiedSource, ReadsCertified, LacksCertified, HasCertified}
+use Rattle.qs_driver.specs.Certified as lacks
 use Rattle.qs_driver.specs.Task.{Answers}
 use Rattle.qs_driver.specs.commands.Check.{names_of, check, counts_of, counted, due_of, Checks}
 use Rattle.qs_driver.specs.commands.Check as meant
 use Rattle.qs_driver.specs.declared.certified.CertifiedUnit.{CertifiedUnit}
 use Rattle.qs_driver.specs.declared.status.Status.{Status}
-use Rattle.qs_driver.specs.declared.status.Status.TheVariants.{Done}
+use Rattle.qs_driver.specs.declared.status.Status.TheVariants.{Done, NoMemory}
 use Rattle.qs_driver.proofs.BoundsLaws.{source_bounded}
 use Rattle.qs_driver.proofs.StepsLaws.{log_last, out_last}
 
 pub not_certified : (w : CertifyWords) (v u : StoreView) (status : Status) → LacksCertified w v u status → Checks w v u (Err status)
 not_certified w v u status l = meant.refused status l refl
+
+-- want of memory is told where it is met on the way to linear code
+pub not_lowered : (w : CertifyWords) (v u : StoreView) (c : CertifiedUnit) → HasCertified w v u c → Checks w v u (Err NoMemory)
+not_lowered w v u c h = not_certified w v u NoMemory (lacks.no_memory h.untouched refl)
 
 -- the counts that the code holds are those of the proofs
 same_counts : (c : CertifiedUnit) (s : CertifiedSource) (given added all entries : ℕ) → given ≡ entries → given + added ≡ all → Checked given added ≡ Checked entries (all - entries)

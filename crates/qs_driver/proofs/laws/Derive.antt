@@ -1,5 +1,5 @@
 -- What `derive` came to.
-use Rattle.std.proofs.Common.{◌≡◌, ◌≢◌, ℕ, ◌≤◌, true, List, length, Option, None, Result, Ok, Err, refl, ap, subst, arith}
+use Rattle.std.proofs.Common.{◌≡◌, ◌≢◌, ℕ, ◌<◌, ◌≤◌, ◌^◌, true, List, length, Option, None, Result, Ok, Err, refl, ap, subst, arith}
 use Rattle.qs_syntax.specs.Units.{IsRead}
 use Rattle.qs_types.specs.Limits.{IsWithinLimits, function_limit}
 use Rattle.qs_types.specs.WellTyped.{WellTyped}
@@ -8,13 +8,17 @@ use Rattle.qs_core.specs.Fits.{unit_fits}
 use Rattle.qs_core.specs.Trees.{CoreUnitTree}
 use Rattle.qs_core.specs.UnitTrees.{unit_tree}
 use Rattle.qs_limits.specs.Laws.{OfEachCore}
+use Rattle.qs_limits.specs.Laws as limits
+use Rattle.qs_limits.proofs.CoreUnits.{functions_are_few, statements_nest_little}
 use Rattle.qs_triples.specs.Derivations.{ProofsTree}
 use Rattle.qs_triples.specs.Filled.{Filled}
 use Rattle.qs_triples.specs.TreeOf.{proofs_tree}
 use Rattle.qs_prooftext.specs.Reading.{Reading}
 use Rattle.qs_prooftext.specs.Writable.{IsWritable}
 use Rattle.qs_certify.specs.Certification.{IsCertified}
+use Rattle.qs_certify.specs.Laws.{nesting_limit}
 use Rattle.qs_certify.proofs.OneLaws.{all_are_derived}
+use Rattle.qs_certify.proofs.WritableLaws.{added_is_writable}
 use Rattle.qs_ports.specs.StoreView.{StoreView, HasSameCounts, HasFailed}
 use Rattle.qs_ports.specs.SinkView.{SinkView}
 use Rattle.qs_ports.specs.Whole.{Stores, IsCutShort}
@@ -40,6 +44,12 @@ use Rattle.qs_driver.proofs.StepsLaws.{log_last, out_last}
 
 -- ---- what is certified without a proof file
 
+few_enough : (n : ℕ) → n ≤ function_limit → n < 2 ^ 63
+few_enough n few = omega arith
+
+little_enough : (n : ℕ) → n ≤ limits.nesting_limit → n ≤ nesting_limit
+little_enough n little = omega arith
+
 module _ (d : DeriveWords) {v : StoreView} {s : CertifiedSource} (r : ReadsCertified (inputs d) v s) (read : IsRead s.unit) where
   alone : IsCertified s.core None s.given s.proofs
   alone = subst (λ (file : Option (List ℕ)). IsCertified s.core file s.given s.proofs) r.file_read r.is.certified
@@ -58,7 +68,10 @@ module _ (d : DeriveWords) {v : StoreView} {s : CertifiedSource} (r : ReadsCerti
 
   -- what is filled in where none is given can be written
   writable : IsWritable s.core s.proofs
-  writable = ?
+  writable =
+      let few = of_core functions_are_few in
+      let little = of_core statements_nest_little in
+      added_is_writable s.core s.given s.proofs fits (few_enough _ few) (little_enough _ little) alone
 
   -- what is written of the proofs reads back as them
   has_proofs : {text : List ℕ} → (IsWritable s.core s.proofs → Reading s.core text s.proofs) → HasProofs d v s text

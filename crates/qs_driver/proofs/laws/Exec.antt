@@ -29,7 +29,7 @@ use Rattle.qs_driver.specs.Devices.{streams, views_of}
 use Rattle.qs_driver.specs.Steps.{Step, on_out, on_log}
 use Rattle.qs_driver.specs.Due.{Due, refusal, EndsWith, IsWritten}
 use Rattle.qs_driver.specs.Files.{IsUntouched}
-use Rattle.qs_driver.specs.Made.{HasMade, IsMade, CannotMake}
+use Rattle.qs_driver.specs.Made.{MakeWords, HasMade, IsMade, CannotMake}
 use Rattle.qs_driver.specs.Task.{Answers}
 use Rattle.qs_driver.specs.commands.Run.{CannotLoad, Finishes, ReadInput, ReadsNamed, WasLoaded}
 use Rattle.qs_driver.specs.commands.Run as run_meant
@@ -40,6 +40,7 @@ use Rattle.qs_driver.specs.declared.commands.run.Ready.{Ready}
 use Rattle.qs_driver.specs.declared.made.Made.{Made}
 use Rattle.qs_driver.specs.declared.status.Status.{Status}
 use Rattle.qs_driver.specs.declared.status.Status.TheVariants.{Done, Trapped, StepLimit, SinkFailed, NoMemory}
+use Rattle.qs_driver.proofs.BoundsLaws.{image_takes}
 use Rattle.qs_driver.proofs.LaterLaws.{both_untouched, unread_later, was_read_before}
 use Rattle.qs_driver.proofs.StepsLaws.{due_of, put_goes_on, put_fails, log_last, then_log, out_fails}
 
@@ -49,19 +50,24 @@ one_image : (bytes : List ℕ) (image other : Image) → IsImage bytes image →
 one_image bytes image other is also = sym (reads bytes image is).1 ∙ (reads bytes other also).1
 
 -- where the arguments are those of the image, they have words
-lacks_none : (image : Image) (e : ExecWords) (status : Status) → AreArguments image e.args → LacksWords image e.args status → status ≡ NoMemory
+pub lacks_none : (image : Image) (e : ExecWords) (status : Status) → AreArguments image e.args → LacksWords image e.args status → status ≡ NoMemory
 lacks_none image e status are (arguments.count_differs ne x) = absurd (ne are.count)
 lacks_none image e status are (arguments.misfit i count first x) = absurd (let none = are.fit in let never : ⊥ = cc in never)
 lacks_none image e status are (arguments.no_memory x) = x
 
 -- an image that has a stack is loaded, where memory is found
-no_load : (e : ExecWords) (stack : ℕ) (bytes : List ℕ) (image : Image) (status : Status) → AreArguments image e.args → stack ≤ stack_limit → IsImage bytes image → CannotLoad bytes (as_run e stack) status → status ≡ NoMemory
+pub no_load : (e : ExecWords) (stack : ℕ) (bytes : List ℕ) (image : Image) (status : Status) → AreArguments image e.args → stack ≤ stack_limit → IsImage bytes image → CannotLoad bytes (as_run e stack) status → status ≡ NoMemory
 no_load e stack bytes image status are small is (run_meant.bad_image fault first x) = absurd (let none = (reads bytes image is).0 in let never : ⊥ = cc in never)
 no_load e stack bytes image status are small is (run_meant.no_words other also l) = lacks_none image e status are (subst (λ (i : Image). LacksWords i e.args status) (one_image bytes other image also is) l)
 no_load e stack bytes image status are small is (run_meant.too_large other also fit large x) = absurd (omega (arith, small, large))
 no_load e stack bytes image status are small is (run_meant.lacks_memory x) = x
 
 -- ---- how it comes to a machine and its input
+
+-- the image that was made takes the arguments
+images_arguments : {m : MakeWords} {v : StoreView} {image : Image} {bound : Amount} (made : IsMade m v image bound) → AreArguments image m.args
+images_arguments {m} {v} {image} made =
+    (image_takes m.inputs v made.source image made.makes.reads made.makes.image_of.compiled m.args).1 made.arguments
 
 has_stack : (e : ExecWords) {v w : StoreView} {made : Made} {stack : ℕ} → HasMade (to_make e) v w made → IsStackOf made.bound (Ok stack) → HasStack e v made.image stack
 has_stack e {v = v} {made = made} h (is, small) = record { is_made = subst (λ (bound : Amount). IsMade (to_make e) v made.image bound) is h.is_made; small = small }
@@ -74,7 +80,7 @@ no_stack e v w made status h (is, none) = meant.no_stack made.bound h.untouched 
 
 pub not_loaded : (e : ExecWords) (v w : StoreView) (made : Made) (stack : ℕ) (status : Status) → HasMade (to_make e) v w made → IsStackOf made.bound (Ok stack) → LoadsImage made.image (as_run e stack) (Err status) → Starts e v w (Err status)
 not_loaded e v w made stack status h is (inl x) = let same : status ≡ NoMemory = cc in meant.no_memory h.untouched same
-not_loaded e v w made stack status h (is, small) (inr l) = meant.no_memory h.untouched (no_load e stack l.bytes made.image status h.is_made.arguments small l.is_image l.loads)
+not_loaded e v w made stack status h (is, small) (inr l) = meant.no_memory h.untouched (no_load e stack l.bytes made.image status (images_arguments h.is_made) small l.is_image l.loads)
 
 input_refused : (e : ExecWords) (u v w : StoreView) (image : Image) (stack : ℕ) (input : Option (List ℕ)) (status : Status) → e.input ≡ input → IsUntouched u v → HasStack e u image stack → ReadsNamed v w input (Err status) → Starts e u w (Err status)
 input_refused e u v w image stack None status is f h r = absurd r
@@ -148,7 +154,7 @@ module _ {e : ExecWords} {s s' : StoreView} {started : Started} (h : HasStarted 
   agree =
       let made = h.has_stack.is_made in
       let same : bytes_by made.source h.image e.args ≡ Some started.stack = ap if_finite (sym made.is_bound) in
-      made.makes.image_of.agrees.agree e.args started.ready.input.items started.stack started.stack made.arguments h.bytes same (omega arith) h.has_stack.small
+      made.makes.image_of.agrees.agree e.args started.ready.input.items started.stack started.stack (images_arguments made) h.bytes same (omega arith) h.has_stack.small
 
   has_run : {due : Due} → IsDueAt e started.stack (outcomes e.steps) due → IsDueToExec e s s' due
   has_run d = meant.ran (record {

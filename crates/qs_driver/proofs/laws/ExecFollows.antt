@@ -1,5 +1,6 @@
 -- What follows from what is due to `exec`.
-use Rattle.std.proofs.Common.{◌≡◌, ◌≢◌, ◌⊎◌, ◌∙◌, ℕ, ◌<◌, ◌≤◌, List, Option, Some, None, ap, subst, sym, inl, inr, arith, IsTrue}
+use Rattle.std.proofs.Common.{◌≡◌, ◌≢◌, ◌⊎◌, ◌∙◌, ℕ, ℤ, ◌<◌, ◌≤◌, List, Option, Some, None, ap, subst, sym, inl, inr, arith, IsTrue}
+use Rattle.std.proofs.lemmas.Option.{same_Some}
 use Rattle.qs_assert.specs.declared.define.Amount.{Amount}
 use Rattle.qs_assert.specs.declared.define.Amount.TheVariants.{Finite}
 use Rattle.qs_ports.specs.StoreView.{StoreView}
@@ -9,20 +10,21 @@ use Rattle.qs_machine.specs.Run.{Outcome, Exited, Trapped as HasTrapped, Going, 
 use Rattle.qs_machine.specs.State.{stack_limit}
 use Rattle.qs_driver.specs.Limits.{input_limit}
 use Rattle.qs_driver.specs.Due.{Due}
-use Rattle.qs_driver.specs.Files.{HoldsContent, CannotRead}
+use Rattle.qs_driver.specs.Files.{HoldsContent, IsTooLong, CannotRead}
 use Rattle.qs_driver.specs.Files as files
 use Rattle.qs_driver.specs.Made as made_meant
-use Rattle.qs_driver.specs.Made.{FitMain}
+use Rattle.qs_driver.specs.Made.{FitsMain, IsOfMade}
 use Rattle.qs_driver.specs.Promises.{StoreHeld, SaysStoreFailed}
 use Rattle.qs_driver.specs.commands.Run.{HasInput, ReadInput, status_at}
-use Rattle.qs_driver.specs.commands.Exec.{ExecWords, to_make, exec, HasRun, IsNoStack, HasStack, HasNoStack, ComesToInput, CannotExec, IsDueAt, IsDueToExec, IsGood, MayRun, OfAllMade, Accepts, Refuses, IsOfExec}
+use Rattle.qs_driver.specs.commands.Exec.{ExecWords, to_make, exec, HasRun, IsNoStack, HasStack, HasNoStack, ComesToInput, CannotExec, IsDueAt, IsDueToExec, LacksInput, HasLongInput, Ends, Accepts, Refuses, IsOfExec}
 use Rattle.qs_driver.specs.commands.Exec as meant
 use Rattle.qs_driver.specs.declared.status.Status.{Status}
-use Rattle.qs_driver.specs.declared.status.Status.TheVariants.{NoBound, NoMemory}
+use Rattle.qs_driver.specs.declared.status.Status.TheVariants.{Source, Missing, NoBound, NoMemory}
+use Rattle.qs_driver.specs.declared.status.SourceFault.TheVariants.{TooLong}
 use Rattle.qs_driver.specs.declared.status.FileKind.TheVariants as kinds
 use Rattle.qs_driver.proofs.FilesLaws.{held_content, held_long}
 use Rattle.qs_driver.proofs.SourceFollows.{not_absent, not_long, one_content}
-use Rattle.qs_driver.proofs.MadeFollows.{is_refusal, none_refused, made_or_bound, made_own, made_shows, made_no_good, one_bound, certified_or_not, IsNoMadeRefusal, MadeEnds, goes_on, refuses_made}
+use Rattle.qs_driver.proofs.MadeFollows.{is_refusal, certified_refuses, none_refused, made_or_bound, made_own, made_shows, made_no_good, one_bound, certified_or_not, IsNoMadeRefusal, MadeEnds, goes_on, refuses_made}
 use Rattle.qs_driver.proofs.MadeFollows as made
 use Rattle.qs_driver.proofs.laws.Follows.{Follows, not_untouched, unread_shows}
 
@@ -54,14 +56,6 @@ input_there v e name input named h = subst (λ (i : Option (List ℕ)). HasInput
 stack_or_none : (amount : Amount) (stack : ℕ) → amount ≡ Finite stack → stack ≤ stack_limit → IsNoStack amount → ⊥
 stack_or_none amount stack is small none = let large : stack_limit < stack = subst IsNoStack is none in omega (arith, small, large)
 
-fit_main : (e : ExecWords) (v : StoreView) → OfAllMade e v (MayRun e) → FitMain (to_make e) v
-fit_main e v all s image makes = (all s image makes).arguments
-
-no_stack_or_good : (e : ExecWords) (v : StoreView) (amount : Amount) → HasNoStack e v amount → OfAllMade e v (MayRun e) → ⊥
-no_stack_or_good e v amount h all =
-    let may = all h.is_made.source h.image h.is_made.makes in
-    stack_or_none amount may.stack (h.is_made.is_bound ∙ may.bound) may.small h.none
-
 accepts_input : (e : ExecWords) (v w : StoreView) (name : List ℕ) (status : Status) → StoreHeld v w → ComesToInput e v name → CannotRead v w name kinds.Input input_limit status → Accepts e v status ⊎ (status ≡ NoMemory)
 accepts_input e v w name status n c (files.missing m x) = inl (λ g. absurd (not_absent (v.files name) g.input (m.absent g.told) (input_there v e name g.input c.named g.input_there).there))
 accepts_input e v w name status n c (files.unreadable f x) = absurd (n f.failed.rose)
@@ -69,41 +63,41 @@ accepts_input e v w name status n c (files.too_long l x) = inl (λ g. absurd (no
 accepts_input e v w name status n c (files.no_memory u x) = inr x
 
 accepts : (e : ExecWords) (v w : StoreView) (status : Status) → StoreHeld v w → ExecEnds e v w status → Accepts e v status ⊎ (status ≡ NoMemory)
-accepts e v w status n (ran due h is) = inl (λ g. record {
+accepts e v w status n (ran due h is) = inl (λ g. inl (record {
   image = h.image;
   stack = h.stack;
   has_stack = h.has_stack;
   is = is ∙ ap (λ (input : List ℕ). status_at e.steps (machine h.image h.stack (words_of e.args) input e.steps)) (one_input v e.input h.input g.input g.told h.input_read g.input_there);
-})
+}))
 accepts e v w status n (cannot (meant.not_made c)) = elim (made_no_good (to_make e) v w status n c) [
-  | inl never ↦ inl (λ g. absurd (never g.told g.right (fit_main e v g.may_run)))
+  | inl never ↦ inl (λ g. absurd (never g.told g.fits))
   | inr x ↦ inr x
 ]
-accepts e v w status n (cannot (meant.no_stack amount u h x)) = inl (λ g. absurd (no_stack_or_good e v amount h g.may_run))
+accepts e v w status n (cannot (meant.no_stack amount u h x)) = inl (λ g. inr (record { amount = amount; has_none = h; is = x }))
 accepts e v w status n (cannot (meant.unread_input name c r)) = accepts_input e v w name status n c r
 accepts e v w status n (cannot (meant.no_memory u x)) = inr x
 
 -- ---- the statuses of `exec`
 
-own_outcome : (steps : ℕ) (o : Outcome) → IsOfExec (status_at steps o)
-own_outcome steps (Exited output status) = meant.done
-own_outcome steps (HasTrapped cause pc output) = meant.trapped cause pc
-own_outcome steps (Going output) = meant.step_limit steps
+own_outcome : (e : ExecWords) (o : Outcome) → IsOfExec e (status_at e.steps o)
+own_outcome e (Exited output status) = meant.done
+own_outcome e (HasTrapped cause pc output) = meant.trapped cause pc
+own_outcome e (Going output) = meant.step_limit
 
-own_input : (v w : StoreView) (name : List ℕ) (status : Status) → StoreHeld v w → status ≢ NoMemory → CannotRead v w name kinds.Input input_limit status → IsOfExec status
-own_input v w name status n m (files.missing x e) = subst IsOfExec (sym e) meant.missing_input
-own_input v w name status n m (files.unreadable f e) = absurd (n f.failed.rose)
-own_input v w name status n m (files.too_long l e) = subst IsOfExec (sym e) meant.long_input
-own_input v w name status n m (files.no_memory u e) = absurd (m e)
+own_input : (e : ExecWords) (v w : StoreView) (name : List ℕ) (status : Status) → StoreHeld v w → status ≢ NoMemory → CannotRead v w name kinds.Input input_limit status → IsOfExec e status
+own_input e v w name status n m (files.missing x is) = subst (IsOfExec e) (sym is) meant.missing_input
+own_input e v w name status n m (files.unreadable f is) = absurd (n f.failed.rose)
+own_input e v w name status n m (files.too_long l is) = subst (IsOfExec e) (sym is) meant.long_input
+own_input e v w name status n m (files.no_memory u is) = absurd (m is)
 
-own : (e : ExecWords) (v w : StoreView) (status : Status) → StoreHeld v w → status ≢ NoMemory → ExecEnds e v w status → IsOfExec status
-own e v w status n m (ran due h is) = subst IsOfExec (sym is) (own_outcome e.steps (machine h.image h.stack (words_of e.args) h.input e.steps))
+own : (e : ExecWords) (v w : StoreView) (status : Status) → StoreHeld v w → status ≢ NoMemory → ExecEnds e v w status → IsOfExec e status
+own e v w status n m (ran due h is) = subst (IsOfExec e) (sym is) (own_outcome e (machine h.image h.stack (words_of e.args) h.input e.steps))
 own e v w status n m (cannot (meant.not_made c)) = elim (made_own (to_make e) v w status n c) [
   | inl of ↦ meant.of_made of
   | inr x ↦ absurd (m x)
 ]
-own e v w status n m (cannot (meant.no_stack amount u h x)) = subst IsOfExec (sym x) (meant.no_bound amount)
-own e v w status n m (cannot (meant.unread_input name c r)) = own_input v w name status n m r
+own e v w status n m (cannot (meant.no_stack amount u h x)) = subst (IsOfExec e) (sym x) (meant.no_bound amount h.none)
+own e v w status n m (cannot (meant.unread_input name c r)) = own_input e v w name status n m r
 own e v w status n m (cannot (meant.no_memory u x)) = absurd (m x)
 
 -- ---- its refusals of a source, its proofs and arguments
@@ -142,7 +136,7 @@ input_bound v w name status amount (files.no_memory u e) f = cc
 tells_no_bound : (e : ExecWords) (v w : StoreView) (status : Status) (amount : Amount) → StoreHeld v w → status ≢ NoMemory → ExecEnds e v w status → status ≡ NoBound amount → HasNoStack e v amount
 tells_no_bound e v w status amount n m (ran due h is) f = absurd (outcome_bound e.steps (machine h.image h.stack (words_of e.args) h.input e.steps) amount (sym is ∙ f))
 tells_no_bound e v w status amount n m (cannot (meant.not_made c)) f = elim (made_own (to_make e) v w status n c) [
-  | inl of ↦ absurd (made_or_bound status of amount f)
+  | inl of ↦ absurd (made_or_bound e.args status of amount f)
   | inr x ↦ absurd (m x)
 ]
 tells_no_bound e v w status amount n m (cannot (meant.no_stack found u h x)) f =
@@ -163,11 +157,143 @@ leads_no_bound e v w status amount n m told (cannot (meant.no_stack found u h x)
 leads_no_bound e v w status amount n m told (cannot (meant.unread_input name c r)) none = absurd (stack_never e v c.image c.stack amount told c.has_stack none)
 leads_no_bound e v w status amount n m told (cannot (meant.no_memory u x)) none = absurd (m x)
 
+-- ---- the input
+
+-- a status of the input is none of the machine, nor one at which nothing is made
+abbrev IsOfInput : Status → Type 0
+IsOfInput status = (status ≡ Missing kinds.Input) ⊎ (status ≡ Source (TooLong kinds.Input))
+
+outcome_input : (steps : ℕ) (o : Outcome) (status : Status) → status ≡ status_at steps o → IsOfInput status → ⊥
+outcome_input steps (Exited output code) status is (inl x) = cc
+outcome_input steps (Exited output code) status is (inr x) = cc
+outcome_input steps (HasTrapped cause pc output) status is (inl x) = cc
+outcome_input steps (HasTrapped cause pc output) status is (inr x) = cc
+outcome_input steps (Going output) status is (inl x) = cc
+outcome_input steps (Going output) status is (inr x) = cc
+
+made_input : {args : List ℤ} {status : Status} → IsOfMade args status → IsOfInput status → ⊥
+made_input (made_meant.of_certified of) (inl x) = let is = certified_refuses of in let none = ap is_refusal x in (let never : ⊥ = cc in never)
+made_input (made_meant.of_certified of) (inr x) = let is = certified_refuses of in let none = ap is_refusal x in (let never : ⊥ = cc in never)
+made_input (made_meant.wrong_count expected) (inl x) = cc
+made_input (made_meant.wrong_count expected) (inr x) = cc
+made_input (made_meant.wrong_argument i) (inl x) = cc
+made_input (made_meant.wrong_argument i) (inr x) = cc
+
+bound_input : (status : Status) (amount : Amount) → status ≡ NoBound amount → IsOfInput status → ⊥
+bound_input status amount e (inl x) = cc
+bound_input status amount e (inr x) = cc
+
+module _ (e : ExecWords) (v w : StoreView) (status : Status) (n : StoreHeld v w) (memory : status ≢ NoMemory) (told : IsTrue v.told) where
+  -- the input was refused
+  record InputRefused : Type 0 where
+    name : List ℕ
+    comes : ComesToInput e v name
+    refused : CannotRead v w name kinds.Input input_limit status
+
+  refused_input : ExecEnds e v w status → IsOfInput status → InputRefused
+  refused_input (ran due h is) of = absurd (outcome_input e.steps (machine h.image h.stack (words_of e.args) h.input e.steps) status is of)
+  refused_input (cannot (meant.not_made c)) of = elim (made_own (to_make e) v w status n c) [
+    | inl made ↦ absurd (made_input made of)
+    | inr x ↦ absurd (memory x)
+  ]
+  refused_input (cannot (meant.no_stack amount u h x)) of = absurd (bound_input status amount x of)
+  refused_input (cannot (meant.unread_input name c r)) of = record { name = name; comes = c; refused = r }
+  refused_input (cannot (meant.no_memory u x)) of = absurd (memory x)
+
+  missing_input : (name : List ℕ) → ComesToInput e v name → CannotRead v w name kinds.Input input_limit status → status ≡ Missing kinds.Input → LacksInput e v
+  missing_input name c (files.missing m x) is = record { name = name; comes = c; so = m.absent told }
+  missing_input name c (files.unreadable f x) is = absurd (n f.failed.rose)
+  missing_input name c (files.too_long l x) is = absurd cc
+  missing_input name c (files.no_memory u x) is = absurd (memory x)
+
+  long_input : (name : List ℕ) → ComesToInput e v name → CannotRead v w name kinds.Input input_limit status → status ≡ Source (TooLong kinds.Input) → HasLongInput e v
+  long_input name c (files.missing m x) is = absurd cc
+  long_input name c (files.unreadable f x) is = absurd (n f.failed.rose)
+  long_input name c (files.too_long l x) is = record { name = name; comes = c; so = held_long l told }
+  long_input name c (files.no_memory u x) is = absurd (memory x)
+
+  tells_missing : ExecEnds e v w status → status ≡ Missing kinds.Input → LacksInput e v
+  tells_missing ends is = let r = refused_input ends (inl is) in missing_input r.name r.comes r.refused is
+
+  tells_long : ExecEnds e v w status → status ≡ Source (TooLong kinds.Input) → HasLongInput e v
+  tells_long ends is = let r = refused_input ends (inr is) in long_input r.name r.comes r.refused is
+
+  -- how it ends where the image is made, has a stack of its bound, and an input is named
+  data AtInput (name : List ℕ) : Type 0 where
+    was_run : (input : List ℕ) → HoldsContent (v.files name) input_limit input → AtInput name
+    was_missing : (v.files name ≡ None) → status ≡ Missing kinds.Input → AtInput name
+    was_long : IsTooLong (v.files name) input_limit → status ≡ Source (TooLong kinds.Input) → AtInput name
+
+  at_refused : (name : List ℕ) → CannotRead v w name kinds.Input input_limit status → AtInput name
+  at_refused name (files.missing m x) = was_missing (m.absent told) x
+  at_refused name (files.unreadable f x) = absurd (n f.failed.rose)
+  at_refused name (files.too_long l x) = was_long (held_long l told) x
+  at_refused name (files.no_memory u x) = absurd (memory x)
+
+  -- a stack of its bound excludes that there is none
+  has_one : {name : List ℕ} {amount : Amount} → ComesToInput e v name → HasNoStack e v amount → ⊥
+  has_one {amount = amount} c none = stack_never e v c.image c.stack amount told c.has_stack none
+
+  at_input : (name : List ℕ) → ExecEnds e v w status → ComesToInput e v name → AtInput name
+  at_input name (ran due h is) c =
+      was_run h.input (held_content (subst (λ (i : Option (List ℕ)). ReadInput v i h.input) c.named h.input_read) told)
+  at_input name (cannot (meant.not_made x)) c = absurd (certified_or_not (to_make e) v w status c.image (Finite c.stack) n memory told c.has_stack.is_made x)
+  at_input name (cannot (meant.no_stack amount u h x)) c = absurd (has_one c h)
+  at_input name (cannot (meant.unread_input found d r)) c =
+      let both : Some found ≡ Some name = sym d.named ∙ c.named in
+      let same : found ≡ name = same_Some found name both in
+      subst AtInput same (at_refused found r)
+  at_input name (cannot (meant.no_memory u x)) c = absurd (memory x)
+
+  leads_missing : ExecEnds e v w status → LacksInput e v → status ≡ Missing kinds.Input
+  leads_missing ends l = by (at_input l.name ends l.comes)
+    where
+      by : AtInput l.name → status ≡ Missing kinds.Input
+      by (was_run input held) = absurd (not_absent (v.files l.name) input l.so held.there)
+      by (was_missing absent is) = is
+      by (was_long long is) = absurd (not_absent (v.files l.name) long.content l.so long.there)
+
+  leads_long : ExecEnds e v w status → HasLongInput e v → status ≡ Source (TooLong kinds.Input)
+  leads_long ends l = by (at_input l.name ends l.comes)
+    where
+      by : AtInput l.name → status ≡ Source (TooLong kinds.Input)
+      by (was_run input held) = absurd (not_long (v.files l.name) input_limit input held l.so)
+      by (was_missing absent is) = absurd (not_absent (v.files l.name) l.so.content absent l.so.there)
+      by (was_long long is) = is
+
+  -- ---- how it ends where the source is right and the arguments are main's
+
+  input_held : (name : Option (List ℕ)) (input : List ℕ) → ReadInput v name input → HasInput v name input
+  input_held None input r = r
+  input_held (Some name) input r = held_content r told
+
+  ends_at_input : (name : List ℕ) → ComesToInput e v name → CannotRead v w name kinds.Input input_limit status → Ends e v status
+  ends_at_input name c (files.missing m x) = meant.lacks_input (record { name = name; comes = c; so = m.absent told }) x
+  ends_at_input name c (files.unreadable f x) = absurd (n f.failed.rose)
+  ends_at_input name c (files.too_long l x) = meant.has_long_input (record { name = name; comes = c; so = held_long l told }) x
+  ends_at_input name c (files.no_memory u x) = absurd (memory x)
+
+  ends_so : ExecEnds e v w status → FitsMain (to_make e) v.files → Ends e v status
+  ends_so (ran due h is) fits =
+      meant.at_outcome h.input (input_held e.input h.input h.input_read) (record { image = h.image; stack = h.stack; has_stack = h.has_stack; is = is })
+  ends_so (cannot (meant.not_made c)) fits = elim (made_no_good (to_make e) v w status n c) [
+    | inl never ↦ absurd (never told fits)
+    | inr x ↦ absurd (memory x)
+  ]
+  ends_so (cannot (meant.no_stack amount u h x)) fits = meant.lacks_stack (record { amount = amount; has_none = h; is = x })
+  ends_so (cannot (meant.unread_input name c r)) fits = ends_at_input name c r
+  ends_so (cannot (meant.no_memory u x)) fits = absurd (memory x)
+
+-- ---- the clauses
+
 refuses : (e : ExecWords) (v w : StoreView) (status : Status) → StoreHeld v w → status ≢ NoMemory → ExecEnds e v w status → Refuses e v status
 refuses e v w status n m ends = record {
   own = own e v w status n m ends;
-  exactly = λ told. refuses_made (to_make e) v status m told (made_ends e v w status n ends);
+  made = λ told. refuses_made (to_make e) v status m told (made_ends e v w status n ends);
   no_bound = λ amount told. (tells_no_bound e v w status amount n m ends, leads_no_bound e v w status amount n m told ends);
+  input_missing = λ told. (tells_missing e v w status n m told ends, leads_missing e v w status n m told ends);
+  input_long = λ told. (tells_long e v w status n m told ends, leads_long e v w status n m told ends);
+  ends = λ told fits. ends_so e v w status n m told ends fits;
 }
 
 -- ---- what isn't hidden

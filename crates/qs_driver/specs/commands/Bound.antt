@@ -10,8 +10,8 @@ use Rattle.qs_driver.specs.Lines.{cost_lines}
 use Rattle.qs_driver.specs.Steps.{on_out}
 use Rattle.qs_driver.specs.Due.{Due, refusal, IsRefusal}
 use Rattle.qs_driver.specs.Files.{IsUntouched}
-use Rattle.qs_driver.specs.Certified.{certify_words, proof_name, HoldsRight}
-use Rattle.qs_driver.specs.Made.{MakeWords, make_words, IsMade, CannotMake, FitMain, IsOfMade, RefusesMade}
+use Rattle.qs_driver.specs.Certified.{certify_words, proof_name}
+use Rattle.qs_driver.specs.Made.{MakeWords, make_words, IsMade, CannotMake, FitsMain, IsOfMade, RefusesMade}
 use Rattle.qs_driver.specs.Task.{Task}
 use Rattle.qs_driver.specs.declared.commands.bound.BoundOrder.{BoundOrder}
 use Rattle.qs_driver.specs.declared.made.Made.{Made}
@@ -66,22 +66,21 @@ pub data IsDueToBound (b : BoundWords) (before after : StoreView) (due : Due) : 
 -- the source is there and well typed and within limits, its proofs are right, and the arguments are main's
 pub record IsGood (b : BoundWords) (before : StoreView) : Type 0 where
   pub told : IsTrue before.told
-  pub right : HoldsRight (certify_words b.source b.proof) before.files
-  pub arguments : FitMain (to_make b) before
+  pub fits : FitsMain (to_make b) before.files
 
 -- each good source has its bound told
 abbrev pub Accepts : BoundWords → StoreView → Status → Type 0
 Accepts b before status = IsGood b before → status ≡ Done
 
 -- the statuses with which `bound` ends where no call fails and memory is found
-pub data IsOfBound : Status → Type 0 where
-  done : IsOfBound Done
-  of_made : {status : Status} → IsOfMade status → IsOfBound status
+pub data IsOfBound (b : BoundWords) : Status → Type 0 where
+  done : IsOfBound b Done
+  of_made : {status : Status} → IsOfMade b.args status → IsOfBound b status
 
 -- Each refusal of `bound` comes exactly where its cause is, and no refusal of another command comes.
 pub record Refuses (b : BoundWords) (before : StoreView) (status : Status) : Type 0 where
-  pub own : IsOfBound status
-  pub exactly : IsTrue before.told → RefusesMade (to_make b) before status
+  pub own : IsOfBound b status
+  pub made : IsTrue before.told → RefusesMade (to_make b) before.files status
 
 abbrev pub bound : BoundWords → Task
 bound b = record { IsDue = IsDueToBound b; Accepts = Accepts b; Refuses = Refuses b }

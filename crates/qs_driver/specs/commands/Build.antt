@@ -81,7 +81,7 @@ pub record CouldNotWrite (b : BuildWords) (before after : StoreView) : Type 0 wh
 pub data CannotBuild (b : BuildWords) (before after : StoreView) (status : Status) : Type 0 where
   not_certified : LacksCertified (inputs b) before after status → CannotBuild b before after status
   unwritable : CouldNotWrite b before after → status ≡ StoreFailed kinds.Output → CannotBuild b before after status
-  -- no memory was found, before anything was written
+  -- no memory was found, before anything was written; a source passes no size of images (`SourcesPassNoSize`)
   no_memory : IsUntouched before after → status ≡ NoMemory → CannotBuild b before after status
 
 -- What is due to `build`, and why.

@@ -27,8 +27,8 @@ counts_of s = Checked (length s.given.functions) (length s.proofs.functions - le
 abbrev pub counted : Count → Due
 counted count = record { status = Done; steps = on_out (count_line count) ∷ [] }
 
--- The source and its proof file come to this, and no file changed: main's entry bounds each run, for every stack metric.
--- `out` gets the counts.
+-- The source and its proof file come to this, and no file changed: main's entry bounds each run, of the source and of
+-- its linear code, for every stack metric. `out` gets the counts.
 pub record HasChecked (w : CertifyWords) (before after : StoreView) (due : Due) : Type 0 where
   pub source : CertifiedSource
   pub reads : ReadsCertified w before source

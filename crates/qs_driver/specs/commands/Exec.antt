@@ -1,5 +1,5 @@
 -- `exec`: a source is certified and compiled, and its image is run on a stack of exactly its bound.
-use Rattle.std.specs.Prelude.{◌≡◌, ◌⊎◌, ◌↔◌, ℕ, ◌<◌, ◌≤◌, ℤ, List, [], ◌∷◌, IsTrue, Option, Some, Result, Ok, Err, option_map}
+use Rattle.std.specs.Prelude.{◌≡◌, ◌⊎◌, ◌↔◌, ℕ, ◌<◌, ◌≤◌, ℤ, List, [], ◌∷◌, IsTrue, Option, Some, None, Result, Ok, Err, option_map}
 use Rattle.qs_assert.specs.declared.define.Amount.{Amount}
 use Rattle.qs_assert.specs.declared.define.Amount.TheVariants.{Finite, Infinite, Wide}
 use Rattle.qs_meaning.specs.Typed.{TypedProgram}
@@ -7,7 +7,7 @@ use Rattle.qs_ports.specs.StoreView.{StoreView}
 use Rattle.qs_image.specs.Image.{Image, IsImage}
 use Rattle.qs_machine.specs.declared.answers.Cause.{Cause}
 use Rattle.qs_machine.specs.declared.machine.Machine.{Machine}
-use Rattle.qs_machine.specs.Arguments.{AreArguments, words_of}
+use Rattle.qs_machine.specs.Arguments.{words_of}
 use Rattle.qs_machine.specs.Run.{Outcome, Exited, Trapped as HasTrapped, Going, machine, start}
 use Rattle.qs_machine.specs.Standing.{Stands, taken_of}
 use Rattle.qs_machine.specs.State.{stack_limit}
@@ -23,10 +23,10 @@ use Rattle.qs_driver.specs.Limits.{input_limit}
 use Rattle.qs_driver.specs.Steps.{on_out, on_log}
 use Rattle.qs_driver.specs.Due.{Due, IsRefusal}
 use Rattle.qs_driver.specs.Devices.{Streams, views_of}
-use Rattle.qs_driver.specs.Files.{IsUntouched, CannotRead}
-use Rattle.qs_driver.specs.Certified.{certify_words, proof_name, CertifiedSource, HoldsRight}
-use Rattle.qs_driver.specs.Made.{MakeWords, make_words, CanMake, IsMade, CannotMake, IsOfMade, RefusesMade}
-use Rattle.qs_driver.specs.Bounds.{bound_by, costs_in, seen_runs}
+use Rattle.qs_driver.specs.Files.{IsUntouched, IsTooLong, CannotRead}
+use Rattle.qs_driver.specs.Certified.{certify_words, proof_name}
+use Rattle.qs_driver.specs.Made.{MakeWords, make_words, IsMade, CannotMake, FitsMain, IsOfMade, RefusesMade}
+use Rattle.qs_driver.specs.Bounds.{seen_runs}
 use Rattle.qs_driver.specs.Task.{Task, Answers}
 use Rattle.qs_driver.specs.commands.Run.{RunWords, run_words, input_name, ReadInput, HasInput, status_at, Loads}
 use Rattle.qs_driver.specs.declared.commands.exec.ExecOrder.{ExecOrder}
@@ -151,31 +151,11 @@ pub data IsDueToExec (e : ExecWords) (before after : StoreView) (due : Due) : Ty
 
 -- ---- what follows
 
--- the bound of main at the arguments
-abbrev pub bound_at : ExecWords → CertifiedSource → Image → Amount
-bound_at e s image = bound_by s (costs_in image) e.args
-
--- the arguments are main's, and there is a stack of their bound
-pub record MayRun (e : ExecWords) (s : CertifiedSource) (image : Image) : Type 0 where
-  pub arguments : AreArguments image e.args
-  pub stack : ℕ
-  pub bound : bound_at e s image ≡ Finite stack
-  pub small : stack ≤ stack_limit
-
--- it is so whatever is made
-abbrev pub OfAllMade : ExecWords → StoreView → (CertifiedSource → Image → Type 0) → Type 0
-OfAllMade e before IsSo = (s : CertifiedSource) (image : Image) → CanMake (to_make e) before s image → IsSo s image
-
--- the source is there, well typed and within limits, and its proofs are right
-abbrev pub HoldsSource : ExecWords → StoreView → Type 0
-HoldsSource e before = HoldsRight (certify_words e.source e.proof) before.files
-
--- The source is right, its image can be run with the arguments on a stack of their bound, and the input is there.
+-- The source and its proofs are right, the arguments are main's, and the input is there.
 pub record IsGood (e : ExecWords) (before : StoreView) : Type 0 where
   pub input : List ℕ
   pub told : IsTrue before.told
-  pub right : HoldsSource e before
-  pub may_run : OfAllMade e before (MayRun e)
+  pub fits : FitsMain (to_make e) before.files
   pub input_there : HasInput before e.input input
 
 -- the status is that of the machine's outcome on the image that is made, on a stack of its bound
@@ -185,25 +165,53 @@ pub record EndsAtOutcome (e : ExecWords) (before : StoreView) (input : List ℕ)
   pub has_stack : HasStack e before image stack
   pub is : status ≡ status_at e.steps (machine image stack (words_of e.args) input e.steps)
 
--- each good source is run to the outcome of its machine
+-- there is no stack for the bound of the image that is made, and the status tells this bound
+pub record LacksStack (e : ExecWords) (before : StoreView) (status : Status) : Type 0 where
+  pub amount : Amount
+  pub has_none : HasNoStack e before amount
+  pub is : status ≡ NoBound amount
+
+-- each good source is run to the outcome of its machine, unless there is no stack for its bound
 abbrev pub Accepts : ExecWords → StoreView → Status → Type 0
-Accepts e before status = (g : IsGood e before) → EndsAtOutcome e before g.input status
+Accepts e before status = (g : IsGood e before) → EndsAtOutcome e before g.input status ⊎ LacksStack e before status
+
+-- an image is made that has a stack of its bound, an input is named, and of its file this is so
+pub record OfInput (e : ExecWords) (before : StoreView) (IsSo : Option (List ℕ) → Type 0) : Type 0 where
+  pub name : List ℕ
+  pub comes : ComesToInput e before name
+  pub so : IsSo (before.files name)
+
+abbrev pub LacksInput : ExecWords → StoreView → Type 0
+LacksInput e before = OfInput e before (λ file. file ≡ None)
+
+abbrev pub HasLongInput : ExecWords → StoreView → Type 0
+HasLongInput e before = OfInput e before (λ file. IsTooLong file input_limit)
+
+-- How it ends where the source and its proofs are right and the arguments are main's.
+pub data Ends (e : ExecWords) (before : StoreView) (status : Status) : Type 0 where
+  lacks_stack : LacksStack e before status → Ends e before status
+  lacks_input : LacksInput e before → status ≡ Missing kinds.Input → Ends e before status
+  has_long_input : HasLongInput e before → status ≡ Source (TooLong kinds.Input) → Ends e before status
+  at_outcome : (input : List ℕ) → HasInput before e.input input → EndsAtOutcome e before input status → Ends e before status
 
 -- the statuses with which `exec` ends where no call fails and memory is found
-pub data IsOfExec : Status → Type 0 where
-  done : IsOfExec Done
-  of_made : {status : Status} → IsOfMade status → IsOfExec status
-  no_bound : (amount : Amount) → IsOfExec (NoBound amount)
-  missing_input : IsOfExec (Missing kinds.Input)
-  long_input : IsOfExec (Source (TooLong kinds.Input))
-  trapped : (cause : Cause) (pc : ℕ) → IsOfExec (Trapped cause pc)
-  step_limit : (steps : ℕ) → IsOfExec (StepLimit steps)
+pub data IsOfExec (e : ExecWords) : Status → Type 0 where
+  done : IsOfExec e Done
+  of_made : {status : Status} → IsOfMade e.args status → IsOfExec e status
+  no_bound : (amount : Amount) → IsNoStack amount → IsOfExec e (NoBound amount)
+  missing_input : IsOfExec e (Missing kinds.Input)
+  long_input : IsOfExec e (Source (TooLong kinds.Input))
+  trapped : (cause : Cause) (pc : ℕ) → IsOfExec e (Trapped cause pc)
+  step_limit : IsOfExec e (StepLimit e.steps)
 
 -- Each refusal of `exec` comes exactly where its cause is, and no refusal of another command comes.
 pub record Refuses (e : ExecWords) (before : StoreView) (status : Status) : Type 0 where
-  pub own : IsOfExec status
-  pub exactly : IsTrue before.told → RefusesMade (to_make e) before status
+  pub own : IsOfExec e status
+  pub made : IsTrue before.told → RefusesMade (to_make e) before.files status
   pub no_bound : (amount : Amount) → IsTrue before.told → (status ≡ NoBound amount) ↔ HasNoStack e before amount
+  pub input_missing : IsTrue before.told → (status ≡ Missing kinds.Input) ↔ LacksInput e before
+  pub input_long : IsTrue before.told → (status ≡ Source (TooLong kinds.Input)) ↔ HasLongInput e before
+  pub ends : IsTrue before.told → FitsMain (to_make e) before.files → Ends e before status
 
 abbrev pub exec : ExecWords → Task
 exec e = record { IsDue = IsDueToExec e; Accepts = Accepts e; Refuses = Refuses e }

@@ -12,6 +12,7 @@ use crate::certified::{CertifyOrder, read_certified};
 use crate::devices::Devices;
 use crate::due::{refuse, status_after};
 use crate::names::{FileNames, nameless};
+use qs_lower::lower;
 use qs_ports::{Sink, Store};
 use qs_report::{Count, put_count};
 use std::alloc::Global;
@@ -27,7 +28,8 @@ fn names_of<'a>(order: &CertifyOrder<'a>) -> FileNames<'a>
     }
 }
 
-// The counts of entries of the proof file, and of those that are filled in.
+// The counts of entries of the proof file, and of those that are filled in. The unit is lowered too: what is
+// checked has linear code, and where memory is wanting for that, it is told here.
 fn check_entries<S: Store>(
     alloc: Global,
     order: &CertifyOrder<'_>,
@@ -36,6 +38,7 @@ fn check_entries<S: Store>(
     ensures { Checks (words_in order.now) (S.view store.old) (S.view store.new) result }
 {
     let unit = read_certified(alloc, store, order)?;
+    lower(alloc, &unit.core)?;
     let certified = &unit.certified;
     Ok(Count::Checked(certified.given, certified.added))
 }

@@ -11,9 +11,9 @@ use crate::certified::{CertifyOrder, read_certified};
 use crate::devices::Devices;
 use crate::due::{refuse, status_after};
 use crate::names::{FileNames, nameless};
-use crate::stub::write;
 use crate::{Status, WordsFault};
 use qs_ports::{Sink, Store, write_whole};
+use qs_prooftext::write;
 use qs_report::{Count, put_count};
 use std::alloc::Global;
 

@@ -1,0 +1,5 @@
+use Rattle.qs_prooftext.proofs.ReadWritable.{read_is_writable}
+use Rattle.qs_prooftext.proofs.laws.read_is_writable.Goals as goal
+
+pub returns : goal.returns
+returns c = read_is_writable

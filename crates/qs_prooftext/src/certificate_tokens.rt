@@ -1,0 +1,126 @@
+// Certificates as tokens.
+ghost use Rattle.std.specs.Prelude.{◌≡◌, ◌++◌, ◌∷◌, [], map, OnOk};
+ghost use Rattle.qs_entail.specs.View.{cert_tree, certs_tree, items_view};
+ghost use Rattle.qs_sexpr.specs.Marks.{closes, marks};
+ghost use Rattle.qs_prooftext.specs.Putting.{Puts, list_marks, words_in_table};
+ghost use Rattle.qs_prooftext.specs.Writing.{certificate_form, certificate_forms, combination_form, headed};
+
+use crate::fact_tokens::{begin_fact, put_combination};
+use crate::naming::WordTable;
+use crate::putting::{begin, put, put_assertion, put_condition};
+use qs_base::NoMemory;
+use qs_entail::{Certificate, Item};
+use qs_sexpr::Token;
+use std::alloc::Global;
+
+/// Puts a list with this head and a combination.
+fn put_items<'a>(out: &mut Vec<Token<'a>>, head: &'a [u8], items: &[Item]) -> Result<(), NoMemory>
+    ensures { OnOk result (Puts out.old.items (marks (headed head.now (combination_form (items_view items.now) ∷ []))) out.new.items) }
+{
+    begin(out, head)?;
+    put_combination(out, items)?;
+    put(out, Token::Close)
+}
+
+// One behind the other.
+#[cycle(put_certificate)]
+fn put_certificates<'a>(
+    alloc: Global,
+    out: &mut Vec<Token<'a>>,
+    table: WordTable<'a>,
+    parts: &'a [Certificate],
+) -> Result<(), NoMemory>
+    ensures { OnOk result (Puts out.old.items (list_marks (certificate_forms (words_in_table table.entry) (certs_tree parts.now))) out.new.items) }
+{
+    for part in parts {
+        put_certificate(alloc, out, table, part)?;
+    }
+    Ok(())
+}
+
+/// Puts a list with this head and certificates.
+#[cycle(put_certificate)]
+fn put_headed<'a>(
+    alloc: Global,
+    out: &mut Vec<Token<'a>>,
+    table: WordTable<'a>,
+    head: &'a [u8],
+    parts: &'a [Certificate],
+) -> Result<(), NoMemory>
+    ensures { OnOk result (Puts out.old.items (marks (headed head.now (certificate_forms (words_in_table table.entry) (certs_tree parts.now)))) out.new.items) }
+{
+    begin(out, head)?;
+    put_certificates(alloc, out, table, parts)?;
+    put(out, Token::Close)
+}
+
+// The last part of a list.
+#[cycle(put_certificate)]
+fn put_last<'a>(
+    alloc: Global,
+    out: &mut Vec<Token<'a>>,
+    table: WordTable<'a>,
+    part: &'a Certificate,
+) -> Result<(), NoMemory>
+    ensures { OnOk result (Puts out.old.items (marks (certificate_form (words_in_table table.entry) (cert_tree part.now)) ++ closes ∷ []) out.new.items) }
+{
+    put_certificate(alloc, out, table, part)?;
+    put(out, Token::Close)
+}
+
+/// Puts a certificate.
+#[cycle(put_certificate)]
+pub fn put_certificate<'a>(
+    alloc: Global,
+    out: &mut Vec<Token<'a>>,
+    table: WordTable<'a>,
+    certificate: &'a Certificate,
+) -> Result<(), NoMemory>
+    ensures { OnOk result (Puts out.old.items (marks (certificate_form (words_in_table table.entry) (cert_tree certificate.now))) out.new.items) }
+{
+    match certificate {
+        Certificate::Same => {
+            begin(out, b"same")?;
+            put(out, Token::Close)
+        }
+        Certificate::Via(between, first, second) => {
+            begin(out, b"via")?;
+            put_assertion(alloc, out, table, between)?;
+            put_certificate(alloc, out, table, first)?;
+            put_last(alloc, out, table, second)
+        }
+        Certificate::Pick(number, part) => {
+            begin(out, b"pick")?;
+            put(out, Token::Number(*number))?;
+            put_last(alloc, out, table, part)
+        }
+        Certificate::All(parts) => put_headed(alloc, out, table, b"all", parts),
+        Certificate::Parts(parts) => put_headed(alloc, out, table, b"parts", parts),
+        Certificate::Assume(part) => {
+            begin(out, b"assume")?;
+            put_last(alloc, out, table, part)
+        }
+        Certificate::DropGuard(first, second) => {
+            begin(out, b"drop")?;
+            put_certificate(alloc, out, table, first)?;
+            put_last(alloc, out, table, second)
+        }
+        Certificate::Split(condition, first, second) => {
+            begin(out, b"split")?;
+            put_condition(alloc, out, table, condition)?;
+            put_certificate(alloc, out, table, first)?;
+            put_last(alloc, out, table, second)
+        }
+        Certificate::Contradict(items) => put_items(out, b"absurd", items),
+        Certificate::Arithmetic(items) => put_items(out, b"arith", items),
+        Certificate::ByDefinition(name, part) => {
+            begin(out, b"unfold")?;
+            put(out, Token::Symbol(name.bytes()))?;
+            put_last(alloc, out, table, part)
+        }
+        Certificate::Fact(fact, part) => {
+            begin_fact(alloc, out, table, fact)?;
+            put_last(alloc, out, table, part)
+        }
+    }
+}

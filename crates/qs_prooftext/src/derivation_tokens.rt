@@ -1,0 +1,95 @@
+// Derivations as tokens.
+ghost use Rattle.std.specs.Prelude.{◌≡◌, ◌++◌, ◌∷◌, [], OnOk};
+ghost use Rattle.qs_sexpr.specs.Marks.{closes, marks};
+ghost use Rattle.qs_triples.specs.TreeOf.{derivation_tree, derivation_trees};
+ghost use Rattle.qs_prooftext.specs.Putting.{Puts, list_marks, words_in_table};
+ghost use Rattle.qs_prooftext.specs.Writing.{derivation_form, derivation_forms};
+
+use crate::certificate_tokens::put_certificate;
+use crate::naming::WordTable;
+use crate::putting::{begin, put, put_assertion};
+use qs_base::NoMemory;
+use qs_sexpr::Token;
+use qs_triples::Derivation;
+use std::alloc::Global;
+
+// One behind the other.
+#[cycle(put_derivation)]
+fn put_derivations<'a>(
+    alloc: Global,
+    out: &mut Vec<Token<'a>>,
+    table: WordTable<'a>,
+    parts: &'a [Derivation],
+) -> Result<(), NoMemory>
+    ensures { OnOk result (Puts out.old.items (list_marks (derivation_forms (words_in_table table.entry) (derivation_trees parts.now))) out.new.items) }
+{
+    for part in parts {
+        put_derivation(alloc, out, table, part)?;
+    }
+    Ok(())
+}
+
+// The last part of a list.
+#[cycle(put_derivation)]
+fn put_last<'a>(
+    alloc: Global,
+    out: &mut Vec<Token<'a>>,
+    table: WordTable<'a>,
+    part: &'a Derivation,
+) -> Result<(), NoMemory>
+    ensures { OnOk result (Puts out.old.items (marks (derivation_form (words_in_table table.entry) (derivation_tree part.now)) ++ closes ∷ []) out.new.items) }
+{
+    put_derivation(alloc, out, table, part)?;
+    put(out, Token::Close)
+}
+
+/// Puts a derivation.
+#[cycle(put_derivation)]
+pub fn put_derivation<'a>(
+    alloc: Global,
+    out: &mut Vec<Token<'a>>,
+    table: WordTable<'a>,
+    derivation: &'a Derivation,
+) -> Result<(), NoMemory>
+    ensures { OnOk result (Puts out.old.items (marks (derivation_form (words_in_table table.entry) (derivation_tree derivation.now))) out.new.items) }
+{
+    match derivation {
+        Derivation::Leaf => {
+            begin(out, b"leaf")?;
+            put(out, Token::Close)
+        }
+        Derivation::Sequence(parts) => {
+            begin(out, b"seq")?;
+            put_derivations(alloc, out, table, parts)?;
+            put(out, Token::Close)
+        }
+        Derivation::Conditional(first, second) => {
+            begin(out, b"if")?;
+            put_derivation(alloc, out, table, first)?;
+            put_last(alloc, out, table, second)
+        }
+        Derivation::Loop(invariant, certificate, body, step) => {
+            begin(out, b"loop")?;
+            put_assertion(alloc, out, table, invariant)?;
+            put_certificate(alloc, out, table, certificate)?;
+            put_derivation(alloc, out, table, body)?;
+            put_last(alloc, out, table, step)
+        }
+        Derivation::Call(frame, certificate) => {
+            begin(out, b"call")?;
+            put_assertion(alloc, out, table, frame)?;
+            put_certificate(alloc, out, table, certificate)?;
+            put(out, Token::Close)
+        }
+        Derivation::BalancedCall => {
+            begin(out, b"bal")?;
+            put(out, Token::Close)
+        }
+        Derivation::Consequence(stronger, certificate, part) => {
+            begin(out, b"use")?;
+            put_assertion(alloc, out, table, stronger)?;
+            put_certificate(alloc, out, table, certificate)?;
+            put_last(alloc, out, table, part)
+        }
+    }
+}

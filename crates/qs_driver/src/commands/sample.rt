@@ -116,8 +116,8 @@ fn start_text(alloc: Global, text: &[u8]) -> Result<SampleStart, Status>
     })
 }
 
-// The same of a sample. It is a good source and has a stack, so that only memory can be wanting; no law says that yet, and
-// a refusal would be told as want of memory.
+// The same of a sample. Its source is a good one (`samples_are_good`), and there is a stack for its bound, which no law
+// says yet: so only memory can be wanting, and a refusal is told as that.
 fn start_sample(alloc: Global, text: &[u8]) -> Result<SampleStart, NoMemory>
     ensures { IfOk result (HasStarted text.now) }
 {

@@ -34,4 +34,5 @@ pub mod SampleStacks
 pub mod SampleStackLaw
 pub mod SampleRefusals
 pub mod SampleCounts
+pub mod SampleStarts
 pub mod laws

@@ -1,14 +1,11 @@
 -- Where words mean `sample`, the count of its functions is one of those of which the laws of samples speak.
-use Rattle.std.proofs.Common.{◌≡◌, ℕ, ◌≤◌, ◌&&◌, nat_le, Bool, true, false, ℤ, List, [], ◌∷◌, Option, Some, None, codes, bytes_eq, if◌then◌else◌, refl, subst, arith}
+use Rattle.std.proofs.Common.{◌≡◌, ℕ, ◌&&◌, nat_le, Bool, true, false, ℤ, List, [], ◌∷◌, Option, Some, None, codes, bytes_eq, if◌then◌else◌, refl, subst, arith}
 use Rattle.std.specs.Prelude.{option_and_then}
 use Rattle.std.proofs.lemmas.Bool.Decides.{nat_tests}
 use Rattle.qs_cli.specs.Words.{Text, Values, operand, reading}
 use Rattle.qs_cli.specs.Numbers.{number_of, within, steps_of, arguments_of}
 use Rattle.qs_cli.specs.Commands.{Command, Build, Check, Bound, Derive, Outline, Run, Exec, Sample, ◌⊛◌, stack_of, sample_count_of, build_options, check_options, bound_options, derive_options, outline_options, run_options, exec_options, sample_options, build_of, check_of, bound_of, derive_of, outline_of, run_of, exec_of, sample_of, command_named, meaning}
-use Rattle.qs_driver.specs.SampleLaws.{most_functions}
-
-abbrev IsCount : ℕ → Type 0
-IsCount n = (1 ≤ n) × (n ≤ most_functions)
+use Rattle.qs_driver.specs.SampleLaws.{IsSampleCount}
 
 -- if this is a sample, it has such a count
 abbrev HasCount : Option Command → Type 0
@@ -20,7 +17,7 @@ HasCount (Some (Derive source out)) = Unit {0}
 HasCount (Some (Outline source)) = Unit {0}
 HasCount (Some (Run image stack args input steps)) = Unit {0}
 HasCount (Some (Exec source proof args input steps)) = Unit {0}
-HasCount (Some (Sample count out)) = IsCount count
+HasCount (Some (Sample count out)) = IsSampleCount count
 
 -- ---- the other commands
 
@@ -104,5 +101,5 @@ unfolding meaning
 words_have [] = tt
 words_have (name ∷ words) = named_has name words
 
-pub sample_has_count : (words : List Text) (count : ℕ) (out : Option Text) → meaning words ≡ Some (Sample count out) → (1 ≤ count) × (count ≤ most_functions)
+pub sample_has_count : (words : List Text) (count : ℕ) (out : Option Text) → meaning words ≡ Some (Sample count out) → IsSampleCount count
 sample_has_count words count out is = subst HasCount is (words_have words)

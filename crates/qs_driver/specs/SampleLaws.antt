@@ -16,6 +16,10 @@ use Rattle.qs_driver.specs.SampleSource.{sample_text}
 abbrev pub most_functions : ℕ
 most_functions = 500
 
+-- each sample has at least one function beside main
+abbrev pub IsSampleCount : ℕ → Type 0
+IsSampleCount n = (1 ≤ n) × (n ≤ most_functions)
+
 -- the text is no longer than a source may be, and a typed unit whose core is without recursion
 pub record IsGoodSource (text : List ℕ) : Type 0 where
   pub short : length text ≤ source_limit

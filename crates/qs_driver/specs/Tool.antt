@@ -1,5 +1,5 @@
 -- What the words of a call ask of the tool: a row for each command.
-use Rattle.std.specs.Prelude.{ℕ, List, Option, Some, None}
+use Rattle.std.specs.Prelude.{◌≡◌, ℕ, List, Option, Some, None}
 use Rattle.qs_cli.specs.Commands.{Command, meaning, Build, Check, Bound, Derive, Outline, Run, Exec, Sample}
 use Rattle.qs_driver.specs.Task.{Task}
 use Rattle.qs_driver.specs.commands.Usage.{none}
@@ -12,6 +12,11 @@ use Rattle.qs_driver.specs.commands.Outline.{outline, outline_words}
 use Rattle.qs_driver.specs.commands.Run.{run, run_words}
 use Rattle.qs_driver.specs.commands.Exec.{exec, exec_words}
 use Rattle.qs_driver.specs.commands.Sample.{sample, sample_words}
+
+-- some words mean this command
+pub record IsMeant (command : Command) : Type 0 where
+  pub words : List (List ℕ)
+  pub means : meaning words ≡ Some command
 
 abbrev pub task_of : Option Command → Task
 task_of None = none

@@ -4,7 +4,7 @@ ghost use Rattle.qs_cli.specs.Reading.{command_of};
 ghost use Rattle.qs_driver.specs.Devices.{views, views_left, views_of};
 ghost use Rattle.qs_driver.specs.Promises.{LacksMemory, Promises};
 ghost use Rattle.qs_driver.specs.Task.{Answers};
-ghost use Rattle.qs_driver.specs.Tool.{task, task_of};
+ghost use Rattle.qs_driver.specs.Tool.{task, task_of, IsMeant};
 
 use crate::Status;
 use crate::commands::bound::bound;
@@ -27,12 +27,13 @@ use qs_cli::{CliFault, Command, read_words};
 use qs_ports::{Sink, Store};
 use std::alloc::Global;
 
-// A row for each command.
+// A row for each command. That words mean it, tells what is known of the count of a sample.
 fn perform<S: Store, O: Sink, L: Sink>(
     alloc: Global,
     command: &Command,
     devices: Devices<'_, S, O, L>,
 ) -> Status
+    requires { IsMeant (command_of command.now) }
     ensures { let before = views S.view O.view L.view devices.entry in
         let after = views_left S.view O.view L.view devices.exit in
         Answers (task_of (Some (command_of command.now))) before after result }

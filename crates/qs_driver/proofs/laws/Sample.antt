@@ -55,13 +55,13 @@ use Rattle.qs_driver.proofs.StepsLaws.{log_last, out_last}
 -- ---- a text comes to a machine
 
 -- the image that was made of what the code holds is one of the text
-image_of : {text : List ℕ} {c : CertifiedUnit} {image : Image} (h : HoldsCertified text None c) → IsImageOfSource (typed_tree c.typed) image → IsImageOf h.source image
+pub image_of : {text : List ℕ} {c : CertifiedUnit} {image : Image} (h : HoldsCertified text None c) → IsImageOfSource (typed_tree c.typed) image → IsImageOf h.source image
 image_of {text} {c} {image} h compiled =
     compiled_is_image text None h.source h.is image
     (subst (λ (unit : UnitTree). IsCompiled unit image) h.holds.unit (is_compiled (typed_tree c.typed) image compiled))
 
 -- the bound that the code has computed is that of what it holds
-bound_of_held : {text : List ℕ} {c : CertifiedUnit} {made : Made} (h : HoldsCertified text None c) → IsMadeOf c [] made → made.bound ≡ bound_by h.source (costs_in made.image) []
+pub bound_of_held : {text : List ℕ} {c : CertifiedUnit} {made : Made} (h : HoldsCertified text None c) → IsMadeOf c [] made → made.bound ≡ bound_by h.source (costs_in made.image) []
 bound_of_held {c = c} {made = made} h m =
     m.bound_is
     ∙ ap (λ (u : CoreUnitTree). main_bound u (proofs_tree c.certified.proofs) (costs_in made.image) []) h.holds.core
@@ -149,8 +149,8 @@ not_written w (Some name) v u status is (e, failed, part) =
 pub source_not_written : (w : SampleWords) (v u : StoreView) (status : Status) → WritesSource w.out (sample_text w.count) v u (Err status) → Samples w v u (Err status)
 source_not_written w v u status h = not_written w w.out v u status refl h
 
-pub out_of_memory : (w : SampleWords) (v u : StoreView) → HasWritten w.out (sample_text w.count) v u → Samples w v u (Err NoMemory)
-out_of_memory w v u h = meant.refused NoMemory (meant.no_memory (inr h) refl) refl
+pub out_of_memory : (w : SampleWords) (v u : StoreView) (status : Status) → status ≡ NoMemory → HasWritten w.out (sample_text w.count) v u → Samples w v u (Err status)
+out_of_memory w v u status is h = meant.refused status (meant.no_memory (inr h) is) refl
 
 module _ (w : SampleWords) (v u : StoreView) (written : HasWritten w.out (sample_text w.count) v u) (started : SampleStart) (h : HasStarted (sample_text w.count) started) where
   has_run : (due : Due) → IsDueAt w h.image started.stack (outcome h.image started.stack) due → IsDueToSample w v u due
@@ -178,7 +178,7 @@ module _ (w : SampleWords) (v u : StoreView) (written : HasWritten w.out (sample
   is_due_at (Going output) (Err other) e = ap (λ (s : Status). due_of w (Err s)) e
 
   was_run : (answer : Result SampleEnd Status) → (answer ≡ Err NoMemory) ⊎ ComesTo started (outcome h.image started.stack) answer → Samples w v u answer
-  was_run answer (inl e) = let P : Result SampleEnd Status → Type 0 = λ x. Samples w v u x in subst P (sym e) (out_of_memory w v u written)
+  was_run answer (inl e) = let P : Result SampleEnd Status → Type 0 = λ x. Samples w v u x in subst P (sym e) (out_of_memory w v u NoMemory refl written)
   was_run answer (inr c) = has_run (due_of w answer) (is_due_at (outcome h.image started.stack) answer c)
 
 pub has_sampled : (w : SampleWords) (v u : StoreView) (started : SampleStart) (answer : Result SampleEnd Status) → HasWritten w.out (sample_text w.count) v u → HasStarted (sample_text w.count) started → ((text : List ℕ) → RunsCounted text started answer) → Samples w v u answer

@@ -21,6 +21,7 @@ use Rattle.qs_driver.specs.Files.{IsUntouched}
 use Rattle.qs_driver.specs.Certified.{CertifiedSource, IsCertifiedAs}
 use Rattle.qs_driver.specs.Bounds.{IsImageOf, bound_by, costs_in}
 use Rattle.qs_driver.specs.SampleSource.{sample_text}
+use Rattle.qs_driver.specs.SampleLaws.{IsGoodSource, HasSmallBound}
 use Rattle.qs_driver.specs.Task.{Task}
 use Rattle.qs_driver.specs.commands.Exec.{ExecWords, exec_words, IsSourcesEnd}
 use Rattle.qs_driver.specs.commands.Run.{status_at}
@@ -166,6 +167,16 @@ pub record HasStarted (text : List ℕ) (started : SampleStart) : Type 0 where
   pub functions_are : started.functions ≡ length image.functions
   pub none_taken : taken_of started.machine ≡ 0
   pub stands : Stands started.machine image started.stack [] (start image (words_of []) [])
+
+-- the text is a good source, and there is a stack for each image of it
+pub record CanStart (text : List ℕ) : Type 0 where
+  pub good : IsGoodSource text
+  pub stacks : (s : CertifiedSource) (image : Image) → IsCertifiedAs text None s → IsImageOf s image → HasSmallBound s image
+
+-- the answer of `start_text`: where the text can be started only memory can be wanting
+abbrev pub StartsText : (text : List ℕ) → Result SampleStart Status → Type 0
+StartsText text (Ok started) = HasStarted text started
+StartsText text (Err status) = CanStart text → status ≡ NoMemory
 
 -- how a run ended that exited with this output
 pub record IsEnd (started : SampleStart) (output : List ℕ) (status : ℕ) (end : SampleEnd) : Type 0 where

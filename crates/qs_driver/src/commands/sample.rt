@@ -1,14 +1,15 @@
 // `sample`: a source of as many functions as asked for, each of which calls the one before. It is certified, compiled and
 // run on a stack of exactly its bound, and what it puts is counted.
-ghost use Rattle.std.specs.Prelude.{◌≡◌, IfOk, List, length, option_map, ℕ};
+ghost use Rattle.std.specs.Prelude.{◌≡◌, List, length, option_map, ℕ};
 ghost use Rattle.qs_ports.specs.SinkView.{PutsAll};
 ghost use Rattle.qs_machine.specs.Standing.{taken_of};
 ghost use Rattle.qs_driver.specs.Devices.{streams, views, views_left};
 ghost use Rattle.qs_driver.specs.Due.{IsWritten};
 ghost use Rattle.qs_driver.specs.Names.{names_in};
 ghost use Rattle.qs_driver.specs.Task.{Answers};
+ghost use Rattle.qs_driver.specs.SampleLaws.{IsSampleCount};
 ghost use Rattle.qs_driver.specs.commands.Exec as run_meant;
-ghost use Rattle.qs_driver.specs.commands.Sample.{as_exec, due_of, names_of, sample, sample_lines, words_in, HasStarted, RunsCounted, Samples, WritesSource};
+ghost use Rattle.qs_driver.specs.commands.Sample.{as_exec, due_of, names_of, sample, sample_lines, words_in, HasStarted, RunsCounted, Samples, StartsText, WritesSource};
 
 use crate::certified::certify_typed;
 use crate::commands::exec::{ExecOrder, loaded, stack_of};
@@ -21,7 +22,6 @@ use crate::names::{FileNames, nameless};
 use crate::sample_source::sample_text;
 use crate::source::typed_text;
 use crate::{FileKind, SourceFault, Status};
-use qs_base::NoMemory;
 use qs_image::Image;
 use qs_machine::{Machine, RunEnd};
 use qs_ports::{Sink, SinkFault, Store, write_whole};
@@ -99,7 +99,7 @@ fn count_functions(image: &Image) -> u32
 
 // Certifies and compiles the text as any other source, and loads its image on a stack of exactly its bound.
 fn start_text(alloc: Global, text: &[u8]) -> Result<SampleStart, Status>
-    ensures { IfOk result (HasStarted text.now) }
+    ensures { StartsText text.now result }
 {
     if text.len() > SOURCE_LIMIT {
         return Err(Status::Source(SourceFault::TooLong(FileKind::Source)));
@@ -114,17 +114,6 @@ fn start_text(alloc: Global, text: &[u8]) -> Result<SampleStart, Status>
         stack,
         machine,
     })
-}
-
-// The same of a sample. Its source is a good one (`samples_are_good`), and there is a stack for its bound, which no law
-// says yet: so only memory can be wanting, and a refusal is told as that.
-fn start_sample(alloc: Global, text: &[u8]) -> Result<SampleStart, NoMemory>
-    ensures { IfOk result (HasStarted text.now) }
-{
-    match start_text(alloc, text) {
-        Ok(started) => Ok(started),
-        Err(_) => Err(NoMemory),
-    }
 }
 
 // ---- the run
@@ -151,17 +140,19 @@ fn run_counted(alloc: Global, started: SampleStart) -> Result<SampleEnd, Status>
     }
 }
 
-// Makes the sample's source, writes it where a file is named, and runs it.
+// Makes the sample's source, writes it where a file is named, and runs it. The source is a good one and has a stack, so
+// that only memory can be wanting to start it.
 fn run_sample<S: Store>(
     alloc: Global,
     order: &SampleOrder<'_>,
     store: &mut S,
 ) -> Result<SampleEnd, Status>
+    requires { IsSampleCount order.now.count }
     ensures { Samples (words_in order.now) (S.view store.old) (S.view store.new) result }
 {
     let text = sample_text(alloc, order.count)?;
     write_source(store, order.out, &text)?;
-    let started = start_sample(alloc, &text)?;
+    let started = start_text(alloc, &text)?;
     run_counted(alloc, started)
 }
 
@@ -200,6 +191,7 @@ pub fn sample<S: Store, O: Sink, L: Sink>(
     order: &SampleOrder<'_>,
     devices: Devices<'_, S, O, L>,
 ) -> Status
+    requires { IsSampleCount order.now.count }
     ensures { let before = views S.view O.view L.view devices.entry in
         let after = views_left S.view O.view L.view devices.exit in
         Answers (sample (words_in order.now)) before after result }

@@ -3,6 +3,9 @@ use Rattle.qs_cli.specs.Reading.{command_of}
 use Rattle.qs_driver.proofs.laws.Tool.{promised, lacks_promised}
 use Rattle.qs_driver.proofs.tool.run_tool.Goals as goal
 
+pub perform-requires : goal.perform-requires
+perform-requires g c = record { words = _; means = c.in-Ok.ensures }
+
 pub returns-in-Ok : goal.returns-in-Ok
 returns-in-Ok g c = rw c.in-Ok.ensures (promised (Some (command_of c.in-Ok.command)) _ _ _ c.perform.ensures)
 

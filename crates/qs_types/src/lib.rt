@@ -2,8 +2,10 @@
 #![tactic(auto)]
 
 mod constants;
+mod conversions;
 mod env;
 mod extent;
+mod kinds;
 mod layout;
 mod rules;
 mod structs;
@@ -11,8 +13,10 @@ mod tags;
 mod types;
 
 pub use constants::{is_built, is_null_constant, value};
+pub use conversions::{arithmetic, promoted};
 pub use env::Env;
 pub use extent::Extent;
+pub use kinds::{is_array, is_integer, is_pointer, is_scalar, is_struct, is_unsigned, is_void};
 pub use layout::{
     SIZE_LIMIT, align_of, extent_of, is_complete, members_layout, offset_of, rounds, size_of,
     sizes_aligned, structs_laid_out,

@@ -8,10 +8,10 @@ ghost use Rattle.qs_typing.specs.Judging.{IsAssign, IsCombined, IsMoved, JudgesA
 
 use crate::judged::{Judged, keeps, with_tests};
 use crate::operands::{is_assignable, is_lvalue};
-use crate::types::{both_integers, decayed, is_array, is_integer, is_object_pointer, is_struct};
+use crate::types::{both_integers, decayed, is_object_pointer};
 use qs_base::NoMemory;
 use qs_syntax::{AssignmentOperator, Expr};
-use qs_types::{CType, Env, Rule};
+use qs_types::{CType, Env, Rule, is_array, is_integer, is_struct};
 use std::alloc::Global;
 
 /// Whether `b` may be assigned to `a` (C11 6.5.16.1p1).

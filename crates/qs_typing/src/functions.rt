@@ -31,11 +31,11 @@ use crate::judged::{Test, keeps, violates};
 use crate::lengths::walk_parameter_lengths;
 use crate::noted::{Local, local_of};
 use crate::statements::walk_statements;
-use crate::types::{copied, is_scalar, is_struct};
+use crate::types::copied;
 use crate::walk::Walk;
 use qs_base::{Name, NoMemory};
 use qs_syntax::{Function, Parameter, Stmt};
-use qs_types::{CType, Env, Rule};
+use qs_types::{CType, Env, Rule, is_scalar, is_struct};
 use std::alloc::Global;
 
 // ---- parameters

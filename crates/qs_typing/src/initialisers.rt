@@ -19,11 +19,11 @@ use crate::judged::keeps;
 use crate::lengths::constant;
 use crate::operands::{is_assignable, is_lvalue};
 use crate::positions::Position;
-use crate::types::{decayed, is_array, is_scalar, is_struct};
+use crate::types::decayed;
 use crate::walk::Walk;
 use qs_base::NoMemory;
 use qs_syntax::{Expr, Initialiser, InitialiserList, Shape, UnaryOperator};
-use qs_types::{CType, Env, Rule, is_null_constant};
+use qs_types::{CType, Env, Rule, is_array, is_null_constant, is_scalar, is_struct};
 use std::alloc::Global;
 
 /// Whether an initialiser has a type, and whether it fits.

@@ -11,11 +11,10 @@ ghost use Rattle.qs_typing.specs.LengthsOf.{AreTyped, AreValued, ElementsAreType
 
 use crate::context::Context;
 use crate::positions::Position;
-use crate::types::{is_integer, is_unsigned};
 use crate::walk::Walk;
 use qs_base::NoMemory;
 use qs_syntax::{Expr, Lengths};
-use qs_types::{CType, is_built, value};
+use qs_types::{CType, is_built, is_integer, is_unsigned, value};
 use std::alloc::Global;
 
 /// The lengths of an array, and whether they have types.

@@ -7,10 +7,10 @@ ghost use Rattle.qs_typing.specs.PartsOf.{option_type, type_at};
 
 use crate::judged::{Judged, keeps, with_tests};
 use crate::operands::is_lvalue;
-use crate::types::{decayed, is_pointer, referenced};
+use crate::types::{decayed, referenced};
 use qs_base::{Name, NoMemory};
 use qs_syntax::{Access, Expr};
-use qs_types::{CType, Env, Rule};
+use qs_types::{CType, Env, Rule, is_pointer};
 use std::alloc::Global;
 
 /// The type, or `void` where there is none.

@@ -9,10 +9,9 @@ ghost use Rattle.qs_typing.specs.NotedOf.{ArePlaced, block_tree, local_tree, not
 ghost use Rattle.qs_typing.specs.Noting.{BeginsBody, EndsBody, IsLocal, NotesVariable};
 ghost use Rattle.qs_typing.specs.Sets.{nodes_once};
 
-use crate::types::is_scalar;
 use indexmap::IndexSet;
 use qs_base::{Name, NoMemory};
-use qs_types::{CType, Env, extent_of};
+use qs_types::{CType, Env, extent_of, is_scalar};
 use std::alloc::Global;
 
 /// The most placed bytes of a function.

@@ -5,9 +5,9 @@ ghost use Rattle.qs_types.specs.Expressions.{is_lvalue, is_lvalue_shape, is_assi
 ghost use Rattle.qs_types.specs.TypeOf.{type_tree};
 ghost use Rattle.qs_typing.specs.Judging.{are_alike};
 
-use crate::types::{both_integers, is_pointer, same_pointers};
+use crate::types::{both_integers, same_pointers};
 use qs_syntax::{Access, Expr, Shape, UnaryOperator};
-use qs_types::{CType, is_null_constant};
+use qs_types::{CType, is_null_constant, is_pointer};
 
 /// Whether it is an lvalue (C11 6.3.2.1p1).
 #[cycle(is_lvalue)]

@@ -9,13 +9,10 @@ ghost use Rattle.qs_typing.specs.Judging.{IsArithmetic, IsBinary, IsConditional,
 
 use crate::judged::{Judged, keeps, violates, with_tests};
 use crate::operands::{alike_pointers, is_lvalue};
-use crate::types::{
-    arithmetic, both_integers, common, decayed, is_integer, is_object_pointer, is_pointer,
-    is_scalar, promoted, referenced, same_pointers,
-};
+use crate::types::{both_integers, common, decayed, is_object_pointer, referenced, same_pointers};
 use qs_base::NoMemory;
 use qs_syntax::{BinaryOperator, Expr, UnaryOperator};
-use qs_types::{CType, Env, Rule};
+use qs_types::{CType, Env, Rule, arithmetic, is_integer, is_pointer, is_scalar, promoted};
 use std::alloc::Global;
 
 // ---- one operand (6.5.2.4, 6.5.3)

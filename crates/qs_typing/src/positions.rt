@@ -5,9 +5,8 @@ ghost use Rattle.qs_types.specs.ExpressionFaults.{is_discarded, is_whole, operan
 ghost use Rattle.qs_types.specs.TypeOf.{type_tree};
 ghost use Rattle.qs_typing.specs.PositionOf.{position_tree};
 
-use crate::types::{is_struct, is_void};
 use qs_syntax::{Access, AssignmentOperator, Shape, UnaryOperator};
-use qs_types::CType;
+use qs_types::{CType, is_struct, is_void};
 
 /// Where an expression stands.
 #[derive(Clone, Copy)]

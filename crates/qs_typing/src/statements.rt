@@ -19,12 +19,12 @@ use crate::context::Context;
 use crate::judged::{Test, keeps};
 use crate::operands::is_assignable;
 use crate::positions::Position;
-use crate::types::{decayed, is_scalar, is_void};
+use crate::types::decayed;
 use crate::variables::walk_variables;
 use crate::walk::Walk;
 use qs_base::NoMemory;
 use qs_syntax::{Expr, Node, Start, Stmt};
-use qs_types::{CType, Rule};
+use qs_types::{CType, Rule, is_scalar, is_void};
 use std::alloc::Global;
 
 // ---- expressions in statements

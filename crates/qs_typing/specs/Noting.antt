@@ -8,7 +8,7 @@ use Rattle.qs_types.specs.declared.types.CType.{CType}
 use Rattle.qs_types.specs.EnvOf.{env_tree}
 use Rattle.qs_types.specs.Limits as limits
 use Rattle.qs_types.specs.References as references
-use Rattle.qs_types.specs.References.{expr_texts, exprs_texts, shape_calls, shape_texts}
+use Rattle.qs_types.specs.References.{expr_calls, expr_texts, exprs_texts, shape_calls, shape_texts}
 use Rattle.qs_typing.specs.declared.noted.Block.{Block}
 use Rattle.qs_typing.specs.declared.noted.Local.{Local}
 use Rattle.qs_typing.specs.declared.noted.Noted.{Noted}
@@ -22,6 +22,9 @@ use Rattle.qs_typing.specs.PartsOf.{option_type}
 abbrev pub AddsCalls : Shape → (before after : List (List ℕ)) → Type 0
 AddsCalls shape before after = after ≡ before ++ shape_calls (shape_tree shape)
 
+abbrev pub AddsBothCalls : (a b : Expr) → (before after : List (List ℕ)) → Type 0
+AddsBothCalls a b before after = after ≡ before ++ (expr_calls (expr_tree a) ++ expr_calls (expr_tree b))
+
 -- these texts are added
 abbrev pub AddsBlocks : List references.TextBlock → (before after : List TextBlock) → Type 0
 AddsBlocks texts before after = map text_tree after ≡ map text_tree before ++ texts
@@ -34,6 +37,9 @@ AddsTexts e before after = AddsBlocks (expr_texts (expr_tree e)) before after
 
 abbrev pub AddsShapeTexts : (node : ℕ) → Shape → (before after : List TextBlock) → Type 0
 AddsShapeTexts node shape before after = AddsBlocks (shape_texts node (shape_tree shape)) before after
+
+abbrev pub AddsBothTexts : (a b : Expr) → (before after : List TextBlock) → Type 0
+AddsBothTexts a b before after = AddsBlocks (expr_texts (expr_tree a) ++ expr_texts (expr_tree b)) before after
 
 abbrev pub AddsAllTexts : List Expr → (before after : List TextBlock) → Type 0
 AddsAllTexts es before after = AddsBlocks (exprs_texts (exprs_tree es)) before after

@@ -7,7 +7,7 @@ use Rattle.qs_syntax.specs.declared.nodes.Node.{Node}
 use Rattle.qs_syntax.specs.declared.statements.Start.{Start}
 use Rattle.qs_syntax.specs.declared.statements.Stmt.{Stmt}
 use Rattle.qs_syntax.specs.TreeOf.{else_tree, expr_tree, option_tree, start_tree, stmt_tree, stmts_tree}
-use Rattle.qs_syntax.specs.Trees.{while_loop, do_loop, for_loop, return}
+use Rattle.qs_syntax.specs.Trees.{branch, while_loop, do_loop, for_loop, return}
 use Rattle.qs_types.specs.declared.types.CType.{CType}
 use Rattle.qs_types.specs.Contexts.{inner_scope, inside_loop}
 use Rattle.qs_types.specs.ExpressionFaults.{discarded}
@@ -113,7 +113,11 @@ WalksStatements c items before after = walk_tree after ≡ walks.statements_walk
 abbrev pub WalksDiscarded : Context → Expr → (before after : Walk) → Type 0
 WalksDiscarded c e before after = walk_tree after ≡ walks.expr_walked (context_tree c) discarded (expr_tree e) (walks.node_opened (walk_tree before))
 
--- ---- loops
+-- ---- branches and loops
+
+abbrev pub WalksIf : Context → Node → Expr → Stmt → Option (Box Stmt Global) → (before after : Walk) → Type 0
+WalksIf c node e s r before after =
+    walk_tree after ≡ walks.statement_walked (context_tree c) (branch node (expr_tree e) (stmt_tree s) (else_tree r)) (walk_tree before)
 
 abbrev pub WalksWhile : Context → Node → Expr → Stmt → (before after : Walk) → Type 0
 WalksWhile c node e s before after =

@@ -1,13 +1,14 @@
 // The walk over expressions (C11 6.5).
 ghost use Rattle.std.specs.Prelude.{◌≡◌, ◌+◌, [], IfOk, OnOk, length, option_to_list, if◌then◌else◌};
 ghost use Rattle.qs_syntax.specs.TreeOf.{expr_tree, shape_tree};
+ghost use Rattle.qs_types.specs.ExpressionFaults.{used};
 ghost use Rattle.qs_types.specs.Expressions.{judged};
 ghost use Rattle.qs_types.specs.Placed.{local_node, named_local};
 ghost use Rattle.qs_types.specs.Types.{array, char, int, unsigned};
 ghost use Rattle.qs_typing.specs.ContextOf.{context_tree};
 ghost use Rattle.qs_typing.specs.EntityOf.{entity_at};
 ghost use Rattle.qs_typing.specs.ExprFindings.{given_referent, referent, shape_referent};
-ghost use Rattle.qs_typing.specs.ExprWalks.{AddsFindings, AddsType, HasType, HaveTypes, IsJudgedShape, NotesNode, NotesOperand, Settles, Walks, WalksAll, WalksParts};
+ghost use Rattle.qs_typing.specs.ExprWalks.{AddsFindings, AddsType, HasType, HaveTypes, IsJudgedAssign, IsJudgedBinary, IsJudgedComma, IsJudgedConditional, IsJudgedMember, IsJudgedShape, IsJudgedSubscript, IsJudgedUnary, NotesNode, NotesOperand, Settles, Walks, WalksAll, WalksAssigned, WalksComma, WalksObject, WalksPart, WalksParts, WalksThree, WalksTwo, WalksUnary};
 ghost use Rattle.qs_typing.specs.JudgedOf.{judged_tree};
 ghost use Rattle.qs_typing.specs.Judging.{option_judged};
 ghost use Rattle.qs_typing.specs.PartsOf.{option_type, type_by};
@@ -27,7 +28,7 @@ use crate::positions::{
 };
 use crate::types::copied;
 use qs_base::{Name, NoMemory};
-use qs_syntax::{Expr, Shape, Text, UnaryOperator};
+use qs_syntax::{Access, AssignmentOperator, BinaryOperator, Expr, Shape, Text, UnaryOperator};
 use qs_types::{CType, Rule};
 use std::alloc::Global;
 
@@ -168,6 +169,9 @@ fn text_judged(alloc: Global, text: &Text) -> Result<Judged, NoMemory>
 
 // ---- the walk
 
+/// What is judged of an expression, where each of its parts has a type.
+type Walked = Result<Option<Judged>, NoMemory>;
+
 /// Notes the rules that a node breaks, and gives its type.
 fn settle(
     node: u32,
@@ -211,14 +215,23 @@ fn walk(
     Ok(t)
 }
 
+/// Walks over an operand whose value is used.
 #[cycle(walk)]
-fn walk_parts(
+fn walk_used(
     alloc: Global,
     c: &Context,
-    shape: &Shape,
-    p: Position,
+    e: &Expr,
     found: &mut Found,
-) -> Result<Option<Judged>, NoMemory>
+) -> Result<Option<CType>, NoMemory>
+    ensures typed { IfOk result (HasType c.now e.now) }
+    ensures found { OnOk result (WalksPart c.now used e.now found.old found.new) }
+{
+    walk(alloc, c, e, Position::Used, found)
+}
+
+/// Walks over the parts of an expression, and judges it by their types.
+#[cycle(walk)]
+fn walk_parts(alloc: Global, c: &Context, shape: &Shape, p: Position, found: &mut Found) -> Walked
     ensures judged { IfOk result (IsJudgedShape c.now shape.now) }
     ensures found { OnOk result (WalksParts c.now p shape.now found.old found.new) }
 {
@@ -226,76 +239,154 @@ fn walk_parts(
         Shape::Constant(_, is_unsigned) => Ok(Some(constant_judged(alloc, *is_unsigned)?)),
         Shape::Text(text) => Ok(Some(text_judged(alloc, text)?)),
         Shape::Name(x) => judge_name(alloc, c.find(x)),
-        Shape::Unary(operator, a) => {
-            note_operand(c, *operator, a, found)?;
-            let t = walk(alloc, c, a, operand_position(*operator), found)?;
-            judge_unary(alloc, c.structs(), *operator, a, t)
-        }
-        Shape::Step(_, a) => {
-            let t = walk(alloc, c, a, Position::Used, found)?;
-            judge_step(alloc, c.structs(), a, t)
-        }
-        Shape::Cast(name, a) => {
-            let t = walk(alloc, c, a, Position::Used, found)?;
-            judge_cast(alloc, c, name, a, t)
-        }
+        Shape::Unary(operator, a) => walk_unary(alloc, c, *operator, a, found),
+        Shape::Step(_, a) => judge_step(alloc, c.structs(), a, walk_used(alloc, c, a, found)?),
+        Shape::Cast(name, a) => judge_cast(alloc, c, name, a, walk_used(alloc, c, a, found)?),
         Shape::SizeofType(name) => Ok(Some(judge_size(alloc, c, name)?)),
-        Shape::SizeofExpr(a) => {
-            let t = walk(alloc, c, a, Position::Whole, found)?;
-            judge_object(alloc, c, t)
-        }
+        Shape::SizeofExpr(a) => judge_object(alloc, c, walk(alloc, c, a, Position::Whole, found)?),
         Shape::Binary {
             operator,
             left,
             right,
-        } => {
-            let t = walk(alloc, c, left, Position::Used, found)?;
-            let u = walk(alloc, c, right, Position::Used, found)?;
-            judge_binary(alloc, c.structs(), *operator, left, t, right, u)
-        }
+        } => walk_binary(alloc, c, *operator, left, right, found),
         Shape::Assign {
             operator,
             left,
             right,
-        } => {
-            let p = assigned_position(*operator);
-            let t = walk(alloc, c, left, p, found)?;
-            let u = walk(alloc, c, right, p, found)?;
-            judge_assign(alloc, c.structs(), *operator, left, t, right, u)
-        }
+        } => walk_assign(alloc, c, *operator, left, right, found),
         Shape::Conditional {
             condition,
             then,
             otherwise,
-        } => {
-            let s = walk(alloc, c, condition, Position::Used, found)?;
-            let t = walk(alloc, c, then, Position::Used, found)?;
-            let u = walk(alloc, c, otherwise, Position::Used, found)?;
-            judge_conditional(alloc, s, then, t, otherwise, u)
-        }
-        Shape::Comma(a, b) => {
-            let t = walk(alloc, c, a, Position::Discarded, found)?;
-            let u = walk(alloc, c, b, right_position(p), found)?;
-            judge_comma(alloc, t, u)
-        }
-        Shape::Subscript(a, b) => {
-            let t = walk(alloc, c, a, Position::Used, found)?;
-            let u = walk(alloc, c, b, Position::Used, found)?;
-            judge_subscript(alloc, c.structs(), t, u)
-        }
+        } => walk_conditional(alloc, c, condition, then, otherwise, found),
+        Shape::Comma(a, b) => walk_comma(alloc, c, a, b, p, found),
+        Shape::Subscript(a, b) => walk_subscript(alloc, c, a, b, found),
         Shape::Member {
             access,
             object,
             name,
-        } => {
-            let t = walk(alloc, c, object, object_position(*access), found)?;
-            judge_member(alloc, c.structs(), *access, object, t, name)
-        }
-        Shape::Call(f, es) => {
-            let us = walk_all(alloc, c, es, found)?;
-            judge_call(alloc, c.find(f), es, us)
-        }
+        } => walk_member(alloc, c, *access, object, name, found),
+        Shape::Call(f, es) => judge_call(alloc, c.find(f), es, walk_all(alloc, c, es, found)?),
     }
+}
+
+/// A unary operator (C11 6.5.3).
+#[cycle(walk)]
+fn walk_unary(
+    alloc: Global,
+    c: &Context,
+    operator: UnaryOperator,
+    a: &Expr,
+    found: &mut Found,
+) -> Walked
+    ensures judged { IfOk result (IsJudgedUnary c.now operator a.now) }
+    ensures found { OnOk result (WalksUnary c.now operator a.now found.old found.new) }
+{
+    note_operand(c, operator, a, found)?;
+    let t = walk(alloc, c, a, operand_position(operator), found)?;
+    judge_unary(alloc, c.structs(), operator, a, t)
+}
+
+/// An operator between two operands (C11 6.5.5 to 6.5.14).
+#[cycle(walk)]
+fn walk_binary(
+    alloc: Global,
+    c: &Context,
+    operator: BinaryOperator,
+    a: &Expr,
+    b: &Expr,
+    found: &mut Found,
+) -> Walked
+    ensures judged { IfOk result (IsJudgedBinary c.now operator a.now b.now) }
+    ensures found { OnOk result (WalksTwo c.now used a.now used b.now found.old found.new) }
+{
+    let t = walk_used(alloc, c, a, found)?;
+    let u = walk_used(alloc, c, b, found)?;
+    judge_binary(alloc, c.structs(), operator, a, t, b, u)
+}
+
+/// An assignment (C11 6.5.16).
+#[cycle(walk)]
+fn walk_assign(
+    alloc: Global,
+    c: &Context,
+    operator: AssignmentOperator,
+    a: &Expr,
+    b: &Expr,
+    found: &mut Found,
+) -> Walked
+    ensures judged { IfOk result (IsJudgedAssign c.now operator a.now b.now) }
+    ensures found { OnOk result (WalksAssigned c.now operator a.now b.now found.old found.new) }
+{
+    let p = assigned_position(operator);
+    let t = walk(alloc, c, a, p, found)?;
+    let u = walk(alloc, c, b, p, found)?;
+    judge_assign(alloc, c.structs(), operator, a, t, b, u)
+}
+
+/// `d ? a : b` (C11 6.5.15)
+#[cycle(walk)]
+fn walk_conditional(
+    alloc: Global,
+    c: &Context,
+    d: &Expr,
+    a: &Expr,
+    b: &Expr,
+    found: &mut Found,
+) -> Walked
+    ensures judged { IfOk result (IsJudgedConditional c.now d.now a.now b.now) }
+    ensures found { OnOk result (WalksThree c.now d.now a.now b.now found.old found.new) }
+{
+    let s = walk_used(alloc, c, d, found)?;
+    let t = walk_used(alloc, c, a, found)?;
+    let u = walk_used(alloc, c, b, found)?;
+    judge_conditional(alloc, s, a, t, b, u)
+}
+
+/// `a, b` (C11 6.5.17), which stands at `p`.
+#[cycle(walk)]
+fn walk_comma(
+    alloc: Global,
+    c: &Context,
+    a: &Expr,
+    b: &Expr,
+    p: Position,
+    found: &mut Found,
+) -> Walked
+    ensures judged { IfOk result (IsJudgedComma c.now a.now b.now) }
+    ensures found { OnOk result (WalksComma c.now p a.now b.now found.old found.new) }
+{
+    let t = walk(alloc, c, a, Position::Discarded, found)?;
+    let u = walk(alloc, c, b, right_position(p), found)?;
+    judge_comma(alloc, t, u)
+}
+
+/// `a[b]` (C11 6.5.2.1)
+#[cycle(walk)]
+fn walk_subscript(alloc: Global, c: &Context, a: &Expr, b: &Expr, found: &mut Found) -> Walked
+    ensures judged { IfOk result (IsJudgedSubscript c.now a.now b.now) }
+    ensures found { OnOk result (WalksTwo c.now used a.now used b.now found.old found.new) }
+{
+    let t = walk_used(alloc, c, a, found)?;
+    let u = walk_used(alloc, c, b, found)?;
+    judge_subscript(alloc, c.structs(), t, u)
+}
+
+/// `a.m` or `a->m` (C11 6.5.2.3)
+#[cycle(walk)]
+fn walk_member(
+    alloc: Global,
+    c: &Context,
+    access: Access,
+    a: &Expr,
+    name: &Name,
+    found: &mut Found,
+) -> Walked
+    ensures judged { IfOk result (IsJudgedMember c.now access a.now name.now) }
+    ensures found { OnOk result (WalksObject c.now access a.now found.old found.new) }
+{
+    let t = walk(alloc, c, a, object_position(access), found)?;
+    judge_member(alloc, c.structs(), access, a, t, name)
 }
 
 /// The types of arguments, if each has one.

@@ -2,7 +2,7 @@
 ghost use Rattle.std.specs.Prelude.{◌≡◌, ◌++◌, OnOk};
 ghost use Rattle.qs_syntax.specs.TreeOf.{expr_tree, exprs_tree};
 ghost use Rattle.qs_types.specs.References.{expr_calls, exprs_calls};
-ghost use Rattle.qs_typing.specs.Noting.{AddsAllTexts, AddsCalls, AddsShapeTexts, AddsText, AddsTexts, NotesSite};
+ghost use Rattle.qs_typing.specs.Noting.{AddsAllTexts, AddsBothCalls, AddsBothTexts, AddsCalls, AddsShapeTexts, AddsText, AddsTexts, NotesSite};
 
 use crate::noted::{Noted, TextBlock};
 use qs_base::{Name, NoMemory};
@@ -31,37 +31,33 @@ fn note_shape_calls(alloc: Global, shape: &Shape, calls: &mut Vec<Name>) -> Resu
         Shape::Cast(_, a) => note_calls(alloc, a, calls),
         Shape::SizeofType(_) => Ok(()),
         Shape::SizeofExpr(a) => note_calls(alloc, a, calls),
-        Shape::Binary { left, right, .. } => {
-            note_calls(alloc, left, calls)?;
-            note_calls(alloc, right, calls)
-        }
-        Shape::Assign { left, right, .. } => {
-            note_calls(alloc, left, calls)?;
-            note_calls(alloc, right, calls)
-        }
+        Shape::Binary { left, right, .. } => note_both_calls(alloc, left, right, calls),
+        Shape::Assign { left, right, .. } => note_both_calls(alloc, left, right, calls),
         Shape::Conditional {
             condition,
             then,
             otherwise,
         } => {
             note_calls(alloc, condition, calls)?;
-            note_calls(alloc, then, calls)?;
-            note_calls(alloc, otherwise, calls)
+            note_both_calls(alloc, then, otherwise, calls)
         }
-        Shape::Comma(a, b) => {
-            note_calls(alloc, a, calls)?;
-            note_calls(alloc, b, calls)
-        }
-        Shape::Subscript(a, b) => {
-            note_calls(alloc, a, calls)?;
-            note_calls(alloc, b, calls)
-        }
+        Shape::Comma(a, b) => note_both_calls(alloc, a, b, calls),
+        Shape::Subscript(a, b) => note_both_calls(alloc, a, b, calls),
         Shape::Member { object, .. } => note_calls(alloc, object, calls),
         Shape::Call(f, es) => {
             calls.push(f.copy(alloc)?)?;
             note_all_calls(alloc, es, calls)
         }
     }
+}
+
+/// Notes the calls of two operands that stand side by side.
+#[cycle(note_calls)]
+fn note_both_calls(alloc: Global, a: &Expr, b: &Expr, calls: &mut Vec<Name>) -> Result<(), NoMemory>
+    ensures { OnOk result (AddsBothCalls a.now b.now calls.old.items calls.new.items) }
+{
+    note_calls(alloc, a, calls)?;
+    note_calls(alloc, b, calls)
 }
 
 #[cycle(note_calls)]
@@ -114,34 +110,35 @@ fn note_shape_texts(
         Shape::Cast(_, a) => note_texts(alloc, a, texts),
         Shape::SizeofType(_) => Ok(()),
         Shape::SizeofExpr(a) => note_texts(alloc, a, texts),
-        Shape::Binary { left, right, .. } => {
-            note_texts(alloc, left, texts)?;
-            note_texts(alloc, right, texts)
-        }
-        Shape::Assign { left, right, .. } => {
-            note_texts(alloc, left, texts)?;
-            note_texts(alloc, right, texts)
-        }
+        Shape::Binary { left, right, .. } => note_both_texts(alloc, left, right, texts),
+        Shape::Assign { left, right, .. } => note_both_texts(alloc, left, right, texts),
         Shape::Conditional {
             condition,
             then,
             otherwise,
         } => {
             note_texts(alloc, condition, texts)?;
-            note_texts(alloc, then, texts)?;
-            note_texts(alloc, otherwise, texts)
+            note_both_texts(alloc, then, otherwise, texts)
         }
-        Shape::Comma(a, b) => {
-            note_texts(alloc, a, texts)?;
-            note_texts(alloc, b, texts)
-        }
-        Shape::Subscript(a, b) => {
-            note_texts(alloc, a, texts)?;
-            note_texts(alloc, b, texts)
-        }
+        Shape::Comma(a, b) => note_both_texts(alloc, a, b, texts),
+        Shape::Subscript(a, b) => note_both_texts(alloc, a, b, texts),
         Shape::Member { object, .. } => note_texts(alloc, object, texts),
         Shape::Call(_, es) => note_all_texts(alloc, es, texts),
     }
+}
+
+/// Notes the texts of two operands that stand side by side.
+#[cycle(note_texts)]
+fn note_both_texts(
+    alloc: Global,
+    a: &Expr,
+    b: &Expr,
+    texts: &mut Vec<TextBlock>,
+) -> Result<(), NoMemory>
+    ensures { OnOk result (AddsBothTexts a.now b.now texts.old.items texts.new.items) }
+{
+    note_texts(alloc, a, texts)?;
+    note_texts(alloc, b, texts)
 }
 
 #[cycle(note_texts)]

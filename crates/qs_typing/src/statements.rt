@@ -11,7 +11,7 @@ ghost use Rattle.qs_typing.specs.ContextOf.{context_tree};
 ghost use Rattle.qs_typing.specs.JudgedOf.{test_tree};
 ghost use Rattle.qs_typing.specs.PositionOf.{position_tree};
 ghost use Rattle.qs_typing.specs.Statements.{after_statements, head_tests_by, head_walked, return_tests_by, typed_by};
-ghost use Rattle.qs_typing.specs.StatementWalks.{WalksDiscarded, WalksDo, WalksFor, WalksWhile, IsConditionTest, IsHeadTest, IsOptionType, IsReturnTest, IsReturned, IsStartTyped, JudgesJump, JudgesOne, KnowsStart, KnowsStatement, KnowsStatements, WalksBlock, WalksBody, WalksCondition, WalksElse, WalksHead, WalksOption, WalksPart, WalksReturn, WalksStart, WalksStatement, WalksStatements};
+ghost use Rattle.qs_typing.specs.StatementWalks.{WalksDiscarded, WalksDo, WalksFor, WalksIf, WalksWhile, IsConditionTest, IsHeadTest, IsOptionType, IsReturnTest, IsReturned, IsStartTyped, JudgesJump, JudgesOne, KnowsStart, KnowsStatement, KnowsStatements, WalksBlock, WalksBody, WalksCondition, WalksElse, WalksHead, WalksOption, WalksPart, WalksReturn, WalksStart, WalksStatement, WalksStatements};
 ghost use Rattle.qs_typing.specs.UnitWalk as walks;
 ghost use Rattle.qs_typing.specs.WalkOf.{walk_tree};
 
@@ -209,12 +209,7 @@ fn walk_head(
 
 /// Walks over a statement; a declaration is known behind it.
 #[cycle(stmt)]
-pub fn walk_statement(
-    alloc: Global,
-    c: &mut Context,
-    s: &Stmt,
-    walk: &mut Walk,
-) -> Result<(), NoMemory>
+fn walk_statement(alloc: Global, c: &mut Context, s: &Stmt, walk: &mut Walk) -> Result<(), NoMemory>
     ensures context { OnOk result (KnowsStatement s.now c.old c.new) }
     ensures walked { OnOk result (WalksStatement c.old s.now walk.old walk.new) }
 {
@@ -228,12 +223,7 @@ pub fn walk_statement(
             condition,
             then,
             otherwise,
-        } => {
-            walk.open()?;
-            walk_condition(alloc, c, *node, condition, walk)?;
-            walk_part(alloc, c, then, walk)?;
-            walk_else(alloc, c, otherwise, walk)
-        }
+        } => walk_if(alloc, c, *node, condition, then, otherwise, walk),
         Stmt::While {
             node,
             condition,
@@ -255,6 +245,26 @@ pub fn walk_statement(
         Stmt::Continue(node) => judge_jump(c, *node, walk),
         Stmt::Return(node, e) => walk_return(alloc, c, *node, e, walk),
     }
+}
+
+/// Walks over an `if` (C11 6.8.4.1).
+#[cycle(stmt)]
+fn walk_if(
+    alloc: Global,
+    c: &mut Context,
+    node: Node,
+    e: &Expr,
+    s: &Stmt,
+    otherwise: &Option<Box<Stmt>>,
+    walk: &mut Walk,
+) -> Result<(), NoMemory>
+    ensures context { OnOk result (context_tree c.new ≡ context_tree c.old) }
+    ensures walked { OnOk result (WalksIf c.old node e.now s.now otherwise.now walk.old walk.new) }
+{
+    walk.open()?;
+    walk_condition(alloc, c, node, e, walk)?;
+    walk_part(alloc, c, s, walk)?;
+    walk_else(alloc, c, otherwise, walk)
 }
 
 /// Walks over a `while` (C11 6.8.5.1).

@@ -1,7 +1,7 @@
 use Rattle.std.proofs.Common.{◌≡◌, ◌<◌, IfOk, length, option_map, sym, ap, ◌∙◌, subst}
 use Rattle.qs_syntax.specs.TreeOf.{expr_tree, shape_tree}
 use Rattle.qs_types.specs.Conversions.{decayed}
-use Rattle.qs_types.specs.Expressions.{type_of, shape_judged, conditional_judged, subscript_judged}
+use Rattle.qs_types.specs.Expressions.{conditional_judged, subscript_judged}
 use Rattle.qs_types.specs.TypeOf.{type_tree}
 use Rattle.qs_typing.specs.ContextOf.{context_tree}
 use Rattle.qs_typing.specs.FoundOf.{found_tree}
@@ -9,7 +9,7 @@ use Rattle.qs_typing.specs.JudgedOf.{judged_tree}
 use Rattle.qs_typing.specs.PartsOf.{with_types, with_three}
 use Rattle.qs_typing.specs.PositionOf.{position_tree}
 use Rattle.qs_typing.specs.Walk.{walked, parts_walked}
-use Rattle.qs_typing.proofs.TreeLaws.{expr_of, subscript_of, conditional_of}
+use Rattle.qs_typing.proofs.TreeLaws.{expr_of}
 use Rattle.qs_typing.proofs.Walks.{has_place, node_walked}
 use Rattle.qs_typing.proofs.expressions.+walk.Goals as goal
 
@@ -30,31 +30,15 @@ walk-returns-clause-found t c =
     c.settle-t.ensures.found (c.in_ok-kept.ensures ∙ c.settle-t.ensures.typed) c.fill.ensures
     ∙ ap (λ e. walked (context_tree c.args.c.now) (position_tree c.args.p) e (found_tree c.args.found.now)) (sym (expr_of c.args.e.now))
 
-pub walk_parts-returns-in_ok-u-in-Conditional-clause-judged : goal.walk_parts-returns-in_ok-u-in-Conditional-clause-judged
-walk_parts-returns-in_ok-u-in-Conditional-clause-judged t c =
-    let context = context_tree c.args.c.now in
-    let first : option_map type_tree c.in_ok-s-in-Conditional.s ≡ type_of context (expr_tree c.in-Conditional.condition.value) =
-    c.in_ok-s-in-Conditional.ensures.typed ∙ ap (λ e. type_of context (expr_tree e)) c.deref-in-Conditional.ensures in
-    let left : option_map type_tree c.in_ok-t-in-Conditional.t ≡ type_of context (expr_tree c.in-Conditional.then.value) =
-    c.in_ok-t-in-Conditional.ensures.typed ∙ ap (λ e. type_of context (expr_tree e)) c.deref-in-Conditional-2.ensures in
-    let right : option_map type_tree c.in_ok-u-in-Conditional.u ≡ type_of context (expr_tree c.in-Conditional.otherwise.value) =
-    c.in_ok-u-in-Conditional.ensures.typed ∙ ap (λ e. type_of context (expr_tree e)) c.deref-in-Conditional-3.ensures in
+pub walk_conditional-returns-clause-judged : goal.walk_conditional-returns-clause-judged
+walk_conditional-returns-clause-judged t c =
     subst (λ o. IfOk c.judge_conditional.result (λ j. option_map judged_tree j ≡ o))
-    ((λ i. with_three (first i) (left i) (right i)
-    (λ s t u. conditional_judged (decayed s) (expr_tree (c.deref-in-Conditional-4.ensures i)) (decayed t) (expr_tree (c.deref-in-Conditional-5.ensures i)) (decayed u)))
-    ∙ ap (shape_judged context) (sym (conditional_of c.in-Conditional.condition c.in-Conditional.then c.in-Conditional.otherwise))
-    ∙ ap (λ s. shape_judged context (shape_tree s)) (sym c.in-Conditional.is))
+    (λ i. with_three (c.in_ok-s.ensures.typed i) (c.in_ok-t.ensures.typed i) (c.in_ok-u.ensures.typed i)
+    (λ s t u. conditional_judged (decayed s) (expr_tree c.args.a.now) (decayed t) (expr_tree c.args.b.now) (decayed u)))
     c.judge_conditional.ensures
 
-pub walk_parts-returns-in_ok-u-in-Subscript-clause-judged : goal.walk_parts-returns-in_ok-u-in-Subscript-clause-judged
-walk_parts-returns-in_ok-u-in-Subscript-clause-judged t c =
-    let context = context_tree c.args.c.now in
-    let left : option_map type_tree c.in_ok-t-in-Subscript.t ≡ type_of context (expr_tree c.in-Subscript.a.value) =
-    c.in_ok-t-in-Subscript.ensures.typed ∙ ap (λ e. type_of context (expr_tree e)) c.deref-in-Subscript.ensures in
-    let right : option_map type_tree c.in_ok-u-in-Subscript.u ≡ type_of context (expr_tree c.in-Subscript.b.value) =
-    c.in_ok-u-in-Subscript.ensures.typed ∙ ap (λ e. type_of context (expr_tree e)) c.deref-in-Subscript-2.ensures in
+pub walk_subscript-returns-clause-judged : goal.walk_subscript-returns-clause-judged
+walk_subscript-returns-clause-judged t c =
     subst (λ o. IfOk c.judge_subscript.result (λ j. option_map judged_tree j ≡ o))
-    ((λ i. with_types (left i) (right i) (λ t u. subscript_judged (c.structs-in-Subscript.ensures i) (decayed t) (decayed u)))
-    ∙ ap (shape_judged context) (sym (subscript_of c.in-Subscript.a c.in-Subscript.b))
-    ∙ ap (λ s. shape_judged context (shape_tree s)) (sym c.in-Subscript.is))
+    (λ i. with_types (c.in_ok-t.ensures.typed i) (c.in_ok-u.ensures.typed i) (λ t u. subscript_judged (c.structs.ensures i) (decayed t) (decayed u)))
     c.judge_subscript.ensures

@@ -1,46 +1,15 @@
--- What names stand for, and which texts are blocks.
-use Rattle.std.proofs.Common.{◌≡◌, ℕ, false, List, [], ◌∷◌, Some, None, refl}
+-- Which texts are blocks.
+use Rattle.std.proofs.Common.{◌≡◌, ℕ, false, List, [], ◌∷◌, refl}
 use Rattle.qs_syntax.specs.declared.operators.BinaryOperator.TheVariants as binaries
 use Rattle.qs_syntax.specs.declared.types.Base.TheVariants as bases
-use Rattle.qs_syntax.specs.Trees.{ExprTree, unnumbered, stmts_of, structure, initialisers_of}
+use Rattle.qs_syntax.specs.Trees.{ExprTree, unnumbered, structure}
 use Rattle.qs_syntax.specs.Trees as trees
 use Rattle.qs_syntax.specs.Numbering.{numbered_unit}
-use Rattle.qs_types.specs.Types.{int, char, void}
-use Rattle.qs_types.specs.Contexts.{local_variable, file_variable, function, given}
-use Rattle.qs_types.specs.GivenFunctions.{putchar_name, putchar_type}
-use Rattle.qs_types.specs.References.{references, TextBlock, literal_blocks}
-use Rattle.qs_types.proofs.RuleTrees.{e, number, a, call_f, one, many, declarator, global, local, listed, valued, s_base, parameter, header, body, g, eval, f_name}
+use Rattle.qs_types.specs.References.{TextBlock, literal_blocks}
+use Rattle.qs_types.proofs.RuleTrees.{e, number, one, many, declarator, global, local, listed, valued, s_base, g, eval}
 
 abbrev text : List ℕ → ExprTree
 text bytes = e (trees.text bytes)
-
--- int a;void g(void){a;}
-file_name : references (numbered_unit (global bases.Int 0 97 one None ∷ g (eval a ∷ []) ∷ [])) ≡ record { node = 3; entity = file_variable 0 (Some int) } ∷ []
-file_name = refl
-
--- int a;void g(void){char a;a;}
-hidden_name : references (numbered_unit (global bases.Int 0 97 one None ∷ g (local bases.Char 0 97 one None ∷ eval a ∷ []) ∷ [])) ≡ record { node = 4; entity = local_variable 2 (Some char) } ∷ []
-hidden_name = refl
-
--- void g(void){int a;{char a;a;}a;}
-inner_name : references (numbered_unit (g (local bases.Int 0 97 one None ∷ trees.block (stmts_of (local bases.Char 0 97 one None ∷ eval a ∷ [])) ∷ eval a ∷ []) ∷ []))
-    ≡ record { node = 4; entity = local_variable 2 (Some char) } ∷ record { node = 6; entity = local_variable 1 (Some int) } ∷ []
-inner_name = refl
-
--- void f(int a){a;}
-parameter_name : references (numbered_unit (body bases.Void f_name (parameter bases.Int 0 (Some (97 ∷ [])) ∷ []) (eval a ∷ []) ∷ [])) ≡ record { node = 3; entity = local_variable 1 (Some int) } ∷ []
-parameter_name = refl
-
--- void f(int);void g(void){f(1);}
-called_name : references (numbered_unit (header bases.Void f_name (parameter bases.Int 0 None ∷ []) ∷ g (eval (call_f (number 1 ∷ [])) ∷ []) ∷ []))
-    ≡ record { node = 4; entity = function 0 (Some (record { parameters = int ∷ []; result = void })) false } ∷ []
-called_name = refl
-
--- void g(void){putchar(1);}
-given_name : references (numbered_unit (g (eval (e (trees.call putchar_name (trees.exprs_of (number 1 ∷ [])))) ∷ []) ∷ [])) ≡ record { node = 2; entity = given putchar_type } ∷ []
-given_name = refl
-
--- ---- texts
 
 abbrev at : ℕ → List ℕ → TextBlock
 at node bytes = record { node = node; bytes = bytes }

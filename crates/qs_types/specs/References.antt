@@ -1,49 +1,8 @@
--- What the names in a unit stand for, which functions are called, and which texts are blocks of memory, in the order of the text.
-use Rattle.std.specs.Prelude.{ℕ, List, [], ◌∷◌, ◌++◌, Option, Some, None, flat_map, if◌then◌else◌}
+-- Which functions a unit calls, and which of its texts are blocks of memory, in the order of the text.
+use Rattle.std.specs.Prelude.{ℕ, List, [], ◌∷◌, ◌++◌, flat_map, if◌then◌else◌}
 use Rattle.qs_syntax.specs.Trees.{ExprTree, expr, ShapeTree, Exprs, no_exprs, expr_and, UnitTree}
 use Rattle.qs_syntax.specs.Trees as trees
-use Rattle.qs_types.specs.Contexts.{Entity, Context, entity_of}
 use Rattle.qs_types.specs.Sites.{Site, unit_sites}
-
--- ---- names
-
--- a name or a call, by the number of its node, and the declaration that its name stands for
-pub record Reference : Type 0 where
-  pub node : ℕ
-  pub entity : Entity
-
-abbrev pub reference : ℕ → Option Entity → List Reference
-reference n None = []
-reference n (Some entity) = record { node = n; entity = entity } ∷ []
-
-abbrev mutual
-  pub expr_references : Context → ExprTree → List Reference
-  expr_references c (expr node shape) = shape_references c node.id shape
-
-  pub shape_references : Context → (node : ℕ) → ShapeTree → List Reference
-  shape_references c node (trees.constant n u) = []
-  shape_references c node (trees.text bytes) = []
-  shape_references c node (trees.name x) = reference node (entity_of c x)
-  shape_references c node (trees.unary operator a) = expr_references c a
-  shape_references c node (trees.step operator a) = expr_references c a
-  shape_references c node (trees.cast n a) = expr_references c a
-  shape_references c node (trees.sizeof_type n) = []
-  shape_references c node (trees.sizeof_expr a) = expr_references c a
-  shape_references c node (trees.binary operator a b) = expr_references c a ++ expr_references c b
-  shape_references c node (trees.assign operator a b) = expr_references c a ++ expr_references c b
-  shape_references c node (trees.conditional d a b) = expr_references c d ++ (expr_references c a ++ expr_references c b)
-  shape_references c node (trees.comma a b) = expr_references c a ++ expr_references c b
-  shape_references c node (trees.subscript a b) = expr_references c a ++ expr_references c b
-  shape_references c node (trees.member access a x) = expr_references c a
-  shape_references c node (trees.call f es) = reference node (entity_of c f) ++ exprs_references c es
-
-  pub exprs_references : Context → Exprs → List Reference
-  exprs_references c no_exprs = []
-  exprs_references c (expr_and e es) = expr_references c e ++ exprs_references c es
-
--- the names of a unit that are used and called, with what they stand for
-abbrev pub references : UnitTree → List Reference
-references unit = flat_map (λ s. expr_references s.context s.expression) (unit_sites unit)
 
 -- ---- calls, below `sizeof` too
 

@@ -22,5 +22,8 @@ pub mod Causes
 pub mod Checked
 pub mod Naming
 pub mod Numbers
+pub mod LatestHeaders
 pub mod TypedLaws
+mod ExampleTrees
 pub mod RefusalExamples
+pub mod NodeExamples

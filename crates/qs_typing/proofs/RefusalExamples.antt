@@ -1,8 +1,7 @@
 -- The first cause to refuse a unit.
-use Rattle.std.proofs.Common.{◌≡◌, ℕ, false, List, [], ◌∷◌, Option, Some, None, refl}
+use Rattle.std.proofs.Common.{◌≡◌, List, [], ◌∷◌, Option, Some, None, refl}
 use Rattle.qs_report.specs.declared.fault_texts.LimitKind.TheVariants as kinds
 use Rattle.qs_syntax.specs.declared.operators.BinaryOperator.TheVariants as binaries
-use Rattle.qs_syntax.specs.declared.types.Base.{Base}
 use Rattle.qs_syntax.specs.declared.types.Base.TheVariants as bases
 use Rattle.qs_syntax.specs.Numbering.{numbered_unit}
 use Rattle.qs_syntax.specs.Trees.{unnumbered, ExprTree, expr, ShapeTree, LengthsTree, StmtTree, DeclTree, UnitTree}
@@ -12,55 +11,13 @@ use Rattle.qs_types.specs.GivenFunctions.{main_name}
 use Rattle.qs_typing.specs.declared.refusals.TypeFault.{TypeFault}
 use Rattle.qs_typing.specs.declared.refusals.TypeFault.TheVariants as faults
 use Rattle.qs_typing.specs.Refusals.{first_refusal}
+use Rattle.qs_typing.proofs.ExampleTrees.{e, number, a, b, one, many, global, local, f_name, header, body, call_f}
 
 -- ---- words for the trees
-
-abbrev e : ShapeTree → ExprTree
-e shape = expr (unnumbered 0) shape
-
-abbrev number : ℕ → ExprTree
-number n = e (trees.constant n false)
-
-abbrev a : ExprTree
-a = e (trees.name (97 ∷ []))
-
-abbrev b : ExprTree
-b = e (trees.name (98 ∷ []))
-
-abbrev one : LengthsTree
-one = record { is_open = false; given = [] }
-
-abbrev many : ℕ → LengthsTree
-many n = record { is_open = false; given = number n ∷ [] }
-
-abbrev declared : Base → ℕ → LengthsTree → trees.DeclarationTree
-declared base name lengths = record {
-  base = base;
-  variables = record { declarator = record { node = unnumbered 0; stars = 0; name = name ∷ []; lengths = lengths }; initialiser = None } ∷ [];
-}
-
-abbrev global : Base → ℕ → LengthsTree → DeclTree
-global base name lengths = trees.variables (declared base name lengths)
-
-abbrev local : Base → ℕ → LengthsTree → StmtTree
-local base name lengths = trees.declaration (declared base name lengths)
 
 -- an `int` without a name
 abbrev parameter : trees.ParameterTree
 parameter = record { node = unnumbered 0; type_name = record { base = bases.Int; stars = 0 }; name = None; lengths = one }
-
-abbrev f_name : List ℕ
-f_name = 102 ∷ []
-
-abbrev header : Base → List ℕ → List trees.ParameterTree → DeclTree
-header base name ps = trees.function (record { node = unnumbered 0; result_type = record { base = base; stars = 0 }; name = name; parameters = ps; body = None })
-
-abbrev body : Base → List ℕ → List StmtTree → DeclTree
-body base name ss = trees.function (record { node = unnumbered 0; result_type = record { base = base; stars = 0 }; name = name; parameters = []; body = Some (trees.stmts_of ss) })
-
--- f();
-abbrev call_f : StmtTree
-call_f = trees.expression (unnumbered 0) (e (trees.call f_name trees.no_exprs))
 
 abbrev refusal : UnitTree → Option TypeFault
 refusal unit = first_refusal (numbered_unit unit)

@@ -41,4 +41,5 @@ pub mod TypedOf
 pub mod UnitNodes
 pub mod NodeReferents
 pub mod ByNumber
+pub mod LatestHeaders
 pub mod TypeSets

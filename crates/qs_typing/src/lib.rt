@@ -10,6 +10,7 @@ mod found;
 mod functions;
 mod initialisers;
 mod judged;
+mod laws;
 mod lengths;
 mod members;
 mod members_before;
@@ -33,6 +34,10 @@ pub use context::{Context, is_void_base};
 pub use entity::{Entity, Referent, Signature};
 pub use expressions::walk_expression;
 pub use found::{Fault, Found};
+pub use laws::{
+    functions_are_latest, functions_are_latest_in_bodies, given_functions_keep_types,
+    given_functions_keep_types_in_bodies,
+};
 pub use noted::{Block, Local, Noted, TextBlock};
 pub use positions::Position;
 pub use refusals::{TypeFault, check};

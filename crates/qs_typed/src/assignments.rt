@@ -10,11 +10,11 @@ ghost use Rattle.qs_typed.specs.TreeOf.{expression_tree, lvalue_tree};
 use crate::expressions::{Assignment, Expression, Lvalue};
 use crate::forms::{Form, Step, Typed, type_in_use, value_in_use};
 use crate::operations::{Operated, operation_of};
-use crate::types::{between, conversion, extent_in, is_struct, scalar_of};
+use crate::types::{between, conversion, extent_in, scalar_of};
 use qs_base::NoMemory;
 use qs_memory::Scalar;
 use qs_syntax::{AssignmentOperator, BinaryOperator, StepOperator};
-use qs_types::{CType, Env};
+use qs_types::{CType, Env, is_struct};
 use std::alloc::Global;
 
 /// The value is converted to the type of the lvalue (C11 6.5.16.1p2).

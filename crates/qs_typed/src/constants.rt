@@ -20,11 +20,11 @@ use crate::initialisers::text_of;
 use crate::known::referent_in;
 use crate::places::{Statics, file_variable_object, text_object};
 use crate::tables::Tables;
-use crate::types::{is_pointer, scalar_of};
+use crate::types::scalar_of;
 use qs_base::NoMemory;
 use qs_memory::Scalar;
 use qs_syntax::{Expr, Shape, UnaryOperator};
-use qs_types::{CType, is_null_constant};
+use qs_types::{CType, is_null_constant, is_pointer};
 use qs_typing::Referent;
 use std::alloc::Global;
 

@@ -17,12 +17,12 @@ use crate::known::{Known, type_in};
 use crate::locals::parameters;
 use crate::places::Locals;
 use crate::program::TypedFunction;
-use crate::types::{is_scalar, scalar_of, size_in};
+use crate::types::{scalar_of, size_in};
 use indexmap::IndexSet;
 use qs_base::{Name, NoMemory};
 use qs_memory::Scalar;
 use qs_syntax::{Base, Function, Stmt, TypeName};
-use qs_types::{CType, Env};
+use qs_types::{CType, Env, is_scalar};
 use std::alloc::Global;
 
 // ---- places

@@ -20,10 +20,9 @@ use crate::known::Known;
 use crate::pieces::{Piece, pieces};
 use crate::places::local_lvalue;
 use crate::typed::typed;
-use crate::types::is_array;
 use qs_base::NoMemory;
 use qs_syntax::{Expr, Initialiser, Shape, Text, Variable};
-use qs_types::CType;
+use qs_types::{CType, is_array};
 use std::alloc::Global;
 
 /// The text that an expression is.

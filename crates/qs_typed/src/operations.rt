@@ -6,14 +6,11 @@ ghost use Rattle.qs_types.specs.TypeOf.{type_tree};
 ghost use Rattle.qs_typed.specs.Parts.{in_scalars, operated_tree};
 
 use crate::expressions::{Conversion, Order};
-use crate::types::{
-    arithmetic, common, conversion, is_pointer, promoted, referenced, scalar_of, signedness,
-    size_in,
-};
+use crate::types::{common, conversion, referenced, scalar_of, signedness, size_in};
 use qs_base::NoMemory;
 use qs_memory::{Arithmetic, BinaryOperation, Comparison, Direction, Scalar};
 use qs_syntax::BinaryOperator;
-use qs_types::{CType, Env};
+use qs_types::{CType, Env, arithmetic, is_pointer, promoted};
 
 /// The operation, what its operands are converted to before it, the scalar type of its result, and the
 /// order in which it takes its operands.

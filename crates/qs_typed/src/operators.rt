@@ -13,13 +13,11 @@ ghost use Rattle.qs_typed.specs.TreeOf.{expression_tree};
 use crate::expressions::{Expression, Lvalue};
 use crate::forms::{Form, Typed, effect_in_use, type_in_use, value_in_use};
 use crate::operations::{Operated, operation_of};
-use crate::types::{
-    arithmetic, common, conversion, is_pointer, promoted, scalar_of, signedness, size_in,
-};
+use crate::types::{common, conversion, scalar_of, signedness, size_in};
 use qs_base::NoMemory;
 use qs_memory::{Scalar, UnaryOperation};
 use qs_syntax::{BinaryOperator, UnaryOperator};
-use qs_types::{CType, Env};
+use qs_types::{CType, Env, arithmetic, is_pointer, promoted};
 use std::alloc::Global;
 
 /// The object at this address.

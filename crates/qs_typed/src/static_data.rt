@@ -18,10 +18,9 @@ use crate::data::{Datum, StaticBlock};
 use crate::known::type_in;
 use crate::pieces::{Piece, pieces};
 use crate::tables::Tables;
-use crate::types::is_array;
 use qs_base::NoMemory;
 use qs_syntax::{Decl, Initialiser, Variable};
-use qs_types::CType;
+use qs_types::{CType, is_array};
 use std::alloc::Global;
 
 fn piece_cells(alloc: Global, t: &Tables<'_>, p: Piece<'_>) -> Result<Vec<Cell>, NoMemory>

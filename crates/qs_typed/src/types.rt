@@ -2,18 +2,18 @@
 ghost use Rattle.std.specs.Prelude.{◌≡◌, IfOk, Some};
 ghost use Rattle.qs_meaning.specs.Conversions.{conversion, same_scalar, scalar_of};
 ghost use Rattle.qs_meaning.specs.Operations.{signedness};
-ghost use Rattle.qs_types.specs.Conversions.{arithmetic, common, decayed, promoted};
+ghost use Rattle.qs_types.specs.Conversions.{arithmetic, common, decayed};
 ghost use Rattle.qs_types.specs.EnvOf.{env_tree};
 ghost use Rattle.qs_types.specs.Layout.{extent_of, size_of};
 ghost use Rattle.qs_types.specs.TypeOf.{type_tree};
-ghost use Rattle.qs_types.specs.Types.{is_array, is_pointer, is_scalar, is_struct, referenced, same_type, unsigned};
+ghost use Rattle.qs_types.specs.Types.{referenced};
 ghost use Rattle.qs_typed.specs.TreeOf.{conversion_tree};
 ghost use Rattle.qs_typed.specs.Parts.{between};
 
 use crate::expressions::Conversion;
 use qs_base::NoMemory;
 use qs_memory::{Scalar, Signedness};
-use qs_types::{CType, Env, Extent, extent_of};
+use qs_types::{CType, Env, Extent, extent_of, is_pointer, is_unsigned};
 use std::alloc::Global;
 
 /// The scalar type of a value: that of an array or of a struct is a pointer to it (C11 6.3.2.1p3).
@@ -28,81 +28,6 @@ pub fn scalar_of(t: &CType) -> Scalar
         CType::Pointer(_) => Scalar::Pointer,
         CType::Array(_, _) => Scalar::Pointer,
         CType::Struct(_) => Scalar::Pointer,
-    }
-}
-
-/// Whether it is a pointer type (C11 6.2.5p20).
-pub fn is_pointer(t: &CType) -> bool
-    ensures { result ≡ is_pointer (type_tree t.now) }
-{
-    match t {
-        CType::Int => false,
-        CType::Unsigned => false,
-        CType::Char => false,
-        CType::Void => false,
-        CType::Pointer(_) => true,
-        CType::Array(_, _) => false,
-        CType::Struct(_) => false,
-    }
-}
-
-/// Whether it is an array type (C11 6.2.5p20).
-pub fn is_array(t: &CType) -> bool
-    ensures { result ≡ is_array (type_tree t.now) }
-{
-    match t {
-        CType::Int => false,
-        CType::Unsigned => false,
-        CType::Char => false,
-        CType::Void => false,
-        CType::Pointer(_) => false,
-        CType::Array(_, _) => true,
-        CType::Struct(_) => false,
-    }
-}
-
-/// Whether it is a struct (C11 6.2.5p20).
-pub fn is_struct(t: &CType) -> bool
-    ensures { result ≡ is_struct (type_tree t.now) }
-{
-    match t {
-        CType::Int => false,
-        CType::Unsigned => false,
-        CType::Char => false,
-        CType::Void => false,
-        CType::Pointer(_) => false,
-        CType::Array(_, _) => false,
-        CType::Struct(_) => true,
-    }
-}
-
-/// Whether it is an integer or a pointer (C11 6.2.5p21).
-pub fn is_scalar(t: &CType) -> bool
-    ensures { result ≡ is_scalar (type_tree t.now) }
-{
-    match t {
-        CType::Int => true,
-        CType::Unsigned => true,
-        CType::Char => true,
-        CType::Void => false,
-        CType::Pointer(_) => true,
-        CType::Array(_, _) => false,
-        CType::Struct(_) => false,
-    }
-}
-
-/// Whether it is `unsigned`.
-pub fn is_unsigned(t: &CType) -> bool
-    ensures { result ≡ same_type (type_tree t.now) unsigned }
-{
-    match t {
-        CType::Int => false,
-        CType::Unsigned => true,
-        CType::Char => false,
-        CType::Void => false,
-        CType::Pointer(_) => false,
-        CType::Array(_, _) => false,
-        CType::Struct(_) => false,
     }
 }
 
@@ -139,28 +64,6 @@ pub fn decayed(alloc: Global, t: &CType) -> Result<CType, NoMemory>
             Ok(CType::Pointer(Box::new(alloc, to)?))
         }
         CType::Struct(k) => Ok(CType::Struct(*k)),
-    }
-}
-
-/// The type after the integer promotions (C11 6.3.1.1p2).
-pub fn promoted(t: &CType) -> CType
-    ensures { type_tree result ≡ promoted (type_tree t.now) }
-{
-    if is_unsigned(t) {
-        CType::Unsigned
-    } else {
-        CType::Int
-    }
-}
-
-/// The type after the usual arithmetic conversions (C11 6.3.1.8).
-pub fn arithmetic(t: &CType, u: &CType) -> CType
-    ensures { type_tree result ≡ arithmetic (type_tree t.now) (type_tree u.now) }
-{
-    if is_unsigned(t) || is_unsigned(u) {
-        CType::Unsigned
-    } else {
-        CType::Int
     }
 }
 

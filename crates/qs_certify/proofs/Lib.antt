@@ -13,3 +13,4 @@ pub mod WritableLaws
 pub mod LongestLaws
 pub mod SameVerdicts
 pub mod SameFillings
+pub mod RightLaws

@@ -163,3 +163,9 @@ abbrev pub AddedIsWritable : Type 0
 AddedIsWritable =
     (u : CoreUnitTree) (given proofs : ProofsTree) → unit_fits u ≡ true → length u.functions < 2 ^ 63
     → unit_nesting u ≤ nesting_limit → IsCertified u None given proofs → IsWritable u proofs
+
+-- And what is so written is right as a file: nothing is to be added to it, and each entry of it is derived.
+abbrev pub AddedIsRight : Type 0
+AddedIsRight =
+    (u : CoreUnitTree) (given proofs : ProofsTree) → unit_fits u ≡ true → IsCertified u None given proofs
+    → AreRightProofs u proofs

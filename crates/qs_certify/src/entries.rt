@@ -1,5 +1,6 @@
 // The entries of a file, one after another.
 ghost use Rattle.std.specs.Prelude.{◌≡◌, ◌∷◌, [], IfOk, map};
+ghost use Rattle.qs_assert.specs.Order.{IsInOrder};
 ghost use Rattle.qs_core.specs.UnitTrees.{unit_tree};
 ghost use Rattle.qs_triples.specs.TreeOf.{entry_tree, proofs_tree};
 ghost use Rattle.qs_callgraph.specs.CallLists.{numbers};
@@ -9,7 +10,7 @@ ghost use Rattle.qs_certify.specs.Entries.{TellsEntries, entry_told};
 use crate::fault::CertifyFault;
 use qs_base::{FnId, NoMemory};
 use qs_core::CoreUnit;
-use qs_triples::{DerivFault, FunctionProof, Proofs, check_function};
+use qs_triples::{DerivFault, FunctionProof, Proofs, check_in_order};
 use std::alloc::Global;
 
 /// The functions of entries, in order.
@@ -42,16 +43,17 @@ fn refused(f: FnId, fault: DerivFault) -> CertifyFault
 
 #[tactic(auto, using(crate::proofs::EntryLaws::one_derived, crate::proofs::EntryLaws::one_told))]
 fn check_entry(alloc: Global, unit: &CoreUnit, proofs: &Proofs, f: FnId) -> Result<(), CertifyFault>
+    requires { IsInOrder proofs.now.defines.items }
     ensures { TellsEntries (unit_tree unit.now) (proofs_tree proofs.now) (f.0 ∷ []) result }
 {
-    match check_function(alloc, unit, f, proofs) {
+    match check_in_order(alloc, unit, f, proofs) {
         Ok(()) => Ok(()),
         Err(fault) => Err(refused(f, fault)),
     }
 }
 
-/// Checks that the entries of these functions are derived. Otherwise it answers the first of them whose entry isn't, with
-/// that entry's first fault.
+/// Checks that the entries of these functions are derived, where the definitions are in order. Otherwise it answers the
+/// first of them whose entry isn't, with that entry's first fault.
 #[tactic(auto, using(crate::proofs::EntryLaws::goes_on, crate::proofs::EntryLaws::ends_at))]
 pub fn check_entries(
     alloc: Global,
@@ -59,6 +61,7 @@ pub fn check_entries(
     proofs: &Proofs,
     functions: &[FnId],
 ) -> Result<(), CertifyFault>
+    requires { IsInOrder proofs.now.defines.items }
     ensures { TellsEntries (unit_tree unit.now) (proofs_tree proofs.now) (numbers functions.now) result }
 {
     for f in functions {

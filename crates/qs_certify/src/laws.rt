@@ -1,5 +1,5 @@
 // Laws of what is certified: functions that do nothing, for what their clauses say.
-ghost use Rattle.qs_certify.specs.Laws.{AddedIsWritable, AllAreDerived, BoundsAreLongestPaths, CertifiedIsRight, CyclesAreTold, EntriesAreTold, EntryFaultsAreTold, FaultsAreOfFunctions, MainBoundsRuns, OneCertified, OneFillingIsEnough, OrderIsTold, RightProofsAreCertified, TextFaultsAreTold, UnitsWithoutRecursionAreCertified};
+ghost use Rattle.qs_certify.specs.Laws.{AddedIsRight, AddedIsWritable, AllAreDerived, BoundsAreLongestPaths, CertifiedIsRight, CyclesAreTold, EntriesAreTold, EntryFaultsAreTold, FaultsAreOfFunctions, MainBoundsRuns, OneCertified, OneFillingIsEnough, OrderIsTold, RightProofsAreCertified, TextFaultsAreTold, UnitsWithoutRecursionAreCertified};
 
 /// Where the proofs cover the unit, main's bound bounds its runs: on each input, the weight of each run with these
 /// arguments is at most the bound, if that is finite.
@@ -51,4 +51,10 @@ pub fn right_proofs_are_certified()
 /// nest at most 1,024 deep, and each has a meaning in its place.
 pub fn added_is_writable()
     ensures { AddedIsWritable }
+{}
+
+/// Without a file what is certified is right as the proofs of a file: no cycle is left, its definitions are in order and
+/// all its entries are derived, so that only want of memory stands in the way of such a file.
+pub fn added_is_right()
+    ensures { AddedIsRight }
 {}

@@ -51,21 +51,12 @@ due_first (faults.BadOrder d) a b h = ap (λ (o : Option DerivationFault). optio
 pub tells_next : (result : Result (Unit {0}) DerivFault) (a b : Option DerivationFault) → a ≡ None → Tells result b → Tells result (option_or a b)
 tells_next result a b e h = subst (λ (o : Option DerivationFault). Tells result (option_or o b)) (sym e) h
 
-pub tells_order : (result : Result (Unit {0}) DerivFault) (first : Option ℕ) → TellsOrder result first → Tells result (order_told first)
-tells_order (Ok u) first h = ap order_told h
-tells_order (Err faults.NoMemory) first h = absurd h
-tells_order (Err (faults.Shape path)) first h = absurd h
-tells_order (Err (faults.Mentions place g x)) first h = absurd h
-tells_order (Err (faults.Cert path fault)) first h = absurd h
-tells_order (Err (faults.NoSpec path g)) first h = absurd h
-tells_order (Err (faults.Entry fault)) first h = absurd h
-tells_order (Err (faults.BadOrder d)) first h = ap order_told h
+-- a definition that is out of order comes before all others
+pub order_stops : (misplaced first : Option ℕ) (d : ℕ) (b : Option DerivationFault) → misplaced ≡ first → misplaced ≡ Some d → IsDue (faults.BadOrder d) (option_or (order_told first) b)
+order_stops misplaced first d b same is = due_first (faults.BadOrder d) (order_told first) b (ap order_told (sym same ∙ is))
 
-pub order_first : (fault : DerivFault) (first : Option ℕ) (b : Option DerivationFault) → TellsOrder (Err fault) first → IsDue fault (option_or (order_told first) b)
-order_first fault first b h = due_first fault (order_told first) b (tells_order (Err fault) first h)
-
-pub order_next : (result : Result (Unit {0}) DerivFault) (first : Option ℕ) (b : Option DerivationFault) → first ≡ None → Tells result b → Tells result (option_or (order_told first) b)
-order_next result first b e h = tells_next result (order_told first) b (ap order_told e) h
+pub order_passed : (result : Result (Unit {0}) DerivFault) (misplaced first : Option ℕ) (b : Option DerivationFault) → misplaced ≡ first → misplaced ≡ None → Tells result b → Tells result (option_or (order_told first) b)
+order_passed result misplaced first b same is h = tells_next result (order_told first) b (ap order_told (sym same ∙ is)) h
 
 -- the body's fault comes before that of the certificate
 pub due_of_body : (answer : Answer) (fault due : DerivationFault) (others : AssertionTree → Option DerivationFault) → answer ≡ Err fault → fault ≡ due → fault_or (λ f. f) answer others ≡ Some due

@@ -2,6 +2,7 @@
 ghost use Rattle.std.specs.List.{slice_get};
 ghost use Rattle.std.specs.Prelude.{◌≡◌, MatchOption, None, OnOk, Some};
 ghost use Rattle.qs_assert.specs.Order as order;
+ghost use Rattle.qs_assert.specs.Order.{IsInOrder};
 ghost use Rattle.qs_core.specs.TreeOf.{function_tree};
 ghost use Rattle.qs_core.specs.UnitTrees.{unit_tree};
 ghost use Rattle.qs_triples.specs.Entries.{fault_in, entry_fault, function_fault, HasDerivedEntry};
@@ -29,15 +30,17 @@ pub fn defines_in_order(proofs: &Proofs) -> Result<(), DerivFault>
     }
 }
 
-// The entry of this function.
-#[tactic(auto, using(crate::proofs::EntryLaws::order_first, crate::proofs::EntryLaws::order_next))]
+// The entry of this function, where this is the first definition out of order, if there is one.
+#[tactic(auto, using(crate::proofs::EntryLaws::order_stops, crate::proofs::EntryLaws::order_passed))]
 fn check_known(
     alloc: Global,
     unit: &CoreUnit,
     function: &CoreFunction,
     proofs: &Proofs,
     e: &FunctionProof,
+    misplaced: Option<usize>,
 ) -> Result<(), DerivFault>
+    requires { misplaced ≡ order.order_fault proofs.now.defines.items }
     ensures { Tells result (fault_in (unit_tree unit.now) (proofs_tree proofs.now)
         (function_tree function.now) (entry_tree e.now)) }
 {
@@ -47,9 +50,9 @@ fn check_known(
         entries: &proofs.functions,
         defines: &proofs.defines,
     };
-    match defines_in_order(proofs) {
-        Ok(()) => check_entry(alloc, scope, e),
-        Err(fault) => Err(fault),
+    match misplaced {
+        None => check_entry(alloc, scope, e),
+        Some(first) => Err(DerivFault::BadOrder(first)),
     }
 }
 
@@ -66,12 +69,31 @@ fn check_found(
     unit: &CoreUnit,
     proofs: &Proofs,
     e: &FunctionProof,
+    misplaced: Option<usize>,
 ) -> Result<(), DerivFault>
+    requires { misplaced ≡ order.order_fault proofs.now.defines.items }
     ensures { Tells result
         (entry_fault (unit_tree unit.now) (proofs_tree proofs.now) (entry_tree e.now)) }
 {
     match function_of(unit, e.function) {
-        Some(function) => check_known(alloc, unit, function, proofs, e),
+        Some(function) => check_known(alloc, unit, function, proofs, e, misplaced),
+        None => Err(DerivFault::Shape(Vec::new(alloc))),
+    }
+}
+
+fn check_first(
+    alloc: Global,
+    unit: &CoreUnit,
+    f: FnId,
+    proofs: &Proofs,
+    misplaced: Option<usize>,
+) -> Result<(), DerivFault>
+    requires { misplaced ≡ order.order_fault proofs.now.defines.items }
+    ensures { Tells result
+        (function_fault (unit_tree unit.now) (proofs_tree proofs.now) f.0) }
+{
+    match entry_in(&proofs.functions, f) {
+        Some(e) => check_found(alloc, unit, proofs, e, misplaced),
         None => Err(DerivFault::Shape(Vec::new(alloc))),
     }
 }
@@ -93,8 +115,23 @@ pub fn check_function(
     ensures derived { OnOk result
         (HasDerivedEntry (unit_tree unit.now) (proofs_tree proofs.now) f.0) }
 {
-    match entry_in(&proofs.functions, f) {
-        Some(e) => check_found(alloc, unit, proofs, e),
-        None => Err(DerivFault::Shape(Vec::new(alloc))),
-    }
+    check_first(alloc, unit, f, proofs, order_fault(&proofs.defines))
+}
+
+/// Checks the same of definitions of which it is known that they are in order, so that for many functions they are gone
+/// through once.
+#[tactic(auto, using(crate::proofs::EntryLaws::tells_derived))]
+pub fn check_in_order(
+    alloc: Global,
+    unit: &CoreUnit,
+    f: FnId,
+    proofs: &Proofs,
+) -> Result<(), DerivFault>
+    requires { IsInOrder proofs.now.defines.items }
+    ensures exact { Tells result
+        (function_fault (unit_tree unit.now) (proofs_tree proofs.now) f.0) }
+    ensures derived { OnOk result
+        (HasDerivedEntry (unit_tree unit.now) (proofs_tree proofs.now) f.0) }
+{
+    check_first(alloc, unit, f, proofs, None)
 }

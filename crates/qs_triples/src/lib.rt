@@ -19,7 +19,7 @@ mod replacements;
 mod terms;
 mod walk;
 
-pub use check::{check_function, defines_in_order};
+pub use check::{check_function, check_in_order, defines_in_order};
 pub use derivation::{Derivation, FunctionProof, Proofs, Spec};
 pub use fault::{DerivFault, Place};
 pub use laws::derivations_bound_runs;

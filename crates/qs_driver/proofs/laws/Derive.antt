@@ -18,6 +18,7 @@ use Rattle.qs_prooftext.specs.Writable.{IsWritable}
 use Rattle.qs_certify.specs.Certification.{IsCertified}
 use Rattle.qs_certify.specs.Laws.{nesting_limit}
 use Rattle.qs_certify.proofs.OneLaws.{all_are_derived}
+use Rattle.qs_certify.proofs.RightLaws.{added_is_right}
 use Rattle.qs_certify.proofs.WritableLaws.{added_is_writable}
 use Rattle.qs_ports.specs.StoreView.{StoreView, HasSameCounts, HasFailed}
 use Rattle.qs_ports.specs.SinkView.{SinkView}
@@ -80,6 +81,11 @@ module _ (d : DeriveWords) {v : StoreView} {s : CertifiedSource} (r : ReadsCerti
     filled = subst (λ (given : ProofsTree). Filled s.core given s.proofs) alone.given_is alone.all.filled;
     derived = λ f within. all_are_derived s.core s.given s.proofs f alone within;
     is_text = written writable;
+    is_right = record {
+      given = s.proofs;
+      reads = written writable;
+      right = added_is_right s.core s.given s.proofs fits alone;
+    };
   }
 
 -- ---- the work on the store

@@ -14,7 +14,7 @@ use Rattle.qs_driver.specs.Names.{Names, no_names}
 use Rattle.qs_driver.specs.Steps.{on_out}
 use Rattle.qs_driver.specs.Due.{Due, refusal, IsRefusal}
 use Rattle.qs_driver.specs.Files.{IsUntouched}
-use Rattle.qs_driver.specs.Certified.{CertifyWords, certify_words, CertifiedSource, ReadsCertified, LacksCertified, HoldsRight, RefusesCertified}
+use Rattle.qs_driver.specs.Certified.{CertifyWords, certify_words, CertifiedSource, ReadsCertified, LacksCertified, IsRightFile, HoldsRight, RefusesCertified}
 use Rattle.qs_driver.specs.Source.{IsOfSource}
 use Rattle.qs_driver.specs.Task.{Task}
 use Rattle.qs_driver.specs.declared.commands.derive.DeriveOrder.{DeriveOrder}
@@ -52,12 +52,13 @@ abbrev pub AllAreDerived : CertifiedSource → Type 0
 AllAreDerived s = (f : ℕ) → f < length s.core.functions → HasDerivedEntry s.core s.proofs f
 
 -- The source was read and is certified, and its proofs are all filled in, none being given: each function has an entry,
--- which is derived. The text reads as these proofs.
+-- which is derived. The text reads as these proofs, and is right as a proof file of the source.
 pub record HasProofs (d : DeriveWords) (before : StoreView) (s : CertifiedSource) (text : List ℕ) : Type 0 where
   pub reads : ReadsCertified (inputs d) before s
   pub filled : Filled s.core no_proofs s.proofs
   pub derived : AllAreDerived s
   pub is_text : Reading s.core text s.proofs
+  pub is_right : IsRightFile s.core text
 
 -- how many entries were derived
 abbrev pub counted : Count → Due

@@ -22,6 +22,7 @@ pub mod PlantLaws
 pub mod HeadLaws
 pub mod ShapeLaws
 pub mod DerivationLaws
+pub mod DefinitionLaws
 pub mod TopLaws
 pub mod ListedLaws
 pub mod ReadLaws

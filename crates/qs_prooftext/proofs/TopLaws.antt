@@ -1,5 +1,5 @@
 -- What the lists of a file are, as the readers go over them.
-use Rattle.std.proofs.Common.{arith, ◌≡◌, ◌≢◌, ℕ, ◌+◌, ◌==◌, ℤ, Bool, true, false, ◌&&◌, if◌then◌else◌, List, [], ◌∷◌, ◌++◌, map, Option, Some, None, Result, Ok, Err, codes, inl, inr, refl, sym, ap, ◌∙◌, subst}
+use Rattle.std.proofs.Common.{arith, ◌≡◌, ℕ, ◌+◌, ◌==◌, ℤ, Bool, true, false, ◌&&◌, if◌then◌else◌, List, [], ◌∷◌, ◌++◌, map, Option, Some, None, Result, Ok, Err, codes, inl, inr, refl, sym, ap, ◌∙◌, subst}
 use Rattle.std.specs.Prelude.{bytes_eq, option_map, ◌⊎◌, ◌||◌}
 use Rattle.std.specs.Borrow.{Bor}
 use Rattle.std.proofs.lemmas.List.{append-nil, map-append}
@@ -10,7 +10,7 @@ use Rattle.qs_assert.specs.Trees.{AssertionTree}
 use Rattle.qs_assert.specs.declared.define.Define.{Define}
 use Rattle.qs_assert.specs.declared.variable.Var.{Var}
 use Rattle.qs_assert.specs.declared.variable.VarKind.TheVariants as kinds
-use Rattle.qs_core.specs.Trees.{CoreFunctionTree, CoreUnitTree}
+use Rattle.qs_core.specs.Trees.{CoreFunctionTree}
 use Rattle.qs_core.specs.TreeOf.{function_tree}
 use Rattle.qs_core.specs.UnitTrees.{unit_tree}
 use Rattle.qs_core.specs.declared.unit.CoreUnit.{CoreUnit}
@@ -23,24 +23,24 @@ use Rattle.qs_sexpr.specs.Trees.{Sexp, number, symbol, list, Sexps, no_parts, pa
 use Rattle.qs_sexpr.specs.declared.node.Node.{Node}
 use Rattle.qs_triples.specs.Derivations.{DerivationTree, ProofsTree}
 use Rattle.qs_triples.specs.Entries.{has_entry}
-use Rattle.qs_triples.specs.TreeOf.{derivation_tree, entry_tree, proofs_tree, spec_tree}
+use Rattle.qs_triples.specs.TreeOf.{derivation_tree, entry_tree, spec_tree}
 use Rattle.qs_triples.specs.Valuations.{number_if}
 use Rattle.qs_triples.specs.declared.derivation.FunctionProof.{FunctionProof}
-use Rattle.qs_triples.specs.declared.derivation.Proofs.{Proofs}
 use Rattle.qs_prooftext.specs.declared.fault.TextFault.{TextFault}
 use Rattle.qs_prooftext.specs.declared.fault.TextFault.TheVariants.{NoMemory, UnknownForm, Duplicate}
-use Rattle.qs_prooftext.specs.declared.context.Names.{Names}
 use Rattle.qs_prooftext.specs.declared.context.Word.{Word}
 use Rattle.qs_prooftext.specs.declared.tops.File.{File}
+use Rattle.qs_prooftext.specs.declared.tops.ProofsSoFar.{ProofsSoFar}
 use Rattle.qs_prooftext.specs.Answers.{Gives, HasNoHead, IsHeaded, IsList, StandAll, Stands}
-use Rattle.qs_prooftext.specs.Contexts.{function_rows, has_name_in, is_open_word, word_view}
+use Rattle.qs_prooftext.specs.Contexts.{function_rows, is_open_word, word_view}
+use Rattle.qs_prooftext.specs.Definitions.{names_one_of}
 use Rattle.qs_prooftext.specs.Firsts.{first_means, tail}
 use Rattle.qs_prooftext.specs.Kinds.{Kind, Of, Row, Values, one, a_body, a_certificate, a_definition_body, a_derivation, a_postcondition, a_precondition, an_assertion, an_entry_certificate}
 use Rattle.qs_prooftext.specs.Heads.{rows}
 use Rattle.qs_prooftext.specs.Meanings.{Answer, all_mean, each_means, headed_means, list_means, means, number_means, symbol_means}
-use Rattle.qs_prooftext.specs.Proofs.{Sofar, define_means, entry_means, function_means, headed_top_means, is_among, is_defined, named_entry_means, top_means, tops_mean, with_define, with_entry}
+use Rattle.qs_prooftext.specs.Proofs.{Sofar, define_means, entry_means, function_means, headed_top_means, is_defined, named_entry_means, top_means, tops_mean, with_define, with_entry}
 use Rattle.qs_prooftext.specs.Settings.{Setting, functions_of, in_definition, in_entry, look_up, typed, words_of}
-use Rattle.qs_prooftext.specs.Tops.{EntryParts, GivesPart, TopsLeft, definition, entry_at, entry_of_parts, entry_parts_mean, first_only, first_word, found_entry, function, known_entry, named_define, named_entry, new_entry_means, only_part, part_means, parts_view, single, sofar_of}
+use Rattle.qs_prooftext.specs.Tops.{EntryParts, GivesPart, TopsLeft, definition, entry_at, entry_of_parts, entry_parts_mean, first_only, first_word, found_entry, function, known_entry, named_define, named_entry, new_entry_means, only_part, part_means, parts_view, proofs_so_far, single, sofar_of}
 use Rattle.qs_prooftext.specs.Walking.{HasParts}
 use Rattle.qs_prooftext.proofs.FirstLaws.{first_tree}
 use Rattle.qs_prooftext.proofs.PartLaws.{first_stands, others_stand, no_first, no_split}
@@ -139,29 +139,29 @@ pub body_stops : (x y : Answer AssertionTree) (z : Answer CertTree) (w : Answer 
 body_stops x y z w pre post entry fault e f h (inl stop) = inl (λ i. entry_of_parts (e i) (f i) (h i) (stop i))
 body_stops x y z w pre post entry fault e f h (inr none) = inr none
 
-abbrev pub setting_with : List CoreFunction → Names → List Word → Option Var → Setting
-setting_with fs names ws r = record {
+abbrev pub setting_with : List CoreFunction → (is_open : List Bool) → List Define → List Word → Option Var → Setting
+setting_with fs is_open ds ws r = record {
   functions = function_rows fs;
   variables = map word_view ws;
   result = r;
-  has_name = has_name_in (function_rows fs) (Some names);
+  has_name = λ name. is_open_word is_open (function_rows fs) name || names_one_of ds name;
 }
 
 -- what the reader of an entry knows
-pub new_setting : (file : File) (proofs : Proofs) (f : CoreFunctionTree) (fs : List CoreFunction) (names : Names) (ws : List Word) (r : Option Var) → fs ≡ file.unit.now.functions.items → names.is_open.now ≡ file.is_open.now → names.defines.now ≡ proofs.defines.items → map word_view ws ≡ words_of f → r ≡ typed kinds.Returned (number_if f.result_type) → setting_with fs names ws r ≡ in_entry (unit_tree file.unit.now) f (is_defined (sofar_of file proofs))
-new_setting file proofs f fs names ws r e p q k h = λ i. record {
+pub new_setting : (file : File) (proofs : ProofsSoFar) (f : CoreFunctionTree) (fs : List CoreFunction) (ws : List Word) (r : Option Var) → fs ≡ file.unit.now.functions.items → map word_view ws ≡ words_of f → r ≡ typed kinds.Returned (number_if f.result_type) → setting_with fs file.is_open.now proofs.definitions.defines.items ws r ≡ in_entry (unit_tree file.unit.now) f (is_defined (sofar_of file proofs))
+new_setting file proofs f fs ws r e k h = λ i. record {
   functions = function_rows (e i);
   variables = k i;
   result = h i;
-  has_name = λ name. is_open_word (p i) (function_rows (e i)) name || is_among (map (λ (d : Define). d.name) (q i)) name;
+  has_name = λ name. is_open_word file.is_open.now (function_rows (e i)) name || names_one_of proofs.definitions.defines.items name;
 }
 
 -- ---- definitions
 
 -- the names that the reader knows are those that are defined so far
-pub names_known : (file : File) (proofs : Proofs) (fs : List CoreFunction) (ds : List Define) (word : List ℕ) (b : Bool) → fs ≡ file.unit.now.functions.items → ds ≡ proofs.defines.items → b ≡ (is_open_word file.is_open.now (function_rows fs) word || is_among (map (λ (d : Define). d.name) ds) word) → is_defined (sofar_of file proofs) word ≡ b
-names_known file proofs fs ds word b e h is =
-    sym (is ∙ (λ i. is_open_word file.is_open.now (function_rows (e i)) word || is_among (map (λ (d : Define). d.name) (h i)) word))
+pub names_known : (file : File) (proofs : ProofsSoFar) (fs : List CoreFunction) (word : List ℕ) (b : Bool) → fs ≡ file.unit.now.functions.items → b ≡ (is_open_word file.is_open.now (function_rows fs) word || names_one_of proofs.definitions.defines.items word) → is_defined (sofar_of file proofs) word ≡ b
+names_known file proofs fs word b e is =
+    sym (is ∙ (λ i. is_open_word file.is_open.now (function_rows (e i)) word || names_one_of proofs.definitions.defines.items word))
 
 pub define_twice : (s : Sofar) (at : ℕ) (name : List ℕ) (ss : Sexps) → is_defined s name ≡ true → named_define s at name ss ≡ Err (Duplicate at)
 define_twice s at name ss e =
@@ -177,12 +177,12 @@ define_stops s at name g ss fault e h (inl stop) =
     inl (define_once s at name g ss e h ∙ ap (λ (a : Answer AssertionTree). bind a (λ body. Ok (with_define s.proofs name body))) stop)
 define_stops s at name g ss fault e h (inr none) = inr none
 
-pub define_done : (file : File) (proofs now : Proofs) (at : ℕ) (name word : List ℕ) (g : Setting) (ss : Sexps) (body : AssertionTree) → is_defined (sofar_of file proofs) word ≡ false → g ≡ in_definition (unit_tree file.unit.now) → first_means g a_definition_body ss ≡ Ok body → name ≡ word → now.defines.items ≡ proofs.defines.items ++ record { name = name; body = body } ∷ [] → now.functions ≡ proofs.functions → named_define (sofar_of file proofs) at word ss ≡ Ok (proofs_tree now)
-define_done file proofs now at name word g ss body e h means same pushed kept =
+pub define_done : (file : File) (proofs now : ProofsSoFar) (at : ℕ) (name word : List ℕ) (g : Setting) (ss : Sexps) (body : AssertionTree) → is_defined (sofar_of file proofs) word ≡ false → g ≡ in_definition (unit_tree file.unit.now) → first_means g a_definition_body ss ≡ Ok body → name ≡ word → now.definitions.defines.items ≡ proofs.definitions.defines.items ++ record { name = name; body = body } ∷ [] → now.functions ≡ proofs.functions → named_define (sofar_of file proofs) at word ss ≡ Ok (proofs_so_far now)
+define_done file proofs now at name word g ss body e h means same added kept =
     define_once (sofar_of file proofs) at word g ss e h
-    ∙ (ap (λ (a : Answer AssertionTree). bind a (λ body. Ok (with_define (proofs_tree proofs) word body))) means
+    ∙ (ap (λ (a : Answer AssertionTree). bind a (λ body. Ok (with_define (proofs_so_far proofs) word body))) means
     ∙ (λ i. Ok (record {
-      defines = (ap (λ (n : List ℕ). proofs.defines.items ++ record { name = n; body = body } ∷ []) (sym same) ∙ sym pushed) i;
+      defines = (ap (λ (n : List ℕ). proofs.definitions.defines.items ++ record { name = n; body = body } ∷ []) (sym same) ∙ sym added) i;
       functions = map entry_tree (sym kept i).items;
     })))
 
@@ -201,12 +201,12 @@ entry_stops s at f function ss fault e (inl stop) =
     inl (entry_once s at f function ss e ∙ ap (λ (a : Answer EntryParts). bind a (λ v. Ok (with_entry s.proofs f v))) stop)
 entry_stops s at f function ss fault e (inr none) = inr none
 
-pub entry_done : (file : File) (proofs now : Proofs) (at : ℕ) (f : FnId) (function : CoreFunctionTree) (ss : Sexps) (e : FunctionProof) → has_entry (proofs_tree proofs) f.0 ≡ false → new_entry_means (sofar_of file proofs) function ss ≡ Ok (parts_view e) → e.function ≡ f → now.functions.items ≡ proofs.functions.items ++ e ∷ [] → now.defines ≡ proofs.defines → known_entry (sofar_of file proofs) at f.0 function ss ≡ Ok (proofs_tree now)
+pub entry_done : (file : File) (proofs now : ProofsSoFar) (at : ℕ) (f : FnId) (function : CoreFunctionTree) (ss : Sexps) (e : FunctionProof) → has_entry (proofs_so_far proofs) f.0 ≡ false → new_entry_means (sofar_of file proofs) function ss ≡ Ok (parts_view e) → e.function ≡ f → now.functions.items ≡ proofs.functions.items ++ e ∷ [] → now.definitions ≡ proofs.definitions → known_entry (sofar_of file proofs) at f.0 function ss ≡ Ok (proofs_so_far now)
 entry_done file proofs now at f function ss e new means same pushed kept =
     entry_once (sofar_of file proofs) at f.0 function ss new
-    ∙ (ap (λ (a : Answer EntryParts). bind a (λ v. Ok (with_entry (proofs_tree proofs) f.0 v))) means
+    ∙ (ap (λ (a : Answer EntryParts). bind a (λ v. Ok (with_entry (proofs_so_far proofs) f.0 v))) means
     ∙ (λ i. Ok (record {
-      defines = (sym kept i).items;
+      defines = (sym kept i).defines.items;
       functions = (ap (λ (g : FnId). map entry_tree proofs.functions.items ++ record { function = g.0; spec = spec_tree e.spec; entry = cert_tree e.entry; body = derivation_tree e.body } ∷ []) (sym same)
           ∙ (sym (map-append entry_tree proofs.functions.items (e ∷ [])) ∙ ap (λ (es : List FunctionProof). map entry_tree es) (sym pushed))) i;
     })))
@@ -224,7 +224,7 @@ function_at unit fs f r x e h is =
     slice_get-map function_tree unit.functions.items f
     ∙ ap (option_map function_tree) (ap (λ (xs : List CoreFunction). slice_get xs f) (sym e) ∙ got fs f r x h is)
 
-pub entry_found : (file : File) (proofs : Proofs) (at : ℕ) (w : List ℕ) (ss : Sexps) (f : ℕ) (function : CoreFunctionTree) → look_up w (functions_of (unit_tree file.unit.now)) ≡ Some f → slice_get (unit_tree file.unit.now).functions f ≡ Some function → named_entry (sofar_of file proofs) at w ss ≡ known_entry (sofar_of file proofs) at f function ss
+pub entry_found : (file : File) (proofs : ProofsSoFar) (at : ℕ) (w : List ℕ) (ss : Sexps) (f : ℕ) (function : CoreFunctionTree) → look_up w (functions_of (unit_tree file.unit.now)) ≡ Some f → slice_get (unit_tree file.unit.now).functions f ≡ Some function → named_entry (sofar_of file proofs) at w ss ≡ known_entry (sofar_of file proofs) at f function ss
 entry_found file proofs at w ss f function e h =
     ap (λ (o : Option ℕ). found_entry (sofar_of file proofs) at o ss) e
     ∙ ap (λ (o : Option CoreFunctionTree). entry_at (sofar_of file proofs) at f o ss) h

@@ -14,7 +14,7 @@ use Rattle.qs_core.specs.declared.units.CoreFunction.{CoreFunction}
 use Rattle.qs_prooftext.specs.declared.context.Context.{Context}
 use Rattle.qs_prooftext.specs.declared.context.Names.{Names}
 use Rattle.qs_prooftext.specs.declared.context.Word.{Word}
-use Rattle.qs_prooftext.specs.Proofs.{is_among}
+use Rattle.qs_prooftext.specs.Definitions.{names_one_of}
 use Rattle.qs_prooftext.specs.Settings.{Setting, look_up, numbered, old_variable, typed, with_word}
 
 abbrev pub word_view : Word → List ℕ × Var
@@ -31,7 +31,7 @@ is_open_word flags rows word = list_any (λ row. bytes_eq row.0 word && flag fla
 abbrev pub has_name_in : List (List ℕ × ℕ) → Option Names → (word : List ℕ) → Bool
 has_name_in rows None word = false
 has_name_in rows (Some names) word =
-    is_open_word names.is_open.now rows word || is_among (map (λ d. d.name) names.defines.now) word
+    is_open_word names.is_open.now rows word || names_one_of names.definitions.now.defines.items word
 
 abbrev pub setting_of : Context → Setting
 setting_of c = record {

@@ -8,6 +8,7 @@ pub mod Laws
 pub mod Writing
 pub mod Writable
 pub mod Answers
+pub mod Definitions
 pub mod Contexts
 pub mod AssertionWords
 pub mod Flattening

@@ -1,5 +1,5 @@
 -- What the lists of a file are, as the readers go over them.
-use Rattle.std.specs.Prelude.{◌≡◌, ℕ, List, ◌∷◌, [], codes, bytes_eq, Bool, if◌then◌else◌, Option, Some, None, Result, Ok, Err}
+use Rattle.std.specs.Prelude.{◌≡◌, ℕ, List, ◌∷◌, [], map, codes, bytes_eq, Bool, if◌then◌else◌, Option, Some, None, Result, Ok, Err}
 use Rattle.std.specs.Borrow.{Bor}
 use Rattle.std.specs.List.{slice_get}
 use Rattle.qs_base.specs.Results.{bind}
@@ -13,12 +13,12 @@ use Rattle.qs_sexpr.specs.Trees.{Sexp, number, symbol, list, Sexps, no_parts, pa
 use Rattle.qs_sexpr.specs.declared.node.Node.{Node}
 use Rattle.qs_triples.specs.Derivations.{DerivationTree, ProofsTree}
 use Rattle.qs_triples.specs.Entries.{has_entry}
-use Rattle.qs_triples.specs.TreeOf.{derivation_tree, proofs_tree}
+use Rattle.qs_triples.specs.TreeOf.{derivation_tree, entry_tree}
 use Rattle.qs_triples.specs.declared.derivation.FunctionProof.{FunctionProof}
-use Rattle.qs_triples.specs.declared.derivation.Proofs.{Proofs}
 use Rattle.qs_prooftext.specs.declared.fault.TextFault.{TextFault}
 use Rattle.qs_prooftext.specs.declared.fault.TextFault.TheVariants.{UnknownForm, Duplicate, NoSuchFunction}
 use Rattle.qs_prooftext.specs.declared.tops.File.{File}
+use Rattle.qs_prooftext.specs.declared.tops.ProofsSoFar.{ProofsSoFar}
 use Rattle.qs_prooftext.specs.Answers.{StandAll, Stands}
 use Rattle.qs_prooftext.specs.Firsts.{first_means, tail}
 use Rattle.qs_prooftext.specs.Kinds.{Kind, Of, Values, a_body, a_certificate, a_definition_body, a_derivation, a_postcondition, a_precondition, an_assertion, an_entry_certificate}
@@ -29,10 +29,13 @@ use Rattle.qs_prooftext.specs.Settings.{Setting, functions_of, in_definition, in
 abbrev pub open_in : File → ℕ → Bool
 open_in file = flag file.is_open.now
 
+abbrev pub proofs_so_far : ProofsSoFar → ProofsTree
+proofs_so_far p = record { defines = p.definitions.defines.items; functions = map entry_tree p.functions.items }
+
 -- the file, and the proofs that the lists before are
-abbrev pub sofar_of : File → Proofs → Sofar
+abbrev pub sofar_of : File → ProofsSoFar → Sofar
 sofar_of file proofs =
-    record { unit = unit_tree file.unit.now; is_open = open_in file; proofs = proofs_tree proofs }
+    record { unit = unit_tree file.unit.now; is_open = open_in file; proofs = proofs_so_far proofs }
 
 -- ---- parts
 

@@ -2,10 +2,10 @@
 ghost use Rattle.std.specs.Prelude.{◌≡◌, map, bytes_eq, option_map, IfOk, OnOk};
 ghost use Rattle.std.specs.List.{list_any};
 ghost use Rattle.qs_prooftext.specs.Contexts.{function_rows, has_name_in, is_open_word, word_view};
-ghost use Rattle.qs_prooftext.specs.Proofs.{is_among};
 ghost use Rattle.qs_prooftext.specs.Settings.{look_up};
 
-use qs_assert::{Define, Var};
+use crate::definitions::Definitions;
+use qs_assert::Var;
 use qs_base::{FnId, Name, NoMemory};
 use qs_core::CoreFunction;
 
@@ -24,7 +24,7 @@ pub struct Names<'a> {
     /// whether each function of the unit is open; an open function is a definition of its own name
     pub is_open: &'a [bool],
     /// the definitions of the file so far
-    pub defines: &'a [Define],
+    pub definitions: &'a Definitions,
 }
 
 /// A text, and what its words mean.
@@ -91,23 +91,12 @@ fn is_open(names: Names<'_>, functions: &[CoreFunction], word: &[u8]) -> bool
     false
 }
 
-fn is_among(defines: &[Define], word: &[u8]) -> bool
-    ensures { result ≡ is_among (map (λ d. d.name) defines.now) word.now }
-{
-    for define in defines {
-        if word == define.name.bytes() {
-            return true;
-        }
-    }
-    false
-}
-
 /// Whether a name has a definition.
 pub fn is_defined(names: Option<Names<'_>>, functions: &[CoreFunction], word: &[u8]) -> bool
     ensures { result ≡ has_name_in (function_rows functions.now) names.entry word.now }
 {
     match names {
         None => false,
-        Some(known) => is_open(known, functions, word) || is_among(known.defines, word),
+        Some(known) => is_open(known, functions, word) || known.definitions.has(word),
     }
 }

@@ -7,6 +7,7 @@ mod certificate_tokens;
 mod certificates;
 mod combinations;
 mod context;
+mod definitions;
 mod derivation_tokens;
 mod derivations;
 mod fact_tokens;

@@ -12,13 +12,14 @@ ghost use Rattle.qs_prooftext.specs.Kinds.{a_certificate, a_definition_body, a_d
 ghost use Rattle.qs_prooftext.specs.Proofs.{file_means, headed_top_means, top_means};
 ghost use Rattle.qs_prooftext.specs.Settings as settings;
 ghost use Rattle.qs_prooftext.specs.Tops as spec;
-ghost use Rattle.qs_prooftext.specs.Tops.{GivesPart, entry_parts_mean, first_only, first_word, named_define, new_entry_means, only_part, part_means, parts_view, sofar_of};
+ghost use Rattle.qs_prooftext.specs.Tops.{GivesPart, entry_parts_mean, first_only, first_word, named_define, new_entry_means, only_part, part_means, parts_view, proofs_so_far, sofar_of};
 ghost use Rattle.qs_prooftext.specs.Walking.{HasParts};
 ghost use Rattle.qs_sexpr.specs.Trees.{Sexp, Sexps, symbol};
 
 use crate::assertions::{read_assertion, read_definition};
 use crate::certificates::read_certificate;
 use crate::context::{Context, Names, find_function, is_defined};
+use crate::definitions::Definitions;
 use crate::derivations::read_derivation;
 use crate::fault::TextFault;
 use crate::parts::{Part, after_first, head_of, part_of};
@@ -40,6 +41,15 @@ pub struct File<'a> {
     pub unit: &'a CoreUnit,
     /// whether each of its functions is open
     pub is_open: &'a [bool],
+}
+
+/// What the lists of a file so far are.
+#[derive(Drop)]
+pub struct ProofsSoFar {
+    /// the definitions
+    pub definitions: Definitions,
+    /// the functions that have a specification
+    pub functions: Vec<FunctionProof>,
 }
 
 // ---- definitions
@@ -81,22 +91,22 @@ fn define(
     at: u32,
     word: &[u8],
     parts: &[Node],
-    proofs: &mut Proofs,
+    proofs: &mut ProofsSoFar,
 ) -> Result<(), TextFault>
     requires { (ss : Sexps) × StandAll file.text.now parts.now ss }
     ensures { (ss : Sexps) → StandAll file.entry.text.now parts.now ss
-        → Gives (λ done. proofs_tree proofs.new) (named_define (sofar_of file.entry proofs.old) at word.now ss) result }
+        → Gives (λ done. proofs_so_far proofs.new) (named_define (sofar_of file.entry proofs.old) at word.now ss) result }
 {
     let names = Names {
         is_open: file.is_open,
-        defines: &proofs.defines,
+        definitions: &proofs.definitions,
     };
     if is_defined(Some(names), &file.unit.functions, word) {
         return Err(TextFault::Duplicate(at));
     }
     let body = first_definition(alloc, in_definition(file), parts)?;
     let name = Name::new(alloc, word)?;
-    proofs.defines.push(Define { name, body })?;
+    proofs.definitions.add(alloc, Define { name, body })?;
     Ok(())
 }
 
@@ -170,8 +180,8 @@ fn derivation_in(
     read_derivation(alloc, context, first_inner(context.text, head, parts)?)
 }
 
-fn has_entry(proofs: &Proofs, f: FnId) -> bool
-    ensures { result ≡ entries.has_entry (proofs_tree proofs.now) f.0 }
+fn has_entry(proofs: &ProofsSoFar, f: FnId) -> bool
+    ensures { result ≡ entries.has_entry (proofs_so_far proofs.now) f.0 }
 {
     for e in &proofs.functions {
         if e.function.0 == f.0 {
@@ -213,7 +223,7 @@ fn new_entry(
     f: FnId,
     function: &CoreFunction,
     parts: &[Node],
-    proofs: &Proofs,
+    proofs: &ProofsSoFar,
 ) -> Result<FunctionProof, TextFault>
     requires { (ss : Sexps) × StandAll file.text.now parts.now ss }
     ensures parts { (ss : Sexps) → StandAll file.entry.text.now parts.now ss
@@ -228,7 +238,7 @@ fn new_entry(
         result: returned(function.result_type),
         names: Some(Names {
             is_open: file.is_open,
-            defines: &proofs.defines,
+            definitions: &proofs.definitions,
         }),
     };
     read_entry(alloc, context, f, parts)
@@ -241,11 +251,11 @@ fn known_entry(
     f: FnId,
     function: &CoreFunction,
     parts: &[Node],
-    proofs: &mut Proofs,
+    proofs: &mut ProofsSoFar,
 ) -> Result<(), TextFault>
     requires { (ss : Sexps) × StandAll file.text.now parts.now ss }
     ensures { (ss : Sexps) → StandAll file.entry.text.now parts.now ss
-        → Gives (λ done. proofs_tree proofs.new) (spec.known_entry (sofar_of file.entry proofs.old) at f.0 (function_tree function.now) ss) result }
+        → Gives (λ done. proofs_so_far proofs.new) (spec.known_entry (sofar_of file.entry proofs.old) at f.0 (function_tree function.now) ss) result }
 {
     if has_entry(proofs, f) {
         return Err(TextFault::Duplicate(at));
@@ -262,11 +272,11 @@ fn entry(
     at: u32,
     word: &[u8],
     parts: &[Node],
-    proofs: &mut Proofs,
+    proofs: &mut ProofsSoFar,
 ) -> Result<(), TextFault>
     requires { (ss : Sexps) × StandAll file.text.now parts.now ss }
     ensures { (ss : Sexps) → StandAll file.entry.text.now parts.now ss
-        → Gives (λ done. proofs_tree proofs.new) (spec.named_entry (sofar_of file.entry proofs.old) at word.now ss) result }
+        → Gives (λ done. proofs_so_far proofs.new) (spec.named_entry (sofar_of file.entry proofs.old) at word.now ss) result }
 {
     match find_function(&file.unit.functions, word)? {
         None => Err(TextFault::NoSuchFunction(at)),
@@ -298,11 +308,11 @@ fn definition(
     file: File<'_>,
     at: u32,
     others: &[Node],
-    proofs: &mut Proofs,
+    proofs: &mut ProofsSoFar,
 ) -> Result<(), TextFault>
     requires { (ss : Sexps) × StandAll file.text.now others.now ss }
     ensures { (ss : Sexps) → StandAll file.entry.text.now others.now ss
-        → Gives (λ done. proofs_tree proofs.new) (spec.definition (sofar_of file.entry proofs.old) at ss) result }
+        → Gives (λ done. proofs_so_far proofs.new) (spec.definition (sofar_of file.entry proofs.old) at ss) result }
 {
     let name = first_symbol(file.text, others)?;
     define(alloc, file, at, name, after_first(others), proofs)
@@ -313,11 +323,11 @@ fn function(
     file: File<'_>,
     at: u32,
     others: &[Node],
-    proofs: &mut Proofs,
+    proofs: &mut ProofsSoFar,
 ) -> Result<(), TextFault>
     requires { (ss : Sexps) × StandAll file.text.now others.now ss }
     ensures { (ss : Sexps) → StandAll file.entry.text.now others.now ss
-        → Gives (λ done. proofs_tree proofs.new) (spec.function (sofar_of file.entry proofs.old) at ss) result }
+        → Gives (λ done. proofs_so_far proofs.new) (spec.function (sofar_of file.entry proofs.old) at ss) result }
 {
     let name = first_symbol(file.text, others)?;
     entry(alloc, file, at, name, after_first(others), proofs)
@@ -337,11 +347,11 @@ fn headed_top(
     head: &[u8],
     count: usize,
     others: &[Node],
-    proofs: &mut Proofs,
+    proofs: &mut ProofsSoFar,
 ) -> Result<(), TextFault>
     requires { (ss : Sexps) × StandAll file.text.now others.now ss }
     ensures { (place : ℕ) (ss : Sexps) → StandAll file.entry.text.now others.now ss → HasParts count ss
-        → Gives (λ done. proofs_tree proofs.new) (headed_top_means (sofar_of file.entry proofs.old) at (symbol place head.now) ss) result }
+        → Gives (λ done. proofs_so_far proofs.new) (headed_top_means (sofar_of file.entry proofs.old) at (symbol place head.now) ss) result }
 {
     if is_word(head, b"define") {
         if count == 3 {
@@ -365,11 +375,11 @@ fn read_top(
     alloc: Global,
     file: File<'_>,
     nodes: &[Node],
-    proofs: &mut Proofs,
+    proofs: &mut ProofsSoFar,
 ) -> Result<(), TextFault>
     requires { (s : Sexp) × Stands file.text.now nodes.now s }
     ensures { (s : Sexp) → Stands file.entry.text.now nodes.now s
-        → Gives (λ done. proofs_tree proofs.new) (top_means (sofar_of file.entry proofs.old) s) result }
+        → Gives (λ done. proofs_so_far proofs.new) (top_means (sofar_of file.entry proofs.old) s) result }
 {
     match part_of(file.text, nodes) {
         Part::Number(at, _) => Err(TextFault::UnknownForm(at)),
@@ -387,8 +397,8 @@ pub fn read_tops(alloc: Global, file: File<'_>, nodes: &[Node]) -> Result<Proofs
     ensures { (ss : Sexps) → StandAll file.entry.text.now nodes.now ss
         → Gives proofs_tree (file_means (unit_tree file.entry.unit.now) (spec.open_in file.entry) ss) result }
 {
-    let mut proofs = Proofs {
-        defines: Vec::new(alloc),
+    let mut proofs = ProofsSoFar {
+        definitions: Definitions::new(alloc),
         functions: Vec::new(alloc),
     };
     let mut rest = nodes;
@@ -396,5 +406,8 @@ pub fn read_tops(alloc: Global, file: File<'_>, nodes: &[Node]) -> Result<Proofs
         read_top(alloc, file, first, &mut proofs)?;
         rest = others;
     }
-    Ok(proofs)
+    Ok(Proofs {
+        defines: proofs.definitions.into_defines(),
+        functions: proofs.functions,
+    })
 }

@@ -9,17 +9,17 @@ use Rattle.qs_prooftext.proofs.tops.define.Goals as goal
 pub returns-then-is_defined : goal.returns-then-is_defined
 returns-then-is_defined c = λ ss h.
     inl (define_twice (sofar_of c.args.file c.args.proofs.now) c.args.at c.args.word.now ss
-    (names_known c.args.file c.args.proofs.now c.deref-2.result.now c.deref.result.now c.args.word.now true c.deref-2.ensures.value c.deref.ensures.value c.if-is_defined.ensures))
+    (names_known c.args.file c.args.proofs.now c.deref.result.now c.args.word.now true c.deref.ensures.value c.if-is_defined.ensures))
 
 pub returns-in_err-body : goal.returns-in_err-body
 returns-in_err-body c = λ ss h.
-    let new = names_known c.args.file c.args.proofs.now c.deref-2.result.now c.deref.result.now c.args.word.now false c.deref-2.ensures.value c.deref.ensures.value c.if-is_defined.ensures in
+    let new = names_known c.args.file c.args.proofs.now c.deref.result.now c.args.word.now false c.deref.ensures.value c.if-is_defined.ensures in
     let k = subst (λ (text : List ℕ). StandAll text c.args.parts.now ss) (sym c.in_definition.ensures.text) h in
     passed_out _ c.from_residual.result c.in_err-body.field-0.0 _ c.from_residual.ensures
     (define_stops (sofar_of c.args.file c.args.proofs.now) c.args.at c.args.word.now (setting_of c.in_definition.result) ss c.in_err-body.field-0.0 new c.in_definition.ensures.setting (c.in_err-body.ensures ss k))
 
 pub returns : goal.returns
 returns c = λ ss h.
-    let new = names_known c.args.file c.args.proofs.now c.deref-2.result.now c.deref.result.now c.args.word.now false c.deref-2.ensures.value c.deref.ensures.value c.if-is_defined.ensures in
+    let new = names_known c.args.file c.args.proofs.now c.deref.result.now c.args.word.now false c.deref.ensures.value c.if-is_defined.ensures in
     let k = subst (λ (text : List ℕ). StandAll text c.args.parts.now ss) (sym c.in_definition.ensures.text) h in
-    define_done c.args.file c.args.proofs.now (record { defines = c.push.new.self; functions = c.args.proofs.now.functions }) c.args.at c.in_ok-name.name c.args.word.now (setting_of c.in_definition.result) ss c.in_ok-body.body new c.in_definition.ensures.setting (c.in_ok-body.ensures ss k) c.in_ok-name.ensures c.in_ok-push.ensures.items refl
+    define_done c.args.file c.args.proofs.now (record { definitions = c.add.new.self; functions = c.args.proofs.now.functions }) c.args.at c.in_ok-name.name c.args.word.now (setting_of c.in_definition.result) ss c.in_ok-body.body new c.in_definition.ensures.setting (c.in_ok-body.ensures ss k) c.in_ok-name.ensures c.in_ok-add.ensures refl

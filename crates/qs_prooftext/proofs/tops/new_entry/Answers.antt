@@ -1,4 +1,4 @@
-use Rattle.std.proofs.Common.{refl, map, ap, ◌∙◌}
+use Rattle.std.proofs.Common.{map, ap, ◌∙◌}
 use Rattle.qs_core.specs.TreeOf.{function_tree}
 use Rattle.qs_prooftext.specs.Contexts.{word_view}
 use Rattle.qs_prooftext.specs.Settings.{Setting}
@@ -10,5 +10,5 @@ pub returns-clause-parts : goal.returns-clause-parts
 returns-clause-parts c = λ ss h.
     gives_same parts_view c.read_entry.result _ _
     (ap (λ (g : Setting). entry_parts_mean g ss)
-    (new_setting c.args.file c.args.proofs.now (function_tree c.args.function.now) c.deref.result.now (record { is_open = c.args.file.is_open; defines = c.deref-3.result }) c.deref-2.result.now c.returned.result c.deref.ensures.value refl c.deref-3.ensures.value (ap (map word_view) c.deref-2.ensures.value ∙ c.in_ok-words.ensures) c.returned.ensures))
+    (new_setting c.args.file c.args.proofs.now (function_tree c.args.function.now) c.deref.result.now c.deref-2.result.now c.returned.result c.deref.ensures.value (ap (map word_view) c.deref-2.ensures.value ∙ c.in_ok-words.ensures) c.returned.ensures))
     (c.read_entry.ensures.parts ss h)

@@ -25,6 +25,7 @@ pub mod DerivationLaws
 pub mod TopLaws
 pub mod ListedLaws
 pub mod ReadLaws
+pub mod RowForms
 pub mod ReadForms
 pub mod ReadSound
 pub mod TreeLaws

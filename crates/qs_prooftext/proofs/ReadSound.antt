@@ -23,7 +23,8 @@ use Rattle.qs_prooftext.specs.Settings.{Setting, functions_of, in_definition, in
 use Rattle.qs_prooftext.specs.Writable.{IsOfUnit, definition_stands, is_function}
 use Rattle.qs_prooftext.specs.Writing.{Words}
 use Rattle.qs_prooftext.proofs.ListedLaws.{function_named}
-use Rattle.qs_prooftext.proofs.ReadForms.{Fits, bound, reads_good}
+use Rattle.qs_prooftext.proofs.ReadForms.{bound, reads_good}
+use Rattle.qs_prooftext.proofs.RowForms.{Fits}
 
 -- ---- functions
 

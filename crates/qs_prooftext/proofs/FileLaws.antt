@@ -1,5 +1,5 @@
 -- What is written of proofs reads back to them.
-use Rattle.std.proofs.Common.{arith, ◌≡◌, ℕ, zero, suc, ◌==◌, ◌&&◌, ◌||◌, not, Bool, true, false, List, [], ◌∷◌, ◌++◌, map, append_assoc, refl, sym, ap, subst, ◌∙◌, if◌then◌else◌, Option, Some, None, is_some, Ok, Err}
+use Rattle.std.proofs.Common.{arith, ◌≡◌, ℕ, ◌==◌, ◌||◌, not, Bool, true, false, List, [], ◌∷◌, ◌++◌, map, append_assoc, refl, sym, ap, subst, ◌∙◌, if◌then◌else◌, Option, Some, None, is_some, Ok, Err}
 use Rattle.std.specs.Prelude.{bytes_eq, codes}
 use Rattle.std.specs.List.{slice_get, list_any, list_all, find}
 use Rattle.std.proofs.Math.Path.{fun_ext}
@@ -14,7 +14,7 @@ use Rattle.qs_callgraph.specs.Opens.{TellsOpen}
 use Rattle.qs_core.specs.Fits.{differ, unit_fits}
 use Rattle.qs_core.specs.Trees.{CoreFunctionTree, CoreUnitTree}
 use Rattle.qs_sexpr.specs.Spelling.{ReadsAs}
-use Rattle.qs_sexpr.specs.Trees.{Sexp, Sexps, part_and, no_parts}
+use Rattle.qs_sexpr.specs.Trees.{Sexp, Sexps}
 use Rattle.qs_sexpr.specs.Writing.{Form}
 use Rattle.qs_triples.specs.Derivations.{EntryTree, ProofsTree, is_entry_of}
 use Rattle.qs_triples.specs.Entries.{has_entry}
@@ -22,10 +22,10 @@ use Rattle.qs_triples.specs.Filled.{function_name, name_in}
 use Rattle.qs_prooftext.specs.declared.fault.TextFault.TheVariants.{Duplicate}
 use Rattle.qs_prooftext.specs.Kinds.{a_definition_body, a_precondition, a_postcondition, an_entry_certificate, a_body}
 use Rattle.qs_prooftext.specs.Meanings.{Answer, means, each_means}
-use Rattle.qs_prooftext.specs.Proofs.{Sofar, define_means, defined_names, entry_means, entry_names, file_means, has_list, is_among, is_defined, is_open_name, named_entry_means, top_means, tops_mean, with_define, with_entry}
+use Rattle.qs_prooftext.specs.Proofs.{Sofar, entry_means, entry_names, file_means, has_list, is_among, is_defined, is_open_name, named_entry_means, top_means, tops_mean, with_define, with_entry}
 use Rattle.qs_prooftext.specs.Reading.{Reading}
 use Rattle.qs_prooftext.specs.Settings.{functions_of, in_definition, in_entry, look_up, words_of}
-use Rattle.qs_prooftext.specs.Writable.{IsWritable, assertion_stands, certificate_stands, definition_stands, derivation_stands, entry_stands, entry_stands_in, parts_stand}
+use Rattle.qs_prooftext.specs.Writable.{IsWritable, definition_stands, entry_stands, entry_stands_in, parts_stand}
 use Rattle.qs_prooftext.specs.Writing.{Words, HasOwnWords, assertion_form, certificate_form, derivation_form, define_form, entry_form, file_forms, forms_of, headed, words_in, words_of_entry}
 use Rattle.qs_prooftext.proofs.Placed.{place, parts_in, first_in, others_in, placed, all_placed, all_placed_back}
 use Rattle.qs_prooftext.proofs.WordLaws.{definition_agrees, entry_agrees, looked_up_at, names_at, not_false, some_is, text_self, texts_differ}

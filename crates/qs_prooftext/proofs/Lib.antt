@@ -26,6 +26,7 @@ pub mod DefinitionLaws
 pub mod TopLaws
 pub mod ListedLaws
 pub mod ReadLaws
+pub mod RowForms
 pub mod ReadForms
 pub mod ReadSound
 pub mod TreeLaws

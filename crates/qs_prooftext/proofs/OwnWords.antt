@@ -1,26 +1,25 @@
 -- The words of a function that fits stand for one variable each.
-use Rattle.std.proofs.Common.{arith, ◌≡◌, ℕ, zero, suc, ◌+◌, ◌<◌, ◌^◌, ◌==◌, ◌&&◌, not, nat_lt, nat_le, Bool, true, false, List, [], ◌∷◌, ◌++◌, map, length, refl, sym, ap, ◌∙◌, if◌then◌else◌, Option, Some, None}
+use Rattle.std.proofs.Common.{arith, ◌≡◌, ℕ, ◌+◌, ◌<◌, ◌^◌, ◌==◌, ◌&&◌, not, nat_lt, nat_le, Bool, true, false, List, [], ◌∷◌, ◌++◌, length, refl, sym, ap, ◌∙◌, if◌then◌else◌, Option, Some, None}
 use Rattle.std.specs.Prelude.{bytes_eq, codes, decimal}
-use Rattle.std.specs.List.{slice_get, list_all}
+use Rattle.std.specs.List.{list_all}
 use Rattle.std.proofs.lemmas.Bool.Decides.{nat_tests}
 use Rattle.std.proofs.lemmas.Fmt.{decimal_injective}
 use Rattle.std.proofs.lemmas.List.{append-nil}
 use Rattle.std.proofs.lemmas.Slice.Eq.{bytes_eq-Decides}
-use Rattle.qs_base.specs.Bytes.{is_digit, is_letter, is_word_byte}
+use Rattle.qs_base.specs.Bytes.{is_letter, is_word_byte}
 use Rattle.qs_base.specs.Keywords.{is_keyword}
 use Rattle.qs_base.specs.Names.{is_name, is_word}
 use Rattle.qs_memory.specs.declared.scalar.Scalar.{Scalar}
 use Rattle.qs_assert.specs.declared.variable.NumberType.{NumberType}
 use Rattle.qs_assert.specs.declared.variable.VarKind.{VarKind}
 use Rattle.qs_assert.specs.declared.variable.VarKind.TheVariants as kinds
-use Rattle.qs_assert.specs.declared.variable.Var.{Var}
 use Rattle.qs_core.proofs.FitLaws.{all_at, both, function_at_fits}
 use Rattle.qs_core.specs.Fits.{differ, is_named, same_variable, unit_fits}
 use Rattle.qs_core.specs.TermTexts.{ordinal_text, temporary_text, variable_name}
 use Rattle.qs_core.specs.Trees.{CoreFunctionTree, CoreUnitTree, CoreVariableTree}
 use Rattle.qs_triples.specs.Mentions.{has_placed_parameter}
 use Rattle.qs_triples.specs.Valuations.{if_number}
-use Rattle.qs_prooftext.specs.Settings.{typed, with_word, variable_words, temporary_words, words_of}
+use Rattle.qs_prooftext.specs.Settings.{typed, with_word, variable_words, temporary_words}
 use Rattle.qs_prooftext.specs.Writing.{HasOwnWords, HasShortNumbers, has_short_numbers, is_short}
 use Rattle.qs_prooftext.proofs.WordLaws.{Rows, words, not_false, texts_differ}
 

@@ -1,5 +1,5 @@
 -- What is read is of the unit: entries of its functions, each once, and definitions that can be written.
-use Rattle.std.proofs.Common.{arith, ◌≡◌, ℕ, ◌+◌, ◌<◌, ◌==◌, Bool, true, false, ◌&&◌, if◌then◌else◌, List, [], ◌∷◌, ◌++◌, length, map, Option, Some, None, Ok, Err, codes, refl, sym, ap, ◌∙◌, subst}
+use Rattle.std.proofs.Common.{arith, ◌≡◌, ℕ, ◌+◌, ◌<◌, ◌==◌, Bool, true, false, ◌&&◌, if◌then◌else◌, List, [], ◌∷◌, ◌++◌, length, map, Option, Some, None, Ok, Err, codes, refl, ap, ◌∙◌, subst}
 use Rattle.std.specs.Prelude.{bytes_eq, is_some, nat_lt, not, ◌||◌, cond}
 use Rattle.std.specs.List.{find, slice_get, list_all, list_any}
 use Rattle.std.proofs.lemmas.Bool.{and_from, and_parts}
@@ -16,14 +16,15 @@ use Rattle.qs_triples.specs.Entries.{has_entry}
 use Rattle.qs_triples.specs.Filled.{function_name}
 use Rattle.qs_prooftext.specs.declared.fault.TextFault.TheVariants.{UnknownForm, Duplicate}
 use Rattle.qs_prooftext.specs.Kinds.{Values, a_body, a_definition_body, a_postcondition, a_precondition, an_entry_certificate}
-use Rattle.qs_prooftext.specs.Meanings.{Answer, each_means, means}
-use Rattle.qs_prooftext.specs.Proofs.{Sofar, define_means, entry_means, function_means, headed_top_means, is_defined, named_entry_means, no_proofs, top_means, tops_mean, with_define, with_entry}
+use Rattle.qs_prooftext.specs.Meanings.{each_means, means}
+use Rattle.qs_prooftext.specs.Proofs.{Sofar, define_means, entry_means, function_means, is_defined, named_entry_means, no_proofs, top_means, tops_mean, with_define, with_entry}
 use Rattle.qs_prooftext.specs.Reading.{Reading}
-use Rattle.qs_prooftext.specs.Settings.{Setting, functions_of, in_definition, in_entry, look_up, numbered}
-use Rattle.qs_prooftext.specs.Writable.{IsOfUnit, definition_stands, is_function}
+use Rattle.qs_prooftext.specs.Settings.{functions_of, in_definition, in_entry, look_up, numbered}
+use Rattle.qs_prooftext.specs.Writable.{IsOfUnit, definition_stands}
 use Rattle.qs_prooftext.specs.Writing.{Words}
 use Rattle.qs_prooftext.proofs.ListedLaws.{function_named}
-use Rattle.qs_prooftext.proofs.ReadForms.{Fits, bound, reads_good}
+use Rattle.qs_prooftext.proofs.ReadForms.{bound, reads_good}
+use Rattle.qs_prooftext.proofs.RowForms.{Fits}
 
 -- ---- functions
 

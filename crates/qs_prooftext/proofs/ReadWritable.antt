@@ -25,7 +25,8 @@ use Rattle.qs_prooftext.specs.Reading.{Reading}
 use Rattle.qs_prooftext.specs.Writable.{entry_stands, entry_stands_in, IsOfUnit, IsWritable}
 use Rattle.qs_prooftext.specs.Writing.{define_form, entry_form, forms_of}
 use Rattle.qs_prooftext.proofs.FileLaws.{entered_alike}
-use Rattle.qs_prooftext.proofs.ReadForms.{all_erased, bound, erased}
+use Rattle.qs_prooftext.proofs.ReadForms.{bound}
+use Rattle.qs_prooftext.proofs.RowForms.{all_erased, erased}
 use Rattle.qs_prooftext.proofs.ReadSound.{read_of_unit}
 use Rattle.qs_prooftext.proofs.TopForms.{IsDefine, IsEntry, TopIs, a_define, an_entry, top_is}
 

@@ -21,7 +21,8 @@ use Rattle.qs_prooftext.specs.Writable.{parts_stand}
 use Rattle.qs_prooftext.specs.Writing.{Words, define_form, entry_form, entry_form_by, headed, words_in}
 use Rattle.qs_prooftext.proofs.EntryWords.{entry_fits}
 use Rattle.qs_prooftext.proofs.ListedLaws.{function_named}
-use Rattle.qs_prooftext.proofs.ReadForms.{all_erased, bound, each_good, erased, forms_each}
+use Rattle.qs_prooftext.proofs.ReadForms.{bound, each_good}
+use Rattle.qs_prooftext.proofs.RowForms.{all_erased, erased, forms_each}
 use Rattle.qs_prooftext.proofs.ReadSound.{definition_fits, definition_words}
 
 -- the list is a definition of a new name

@@ -24,10 +24,10 @@ use Rattle.qs_triples.specs.Mentions.{has_placed_parameter, plain_variable}
 use Rattle.qs_triples.specs.Valuations.{if_number, number_if}
 use Rattle.qs_prooftext.specs.declared.fault.TextFault.TheVariants.{UnknownForm}
 use Rattle.qs_prooftext.specs.Kinds.{a_term, a_range}
-use Rattle.qs_prooftext.specs.Meanings.{Answer, or_fault, means}
-use Rattle.qs_prooftext.specs.Settings.{Setting, look_up, numbered, typed, with_word, variable_words, temporary_words, words_of, old_of, old_variable, functions_of, in_definition, in_entry}
-use Rattle.qs_prooftext.specs.Writable.{as_list, is_function, is_meant, old_variables}
-use Rattle.qs_prooftext.specs.Writing.{Words, word_for, variable_form, words_in, words_of_entry}
+use Rattle.qs_prooftext.specs.Meanings.{or_fault, means}
+use Rattle.qs_prooftext.specs.Settings.{look_up, numbered, typed, with_word, variable_words, temporary_words, words_of, old_of, old_variable, functions_of, in_definition, in_entry}
+use Rattle.qs_prooftext.specs.Writable.{as_list, is_meant, old_variables}
+use Rattle.qs_prooftext.specs.Writing.{Words, word_for, variable_form}
 use Rattle.qs_prooftext.proofs.Placed.{place, placed}
 use Rattle.qs_prooftext.proofs.WrittenMeans.{Agree, one_part}
 

@@ -1,5 +1,5 @@
 -- What is written of a certificate or a derivation means it.
-use Rattle.std.proofs.Common.{◌≡◌, ℕ, true, List, [], ◌∷◌, map, Ok, refl, ap}
+use Rattle.std.proofs.Common.{◌≡◌, true, List, [], ◌∷◌, map, Ok, refl, ap}
 use Rattle.qs_entail.specs.Certificates as certificates
 use Rattle.qs_entail.specs.Certificates.{Item, once, twice, FactTree, CertTree, CertTrees, no_certs, cert_and}
 use Rattle.qs_entail.specs.View.{certs_of}

@@ -14,14 +14,18 @@ use Rattle.qs_core.specs.TreeOf.{function_tree}
 use Rattle.qs_sexpr.specs.declared.token.Token.{Token}
 use Rattle.qs_entail.specs.Certificates as certificates
 use Rattle.qs_entail.specs.Certificates.{FactTree}
+use Rattle.qs_entail.specs.View.{cert_tree}
 use Rattle.qs_sexpr.specs.Marks.{Mark, opens, closes, word, mark_of, marks, all_marks}
 use Rattle.qs_sexpr.specs.Writing.{Form, symbol_form}
 use Rattle.qs_triples.specs.Filled.{name_in}
+use Rattle.qs_triples.specs.TreeOf.{derivation_tree}
+use Rattle.qs_prooftext.specs.declared.file_text.EntryPart.{EntryPart}
+use Rattle.qs_prooftext.specs.declared.file_text.EntryPart.TheVariants as parts
 use Rattle.qs_prooftext.specs.declared.naming.WordTable.{WordTable}
 use Rattle.qs_prooftext.specs.declared.putting.Due.{Due}
 use Rattle.qs_prooftext.specs.declared.putting.Due.TheVariants.{Tree, Natural, Close}
 use Rattle.qs_prooftext.specs.Contexts.{word_view}
-use Rattle.qs_prooftext.specs.Writing.{Words, combination_form, forms_of, headed, term_form, variable_form}
+use Rattle.qs_prooftext.specs.Writing.{Words, assertion_form, certificate_form, combination_form, derivation_form, forms_of, headed, term_form, variable_form}
 
 -- behind these tokens, these were put
 abbrev pub Puts : List Token → List Mark → List Token → Type 0
@@ -132,6 +136,12 @@ fact_begins w (certificates.bits_half t items) =
     opens ∷ word (codes "half") ∷ (marks (term_form w t) ++ marks (combination_form items))
 fact_begins w (certificates.bits_rise t u items) =
     opens ∷ word (codes "mono") ∷ (marks (term_form w t) ++ (marks (term_form w u) ++ marks (combination_form items)))
+
+-- the part of an entry without the list around it
+abbrev pub entry_part_form : Words → EntryPart → Form
+entry_part_form w (parts.Bound a) = assertion_form w a.now
+entry_part_form w (parts.Reason c) = certificate_form w (cert_tree c.now)
+entry_part_form w (parts.Body d) = derivation_form w (derivation_tree d.now)
 
 -- these forms, one after another
 abbrev pub list_marks : List Form → List Mark

@@ -1,49 +1,28 @@
 // Derivations from their heads, the last first.
 ghost use Rattle.std.specs.Prelude.{◌≡◌, [], map, reverse, IfOk};
-ghost use Rattle.qs_assert.specs.Reading.{others};
 ghost use Rattle.qs_prooftext.specs.DerivationHeads as heads;
-ghost use Rattle.qs_prooftext.specs.DerivationHeads.{arity, derivation_head, derivation_shape, first_derivation, first_derivations, planted, reason_view};
+ghost use Rattle.qs_prooftext.specs.DerivationHeads.{arity, derivation_head, derivation_shape, planted, reason_view};
 ghost use Rattle.qs_prooftext.specs.Planting.{behind, grown};
+ghost use Rattle.qs_triples.specs.Derivations as derivations;
+ghost use Rattle.qs_triples.specs.Derivations.{DerivationTree};
 ghost use Rattle.qs_triples.specs.TreeOf.{derivation_tree};
 
 use crate::statements::{DerivationHead, Reason};
+use crate::taking::{Part, boxed, taken, taken_all};
 use qs_base::NoMemory;
 use qs_triples::Derivation;
 use std::alloc::Global;
 
-fn taken(stack: &mut Vec<Derivation>) -> Derivation
-    ensures first { derivation_tree result ≡ first_derivation (reverse (map derivation_tree stack.old.items)) }
-    ensures left { reverse (map derivation_tree stack.new.items) ≡ others (reverse (map derivation_tree stack.old.items)) }
-{
-    match stack.pop() {
-        Some(part) => part,
-        None => Derivation::Leaf,
-    }
-}
+impl Part for Derivation {
+    ghost Tree = { DerivationTree };
 
-fn taken_all(
-    alloc: Global,
-    stack: &mut Vec<Derivation>,
-    count: usize,
-) -> Result<Vec<Derivation>, NoMemory>
-    ensures first { IfOk result (λ parts. map derivation_tree parts.items ≡ first_derivations count (reverse (map derivation_tree stack.old.items))) }
-    ensures left { IfOk result (λ parts. reverse (map derivation_tree stack.new.items) ≡ behind count (reverse (map derivation_tree stack.old.items))) }
-{
-    let mut parts = Vec::new(alloc);
-    let mut left = count;
-    'parts: while left > 0 {
-        parts.push(taken(stack))?;
-        left -= 1;
-    }
-    Ok(parts)
-}
+    ghost tree = { derivation_tree };
 
-fn boxed(alloc: Global, stack: &mut Vec<Derivation>) -> Result<Box<Derivation>, NoMemory>
-    ensures first { IfOk result (λ b. derivation_tree b.value ≡ first_derivation (reverse (map derivation_tree stack.old.items))) }
-    ensures left { IfOk result (λ b. reverse (map derivation_tree stack.new.items) ≡ others (reverse (map derivation_tree stack.old.items))) }
-{
-    let part = taken(stack);
-    Ok(Box::new(alloc, part)?)
+    ghost blank = { derivations.leaf };
+
+    fn missing() -> Derivation {
+        Derivation::Leaf
+    }
 }
 
 fn conditional(alloc: Global, stack: &mut Vec<Derivation>) -> Result<Derivation, NoMemory>

@@ -1,15 +1,16 @@
 // Certificates as tokens.
 ghost use Rattle.std.specs.Prelude.{◌++◌, ◌∷◌, [], OnOk};
-ghost use Rattle.qs_entail.specs.View.{cert_tree, certs_tree, items_view};
+ghost use Rattle.qs_entail.specs.Certificates as certificates;
+ghost use Rattle.qs_entail.specs.View.{cert_tree, certs_tree, fact_tree, items_view};
 ghost use Rattle.qs_sexpr.specs.Marks.{closes, marks};
 ghost use Rattle.qs_prooftext.specs.Putting.{Puts, list_marks, words_in_table};
 ghost use Rattle.qs_prooftext.specs.Writing.{certificate_form, certificate_forms, combination_form, headed};
 
 use crate::fact_tokens::{begin_fact, put_combination};
 use crate::naming::WordTable;
-use crate::putting::{begin, put, put_assertion, put_condition};
-use qs_base::NoMemory;
-use qs_entail::{Certificate, Item};
+use crate::putting::{begin, put, put_alone, put_assertion, put_condition};
+use qs_base::{Name, NoMemory};
+use qs_entail::{Certificate, Fact, Item};
 use qs_sexpr::Token;
 use std::alloc::Global;
 
@@ -68,6 +69,63 @@ fn put_last<'a>(
     put(out, Token::Close)
 }
 
+#[cycle(put_certificate)]
+fn put_pick<'a>(
+    alloc: Global,
+    out: &mut Vec<Token<'a>>,
+    table: WordTable<'a>,
+    number: i64,
+    part: &'a Certificate,
+) -> Result<(), NoMemory>
+    ensures { OnOk result (Puts out.old.items (marks (certificate_form (words_in_table table.entry) (certificates.pick number (cert_tree part.now)))) out.new.items) }
+{
+    begin(out, b"pick")?;
+    put(out, Token::Number(number))?;
+    put_last(alloc, out, table, part)
+}
+
+#[cycle(put_certificate)]
+fn put_assume<'a>(
+    alloc: Global,
+    out: &mut Vec<Token<'a>>,
+    table: WordTable<'a>,
+    part: &'a Certificate,
+) -> Result<(), NoMemory>
+    ensures { OnOk result (Puts out.old.items (marks (certificate_form (words_in_table table.entry) (certificates.assume (cert_tree part.now)))) out.new.items) }
+{
+    begin(out, b"assume")?;
+    put_last(alloc, out, table, part)
+}
+
+#[cycle(put_certificate)]
+fn put_unfold<'a>(
+    alloc: Global,
+    out: &mut Vec<Token<'a>>,
+    table: WordTable<'a>,
+    name: &'a Name,
+    part: &'a Certificate,
+) -> Result<(), NoMemory>
+    ensures { OnOk result (Puts out.old.items (marks (certificate_form (words_in_table table.entry) (certificates.by_definition name.now (cert_tree part.now)))) out.new.items) }
+{
+    begin(out, b"unfold")?;
+    put(out, Token::Symbol(name.bytes()))?;
+    put_last(alloc, out, table, part)
+}
+
+#[cycle(put_certificate)]
+fn put_fact<'a>(
+    alloc: Global,
+    out: &mut Vec<Token<'a>>,
+    table: WordTable<'a>,
+    fact: &'a Fact,
+    part: &'a Certificate,
+) -> Result<(), NoMemory>
+    ensures { OnOk result (Puts out.old.items (marks (certificate_form (words_in_table table.entry) (certificates.fact (fact_tree fact.now) (cert_tree part.now)))) out.new.items) }
+{
+    begin_fact(alloc, out, table, fact)?;
+    put_last(alloc, out, table, part)
+}
+
 /// Puts a certificate.
 #[cycle(put_certificate)]
 pub fn put_certificate<'a>(
@@ -79,27 +137,17 @@ pub fn put_certificate<'a>(
     ensures { OnOk result (Puts out.old.items (marks (certificate_form (words_in_table table.entry) (cert_tree certificate.now))) out.new.items) }
 {
     match certificate {
-        Certificate::Same => {
-            begin(out, b"same")?;
-            put(out, Token::Close)
-        }
+        Certificate::Same => put_alone(out, b"same"),
         Certificate::Via(between, first, second) => {
             begin(out, b"via")?;
             put_assertion(alloc, out, table, between)?;
             put_certificate(alloc, out, table, first)?;
             put_last(alloc, out, table, second)
         }
-        Certificate::Pick(number, part) => {
-            begin(out, b"pick")?;
-            put(out, Token::Number(*number))?;
-            put_last(alloc, out, table, part)
-        }
+        Certificate::Pick(number, part) => put_pick(alloc, out, table, *number, part),
         Certificate::All(parts) => put_headed(alloc, out, table, b"all", parts),
         Certificate::Parts(parts) => put_headed(alloc, out, table, b"parts", parts),
-        Certificate::Assume(part) => {
-            begin(out, b"assume")?;
-            put_last(alloc, out, table, part)
-        }
+        Certificate::Assume(part) => put_assume(alloc, out, table, part),
         Certificate::DropGuard(first, second) => {
             begin(out, b"drop")?;
             put_certificate(alloc, out, table, first)?;
@@ -113,14 +161,7 @@ pub fn put_certificate<'a>(
         }
         Certificate::Contradict(items) => put_items(out, b"absurd", items),
         Certificate::Arithmetic(items) => put_items(out, b"arith", items),
-        Certificate::ByDefinition(name, part) => {
-            begin(out, b"unfold")?;
-            put(out, Token::Symbol(name.bytes()))?;
-            put_last(alloc, out, table, part)
-        }
-        Certificate::Fact(fact, part) => {
-            begin_fact(alloc, out, table, fact)?;
-            put_last(alloc, out, table, part)
-        }
+        Certificate::ByDefinition(name, part) => put_unfold(alloc, out, table, name, part),
+        Certificate::Fact(fact, part) => put_fact(alloc, out, table, fact, part),
     }
 }

@@ -1,14 +1,18 @@
 // Derivations as tokens.
 ghost use Rattle.std.specs.Prelude.{◌++◌, ◌∷◌, [], OnOk};
+ghost use Rattle.qs_entail.specs.View.{cert_tree};
 ghost use Rattle.qs_sexpr.specs.Marks.{closes, marks};
+ghost use Rattle.qs_triples.specs.Derivations as derivations;
 ghost use Rattle.qs_triples.specs.TreeOf.{derivation_tree, derivation_trees};
 ghost use Rattle.qs_prooftext.specs.Putting.{Puts, list_marks, words_in_table};
 ghost use Rattle.qs_prooftext.specs.Writing.{derivation_form, derivation_forms};
 
 use crate::certificate_tokens::put_certificate;
 use crate::naming::WordTable;
-use crate::putting::{begin, put, put_assertion};
+use crate::putting::{begin, put, put_alone, put_assertion};
+use qs_assert::Assertion;
 use qs_base::NoMemory;
+use qs_entail::Certificate;
 use qs_sexpr::Token;
 use qs_triples::Derivation;
 use std::alloc::Global;
@@ -43,6 +47,21 @@ fn put_last<'a>(
     put(out, Token::Close)
 }
 
+fn put_call<'a>(
+    alloc: Global,
+    out: &mut Vec<Token<'a>>,
+    table: WordTable<'a>,
+    frame: &'a Assertion,
+    certificate: &'a Certificate,
+) -> Result<(), NoMemory>
+    ensures { OnOk result (Puts out.old.items (marks (derivation_form (words_in_table table.entry) (derivations.call frame.now (cert_tree certificate.now)))) out.new.items) }
+{
+    begin(out, b"call")?;
+    put_assertion(alloc, out, table, frame)?;
+    put_certificate(alloc, out, table, certificate)?;
+    put(out, Token::Close)
+}
+
 /// Puts a derivation.
 #[cycle(put_derivation)]
 pub fn put_derivation<'a>(
@@ -54,10 +73,7 @@ pub fn put_derivation<'a>(
     ensures { OnOk result (Puts out.old.items (marks (derivation_form (words_in_table table.entry) (derivation_tree derivation.now))) out.new.items) }
 {
     match derivation {
-        Derivation::Leaf => {
-            begin(out, b"leaf")?;
-            put(out, Token::Close)
-        }
+        Derivation::Leaf => put_alone(out, b"leaf"),
         Derivation::Sequence(parts) => {
             begin(out, b"seq")?;
             put_derivations(alloc, out, table, parts)?;
@@ -75,16 +91,8 @@ pub fn put_derivation<'a>(
             put_derivation(alloc, out, table, body)?;
             put_last(alloc, out, table, step)
         }
-        Derivation::Call(frame, certificate) => {
-            begin(out, b"call")?;
-            put_assertion(alloc, out, table, frame)?;
-            put_certificate(alloc, out, table, certificate)?;
-            put(out, Token::Close)
-        }
-        Derivation::BalancedCall => {
-            begin(out, b"bal")?;
-            put(out, Token::Close)
-        }
+        Derivation::Call(frame, certificate) => put_call(alloc, out, table, frame, certificate),
+        Derivation::BalancedCall => put_alone(out, b"bal"),
         Derivation::Consequence(stronger, certificate, part) => {
             begin(out, b"use")?;
             put_assertion(alloc, out, table, stronger)?;

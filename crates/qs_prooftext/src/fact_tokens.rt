@@ -1,13 +1,14 @@
 // Combinations and facts as tokens.
-ghost use Rattle.std.specs.Prelude.{◌≡◌, ◌++◌, ◌∷◌, [], map, OnOk};
+ghost use Rattle.std.specs.Prelude.{◌≡◌, ◌++◌, ◌∷◌, [], codes, map, OnOk};
+ghost use Rattle.std.specs.Fmt.{signed_decimal};
 ghost use Rattle.qs_entail.specs.View.{fact_tree, item_view, items_view};
 ghost use Rattle.qs_sexpr.specs.Marks.{marks, opens, word};
 ghost use Rattle.qs_prooftext.specs.Putting.{Puts, fact_begins, list_marks, words_in_table};
-ghost use Rattle.qs_prooftext.specs.Writing.{combination_form, item_form, term_form};
+ghost use Rattle.qs_prooftext.specs.Writing.{combination_form, item_form, term_form, variable_form};
 
 use crate::naming::{WordTable, function_word};
 use crate::putting::{begin, put, put_named, put_term, put_variable};
-use qs_assert::Term;
+use qs_assert::{Term, Var};
 use qs_base::NoMemory;
 use qs_entail::{Fact, Item};
 use qs_sexpr::Token;
@@ -63,6 +64,54 @@ fn begin_with<'a>(
     put_term(alloc, out, table, t)
 }
 
+// Puts the beginning of a list with this head, a term and a combination.
+fn begin_with_items<'a>(
+    alloc: Global,
+    out: &mut Vec<Token<'a>>,
+    table: WordTable<'a>,
+    head: &'a [u8],
+    t: &'a Term,
+    items: &[Item],
+) -> Result<(), NoMemory>
+    ensures { OnOk result (Puts out.old.items (opens ∷ word head.now ∷ (marks (term_form (words_in_table table.entry) t.now) ++ marks (combination_form (items_view items.now)))) out.new.items) }
+{
+    begin_with(alloc, out, table, head, t)?;
+    put_combination(out, items)
+}
+
+// Puts the beginning of a list with this head, a term and two combinations.
+fn begin_with_both<'a>(
+    alloc: Global,
+    out: &mut Vec<Token<'a>>,
+    table: WordTable<'a>,
+    head: &'a [u8],
+    t: &'a Term,
+    first: &[Item],
+    second: &[Item],
+) -> Result<(), NoMemory>
+    ensures { OnOk result (Puts out.old.items (opens ∷ word head.now ∷ (marks (term_form (words_in_table table.entry) t.now) ++ (marks (combination_form (items_view first.now)) ++ marks (combination_form (items_view second.now))))) out.new.items) }
+{
+    begin_with_items(alloc, out, table, head, t, first)?;
+    put_combination(out, second)
+}
+
+// Puts the beginning of a fact that a variable is in the range of its type.
+fn begin_range<'a>(out: &mut Vec<Token<'a>>, table: WordTable<'a>, x: Var) -> Result<(), NoMemory>
+    ensures { OnOk result (Puts out.old.items (opens ∷ word (codes "range") ∷ marks (variable_form (words_in_table table.entry) x x.kind)) out.new.items) }
+{
+    begin(out, b"range")?;
+    put_variable(out, table, x)
+}
+
+// Puts the beginning of a fact that two terms differ.
+fn begin_apart<'a>(out: &mut Vec<Token<'a>>, number: i64, items: &[Item]) -> Result<(), NoMemory>
+    ensures { OnOk result (Puts out.old.items (opens ∷ word (codes "apart") ∷ word (signed_decimal number) ∷ marks (combination_form (items_view items.now))) out.new.items) }
+{
+    begin(out, b"apart")?;
+    put(out, Token::Number(number))?;
+    put_combination(out, items)
+}
+
 /// Puts the beginning of a fact, up to the certificate behind it.
 pub fn begin_fact<'a>(
     alloc: Global,
@@ -73,33 +122,19 @@ pub fn begin_fact<'a>(
     ensures { OnOk result (Puts out.old.items (fact_begins (words_in_table table.entry) (fact_tree fact.now)) out.new.items) }
 {
     match fact {
-        Fact::Range(x) => {
-            begin(out, b"range")?;
-            put_variable(out, table, *x)
-        }
+        Fact::Range(x) => begin_range(out, table, *x),
         Fact::CostRange(f) => {
             begin(out, b"range")?;
             put_named(out, b"cost", function_word(table, *f))
         }
-        Fact::Apart(number, items) => {
-            begin(out, b"apart")?;
-            put(out, Token::Number(*number))?;
-            put_combination(out, items)
-        }
-        Fact::NumIs(t, items) => {
-            begin_with(alloc, out, table, b"num", t)?;
-            put_combination(out, items)
-        }
+        Fact::Apart(number, items) => begin_apart(out, *number, items),
+        Fact::NumIs(t, items) => begin_with_items(alloc, out, table, b"num", t, items),
         Fact::NumBounds(t) => begin_with(alloc, out, table, b"pos", t),
         Fact::WrapUnsignedIs(t, first, second) => {
-            begin_with(alloc, out, table, b"wrapu", t)?;
-            put_combination(out, first)?;
-            put_combination(out, second)
+            begin_with_both(alloc, out, table, b"wrapu", t, first, second)
         }
         Fact::WrapSignedIs(t, first, second) => {
-            begin_with(alloc, out, table, b"wraps", t)?;
-            put_combination(out, first)?;
-            put_combination(out, second)
+            begin_with_both(alloc, out, table, b"wraps", t, first, second)
         }
         Fact::WrapUnsignedBounds(t) => begin_with(alloc, out, table, b"boundu", t),
         Fact::WrapSignedBounds(t) => begin_with(alloc, out, table, b"bounds", t),
@@ -108,10 +143,7 @@ pub fn begin_fact<'a>(
             put(out, Token::Natural(*divisor))
         }
         Fact::BitsBound(t) => begin_with(alloc, out, table, b"bits", t),
-        Fact::BitsHalf(t, items) => {
-            begin_with(alloc, out, table, b"half", t)?;
-            put_combination(out, items)
-        }
+        Fact::BitsHalf(t, items) => begin_with_items(alloc, out, table, b"half", t, items),
         Fact::BitsRise(t, u, items) => {
             begin_with(alloc, out, table, b"mono", t)?;
             put_term(alloc, out, table, u)?;

@@ -1,15 +1,14 @@
 // Proofs as the text of a file.
 ghost use Rattle.std.specs.Prelude.{◌≡◌, ◌++◌, ◌∷◌, [], codes, map, IfOk, OnOk};
 ghost use Rattle.qs_core.specs.UnitTrees.{unit_tree};
-ghost use Rattle.qs_entail.specs.View.{cert_tree};
 ghost use Rattle.qs_sexpr.specs.Layout.{lay_all};
 ghost use Rattle.qs_sexpr.specs.Marks.{all_marks, mark_of, marks};
 ghost use Rattle.qs_sexpr.specs.Writing.{Forms, symbol_form};
-ghost use Rattle.qs_triples.specs.TreeOf.{derivation_tree, entry_tree, proofs_tree};
-ghost use Rattle.qs_prooftext.specs.Putting.{Puts, words_in_table};
+ghost use Rattle.qs_triples.specs.TreeOf.{entry_tree, proofs_tree};
+ghost use Rattle.qs_prooftext.specs.Putting.{Puts, entry_part_form, words_in_table};
 ghost use Rattle.qs_prooftext.specs.Reading.{Reading};
 ghost use Rattle.qs_prooftext.specs.Writable.{IsWritable};
-ghost use Rattle.qs_prooftext.specs.Writing.{assertion_form, certificate_form, define_form, derivation_form, entry_form, entry_form_by, file_forms, forms_of, headed};
+ghost use Rattle.qs_prooftext.specs.Writing.{assertion_form, define_form, entry_form, entry_form_by, file_forms, forms_of, headed};
 
 use crate::certificate_tokens::put_certificate;
 use crate::derivation_tokens::put_derivation;
@@ -27,18 +26,44 @@ use std::alloc::Global;
 
 // ---- tokens
 
-/// Puts a list with this head and an assertion.
+/// What an entry has in a list of its own.
+#[derive(Clone, Copy)]
+pub enum EntryPart<'a> {
+    /// The precondition or the postcondition.
+    Bound(&'a Assertion),
+    /// Why the precondition is enough for the body.
+    Reason(&'a Certificate),
+    /// The derivation of the body.
+    Body(&'a Derivation),
+}
+
+fn put_entry_part<'a>(
+    alloc: Global,
+    out: &mut Vec<Token<'a>>,
+    table: WordTable<'a>,
+    part: EntryPart<'a>,
+) -> Result<(), NoMemory>
+    ensures { OnOk result (Puts out.old.items (marks (entry_part_form (words_in_table table.entry) part.entry)) out.new.items) }
+{
+    match part {
+        EntryPart::Bound(bound) => put_assertion(alloc, out, table, bound),
+        EntryPart::Reason(reason) => put_certificate(alloc, out, table, reason),
+        EntryPart::Body(body) => put_derivation(alloc, out, table, body),
+    }
+}
+
+/// Puts a list with this head and a part of an entry.
 fn put_part<'a>(
     alloc: Global,
     out: &mut Vec<Token<'a>>,
     table: WordTable<'a>,
     head: &'a [u8],
-    part: &'a Assertion,
+    part: EntryPart<'a>,
 ) -> Result<(), NoMemory>
-    ensures { OnOk result (Puts out.old.items (marks (headed head.now (assertion_form (words_in_table table.entry) part.now ∷ []))) out.new.items) }
+    ensures { OnOk result (Puts out.old.items (marks (headed head.now (entry_part_form (words_in_table table.entry) part.entry ∷ []))) out.new.items) }
 {
     begin(out, head)?;
-    put_assertion(alloc, out, table, part)?;
+    put_entry_part(alloc, out, table, part)?;
     put(out, Token::Close)
 }
 
@@ -57,34 +82,6 @@ fn put_define<'a>(
     put(out, Token::Close)
 }
 
-/// Puts why the precondition is enough for the body.
-fn put_reason<'a>(
-    alloc: Global,
-    out: &mut Vec<Token<'a>>,
-    table: WordTable<'a>,
-    certificate: &'a Certificate,
-) -> Result<(), NoMemory>
-    ensures { OnOk result (Puts out.old.items (marks (headed (codes "entry") (certificate_form (words_in_table table.entry) (cert_tree certificate.now) ∷ []))) out.new.items) }
-{
-    begin(out, b"entry")?;
-    put_certificate(alloc, out, table, certificate)?;
-    put(out, Token::Close)
-}
-
-/// Puts the derivation of the body.
-fn put_body<'a>(
-    alloc: Global,
-    out: &mut Vec<Token<'a>>,
-    table: WordTable<'a>,
-    body: &'a Derivation,
-) -> Result<(), NoMemory>
-    ensures { OnOk result (Puts out.old.items (marks (headed (codes "body") (derivation_form (words_in_table table.entry) (derivation_tree body.now) ∷ []))) out.new.items) }
-{
-    begin(out, b"body")?;
-    put_derivation(alloc, out, table, body)?;
-    put(out, Token::Close)
-}
-
 /// Puts an entry.
 fn put_entry<'a>(
     alloc: Global,
@@ -96,10 +93,16 @@ fn put_entry<'a>(
 {
     begin(out, b"function")?;
     put(out, Token::Symbol(function_word(table, entry.function)))?;
-    put_part(alloc, out, table, b"pre", &entry.spec.pre)?;
-    put_part(alloc, out, table, b"post", &entry.spec.post)?;
-    put_reason(alloc, out, table, &entry.entry)?;
-    put_body(alloc, out, table, &entry.body)?;
+    put_part(alloc, out, table, b"pre", EntryPart::Bound(&entry.spec.pre))?;
+    put_part(
+        alloc,
+        out,
+        table,
+        b"post",
+        EntryPart::Bound(&entry.spec.post),
+    )?;
+    put_part(alloc, out, table, b"entry", EntryPart::Reason(&entry.entry))?;
+    put_part(alloc, out, table, b"body", EntryPart::Body(&entry.body))?;
     put(out, Token::Close)
 }
 

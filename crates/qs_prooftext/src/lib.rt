@@ -30,6 +30,7 @@ mod rows;
 mod rules;
 mod sorts;
 mod statements;
+mod taking;
 mod tops;
 mod variables;
 mod writing;

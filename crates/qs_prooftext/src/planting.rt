@@ -1,50 +1,29 @@
 // Certificates from their heads, the last first.
 ghost use Rattle.std.specs.Prelude.{◌≡◌, [], map, reverse, IfOk};
-ghost use Rattle.qs_assert.specs.Reading.{others};
+ghost use Rattle.qs_entail.specs.Certificates as certificates;
+ghost use Rattle.qs_entail.specs.Certificates.{CertTree};
 ghost use Rattle.qs_entail.specs.View.{cert_tree};
 ghost use Rattle.qs_prooftext.specs.CertHeads as heads;
-ghost use Rattle.qs_prooftext.specs.CertHeads.{arity, cert_shape, first_cert, first_certs, head_view, planted};
+ghost use Rattle.qs_prooftext.specs.CertHeads.{arity, cert_shape, head_view, planted};
 ghost use Rattle.qs_prooftext.specs.Planting.{behind, grown};
 
 use crate::heads::CertHead;
+use crate::taking::{Part, boxed, taken, taken_all};
 use qs_assert::{Assertion, Cond};
 use qs_base::NoMemory;
 use qs_entail::Certificate;
 use std::alloc::Global;
 
-fn taken(stack: &mut Vec<Certificate>) -> Certificate
-    ensures first { cert_tree result ≡ first_cert (reverse (map cert_tree stack.old.items)) }
-    ensures left { reverse (map cert_tree stack.new.items) ≡ others (reverse (map cert_tree stack.old.items)) }
-{
-    match stack.pop() {
-        Some(part) => part,
-        None => Certificate::Same,
-    }
-}
+impl Part for Certificate {
+    ghost Tree = { CertTree };
 
-fn taken_all(
-    alloc: Global,
-    stack: &mut Vec<Certificate>,
-    count: usize,
-) -> Result<Vec<Certificate>, NoMemory>
-    ensures first { IfOk result (λ parts. map cert_tree parts.items ≡ first_certs count (reverse (map cert_tree stack.old.items))) }
-    ensures left { IfOk result (λ parts. reverse (map cert_tree stack.new.items) ≡ behind count (reverse (map cert_tree stack.old.items))) }
-{
-    let mut parts = Vec::new(alloc);
-    let mut left = count;
-    'parts: while left > 0 {
-        parts.push(taken(stack))?;
-        left -= 1;
-    }
-    Ok(parts)
-}
+    ghost tree = { cert_tree };
 
-fn boxed(alloc: Global, stack: &mut Vec<Certificate>) -> Result<Box<Certificate>, NoMemory>
-    ensures first { IfOk result (λ b. cert_tree b.value ≡ first_cert (reverse (map cert_tree stack.old.items))) }
-    ensures left { IfOk result (λ b. reverse (map cert_tree stack.new.items) ≡ others (reverse (map cert_tree stack.old.items))) }
-{
-    let part = taken(stack);
-    Ok(Box::new(alloc, part)?)
+    ghost blank = { certificates.same };
+
+    fn missing() -> Certificate {
+        Certificate::Same
+    }
 }
 
 fn via(

@@ -37,6 +37,14 @@ pub fn begin<'a>(out: &mut Vec<Token<'a>>, head: &'a [u8]) -> Result<(), NoMemor
     put(out, Token::Symbol(head))
 }
 
+/// Puts a list with this head alone.
+pub fn put_alone<'a>(out: &mut Vec<Token<'a>>, head: &'a [u8]) -> Result<(), NoMemory>
+    ensures { OnOk result (Puts out.old.items (opens ∷ word head.now ∷ closes ∷ []) out.new.items) }
+{
+    begin(out, head)?;
+    put(out, Token::Close)
+}
+
 /// Puts a list with this head and one symbol.
 pub fn put_named<'a>(
     out: &mut Vec<Token<'a>>,
@@ -68,10 +76,7 @@ pub fn put_variable<'a>(
             };
             put_named(out, b"old", variable_word(table, plain))
         }
-        VarKind::Returned => {
-            begin(out, b"result")?;
-            put(out, Token::Close)
-        }
+        VarKind::Returned => put_alone(out, b"result"),
     }
 }
 

@@ -17,13 +17,6 @@ put_certificate-returns-in_ok-put_certificate-in-Via t c =
     (three_parts c.put_last.result (codes "via") (assertion_form w c.in-Via.between) (certificate_form w (cert_tree c.deref.result.now)) (certificate_form w (cert_tree c.deref-in-Via.result.now))
     (map mark_of c.args.out.now.items) (map mark_of c.put_last.new.out.items) c.in_ok-begin-in-Via.ensures c.in_ok-put_assertion-in-Via.ensures c.in_ok-put_certificate-in-Via.ensures c.put_last.ensures)
 
-pub put_certificate-returns-in_ok-begin-in-Assume : goal.put_certificate-returns-in_ok-begin-in-Assume
-put_certificate-returns-in_ok-begin-in-Assume t c =
-    let w = words_in_table c.args.table in
-    rw (c.in-Assume.is, assume_of, ← c.deref-in-Assume.ensures)
-    (one_part c.put_last-in-Assume.result (codes "assume") (certificate_form w (cert_tree c.deref-in-Assume.result.now))
-    (map mark_of c.args.out.now.items) (map mark_of c.put_last-in-Assume.new.out.items) c.in_ok-begin-in-Assume.ensures c.put_last-in-Assume.ensures)
-
 pub put_certificate-returns-in_ok-put_certificate-in-DropGuard : goal.put_certificate-returns-in_ok-put_certificate-in-DropGuard
 put_certificate-returns-in_ok-put_certificate-in-DropGuard t c =
     let w = words_in_table c.args.table in
@@ -38,16 +31,33 @@ put_certificate-returns-in_ok-put_certificate-in-Split t c =
     (three_parts c.put_last-in-Split.result (codes "split") (condition_form w c.in-Split.condition) (certificate_form w (cert_tree c.deref-in-Split.result.now)) (certificate_form w (cert_tree c.deref-in-Split-2.result.now))
     (map mark_of c.args.out.now.items) (map mark_of c.put_last-in-Split.new.out.items) c.in_ok-begin-in-Split.ensures c.in_ok-put_condition-in-Split.ensures c.in_ok-put_certificate-in-Split.ensures c.put_last-in-Split.ensures)
 
-pub put_certificate-returns-in_ok-put-in-ByDefinition : goal.put_certificate-returns-in_ok-put-in-ByDefinition
-put_certificate-returns-in_ok-put-in-ByDefinition t c =
-    let w = words_in_table c.args.table in
-    rw (c.in-ByDefinition.is, by_definition_of, ← c.bytes.ensures, ← c.deref-in-ByDefinition.ensures)
-    (two_parts c.put_last-in-ByDefinition.result (codes "unfold") (symbol_form c.bytes.result.now) (certificate_form w (cert_tree c.deref-in-ByDefinition.result.now))
-    (map mark_of c.args.out.now.items) (map mark_of c.put_last-in-ByDefinition.new.out.items) c.in_ok-begin-in-ByDefinition.ensures c.in_ok-put-in-ByDefinition.ensures c.put_last-in-ByDefinition.ensures)
+pub put_certificate-returns-in-Assume : goal.put_certificate-returns-in-Assume
+put_certificate-returns-in-Assume t c =
+    rw (c.in-Assume.is, assume_of, ← c.deref-in-Assume.ensures) c.put_assume.ensures
 
-pub put_certificate-returns-in_ok-begin_fact-in-Fact : goal.put_certificate-returns-in_ok-begin_fact-in-Fact
-put_certificate-returns-in_ok-begin_fact-in-Fact t c =
+pub put_certificate-returns-in-ByDefinition : goal.put_certificate-returns-in-ByDefinition
+put_certificate-returns-in-ByDefinition t c =
+    rw (c.in-ByDefinition.is, by_definition_of, ← c.deref-in-ByDefinition.ensures) c.put_unfold.ensures
+
+pub put_certificate-returns-in-Fact : goal.put_certificate-returns-in-Fact
+put_certificate-returns-in-Fact t c =
+    rw (c.in-Fact.is, fact_of, ← c.deref-in-Fact.ensures) c.put_fact.ensures
+
+pub put_assume-returns : goal.put_assume-returns
+put_assume-returns t c =
     let w = words_in_table c.args.table in
-    rw (c.in-Fact.is, fact_of, ← c.deref-in-Fact.ensures)
-    (fact_whole c.put_last-in-Fact.result w (fact_tree c.in-Fact.fact) (certificate_form w (cert_tree c.deref-in-Fact.result.now))
-    (map mark_of c.args.out.now.items) (map mark_of c.put_last-in-Fact.new.out.items) c.in_ok-begin_fact-in-Fact.ensures c.put_last-in-Fact.ensures)
+    one_part c.put_last.result (codes "assume") (certificate_form w (cert_tree c.args.part.now))
+    (map mark_of c.args.out.now.items) (map mark_of c.put_last.new.out.items) c.in_ok-begin.ensures c.put_last.ensures
+
+pub put_unfold-returns : goal.put_unfold-returns
+put_unfold-returns t c =
+    let w = words_in_table c.args.table in
+    rw (← c.bytes.ensures)
+    (two_parts c.put_last.result (codes "unfold") (symbol_form c.bytes.result.now) (certificate_form w (cert_tree c.args.part.now))
+    (map mark_of c.args.out.now.items) (map mark_of c.put_last.new.out.items) c.in_ok-begin.ensures c.in_ok-put.ensures c.put_last.ensures)
+
+pub put_fact-returns : goal.put_fact-returns
+put_fact-returns t c =
+    let w = words_in_table c.args.table in
+    fact_whole c.put_last.result w (fact_tree c.args.fact.now) (certificate_form w (cert_tree c.args.part.now))
+    (map mark_of c.args.out.now.items) (map mark_of c.put_last.new.out.items) c.in_ok-begin_fact.ensures c.put_last.ensures

@@ -16,4 +16,4 @@ returns c =
     five_parts c.put-2.result (codes "function") (symbol_form (w.functions e.function.0)) (headed (codes "pre") (assertion_form w e.spec.pre ∷ [])) (headed (codes "post") (assertion_form w e.spec.post ∷ [])) (headed (codes "entry") (certificate_form w (cert_tree e.entry) ∷ [])) (headed (codes "body") (derivation_form w (derivation_tree e.body) ∷ []))
     (map mark_of c.args.out.now.items) (map mark_of c.put-2.new.out.items) c.in_ok-begin.ensures
     (c.in_ok-put.ensures ∙ ap (λ (name : List ℕ). map mark_of c.begin.new.out.items ++ (word name ∷ [])) c.function_word.ensures)
-    c.in_ok-put_part.ensures c.in_ok-put_part-2.ensures c.in_ok-put_reason.ensures c.in_ok-put_body.ensures c.put-2.ensures
+    c.in_ok-put_part.ensures c.in_ok-put_part-2.ensures c.in_ok-put_part-3.ensures c.in_ok-put_part-4.ensures c.put-2.ensures

@@ -1,0 +1,59 @@
+// Trees taken off a stack, its front being the Vec's end.
+ghost use Rattle.std.specs.Prelude.{◌≡◌, map, reverse, IfOk};
+ghost use Rattle.qs_assert.specs.Reading.{others};
+ghost use Rattle.qs_assert.specs.Stacks.{first_or};
+ghost use Rattle.qs_prooftext.specs.Planting.{behind, firsts};
+
+use qs_base::NoMemory;
+use std::alloc::Global;
+
+/// What is a part of another of its kind.
+pub trait Part: Drop {
+    ghost Tree: { Type 0 };
+
+    ghost tree: { Self → Tree };
+
+    ghost blank: { Tree };
+
+    /// What stands for a part that is missing.
+    fn missing() -> Self
+        ensures { tree result ≡ blank };
+}
+
+/// Takes the first part off.
+pub fn taken<T: Part>(stack: &mut Vec<T>) -> T
+    ensures first { T.tree result ≡ first_or T.blank (reverse (map T.tree stack.old.items)) }
+    ensures left { reverse (map T.tree stack.new.items) ≡ others (reverse (map T.tree stack.old.items)) }
+{
+    match stack.pop() {
+        Some(part) => part,
+        None => T::missing(),
+    }
+}
+
+/// Takes so many parts off.
+pub fn taken_all<T: Part>(
+    alloc: Global,
+    stack: &mut Vec<T>,
+    count: usize,
+) -> Result<Vec<T>, NoMemory>
+    ensures first { IfOk result (λ parts. map T.tree parts.items ≡ firsts T.blank count (reverse (map T.tree stack.old.items))) }
+    ensures left { IfOk result (λ _. reverse (map T.tree stack.new.items) ≡ behind count (reverse (map T.tree stack.old.items))) }
+{
+    let mut parts = Vec::new(alloc);
+    let mut left = count;
+    'parts: while left > 0 {
+        parts.push(taken(stack))?;
+        left -= 1;
+    }
+    Ok(parts)
+}
+
+/// Takes the first part off, boxed.
+pub fn boxed<T: Part>(alloc: Global, stack: &mut Vec<T>) -> Result<Box<T>, NoMemory>
+    ensures first { IfOk result (λ b. T.tree b.value ≡ first_or T.blank (reverse (map T.tree stack.old.items))) }
+    ensures left { IfOk result (λ _. reverse (map T.tree stack.new.items) ≡ others (reverse (map T.tree stack.old.items))) }
+{
+    let part = taken(stack);
+    Ok(Box::new(alloc, part)?)
+}

@@ -18,6 +18,7 @@ pub mod OneSource
 pub mod MadeLaws
 pub mod MadeFollows
 pub mod StepsLaws
+pub mod CountLaws
 pub mod HeadlineLaws
 pub mod SampleTrees
 pub mod SampleLexed

@@ -7,12 +7,11 @@ use Rattle.qs_triples.specs.Entries.{HasDerivedEntry}
 use Rattle.qs_triples.specs.Filled.{Filled}
 use Rattle.qs_prooftext.specs.Proofs.{no_proofs}
 use Rattle.qs_prooftext.specs.Reading.{Reading}
-use Rattle.qs_report.specs.Lines.{count_line}
 use Rattle.qs_report.specs.declared.fault_texts.Count.{Count}
 use Rattle.qs_report.specs.declared.fault_texts.Count.TheVariants.{Derived}
 use Rattle.qs_driver.specs.Names.{Names, no_names}
-use Rattle.qs_driver.specs.Steps.{on_out}
-use Rattle.qs_driver.specs.Due.{Due, refusal, IsRefusal}
+use Rattle.qs_driver.specs.Due.{Due, IsRefusal}
+use Rattle.qs_driver.specs.Counts.{counted, counted_or_refused}
 use Rattle.qs_driver.specs.Files.{IsUntouched}
 use Rattle.qs_driver.specs.Certified.{CertifyWords, certify_words, CertifiedSource, ReadsCertified, LacksCertified, IsRightFile, HoldsRight, RefusesCertified}
 use Rattle.qs_driver.specs.Source.{IsOfSource}
@@ -59,10 +58,6 @@ pub record HasProofs (d : DeriveWords) (before : StoreView) (s : CertifiedSource
   pub derived : AllAreDerived s
   pub is_text : Reading s.core text s.proofs
   pub is_right : IsRightFile s.core text
-
--- how many entries were derived
-abbrev pub counted : Count → Due
-counted count = record { status = Done; steps = on_out (count_line count) ∷ [] }
 
 -- The out file holds the proofs of the source; `out` gets how many entries they have.
 pub record HasDerived (d : DeriveWords) (before after : StoreView) (due : Due) : Type 0 where
@@ -126,11 +121,6 @@ derive d = record { IsDue = IsDueToDerive d; Accepts = Accepts d; Refuses = Refu
 
 -- ---- what the parts of the code answer
 
--- what is due after the work on the store
-abbrev pub due_of : DeriveWords → Result Count Status → Due
-due_of d (Ok count) = counted count
-due_of d (Err status) = refusal (names_of d) status
-
 -- the answer of `derive_proofs`
 abbrev pub Derives : DeriveWords → StoreView → StoreView → Result Count Status → Type 0
-Derives d before after work = IsDueToDerive d before after (due_of d work)
+Derives d before after work = IsDueToDerive d before after (counted_or_refused (names_of d) work)

@@ -25,7 +25,7 @@ fn name_in(name: &Option<String>) -> Option<&str>
     name.as_ref().map(|name| name.as_str())
 }
 
-pub fn build_order<'a>(
+pub fn to_build<'a>(
     source: &'a String,
     proof: &'a Option<String>,
     out: &'a String,
@@ -39,7 +39,7 @@ pub fn build_order<'a>(
     }
 }
 
-pub fn check_order<'a>(source: &'a String, proof: &'a Option<String>) -> CertifyOrder<'a>
+pub fn to_check<'a>(source: &'a String, proof: &'a Option<String>) -> CertifyOrder<'a>
     ensures { certified.words_in result ≡ certified.certify_words (string_bytes source.now) (text_of proof.now) }
 {
     CertifyOrder {
@@ -48,7 +48,7 @@ pub fn check_order<'a>(source: &'a String, proof: &'a Option<String>) -> Certify
     }
 }
 
-pub fn bound_order<'a>(
+pub fn to_bound<'a>(
     source: &'a String,
     proof: &'a Option<String>,
     args: &'a Vec<i64>,
@@ -62,7 +62,7 @@ pub fn bound_order<'a>(
     }
 }
 
-pub fn derive_order<'a>(source: &'a String, out: &'a String) -> DeriveOrder<'a>
+pub fn to_derive<'a>(source: &'a String, out: &'a String) -> DeriveOrder<'a>
     ensures { derive.words_in result ≡ derive.derive_words (string_bytes source.now) (string_bytes out.now) }
 {
     DeriveOrder {
@@ -71,7 +71,7 @@ pub fn derive_order<'a>(source: &'a String, out: &'a String) -> DeriveOrder<'a>
     }
 }
 
-pub fn outline_order(source: &String) -> OutlineOrder<'_>
+pub fn to_outline(source: &String) -> OutlineOrder<'_>
     ensures { outline.words_in result ≡ outline.outline_words (string_bytes source.now) }
 {
     OutlineOrder {
@@ -79,7 +79,7 @@ pub fn outline_order(source: &String) -> OutlineOrder<'_>
     }
 }
 
-pub fn run_order<'a>(
+pub fn to_run<'a>(
     image: &'a String,
     stack: u64,
     args: &'a Vec<i64>,
@@ -97,7 +97,7 @@ pub fn run_order<'a>(
     }
 }
 
-pub fn exec_order<'a>(
+pub fn to_exec<'a>(
     source: &'a String,
     proof: &'a Option<String>,
     args: &'a Vec<i64>,
@@ -115,7 +115,7 @@ pub fn exec_order<'a>(
     }
 }
 
-pub fn sample_order(count: u64, out: &Option<String>) -> SampleOrder<'_>
+pub fn to_sample(count: u64, out: &Option<String>) -> SampleOrder<'_>
     ensures { sample.words_in result ≡ sample.sample_words count (text_of out.now) }
 {
     SampleOrder {

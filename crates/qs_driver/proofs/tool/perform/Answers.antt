@@ -12,4 +12,4 @@ sample-requires g c =
     let of : Command → Option meant.Command = λ x. Some (command_of x) in
     let means = c.requires.means ∙ ap of c.in-Sample.is in
     let counted = sample_has_count c.requires.words c.in-Sample.count (text_of c.in-Sample.out) means in
-    subst IsSampleCount (sym (ap (λ (w : SampleWords). w.count) c.sample_order.ensures)) counted
+    subst IsSampleCount (sym (ap (λ (w : SampleWords). w.count) c.to_sample.ensures)) counted

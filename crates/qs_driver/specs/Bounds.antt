@@ -16,7 +16,7 @@ use Rattle.qs_meaning.specs.Units.{typed_of}
 use Rattle.qs_meaning.specs.Runs.{main_run, source_run}
 use Rattle.qs_triples.specs.Derivations.{EntryTree, entry_of}
 use Rattle.qs_triples.specs.Valuations.{value_at_entry}
-use Rattle.qs_image.specs.Image.{Image}
+use Rattle.qs_image.specs.Image.{Image, FunctionRecord}
 use Rattle.qs_machine.specs.Arguments.{AreArguments}
 use Rattle.qs_build.specs.Agrees.{values_of}
 use Rattle.qs_build.specs.Units.{linear, start_of}
@@ -27,9 +27,9 @@ use Rattle.qs_driver.specs.Certified.{CertifiedSource}
 
 -- ---- the bound
 
--- what a call of each function costs, by the records
-abbrev pub costs_in : Image → List ℕ
-costs_in image = map (λ f. f.cost) image.functions
+-- what a call of each function costs, by these records of an image
+abbrev pub costs_in : List FunctionRecord → List ℕ
+costs_in records = map (λ (f : FunctionRecord). f.cost) records
 
 -- what main costs, and the value of its precondition at these arguments
 abbrev pub bound_by : CertifiedSource → (costs : List ℕ) → (args : List ℤ) → Amount
@@ -42,7 +42,7 @@ if_finite Wide = None
 
 -- the bytes of stack that main needs with each list of arguments, where that is a number
 abbrev pub bytes_by : CertifiedSource → Image → Bound
-bytes_by s image args = if_finite (bound_by s (costs_in image) args)
+bytes_by s image args = if_finite (bound_by s (costs_in image.functions) args)
 
 -- the source's runs of main
 abbrev pub main_runs : TypedProgram → (args : List ℤ) → (input : List ℕ) → (n : ℕ) → RootRun
@@ -65,11 +65,11 @@ pub record WeighsWithin (s : CertifiedSource) (program : TypedProgram) (image : 
   pub weighs :
       (args : List ℤ) (input : List ℕ) (bytes n : ℕ) → AreArguments image args → IsInput input
       → bytes_by s image args ≡ Some bytes
-      → run_weight (certify.costs_of (costs_in image)) (main_runs program args input n) ≤ bytes
+      → run_weight (certify.costs_of (costs_in image.functions)) (main_runs program args input n) ≤ bytes
   pub linear_weighs :
       (args : List ℤ) (input : List ℕ) (bytes m : ℕ) → AreArguments image args → IsInput input
       → bytes_by s image args ≡ Some bytes
-      → run_weight (certify.costs_of (costs_in image)) (linear_runs s.core args input m) ≤ bytes
+      → run_weight (certify.costs_of (costs_in image.functions)) (linear_runs s.core args input m) ≤ bytes
 
 -- The same for every stack metric: what main costs by it and the value of main's precondition bound each run, of the
 -- source and of its linear code.

@@ -25,6 +25,7 @@ use Rattle.qs_triples.specs.Derivations.{ProofsTree}
 use Rattle.qs_triples.specs.Entries.{has_entry}
 use Rattle.qs_triples.specs.Rules.{DerivationFault}
 use Rattle.qs_triples.specs.Filled.{function_name}
+use Rattle.qs_triples.specs.Told.{callee_view}
 use Rattle.qs_triples.specs.TreeOf.{proofs_tree}
 use Rattle.qs_triples.specs.declared.fault.DerivFault.{DerivFault}
 use Rattle.qs_triples.specs.declared.fault.DerivFault.TheVariants as entries
@@ -47,7 +48,7 @@ use Rattle.qs_ports.specs.StoreView.{StoreView, Files}
 use Rattle.qs_driver.specs.Limits.{source_limit, proof_limit}
 use Rattle.qs_driver.specs.Files.{IsUntouched, HoldsContent, HoldsWith, IsTooLong, WasReadAs, CannotRead, ReadsFile}
 use Rattle.qs_driver.specs.Source.{HoldsText, IsPlaceOf, IsTypedAs, IsTypedUnit, IsOfSource, LacksSource, RefusesSource}
-use Rattle.qs_driver.specs.Told.{EntryPlace, place_of, fault_place, fault_text}
+use Rattle.qs_driver.specs.Told.{EntryPlace, place_of, fault_place, owner_of, fault_text}
 use Rattle.qs_driver.specs.declared.certified.CertifyOrder.{CertifyOrder}
 use Rattle.qs_driver.specs.declared.certified.CertifiedUnit.{CertifiedUnit}
 use Rattle.qs_driver.specs.declared.status.Status.{Status}
@@ -154,18 +155,13 @@ IsMentionPlace places.Precondition spot = spot ≡ spots.Pre
 IsMentionPlace places.Postcondition spot = spot ≡ spots.Post
 IsMentionPlace (places.Node path) spot = (node : Path) × (spot ≡ spots.Body node) × path_is node path.items
 
--- whose variable it is: the function's own, or that of the function that is called there
-abbrev pub owner : (function : ℕ) → (callee : Option FnId) → ℕ
-owner f None = f
-owner f (Some g) = g.0
-
 -- The fault of the entry of this function, as it is told: where it is, and what is wrong there.
 abbrev pub IsToldAs : CoreUnitTree → (function : ℕ) → DerivFault → Spot → ProofText → Type 0
 IsToldAs u f entries.NoMemory spot text = ⊥
 IsToldAs u f (entries.Shape path) spot text =
     (node : Path) × (spot ≡ spots.Body node) × path_is node path.items × (text ≡ wrongs.Shape)
 IsToldAs u f (entries.Mentions place callee x) spot text =
-    IsMentionPlace place spot × (text ≡ wrongs.Mentions (variable_text u (owner f callee) x))
+    IsMentionPlace place spot × (text ≡ wrongs.Mentions (variable_text u (owner_of f (callee_view callee)) x))
 IsToldAs u f (entries.Cert path fault) spot text =
     (node : Path) × (inner : Path) × (spot ≡ spots.BodyCert node inner) × path_is node path.items
     × path_is inner (path_in fault) × IsWrongThere fault text

@@ -40,7 +40,7 @@ pub record PrintsBound (s : CertifiedSource) (image : Image) (args : List ℤ) (
   pub printed :
       IsTrue after.out.told
       → after.out.written
-      ≡ before.out.written ++ (cost_lines image.functions ++ bound_line (shown_of (bound_by s (costs_in image) args)))
+      ≡ before.out.written ++ (cost_lines image.functions ++ bound_line (shown_of (bound_by s (costs_in image.functions) args)))
 
 -- each such call does so
 abbrev pub BoundPrintsIt : CertifyWords → Files → CertifiedSource → Image → Type 0

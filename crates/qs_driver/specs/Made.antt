@@ -10,7 +10,7 @@ use Rattle.qs_ports.specs.StoreView.{StoreView, Files}
 use Rattle.qs_core.specs.UnitTrees.{unit_tree}
 use Rattle.qs_triples.specs.TreeOf.{proofs_tree}
 use Rattle.qs_compile.specs.Compiled.{IsImageOfSource}
-use Rattle.qs_image.specs.Image.{Image, FunctionRecord}
+use Rattle.qs_image.specs.Image.{Image}
 use Rattle.qs_machine.specs.Arguments as machine
 use Rattle.qs_driver.specs.Arguments.{parameters_of_main, CountDiffers, IsMisfit, LacksWords}
 use Rattle.qs_driver.specs.Files.{IsUntouched}
@@ -35,7 +35,7 @@ make_words inputs args = record { inputs = inputs; args = args }
 -- ---- what is made
 
 -- the source and the proof file were read and come to this, of which this image is made
-pub record CanMake (m : MakeWords) (before : StoreView) (s : CertifiedSource) (image : Image) : Type 0 where
+pub record ComesToImage (m : MakeWords) (before : StoreView) (s : CertifiedSource) (image : Image) : Type 0 where
   pub reads : ReadsCertified m.inputs before s
   pub image_of : IsImageOf s image
 
@@ -43,9 +43,9 @@ pub record CanMake (m : MakeWords) (before : StoreView) (s : CertifiedSource) (i
 -- precondition.
 pub record IsMade (m : MakeWords) (before : StoreView) (image : Image) (bound : Amount) : Type 0 where
   pub source : CertifiedSource
-  pub makes : CanMake m before source image
+  pub makes : ComesToImage m before source image
   pub arguments : AreArguments source.core m.args
-  pub is_bound : bound ≡ bound_by source (costs_in image) m.args
+  pub is_bound : bound ≡ bound_by source (costs_in image.functions) m.args
 
 -- The source and the proof file were read and are right, and of the types of main's parameters this is so.
 pub record ReadsMain (m : MakeWords) (before : StoreView) (IsSo : List Scalar → Type 0) : Type 0 where
@@ -93,17 +93,13 @@ pub record RefusesMade (m : MakeWords) (files : Files) (status : Status) : Type 
 
 -- ---- what the code answers
 
--- the costs of records, in order
-abbrev pub record_costs : List FunctionRecord → List ℕ
-record_costs records = map (λ (f : FunctionRecord). f.cost) records
-
 -- What the code has made of a certified unit: an image of it. The arguments are main's, and their bound is this.
 pub record IsMadeOf (c : CertifiedUnit) (args : List ℤ) (made : Made) : Type 0 where
   pub compiled : IsImageOfSource (typed_tree c.typed) made.image
   pub arguments : machine.AreArguments made.image args
   pub bound_is :
       made.bound
-      ≡ main_bound (unit_tree c.core) (proofs_tree c.certified.proofs) (record_costs made.image.functions) args
+      ≡ main_bound (unit_tree c.core) (proofs_tree c.certified.proofs) (costs_in made.image.functions) args
 
 -- why nothing is made of it, and the status at that
 pub data CannotMakeOf (c : CertifiedUnit) (args : List ℤ) (status : Status) : Type 0 where

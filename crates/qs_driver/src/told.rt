@@ -2,10 +2,12 @@
 ghost use Rattle.std.specs.Prelude.{◌≡◌, ◌<◌, IfOk, length, List, Option, ℕ};
 ghost use Rattle.qs_core.specs.Trees.{CoreUnitTree};
 ghost use Rattle.qs_core.specs.UnitTrees.{unit_tree};
-ghost use Rattle.qs_driver.specs.Certified.{IsCertificateTold, IsEntryTold, IsMentionPlace, IsToldAs, TellsFault, owner};
+ghost use Rattle.qs_driver.specs.Certified.{IsCertificateTold, IsEntryTold, IsMentionPlace, IsToldAs, TellsFault};
+ghost use Rattle.qs_driver.specs.Told.{owner_of};
 ghost use Rattle.qs_certify.specs.Entries.{IsMet};
 ghost use Rattle.qs_certify.specs.declared.fault.CertifyFault.TheVariants as faults;
 ghost use Rattle.qs_triples.specs.Filled.{function_name};
+ghost use Rattle.qs_triples.specs.Told.{callee_view};
 ghost use Rattle.qs_triples.specs.declared.fault.DerivFault.TheVariants as entries;
 
 use crate::{ProofFault, Status};
@@ -50,8 +52,8 @@ fn mention_spot(place: Place) -> Spot
 }
 
 // The function whose variable it is.
-fn owner(f: FnId, callee: Option<FnId>) -> FnId
-    ensures { result.0 ≡ owner f.0 callee }
+fn owner_of(f: FnId, callee: Option<FnId>) -> FnId
+    ensures { result.0 ≡ owner_of f.0 (callee_view callee) }
 {
     match callee {
         None => f,
@@ -71,7 +73,7 @@ fn mention_told(
     ensures { IfOk result (λ wrong. IsToldAs (unit_tree unit.now) f.0 (entries.Mentions place callee x) wrong.spot wrong.text) }
 {
     Ok(Wrong {
-        text: ProofText::Mentions(variable_text(alloc, unit, owner(f, callee), &x)?),
+        text: ProofText::Mentions(variable_text(alloc, unit, owner_of(f, callee), &x)?),
         spot: mention_spot(place),
     })
 }

@@ -61,11 +61,11 @@ image_of {text} {c} {image} h compiled =
     (subst (λ (unit : UnitTree). IsCompiled unit image) h.holds.unit (is_compiled (typed_tree c.typed) image compiled))
 
 -- the bound that the code has computed is that of what it holds
-pub bound_of_held : {text : List ℕ} {c : CertifiedUnit} {made : Made} (h : HoldsCertified text None c) → IsMadeOf c [] made → made.bound ≡ bound_by h.source (costs_in made.image) []
+pub bound_of_held : {text : List ℕ} {c : CertifiedUnit} {made : Made} (h : HoldsCertified text None c) → IsMadeOf c [] made → made.bound ≡ bound_by h.source (costs_in made.image.functions) []
 bound_of_held {c = c} {made = made} h m =
     m.bound_is
-    ∙ ap (λ (u : CoreUnitTree). main_bound u (proofs_tree c.certified.proofs) (costs_in made.image) []) h.holds.core
-    ∙ ap (λ (p : ProofsTree). main_bound h.source.core p (costs_in made.image) []) h.holds.proofs
+    ∙ ap (λ (u : CoreUnitTree). main_bound u (proofs_tree c.certified.proofs) (costs_in made.image.functions) []) h.holds.core
+    ∙ ap (λ (p : ProofsTree). main_bound h.source.core p (costs_in made.image.functions) []) h.holds.proofs
 
 pub has_started : {text : List ℕ} {unit : List DeclTree} {c : CertifiedUnit} {made : Made} (started : SampleStart) → IsTypedAs text unit → IsRead unit → IsCertifiedUnit unit None c → IsMadeOf c [] made → IsStackOf made.bound (Ok started.stack) → LoadsImage made.image (as_run as_exec started.stack) (Ok started.machine) → started.functions ≡ length made.image.functions → HasStarted text started
 has_started started typed_as read k m is (inl never) functions_are = absurd (let none : ⊥ = cc in none)

@@ -64,7 +64,7 @@ pub record HasStack (text : List ℕ) (s : CertifiedSource) (image : Image) (sta
   pub certified : IsCertifiedAs text None s
   pub image_of : IsImageOf s image
   pub arguments : AreArguments image []
-  pub bound : bound_by s (costs_in image) [] ≡ Finite stack
+  pub bound : bound_by s (costs_in image.functions) [] ≡ Finite stack
   pub small : stack ≤ stack_limit
 
 -- where the machine stands at the end, without input

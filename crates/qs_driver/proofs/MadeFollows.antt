@@ -22,7 +22,7 @@ use Rattle.qs_driver.specs.Source.{IsTypedAs, IsOfSource, missing_source, long_s
 use Rattle.qs_driver.specs.Bounds.{bound_by, costs_in}
 use Rattle.qs_driver.specs.Certified.{CertifyWords, CertifiedSource, ReadsCertified, WasReadProof, IsRightFile, HoldsRight, HoldsRightProofs, IsOfCertified, of_source, missing_proof, long_proof, wrong_proof}
 use Rattle.qs_driver.specs.Arguments.{parameters_of_main, CountDiffers, IsMisfit}
-use Rattle.qs_driver.specs.Made.{MakeWords, ComesToImage, IsMade, ReadsMain, CannotMake, HoldsMain, FitsMain, IsOfMade, RefusesMade}
+use Rattle.qs_driver.specs.Made.{MakeWords, IsMade, ReadsMain, CannotMake, HoldsMain, FitsMain, IsOfMade, RefusesMade}
 use Rattle.qs_driver.specs.Made as meant
 use Rattle.qs_driver.specs.Promises.{StoreHeld, SaysStoreFailed}
 use Rattle.qs_driver.specs.declared.status.Status.{Status}

@@ -1,5 +1,5 @@
 -- There is a stack for each image of a sample, since main's bound is the longest path of calls.
-use Rattle.std.proofs.Common.{ℕ, ◌<◌, [], arith}
+use Rattle.std.proofs.Common.{◌<◌, [], arith}
 use Rattle.qs_certify.specs.Laws.{HasLongestBound}
 use Rattle.qs_certify.proofs.LongestLaws.{bounds_are_longest_paths}
 use Rattle.qs_driver.specs.Bounds.{costs_in}

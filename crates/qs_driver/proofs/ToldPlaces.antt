@@ -1,5 +1,5 @@
 -- The line of a fault of an entry tells its place, and what is wrong there.
-use Rattle.std.proofs.Common.{◌≡◌, ◌∙◌, ℕ, List, Option, Some, None, refl, sym, ap}
+use Rattle.std.proofs.Common.{◌≡◌, ◌∙◌, ℕ, List, Some, refl, sym, ap}
 use Rattle.std.proofs.lemmas.Option.{same_Some}
 use Rattle.qs_core.specs.Trees.{CoreUnitTree}
 use Rattle.qs_entail.specs.Answers.{fault_of}

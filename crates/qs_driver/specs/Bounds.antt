@@ -1,8 +1,6 @@
 -- The bound of a source that is certified, by the costs of its image: what it says of the source's runs, and of the image's.
-use Rattle.std.specs.Prelude.{◌≡◌, ℕ, ◌<◌, ◌≤◌, ℤ, List, map, All, Option, Some, None}
+use Rattle.std.specs.Prelude.{◌≡◌, ℕ, ◌≤◌, ℤ, List, map, Option, Some, None}
 use Rattle.std.specs.List.{slice_get}
-use Rattle.qs_memory.specs.Values.{Value}
-use Rattle.qs_events.specs.BoundedRun.{BoundedRun}
 use Rattle.qs_events.specs.Weights.{Costs, run_weight}
 use Rattle.qs_calls.specs.World.{RootRun}
 use Rattle.qs_assert.specs.Values.{finite, plus}

@@ -1,19 +1,16 @@
 -- A source and a proof file that a command reads: a unit with proofs that cover it, or why it is refused.
-use Rattle.std.specs.Prelude.{◌≡◌, ◌≢◌, ◌⊎◌, ◌↔◌, ℕ, ◌<◌, ◌≤◌, true, List, [], ◌∷◌, length, map, All, IsTrue, Option, Some, None, Result, Ok, Err, Vec, option_map}
+use Rattle.std.specs.Prelude.{◌≡◌, ◌⊎◌, ◌↔◌, ℕ, List, [], map, Option, Some, None, Result, Ok, Err, Vec, option_map}
 use Rattle.std.specs.declared.alloc.Global.{Global}
-use Rattle.std.specs.Borrow.{Bor}
-use Rattle.qs_base.specs.declared.function.FnId.{FnId}
 use Rattle.qs_base.specs.declared.places.Pos.{Pos}
 use Rattle.qs_syntax.specs.Trees.{UnitTree}
 use Rattle.qs_typing.specs.TypedOf.{typed_tree}
-use Rattle.qs_meaning.specs.Typed.{TypedProgram}
 use Rattle.qs_core.specs.CallGraph.{IsCycle, IsWithoutRecursion}
 use Rattle.qs_core.specs.Trees.{CoreUnitTree}
 use Rattle.qs_core.specs.UnitTrees.{unit_tree}
 use Rattle.qs_elaborate.specs.FitLaws.{HasCore}
 use Rattle.qs_elaborate.specs.Units.{core_of}
 use Rattle.qs_callgraph.specs.CallLists.{numbers}
-use Rattle.qs_prooftext.specs.Reading.{Reading, Fault}
+use Rattle.qs_prooftext.specs.Reading.{Reading}
 use Rattle.qs_prooftext.specs.Writing.{variable_text}
 use Rattle.qs_prooftext.specs.declared.fault.TextFault.{TextFault}
 use Rattle.qs_prooftext.specs.declared.fault.TextFault.TheVariants as texts

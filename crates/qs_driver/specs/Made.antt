@@ -1,5 +1,5 @@
 -- What is made of a source that is certified: its image, which isn't written, and main's bound at some arguments.
-use Rattle.std.specs.Prelude.{◌≡◌, ◌↔◌, ℕ, ℤ, List, length, map, Some, Result, Ok, Err}
+use Rattle.std.specs.Prelude.{◌≡◌, ◌↔◌, ℕ, ℤ, List, length, Some, Result, Ok, Err}
 use Rattle.qs_memory.specs.declared.scalar.Scalar.{Scalar}
 use Rattle.qs_typing.specs.TypedOf.{typed_tree}
 use Rattle.qs_assert.specs.declared.define.Amount.{Amount}

@@ -36,7 +36,7 @@ use Rattle.qs_driver.specs.commands.Derive.{DeriveWords, names_of, inputs, deriv
 use Rattle.qs_driver.specs.commands.Derive as meant
 use Rattle.qs_driver.specs.declared.certified.CertifiedUnit.{CertifiedUnit}
 use Rattle.qs_driver.specs.declared.status.Status.{Status}
-use Rattle.qs_driver.specs.declared.status.Status.TheVariants.{Done, StoreFailed, NoMemory}
+use Rattle.qs_driver.specs.declared.status.Status.TheVariants.{StoreFailed, NoMemory}
 use Rattle.qs_driver.specs.declared.status.FileKind.TheVariants as kinds
 use Rattle.qs_driver.proofs.BoundsLaws.{core_is}
 use Rattle.qs_driver.proofs.LaterLaws.{keeps_then_holds, cut_short}

@@ -1,25 +1,19 @@
 -- How `sample` comes to a machine, and what it came to.
-use Rattle.std.proofs.Common.{◌≡◌, ◌⊎◌, ◌∙◌, ℕ, ◌≤◌, ◌++◌, List, [], ◌∷◌, length, Option, Some, None, Result, Ok, Err, refl, sym, ap, subst, inl, inr, arith}
+use Rattle.std.proofs.Common.{◌≡◌, ◌⊎◌, ◌∙◌, ℕ, ◌++◌, List, [], length, Option, Some, None, Result, Ok, Err, refl, sym, ap, subst, inl, inr, arith}
 use Rattle.qs_syntax.specs.Trees.{DeclTree, UnitTree}
 use Rattle.qs_syntax.specs.Units.{IsRead}
 use Rattle.qs_typing.specs.TypedOf.{typed_tree}
-use Rattle.qs_assert.specs.declared.define.Amount.{Amount}
-use Rattle.qs_assert.specs.declared.define.Amount.TheVariants.{Finite}
 use Rattle.qs_core.specs.Trees.{CoreUnitTree}
-use Rattle.qs_core.specs.UnitTrees.{unit_tree}
 use Rattle.qs_triples.specs.Derivations.{ProofsTree}
 use Rattle.qs_triples.specs.TreeOf.{proofs_tree}
-use Rattle.qs_ports.specs.StoreView.{StoreView, HasFailed}
+use Rattle.qs_ports.specs.StoreView.{StoreView}
 use Rattle.qs_ports.specs.SinkView.{SinkView, Appends}
-use Rattle.qs_ports.specs.Whole.{IsCutShort}
-use Rattle.qs_image.specs.Image.{Image, IsImage}
+use Rattle.qs_image.specs.Image.{Image}
 use Rattle.qs_machine.specs.Arguments.{words_of}
-use Rattle.qs_machine.specs.Run.{Outcome, Exited, Trapped as HasTrapped, Going, machine, start, output_so_far}
+use Rattle.qs_machine.specs.Run.{Outcome, Exited, Trapped as HasTrapped, Going, machine, output_so_far}
 use Rattle.qs_machine.specs.Running.{Shows}
-use Rattle.qs_machine.specs.State.{stack_limit}
 use Rattle.qs_machine.specs.declared.answers.RunEnd.{RunEnd}
 use Rattle.qs_machine.specs.declared.answers.RunEnd.TheVariants as end
-use Rattle.qs_machine.specs.declared.machine.Machine.{Machine}
 use Rattle.qs_emit.specs.Agree.{Agree}
 use Rattle.qs_certify.specs.Bound.{main_bound}
 use Rattle.qs_compile.specs.Compiled.{IsCompiled, IsImageOfSource}
@@ -28,7 +22,6 @@ use Rattle.qs_driver.specs.Certified.{IsCertifiedUnit}
 use Rattle.qs_driver.specs.Devices.{streams, views_of}
 use Rattle.qs_driver.specs.Due.{Due, EndsWith, IsWritten}
 use Rattle.qs_driver.specs.Faults.{status_line}
-use Rattle.qs_driver.specs.Files.{IsUntouched}
 use Rattle.qs_driver.specs.KeptOutput.{kept_view}
 use Rattle.qs_driver.specs.Limits.{default_steps}
 use Rattle.qs_driver.specs.Made.{IsMadeOf}
@@ -36,7 +29,7 @@ use Rattle.qs_driver.specs.SampleSource.{sample_text}
 use Rattle.qs_driver.specs.Source.{IsTypedAs}
 use Rattle.qs_driver.specs.Task.{Answers}
 use Rattle.qs_driver.specs.commands.Exec.{as_run, IsSourcesEnd, IsStackOf, LoadsImage}
-use Rattle.qs_driver.specs.commands.Sample.{SampleWords, names_of, as_exec, counted, outcome, sample, sample_lines, due_of, HasStack, HasStarted, HasWritten, IsDueAt, IsDueToSample, ComesTo, RunsCounted, Samples, WritesSource}
+use Rattle.qs_driver.specs.commands.Sample.{SampleWords, names_of, as_exec, counted, outcome, sample, sample_lines, due_of, HasStarted, HasWritten, IsDueAt, IsDueToSample, ComesTo, RunsCounted, Samples, WritesSource}
 use Rattle.qs_driver.specs.commands.Sample as meant
 use Rattle.qs_driver.specs.declared.certified.CertifiedUnit.{CertifiedUnit}
 use Rattle.qs_driver.specs.declared.commands.sample.SampleStart.{SampleStart}
@@ -44,8 +37,7 @@ use Rattle.qs_driver.specs.declared.commands.sample.SampleEnd.{SampleEnd}
 use Rattle.qs_driver.specs.declared.kept_output.KeptOutput.{KeptOutput}
 use Rattle.qs_driver.specs.declared.made.Made.{Made}
 use Rattle.qs_driver.specs.declared.status.Status.{Status}
-use Rattle.qs_driver.specs.declared.status.Status.TheVariants.{Done, Trapped, StepLimit, StoreFailed, NoMemory}
-use Rattle.qs_driver.specs.declared.status.FileKind.TheVariants as kinds
+use Rattle.qs_driver.specs.declared.status.Status.TheVariants.{Done, Trapped, StepLimit, NoMemory}
 use Rattle.qs_driver.proofs.BoundsLaws.{compiled_is_image, is_compiled}
 use Rattle.qs_driver.proofs.CertifiedLaws.{HoldsCertified, holds_certified}
 use Rattle.qs_driver.proofs.laws.Exec.{sources_end, stands_at}

@@ -1,5 +1,5 @@
 -- `build`: from the source and its proof file in the store to the image in the store.
-use Rattle.std.specs.Prelude.{◌≡◌, ◌≢◌, ◌⊎◌, ◌↔◌, ℕ, List, [], ◌∷◌, IsTrue, Option, Some, Result, Ok, Err, option_map}
+use Rattle.std.specs.Prelude.{◌≡◌, ◌⊎◌, ◌↔◌, ℕ, List, [], ◌∷◌, IsTrue, Option, Some, Result, Ok, Err, option_map}
 use Rattle.qs_ports.specs.StoreView.{StoreView, HasSameCounts, HasFailed}
 use Rattle.qs_ports.specs.Whole.{Stores, IsCutShort}
 use Rattle.qs_image.specs.Image.{Image, IsImage}

@@ -1,4 +1,4 @@
-use Rattle.std.proofs.Common.{◌≡◌, ◌∙◌, Some, Option, ap, sym, subst}
+use Rattle.std.proofs.Common.{◌∙◌, Some, Option, ap, sym, subst}
 use Rattle.qs_cli.specs.Commands as meant
 use Rattle.qs_cli.specs.Reading.{command_of, text_of}
 use Rattle.qs_cli.specs.declared.commands.Command.{Command}

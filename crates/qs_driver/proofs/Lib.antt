@@ -7,10 +7,13 @@ pub mod FaultNodes
 pub mod SourceLaws
 pub mod SourceFollows
 pub mod MainLaws
+mod ArgumentsExamples
 pub mod BoundsLaws
+mod BoundsExamples
 pub mod SizesLaws
 pub mod ToldLaws
 pub mod ToldPlaces
+mod ToldExamples
 pub mod CertifiedLaws
 pub mod CertifiedFollows
 pub mod CertifiedRefusals
@@ -31,6 +34,7 @@ pub mod SampleMeaning
 pub mod SampleCore
 pub mod SampleBounds
 pub mod SampleLaws
+mod SizesExamples
 pub mod SampleStacks
 pub mod SampleStackLaw
 pub mod SampleRefusals

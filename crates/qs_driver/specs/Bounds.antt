@@ -59,15 +59,18 @@ linear_runs u args input m = tac_run (linear u) u.main (values_of args) (start_o
 -- Where the arguments are main's and their bound is a number, no run of main weighs more by the costs of the records:
 -- on each input, within each bound of turns and depth, also where it is undefined or short. Nor does any of its linear
 -- code, within each number of steps.
-pub record WeighsWithin (s : CertifiedSource) (program : TypedProgram) (image : Image) : Type 0 where
+pub record WeighsWithin (s : CertifiedSource) (program : TypedProgram) (image : Image)
+    : Type 0 where
   pub weighs :
       (args : List ℤ) (input : List ℕ) (bytes n : ℕ) → AreArguments image args → IsInput input
       → bytes_by s image args ≡ Some bytes
-      → run_weight (certify.costs_of (costs_in image.functions)) (main_runs program args input n) ≤ bytes
+      → run_weight (certify.costs_of (costs_in image.functions)) (main_runs program args input n)
+      ≤ bytes
   pub linear_weighs :
       (args : List ℤ) (input : List ℕ) (bytes m : ℕ) → AreArguments image args → IsInput input
       → bytes_by s image args ≡ Some bytes
-      → run_weight (certify.costs_of (costs_in image.functions)) (linear_runs s.core args input m) ≤ bytes
+      → run_weight (certify.costs_of (costs_in image.functions)) (linear_runs s.core args input m)
+      ≤ bytes
 
 -- The same for every stack metric: what main costs by it and the value of main's precondition bound each run, of the
 -- source and of its linear code.
@@ -77,14 +80,18 @@ pub record IsBoundedByMain (s : CertifiedSource) (program : TypedProgram) : Type
   pub entry : EntryTree
   pub stands : entry_of s.proofs s.core.main ≡ Some entry
   pub bounds :
-      (cost : Costs) (args : List ℤ) (input : List ℕ) (n : ℕ) → certify.AreArguments s.core args → IsInput input
+      (cost : Costs) (args : List ℤ) (input : List ℕ) (n : ℕ)
+      → certify.AreArguments s.core args → IsInput input
       → AtLeast
-      (plus (finite (cost s.core.main)) (value_at_entry cost s.proofs.defines main (values_of args) entry.spec.pre))
+      (plus (finite (cost s.core.main))
+      (value_at_entry cost s.proofs.defines main (values_of args) entry.spec.pre))
       (finite (run_weight cost (main_runs program args input n)))
   pub bounds_linear :
-      (cost : Costs) (args : List ℤ) (input : List ℕ) (m : ℕ) → certify.AreArguments s.core args → IsInput input
+      (cost : Costs) (args : List ℤ) (input : List ℕ) (m : ℕ)
+      → certify.AreArguments s.core args → IsInput input
       → AtLeast
-      (plus (finite (cost s.core.main)) (value_at_entry cost s.proofs.defines main (values_of args) entry.spec.pre))
+      (plus (finite (cost s.core.main))
+      (value_at_entry cost s.proofs.defines main (values_of args) entry.spec.pre))
       (finite (run_weight cost (linear_runs s.core args input m)))
 
 -- the source has a typed tree whose runs main's entry bounds, as those of its linear code, for every stack metric

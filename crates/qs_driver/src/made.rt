@@ -62,7 +62,8 @@ pub fn make<S: Store>(
     inputs: &CertifyOrder<'_>,
     args: &[i64],
 ) -> Result<Made, Status>
-    ensures { Makes (make_words (words_in inputs.now) args.now) (S.view store.old) (S.view store.new) result }
+    ensures { Makes (make_words (words_in inputs.now) args.now)
+        (S.view store.old) (S.view store.new) result }
 {
     let certified = read_certified(alloc, store, inputs)?;
     make_certified(alloc, &certified, args)

@@ -30,7 +30,8 @@ pub fn to_build<'a>(
     proof: &'a Option<String>,
     out: &'a String,
 ) -> BuildOrder<'a>
-    ensures { build.words_in result ≡ build.build_words (string_bytes source.now) (text_of proof.now) (string_bytes out.now) }
+    ensures { build.words_in result
+        ≡ build.build_words (string_bytes source.now) (text_of proof.now) (string_bytes out.now) }
 {
     BuildOrder {
         source: source.as_str(),
@@ -40,7 +41,8 @@ pub fn to_build<'a>(
 }
 
 pub fn to_check<'a>(source: &'a String, proof: &'a Option<String>) -> CertifyOrder<'a>
-    ensures { certified.words_in result ≡ certified.certify_words (string_bytes source.now) (text_of proof.now) }
+    ensures { certified.words_in result
+        ≡ certified.certify_words (string_bytes source.now) (text_of proof.now) }
 {
     CertifyOrder {
         source: source.as_str(),
@@ -53,7 +55,8 @@ pub fn to_bound<'a>(
     proof: &'a Option<String>,
     args: &'a Vec<i64>,
 ) -> BoundOrder<'a>
-    ensures { bound.words_in result ≡ bound.bound_words (string_bytes source.now) (text_of proof.now) args.now.items }
+    ensures { bound.words_in result
+        ≡ bound.bound_words (string_bytes source.now) (text_of proof.now) args.now.items }
 {
     BoundOrder {
         source: source.as_str(),
@@ -63,7 +66,8 @@ pub fn to_bound<'a>(
 }
 
 pub fn to_derive<'a>(source: &'a String, out: &'a String) -> DeriveOrder<'a>
-    ensures { derive.words_in result ≡ derive.derive_words (string_bytes source.now) (string_bytes out.now) }
+    ensures { derive.words_in result
+        ≡ derive.derive_words (string_bytes source.now) (string_bytes out.now) }
 {
     DeriveOrder {
         source: source.as_str(),
@@ -86,7 +90,8 @@ pub fn to_run<'a>(
     input: &'a Option<String>,
     steps: u64,
 ) -> RunOrder<'a>
-    ensures { run.words_in result ≡ run.run_words (string_bytes image.now) stack args.now.items (text_of input.now) steps }
+    ensures { run.words_in result
+        ≡ run.run_words (string_bytes image.now) stack args.now.items (text_of input.now) steps }
 {
     RunOrder {
         image: image.as_str(),
@@ -104,7 +109,9 @@ pub fn to_exec<'a>(
     input: &'a Option<String>,
     steps: u64,
 ) -> ExecOrder<'a>
-    ensures { exec.words_in result ≡ exec.exec_words (string_bytes source.now) (text_of proof.now) args.now.items (text_of input.now) steps }
+    ensures { exec.words_in result
+        ≡ exec.exec_words (string_bytes source.now) (text_of proof.now) args.now.items
+        (text_of input.now) steps }
 {
     ExecOrder {
         source: source.as_str(),

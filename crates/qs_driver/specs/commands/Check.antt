@@ -21,7 +21,8 @@ names_of w = record no_names { source = w.source; derivation = proof_name w.proo
 
 -- functions with an entry in the proof file, and functions whose entry was filled in
 abbrev pub counts_of : CertifiedSource → Count
-counts_of s = Checked (length s.given.functions) (length s.proofs.functions - length s.given.functions)
+counts_of s =
+    Checked (length s.given.functions) (length s.proofs.functions - length s.given.functions)
 
 -- The source and its proof file come to this, and no file changed: main's entry bounds each run, of the source and of
 -- its linear code, for every stack metric. `out` gets the counts.
@@ -35,7 +36,8 @@ pub record HasChecked (w : CertifyWords) (before after : StoreView) (due : Due) 
 -- What is due to `check`, and why.
 pub data IsDueToCheck (w : CertifyWords) (before after : StoreView) (due : Due) : Type 0 where
   checked : HasChecked w before after due → IsDueToCheck w before after due
-  refused : (status : Status) → LacksCertified w before after status → IsRefusal (names_of w) status due
+  refused : (status : Status) → LacksCertified w before after status
+      → IsRefusal (names_of w) status due
       → IsDueToCheck w before after due
 
 -- ---- what follows

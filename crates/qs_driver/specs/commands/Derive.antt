@@ -52,7 +52,8 @@ AllAreDerived s = (f : ℕ) → f < length s.core.functions → HasDerivedEntry 
 
 -- The source was read and is certified, and its proofs are all filled in, none being given: each function has an entry,
 -- which is derived. The text reads as these proofs, and is right as a proof file of the source.
-pub record HasProofs (d : DeriveWords) (before : StoreView) (s : CertifiedSource) (text : List ℕ) : Type 0 where
+pub record HasProofs (d : DeriveWords) (before : StoreView) (s : CertifiedSource) (text : List ℕ)
+    : Type 0 where
   pub reads : ReadsCertified (inputs d) before s
   pub filled : Filled s.core no_proofs s.proofs
   pub derived : AllAreDerived s
@@ -79,7 +80,8 @@ pub record CouldNotWrite (d : DeriveWords) (before after : StoreView) : Type 0 w
 -- Why there are no proofs, and the status at that.
 pub data CannotDerive (d : DeriveWords) (before after : StoreView) (status : Status) : Type 0 where
   not_certified : LacksCertified (inputs d) before after status → CannotDerive d before after status
-  unwritable : CouldNotWrite d before after → status ≡ StoreFailed kinds.Output → CannotDerive d before after status
+  unwritable : CouldNotWrite d before after → status ≡ StoreFailed kinds.Output
+      → CannotDerive d before after status
   -- no memory was found, before anything was written
   no_memory : IsUntouched before after → status ≡ NoMemory → CannotDerive d before after status
 
@@ -114,7 +116,8 @@ pub data IsOfDerive : Status → Type 0 where
 pub record Refuses (d : DeriveWords) (before : StoreView) (status : Status) : Type 0 where
   pub own : IsOfDerive status
   pub same_name : (status ≡ Words SameName) ↔ (d.source ≡ d.out)
-  pub certified : IsTrue before.told → d.source ≢ d.out → RefusesCertified (inputs d) before.files status
+  pub certified : IsTrue before.told → d.source ≢ d.out
+      → RefusesCertified (inputs d) before.files status
 
 abbrev pub derive : DeriveWords → Task
 derive d = record { IsDue = IsDueToDerive d; Accepts = Accepts d; Refuses = Refuses d }

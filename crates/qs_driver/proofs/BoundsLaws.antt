@@ -1,5 +1,5 @@
 -- An image that is compiled of a certified source is an image of it, and all images of one core are alike.
-use Rattle.std.proofs.Common.{◌≡◌, ◌++◌, ℕ, zero, suc, ◌+◌, ◌<◌, ◌≤◌, true, if◌then◌else◌, ℤ, List, [], ◌∷◌, length, map, Option, Some, None, refl, sym, ap, ◌∙◌, subst, arith}
+use Rattle.std.proofs.Common.{◌≡◌, ◌++◌, ℕ, zero, suc, ◌+◌, ◌<◌, ◌≤◌, true, ℤ, List, [], ◌∷◌, length, map, Option, Some, refl, sym, ap, ◌∙◌, subst, arith}
 use Rattle.std.specs.Prelude.{◌↔◌, slice_index_or}
 use Rattle.std.proofs.lemmas.Option.{same_Some}
 use Rattle.qs_base.specs.Words.{wrap}
@@ -42,13 +42,13 @@ use Rattle.qs_driver.proofs.MainLaws.{arguments_are_mains, parameters_are, misfi
 
 -- ---- costs
 
-cost_of_record : (rs : List FunctionRecord) (f : ℕ) → f < length rs → slice_index_or (map (λ (x : FunctionRecord). x.cost) rs) f 0 ≡ (slice_index_or rs f no_record).cost
+cost_of_record : (rs : List FunctionRecord) (f : ℕ) → f < length rs → slice_index_or (costs_in rs) f 0 ≡ (slice_index_or rs f no_record).cost
 cost_of_record [] f h = absurd (omega (arith, h))
 cost_of_record (q ∷ rs) zero h = refl
 cost_of_record (q ∷ rs) (suc f) h = cost_of_record rs f (omega (arith, h))
 
 -- the records of an image give each function's cost
-pub records_are_costs : (image : Image) → AreCosts image (certify.costs_of (costs_in image))
+pub records_are_costs : (image : Image) → AreCosts image (certify.costs_of (costs_in image.functions))
 records_are_costs image = record { each = λ f h. cost_of_record image.functions f h }
 
 -- ---- agreement
@@ -57,7 +57,7 @@ records_are_costs image = record { each = λ f h. cost_of_record image.functions
 pub agrees_from : (s : CertifiedSource) (image : Image) (c : IsCompiled s.unit image) → WeighsWithin s c.program image → AgreesFrom (bytes_by s image) (seen_runs c.program) image
 agrees_from s image c w = record {
   agree = λ args input least size arguments is_input bound_is within most.
-      let cost : Costs = certify.costs_of (costs_in image) in
+      let cost : Costs = certify.costs_of (costs_in image.functions) in
       let stack : SourceHasStack c.program image cost args input size = record {
         arguments = arguments;
         bytes = is_input;
@@ -145,7 +145,7 @@ module _ (text : List ℕ) (file : Option (List ℕ)) (s : CertifiedSource) (c :
     program_follows args input n = core_follows args input n ∙ ap (λ (p : TypedProgram). main_runs p args input n) same_program
 
     abbrev record_costs : Costs
-    record_costs = certify.costs_of (costs_in image)
+    record_costs = certify.costs_of (costs_in image.functions)
 
     core_weighs :
         (args : List ℤ) (input : List ℕ) (bytes n : ℕ) → AreArguments image args → IsInput input
@@ -153,9 +153,9 @@ module _ (text : List ℕ) (file : Option (List ℕ)) (s : CertifiedSource) (c :
         → run_weight record_costs (core.main_run s.core (values_of args) input n) ≤ bytes
     core_weighs args input bytes n arguments is_input bound_is =
         let mains_are = (arguments_are_mains s.core image args fits (built_from s.unit s.core image core_is i)).0 arguments in
-        let is_bound = finite_is (bound_by s (costs_in image) args) bytes bound_is in
+        let is_bound = finite_is (bound_by s (costs_in image.functions) args) bytes bound_is in
         subst (λ (vs : List Value). run_weight record_costs (core.main_run s.core vs input n) ≤ bytes) (same_values args)
-        (main_bounds_runs s.core s.given s.proofs (costs_in image) args bytes fits c.certified.covers mains_are is_bound input n is_input)
+        (main_bounds_runs s.core s.given s.proofs (costs_in image.functions) args bytes fits c.certified.covers mains_are is_bound input n is_input)
 
     -- so do the costs of the records, with the bound as it is computed
     weighs_within : WeighsWithin s i.program image
@@ -213,16 +213,16 @@ source_bounded w v s r = record {
 -- they have the same names and the same costs
 pub record AreAlike (image other : Image) : Type 0 where
   pub names : map (λ (f : FunctionRecord). f.name) image.functions ≡ map (λ (f : FunctionRecord). f.name) other.functions
-  pub costs : costs_in image ≡ costs_in other
+  pub costs : costs_in image.functions ≡ costs_in other.functions
 
-same_costs : (rs qs : List FunctionRecord) → length rs ≡ length qs → ((f : ℕ) → f < length rs → (slice_index_or rs f no_record).cost ≡ (slice_index_or qs f no_record).cost) → map (λ (x : FunctionRecord). x.cost) rs ≡ map (λ (x : FunctionRecord). x.cost) qs
+same_costs : (rs qs : List FunctionRecord) → length rs ≡ length qs → ((f : ℕ) → f < length rs → (slice_index_or rs f no_record).cost ≡ (slice_index_or qs f no_record).cost) → costs_in rs ≡ costs_in qs
 same_costs [] [] long same = refl
 same_costs [] (q ∷ qs) long same = absurd (omega (arith, long))
 same_costs (r ∷ rs) [] long same = absurd (omega (arith, long))
 same_costs (r ∷ rs) (q ∷ qs) long same =
     let first : r.cost ≡ q.cost = same 0 (omega arith) in
     let others = same_costs rs qs (omega (arith, long)) (λ f h. same (suc f) (omega (arith, h))) in
-    ap (λ (c : ℕ). c ∷ map (λ (x : FunctionRecord). x.cost) rs) first ∙ ap (λ (cs : List ℕ). q.cost ∷ cs) others
+    ap (λ (c : ℕ). c ∷ costs_in rs) first ∙ ap (λ (cs : List ℕ). q.cost ∷ cs) others
 
 built_alike : (u : CoreUnitTree) (image other : Image) → IsBuiltFrom u image → IsBuiltFrom u other → AreAlike image other
 built_alike u image other a b = record {

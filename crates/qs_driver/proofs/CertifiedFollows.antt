@@ -10,7 +10,7 @@ use Rattle.qs_certify.specs.declared.fault.CertifyFault.TheVariants as faults
 use Rattle.qs_certify.proofs.RefusalLaws.{right_proofs_are_certified, units_without_recursion_are_certified}
 use Rattle.qs_ports.specs.StoreView.{StoreView, Files}
 use Rattle.qs_driver.specs.Limits.{source_limit, proof_limit}
-use Rattle.qs_driver.specs.Files.{HoldsContent, HoldsWith, IsTooLong}
+use Rattle.qs_driver.specs.Files.{HoldsContent, HoldsWith}
 use Rattle.qs_driver.specs.Files as files
 use Rattle.qs_driver.specs.Source.{IsTypedUnit}
 use Rattle.qs_driver.specs.Certified.{CertifyWords, LacksCertified, HoldsRight, HoldsRightProofs, HasWrongProofs, ReadsWrong, WasReadProof, Tells, IsOfCertified, of_source, missing_proof, long_proof, wrong_proof}

@@ -1,5 +1,5 @@
 -- How a source and its proof file come to a unit with proofs.
-use Rattle.std.proofs.Common.{◌≡◌, ◌≤◌, ◌⊎◌, ◌∙◌, ℕ, arith, List, length, Option, Some, None, Result, Ok, Err, refl, sym, ap, subst, inl, inr}
+use Rattle.std.proofs.Common.{◌≡◌, ◌≤◌, ◌∙◌, ℕ, arith, List, length, Option, Some, None, Result, Ok, Err, refl, sym, ap, subst, inl, inr}
 use Rattle.std.specs.Prelude.{Vec}
 use Rattle.std.specs.declared.alloc.Global.{Global}
 use Rattle.std.proofs.lemmas.Option.{same_Some}
@@ -15,10 +15,10 @@ use Rattle.qs_certify.specs.Certification.{CannotCertify}
 use Rattle.qs_certify.specs.Given.{IsShort}
 use Rattle.qs_certify.specs.declared.fault.CertifyFault.{CertifyFault}
 use Rattle.qs_ports.specs.StoreView.{StoreView}
-use Rattle.qs_driver.specs.Limits.{source_limit, proof_limit}
-use Rattle.qs_driver.specs.Files.{IsUntouched, WasReadAs, WasRead, CannotRead}
+use Rattle.qs_driver.specs.Limits.{proof_limit}
+use Rattle.qs_driver.specs.Files.{IsUntouched}
 use Rattle.qs_driver.specs.Source.{HasUnit, IsTypedAs, LacksSource}
-use Rattle.qs_driver.specs.Certified.{CertifyWords, CertifiedSource, IsCertifiedAs, Certifies, WasReadProof, ReadsProof, TellsFault, file_of, IsCertifiedUnit, CertifiesTyped, LacksCertified, HasCertified, HasWrongProofs, ReadsAll}
+use Rattle.qs_driver.specs.Certified.{CertifyWords, CertifiedSource, IsCertifiedAs, Certifies, WasReadProof, ReadsProof, TellsFault, file_of, IsCertifiedUnit, CertifiesTyped, LacksCertified, ReadsAll}
 use Rattle.qs_driver.specs.Certified as meant
 use Rattle.qs_driver.specs.declared.certified.CertifiedUnit.{CertifiedUnit}
 use Rattle.qs_driver.specs.declared.status.Status.{Status}

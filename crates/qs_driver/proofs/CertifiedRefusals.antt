@@ -23,7 +23,7 @@ use Rattle.qs_certify.proofs.OneLaws.{order_is_told, entry_faults_are_told}
 use Rattle.qs_certify.proofs.RefusalLaws.{text_faults_are_told, cycles_are_told}
 use Rattle.qs_ports.specs.StoreView.{StoreView, Files}
 use Rattle.qs_driver.specs.Limits.{source_limit, proof_limit}
-use Rattle.qs_driver.specs.Files.{HoldsContent, HoldsWith, IsTooLong}
+use Rattle.qs_driver.specs.Files.{HoldsWith, IsTooLong}
 use Rattle.qs_driver.specs.Files as files
 use Rattle.qs_driver.specs.Source.{IsPlaceOf, IsTypedUnit}
 use Rattle.qs_driver.specs.Certified.{CertifyWords, CertifiedSource, LacksCertified, ReadsCertified, WasReadProof, HoldsProof, HoldsBoth, HoldsUnit, OfProof, Tells, IsTextPlace, HasTextFaultAt, LeavesCycle, IsCycleOf, HasFirstFault, LacksDerivation, IsCycleStatus, IsEntryStatus, RefusesCertified}

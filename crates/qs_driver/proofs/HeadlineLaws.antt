@@ -111,12 +111,12 @@ module _ (c : CertifyWords) (f : Files) (s : CertifiedSource) (image : Image) (h
       let there : HoldsSource c f made.source = held_before c f v.store.files made.source same (source_held c v.store made.source told made.makes.reads) in
       let one : made.source ≡ s = one_held c f made.source s there held in
       let like = images_of_one c f made.source s h.image image there held made.makes.image_of is in
-      let bound_is : h.bound ≡ bound_by s (costs_in image) args =
+      let bound_is : h.bound ≡ bound_by s (costs_in image.functions) args =
       made.is_bound
-      ∙ ap (λ (x : CertifiedSource). bound_by x (costs_in h.image) args) one
+      ∙ ap (λ (x : CertifiedSource). bound_by x (costs_in h.image.functions) args) one
       ∙ ap (λ (costs : List ℕ). bound_by s costs args) like.costs in
       let text : List ℕ = cost_lines h.image.functions ++ bound_line (shown_of h.bound) in
-      let text_is : text ≡ cost_lines image.functions ++ bound_line (shown_of (bound_by s (costs_in image) args)) =
+      let text_is : text ≡ cost_lines image.functions ++ bound_line (shown_of (bound_by s (costs_in image.functions) args)) =
       ap (λ (lines : List ℕ). lines ++ bound_line (shown_of h.bound)) (same_lines like)
       ∙ ap (λ (bound : Amount). cost_lines image.functions ++ bound_line (shown_of bound)) bound_is in
       let was : ArePut (on_out text ∷ []) (streams_of v) (streams_of w) = subst (λ (d : Due). ArePut d.steps (streams_of v) (streams_of w)) h.is_due put in

@@ -7,10 +7,13 @@ pub mod FaultNodes
 pub mod SourceLaws
 pub mod SourceFollows
 pub mod MainLaws
+mod ArgumentsExamples
 pub mod BoundsLaws
+mod BoundsExamples
 pub mod SizesLaws
 pub mod ToldLaws
 pub mod ToldPlaces
+mod ToldExamples
 pub mod CertifiedLaws
 pub mod CertifiedFollows
 pub mod CertifiedRefusals
@@ -18,6 +21,7 @@ pub mod OneSource
 pub mod MadeLaws
 pub mod MadeFollows
 pub mod StepsLaws
+pub mod CountLaws
 pub mod HeadlineLaws
 pub mod SampleTrees
 pub mod SampleLexed
@@ -30,6 +34,7 @@ pub mod SampleMeaning
 pub mod SampleCore
 pub mod SampleBounds
 pub mod SampleLaws
+mod SizesExamples
 pub mod SampleStacks
 pub mod SampleStackLaw
 pub mod SampleRefusals

@@ -22,7 +22,7 @@ use Rattle.qs_driver.specs.Source.{IsTypedAs, IsOfSource, missing_source, long_s
 use Rattle.qs_driver.specs.Bounds.{bound_by, costs_in}
 use Rattle.qs_driver.specs.Certified.{CertifyWords, CertifiedSource, ReadsCertified, WasReadProof, IsRightFile, HoldsRight, HoldsRightProofs, IsOfCertified, of_source, missing_proof, long_proof, wrong_proof}
 use Rattle.qs_driver.specs.Arguments.{parameters_of_main, CountDiffers, IsMisfit}
-use Rattle.qs_driver.specs.Made.{MakeWords, CanMake, IsMade, ReadsMain, CannotMake, HoldsMain, FitsMain, IsOfMade, RefusesMade}
+use Rattle.qs_driver.specs.Made.{MakeWords, IsMade, ReadsMain, CannotMake, HoldsMain, FitsMain, IsOfMade, RefusesMade}
 use Rattle.qs_driver.specs.Made as meant
 use Rattle.qs_driver.specs.Promises.{StoreHeld, SaysStoreFailed}
 use Rattle.qs_driver.specs.declared.status.Status.{Status}
@@ -232,7 +232,7 @@ one_bound m v image other a b told p q =
     let like = images_of_one m.inputs v.files p.source q.source image other here there p.makes.image_of q.makes.image_of in
     p.is_bound
     ∙ ap (λ (costs : List ℕ). bound_by p.source costs m.args) like.costs
-    ∙ ap (λ (s : CertifiedSource). bound_by s (costs_in other) m.args) (one_held m.inputs v.files p.source q.source here there)
+    ∙ ap (λ (s : CertifiedSource). bound_by s (costs_in other.functions) m.args) (one_held m.inputs v.files p.source q.source here there)
     ∙ sym q.is_bound
 
 -- a source that is certified isn't refused, nor are arguments that are main's

@@ -39,13 +39,13 @@ is_number unsigned z =
     if unsigned then is_between (pos 0) (pos (2 ^ 32 - 1)) z
     else is_between (negsuc (2 ^ 31 - 1)) (pos (2 ^ 31 - 1)) z
 
-number_of_type : (s : Scalar) (z : ℤ) → is_promoted s ≡ true → is_number (same_scalar s scalars.Unsigned) z ≡ true → IsNumberOf s z
+pub number_of_type : (s : Scalar) (z : ℤ) → is_promoted s ≡ true → is_number (same_scalar s scalars.Unsigned) z ≡ true → IsNumberOf s z
 number_of_type scalars.Char z promoted h = cc
 number_of_type scalars.Int z promoted h = between (negsuc (2 ^ 31 - 1)) (pos (2 ^ 31 - 1)) z h
 number_of_type scalars.Unsigned z promoted h = between (pos 0) (pos (2 ^ 32 - 1)) z h
 number_of_type scalars.Pointer z promoted h = cc
 
-type_of_number : (s : Scalar) (z : ℤ) → is_promoted s ≡ true → IsNumberOf s z → is_number (same_scalar s scalars.Unsigned) z ≡ true
+pub type_of_number : (s : Scalar) (z : ℤ) → is_promoted s ≡ true → IsNumberOf s z → is_number (same_scalar s scalars.Unsigned) z ≡ true
 type_of_number scalars.Char z promoted h = cc
 type_of_number scalars.Int z promoted h = is_within (negsuc (2 ^ 31 - 1)) (pos (2 ^ 31 - 1)) z h.0 h.1
 type_of_number scalars.Unsigned z promoted h = is_within (pos 0) (pos (2 ^ 32 - 1)) z h.0 h.1

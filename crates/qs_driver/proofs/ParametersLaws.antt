@@ -1,9 +1,9 @@
 -- What is said of arguments depends on main's parameters alone.
-use Rattle.std.proofs.Common.{◌≡◌, ◌≢◌, ℕ, ◌+◌, ℤ, List, [], ◌∷◌, length, true, false, Option, Some, None, if◌then◌else◌, refl, sym, ◌∙◌, ap, subst}
+use Rattle.std.proofs.Common.{◌≡◌, ℕ, ◌+◌, ℤ, List, [], ◌∷◌, Some, if◌then◌else◌, refl, sym, ◌∙◌, ap}
 use Rattle.std.specs.Prelude.{Result, Ok, Err, Vec}
 use Rattle.std.specs.declared.alloc.Global.{Global}
 use Rattle.qs_image.specs.Image.{Image}
-use Rattle.qs_machine.specs.Arguments.{is_between, fits_parameter, first_misfit}
+use Rattle.qs_machine.specs.Arguments.{fits_parameter, first_misfit}
 use Rattle.qs_driver.specs.Arguments.{image_with, LacksWords, FindsWords}
 use Rattle.qs_driver.specs.Arguments as meant
 use Rattle.qs_driver.specs.declared.arguments.Parameters.{Parameters}

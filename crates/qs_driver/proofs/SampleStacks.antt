@@ -51,7 +51,7 @@ pub record OfSample (n : ℕ) (s : CertifiedSource) (image : Image) : Type 0 whe
   pub core : s.core ≡ core_by (names_in s.unit) n
   pub fits : unit_fits s.core ≡ true
   pub few : length s.core.functions < 2 ^ 63
-  pub cheap : AreCheap (costs_in image)
+  pub cheap : AreCheap (costs_in image.functions)
   pub arguments : AreArguments image []
 
 pub of_sample : (n : ℕ) (s : CertifiedSource) (image : Image) → 1 ≤ n → n < 512 → IsCertifiedAs (sample_text n) None s → IsImageOf s image → OfSample n s image
@@ -64,15 +64,15 @@ of_sample n s image l h c made =
       core = core;
       fits = ap unit_fits (sym c.core_is) ∙ c.has_core.fits;
       few = subst (λ (u : CoreUnitTree). length u.functions < 2 ^ 63) (sym core) (few_functions names n h);
-      cheap = cheap_below (costs_in image) (caps s.unit) made.compiled.capped (caps_are_cheap start_context shape);
+      cheap = cheap_below (costs_in image.functions) (caps s.unit) made.compiled.capped (caps_are_cheap start_context shape);
       arguments = no_arguments names n made.compiled.core image built made.compiled.built.parameters;
     }
 
 -- where main's bound is the longest path, a stack can have so many bytes
-pub small_bound : (n : ℕ) (s : CertifiedSource) (image : Image) (bound : ℕ) → 1 ≤ n → n < 512 → OfSample n s image → bound_by s (costs_in image) [] ≡ Finite bound
-    → IsLongestPath s.core (costs_of (costs_in image)) s.core.main bound → HasSmallBound s image
+pub small_bound : (n : ℕ) (s : CertifiedSource) (image : Image) (bound : ℕ) → 1 ≤ n → n < 512 → OfSample n s image → bound_by s (costs_in image.functions) [] ≡ Finite bound
+    → IsLongestPath s.core (costs_of (costs_in image.functions)) s.core.main bound → HasSmallBound s image
 small_bound n s image bound l h o is path =
-    let costs : List ℕ = costs_in image in
+    let costs : List ℕ = costs_in image.functions in
     let names : List FunctionNames = names_in s.unit in
     let longest : IsLongestPath (core_by names n) (costs_of costs) n bound = subst (λ (u : CoreUnitTree). IsLongestPath u (costs_of costs) u.main bound) o.core path in
     record {

@@ -9,7 +9,7 @@ use Rattle.qs_syntax.specs.Sameness.{same_bytes}
 use Rattle.qs_syntax.specs.Trees.{ExprTree, function, UnitTree}
 use Rattle.qs_types.specs.Types.{int}
 use Rattle.qs_types.specs.Contexts as contexts
-use Rattle.qs_types.specs.Contexts.{Entity, given, Binding, Context, start_context, lookup, entity_of}
+use Rattle.qs_types.specs.Contexts.{given, Binding, Context, start_context, lookup, entity_of}
 use Rattle.qs_types.specs.GivenFunctions.{Signature, putchar_name, putchar_type, main_name}
 use Rattle.qs_types.specs.UnitRules.{is_name_in, declaration_faults, declarations_faults, after_declaration, context_after}
 use Rattle.qs_types.specs.References.{unit_calls}

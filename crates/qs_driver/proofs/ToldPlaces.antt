@@ -1,9 +1,7 @@
 -- The line of a fault of an entry tells its place, and what is wrong there.
-use Rattle.std.proofs.Common.{◌≡◌, ◌∙◌, ℕ, List, Option, Some, None, refl, sym, ap}
+use Rattle.std.proofs.Common.{◌≡◌, ◌∙◌, ℕ, List, Some, refl, sym, ap}
 use Rattle.std.proofs.lemmas.Option.{same_Some}
-use Rattle.qs_base.specs.declared.function.FnId.{FnId}
 use Rattle.qs_core.specs.Trees.{CoreUnitTree}
-use Rattle.qs_prooftext.specs.Writing.{variable_text}
 use Rattle.qs_entail.specs.Answers.{fault_of}
 use Rattle.qs_entail.specs.Faults.{Fault, step, limit}
 use Rattle.qs_entail.specs.Said.{limit_number}
@@ -20,8 +18,8 @@ use Rattle.qs_triples.specs.declared.fault.Place.TheVariants as places
 use Rattle.qs_report.specs.declared.fault_texts.Spot.{Spot}
 use Rattle.qs_report.specs.declared.fault_texts.ProofText.{ProofText}
 use Rattle.qs_report.specs.declared.fault_texts.ProofText.TheVariants as wrongs
-use Rattle.qs_driver.specs.Told.{at_entry, at_body, at_certificate, place_of, mention_place, inner_path, fault_place, passed_number, certificate_text, owner_of, fault_text}
-use Rattle.qs_driver.specs.Certified.{path_in, owner, IsWrongThere, IsMentionPlace, IsToldAs}
+use Rattle.qs_driver.specs.Told.{at_entry, at_body, at_certificate, place_of, mention_place, inner_path, fault_place, passed_number, certificate_text, fault_text}
+use Rattle.qs_driver.specs.Certified.{path_in, IsWrongThere, IsMentionPlace, IsToldAs}
 
 -- the line tells this fault of the entry of this function
 pub record IsToldBy (u : CoreUnitTree) (f : ℕ) (fault : DerivationFault) (spot : Spot) (text : ProofText) : Type 0 where
@@ -34,10 +32,6 @@ same_number : (l : Limit) → limit_number l ≡ passed_number (fault_of l)
 same_number Coefficient = refl
 same_number Terms = refl
 same_number Degree = refl
-
-same_owner : (f : ℕ) (callee : Option FnId) → owner f callee ≡ owner_of f (callee_view callee)
-same_owner f None = refl
-same_owner f (Some g) = refl
 
 mentioned_at : (place : Place) (spot : Spot) → IsMentionPlace place spot → place_of spot ≡ mention_place (place_view place)
 mentioned_at places.Precondition spot e = ap place_of e
@@ -82,7 +76,7 @@ told_by u f (entries.Mentions place callee x) fault spot text due (at, wrong) =
     let same : fault ≡ is = same_Some fault is due in
     record {
       place = mentioned_at place spot at ∙ ap fault_place (sym same);
-      wrong = wrong ∙ ap (λ (g : ℕ). wrongs.Mentions (variable_text u g x)) (same_owner f callee) ∙ ap (fault_text u f) (sym same);
+      wrong = wrong ∙ ap (fault_text u f) (sym same);
     }
 told_by u f (entries.Cert path inner) fault spot text due (node, at, e, steps, inner_steps, wrong) =
     let c = certificate_due (certificate path.items) inner fault text due wrong in

@@ -1,5 +1,6 @@
 pub mod Follows
 pub mod Usage
+pub mod WritingFollows
 pub mod Build
 pub mod BuildFollows
 pub mod Check

@@ -1,8 +1,6 @@
 -- The bound of a source that is certified, by the costs of its image: what it says of the source's runs, and of the image's.
-use Rattle.std.specs.Prelude.{◌≡◌, ℕ, ◌<◌, ◌≤◌, ℤ, List, map, All, Option, Some, None}
+use Rattle.std.specs.Prelude.{◌≡◌, ℕ, ◌≤◌, ℤ, List, map, Option, Some, None}
 use Rattle.std.specs.List.{slice_get}
-use Rattle.qs_memory.specs.Values.{Value}
-use Rattle.qs_events.specs.BoundedRun.{BoundedRun}
 use Rattle.qs_events.specs.Weights.{Costs, run_weight}
 use Rattle.qs_calls.specs.World.{RootRun}
 use Rattle.qs_assert.specs.Values.{finite, plus}
@@ -16,7 +14,7 @@ use Rattle.qs_meaning.specs.Units.{typed_of}
 use Rattle.qs_meaning.specs.Runs.{main_run, source_run}
 use Rattle.qs_triples.specs.Derivations.{EntryTree, entry_of}
 use Rattle.qs_triples.specs.Valuations.{value_at_entry}
-use Rattle.qs_image.specs.Image.{Image}
+use Rattle.qs_image.specs.Image.{Image, FunctionRecord}
 use Rattle.qs_machine.specs.Arguments.{AreArguments}
 use Rattle.qs_build.specs.Agrees.{values_of}
 use Rattle.qs_build.specs.Units.{linear, start_of}
@@ -27,9 +25,9 @@ use Rattle.qs_driver.specs.Certified.{CertifiedSource}
 
 -- ---- the bound
 
--- what a call of each function costs, by the records
-abbrev pub costs_in : Image → List ℕ
-costs_in image = map (λ f. f.cost) image.functions
+-- what a call of each function costs, by these records of an image
+abbrev pub costs_in : List FunctionRecord → List ℕ
+costs_in records = map (λ (f : FunctionRecord). f.cost) records
 
 -- what main costs, and the value of its precondition at these arguments
 abbrev pub bound_by : CertifiedSource → (costs : List ℕ) → (args : List ℤ) → Amount
@@ -42,7 +40,7 @@ if_finite Wide = None
 
 -- the bytes of stack that main needs with each list of arguments, where that is a number
 abbrev pub bytes_by : CertifiedSource → Image → Bound
-bytes_by s image args = if_finite (bound_by s (costs_in image) args)
+bytes_by s image args = if_finite (bound_by s (costs_in image.functions) args)
 
 -- the source's runs of main
 abbrev pub main_runs : TypedProgram → (args : List ℤ) → (input : List ℕ) → (n : ℕ) → RootRun
@@ -61,15 +59,18 @@ linear_runs u args input m = tac_run (linear u) u.main (values_of args) (start_o
 -- Where the arguments are main's and their bound is a number, no run of main weighs more by the costs of the records:
 -- on each input, within each bound of turns and depth, also where it is undefined or short. Nor does any of its linear
 -- code, within each number of steps.
-pub record WeighsWithin (s : CertifiedSource) (program : TypedProgram) (image : Image) : Type 0 where
+pub record WeighsWithin (s : CertifiedSource) (program : TypedProgram) (image : Image)
+    : Type 0 where
   pub weighs :
       (args : List ℤ) (input : List ℕ) (bytes n : ℕ) → AreArguments image args → IsInput input
       → bytes_by s image args ≡ Some bytes
-      → run_weight (certify.costs_of (costs_in image)) (main_runs program args input n) ≤ bytes
+      → run_weight (certify.costs_of (costs_in image.functions)) (main_runs program args input n)
+      ≤ bytes
   pub linear_weighs :
       (args : List ℤ) (input : List ℕ) (bytes m : ℕ) → AreArguments image args → IsInput input
       → bytes_by s image args ≡ Some bytes
-      → run_weight (certify.costs_of (costs_in image)) (linear_runs s.core args input m) ≤ bytes
+      → run_weight (certify.costs_of (costs_in image.functions)) (linear_runs s.core args input m)
+      ≤ bytes
 
 -- The same for every stack metric: what main costs by it and the value of main's precondition bound each run, of the
 -- source and of its linear code.
@@ -79,14 +80,18 @@ pub record IsBoundedByMain (s : CertifiedSource) (program : TypedProgram) : Type
   pub entry : EntryTree
   pub stands : entry_of s.proofs s.core.main ≡ Some entry
   pub bounds :
-      (cost : Costs) (args : List ℤ) (input : List ℕ) (n : ℕ) → certify.AreArguments s.core args → IsInput input
+      (cost : Costs) (args : List ℤ) (input : List ℕ) (n : ℕ)
+      → certify.AreArguments s.core args → IsInput input
       → AtLeast
-      (plus (finite (cost s.core.main)) (value_at_entry cost s.proofs.defines main (values_of args) entry.spec.pre))
+      (plus (finite (cost s.core.main))
+      (value_at_entry cost s.proofs.defines main (values_of args) entry.spec.pre))
       (finite (run_weight cost (main_runs program args input n)))
   pub bounds_linear :
-      (cost : Costs) (args : List ℤ) (input : List ℕ) (m : ℕ) → certify.AreArguments s.core args → IsInput input
+      (cost : Costs) (args : List ℤ) (input : List ℕ) (m : ℕ)
+      → certify.AreArguments s.core args → IsInput input
       → AtLeast
-      (plus (finite (cost s.core.main)) (value_at_entry cost s.proofs.defines main (values_of args) entry.spec.pre))
+      (plus (finite (cost s.core.main))
+      (value_at_entry cost s.proofs.defines main (values_of args) entry.spec.pre))
       (finite (run_weight cost (linear_runs s.core args input m)))
 
 -- the source has a typed tree whose runs main's entry bounds, as those of its linear code, for every stack metric

@@ -1,19 +1,16 @@
 -- A source and a proof file that a command reads: a unit with proofs that cover it, or why it is refused.
-use Rattle.std.specs.Prelude.{◌≡◌, ◌≢◌, ◌⊎◌, ◌↔◌, ℕ, ◌<◌, ◌≤◌, true, List, [], ◌∷◌, length, map, All, IsTrue, Option, Some, None, Result, Ok, Err, Vec, option_map}
+use Rattle.std.specs.Prelude.{◌≡◌, ◌⊎◌, ◌↔◌, ℕ, List, [], map, Option, Some, None, Result, Ok, Err, Vec, option_map}
 use Rattle.std.specs.declared.alloc.Global.{Global}
-use Rattle.std.specs.Borrow.{Bor}
-use Rattle.qs_base.specs.declared.function.FnId.{FnId}
 use Rattle.qs_base.specs.declared.places.Pos.{Pos}
 use Rattle.qs_syntax.specs.Trees.{UnitTree}
 use Rattle.qs_typing.specs.TypedOf.{typed_tree}
-use Rattle.qs_meaning.specs.Typed.{TypedProgram}
 use Rattle.qs_core.specs.CallGraph.{IsCycle, IsWithoutRecursion}
 use Rattle.qs_core.specs.Trees.{CoreUnitTree}
 use Rattle.qs_core.specs.UnitTrees.{unit_tree}
 use Rattle.qs_elaborate.specs.FitLaws.{HasCore}
 use Rattle.qs_elaborate.specs.Units.{core_of}
 use Rattle.qs_callgraph.specs.CallLists.{numbers}
-use Rattle.qs_prooftext.specs.Reading.{Reading, Fault}
+use Rattle.qs_prooftext.specs.Reading.{Reading}
 use Rattle.qs_prooftext.specs.Writing.{variable_text}
 use Rattle.qs_prooftext.specs.declared.fault.TextFault.{TextFault}
 use Rattle.qs_prooftext.specs.declared.fault.TextFault.TheVariants as texts
@@ -25,6 +22,7 @@ use Rattle.qs_triples.specs.Derivations.{ProofsTree}
 use Rattle.qs_triples.specs.Entries.{has_entry}
 use Rattle.qs_triples.specs.Rules.{DerivationFault}
 use Rattle.qs_triples.specs.Filled.{function_name}
+use Rattle.qs_triples.specs.Told.{callee_view}
 use Rattle.qs_triples.specs.TreeOf.{proofs_tree}
 use Rattle.qs_triples.specs.declared.fault.DerivFault.{DerivFault}
 use Rattle.qs_triples.specs.declared.fault.DerivFault.TheVariants as entries
@@ -47,7 +45,7 @@ use Rattle.qs_ports.specs.StoreView.{StoreView, Files}
 use Rattle.qs_driver.specs.Limits.{source_limit, proof_limit}
 use Rattle.qs_driver.specs.Files.{IsUntouched, HoldsContent, HoldsWith, IsTooLong, WasReadAs, CannotRead, ReadsFile}
 use Rattle.qs_driver.specs.Source.{HoldsText, IsPlaceOf, IsTypedAs, IsTypedUnit, IsOfSource, LacksSource, RefusesSource}
-use Rattle.qs_driver.specs.Told.{EntryPlace, place_of, fault_place, fault_text}
+use Rattle.qs_driver.specs.Told.{EntryPlace, place_of, fault_place, owner_of, fault_text}
 use Rattle.qs_driver.specs.declared.certified.CertifyOrder.{CertifyOrder}
 use Rattle.qs_driver.specs.declared.certified.CertifiedUnit.{CertifiedUnit}
 use Rattle.qs_driver.specs.declared.status.Status.{Status}
@@ -87,7 +85,8 @@ pub record CertifiedSource : Type 0 where
 
 -- The text is this typed unit, which has this core, as which it runs; the file gives the one proofs, the other are all
 -- proofs, and they cover the core. (Where no file is named none are given.)
-pub record IsCertifiedAs (text : List ℕ) (file : Option (List ℕ)) (s : CertifiedSource) : Type 0 where
+pub record IsCertifiedAs (text : List ℕ) (file : Option (List ℕ)) (s : CertifiedSource)
+    : Type 0 where
   pub typed_as : IsTypedAs text s.unit
   pub has_core : HasCore s.unit
   pub core_is : has_core.core ≡ s.core
@@ -105,7 +104,8 @@ pub record AreAsBefore (w : CertifyWords) (files later : Files) : Type 0 where
   pub proof : (name : List ℕ) → w.proof ≡ Some name → later name ≡ files name
 
 -- the source and the proof file were read, and they come to this
-pub record ReadsCertified (w : CertifyWords) (before : StoreView) (s : CertifiedSource) : Type 0 where
+pub record ReadsCertified (w : CertifyWords) (before : StoreView) (s : CertifiedSource)
+    : Type 0 where
   pub text : List ℕ
   pub file : Option (List ℕ)
   pub text_read : WasReadAs before w.source source_limit text
@@ -152,12 +152,8 @@ IsWrongThere (certificates.Limit path limit) text = text ≡ wrongs.Limit (limit
 abbrev pub IsMentionPlace : Place → Spot → Type 0
 IsMentionPlace places.Precondition spot = spot ≡ spots.Pre
 IsMentionPlace places.Postcondition spot = spot ≡ spots.Post
-IsMentionPlace (places.Node path) spot = (node : Path) × (spot ≡ spots.Body node) × path_is node path.items
-
--- whose variable it is: the function's own, or that of the function that is called there
-abbrev pub owner : (function : ℕ) → (callee : Option FnId) → ℕ
-owner f None = f
-owner f (Some g) = g.0
+IsMentionPlace (places.Node path) spot =
+    (node : Path) × (spot ≡ spots.Body node) × path_is node path.items
 
 -- The fault of the entry of this function, as it is told: where it is, and what is wrong there.
 abbrev pub IsToldAs : CoreUnitTree → (function : ℕ) → DerivFault → Spot → ProofText → Type 0
@@ -165,33 +161,39 @@ IsToldAs u f entries.NoMemory spot text = ⊥
 IsToldAs u f (entries.Shape path) spot text =
     (node : Path) × (spot ≡ spots.Body node) × path_is node path.items × (text ≡ wrongs.Shape)
 IsToldAs u f (entries.Mentions place callee x) spot text =
-    IsMentionPlace place spot × (text ≡ wrongs.Mentions (variable_text u (owner f callee) x))
+    IsMentionPlace place spot
+    × (text ≡ wrongs.Mentions (variable_text u (owner_of f (callee_view callee)) x))
 IsToldAs u f (entries.Cert path fault) spot text =
     (node : Path) × (inner : Path) × (spot ≡ spots.BodyCert node inner) × path_is node path.items
     × path_is inner (path_in fault) × IsWrongThere fault text
 -- never told: each function has a specification
 IsToldAs u f (entries.NoSpec path g) spot text = ⊥
 IsToldAs u f (entries.Entry fault) spot text =
-    (inner : Path) × (spot ≡ spots.Entry inner) × path_is inner (path_in fault) × IsWrongThere fault text
+    (inner : Path) × (spot ≡ spots.Entry inner) × path_is inner (path_in fault)
+    × IsWrongThere fault text
 -- never told: the order is tested before the entries
 IsToldAs u f (entries.BadOrder d) spot text = ⊥
 
 -- the fault of the entry of this function is told as this
 abbrev pub IsEntryTold : CoreUnitTree → (function : ℕ) → DerivFault → ProofFault → Type 0
 IsEntryTold u f fault told =
-    (spot : Spot) × (text : ProofText) × (told ≡ Entry (function_name u f) spot text) × IsToldAs u f fault spot text
+    (spot : Spot) × (text : ProofText) × (told ≡ Entry (function_name u f) spot text)
+    × IsToldAs u f fault spot text
 
 -- The cause why proofs can't be certified, as it is told. Want of memory is no such cause.
 abbrev pub Tells : CoreUnitTree → (file : Option (List ℕ)) → CertifyFault → ProofFault → Type 0
 Tells u file faults.NoMemory told = ⊥
-Tells u file (faults.Text fault) told = (pos : Pos) × (told ≡ Text fault pos) × IsTextPlace file fault pos
+Tells u file (faults.Text fault) told =
+    (pos : Pos) × (told ≡ Text fault pos) × IsTextPlace file fault pos
 Tells u file (faults.Cycle fs) told =
-    (names : Vec (List ℕ) Global) × (told ≡ Cycle names) × (names.items ≡ map (function_name u) (numbers fs.items))
+    (names : Vec (List ℕ) Global) × (told ≡ Cycle names)
+    × (names.items ≡ map (function_name u) (numbers fs.items))
 Tells u file (faults.Order name) told = told ≡ Order name
 Tells u file (faults.Entry f fault) told = IsEntryTold u f.0 fault told
 
 -- The text is a typed unit with this core, the file is read for it, and this is the first cause to refuse its proofs.
-pub record HasWrongProofs (text : List ℕ) (file : Option (List ℕ)) (told : ProofFault) : Type 0 where
+pub record HasWrongProofs (text : List ℕ) (file : Option (List ℕ)) (told : ProofFault)
+    : Type 0 where
   pub typed : IsTypedUnit text
   pub has_core : HasCore typed.unit.trees
   pub fault : CertifyFault
@@ -214,10 +216,12 @@ pub record ComesToProof (w : CertifyWords) (before : StoreView) (name : List ℕ
   pub named : w.proof ≡ Some name
 
 -- Why there is nothing certified to go on with, and the status at that. The tests come in this order.
-pub data LacksCertified (w : CertifyWords) (before after : StoreView) (status : Status) : Type 0 where
+pub data LacksCertified (w : CertifyWords) (before after : StoreView) (status : Status)
+    : Type 0 where
   no_source : LacksSource before after w.source status → LacksCertified w before after status
   unread_proof : (name : List ℕ) → ComesToProof w before name
-      → CannotRead before after name kinds.Derivation proof_limit status → LacksCertified w before after status
+      → CannotRead before after name kinds.Derivation proof_limit status
+      → LacksCertified w before after status
   wrong_proofs : (told : ProofFault) → IsUntouched before after → ReadsWrong w before told
       → status ≡ Proof told → LacksCertified w before after status
   no_memory : IsUntouched before after → status ≡ NoMemory → LacksCertified w before after status
@@ -261,7 +265,8 @@ abbrev pub HoldsUnit : CertifyWords → Files → Type 0
 HoldsUnit w files = HoldsText (files w.source) IsTypedUnit
 
 -- a proof file is named, the source is a typed unit, and of the file this is so
-pub record OfProof (w : CertifyWords) (files : Files) (IsSo : Option (List ℕ) → Type 0) : Type 0 where
+pub record OfProof (w : CertifyWords) (files : Files) (IsSo : Option (List ℕ) → Type 0)
+    : Type 0 where
   pub unit : HoldsUnit w files
   pub name : List ℕ
   pub named : w.proof ≡ Some name
@@ -274,7 +279,8 @@ HoldsProof files (Some name) None = ⊥
 HoldsProof files (Some name) (Some text) = HoldsContent (files name) proof_limit text
 
 -- the source and the proof file are there, and of the core and the file this is so
-pub record HoldsBoth (w : CertifyWords) (files : Files) (IsSo : CoreUnitTree → Option (List ℕ) → Type 0) : Type 0 where
+pub record HoldsBoth (w : CertifyWords) (files : Files)
+    (IsSo : CoreUnitTree → Option (List ℕ) → Type 0) : Type 0 where
   pub text : List ℕ
   pub there : HoldsContent (files w.source) source_limit text
   pub typed : IsTypedUnit text
@@ -285,7 +291,8 @@ pub record HoldsBoth (w : CertifyWords) (files : Files) (IsSo : CoreUnitTree →
   pub so : IsSo core file
 
 -- the text of the file has this fault first, at this line and column
-pub record HasTextFaultAt (u : CoreUnitTree) (file : Option (List ℕ)) (fault : TextFault) (pos : Pos) : Type 0 where
+pub record HasTextFaultAt (u : CoreUnitTree) (file : Option (List ℕ)) (fault : TextFault)
+    (pos : Pos) : Type 0 where
   pub first : HasTextFault u file fault
   pub place : IsTextPlace file fault pos
 
@@ -295,21 +302,25 @@ pub record LeavesCycle (u : CoreUnitTree) (file : Option (List ℕ)) : Type 0 wh
   pub cycle : OfGiven u file (λ given. IsCycle u (has_entry given) functions)
 
 -- these names are those of such functions
-pub record IsCycleOf (names : List (List ℕ)) (u : CoreUnitTree) (file : Option (List ℕ)) : Type 0 where
+pub record IsCycleOf (names : List (List ℕ)) (u : CoreUnitTree) (file : Option (List ℕ))
+    : Type 0 where
   pub functions : List ℕ
   pub named : names ≡ map (function_name u) functions
   pub cycle : OfGiven u file (λ given. IsCycle u (has_entry given) functions)
 
 -- of all proofs the definitions are in order, and the entry of this function is the first of the file that isn't derived
-pub record HasFirstFault (u : CoreUnitTree) (given : ProofsTree) (function : ℕ) (fault : DerivationFault) : Type 0 where
+pub record HasFirstFault (u : CoreUnitTree) (given : ProofsTree) (function : ℕ)
+    (fault : DerivationFault) : Type 0 where
   pub proofs : ProofsTree
   pub all : AreAll u given proofs
   pub in_order : IsInOrder proofs.defines
-  pub first : first_fault u proofs (entry_functions given.functions) ≡ Some (record { function = function; fault = fault })
+  pub first :
+      first_fault u proofs (entry_functions given.functions)
+      ≡ Some (record { function = function; fault = fault })
 
 -- the entry of this function is the first of the file that isn't derived, and this is wrong first, at this place of it
-pub record LacksDerivation (name : List ℕ) (place : EntryPlace) (wrong : ProofText) (u : CoreUnitTree) (file : Option (List ℕ))
-    : Type 0 where
+pub record LacksDerivation (name : List ℕ) (place : EntryPlace) (wrong : ProofText)
+    (u : CoreUnitTree) (file : Option (List ℕ)) : Type 0 where
   pub function : ℕ
   pub fault : DerivationFault
   pub named : name ≡ function_name u function
@@ -330,15 +341,21 @@ IsEntryStatus f place wrong status =
 pub record RefusesCertified (w : CertifyWords) (files : Files) (status : Status) : Type 0 where
   pub source : RefusesSource (files w.source) status
   pub missing : (status ≡ Missing kinds.Derivation) ↔ OfProof w files (λ file. file ≡ None)
-  pub too_long : (status ≡ Source (TooLong kinds.Derivation)) ↔ OfProof w files (λ file. IsTooLong file proof_limit)
+  pub too_long :
+      (status ≡ Source (TooLong kinds.Derivation))
+      ↔ OfProof w files (λ file. IsTooLong file proof_limit)
   pub text : (fault : TextFault) (pos : Pos)
-      → (status ≡ Proof (Text fault pos)) ↔ HoldsBoth w files (λ u file. HasTextFaultAt u file fault pos)
+      → (status ≡ Proof (Text fault pos))
+      ↔ HoldsBoth w files (λ u file. HasTextFaultAt u file fault pos)
   pub cycle : IsCycleStatus status ↔ HoldsBoth w files LeavesCycle
-  pub one_cycle : (names : Vec (List ℕ) Global) → status ≡ Proof (Cycle names) → HoldsBoth w files (IsCycleOf names.items)
+  pub one_cycle : (names : Vec (List ℕ) Global) → status ≡ Proof (Cycle names)
+      → HoldsBoth w files (IsCycleOf names.items)
   pub order : (name : List ℕ)
-      → (status ≡ Proof (Order name)) ↔ HoldsBoth w files (λ u file. OfGiven u file (λ given. HasNoOrder u given name))
+      → (status ≡ Proof (Order name))
+      ↔ HoldsBoth w files (λ u file. OfGiven u file (λ given. HasNoOrder u given name))
   pub entry : (function : List ℕ) (place : EntryPlace) (wrong : ProofText)
-      → IsEntryStatus function place wrong status ↔ HoldsBoth w files (LacksDerivation function place wrong)
+      → IsEntryStatus function place wrong status
+      ↔ HoldsBoth w files (LacksDerivation function place wrong)
 
 -- ---- what the parts of the code answer
 
@@ -352,19 +369,23 @@ TellsFault u file fault status =
     (status ≡ NoMemory) ⊎ ((told : ProofFault) × (status ≡ Proof told) × Tells u file fault told)
 
 -- a unit is certified: its core and its proofs, as the code holds them
-pub record IsCertifiedUnit (unit : UnitTree) (file : Option (List ℕ)) (c : CertifiedUnit) : Type 0 where
+pub record IsCertifiedUnit (unit : UnitTree) (file : Option (List ℕ)) (c : CertifiedUnit)
+    : Type 0 where
   pub unit_is : typed_tree c.typed ≡ unit
   pub core_is : core_of unit ≡ Some (unit_tree c.core)
   pub certified : certify.Certifies (unit_tree c.core) file c.certified
 
 -- why it isn't, and the status at that
-pub data LacksCertificate (unit : UnitTree) (file : Option (List ℕ)) (status : Status) : Type 0 where
-  cannot_certify : (core : CoreUnitTree) (fault : CertifyFault) → core_of unit ≡ Some core → CannotCertify core file fault
+pub data LacksCertificate (unit : UnitTree) (file : Option (List ℕ)) (status : Status)
+    : Type 0 where
+  cannot_certify : (core : CoreUnitTree) (fault : CertifyFault) → core_of unit ≡ Some core
+      → CannotCertify core file fault
       → TellsFault core file fault status → LacksCertificate unit file status
   lacks_memory : status ≡ NoMemory → LacksCertificate unit file status
 
 -- the answer of `certify_typed`
-abbrev pub CertifiesTyped : UnitTree → (file : Option (List ℕ)) → Result CertifiedUnit Status → Type 0
+abbrev pub CertifiesTyped :
+    UnitTree → (file : Option (List ℕ)) → Result CertifiedUnit Status → Type 0
 CertifiesTyped unit file (Ok c) = IsCertifiedUnit unit file c
 CertifiesTyped unit file (Err status) = LacksCertificate unit file status
 
@@ -376,7 +397,8 @@ pub record Certifies (s : CertifiedSource) (c : CertifiedUnit) : Type 0 where
   pub counts : HasCounts s.given c.certified
 
 -- the source and the proof file were read, they come to what the code holds, and no file changed
-pub record HasCertified (w : CertifyWords) (before after : StoreView) (c : CertifiedUnit) : Type 0 where
+pub record HasCertified (w : CertifyWords) (before after : StoreView) (c : CertifiedUnit)
+    : Type 0 where
   pub untouched : IsUntouched before after
   pub source : CertifiedSource
   pub reads : ReadsCertified w before source
@@ -388,13 +410,17 @@ file_of None = None
 file_of (Some text) = Some text.items
 
 -- the answer of `read_proof`, where the proof file has this name or none
-abbrev pub ReadsProof : StoreView → StoreView → (proof : Option (List ℕ)) → Result (Option (Vec ℕ Global)) Status → Type 0
+abbrev pub ReadsProof :
+    StoreView → StoreView → (proof : Option (List ℕ)) → Result (Option (Vec ℕ Global)) Status
+    → Type 0
 ReadsProof before after None (Ok None) = IsUntouched before after
 ReadsProof before after None (Ok (Some text)) = ⊥
 ReadsProof before after None (Err status) = ⊥
 ReadsProof before after (Some name) (Ok None) = ⊥
-ReadsProof before after (Some name) (Ok (Some text)) = ReadsFile before after name kinds.Derivation proof_limit (Ok text)
-ReadsProof before after (Some name) (Err status) = CannotRead before after name kinds.Derivation proof_limit status
+ReadsProof before after (Some name) (Ok (Some text)) =
+    ReadsFile before after name kinds.Derivation proof_limit (Ok text)
+ReadsProof before after (Some name) (Err status) =
+    CannotRead before after name kinds.Derivation proof_limit status
 
 -- the answer of `read_certified`
 abbrev pub ReadsAll : CertifyWords → StoreView → StoreView → Result CertifiedUnit Status → Type 0

@@ -24,13 +24,19 @@ abbrev pub views_of : StoreView → SinkView → SinkView → DevicesView
 views_of store out log = record { store = store; out = out; log = log }
 
 -- the devices as they are handed to a command
-abbrev pub views : {S O L : Type 0} → (S → StoreView) → (O → SinkView) → (L → SinkView) → Devices S O L → DevicesView
-views store_view out_view log_view d = views_of (store_view d.store.now) (out_view d.out.now) (log_view d.log.now)
+abbrev pub views :
+    {S O L : Type 0} → (S → StoreView) → (O → SinkView) → (L → SinkView) → Devices S O L
+    → DevicesView
+views store_view out_view log_view d =
+    views_of (store_view d.store.now) (out_view d.out.now) (log_view d.log.now)
 
 -- what a command leaves behind the three references that it was handed
 abbrev pub DevicesLeft : Type 0 → Type 0 → Type 0 → Type 0
 DevicesLeft S O L = MutBor S × (MutBor O × (MutBor L × Unit {0}))
 
 -- the devices as a command leaves them
-abbrev pub views_left : {S O L : Type 0} → (S → StoreView) → (O → SinkView) → (L → SinkView) → DevicesLeft S O L → DevicesView
-views_left store_view out_view log_view d = views_of (store_view d.0.now) (out_view d.1.0.now) (log_view d.1.1.0.now)
+abbrev pub views_left :
+    {S O L : Type 0} → (S → StoreView) → (O → SinkView) → (L → SinkView) → DevicesLeft S O L
+    → DevicesView
+views_left store_view out_view log_view d =
+    views_of (store_view d.0.now) (out_view d.1.0.now) (log_view d.1.1.0.now)

@@ -122,7 +122,8 @@ status_line names (Source (Typing fault place)) = named_line names.source (typin
 status_line names (Proof (Text fault pos)) = named_line names.derivation (proof_file_text fault pos)
 status_line names (Proof (Cycle functions)) = named_line [] (texts.Cycle functions)
 status_line names (Proof (Order name)) = lines.fault_line names.derivation name texts.Order
-status_line names (Proof (Entry f spot text)) = lines.fault_line names.derivation f (texts.Proof spot text)
+status_line names (Proof (Entry f spot text)) =
+    lines.fault_line names.derivation f (texts.Proof spot text)
 status_line names (Words Usage) = named_line [] texts.Usage
 status_line names (Words SameName) = named_line names.output texts.SameName
 status_line names (Words (ArgCount expected given)) = named_line [] (texts.ArgCount expected given)

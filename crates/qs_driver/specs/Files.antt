@@ -19,7 +19,8 @@ pub record HoldsContent (file : Option (List ℕ)) (limit : ℕ) (content : List
   pub within : length content ≤ limit
 
 -- the file is there, is within its limit, and its bytes have this property
-pub record HoldsWith (file : Option (List ℕ)) (limit : ℕ) (Property : List ℕ → Type 0) : Type 0 where
+pub record HoldsWith (file : Option (List ℕ)) (limit : ℕ) (Property : List ℕ → Type 0)
+    : Type 0 where
   pub content : List ℕ
   pub holds : HoldsContent file limit content
   pub has : Property content
@@ -31,12 +32,14 @@ pub record IsTooLong (file : Option (List ℕ)) (limit : ℕ) : Type 0 where
   pub more : limit < length content
 
 -- These bytes were read as those of the file, and are within its limit; they are the file's, where the store tells its files.
-pub record WasReadAs (before : StoreView) (name : List ℕ) (limit : ℕ) (content : List ℕ) : Type 0 where
+pub record WasReadAs (before : StoreView) (name : List ℕ) (limit : ℕ) (content : List ℕ)
+    : Type 0 where
   pub within : length content ≤ limit
   pub there : IsTrue before.told → before.files name ≡ Some content
 
 -- bytes that have this property were read as those of the file
-pub record WasReadWith (before : StoreView) (name : List ℕ) (limit : ℕ) (Property : List ℕ → Type 0) : Type 0 where
+pub record WasReadWith (before : StoreView) (name : List ℕ) (limit : ℕ) (Property : List ℕ → Type 0)
+    : Type 0 where
   pub content : List ℕ
   pub read_as : WasReadAs before name limit content
   pub has : Property content
@@ -60,18 +63,25 @@ pub record WasTooLong (before after : StoreView) (name : List ℕ) (limit : ℕ)
   pub is_content : IsTrue before.told → IsContent (before.files name) limit read
 
 -- the file was read: these are its bytes, and no file changed
-pub record WasRead (before after : StoreView) (name : List ℕ) (limit : ℕ) (content : List ℕ) : Type 0 where
+pub record WasRead (before after : StoreView) (name : List ℕ) (limit : ℕ) (content : List ℕ)
+    : Type 0 where
   pub untouched : IsUntouched before after
   pub read_as : WasReadAs before name limit content
 
 -- Why a file of this kind wasn't read, and the status at that.
-pub data CannotRead (before after : StoreView) (name : List ℕ) (kind : FileKind) (limit : ℕ) (status : Status) : Type 0 where
-  missing : IsMissing before after name → status ≡ Missing kind → CannotRead before after name kind limit status
-  unreadable : CouldNotRead before after → status ≡ StoreFailed kind → CannotRead before after name kind limit status
-  too_long : WasTooLong before after name limit → status ≡ Source (TooLong kind) → CannotRead before after name kind limit status
-  no_memory : IsUntouched before after → status ≡ NoMemory → CannotRead before after name kind limit status
+pub data CannotRead (before after : StoreView) (name : List ℕ) (kind : FileKind) (limit : ℕ)
+    (status : Status) : Type 0 where
+  missing : IsMissing before after name → status ≡ Missing kind
+      → CannotRead before after name kind limit status
+  unreadable : CouldNotRead before after → status ≡ StoreFailed kind
+      → CannotRead before after name kind limit status
+  too_long : WasTooLong before after name limit → status ≡ Source (TooLong kind)
+      → CannotRead before after name kind limit status
+  no_memory : IsUntouched before after → status ≡ NoMemory
+      → CannotRead before after name kind limit status
 
 -- the answer of `read_file`
-abbrev pub ReadsFile : StoreView → StoreView → List ℕ → FileKind → ℕ → Result (Vec ℕ Global) Status → Type 0
+abbrev pub ReadsFile :
+    StoreView → StoreView → List ℕ → FileKind → ℕ → Result (Vec ℕ Global) Status → Type 0
 ReadsFile before after name kind limit (Ok content) = WasRead before after name limit content.items
 ReadsFile before after name kind limit (Err status) = CannotRead before after name kind limit status

@@ -33,20 +33,25 @@ use Rattle.qs_driver.specs.declared.status.Status.TheVariants.{Done, NoMemory}
 -- ---- the bound that is printed
 
 -- what a call of `bound` on the same source and proof file prints where it ends well
-pub record PrintsBound (s : CertifiedSource) (image : Image) (args : List ℤ) (before after : DevicesView) : Type 0 where
+pub record PrintsBound (s : CertifiedSource) (image : Image) (args : List ℤ)
+    (before after : DevicesView) : Type 0 where
   -- the arguments are main's
   pub arguments : AreArguments s.core args
   -- the lines that `build` printed, and then the bound by these costs
   pub printed :
       IsTrue after.out.told
       → after.out.written
-      ≡ before.out.written ++ (cost_lines image.functions ++ bound_line (shown_of (bound_by s (costs_in image) args)))
+      ≡ before.out.written
+      ++ (cost_lines image.functions
+      ++ bound_line (shown_of (bound_by s (costs_in image.functions) args)))
 
 -- each such call does so
 abbrev pub BoundPrintsIt : CertifyWords → Files → CertifiedSource → Image → Type 0
 BoundPrintsIt w files s image =
-    (words : List (List ℕ)) (args : List ℤ) (before after : DevicesView) → meaning words ≡ Some (Bound w.source w.proof args)
-    → Promises (task words) before after Done → IsTrue before.store.told → AreAsBefore w files before.store.files
+    (words : List (List ℕ)) (args : List ℤ) (before after : DevicesView)
+    → meaning words ≡ Some (Bound w.source w.proof args)
+    → Promises (task words) before after Done → IsTrue before.store.told
+    → AreAsBefore w files before.store.files
     → PrintsBound s image args before after
 
 -- ---- while the source is defined
@@ -66,16 +71,21 @@ ExitsSo machine output status = (steps : ℕ) × (machine steps ≡ Exited outpu
 -- The machine neither overflows nor faults. It ends with the source's output and status exactly when the source ends, and
 -- otherwise goes on with the same output so far.
 pub record RunsAsSource (source : ℕ → BoundedRun) (machine : ℕ → Outcome) : Type 0 where
-  pub never_traps : (steps : ℕ) (cause : Cause) (pc : ℕ) (output : List ℕ) → machine steps ≡ Trapped cause pc output → ⊥
-  pub ends : (output : List ℕ) (status : ℕ) → EndsSo source output status ↔ ExitsSo machine output status
-  pub comes_as_far : (n : ℕ) → (steps : ℕ) × Begins (output_so_far (machine steps)) (output_of (trace_of (source n)))
-  pub comes_no_farther : (steps : ℕ) → Begins (output_of (trace_of (source steps))) (output_so_far (machine steps))
+  pub never_traps : (steps : ℕ) (cause : Cause) (pc : ℕ) (output : List ℕ)
+      → machine steps ≡ Trapped cause pc output → ⊥
+  pub ends : (output : List ℕ) (status : ℕ)
+      → EndsSo source output status ↔ ExitsSo machine output status
+  pub comes_as_far : (n : ℕ)
+      → (steps : ℕ) × Begins (output_so_far (machine steps)) (output_of (trace_of (source n)))
+  pub comes_no_farther : (steps : ℕ)
+      → Begins (output_of (trace_of (source steps))) (output_so_far (machine steps))
 
 -- ---- a source that is accepted
 
 -- On any stack of at least the bound of its arguments, which are main's, this is so of the source's runs and of the
 -- image's, on each input.
-abbrev pub FromItsBound : CertifiedSource → TypedProgram → Image → ((ℕ → BoundedRun) → (ℕ → Outcome) → Type 0) → Type 0
+abbrev pub FromItsBound :
+    CertifiedSource → TypedProgram → Image → ((ℕ → BoundedRun) → (ℕ → Outcome) → Type 0) → Type 0
 FromItsBound s program image IsSo =
     (args : List ℤ) (input : List ℕ) (bound size : ℕ) → AreArguments s.core args → IsInput input
     → bytes_by s image args ≡ Some bound → bound ≤ size → size ≤ stack_limit
@@ -83,7 +93,8 @@ FromItsBound s program image IsSo =
 
 -- The out file holds an image of the source, whose costs were printed, and which does what the source does, on any stack
 -- of at least its bound, while the source is defined.
-pub record HoldsItsImage (source : List ℕ) (proof : Option (List ℕ)) (out : List ℕ) (before after : DevicesView) : Type 0 where
+pub record HoldsItsImage (source : List ℕ) (proof : Option (List ℕ)) (out : List ℕ)
+    (before after : DevicesView) : Type 0 where
   pub certified : CertifiedSource
   pub reads : ReadsCertified (inputs (build_words source proof out)) before.store certified
   pub image : Image
@@ -91,11 +102,15 @@ pub record HoldsItsImage (source : List ℕ) (proof : Option (List ℕ)) (out : 
   pub is_image : IsImage bytes image
   pub written : IsTrue after.store.told → after.store.files out ≡ Some bytes
   pub compiled : IsCompiled certified.unit image
-  pub printed : IsTrue after.out.told → after.out.written ≡ before.out.written ++ cost_lines image.functions
+  pub printed : IsTrue after.out.told
+      → after.out.written ≡ before.out.written ++ cost_lines image.functions
   pub bound_printed :
-      IsTrue before.store.told → BoundPrintsIt (inputs (build_words source proof out)) before.store.files certified image
+      IsTrue before.store.told
+      → BoundPrintsIt (inputs (build_words source proof out)) before.store.files certified image
   pub agrees : FromItsBound certified compiled.program image Agree
-  pub while_defined : FromItsBound certified compiled.program image (λ source machine. IsDefined source → RunsAsSource source machine)
+  pub while_defined :
+      FromItsBound certified compiled.program image
+      (λ source machine. IsDefined source → RunsAsSource source machine)
 
 -- ---- what is accepted
 
@@ -107,7 +122,8 @@ pub record HasNoRecursion (source : List ℕ) (files : Files) : Type 0 where
   pub without_recursion : OfCore typed.unit.trees IsWithoutRecursion
 
 -- the image of a source without recursion is asked for, in another file, and no proof file is named
-pub record IsPlain (source : List ℕ) (proof : Option (List ℕ)) (out : List ℕ) (before : DevicesView) : Type 0 where
+pub record IsPlain (source : List ℕ) (proof : Option (List ℕ)) (out : List ℕ) (before : DevicesView)
+    : Type 0 where
   pub no_proof : proof ≡ None
   pub differ : source ≢ out
   pub told : IsTrue before.store.told
@@ -121,14 +137,17 @@ IsAccepted result = (result ≡ Done) ⊎ (result ≡ NoMemory)
 
 -- Each accepted source is built right, and each good source is accepted, unless memory ran out: without a proof file
 -- each that is well typed, within the limits and without recursion.
-pub record BuildsAndAccepts (source : List ℕ) (proof : Option (List ℕ)) (out : List ℕ) (before after : DevicesView) (result : Status) : Type 0 where
+pub record BuildsAndAccepts (source : List ℕ) (proof : Option (List ℕ)) (out : List ℕ)
+    (before after : DevicesView) (result : Status) : Type 0 where
   pub built : result ≡ Done → HoldsItsImage source proof out before after
-  pub accepts_good : NoneFailed before after → IsGood (build_words source proof out) before.store → IsAccepted result
+  pub accepts_good : NoneFailed before after → IsGood (build_words source proof out) before.store
+      → IsAccepted result
   pub accepts_plain : NoneFailed before after → IsPlain source proof out before → IsAccepted result
 
 -- It follows of each call of which `run_tool` promises what it does.
 abbrev pub Headline : Type 0
 Headline =
-    (words : List (List ℕ)) (source : List ℕ) (proof : Option (List ℕ)) (out : List ℕ) (before after : DevicesView)
-    (result : Status) → meaning words ≡ Some (Build source proof out) → Promises (task words) before after result
+    (words : List (List ℕ)) (source : List ℕ) (proof : Option (List ℕ)) (out : List ℕ)
+    (before after : DevicesView) (result : Status) → meaning words ≡ Some (Build source proof out)
+    → Promises (task words) before after result
     → BuildsAndAccepts source proof out before after result

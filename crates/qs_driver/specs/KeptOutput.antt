@@ -5,4 +5,5 @@ use Rattle.qs_driver.specs.declared.kept_output.KeptOutput.{KeptOutput}
 
 -- as a sink: it tells its bytes, and a failure is want of memory
 abbrev pub kept_view : KeptOutput → SinkView
-kept_view k = record { told = true; written = k.bytes.items; spare = 0; faults = k.faults; failed = k.failed }
+kept_view k =
+    record { told = true; written = k.bytes.items; spare = 0; faults = k.faults; failed = k.failed }

@@ -6,6 +6,7 @@ pub mod Faults
 pub mod Devices
 pub mod Steps
 pub mod Due
+pub mod Counts
 pub mod Files
 pub mod Source
 pub mod Told

@@ -1,5 +1,5 @@
 -- What is made of a source that is certified: its image, which isn't written, and main's bound at some arguments.
-use Rattle.std.specs.Prelude.{◌≡◌, ◌↔◌, ℕ, ℤ, List, length, map, Some, Result, Ok, Err}
+use Rattle.std.specs.Prelude.{◌≡◌, ◌↔◌, ℕ, ℤ, List, length, Some, Result, Ok, Err}
 use Rattle.qs_memory.specs.declared.scalar.Scalar.{Scalar}
 use Rattle.qs_typing.specs.TypedOf.{typed_tree}
 use Rattle.qs_assert.specs.declared.define.Amount.{Amount}
@@ -10,7 +10,7 @@ use Rattle.qs_ports.specs.StoreView.{StoreView, Files}
 use Rattle.qs_core.specs.UnitTrees.{unit_tree}
 use Rattle.qs_triples.specs.TreeOf.{proofs_tree}
 use Rattle.qs_compile.specs.Compiled.{IsImageOfSource}
-use Rattle.qs_image.specs.Image.{Image, FunctionRecord}
+use Rattle.qs_image.specs.Image.{Image}
 use Rattle.qs_machine.specs.Arguments as machine
 use Rattle.qs_driver.specs.Arguments.{parameters_of_main, CountDiffers, IsMisfit, LacksWords}
 use Rattle.qs_driver.specs.Files.{IsUntouched}
@@ -35,20 +35,23 @@ make_words inputs args = record { inputs = inputs; args = args }
 -- ---- what is made
 
 -- the source and the proof file were read and come to this, of which this image is made
-pub record CanMake (m : MakeWords) (before : StoreView) (s : CertifiedSource) (image : Image) : Type 0 where
+pub record ComesToImage (m : MakeWords) (before : StoreView) (s : CertifiedSource) (image : Image)
+    : Type 0 where
   pub reads : ReadsCertified m.inputs before s
   pub image_of : IsImageOf s image
 
 -- The arguments are main's, and their bound is this: what main costs, by the image's records, and the value of its
 -- precondition.
-pub record IsMade (m : MakeWords) (before : StoreView) (image : Image) (bound : Amount) : Type 0 where
+pub record IsMade (m : MakeWords) (before : StoreView) (image : Image) (bound : Amount)
+    : Type 0 where
   pub source : CertifiedSource
-  pub makes : CanMake m before source image
+  pub makes : ComesToImage m before source image
   pub arguments : AreArguments source.core m.args
-  pub is_bound : bound ≡ bound_by source (costs_in image) m.args
+  pub is_bound : bound ≡ bound_by source (costs_in image.functions) m.args
 
 -- The source and the proof file were read and are right, and of the types of main's parameters this is so.
-pub record ReadsMain (m : MakeWords) (before : StoreView) (IsSo : List Scalar → Type 0) : Type 0 where
+pub record ReadsMain (m : MakeWords) (before : StoreView) (IsSo : List Scalar → Type 0)
+    : Type 0 where
   pub source : CertifiedSource
   pub reads : ReadsCertified m.inputs before source
   pub so : IsSo (parameters_of_main source.core)
@@ -59,7 +62,8 @@ pub data CannotMake (m : MakeWords) (before after : StoreView) (status : Status)
   count_differs : (parameters : ℕ) → IsUntouched before after
       → ReadsMain m before (λ types. CountDiffers types m.args parameters)
       → status ≡ Words (ArgCount parameters (length m.args)) → CannotMake m before after status
-  misfit : (i : ℕ) → IsUntouched before after → ReadsMain m before (λ types. IsMisfit types m.args i)
+  misfit : (i : ℕ) → IsUntouched before after
+      → ReadsMain m before (λ types. IsMisfit types m.args i)
       → status ≡ Words (ArgRange i) → CannotMake m before after status
   -- no memory was found; a source passes no size of images (`SourcesPassNoSize`)
   no_memory : IsUntouched before after → status ≡ NoMemory → CannotMake m before after status
@@ -89,13 +93,10 @@ pub record RefusesMade (m : MakeWords) (files : Files) (status : Status) : Type 
   pub count : (parameters : ℕ)
       → (status ≡ Words (ArgCount parameters (length m.args)))
       ↔ HoldsMain m files (λ types. CountDiffers types m.args parameters)
-  pub argument : (i : ℕ) → (status ≡ Words (ArgRange i)) ↔ HoldsMain m files (λ types. IsMisfit types m.args i)
+  pub argument : (i : ℕ)
+      → (status ≡ Words (ArgRange i)) ↔ HoldsMain m files (λ types. IsMisfit types m.args i)
 
 -- ---- what the code answers
-
--- the costs of records, in order
-abbrev pub record_costs : List FunctionRecord → List ℕ
-record_costs records = map (λ (f : FunctionRecord). f.cost) records
 
 -- What the code has made of a certified unit: an image of it. The arguments are main's, and their bound is this.
 pub record IsMadeOf (c : CertifiedUnit) (args : List ℤ) (made : Made) : Type 0 where
@@ -103,11 +104,13 @@ pub record IsMadeOf (c : CertifiedUnit) (args : List ℤ) (made : Made) : Type 0
   pub arguments : machine.AreArguments made.image args
   pub bound_is :
       made.bound
-      ≡ main_bound (unit_tree c.core) (proofs_tree c.certified.proofs) (record_costs made.image.functions) args
+      ≡ main_bound (unit_tree c.core) (proofs_tree c.certified.proofs)
+      (costs_in made.image.functions) args
 
 -- why nothing is made of it, and the status at that
 pub data CannotMakeOf (c : CertifiedUnit) (args : List ℤ) (status : Status) : Type 0 where
-  lacks_words : (image : Image) → IsImageOfSource (typed_tree c.typed) image → LacksWords image args status
+  lacks_words : (image : Image) → IsImageOfSource (typed_tree c.typed) image
+      → LacksWords image args status
       → CannotMakeOf c args status
   lacks_memory : status ≡ NoMemory → CannotMakeOf c args status
 

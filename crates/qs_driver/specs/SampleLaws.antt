@@ -34,7 +34,7 @@ SamplesAreGood = (n : ℕ) → 1 ≤ n → n ≤ most_functions → IsGoodSource
 pub record HasSmallBound (s : CertifiedSource) (image : Image) : Type 0 where
   pub arguments : AreArguments image []
   pub stack : ℕ
-  pub bound : bound_by s (costs_in image) [] ≡ Finite stack
+  pub bound : bound_by s (costs_in image.functions) [] ≡ Finite stack
   pub small : stack ≤ stack_limit
 
 abbrev pub SamplesHaveStacks : Type 0

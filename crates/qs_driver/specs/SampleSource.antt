@@ -4,7 +4,8 @@ use Rattle.qs_report.specs.Lines.{line}
 
 -- `int fK(int x){return fJ(x+1);}`
 abbrev pub calling : (k j : ℕ) → List ℕ
-calling k j = line (codes "int f" ∷ decimal k ∷ codes "(int x){return f" ∷ decimal j ∷ codes "(x+1);}" ∷ [])
+calling k j =
+    line (codes "int f" ∷ decimal k ∷ codes "(int x){return f" ∷ decimal j ∷ codes "(x+1);}" ∷ [])
 
 -- the function that comes after j others: `int f1(int x){return x+1;}`, or one that calls the function before it
 abbrev pub function_after : (j : ℕ) → List ℕ
@@ -18,7 +19,8 @@ functions (suc j) = functions j ++ function_after j
 
 -- `int main(void){putchar('0'+fN(0)%10);return 0;}`
 abbrev pub main_function : (n : ℕ) → List ℕ
-main_function n = line (codes "int main(void){putchar('0'+f" ∷ decimal n ∷ codes "(0)%10);return 0;}" ∷ [])
+main_function n =
+    line (codes "int main(void){putchar('0'+f" ∷ decimal n ∷ codes "(0)%10);return 0;}" ∷ [])
 
 -- the functions, and then main, which calls the last one
 abbrev pub sample_text : (n : ℕ) → List ℕ

@@ -15,5 +15,7 @@ use Rattle.qs_driver.specs.Source.{IsTypedAs}
 -- image, memory is wanting.
 abbrev pub SourcesPassNoSize : Type 0
 SourcesPassNoSize =
-    (text : List ℕ) (unit : UnitTree) (core : CoreUnitTree) (fault : BuildFault) → list_all is_byte text ≡ true
-    → length text ≤ source_limit → IsTypedAs text unit → core_of unit ≡ Some core → Passes core fault → fault ≡ NoMemory
+    (text : List ℕ) (unit : UnitTree) (core : CoreUnitTree) (fault : BuildFault)
+    → list_all is_byte text ≡ true
+    → length text ≤ source_limit → IsTypedAs text unit → core_of unit ≡ Some core
+    → Passes core fault → fault ≡ NoMemory

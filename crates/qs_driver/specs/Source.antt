@@ -1,6 +1,5 @@
 -- A source that a command reads: its text, or why it is refused.
-use Rattle.std.specs.Prelude.{◌≡◌, ◌↔◌, ℕ, List, length, IsTrue, Option, Some, None, Result, Ok, Err, Vec, slice_get}
-use Rattle.std.specs.declared.alloc.Global.{Global}
+use Rattle.std.specs.Prelude.{◌≡◌, ◌↔◌, ℕ, List, length, Option, Some, None, Result, Ok, Err, slice_get}
 use Rattle.qs_base.specs.Positions.{line_at, column_at}
 use Rattle.qs_base.specs.declared.places.Pos.{Pos}
 use Rattle.qs_syntax.specs.declared.nodes.Node.{Node}
@@ -57,7 +56,8 @@ IsTokenPlace text tokens number (At pos) = IsStartOf text tokens number pos
 IsTokenPlace text tokens number (End pos) = IsEndOf text tokens number pos
 
 -- the node with this number stands at a token that starts at this line and column
-pub record IsNodeStart (text : List ℕ) (tokens : List Token) (trees : List DeclTree) (number : ℕ) (pos : Pos) : Type 0 where
+pub record IsNodeStart (text : List ℕ) (tokens : List Token) (trees : List DeclTree) (number : ℕ)
+    (pos : Pos) : Type 0 where
   pub node : Node
   pub is : slice_get (unit_nodes trees) number ≡ Some node
   pub start : IsStartOf text tokens node.token pos
@@ -169,7 +169,8 @@ ReadsText before name Property = WasReadWith before name source_limit Property
 
 -- Why there is no source to go on with, and the status at that.
 pub data LacksSource (before after : StoreView) (name : List ℕ) (status : Status) : Type 0 where
-  unread : CannotRead before after name kinds.Source source_limit status → LacksSource before after name status
+  unread : CannotRead before after name kinds.Source source_limit status
+      → LacksSource before after name status
   lex_fault : (fault : LexFault) (pos : Pos) → IsUntouched before after
       → ReadsText before name (λ text. HasLexFault text fault pos)
       → status ≡ Source (Lex fault pos) → LacksSource before after name status
@@ -204,7 +205,8 @@ pub data IsOfSource : Status → Type 0 where
 
 -- some syntax fault is answered
 abbrev pub IsSyntax : Status → Type 0
-IsSyntax status = (fault : SyntaxFault) × (place : TokenPlace) × (status ≡ Source (Syntax fault place))
+IsSyntax status =
+    (fault : SyntaxFault) × (place : TokenPlace) × (status ≡ Source (Syntax fault place))
 
 -- Each refusal of a source comes exactly where its cause is.
 pub record RefusesSource (file : Option (List ℕ)) (status : Status) : Type 0 where
@@ -214,6 +216,8 @@ pub record RefusesSource (file : Option (List ℕ)) (status : Status) : Type 0 w
       → (status ≡ Source (Lex fault pos)) ↔ HoldsText file (λ text. HasLexFault text fault pos)
   pub no_unit : IsSyntax status ↔ HoldsText file IsNoUnit
   pub syntactic : (fault : SyntaxFault) (place : TokenPlace)
-      → (status ≡ Source (Syntax fault place)) ↔ HoldsText file (λ text. HasSyntaxFault text fault place)
+      → (status ≡ Source (Syntax fault place))
+      ↔ HoldsText file (λ text. HasSyntaxFault text fault place)
   pub typing : (fault : TypeFault) (place : Option Pos)
-      → (status ≡ Source (Typing fault place)) ↔ HoldsText file (λ text. HasTypeFault text fault place)
+      → (status ≡ Source (Typing fault place))
+      ↔ HoldsText file (λ text. HasTypeFault text fault place)

@@ -27,7 +27,8 @@ other_than Out = Log
 other_than Log = Out
 
 -- this happened on the stream, and the other one is as before
-pub record OnlyOn (stream : Stream) (before after : Streams) (Happened : SinkView → SinkView → Type 0) : Type 0 where
+pub record OnlyOn (stream : Stream) (before after : Streams)
+    (Happened : SinkView → SinkView → Type 0) : Type 0 where
   pub happened : Happened (sink_of stream before) (sink_of stream after)
   pub other : sink_of (other_than stream) after ≡ sink_of (other_than stream) before
 
@@ -37,12 +38,14 @@ IsPut step before after = OnlyOn step.stream before after (λ v w. Appends v w s
 
 -- the stream failed within the text of the step
 abbrev pub IsCutWithin : Step → Streams → Streams → Type 0
-IsCutWithin step before after = OnlyOn step.stream before after (λ v w. (k : ℕ) × IsCut v w step.text k)
+IsCutWithin step before after =
+    OnlyOn step.stream before after (λ v w. (k : ℕ) × IsCut v w step.text k)
 
 -- all steps were put, in their order, and nothing more
 abbrev pub ArePut : List Step → Streams → Streams → Type 0
 ArePut [] before after = after ≡ before
-ArePut (step ∷ steps) before after = (between : Streams) × IsPut step before between × ArePut steps between after
+ArePut (step ∷ steps) before after =
+    (between : Streams) × IsPut step before between × ArePut steps between after
 
 -- The steps were put in their order up to one within whose text its stream failed. Nothing was put after that.
 abbrev pub AreCutShort : List Step → Streams → Streams → Type 0

@@ -26,7 +26,8 @@ task_of (Some (Bound source proof args)) = bound (bound_words source proof args)
 task_of (Some (Derive source out)) = derive (derive_words source out)
 task_of (Some (Outline source)) = outline (outline_words source)
 task_of (Some (Run image stack args input steps)) = run (run_words image stack args input steps)
-task_of (Some (Exec source proof args input steps)) = exec (exec_words source proof args input steps)
+task_of (Some (Exec source proof args input steps)) =
+    exec (exec_words source proof args input steps)
 task_of (Some (Sample count out)) = sample (sample_words count out)
 
 -- the task of the words of a call

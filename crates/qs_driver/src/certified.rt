@@ -81,8 +81,10 @@ fn file_told(file: Option<&[u8]>, fault: TextFault) -> Status
 
 // The names of functions, in order.
 fn names_of(alloc: Global, unit: &CoreUnit, functions: &[FnId]) -> Result<Vec<Name>, NoMemory>
-    requires { (f : ℕ) → is_member f (numbers functions.now) ≡ true → f < length unit.now.functions.items }
-    ensures { IfOk result (λ names. names.items ≡ map (function_name (unit_tree unit.now)) (numbers functions.now)) }
+    requires { (f : ℕ) → is_member f (numbers functions.now) ≡ true
+        → f < length unit.now.functions.items }
+    ensures { IfOk result (λ names.
+        names.items ≡ map (function_name (unit_tree unit.now)) (numbers functions.now)) }
 {
     let mut names = Vec::new(alloc);
     for f in functions {
@@ -93,8 +95,10 @@ fn names_of(alloc: Global, unit: &CoreUnit, functions: &[FnId]) -> Result<Vec<Na
 
 // The status of functions without an entry that call each other in turn.
 fn cycle_told(alloc: Global, unit: &CoreUnit, functions: Vec<FnId>) -> Status
-    requires { (f : ℕ) → is_member f (numbers functions.items) ≡ true → f < length unit.now.functions.items }
-    ensures { (file : Option (List ℕ)) → TellsFault (unit_tree unit.now) file (faults.Cycle functions) result }
+    requires { (f : ℕ) → is_member f (numbers functions.items) ≡ true
+        → f < length unit.now.functions.items }
+    ensures { (file : Option (List ℕ))
+        → TellsFault (unit_tree unit.now) file (faults.Cycle functions) result }
 {
     match names_of(alloc, unit, &functions) {
         Ok(names) => Status::Proof(ProofFault::Cycle(names)),
@@ -126,7 +130,8 @@ fn read_proof<S: Store>(
     store: &mut S,
     proof: Option<&str>,
 ) -> Result<Option<Vec<u8>>, Status>
-    ensures { ReadsProof (S.view store.old) (S.view store.new) (option_map (λ name. name.now) proof.entry) result }
+    ensures { ReadsProof (S.view store.old) (S.view store.new)
+        (option_map (λ name. name.now) proof.entry) result }
 {
     match proof {
         Some(name) => {

@@ -21,7 +21,8 @@ pub fn status_after(written: Result<(), SinkFault>, due: Status) -> Status
 
 /// Puts the line of a fault.
 pub fn refuse<L: Sink>(log: &mut L, names: &FileNames<'_>, status: Status) -> Status
-    ensures { EndsWith (status_line (names_in names.now) status) status (L.view log.old) (L.view log.new) result }
+    ensures { EndsWith (status_line (names_in names.now) status) status
+        (L.view log.old) (L.view log.new) result }
 {
     let written = put_status(log, names, &status);
     status_after(written, status)

@@ -161,7 +161,8 @@ fn put_words_fault<K: Sink>(
     names: &FileNames<'_>,
     fault: WordsFault,
 ) -> Result<(), SinkFault>
-    ensures { PutsAll (K.view log.old) (K.view log.new) (status_line (names_in names.now) (Status.Words fault)) result }
+    ensures { PutsAll (K.view log.old) (K.view log.new)
+        (status_line (names_in names.now) (Status.Words fault)) result }
 {
     match fault {
         WordsFault::Usage => put_text(log, "", FaultText::Usage),
@@ -178,7 +179,8 @@ fn put_source_fault<K: Sink>(
     names: &FileNames<'_>,
     fault: SourceFault,
 ) -> Result<(), SinkFault>
-    ensures { PutsAll (K.view log.old) (K.view log.new) (status_line (names_in names.now) (Status.Source fault)) result }
+    ensures { PutsAll (K.view log.old) (K.view log.new)
+        (status_line (names_in names.now) (Status.Source fault)) result }
 {
     match fault {
         SourceFault::TooLong(kind) => put_text(log, file_name(names, kind), FaultText::TooLong),
@@ -193,7 +195,8 @@ fn put_proofs_fault<K: Sink>(
     names: &FileNames<'_>,
     fault: &ProofFault,
 ) -> Result<(), SinkFault>
-    ensures { PutsAll (K.view log.old) (K.view log.new) (status_line (names_in names.now) (Status.Proof fault.now)) result }
+    ensures { PutsAll (K.view log.old) (K.view log.new)
+        (status_line (names_in names.now) (Status.Proof fault.now)) result }
 {
     match fault {
         ProofFault::Text(fault, pos) => put_text(
@@ -224,7 +227,8 @@ pub fn put_status<K: Sink>(
     names: &FileNames<'_>,
     status: &Status,
 ) -> Result<(), SinkFault>
-    ensures { PutsAll (K.view log.old) (K.view log.new) (status_line (names_in names.now) status.now) result }
+    ensures { PutsAll (K.view log.old) (K.view log.new)
+        (status_line (names_in names.now) status.now) result }
 {
     match status {
         Status::Done => Ok(()),

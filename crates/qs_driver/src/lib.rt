@@ -4,6 +4,7 @@
 mod arguments;
 mod certified;
 mod commands;
+mod counts;
 mod devices;
 mod due;
 mod faults;

@@ -1,7 +1,8 @@
 // What is made of a source that is certified: its image, which isn't written, and main's bound at some arguments.
 ghost use Rattle.std.specs.Prelude.{◌≡◌, IfOk};
+ghost use Rattle.qs_driver.specs.Bounds.{costs_in};
 ghost use Rattle.qs_driver.specs.Certified.{words_in};
-ghost use Rattle.qs_driver.specs.Made.{make_words, record_costs, Makes, MakesCertified};
+ghost use Rattle.qs_driver.specs.Made.{make_words, Makes, MakesCertified};
 
 use crate::Status;
 use crate::arguments::image_words;
@@ -23,7 +24,7 @@ pub struct Made {
 
 // What a call of each function costs, in order.
 fn costs_of(alloc: Global, functions: &[FunctionRecord]) -> Result<Vec<u32>, NoMemory>
-    ensures { IfOk result (λ costs. costs.items ≡ record_costs functions.now) }
+    ensures { IfOk result (λ costs. costs.items ≡ costs_in functions.now) }
 {
     let mut costs = Vec::new(alloc);
     for function in functions {
@@ -33,7 +34,7 @@ fn costs_of(alloc: Global, functions: &[FunctionRecord]) -> Result<Vec<u32>, NoM
 }
 
 fn image_costs(alloc: Global, image: &Image) -> Result<Vec<u32>, NoMemory>
-    ensures { IfOk result (λ costs. costs.items ≡ record_costs image.now.functions) }
+    ensures { IfOk result (λ costs. costs.items ≡ costs_in image.now.functions) }
 {
     costs_of(alloc, &image.functions)
 }
@@ -61,7 +62,8 @@ pub fn make<S: Store>(
     inputs: &CertifyOrder<'_>,
     args: &[i64],
 ) -> Result<Made, Status>
-    ensures { Makes (make_words (words_in inputs.now) args.now) (S.view store.old) (S.view store.new) result }
+    ensures { Makes (make_words (words_in inputs.now) args.now)
+        (S.view store.old) (S.view store.new) result }
 {
     let certified = read_certified(alloc, store, inputs)?;
     make_certified(alloc, &certified, args)

@@ -25,12 +25,13 @@ fn name_in(name: &Option<String>) -> Option<&str>
     name.as_ref().map(|name| name.as_str())
 }
 
-pub fn build_order<'a>(
+pub fn to_build<'a>(
     source: &'a String,
     proof: &'a Option<String>,
     out: &'a String,
 ) -> BuildOrder<'a>
-    ensures { build.words_in result ≡ build.build_words (string_bytes source.now) (text_of proof.now) (string_bytes out.now) }
+    ensures { build.words_in result
+        ≡ build.build_words (string_bytes source.now) (text_of proof.now) (string_bytes out.now) }
 {
     BuildOrder {
         source: source.as_str(),
@@ -39,8 +40,9 @@ pub fn build_order<'a>(
     }
 }
 
-pub fn check_order<'a>(source: &'a String, proof: &'a Option<String>) -> CertifyOrder<'a>
-    ensures { certified.words_in result ≡ certified.certify_words (string_bytes source.now) (text_of proof.now) }
+pub fn to_check<'a>(source: &'a String, proof: &'a Option<String>) -> CertifyOrder<'a>
+    ensures { certified.words_in result
+        ≡ certified.certify_words (string_bytes source.now) (text_of proof.now) }
 {
     CertifyOrder {
         source: source.as_str(),
@@ -48,12 +50,13 @@ pub fn check_order<'a>(source: &'a String, proof: &'a Option<String>) -> Certify
     }
 }
 
-pub fn bound_order<'a>(
+pub fn to_bound<'a>(
     source: &'a String,
     proof: &'a Option<String>,
     args: &'a Vec<i64>,
 ) -> BoundOrder<'a>
-    ensures { bound.words_in result ≡ bound.bound_words (string_bytes source.now) (text_of proof.now) args.now.items }
+    ensures { bound.words_in result
+        ≡ bound.bound_words (string_bytes source.now) (text_of proof.now) args.now.items }
 {
     BoundOrder {
         source: source.as_str(),
@@ -62,8 +65,9 @@ pub fn bound_order<'a>(
     }
 }
 
-pub fn derive_order<'a>(source: &'a String, out: &'a String) -> DeriveOrder<'a>
-    ensures { derive.words_in result ≡ derive.derive_words (string_bytes source.now) (string_bytes out.now) }
+pub fn to_derive<'a>(source: &'a String, out: &'a String) -> DeriveOrder<'a>
+    ensures { derive.words_in result
+        ≡ derive.derive_words (string_bytes source.now) (string_bytes out.now) }
 {
     DeriveOrder {
         source: source.as_str(),
@@ -71,7 +75,7 @@ pub fn derive_order<'a>(source: &'a String, out: &'a String) -> DeriveOrder<'a>
     }
 }
 
-pub fn outline_order(source: &String) -> OutlineOrder<'_>
+pub fn to_outline(source: &String) -> OutlineOrder<'_>
     ensures { outline.words_in result ≡ outline.outline_words (string_bytes source.now) }
 {
     OutlineOrder {
@@ -79,14 +83,15 @@ pub fn outline_order(source: &String) -> OutlineOrder<'_>
     }
 }
 
-pub fn run_order<'a>(
+pub fn to_run<'a>(
     image: &'a String,
     stack: u64,
     args: &'a Vec<i64>,
     input: &'a Option<String>,
     steps: u64,
 ) -> RunOrder<'a>
-    ensures { run.words_in result ≡ run.run_words (string_bytes image.now) stack args.now.items (text_of input.now) steps }
+    ensures { run.words_in result
+        ≡ run.run_words (string_bytes image.now) stack args.now.items (text_of input.now) steps }
 {
     RunOrder {
         image: image.as_str(),
@@ -97,14 +102,16 @@ pub fn run_order<'a>(
     }
 }
 
-pub fn exec_order<'a>(
+pub fn to_exec<'a>(
     source: &'a String,
     proof: &'a Option<String>,
     args: &'a Vec<i64>,
     input: &'a Option<String>,
     steps: u64,
 ) -> ExecOrder<'a>
-    ensures { exec.words_in result ≡ exec.exec_words (string_bytes source.now) (text_of proof.now) args.now.items (text_of input.now) steps }
+    ensures { exec.words_in result
+        ≡ exec.exec_words (string_bytes source.now) (text_of proof.now) args.now.items
+        (text_of input.now) steps }
 {
     ExecOrder {
         source: source.as_str(),
@@ -115,7 +122,7 @@ pub fn exec_order<'a>(
     }
 }
 
-pub fn sample_order(count: u64, out: &Option<String>) -> SampleOrder<'_>
+pub fn to_sample(count: u64, out: &Option<String>) -> SampleOrder<'_>
     ensures { sample.words_in result ≡ sample.sample_words count (text_of out.now) }
 {
     SampleOrder {

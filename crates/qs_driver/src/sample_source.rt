@@ -21,7 +21,8 @@ fn put_number(text: &mut Vec<u8>, number: u64) -> Result<(), NoMemory>
 }
 
 fn put_between(text: &mut Vec<u8>, head: &[u8], number: u64, tail: &[u8]) -> Result<(), NoMemory>
-    ensures { OnOk result (text.new.items ≡ text.old.items ++ (head.now ++ decimal number ++ tail.now)) }
+    ensures { OnOk result (text.new.items
+        ≡ text.old.items ++ (head.now ++ decimal number ++ tail.now)) }
 {
     put(text, head)?;
     put_number(text, number)?;

@@ -2,10 +2,12 @@
 ghost use Rattle.std.specs.Prelude.{◌≡◌, ◌<◌, IfOk, length, List, Option, ℕ};
 ghost use Rattle.qs_core.specs.Trees.{CoreUnitTree};
 ghost use Rattle.qs_core.specs.UnitTrees.{unit_tree};
-ghost use Rattle.qs_driver.specs.Certified.{IsCertificateTold, IsEntryTold, IsMentionPlace, IsToldAs, TellsFault, owner};
+ghost use Rattle.qs_driver.specs.Certified.{IsCertificateTold, IsEntryTold, IsMentionPlace, IsToldAs, TellsFault};
+ghost use Rattle.qs_driver.specs.Told.{owner_of};
 ghost use Rattle.qs_certify.specs.Entries.{IsMet};
 ghost use Rattle.qs_certify.specs.declared.fault.CertifyFault.TheVariants as faults;
 ghost use Rattle.qs_triples.specs.Filled.{function_name};
+ghost use Rattle.qs_triples.specs.Told.{callee_view};
 ghost use Rattle.qs_triples.specs.declared.fault.DerivFault.TheVariants as entries;
 
 use crate::{ProofFault, Status};
@@ -50,8 +52,8 @@ fn mention_spot(place: Place) -> Spot
 }
 
 // The function whose variable it is.
-fn owner(f: FnId, callee: Option<FnId>) -> FnId
-    ensures { result.0 ≡ owner f.0 callee }
+fn owner_of(f: FnId, callee: Option<FnId>) -> FnId
+    ensures { result.0 ≡ owner_of f.0 (callee_view callee) }
 {
     match callee {
         None => f,
@@ -68,10 +70,11 @@ fn mention_told(
     x: Var,
 ) -> Result<Wrong, NoMemory>
     requires { f.0 < length unit.now.functions.items }
-    ensures { IfOk result (λ wrong. IsToldAs (unit_tree unit.now) f.0 (entries.Mentions place callee x) wrong.spot wrong.text) }
+    ensures { IfOk result (λ wrong.
+        IsToldAs (unit_tree unit.now) f.0 (entries.Mentions place callee x) wrong.spot wrong.text) }
 {
     Ok(Wrong {
-        text: ProofText::Mentions(variable_text(alloc, unit, owner(f, callee), &x)?),
+        text: ProofText::Mentions(variable_text(alloc, unit, owner_of(f, callee), &x)?),
         spot: mention_spot(place),
     })
 }
@@ -96,7 +99,8 @@ fn certificate_told(fault: CertFault) -> Result<WrongStep, NoMemory>
 // The fault of a certificate in the derivation, at the node of this path.
 #[tactic(auto, using(crate::proofs::ToldLaws::body_is_told))]
 fn body_told(node: Vec<usize>, fault: CertFault) -> Result<Wrong, NoMemory>
-    ensures { (u : CoreUnitTree) (f : ℕ) → IfOk result (λ wrong. IsToldAs u f (entries.Cert node fault) wrong.spot wrong.text) }
+    ensures { (u : CoreUnitTree) (f : ℕ)
+        → IfOk result (λ wrong. IsToldAs u f (entries.Cert node fault) wrong.spot wrong.text) }
 {
     let inner = certificate_told(fault)?;
     Ok(Wrong {
@@ -108,7 +112,8 @@ fn body_told(node: Vec<usize>, fault: CertFault) -> Result<Wrong, NoMemory>
 // The fault of the certificate of the entry's precondition.
 #[tactic(auto, using(crate::proofs::ToldLaws::entry_is_told))]
 fn precondition_told(fault: CertFault) -> Result<Wrong, NoMemory>
-    ensures { (u : CoreUnitTree) (f : ℕ) → IfOk result (λ wrong. IsToldAs u f (entries.Entry fault) wrong.spot wrong.text) }
+    ensures { (u : CoreUnitTree) (f : ℕ)
+        → IfOk result (λ wrong. IsToldAs u f (entries.Entry fault) wrong.spot wrong.text) }
 {
     let inner = certificate_told(fault)?;
     Ok(Wrong {
@@ -119,7 +124,8 @@ fn precondition_told(fault: CertFault) -> Result<Wrong, NoMemory>
 
 #[tactic(auto, using(crate::proofs::ToldLaws::shape_is_told))]
 fn shape_told(path: Vec<usize>) -> Wrong
-    ensures { (u : CoreUnitTree) (f : ℕ) → IsToldAs u f (entries.Shape path) result.spot result.text }
+    ensures { (u : CoreUnitTree) (f : ℕ)
+        → IsToldAs u f (entries.Shape path) result.spot result.text }
 {
     Wrong {
         spot: Spot::Body(path_of(path)),
@@ -167,7 +173,8 @@ fn named(alloc: Global, unit: &CoreUnit, f: FnId, fault: DerivFault) -> Result<P
 pub fn entry_told(alloc: Global, unit: &CoreUnit, f: FnId, fault: DerivFault) -> Status
     requires known { f.0 < length unit.now.functions.items }
     requires met { IsMet fault }
-    ensures { (file : Option (List ℕ)) → TellsFault (unit_tree unit.now) file (faults.Entry f fault) result }
+    ensures { (file : Option (List ℕ))
+        → TellsFault (unit_tree unit.now) file (faults.Entry f fault) result }
 {
     match named(alloc, unit, f, fault) {
         Ok(fault) => Status::Proof(fault),

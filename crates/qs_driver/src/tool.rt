@@ -20,8 +20,7 @@ use crate::devices::Devices;
 use crate::due::refuse;
 use crate::names::nameless;
 use crate::orders::{
-    bound_order, build_order, check_order, derive_order, exec_order, outline_order, run_order,
-    sample_order,
+    to_bound, to_build, to_check, to_derive, to_exec, to_outline, to_run, to_sample,
 };
 use qs_cli::{CliFault, Command, read_words};
 use qs_ports::{Sink, Store};
@@ -40,37 +39,31 @@ fn perform<S: Store, O: Sink, L: Sink>(
 {
     match command {
         Command::Build { source, proof, out } => {
-            build(alloc, &build_order(source, proof, out), devices)
+            build(alloc, &to_build(source, proof, out), devices)
         }
-        Command::Outline { source } => outline(alloc, &outline_order(source), devices),
+        Command::Outline { source } => outline(alloc, &to_outline(source), devices),
         Command::Run {
             image,
             stack,
             args,
             input,
             steps,
-        } => {
-            let order = run_order(image, *stack, args, input, *steps);
-            run(alloc, &order, devices)
-        }
-        Command::Check { source, proof } => check(alloc, &check_order(source, proof), devices),
+        } => run(alloc, &to_run(image, *stack, args, input, *steps), devices),
+        Command::Check { source, proof } => check(alloc, &to_check(source, proof), devices),
         Command::Bound {
             source,
             proof,
             args,
-        } => bound(alloc, &bound_order(source, proof, args), devices),
-        Command::Derive { source, out } => derive(alloc, &derive_order(source, out), devices),
+        } => bound(alloc, &to_bound(source, proof, args), devices),
+        Command::Derive { source, out } => derive(alloc, &to_derive(source, out), devices),
         Command::Exec {
             source,
             proof,
             args,
             input,
             steps,
-        } => {
-            let order = exec_order(source, proof, args, input, *steps);
-            exec(alloc, &order, devices)
-        }
-        Command::Sample { count, out } => sample(alloc, &sample_order(*count, out), devices),
+        } => exec(alloc, &to_exec(source, proof, args, input, *steps), devices),
+        Command::Sample { count, out } => sample(alloc, &to_sample(*count, out), devices),
     }
 }
 

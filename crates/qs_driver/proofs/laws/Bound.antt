@@ -1,6 +1,5 @@
 -- What `bound` came to.
-use Rattle.std.proofs.Common.{◌≡◌, ℕ, List, ◌++◌, Result, Ok, Err, refl}
-use Rattle.qs_assert.specs.declared.define.Amount.{Amount}
+use Rattle.std.proofs.Common.{◌++◌, Result, Ok, Err, refl}
 use Rattle.qs_ports.specs.StoreView.{StoreView}
 use Rattle.qs_ports.specs.SinkView.{SinkView}
 use Rattle.qs_report.specs.Lines.{bound_line}

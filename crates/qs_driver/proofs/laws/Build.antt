@@ -1,5 +1,5 @@
 -- What `build` came to.
-use Rattle.std.proofs.Common.{◌≡◌, ◌≢◌, ℕ, List, Some, Result, Ok, Err, refl, inl, inr, subst}
+use Rattle.std.proofs.Common.{◌≢◌, ℕ, List, Some, Result, Ok, Err, refl, inl, inr, subst}
 use Rattle.qs_typing.specs.TypedOf.{typed_tree}
 use Rattle.qs_ports.specs.StoreView.{StoreView, HasSameCounts, HasFailed}
 use Rattle.qs_ports.specs.SinkView.{SinkView}
@@ -13,7 +13,6 @@ use Rattle.qs_driver.specs.Faults.{status_line}
 use Rattle.qs_driver.specs.Devices.{streams, views_of}
 use Rattle.qs_driver.specs.Due.{EndsWith, IsWritten}
 use Rattle.qs_driver.specs.Certified.{LacksCertified, HasCertified}
-use Rattle.qs_driver.specs.Bounds.{IsImageOf}
 use Rattle.qs_driver.specs.Task.{Answers}
 use Rattle.qs_driver.specs.commands.Build.{BuildWords, NamesDiffer, names_of, inputs, build, due_of, HasImage, Builds}
 use Rattle.qs_driver.specs.commands.Build as meant

@@ -1,24 +1,21 @@
 -- What `check` came to.
-use Rattle.std.proofs.Common.{◌≡◌, ℕ, ◌+◌, ◌-◌, List, length, Result, Ok, Err, refl, sym, ap, ◌∙◌, arith}
+use Rattle.std.proofs.Common.{◌≡◌, ℕ, ◌+◌, ◌-◌, length, Result, Ok, Err, refl, ap, ◌∙◌, arith}
 use Rattle.qs_ports.specs.StoreView.{StoreView}
 use Rattle.qs_ports.specs.SinkView.{SinkView}
-use Rattle.qs_report.specs.Lines.{count_line}
 use Rattle.qs_report.specs.declared.fault_texts.Count.{Count}
 use Rattle.qs_report.specs.declared.fault_texts.Count.TheVariants.{Checked}
-use Rattle.qs_driver.specs.Faults.{status_line}
 use Rattle.qs_driver.specs.Devices.{streams, views_of}
-use Rattle.qs_driver.specs.Due.{EndsWith, IsWritten}
-use Rattle.qs_driver.specs.Bounds.{IsBounded}
-use Rattle.qs_driver.specs.Certified.{CertifyWords, CertifiedSource, ReadsCertified, LacksCertified, HasCertified}
+use Rattle.qs_driver.specs.Due.{IsWritten}
+use Rattle.qs_driver.specs.Counts.{counted, counted_or_refused}
+use Rattle.qs_driver.specs.Certified.{CertifyWords, CertifiedSource, LacksCertified, HasCertified}
 use Rattle.qs_driver.specs.Certified as lacks
 use Rattle.qs_driver.specs.Task.{Answers}
-use Rattle.qs_driver.specs.commands.Check.{names_of, check, counts_of, counted, due_of, Checks}
+use Rattle.qs_driver.specs.commands.Check.{names_of, check, Checks}
 use Rattle.qs_driver.specs.commands.Check as meant
 use Rattle.qs_driver.specs.declared.certified.CertifiedUnit.{CertifiedUnit}
 use Rattle.qs_driver.specs.declared.status.Status.{Status}
-use Rattle.qs_driver.specs.declared.status.Status.TheVariants.{Done, NoMemory}
+use Rattle.qs_driver.specs.declared.status.Status.TheVariants.{NoMemory}
 use Rattle.qs_driver.proofs.BoundsLaws.{source_bounded}
-use Rattle.qs_driver.proofs.StepsLaws.{log_last, out_last}
 
 pub not_certified : (w : CertifyWords) (v u : StoreView) (status : Status) → LacksCertified w v u status → Checks w v u (Err status)
 not_certified w v u status l = meant.refused status l refl
@@ -42,11 +39,5 @@ was_checked w v u c h = meant.checked (record {
   is_due = ap counted (same_counts c h.source _ _ (length h.source.proofs.functions) (length h.source.given.functions) h.holds.counts.given_are (h.holds.counts.all_are ∙ ap (λ p. length p.functions) h.holds.proofs));
 })
 
-pub counts_put : (w : CertifyWords) (count : Count) (l v u : SinkView) (result : Status) → EndsWith (count_line count) Done v u result → IsWritten (due_of w (Ok count)) (streams v l) (streams u l) result
-counts_put w count l v u result h = out_last Done (count_line count) l v u result h
-
-pub fault_put : (w : CertifyWords) (status : Status) (o v u : SinkView) (result : Status) → EndsWith (status_line (names_of w) status) status v u result → IsWritten (due_of w (Err status)) (streams o v) (streams o u) result
-fault_put w status o v u result h = log_last status (status_line (names_of w) status) o v u result h
-
-pub check_answers : (w : CertifyWords) (s s' : StoreView) (o o' l l' : SinkView) (work : Result Count Status) (result : Status) → Checks w s s' work → IsWritten (due_of w work) (streams o l) (streams o' l') result → Answers (check w) (views_of s o l) (views_of s' o' l') result
-check_answers w s s' o o' l l' work result d h = record { due = due_of w work; is_due = d; written = h }
+pub check_answers : (w : CertifyWords) (s s' : StoreView) (o o' l l' : SinkView) (work : Result Count Status) (result : Status) → Checks w s s' work → IsWritten (counted_or_refused (names_of w) work) (streams o l) (streams o' l') result → Answers (check w) (views_of s o l) (views_of s' o' l') result
+check_answers w s s' o o' l l' work result d h = record { due = counted_or_refused (names_of w) work; is_due = d; written = h }

@@ -24,24 +24,22 @@ use Rattle.qs_ports.specs.StoreView.{StoreView, HasSameCounts, HasFailed}
 use Rattle.qs_ports.specs.SinkView.{SinkView}
 use Rattle.qs_ports.specs.Whole.{Stores, IsCutShort}
 use Rattle.qs_ports.proofs.Wholes.{counts_more, failed_later}
-use Rattle.qs_report.specs.Lines.{count_line}
 use Rattle.qs_report.specs.declared.fault_texts.Count.{Count}
 use Rattle.qs_report.specs.declared.fault_texts.Count.TheVariants.{Derived}
-use Rattle.qs_driver.specs.Faults.{status_line}
 use Rattle.qs_driver.specs.Devices.{streams, views_of}
-use Rattle.qs_driver.specs.Due.{EndsWith, IsWritten}
+use Rattle.qs_driver.specs.Due.{IsWritten}
+use Rattle.qs_driver.specs.Counts.{counted, counted_or_refused}
 use Rattle.qs_driver.specs.Certified.{CertifiedSource, ReadsCertified, LacksCertified, HasCertified}
 use Rattle.qs_driver.specs.Source.{IsTypedUnit}
 use Rattle.qs_driver.specs.Task.{Answers}
-use Rattle.qs_driver.specs.commands.Derive.{DeriveWords, names_of, inputs, derive, counted, due_of, HasProofs, Derives}
+use Rattle.qs_driver.specs.commands.Derive.{DeriveWords, names_of, inputs, derive, HasProofs, Derives}
 use Rattle.qs_driver.specs.commands.Derive as meant
 use Rattle.qs_driver.specs.declared.certified.CertifiedUnit.{CertifiedUnit}
 use Rattle.qs_driver.specs.declared.status.Status.{Status}
-use Rattle.qs_driver.specs.declared.status.Status.TheVariants.{Done, StoreFailed, NoMemory}
+use Rattle.qs_driver.specs.declared.status.Status.TheVariants.{StoreFailed, NoMemory}
 use Rattle.qs_driver.specs.declared.status.FileKind.TheVariants as kinds
 use Rattle.qs_driver.proofs.BoundsLaws.{core_is}
 use Rattle.qs_driver.proofs.LaterLaws.{keeps_then_holds, cut_short}
-use Rattle.qs_driver.proofs.StepsLaws.{log_last, out_last}
 
 -- ---- what is certified without a proof file
 
@@ -132,11 +130,5 @@ not_written d {text = text} differ h read written (failed, cut) = meant.refused 
 
 -- ---- what is put after that
 
-pub count_put : (d : DeriveWords) (count : Count) (l v w : SinkView) (result : Status) → EndsWith (count_line count) Done v w result → IsWritten (due_of d (Ok count)) (streams v l) (streams w l) result
-count_put d count l v w result h = out_last Done (count_line count) l v w result h
-
-pub fault_put : (d : DeriveWords) (status : Status) (o v w : SinkView) (result : Status) → EndsWith (status_line (names_of d) status) status v w result → IsWritten (due_of d (Err status)) (streams o v) (streams o w) result
-fault_put d status o v w result h = log_last status (status_line (names_of d) status) o v w result h
-
-pub derive_answers : (d : DeriveWords) (s s' : StoreView) (o o' l l' : SinkView) (work : Result Count Status) (result : Status) → Derives d s s' work → IsWritten (due_of d work) (streams o l) (streams o' l') result → Answers (derive d) (views_of s o l) (views_of s' o' l') result
-derive_answers d s s' o o' l l' work result due h = record { due = due_of d work; is_due = due; written = h }
+pub derive_answers : (d : DeriveWords) (s s' : StoreView) (o o' l l' : SinkView) (work : Result Count Status) (result : Status) → Derives d s s' work → IsWritten (counted_or_refused (names_of d) work) (streams o l) (streams o' l') result → Answers (derive d) (views_of s o l) (views_of s' o' l') result
+derive_answers d s s' o o' l l' work result due h = record { due = counted_or_refused (names_of d) work; is_due = due; written = h }

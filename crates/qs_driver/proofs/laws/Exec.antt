@@ -1,9 +1,8 @@
 -- How `exec` comes to a machine and its input, and what it came to.
-use Rattle.std.proofs.Common.{◌≡◌, ◌⊎◌, ◌∙◌, ℕ, ◌≤◌, List, [], ◌∷◌, Option, Some, None, Result, Ok, Err, refl, sym, ap, subst, inl, inr, arith}
+use Rattle.std.proofs.Common.{◌≡◌, ◌∙◌, ℕ, ◌≤◌, List, [], ◌∷◌, Option, Some, None, Result, Ok, Err, refl, sym, ap, subst, inl, inr, arith}
 use Rattle.std.specs.Prelude.{Vec}
 use Rattle.std.specs.declared.alloc.Global.{Global}
 use Rattle.qs_assert.specs.declared.define.Amount.{Amount}
-use Rattle.qs_assert.specs.declared.define.Amount.TheVariants.{Finite}
 use Rattle.qs_meaning.specs.Typed.{TypedProgram}
 use Rattle.qs_ports.specs.StoreView.{StoreView}
 use Rattle.qs_ports.specs.SinkView.{SinkView, Appends, IsCut}

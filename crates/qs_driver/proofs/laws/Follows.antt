@@ -1,5 +1,5 @@
 -- What follows of a task from what is due to it.
-use Rattle.std.proofs.Common.{◌≡◌, ◌≢◌, ◌⊎◌, ℕ, ◌<◌, List, refl, arith, inl, inr}
+use Rattle.std.proofs.Common.{◌≡◌, ◌≢◌, ◌⊎◌, ℕ, ◌<◌, List, refl, arith, inl}
 use Rattle.qs_ports.specs.StoreView.{StoreView}
 use Rattle.qs_driver.specs.Due.{Due}
 use Rattle.qs_driver.specs.Files.{IsUntouched, CannotRead}

@@ -1,5 +1,5 @@
 -- What follows from what is due to `outline`.
-use Rattle.std.proofs.Common.{◌≡◌, ◌≢◌, ◌⊎◌, ◌<◌, List, ℕ, ap, subst, sym, inl, inr, IsTrue}
+use Rattle.std.proofs.Common.{◌≡◌, ◌≢◌, ◌⊎◌, ◌<◌, ap, subst, sym, inl, inr, IsTrue}
 use Rattle.qs_ports.specs.StoreView.{StoreView}
 use Rattle.qs_core.specs.Trees.{CoreUnitTree}
 use Rattle.qs_driver.specs.Limits.{source_limit}
@@ -7,7 +7,7 @@ use Rattle.qs_driver.specs.Due.{Due}
 use Rattle.qs_driver.specs.Files.{HoldsWith}
 use Rattle.qs_driver.specs.Source.{IsTypedUnit}
 use Rattle.qs_driver.specs.Promises.{StoreHeld, SaysStoreFailed}
-use Rattle.qs_driver.specs.commands.Outline.{OutlineWords, outline, CannotOutline, IsDueToOutline, HasCoreUnit, IsGood, Accepts, Refuses, IsOfOutline}
+use Rattle.qs_driver.specs.commands.Outline.{OutlineWords, outline, CannotOutline, IsDueToOutline, HasCoreUnit, Accepts, Refuses, IsOfOutline}
 use Rattle.qs_driver.specs.commands.Outline as meant
 use Rattle.qs_driver.specs.declared.status.Status.{Status}
 use Rattle.qs_driver.specs.declared.status.Status.TheVariants.{Done, NoMemory}

@@ -1,5 +1,5 @@
 -- How `run` comes to a machine and its input, and what it came to.
-use Rattle.std.proofs.Common.{◌≡◌, ℕ, ◌≤◌, List, length, Option, Some, None, Result, Ok, Err, refl, sym, ◌∙◌, subst, arith}
+use Rattle.std.proofs.Common.{◌≡◌, ℕ, ◌≤◌, List, length, Option, Some, None, Result, Ok, Err, refl, sym, subst, arith}
 use Rattle.qs_ports.specs.StoreView.{StoreView}
 use Rattle.qs_ports.specs.SinkView.{SinkView}
 use Rattle.qs_image.specs.Image.{Image, IsImage}
@@ -18,7 +18,7 @@ use Rattle.qs_machine.specs.Arguments.{words_of}
 use Rattle.qs_driver.specs.Arguments.{LacksWords}
 use Rattle.qs_driver.specs.Arguments as arguments
 use Rattle.qs_driver.specs.Task.{Answers}
-use Rattle.qs_driver.specs.commands.Run.{RunWords, names_of, run, ReadImage, ReadInput, ComesToInput, CannotRun, IsDueToRun, IsDueAt, after_output, refused_after, CannotLoad, WasLoaded, IsReady, ReadsNamed, Prepares, IsFresh, Finishes}
+use Rattle.qs_driver.specs.commands.Run.{RunWords, names_of, run, ReadImage, ReadInput, CannotRun, IsDueToRun, IsDueAt, after_output, refused_after, CannotLoad, WasLoaded, IsReady, ReadsNamed, Prepares, IsFresh, Finishes}
 use Rattle.qs_driver.specs.commands.Run as meant
 use Rattle.qs_driver.specs.declared.commands.run.Ready.{Ready}
 use Rattle.qs_driver.specs.declared.status.Status.{Status}

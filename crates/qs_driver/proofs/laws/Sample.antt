@@ -1,25 +1,19 @@
 -- How `sample` comes to a machine, and what it came to.
-use Rattle.std.proofs.Common.{◌≡◌, ◌⊎◌, ◌∙◌, ℕ, ◌≤◌, ◌++◌, List, [], ◌∷◌, length, Option, Some, None, Result, Ok, Err, refl, sym, ap, subst, inl, inr, arith}
+use Rattle.std.proofs.Common.{◌≡◌, ◌⊎◌, ◌∙◌, ℕ, ◌++◌, List, [], length, Option, Some, None, Result, Ok, Err, refl, sym, ap, subst, inl, inr, arith}
 use Rattle.qs_syntax.specs.Trees.{DeclTree, UnitTree}
 use Rattle.qs_syntax.specs.Units.{IsRead}
 use Rattle.qs_typing.specs.TypedOf.{typed_tree}
-use Rattle.qs_assert.specs.declared.define.Amount.{Amount}
-use Rattle.qs_assert.specs.declared.define.Amount.TheVariants.{Finite}
 use Rattle.qs_core.specs.Trees.{CoreUnitTree}
-use Rattle.qs_core.specs.UnitTrees.{unit_tree}
 use Rattle.qs_triples.specs.Derivations.{ProofsTree}
 use Rattle.qs_triples.specs.TreeOf.{proofs_tree}
-use Rattle.qs_ports.specs.StoreView.{StoreView, HasFailed}
+use Rattle.qs_ports.specs.StoreView.{StoreView}
 use Rattle.qs_ports.specs.SinkView.{SinkView, Appends}
-use Rattle.qs_ports.specs.Whole.{IsCutShort}
-use Rattle.qs_image.specs.Image.{Image, IsImage}
+use Rattle.qs_image.specs.Image.{Image}
 use Rattle.qs_machine.specs.Arguments.{words_of}
-use Rattle.qs_machine.specs.Run.{Outcome, Exited, Trapped as HasTrapped, Going, machine, start, output_so_far}
+use Rattle.qs_machine.specs.Run.{Outcome, Exited, Trapped as HasTrapped, Going, machine, output_so_far}
 use Rattle.qs_machine.specs.Running.{Shows}
-use Rattle.qs_machine.specs.State.{stack_limit}
 use Rattle.qs_machine.specs.declared.answers.RunEnd.{RunEnd}
 use Rattle.qs_machine.specs.declared.answers.RunEnd.TheVariants as end
-use Rattle.qs_machine.specs.declared.machine.Machine.{Machine}
 use Rattle.qs_emit.specs.Agree.{Agree}
 use Rattle.qs_certify.specs.Bound.{main_bound}
 use Rattle.qs_compile.specs.Compiled.{IsCompiled, IsImageOfSource}
@@ -28,7 +22,6 @@ use Rattle.qs_driver.specs.Certified.{IsCertifiedUnit}
 use Rattle.qs_driver.specs.Devices.{streams, views_of}
 use Rattle.qs_driver.specs.Due.{Due, EndsWith, IsWritten}
 use Rattle.qs_driver.specs.Faults.{status_line}
-use Rattle.qs_driver.specs.Files.{IsUntouched}
 use Rattle.qs_driver.specs.KeptOutput.{kept_view}
 use Rattle.qs_driver.specs.Limits.{default_steps}
 use Rattle.qs_driver.specs.Made.{IsMadeOf}
@@ -36,7 +29,7 @@ use Rattle.qs_driver.specs.SampleSource.{sample_text}
 use Rattle.qs_driver.specs.Source.{IsTypedAs}
 use Rattle.qs_driver.specs.Task.{Answers}
 use Rattle.qs_driver.specs.commands.Exec.{as_run, IsSourcesEnd, IsStackOf, LoadsImage}
-use Rattle.qs_driver.specs.commands.Sample.{SampleWords, names_of, as_exec, counted, outcome, sample, sample_lines, due_of, HasStack, HasStarted, HasWritten, IsDueAt, IsDueToSample, ComesTo, RunsCounted, Samples, WritesSource}
+use Rattle.qs_driver.specs.commands.Sample.{SampleWords, names_of, as_exec, counted, outcome, sample, sample_lines, due_of, HasStarted, HasWritten, IsDueAt, IsDueToSample, ComesTo, RunsCounted, Samples, WritesSource}
 use Rattle.qs_driver.specs.commands.Sample as meant
 use Rattle.qs_driver.specs.declared.certified.CertifiedUnit.{CertifiedUnit}
 use Rattle.qs_driver.specs.declared.commands.sample.SampleStart.{SampleStart}
@@ -44,8 +37,7 @@ use Rattle.qs_driver.specs.declared.commands.sample.SampleEnd.{SampleEnd}
 use Rattle.qs_driver.specs.declared.kept_output.KeptOutput.{KeptOutput}
 use Rattle.qs_driver.specs.declared.made.Made.{Made}
 use Rattle.qs_driver.specs.declared.status.Status.{Status}
-use Rattle.qs_driver.specs.declared.status.Status.TheVariants.{Done, Trapped, StepLimit, StoreFailed, NoMemory}
-use Rattle.qs_driver.specs.declared.status.FileKind.TheVariants as kinds
+use Rattle.qs_driver.specs.declared.status.Status.TheVariants.{Done, Trapped, StepLimit, NoMemory}
 use Rattle.qs_driver.proofs.BoundsLaws.{compiled_is_image, is_compiled}
 use Rattle.qs_driver.proofs.CertifiedLaws.{HoldsCertified, holds_certified}
 use Rattle.qs_driver.proofs.laws.Exec.{sources_end, stands_at}
@@ -61,11 +53,11 @@ image_of {text} {c} {image} h compiled =
     (subst (λ (unit : UnitTree). IsCompiled unit image) h.holds.unit (is_compiled (typed_tree c.typed) image compiled))
 
 -- the bound that the code has computed is that of what it holds
-pub bound_of_held : {text : List ℕ} {c : CertifiedUnit} {made : Made} (h : HoldsCertified text None c) → IsMadeOf c [] made → made.bound ≡ bound_by h.source (costs_in made.image) []
+pub bound_of_held : {text : List ℕ} {c : CertifiedUnit} {made : Made} (h : HoldsCertified text None c) → IsMadeOf c [] made → made.bound ≡ bound_by h.source (costs_in made.image.functions) []
 bound_of_held {c = c} {made = made} h m =
     m.bound_is
-    ∙ ap (λ (u : CoreUnitTree). main_bound u (proofs_tree c.certified.proofs) (costs_in made.image) []) h.holds.core
-    ∙ ap (λ (p : ProofsTree). main_bound h.source.core p (costs_in made.image) []) h.holds.proofs
+    ∙ ap (λ (u : CoreUnitTree). main_bound u (proofs_tree c.certified.proofs) (costs_in made.image.functions) []) h.holds.core
+    ∙ ap (λ (p : ProofsTree). main_bound h.source.core p (costs_in made.image.functions) []) h.holds.proofs
 
 pub has_started : {text : List ℕ} {unit : List DeclTree} {c : CertifiedUnit} {made : Made} (started : SampleStart) → IsTypedAs text unit → IsRead unit → IsCertifiedUnit unit None c → IsMadeOf c [] made → IsStackOf made.bound (Ok started.stack) → LoadsImage made.image (as_run as_exec started.stack) (Ok started.machine) → started.functions ≡ length made.image.functions → HasStarted text started
 has_started started typed_as read k m is (inl never) functions_are = absurd (let none : ⊥ = cc in none)

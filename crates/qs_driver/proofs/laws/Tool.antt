@@ -1,5 +1,5 @@
 -- A row for each command, and what is promised of a call.
-use Rattle.std.proofs.Common.{◌≡◌, ◌≢◌, ◌⊎◌, ◌∙◌, ℕ, ◌<◌, List, Option, Some, None, sym, subst, inl, inr}
+use Rattle.std.proofs.Common.{◌≡◌, ◌≢◌, ◌⊎◌, ◌∙◌, ◌<◌, Option, Some, None, sym, subst, inl, inr}
 use Rattle.qs_ports.specs.StoreView.{StoreView}
 use Rattle.qs_ports.specs.SinkView.{SinkView}
 use Rattle.qs_cli.specs.Commands.{Command, Build, Check, Bound, Derive, Outline, Run, Exec, Sample}

@@ -31,7 +31,8 @@ bound_words source proof args = record { source = source; proof = proof; args = 
 
 -- the words as the code holds them
 abbrev pub words_in : BoundOrder → BoundWords
-words_in order = bound_words order.source.now (option_map (λ name. name.now) order.proof) order.args.now
+words_in order =
+    bound_words order.source.now (option_map (λ name. name.now) order.proof) order.args.now
 
 -- those of what is made
 abbrev pub to_make : BoundWords → MakeWords
@@ -45,7 +46,10 @@ names_of b = record no_names { source = b.source; derivation = proof_name b.proo
 -- the cost of each function, and then the bound
 abbrev pub costs_and_bound : List FunctionRecord → Amount → Due
 costs_and_bound functions bound =
-    record { status = Done; steps = on_out (cost_lines functions ++ bound_line (shown_of bound)) ∷ [] }
+    record {
+      status = Done;
+      steps = on_out (cost_lines functions ++ bound_line (shown_of bound)) ∷ [];
+    }
 
 -- `out` gets the costs of the image's records, and what main costs with the value of its precondition at the arguments.
 pub record HasBound (b : BoundWords) (before after : StoreView) (due : Due) : Type 0 where
@@ -58,7 +62,8 @@ pub record HasBound (b : BoundWords) (before after : StoreView) (due : Due) : Ty
 -- What is due to `bound`, and why.
 pub data IsDueToBound (b : BoundWords) (before after : StoreView) (due : Due) : Type 0 where
   bounded : HasBound b before after due → IsDueToBound b before after due
-  refused : (status : Status) → CannotMake (to_make b) before after status → IsRefusal (names_of b) status due
+  refused : (status : Status) → CannotMake (to_make b) before after status
+      → IsRefusal (names_of b) status due
       → IsDueToBound b before after due
 
 -- ---- what follows

@@ -1,5 +1,5 @@
 -- `build`: from the source and its proof file in the store to the image in the store.
-use Rattle.std.specs.Prelude.{◌≡◌, ◌≢◌, ◌⊎◌, ◌↔◌, ℕ, List, [], ◌∷◌, IsTrue, Option, Some, Result, Ok, Err, option_map}
+use Rattle.std.specs.Prelude.{◌≡◌, ◌⊎◌, ◌↔◌, ℕ, List, [], ◌∷◌, IsTrue, Option, Some, Result, Ok, Err, option_map}
 use Rattle.qs_ports.specs.StoreView.{StoreView, HasSameCounts, HasFailed}
 use Rattle.qs_ports.specs.Whole.{Stores, IsCutShort}
 use Rattle.qs_image.specs.Image.{Image, IsImage}
@@ -30,7 +30,8 @@ build_words source proof out = record { source = source; proof = proof; out = ou
 
 -- the words as the code holds them
 abbrev pub words_in : BuildOrder → BuildWords
-words_in order = build_words order.source.now (option_map (λ name. name.now) order.proof) order.out.now
+words_in order =
+    build_words order.source.now (option_map (λ name. name.now) order.proof) order.out.now
 
 -- those that name what is certified
 abbrev pub inputs : BuildWords → CertifyWords
@@ -49,7 +50,8 @@ NamesDiffer b = NamesOneTwice b → ⊥
 -- ---- what is due
 
 -- The source and the proof file were read and come to this, of which this image was made, and these are its bytes.
-pub record HasImage (b : BuildWords) (before : StoreView) (s : CertifiedSource) (image : Image) (bytes : List ℕ) : Type 0 where
+pub record HasImage (b : BuildWords) (before : StoreView) (s : CertifiedSource) (image : Image)
+    (bytes : List ℕ) : Type 0 where
   pub reads : ReadsCertified (inputs b) before s
   pub image_of : IsImageOf s image
   pub is_image : IsImage bytes image
@@ -80,7 +82,8 @@ pub record CouldNotWrite (b : BuildWords) (before after : StoreView) : Type 0 wh
 -- Why the image wasn't built, and the status at that.
 pub data CannotBuild (b : BuildWords) (before after : StoreView) (status : Status) : Type 0 where
   not_certified : LacksCertified (inputs b) before after status → CannotBuild b before after status
-  unwritable : CouldNotWrite b before after → status ≡ StoreFailed kinds.Output → CannotBuild b before after status
+  unwritable : CouldNotWrite b before after → status ≡ StoreFailed kinds.Output
+      → CannotBuild b before after status
   -- no memory was found, before anything was written; a source passes no size of images (`SourcesPassNoSize`)
   no_memory : IsUntouched before after → status ≡ NoMemory → CannotBuild b before after status
 
@@ -115,7 +118,8 @@ pub data IsOfBuild : Status → Type 0 where
 pub record Refuses (b : BuildWords) (before : StoreView) (status : Status) : Type 0 where
   pub own : IsOfBuild status
   pub same_name : (status ≡ Words SameName) ↔ NamesOneTwice b
-  pub certified : IsTrue before.told → NamesDiffer b → RefusesCertified (inputs b) before.files status
+  pub certified : IsTrue before.told → NamesDiffer b
+      → RefusesCertified (inputs b) before.files status
 
 abbrev pub build : BuildWords → Task
 build b = record { IsDue = IsDueToBuild b; Accepts = Accepts b; Refuses = Refuses b }

@@ -1,12 +1,11 @@
 -- `check`: whether the derivations of a source are right.
-use Rattle.std.specs.Prelude.{◌≡◌, ◌-◌, ℕ, List, [], ◌∷◌, length, IsTrue, Option, Result, Ok, Err}
+use Rattle.std.specs.Prelude.{◌≡◌, ◌-◌, length, IsTrue, Result}
 use Rattle.qs_ports.specs.StoreView.{StoreView}
-use Rattle.qs_report.specs.Lines.{count_line}
 use Rattle.qs_report.specs.declared.fault_texts.Count.{Count}
 use Rattle.qs_report.specs.declared.fault_texts.Count.TheVariants.{Checked}
 use Rattle.qs_driver.specs.Names.{Names, no_names}
-use Rattle.qs_driver.specs.Steps.{on_out}
-use Rattle.qs_driver.specs.Due.{Due, refusal, IsRefusal}
+use Rattle.qs_driver.specs.Due.{Due, IsRefusal}
+use Rattle.qs_driver.specs.Counts.{counted, counted_or_refused}
 use Rattle.qs_driver.specs.Files.{IsUntouched}
 use Rattle.qs_driver.specs.Certified.{CertifyWords, proof_name, CertifiedSource, ReadsCertified, LacksCertified, HoldsRight, IsOfCertified, RefusesCertified}
 use Rattle.qs_driver.specs.Bounds.{IsBounded}
@@ -22,10 +21,8 @@ names_of w = record no_names { source = w.source; derivation = proof_name w.proo
 
 -- functions with an entry in the proof file, and functions whose entry was filled in
 abbrev pub counts_of : CertifiedSource → Count
-counts_of s = Checked (length s.given.functions) (length s.proofs.functions - length s.given.functions)
-
-abbrev pub counted : Count → Due
-counted count = record { status = Done; steps = on_out (count_line count) ∷ [] }
+counts_of s =
+    Checked (length s.given.functions) (length s.proofs.functions - length s.given.functions)
 
 -- The source and its proof file come to this, and no file changed: main's entry bounds each run, of the source and of
 -- its linear code, for every stack metric. `out` gets the counts.
@@ -39,7 +36,8 @@ pub record HasChecked (w : CertifyWords) (before after : StoreView) (due : Due) 
 -- What is due to `check`, and why.
 pub data IsDueToCheck (w : CertifyWords) (before after : StoreView) (due : Due) : Type 0 where
   checked : HasChecked w before after due → IsDueToCheck w before after due
-  refused : (status : Status) → LacksCertified w before after status → IsRefusal (names_of w) status due
+  refused : (status : Status) → LacksCertified w before after status
+      → IsRefusal (names_of w) status due
       → IsDueToCheck w before after due
 
 -- ---- what follows
@@ -68,11 +66,6 @@ check w = record { IsDue = IsDueToCheck w; Accepts = Accepts w; Refuses = Refuse
 
 -- ---- what the parts of the code answer
 
--- what is due after the work on the store
-abbrev pub due_of : CertifyWords → Result Count Status → Due
-due_of w (Ok count) = counted count
-due_of w (Err status) = refusal (names_of w) status
-
 -- the answer of `check_entries`
 abbrev pub Checks : CertifyWords → StoreView → StoreView → Result Count Status → Type 0
-Checks w before after work = IsDueToCheck w before after (due_of w work)
+Checks w before after work = IsDueToCheck w before after (counted_or_refused (names_of w) work)

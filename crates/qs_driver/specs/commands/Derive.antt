@@ -1,5 +1,5 @@
 -- `derive`: a derivation for each function of a source without recursion, as a proof file.
-use Rattle.std.specs.Prelude.{◌≡◌, ◌≢◌, ◌↔◌, ℕ, ◌<◌, List, [], ◌∷◌, length, IsTrue, None, Result, Ok, Err, Vec}
+use Rattle.std.specs.Prelude.{◌≡◌, ◌≢◌, ◌↔◌, ℕ, ◌<◌, List, length, IsTrue, None, Result, Vec}
 use Rattle.std.specs.declared.alloc.Global.{Global}
 use Rattle.qs_ports.specs.StoreView.{StoreView, HasSameCounts, HasFailed}
 use Rattle.qs_ports.specs.Whole.{Stores, IsCutShort}
@@ -7,12 +7,11 @@ use Rattle.qs_triples.specs.Entries.{HasDerivedEntry}
 use Rattle.qs_triples.specs.Filled.{Filled}
 use Rattle.qs_prooftext.specs.Proofs.{no_proofs}
 use Rattle.qs_prooftext.specs.Reading.{Reading}
-use Rattle.qs_report.specs.Lines.{count_line}
 use Rattle.qs_report.specs.declared.fault_texts.Count.{Count}
 use Rattle.qs_report.specs.declared.fault_texts.Count.TheVariants.{Derived}
 use Rattle.qs_driver.specs.Names.{Names, no_names}
-use Rattle.qs_driver.specs.Steps.{on_out}
-use Rattle.qs_driver.specs.Due.{Due, refusal, IsRefusal}
+use Rattle.qs_driver.specs.Due.{Due, IsRefusal}
+use Rattle.qs_driver.specs.Counts.{counted, counted_or_refused}
 use Rattle.qs_driver.specs.Files.{IsUntouched}
 use Rattle.qs_driver.specs.Certified.{CertifyWords, certify_words, CertifiedSource, ReadsCertified, LacksCertified, IsRightFile, HoldsRight, RefusesCertified}
 use Rattle.qs_driver.specs.Source.{IsOfSource}
@@ -53,16 +52,13 @@ AllAreDerived s = (f : ℕ) → f < length s.core.functions → HasDerivedEntry 
 
 -- The source was read and is certified, and its proofs are all filled in, none being given: each function has an entry,
 -- which is derived. The text reads as these proofs, and is right as a proof file of the source.
-pub record HasProofs (d : DeriveWords) (before : StoreView) (s : CertifiedSource) (text : List ℕ) : Type 0 where
+pub record HasProofs (d : DeriveWords) (before : StoreView) (s : CertifiedSource) (text : List ℕ)
+    : Type 0 where
   pub reads : ReadsCertified (inputs d) before s
   pub filled : Filled s.core no_proofs s.proofs
   pub derived : AllAreDerived s
   pub is_text : Reading s.core text s.proofs
   pub is_right : IsRightFile s.core text
-
--- how many entries were derived
-abbrev pub counted : Count → Due
-counted count = record { status = Done; steps = on_out (count_line count) ∷ [] }
 
 -- The out file holds the proofs of the source; `out` gets how many entries they have.
 pub record HasDerived (d : DeriveWords) (before after : StoreView) (due : Due) : Type 0 where
@@ -84,7 +80,8 @@ pub record CouldNotWrite (d : DeriveWords) (before after : StoreView) : Type 0 w
 -- Why there are no proofs, and the status at that.
 pub data CannotDerive (d : DeriveWords) (before after : StoreView) (status : Status) : Type 0 where
   not_certified : LacksCertified (inputs d) before after status → CannotDerive d before after status
-  unwritable : CouldNotWrite d before after → status ≡ StoreFailed kinds.Output → CannotDerive d before after status
+  unwritable : CouldNotWrite d before after → status ≡ StoreFailed kinds.Output
+      → CannotDerive d before after status
   -- no memory was found, before anything was written
   no_memory : IsUntouched before after → status ≡ NoMemory → CannotDerive d before after status
 
@@ -119,18 +116,14 @@ pub data IsOfDerive : Status → Type 0 where
 pub record Refuses (d : DeriveWords) (before : StoreView) (status : Status) : Type 0 where
   pub own : IsOfDerive status
   pub same_name : (status ≡ Words SameName) ↔ (d.source ≡ d.out)
-  pub certified : IsTrue before.told → d.source ≢ d.out → RefusesCertified (inputs d) before.files status
+  pub certified : IsTrue before.told → d.source ≢ d.out
+      → RefusesCertified (inputs d) before.files status
 
 abbrev pub derive : DeriveWords → Task
 derive d = record { IsDue = IsDueToDerive d; Accepts = Accepts d; Refuses = Refuses d }
 
 -- ---- what the parts of the code answer
 
--- what is due after the work on the store
-abbrev pub due_of : DeriveWords → Result Count Status → Due
-due_of d (Ok count) = counted count
-due_of d (Err status) = refusal (names_of d) status
-
 -- the answer of `derive_proofs`
 abbrev pub Derives : DeriveWords → StoreView → StoreView → Result Count Status → Type 0
-Derives d before after work = IsDueToDerive d before after (due_of d work)
+Derives d before after work = IsDueToDerive d before after (counted_or_refused (names_of d) work)

@@ -65,7 +65,11 @@ abbrev pub as_run : ExecWords → (stack : ℕ) → RunWords
 as_run e stack = run_words [] stack e.args e.input e.steps
 
 abbrev pub names_of : ExecWords → Names
-names_of e = record no_names { source = e.source; derivation = proof_name e.proof; input = input_name e.input }
+names_of e = record no_names {
+  source = e.source;
+  derivation = proof_name e.proof;
+  input = input_name e.input;
+}
 
 -- ---- what is due
 
@@ -83,12 +87,14 @@ after_run stack output status line = record {
 
 -- the bound and the output, then the line of the fault
 abbrev pub refused_after : (stack : ℕ) → List ℕ → ExecWords → Status → Due
-refused_after stack output e status = after_run stack output status (status_line (names_of e) status)
+refused_after stack output e status =
+    after_run stack output status (status_line (names_of e) status)
 
 -- what is due at this outcome of the machine
 abbrev pub IsDueAt : ExecWords → (stack : ℕ) → Outcome → Due → Type 0
 IsDueAt e stack (Exited output status) due = due ≡ after_run stack output Done (end_line status)
-IsDueAt e stack (HasTrapped cause pc output) due = due ≡ refused_after stack output e (Trapped cause pc)
+IsDueAt e stack (HasTrapped cause pc output) due =
+    due ≡ refused_after stack output e (Trapped cause pc)
 IsDueAt e stack (Going output) due = due ≡ refused_after stack output e (StepLimit e.steps)
 
 -- Where the machine exits, the source has ended with the same output and status, or is undefined; where it traps, the source
@@ -97,7 +103,8 @@ abbrev pub IsSourcesEnd : TypedProgram → ExecWords → (input : List ℕ) → 
 IsSourcesEnd program e input (Exited output status) =
     HasEndedWith (seen_runs program e.args input e.steps) output status
     ⊎ IsUndefinedWithin (seen_runs program e.args input e.steps) output
-IsSourcesEnd program e input (HasTrapped cause pc output) = IsUndefinedWithin (seen_runs program e.args input e.steps) output
+IsSourcesEnd program e input (HasTrapped cause pc output) =
+    IsUndefinedWithin (seen_runs program e.args input e.steps) output
 IsSourcesEnd program e input (Going output) =
     Begins (output_of (trace_of (seen_runs program e.args input e.steps))) output
     ⊎ IsUndefinedWithin (seen_runs program e.args input e.steps) output
@@ -140,7 +147,8 @@ pub data CannotExec (e : ExecWords) (before after : StoreView) (status : Status)
   no_stack : (amount : Amount) → IsUntouched before after → HasNoStack e before amount
       → status ≡ NoBound amount → CannotExec e before after status
   unread_input : (name : List ℕ) → ComesToInput e before name
-      → CannotRead before after name kinds.Input input_limit status → CannotExec e before after status
+      → CannotRead before after name kinds.Input input_limit status
+      → CannotExec e before after status
   no_memory : IsUntouched before after → status ≡ NoMemory → CannotExec e before after status
 
 -- What is due to `exec`, and why.
@@ -159,7 +167,8 @@ pub record IsGood (e : ExecWords) (before : StoreView) : Type 0 where
   pub input_there : HasInput before e.input input
 
 -- the status is that of the machine's outcome on the image that is made, on a stack of its bound
-pub record EndsAtOutcome (e : ExecWords) (before : StoreView) (input : List ℕ) (status : Status) : Type 0 where
+pub record EndsAtOutcome (e : ExecWords) (before : StoreView) (input : List ℕ) (status : Status)
+    : Type 0 where
   pub image : Image
   pub stack : ℕ
   pub has_stack : HasStack e before image stack
@@ -173,10 +182,12 @@ pub record LacksStack (e : ExecWords) (before : StoreView) (status : Status) : T
 
 -- each good source is run to the outcome of its machine, unless there is no stack for its bound
 abbrev pub Accepts : ExecWords → StoreView → Status → Type 0
-Accepts e before status = (g : IsGood e before) → EndsAtOutcome e before g.input status ⊎ LacksStack e before status
+Accepts e before status =
+    (g : IsGood e before) → EndsAtOutcome e before g.input status ⊎ LacksStack e before status
 
 -- an image is made that has a stack of its bound, an input is named, and of its file this is so
-pub record OfInput (e : ExecWords) (before : StoreView) (IsSo : Option (List ℕ) → Type 0) : Type 0 where
+pub record OfInput (e : ExecWords) (before : StoreView) (IsSo : Option (List ℕ) → Type 0)
+    : Type 0 where
   pub name : List ℕ
   pub comes : ComesToInput e before name
   pub so : IsSo (before.files name)
@@ -191,8 +202,10 @@ HasLongInput e before = OfInput e before (λ file. IsTooLong file input_limit)
 pub data Ends (e : ExecWords) (before : StoreView) (status : Status) : Type 0 where
   lacks_stack : LacksStack e before status → Ends e before status
   lacks_input : LacksInput e before → status ≡ Missing kinds.Input → Ends e before status
-  has_long_input : HasLongInput e before → status ≡ Source (TooLong kinds.Input) → Ends e before status
-  at_outcome : (input : List ℕ) → HasInput before e.input input → EndsAtOutcome e before input status → Ends e before status
+  has_long_input : HasLongInput e before → status ≡ Source (TooLong kinds.Input)
+      → Ends e before status
+  at_outcome : (input : List ℕ) → HasInput before e.input input
+      → EndsAtOutcome e before input status → Ends e before status
 
 -- the statuses with which `exec` ends where no call fails and memory is found
 pub data IsOfExec (e : ExecWords) : Status → Type 0 where
@@ -208,9 +221,11 @@ pub data IsOfExec (e : ExecWords) : Status → Type 0 where
 pub record Refuses (e : ExecWords) (before : StoreView) (status : Status) : Type 0 where
   pub own : IsOfExec e status
   pub made : IsTrue before.told → RefusesMade (to_make e) before.files status
-  pub no_bound : (amount : Amount) → IsTrue before.told → (status ≡ NoBound amount) ↔ HasNoStack e before amount
+  pub no_bound : (amount : Amount) → IsTrue before.told
+      → (status ≡ NoBound amount) ↔ HasNoStack e before amount
   pub input_missing : IsTrue before.told → (status ≡ Missing kinds.Input) ↔ LacksInput e before
-  pub input_long : IsTrue before.told → (status ≡ Source (TooLong kinds.Input)) ↔ HasLongInput e before
+  pub input_long : IsTrue before.told
+      → (status ≡ Source (TooLong kinds.Input)) ↔ HasLongInput e before
   pub ends : IsTrue before.told → FitsMain (to_make e) before.files → Ends e before status
 
 abbrev pub exec : ExecWords → Task

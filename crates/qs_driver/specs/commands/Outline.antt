@@ -51,14 +51,16 @@ pub record HasOutline (o : OutlineWords) (before after : StoreView) (due : Due) 
   pub is_due : due ≡ printed (core.outline unit)
 
 -- Why there is no outline, and the status at that.
-pub data CannotOutline (o : OutlineWords) (before after : StoreView) (status : Status) : Type 0 where
+pub data CannotOutline (o : OutlineWords) (before after : StoreView) (status : Status)
+    : Type 0 where
   no_source : LacksSource before after o.source status → CannotOutline o before after status
   no_memory : IsUntouched before after → status ≡ NoMemory → CannotOutline o before after status
 
 -- What is due to `outline`, and why.
 pub data IsDueToOutline (o : OutlineWords) (before after : StoreView) (due : Due) : Type 0 where
   outlined : HasOutline o before after due → IsDueToOutline o before after due
-  refused : (status : Status) → CannotOutline o before after status → IsRefusal (names_of o) status due
+  refused : (status : Status) → CannotOutline o before after status
+      → IsRefusal (names_of o) status due
       → IsDueToOutline o before after due
 
 -- ---- what follows

@@ -44,11 +44,14 @@ pub record RunWords : Type 0 where
   pub steps : ℕ
 
 abbrev pub run_words : List ℕ → ℕ → List ℤ → Option (List ℕ) → ℕ → RunWords
-run_words image stack args input steps = record { image = image; stack = stack; args = args; input = input; steps = steps }
+run_words image stack args input steps =
+    record { image = image; stack = stack; args = args; input = input; steps = steps }
 
 -- the words as the code holds them
 abbrev pub words_in : RunOrder → RunWords
-words_in order = run_words order.image.now order.stack order.args.now (option_map (λ name. name.now) order.input) order.steps
+words_in order =
+    run_words order.image.now order.stack order.args.now
+    (option_map (λ name. name.now) order.input) order.steps
 
 abbrev pub input_name : Option (List ℕ) → List ℕ
 input_name None = []
@@ -69,7 +72,8 @@ ReadImage before r image = WasReadWith before r.image image_limit (λ content. I
 
 -- bytes were read as those of the image's file, and they are no image: this is the first test that they fail
 abbrev pub ReadNoImage : StoreView → RunWords → ImageFault → Type 0
-ReadNoImage before r fault = WasReadWith before r.image image_limit (λ content. first_fault content ≡ Some fault)
+ReadNoImage before r fault =
+    WasReadWith before r.image image_limit (λ content. first_fault content ≡ Some fault)
 
 -- the input that is named is there, or none is named and the input is empty
 abbrev pub HasInput : StoreView → Option (List ℕ) → List ℕ → Type 0
@@ -90,7 +94,8 @@ pub record CanRun (r : RunWords) (image : Image) : Type 0 where
 
 -- the output on `out`, then a line on `log`
 abbrev pub after_output : List ℕ → Status → List ℕ → Due
-after_output output status line = record { status = status; steps = on_out output ∷ on_log line ∷ [] }
+after_output output status line =
+    record { status = status; steps = on_out output ∷ on_log line ∷ [] }
 
 -- the output on `out`, then the line of the fault
 abbrev pub refused_after : List ℕ → RunWords → Status → Due
@@ -142,7 +147,8 @@ pub record ComesToInput (r : RunWords) (before : StoreView) (name : List ℕ) : 
 
 -- Why the machine wasn't run, and the status at that. The tests come in this order.
 pub data CannotRun (r : RunWords) (before after : StoreView) (status : Status) : Type 0 where
-  unread_image : CannotRead before after r.image kinds.Image image_limit status → CannotRun r before after status
+  unread_image : CannotRead before after r.image kinds.Image image_limit status
+      → CannotRun r before after status
   no_image : (fault : ImageFault) → IsUntouched before after
       → ReadNoImage before r fault
       → status ≡ NotAnImage fault → CannotRun r before after status
@@ -153,7 +159,8 @@ pub data CannotRun (r : RunWords) (before after : StoreView) (status : Status) :
   stack_too_large : IsUntouched before after → IsTooLarge r before
       → status ≡ StackTooLarge r.stack → CannotRun r before after status
   unread_input : (name : List ℕ) → ComesToInput r before name
-      → CannotRead before after name kinds.Input input_limit status → CannotRun r before after status
+      → CannotRead before after name kinds.Input input_limit status
+      → CannotRun r before after status
   no_memory : IsUntouched before after → status ≡ NoMemory → CannotRun r before after status
 
 -- What is due to `run`, and why.
@@ -214,7 +221,9 @@ at_outcome r image input = status_at r.steps (machine image r.stack (words_of r.
 -- where the input is this file
 abbrev pub at_input : RunWords → Image → Option (List ℕ) → Status
 at_input r image None = Missing kinds.Input
-at_input r image (Some input) = if ltb input_limit (length input) then Source (TooLong kinds.Input) else at_outcome r image input
+at_input r image (Some input) =
+    if ltb input_limit (length input) then Source (TooLong kinds.Input)
+    else at_outcome r image input
 
 -- where the input has this name, or there is none
 abbrev pub at_start : Files → RunWords → Image → Option (List ℕ) → Status
@@ -224,11 +233,13 @@ at_start files r image (Some name) = at_input r image (files name)
 -- where this argument is the first that doesn't fit, or all fit
 abbrev pub at_arguments : Files → RunWords → Image → Option ℕ → Status
 at_arguments files r image (Some i) = Words (ArgRange i)
-at_arguments files r image None = if ltb stack_limit r.stack then StackTooLarge r.stack else at_start files r image r.input
+at_arguments files r image None =
+    if ltb stack_limit r.stack then StackTooLarge r.stack else at_start files r image r.input
 
 abbrev pub at_image : Files → RunWords → Image → Status
 at_image files r image =
-    if eqb (length r.args) image.parameters then at_arguments files r image (first_misfit image 0 r.args)
+    if eqb (length r.args) image.parameters
+    then at_arguments files r image (first_misfit image 0 r.args)
     else Words (ArgCount image.parameters (length r.args))
 
 -- where the bytes fail this test of an image first, or none
@@ -240,7 +251,8 @@ at_bytes files r content None = at_image files r (image_of content)
 abbrev pub at_file : Files → RunWords → Option (List ℕ) → Status
 at_file files r None = Missing kinds.Image
 at_file files r (Some content) =
-    if ltb image_limit (length content) then Source (TooLong kinds.Image) else at_bytes files r content (first_fault content)
+    if ltb image_limit (length content) then Source (TooLong kinds.Image)
+    else at_bytes files r content (first_fault content)
 
 abbrev pub run_status : Files → RunWords → Status
 run_status files r = at_file files r (files r.image)
@@ -257,9 +269,12 @@ run r = record { IsDue = IsDueToRun r; Accepts = Accepts r; Refuses = Refuses r 
 
 -- why bytes aren't loaded
 pub data CannotLoad (bytes : List ℕ) (r : RunWords) (status : Status) : Type 0 where
-  bad_image : (fault : ImageFault) → first_fault bytes ≡ Some fault → status ≡ NotAnImage fault → CannotLoad bytes r status
-  no_words : (image : Image) → IsImage bytes image → LacksWords image r.args status → CannotLoad bytes r status
-  too_large : (image : Image) → IsImage bytes image → AreArguments image r.args → stack_limit < r.stack
+  bad_image : (fault : ImageFault) → first_fault bytes ≡ Some fault → status ≡ NotAnImage fault
+      → CannotLoad bytes r status
+  no_words : (image : Image) → IsImage bytes image → LacksWords image r.args status
+      → CannotLoad bytes r status
+  too_large : (image : Image) → IsImage bytes image → AreArguments image r.args
+      → stack_limit < r.stack
       → status ≡ StackTooLarge r.stack → CannotLoad bytes r status
   lacks_memory : status ≡ NoMemory → CannotLoad bytes r status
 
@@ -269,7 +284,8 @@ pub record WasLoaded (bytes : List ℕ) (r : RunWords) (machine : Machine) : Typ
   pub is_image : IsImage bytes image
   pub can_run : CanRun r image
   pub none_taken : taken_of machine ≡ 0
-  pub stands : (input : List ℕ) → Stands machine image r.stack input (start image (words_of r.args) input)
+  pub stands : (input : List ℕ)
+      → Stands machine image r.stack input (start image (words_of r.args) input)
 
 -- the answer of `load_bytes`
 abbrev pub Loads : List ℕ → RunWords → Result Machine Status → Type 0
@@ -277,11 +293,14 @@ Loads bytes r (Ok machine) = WasLoaded bytes r machine
 Loads bytes r (Err status) = CannotLoad bytes r status
 
 -- the answer of `read_input`, where the input has this name or none
-abbrev pub ReadsNamed : StoreView → StoreView → Option (List ℕ) → Result (Vec ℕ Global) Status → Type 0
+abbrev pub ReadsNamed :
+    StoreView → StoreView → Option (List ℕ) → Result (Vec ℕ Global) Status → Type 0
 ReadsNamed before after None (Ok input) = (input.items ≡ []) × IsUntouched before after
 ReadsNamed before after None (Err status) = ⊥
-ReadsNamed before after (Some name) (Ok input) = ReadsFile before after name kinds.Input input_limit (Ok input)
-ReadsNamed before after (Some name) (Err status) = ReadsFile before after name kinds.Input input_limit (Err status)
+ReadsNamed before after (Some name) (Ok input) =
+    ReadsFile before after name kinds.Input input_limit (Ok input)
+ReadsNamed before after (Some name) (Err status) =
+    ReadsFile before after name kinds.Input input_limit (Err status)
 
 abbrev pub ReadsInput : RunWords → StoreView → StoreView → Result (Vec ℕ Global) Status → Type 0
 ReadsInput r before after answer = ReadsNamed before after r.input answer
@@ -294,7 +313,9 @@ pub record IsReady (r : RunWords) (before after : StoreView) (ready : Ready) : T
   pub input_read : ReadInput before r.input ready.input.items
   pub untouched : IsUntouched before after
   pub none_taken : taken_of ready.machine ≡ 0
-  pub stands : Stands ready.machine image r.stack ready.input.items (start image (words_of r.args) ready.input.items)
+  pub stands :
+      Stands ready.machine image r.stack ready.input.items
+      (start image (words_of r.args) ready.input.items)
 
 -- the answer of `prepare`
 abbrev pub Prepares : RunWords → StoreView → StoreView → Result Ready Status → Type 0
@@ -304,8 +325,10 @@ Prepares r before after (Err status) = CannotRun r before after status
 -- the line at the end of a run was put on `log`
 abbrev pub Finishes : RunWords → RunEnd → SinkView → SinkView → Status → Type 0
 Finishes r (end.Exited status) v w result = EndsWith (end_line status) Done v w result
-Finishes r (end.Trapped cause pc) v w result = EndsWith (status_line (names_of r) (Trapped cause pc)) (Trapped cause pc) v w result
-Finishes r end.StepLimit v w result = EndsWith (status_line (names_of r) (StepLimit r.steps)) (StepLimit r.steps) v w result
+Finishes r (end.Trapped cause pc) v w result =
+    EndsWith (status_line (names_of r) (Trapped cause pc)) (Trapped cause pc) v w result
+Finishes r end.StepLimit v w result =
+    EndsWith (status_line (names_of r) (StepLimit r.steps)) (StepLimit r.steps) v w result
 Finishes r end.SinkFailed v w result = (result ≡ SinkFailed) × (w ≡ v)
 
 -- a machine that was prepared has taken no input yet

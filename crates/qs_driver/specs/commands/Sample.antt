@@ -64,7 +64,7 @@ pub record HasStack (text : List ℕ) (s : CertifiedSource) (image : Image) (sta
   pub certified : IsCertifiedAs text None s
   pub image_of : IsImageOf s image
   pub arguments : AreArguments image []
-  pub bound : bound_by s (costs_in image) [] ≡ Finite stack
+  pub bound : bound_by s (costs_in image.functions) [] ≡ Finite stack
   pub small : stack ≤ stack_limit
 
 -- where the machine stands at the end, without input
@@ -74,7 +74,8 @@ outcome image stack = machine image stack (words_of []) [] default_steps
 -- how many functions have a body, the bound, how many bytes were put, and the status of the run
 abbrev pub sample_lines : (functions stack output status : ℕ) → List ℕ
 sample_lines functions stack output status =
-    count_line (Functions functions) ++ bound_line (shown.Number stack) ++ count_line (Output output) ++ end_line status
+    count_line (Functions functions) ++ bound_line (shown.Number stack)
+    ++ count_line (Output output) ++ end_line status
 
 abbrev pub counted : (functions stack output status : ℕ) → Due
 counted functions stack output status =
@@ -82,14 +83,17 @@ counted functions stack output status =
 
 -- what is due at this outcome; the output is counted and not written
 abbrev pub IsDueAt : SampleWords → Image → (stack : ℕ) → Outcome → Due → Type 0
-IsDueAt w image stack (Exited output status) due = due ≡ counted (length image.functions) stack (length output) status
-IsDueAt w image stack (HasTrapped cause pc output) due = IsRefusal (names_of w) (Trapped cause pc) due
+IsDueAt w image stack (Exited output status) due =
+    due ≡ counted (length image.functions) stack (length output) status
+IsDueAt w image stack (HasTrapped cause pc output) due =
+    IsRefusal (names_of w) (Trapped cause pc) due
 IsDueAt w image stack (Going output) due = IsRefusal (names_of w) (StepLimit default_steps) due
 
 -- where a file is named it holds the source, and no other file changed; where none is named no file changed
 abbrev pub HasWritten : (out : Option (List ℕ)) → (text : List ℕ) → StoreView → StoreView → Type 0
 HasWritten None text before after = IsUntouched before after
-HasWritten (Some name) text before after = Stores before after name text × HasSameCounts before after
+HasWritten (Some name) text before after =
+    Stores before after name text × HasSameCounts before after
 
 -- The sample was written where a file is named, certified, compiled, and run on a stack of exactly its bound.
 pub record HasRun (w : SampleWords) (before after : StoreView) (due : Due) : Type 0 where
@@ -98,7 +102,8 @@ pub record HasRun (w : SampleWords) (before after : StoreView) (due : Due) : Typ
   pub stack : ℕ
   pub has_stack : HasStack (sample_text w.count) source image stack
   pub written : HasWritten w.out (sample_text w.count) before after
-  pub sources_end : IsSourcesEnd has_stack.image_of.compiled.program as_exec [] (outcome image stack)
+  pub sources_end :
+      IsSourcesEnd has_stack.image_of.compiled.program as_exec [] (outcome image stack)
   pub is_due : IsDueAt w image stack (outcome image stack) due
 
 -- A call failed while the source was written: the out file holds some first bytes of it, or wasn't made.
@@ -110,17 +115,20 @@ pub record CouldNotWrite (w : SampleWords) (before after : StoreView) : Type 0 w
 
 -- no memory was found, before the source was written or after it
 abbrev pub RanOut : SampleWords → StoreView → StoreView → Type 0
-RanOut w before after = IsUntouched before after ⊎ HasWritten w.out (sample_text w.count) before after
+RanOut w before after =
+    IsUntouched before after ⊎ HasWritten w.out (sample_text w.count) before after
 
 -- Why the sample wasn't run, and the status at that.
 pub data CannotSample (w : SampleWords) (before after : StoreView) (status : Status) : Type 0 where
-  unwritable : CouldNotWrite w before after → status ≡ StoreFailed kinds.Output → CannotSample w before after status
+  unwritable : CouldNotWrite w before after → status ≡ StoreFailed kinds.Output
+      → CannotSample w before after status
   no_memory : RanOut w before after → status ≡ NoMemory → CannotSample w before after status
 
 -- What is due to `sample`, and why.
 pub data IsDueToSample (w : SampleWords) (before after : StoreView) (due : Due) : Type 0 where
   ran : HasRun w before after due → IsDueToSample w before after due
-  refused : (status : Status) → CannotSample w before after status → IsRefusal (names_of w) status due
+  refused : (status : Status) → CannotSample w before after status
+      → IsRefusal (names_of w) status due
       → IsDueToSample w before after due
 
 -- ---- what follows
@@ -153,7 +161,8 @@ sample w = record { IsDue = IsDueToSample w; Accepts = Accepts w; Refuses = Refu
 -- ---- what the parts of the code answer
 
 -- the answer of `write_source`
-abbrev pub WritesSource : (out : Option (List ℕ)) → (text : List ℕ) → StoreView → StoreView → Result Unit Status → Type 0
+abbrev pub WritesSource :
+    (out : Option (List ℕ)) → (text : List ℕ) → StoreView → StoreView → Result Unit Status → Type 0
 WritesSource out text before after (Ok t) = HasWritten out text before after
 WritesSource None text before after (Err status) = ⊥
 WritesSource (Some name) text before after (Err status) =
@@ -171,7 +180,8 @@ pub record HasStarted (text : List ℕ) (started : SampleStart) : Type 0 where
 -- the text is a good source, and there is a stack for each image of it
 pub record CanStart (text : List ℕ) : Type 0 where
   pub good : IsGoodSource text
-  pub stacks : (s : CertifiedSource) (image : Image) → IsCertifiedAs text None s → IsImageOf s image → HasSmallBound s image
+  pub stacks : (s : CertifiedSource) (image : Image) → IsCertifiedAs text None s → IsImageOf s image
+      → HasSmallBound s image
 
 -- the answer of `start_text`: where the text can be started only memory can be wanting
 abbrev pub StartsText : (text : List ℕ) → Result SampleStart Status → Type 0
@@ -179,7 +189,8 @@ StartsText text (Ok started) = HasStarted text started
 StartsText text (Err status) = CanStart text → status ≡ NoMemory
 
 -- how a run ended that exited with this output
-pub record IsEnd (started : SampleStart) (output : List ℕ) (status : ℕ) (end : SampleEnd) : Type 0 where
+pub record IsEnd (started : SampleStart) (output : List ℕ) (status : ℕ) (end : SampleEnd)
+    : Type 0 where
   pub functions_are : end.functions ≡ started.functions
   pub stack_is : end.stack ≡ started.stack
   pub output_is : end.output ≡ length output

@@ -56,7 +56,8 @@ fn inputs_of<'a>(order: &BoundOrder<'a>) -> CertifyOrder<'a>
 
 // Puts the cost of each function, and then the bound.
 fn put_bounded<O: Sink>(out: &mut O, image: &Image, bound: Amount) -> Result<(), SinkFault>
-    ensures { PutsAll (O.view out.old) (O.view out.new) (cost_lines image.now.functions ++ bound_line (shown_of bound)) result }
+    ensures { PutsAll (O.view out.old) (O.view out.new)
+        (cost_lines image.now.functions ++ bound_line (shown_of bound)) result }
 {
     put_costs(out, &image.functions)?;
     put_bound(out, shown_of(bound))

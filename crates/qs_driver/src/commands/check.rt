@@ -1,20 +1,19 @@
 // `check`: whether the derivations of a source are right.
 ghost use Rattle.std.specs.Prelude.{◌≡◌};
 ghost use Rattle.qs_driver.specs.Certified.{words_in};
-ghost use Rattle.qs_driver.specs.Devices.{streams, views, views_left};
-ghost use Rattle.qs_driver.specs.Due.{IsWritten};
+ghost use Rattle.qs_driver.specs.Devices.{views, views_left};
 ghost use Rattle.qs_driver.specs.Names.{names_in};
 ghost use Rattle.qs_driver.specs.Task.{Answers};
-ghost use Rattle.qs_driver.specs.commands.Check.{check, due_of, names_of, Checks};
+ghost use Rattle.qs_driver.specs.commands.Check.{check, names_of, Checks};
 
 use crate::Status;
 use crate::certified::{CertifyOrder, read_certified};
+use crate::counts::report_count;
 use crate::devices::Devices;
-use crate::due::{refuse, status_after};
 use crate::names::{FileNames, nameless};
 use qs_lower::lower;
 use qs_ports::{Sink, Store};
-use qs_report::{Count, put_count};
+use qs_report::Count;
 use std::alloc::Global;
 
 fn names_of<'a>(order: &CertifyOrder<'a>) -> FileNames<'a>
@@ -43,23 +42,6 @@ fn check_entries<S: Store>(
     Ok(Count::Checked(certified.given, certified.added))
 }
 
-// Puts the counts, or the line of the fault.
-fn report<O: Sink, L: Sink>(
-    work: Result<Count, Status>,
-    order: &CertifyOrder<'_>,
-    out: &mut O,
-    log: &mut L,
-) -> Status
-    ensures { let before = streams (O.view out.old) (L.view log.old) in
-        let after = streams (O.view out.new) (L.view log.new) in
-        IsWritten (due_of (words_in order.now) work) before after result }
-{
-    match work {
-        Ok(count) => status_after(put_count(out, count), Status::Done),
-        Err(status) => refuse(log, &names_of(order), status),
-    }
-}
-
 /// Checks the derivations of the source, and puts how many entries its proof file has, and how many were filled in.
 pub fn check<S: Store, O: Sink, L: Sink>(
     alloc: Global,
@@ -71,5 +53,6 @@ pub fn check<S: Store, O: Sink, L: Sink>(
         Answers (check (words_in order.now)) before after result }
 {
     let Devices { store, out, log } = devices;
-    report(check_entries(alloc, order, store), order, out, log)
+    let work = check_entries(alloc, order, store);
+    report_count(work, &names_of(order), out, log)
 }

@@ -1,20 +1,19 @@
 // `derive`: a derivation for each function of a source without recursion, as a proof file.
 ghost use Rattle.std.specs.Prelude.{◌≡◌};
 ghost use Rattle.qs_driver.specs.Certified as meant;
-ghost use Rattle.qs_driver.specs.Devices.{streams, views, views_left};
-ghost use Rattle.qs_driver.specs.Due.{IsWritten};
+ghost use Rattle.qs_driver.specs.Devices.{views, views_left};
 ghost use Rattle.qs_driver.specs.Names.{names_in};
 ghost use Rattle.qs_driver.specs.Task.{Answers};
-ghost use Rattle.qs_driver.specs.commands.Derive.{derive, due_of, inputs, names_of, words_in, Derives};
+ghost use Rattle.qs_driver.specs.commands.Derive.{derive, inputs, names_of, words_in, Derives};
 
 use crate::certified::{CertifyOrder, read_certified};
+use crate::counts::report_count;
 use crate::devices::Devices;
-use crate::due::{refuse, status_after};
 use crate::names::{FileNames, nameless};
 use crate::{Status, WordsFault};
 use qs_ports::{Sink, Store, write_whole};
 use qs_prooftext::write;
-use qs_report::{Count, put_count};
+use qs_report::Count;
 use std::alloc::Global;
 
 /// The words of `derive`.
@@ -63,23 +62,6 @@ fn derive_proofs<S: Store>(
     Ok(Count::Derived(proofs.functions.len()))
 }
 
-// Puts the count, or the line of the fault.
-fn report<O: Sink, L: Sink>(
-    work: Result<Count, Status>,
-    order: &DeriveOrder<'_>,
-    out: &mut O,
-    log: &mut L,
-) -> Status
-    ensures { let before = streams (O.view out.old) (L.view log.old) in
-        let after = streams (O.view out.new) (L.view log.new) in
-        IsWritten (due_of (words_in order.now) work) before after result }
-{
-    match work {
-        Ok(count) => status_after(put_count(out, count), Status::Done),
-        Err(status) => refuse(log, &names_of(order), status),
-    }
-}
-
 /// Writes a derivation for each function of the source, and puts how many they are.
 pub fn derive<S: Store, O: Sink, L: Sink>(
     alloc: Global,
@@ -91,5 +73,6 @@ pub fn derive<S: Store, O: Sink, L: Sink>(
         Answers (derive (words_in order.now)) before after result }
 {
     let Devices { store, out, log } = devices;
-    report(derive_proofs(alloc, order, store), order, out, log)
+    let work = derive_proofs(alloc, order, store);
+    report_count(work, &names_of(order), out, log)
 }

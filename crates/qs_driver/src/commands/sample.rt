@@ -80,7 +80,8 @@ pub struct SampleEnd {
 
 // Writes the source into the file that is named, if one is.
 fn write_source<S: Store>(store: &mut S, out: Option<&str>, text: &[u8]) -> Result<(), Status>
-    ensures { WritesSource (option_map (λ name. name.now) out.entry) text.now (S.view store.old) (S.view store.new) result }
+    ensures { WritesSource (option_map (λ name. name.now) out.entry) text.now
+        (S.view store.old) (S.view store.new) result }
 {
     match out {
         Some(name) => {
@@ -160,7 +161,8 @@ fn run_sample<S: Store>(
 
 // Puts how many functions there are, the bound, how many bytes were put, and the status.
 fn put_counted<O: Sink>(out: &mut O, end: SampleEnd) -> Result<(), SinkFault>
-    ensures { PutsAll (O.view out.old) (O.view out.new) (sample_lines end.functions end.stack end.output end.status) result }
+    ensures { PutsAll (O.view out.old) (O.view out.new)
+        (sample_lines end.functions end.stack end.output end.status) result }
 {
     put_count(out, Count::Functions(end.functions))?;
     put_bound(out, Shown::Number(u128::from(end.stack)))?;

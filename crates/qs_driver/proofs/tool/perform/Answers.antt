@@ -1,4 +1,4 @@
-use Rattle.std.proofs.Common.{◌≡◌, ◌∙◌, Some, Option, ap, sym, subst}
+use Rattle.std.proofs.Common.{◌∙◌, Some, Option, ap, sym, subst}
 use Rattle.qs_cli.specs.Commands as meant
 use Rattle.qs_cli.specs.Reading.{command_of, text_of}
 use Rattle.qs_cli.specs.declared.commands.Command.{Command}
@@ -12,4 +12,4 @@ sample-requires g c =
     let of : Command → Option meant.Command = λ x. Some (command_of x) in
     let means = c.requires.means ∙ ap of c.in-Sample.is in
     let counted = sample_has_count c.requires.words c.in-Sample.count (text_of c.in-Sample.out) means in
-    subst IsSampleCount (sym (ap (λ (w : SampleWords). w.count) c.sample_order.ensures)) counted
+    subst IsSampleCount (sym (ap (λ (w : SampleWords). w.count) c.to_sample.ensures)) counted

@@ -1,0 +1,73 @@
+-- The bound of small proofs, computed from the definitions.
+use Rattle.std.proofs.Common.{◌≡◌, ℕ, ◌^◌, List, [], ◌∷◌, map, codes, pos, Some, None, refl}
+use Rattle.qs_syntax.specs.Trees.{UnitTree}
+use Rattle.qs_assert.specs.declared.define.Amount.TheVariants.{Finite, Infinite, Wide}
+use Rattle.qs_assert.specs.declared.variable.NumberType.TheVariants as numbers
+use Rattle.qs_assert.specs.declared.variable.VarKind.TheVariants as kinds
+use Rattle.qs_assert.specs.Trees.{TermTree, variable, AssertionTree, natural, infinity, cost, num, total, assertions_of}
+use Rattle.qs_entail.specs.Certificates.{same}
+use Rattle.qs_triples.specs.Derivations.{EntryTree, leaf}
+use Rattle.qs_prooftext.specs.Proofs.{no_proofs}
+use Rattle.qs_prooftext.proofs.Examples.{u}
+use Rattle.qs_image.specs.Image.{Image, FunctionRecord}
+use Rattle.qs_driver.specs.Bounds.{costs_in, bound_by, bytes_by}
+use Rattle.qs_driver.specs.Certified.{CertifiedSource}
+
+-- ---- an image of `unsigned f(unsigned n, int q)`, as if it were main, and `void g(void)`
+
+abbrev record_of : List ℕ → ℕ → FunctionRecord
+record_of name size = record { name = name; address = 65536; cost = size }
+
+abbrev image : Image
+image = record {
+  entry = 65536;
+  parameters = 2;
+  unsigned_set = 1;
+  functions = record_of (codes "f") 32 ∷ record_of (codes "g") 16 ∷ [];
+  code = [];
+  bytes = [];
+}
+
+costs : costs_in image.functions ≡ 32 ∷ 16 ∷ []
+costs = refl
+
+-- ---- a source with these entries
+
+abbrev source : UnitTree → List EntryTree → CertifiedSource
+source unit entries = record {
+  unit = unit;
+  core = u;
+  given = no_proofs;
+  proofs = record { defines = []; functions = entries };
+}
+
+-- the one of f with this precondition
+abbrev entry_with : AssertionTree → EntryTree
+entry_with pre =
+    record { function = 0; spec = record { pre = pre; post = natural 0 }; entry = same; body = leaf }
+
+abbrev n : TermTree
+n = variable (record { kind = kinds.Plain 0; number = numbers.Unsigned })
+
+-- n, and the cost of g
+abbrev needs : AssertionTree
+needs = total (assertions_of (num n ∷ cost 1 ∷ []))
+
+-- ---- its bound
+
+-- 32 for f itself, 7 for n, and 16 for g
+the_bound : (unit : UnitTree) → bound_by (source unit (entry_with needs ∷ [])) (32 ∷ 16 ∷ []) (pos 7 ∷ pos 0 ∷ []) ≡ Finite 55
+the_bound unit = refl
+
+no_entry : (unit : UnitTree) → bound_by (source unit []) (32 ∷ 16 ∷ []) (pos 7 ∷ pos 0 ∷ []) ≡ Infinite
+no_entry unit = refl
+
+a_wide_bound : (unit : UnitTree) → bound_by (source unit (entry_with (natural (2 ^ 127)) ∷ [])) (32 ∷ 16 ∷ []) [] ≡ Wide
+a_wide_bound unit = refl
+
+the_bytes : (unit : UnitTree) → bytes_by (source unit (entry_with needs ∷ [])) image (pos 7 ∷ pos 0 ∷ []) ≡ Some 55
+the_bytes unit = refl
+
+-- where the bound is no number of bytes
+no_bytes : (unit : UnitTree) → map (λ pre. bytes_by (source unit (entry_with pre ∷ [])) image []) (infinity ∷ natural (2 ^ 127) ∷ []) ≡ None ∷ None ∷ []
+no_bytes unit = refl

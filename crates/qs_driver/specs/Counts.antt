@@ -1,0 +1,18 @@
+-- The end of a command that counts entries.
+use Rattle.std.specs.Prelude.{[], ◌∷◌, Result, Ok, Err}
+use Rattle.qs_report.specs.Lines.{count_line}
+use Rattle.qs_report.specs.declared.fault_texts.Count.{Count}
+use Rattle.qs_driver.specs.Names.{Names}
+use Rattle.qs_driver.specs.Steps.{on_out}
+use Rattle.qs_driver.specs.Due.{Due, refusal}
+use Rattle.qs_driver.specs.declared.status.Status.{Status}
+use Rattle.qs_driver.specs.declared.status.Status.TheVariants.{Done}
+
+-- how many they are
+abbrev pub counted : Count → Due
+counted count = record { status = Done; steps = on_out (count_line count) ∷ [] }
+
+-- what is due after the work on the store: the count, or the line of the fault
+abbrev pub counted_or_refused : Names → Result Count Status → Due
+counted_or_refused names (Ok count) = counted count
+counted_or_refused names (Err status) = refusal names status

@@ -164,7 +164,8 @@ AddedIsWritable =
     (u : CoreUnitTree) (given proofs : ProofsTree) → unit_fits u ≡ true → length u.functions < 2 ^ 63
     → unit_nesting u ≤ nesting_limit → IsCertified u None given proofs → IsWritable u proofs
 
--- And what is so written is right as a file: nothing is to be added to it, and each entry of it is derived.
+-- And it is right as the proofs of a file: no functions are left without an entry that call each other in turn, the
+-- definitions are in order, and the entries are derived.
 abbrev pub AddedIsRight : Type 0
 AddedIsRight =
     (u : CoreUnitTree) (given proofs : ProofsTree) → unit_fits u ≡ true → IsCertified u None given proofs

@@ -3,7 +3,7 @@ use Rattle.std.proofs.Common.{◌≡◌, ℕ, ◌+◌, ◌<◌, ◌≤◌, List,
 use Rattle.std.proofs.lemmas.Grind.{common_steps}
 use Rattle.qs_ports.specs.declared.memory.span.Span.{Span}
 use Rattle.qs_ports.specs.Shelf.{name_at, content_at, find, files_of, name_of, writing_name, newest_end, IsWithin, AreWithin, OptionWithin}
-use Rattle.qs_ports.specs.StoreView.{StoreView, Files, IsSameFiles, bytes_of}
+use Rattle.qs_ports.specs.StoreView.{StoreView, Files, IsSameFiles, bytes_of, file_room}
 use Rattle.qs_ports.specs.Memory.{with_file}
 use Rattle.qs_ports.specs.ShelfView.{Created, Appended}
 use Rattle.qs_ports.proofs.Shelves.{range_grows, range_last, range_none, range_append, are_within_more, within_push, within_front, within_last, find_named, name_of_more, files_more, files_push, newest_found, newest_skipped, newest_name_push, newest_end_push, HasLast, has_last, last_read, last_set}
@@ -30,7 +30,7 @@ new_span start end = span_at start end end
 created_named : (bytes name : List ℕ) (start end : ℕ) → start ≡ length bytes → end ≡ length bytes + length name → name_at (bytes ++ name) (new_span start end) ≡ name
 created_named bytes name start end a b = range_last bytes name start end a b
 
-created_is : (v : StoreView) (bytes name : List ℕ) (start end : ℕ) (ss : List Span) (o : Option Span) (spare : ℕ) → start ≡ length bytes → end ≡ length bytes + length name → v.files ≡ files_of bytes ss → v.reading ≡ name_of bytes o → AreWithin ss (length bytes) → OptionWithin o (length bytes) → spare + (length name + 1) ≡ v.spare → Created v (reshelved v (bytes ++ name) (ss ++ new_span start end ∷ []) o true spare) name
+created_is : (v : StoreView) (bytes name : List ℕ) (start end : ℕ) (ss : List Span) (o : Option Span) (spare : ℕ) → start ≡ length bytes → end ≡ length bytes + length name → v.files ≡ files_of bytes ss → v.reading ≡ name_of bytes o → AreWithin ss (length bytes) → OptionWithin o (length bytes) → spare + (length name + file_room) ≡ v.spare → Created v (reshelved v (bytes ++ name) (ss ++ new_span start end ∷ []) o true spare) name
 created_is v bytes name start end ss o spare a b f r w wo e =
     let named : name_at (bytes ++ name) (new_span start end) ≡ name = created_named bytes name start end a b in (
       record {
@@ -47,7 +47,7 @@ created_is v bytes name start end ss o spare a b f r w wo e =
       record { reading = name_of_more bytes name o wo ∙ sym r; place = refl },
     )
 
-pub creates : (v : StoreView) (bytes name bytes' : List ℕ) (start end : ℕ) (ss ss' : List Span) (o : Option Span) (spare : ℕ) → bytes' ≡ bytes ++ name → ss' ≡ ss ++ new_span start end ∷ [] → start ≡ length bytes → end ≡ length bytes + length name → v.files ≡ files_of bytes ss → v.reading ≡ name_of bytes o → AreWithin ss (length bytes) → OptionWithin o (length bytes) → spare + (length name + 1) ≡ v.spare → Created v (reshelved v bytes' ss' o true spare) name
+pub creates : (v : StoreView) (bytes name bytes' : List ℕ) (start end : ℕ) (ss ss' : List Span) (o : Option Span) (spare : ℕ) → bytes' ≡ bytes ++ name → ss' ≡ ss ++ new_span start end ∷ [] → start ≡ length bytes → end ≡ length bytes + length name → v.files ≡ files_of bytes ss → v.reading ≡ name_of bytes o → AreWithin ss (length bytes) → OptionWithin o (length bytes) → spare + (length name + file_room) ≡ v.spare → Created v (reshelved v bytes' ss' o true spare) name
 creates v bytes name bytes' start end ss ss' o spare eb es a b f r w wo e = rw (eb, es) (created_is v bytes name start end ss o spare a b f r w wo e)
 
 pub created_within : (ss ss' : List Span) (start end n k : ℕ) → ss' ≡ ss ++ new_span start end ∷ [] → start ≤ end → end ≡ k → n ≤ k → AreWithin ss n → AreWithin ss' k

@@ -27,6 +27,10 @@ pub record StoreView : Type 0 where
   pub faults : ℕ
   pub misses : ℕ
 
+-- what a file takes of the room beside its name and its content, in bytes; to make one counts as moving them
+abbrev pub file_room : ℕ
+file_room = 24
+
 -- A call that moves at most `spare` bytes lowers `spare` by as many, and a store that tells its files goes on telling
 -- them. A call that moves nothing always does so, and leaves `spare` as it is.
 abbrev pub KeepsTelling : StoreView → StoreView → ℕ → Type 0
@@ -136,12 +140,12 @@ pub record Holds (v w : StoreView) (name bytes : List ℕ) (moved : ℕ) : Type 
   pub others : IsTrue w.told → IsSameBut name v.files w.files
   pub tells : KeepsTelling v w moved
 
--- the file is empty, and open for writing; its name and one byte more were moved
+-- the file is empty, and open for writing; its name and the room of a file were moved
 pub record IsCreated (v w : StoreView) (name : List ℕ) : Type 0 where
   pub counts : HasSameCounts v w
   pub created : IsSome w.writing
   pub writing : IsTrue w.told → w.writing ≡ Some name
-  pub holds : Holds v w name [] (length name + 1)
+  pub holds : Holds v w name [] (length name + file_room)
 
 -- the same file is open for reading, at the same place
 pub record KeepsReading (v w : StoreView) : Type 0 where

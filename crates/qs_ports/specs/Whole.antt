@@ -1,7 +1,7 @@
 -- Reading and writing files as a whole.
 use Rattle.std.specs.Prelude.{◌≡◌, ◌⊎◌, ℕ, ◌+◌, ◌≤◌, List, [], ◌++◌, length, take, IsTrue, Option, Some, None, Result, Ok, Err, IsSome, Vec}
 use Rattle.std.specs.declared.alloc.Global.{Global}
-use Rattle.qs_ports.specs.StoreView.{StoreView, Keeps, OnlyReads, HasSameCounts, HasFailed, HasMissed, Holds, left_of}
+use Rattle.qs_ports.specs.StoreView.{StoreView, Keeps, OnlyReads, HasSameCounts, HasFailed, HasMissed, Holds, file_room, left_of}
 use Rattle.qs_ports.specs.declared.whole.ReadFault.{ReadFault}
 use Rattle.qs_ports.specs.declared.whole.ReadFault.TheVariants.{Missing, Failed, NoMemory}
 use Rattle.qs_ports.specs.declared.whole.WriteFault.{WriteFault}
@@ -62,7 +62,7 @@ ReadsMore v w old new most (Err NoMemory) = OnlyReads v w × HasSameCounts v w �
 
 -- how many bytes are moved where a file is made and filled
 abbrev pub moved_by : List ℕ → List ℕ → ℕ
-moved_by name bytes = length name + 1 + length bytes
+moved_by name bytes = length name + file_room + length bytes
 
 -- the file holds exactly these bytes, and the other files are as before
 abbrev pub Stores : StoreView → StoreView → List ℕ → List ℕ → Type 0

@@ -15,7 +15,7 @@ mod store;
 mod system;
 mod whole;
 
-pub use memory::{CleanSink, CleanStore, MemSink, MemStore, StoreCall};
+pub use memory::{CleanSink, CleanStore, FILE_ROOM, MemSink, MemStore, StoreCall};
 pub use sink::{Sink, SinkFault, put_all};
 pub use store::{Store, StoreFault};
 pub use system::{DirStore, StdSink};

@@ -13,3 +13,4 @@ pub use clean_store::CleanStore;
 pub use mem_sink::MemSink;
 pub use mem_store::MemStore;
 pub use plan::StoreCall;
+pub use shelf::FILE_ROOM;

@@ -28,7 +28,7 @@ impl CleanStore {
     }
 
     /// Has room for at least so many bytes beside the files that are there; a file that is created takes the bytes of
-    /// its name and one more. After `NoMemory` the room is as before.
+    /// its name and `FILE_ROOM` more. After `NoMemory` the room is as before.
     pub fn reserve(&mut self, bytes: usize) -> Result<(), NoMemory>
         ensures ok { OnOk result (clean_store_of self.new ≡ with_store_room (clean_store_of self.old) bytes) }
         ensures err { OnErr result (clean_store_of self.new ≡ clean_store_of self.old) }
@@ -46,7 +46,7 @@ impl CleanStore {
 
 impl Store for CleanStore {
     ghost use Rattle.std.specs.Prelude.{IsSome, IfOk, ◌≡◌, ◌+◌, length};
-    ghost use Rattle.qs_ports.specs.StoreView.{Opens, Reads, Creates, Writes};
+    ghost use Rattle.qs_ports.specs.StoreView.{Opens, Reads, Creates, Writes, file_room};
     ghost use Rattle.qs_ports.specs.Memory.{
       StoreTellsOn,
       FillsBuffer,
@@ -85,7 +85,7 @@ impl Store for CleanStore {
     fn create(&mut self, name: &str) -> Result<(), StoreFault>
         ensures creates { Creates (clean_store_of self.old) (clean_store_of self.new) name.now result }
         ensures answers { result ≡ Ok tt }
-        ensures tells { StoreTellsOn (clean_store_of self.old) (clean_store_of self.new) (length name.now + 1) }
+        ensures tells { StoreTellsOn (clean_store_of self.old) (clean_store_of self.new) (length name.now + file_room) }
     {
         self.shelf.create(name.as_bytes());
         Ok(())

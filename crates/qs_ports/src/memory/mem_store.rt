@@ -25,7 +25,7 @@ impl MemStore {
     ghost use Rattle.qs_ports.specs.MemStore.{mem_store_of, IsPlanned};
 
     /// A store with these files, of which the later one of a name counts, and with `room` bytes for what is created and
-    /// written. A call moves at most `chunk` bytes, 1 or more. The calls in `failing` fail: each pair is a kind of call
+    /// written; a file that is created takes the bytes of its name and `FILE_ROOM` more. A call moves at most `chunk` bytes, 1 or more. The calls in `failing` fail: each pair is a kind of call
     /// and the number of the call among those of its kind, from 0.
     pub fn new(
         alloc: Global,
@@ -59,7 +59,7 @@ impl MemStore {
 
 impl Store for MemStore {
     ghost use Rattle.std.specs.Prelude.{IsSome, IfOk, OnOk, OnErr, ◌↔◌, ◌≡◌, ◌+◌, min, length};
-    ghost use Rattle.qs_ports.specs.StoreView.{Opens, Reads, Creates, Writes};
+    ghost use Rattle.qs_ports.specs.StoreView.{Opens, Reads, Creates, Writes, file_room};
     ghost use Rattle.qs_ports.specs.Memory.{
       StoreTellsOn,
       FillsBuffer,
@@ -112,7 +112,7 @@ impl Store for MemStore {
         ensures creates { Creates (mem_store_of self.old) (mem_store_of self.new) name.now result }
         ensures fails { (result ≡ Err StoreFault.Failed) ↔ IsListed self.old StoreCall.Create }
         ensures counts { CountsCall self.old self.new StoreCall.Create }
-        ensures tells { OnOk result (StoreTellsOn (mem_store_of self.old) (mem_store_of self.new) (length name.now + 1)) }
+        ensures tells { OnOk result (StoreTellsOn (mem_store_of self.old) (mem_store_of self.new) (length name.now + file_room)) }
         ensures failed { OnErr result (mem_store_of self.new ≡ after_failed_create (mem_store_of self.old)) }
     {
         if self.plan.count(StoreCall::Create) {

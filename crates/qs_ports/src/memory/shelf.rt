@@ -1,11 +1,15 @@
 // Files over room that was reserved before.
-ghost use Rattle.std.specs.Prelude.{◌≡◌, ◌+◌, ◌-◌, ◌≤◌, ◌<◌, ◌++◌, IsTrue, IfOk, OnOk, OnErr, IsSome, ℕ, false, vec_len, vec_capacity, length, take, drop, min, option_copied, is_some, if◌then◌else◌};
+ghost use Rattle.std.specs.Prelude.{◌≡◌, ◌+◌, ◌-◌, ◌≤◌, ◌<◌, ◌/◌, ◌++◌, IsTrue, IfOk, OnOk, OnErr, IsSome, ℕ, false, vec_len, vec_capacity, length, take, drop, min, option_copied, is_some, if◌then◌else◌};
 ghost use Rattle.qs_ports.specs.Shelf.{AreWithin, OptionWithin, find, files_of, newest_end};
 ghost use Rattle.qs_ports.specs.ShelfProps.{are_within_prop, option_within_prop};
+ghost use Rattle.qs_ports.specs.StoreView.{file_room};
 
 use crate::memory::span::Span;
 use qs_base::NoMemory;
 use std::alloc::Global;
+
+/// What a file takes of the room beside its name and its content, in bytes: what it takes to note where it lies.
+pub const FILE_ROOM: usize = 24;
 
 /// Files in memory. To create a file or to append to it takes no memory: names and contents lie, one after the other, in
 /// room that was reserved before. Where that is too small, the shelf is `full`, and doesn't tell its files from then on.
@@ -20,7 +24,7 @@ pub struct Shelf {
     pub place: usize,
     pub writing: bool,
     ghost room: { vec_len bytes + spare ≤ vec_capacity bytes },
-    ghost slots: { vec_len files + spare ≤ vec_capacity files },
+    ghost slots: { vec_len files + spare / file_room ≤ vec_capacity files },
     ghost within: { AreWithin files.items (length bytes.items) } by { are_within_prop files.items (length bytes.items) },
     ghost last: { newest_end files.items ≡ length bytes.items },
     ghost reads: { OptionWithin reading (length bytes.items) } by { option_within_prop reading (length bytes.items) },
@@ -67,8 +71,8 @@ impl Shelf {
         })
     }
 
-    /// Has room for at least so many bytes more. Each file that is created uses one at least, so as many places for
-    /// files are reserved too.
+    /// Has room for at least so many bytes more. Each file that is created uses `FILE_ROOM` of them at least, so that
+    /// the places that are reserved for files take no more memory than the bytes.
     pub fn reserve(&mut self, bytes: usize) -> Result<(), NoMemory>
         ensures reserved { OnOk result ((faults misses : ℕ) →
             shelf_view self.new faults misses ≡ with_store_room (shelf_view self.old faults misses) bytes) }
@@ -77,7 +81,7 @@ impl Shelf {
     {
         if self.spare < bytes {
             self.bytes.reserve_exact(bytes)?;
-            self.files.reserve_exact(bytes)?;
+            self.files.reserve_exact(bytes / FILE_ROOM)?;
             self.spare = bytes;
         }
         Ok(())
@@ -114,16 +118,16 @@ impl Shelf {
     /// Makes the file empty and the one for writing.
     pub fn create(&mut self, name: &[u8])
         ensures writes { IsTrue self.new.writing }
-        ensures tells { StoreTellsOn (shelf_view self.old 0 0) (shelf_view self.new 0 0) (length name.now + 1) }
+        ensures tells { StoreTellsOn (shelf_view self.old 0 0) (shelf_view self.new 0 0) (length name.now + file_room) }
         ensures created { (faults misses : ℕ) →
             Created (shelf_view self.old faults misses) (shelf_view self.new faults misses) name.now }
     {
         self.writing = true;
-        if self.full || name.len() >= self.spare {
+        if self.full || name.len() + FILE_ROOM > self.spare {
             self.full = true;
             return;
         }
-        self.spare -= name.len() + 1;
+        self.spare -= name.len() + FILE_ROOM;
         let start = self.bytes.len();
         self.bytes.extend_from_slice(name).unwrap();
         let end = self.bytes.len();

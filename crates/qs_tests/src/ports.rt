@@ -2,8 +2,8 @@
 // tried again.
 use qs_base::NoMemory;
 use qs_ports::{
-    CleanSink, CleanStore, MemSink, MemStore, ReadFault, Sink, SinkFault, StdSink, Store, put_all,
-    read_whole, write_whole,
+    CleanSink, CleanStore, FILE_ROOM, MemSink, MemStore, ReadFault, Sink, SinkFault, StdSink, Store,
+    put_all, read_whole, write_whole,
 };
 use std::alloc::Global;
 use std::io::{self, ErrorKind, Write};
@@ -44,7 +44,7 @@ fn put_two<K: Sink>(sink: &mut K) -> Result<(), SinkFault> {
 fn clean_forms_take_all(rt: HostRuntime) -> Result<(), Fail> {
     let alloc = rt.alloc();
     let mut store = CleanStore::new(alloc, files(alloc)?)?;
-    store.reserve(TEXT.len() + 2)?;
+    store.reserve(TEXT.len() + 1 + FILE_ROOM)?;
     copy(alloc, &mut store)?;
     assert_eq!(rt; store.file("c"), Some(TEXT));
     assert_eq!(rt; store.file("b"), Some(b"other".as_slice()));
@@ -58,11 +58,11 @@ fn clean_forms_take_all(rt: HostRuntime) -> Result<(), Fail> {
     Ok(())
 }
 
-// A copy to `c` moves 13 bytes: those of `a`, the name's and one more.
+// A copy to `c` moves 36 bytes: those of `a`, the name's and the 24 of a file.
 #[test]
 fn forms_with_a_plan_take_all_that_has_room(rt: HostRuntime) -> Result<(), Fail> {
     let alloc = rt.alloc();
-    for (room, held) in [(13, Some(TEXT)), (12, None), (0, None)] {
+    for (room, held) in [(36, Some(TEXT)), (35, None), (0, None)] {
         let mut store = MemStore::new(alloc, files(alloc)?, 4, Vec::new(alloc), room)?;
         copy(alloc, &mut store)?;
         assert!(rt; held.is_none() || store.file("c") == held, "at {room}");

@@ -25,8 +25,9 @@ impl MemStore {
     ghost use Rattle.qs_ports.specs.MemStore.{mem_store_of, IsPlanned};
 
     /// A store with these files, of which the later one of a name counts, and with `room` bytes for what is created and
-    /// written; a file that is created takes the bytes of its name and `FILE_ROOM` more. A call moves at most `chunk` bytes, 1 or more. The calls in `failing` fail: each pair is a kind of call
-    /// and the number of the call among those of its kind, from 0.
+    /// written; a file that is created takes the bytes of its name and `FILE_ROOM` more. A call moves at most `chunk`
+    /// bytes, 1 or more. The calls in `failing` fail: each pair is a kind of call and the number of the call among those
+    /// of its kind, from 0.
     pub fn new(
         alloc: Global,
         files: Vec<(String, Vec<u8>)>,

@@ -8,8 +8,10 @@ use crate::memory::span::Span;
 use qs_base::NoMemory;
 use std::alloc::Global;
 
-/// What a file takes of the room beside its name and its content, in bytes: what it takes to note where it lies.
+/// What a file takes of the room beside its name and its content, in bytes: as much as the place where it is noted.
 pub const FILE_ROOM: usize = 24;
+
+const _: () = prove!(size_of::<Span>() <= FILE_ROOM);
 
 /// Files in memory. To create a file or to append to it takes no memory: names and contents lie, one after the other, in
 /// room that was reserved before. Where that is too small, the shelf is `full`, and doesn't tell its files from then on.

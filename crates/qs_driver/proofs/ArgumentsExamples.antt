@@ -32,6 +32,22 @@ past_the_greatest_int is =
     let yes : false ≡ true = type_of_number Int (pos (2 ^ 31)) refl is in
     (let never : ⊥ = cc in never)
 
+the_least_int : IsNumberOf Int (negsuc (2 ^ 31 - 1))
+the_least_int = number_of_type Int (negsuc (2 ^ 31 - 1)) refl refl
+
+below_the_least_int : IsNumberOf Int (negsuc (2 ^ 31)) → ⊥
+below_the_least_int is =
+    let yes : false ≡ true = type_of_number Int (negsuc (2 ^ 31)) refl is in
+    (let never : ⊥ = cc in never)
+
+the_greatest_unsigned : IsNumberOf Unsigned (pos (2 ^ 32 - 1))
+the_greatest_unsigned = number_of_type Unsigned (pos (2 ^ 32 - 1)) refl refl
+
+past_the_greatest_unsigned : IsNumberOf Unsigned (pos (2 ^ 32)) → ⊥
+past_the_greatest_unsigned is =
+    let yes : false ≡ true = type_of_number Unsigned (pos (2 ^ 32)) refl is in
+    (let never : ⊥ = cc in never)
+
 -- ---- the first that is unfit
 
 the_second_is_unfit : IsFirstUnfit (Int ∷ Unsigned ∷ []) (negsuc 0 ∷ negsuc 0 ∷ []) 1

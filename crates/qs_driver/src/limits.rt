@@ -1,4 +1,4 @@
-// The limits of what the tool takes, in bytes.
+// The limits of what the tool takes, in bytes. The largest stack is the machine's own limit.
 
 /// The longest source.
 pub const SOURCE_LIMIT: usize = 1_048_576;
@@ -11,9 +11,6 @@ pub const IMAGE_LIMIT: usize = 33_554_432;
 
 /// The longest input of a run.
 pub const INPUT_LIMIT: usize = 1_048_576;
-
-/// The largest stack.
-pub const STACK_LIMIT: u64 = 268_435_456;
 
 /// The most steps of a run, where the words name no number.
 pub const DEFAULT_STEPS: u64 = 100_000_000;

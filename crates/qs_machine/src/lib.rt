@@ -16,3 +16,4 @@ mod stepping;
 pub use answers::{Cause, RunEnd, StepResult};
 pub use loading::{LoadFault, load};
 pub use machine::Machine;
+pub use regions::STACK_LIMIT;

@@ -81,6 +81,7 @@ fn check_found(
     }
 }
 
+// Checks the first entry of a function, where the first definition that is out of order is known.
 fn check_first(
     alloc: Global,
     unit: &CoreUnit,
@@ -118,8 +119,8 @@ pub fn check_function(
     check_first(alloc, unit, f, proofs, order_fault(&proofs.defines))
 }
 
-/// Checks the same of definitions of which it is known that they are in order, so that for many functions they are gone
-/// through once.
+/// Checks that the first entry of a function is derived, as `check_function` does, where it is known that the definitions
+/// are in order: for many functions they are gone through once.
 #[tactic(auto, using(crate::proofs::EntryLaws::tells_derived))]
 pub fn check_in_order(
     alloc: Global,

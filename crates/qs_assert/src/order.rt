@@ -7,10 +7,18 @@ ghost use Rattle.qs_assert.specs.Order.{is_among, names_known, head_known, node_
 use crate::{Assertion, AssertionNode, Define, Node};
 use qs_base::Name;
 
+// Sought from the end, as a definition mostly names the one before it.
 fn is_among(defines: &[Define], name: &Name) -> bool
     ensures { result ≡ is_among defines.now name.now }
 {
-    defines.iter().any(|define| *name == define.name)
+    let mut at = defines.len();
+    while at > 0 {
+        at -= 1;
+        if *name == defines[at].name {
+            return true;
+        }
+    }
+    false
 }
 
 fn head_known(earlier: &[Define], head: &AssertionNode) -> bool

@@ -2,6 +2,7 @@ mod Examples
 pub mod Agreement
 pub mod BitLengths
 pub mod Evaluated
+pub mod Fronted
 pub mod Kept
 pub mod Known
 pub mod Moved

@@ -19,3 +19,4 @@ pub mod Totals
 pub mod Trees
 pub mod Values
 pub mod Variables
+pub mod Views

@@ -25,6 +25,7 @@ mod tree;
 mod truths;
 mod variable;
 mod variables;
+mod views;
 
 pub use bound::{bound_of, value_at};
 pub use define::{Amount, Define};
@@ -36,6 +37,7 @@ pub use sameness::same_nodes;
 pub use tree::{Assertion, Cond, Term};
 pub use variable::{NumberType, Var, VarKind};
 pub use variables::mentions;
+pub use views::{AssertionView, CondView, begins, head_arity, parts, split_tree, tree_length};
 
 /// An assertion has the same value where the variables that it mentions have the same numbers.
 pub fn values_are_of_their_variables()

@@ -1,0 +1,5 @@
+use Rattle.qs_assert.proofs.Same.{assertion_exact}
+use Rattle.qs_assert.proofs.views.AssertionView.same.Goals as goal
+
+pub returns-clause-exact : goal.returns-clause-exact
+returns-clause-exact c = assertion_exact c.args.self.now c.args.other.now _ _ _ c.nodes.ensures c.nodes-2.ensures c.same_nodes.ensures

@@ -1,0 +1,21 @@
+-- The trees at the front of a list of nodes, each node before those of its parts.
+use Rattle.std.specs.Prelude.{ℕ, zero, suc, ◌+◌, Bool, false, List, [], ◌∷◌}
+use Rattle.qs_assert.specs.declared.node.Node.{Node}
+use Rattle.qs_assert.specs.Sameness.{same_node}
+use Rattle.qs_assert.specs.Shapes.{arity}
+
+-- how many parts follow the first node
+abbrev pub head_arity : List Node → ℕ
+head_arity [] = 0
+head_arity (node ∷ nodes) = arity node
+
+-- how many nodes the first n trees have
+abbrev pub front_length : List Node → ℕ → ℕ
+front_length [] n = 0
+front_length (node ∷ nodes) zero = 0
+front_length (node ∷ nodes) (suc n) = suc (front_length nodes (n + arity node))
+
+-- the node is the first
+abbrev pub begins : List Node → Node → Bool
+begins [] node = false
+begins (head ∷ nodes) node = same_node head node

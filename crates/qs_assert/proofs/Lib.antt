@@ -4,6 +4,7 @@ pub mod BitLengths
 pub mod Evaluated
 pub mod Kept
 pub mod Known
+pub mod Mapped
 pub mod Moved
 pub mod Ordered
 pub mod Replaced

@@ -5,6 +5,7 @@ pub mod Evaluated
 pub mod Fronted
 pub mod Kept
 pub mod Known
+pub mod Mapped
 pub mod Moved
 pub mod Ordered
 pub mod Replaced

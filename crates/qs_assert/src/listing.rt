@@ -1,5 +1,5 @@
 // Lists of nodes are made of the lists of the parts.
-ghost use Rattle.std.specs.Prelude.{◌≡◌, [], ◌∷◌, ◌++◌, IfOk};
+ghost use Rattle.std.specs.Prelude.{◌≡◌, [], ◌∷◌, ◌++◌, IfOk, OnOk};
 ghost use Rattle.qs_assert.specs.Listing.{term_nodes, terms_nodes, inner_term, cond_nodes, conds_nodes, assertion_nodes, assertions_nodes};
 ghost use Rattle.qs_assert.specs.Trees.{terms_of, conds_of, assertions_of};
 
@@ -41,8 +41,9 @@ impl Node {
     }
 }
 
+/// Puts the nodes of a term at the end of a list.
 pub fn put_term(list: &mut Vec<Node>, t: &Term) -> Result<(), NoMemory>
-    ensures { IfOk result (λ _. list.new.items ≡ list.old.items ++ inner_term t.now) }
+    ensures { OnOk result (list.new.items ≡ list.old.items ++ inner_term t.now) }
 {
     let nodes = t.nodes();
     for node in nodes {

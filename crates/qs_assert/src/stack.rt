@@ -1,12 +1,37 @@
-// A stack in a Vec, its front being the Vec's end.
-ghost use Rattle.std.specs.Prelude.{◌≡◌, ◌∷◌, IfOk, reverse, take, drop};
+//! Stacks kept in a `Vec`, the front being the end of the `Vec`.
+ghost use Rattle.std.specs.Prelude.{◌≡◌, [], ◌∷◌, ◌++◌, MatchOption, OnOk, reverse, replicate, take, drop};
 ghost use Rattle.qs_assert.specs.Reading.{others};
 ghost use Rattle.qs_assert.specs.Stacks.{first_or};
 
 use qs_base::NoMemory;
 
+/// Puts an item in front.
+pub fn put<T: Drop>(stack: &mut Vec<T>, item: T) -> Result<(), NoMemory>
+    ensures { OnOk result (reverse stack.new.items ≡ item ∷ reverse stack.old.items) }
+{
+    stack.push(item)?;
+    Ok(())
+}
+
+/// Puts an item in front so many times.
+pub fn put_all<T: Copy>(stack: &mut Vec<T>, item: T, count: usize) -> Result<(), NoMemory>
+    ensures { OnOk result (reverse stack.new.items ≡ replicate count item ++ reverse stack.old.items) }
+{
+    for _index in 0..count {
+        put(stack, item)?;
+    }
+    Ok(())
+}
+
+/// Takes the first item off, unless there is none.
+pub fn next<T>(stack: &mut Vec<T>) -> Option<T>
+    ensures { MatchOption result (reverse stack.old.items ≡ []) (λ item. reverse stack.old.items ≡ item ∷ reverse stack.new.items) }
+{
+    stack.pop()
+}
+
 /// Takes the first item off, or `otherwise` where there is none.
-pub fn taken<T: Copy>(stack: &mut Vec<T>, otherwise: T) -> T
+pub fn taken<T: Drop>(stack: &mut Vec<T>, otherwise: T) -> T
     ensures value { result ≡ first_or otherwise (reverse stack.old.items) }
     ensures left { reverse stack.new.items ≡ others (reverse stack.old.items) }
 {
@@ -16,23 +41,15 @@ pub fn taken<T: Copy>(stack: &mut Vec<T>, otherwise: T) -> T
     }
 }
 
-/// Puts an item in front.
-pub fn put<T: Copy>(stack: &mut Vec<T>, item: T) -> Result<(), NoMemory>
-    ensures { IfOk result (λ _. reverse stack.new.items ≡ item ∷ reverse stack.old.items) }
-{
-    stack.push(item)?;
-    Ok(())
-}
-
 /// The first items, the last of them first.
-pub fn front<T: Copy>(stack: &[T], count: usize) -> &[T]
+pub fn front<T>(stack: &[T], count: usize) -> &[T]
     ensures { reverse result.now ≡ take count (reverse stack.now) }
 {
     stack.split_at(stack.len().saturating_sub(count)).1
 }
 
 /// Takes the first items off.
-pub fn cut<T: Copy>(stack: &mut Vec<T>, count: usize)
+pub fn cut<T: Drop>(stack: &mut Vec<T>, count: usize)
     ensures { reverse stack.new.items ≡ drop count (reverse stack.old.items) }
 {
     let items: &[T] = stack;

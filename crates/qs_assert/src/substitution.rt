@@ -4,26 +4,32 @@ ghost use Rattle.qs_assert.specs.Substitution.{same_kind, same_number_type, same
 
 use crate::{NumberType, Var, VarKind};
 
-fn same_kind(a: VarKind, b: VarKind) -> bool
-    ensures { result ≡ same_kind a b }
-{
-    match (a, b) {
-        (VarKind::Plain(i), VarKind::Plain(j)) => i == j,
-        (VarKind::Temporary(i), VarKind::Temporary(j)) => i == j,
-        (VarKind::Old(i), VarKind::Old(j)) => i == j,
-        (VarKind::Returned, VarKind::Returned) => true,
-        _ => false,
+impl VarKind {
+    /// Whether the two are the same kind.
+    pub fn same(self, other: VarKind) -> bool
+        ensures { result ≡ same_kind self other }
+    {
+        match (self, other) {
+            (VarKind::Plain(i), VarKind::Plain(j)) => i == j,
+            (VarKind::Temporary(i), VarKind::Temporary(j)) => i == j,
+            (VarKind::Old(i), VarKind::Old(j)) => i == j,
+            (VarKind::Returned, VarKind::Returned) => true,
+            _ => false,
+        }
     }
 }
 
-fn same_number_type(a: NumberType, b: NumberType) -> bool
-    ensures { result ≡ same_number_type a b }
-{
-    match (a, b) {
-        (NumberType::Int, NumberType::Int) => true,
-        (NumberType::Unsigned, NumberType::Unsigned) => true,
-        (NumberType::Char, NumberType::Char) => true,
-        _ => false,
+impl NumberType {
+    /// Whether the two are the same type.
+    pub fn same(self, other: NumberType) -> bool
+        ensures { result ≡ same_number_type self other }
+    {
+        match (self, other) {
+            (NumberType::Int, NumberType::Int) => true,
+            (NumberType::Unsigned, NumberType::Unsigned) => true,
+            (NumberType::Char, NumberType::Char) => true,
+            _ => false,
+        }
     }
 }
 
@@ -32,6 +38,6 @@ impl Var {
     pub fn same(self, other: Var) -> bool
         ensures { result ≡ same_variable self other }
     {
-        same_kind(self.kind, other.kind) && same_number_type(self.number, other.number)
+        self.kind.same(other.kind) && self.number.same(other.number)
     }
 }

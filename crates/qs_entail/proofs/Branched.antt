@@ -8,11 +8,12 @@ use Rattle.qs_assert.specs.declared.node.Node.TheVariants.{Term, Condition, Asse
 use Rattle.qs_assert.specs.Sameness.{same_cond, all_same, same_node}
 use Rattle.qs_assert.specs.Trees.{TermTree, CondTree, AssertionTree, natural, infinity, cost, num, total, greatest, product, guard, choose, named, AssertionTrees, no_assertions, assertion_and, assertion_list}
 use Rattle.qs_assert.specs.Listing.{inner_term, cond_nodes, assertion_nodes, assertions_nodes}
-use Rattle.qs_entail.specs.Fronts.{front_length, has_inner, own_length}
+use Rattle.qs_assert.specs.Views.{front_length}
+use Rattle.qs_entail.specs.Fronts.{has_inner, own_length}
 use Rattle.qs_entail.specs.Faults.{branch, branches}
 use Rattle.qs_entail.specs.Branching.{chooses, copied, kept}
 use Rattle.qs_entail.proofs.Waiting.{task, task_nodes, results, all_of, all_marks, InPlace}
-use Rattle.qs_entail.proofs.Fronted.{Fronts, term_front, cond_front, assertion_front, first_is, others_are}
+use Rattle.qs_assert.proofs.Fronted.{Fronts, term_front, cond_front, assertion_front, first_is, others_are}
 
 -- what is made of a tree that is kept or skipped
 abbrev pub result : CondTree → Bool → Bool → AssertionTree → List Node

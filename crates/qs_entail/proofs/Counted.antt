@@ -12,7 +12,8 @@ use Rattle.qs_base.specs.Results.{bind}
 use Rattle.qs_entail.specs.Building.{Failure}
 use Rattle.qs_entail.specs.Facts.{equal_sides, different_sides}
 use Rattle.qs_entail.specs.Faults.{members_of, summands_of, guarded_of, member, member_at, count}
-use Rattle.qs_entail.specs.Fronts.{begins, greatest_count, total_count}
+use Rattle.qs_assert.specs.Views.{begins}
+use Rattle.qs_entail.specs.Fronts.{greatest_count, total_count}
 use Rattle.qs_entail.specs.Standing.{counted}
 use Rattle.qs_entail.specs.Verdicts.{is_given, is_counted}
 

@@ -7,10 +7,10 @@ use Rattle.qs_assert.specs.declared.node.Node.TheVariants.{Condition}
 use Rattle.qs_assert.specs.Reading.{others}
 use Rattle.qs_assert.specs.Trees.{CondTree, le, lt, eq, ne, not, and, or, CondTrees, no_conds, cond_and, cond_list}
 use Rattle.qs_assert.specs.Listing.{cond_nodes, conds_nodes}
-use Rattle.qs_entail.specs.Fronts.{front_length, begins, head_arity}
+use Rattle.qs_assert.specs.Views.{front_length, begins, head_arity}
 use Rattle.qs_entail.specs.Flattening.{whole, flat, flats, opens, parts_negated}
 use Rattle.qs_entail.proofs.Waiting.{task, task_nodes, results, all_of, all_marks, InPlace}
-use Rattle.qs_entail.proofs.Fronted.{cond_front, others_are}
+use Rattle.qs_assert.proofs.Fronted.{cond_front, others_are}
 
 all_nodes : (negated : Bool) (cs : CondTrees) → task_nodes cond_nodes (all_of negated (cond_list cs)) ≡ conds_nodes cs
 all_nodes negated no_conds = refl

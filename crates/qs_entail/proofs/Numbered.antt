@@ -9,9 +9,9 @@ use Rattle.qs_assert.specs.Reading.{others}
 use Rattle.qs_base.specs.Results.{bind}
 use Rattle.qs_entail.specs.Building.{Failure, breaks, passes}
 use Rattle.qs_entail.specs.Faults.{members_of, member, member_at, count}
-use Rattle.qs_entail.specs.Fronts.{front_length}
+use Rattle.qs_assert.specs.Views.{front_length}
 use Rattle.qs_entail.specs.Parts.{IsAt}
-use Rattle.qs_entail.proofs.Fronted.{assertion_front, first_is, others_are}
+use Rattle.qs_assert.proofs.Fronted.{assertion_front, first_is, others_are}
 
 next : (parts : AssertionTrees) (nodes rest : List Node) (n : ℕ) (a : AssertionTree) → nodes ≡ assertions_nodes parts → member parts (suc n) ≡ Ok a → rest ≡ drop (front_length nodes 1) nodes → IsAt rest n a
 next no_assertions nodes rest n a e h r = absurd (cc)

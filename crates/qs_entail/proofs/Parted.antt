@@ -7,8 +7,10 @@ use Rattle.qs_assert.specs.declared.node.Node.TheVariants.{Condition, Assertion}
 use Rattle.qs_assert.specs.Trees.{TermTree, CondTree, le, lt, eq, ne, not, and, or, AssertionTree, natural, infinity, cost, num, total, greatest, product, guard, choose, named, AssertionTrees, assertions_of}
 use Rattle.qs_assert.specs.Listing.{inner_term, cond_nodes, assertion_nodes, assertions_nodes}
 use Rattle.qs_assert.specs.Reading.{others, assertions_of-list}
-use Rattle.qs_entail.specs.Fronts.{front_length, begins, is_greatest, is_total, assertions_in}
-use Rattle.qs_entail.proofs.Fronted.{assertions_in-nodes, cond_front, first_is, others_are}
+use Rattle.qs_assert.specs.Views.{front_length, begins}
+use Rattle.qs_entail.specs.Fronts.{is_greatest, is_total, assertions_in}
+use Rattle.qs_assert.proofs.Fronted.{cond_front, first_is, others_are}
+use Rattle.qs_entail.proofs.Fronted.{assertions_in-nodes}
 
 greatest_is : (a : AssertionTree) → is_greatest (assertion_nodes a) ≡ true → (parts : AssertionTrees) × (a ≡ greatest parts)
 greatest_is (natural n) h = absurd (cc)

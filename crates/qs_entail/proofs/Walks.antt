@@ -22,7 +22,7 @@ use Rattle.qs_entail.specs.declared.failed.Failed.{Failed}
 use Rattle.qs_entail.specs.declared.failed.Failed.TheVariants as failures
 use Rattle.qs_entail.specs.Answers.{Follows, FollowsAs}
 use Rattle.qs_base.specs.Results.{bind}
-use Rattle.qs_entail.specs.Building.{Failure}
+use Rattle.qs_entail.specs.Building.{Failure, breaks}
 use Rattle.qs_entail.specs.Faults.{Fault, step, limit, node, part, Guarded}
 use Rattle.qs_entail.specs.Verdicts.{fault, faults_all, faults_parts}
 use Rattle.qs_entail.specs.Pushing.{Known, with_polynomials}
@@ -44,6 +44,10 @@ says_stopped old new rule Breaks view attempt others e h =
     subst (λ a. Says old new (Err (failures.Step rule)) (node rule a others)) (sym h) (refl, e ∙ sym (append-nil old.path))
 says_stopped old new rule (Passes l) view attempt others e h =
     subst (λ a. Says old new (Err (failures.Limit l)) (node rule a others)) (sym h) (refl, e ∙ sym (append-nil old.path))
+
+pub says_broken : {B : Type 0} (old new : Place) (rule : Rule) (attempt : Result B Failure) (others : B → Option Fault) → new.path ≡ old.path → attempt ≡ Err breaks → Says old new (Err (failures.Step rule)) (node rule attempt others)
+says_broken old new rule attempt others e h =
+    subst (λ a. Says old new (Err (failures.Step rule)) (node rule a others)) (sym h) (refl, e ∙ sym (append-nil old.path))
 
 -- and one that gives something
 pub says_given : {B : Type 0} (old new : Place) (rule : Rule) (r : Result (Unit {0}) Failed) (b : B) (attempt : Result B Failure) (others : B → Option Fault) → attempt ≡ Ok b → Says old new r (others b) → Says old new r (node rule attempt others)
@@ -128,6 +132,14 @@ split_err old new f rule (Err e) b g h s = s
 one_ok : (old new : Place) (x : Unit {0}) (r : Result (Unit {0}) Failed) (rule : Rule) (b : Result Known Failure) (g : Known → Option Fault) (v : Option Fault) → Says old old (Ok x) (node rule b g) → Says old new r v → Says old new r (node rule b (λ k. option_or (g k) v))
 one_ok old new x r rule (Ok k) g v h j = both_ok old old new x r (g k) v h j
 one_ok old new x r rule (Err e) g v h j = absurd h
+
+one_err : (old new : Place) (f : Failed) (rule : Rule) (b : Result Known Failure) (g : Known → Option Fault) (v : Option Fault) → Says old new (Err f) (node rule b g) → Says old new (Err f) (node rule b (λ k. option_or (g k) v))
+one_err old new f rule (Ok k) g v h = both_err old new f (g k) v h
+one_err old new f rule (Err e) g v h = h
+
+pub drop_err : (old new : Place) (f : Failed) (rule : Rule) (a : Result Guarded Failure) (b : Guarded → Result Known Failure) (g : Known → Option Fault) (h : Guarded → Option Fault) → Says old new (Err f) (node rule a (λ z. node rule (b z) g)) → Says old new (Err f) (node rule a (λ z. node rule (b z) (λ k. option_or (g k) (h z))))
+drop_err old new f rule (Ok z) b g h s = one_err old new f rule (b z) g (h z) s
+drop_err old new f rule (Err e) b g h s = s
 
 drop_at : (old new : Place) (x : Unit {0}) (r : Result (Unit {0}) Failed) (rule : Rule) (a : Result Guarded Failure) (b : Guarded → Result Known Failure) (g : Known → Option Fault) (h : Guarded → Option Fault) → Says old old (Ok x) (node rule a (λ z. node rule (b z) g)) → Says old new r (node rule a h) → Says old new r (node rule a (λ z. node rule (b z) (λ k. option_or (g k) (h z))))
 drop_at old new x r rule (Ok z) b g h s j = one_ok old new x r rule (b z) g (h z) s j

@@ -7,7 +7,8 @@ use Rattle.qs_assert.specs.declared.node.Node.{Node}
 use Rattle.qs_assert.specs.declared.node.Node.TheVariants.{Assertion}
 use Rattle.qs_assert.specs.Reading.{others}
 use Rattle.qs_assert.specs.Sameness.{all_same, same_node}
-use Rattle.qs_entail.specs.Fronts.{front_length, begins, own_length, part_count}
+use Rattle.qs_assert.specs.Views.{front_length, begins}
+use Rattle.qs_entail.specs.Fronts.{own_length, part_count}
 
 -- the first assertion is a conditional on the condition with the nodes b
 abbrev pub chooses : List Node → List Node → Bool

@@ -8,7 +8,7 @@ use Rattle.qs_assert.specs.declared.node.Node.TheVariants.{Term, Condition, Asse
 use Rattle.qs_assert.specs.Trees.{TermTree, CondTree, le, lt, eq, ne, not, and, or, CondTrees, no_conds, cond_and}
 use Rattle.qs_poly.specs.Polynomials.{Polynomial}
 use Rattle.qs_poly.specs.Operations.{lessened}
-use Rattle.qs_entail.specs.Fronts.{begins}
+use Rattle.qs_assert.specs.Views.{begins}
 use Rattle.qs_base.specs.Results.{bind}
 use Rattle.qs_entail.specs.Building.{Failure, Two, limited, difference, term_polynomial}
 use Rattle.qs_entail.specs.Pushing.{Known, with_condition, with_polynomials}

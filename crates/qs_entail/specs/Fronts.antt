@@ -1,57 +1,13 @@
--- The trees at the front of a list of nodes, each node before those of its parts.
-use Rattle.std.specs.Prelude.{ℕ, zero, suc, ◌+◌, Bool, true, false, if◌then◌else◌, List, [], ◌∷◌, Option, Some, None}
+-- What the nodes of assertions begin with.
+use Rattle.std.specs.Prelude.{ℕ, suc, Bool, true, false, if◌then◌else◌, List, [], ◌∷◌, Option, Some, None}
 use Rattle.qs_assert.specs.declared.node.TermNode.{TermNode}
-use Rattle.qs_assert.specs.declared.node.CondNode.{CondNode}
-use Rattle.qs_assert.specs.declared.node.CondNode.TheVariants.{Le, Lt, Eq, Ne, Not, And, Or}
 use Rattle.qs_assert.specs.declared.node.AssertionNode.{AssertionNode}
 use Rattle.qs_assert.specs.declared.node.AssertionNode.TheVariants.{Natural, Infinity, Cost, Num, Total, Greatest, Product, Guard, If, Named}
 use Rattle.qs_assert.specs.declared.node.Node.{Node}
 use Rattle.qs_assert.specs.declared.node.Node.TheVariants.{Term, Condition, Assertion}
-use Rattle.qs_assert.specs.Sameness.{same_node}
-use Rattle.qs_assert.specs.Shapes.{term_arity}
 use Rattle.qs_assert.specs.Trees.{AssertionTree}
 use Rattle.qs_assert.specs.Reading.{plant_nodes, no_trees}
-
--- ---- how many parts follow a node
-
-abbrev pub cond_arity : CondNode → ℕ
-cond_arity Le = 2
-cond_arity Lt = 2
-cond_arity Eq = 2
-cond_arity Ne = 2
-cond_arity Not = 1
-cond_arity (And n) = n
-cond_arity (Or n) = n
-
-abbrev pub assertion_arity : AssertionNode → ℕ
-assertion_arity (Natural n) = 0
-assertion_arity Infinity = 0
-assertion_arity (Cost f) = 0
-assertion_arity Num = 1
-assertion_arity (Total n) = n
-assertion_arity (Greatest n) = n
-assertion_arity (Product n) = n
-assertion_arity Guard = 2
-assertion_arity If = 3
-assertion_arity (Named n) = 0
-
-abbrev pub arity : Node → ℕ
-arity (Term node) = term_arity node
-arity (Condition node) = cond_arity node
-arity (Assertion node) = assertion_arity node
-
--- how many parts follow the first node
-abbrev pub head_arity : List Node → ℕ
-head_arity [] = 0
-head_arity (node ∷ nodes) = arity node
-
--- ---- trees
-
--- how many nodes the first n trees have
-abbrev pub front_length : List Node → ℕ → ℕ
-front_length [] n = 0
-front_length (node ∷ nodes) zero = 0
-front_length (node ∷ nodes) (suc n) = suc (front_length nodes (n + arity node))
+use Rattle.qs_assert.specs.Views.{front_length}
 
 -- the nodes of terms among these
 abbrev pub term_heads : List Node → List TermNode
@@ -59,11 +15,6 @@ term_heads [] = []
 term_heads (Term node ∷ nodes) = node ∷ term_heads nodes
 term_heads (Condition node ∷ nodes) = term_heads nodes
 term_heads (Assertion node ∷ nodes) = term_heads nodes
-
--- the node is the first
-abbrev pub begins : List Node → Node → Bool
-begins [] node = false
-begins (head ∷ nodes) node = same_node head node
 
 -- the head is that of a greatest assertion
 abbrev pub is_greatest : List Node → Bool

@@ -1,18 +1,22 @@
 // Conditionals on a condition are replaced by a branch.
 ghost use Rattle.std.specs.Prelude.{◌≡◌, ◌++◌, IfOk, reverse, take, drop};
 ghost use Rattle.qs_assert.specs.Listing.{cond_nodes};
+ghost use Rattle.qs_assert.specs.Views.{front_length};
 ghost use Rattle.qs_entail.specs.Branching as branching;
 ghost use Rattle.qs_entail.specs.Branching.{copied, kept};
 ghost use Rattle.qs_entail.specs.Faults as faults;
-ghost use Rattle.qs_entail.specs.Fronts.{front_length, own_length};
+ghost use Rattle.qs_entail.specs.Fronts.{own_length};
 
-use crate::fronts::{begins, own_length, part_count, parts, split_tree, tree_length};
+use crate::fronts::{own_length, part_count};
 use crate::pending::{next, put, put_all};
-use qs_assert::{Assertion, AssertionNode, Cond, Node, put_nodes, same_nodes};
+use qs_assert::{
+    Assertion, AssertionNode, AssertionView, CondView, Node, begins, parts, put_nodes, same_nodes,
+    split_tree, tree_length,
+};
 use qs_base::NoMemory;
 use std::alloc::Global;
 
-fn chooses(b: &Cond, nodes: &[Node]) -> bool
+fn chooses(b: &CondView<'_>, nodes: &[Node]) -> bool
     ensures { result ≡ branching.chooses (cond_nodes b.now) nodes.now }
 {
     begins(nodes, &Node::Assertion(AssertionNode::If))
@@ -22,7 +26,7 @@ fn chooses(b: &Cond, nodes: &[Node]) -> bool
 /// Puts what is copied of the first assertion, and says which of its parts are kept.
 fn keep(
     alloc: Global,
-    b: &Cond,
+    b: &CondView<'_>,
     first: bool,
     rest: &[Node],
     nodes: &mut Vec<Node>,
@@ -42,7 +46,12 @@ fn keep(
 }
 
 /// The assertion with each conditional on `b` replaced by its first branch or its second.
-pub fn branch(alloc: Global, b: &Cond, first: bool, a: &Assertion) -> Result<Assertion, NoMemory>
+pub fn branch(
+    alloc: Global,
+    b: &CondView<'_>,
+    first: bool,
+    a: &AssertionView<'_>,
+) -> Result<Assertion, NoMemory>
     ensures { IfOk result (λ r. r ≡ faults.branch b.now first a.now) }
 {
     let mut nodes = Vec::new(alloc);

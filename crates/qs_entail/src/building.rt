@@ -11,7 +11,7 @@ use crate::operation::{Operation, limited};
 pub use crate::operation::{atom_of, difference, number_of, times_number};
 use crate::stack::{Built, Head, cut, joined, kept, on_both, on_one, put, taken, told};
 use crate::stop::Stop;
-use qs_assert::{Assertion, AssertionNode, CondNode, Node, Term, TermNode, Var};
+use qs_assert::{AssertionNode, AssertionView, CondNode, Node, Term, TermNode, Var};
 use qs_base::{FnId, NoMemory};
 use qs_poly::{Atom, Poly};
 use std::alloc::Global;
@@ -185,7 +185,7 @@ impl Building {
 }
 
 /// The polynomial of an assertion; it breaks where the assertion isn't plain.
-pub fn assertion_polynomial(alloc: Global, a: &Assertion) -> Result<Poly, Stop>
+pub fn assertion_polynomial(alloc: Global, a: &AssertionView<'_>) -> Result<Poly, Stop>
     ensures { Follows result (building.assertion_polynomial a.now) }
 {
     let nodes = a.nodes();

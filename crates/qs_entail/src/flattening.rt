@@ -1,15 +1,12 @@
 // A condition or its negation, as the list of the conditions that are pushed for it.
 ghost use Rattle.std.specs.Prelude.{◌≡◌, ◌≤◌, ◌++◌, IfOk, true, reverse, replicate};
-ghost use Rattle.qs_assert.specs.Trees.{CondTree};
-ghost use Rattle.qs_assert.specs.Listing.{cond_nodes};
+ghost use Rattle.qs_assert.specs.Views.{head_arity};
 ghost use Rattle.qs_entail.specs.Flattening as flattening;
 ghost use Rattle.qs_entail.specs.Flattening.{flat, whole, parts_negated};
-ghost use Rattle.qs_entail.specs.Fronts.{head_arity};
 
-use crate::fronts::{begins, cond, head_arity, parts, split_tree};
 use crate::parts::both_sides;
 use crate::pending::{next, put, put_all};
-use qs_assert::{Cond, CondNode, Node};
+use qs_assert::{Cond, CondNode, CondView, Node, begins, head_arity, parts, split_tree};
 use qs_base::NoMemory;
 use std::alloc::Global;
 
@@ -47,10 +44,10 @@ fn open(negated: bool, nodes: &[Node], pending: &mut Vec<bool>) -> Result<(), No
 }
 
 /// What is pushed for the negation of a condition, which is pushed whole.
-fn negation(alloc: Global, nodes: &[Node]) -> Result<Cond, NoMemory>
-    requires { (c : CondTree) × (nodes.now ≡ cond_nodes c) }
-    ensures { IfOk result (λ r. (c : CondTree) → nodes.now ≡ cond_nodes c → r ≡ whole true c) }
+fn negation(alloc: Global, c: &CondView<'_>) -> Result<Cond, NoMemory>
+    ensures { IfOk result (λ r. r ≡ whole true c.now) }
 {
+    let nodes = c.nodes();
     if begins(nodes, &Node::Condition(CondNode::Le)) {
         let sides = both_sides(alloc, parts(nodes))?;
         return Cond::lt(alloc, &sides.right, &sides.left);
@@ -63,26 +60,25 @@ fn negation(alloc: Global, nodes: &[Node]) -> Result<Cond, NoMemory>
         let sides = both_sides(alloc, parts(nodes))?;
         return Cond::eq(alloc, &sides.left, &sides.right);
     }
-    let part = cond(alloc, nodes)?;
+    let part = c.copy(alloc)?;
     Cond::not(alloc, &part)
 }
 
 /// What is pushed for a condition or its negation, which is pushed whole.
-fn whole(alloc: Global, negated: bool, nodes: &[Node]) -> Result<Cond, NoMemory>
-    requires { (c : CondTree) × (nodes.now ≡ cond_nodes c) }
-    ensures { IfOk result (λ r. (c : CondTree) → nodes.now ≡ cond_nodes c → r ≡ whole negated c) }
+fn whole(alloc: Global, negated: bool, c: &CondView<'_>) -> Result<Cond, NoMemory>
+    ensures { IfOk result (λ r. r ≡ whole negated c.now) }
 {
     if negated {
-        negation(alloc, nodes)
+        negation(alloc, c)
     } else {
-        cond(alloc, nodes)
+        c.copy(alloc)
     }
 }
 
 /// Puts what is pushed for a condition or its negation.
 pub fn put_flat(
     alloc: Global,
-    c: &Cond,
+    c: &CondView<'_>,
     negated: bool,
     list: &mut Vec<Cond>,
 ) -> Result<(), NoMemory>
@@ -97,7 +93,7 @@ pub fn put_flat(
             rest = parts(rest);
         } else {
             let (first, others) = split_tree(rest);
-            let pushed = whole(alloc, is_negated, first)?;
+            let pushed = whole(alloc, is_negated, &CondView::from_nodes(first))?;
             list.push(pushed)?;
             rest = others;
         }

@@ -18,7 +18,7 @@ use crate::parts::{Guarded, guarded_of, members, picked, summands};
 use crate::rules::{both_unfolded, ends, part_number};
 use crate::standing::rule_of;
 use crate::walk::{Mark, Walk};
-use qs_assert::{Assertion, Cond, Define};
+use qs_assert::{AssertionView, CondView, Define};
 use qs_base::{Name, NoMemory};
 
 impl Walk {
@@ -29,8 +29,8 @@ impl Walk {
         defines: &[Define],
         i: usize,
         certificate: &Certificate,
-        p: &Assertion,
-        q: &Assertion,
+        p: &AssertionView<'_>,
+        q: &AssertionView<'_>,
     ) -> Result<(), Failed>
         ensures { Says (place self.old) (place self.new) result (part i (fault (cert_tree certificate.now) defines.now (known_view self.old.known) p.now q.now)) }
     {
@@ -54,8 +54,8 @@ impl Walk {
         defines: &[Define],
         i: usize,
         certificate: &Certificate,
-        p: &Assertion,
-        q: &Assertion,
+        p: &AssertionView<'_>,
+        q: &AssertionView<'_>,
     ) -> Result<(), Failed>
         ensures { Says (cut mark (place self.old)) (place self.new) result (part i (fault (cert_tree certificate.now) defines.now (known_view self.old.known) p.now q.now)) }
     {
@@ -74,8 +74,8 @@ impl Walk {
         &mut self,
         defines: &[Define],
         certificate: &Certificate,
-        p: &Assertion,
-        q: &Assertion,
+        p: &AssertionView<'_>,
+        q: &AssertionView<'_>,
     ) -> Result<(), Failed>
         ensures { Says (place self.old) (place self.new) result (fault (cert_tree certificate.now) defines.now (known_view self.old.known) p.now q.now) }
     {
@@ -91,17 +91,20 @@ impl Walk {
         &mut self,
         defines: &[Define],
         certificate: &Certificate,
-        p: &Assertion,
-        q: &Assertion,
+        p: &AssertionView<'_>,
+        q: &AssertionView<'_>,
     ) -> Result<(), Failed>
         ensures { Says (place self.old) (place self.new) result (rest (cert_tree certificate.now) defines.now (known_view self.old.known) p.now q.now) }
     {
         match certificate {
             Certificate::Same => Ok(()),
-            Certificate::Via(r, c, d) => match self.check_part(defines, 0, c, p, r) {
-                Ok(()) => self.check_part(defines, 1, d, r, q),
-                Err(e) => Err(e),
-            },
+            Certificate::Via(r, c, d) => {
+                let middle = r.view();
+                match self.check_part(defines, 0, c, p, &middle) {
+                    Ok(()) => self.check_part(defines, 1, d, &middle, q),
+                    Err(e) => Err(e),
+                }
+            }
             Certificate::Pick(i, c) => self.check_pick(defines, *i, c, p, q),
             Certificate::All(parts) => self.check_all(defines, parts, p, q),
             Certificate::Parts(parts) => self.check_parts(defines, parts, p, q),
@@ -111,8 +114,9 @@ impl Walk {
                 self.check_body(defines, d, p, q)
             }
             Certificate::Split(b, c, d) => {
-                self.check_first(defines, b, c, p, q)?;
-                self.check_second(defines, b, d, p, q)
+                let condition = b.view();
+                self.check_first(defines, &condition, c, p, q)?;
+                self.check_second(defines, &condition, d, p, q)
             }
             Certificate::Contradict(items) => self.contradicts(items),
             Certificate::Arithmetic(items) => self.is_difference(items, p, q),
@@ -127,14 +131,14 @@ impl Walk {
         defines: &[Define],
         i: i64,
         certificate: &Certificate,
-        p: &Assertion,
-        q: &Assertion,
+        p: &AssertionView<'_>,
+        q: &AssertionView<'_>,
     ) -> Result<(), Failed>
         ensures { Says (place self.old) (place self.new) result (rest (pick i (cert_tree certificate.now)) defines.now (known_view self.old.known) p.now q.now) }
     {
-        match picked(self.alloc, p, i) {
-            Ok(member) => self.check_part(defines, 0, certificate, &member, q),
-            Err(stop) => Err(failure(Rule::Pick, stop)),
+        match picked(p, i) {
+            Some(member) => self.check_part(defines, 0, certificate, &member, q),
+            None => Err(Failed::Step(Rule::Pick)),
         }
     }
 
@@ -143,8 +147,8 @@ impl Walk {
         &mut self,
         defines: &[Define],
         certificates: &[Certificate],
-        p: &Assertion,
-        q: &Assertion,
+        p: &AssertionView<'_>,
+        q: &AssertionView<'_>,
     ) -> Result<(), Failed>
         ensures { Says (place self.old) (place self.new) result (rest (all (certs_tree certificates.now)) defines.now (known_view self.old.known) p.now q.now) }
     {
@@ -159,8 +163,8 @@ impl Walk {
         &mut self,
         defines: &[Define],
         certificates: &[Certificate],
-        p: &Assertion,
-        members: &[Assertion],
+        p: &AssertionView<'_>,
+        members: &[AssertionView<'_>],
     ) -> Result<(), Failed>
         ensures { Says (place self.old) (place self.new) result (faults_all (certs_tree certificates.now) 0 defines.now (known_view self.old.known) p.now (assertions_of members.now)) }
     {
@@ -181,8 +185,8 @@ impl Walk {
         &mut self,
         defines: &[Define],
         certificates: &[Certificate],
-        p: &Assertion,
-        q: &Assertion,
+        p: &AssertionView<'_>,
+        q: &AssertionView<'_>,
     ) -> Result<(), Failed>
         ensures { Says (place self.old) (place self.new) result (rest (parts (certs_tree certificates.now)) defines.now (known_view self.old.known) p.now q.now) }
     {
@@ -197,8 +201,8 @@ impl Walk {
         &mut self,
         defines: &[Define],
         certificates: &[Certificate],
-        left: &[Assertion],
-        q: &Assertion,
+        left: &[AssertionView<'_>],
+        q: &AssertionView<'_>,
     ) -> Result<(), Failed>
         ensures { Says (place self.old) (place self.new) result (node Rule.Parts (summands_of q.now) (λ right. faults_parts (certs_tree certificates.now) 0 defines.now (known_view self.old.known) (assertions_of left.now) right)) }
     {
@@ -213,8 +217,8 @@ impl Walk {
         &mut self,
         defines: &[Define],
         certificates: &[Certificate],
-        left: &[Assertion],
-        right: &[Assertion],
+        left: &[AssertionView<'_>],
+        right: &[AssertionView<'_>],
     ) -> Result<(), Failed>
         ensures { Says (place self.old) (place self.new) result (faults_parts (certs_tree certificates.now) 0 defines.now (known_view self.old.known) (assertions_of left.now) (assertions_of right.now)) }
     {
@@ -235,14 +239,14 @@ impl Walk {
         &mut self,
         defines: &[Define],
         certificate: &Certificate,
-        p: &Assertion,
-        q: &Assertion,
+        p: &AssertionView<'_>,
+        q: &AssertionView<'_>,
     ) -> Result<(), Failed>
         ensures { Says (place self.old) (place self.new) result (rest (assume (cert_tree certificate.now)) defines.now (known_view self.old.known) p.now q.now) }
     {
-        match guarded_of(self.alloc, p) {
-            Ok(guarded) => self.check_guarded(defines, certificate, &guarded, q),
-            Err(stop) => Err(failure(Rule::Assume, stop)),
+        match guarded_of(p) {
+            Some(guarded) => self.check_guarded(defines, certificate, &guarded, q),
+            None => Err(Failed::Step(Rule::Assume)),
         }
     }
 
@@ -251,8 +255,8 @@ impl Walk {
         &mut self,
         defines: &[Define],
         certificate: &Certificate,
-        guarded: &Guarded,
-        q: &Assertion,
+        guarded: &Guarded<'_>,
+        q: &AssertionView<'_>,
     ) -> Result<(), Failed>
         ensures { Says (place self.old) (place self.new) result (node Rule.Assume (push guarded.now.condition (known_view self.old.known)) (λ known. part 0 (fault (cert_tree certificate.now) defines.now known guarded.now.body q.now))) }
     {
@@ -268,13 +272,13 @@ impl Walk {
         &mut self,
         defines: &[Define],
         certificate: &Certificate,
-        q: &Assertion,
+        q: &AssertionView<'_>,
     ) -> Result<(), Failed>
         ensures { Says (place self.old) (place self.new) result (node Rule.DropGuard (guarded_of q.now) (λ g. node Rule.DropGuard (push (not g.condition) (known_view self.old.known)) (λ known. part 0 (fault (cert_tree certificate.now) defines.now known (natural 0) infinity)))) }
     {
-        match guarded_of(self.alloc, q) {
-            Ok(guarded) => self.check_unguarded(defines, certificate, &guarded.condition),
-            Err(stop) => Err(failure(Rule::DropGuard, stop)),
+        match guarded_of(q) {
+            Some(guarded) => self.check_unguarded(defines, certificate, &guarded.condition),
+            None => Err(Failed::Step(Rule::DropGuard)),
         }
     }
 
@@ -283,7 +287,7 @@ impl Walk {
         &mut self,
         defines: &[Define],
         certificate: &Certificate,
-        condition: &Cond,
+        condition: &CondView<'_>,
     ) -> Result<(), Failed>
         ensures { Says (place self.old) (place self.new) result (node Rule.DropGuard (push (not condition.now) (known_view self.old.known)) (λ known. part 0 (fault (cert_tree certificate.now) defines.now known (natural 0) infinity))) }
     {
@@ -292,7 +296,16 @@ impl Walk {
             Err(NoMemory) => return Err(Failed::NoMemory),
         };
         match self.push(condition, true) {
-            Ok(mark) => self.check_until(mark, defines, 0, certificate, &zero, &infinity),
+            Ok(mark) => {
+                self.check_until(
+                    mark,
+                    defines,
+                    0,
+                    certificate,
+                    &zero.view(),
+                    &infinity.view(),
+                )
+            }
             Err(stop) => Err(failure(Rule::DropGuard, stop)),
         }
     }
@@ -303,14 +316,14 @@ impl Walk {
         &mut self,
         defines: &[Define],
         certificate: &Certificate,
-        p: &Assertion,
-        q: &Assertion,
+        p: &AssertionView<'_>,
+        q: &AssertionView<'_>,
     ) -> Result<(), Failed>
         ensures { Says (place self.old) (place self.new) result (node Rule.DropGuard (guarded_of q.now) (λ g. part 1 (fault (cert_tree certificate.now) defines.now (known_view self.old.known) p.now g.body))) }
     {
-        match guarded_of(self.alloc, q) {
-            Ok(guarded) => self.check_part(defines, 1, certificate, p, &guarded.body),
-            Err(stop) => Err(failure(Rule::DropGuard, stop)),
+        match guarded_of(q) {
+            Some(guarded) => self.check_part(defines, 1, certificate, p, &guarded.body),
+            None => Err(Failed::Step(Rule::DropGuard)),
         }
     }
 
@@ -319,10 +332,10 @@ impl Walk {
     fn check_first(
         &mut self,
         defines: &[Define],
-        condition: &Cond,
+        condition: &CondView<'_>,
         certificate: &Certificate,
-        p: &Assertion,
-        q: &Assertion,
+        p: &AssertionView<'_>,
+        q: &AssertionView<'_>,
     ) -> Result<(), Failed>
         ensures { Says (place self.old) (place self.new) result (node Rule.Split (push condition.now (known_view self.old.known)) (λ known. node Rule.Split (push (not condition.now) (known_view self.old.known)) (λ _. part 0 (fault (cert_tree certificate.now) defines.now known (branch condition.now true p.now) (branch condition.now true q.now))))) }
     {
@@ -337,10 +350,10 @@ impl Walk {
     fn check_second(
         &mut self,
         defines: &[Define],
-        condition: &Cond,
+        condition: &CondView<'_>,
         certificate: &Certificate,
-        p: &Assertion,
-        q: &Assertion,
+        p: &AssertionView<'_>,
+        q: &AssertionView<'_>,
     ) -> Result<(), Failed>
         ensures { Says (place self.old) (place self.new) result (node Rule.Split (push (not condition.now) (known_view self.old.known)) (λ known. part 1 (fault (cert_tree certificate.now) defines.now known (branch condition.now false p.now) (branch condition.now false q.now)))) }
     {
@@ -352,11 +365,11 @@ impl Walk {
     fn check_branch(
         &mut self,
         defines: &[Define],
-        condition: &Cond,
+        condition: &CondView<'_>,
         first: bool,
         certificate: &Certificate,
-        p: &Assertion,
-        q: &Assertion,
+        p: &AssertionView<'_>,
+        q: &AssertionView<'_>,
     ) -> Result<(), Failed>
         ensures { Says (place self.old) (place self.new) result (node Rule.Split (pushed (not_of first) condition.now (known_view self.old.known)) (λ known. part (branch_number first) (fault (cert_tree certificate.now) defines.now known (branch condition.now first p.now) (branch condition.now first q.now)))) }
     {
@@ -375,8 +388,8 @@ impl Walk {
                     defines,
                     part_number(first),
                     certificate,
-                    &left,
-                    &right,
+                    &left.view(),
+                    &right.view(),
                 )
             }
             Err(stop) => Err(failure(Rule::Split, stop)),
@@ -389,13 +402,21 @@ impl Walk {
         defines: &[Define],
         name: &Name,
         certificate: &Certificate,
-        p: &Assertion,
-        q: &Assertion,
+        p: &AssertionView<'_>,
+        q: &AssertionView<'_>,
     ) -> Result<(), Failed>
         ensures { Says (place self.old) (place self.new) result (rest (by_definition name.now (cert_tree certificate.now)) defines.now (known_view self.old.known) p.now q.now) }
     {
         match both_unfolded(self.alloc, defines, name, p, q) {
-            Ok(both) => self.check_part(defines, 0, certificate, &both.left, &both.right),
+            Ok(both) => {
+                self.check_part(
+                    defines,
+                    0,
+                    certificate,
+                    &both.left.view(),
+                    &both.right.view(),
+                )
+            }
             Err(stop) => Err(failure(Rule::ByDefinition, stop)),
         }
     }
@@ -406,8 +427,8 @@ impl Walk {
         defines: &[Define],
         fact: &Fact,
         certificate: &Certificate,
-        p: &Assertion,
-        q: &Assertion,
+        p: &AssertionView<'_>,
+        q: &AssertionView<'_>,
     ) -> Result<(), Failed>
         ensures { Says (place self.old) (place self.new) result (rest (cert.fact (fact_tree fact.now) (cert_tree certificate.now)) defines.now (known_view self.old.known) p.now q.now) }
     {

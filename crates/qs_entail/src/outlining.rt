@@ -22,7 +22,7 @@ fn put_flat_list(alloc: Global, hypotheses: &[Cond], list: &mut Vec<Cond>) -> Re
     ensures { IfOk result (λ _. list.new.items ≡ list.old.items ++ flat_list hypotheses.now) }
 {
     for c in hypotheses {
-        put_flat(alloc, c, false, list)?;
+        put_flat(alloc, &c.view(), false, list)?;
     }
     Ok(())
 }

@@ -1,9 +1,10 @@
 // The parts of assertions and conditions.
-ghost use Rattle.std.specs.Prelude.{◌≡◌, ◌++◌, IfOk, Ok, pos};
+ghost use Rattle.std.specs.Prelude.{◌≡◌, ◌++◌, IfOk, MatchOption, Ok, Err, pos};
 ghost use Rattle.qs_base.specs.Results.{bind};
 ghost use Rattle.qs_assert.specs.Trees.{AssertionTree, AssertionTrees, TermTree, assertions_of};
 ghost use Rattle.qs_assert.specs.Listing.{inner_term, assertion_nodes, assertions_nodes};
-ghost use Rattle.qs_entail.specs.Answers.{Follows, FollowsAs};
+ghost use Rattle.qs_entail.specs.Answers.{FollowsAs};
+ghost use Rattle.qs_entail.specs.Building.{breaks};
 ghost use Rattle.qs_entail.specs.Facts as facts;
 ghost use Rattle.qs_entail.specs.Faults as faults;
 ghost use Rattle.qs_entail.specs.Parts.{IsAt, guarded_view, sides_view};
@@ -13,18 +14,20 @@ ghost use Rattle.qs_entail.specs.Standing.{counted};
 ghost use Rattle.qs_entail.specs.Verdicts.{is_given};
 
 use crate::Stop;
-use crate::fronts::{assertion, begins, cond, parts, split_tree, term};
-use qs_assert::{Assertion, AssertionNode, Cond, CondNode, Node, Term};
+use crate::fronts::term;
+use qs_assert::{
+    AssertionNode, AssertionView, Cond, CondNode, CondView, Node, Term, begins, parts, split_tree,
+};
 use qs_base::NoMemory;
 use std::alloc::Global;
 
 /// The parts of a guard.
 #[derive(Debug, Drop)]
-pub struct Guarded {
+pub struct Guarded<'a> {
     /// What has to hold.
-    pub condition: Cond,
+    pub condition: CondView<'a>,
     /// The assertion.
-    pub body: Assertion,
+    pub body: AssertionView<'a>,
 }
 
 /// Two terms of which a condition says that they differ.
@@ -74,7 +77,7 @@ fn total_count(nodes: &[Node]) -> Option<usize>
 
 /// How many members an assertion has, if it is the greatest of some.
 #[tactic(auto, using(crate::proofs::Counted::members_are))]
-pub fn member_count(a: &Assertion) -> Option<usize>
+pub fn member_count(a: &AssertionView<'_>) -> Option<usize>
     ensures { bind (faults.members_of a.now) (λ members. Ok (faults.count members)) ≡ counted result }
 {
     greatest_count(a.nodes())
@@ -82,7 +85,7 @@ pub fn member_count(a: &Assertion) -> Option<usize>
 
 /// How many summands an assertion has, if it is a sum.
 #[tactic(auto, using(crate::proofs::Counted::summands_are))]
-pub fn summand_count(a: &Assertion) -> Option<usize>
+pub fn summand_count(a: &AssertionView<'_>) -> Option<usize>
     ensures { bind (faults.summands_of a.now) (λ summands. Ok (faults.count summands)) ≡ counted result }
 {
     total_count(a.nodes())
@@ -90,7 +93,7 @@ pub fn summand_count(a: &Assertion) -> Option<usize>
 
 /// Whether an assertion is a guard.
 #[tactic(auto, using(crate::proofs::Counted::guard_given))]
-pub fn is_guard(a: &Assertion) -> bool
+pub fn is_guard(a: &AssertionView<'_>) -> bool
     ensures { result ≡ is_given (faults.guarded_of a.now) }
 {
     begins(a.nodes(), &Node::Assertion(AssertionNode::Guard))
@@ -107,7 +110,7 @@ pub fn says_different(c: &Cond) -> bool
             && begins(parts(nodes), &Node::Condition(CondNode::Eq)))
 }
 
-fn assertions(alloc: Global, nodes: &[Node]) -> Result<Vec<Assertion>, NoMemory>
+fn assertions<'a>(alloc: Global, nodes: &'a [Node]) -> Result<Vec<AssertionView<'a>>, NoMemory>
     requires { (trees : AssertionTrees) × (nodes.now ≡ assertions_nodes trees) }
     ensures { IfOk result (λ list. list.items ≡ assertions_in nodes.now) }
 {
@@ -115,8 +118,7 @@ fn assertions(alloc: Global, nodes: &[Node]) -> Result<Vec<Assertion>, NoMemory>
     let mut rest = nodes;
     while !rest.is_empty() {
         let (first, others) = split_tree(rest);
-        let part = assertion(alloc, first)?;
-        list.push(part)?;
+        list.push(AssertionView::from_nodes(first))?;
         rest = others;
     }
     Ok(list)
@@ -136,46 +138,45 @@ fn part_at(nodes: &[Node], number: usize) -> &[Node]
 }
 
 /// A member by its number, of an assertion that is the greatest of so many.
-fn member_numbered(
-    alloc: Global,
-    p: &Assertion,
+fn member_numbered<'a>(
+    p: &AssertionView<'a>,
     count: usize,
     number: usize,
-) -> Result<Assertion, Stop>
+) -> Option<AssertionView<'a>>
     requires { bind (faults.members_of p.now) (λ members. Ok (faults.count members)) ≡ Ok count }
-    ensures { Follows result (bind (faults.members_of p.now) (λ members. faults.member_at members (pos number))) }
+    ensures { MatchOption result (bind (faults.members_of p.now) (λ members. faults.member_at members (pos number)) ≡ Err breaks) (λ member. bind (faults.members_of p.now) (λ members. faults.member_at members (pos number)) ≡ Ok member) }
 {
     if count <= number {
-        return Err(Stop::Breaks);
+        return None;
     }
-    Ok(assertion(alloc, part_at(parts(p.nodes()), number))?)
+    Some(AssertionView::from_nodes(part_at(parts(p.nodes()), number)))
 }
 
 /// A member by its number, which may be below 0, of an assertion that is the greatest of so many.
 #[tactic(auto, using(crate::proofs::Numbered::negative))]
-fn member_of(alloc: Global, p: &Assertion, count: usize, number: i64) -> Result<Assertion, Stop>
+fn member_of<'a>(p: &AssertionView<'a>, count: usize, number: i64) -> Option<AssertionView<'a>>
     requires { bind (faults.members_of p.now) (λ members. Ok (faults.count members)) ≡ Ok count }
-    ensures { Follows result (bind (faults.members_of p.now) (λ members. faults.member_at members number)) }
+    ensures { MatchOption result (bind (faults.members_of p.now) (λ members. faults.member_at members number) ≡ Err breaks) (λ member. bind (faults.members_of p.now) (λ members. faults.member_at members number) ≡ Ok member) }
 {
     if number < 0 {
-        return Err(Stop::Breaks);
+        return None;
     }
-    member_numbered(alloc, p, count, number as usize)
+    member_numbered(p, count, number as usize)
 }
 
-/// A member by its number, from 0; it breaks where there is none.
+/// A member by its number, from 0, if there is one.
 #[tactic(auto, using(crate::proofs::Numbered::no_members))]
-pub fn picked(alloc: Global, p: &Assertion, number: i64) -> Result<Assertion, Stop>
-    ensures { Follows result (bind (faults.members_of p.now) (λ members. faults.member_at members number)) }
+pub fn picked<'a>(p: &AssertionView<'a>, number: i64) -> Option<AssertionView<'a>>
+    ensures { MatchOption result (bind (faults.members_of p.now) (λ members. faults.member_at members number) ≡ Err breaks) (λ member. bind (faults.members_of p.now) (λ members. faults.member_at members number) ≡ Ok member) }
 {
     match member_count(p) {
-        Some(count) => member_of(alloc, p, count, number),
-        None => Err(Stop::Breaks),
+        Some(count) => member_of(p, count, number),
+        None => None,
     }
 }
 
 /// The members of which an assertion is the greatest; it breaks where it is none.
-pub fn members(alloc: Global, a: &Assertion) -> Result<Vec<Assertion>, Stop>
+pub fn members<'a>(alloc: Global, a: &AssertionView<'a>) -> Result<Vec<AssertionView<'a>>, Stop>
     ensures { FollowsAs (λ list. assertions_of list.items) result (faults.members_of a.now) }
 {
     let nodes = a.nodes();
@@ -187,7 +188,7 @@ pub fn members(alloc: Global, a: &Assertion) -> Result<Vec<Assertion>, Stop>
 }
 
 /// The summands of an assertion; it breaks where it is no sum.
-pub fn summands(alloc: Global, a: &Assertion) -> Result<Vec<Assertion>, Stop>
+pub fn summands<'a>(alloc: Global, a: &AssertionView<'a>) -> Result<Vec<AssertionView<'a>>, Stop>
     ensures { FollowsAs (λ list. assertions_of list.items) result (faults.summands_of a.now) }
 {
     let nodes = a.nodes();
@@ -198,20 +199,18 @@ pub fn summands(alloc: Global, a: &Assertion) -> Result<Vec<Assertion>, Stop>
     Ok(list)
 }
 
-/// The condition and the assertion of a guard; it breaks where the assertion is none.
-pub fn guarded_of(alloc: Global, a: &Assertion) -> Result<Guarded, Stop>
-    ensures { FollowsAs guarded_view result (faults.guarded_of a.now) }
+/// The condition and the assertion of a guard, if the assertion is one.
+pub fn guarded_of<'a>(a: &AssertionView<'a>) -> Option<Guarded<'a>>
+    ensures { MatchOption result (faults.guarded_of a.now ≡ Err breaks) (λ g. faults.guarded_of a.now ≡ Ok (guarded_view g)) }
 {
     let nodes = a.nodes();
     if !begins(nodes, &Node::Assertion(AssertionNode::Guard)) {
-        return Err(Stop::Breaks);
+        return None;
     }
     let (first, others) = split_tree(parts(nodes));
-    let condition = cond(alloc, first)?;
-    match assertion(alloc, others) {
-        Ok(body) => Ok(Guarded { condition, body }),
-        Err(fault) => Err(Stop::from(fault)),
-    }
+    let condition = CondView::from_nodes(first);
+    let body = AssertionView::from_nodes(others);
+    Some(Guarded { condition, body })
 }
 
 /// The two terms that have these nodes.

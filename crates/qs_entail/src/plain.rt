@@ -3,7 +3,7 @@ ghost use Rattle.std.specs.Prelude.{◌≡◌};
 ghost use Rattle.qs_entail.specs.Building as building;
 ghost use Rattle.qs_entail.specs.Plain.{is_plain_head, is_plain_node, all_plain_nodes};
 
-use qs_assert::{Assertion, AssertionNode, Node};
+use qs_assert::{AssertionNode, AssertionView, Node};
 
 fn is_plain_head(node: &AssertionNode) -> bool
     ensures { result ≡ is_plain_head node.now }
@@ -45,7 +45,7 @@ fn all_plain_nodes(nodes: &[Node]) -> bool
 
 /// Whether the assertion has only numbers, costs, `num`, sums and products.
 #[tactic(auto, using(crate::proofs::PlainNodes::nodes_plain))]
-pub fn is_plain(a: &Assertion) -> bool
+pub fn is_plain(a: &AssertionView<'_>) -> bool
     ensures { result ≡ building.is_plain a.now }
 {
     all_plain_nodes(a.nodes())

@@ -14,10 +14,9 @@ ghost use Rattle.qs_entail.specs.View.{known_view};
 use crate::Stop;
 use crate::building::{difference, term_polynomial};
 use crate::flattening::put_flat;
-use crate::fronts::{begins, parts};
 use crate::known::Known;
 use crate::parts::{Sides, both_sides};
-use qs_assert::{Cond, CondNode, Node};
+use qs_assert::{Cond, CondNode, CondView, Node, begins, parts};
 use qs_poly::Poly;
 use std::alloc::Global;
 
@@ -122,7 +121,7 @@ fn push_wholes(alloc: Global, list: &[Cond], known: &mut Known) -> Result<(), St
 }
 
 /// Pushes a condition or its negation. What was known stays in front, also where this fails.
-pub fn push(alloc: Global, c: &Cond, negated: bool, known: &mut Known) -> Result<(), Stop>
+pub fn push(alloc: Global, c: &CondView<'_>, negated: bool, known: &mut Known) -> Result<(), Stop>
     ensures step { FollowsAs (λ _. known_view known.new) result (pushed negated c.now (known_view known.old)) }
     ensures front { Extends (known_view known.old) (known_view known.new) }
 {
@@ -137,7 +136,7 @@ pub fn push_list(alloc: Global, list: &[Cond], known: &mut Known) -> Result<(), 
     ensures front { Extends (known_view known.old) (known_view known.new) }
 {
     for c in list {
-        push(alloc, c, false, known)?;
+        push(alloc, &c.view(), false, known)?;
     }
     Ok(())
 }

@@ -13,7 +13,7 @@ use crate::combination::combination;
 use crate::known::Known;
 use crate::stop::Stop;
 use crate::unfolding::{definition, unfolded};
-use qs_assert::{Assertion, Define};
+use qs_assert::{Assertion, AssertionView, Define};
 use qs_base::{Name, NoMemory};
 use qs_poly::Poly;
 use std::alloc::Global;
@@ -30,8 +30,8 @@ pub fn both_unfolded(
     alloc: Global,
     defines: &[Define],
     name: &Name,
-    p: &Assertion,
-    q: &Assertion,
+    p: &AssertionView<'_>,
+    q: &AssertionView<'_>,
 ) -> Result<Both, Stop>
     ensures { FollowsAs both_view result (bind (definition defines.now name.now) (λ body. Ok (unfolded_both name.now body p.now q.now))) }
 {
@@ -77,8 +77,8 @@ pub fn arithmetic_holds(
     alloc: Global,
     items: &[Item],
     known: &Known,
-    p: &Assertion,
-    q: &Assertion,
+    p: &AssertionView<'_>,
+    q: &AssertionView<'_>,
 ) -> Result<(), Stop>
     ensures { Follows result (arithmetic_holds (items_view items.now) (known_view known.now) p.now q.now) }
 {

@@ -17,11 +17,11 @@ use crate::fault::Rule;
 use crate::parts::{is_guard, member_count, says_different, summand_count};
 use crate::plain::is_plain;
 use crate::unfolding::defined;
-use qs_assert::{Assertion, Cond, Define};
+use qs_assert::{AssertionView, Cond, Define};
 use qs_base::Name;
 
 #[tactic(auto, using(crate::proofs::Counted::numbered, crate::proofs::Counted::none_numbered))]
-fn has_member(p: &Assertion, i: i64) -> bool
+fn has_member(p: &AssertionView<'_>, i: i64) -> bool
     ensures { result ≡ is_given (bind (faults.members_of p.now) (λ members. faults.member_at members i)) }
 {
     match member_count(p) {
@@ -40,14 +40,14 @@ fn is_so_many(wanted: usize, count: Option<usize>) -> bool
 }
 
 #[tactic(auto, using(crate::proofs::Stands::has_so_many))]
-fn has_members(wanted: usize, q: &Assertion) -> bool
+fn has_members(wanted: usize, q: &AssertionView<'_>) -> bool
     ensures { result ≡ has_count wanted (bind (faults.members_of q.now) (λ members. Ok (count members))) }
 {
     is_so_many(wanted, member_count(q))
 }
 
 #[tactic(auto, using(crate::proofs::Stands::has_so_many))]
-fn has_summands(wanted: usize, q: &Assertion) -> bool
+fn has_summands(wanted: usize, q: &AssertionView<'_>) -> bool
     ensures { result ≡ has_count wanted (bind (faults.summands_of q.now) (λ summands. Ok (count summands))) }
 {
     is_so_many(wanted, summand_count(q))
@@ -137,8 +137,8 @@ pub fn stands(
     defines: &[Define],
     conditions: &[Cond],
     count: usize,
-    p: &Assertion,
-    q: &Assertion,
+    p: &AssertionView<'_>,
+    q: &AssertionView<'_>,
 ) -> bool
     ensures { result ≡ stands (cert_tree certificate.now) defines.now (record { conditions = conditions.now; count = count }) p.now q.now }
 {

@@ -6,7 +6,7 @@ ghost use Rattle.qs_entail.specs.Faults as faults;
 ghost use Rattle.qs_entail.specs.Placing.{placed};
 
 use crate::Stop;
-use qs_assert::{Assertion, AssertionNode, Define, Node, put_nodes};
+use qs_assert::{Assertion, AssertionNode, AssertionView, Define, Node, put_nodes};
 use qs_base::{Name, NoMemory};
 use std::alloc::Global;
 
@@ -58,7 +58,7 @@ pub fn unfolded(
     alloc: Global,
     name: &Name,
     body: &Assertion,
-    a: &Assertion,
+    a: &AssertionView<'_>,
 ) -> Result<Assertion, NoMemory>
     ensures { IfOk result (λ r. r ≡ faults.unfolded name.now body.now a.now) }
 {

@@ -22,7 +22,7 @@ use crate::standing::{rule_of, stands};
 use crate::stop::Stop;
 use crate::sums::{one, small};
 use crate::walk::Walk;
-use qs_assert::{Assertion, Cond, Define};
+use qs_assert::{Assertion, AssertionView, Cond, Define};
 use qs_base::NoMemory;
 use std::alloc::Global;
 
@@ -60,8 +60,8 @@ fn root_stands(
     alloc: Global,
     hypotheses: &[Cond],
     defines: &[Define],
-    p: &Assertion,
-    q: &Assertion,
+    p: &AssertionView<'_>,
+    q: &AssertionView<'_>,
     certificate: &Certificate,
 ) -> Result<bool, NoMemory>
     ensures { IfOk result (λ b. b ≡ stands (cert_tree certificate.now) defines.now (outline_list hypotheses.now outlined_first) p.now q.now) }
@@ -76,8 +76,8 @@ fn root_stands(
 fn walked(
     mut walk: Walk,
     defines: &[Define],
-    p: &Assertion,
-    q: &Assertion,
+    p: &AssertionView<'_>,
+    q: &AssertionView<'_>,
     certificate: &Certificate,
 ) -> Result<(), CertFault>
     requires { walk.path.items ≡ [] }
@@ -95,8 +95,8 @@ fn walked_under(
     alloc: Global,
     hypotheses: &[Cond],
     defines: &[Define],
-    p: &Assertion,
-    q: &Assertion,
+    p: &AssertionView<'_>,
+    q: &AssertionView<'_>,
     certificate: &Certificate,
 ) -> Result<(), CertFault>
     ensures { Tells result (node (verdicts.rule_of (cert_tree certificate.now)) (pushing.push_list hypotheses.now at_first) (λ known. rest (cert_tree certificate.now) defines.now known p.now q.now)) }
@@ -116,8 +116,8 @@ fn checked(
     alloc: Global,
     hypotheses: &[Cond],
     defines: &[Define],
-    p: &Assertion,
-    q: &Assertion,
+    p: &AssertionView<'_>,
+    q: &AssertionView<'_>,
     certificate: &Certificate,
 ) -> Result<(), CertFault>
     ensures { Tells result (verdict hypotheses.now defines.now p.now q.now (cert_tree certificate.now)) }
@@ -149,5 +149,7 @@ pub fn check(
     ensures exact { Tells result (verdict hypotheses.now defines.now p.now q.now (cert_tree certificate.now)) }
     ensures sound { OnOk result (IsInOrder defines.now → Above hypotheses.now defines.now p.now q.now) }
 {
-    checked(alloc, hypotheses, defines, p, q, certificate)
+    let left = p.view();
+    let right = q.view();
+    checked(alloc, hypotheses, defines, &left, &right, certificate)
 }

@@ -21,7 +21,7 @@ use crate::pushing::push;
 use crate::rules::{arithmetic_holds, contradiction};
 use crate::standing::stands;
 use crate::stop::Stop;
-use qs_assert::{Assertion, Cond, Define};
+use qs_assert::{AssertionView, CondView, Define};
 use std::alloc::Global;
 
 /// How many conditions and polynomials were known.
@@ -76,7 +76,7 @@ impl Walk {
     }
 
     /// Pushes a condition, or its negation.
-    pub fn push(&mut self, condition: &Cond, negated: bool) -> Result<Mark, Stop>
+    pub fn push(&mut self, condition: &CondView<'_>, negated: bool) -> Result<Mark, Stop>
         ensures step { FollowsAs (λ _. known_view self.new.known) result (pushed negated condition.now (known_view self.old.known)) }
         ensures back { IfOk result (λ mark. cut mark (place self.new) ≡ place self.old) }
         ensures path { self.new.path.items ≡ self.old.path.items }
@@ -89,7 +89,7 @@ impl Walk {
     }
 
     /// Whether a condition, or its negation, can be pushed.
-    fn tries(&mut self, condition: &Cond, negated: bool) -> Result<(), Stop>
+    fn tries(&mut self, condition: &CondView<'_>, negated: bool) -> Result<(), Stop>
         ensures step { Follows result (bind (pushed negated condition.now (known_view self.old.known)) (λ _. done)) }
         ensures back { OnOk result (place self.new ≡ place self.old) }
         ensures path { self.new.path.items ≡ self.old.path.items }
@@ -104,7 +104,7 @@ impl Walk {
     }
 
     /// Whether a condition can be pushed, and its negation.
-    pub fn tries_both(&mut self, condition: &Cond) -> Result<(), Stop>
+    pub fn tries_both(&mut self, condition: &CondView<'_>) -> Result<(), Stop>
         ensures step { Follows result (bind (push condition.now (known_view self.old.known)) (λ _. bind (push (not condition.now) (known_view self.old.known)) (λ _. done))) }
         ensures back { OnOk result (place self.new ≡ place self.old) }
         ensures path { self.new.path.items ≡ self.old.path.items }
@@ -136,8 +136,8 @@ impl Walk {
         &self,
         defines: &[Define],
         certificate: &Certificate,
-        p: &Assertion,
-        q: &Assertion,
+        p: &AssertionView<'_>,
+        q: &AssertionView<'_>,
     ) -> bool
         ensures { result ≡ stands (cert_tree certificate.now) defines.now (outlined (known_view self.now.known)) p.now q.now }
     {
@@ -158,7 +158,12 @@ impl Walk {
 
     /// Whether the items are the difference of two assertions.
     #[tactic(auto, using(crate::proofs::Walks::says_settled))]
-    pub fn is_difference(&self, items: &[Item], p: &Assertion, q: &Assertion) -> Result<(), Failed>
+    pub fn is_difference(
+        &self,
+        items: &[Item],
+        p: &AssertionView<'_>,
+        q: &AssertionView<'_>,
+    ) -> Result<(), Failed>
         ensures { Says (place self.now) (place self.now) result (node Rule.Arithmetic (arithmetic_holds (items_view items.now) (known_view self.now.known) p.now q.now) (λ _. None)) }
     {
         settle(

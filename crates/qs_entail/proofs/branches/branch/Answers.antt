@@ -4,9 +4,10 @@ use Rattle.qs_assert.specs.Trees.{CondTree}
 use Rattle.qs_assert.specs.Listing.{cond_nodes, assertion_nodes}
 use Rattle.qs_entail.specs.Branching.{copied, kept}
 use Rattle.qs_entail.specs.Faults.{branch}
-use Rattle.qs_entail.specs.Fronts.{front_length, own_length}
+use Rattle.qs_assert.specs.Views.{front_length}
+use Rattle.qs_entail.specs.Fronts.{own_length}
 use Rattle.qs_entail.proofs.Branched.{result, in_place, skipped, more_nodes, kept_smaller}
-use Rattle.qs_entail.proofs.Fronted.{fewer}
+use Rattle.qs_assert.proofs.Fronted.{fewer}
 use Rattle.qs_entail.proofs.Waiting.{Waits, Next, task_nodes, waits_first, waits_last, next, goes_on, has_nodes}
 use Rattle.qs_entail.proofs.branches.branch.Goals as goal
 

@@ -1,7 +1,7 @@
 use Rattle.std.proofs.Common.{List, Bool, ◌∷◌, reverse, refl, ap, ◌∙◌, sym, append-nil}
 use Rattle.qs_assert.specs.Listing.{cond_nodes}
-use Rattle.qs_entail.specs.Flattening.{flat}
-use Rattle.qs_entail.proofs.Fronted.{cond_front, first_is, fewer}
+use Rattle.qs_entail.specs.Flattening.{flat, whole}
+use Rattle.qs_assert.proofs.Fronted.{cond_front, first_is, fewer}
 use Rattle.qs_entail.proofs.Flattened.{in_place, whole_in_place, more_nodes}
 use Rattle.qs_entail.proofs.Waiting.{task_nodes, waits_first, waits_last, next, goes_on, has_nodes}
 use Rattle.qs_entail.proofs.flattening.put_flat.Goals as goal
@@ -16,8 +16,8 @@ loop-is_negated-preserved-then-opens c =
     let p = in_place _ n.tree (task_nodes cond_nodes n.tasks) _ n.left (sym c.opens.ensures ∙ c.if-opens.true) in
     goes_on _ _ _ _ _ _ _ _ _ _ _ _ _ n p (sym (append-nil c.loop-is_negated.list.items)) c.in_ok-open.ensures c.parts-rest.ensures
 
-pub whole-requires : goal.whole-requires
-whole-requires c =
+pub from_nodes-requires : goal.from_nodes-requires
+from_nodes-requires c =
     let n = next _ _ _ _ _ _ _ _ c.loop-is_negated.invariant c.in-Some.ensures in
     (n.tree, c.split_tree.ensures.first ∙ first_is (cond_nodes n.tree) (task_nodes cond_nodes n.tasks) _ (cond_front n.tree) n.left)
 
@@ -30,7 +30,7 @@ pub loop-is_negated-preserved : goal.loop-is_negated-preserved
 loop-is_negated-preserved c =
     let n = next _ _ _ _ _ _ _ _ c.loop-is_negated.invariant c.in-Some.ensures in
     let is = c.split_tree.ensures.first ∙ first_is (cond_nodes n.tree) (task_nodes cond_nodes n.tasks) _ (cond_front n.tree) n.left in
-    let p = whole_in_place _ n.tree (task_nodes cond_nodes n.tasks) _ _ n.left (sym c.opens.ensures ∙ c.if-opens.false) (c.in_ok-pushed.ensures n.tree is) in
+    let p = whole_in_place _ n.tree (task_nodes cond_nodes n.tasks) _ _ n.left (sym c.opens.ensures ∙ c.if-opens.false) (c.in_ok-pushed.ensures ∙ ap (whole _) (c.from_nodes.ensures n.tree is)) in
     goes_on _ _ _ _ _ _ _ _ _ _ _ _ _ n p c.in_ok-push.ensures.items refl c.split_tree.ensures.others
 
 pub returns : goal.returns

@@ -1,11 +1,12 @@
 use Rattle.std.proofs.Common.{◌<◌, ◌++◌, List, [], ◌∷◌, length, ap, ◌∙◌, sym, append_assoc}
 use Rattle.qs_assert.specs.Trees.{AssertionTree}
 use Rattle.qs_entail.specs.Fronts.{assertions_in}
-use Rattle.qs_entail.proofs.Fronted.{not_empty, split, split_first, split_others, split_all, fewer}
+use Rattle.qs_assert.proofs.Fronted.{fewer}
+use Rattle.qs_entail.proofs.Fronted.{not_empty, split, split_first, split_others, split_all}
 use Rattle.qs_entail.proofs.parts.assertions.Goals as goal
 
-pub assertion-requires : goal.assertion-requires
-assertion-requires c =
+pub from_nodes-requires : goal.from_nodes-requires
+from_nodes-requires c =
     let more : 0 < length c.loop-rest.rest.now = not_empty (length c.loop-rest.rest.now) c.loop-rest-test.ensures in
     let trees = c.loop-rest.invariant.trees in
     let s = split c.loop-rest.rest.now trees.0 trees.1 more in
@@ -20,7 +21,7 @@ loop-rest-preserved c =
     let more : 0 < length c.loop-rest.rest.now = not_empty (length c.loop-rest.rest.now) c.loop-rest-test.ensures in
     let trees = c.loop-rest.invariant.trees in
     let s = split c.loop-rest.rest.now trees.0 trees.1 more in
-    let first = c.in_ok-part.ensures s.first (c.split_tree.ensures.first ∙ split_first _ s) in
+    let first = c.from_nodes.ensures s.first (c.split_tree.ensures.first ∙ split_first _ s) in
     record {
       trees = (s.left, c.split_tree.ensures.others ∙ split_others _ s);
       all =

@@ -2,7 +2,7 @@ use Rattle.std.proofs.Common.{◌∙◌, sym, ap, subst, true, false, arith}
 use Rattle.std.specs.Prelude.{Err}
 use Rattle.std.proofs.lemmas.Result.{err_from_is_err_and}
 use Rattle.qs_assert.specs.Trees.{not, natural, infinity}
-use Rattle.qs_entail.proofs.Walks.{both_err, via_ok, via_of, split_known, split_err, split_of, drop_ok, drop_of, fact_given, each_goes_on, pair_goes_on}
+use Rattle.qs_entail.proofs.Walks.{both_err, via_ok, via_of, split_known, split_err, split_of, drop_ok, drop_err, drop_of, fact_given, each_goes_on, pair_goes_on}
 use Rattle.qs_entail.specs.declared.fault.Rule.TheVariants as rules
 use Rattle.qs_entail.specs.Faults.{part, branch, Guarded, guarded_of}
 use Rattle.qs_entail.specs.Verdicts.{rest, fault}
@@ -14,23 +14,23 @@ use Rattle.qs_entail.proofs.walk.Walk.+check.Goals as goal
 
 pub check_rest-returns-in-Err : goal.check_rest-returns-in-Err
 check_rest-returns-in-Err t c =
-    let h = rw c.deref.ensures at c.in-Err.ensures in
+    let h = rw (c.deref.ensures, c.view-middle.ensures) at c.in-Err.ensures in
     let e = ap cert_tree c.in-Via.is ∙ via_of c.in-Via.r c.in-Via.c c.in-Via.d in
     subst (λ z. Says (place c.args.self.now) (place c.check_part.new.self) (Err c.in-Err.e) (rest z c.args.defines.now (known_view c.args.self.now.known) c.args.p.now c.args.q.now)) (sym e)
     (both_err (place c.args.self.now) (place c.check_part.new.self) c.in-Err.e _ _ h)
 
 pub check_rest-returns-in-Ok : goal.check_rest-returns-in-Ok
 check_rest-returns-in-Ok t c =
-    let h = rw c.deref.ensures at c.in-Ok.ensures in
-    let k = rw c.deref-in-Ok.ensures at c.check_part-in-Ok.ensures in
+    let h = rw (c.deref.ensures, c.view-middle.ensures) at c.in-Ok.ensures in
+    let k = rw (c.deref-in-Ok.ensures, c.view-middle.ensures) at c.check_part-in-Ok.ensures in
     let e = ap cert_tree c.in-Via.is ∙ via_of c.in-Via.r c.in-Via.c c.in-Via.d in
     subst (λ z. Says (place c.args.self.now) (place c.check_part-in-Ok.new.self) c.check_part-in-Ok.result (rest z c.args.defines.now (known_view c.args.self.now.known) c.args.p.now c.args.q.now)) (sym e)
     (via_ok (place c.args.self.now) (place c.check_part.new.self) (place c.check_part-in-Ok.new.self) tt c.check_part-in-Ok.result (part 0 (fault (cert_tree c.in-Via.c.value) c.args.defines.now (known_view c.args.self.now.known) c.args.p.now c.in-Via.r)) (λ k. part 1 (fault (cert_tree c.in-Via.d.value) c.args.defines.now k c.in-Via.r c.args.q.now)) h k)
 
 pub check_rest-returns-in_ok-check_first-in-Split : goal.check_rest-returns-in_ok-check_first-in-Split
 check_rest-returns-in_ok-check_first-in-Split t c =
-    let h = rw c.deref-in-Split.ensures at c.in_ok-check_first-in-Split.ensures in
-    let k = rw c.deref-in-Split-2.ensures at c.check_second.ensures in
+    let h = rw (c.deref-in-Split.ensures, c.view-condition.ensures) at c.in_ok-check_first-in-Split.ensures in
+    let k = rw (c.deref-in-Split-2.ensures, c.view-condition.ensures) at c.check_second.ensures in
     let e = ap cert_tree c.in-Split.is ∙ split_of c.in-Split.b c.in-Split.c c.in-Split.d in
     subst (λ z. Says (place c.args.self.now) (place c.check_second.new.self) c.check_second.result (rest z c.args.defines.now (known_view c.args.self.now.known) c.args.p.now c.args.q.now)) (sym e)
     (split_known (place c.args.self.now) (place c.check_first.new.self) (place c.check_second.new.self) tt c.check_second.result rules.Split (push c.in-Split.b (known_view c.args.self.now.known)) (λ k. push (not c.in-Split.b) k) (λ k. part 0 (fault (cert_tree c.in-Split.c.value) c.args.defines.now k (branch c.in-Split.b true c.args.p.now) (branch c.in-Split.b true c.args.q.now))) (λ k. part 1 (fault (cert_tree c.in-Split.d.value) c.args.defines.now k (branch c.in-Split.b false c.args.p.now) (branch c.in-Split.b false c.args.q.now))) h k)
@@ -38,7 +38,7 @@ check_rest-returns-in_ok-check_first-in-Split t c =
 pub check_rest-returns-in_err-check_first-in-Split : goal.check_rest-returns-in_err-check_first-in-Split
 check_rest-returns-in_err-check_first-in-Split t c =
     let p = err_from_is_err_and c.from_residual-in_err-check_first-in-Split.result c.from_residual-in_err-check_first-in-Split.ensures.1 in
-    let h = rw c.deref-in-Split.ensures at c.in_err-check_first-in-Split.ensures in
+    let h = rw (c.deref-in-Split.ensures, c.view-condition.ensures) at c.in_err-check_first-in-Split.ensures in
     let e = ap cert_tree c.in-Split.is ∙ split_of c.in-Split.b c.in-Split.c c.in-Split.d in
     rw (p.1, p.2)
     (subst (λ z. Says (place c.args.self.now) (place c.check_first.new.self) (Err c.in_err-check_first-in-Split.field-0.0) (rest z c.args.defines.now (known_view c.args.self.now.known) c.args.p.now c.args.q.now)) (sym e)
@@ -51,6 +51,15 @@ check_rest-returns-in_ok-check_contradiction-in-DropGuard t c =
     let e = ap cert_tree c.in-DropGuard.is ∙ drop_of c.in-DropGuard.c c.in-DropGuard.d in
     subst (λ z. Says (place c.args.self.now) (place c.check_body.new.self) c.check_body.result (rest z c.args.defines.now (known_view c.args.self.now.known) c.args.p.now c.args.q.now)) (sym e)
     (drop_ok (place c.args.self.now) (place c.check_contradiction.new.self) (place c.check_body.new.self) tt c.check_body.result rules.DropGuard (guarded_of c.args.q.now) (λ (g : Guarded). push (not g.condition) (known_view c.args.self.now.known)) (λ k. part 0 (fault (cert_tree c.in-DropGuard.c.value) c.args.defines.now k (natural 0) infinity)) (λ (g : Guarded) (k : Known). part 1 (fault (cert_tree c.in-DropGuard.d.value) c.args.defines.now k c.args.p.now g.body)) h k)
+
+pub check_rest-returns-in_err-check_contradiction-in-DropGuard : goal.check_rest-returns-in_err-check_contradiction-in-DropGuard
+check_rest-returns-in_err-check_contradiction-in-DropGuard t c =
+    let p = err_from_is_err_and c.from_residual.result c.from_residual.ensures.1 in
+    let h = rw c.deref-in-DropGuard.ensures at c.in_err-check_contradiction-in-DropGuard.ensures in
+    let e = ap cert_tree c.in-DropGuard.is ∙ drop_of c.in-DropGuard.c c.in-DropGuard.d in
+    rw (p.1, p.2)
+    (subst (λ z. Says (place c.args.self.now) (place c.check_contradiction.new.self) (Err c.in_err-check_contradiction-in-DropGuard.field-0.0) (rest z c.args.defines.now (known_view c.args.self.now.known) c.args.p.now c.args.q.now)) (sym e)
+    (drop_err (place c.args.self.now) (place c.check_contradiction.new.self) c.in_err-check_contradiction-in-DropGuard.field-0.0 rules.DropGuard (guarded_of c.args.q.now) (λ (g : Guarded). push (not g.condition) (known_view c.args.self.now.known)) (λ k. part 0 (fault (cert_tree c.in-DropGuard.c.value) c.args.defines.now k (natural 0) infinity)) (λ (g : Guarded). part 1 (fault (cert_tree c.in-DropGuard.d.value) c.args.defines.now (known_view c.args.self.now.known) c.args.p.now g.body)) h))
 
 pub check_fact-returns-in-Ok : goal.check_fact-returns-in-Ok
 check_fact-returns-in-Ok t c =

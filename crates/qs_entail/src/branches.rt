@@ -7,7 +7,7 @@ ghost use Rattle.qs_entail.specs.Faults as faults;
 ghost use Rattle.qs_entail.specs.Fronts.{front_length, own_length};
 
 use crate::fronts::{begins, own_length, part_count, parts, split_tree, tree_length};
-use crate::pending::{next, put, put_all};
+use qs_assert::stack::{next, put, put_all};
 use qs_assert::{Assertion, AssertionNode, Cond, Node, put_nodes, same_nodes};
 use qs_base::NoMemory;
 use std::alloc::Global;

@@ -8,7 +8,7 @@ ghost use Rattle.qs_entail.specs.Fronts.{head_arity};
 
 use crate::fronts::{begins, cond, head_arity, parts, split_tree};
 use crate::parts::both_sides;
-use crate::pending::{next, put, put_all};
+use qs_assert::stack::{next, put, put_all};
 use qs_assert::{Cond, CondNode, Node};
 use qs_base::NoMemory;
 use std::alloc::Global;

@@ -1,17 +1,16 @@
 -- A stack of attempts, whose front is a list's end.
-use Rattle.std.proofs.Common.{◌≡◌, ◌<◌, ◌-◌, ℕ, zero, suc, List, [], ◌∷◌, map, take, drop, reverse, length, refl, sym, ap, ◌∙◌, arith}
+use Rattle.std.proofs.Common.{◌≡◌, ◌<◌, ◌-◌, ℕ, zero, suc, List, [], ◌∷◌, map, drop, reverse, refl, sym, ap, ◌∙◌, arith}
 use Rattle.std.specs.Prelude.{Result}
 use Rattle.std.proofs.lemmas.List.{drop-map}
 use Rattle.qs_assert.specs.Reading.{others}
-use Rattle.qs_assert.proofs.Reversed.{cut_at}
 use Rattle.qs_poly.specs.Polynomials.{Polynomial}
 use Rattle.qs_entail.specs.declared.stack.Built.{Built}
 use Rattle.qs_entail.specs.declared.operation.Operation.{Operation}
 use Rattle.qs_entail.specs.Building.{Failure}
 use Rattle.qs_entail.specs.Stacks.{attempt_of, seen, first, on_both, joined}
 
-pub seen_cut : (xs ys : List Built) (n m k : ℕ) → m ≡ length xs → k ≡ m - n → ys ≡ take k xs → seen ys ≡ drop n (seen xs)
-seen_cut xs ys n m k e f h = ap (map attempt_of) (cut_at xs ys n m k e f h) ∙ sym (drop-map attempt_of n (reverse xs))
+pub seen_cut : (xs ys : List Built) (n : ℕ) → reverse ys ≡ drop n (reverse xs) → seen ys ≡ drop n (seen xs)
+seen_cut xs ys n h = ap (map attempt_of) h ∙ sym (drop-map attempt_of n (reverse xs))
 
 less_one : (n : ℕ) → suc n - 1 ≡ n
 less_one n = omega arith

@@ -10,6 +10,7 @@ use Rattle.qs_assert.specs.declared.node.AssertionNode.TheVariants.{Natural, Inf
 use Rattle.qs_assert.specs.declared.node.Node.{Node}
 use Rattle.qs_assert.specs.declared.node.Node.TheVariants.{Term, Condition, Assertion}
 use Rattle.qs_assert.specs.Reading.{others}
+use Rattle.qs_assert.specs.Stacks.{first_or}
 use Rattle.qs_poly.specs.Polynomials.{AtomTree, Polynomial, variable, cost, num, div, wrapu, wraps, bits}
 use Rattle.qs_poly.specs.Operations.{sum, product, lessened, number, single}
 use Rattle.qs_entail.specs.declared.building.Building.{Building}
@@ -50,8 +51,7 @@ atom_on heads.Bits p = bits p
 
 -- the first attempt; a list of the nodes of a tree never lacks one
 abbrev pub first : List (Result Polynomial Failure) → Result Polynomial Failure
-first [] = Err breaks
-first (x ∷ xs) = x
+first = first_or (Err breaks)
 
 abbrev pub on_one : Head → Result Polynomial Failure → Result Polynomial Failure
 on_one head a = bind a (λ p. Ok (single (atom_on head p)))

@@ -8,7 +8,7 @@ ghost use Rattle.qs_entail.specs.Faults as faults;
 ghost use Rattle.qs_entail.specs.Fronts.{own_length};
 
 use crate::fronts::{own_length, part_count};
-use crate::pending::{next, put, put_all};
+use qs_assert::stack::{next, put, put_all};
 use qs_assert::{
     Assertion, AssertionNode, AssertionView, CondView, Node, begins, parts, put_nodes, same_nodes,
     split_tree, tree_length,

@@ -9,8 +9,9 @@ ghost use Rattle.qs_entail.specs.Stacks.{seen, both_seen};
 
 use crate::operation::{Operation, limited};
 pub use crate::operation::{atom_of, difference, number_of, times_number};
-use crate::stack::{Built, Head, cut, joined, kept, on_both, on_one, put, taken, told};
+use crate::stack::{Built, Head, joined, kept, on_both, on_one, taken, told};
 use crate::stop::Stop;
+use qs_assert::stack::{cut, put};
 use qs_assert::{AssertionNode, AssertionView, CondNode, Node, Term, TermNode, Var};
 use qs_base::{FnId, NoMemory};
 use qs_poly::{Atom, Poly};
@@ -146,6 +147,7 @@ impl Building {
     }
 
     /// Puts none in place of the first items.
+    #[tactic(auto, using(crate::proofs::Stacked::seen_cut))]
     fn put_none(&mut self, count: usize) -> Result<(), NoMemory>
         ensures { OnOk result (both_seen self.new ≡ stacks.none_first count (both_seen self.old)) }
     {

@@ -5,7 +5,7 @@ ghost use Rattle.qs_entail.specs.Flattening as flattening;
 ghost use Rattle.qs_entail.specs.Flattening.{flat, whole, parts_negated};
 
 use crate::parts::both_sides;
-use crate::pending::{next, put, put_all};
+use qs_assert::stack::{next, put, put_all};
 use qs_assert::{Cond, CondNode, CondView, Node, begins, head_arity, parts, split_tree};
 use qs_base::NoMemory;
 use std::alloc::Global;

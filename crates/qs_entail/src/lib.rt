@@ -19,7 +19,6 @@ mod nodes;
 mod operation;
 mod outlining;
 mod parts;
-mod pending;
 mod plain;
 mod pushing;
 mod rules;

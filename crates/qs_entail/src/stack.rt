@@ -1,5 +1,5 @@
 // The polynomials of parts, on stacks.
-ghost use Rattle.std.specs.Prelude.{◌≡◌, ◌∷◌, List, IfOk, OnOk, Result, drop, pos};
+ghost use Rattle.std.specs.Prelude.{◌≡◌, List, IfOk, OnOk, Result, drop, pos};
 ghost use Rattle.qs_assert.specs.Reading.{others};
 ghost use Rattle.qs_poly.specs.Polynomials.{Polynomial};
 ghost use Rattle.qs_poly.specs.Atoms.{tree_of};
@@ -11,6 +11,7 @@ ghost use Rattle.qs_entail.specs.Stacks.{attempt_of, seen, atom_on, first, on_on
 
 use crate::operation::{Operation, limited, operate};
 use crate::stop::{Limit, Stop};
+use qs_assert::stack;
 use qs_base::NoMemory;
 use qs_poly::{Atom, Poly};
 use std::alloc::Global;
@@ -56,32 +57,13 @@ pub fn told(built: Built) -> Result<Poly, Stop>
     }
 }
 
-/// Takes the first item off.
+/// Takes the first item off; there is none in place of one that is missing.
+#[tactic(auto, using(qs_assert::proofs::Mapped::mapped_first, qs_assert::proofs::Mapped::mapped_others))]
 pub fn taken(stack: &mut Vec<Built>) -> Built
     ensures value { attempt_of result ≡ first (seen stack.old.items) }
     ensures left { seen stack.new.items ≡ others (seen stack.old.items) }
 {
-    match stack.pop() {
-        Some(item) => item,
-        None => Built::Broken,
-    }
-}
-
-/// Puts an item in front.
-pub fn put(stack: &mut Vec<Built>, item: Built) -> Result<(), NoMemory>
-    ensures { OnOk result (seen stack.new.items ≡ attempt_of item ∷ seen stack.old.items) }
-{
-    stack.push(item)?;
-    Ok(())
-}
-
-/// Takes the first items off.
-pub fn cut(stack: &mut Vec<Built>, count: usize)
-    ensures { seen stack.new.items ≡ drop count (seen stack.old.items) }
-{
-    let items: &[Built] = stack;
-    let kept = items.len().saturating_sub(count);
-    stack.truncate(kept);
+    stack::taken(stack, Built::Broken)
 }
 
 /// The operation on two, or why the first or the second isn't there.

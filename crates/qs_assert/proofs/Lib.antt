@@ -14,3 +14,4 @@ pub mod Same
 pub mod Shaped
 pub mod Tabled
 pub mod Variabled
+pub mod Viewed

@@ -1,8 +1,12 @@
--- The trees at the front of a list of nodes, each node before those of its parts.
+-- The trees in a list of nodes, each node before those of its parts.
 use Rattle.std.specs.Prelude.{ℕ, zero, suc, ◌+◌, Bool, false, List, [], ◌∷◌}
+use Rattle.std.specs.Coded.{Coded, coded_list}
 use Rattle.qs_assert.specs.declared.node.Node.{Node}
+use Rattle.qs_assert.specs.Codes.{assertion_code}
+use Rattle.qs_assert.specs.Reading.{plant_nodes, no_trees}
 use Rattle.qs_assert.specs.Sameness.{same_node}
 use Rattle.qs_assert.specs.Shapes.{arity}
+use Rattle.qs_assert.specs.Trees.{AssertionTree}
 
 -- how many parts follow the first node
 abbrev pub head_arity : List Node → ℕ
@@ -19,3 +23,11 @@ front_length (node ∷ nodes) (suc n) = suc (front_length nodes (n + arity node)
 abbrev pub begins : List Node → Node → Bool
 begins [] node = false
 begins (head ∷ nodes) node = same_node head node
+
+-- the assertions that these nodes have
+abbrev pub assertions_in : List Node → List AssertionTree
+assertions_in nodes = (plant_nodes nodes no_trees).assertions
+
+-- they are stored as each of them is
+abbrev pub assertions_code : Coded (List AssertionTree)
+assertions_code = coded_list assertion_code

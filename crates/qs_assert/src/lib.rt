@@ -37,7 +37,9 @@ pub use sameness::same_nodes;
 pub use tree::{Assertion, Cond, Term};
 pub use variable::{NumberType, Var, VarKind};
 pub use variables::mentions;
-pub use views::{AssertionView, CondView, begins, head_arity, parts, split_tree, tree_length};
+pub use views::{
+    AssertionView, AssertionViews, CondView, begins, head_arity, parts, split_tree, tree_length,
+};
 
 /// An assertion has the same value where the variables that it mentions have the same numbers.
 pub fn values_are_of_their_variables()

@@ -1,8 +1,7 @@
-// Trees that are read where they stand: the trees at the front of a list of nodes, each node before those
-// of its parts.
-ghost use Rattle.std.specs.Prelude.{◌≡◌, ◌≤◌, ◌↔◌, IsTrue, IfOk, length, take, drop};
-ghost use Rattle.qs_assert.specs.Trees.{CondTree, AssertionTree};
-ghost use Rattle.qs_assert.specs.Listing.{cond_nodes, assertion_nodes};
+// Trees that are read where they stand: the trees in a list of nodes, each node before those of its parts.
+ghost use Rattle.std.specs.Prelude.{◌≡◌, ◌≤◌, ◌↔◌, ◌∷◌, [], IsTrue, IfOk, MatchOption, length, take, drop};
+ghost use Rattle.qs_assert.specs.Trees.{CondTree, AssertionTree, AssertionTrees, assertion_list};
+ghost use Rattle.qs_assert.specs.Listing.{cond_nodes, assertion_nodes, assertions_nodes};
 ghost use Rattle.qs_assert.specs.Reading.{others};
 ghost use Rattle.qs_assert.specs.Sameness as sameness;
 ghost use Rattle.qs_assert.specs.Views as views;
@@ -110,6 +109,27 @@ impl<'a> Model for AssertionView<'a> {
     ghost invariant = { λ a. a.nodes.now ≡ assertion_nodes (assertion_of a.nodes.now) };
 }
 
+/// Assertions one after another in a list of nodes that others hold. Contracts see them as a list of trees.
+#[derive(Debug, Drop)]
+pub struct AssertionViews<'a> {
+    nodes: &'a [Node],
+}
+
+impl<'a> Model for AssertionViews<'a> {
+    ghost use Rattle.std.specs.Prelude.{◌≡◌, List};
+    ghost use Rattle.qs_assert.specs.Trees.{AssertionTree, assertions_of};
+    ghost use Rattle.qs_assert.specs.Listing.{assertions_nodes};
+    ghost use Rattle.qs_assert.specs.Views.{assertions_in, assertions_code};
+
+    ghost Value = { List AssertionTree };
+
+    ghost coded = { assertions_code };
+
+    ghost view = { λ v. assertions_in v.nodes.now };
+
+    ghost invariant = { λ v. v.nodes.now ≡ assertions_nodes (assertions_of (assertions_in v.nodes.now)) };
+}
+
 impl<'a> CondView<'a> {
     /// The condition that has these nodes.
     pub fn from_nodes(nodes: &'a [Node]) -> CondView<'a>
@@ -158,6 +178,29 @@ impl<'a> AssertionView<'a> {
         ensures exact { IsTrue result ↔ (self.now ≡ other.now) }
     {
         same_nodes(self.nodes(), other.nodes())
+    }
+}
+
+impl<'a> AssertionViews<'a> {
+    /// The assertions that have these nodes.
+    pub fn from_nodes(nodes: &'a [Node]) -> AssertionViews<'a>
+        requires { (parts : AssertionTrees) × (nodes.now ≡ assertions_nodes parts) }
+        ensures { (parts : AssertionTrees) → nodes.now ≡ assertions_nodes parts → result ≡ assertion_list parts }
+    {
+        AssertionViews { nodes }
+    }
+
+    /// The first assertion and the others, unless there is none.
+    pub fn split_first(&self) -> Option<(AssertionView<'a>, AssertionViews<'a>)>
+        ensures { MatchOption result (self.now ≡ []) (λ pair. self.now ≡ pair.0 ∷ pair.1) }
+    {
+        let nodes = self.nodes;
+        if nodes.is_empty() {
+            return None;
+        }
+        let (first, others) = split_tree(nodes);
+        let first = AssertionView::from_nodes(first);
+        Some((first, AssertionViews::from_nodes(others)))
     }
 }
 

@@ -1,7 +1,7 @@
 pub mod Wholes
 pub mod Outlined
 pub mod Waiting
-pub mod Fronted
+pub mod Headed
 pub mod Flattened
 pub mod Branched
 pub mod Placed

@@ -4,13 +4,12 @@ use Rattle.qs_assert.specs.declared.node.CondNode.TheVariants.{Le, Lt, Eq, Ne, N
 use Rattle.qs_assert.specs.declared.node.AssertionNode.TheVariants.{Guard}
 use Rattle.qs_assert.specs.declared.node.Node.{Node}
 use Rattle.qs_assert.specs.declared.node.Node.TheVariants.{Condition, Assertion}
-use Rattle.qs_assert.specs.Trees.{TermTree, CondTree, le, lt, eq, ne, not, and, or, AssertionTree, natural, infinity, cost, num, total, greatest, product, guard, choose, named, AssertionTrees, assertions_of}
+use Rattle.qs_assert.specs.Trees.{TermTree, CondTree, le, lt, eq, ne, not, and, or, AssertionTree, natural, infinity, cost, num, total, greatest, product, guard, choose, named, AssertionTrees}
 use Rattle.qs_assert.specs.Listing.{inner_term, cond_nodes, assertion_nodes, assertions_nodes}
-use Rattle.qs_assert.specs.Reading.{others, assertions_of-list}
+use Rattle.qs_assert.specs.Reading.{others}
 use Rattle.qs_assert.specs.Views.{front_length, begins}
-use Rattle.qs_entail.specs.Fronts.{is_greatest, is_total, assertions_in}
+use Rattle.qs_entail.specs.Fronts.{is_greatest, is_total}
 use Rattle.qs_assert.proofs.Fronted.{cond_front, first_is, others_are}
-use Rattle.qs_entail.proofs.Fronted.{assertions_in-nodes}
 
 greatest_is : (a : AssertionTree) → is_greatest (assertion_nodes a) ≡ true → (parts : AssertionTrees) × (a ≡ greatest parts)
 greatest_is (natural n) h = absurd (cc)
@@ -35,11 +34,6 @@ total_is (product parts) h = absurd (cc)
 total_is (guard c a) h = absurd (cc)
 total_is (choose c a b) h = absurd (cc)
 total_is (named n) h = absurd (cc)
-
--- the assertions in the nodes of parts
-pub read_all : (parts : AssertionTrees) (nodes : List Node) (items : List AssertionTree) → nodes ≡ assertions_nodes parts → items ≡ assertions_in nodes → assertions_of items ≡ parts
-read_all parts nodes items e h =
-    ap assertions_of (h ∙ (ap assertions_in e ∙ assertions_in-nodes parts)) ∙ assertions_of-list parts
 
 record IsGuard (a : AssertionTree) : Type 0 where
   pub condition : CondTree

@@ -163,29 +163,29 @@ said : (old new : Place) (x : Unit {0}) (v : Option Fault) → Says old new (Ok 
 said old new x None h = (refl, h)
 said old new x (Some f) h = absurd h
 
-all_step : (cs : List Certificate) (ms : List AssertionTree) (i : ℕ) (c : Certificate) (m : AssertionTree) (ds : List Define) (k : Known) (p : AssertionTree) → i < length cs → i < length ms → c ≡ get_or cs i c → m ≡ get_or ms i m → part i (fault (cert_tree c) ds k p m) ≡ None → faults_all (certs_tree (drop i cs)) i ds k p (assertions_of (drop i ms)) ≡ faults_all (certs_tree (drop (i + 1) cs)) (i + 1) ds k p (assertions_of (drop (i + 1) ms))
-all_step cs ms i c m ds k p h l is at none =
-    (λ z. faults_all (certs_tree ((drop-cons cs i c h ∙ ap (λ (x : Certificate). x ∷ drop (suc i) cs) (sym is)) z)) i ds k p (assertions_of ((drop-cons ms i m l ∙ ap (λ (x : AssertionTree). x ∷ drop (suc i) ms) (sym at)) z)))
-    ∙ (ap (λ (o : Option Fault). option_or o (faults_all (certs_tree (drop (suc i) cs)) (suc i) ds k p (assertions_of (drop (suc i) ms)))) none
-    ∙ ap (λ (j : ℕ). faults_all (certs_tree (drop j cs)) j ds k p (assertions_of (drop j ms))) (sym (add-one i)))
+all_step : (cs : List Certificate) (ms rest : List AssertionTree) (i : ℕ) (c : Certificate) (m : AssertionTree) (ds : List Define) (k : Known) (p : AssertionTree) → i < length cs → c ≡ get_or cs i c → ms ≡ m ∷ rest → part i (fault (cert_tree c) ds k p m) ≡ None → faults_all (certs_tree (drop i cs)) i ds k p (assertions_of ms) ≡ faults_all (certs_tree (drop (i + 1) cs)) (i + 1) ds k p (assertions_of rest)
+all_step cs ms rest i c m ds k p h is at none =
+    (λ z. faults_all (certs_tree ((drop-cons cs i c h ∙ ap (λ (x : Certificate). x ∷ drop (suc i) cs) (sym is)) z)) i ds k p (assertions_of (at z)))
+    ∙ (ap (λ (o : Option Fault). option_or o (faults_all (certs_tree (drop (suc i) cs)) (suc i) ds k p (assertions_of rest))) none
+    ∙ ap (λ (j : ℕ). faults_all (certs_tree (drop j cs)) j ds k p (assertions_of rest)) (sym (add-one i)))
 
-pub each_goes_on : (start old new : Place) (x : Unit {0}) (cs : List Certificate) (ms : List AssertionTree) (i : ℕ) (c : Certificate) (m : AssertionTree) (ds : List Define) (p : AssertionTree) → old ≡ start → i < length cs → i < length ms → c ≡ get_or cs i c → m ≡ get_or ms i m → Says old new (Ok x) (part i (fault (cert_tree c) ds old.known p m)) → faults_all (certs_tree cs) 0 ds start.known p (assertions_of ms) ≡ faults_all (certs_tree (drop i cs)) i ds start.known p (assertions_of (drop i ms)) → (new ≡ start) × (faults_all (certs_tree cs) 0 ds start.known p (assertions_of ms) ≡ faults_all (certs_tree (drop (i + 1) cs)) (i + 1) ds start.known p (assertions_of (drop (i + 1) ms)))
-each_goes_on start old new x cs ms i c m ds p back h l is at says others =
+pub each_goes_on : (start old new : Place) (x : Unit {0}) (cs : List Certificate) (ms rest : List AssertionTree) (i : ℕ) (c : Certificate) (m : AssertionTree) (ds : List Define) (p : AssertionTree) (v : Option Fault) → old ≡ start → i < length cs → c ≡ get_or cs i c → ms ≡ m ∷ rest → Says old new (Ok x) (part i (fault (cert_tree c) ds old.known p m)) → v ≡ faults_all (certs_tree (drop i cs)) i ds start.known p (assertions_of ms) → (new ≡ start) × (v ≡ faults_all (certs_tree (drop (i + 1) cs)) (i + 1) ds start.known p (assertions_of rest))
+each_goes_on start old new x cs ms rest i c m ds p v back h is at says others =
     let s = said old new x (part i (fault (cert_tree c) ds old.known p m)) says in
     let none = ap (λ (w : Place). part i (fault (cert_tree c) ds w.known p m)) (sym back) ∙ s.0 in
-    (s.1 ∙ back, others ∙ all_step cs ms i c m ds start.known p h l is at none)
+    (s.1 ∙ back, others ∙ all_step cs ms rest i c m ds start.known p h is at none)
 
-pair_step : (cs : List Certificate) (ps qs : List AssertionTree) (i : ℕ) (c : Certificate) (p q : AssertionTree) (ds : List Define) (k : Known) → i < length cs → i < length ps → i < length qs → c ≡ get_or cs i c → p ≡ get_or ps i p → q ≡ get_or qs i q → part i (fault (cert_tree c) ds k p q) ≡ None → faults_parts (certs_tree (drop i cs)) i ds k (assertions_of (drop i ps)) (assertions_of (drop i qs)) ≡ faults_parts (certs_tree (drop (i + 1) cs)) (i + 1) ds k (assertions_of (drop (i + 1) ps)) (assertions_of (drop (i + 1) qs))
-pair_step cs ps qs i c p q ds k h l r is at there none =
-    (λ z. faults_parts (certs_tree ((drop-cons cs i c h ∙ ap (λ (x : Certificate). x ∷ drop (suc i) cs) (sym is)) z)) i ds k (assertions_of ((drop-cons ps i p l ∙ ap (λ (x : AssertionTree). x ∷ drop (suc i) ps) (sym at)) z)) (assertions_of ((drop-cons qs i q r ∙ ap (λ (x : AssertionTree). x ∷ drop (suc i) qs) (sym there)) z)))
-    ∙ (ap (λ (o : Option Fault). option_or o (faults_parts (certs_tree (drop (suc i) cs)) (suc i) ds k (assertions_of (drop (suc i) ps)) (assertions_of (drop (suc i) qs)))) none
-    ∙ ap (λ (j : ℕ). faults_parts (certs_tree (drop j cs)) j ds k (assertions_of (drop j ps)) (assertions_of (drop j qs))) (sym (add-one i)))
+pair_step : (cs : List Certificate) (ps qs left right : List AssertionTree) (i : ℕ) (c : Certificate) (p q : AssertionTree) (ds : List Define) (k : Known) → i < length cs → c ≡ get_or cs i c → ps ≡ p ∷ left → qs ≡ q ∷ right → part i (fault (cert_tree c) ds k p q) ≡ None → faults_parts (certs_tree (drop i cs)) i ds k (assertions_of ps) (assertions_of qs) ≡ faults_parts (certs_tree (drop (i + 1) cs)) (i + 1) ds k (assertions_of left) (assertions_of right)
+pair_step cs ps qs left right i c p q ds k h is at there none =
+    (λ z. faults_parts (certs_tree ((drop-cons cs i c h ∙ ap (λ (x : Certificate). x ∷ drop (suc i) cs) (sym is)) z)) i ds k (assertions_of (at z)) (assertions_of (there z)))
+    ∙ (ap (λ (o : Option Fault). option_or o (faults_parts (certs_tree (drop (suc i) cs)) (suc i) ds k (assertions_of left) (assertions_of right))) none
+    ∙ ap (λ (j : ℕ). faults_parts (certs_tree (drop j cs)) j ds k (assertions_of left) (assertions_of right)) (sym (add-one i)))
 
-pub pair_goes_on : (start old new : Place) (x : Unit {0}) (cs : List Certificate) (ps qs : List AssertionTree) (i : ℕ) (c : Certificate) (p q : AssertionTree) (ds : List Define) → old ≡ start → i < length cs → i < length ps → i < length qs → c ≡ get_or cs i c → p ≡ get_or ps i p → q ≡ get_or qs i q → Says old new (Ok x) (part i (fault (cert_tree c) ds old.known p q)) → faults_parts (certs_tree cs) 0 ds start.known (assertions_of ps) (assertions_of qs) ≡ faults_parts (certs_tree (drop i cs)) i ds start.known (assertions_of (drop i ps)) (assertions_of (drop i qs)) → (new ≡ start) × (faults_parts (certs_tree cs) 0 ds start.known (assertions_of ps) (assertions_of qs) ≡ faults_parts (certs_tree (drop (i + 1) cs)) (i + 1) ds start.known (assertions_of (drop (i + 1) ps)) (assertions_of (drop (i + 1) qs)))
-pair_goes_on start old new x cs ps qs i c p q ds back h l r is at there says others =
+pub pair_goes_on : (start old new : Place) (x : Unit {0}) (cs : List Certificate) (ps qs left right : List AssertionTree) (i : ℕ) (c : Certificate) (p q : AssertionTree) (ds : List Define) (v : Option Fault) → old ≡ start → i < length cs → c ≡ get_or cs i c → ps ≡ p ∷ left → qs ≡ q ∷ right → Says old new (Ok x) (part i (fault (cert_tree c) ds old.known p q)) → v ≡ faults_parts (certs_tree (drop i cs)) i ds start.known (assertions_of ps) (assertions_of qs) → (new ≡ start) × (v ≡ faults_parts (certs_tree (drop (i + 1) cs)) (i + 1) ds start.known (assertions_of left) (assertions_of right))
+pair_goes_on start old new x cs ps qs left right i c p q ds v back h is at there says others =
     let s = said old new x (part i (fault (cert_tree c) ds old.known p q)) says in
     let none = ap (λ (w : Place). part i (fault (cert_tree c) ds w.known p q)) (sym back) ∙ s.0 in
-    (s.1 ∙ back, others ∙ pair_step cs ps qs i c p q ds start.known h l r is at there none)
+    (s.1 ∙ back, others ∙ pair_step cs ps qs left right i c p q ds start.known h is at there none)
 
 -- ---- certificates of two parts
 

@@ -5,8 +5,6 @@ use Rattle.qs_assert.specs.declared.node.AssertionNode.{AssertionNode}
 use Rattle.qs_assert.specs.declared.node.AssertionNode.TheVariants.{Natural, Infinity, Cost, Num, Total, Greatest, Product, Guard, If, Named}
 use Rattle.qs_assert.specs.declared.node.Node.{Node}
 use Rattle.qs_assert.specs.declared.node.Node.TheVariants.{Term, Condition, Assertion}
-use Rattle.qs_assert.specs.Trees.{AssertionTree}
-use Rattle.qs_assert.specs.Reading.{plant_nodes, no_trees}
 use Rattle.qs_assert.specs.Views.{front_length}
 
 -- the nodes of terms among these
@@ -39,10 +37,6 @@ abbrev pub total_count : List Node → Option ℕ
 total_count [] = None
 total_count (Assertion (Total n) ∷ nodes) = Some n
 total_count (_ ∷ nodes) = None
-
--- the assertions that these nodes have
-abbrev pub assertions_in : List Node → List AssertionTree
-assertions_in nodes = (plant_nodes nodes no_trees).assertions
 
 -- ---- the first assertion: its head with a term or condition, and then parts that are assertions
 

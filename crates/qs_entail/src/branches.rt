@@ -1,11 +1,9 @@
 // Conditionals on a condition are replaced by a branch.
-ghost use Rattle.std.specs.Prelude.{◌≡◌, ◌++◌, IfOk, reverse, take, drop};
+ghost use Rattle.std.specs.Prelude.{◌≡◌, ◌++◌, IfOk, reverse};
 ghost use Rattle.qs_assert.specs.Listing.{cond_nodes};
-ghost use Rattle.qs_assert.specs.Views.{front_length};
 ghost use Rattle.qs_entail.specs.Branching as branching;
 ghost use Rattle.qs_entail.specs.Branching.{copied, kept};
 ghost use Rattle.qs_entail.specs.Faults as faults;
-ghost use Rattle.qs_entail.specs.Fronts.{own_length};
 
 use crate::fronts::{own_length, part_count};
 use qs_assert::stack::{next, put, put_all};

@@ -18,7 +18,7 @@ use crate::parts::{Guarded, guarded_of, members, picked, summands};
 use crate::rules::{both_unfolded, ends, part_number};
 use crate::standing::rule_of;
 use crate::walk::{Mark, Walk};
-use qs_assert::{AssertionView, CondView, Define};
+use qs_assert::{AssertionView, AssertionViews, CondView, Define};
 use qs_base::{Name, NoMemory};
 
 impl Walk {
@@ -152,9 +152,9 @@ impl Walk {
     ) -> Result<(), Failed>
         ensures { Says (place self.old) (place self.new) result (rest (all (certs_tree certificates.now)) defines.now (known_view self.old.known) p.now q.now) }
     {
-        match members(self.alloc, q) {
-            Ok(members) => self.check_each(defines, certificates, p, &members),
-            Err(stop) => Err(failure(Rule::All, stop)),
+        match members(q) {
+            Some(members) => self.check_each(defines, certificates, p, members),
+            None => Err(Failed::Step(Rule::All)),
         }
     }
 
@@ -164,16 +164,17 @@ impl Walk {
         defines: &[Define],
         certificates: &[Certificate],
         p: &AssertionView<'_>,
-        members: &[AssertionView<'_>],
+        members: AssertionViews<'_>,
     ) -> Result<(), Failed>
-        ensures { Says (place self.old) (place self.new) result (faults_all (certs_tree certificates.now) 0 defines.now (known_view self.old.known) p.now (assertions_of members.now)) }
+        ensures { Says (place self.old) (place self.new) result (faults_all (certs_tree certificates.now) 0 defines.now (known_view self.old.known) p.now (assertions_of members.entry)) }
     {
+        let mut rest = members;
         for (i, certificate) in certificates.iter().enumerate() {
-            if members.len() <= i {
+            let Some((member, others)) = rest.split_first() else {
                 return Ok(());
-            }
-            match self.check_part(defines, i, certificate, p, &members[i]) {
-                Ok(()) => {}
+            };
+            match self.check_part(defines, i, certificate, p, &member) {
+                Ok(()) => rest = others,
                 Err(e) => return Err(e),
             }
         }
@@ -190,9 +191,9 @@ impl Walk {
     ) -> Result<(), Failed>
         ensures { Says (place self.old) (place self.new) result (rest (parts (certs_tree certificates.now)) defines.now (known_view self.old.known) p.now q.now) }
     {
-        match summands(self.alloc, p) {
-            Ok(left) => self.check_right(defines, certificates, &left, q),
-            Err(stop) => Err(failure(Rule::Parts, stop)),
+        match summands(p) {
+            Some(left) => self.check_right(defines, certificates, left, q),
+            None => Err(Failed::Step(Rule::Parts)),
         }
     }
 
@@ -201,14 +202,14 @@ impl Walk {
         &mut self,
         defines: &[Define],
         certificates: &[Certificate],
-        left: &[AssertionView<'_>],
+        left: AssertionViews<'_>,
         q: &AssertionView<'_>,
     ) -> Result<(), Failed>
-        ensures { Says (place self.old) (place self.new) result (node Rule.Parts (summands_of q.now) (λ right. faults_parts (certs_tree certificates.now) 0 defines.now (known_view self.old.known) (assertions_of left.now) right)) }
+        ensures { Says (place self.old) (place self.new) result (node Rule.Parts (summands_of q.now) (λ right. faults_parts (certs_tree certificates.now) 0 defines.now (known_view self.old.known) (assertions_of left.entry) right)) }
     {
-        match summands(self.alloc, q) {
-            Ok(right) => self.check_pairs(defines, certificates, left, &right),
-            Err(stop) => Err(failure(Rule::Parts, stop)),
+        match summands(q) {
+            Some(right) => self.check_pairs(defines, certificates, left, right),
+            None => Err(Failed::Step(Rule::Parts)),
         }
     }
 
@@ -217,17 +218,25 @@ impl Walk {
         &mut self,
         defines: &[Define],
         certificates: &[Certificate],
-        left: &[AssertionView<'_>],
-        right: &[AssertionView<'_>],
+        left: AssertionViews<'_>,
+        right: AssertionViews<'_>,
     ) -> Result<(), Failed>
-        ensures { Says (place self.old) (place self.new) result (faults_parts (certs_tree certificates.now) 0 defines.now (known_view self.old.known) (assertions_of left.now) (assertions_of right.now)) }
+        ensures { Says (place self.old) (place self.new) result (faults_parts (certs_tree certificates.now) 0 defines.now (known_view self.old.known) (assertions_of left.entry) (assertions_of right.entry)) }
     {
+        let mut lefts = left;
+        let mut rights = right;
         for (i, certificate) in certificates.iter().enumerate() {
-            if left.len() <= i || right.len() <= i {
+            let Some((p, other_lefts)) = lefts.split_first() else {
                 return Ok(());
-            }
-            match self.check_part(defines, i, certificate, &left[i], &right[i]) {
-                Ok(()) => {}
+            };
+            let Some((q, other_rights)) = rights.split_first() else {
+                return Ok(());
+            };
+            match self.check_part(defines, i, certificate, &p, &q) {
+                Ok(()) => {
+                    lefts = other_lefts;
+                    rights = other_rights;
+                }
                 Err(e) => return Err(e),
             }
         }

@@ -1,22 +1,22 @@
 // The parts of assertions and conditions.
 ghost use Rattle.std.specs.Prelude.{◌≡◌, ◌++◌, IfOk, MatchOption, Ok, Err, pos};
 ghost use Rattle.qs_base.specs.Results.{bind};
-ghost use Rattle.qs_assert.specs.Trees.{AssertionTree, AssertionTrees, TermTree, assertions_of};
-ghost use Rattle.qs_assert.specs.Listing.{inner_term, assertion_nodes, assertions_nodes};
+ghost use Rattle.qs_assert.specs.Trees.{AssertionTree, TermTree, assertions_of};
+ghost use Rattle.qs_assert.specs.Listing.{inner_term, assertion_nodes};
 ghost use Rattle.qs_entail.specs.Answers.{FollowsAs};
 ghost use Rattle.qs_entail.specs.Building.{breaks};
 ghost use Rattle.qs_entail.specs.Facts as facts;
 ghost use Rattle.qs_entail.specs.Faults as faults;
 ghost use Rattle.qs_entail.specs.Parts.{IsAt, guarded_view, sides_view};
 ghost use Rattle.qs_entail.specs.Fronts as fronts;
-ghost use Rattle.qs_entail.specs.Fronts.{assertions_in};
 ghost use Rattle.qs_entail.specs.Standing.{counted};
 ghost use Rattle.qs_entail.specs.Verdicts.{is_given};
 
 use crate::Stop;
 use crate::fronts::term;
 use qs_assert::{
-    AssertionNode, AssertionView, Cond, CondNode, CondView, Node, Term, begins, parts, split_tree,
+    AssertionNode, AssertionView, AssertionViews, Cond, CondNode, CondView, Node, Term, begins,
+    parts, split_tree,
 };
 use qs_base::NoMemory;
 use std::alloc::Global;
@@ -110,20 +110,6 @@ pub fn says_different(c: &Cond) -> bool
             && begins(parts(nodes), &Node::Condition(CondNode::Eq)))
 }
 
-fn assertions<'a>(alloc: Global, nodes: &'a [Node]) -> Result<Vec<AssertionView<'a>>, NoMemory>
-    requires { (trees : AssertionTrees) × (nodes.now ≡ assertions_nodes trees) }
-    ensures { IfOk result (λ list. list.items ≡ assertions_in nodes.now) }
-{
-    let mut list = Vec::new(alloc);
-    let mut rest = nodes;
-    while !rest.is_empty() {
-        let (first, others) = split_tree(rest);
-        list.push(AssertionView::from_nodes(first))?;
-        rest = others;
-    }
-    Ok(list)
-}
-
 /// The nodes of a part by its number among the nodes of parts.
 fn part_at(nodes: &[Node], number: usize) -> &[Node]
     ensures { (a : AssertionTree) → IsAt nodes.now number a → result.now ≡ assertion_nodes a }
@@ -175,28 +161,26 @@ pub fn picked<'a>(p: &AssertionView<'a>, number: i64) -> Option<AssertionView<'a
     }
 }
 
-/// The members of which an assertion is the greatest; it breaks where it is none.
-pub fn members<'a>(alloc: Global, a: &AssertionView<'a>) -> Result<Vec<AssertionView<'a>>, Stop>
-    ensures { FollowsAs (λ list. assertions_of list.items) result (faults.members_of a.now) }
+/// The members of which an assertion is the greatest, if it is one.
+pub fn members<'a>(a: &AssertionView<'a>) -> Option<AssertionViews<'a>>
+    ensures { MatchOption result (faults.members_of a.now ≡ Err breaks) (λ members. faults.members_of a.now ≡ Ok (assertions_of members)) }
 {
     let nodes = a.nodes();
     if !is_greatest(nodes) {
-        return Err(Stop::Breaks);
+        return None;
     }
-    let list = assertions(alloc, parts(nodes))?;
-    Ok(list)
+    Some(AssertionViews::from_nodes(parts(nodes)))
 }
 
-/// The summands of an assertion; it breaks where it is no sum.
-pub fn summands<'a>(alloc: Global, a: &AssertionView<'a>) -> Result<Vec<AssertionView<'a>>, Stop>
-    ensures { FollowsAs (λ list. assertions_of list.items) result (faults.summands_of a.now) }
+/// The summands of an assertion, if it is a sum.
+pub fn summands<'a>(a: &AssertionView<'a>) -> Option<AssertionViews<'a>>
+    ensures { MatchOption result (faults.summands_of a.now ≡ Err breaks) (λ summands. faults.summands_of a.now ≡ Ok (assertions_of summands)) }
 {
     let nodes = a.nodes();
     if !is_total(nodes) {
-        return Err(Stop::Breaks);
+        return None;
     }
-    let list = assertions(alloc, parts(nodes))?;
-    Ok(list)
+    Some(AssertionViews::from_nodes(parts(nodes)))
 }
 
 /// The condition and the assertion of a guard, if the assertion is one.

@@ -1,13 +1,12 @@
 // The conditions without polynomials of a node, under what is known.
 ghost use Rattle.std.specs.Prelude.{◌≡◌, ◌==◌, nat_le, Ok};
-ghost use Rattle.qs_entail.specs.Certificates as cert;
 ghost use Rattle.qs_base.specs.Results.{bind};
 ghost use Rattle.qs_entail.specs.Faults as faults;
 ghost use Rattle.qs_entail.specs.Faults.{definition, count, count_certs};
 ghost use Rattle.qs_entail.specs.Facts as facts;
 ghost use Rattle.qs_entail.specs.Standing.{counted};
 ghost use Rattle.qs_entail.specs.Verdicts.{is_given, has_count, fact_stands, stands, rule_of};
-ghost use Rattle.qs_entail.specs.View.{cert_tree, certs_tree, fact_tree, items_view};
+ghost use Rattle.qs_entail.specs.View.{cert_tree, certs_tree, fact_tree};
 
 use crate::Item;
 use crate::certificate::{Certificate, Fact};

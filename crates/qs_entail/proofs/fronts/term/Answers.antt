@@ -1,7 +1,7 @@
 use Rattle.std.proofs.Common.{ap, ◌∙◌}
 use Rattle.qs_assert.specs.Listing.{term_nodes}
 use Rattle.qs_entail.specs.Fronts.{term_heads}
-use Rattle.qs_entail.proofs.Fronted.{heads_are}
+use Rattle.qs_entail.proofs.Headed.{heads_are}
 use Rattle.qs_entail.proofs.fronts.term.Goals as goal
 
 pub from_nodes-requires : goal.from_nodes-requires

@@ -67,10 +67,10 @@ check_fact-returns-in-Ok t c =
 
 pub check_each-loop-i-preserved : goal.check_each-loop-i-preserved
 check_each-loop-i-preserved t c =
-    let r = each_goes_on (place c.args.self.now) (place c.loop-i.self) (place c.check_part.new.self) tt c.args.certificates.now c.args.members.now c.loop-i.i c.index-certificates-i.result c.index-members-i.result c.args.defines.now c.args.p.now c.loop-i.invariant.back (omega arith) (omega arith) c.index-certificates-i.is c.index-members-i.is c.in-Ok.ensures c.loop-i.invariant.rest in
+    let r = each_goes_on (place c.args.self.now) (place c.loop-i.self) (place c.check_part.new.self) tt c.args.certificates.now c.loop-i.rest c.in-Some.others c.loop-i.i c.index-certificates-i.result c.in-Some.member c.args.defines.now c.args.p.now _ c.loop-i.invariant.back (omega arith) c.index-certificates-i.is c.in-Some.ensures c.in-Ok.ensures c.loop-i.invariant.rest in
     record { back = r.0; rest = r.1 }
 
 pub check_pairs-loop-i-preserved : goal.check_pairs-loop-i-preserved
 check_pairs-loop-i-preserved t c =
-    let r = pair_goes_on (place c.args.self.now) (place c.loop-i.self) (place c.check_part.new.self) tt c.args.certificates.now c.args.left.now c.args.right.now c.loop-i.i c.index-certificates-i.result c.index-left-i.result c.index-right-i.result c.args.defines.now c.loop-i.invariant.back (omega arith) (omega arith) (omega arith) c.index-certificates-i.is c.index-left-i.is c.index-right-i.is c.in-Ok.ensures c.loop-i.invariant.rest in
+    let r = pair_goes_on (place c.args.self.now) (place c.loop-i.self) (place c.check_part.new.self) tt c.args.certificates.now c.loop-i.lefts c.loop-i.rights c.in-Some.other_lefts c.in-Some-split_first.other_rights c.loop-i.i c.index-certificates-i.result c.in-Some.p c.in-Some-split_first.q c.args.defines.now _ c.loop-i.invariant.back (omega arith) c.index-certificates-i.is c.in-Some.ensures c.in-Some-split_first.ensures c.in-Ok.ensures c.loop-i.invariant.rest in
     record { back = r.0; rest = r.1 }

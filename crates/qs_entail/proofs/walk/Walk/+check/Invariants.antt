@@ -5,14 +5,16 @@ use Rattle.qs_entail.specs.View.{certs_tree, known_view}
 use Rattle.qs_entail.specs.Walking.{place}
 use Rattle.qs_entail.proofs.walk.Walk.+check.Given as goal
 
+-- the verdict is that on the parts that are left
+
 abbrev pub invariant-check_each-loop-i : goal.invariant-check_each-loop-i
 invariant-check_each-loop-i l = record {
   back : place l.self ≡ place l.initial.self;
-  rest : faults_all (certs_tree l.certificates) 0 l.defines (known_view l.initial.self.known) l.p (assertions_of l.members) ≡ faults_all (certs_tree (drop l.i l.certificates)) l.i l.defines (known_view l.initial.self.known) l.p (assertions_of (drop l.i l.members));
+  rest : faults_all (certs_tree l.certificates) 0 l.defines (known_view l.initial.self.known) l.p (assertions_of l.fn.members) ≡ faults_all (certs_tree (drop l.i l.certificates)) l.i l.defines (known_view l.initial.self.known) l.p (assertions_of l.rest);
 }
 
 abbrev pub invariant-check_pairs-loop-i : goal.invariant-check_pairs-loop-i
 invariant-check_pairs-loop-i l = record {
   back : place l.self ≡ place l.initial.self;
-  rest : faults_parts (certs_tree l.certificates) 0 l.defines (known_view l.initial.self.known) (assertions_of l.left) (assertions_of l.right) ≡ faults_parts (certs_tree (drop l.i l.certificates)) l.i l.defines (known_view l.initial.self.known) (assertions_of (drop l.i l.left)) (assertions_of (drop l.i l.right));
+  rest : faults_parts (certs_tree l.certificates) 0 l.defines (known_view l.initial.self.known) (assertions_of l.fn.left) (assertions_of l.fn.right) ≡ faults_parts (certs_tree (drop l.i l.certificates)) l.i l.defines (known_view l.initial.self.known) (assertions_of l.lefts) (assertions_of l.rights);
 }

@@ -1,14 +1,10 @@
 -- What the parts of assertions and conditions are.
-use Rattle.std.specs.Prelude.{◌≡◌, ℕ, List, Ok}
 use Rattle.qs_entail.specs.declared.parts.Guarded as code_guarded
 use Rattle.qs_entail.specs.declared.parts.Sides as code_sides
 use Rattle.qs_entail.specs.declared.pushing.Pair as code_pair
 use Rattle.qs_entail.specs.declared.outlining.Outline as code_outline
-use Rattle.qs_assert.specs.declared.node.Node.{Node}
-use Rattle.qs_assert.specs.Trees.{AssertionTree, AssertionTrees}
-use Rattle.qs_assert.specs.Listing.{assertions_nodes}
 use Rattle.qs_entail.specs.Building.{Two}
-use Rattle.qs_entail.specs.Faults.{Guarded, member}
+use Rattle.qs_entail.specs.Faults.{Guarded}
 use Rattle.qs_entail.specs.Facts.{Sides}
 use Rattle.qs_entail.specs.Verdicts.{Outline}
 
@@ -23,9 +19,3 @@ pair_view pair = record { first = pair.left; second = pair.right }
 
 abbrev pub outline_view : code_outline.Outline → Outline
 outline_view o = record { conditions = o.conditions.items; count = o.count }
-
--- the nodes are those of parts of which number n is this assertion
-pub record IsAt (nodes : List Node) (n : ℕ) (a : AssertionTree) : Type 0 where
-  pub parts : AssertionTrees
-  pub are : nodes ≡ assertions_nodes parts
-  pub has : member parts n ≡ Ok a

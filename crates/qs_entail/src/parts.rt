@@ -1,13 +1,13 @@
 // The parts of assertions and conditions.
 ghost use Rattle.std.specs.Prelude.{◌≡◌, ◌++◌, IfOk, MatchOption, Ok, Err, pos};
 ghost use Rattle.qs_base.specs.Results.{bind};
-ghost use Rattle.qs_assert.specs.Trees.{AssertionTree, TermTree, assertions_of};
-ghost use Rattle.qs_assert.specs.Listing.{inner_term, assertion_nodes};
+ghost use Rattle.qs_assert.specs.Trees.{TermTree, assertions_of};
+ghost use Rattle.qs_assert.specs.Listing.{inner_term};
 ghost use Rattle.qs_entail.specs.Answers.{FollowsAs};
 ghost use Rattle.qs_entail.specs.Building.{breaks};
 ghost use Rattle.qs_entail.specs.Facts as facts;
 ghost use Rattle.qs_entail.specs.Faults as faults;
-ghost use Rattle.qs_entail.specs.Parts.{IsAt, guarded_view, sides_view};
+ghost use Rattle.qs_entail.specs.Parts.{guarded_view, sides_view};
 ghost use Rattle.qs_entail.specs.Fronts as fronts;
 ghost use Rattle.qs_entail.specs.Standing.{counted};
 ghost use Rattle.qs_entail.specs.Verdicts.{is_given};
@@ -110,57 +110,6 @@ pub fn says_different(c: &Cond) -> bool
             && begins(parts(nodes), &Node::Condition(CondNode::Eq)))
 }
 
-/// The nodes of a part by its number among the nodes of parts.
-fn part_at(nodes: &[Node], number: usize) -> &[Node]
-    ensures { (a : AssertionTree) → IsAt nodes.now number a → result.now ≡ assertion_nodes a }
-{
-    let mut rest = nodes;
-    let mut left = number;
-    while left > 0 {
-        rest = split_tree(rest).1;
-        left -= 1;
-    }
-    split_tree(rest).0
-}
-
-/// A member by its number, of an assertion that is the greatest of so many.
-fn member_numbered<'a>(
-    p: &AssertionView<'a>,
-    count: usize,
-    number: usize,
-) -> Option<AssertionView<'a>>
-    requires { bind (faults.members_of p.now) (λ members. Ok (faults.count members)) ≡ Ok count }
-    ensures { MatchOption result (bind (faults.members_of p.now) (λ members. faults.member_at members (pos number)) ≡ Err breaks) (λ member. bind (faults.members_of p.now) (λ members. faults.member_at members (pos number)) ≡ Ok member) }
-{
-    if count <= number {
-        return None;
-    }
-    Some(AssertionView::from_nodes(part_at(parts(p.nodes()), number)))
-}
-
-/// A member by its number, which may be below 0, of an assertion that is the greatest of so many.
-#[tactic(auto, using(crate::proofs::Numbered::negative))]
-fn member_of<'a>(p: &AssertionView<'a>, count: usize, number: i64) -> Option<AssertionView<'a>>
-    requires { bind (faults.members_of p.now) (λ members. Ok (faults.count members)) ≡ Ok count }
-    ensures { MatchOption result (bind (faults.members_of p.now) (λ members. faults.member_at members number) ≡ Err breaks) (λ member. bind (faults.members_of p.now) (λ members. faults.member_at members number) ≡ Ok member) }
-{
-    if number < 0 {
-        return None;
-    }
-    member_numbered(p, count, number as usize)
-}
-
-/// A member by its number, from 0, if there is one.
-#[tactic(auto, using(crate::proofs::Numbered::no_members))]
-pub fn picked<'a>(p: &AssertionView<'a>, number: i64) -> Option<AssertionView<'a>>
-    ensures { MatchOption result (bind (faults.members_of p.now) (λ members. faults.member_at members number) ≡ Err breaks) (λ member. bind (faults.members_of p.now) (λ members. faults.member_at members number) ≡ Ok member) }
-{
-    match member_count(p) {
-        Some(count) => member_of(p, count, number),
-        None => None,
-    }
-}
-
 /// The members of which an assertion is the greatest, if it is one.
 pub fn members<'a>(a: &AssertionView<'a>) -> Option<AssertionViews<'a>>
     ensures { MatchOption result (faults.members_of a.now ≡ Err breaks) (λ members. faults.members_of a.now ≡ Ok (assertions_of members)) }
@@ -181,6 +130,48 @@ pub fn summands<'a>(a: &AssertionView<'a>) -> Option<AssertionViews<'a>>
         return None;
     }
     Some(AssertionViews::from_nodes(parts(nodes)))
+}
+
+/// A member by its number, if there is one.
+#[tactic(auto, using(crate::proofs::Numbered::passed, crate::proofs::Numbered::found, crate::proofs::Numbered::missing))]
+fn member_numbered<'a>(members: AssertionViews<'a>, number: usize) -> Option<AssertionView<'a>>
+    ensures { MatchOption result (faults.member_at (assertions_of members.entry) (pos number) ≡ Err breaks) (λ member. faults.member_at (assertions_of members.entry) (pos number) ≡ Ok member) }
+{
+    let mut rest = members;
+    let mut left = number;
+    while left > 0 {
+        match rest.split_first() {
+            Some((_member, others)) => rest = others,
+            None => return None,
+        }
+        left -= 1;
+    }
+    match rest.split_first() {
+        Some((member, _others)) => Some(member),
+        None => None,
+    }
+}
+
+/// A member by its number, which may be below 0, if there is one.
+#[tactic(auto, using(crate::proofs::Numbered::negative))]
+fn member_at<'a>(members: AssertionViews<'a>, number: i64) -> Option<AssertionView<'a>>
+    ensures { MatchOption result (faults.member_at (assertions_of members.entry) number ≡ Err breaks) (λ member. faults.member_at (assertions_of members.entry) number ≡ Ok member) }
+{
+    if number < 0 {
+        return None;
+    }
+    member_numbered(members, number as usize)
+}
+
+/// A member of a greatest by its number, from 0, if there is one.
+#[tactic(auto, using(crate::proofs::Numbered::among, crate::proofs::Numbered::nowhere))]
+pub fn picked<'a>(p: &AssertionView<'a>, number: i64) -> Option<AssertionView<'a>>
+    ensures { MatchOption result (bind (faults.members_of p.now) (λ members. faults.member_at members number) ≡ Err breaks) (λ member. bind (faults.members_of p.now) (λ members. faults.member_at members number) ≡ Ok member) }
+{
+    match members(p) {
+        Some(members) => member_at(members, number),
+        None => None,
+    }
 }
 
 /// The condition and the assertion of a guard, if the assertion is one.

@@ -1,7 +1,6 @@
 // Which variables an assertion may mention.
 ghost use Rattle.std.specs.Prelude.{◌≡◌, IfOk, not, option_map};
 ghost use Rattle.std.specs.List.{find};
-ghost use Rattle.qs_assert.specs.Substitution.{same_kind, same_number_type};
 ghost use Rattle.qs_assert.specs.Variables.{variables};
 ghost use Rattle.qs_core.specs.Interfaces as interfaces;
 ghost use Rattle.qs_core.specs.Scalars as scalars;
@@ -27,31 +26,6 @@ pub enum Standing {
     Behind,
     /// It stands in a body.
     Within,
-}
-
-// ---- kinds and types
-
-fn same_kind(a: VarKind, b: VarKind) -> bool
-    ensures { result ≡ same_kind a b }
-{
-    match (a, b) {
-        (VarKind::Plain(i), VarKind::Plain(j)) => i == j,
-        (VarKind::Temporary(i), VarKind::Temporary(j)) => i == j,
-        (VarKind::Old(i), VarKind::Old(j)) => i == j,
-        (VarKind::Returned, VarKind::Returned) => true,
-        _ => false,
-    }
-}
-
-fn same_number_type(a: NumberType, b: NumberType) -> bool
-    ensures { result ≡ same_number_type a b }
-{
-    match (a, b) {
-        (NumberType::Int, NumberType::Int) => true,
-        (NumberType::Unsigned, NumberType::Unsigned) => true,
-        (NumberType::Char, NumberType::Char) => true,
-        _ => false,
-    }
 }
 
 // ---- the variables of a function
@@ -120,7 +94,7 @@ fn is_own(f: &CoreFunction, x: Var) -> bool
 {
     match own_type(f, x.kind) {
         None => false,
-        Some(own) => same_number_type(own, x.number),
+        Some(own) => own.same(x.number),
     }
 }
 
@@ -238,7 +212,7 @@ pub fn first_of(alloc: Global, kind: VarKind, a: &Assertion) -> Result<Option<Va
     ensures { IfOk result (λ x. x ≡ spec.first_of kind a.now) }
 {
     let xs = variables(alloc, a)?;
-    Ok(xs.iter().copied().find(|x| same_kind(x.kind, kind)))
+    Ok(xs.iter().copied().find(|x| x.kind.same(kind)))
 }
 
 /// The first mention of the temporary that a call's result goes to.

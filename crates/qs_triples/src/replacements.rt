@@ -9,7 +9,7 @@ ghost use Rattle.qs_triples.specs.Replacements.{image, replaced, is_missing, fir
 
 use crate::mentions::{Standing, may_mention};
 use crate::terms::expression_term;
-use qs_assert::{Assertion, Node, Term, TermNode, Var, VarKind};
+use qs_assert::{Assertion, Node, Term, TermNode, Var, VarKind, put_term};
 use qs_base::NoMemory;
 use qs_core::{CoreExpr, CoreFunction};
 use std::alloc::Global;
@@ -204,16 +204,6 @@ pub fn first_missing(
 }
 
 // ---- replacement
-
-fn put_term(nodes: &mut Vec<Node>, t: &Term) -> Result<(), NoMemory>
-    ensures { OnOk result (nodes.new.items ≡ nodes.old.items ++ inner_term t.now) }
-{
-    let list = t.nodes();
-    for node in list {
-        nodes.push(Node::Term(*node))?;
-    }
-    Ok(())
-}
 
 fn put_variable(
     alloc: Global,

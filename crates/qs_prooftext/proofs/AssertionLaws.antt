@@ -1,6 +1,6 @@
 -- Steps of the walk over an assertion.
 use Rattle.std.proofs.Common.{arith, ◌≡◌, ◌⊎◌, inl, inr, ℕ, zero, suc, ◌<◌, ℤ, pos, negsuc, option_map, ◌+◌, ◌-◌, ◌==◌, Bool, true, false, List, [], ◌∷◌, ◌++◌, length, map, reverse, drop, if◌then◌else◌, Option, Some, None, is_some, Result, Ok, Err, refl, sym, ap, ◌∙◌, append_assoc, subst, length-append}
-use Rattle.std.proofs.lemmas.List.{append-nil, reverse-append, length-reverse}
+use Rattle.std.proofs.lemmas.List.{append-nil, reverse-append, length-replicate, length-reverse}
 use Rattle.std.specs.Option.{option_to_list}
 use Rattle.std.specs.Borrow.{Bor}
 use Rattle.std.specs.Result.{IsErr, IsErrAnd}
@@ -32,7 +32,7 @@ use Rattle.qs_prooftext.specs.Kinds.{Kind, Of}
 use Rattle.qs_prooftext.specs.Meanings.{Answer, natural_means, if_divisor, or_fault, means, list_means, each_means, all_mean}
 use Rattle.qs_prooftext.specs.Settings.{Setting, look_up, old_variable}
 use Rattle.qs_prooftext.specs.Walking.{Remains, Goes, nodes_in, Opened, HasParts, natural_flat, divisor_flat, number_flat, variable_flat, function_flat, known_flat, symbol_flat, terms_in}
-use Rattle.qs_prooftext.proofs.FlatLaws.{spec_flat, joined-assoc, joined-nil, joined-done, onto, onto-count, flats-onto, copies-length}
+use Rattle.qs_prooftext.proofs.FlatLaws.{spec_flat, joined-assoc, joined-nil, joined-done, onto, onto-count, flats-onto}
 use Rattle.qs_prooftext.proofs.PartLaws.{first_stands, others_stand, front, some_nodes}
 use Rattle.qs_prooftext.proofs.RowLaws.{found_fits}
 
@@ -78,7 +78,7 @@ sorts_count Zero n h = sym (is_eq n 0 h)
 sorts_count (One a) n h = sym (is_eq n 1 h)
 sorts_count (Two a b) n h = sym (is_eq n 2 h)
 sorts_count (Three a b c) n h = sym (is_eq n 3 h)
-sorts_count (Many a) n h = copies-length n a
+sorts_count (Many a) n h = length-replicate n a
 
 if_fitting : (row : Row) (row2 : Row) (n : ℕ) (b : Bool) → fit row.parts n ≡ b → (if b then Some row else None) ≡ Some row2 → fit row2.parts n ≡ true
 if_fitting row row2 n true e h = let q : row ≡ row2 = cc in ap (λ (r : Row). fit r.parts n) (sym q) ∙ e

@@ -8,7 +8,7 @@ ghost use Rattle.qs_prooftext.specs.Flattening.{flat, kind_of, sorts, IsDivisor}
 ghost use Rattle.qs_prooftext.specs.Kinds.{a_condition, a_definition_body, a_term, an_assertion};
 ghost use Rattle.qs_prooftext.specs.Meanings.{Answer, means};
 ghost use Rattle.qs_prooftext.specs.Settings.{Setting};
-ghost use Rattle.qs_prooftext.specs.Walking.{Goes, GivesOpened, HasParts, Remains, function_flat, known_flat, name_flat, natural_flat, nodes_in, number_flat, symbol_flat, terms_in, variable_flat};
+ghost use Rattle.qs_prooftext.specs.Walking.{Goes, GivesOpened, HasParts, Remains, function_flat, known_flat, name_flat, natural_flat, nodes_in, number_flat, symbol_flat, variable_flat};
 ghost use Rattle.qs_sexpr.specs.Trees.{Sexp, Sexps, list, number, part_and, symbol};
 
 use crate::context::{Context, find_function, find_variable, is_defined};
@@ -286,21 +286,6 @@ pub fn read_condition(
     Ok(Cond::from_nodes(read))
 }
 
-/// The nodes of terms among these.
-fn term_nodes(alloc: Global, nodes: &[Node]) -> Result<Vec<TermNode>, NoMemory>
-    ensures { IfOk result (λ read. read.items ≡ terms_in nodes.now) }
-{
-    let mut read = Vec::new(alloc);
-    for node in nodes {
-        match node {
-            Node::Term(head) => read.push(*head)?,
-            Node::Condition(_) => {}
-            Node::Assertion(_) => {}
-        }
-    }
-    Ok(read)
-}
-
 /// A term.
 pub fn read_term(
     alloc: Global,
@@ -311,6 +296,6 @@ pub fn read_term(
     ensures { (s : Sexp) → Stands context.entry.text.now nodes.now s → Gives (λ t. t) (means (setting_of context.entry) a_term s) result }
 {
     let read = read_nodes(alloc, context, Sort::Term, nodes)?;
-    let heads = term_nodes(alloc, &read)?;
-    Ok(Term::from_nodes(heads))
+    let term = Term::from_inner(alloc, &read)?;
+    Ok(term)
 }

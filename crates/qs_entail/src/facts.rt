@@ -5,7 +5,7 @@ ghost use Rattle.qs_poly.specs.Terms.{polynomial_eq};
 ghost use Rattle.qs_entail.specs.Answers.{FindsAs, Follows, FollowsAs};
 ghost use Rattle.qs_entail.specs.Building as building;
 ghost use Rattle.qs_base.specs.Results.{bind, require};
-ghost use Rattle.qs_entail.specs.Building.{limited};
+ghost use Rattle.qs_entail.specs.Building.{breaks, limited};
 ghost use Rattle.qs_entail.specs.Certificates as cert;
 ghost use Rattle.qs_entail.specs.Facts as facts;
 ghost use Rattle.qs_entail.specs.Facts.{added};

@@ -28,6 +28,13 @@ abbrev mutual
 abbrev pub inner_term : TermTree → List Node
 inner_term t = map Term (term_nodes t)
 
+-- the nodes of terms among these
+abbrev pub term_heads : List Node → List TermNode
+term_heads [] = []
+term_heads (Term node ∷ nodes) = node ∷ term_heads nodes
+term_heads (Condition node ∷ nodes) = term_heads nodes
+term_heads (Assertion node ∷ nodes) = term_heads nodes
+
 abbrev mutual
   pub cond_nodes : CondTree → List Node
   cond_nodes (le t u) = Condition Le ∷ inner_term t ++ inner_term u

@@ -28,6 +28,6 @@ begins (head ∷ nodes) node = same_node head node
 abbrev pub assertions_in : List Node → List AssertionTree
 assertions_in nodes = (plant_nodes nodes no_trees).assertions
 
--- they are stored as each of them is
+-- a list of assertions is told from another by the codes of its items
 abbrev pub assertions_code : Coded (List AssertionTree)
 assertions_code = coded_list assertion_code

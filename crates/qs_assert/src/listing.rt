@@ -1,7 +1,7 @@
 // Lists of nodes are made of the lists of the parts.
 ghost use Rattle.std.specs.Prelude.{◌≡◌, [], ◌∷◌, ◌++◌, IfOk, OnOk};
-ghost use Rattle.qs_assert.specs.Listing.{term_nodes, terms_nodes, inner_term, cond_nodes, conds_nodes, assertion_nodes, assertions_nodes};
-ghost use Rattle.qs_assert.specs.Trees.{terms_of, conds_of, assertions_of};
+ghost use Rattle.qs_assert.specs.Listing.{term_nodes, terms_nodes, inner_term, term_heads, cond_nodes, conds_nodes, assertion_nodes, assertions_nodes};
+ghost use Rattle.qs_assert.specs.Trees.{TermTree, terms_of, conds_of, assertions_of};
 
 use crate::{Assertion, AssertionNode, Cond, Node, Term, TermNode};
 use qs_base::NoMemory;
@@ -50,6 +50,31 @@ pub fn put_term(list: &mut Vec<Node>, t: &Term) -> Result<(), NoMemory>
         list.push(Node::Term(*node))?;
     }
     Ok(())
+}
+
+fn term_heads(alloc: Global, nodes: &[Node]) -> Result<Vec<TermNode>, NoMemory>
+    ensures { IfOk result (λ list. list.items ≡ term_heads nodes.now) }
+{
+    let mut list = Vec::new(alloc);
+    for node in nodes {
+        match node {
+            Node::Term(head) => list.push(*head)?,
+            Node::Condition(_) => {}
+            Node::Assertion(_) => {}
+        }
+    }
+    Ok(list)
+}
+
+impl Term {
+    /// The term that has these nodes where it stands in a condition or an assertion.
+    pub fn from_inner(alloc: Global, nodes: &[Node]) -> Result<Term, NoMemory>
+        requires { (t : TermTree) × (nodes.now ≡ inner_term t) }
+        ensures { IfOk result (λ r. (t : TermTree) → nodes.now ≡ inner_term t → r ≡ t) }
+    {
+        let list = term_heads(alloc, nodes)?;
+        Ok(Term::from_nodes(list))
+    }
 }
 
 /// Puts nodes of the same content at the end of a list.

@@ -7,14 +7,13 @@ ghost use Rattle.qs_assert.specs.Order.{is_among, names_known, head_known, node_
 use crate::{Assertion, AssertionNode, Define, Node};
 use qs_base::Name;
 
-// Sought from the end, as a definition mostly names the one before it.
+// Sought from both ends, as a definition mostly names the one before it or one of the first.
 fn is_among(defines: &[Define], name: &Name) -> bool
     ensures { result ≡ is_among defines.now name.now }
 {
-    let mut at = defines.len();
-    while at > 0 {
-        at -= 1;
-        if *name == defines[at].name {
+    let count = defines.len();
+    for k in 0..count {
+        if *name == defines[k].name || *name == defines[count - 1 - k].name {
             return true;
         }
     }

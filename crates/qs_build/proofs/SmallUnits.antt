@@ -6,6 +6,7 @@ use Rattle.std.specs.Option.{option_map}
 use Rattle.std.proofs.lemmas.Bool.Decides.{nat_tests}
 use Rattle.std.proofs.lemmas.List.{length-map}
 use Rattle.std.proofs.lemmas.List.Elements.{All-head, All-tail}
+use Rattle.std.specs.Option.{option_or}
 use Rattle.qs_memory.proofs.Options.{some_same}
 use Rattle.qs_asm.specs.Counting.{reached_words}
 use Rattle.qs_core.specs.Trees.{CoreFunctionTree, CoreParameterTree, DataBlockTree, CoreUnitTree}
@@ -30,7 +31,7 @@ use Rattle.qs_lower.proofs.UnitFits.{lowered_fits, function_there}
 use Rattle.qs_frames.specs.Layout.{total, layout}
 use Rattle.qs_frames.proofs.FrameLaws.{frames_are_laid_out, no_more_is_kept}
 use Rattle.qs_select.specs.Data.{data_sizes}
-use Rattle.qs_select.specs.Limits.{most_arguments, passes_few, has_few, place_fits, places_fit, largest_frame, frame_fits, largest_data, data_fit, function_fault, or_else, functions_fault}
+use Rattle.qs_select.specs.Limits.{most_arguments, passes_few, has_few, place_fits, places_fit, largest_frame, frame_fits, largest_data, data_fit, function_fault, functions_fault}
 use Rattle.qs_select.specs.declared.fault.SelectionFault.{SelectionFault}
 use Rattle.qs_select.specs.declared.fault.SelectionFault.TheVariants as selection
 use Rattle.qs_select.proofs.Sizes.{units_keep_words}
@@ -99,7 +100,7 @@ fault_by false b c h k l = absurd (cc)
 
 -- ---- all functions
 
-none_else : (a b : Option SelectionFault) → a ≡ None → b ≡ None → or_else a b ≡ None
+none_else : (a b : Option SelectionFault) → a ≡ None → b ≡ None → option_or a b ≡ None
 none_else None b h k = k
 none_else (Some fault) b h k = absurd (cc)
 

@@ -1,6 +1,7 @@
 -- Each type fault of a unit names one of its nodes, or none.
 use Rattle.std.proofs.Common.{◌≡◌, ℕ, zero, suc, ◌+◌, ◌<◌, nat_lt, Bool, true, false, not, ◌&&◌, if◌then◌else◌, List, [], ◌∷◌, ◌++◌, length, map, flat_map, filter, Option, Some, None, is_some, slice_get, refl, ap, subst, ◌∙◌, arith}
 use Rattle.std.proofs.lemmas.Bool.Decides.{nat_tests}
+use Rattle.std.specs.Option.{option_or}
 use Rattle.qs_syntax.specs.declared.nodes.Node.{Node}
 use Rattle.qs_syntax.specs.declared.types.Base.{Base}
 use Rattle.qs_syntax.specs.declared.terminal.Terminal.{Terminal}
@@ -22,9 +23,9 @@ use Rattle.qs_types.specs.Sites.{Site, site, sites, option_sites, declarator_sit
 use Rattle.qs_types.specs.References.{TextBlock, expr_texts, shape_texts, exprs_texts, site_texts, literal_blocks, unit_calls}
 use Rattle.qs_types.specs.Placed.{Local, variables_locals, start_locals, statement_locals, statements_locals, else_locals, parameters_locals, locals_in, is_placed, addressed_in, placed_in}
 use Rattle.qs_types.specs.WellTyped.{undefined_from, runs, first_undefined, has_main}
-use Rattle.qs_types.specs.Limits.{or_else, node_limit, first_past_nodes, function_limit, header_past, first_past_functions, parameter_limit, node_of_parameter, first_past_parameters, Block, block_end, block_past, variables_blocks, variable_blocks_from, text_block, data_blocks, global_limit, first_past_globals, local_block, local_blocks, local_past, local_past_from, local_limit, first_past_locals}
+use Rattle.qs_types.specs.Limits.{node_limit, first_past_nodes, function_limit, header_past, first_past_functions, parameter_limit, node_of_parameter, first_past_parameters, Block, block_end, block_past, variables_blocks, variable_blocks_from, text_block, data_blocks, global_limit, first_past_globals, local_block, local_blocks, local_past, local_past_from, local_limit, first_past_locals}
 use Rattle.qs_typing.specs.Findings.{is_before, lesser, least_with}
-use Rattle.qs_typing.specs.Refusals.{first_of, limit_fault, rule_fault, main_fault, undefined_fault, early_refusal, late_refusal, first_refusal}
+use Rattle.qs_typing.specs.Refusals.{limit_fault, rule_fault, main_fault, undefined_fault, early_refusal, late_refusal, first_refusal}
 use Rattle.qs_report.specs.declared.fault_texts.LimitKind.{LimitKind}
 use Rattle.qs_report.specs.declared.fault_texts.LimitKind.TheVariants as kinds
 use Rattle.qs_typing.specs.declared.refusals.TypeFault.{TypeFault}
@@ -294,7 +295,7 @@ module _ (P : ℕ → Type 0) where
   maybe_if true x y h k = h
   maybe_if false x y h k = k
 
-  maybe_either : (x y : Option ℕ) → Maybe x → Maybe y → Maybe (or_else x y)
+  maybe_either : (x y : Option ℕ) → Maybe x → Maybe y → Maybe (option_or x y)
   maybe_either None y h k = k
   maybe_either (Some n) y h k = h
 
@@ -637,7 +638,7 @@ module _ (P : ℕ → Type 0) where
   Named None = Unit {0}
   Named (Some f) = Maybe (node_of f)
 
-  first_named : (f g : Option TypeFault) → Named f → Named g → Named (first_of f g)
+  first_named : (f g : Option TypeFault) → Named f → Named g → Named (option_or f g)
   first_named None g h k = k
   first_named (Some f) g h k = h
 
@@ -661,17 +662,17 @@ module _ (P : ℕ → Type 0) where
   refusal_named : (ds : UnitTree) → Maybe (first_past_nodes node_limit ds) → Known (unit_nodes ds) → Named (first_refusal ds)
   refusal_named ds h k =
       first_named (early_refusal ds) (late_refusal ds)
-      (first_named (limit_fault kinds.Nodes (first_past_nodes node_limit ds)) (first_of (limit_fault kinds.Functions (first_past_functions function_limit ds)) (limit_fault kinds.Parameters (first_past_parameters parameter_limit ds)))
+      (first_named (limit_fault kinds.Nodes (first_past_nodes node_limit ds)) (option_or (limit_fault kinds.Functions (first_past_functions function_limit ds)) (limit_fault kinds.Parameters (first_past_parameters parameter_limit ds)))
       (limit_named kinds.Nodes (first_past_nodes node_limit ds) h)
       (first_named (limit_fault kinds.Functions (first_past_functions function_limit ds)) (limit_fault kinds.Parameters (first_past_parameters parameter_limit ds))
       (limit_named kinds.Functions (first_past_functions function_limit ds) (header_known function_limit [] ds k))
       (limit_named kinds.Parameters (first_past_parameters parameter_limit ds) (parameters_known parameter_limit ds k))))
       (first_named (rule_fault (least_with None (faults_in ds)))
-      (first_of (main_fault (has_main ds)) (first_of (undefined_fault (first_undefined ds)) (first_of (limit_fault kinds.Globals (first_past_globals global_limit ds)) (limit_fault kinds.Locals (first_past_locals local_limit ds)))))
+      (option_or (main_fault (has_main ds)) (option_or (undefined_fault (first_undefined ds)) (option_or (limit_fault kinds.Globals (first_past_globals global_limit ds)) (limit_fault kinds.Locals (first_past_locals local_limit ds)))))
       (rule_named (least_with None (faults_in ds)) (least_told None (faults_in ds) tt (declarations_told start_context ds k)))
-      (first_named (main_fault (has_main ds)) (first_of (undefined_fault (first_undefined ds)) (first_of (limit_fault kinds.Globals (first_past_globals global_limit ds)) (limit_fault kinds.Locals (first_past_locals local_limit ds))))
+      (first_named (main_fault (has_main ds)) (option_or (undefined_fault (first_undefined ds)) (option_or (limit_fault kinds.Globals (first_past_globals global_limit ds)) (limit_fault kinds.Locals (first_past_locals local_limit ds))))
       (main_named (has_main ds))
-      (first_named (undefined_fault (first_undefined ds)) (first_of (limit_fault kinds.Globals (first_past_globals global_limit ds)) (limit_fault kinds.Locals (first_past_locals local_limit ds)))
+      (first_named (undefined_fault (first_undefined ds)) (option_or (limit_fault kinds.Globals (first_past_globals global_limit ds)) (limit_fault kinds.Locals (first_past_locals local_limit ds)))
       (undefined_named (first_undefined ds) (undefined_known (runs ds) (unit_calls ds) ds k))
       (first_named (limit_fault kinds.Globals (first_past_globals global_limit ds)) (limit_fault kinds.Locals (first_past_locals local_limit ds))
       (limit_named kinds.Globals (first_past_globals global_limit ds) (globals_known ds k))

@@ -1,23 +1,24 @@
 -- Names by nodes are those that the definition finds.
 use Rattle.std.proofs.Common.{◌≡◌, ℕ, ◌+◌, ◌<◌, ◌==◌, zero, suc, Bool, true, false, List, [], ◌∷◌, ◌++◌, Some, None, length, take, get_or, map, refl, sym, ap, ◌∙◌, if◌then◌else◌, arith}
 use Rattle.std.proofs.lemmas.List.{map-append, take_more}
+use Rattle.std.specs.Option.{option_or}
 use Rattle.qs_elaborate.specs.Names.{Declared, VariableName, count_of, name_at}
-use Rattle.qs_elaborate.specs.Naming.{first_of, name_or_none, numbered_at, name_among, newest_first}
+use Rattle.qs_elaborate.specs.Naming.{name_or_none, numbered_at, name_among, newest_first}
 
 -- a name that is known stays
 stays : (node : ℕ) (a : VariableName) (ds later : List Declared) → name_among node ds ≡ Some a → name_among node (newest_first ds later) ≡ Some a
 stays node a ds [] h = h
 stays node a ds (d ∷ later) h =
-    stays node a (d ∷ ds) later (ap (λ b. first_of b (numbered_at node d.node d.name (count_of d.name ds + 1))) h)
+    stays node a (d ∷ ds) later (ap (λ b. option_or b (numbered_at node d.node d.name (count_of d.name ds + 1))) h)
 
 pub name_at_is : (node : ℕ) (ds later : List Declared) → name_among node ds ≡ None → name_at node ds later ≡ name_or_none (name_among node (newest_first ds later))
 name_at_is node ds [] h = ap name_or_none (sym h)
 name_at_is node ds (d ∷ later) h =
     by_node (d.node == node) (name_at node (d ∷ ds) later) refl
     (λ e. ap name_or_none (sym (stays node (record { name = d.name; ordinal = count_of d.name ds + 1 }) (d ∷ ds) later
-    (ap (λ b. first_of b (numbered_at node d.node d.name (count_of d.name ds + 1))) h ∙ ap (λ z. if z then Some (record { name = d.name; ordinal = count_of d.name ds + 1 }) else None) e))))
+    (ap (λ b. option_or b (numbered_at node d.node d.name (count_of d.name ds + 1))) h ∙ ap (λ z. if z then Some (record { name = d.name; ordinal = count_of d.name ds + 1 }) else None) e))))
     (λ e. name_at_is node (d ∷ ds) later
-    (ap (λ b. first_of b (numbered_at node d.node d.name (count_of d.name ds + 1))) h ∙ ap (λ z. if z then Some (record { name = d.name; ordinal = count_of d.name ds + 1 }) else None) e))
+    (ap (λ b. option_or b (numbered_at node d.node d.name (count_of d.name ds + 1))) h ∙ ap (λ z. if z then Some (record { name = d.name; ordinal = count_of d.name ds + 1 }) else None) e))
   where
     by_node : (z : Bool) (x : VariableName) → z ≡ (d.node == node)
         → (z ≡ true → record { name = d.name; ordinal = count_of d.name ds + 1 } ≡ name_or_none (name_among node (newest_first (d ∷ ds) later)))

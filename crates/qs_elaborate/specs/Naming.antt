@@ -1,11 +1,8 @@
 -- What is known of names while what a function declares is read.
 use Rattle.std.specs.Prelude.{◌≡◌, ℕ, ◌+◌, ◌==◌, List, [], ◌∷◌, Option, Some, None, if◌then◌else◌}
+use Rattle.std.specs.Option.{option_or}
 use Rattle.qs_elaborate.specs.Names.{Declared, VariableName, count_of}
 use Rattle.qs_elaborate.specs.NamesOf.{no_name}
-
-abbrev pub first_of : Option VariableName → Option VariableName → Option VariableName
-first_of None b = b
-first_of (Some a) b = Some a
 
 abbrev pub name_or_none : Option VariableName → VariableName
 name_or_none None = no_name
@@ -22,7 +19,7 @@ numbered_at node at name ordinal = if at == node then Some (record { name = name
 -- the name of what is declared at this node, if it is among these; the latest comes first
 abbrev pub name_among : (node : ℕ) → List Declared → Option VariableName
 name_among node [] = None
-name_among node (d ∷ earlier) = first_of (name_among node earlier) (numbered_at node d.node d.name (count_of d.name earlier + 1))
+name_among node (d ∷ earlier) = option_or (name_among node earlier) (numbered_at node d.node d.name (count_of d.name earlier + 1))
 
 -- the latest first
 abbrev pub newest_first : (earlier : List Declared) → List Declared → List Declared

@@ -1,12 +1,13 @@
 // The names of variables, by their nodes.
 ghost use Rattle.std.specs.Prelude.{◌≡◌, ◌+◌, ◌==◌, ℕ, List, [], ◌∷◌, Some, IfOk, OnOk, map, option_map, nat_eq};
 ghost use Rattle.std.specs.Map.{update};
+ghost use Rattle.std.specs.Option.{option_or};
 ghost use Rattle.indexmap.specs.IndexMap.{get};
 ghost use Rattle.qs_syntax.specs.Sameness.{same_bytes};
 ghost use Rattle.qs_elaborate.specs.Names as spec;
 ghost use Rattle.qs_elaborate.specs.NamesOf.{variable_name_of};
 ghost use Rattle.qs_elaborate.specs.DeclaredOf.{declared_of};
-ghost use Rattle.qs_elaborate.specs.Naming.{first_of, name_or_none, times, numbered_at, name_among, newest_first, Known};
+ghost use Rattle.qs_elaborate.specs.Naming.{name_or_none, times, numbered_at, name_among, newest_first, Known};
 
 use crate::names::{Declared, VariableName};
 use indexmap::IndexMap;
@@ -53,7 +54,7 @@ fn note_name(
     name: &Name,
     ordinal: u32,
 ) -> Result<(), NoMemory>
-    ensures { OnOk result ((x : ℕ) → option_map variable_name_of (get nat_eq names.new x) ≡ first_of (option_map variable_name_of (get nat_eq names.old x)) (numbered_at x node name.now ordinal)) }
+    ensures { OnOk result ((x : ℕ) → option_map variable_name_of (get nat_eq names.new x) ≡ option_or (option_map variable_name_of (get nat_eq names.old x)) (numbered_at x node name.now ordinal)) }
 {
     if names.contains_key(&node) {
         return Ok(());

@@ -1,7 +1,6 @@
 pub mod Wholes
 pub mod Outlined
 pub mod Waiting
-pub mod Headed
 pub mod Flattened
 pub mod Branched
 pub mod Placed

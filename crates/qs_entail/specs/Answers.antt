@@ -1,5 +1,5 @@
 -- What the code answers for an attempt.
-use Rattle.std.specs.Prelude.{◌≡◌, Result, Ok, Err}
+use Rattle.std.specs.Prelude.{◌≡◌, MatchOption, Option, Result, Ok, Err}
 use Rattle.qs_poly.specs.declared.fault.PolyFault.{PolyFault}
 use Rattle.qs_poly.specs.declared.fault.PolyFault.TheVariants as faults
 use Rattle.qs_poly.specs.declared.fault.PolyFault.TheVariants.{Wide, ManyTerms, HighDegree}
@@ -30,3 +30,10 @@ FollowsAs view (Err (Passes limit)) attempt = attempt ≡ Err (passes (fault_of 
 
 abbrev pub Follows : {A : Type 0} → Result A Stop → Result A Failure → Type 0
 Follows result attempt = FollowsAs (λ a. a) result attempt
+
+-- what is found is seen as what the attempt gives, and nothing is found where it breaks
+abbrev pub FindsAs : {A B : Type 0} → (A → B) → Option A → Result B Failure → Type 0
+FindsAs view found attempt = MatchOption found (attempt ≡ Err breaks) (λ a. attempt ≡ Ok (view a))
+
+abbrev pub Finds : {A : Type 0} → Option A → Result A Failure → Type 0
+Finds found attempt = FindsAs (λ a. a) found attempt

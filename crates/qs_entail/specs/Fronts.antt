@@ -1,18 +1,10 @@
 -- What the nodes of assertions begin with.
 use Rattle.std.specs.Prelude.{ℕ, suc, Bool, true, false, if◌then◌else◌, List, [], ◌∷◌, Option, Some, None}
-use Rattle.qs_assert.specs.declared.node.TermNode.{TermNode}
 use Rattle.qs_assert.specs.declared.node.AssertionNode.{AssertionNode}
 use Rattle.qs_assert.specs.declared.node.AssertionNode.TheVariants.{Natural, Infinity, Cost, Num, Total, Greatest, Product, Guard, If, Named}
 use Rattle.qs_assert.specs.declared.node.Node.{Node}
 use Rattle.qs_assert.specs.declared.node.Node.TheVariants.{Term, Condition, Assertion}
 use Rattle.qs_assert.specs.Views.{front_length}
-
--- the nodes of terms among these
-abbrev pub term_heads : List Node → List TermNode
-term_heads [] = []
-term_heads (Term node ∷ nodes) = node ∷ term_heads nodes
-term_heads (Condition node ∷ nodes) = term_heads nodes
-term_heads (Assertion node ∷ nodes) = term_heads nodes
 
 -- the head is that of a greatest assertion
 abbrev pub is_greatest : List Node → Bool

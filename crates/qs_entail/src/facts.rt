@@ -1,8 +1,8 @@
 // The polynomials that facts add, where their conditions without polynomials hold.
-ghost use Rattle.std.specs.Prelude.{◌≡◌, ◌≤◌, [], ◌∷◌, ◌||◌, MatchOption, Ok, Err, negsuc, pos};
+ghost use Rattle.std.specs.Prelude.{◌≡◌, ◌≤◌, [], ◌∷◌, ◌||◌, Ok, negsuc, pos};
 ghost use Rattle.qs_poly.specs.Operations.{sum, number};
 ghost use Rattle.qs_poly.specs.Terms.{polynomial_eq};
-ghost use Rattle.qs_entail.specs.Answers.{Follows, FollowsAs};
+ghost use Rattle.qs_entail.specs.Answers.{FindsAs, Follows, FollowsAs};
 ghost use Rattle.qs_entail.specs.Building as building;
 ghost use Rattle.qs_base.specs.Results.{bind, require};
 ghost use Rattle.qs_entail.specs.Building.{breaks, limited};
@@ -58,7 +58,7 @@ fn cost_range(alloc: Global, f: FnId) -> Result<Vec<Poly>, Stop>
 /// The condition of this number.
 #[tactic(auto, using(crate::proofs::Each::condition_in, crate::proofs::Each::condition_out))]
 pub fn condition_at(conditions: &[Cond], i: i64) -> Option<&Cond>
-    ensures { MatchOption result (facts.condition conditions.now i ≡ Err breaks) (λ c. facts.condition conditions.now i ≡ Ok c.now) }
+    ensures { FindsAs (λ c. c.now) result (facts.condition conditions.now i) }
 {
     if i < 0 {
         return None;

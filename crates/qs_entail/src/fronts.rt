@@ -1,14 +1,8 @@
-// The front of a list of nodes, each node before those of its parts: an assertion's head with its term or
-// condition, and the nodes of terms.
-ghost use Rattle.std.specs.Prelude.{◌≡◌, ◌≤◌, length, IfOk};
-ghost use Rattle.qs_assert.specs.Trees.{TermTree};
-ghost use Rattle.qs_assert.specs.Listing.{inner_term};
+// What an assertion begins with: its head, with its term or condition.
+ghost use Rattle.std.specs.Prelude.{◌≡◌, ◌≤◌, length};
 ghost use Rattle.qs_entail.specs.Fronts as fronts;
-ghost use Rattle.qs_entail.specs.Fronts.{term_heads};
 
-use qs_assert::{AssertionNode, Node, Term, TermNode, tree_length};
-use qs_base::NoMemory;
-use std::alloc::Global;
+use qs_assert::{AssertionNode, Node, tree_length};
 
 fn has_inner(node: &AssertionNode) -> bool
     ensures { result ≡ fronts.has_inner node.now }
@@ -64,27 +58,4 @@ pub fn part_count(nodes: &[Node]) -> usize
         Some(Node::Assertion(head)) => parts_after(head),
         _ => 0,
     }
-}
-
-fn term_nodes(alloc: Global, nodes: &[Node]) -> Result<Vec<TermNode>, NoMemory>
-    ensures { IfOk result (λ list. list.items ≡ term_heads nodes.now) }
-{
-    let mut list = Vec::new(alloc);
-    for node in nodes {
-        match node {
-            Node::Term(head) => list.push(*head)?,
-            Node::Condition(_) => {}
-            Node::Assertion(_) => {}
-        }
-    }
-    Ok(list)
-}
-
-/// The term that has these nodes.
-pub fn term(alloc: Global, nodes: &[Node]) -> Result<Term, NoMemory>
-    requires { (t : TermTree) × (nodes.now ≡ inner_term t) }
-    ensures { IfOk result (λ r. (t : TermTree) → nodes.now ≡ inner_term t → r ≡ t) }
-{
-    let list = term_nodes(alloc, nodes)?;
-    Ok(Term::from_nodes(list))
 }

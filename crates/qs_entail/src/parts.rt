@@ -1,10 +1,9 @@
 // The parts of assertions and conditions.
-ghost use Rattle.std.specs.Prelude.{◌≡◌, ◌++◌, IfOk, MatchOption, Ok, Err, pos};
+ghost use Rattle.std.specs.Prelude.{◌≡◌, ◌++◌, IfOk, Ok, pos};
 ghost use Rattle.qs_base.specs.Results.{bind};
 ghost use Rattle.qs_assert.specs.Trees.{TermTree, assertions_of};
 ghost use Rattle.qs_assert.specs.Listing.{inner_term};
-ghost use Rattle.qs_entail.specs.Answers.{FollowsAs};
-ghost use Rattle.qs_entail.specs.Building.{breaks};
+ghost use Rattle.qs_entail.specs.Answers.{FindsAs, Finds, FollowsAs};
 ghost use Rattle.qs_entail.specs.Facts as facts;
 ghost use Rattle.qs_entail.specs.Faults as faults;
 ghost use Rattle.qs_entail.specs.Parts.{guarded_view, sides_view};
@@ -13,7 +12,6 @@ ghost use Rattle.qs_entail.specs.Standing.{counted};
 ghost use Rattle.qs_entail.specs.Verdicts.{is_given};
 
 use crate::Stop;
-use crate::fronts::term;
 use qs_assert::{
     AssertionNode, AssertionView, AssertionViews, Cond, CondNode, CondView, Node, Term, begins,
     parts, split_tree,
@@ -112,7 +110,7 @@ pub fn says_different(c: &Cond) -> bool
 
 /// The members of which an assertion is the greatest, if it is one.
 pub fn members<'a>(a: &AssertionView<'a>) -> Option<AssertionViews<'a>>
-    ensures { MatchOption result (faults.members_of a.now ≡ Err breaks) (λ members. faults.members_of a.now ≡ Ok (assertions_of members)) }
+    ensures { FindsAs assertions_of result (faults.members_of a.now) }
 {
     let nodes = a.nodes();
     if !is_greatest(nodes) {
@@ -123,7 +121,7 @@ pub fn members<'a>(a: &AssertionView<'a>) -> Option<AssertionViews<'a>>
 
 /// The summands of an assertion, if it is a sum.
 pub fn summands<'a>(a: &AssertionView<'a>) -> Option<AssertionViews<'a>>
-    ensures { MatchOption result (faults.summands_of a.now ≡ Err breaks) (λ summands. faults.summands_of a.now ≡ Ok (assertions_of summands)) }
+    ensures { FindsAs assertions_of result (faults.summands_of a.now) }
 {
     let nodes = a.nodes();
     if !is_total(nodes) {
@@ -135,7 +133,7 @@ pub fn summands<'a>(a: &AssertionView<'a>) -> Option<AssertionViews<'a>>
 /// A member by its number, if there is one.
 #[tactic(auto, using(crate::proofs::Numbered::passed, crate::proofs::Numbered::found, crate::proofs::Numbered::missing))]
 fn member_numbered<'a>(members: AssertionViews<'a>, number: usize) -> Option<AssertionView<'a>>
-    ensures { MatchOption result (faults.member_at (assertions_of members.entry) (pos number) ≡ Err breaks) (λ member. faults.member_at (assertions_of members.entry) (pos number) ≡ Ok member) }
+    ensures { Finds result (faults.member_at (assertions_of members.entry) (pos number)) }
 {
     let mut rest = members;
     let mut left = number;
@@ -155,7 +153,7 @@ fn member_numbered<'a>(members: AssertionViews<'a>, number: usize) -> Option<Ass
 /// A member by its number, which may be below 0, if there is one.
 #[tactic(auto, using(crate::proofs::Numbered::negative))]
 fn member_at<'a>(members: AssertionViews<'a>, number: i64) -> Option<AssertionView<'a>>
-    ensures { MatchOption result (faults.member_at (assertions_of members.entry) number ≡ Err breaks) (λ member. faults.member_at (assertions_of members.entry) number ≡ Ok member) }
+    ensures { Finds result (faults.member_at (assertions_of members.entry) number) }
 {
     if number < 0 {
         return None;
@@ -166,7 +164,7 @@ fn member_at<'a>(members: AssertionViews<'a>, number: i64) -> Option<AssertionVi
 /// A member of a greatest by its number, from 0, if there is one.
 #[tactic(auto, using(crate::proofs::Numbered::among, crate::proofs::Numbered::nowhere))]
 pub fn picked<'a>(p: &AssertionView<'a>, number: i64) -> Option<AssertionView<'a>>
-    ensures { MatchOption result (bind (faults.members_of p.now) (λ members. faults.member_at members number) ≡ Err breaks) (λ member. bind (faults.members_of p.now) (λ members. faults.member_at members number) ≡ Ok member) }
+    ensures { Finds result (bind (faults.members_of p.now) (λ members. faults.member_at members number)) }
 {
     match members(p) {
         Some(members) => member_at(members, number),
@@ -176,7 +174,7 @@ pub fn picked<'a>(p: &AssertionView<'a>, number: i64) -> Option<AssertionView<'a
 
 /// The condition and the assertion of a guard, if the assertion is one.
 pub fn guarded_of<'a>(a: &AssertionView<'a>) -> Option<Guarded<'a>>
-    ensures { MatchOption result (faults.guarded_of a.now ≡ Err breaks) (λ g. faults.guarded_of a.now ≡ Ok (guarded_view g)) }
+    ensures { FindsAs guarded_view result (faults.guarded_of a.now) }
 {
     let nodes = a.nodes();
     if !begins(nodes, &Node::Assertion(AssertionNode::Guard)) {
@@ -194,8 +192,8 @@ pub fn both_sides(alloc: Global, nodes: &[Node]) -> Result<Sides, NoMemory>
     ensures { IfOk result (λ sides. (t u : TermTree) → nodes.now ≡ inner_term t ++ inner_term u → (sides.left ≡ t) × (sides.right ≡ u)) }
 {
     let (first, others) = split_tree(nodes);
-    let left = term(alloc, first)?;
-    match term(alloc, others) {
+    let left = Term::from_inner(alloc, first)?;
+    match Term::from_inner(alloc, others) {
         Ok(right) => Ok(Sides { left, right }),
         Err(fault) => Err(fault),
     }

@@ -57,7 +57,7 @@ pub fn told(built: Built) -> Result<Poly, Stop>
     }
 }
 
-/// Takes the first item off; there is none in place of one that is missing.
+/// Takes the first item off, or a broken one where there is none.
 #[tactic(auto, using(qs_assert::proofs::Mapped::mapped_first, qs_assert::proofs::Mapped::mapped_others))]
 pub fn taken(stack: &mut Vec<Built>) -> Built
     ensures value { attempt_of result ≡ first (seen stack.old.items) }

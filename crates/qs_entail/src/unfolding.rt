@@ -1,7 +1,6 @@
 // A name stands for the body of its definition.
-ghost use Rattle.std.specs.Prelude.{◌≡◌, ◌++◌, IfOk, MatchOption, Ok, Err};
-ghost use Rattle.qs_entail.specs.Building.{breaks};
-ghost use Rattle.qs_entail.specs.Answers.{FollowsAs};
+ghost use Rattle.std.specs.Prelude.{◌≡◌, ◌++◌, IfOk};
+ghost use Rattle.qs_entail.specs.Answers.{FindsAs, FollowsAs};
 ghost use Rattle.qs_entail.specs.Faults as faults;
 ghost use Rattle.qs_entail.specs.Placing.{placed};
 
@@ -12,7 +11,7 @@ use std::alloc::Global;
 
 /// The body of the first definition of a name.
 pub fn defined<'a>(defines: &'a [Define], name: &Name) -> Option<&'a Assertion>
-    ensures { MatchOption result (faults.definition defines.now name.now ≡ Err breaks) (λ body. faults.definition defines.now name.now ≡ Ok body.now) }
+    ensures { FindsAs (λ body. body.now) result (faults.definition defines.now name.now) }
 {
     for define in defines {
         if *name == define.name {

@@ -1,5 +1,5 @@
-// Declarations (C11 6.7). In all functions at most `room` levels are left for the parts of a node, and each
-// answers what is read, how high its highest node is, and what stands behind it.
+// Declarations (C11 6.7). In all functions at most `context.room` levels are left for the parts of a node, and
+// each answers what is read, how high its highest node is, and what stands behind it.
 ghost use Rattle.std.specs.Prelude.{◌≡◌, ◌+◌, ◌≤◌, length, [], IfOk};
 ghost use Rattle.qs_syntax.specs.Trees as trees;
 ghost use Rattle.qs_syntax.specs.Trees.{initialisers_of};
@@ -7,6 +7,7 @@ ghost use Rattle.qs_syntax.specs.TreeOf.{expr_tree, lengths_tree, declarator_tre
 ghost use Rattle.qs_grammar.specs.ParseDeclarations.{given_lengths, is_empty_brackets, lengths_of, lengths, named, declarator, initialisers, begins_initialiser, initialiser, initialised, variable, variables, declared, declaration, declaration_within, declarators, members, groups, bracketed, with_name, is_void_alone, without_first, parameter, parameters, is_void_head, head};
 ghost use Rattle.qs_parser.specs.View.{Gives, read_as, listed};
 
+use crate::context::Context;
 use crate::expressions::{Form, followed, part};
 use crate::fault::Halt;
 use crate::heads::{begins_one, expect, expect_name, is_keyword, is_punctuator, place, starts};
@@ -16,19 +17,17 @@ use qs_syntax::{
     Base, Declaration, Declarator, Expr, Initialiser, InitialiserList, Keyword, Lengths, Members,
     Node, Parameter, Punctuator, Terminal, TypeName, Variable,
 };
-use std::alloc::Global;
 
 /// The lengths in brackets, none of them empty (C11 6.7.6.2).
 #[tactic(auto, using(crate::proofs::CodeDeclarations::length_steps))]
 fn given_lengths(
-    alloc: Global,
-    room: u8,
+    context: Context,
     tokens: &[Terminal],
 ) -> Result<(Vec<Expr>, u32, &[Terminal]), Halt>
-    ensures gives { Gives (read_as (listed expr_tree)) result (given_lengths room (length tokens.now) [] 0 tokens.now) }
-    ensures low { IfOk result (λ x. x.1 ≤ room) }
+    ensures gives { Gives (read_as (listed expr_tree)) result (given_lengths context.room (length tokens.now) [] 0 tokens.now) }
+    ensures low { IfOk result (λ x. x.1 ≤ context.room) }
 {
-    let mut given = Vec::new(alloc);
+    let mut given = Vec::new(context.alloc);
     let mut height: u32 = 0;
     let mut rest = tokens;
     for _ in 0..tokens.len() {
@@ -36,7 +35,7 @@ fn given_lengths(
             return Ok((given, height, rest));
         }
         let behind = expect(Punctuator::OpenBracket, rest)?;
-        let (item, high, after) = part(alloc, room, Form::Conditional, behind)?;
+        let (item, high, after) = part(context, Form::Conditional, behind)?;
         let (item, after) = followed(item, Punctuator::CloseBracket, after)?;
         given.push(item)?;
         height = height.max(high);
@@ -59,51 +58,45 @@ fn is_empty_brackets(tokens: &[Terminal]) -> bool
 
 /// The lengths of a declarator, behind first brackets that are empty where `is_open` says so.
 fn lengths_of(
-    alloc: Global,
-    room: u8,
+    context: Context,
     is_open: bool,
     tokens: &[Terminal],
 ) -> Result<(Lengths, u32, &[Terminal]), Halt>
-    ensures gives { Gives (read_as lengths_tree) result (lengths_of is_open (given_lengths room (length tokens.now) [] 0 tokens.now)) }
-    ensures low { IfOk result (λ x. x.1 ≤ room) }
+    ensures gives { Gives (read_as lengths_tree) result (lengths_of is_open (given_lengths context.room (length tokens.now) [] 0 tokens.now)) }
+    ensures low { IfOk result (λ x. x.1 ≤ context.room) }
 {
-    let (given, height, rest) = given_lengths(alloc, room, tokens)?;
+    let (given, height, rest) = given_lengths(context, tokens)?;
     Ok((Lengths { is_open, given }, height, rest))
 }
 
 /// The brackets behind a name (C11 6.7.6.2).
 #[tactic(auto, unfolding(qs_grammar::specs::ParseDeclarations::lengths))]
-fn lengths(
-    alloc: Global,
-    room: u8,
-    tokens: &[Terminal],
-) -> Result<(Lengths, u32, &[Terminal]), Halt>
-    ensures gives { Gives (read_as lengths_tree) result (lengths room tokens.now) }
-    ensures low { IfOk result (λ x. x.1 ≤ room) }
+fn lengths(context: Context, tokens: &[Terminal]) -> Result<(Lengths, u32, &[Terminal]), Halt>
+    ensures gives { Gives (read_as lengths_tree) result (lengths context.room tokens.now) }
+    ensures low { IfOk result (λ x. x.1 ≤ context.room) }
 {
     if !is_empty_brackets(tokens) {
-        return lengths_of(alloc, room, false, tokens);
+        return lengths_of(context, false, tokens);
     }
     let rest = expect(Punctuator::OpenBracket, tokens)?;
     let rest = expect(Punctuator::CloseBracket, rest)?;
-    if room == 0 && starts(Punctuator::OpenBracket, rest) {
+    if context.room == 0 && starts(Punctuator::OpenBracket, rest) {
         return Err(Halt::TooDeep(rest.len()));
     }
-    lengths_of(alloc, room, true, rest)
+    lengths_of(context, true, rest)
 }
 
 /// A declarator, behind its stars.
 fn named(
-    alloc: Global,
-    room: u8,
+    context: Context,
     stars: u32,
     tokens: &[Terminal],
 ) -> Result<(Declarator, u32, &[Terminal]), Halt>
-    ensures gives { Gives (read_as declarator_tree) result (named room stars tokens.now) }
-    ensures low { IfOk result (λ x. x.1 ≤ room) }
+    ensures gives { Gives (read_as declarator_tree) result (named context.room stars tokens.now) }
+    ensures low { IfOk result (λ x. x.1 ≤ context.room) }
 {
-    let (token, name, rest) = expect_name(alloc, tokens)?;
-    let (lengths, height, rest) = lengths(alloc, room, rest)?;
+    let (token, name, rest) = expect_name(context.alloc, tokens)?;
+    let (lengths, height, rest) = lengths(context, rest)?;
     let declarator = Declarator {
         node: Node { id: 0, token },
         stars,
@@ -115,34 +108,29 @@ fn named(
 
 /// A name with the stars before it and the brackets behind it (C11 6.7.6).
 #[tactic(auto, unfolding(qs_grammar::specs::ParseDeclarations::declarator))]
-fn declarator(
-    alloc: Global,
-    room: u8,
-    tokens: &[Terminal],
-) -> Result<(Declarator, u32, &[Terminal]), Halt>
-    ensures gives { Gives (read_as declarator_tree) result (declarator room tokens.now) }
-    ensures low { IfOk result (λ x. x.1 ≤ room) }
+fn declarator(context: Context, tokens: &[Terminal]) -> Result<(Declarator, u32, &[Terminal]), Halt>
+    ensures gives { Gives (read_as declarator_tree) result (declarator context.room tokens.now) }
+    ensures low { IfOk result (λ x. x.1 ≤ context.room) }
 {
     let (stars, rest) = stars(tokens)?;
-    named(alloc, room, stars, rest)
+    named(context, stars, rest)
 }
 
 /// The initialisers of a list, and the brace behind them (C11 6.7.9).
 #[cycle(initialiser)]
 #[tactic(auto, using(crate::proofs::CodeDeclarations::initialiser_steps))]
 fn initialisers(
-    alloc: Global,
-    room: u8,
+    context: Context,
     tokens: &[Terminal],
 ) -> Result<(Vec<Initialiser>, u32, &[Terminal]), Halt>
-    ensures gives { Gives (read_as (listed initialiser_tree)) result (initialisers (initialiser room) (length tokens.now) [] 0 tokens.now) }
-    ensures low { IfOk result (λ x. x.1 ≤ room) }
+    ensures gives { Gives (read_as (listed initialiser_tree)) result (initialisers (initialiser context.room) (length tokens.now) [] 0 tokens.now) }
+    ensures low { IfOk result (λ x. x.1 ≤ context.room) }
 {
-    let mut items = Vec::new(alloc);
+    let mut items = Vec::new(context.alloc);
     let mut height: u32 = 0;
     let mut rest = tokens;
     for _ in 0..tokens.len() {
-        let (item, high, after) = initialiser(alloc, room, rest)?;
+        let (item, high, after) = initialiser(context, rest)?;
         items.push(item)?;
         height = height.max(high);
         if starts(Punctuator::CloseBrace, after) {
@@ -166,32 +154,31 @@ fn begins_initialiser(tokens: &[Terminal]) -> bool
     starts(Punctuator::OpenBrace, tokens) || begins_one(tokens)
 }
 
-/// An initialiser that is at most `room` high (C11 6.7.9).
+/// An initialiser that is at most `context.room` high (C11 6.7.9).
 #[cycle(initialiser)]
 #[tactic(auto, using(crate::proofs::CodeDeclarations::initialiser_cases))]
 fn initialiser(
-    alloc: Global,
-    room: u8,
+    context: Context,
     tokens: &[Terminal],
 ) -> Result<(Initialiser, u32, &[Terminal]), Halt>
-    ensures gives { Gives (read_as initialiser_tree) result (initialiser room tokens.now) }
-    ensures low { IfOk result (λ x. x.1 ≤ room) }
+    ensures gives { Gives (read_as initialiser_tree) result (initialiser context.room tokens.now) }
+    ensures low { IfOk result (λ x. x.1 ≤ context.room) }
 {
-    if room == 0 {
+    if context.room == 0 {
         if begins_initialiser(tokens) {
             return Err(Halt::TooDeep(tokens.len()));
         }
         return Err(Halt::Unexpected(tokens.len()));
     }
     if !starts(Punctuator::OpenBrace, tokens) {
-        let (value, height, rest) = part(alloc, room, Form::Assignment, tokens)?;
+        let (value, height, rest) = part(context, Form::Assignment, tokens)?;
         return Ok((expression(value), height, rest));
     }
-    if room == 1 {
+    if context.room == 1 {
         return Err(Halt::TooDeep(tokens.len()));
     }
     let rest = expect(Punctuator::OpenBrace, tokens)?;
-    let (items, height, rest) = initialisers(alloc, room - 1, rest)?;
+    let (items, height, rest) = initialisers(context.inner(), rest)?;
     Ok((list(place(tokens), items), height + 1, rest))
 }
 
@@ -214,15 +201,14 @@ fn list(token: u32, items: Vec<Initialiser>) -> Initialiser
 
 /// A variable, behind its declarator.
 fn initialised(
-    alloc: Global,
-    room: u8,
+    context: Context,
     declarator: Declarator,
     height: u32,
     tokens: &[Terminal],
 ) -> Result<(Variable, u32, &[Terminal]), Halt>
-    requires low { height ≤ room }
-    ensures gives { Gives (read_as variable_tree) result (initialised room (declarator_tree declarator, height) tokens.now) }
-    ensures low { IfOk result (λ x. x.1 ≤ room + 1) }
+    requires low { height ≤ context.room }
+    ensures gives { Gives (read_as variable_tree) result (initialised context.room (declarator_tree declarator, height) tokens.now) }
+    ensures low { IfOk result (λ x. x.1 ≤ context.room + 1) }
 {
     if !starts(Punctuator::Assign, tokens) {
         let variable = Variable {
@@ -231,11 +217,11 @@ fn initialised(
         };
         return Ok((variable, height + 1, tokens));
     }
-    if room == 0 {
+    if context.room == 0 {
         return Err(Halt::TooDeep(tokens.len()));
     }
     let rest = expect(Punctuator::Assign, tokens)?;
-    let (initialiser, high, rest) = initialiser(alloc, room, rest)?;
+    let (initialiser, high, rest) = initialiser(context, rest)?;
     let variable = Variable {
         declarator,
         initialiser: Some(initialiser),
@@ -245,33 +231,28 @@ fn initialised(
 
 /// A variable with its initialiser (C11 6.7).
 #[tactic(auto, unfolding(qs_grammar::specs::ParseDeclarations::variable))]
-fn variable(
-    alloc: Global,
-    room: u8,
-    tokens: &[Terminal],
-) -> Result<(Variable, u32, &[Terminal]), Halt>
-    ensures gives { Gives (read_as variable_tree) result (variable room tokens.now) }
-    ensures low { IfOk result (λ x. x.1 ≤ room + 1) }
+fn variable(context: Context, tokens: &[Terminal]) -> Result<(Variable, u32, &[Terminal]), Halt>
+    ensures gives { Gives (read_as variable_tree) result (variable context.room tokens.now) }
+    ensures low { IfOk result (λ x. x.1 ≤ context.room + 1) }
 {
-    let (declarator, height, rest) = declarator(alloc, room, tokens)?;
-    initialised(alloc, room, declarator, height, rest)
+    let (declarator, height, rest) = declarator(context, tokens)?;
+    initialised(context, declarator, height, rest)
 }
 
 /// Variables that are declared together, and the semicolon behind them.
 #[tactic(auto, using(crate::proofs::CodeDeclarations::variable_steps))]
 fn variables(
-    alloc: Global,
-    room: u8,
+    context: Context,
     tokens: &[Terminal],
 ) -> Result<(Vec<Variable>, u32, &[Terminal]), Halt>
-    ensures gives { Gives (read_as (listed variable_tree)) result (variables room (length tokens.now) [] 0 tokens.now) }
-    ensures low { IfOk result (λ x. x.1 ≤ room + 1) }
+    ensures gives { Gives (read_as (listed variable_tree)) result (variables context.room (length tokens.now) [] 0 tokens.now) }
+    ensures low { IfOk result (λ x. x.1 ≤ context.room + 1) }
 {
-    let mut variables = Vec::new(alloc);
+    let mut variables = Vec::new(context.alloc);
     let mut height: u32 = 0;
     let mut rest = tokens;
     for _ in 0..tokens.len() {
-        let (item, high, after) = variable(alloc, room, rest)?;
+        let (item, high, after) = variable(context, rest)?;
         variables.push(item)?;
         height = height.max(high);
         if starts(Punctuator::Semicolon, after) {
@@ -285,63 +266,59 @@ fn variables(
 
 /// A declaration, behind its type.
 pub fn declared(
-    alloc: Global,
-    room: u8,
+    context: Context,
     base: Base,
     tokens: &[Terminal],
 ) -> Result<(Declaration, u32, &[Terminal]), Halt>
-    ensures gives { Gives (read_as declaration_tree) result (declared room base tokens.now) }
-    ensures low { IfOk result (λ x. x.1 ≤ room + 1) }
+    ensures gives { Gives (read_as declaration_tree) result (declared context.room base tokens.now) }
+    ensures low { IfOk result (λ x. x.1 ≤ context.room + 1) }
 {
-    let (variables, height, rest) = variables(alloc, room, tokens)?;
+    let (variables, height, rest) = variables(context, tokens)?;
     Ok((Declaration { base, variables }, height, rest))
 }
 
 /// A declaration (C11 6.7).
 #[tactic(auto, unfolding(qs_grammar::specs::ParseDeclarations::declaration))]
 fn declaration(
-    alloc: Global,
-    room: u8,
+    context: Context,
     tokens: &[Terminal],
 ) -> Result<(Declaration, u32, &[Terminal]), Halt>
-    ensures gives { Gives (read_as declaration_tree) result (declaration room tokens.now) }
-    ensures low { IfOk result (λ x. x.1 ≤ room + 1) }
+    ensures gives { Gives (read_as declaration_tree) result (declaration context.room tokens.now) }
+    ensures low { IfOk result (λ x. x.1 ≤ context.room + 1) }
 {
-    let (base, rest) = type_of(alloc, tokens)?;
-    declared(alloc, room, base, rest)
+    let (base, rest) = type_of(context.alloc, tokens)?;
+    declared(context, base, rest)
 }
 
-/// A declaration that is at most `room` high.
+/// A declaration that is at most `context.room` high.
 #[tactic(auto, using(crate::proofs::CodeDeclarations::declaration_cases))]
 pub fn declaration_within(
-    alloc: Global,
-    room: u8,
+    context: Context,
     tokens: &[Terminal],
 ) -> Result<(Declaration, u32, &[Terminal]), Halt>
-    ensures gives { Gives (read_as declaration_tree) result (declaration_within room tokens.now) }
-    ensures low { IfOk result (λ x. x.1 ≤ room) }
+    ensures gives { Gives (read_as declaration_tree) result (declaration_within context.room tokens.now) }
+    ensures low { IfOk result (λ x. x.1 ≤ context.room) }
 {
-    if room == 0 {
+    if context.room == 0 {
         return Err(Halt::TooDeep(tokens.len()));
     }
-    declaration(alloc, room - 1, tokens)
+    declaration(context.inner(), tokens)
 }
 
 /// Members that are declared together, and the semicolon behind them (C11 6.7.2.1).
 #[tactic(auto, using(crate::proofs::CodeDeclarations::declarator_steps))]
 fn declarators(
-    alloc: Global,
-    room: u8,
+    context: Context,
     tokens: &[Terminal],
 ) -> Result<(Vec<Declarator>, u32, &[Terminal]), Halt>
-    ensures gives { Gives (read_as (listed declarator_tree)) result (declarators room (length tokens.now) [] 0 tokens.now) }
-    ensures low { IfOk result (λ x. x.1 ≤ room + 1) }
+    ensures gives { Gives (read_as (listed declarator_tree)) result (declarators context.room (length tokens.now) [] 0 tokens.now) }
+    ensures low { IfOk result (λ x. x.1 ≤ context.room + 1) }
 {
-    let mut declarators = Vec::new(alloc);
+    let mut declarators = Vec::new(context.alloc);
     let mut height: u32 = 0;
     let mut rest = tokens;
     for _ in 0..tokens.len() {
-        let (item, high, after) = declarator(alloc, room, rest)?;
+        let (item, high, after) = declarator(context, rest)?;
         declarators.push(item)?;
         height = height.max(high + 1);
         if starts(Punctuator::Semicolon, after) {
@@ -355,34 +332,29 @@ fn declarators(
 
 /// A group of members with their type (C11 6.7.2.1).
 #[tactic(auto, unfolding(qs_grammar::specs::ParseDeclarations::members))]
-fn members(
-    alloc: Global,
-    room: u8,
-    tokens: &[Terminal],
-) -> Result<(Members, u32, &[Terminal]), Halt>
-    ensures gives { Gives (read_as members_tree) result (members room tokens.now) }
-    ensures low { IfOk result (λ x. x.1 ≤ room + 1) }
+fn members(context: Context, tokens: &[Terminal]) -> Result<(Members, u32, &[Terminal]), Halt>
+    ensures gives { Gives (read_as members_tree) result (members context.room tokens.now) }
+    ensures low { IfOk result (λ x. x.1 ≤ context.room + 1) }
 {
-    let (base, rest) = type_of(alloc, tokens)?;
-    let (declarators, height, rest) = declarators(alloc, room, rest)?;
+    let (base, rest) = type_of(context.alloc, tokens)?;
+    let (declarators, height, rest) = declarators(context, rest)?;
     Ok((Members { base, declarators }, height, rest))
 }
 
 /// The groups of a struct's members, and the brace behind them (C11 6.7.2.1).
 #[tactic(auto, using(crate::proofs::CodeDeclarations::group_steps))]
 pub fn groups(
-    alloc: Global,
-    room: u8,
+    context: Context,
     tokens: &[Terminal],
 ) -> Result<(Vec<Members>, u32, &[Terminal]), Halt>
-    ensures gives { Gives (read_as (listed members_tree)) result (groups room (length tokens.now) [] 0 tokens.now) }
-    ensures low { IfOk result (λ x. x.1 ≤ room + 1) }
+    ensures gives { Gives (read_as (listed members_tree)) result (groups context.room (length tokens.now) [] 0 tokens.now) }
+    ensures low { IfOk result (λ x. x.1 ≤ context.room + 1) }
 {
-    let mut groups = Vec::new(alloc);
+    let mut groups = Vec::new(context.alloc);
     let mut height: u32 = 0;
     let mut rest = tokens;
     for _ in 0..tokens.len() {
-        let (group, high, after) = members(alloc, room, rest)?;
+        let (group, high, after) = members(context, rest)?;
         groups.push(group)?;
         height = height.max(high);
         if starts(Punctuator::CloseBrace, after) {
@@ -396,18 +368,17 @@ pub fn groups(
 
 /// A parameter, behind its name.
 fn bracketed(
-    alloc: Global,
-    room: u8,
+    context: Context,
     token: u32,
     base: Base,
     stars: u32,
     name: Option<Name>,
     tokens: &[Terminal],
 ) -> Result<(Parameter, u32, &[Terminal]), Halt>
-    ensures gives { Gives (read_as parameter_tree) result (bracketed room token base stars name tokens.now) }
-    ensures low { IfOk result (λ x. x.1 ≤ room + 1) }
+    ensures gives { Gives (read_as parameter_tree) result (bracketed context.room token base stars name tokens.now) }
+    ensures low { IfOk result (λ x. x.1 ≤ context.room + 1) }
 {
-    let (lengths, height, rest) = lengths(alloc, room, tokens)?;
+    let (lengths, height, rest) = lengths(context, tokens)?;
     let parameter = Parameter {
         node: Node { id: 0, token },
         type_name: TypeName { base, stars },
@@ -419,22 +390,21 @@ fn bracketed(
 
 /// A parameter, behind its stars. `start` is the place of its first token.
 fn with_name(
-    alloc: Global,
-    room: u8,
+    context: Context,
     start: u32,
     base: Base,
     stars: u32,
     tokens: &[Terminal],
 ) -> Result<(Parameter, u32, &[Terminal]), Halt>
-    ensures gives { Gives (read_as parameter_tree) result (with_name room start base stars tokens.now) }
-    ensures low { IfOk result (λ x. x.1 ≤ room + 1) }
+    ensures gives { Gives (read_as parameter_tree) result (with_name context.room start base stars tokens.now) }
+    ensures low { IfOk result (λ x. x.1 ≤ context.room + 1) }
 {
     match tokens {
         [Terminal::Name(at, name), rest @ ..] => {
-            let name = Some(name.copy(alloc)?);
-            bracketed(alloc, room, *at, base, stars, name, rest)
+            let name = Some(name.copy(context.alloc)?);
+            bracketed(context, *at, base, stars, name, rest)
         }
-        _ => bracketed(alloc, room, start, base, stars, None, tokens),
+        _ => bracketed(context, start, base, stars, None, tokens),
     }
 }
 
@@ -463,37 +433,32 @@ fn without_first(tokens: &[Terminal]) -> &[Terminal]
 
 /// A parameter (C11 6.7.6.3).
 #[tactic(auto, unfolding(qs_grammar::specs::ParseDeclarations::parameter))]
-fn parameter(
-    alloc: Global,
-    room: u8,
-    tokens: &[Terminal],
-) -> Result<(Parameter, u32, &[Terminal]), Halt>
-    ensures gives { Gives (read_as parameter_tree) result (parameter room tokens.now) }
-    ensures low { IfOk result (λ x. x.1 ≤ room + 1) }
+fn parameter(context: Context, tokens: &[Terminal]) -> Result<(Parameter, u32, &[Terminal]), Halt>
+    ensures gives { Gives (read_as parameter_tree) result (parameter context.room tokens.now) }
+    ensures low { IfOk result (λ x. x.1 ≤ context.room + 1) }
 {
     if is_void_alone(tokens) {
         return Err(Halt::Unexpected(without_first(tokens).len()));
     }
-    let (base, rest) = type_of(alloc, tokens)?;
+    let (base, rest) = type_of(context.alloc, tokens)?;
     let (stars, rest) = stars(rest)?;
-    with_name(alloc, room, place(tokens), base, stars, rest)
+    with_name(context, place(tokens), base, stars, rest)
 }
 
 /// The parameters of a header, and the parenthesis behind them.
 #[tactic(auto, using(crate::proofs::CodeDeclarations::parameter_steps))]
 fn parameters(
-    alloc: Global,
-    room: u8,
+    context: Context,
     tokens: &[Terminal],
 ) -> Result<(Vec<Parameter>, u32, &[Terminal]), Halt>
-    ensures gives { Gives (read_as (listed parameter_tree)) result (parameters room (length tokens.now) [] 0 tokens.now) }
-    ensures low { IfOk result (λ x. x.1 ≤ room + 1) }
+    ensures gives { Gives (read_as (listed parameter_tree)) result (parameters context.room (length tokens.now) [] 0 tokens.now) }
+    ensures low { IfOk result (λ x. x.1 ≤ context.room + 1) }
 {
-    let mut parameters = Vec::new(alloc);
+    let mut parameters = Vec::new(context.alloc);
     let mut height: u32 = 0;
     let mut rest = tokens;
     for _ in 0..tokens.len() {
-        let (item, high, after) = parameter(alloc, room, rest)?;
+        let (item, high, after) = parameter(context, rest)?;
         parameters.push(item)?;
         height = height.max(high);
         if starts(Punctuator::CloseParenthesis, after) {
@@ -520,20 +485,19 @@ fn is_void_head(tokens: &[Terminal]) -> bool
 /// The parameters of a header and the parenthesis at their end, behind the first (C11 6.7.6.3).
 #[tactic(auto, unfolding(qs_grammar::specs::ParseDeclarations::head))]
 pub fn head(
-    alloc: Global,
-    room: u8,
+    context: Context,
     tokens: &[Terminal],
 ) -> Result<(Vec<Parameter>, u32, &[Terminal]), Halt>
-    ensures gives { Gives (read_as (listed parameter_tree)) result (head room tokens.now) }
-    ensures low { IfOk result (λ x. x.1 ≤ room + 1) }
+    ensures gives { Gives (read_as (listed parameter_tree)) result (head context.room tokens.now) }
+    ensures low { IfOk result (λ x. x.1 ≤ context.room + 1) }
 {
     if starts(Punctuator::CloseParenthesis, tokens) {
         let rest = expect(Punctuator::CloseParenthesis, tokens)?;
-        return Ok((Vec::new(alloc), 0, rest));
+        return Ok((Vec::new(context.alloc), 0, rest));
     }
     if is_void_head(tokens) {
         let rest = expect(Punctuator::CloseParenthesis, without_first(tokens))?;
-        return Ok((Vec::new(alloc), 0, rest));
+        return Ok((Vec::new(context.alloc), 0, rest));
     }
-    parameters(alloc, room, tokens)
+    parameters(context, tokens)
 }

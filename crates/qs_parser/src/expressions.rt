@@ -1,6 +1,6 @@
-// Expressions (C11 6.5). In all functions at most `room` levels are left for the parts of what is read,
-// and each answers the expression, how high its reading is, and what stands behind it. An operand that was
-// read before comes with its height, and `start` is the place of its first token.
+// Expressions (C11 6.5). In all functions at most `context.room` levels are left for the parts of what is
+// read, and each answers the expression, how high its reading is, and what stands behind it. An operand that
+// was read before comes with its height, and `start` is the place of its first token.
 ghost use Rattle.std.specs.Prelude.{◌≡◌, ◌+◌, ◌≤◌, length, [], ◌∷◌, Ok, IfOk};
 ghost use Rattle.qs_syntax.specs.declared.terminal.Terminal.TheVariants as terminals;
 ghost use Rattle.qs_syntax.specs.TreeOf.{expr_tree};
@@ -9,6 +9,7 @@ ghost use Rattle.qs_grammar.specs.Parse.{expect, texts_from, arguments, call_of,
 ghost use Rattle.qs_grammar.specs.Operands.{right_operand};
 ghost use Rattle.qs_parser.specs.View.{Gives, behind_of, read_as, listed, texts_of, form_of};
 
+use crate::context::Context;
 use crate::fault::Halt;
 use crate::heads::{
     access_at, assign_at, begins_cast, begins_one, expect, expect_name, is_punctuator,
@@ -59,54 +60,52 @@ fn texts_from<'a>(
     Ok((Text::new(bytes), rest))
 }
 
-/// What is at most `room` high.
+/// What is at most `context.room` high.
 #[cycle(parser)]
 #[tactic(auto, using(crate::proofs::CodeExpressions::part_steps))]
 pub fn part(
-    alloc: Global,
-    room: u8,
+    context: Context,
     form: Form,
     tokens: &[Terminal],
 ) -> Result<(Expr, u32, &[Terminal]), Halt>
-    ensures gives { Gives (read_as expr_tree) result (part room (form_of form) tokens.now) }
-    ensures low { IfOk result (λ x. x.1 ≤ room) }
+    ensures gives { Gives (read_as expr_tree) result (part context.room (form_of form) tokens.now) }
+    ensures low { IfOk result (λ x. x.1 ≤ context.room) }
 {
-    if room == 0 {
+    if context.room == 0 {
         if begins_one(tokens) {
             return Err(Halt::TooDeep(tokens.len()));
         }
         return Err(Halt::Unexpected(tokens.len()));
     }
-    expression(alloc, room - 1, form, tokens)
+    expression(context.inner(), form, tokens)
 }
 
 /// An expression of this form.
 #[cycle(parser)]
 #[tactic(auto, unfolding(qs_grammar::specs::Parse::expression))]
 fn expression(
-    alloc: Global,
-    room: u8,
+    context: Context,
     form: Form,
     tokens: &[Terminal],
 ) -> Result<(Expr, u32, &[Terminal]), Halt>
-    ensures gives { Gives (read_as expr_tree) result (expression room (part room) (form_of form) tokens.now) }
-    ensures low { IfOk result (λ x. x.1 ≤ room + 1) }
+    ensures gives { Gives (read_as expr_tree) result (expression context.room (part context.room) (form_of form) tokens.now) }
+    ensures low { IfOk result (λ x. x.1 ≤ context.room + 1) }
 {
     match form {
-        Form::Postfix => postfix(alloc, room, tokens),
-        Form::Unary => unary(alloc, room, tokens),
+        Form::Postfix => postfix(context, tokens),
+        Form::Unary => unary(context, tokens),
         Form::Level(level) => {
-            let (left, height, rest) = cast_or_unary(alloc, room, tokens)?;
-            climb(alloc, room, level, place(tokens), left, height, rest)
+            let (left, height, rest) = cast_or_unary(context, tokens)?;
+            climb(context, level, place(tokens), left, height, rest)
         }
         Form::Conditional => {
-            let (left, height, rest) = cast_or_unary(alloc, room, tokens)?;
-            after_operand(alloc, room, place(tokens), left, height, rest)
+            let (left, height, rest) = cast_or_unary(context, tokens)?;
+            after_operand(context, place(tokens), left, height, rest)
         }
-        Form::Assignment => assignment(alloc, room, tokens),
+        Form::Assignment => assignment(context, tokens),
         Form::Expression => {
-            let (left, height, rest) = assignment(alloc, room, tokens)?;
-            commas(alloc, room, place(tokens), left, height, rest)
+            let (left, height, rest) = assignment(context, tokens)?;
+            commas(context, place(tokens), left, height, rest)
         }
     }
 }
@@ -114,19 +113,15 @@ fn expression(
 /// The arguments of a call, and the parenthesis behind them.
 #[cycle(parser)]
 #[tactic(auto, using(crate::proofs::CodeExpressions::argument_steps))]
-fn arguments(
-    alloc: Global,
-    room: u8,
-    tokens: &[Terminal],
-) -> Result<(Vec<Expr>, u32, &[Terminal]), Halt>
-    ensures gives { Gives (read_as (listed expr_tree)) result (arguments room (part room) (length tokens.now) [] 0 tokens.now) }
-    ensures low { IfOk result (λ x. x.1 ≤ room) }
+fn arguments(context: Context, tokens: &[Terminal]) -> Result<(Vec<Expr>, u32, &[Terminal]), Halt>
+    ensures gives { Gives (read_as (listed expr_tree)) result (arguments context.room (part context.room) (length tokens.now) [] 0 tokens.now) }
+    ensures low { IfOk result (λ x. x.1 ≤ context.room) }
 {
-    let mut items = Vec::new(alloc);
+    let mut items = Vec::new(context.alloc);
     let mut height: u32 = 0;
     let mut rest = tokens;
     for _ in 0..tokens.len() {
-        let (item, high, after) = part(alloc, room, Form::Assignment, rest)?;
+        let (item, high, after) = part(context, Form::Assignment, rest)?;
         items.push(item)?;
         height = height.max(high);
         if starts(Punctuator::CloseParenthesis, after) {
@@ -141,38 +136,36 @@ fn arguments(
 /// A call, behind its opening parenthesis.
 #[cycle(parser)]
 fn call_of(
-    alloc: Global,
-    room: u8,
+    context: Context,
     at: u32,
     name: Name,
     tokens: &[Terminal],
 ) -> Result<(Expr, u32, &[Terminal]), Halt>
-    ensures gives { Gives (read_as expr_tree) result (call_of room (part room) at name tokens.now) }
-    ensures low { IfOk result (λ x. x.1 ≤ room + 1) }
+    ensures gives { Gives (read_as expr_tree) result (call_of context.room (part context.room) at name tokens.now) }
+    ensures low { IfOk result (λ x. x.1 ≤ context.room + 1) }
 {
     if starts(Punctuator::CloseParenthesis, tokens) {
         let rest = expect(Punctuator::CloseParenthesis, tokens)?;
-        return Ok((nodes::call(at, name, Vec::new(alloc)), 1, rest));
+        return Ok((nodes::call(at, name, Vec::new(context.alloc)), 1, rest));
     }
-    let (items, height, rest) = arguments(alloc, room, tokens)?;
+    let (items, height, rest) = arguments(context, tokens)?;
     Ok((nodes::call(at, name, items), height + 1, rest))
 }
 
 /// What a name begins: a call, or the name alone.
 #[cycle(parser)]
 fn after_name(
-    alloc: Global,
-    room: u8,
+    context: Context,
     at: u32,
     name: Name,
     tokens: &[Terminal],
 ) -> Result<(Expr, u32, &[Terminal]), Halt>
-    ensures gives { Gives (read_as expr_tree) result (after_name room (part room) at name tokens.now) }
-    ensures low { IfOk result (λ x. x.1 ≤ room + 1) }
+    ensures gives { Gives (read_as expr_tree) result (after_name context.room (part context.room) at name tokens.now) }
+    ensures low { IfOk result (λ x. x.1 ≤ context.room + 1) }
 {
     if starts(Punctuator::OpenParenthesis, tokens) {
         let rest = expect(Punctuator::OpenParenthesis, tokens)?;
-        return call_of(alloc, room, at, name, rest);
+        return call_of(context, at, name, rest);
     }
     Ok((nodes::name(at, name), 1, tokens))
 }
@@ -192,15 +185,11 @@ pub fn followed(
 
 /// An expression in parentheses, behind the first.
 #[cycle(parser)]
-fn in_parentheses(
-    alloc: Global,
-    room: u8,
-    tokens: &[Terminal],
-) -> Result<(Expr, u32, &[Terminal]), Halt>
-    ensures gives { Gives (read_as expr_tree) result (in_parentheses room (part room) tokens.now) }
-    ensures low { IfOk result (λ x. x.1 ≤ room + 1) }
+fn in_parentheses(context: Context, tokens: &[Terminal]) -> Result<(Expr, u32, &[Terminal]), Halt>
+    ensures gives { Gives (read_as expr_tree) result (in_parentheses context.room (part context.room) tokens.now) }
+    ensures low { IfOk result (λ x. x.1 ≤ context.room + 1) }
 {
-    let (inner, height, rest) = part(alloc, room, Form::Expression, tokens)?;
+    let (inner, height, rest) = part(context, Form::Expression, tokens)?;
     let (inner, rest) = followed(inner, Punctuator::CloseParenthesis, rest)?;
     Ok((inner, height + 1, rest))
 }
@@ -208,26 +197,26 @@ fn in_parentheses(
 /// An operand without suffixes (C11 6.5.1), or a call.
 #[cycle(parser)]
 #[tactic(auto, unfolding(qs_grammar::specs::Parse::primary))]
-fn primary(alloc: Global, room: u8, tokens: &[Terminal]) -> Result<(Expr, u32, &[Terminal]), Halt>
-    ensures gives { Gives (read_as expr_tree) result (primary room (part room) tokens.now) }
-    ensures low { IfOk result (λ x. x.1 ≤ room + 1) }
+fn primary(context: Context, tokens: &[Terminal]) -> Result<(Expr, u32, &[Terminal]), Halt>
+    ensures gives { Gives (read_as expr_tree) result (primary context.room (part context.room) tokens.now) }
+    ensures low { IfOk result (λ x. x.1 ≤ context.room + 1) }
 {
     match tokens {
         [Terminal::Name(at, name), rest @ ..] => {
-            after_name(alloc, room, *at, name.copy(alloc)?, rest)
+            after_name(context, *at, name.copy(context.alloc)?, rest)
         }
         [Terminal::Constant(at, value, is_unsigned), rest @ ..] => {
             Ok((nodes::constant(*at, *value, *is_unsigned), 1, rest))
         }
         [Terminal::Text(at, first), rest @ ..] => {
-            let (text, rest) = texts_from(alloc, first, rest)?;
+            let (text, rest) = texts_from(context.alloc, first, rest)?;
             Ok((nodes::text(*at, text), 1, rest))
         }
         [Terminal::Punctuator(..), rest @ ..] if starts(Punctuator::OpenParenthesis, tokens) => {
-            if room == 0 {
+            if context.room == 0 {
                 return Err(Halt::TooDeep(tokens.len()));
             }
-            in_parentheses(alloc, room, rest)
+            in_parentheses(context, rest)
         }
         _ => Err(Halt::Unexpected(tokens.len())),
     }
@@ -236,19 +225,18 @@ fn primary(alloc: Global, room: u8, tokens: &[Terminal]) -> Result<(Expr, u32, &
 /// An element of an array, behind `[`.
 #[cycle(parser)]
 fn index_of(
-    alloc: Global,
-    room: u8,
+    context: Context,
     start: u32,
     array: Box<Expr>,
     height: u32,
     tokens: &[Terminal],
 ) -> Result<(Expr, u32, &[Terminal]), Halt>
-    requires low { height ≤ room }
-    ensures gives { Gives (read_as expr_tree) result (index_of room (part room) start (expr_tree array.value, height) tokens.now) }
-    ensures low { IfOk result (λ x. x.1 ≤ room + 1) }
+    requires low { height ≤ context.room }
+    ensures gives { Gives (read_as expr_tree) result (index_of context.room (part context.room) start (expr_tree array.value, height) tokens.now) }
+    ensures low { IfOk result (λ x. x.1 ≤ context.room + 1) }
 {
-    let (at, high, rest) = part(alloc, room, Form::Expression, tokens)?;
-    let at = Box::new(alloc, at)?;
+    let (at, high, rest) = part(context, Form::Expression, tokens)?;
+    let at = Box::new(context.alloc, at)?;
     let rest = expect(Punctuator::CloseBracket, rest)?;
     Ok((
         nodes::subscript(start, array, at),
@@ -259,41 +247,39 @@ fn index_of(
 
 /// A member, behind `.` or `->`.
 fn member_of(
-    alloc: Global,
-    room: u8,
+    context: Context,
     start: u32,
     object: Box<Expr>,
     height: u32,
     access: Access,
     tokens: &[Terminal],
 ) -> Result<(Expr, u32, &[Terminal]), Halt>
-    requires low { height ≤ room }
-    ensures gives { Gives (read_as expr_tree) result (member_of room (part room) start (expr_tree object.value, height) access tokens.now) }
-    ensures low { IfOk result (λ x. x.1 ≤ room + 1) }
+    requires low { height ≤ context.room }
+    ensures gives { Gives (read_as expr_tree) result (member_of context.room (part context.room) start (expr_tree object.value, height) access tokens.now) }
+    ensures low { IfOk result (λ x. x.1 ≤ context.room + 1) }
 {
-    let (_at, name, rest) = expect_name(alloc, tokens)?;
+    let (_at, name, rest) = expect_name(context.alloc, tokens)?;
     Ok((nodes::member(start, access, object, name), height + 1, rest))
 }
 
 /// What the first token does with an operand, where it begins a suffix.
 #[cycle(parser)]
 fn suffix(
-    alloc: Global,
-    room: u8,
+    context: Context,
     start: u32,
     left: Box<Expr>,
     height: u32,
     tokens: &[Terminal],
 ) -> Result<(Expr, u32, &[Terminal]), Halt>
-    requires low { height ≤ room }
-    ensures gives { Gives (read_as expr_tree) result (suffix room (part room) start (expr_tree left.value, height) tokens.now) }
-    ensures low { IfOk result (λ x. x.1 ≤ room + 1) }
+    requires low { height ≤ context.room }
+    ensures gives { Gives (read_as expr_tree) result (suffix context.room (part context.room) start (expr_tree left.value, height) tokens.now) }
+    ensures low { IfOk result (λ x. x.1 ≤ context.room + 1) }
 {
     let [first, rest @ ..] = tokens else {
         return Err(Halt::Unexpected(0));
     };
     if is_punctuator(Punctuator::OpenBracket, first) {
-        return index_of(alloc, room, start, left, height, rest);
+        return index_of(context, start, left, height, rest);
     }
     if is_punctuator(Punctuator::Increment, first) {
         let node = nodes::step(start, StepOperator::IncrementAfter, left);
@@ -305,7 +291,7 @@ fn suffix(
     }
     match access_at(tokens) {
         None => Err(Halt::Unexpected(rest.len())),
-        Some(access) => member_of(alloc, room, start, left, height, access, rest),
+        Some(access) => member_of(context, start, left, height, access, rest),
     }
 }
 
@@ -313,16 +299,15 @@ fn suffix(
 #[cycle(parser)]
 #[tactic(auto, using(crate::proofs::CodeExpressions::suffix_steps))]
 fn suffixes(
-    alloc: Global,
-    room: u8,
+    context: Context,
     start: u32,
     left: Expr,
     height: u32,
     tokens: &[Terminal],
 ) -> Result<(Expr, u32, &[Terminal]), Halt>
-    requires low { height ≤ room + 1 }
-    ensures gives { Gives (read_as expr_tree) result (suffixes room (part room) (length tokens.now) start (expr_tree left, height) tokens.now) }
-    ensures low { IfOk result (λ x. x.1 ≤ room + 1) }
+    requires low { height ≤ context.room + 1 }
+    ensures gives { Gives (read_as expr_tree) result (suffixes context.room (part context.room) (length tokens.now) start (expr_tree left, height) tokens.now) }
+    ensures low { IfOk result (λ x. x.1 ≤ context.room + 1) }
 {
     let mut left = left;
     let mut height = height;
@@ -331,11 +316,11 @@ fn suffixes(
         if !starts_suffix(rest) {
             return Ok((left, height, rest));
         }
-        let operand = Box::new(alloc, left)?;
-        if height > u32::from(room) {
+        let operand = Box::new(context.alloc, left)?;
+        if height > u32::from(context.room) {
             return Err(Halt::TooDeep(rest.len()));
         }
-        let (node, high, after) = suffix(alloc, room, start, operand, height, rest)?;
+        let (node, high, after) = suffix(context, start, operand, height, rest)?;
         left = node;
         height = high;
         rest = after;
@@ -345,45 +330,43 @@ fn suffixes(
 
 /// An operand with its suffixes (C11 6.5.2).
 #[cycle(parser)]
-fn postfix(alloc: Global, room: u8, tokens: &[Terminal]) -> Result<(Expr, u32, &[Terminal]), Halt>
-    ensures gives { Gives (read_as expr_tree) result (postfix room (part room) tokens.now) }
-    ensures low { IfOk result (λ x. x.1 ≤ room + 1) }
+fn postfix(context: Context, tokens: &[Terminal]) -> Result<(Expr, u32, &[Terminal]), Halt>
+    ensures gives { Gives (read_as expr_tree) result (postfix context.room (part context.room) tokens.now) }
+    ensures low { IfOk result (λ x. x.1 ≤ context.room + 1) }
 {
-    let (operand, height, rest) = primary(alloc, room, tokens)?;
-    suffixes(alloc, room, place(tokens), operand, height, rest)
+    let (operand, height, rest) = primary(context, tokens)?;
+    suffixes(context, place(tokens), operand, height, rest)
 }
 
 /// A step by one, behind its operator (C11 6.5.3.1).
 #[cycle(parser)]
 fn step_of(
-    alloc: Global,
-    room: u8,
+    context: Context,
     at: u32,
     operator: StepOperator,
     tokens: &[Terminal],
 ) -> Result<(Expr, u32, &[Terminal]), Halt>
-    ensures gives { Gives (read_as expr_tree) result (step_of room (part room) at operator tokens.now) }
-    ensures low { IfOk result (λ x. x.1 ≤ room + 1) }
+    ensures gives { Gives (read_as expr_tree) result (step_of context.room (part context.room) at operator tokens.now) }
+    ensures low { IfOk result (λ x. x.1 ≤ context.room + 1) }
 {
-    let (operand, height, rest) = part(alloc, room, Form::Unary, tokens)?;
-    let operand = Box::new(alloc, operand)?;
+    let (operand, height, rest) = part(context, Form::Unary, tokens)?;
+    let operand = Box::new(context.alloc, operand)?;
     Ok((nodes::step(at, operator, operand), height + 1, rest))
 }
 
 /// An operand, behind its unary operator (C11 6.5.3.2, 6.5.3.3).
 #[cycle(parser)]
 fn operator_of(
-    alloc: Global,
-    room: u8,
+    context: Context,
     at: u32,
     operator: UnaryOperator,
     tokens: &[Terminal],
 ) -> Result<(Expr, u32, &[Terminal]), Halt>
-    ensures gives { Gives (read_as expr_tree) result (operator_of room (part room) at operator tokens.now) }
-    ensures low { IfOk result (λ x. x.1 ≤ room + 1) }
+    ensures gives { Gives (read_as expr_tree) result (operator_of context.room (part context.room) at operator tokens.now) }
+    ensures low { IfOk result (λ x. x.1 ≤ context.room + 1) }
 {
-    let (operand, height, rest) = part(alloc, room, Form::Level(0), tokens)?;
-    let operand = Box::new(alloc, operand)?;
+    let (operand, height, rest) = part(context, Form::Level(0), tokens)?;
+    let operand = Box::new(context.alloc, operand)?;
     Ok((nodes::unary(at, operator, operand), height + 1, rest))
 }
 
@@ -408,26 +391,21 @@ fn size_at_limit(tokens: &[Terminal]) -> Result<(Expr, u32, &[Terminal]), Halt>
 
 /// The operand of `sizeof`: a type in parentheses, or an expression (C11 6.5.3.4).
 #[cycle(parser)]
-fn size_of(
-    alloc: Global,
-    room: u8,
-    at: u32,
-    tokens: &[Terminal],
-) -> Result<(Expr, u32, &[Terminal]), Halt>
-    ensures gives { Gives (read_as expr_tree) result (size_of room (part room) at tokens.now) }
-    ensures low { IfOk result (λ x. x.1 ≤ room + 1) }
+fn size_of(context: Context, at: u32, tokens: &[Terminal]) -> Result<(Expr, u32, &[Terminal]), Halt>
+    ensures gives { Gives (read_as expr_tree) result (size_of context.room (part context.room) at tokens.now) }
+    ensures low { IfOk result (λ x. x.1 ≤ context.room + 1) }
 {
     if begins_cast(tokens) {
         let rest = expect(Punctuator::OpenParenthesis, tokens)?;
-        let (name, rest) = type_name(alloc, rest)?;
+        let (name, rest) = type_name(context.alloc, rest)?;
         let rest = expect(Punctuator::CloseParenthesis, rest)?;
         return Ok((nodes::sizeof_type(at, name), 1, rest));
     }
-    if room <= 1 && starts(Punctuator::OpenParenthesis, tokens) {
+    if context.room <= 1 && starts(Punctuator::OpenParenthesis, tokens) {
         return size_at_limit(tokens);
     }
-    let (operand, height, rest) = part(alloc, room, Form::Unary, tokens)?;
-    let operand = Box::new(alloc, operand)?;
+    let (operand, height, rest) = part(context, Form::Unary, tokens)?;
+    let operand = Box::new(context.alloc, operand)?;
     Ok((nodes::sizeof_expr(at, operand), height + 1, rest))
 }
 
@@ -435,44 +413,43 @@ fn size_of(
 #[cycle(parser)]
 #[tactic(auto, unfolding(qs_grammar::specs::Parse::unary_of_all))]
 fn marked<'a>(
-    alloc: Global,
-    room: u8,
+    context: Context,
     at: u32,
     punctuator: Punctuator,
     tokens: &'a [Terminal],
     rest: &'a [Terminal],
 ) -> Result<(Expr, u32, &'a [Terminal]), Halt>
     requires first { tokens.now ≡ terminals.Punctuator at punctuator ∷ rest.now }
-    ensures gives { Gives (read_as expr_tree) result (unary_of_all room (part room) tokens.now) }
-    ensures low { IfOk result (λ x. x.1 ≤ room + 1) }
+    ensures gives { Gives (read_as expr_tree) result (unary_of_all context.room (part context.room) tokens.now) }
+    ensures low { IfOk result (λ x. x.1 ≤ context.room + 1) }
 {
     let is_increment = starts(Punctuator::Increment, tokens);
     let is_decrement = starts(Punctuator::Decrement, tokens);
     let operator = UnaryOperator::of(punctuator);
     if !is_increment && !is_decrement && operator.is_none() {
-        return postfix(alloc, room, tokens);
+        return postfix(context, tokens);
     }
-    if room == 0 {
+    if context.room == 0 {
         return Err(Halt::TooDeep(tokens.len()));
     }
     if is_increment {
-        return step_of(alloc, room, at, StepOperator::IncrementBefore, rest);
+        return step_of(context, at, StepOperator::IncrementBefore, rest);
     }
     if is_decrement {
-        return step_of(alloc, room, at, StepOperator::DecrementBefore, rest);
+        return step_of(context, at, StepOperator::DecrementBefore, rest);
     }
     match operator {
-        Some(operator) => operator_of(alloc, room, at, operator, rest),
-        None => postfix(alloc, room, tokens),
+        Some(operator) => operator_of(context, at, operator, rest),
+        None => postfix(context, tokens),
     }
 }
 
 /// A unary expression (C11 6.5.3).
 #[cycle(parser)]
 #[tactic(auto, unfolding(qs_grammar::specs::Parse::unary_of_all))]
-fn unary(alloc: Global, room: u8, tokens: &[Terminal]) -> Result<(Expr, u32, &[Terminal]), Halt>
-    ensures gives { Gives (read_as expr_tree) result (unary_of_all room (part room) tokens.now) }
-    ensures low { IfOk result (λ x. x.1 ≤ room + 1) }
+fn unary(context: Context, tokens: &[Terminal]) -> Result<(Expr, u32, &[Terminal]), Halt>
+    ensures gives { Gives (read_as expr_tree) result (unary_of_all context.room (part context.room) tokens.now) }
+    ensures low { IfOk result (λ x. x.1 ≤ context.room + 1) }
 {
     match tokens {
         [] => Err(Halt::Unexpected(0)),
@@ -480,72 +457,61 @@ fn unary(alloc: Global, room: u8, tokens: &[Terminal]) -> Result<(Expr, u32, &[T
             if !starts_with(Keyword::Sizeof, tokens) {
                 return Err(Halt::Unexpected(tokens.len()));
             }
-            size_of(alloc, room, *at, rest)
+            size_of(context, *at, rest)
         }
         [Terminal::Punctuator(at, punctuator), rest @ ..] => marked(
-            alloc,
-            room,
+            context,
             *at,
             *punctuator,
             tokens,
             rest,
         ),
-        _ => postfix(alloc, room, tokens),
+        _ => postfix(context, tokens),
     }
 }
 
 /// A cast, behind its opening parenthesis (C11 6.5.4).
 #[cycle(parser)]
-fn cast_of(
-    alloc: Global,
-    room: u8,
-    at: u32,
-    tokens: &[Terminal],
-) -> Result<(Expr, u32, &[Terminal]), Halt>
-    ensures gives { Gives (read_as expr_tree) result (cast_of room (part room) at tokens.now) }
-    ensures low { IfOk result (λ x. x.1 ≤ room + 1) }
+fn cast_of(context: Context, at: u32, tokens: &[Terminal]) -> Result<(Expr, u32, &[Terminal]), Halt>
+    ensures gives { Gives (read_as expr_tree) result (cast_of context.room (part context.room) at tokens.now) }
+    ensures low { IfOk result (λ x. x.1 ≤ context.room + 1) }
 {
-    let (to, rest) = type_name(alloc, tokens)?;
+    let (to, rest) = type_name(context.alloc, tokens)?;
     let rest = expect(Punctuator::CloseParenthesis, rest)?;
-    let (operand, height, rest) = part(alloc, room, Form::Level(0), rest)?;
-    let operand = Box::new(alloc, operand)?;
+    let (operand, height, rest) = part(context, Form::Level(0), rest)?;
+    let operand = Box::new(context.alloc, operand)?;
     Ok((nodes::cast(at, to, operand), height + 1, rest))
 }
 
 /// A cast or a unary expression (C11 6.5.4).
 #[cycle(parser)]
-fn cast_or_unary(
-    alloc: Global,
-    room: u8,
-    tokens: &[Terminal],
-) -> Result<(Expr, u32, &[Terminal]), Halt>
-    ensures gives { Gives (read_as expr_tree) result (cast_or_unary room (part room) tokens.now) }
-    ensures low { IfOk result (λ x. x.1 ≤ room + 1) }
+fn cast_or_unary(context: Context, tokens: &[Terminal]) -> Result<(Expr, u32, &[Terminal]), Halt>
+    ensures gives { Gives (read_as expr_tree) result (cast_or_unary context.room (part context.room) tokens.now) }
+    ensures low { IfOk result (λ x. x.1 ≤ context.room + 1) }
 {
     if !begins_cast(tokens) {
-        return unary(alloc, room, tokens);
+        return unary(context, tokens);
     }
-    if room == 0 {
+    if context.room == 0 {
         return Err(Halt::TooDeep(tokens.len()));
     }
     let rest = expect(Punctuator::OpenParenthesis, tokens)?;
-    cast_of(alloc, room, place(tokens), rest)
+    cast_of(context, place(tokens), rest)
 }
 
 /// The right operand of the operator that is the first token.
 #[cycle(parser)]
 fn right_operand(
-    alloc: Global,
-    room: u8,
+    context: Context,
     level: u8,
     tokens: &[Terminal],
 ) -> Result<(Expr, u32, &[Terminal]), Halt>
-    ensures gives { Gives (read_as expr_tree) result (right_operand (part room) level tokens.now) }
-    ensures low { IfOk result (λ x. x.1 ≤ room) }
+    ensures gives { Gives (read_as expr_tree) result (right_operand (part context.room) level tokens.now) }
+    ensures low { IfOk result (λ x. x.1 ≤ context.room) }
 {
     match tokens {
         [] => Err(Halt::Unexpected(0)),
-        [_, rest @ ..] => part(alloc, room, Form::Level(level), rest),
+        [_, rest @ ..] => part(context, Form::Level(level), rest),
     }
 }
 
@@ -553,17 +519,16 @@ fn right_operand(
 #[cycle(parser)]
 #[tactic(auto, using(crate::proofs::CodeOperations::operation_steps))]
 fn operations(
-    alloc: Global,
-    room: u8,
+    context: Context,
     level: u8,
     start: u32,
     left: Expr,
     height: u32,
     tokens: &[Terminal],
 ) -> Result<(Expr, u32, &[Terminal]), Halt>
-    requires low { height ≤ room + 1 }
-    ensures gives { Gives (read_as expr_tree) result (operations room (part room) (length tokens.now) level start (expr_tree left, height) tokens.now) }
-    ensures low { IfOk result (λ x. x.1 ≤ room + 1) }
+    requires low { height ≤ context.room + 1 }
+    ensures gives { Gives (read_as expr_tree) result (operations context.room (part context.room) (length tokens.now) level start (expr_tree left, height) tokens.now) }
+    ensures low { IfOk result (λ x. x.1 ≤ context.room + 1) }
 {
     let mut left = left;
     let mut height = height;
@@ -572,12 +537,12 @@ fn operations(
         let Some(operator) = level_operator_at(level, rest) else {
             return Ok((left, height, rest));
         };
-        let operand = Box::new(alloc, left)?;
-        if height > u32::from(room) {
+        let operand = Box::new(context.alloc, left)?;
+        if height > u32::from(context.room) {
             return Err(Halt::TooDeep(rest.len()));
         }
-        let (right, high, after) = right_operand(alloc, room, level, rest)?;
-        let right = Box::new(alloc, right)?;
+        let (right, high, after) = right_operand(context, level, rest)?;
+        let right = Box::new(context.alloc, right)?;
         left = nodes::binary(start, operator, operand, right);
         height = height.max(high) + 1;
         rest = after;
@@ -589,52 +554,50 @@ fn operations(
 #[cycle(parser)]
 #[tactic(auto, unfolding(qs_grammar::specs::Parse::climb))]
 fn climb(
-    alloc: Global,
-    room: u8,
+    context: Context,
     level: u8,
     start: u32,
     left: Expr,
     height: u32,
     tokens: &[Terminal],
 ) -> Result<(Expr, u32, &[Terminal]), Halt>
-    requires low { height ≤ room + 1 }
-    ensures gives { Gives (read_as expr_tree) result (climb room (part room) level start (expr_tree left, height) tokens.now) }
-    ensures low { IfOk result (λ x. x.1 ≤ room + 1) }
+    requires low { height ≤ context.room + 1 }
+    ensures gives { Gives (read_as expr_tree) result (climb context.room (part context.room) level start (expr_tree left, height) tokens.now) }
+    ensures low { IfOk result (λ x. x.1 ≤ context.room + 1) }
 {
     if level == 0 {
         return Ok((left, height, tokens));
     }
-    let (left, height, rest) = climb(alloc, room, level - 1, start, left, height, tokens)?;
-    operations(alloc, room, level - 1, start, left, height, rest)
+    let (left, height, rest) = climb(context, level - 1, start, left, height, tokens)?;
+    operations(context, level - 1, start, left, height, rest)
 }
 
 /// What stands behind a condition: `?` and two operands, or nothing (C11 6.5.15).
 #[cycle(parser)]
 fn after_or(
-    alloc: Global,
-    room: u8,
+    context: Context,
     start: u32,
     condition: Expr,
     height: u32,
     tokens: &[Terminal],
 ) -> Result<(Expr, u32, &[Terminal]), Halt>
-    requires low { height ≤ room + 1 }
-    ensures gives { Gives (read_as expr_tree) result (after_or room (part room) start (expr_tree condition, height) tokens.now) }
-    ensures low { IfOk result (λ x. x.1 ≤ room + 1) }
+    requires low { height ≤ context.room + 1 }
+    ensures gives { Gives (read_as expr_tree) result (after_or context.room (part context.room) start (expr_tree condition, height) tokens.now) }
+    ensures low { IfOk result (λ x. x.1 ≤ context.room + 1) }
 {
     if !starts(Punctuator::Question, tokens) {
         return Ok((condition, height, tokens));
     }
-    let condition = Box::new(alloc, condition)?;
-    if height > u32::from(room) {
+    let condition = Box::new(context.alloc, condition)?;
+    if height > u32::from(context.room) {
         return Err(Halt::TooDeep(tokens.len()));
     }
     let rest = expect(Punctuator::Question, tokens)?;
-    let (yes, yes_high, rest) = part(alloc, room, Form::Expression, rest)?;
-    let yes = Box::new(alloc, yes)?;
+    let (yes, yes_high, rest) = part(context, Form::Expression, rest)?;
+    let yes = Box::new(context.alloc, yes)?;
     let rest = expect(Punctuator::Colon, rest)?;
-    let (no, no_high, rest) = part(alloc, room, Form::Conditional, rest)?;
-    let no = Box::new(alloc, no)?;
+    let (no, no_high, rest) = part(context, Form::Conditional, rest)?;
+    let no = Box::new(context.alloc, no)?;
     let node = nodes::conditional(start, condition, yes, no);
     Ok((node, height.max(yes_high.max(no_high)) + 1, rest))
 }
@@ -642,48 +605,46 @@ fn after_or(
 /// What stands behind an operand that is no left side of an assignment.
 #[cycle(parser)]
 fn after_operand(
-    alloc: Global,
-    room: u8,
+    context: Context,
     start: u32,
     left: Expr,
     height: u32,
     tokens: &[Terminal],
 ) -> Result<(Expr, u32, &[Terminal]), Halt>
-    requires low { height ≤ room + 1 }
-    ensures gives { Gives (read_as expr_tree) result (after_operand room (part room) start (expr_tree left, height) tokens.now) }
-    ensures low { IfOk result (λ x. x.1 ≤ room + 1) }
+    requires low { height ≤ context.room + 1 }
+    ensures gives { Gives (read_as expr_tree) result (after_operand context.room (part context.room) start (expr_tree left, height) tokens.now) }
+    ensures low { IfOk result (λ x. x.1 ≤ context.room + 1) }
 {
-    let (left, height, rest) = climb(alloc, room, 10, start, left, height, tokens)?;
-    after_or(alloc, room, start, left, height, rest)
+    let (left, height, rest) = climb(context, 10, start, left, height, tokens)?;
+    after_or(context, start, left, height, rest)
 }
 
 /// What stands behind an operand: this assignment and its right side, or operators.
 #[cycle(parser)]
 fn assignment_of(
-    alloc: Global,
-    room: u8,
+    context: Context,
     start: u32,
     left: Expr,
     height: u32,
     operator: Option<AssignmentOperator>,
     tokens: &[Terminal],
 ) -> Result<(Expr, u32, &[Terminal]), Halt>
-    requires low { height ≤ room + 1 }
-    ensures gives { Gives (read_as expr_tree) result (assignment_of room (part room) start (expr_tree left, height) operator tokens.now) }
-    ensures low { IfOk result (λ x. x.1 ≤ room + 1) }
+    requires low { height ≤ context.room + 1 }
+    ensures gives { Gives (read_as expr_tree) result (assignment_of context.room (part context.room) start (expr_tree left, height) operator tokens.now) }
+    ensures low { IfOk result (λ x. x.1 ≤ context.room + 1) }
 {
     let Some(operator) = operator else {
-        return after_operand(alloc, room, start, left, height, tokens);
+        return after_operand(context, start, left, height, tokens);
     };
     let [_, rest @ ..] = tokens else {
         return Ok((left, height, tokens));
     };
-    let left = Box::new(alloc, left)?;
-    if height > u32::from(room) {
+    let left = Box::new(context.alloc, left)?;
+    if height > u32::from(context.room) {
         return Err(Halt::TooDeep(tokens.len()));
     }
-    let (right, high, rest) = part(alloc, room, Form::Assignment, rest)?;
-    let right = Box::new(alloc, right)?;
+    let (right, high, rest) = part(context, Form::Assignment, rest)?;
+    let right = Box::new(context.alloc, right)?;
     let node = nodes::assign(start, operator, left, right);
     Ok((node, height.max(high) + 1, rest))
 }
@@ -691,52 +652,46 @@ fn assignment_of(
 /// What stands behind an operand that may be the left side of an assignment.
 #[cycle(parser)]
 fn after_unary(
-    alloc: Global,
-    room: u8,
+    context: Context,
     start: u32,
     left: Expr,
     height: u32,
     tokens: &[Terminal],
 ) -> Result<(Expr, u32, &[Terminal]), Halt>
-    requires low { height ≤ room + 1 }
-    ensures gives { Gives (read_as expr_tree) result (after_unary room (part room) start (expr_tree left, height) tokens.now) }
-    ensures low { IfOk result (λ x. x.1 ≤ room + 1) }
+    requires low { height ≤ context.room + 1 }
+    ensures gives { Gives (read_as expr_tree) result (after_unary context.room (part context.room) start (expr_tree left, height) tokens.now) }
+    ensures low { IfOk result (λ x. x.1 ≤ context.room + 1) }
 {
-    assignment_of(alloc, room, start, left, height, assign_at(tokens), tokens)
+    assignment_of(context, start, left, height, assign_at(tokens), tokens)
 }
 
 /// An assignment expression (C11 6.5.16).
 #[cycle(parser)]
-fn assignment(
-    alloc: Global,
-    room: u8,
-    tokens: &[Terminal],
-) -> Result<(Expr, u32, &[Terminal]), Halt>
-    ensures gives { Gives (read_as expr_tree) result (assignment room (part room) tokens.now) }
-    ensures low { IfOk result (λ x. x.1 ≤ room + 1) }
+fn assignment(context: Context, tokens: &[Terminal]) -> Result<(Expr, u32, &[Terminal]), Halt>
+    ensures gives { Gives (read_as expr_tree) result (assignment context.room (part context.room) tokens.now) }
+    ensures low { IfOk result (λ x. x.1 ≤ context.room + 1) }
 {
     if begins_cast(tokens) {
-        let (left, height, rest) = cast_or_unary(alloc, room, tokens)?;
-        return after_operand(alloc, room, place(tokens), left, height, rest);
+        let (left, height, rest) = cast_or_unary(context, tokens)?;
+        return after_operand(context, place(tokens), left, height, rest);
     }
-    let (left, height, rest) = unary(alloc, room, tokens)?;
-    after_unary(alloc, room, place(tokens), left, height, rest)
+    let (left, height, rest) = unary(context, tokens)?;
+    after_unary(context, place(tokens), left, height, rest)
 }
 
 /// The operands behind commas (C11 6.5.17).
 #[cycle(parser)]
 #[tactic(auto, using(crate::proofs::CodeExpressions::comma_steps))]
 fn commas(
-    alloc: Global,
-    room: u8,
+    context: Context,
     start: u32,
     left: Expr,
     height: u32,
     tokens: &[Terminal],
 ) -> Result<(Expr, u32, &[Terminal]), Halt>
-    requires low { height ≤ room + 1 }
-    ensures gives { Gives (read_as expr_tree) result (commas room (part room) (length tokens.now) start (expr_tree left, height) tokens.now) }
-    ensures low { IfOk result (λ x. x.1 ≤ room + 1) }
+    requires low { height ≤ context.room + 1 }
+    ensures gives { Gives (read_as expr_tree) result (commas context.room (part context.room) (length tokens.now) start (expr_tree left, height) tokens.now) }
+    ensures low { IfOk result (λ x. x.1 ≤ context.room + 1) }
 {
     let mut left = left;
     let mut height = height;
@@ -745,13 +700,13 @@ fn commas(
         if !starts(Punctuator::Comma, rest) {
             return Ok((left, height, rest));
         }
-        let operand = Box::new(alloc, left)?;
-        if height > u32::from(room) {
+        let operand = Box::new(context.alloc, left)?;
+        if height > u32::from(context.room) {
             return Err(Halt::TooDeep(rest.len()));
         }
         let behind = expect(Punctuator::Comma, rest)?;
-        let (right, high, after) = part(alloc, room, Form::Assignment, behind)?;
-        let right = Box::new(alloc, right)?;
+        let (right, high, after) = part(context, Form::Assignment, behind)?;
+        let right = Box::new(context.alloc, right)?;
         left = nodes::comma(start, operand, right);
         height = height.max(high) + 1;
         rest = after;

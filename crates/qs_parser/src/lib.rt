@@ -2,6 +2,7 @@
 //! at most 128.
 #![tactic(auto)]
 
+mod context;
 mod declarations;
 mod expressions;
 mod fault;

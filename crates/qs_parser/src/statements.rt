@@ -1,5 +1,5 @@
-// Statements (C11 6.8). In all functions at most `room` levels are left for the parts of a node, and each
-// answers what is read, how high it is, and what stands behind it. `at` is the place of a first token.
+// Statements (C11 6.8). In all functions at most `context.room` levels are left for the parts of a node, and
+// each answers what is read, how high it is, and what stands behind it. `at` is the place of a first token.
 ghost use Rattle.std.specs.Prelude.{◌≡◌, ◌+◌, ◌≤◌, ◌||◌, length, [], ◌∷◌, IfOk};
 ghost use Rattle.qs_base.specs.declared.keyword.Keyword.TheVariants as keywords;
 ghost use Rattle.qs_syntax.specs.Operators.{number_of};
@@ -9,6 +9,7 @@ ghost use Rattle.qs_grammar.specs.ParseStatements.{optional, condition, start_of
 ghost use Rattle.qs_parser.specs.View.{Gives, read_as, boxed_tree, second_tree, listed, rest_of};
 ghost use Rattle.qs_parser.specs.Turns.{step_tree, turn_tree, step_and_body, turn_of};
 
+use crate::context::Context;
 use crate::declarations::declaration_within;
 use crate::expressions::{Form, followed, part};
 use crate::fault::Halt;
@@ -17,52 +18,50 @@ use crate::heads::{
 };
 use crate::statement_nodes as nodes;
 use qs_syntax::{Expr, Keyword, Punctuator, Start, Stmt, Terminal};
-use std::alloc::Global;
 
 /// An expression, if there is one, and the punctuator behind it.
 fn optional(
-    alloc: Global,
-    room: u8,
+    context: Context,
     punctuator: Punctuator,
     tokens: &[Terminal],
 ) -> Result<(Option<Expr>, u32, &[Terminal]), Halt>
-    ensures gives { Gives (read_as option_tree) result (optional room punctuator tokens.now) }
-    ensures low { IfOk result (λ x. x.1 ≤ room) }
+    ensures gives { Gives (read_as option_tree) result (optional context.room punctuator tokens.now) }
+    ensures low { IfOk result (λ x. x.1 ≤ context.room) }
 {
     if starts(punctuator, tokens) {
         let rest = expect(punctuator, tokens)?;
         return Ok((None, 0, rest));
     }
-    let (expression, height, rest) = part(alloc, room, Form::Expression, tokens)?;
+    let (expression, height, rest) = part(context, Form::Expression, tokens)?;
     let (expression, rest) = followed(expression, punctuator, rest)?;
     Ok((Some(expression), height, rest))
 }
 
 /// An expression in parentheses.
-fn condition(alloc: Global, room: u8, tokens: &[Terminal]) -> Result<(Expr, u32, &[Terminal]), Halt>
-    ensures gives { Gives (read_as expr_tree) result (condition room tokens.now) }
-    ensures low { IfOk result (λ x. x.1 ≤ room) }
+fn condition(context: Context, tokens: &[Terminal]) -> Result<(Expr, u32, &[Terminal]), Halt>
+    ensures gives { Gives (read_as expr_tree) result (condition context.room tokens.now) }
+    ensures low { IfOk result (λ x. x.1 ≤ context.room) }
 {
     let rest = expect(Punctuator::OpenParenthesis, tokens)?;
-    let (expression, height, rest) = part(alloc, room, Form::Expression, rest)?;
+    let (expression, height, rest) = part(context, Form::Expression, rest)?;
     let (expression, rest) = followed(expression, Punctuator::CloseParenthesis, rest)?;
     Ok((expression, height, rest))
 }
 
 /// What a `for` begins with, and the semicolon behind it (C11 6.8.5.3).
-fn start_of(alloc: Global, room: u8, tokens: &[Terminal]) -> Result<(Start, u32, &[Terminal]), Halt>
-    ensures gives { Gives (read_as start_tree) result (start_of room tokens.now) }
-    ensures low { IfOk result (λ x. x.1 ≤ room) }
+fn start_of(context: Context, tokens: &[Terminal]) -> Result<(Start, u32, &[Terminal]), Halt>
+    ensures gives { Gives (read_as start_tree) result (start_of context.room tokens.now) }
+    ensures low { IfOk result (λ x. x.1 ≤ context.room) }
 {
     if begins_type(tokens) {
-        let (declaration, height, rest) = declaration_within(alloc, room, tokens)?;
+        let (declaration, height, rest) = declaration_within(context, tokens)?;
         return Ok((Start::Declaration(declaration), height, rest));
     }
     if starts(Punctuator::Semicolon, tokens) {
         let rest = expect(Punctuator::Semicolon, tokens)?;
         return Ok((Start::Nothing, 0, rest));
     }
-    let (expression, height, rest) = part(alloc, room, Form::Expression, tokens)?;
+    let (expression, height, rest) = part(context, Form::Expression, tokens)?;
     let (expression, rest) = followed(expression, Punctuator::Semicolon, rest)?;
     Ok((Start::Expression(expression), height, rest))
 }
@@ -101,24 +100,23 @@ fn expect_while(tokens: &[Terminal]) -> Result<&[Terminal], Halt>
 
 /// `return`, behind its keyword (C11 6.8.6.4).
 fn after_return(
-    alloc: Global,
-    room: u8,
+    context: Context,
     at: u32,
     tokens: &[Terminal],
 ) -> Result<(Stmt, u32, &[Terminal]), Halt>
-    ensures gives { Gives (read_as stmt_tree) result (after_return room (statement room) at tokens.now) }
-    ensures low { IfOk result (λ x. x.1 ≤ room + 1) }
+    ensures gives { Gives (read_as stmt_tree) result (after_return context.room (statement context.room) at tokens.now) }
+    ensures low { IfOk result (λ x. x.1 ≤ context.room + 1) }
 {
-    let (value, height, rest) = optional(alloc, room, Punctuator::Semicolon, tokens)?;
+    let (value, height, rest) = optional(context, Punctuator::Semicolon, tokens)?;
     Ok((nodes::returned(at, value), height + 1, rest))
 }
 
 /// An expression and the semicolon behind it (C11 6.8.3).
-fn running(alloc: Global, room: u8, tokens: &[Terminal]) -> Result<(Stmt, u32, &[Terminal]), Halt>
-    ensures gives { Gives (read_as stmt_tree) result (running room (statement room) tokens.now) }
-    ensures low { IfOk result (λ x. x.1 ≤ room + 1) }
+fn running(context: Context, tokens: &[Terminal]) -> Result<(Stmt, u32, &[Terminal]), Halt>
+    ensures gives { Gives (read_as stmt_tree) result (running context.room (statement context.room) tokens.now) }
+    ensures low { IfOk result (λ x. x.1 ≤ context.room + 1) }
 {
-    let (expression, height, rest) = part(alloc, room, Form::Expression, tokens)?;
+    let (expression, height, rest) = part(context, Form::Expression, tokens)?;
     let (expression, rest) = followed(expression, Punctuator::Semicolon, rest)?;
     Ok((
         nodes::expression(place(tokens), expression),
@@ -129,15 +127,14 @@ fn running(alloc: Global, room: u8, tokens: &[Terminal]) -> Result<(Stmt, u32, &
 
 /// A statement that has no statement as a part. The tokens are the first and the rest.
 fn plain_statement<'a>(
-    alloc: Global,
-    room: u8,
+    context: Context,
     first: &Terminal,
     rest: &'a [Terminal],
     tokens: &'a [Terminal],
 ) -> Result<(Stmt, u32, &'a [Terminal]), Halt>
     requires all { tokens.now ≡ first.now ∷ rest.now }
-    ensures gives { Gives (read_as stmt_tree) result (plain_statement room (statement room) (number_of first.now) first.now rest.now) }
-    ensures low { IfOk result (λ x. x.1 ≤ room + 1) }
+    ensures gives { Gives (read_as stmt_tree) result (plain_statement context.room (statement context.room) (number_of first.now) first.now rest.now) }
+    ensures low { IfOk result (λ x. x.1 ≤ context.room + 1) }
 {
     let at = place(tokens);
     if is_keyword(Keyword::Break, first) {
@@ -149,9 +146,9 @@ fn plain_statement<'a>(
         return Ok((nodes::continued(at), 1, rest));
     }
     if is_keyword(Keyword::Return, first) {
-        return after_return(alloc, room, at, rest);
+        return after_return(context, at, rest);
     }
-    running(alloc, room, tokens)
+    running(context, tokens)
 }
 
 /// Whether a statement that begins with this token has a statement as a part.
@@ -164,61 +161,53 @@ fn is_nesting(first: &Terminal) -> bool
         || is_keyword(Keyword::For, first)
 }
 
-/// A statement that is at most `room` high.
+/// A statement that is at most `context.room` high.
 #[cycle(statement)]
 #[tactic(auto, using(crate::proofs::CodeStatements::statement_cases))]
-fn statement(alloc: Global, room: u8, tokens: &[Terminal]) -> Result<(Stmt, u32, &[Terminal]), Halt>
-    ensures gives { Gives (read_as stmt_tree) result (statement room tokens.now) }
-    ensures low { IfOk result (λ x. x.1 ≤ room) }
+fn statement(context: Context, tokens: &[Terminal]) -> Result<(Stmt, u32, &[Terminal]), Halt>
+    ensures gives { Gives (read_as stmt_tree) result (statement context.room tokens.now) }
+    ensures low { IfOk result (λ x. x.1 ≤ context.room) }
 {
-    if room == 0 {
+    if context.room == 0 {
         if begins_statement(tokens) {
             return Err(Halt::TooDeep(tokens.len()));
         }
         return Err(Halt::Unexpected(tokens.len()));
     }
-    statement_at(alloc, room - 1, tokens)
+    statement_at(context.inner(), tokens)
 }
 
-/// A statement that is at most `room` high, in a box of its own.
+/// A statement that is at most `context.room` high, in a box of its own.
 #[cycle(statement)]
-fn boxed(
-    alloc: Global,
-    room: u8,
-    tokens: &[Terminal],
-) -> Result<(Box<Stmt>, u32, &[Terminal]), Halt>
-    ensures gives { Gives (read_as boxed_tree) result (statement room tokens.now) }
-    ensures low { IfOk result (λ x. x.1 ≤ room) }
+fn boxed(context: Context, tokens: &[Terminal]) -> Result<(Box<Stmt>, u32, &[Terminal]), Halt>
+    ensures gives { Gives (read_as boxed_tree) result (statement context.room tokens.now) }
+    ensures low { IfOk result (λ x. x.1 ≤ context.room) }
 {
-    let (found, height, rest) = statement(alloc, room, tokens)?;
-    Ok((Box::new(alloc, found)?, height, rest))
+    let (found, height, rest) = statement(context, tokens)?;
+    Ok((Box::new(context.alloc, found)?, height, rest))
 }
 
 /// A statement or a declaration of a block (C11 6.8.2).
 #[cycle(statement)]
-fn item(alloc: Global, room: u8, tokens: &[Terminal]) -> Result<(Stmt, u32, &[Terminal]), Halt>
-    ensures gives { Gives (read_as stmt_tree) result (item room (statement room) tokens.now) }
-    ensures low { IfOk result (λ x. x.1 ≤ room) }
+fn item(context: Context, tokens: &[Terminal]) -> Result<(Stmt, u32, &[Terminal]), Halt>
+    ensures gives { Gives (read_as stmt_tree) result (item context.room (statement context.room) tokens.now) }
+    ensures low { IfOk result (λ x. x.1 ≤ context.room) }
 {
     if begins_type(tokens) {
-        let (declaration, height, rest) = declaration_within(alloc, room, tokens)?;
+        let (declaration, height, rest) = declaration_within(context, tokens)?;
         return Ok((Stmt::Declaration(declaration), height, rest));
     }
-    statement(alloc, room, tokens)
+    statement(context, tokens)
 }
 
 /// The items of a block, and the brace behind them.
 #[cycle(statement)]
 #[tactic(auto, using(crate::proofs::CodeStatements::item_steps))]
-pub fn items(
-    alloc: Global,
-    room: u8,
-    tokens: &[Terminal],
-) -> Result<(Vec<Stmt>, u32, &[Terminal]), Halt>
-    ensures gives { Gives (read_as (listed stmt_tree)) result (items room (statement room) (length tokens.now) [] 0 tokens.now) }
-    ensures low { IfOk result (λ x. x.1 ≤ room) }
+pub fn items(context: Context, tokens: &[Terminal]) -> Result<(Vec<Stmt>, u32, &[Terminal]), Halt>
+    ensures gives { Gives (read_as (listed stmt_tree)) result (items context.room (statement context.room) (length tokens.now) [] 0 tokens.now) }
+    ensures low { IfOk result (λ x. x.1 ≤ context.room) }
 {
-    let mut items = Vec::new(alloc);
+    let mut items = Vec::new(context.alloc);
     let mut height: u32 = 0;
     let mut rest = tokens;
     for _ in 0..tokens.len() {
@@ -226,7 +215,7 @@ pub fn items(
             let behind = expect(Punctuator::CloseBrace, rest)?;
             return Ok((items, height, behind));
         }
-        let (found, high, after) = item(alloc, room, rest)?;
+        let (found, high, after) = item(context, rest)?;
         items.push(found)?;
         height = height.max(high);
         rest = after;
@@ -236,23 +225,22 @@ pub fn items(
 
 /// A block, behind its brace (C11 6.8.2).
 #[cycle(statement)]
-fn in_block(alloc: Global, room: u8, tokens: &[Terminal]) -> Result<(Stmt, u32, &[Terminal]), Halt>
-    ensures gives { Gives (read_as stmt_tree) result (in_block room (statement room) tokens.now) }
-    ensures low { IfOk result (λ x. x.1 ≤ room + 1) }
+fn in_block(context: Context, tokens: &[Terminal]) -> Result<(Stmt, u32, &[Terminal]), Halt>
+    ensures gives { Gives (read_as stmt_tree) result (in_block context.room (statement context.room) tokens.now) }
+    ensures low { IfOk result (λ x. x.1 ≤ context.room + 1) }
 {
-    let (items, height, rest) = items(alloc, room, tokens)?;
+    let (items, height, rest) = items(context, tokens)?;
     Ok((nodes::block(items), height + 1, rest))
 }
 
 /// `else` and what follows it, if it stands here.
 #[cycle(statement)]
 fn otherwise(
-    alloc: Global,
-    room: u8,
+    context: Context,
     tokens: &[Terminal],
 ) -> Result<(Option<Box<Stmt>>, u32, &[Terminal]), Halt>
-    ensures gives { Gives (read_as second_tree) result (otherwise room (statement room) tokens.now) }
-    ensures low { IfOk result (λ x. x.1 ≤ room) }
+    ensures gives { Gives (read_as second_tree) result (otherwise context.room (statement context.room) tokens.now) }
+    ensures low { IfOk result (λ x. x.1 ≤ context.room) }
 {
     if !starts_with(Keyword::Else, tokens) {
         return Ok((None, 0, tokens));
@@ -260,24 +248,23 @@ fn otherwise(
     let [_, rest @ ..] = tokens else {
         return Err(Halt::Unexpected(0));
     };
-    let (second, height, rest) = boxed(alloc, room, rest)?;
+    let (second, height, rest) = boxed(context, rest)?;
     Ok((Some(second), height, rest))
 }
 
 /// `if`, behind its keyword (C11 6.8.4.1).
 #[cycle(statement)]
 fn after_if(
-    alloc: Global,
-    room: u8,
+    context: Context,
     at: u32,
     tokens: &[Terminal],
 ) -> Result<(Stmt, u32, &[Terminal]), Halt>
-    ensures gives { Gives (read_as stmt_tree) result (after_if room (statement room) at tokens.now) }
-    ensures low { IfOk result (λ x. x.1 ≤ room + 1) }
+    ensures gives { Gives (read_as stmt_tree) result (after_if context.room (statement context.room) at tokens.now) }
+    ensures low { IfOk result (λ x. x.1 ≤ context.room + 1) }
 {
-    let (condition, condition_height, rest) = condition(alloc, room, tokens)?;
-    let (first, first_height, rest) = boxed(alloc, room, rest)?;
-    let (second, second_height, rest) = otherwise(alloc, room, rest)?;
+    let (condition, condition_height, rest) = condition(context, tokens)?;
+    let (first, first_height, rest) = boxed(context, rest)?;
+    let (second, second_height, rest) = otherwise(context, rest)?;
     let height = condition_height.max(first_height.max(second_height));
     let node = nodes::branch(at, condition, first, second);
     Ok((node, height + 1, rest))
@@ -286,16 +273,15 @@ fn after_if(
 /// `while`, behind its keyword (C11 6.8.5.1).
 #[cycle(statement)]
 fn after_while(
-    alloc: Global,
-    room: u8,
+    context: Context,
     at: u32,
     tokens: &[Terminal],
 ) -> Result<(Stmt, u32, &[Terminal]), Halt>
-    ensures gives { Gives (read_as stmt_tree) result (after_while room (statement room) at tokens.now) }
-    ensures low { IfOk result (λ x. x.1 ≤ room + 1) }
+    ensures gives { Gives (read_as stmt_tree) result (after_while context.room (statement context.room) at tokens.now) }
+    ensures low { IfOk result (λ x. x.1 ≤ context.room + 1) }
 {
-    let (condition, height, rest) = condition(alloc, room, tokens)?;
-    let (body, high, rest) = boxed(alloc, room, rest)?;
+    let (condition, height, rest) = condition(context, tokens)?;
+    let (body, high, rest) = boxed(context, rest)?;
     let node = nodes::while_loop(at, condition, body);
     Ok((node, height.max(high) + 1, rest))
 }
@@ -303,17 +289,16 @@ fn after_while(
 /// `do`, behind its keyword (C11 6.8.5.2).
 #[cycle(statement)]
 fn after_do(
-    alloc: Global,
-    room: u8,
+    context: Context,
     at: u32,
     tokens: &[Terminal],
 ) -> Result<(Stmt, u32, &[Terminal]), Halt>
-    ensures gives { Gives (read_as stmt_tree) result (after_do room (statement room) at tokens.now) }
-    ensures low { IfOk result (λ x. x.1 ≤ room + 1) }
+    ensures gives { Gives (read_as stmt_tree) result (after_do context.room (statement context.room) at tokens.now) }
+    ensures low { IfOk result (λ x. x.1 ≤ context.room + 1) }
 {
-    let (body, height, rest) = boxed(alloc, room, tokens)?;
+    let (body, height, rest) = boxed(context, tokens)?;
     let rest = expect_while(rest)?;
-    let (condition, high, rest) = condition(alloc, room, rest)?;
+    let (condition, high, rest) = condition(context, rest)?;
     let (condition, rest) = followed(condition, Punctuator::Semicolon, rest)?;
     let node = nodes::do_loop(at, body, condition);
     Ok((node, height.max(high) + 1, rest))
@@ -329,26 +314,25 @@ struct Turn {
 /// The step of a `for`, the parenthesis behind it, and the body.
 #[cycle(statement)]
 fn step_and_body(
-    alloc: Global,
-    room: u8,
+    context: Context,
     tokens: &[Terminal],
 ) -> Result<((Option<Expr>, Box<Stmt>), u32, &[Terminal]), Halt>
-    ensures gives { Gives (read_as step_tree) result (step_and_body room (statement room) tokens.now) }
-    ensures low { IfOk result (λ x. x.1 ≤ room) }
+    ensures gives { Gives (read_as step_tree) result (step_and_body context.room (statement context.room) tokens.now) }
+    ensures low { IfOk result (λ x. x.1 ≤ context.room) }
 {
-    let (step, height, rest) = optional(alloc, room, Punctuator::CloseParenthesis, tokens)?;
-    let (body, high, rest) = boxed(alloc, room, rest)?;
+    let (step, height, rest) = optional(context, Punctuator::CloseParenthesis, tokens)?;
+    let (body, high, rest) = boxed(context, rest)?;
     Ok(((step, body), height.max(high), rest))
 }
 
 /// What stands behind what a `for` begins with.
 #[cycle(statement)]
-fn turn_of(alloc: Global, room: u8, tokens: &[Terminal]) -> Result<(Turn, u32, &[Terminal]), Halt>
-    ensures gives { Gives (read_as turn_tree) result (turn_of room (statement room) tokens.now) }
-    ensures low { IfOk result (λ x. x.1 ≤ room) }
+fn turn_of(context: Context, tokens: &[Terminal]) -> Result<(Turn, u32, &[Terminal]), Halt>
+    ensures gives { Gives (read_as turn_tree) result (turn_of context.room (statement context.room) tokens.now) }
+    ensures low { IfOk result (λ x. x.1 ≤ context.room) }
 {
-    let (condition, height, rest) = optional(alloc, room, Punctuator::Semicolon, tokens)?;
-    let ((step, body), high, rest) = step_and_body(alloc, room, rest)?;
+    let (condition, height, rest) = optional(context, Punctuator::Semicolon, tokens)?;
+    let ((step, body), high, rest) = step_and_body(context, rest)?;
     let turn = Turn {
         condition,
         step,
@@ -360,17 +344,16 @@ fn turn_of(alloc: Global, room: u8, tokens: &[Terminal]) -> Result<(Turn, u32, &
 /// `for`, behind its keyword (C11 6.8.5.3).
 #[cycle(statement)]
 fn after_for(
-    alloc: Global,
-    room: u8,
+    context: Context,
     at: u32,
     tokens: &[Terminal],
 ) -> Result<(Stmt, u32, &[Terminal]), Halt>
-    ensures gives { Gives (read_as stmt_tree) result (after_for room (statement room) at tokens.now) }
-    ensures low { IfOk result (λ x. x.1 ≤ room + 1) }
+    ensures gives { Gives (read_as stmt_tree) result (after_for context.room (statement context.room) at tokens.now) }
+    ensures low { IfOk result (λ x. x.1 ≤ context.room + 1) }
 {
     let rest = expect(Punctuator::OpenParenthesis, tokens)?;
-    let (start, height, rest) = start_of(alloc, room, rest)?;
-    let (turn, high, rest) = match turn_of(alloc, room, rest) {
+    let (start, height, rest) = start_of(context, rest)?;
+    let (turn, high, rest) = match turn_of(context, rest) {
         Ok(read) => read,
         Err(halt) => return Err(halt),
     };
@@ -386,44 +369,39 @@ fn after_for(
 /// A statement that begins with a word, or an expression. The tokens are the first and the rest.
 #[cycle(statement)]
 fn keyword_statement<'a>(
-    alloc: Global,
-    room: u8,
+    context: Context,
     first: &Terminal,
     rest: &'a [Terminal],
     tokens: &'a [Terminal],
 ) -> Result<(Stmt, u32, &'a [Terminal]), Halt>
     requires all { tokens.now ≡ first.now ∷ rest.now }
-    ensures gives { Gives (read_as stmt_tree) result (keyword_statement room (statement room) (number_of first.now) first.now rest.now) }
-    ensures low { IfOk result (λ x. x.1 ≤ room + 1) }
+    ensures gives { Gives (read_as stmt_tree) result (keyword_statement context.room (statement context.room) (number_of first.now) first.now rest.now) }
+    ensures low { IfOk result (λ x. x.1 ≤ context.room + 1) }
 {
     let at = place(tokens);
-    if room == 0 && is_nesting(first) {
+    if context.room == 0 && is_nesting(first) {
         return Err(Halt::TooDeep(tokens.len()));
     }
     if is_keyword(Keyword::If, first) {
-        return after_if(alloc, room, at, rest);
+        return after_if(context, at, rest);
     }
     if is_keyword(Keyword::While, first) {
-        return after_while(alloc, room, at, rest);
+        return after_while(context, at, rest);
     }
     if is_keyword(Keyword::Do, first) {
-        return after_do(alloc, room, at, rest);
+        return after_do(context, at, rest);
     }
     if is_keyword(Keyword::For, first) {
-        return after_for(alloc, room, at, rest);
+        return after_for(context, at, rest);
     }
-    plain_statement(alloc, room, first, rest, tokens)
+    plain_statement(context, first, rest, tokens)
 }
 
-/// A statement (C11 6.8) with at most `room` levels for its parts.
+/// A statement (C11 6.8) with at most `context.room` levels for its parts.
 #[cycle(statement)]
-fn statement_at(
-    alloc: Global,
-    room: u8,
-    tokens: &[Terminal],
-) -> Result<(Stmt, u32, &[Terminal]), Halt>
-    ensures gives { Gives (read_as stmt_tree) result (statement_at room (statement room) tokens.now) }
-    ensures low { IfOk result (λ x. x.1 ≤ room + 1) }
+fn statement_at(context: Context, tokens: &[Terminal]) -> Result<(Stmt, u32, &[Terminal]), Halt>
+    ensures gives { Gives (read_as stmt_tree) result (statement_at context.room (statement context.room) tokens.now) }
+    ensures low { IfOk result (λ x. x.1 ≤ context.room + 1) }
 {
     let [first, rest @ ..] = tokens else {
         return Err(Halt::Unexpected(0));
@@ -432,7 +410,7 @@ fn statement_at(
         return Ok((nodes::empty(place(tokens)), 1, rest));
     }
     if is_punctuator(Punctuator::OpenBrace, first) {
-        return in_block(alloc, room, rest);
+        return in_block(context, rest);
     }
-    keyword_statement(alloc, room, first, rest, tokens)
+    keyword_statement(context, first, rest, tokens)
 }

@@ -1,9 +1,10 @@
-// What stands at file scope (C11 6.9). What is read is at most `room + 2` high.
+// What stands at file scope (C11 6.9). What is read is at most `context.room + 2` high.
 ghost use Rattle.std.specs.Prelude.{◌≡◌, ◌+◌, ◌<◌, ◌≤◌, length, [], IfOk, option_map};
 ghost use Rattle.qs_syntax.specs.TreeOf.{decl_tree, stmts_tree};
 ghost use Rattle.qs_grammar.specs.ParseStatements.{is_named, struct_of, forward_of, body_of, function_of, typed, external, is_empty, externals, unit};
 ghost use Rattle.qs_parser.specs.View.{Gives, read_as, listed, parameters_of, function_with, unit_of};
 
+use crate::context::Context;
 use crate::declarations::{declared, groups, head};
 use crate::fault::Halt;
 use crate::heads::{expect, expect_name, is_keyword, place, starts};
@@ -31,17 +32,16 @@ fn is_named(punctuator: Punctuator, tokens: &[Terminal]) -> bool
 
 /// A struct with its members, behind `struct` (C11 6.7.2.1).
 fn struct_of(
-    alloc: Global,
-    room: u8,
+    context: Context,
     token: u32,
     tokens: &[Terminal],
 ) -> Result<(Decl, u32, &[Terminal]), Halt>
-    ensures gives { Gives (read_as decl_tree) result (struct_of room token tokens.now) }
-    ensures low { IfOk result (λ x. x.1 ≤ room + 2) }
+    ensures gives { Gives (read_as decl_tree) result (struct_of context.room token tokens.now) }
+    ensures low { IfOk result (λ x. x.1 ≤ context.room + 2) }
 {
-    let (_at, name, rest) = expect_name(alloc, tokens)?;
+    let (_at, name, rest) = expect_name(context.alloc, tokens)?;
     let rest = expect(Punctuator::OpenBrace, rest)?;
-    let (members, height, rest) = groups(alloc, room, rest)?;
+    let (members, height, rest) = groups(context, rest)?;
     let rest = expect(Punctuator::Semicolon, rest)?;
     let found = Struct {
         node: Node { id: 0, token },
@@ -101,40 +101,38 @@ fn function(header: Header, body: Option<Vec<Stmt>>) -> Decl
 /// What stands behind a header's parameters: a semicolon or a body (C11 6.7.6.3, 6.9.1).
 #[tactic(auto, unfolding(qs_grammar::specs::ParseStatements::body_of))]
 fn body_of(
-    alloc: Global,
-    room: u8,
+    context: Context,
     header: Header,
     height: u32,
     tokens: &[Terminal],
 ) -> Result<(Decl, u32, &[Terminal]), Halt>
-    requires low { height ≤ room + 1 }
-    ensures gives { Gives (read_as decl_tree) result (body_of room header.token header.base header.stars header.name (parameters_of header, height) tokens.now) }
-    ensures low { IfOk result (λ x. x.1 ≤ room + 2) }
+    requires low { height ≤ context.room + 1 }
+    ensures gives { Gives (read_as decl_tree) result (body_of context.room header.token header.base header.stars header.name (parameters_of header, height) tokens.now) }
+    ensures low { IfOk result (λ x. x.1 ≤ context.room + 2) }
 {
     if starts(Punctuator::Semicolon, tokens) {
         let rest = expect(Punctuator::Semicolon, tokens)?;
         return Ok((function(header, None), height + 1, rest));
     }
     let rest = expect(Punctuator::OpenBrace, tokens)?;
-    let (body, high, rest) = items(alloc, room, rest)?;
+    let (body, high, rest) = items(context, rest)?;
     Ok((function(header, Some(body)), height.max(high + 1) + 1, rest))
 }
 
 /// A function, behind the stars of its header.
 fn function_of(
-    alloc: Global,
-    room: u8,
+    context: Context,
     token: u32,
     base: Base,
     stars: u32,
     tokens: &[Terminal],
 ) -> Result<(Decl, u32, &[Terminal]), Halt>
-    ensures gives { Gives (read_as decl_tree) result (function_of room token base stars tokens.now) }
-    ensures low { IfOk result (λ x. x.1 ≤ room + 2) }
+    ensures gives { Gives (read_as decl_tree) result (function_of context.room token base stars tokens.now) }
+    ensures low { IfOk result (λ x. x.1 ≤ context.room + 2) }
 {
-    let (_at, name, rest) = expect_name(alloc, tokens)?;
+    let (_at, name, rest) = expect_name(context.alloc, tokens)?;
     let rest = expect(Punctuator::OpenParenthesis, rest)?;
-    let (parameters, height, rest) = head(alloc, room, rest)?;
+    let (parameters, height, rest) = head(context, rest)?;
     let header = Header {
         token,
         base,
@@ -142,48 +140,51 @@ fn function_of(
         name,
         parameters,
     };
-    body_of(alloc, room, header, height, rest)
+    body_of(context, header, height, rest)
 }
 
 /// What stands behind a type: a function or variables. `start` is the place of the first token.
 fn typed(
-    alloc: Global,
-    room: u8,
+    context: Context,
     start: u32,
     base: Base,
     tokens: &[Terminal],
 ) -> Result<(Decl, u32, &[Terminal]), Halt>
-    requires fits { room < 255 }
-    ensures gives { Gives (read_as decl_tree) result (typed room start base tokens.now) }
-    ensures low { IfOk result (λ x. x.1 ≤ room + 2) }
+    requires fits { context.room < 255 }
+    ensures gives { Gives (read_as decl_tree) result (typed context.room start base tokens.now) }
+    ensures low { IfOk result (λ x. x.1 ≤ context.room + 2) }
 {
     let (stars, rest) = stars(tokens)?;
     if is_named(Punctuator::OpenParenthesis, rest) {
-        return function_of(alloc, room, start, base, stars, rest);
+        return function_of(context, start, base, stars, rest);
     }
-    let (variables, height, rest) = declared(alloc, room + 1, base, tokens)?;
+    let outer = Context {
+        alloc: context.alloc,
+        room: context.room + 1,
+    };
+    let (variables, height, rest) = declared(outer, base, tokens)?;
     Ok((Decl::Variable(variables), height, rest))
 }
 
 /// A struct, a function or variables (C11 6.9).
 #[tactic(auto, unfolding(qs_grammar::specs::ParseStatements::external))]
-fn external(alloc: Global, room: u8, tokens: &[Terminal]) -> Result<(Decl, u32, &[Terminal]), Halt>
-    requires fits { room < 255 }
-    ensures gives { Gives (read_as decl_tree) result (external room tokens.now) }
-    ensures low { IfOk result (λ x. x.1 ≤ room + 2) }
+fn external(context: Context, tokens: &[Terminal]) -> Result<(Decl, u32, &[Terminal]), Halt>
+    requires fits { context.room < 255 }
+    ensures gives { Gives (read_as decl_tree) result (external context.room tokens.now) }
+    ensures low { IfOk result (λ x. x.1 ≤ context.room + 2) }
 {
     let [first, rest @ ..] = tokens else {
         return Err(Halt::Unexpected(0));
     };
     let start = place(tokens);
     if is_keyword(Keyword::Struct, first) && is_named(Punctuator::OpenBrace, rest) {
-        return struct_of(alloc, room, start, rest);
+        return struct_of(context, start, rest);
     }
     if is_keyword(Keyword::Struct, first) && is_named(Punctuator::Semicolon, rest) {
-        return forward_of(alloc, start, rest);
+        return forward_of(context.alloc, start, rest);
     }
-    let (base, rest) = outer_type(alloc, tokens)?;
-    typed(alloc, room, start, base, rest)
+    let (base, rest) = outer_type(context.alloc, tokens)?;
+    typed(context, start, base, rest)
 }
 
 /// Whether no token is left.
@@ -198,20 +199,16 @@ fn is_empty(tokens: &[Terminal]) -> bool
 
 /// All that stands at file scope, up to the end.
 #[tactic(auto, using(crate::proofs::CodeStatements::external_steps))]
-fn externals(
-    alloc: Global,
-    room: u8,
-    tokens: &[Terminal],
-) -> Result<(Vec<Decl>, u32, &[Terminal]), Halt>
-    requires fits { room < 255 }
-    ensures gives { Gives (read_as (listed decl_tree)) result (externals room (length tokens.now) [] 0 tokens.now) }
-    ensures low { IfOk result (λ x. (x.1 ≤ room + 2) × (x.2.now ≡ [])) }
+fn externals(context: Context, tokens: &[Terminal]) -> Result<(Vec<Decl>, u32, &[Terminal]), Halt>
+    requires fits { context.room < 255 }
+    ensures gives { Gives (read_as (listed decl_tree)) result (externals context.room (length tokens.now) [] 0 tokens.now) }
+    ensures low { IfOk result (λ x. (x.1 ≤ context.room + 2) × (x.2.now ≡ [])) }
 {
-    let mut found = Vec::new(alloc);
+    let mut found = Vec::new(context.alloc);
     let mut height: u32 = 0;
     let mut rest = tokens;
     for _ in 0..tokens.len() {
-        let (item, high, after) = external(alloc, room, rest)?;
+        let (item, high, after) = external(context, rest)?;
         found.push(item)?;
         height = height.max(high);
         if is_empty(after) {
@@ -228,6 +225,7 @@ pub fn read_unit(alloc: Global, tokens: &[Terminal]) -> Result<(Vec<Decl>, u32),
     ensures gives { Gives unit_of result (unit 126 tokens.now) }
     ensures low { IfOk result (λ x. x.1 ≤ 128) }
 {
-    let (found, height, _rest) = externals(alloc, ROOM, tokens)?;
+    let context = Context { alloc, room: ROOM };
+    let (found, height, _rest) = externals(context, tokens)?;
     Ok((found, height))
 }

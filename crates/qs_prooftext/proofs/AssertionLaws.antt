@@ -1,15 +1,14 @@
 -- Steps of the walk over an assertion.
 use Rattle.std.proofs.Common.{arith, ◌≡◌, ◌⊎◌, inl, inr, ℕ, zero, suc, ◌<◌, ℤ, pos, negsuc, option_map, ◌+◌, ◌-◌, ◌==◌, Bool, true, false, List, [], ◌∷◌, ◌++◌, length, map, reverse, drop, if◌then◌else◌, Option, Some, None, is_some, Result, Ok, Err, refl, sym, ap, ◌∙◌, append_assoc, subst, length-append}
-use Rattle.std.proofs.lemmas.List.{append-nil, reverse-append, length-reverse}
+use Rattle.std.proofs.lemmas.List.{append-nil, reverse-append, length-replicate, length-reverse}
 use Rattle.std.specs.Option.{option_to_list}
 use Rattle.std.specs.Borrow.{Bor}
 use Rattle.std.specs.Result.{IsErr, IsErrAnd}
 use Rattle.qs_base.specs.Results.{bind}
 use Rattle.qs_memory.specs.Partial.{◌>>=◌}
-use Rattle.qs_assert.specs.Listing.{inner_term, term_nodes, assertion_nodes}
+use Rattle.qs_assert.specs.Listing.{inner_term, assertion_nodes}
 use Rattle.qs_assert.specs.Trees as trees
 use Rattle.qs_assert.specs.Trees.{TermTree}
-use Rattle.qs_assert.specs.declared.node.TermNode.{TermNode}
 use Rattle.qs_assert.specs.declared.node.Node.TheVariants as nodes
 use Rattle.qs_assert.specs.declared.node.Node.{Node as AssertNode}
 use Rattle.qs_assert.specs.declared.variable.Var.{Var}
@@ -31,8 +30,8 @@ use Rattle.qs_prooftext.specs.Heads.{rows, headless_row}
 use Rattle.qs_prooftext.specs.Kinds.{Kind, Of}
 use Rattle.qs_prooftext.specs.Meanings.{Answer, natural_means, if_divisor, or_fault, means, list_means, each_means, all_mean}
 use Rattle.qs_prooftext.specs.Settings.{Setting, look_up, old_variable}
-use Rattle.qs_prooftext.specs.Walking.{Remains, Goes, nodes_in, Opened, HasParts, natural_flat, divisor_flat, number_flat, variable_flat, function_flat, known_flat, symbol_flat, terms_in}
-use Rattle.qs_prooftext.proofs.FlatLaws.{spec_flat, joined-assoc, joined-nil, joined-done, onto, onto-count, flats-onto, copies-length}
+use Rattle.qs_prooftext.specs.Walking.{Remains, Goes, nodes_in, Opened, HasParts, natural_flat, divisor_flat, number_flat, variable_flat, function_flat, known_flat, symbol_flat}
+use Rattle.qs_prooftext.proofs.FlatLaws.{spec_flat, joined-assoc, joined-nil, joined-done, onto, onto-count, flats-onto}
 use Rattle.qs_prooftext.proofs.PartLaws.{first_stands, others_stand, front, some_nodes}
 use Rattle.qs_prooftext.proofs.RowLaws.{found_fits}
 
@@ -78,7 +77,7 @@ sorts_count Zero n h = sym (is_eq n 0 h)
 sorts_count (One a) n h = sym (is_eq n 1 h)
 sorts_count (Two a b) n h = sym (is_eq n 2 h)
 sorts_count (Three a b c) n h = sym (is_eq n 3 h)
-sorts_count (Many a) n h = copies-length n a
+sorts_count (Many a) n h = length-replicate n a
 
 if_fitting : (row : Row) (row2 : Row) (n : ℕ) (b : Bool) → fit row.parts n ≡ b → (if b then Some row else None) ≡ Some row2 → fit row2.parts n ≡ true
 if_fitting row row2 n true e h = let q : row ≡ row2 = cc in ap (λ (r : Row). fit r.parts n) (sym q) ∙ e
@@ -348,10 +347,3 @@ fault_in k due fault (inr h) = inr h
 
 pub meant_fault : (g : Setting) (k : Sort) (s : Sexp) (fault : TextFault) → (flat g k s ≡ Err fault) ⊎ (fault ≡ NoMemory) → (means g (kind_of k) s ≡ Err fault) ⊎ (fault ≡ NoMemory)
 meant_fault g k s fault h = fault_in k (means g (kind_of k) s) fault h
-
-terms_inside : (heads : List TermNode) → terms_in (map nodes.Term heads) ≡ heads
-terms_inside [] = refl
-terms_inside (head ∷ heads) = ap (λ (xs : List TermNode). head ∷ xs) (terms_inside heads)
-
-pub term_heads : (t : TermTree) (out : List AssertNode) (heads : List TermNode) → out ≡ inner_term t → heads ≡ terms_in out → heads ≡ term_nodes t
-term_heads t out heads e f = f ∙ (ap terms_in e ∙ terms_inside (term_nodes t))

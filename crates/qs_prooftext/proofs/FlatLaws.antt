@@ -1,5 +1,5 @@
 -- The nodes of lists by their rows.
-use Rattle.std.proofs.Common.{arith, ◌≡◌, ℕ, zero, suc, ◌+◌, ◌==◌, nat_le, Bool, true, false, List, [], ◌∷◌, ◌++◌, length, if◌then◌else◌, Option, Some, None, Ok, Err, refl, sym, ap, ◌∙◌, append_assoc}
+use Rattle.std.proofs.Common.{arith, ◌≡◌, ℕ, suc, ◌+◌, ◌==◌, nat_le, Bool, true, false, List, [], ◌∷◌, ◌++◌, length, replicate, if◌then◌else◌, Option, Some, None, Ok, Err, refl, sym, ap, ◌∙◌, append_assoc}
 use Rattle.std.proofs.lemmas.List.{append-nil}
 use Rattle.std.specs.Option.{option_to_list}
 use Rattle.qs_base.specs.Results.{bind}
@@ -11,7 +11,7 @@ use Rattle.qs_prooftext.specs.declared.sorts.Parts.TheVariants.{Zero, One, Two, 
 use Rattle.qs_prooftext.specs.declared.sorts.Row.{Row as CodeRow}
 use Rattle.qs_prooftext.specs.declared.sorts.Sort.{Sort}
 use Rattle.qs_prooftext.specs.AssertionRows.{fitting, row_flat}
-use Rattle.qs_prooftext.specs.Flattening.{kind_of, nodes_of, nodes_of_all, joined, flat, flats, copies, sorts}
+use Rattle.qs_prooftext.specs.Flattening.{kind_of, nodes_of, nodes_of_all, joined, flat, flats, sorts}
 use Rattle.qs_prooftext.specs.Kinds.{Kind, Of, Row, none, one, two, three, many}
 use Rattle.qs_prooftext.specs.Meanings.{Answer, means, each_means, all_mean, list_means}
 use Rattle.qs_prooftext.specs.Settings.{Setting}
@@ -48,10 +48,6 @@ flats-onto g [] ls (part_and s ss) others h = absurd (omega (arith, h))
 flats-onto g (k ∷ ks) ls no_parts others h = absurd (omega (arith, h))
 flats-onto g (k ∷ ks) ls (part_and s ss) others h =
     ap (joined (flat g k s)) (flats-onto g ks ls ss others (omega (arith, h))) ∙ sym (joined-assoc (flat g k s) (flats g ks ss) (flats g ls others))
-
-pub copies-length : (n : ℕ) (k : Sort) → length (copies n k) ≡ n
-copies-length zero k = refl
-copies-length (suc n) k = let e = copies-length n k in omega (arith, e)
 
 -- ---- how many
 
@@ -97,11 +93,11 @@ next_plain (Err f) y na ns h = refl
 next_plain (Ok v) (Err f) na ns h = refl
 next_plain (Ok v) (Ok vs) na ns h = ap (λ (xs : List Node). Ok xs) (sym (h v vs))
 
-pub copies_flat : (g : Setting) (a : Sort) (parts : Sexps) → flats g (copies (count parts) a) parts ≡ bind (all_mean g (kind_of a) parts) (λ vs. Ok (nodes_of_all a vs))
+pub copies_flat : (g : Setting) (a : Sort) (parts : Sexps) → flats g (replicate (count parts) a) parts ≡ bind (all_mean g (kind_of a) parts) (λ vs. Ok (nodes_of_all a vs))
 copies_flat g a no_parts = refl
 copies_flat g a (part_and p ps) =
     let e : count ps + 1 ≡ suc (count ps) = omega arith in
-    ap (λ (n : ℕ). flats g (copies n a) (part_and p ps)) e ∙ (ap (joined (flat g a p)) (copies_flat g a ps) ∙ next_plain (means g (kind_of a) p) (all_mean g (kind_of a) ps) (nodes_of a) (nodes_of_all a) (λ v vs. refl))
+    ap (λ (n : ℕ). flats g (replicate n a) (part_and p ps)) e ∙ (ap (joined (flat g a p)) (copies_flat g a ps) ∙ next_plain (means g (kind_of a) p) (all_mean g (kind_of a) ps) (nodes_of a) (nodes_of_all a) (λ v vs. refl))
 
 many_plain : {A C : Type 0} (y : Answer (List A)) (made : List A → C) (ns : List A → List Node) (nc : C → List Node) (e : List Node) → ((vs : List A) → y ≡ Ok vs → nc (made vs) ≡ e ++ ns vs) → bind (bind y (λ vs. Ok (made vs))) (λ v. Ok (nc v)) ≡ joined (Ok e) (bind y (λ vs. Ok (ns vs)))
 many_plain (Err f) made ns nc e h = refl

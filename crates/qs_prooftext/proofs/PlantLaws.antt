@@ -1,9 +1,20 @@
 -- Trees taken off a stack.
 use Rattle.std.proofs.Common.{◌≡◌, ℕ, suc, List, [], ◌∷◌, ◌++◌, map, reverse, refl, sym, ap, ◌∙◌, append_assoc}
 use Rattle.std.proofs.lemmas.List.{map-append, reverse-append}
+use Rattle.qs_assert.proofs.Mapped.{mapped_first, mapped_others, mapped_reverse}
 use Rattle.qs_assert.specs.Reading.{others}
 use Rattle.qs_assert.specs.Stacks.{first_or}
 use Rattle.qs_prooftext.specs.Planting.{Shape, behind, firsts, plant, plants}
+
+-- what is taken off, and what is left
+
+pub first_taken : {C T : Type 0} (view : C → T) (blank : T) (cs : List C) (c missing : C) → c ≡ first_or missing (reverse cs) → view missing ≡ blank → view c ≡ first_or blank (reverse (map view cs))
+first_taken view blank cs c missing e b =
+    ap view e ∙ (sym (mapped_first view missing (reverse cs)) ∙ (λ i. first_or (b i) (sym (mapped_reverse view cs) i)))
+
+pub others_taken : {C T : Type 0} (view : C → T) (cs ds : List C) → reverse ds ≡ others (reverse cs) → reverse (map view ds) ≡ others (reverse (map view cs))
+others_taken view cs ds e =
+    mapped_reverse view ds ∙ (ap (map view) e ∙ (sym (mapped_others view (reverse cs)) ∙ ap others (sym (mapped_reverse view cs))))
 
 pub last_first : {C T : Type 0} (view : C → T) (cs ds : List C) (c : C) → cs ≡ ds ++ c ∷ [] → reverse (map view cs) ≡ view c ∷ reverse (map view ds)
 last_first {C = C} {T = T} view cs ds c e =

@@ -1,5 +1,5 @@
 -- The nodes of what lists and atoms mean, in the order of the text.
-use Rattle.std.specs.Prelude.{◌≡◌, ℕ, zero, suc, ℤ, pos, negsuc, List, [], ◌∷◌, ◌++◌, ◌==◌, nat_le, Bool, Ok}
+use Rattle.std.specs.Prelude.{◌≡◌, ℕ, ℤ, pos, negsuc, List, [], ◌∷◌, ◌++◌, ◌==◌, nat_le, Bool, Ok, replicate}
 use Rattle.qs_base.specs.Results.{bind}
 use Rattle.qs_assert.specs.Listing.{inner_term, cond_nodes, assertion_nodes}
 use Rattle.qs_assert.specs.declared.node.Node.{Node}
@@ -56,16 +56,12 @@ flats g (k ∷ ks) (part_and s ss) = joined (flat g k s) (flats g ks ss)
 
 -- ---- the parts of a row
 
-abbrev pub copies : ℕ → Sort → List Sort
-copies zero k = []
-copies (suc n) k = k ∷ copies n k
-
 abbrev pub sorts : Parts → ℕ → List Sort
 sorts Zero n = []
 sorts (One a) n = a ∷ []
 sorts (Two a b) n = a ∷ b ∷ []
 sorts (Three a b c) n = a ∷ b ∷ c ∷ []
-sorts (Many a) n = copies n a
+sorts (Many a) n = replicate n a
 
 abbrev pub fit : Parts → ℕ → Bool
 fit Zero n = n == 0

@@ -3,7 +3,6 @@ use Rattle.std.specs.Prelude.{◌≡◌, ◌⊎◌, ℕ, zero, suc, ◌+◌, ℤ
 use Rattle.std.specs.Borrow.{Bor}
 use Rattle.qs_assert.specs.declared.node.Node.{Node as AssertNode}
 use Rattle.qs_assert.specs.declared.node.Node.TheVariants as nodes
-use Rattle.qs_assert.specs.declared.node.TermNode.{TermNode}
 use Rattle.qs_assert.specs.declared.node.TermNode.TheVariants as term_nodes
 use Rattle.qs_assert.specs.declared.node.AssertionNode.TheVariants as assertion_nodes
 use Rattle.qs_assert.specs.declared.variable.Var.{Var}
@@ -98,10 +97,3 @@ symbol_flat g (OldVariable whole) at w = variable_flat whole (old_by_word g.vari
 symbol_flat g (Function whole) at w = function_flat whole (look_up w g.functions)
 symbol_flat g (KnownName whole) at w = known_flat whole (g.has_name w) w
 symbol_flat g Name at w = name_flat w
-
--- the heads of terms among nodes
-abbrev pub terms_in : List AssertNode → List TermNode
-terms_in [] = []
-terms_in (nodes.Term head ∷ rest) = head ∷ terms_in rest
-terms_in (nodes.Condition head ∷ rest) = terms_in rest
-terms_in (nodes.Assertion head ∷ rest) = terms_in rest

@@ -4,11 +4,11 @@ ghost use Rattle.std.specs.Option.{option_to_list};
 ghost use Rattle.qs_assert.specs.declared.node.Node.{Node as AssertNode};
 ghost use Rattle.qs_prooftext.specs.Answers.{Gives, Stands, StandAll};
 ghost use Rattle.qs_prooftext.specs.Contexts.{setting_of};
-ghost use Rattle.qs_prooftext.specs.Flattening.{copies, flat, kind_of, sorts, IsDivisor};
+ghost use Rattle.qs_prooftext.specs.Flattening.{flat, kind_of, sorts, IsDivisor};
 ghost use Rattle.qs_prooftext.specs.Kinds.{a_condition, a_definition_body, a_term, an_assertion};
 ghost use Rattle.qs_prooftext.specs.Meanings.{Answer, means};
 ghost use Rattle.qs_prooftext.specs.Settings.{Setting};
-ghost use Rattle.qs_prooftext.specs.Walking.{Goes, GivesOpened, HasParts, Remains, function_flat, known_flat, name_flat, natural_flat, nodes_in, number_flat, symbol_flat, terms_in, variable_flat};
+ghost use Rattle.qs_prooftext.specs.Walking.{Goes, GivesOpened, HasParts, Remains, function_flat, known_flat, name_flat, natural_flat, nodes_in, number_flat, symbol_flat, variable_flat};
 ghost use Rattle.qs_sexpr.specs.Trees.{Sexp, Sexps, list, number, part_and, symbol};
 
 use crate::context::{Context, find_function, find_variable, is_defined};
@@ -17,6 +17,7 @@ use crate::leaves::find_old;
 use crate::parts::{Part, behind, divisor_in, head_of, part_of};
 use crate::rows::row_of_list;
 use crate::sorts::{Parts, Sort};
+use qs_assert::stack::put_all;
 use qs_assert::{Assertion, AssertionNode, Cond, Node, Term, TermNode, Var};
 use qs_base::{FnId, Name, NoMemory};
 use qs_sexpr::first_part;
@@ -134,15 +135,6 @@ fn put_node(out: &mut Vec<Node>, made: Option<Node>) -> Result<(), NoMemory>
     }
 }
 
-fn put_copies(todo: &mut Vec<Sort>, sort: Sort, count: usize) -> Result<(), NoMemory>
-    ensures { OnOk result (reverse todo.new.items ≡ copies count sort ++ reverse todo.old.items) }
-{
-    for _i in 0..count {
-        todo.push(sort)?;
-    }
-    Ok(())
-}
-
 /// Puts the sorts of the parts on the stack, the first on top.
 fn put_sorts(todo: &mut Vec<Sort>, parts: Parts, count: usize) -> Result<(), NoMemory>
     ensures { OnOk result (reverse todo.new.items ≡ sorts parts count ++ reverse todo.old.items) }
@@ -161,7 +153,7 @@ fn put_sorts(todo: &mut Vec<Sort>, parts: Parts, count: usize) -> Result<(), NoM
             todo.push(b)?;
             todo.push(a)?;
         }
-        Parts::Many(a) => put_copies(todo, a, count)?,
+        Parts::Many(a) => put_all(todo, a, count)?,
     }
     Ok(())
 }
@@ -294,21 +286,6 @@ pub fn read_condition(
     Ok(Cond::from_nodes(read))
 }
 
-/// The nodes of terms among these.
-fn term_nodes(alloc: Global, nodes: &[Node]) -> Result<Vec<TermNode>, NoMemory>
-    ensures { IfOk result (λ read. read.items ≡ terms_in nodes.now) }
-{
-    let mut read = Vec::new(alloc);
-    for node in nodes {
-        match node {
-            Node::Term(head) => read.push(*head)?,
-            Node::Condition(_) => {}
-            Node::Assertion(_) => {}
-        }
-    }
-    Ok(read)
-}
-
 /// A term.
 pub fn read_term(
     alloc: Global,
@@ -319,6 +296,6 @@ pub fn read_term(
     ensures { (s : Sexp) → Stands context.entry.text.now nodes.now s → Gives (λ t. t) (means (setting_of context.entry) a_term s) result }
 {
     let read = read_nodes(alloc, context, Sort::Term, nodes)?;
-    let heads = term_nodes(alloc, &read)?;
-    Ok(Term::from_nodes(heads))
+    let term = Term::from_inner(alloc, &read)?;
+    Ok(term)
 }

@@ -8,12 +8,12 @@ ghost use Rattle.qs_triples.specs.Derivations.{DerivationTree};
 ghost use Rattle.qs_triples.specs.TreeOf.{derivation_tree};
 
 use crate::statements::{DerivationHead, Reason};
-use crate::taking::{Part, boxed, taken, taken_all};
+use crate::taking::{Subtree, boxed, taken, taken_all};
 use qs_base::NoMemory;
 use qs_triples::Derivation;
 use std::alloc::Global;
 
-impl Part for Derivation {
+impl Subtree for Derivation {
     ghost Tree = { DerivationTree };
 
     ghost tree = { derivation_tree };

@@ -8,13 +8,13 @@ ghost use Rattle.qs_prooftext.specs.CertHeads.{arity, cert_shape, head_view, pla
 ghost use Rattle.qs_prooftext.specs.Planting.{behind, grown};
 
 use crate::heads::CertHead;
-use crate::taking::{Part, boxed, taken, taken_all};
+use crate::taking::{Subtree, boxed, taken, taken_all};
 use qs_assert::{Assertion, Cond};
 use qs_base::NoMemory;
 use qs_entail::Certificate;
 use std::alloc::Global;
 
-impl Part for Certificate {
+impl Subtree for Certificate {
     ghost Tree = { CertTree };
 
     ghost tree = { cert_tree };

@@ -6,6 +6,7 @@ ghost use Rattle.qs_prooftext.specs.Putting.{Puts, all_put, assertion_put, condi
 ghost use Rattle.qs_prooftext.specs.Writing.{assertion_form, condition_form, term_form, variable_form};
 
 use crate::naming::{WordTable, function_word, variable_word};
+use qs_assert::stack::put_all;
 use qs_assert::{Assertion, AssertionNode, Cond, CondNode, Node, Term, TermNode, Var, VarKind};
 use qs_base::NoMemory;
 use qs_sexpr::Token;
@@ -82,15 +83,6 @@ pub fn put_variable<'a>(
 
 // ---- what is due
 
-fn add_trees(due: &mut Vec<Due>, count: usize) -> Result<(), NoMemory>
-    ensures { OnOk result (reverse due.new.items ≡ replicate count Due.Tree ++ reverse due.old.items) }
-{
-    for _k in 0..count {
-        due.push(Due::Tree)?;
-    }
-    Ok(())
-}
-
 /// Puts the beginning of a list of so many trees.
 fn begin_list<'a>(
     out: &mut Vec<Token<'a>>,
@@ -103,7 +95,7 @@ fn begin_list<'a>(
 {
     begin(out, head)?;
     due.push(Due::Close)?;
-    add_trees(due, trees)
+    put_all(due, Due::Tree, trees)
 }
 
 /// Puts what is due up to the next tree.
@@ -142,7 +134,7 @@ fn put_term_node<'a>(
             begin(out, b"div")?;
             due.push(Due::Close)?;
             due.push(Due::Natural(divisor))?;
-            add_trees(due, 1)
+            put_all(due, Due::Tree, 1)
         }
         TermNode::WrapUnsigned => begin_list(out, due, b"wrapu", 1),
         TermNode::WrapSigned => begin_list(out, due, b"wraps", 1),

@@ -4,11 +4,12 @@ ghost use Rattle.qs_assert.specs.Reading.{others};
 ghost use Rattle.qs_assert.specs.Stacks.{first_or};
 ghost use Rattle.qs_prooftext.specs.Planting.{behind, firsts};
 
+use qs_assert::stack;
 use qs_base::NoMemory;
 use std::alloc::Global;
 
 /// What is a part of another of its kind.
-pub trait Part: Drop {
+pub trait Subtree: Drop {
     ghost Tree: { Type 0 };
 
     ghost tree: { Self → Tree };
@@ -21,18 +22,15 @@ pub trait Part: Drop {
 }
 
 /// Takes the first part off.
-pub fn taken<T: Part>(stack: &mut Vec<T>) -> T
+pub fn taken<T: Subtree>(stack: &mut Vec<T>) -> T
     ensures first { T.tree result ≡ first_or T.blank (reverse (map T.tree stack.old.items)) }
     ensures left { reverse (map T.tree stack.new.items) ≡ others (reverse (map T.tree stack.old.items)) }
 {
-    match stack.pop() {
-        Some(part) => part,
-        None => T::missing(),
-    }
+    stack::taken(stack, T::missing())
 }
 
 /// Takes so many parts off.
-pub fn taken_all<T: Part>(
+pub fn taken_all<T: Subtree>(
     alloc: Global,
     stack: &mut Vec<T>,
     count: usize,
@@ -50,7 +48,7 @@ pub fn taken_all<T: Part>(
 }
 
 /// Takes the first part off, boxed.
-pub fn boxed<T: Part>(alloc: Global, stack: &mut Vec<T>) -> Result<Box<T>, NoMemory>
+pub fn boxed<T: Subtree>(alloc: Global, stack: &mut Vec<T>) -> Result<Box<T>, NoMemory>
     ensures first { IfOk result (λ b. T.tree b.value ≡ first_or T.blank (reverse (map T.tree stack.old.items))) }
     ensures left { IfOk result (λ _. reverse (map T.tree stack.new.items) ≡ others (reverse (map T.tree stack.old.items))) }
 {

@@ -7,12 +7,16 @@ use Rattle.qs_base.specs.declared.places.Pos.{Pos}
 use Rattle.qs_report.specs.Lines.{bound_line, cost_line, count_line, end_line, fault_line}
 use Rattle.qs_report.specs.declared.fault_texts.Count.TheVariants.{Checked, Derived, Functions, Output}
 use Rattle.qs_report.specs.declared.fault_texts.FaultText.TheVariants.{Usage, SameName, Missing, Failed, TooLong, Lex, UnexpectedToken, UnexpectedEnd, TooDeep, Rule, Limit, NoMain, NoBody, ProofFile, Cycle, Proof, Order, ArgCount, ArgRange, Image, Trapped, StepLimit, NoBound, StackTooLarge, NoMemory}
+use Rattle.qs_report.specs.declared.fault_texts.ImageText.TheVariants as image
+use Rattle.qs_report.specs.declared.fault_texts.LexText.TheVariants as lexical
 use Rattle.qs_report.specs.declared.fault_texts.LimitKind.TheVariants as kinds
 use Rattle.qs_report.specs.declared.fault_texts.Path.{Path}
+use Rattle.qs_report.specs.declared.fault_texts.ProofFileText.TheVariants as proof_file
 use Rattle.qs_report.specs.declared.fault_texts.ProofText.TheVariants.{Shape, Mentions, Step}
 use Rattle.qs_report.specs.declared.fault_texts.ProofText.TheVariants as proof_texts
 use Rattle.qs_report.specs.declared.fault_texts.Shown.TheVariants.{Number, Infinite, Wide}
 use Rattle.qs_report.specs.declared.fault_texts.Spot.TheVariants.{Pre, Post, Entry, Body, BodyCert}
+use Rattle.qs_report.specs.declared.fault_texts.TrapText.TheVariants as trap
 
 abbrev ended : List ℕ → List ℕ
 ended text = text ++ 10 ∷ []
@@ -76,29 +80,29 @@ failed = refl
 too_long : fault_line (codes "a.c") [] TooLong ≡ ended (codes "too long: a.c")
 too_long = refl
 
-lex_1 : fault_line (codes "a.c") [] (Lex place 1) ≡ ended (codes "a.c:3:14: bad byte")
+lex_bad_byte : fault_line (codes "a.c") [] (Lex place lexical.BadByte) ≡ ended (codes "a.c:3:14: bad byte")
 unfolding digits
-lex_1 = refl
+lex_bad_byte = refl
 
-lex_2 : fault_line (codes "a.c") [] (Lex place 2) ≡ ended (codes "a.c:3:14: open comment")
+lex_open_comment : fault_line (codes "a.c") [] (Lex place lexical.OpenComment) ≡ ended (codes "a.c:3:14: open comment")
 unfolding digits
-lex_2 = refl
+lex_open_comment = refl
 
-lex_3 : fault_line (codes "a.c") [] (Lex place 3) ≡ ended (codes "a.c:3:14: bad literal")
+lex_bad_literal : fault_line (codes "a.c") [] (Lex place lexical.BadLiteral) ≡ ended (codes "a.c:3:14: bad literal")
 unfolding digits
-lex_3 = refl
+lex_bad_literal = refl
 
-lex_4 : fault_line (codes "a.c") [] (Lex place 4) ≡ ended (codes "a.c:3:14: wide literal")
+lex_wide_literal : fault_line (codes "a.c") [] (Lex place lexical.WideLiteral) ≡ ended (codes "a.c:3:14: wide literal")
 unfolding digits
-lex_4 = refl
+lex_wide_literal = refl
 
-lex_5 : fault_line (codes "a.c") [] (Lex place 5) ≡ ended (codes "a.c:3:14: directive")
+lex_directive : fault_line (codes "a.c") [] (Lex place lexical.Directive) ≡ ended (codes "a.c:3:14: directive")
 unfolding digits
-lex_5 = refl
+lex_directive = refl
 
-lex_6 : fault_line (codes "a.c") [] (Lex place 6) ≡ ended (codes "a.c:3:14: open text")
+lex_open_text : fault_line (codes "a.c") [] (Lex place lexical.OpenText) ≡ ended (codes "a.c:3:14: open text")
 unfolding digits
-lex_6 = refl
+lex_open_text = refl
 
 unexpected_token : fault_line (codes "a.c") [] (UnexpectedToken place) ≡ ended (codes "a.c:3:14: unexpected token")
 unfolding digits
@@ -143,33 +147,33 @@ no_body : fault_line (codes "a.c") [] (NoBody place) ≡ ended (codes "a.c:3:14:
 unfolding digits
 no_body = refl
 
-proof_file_1 : fault_line (codes "p.drv") [] (ProofFile place 1) ≡ ended (codes "p.drv:3:14: bad byte")
+proof_file_bad_byte : fault_line (codes "p.drv") [] (ProofFile place proof_file.BadByte) ≡ ended (codes "p.drv:3:14: bad byte")
 unfolding digits
-proof_file_1 = refl
+proof_file_bad_byte = refl
 
-proof_file_2 : fault_line (codes "p.drv") [] (ProofFile place 2) ≡ ended (codes "p.drv:3:14: unbalanced")
+proof_file_unbalanced : fault_line (codes "p.drv") [] (ProofFile place proof_file.Unbalanced) ≡ ended (codes "p.drv:3:14: unbalanced")
 unfolding digits
-proof_file_2 = refl
+proof_file_unbalanced = refl
 
-proof_file_3 : fault_line (codes "p.drv") [] (ProofFile place 3) ≡ ended (codes "p.drv:3:14: unknown form")
+proof_file_unknown_form : fault_line (codes "p.drv") [] (ProofFile place proof_file.UnknownForm) ≡ ended (codes "p.drv:3:14: unknown form")
 unfolding digits
-proof_file_3 = refl
+proof_file_unknown_form = refl
 
-proof_file_4 : fault_line (codes "p.drv") [] (ProofFile place 4) ≡ ended (codes "p.drv:3:14: bad number")
+proof_file_bad_number : fault_line (codes "p.drv") [] (ProofFile place proof_file.BadNumber) ≡ ended (codes "p.drv:3:14: bad number")
 unfolding digits
-proof_file_4 = refl
+proof_file_bad_number = refl
 
-proof_file_5 : fault_line (codes "p.drv") [] (ProofFile place 5) ≡ ended (codes "p.drv:3:14: too deep")
+proof_file_too_deep : fault_line (codes "p.drv") [] (ProofFile place proof_file.TooDeep) ≡ ended (codes "p.drv:3:14: too deep")
 unfolding digits
-proof_file_5 = refl
+proof_file_too_deep = refl
 
-proof_file_6 : fault_line (codes "p.drv") [] (ProofFile place 6) ≡ ended (codes "p.drv:3:14: duplicate")
+proof_file_duplicate : fault_line (codes "p.drv") [] (ProofFile place proof_file.Duplicate) ≡ ended (codes "p.drv:3:14: duplicate")
 unfolding digits
-proof_file_6 = refl
+proof_file_duplicate = refl
 
-proof_file_7 : fault_line (codes "p.drv") [] (ProofFile place 7) ≡ ended (codes "p.drv:3:14: no such function")
+proof_file_no_such_function : fault_line (codes "p.drv") [] (ProofFile place proof_file.NoSuchFunction) ≡ ended (codes "p.drv:3:14: no such function")
 unfolding digits
-proof_file_7 = refl
+proof_file_no_such_function = refl
 
 order : fault_line (codes "p.drv") (codes "h") Order ≡ ended (codes "p.drv: order h")
 order = refl
@@ -182,73 +186,68 @@ arg_range : fault_line [] [] (ArgRange 7) ≡ ended (codes "argument 7 out of ra
 unfolding digits
 arg_range = refl
 
-image_1 : fault_line (codes "a.img") [] (Image 1 3) ≡ ended (codes "a.img: image short")
+image_short : fault_line (codes "a.img") [] (Image image.Short) ≡ ended (codes "a.img: image short")
+image_short = refl
+
+image_magic : fault_line (codes "a.img") [] (Image image.Magic) ≡ ended (codes "a.img: image magic")
+image_magic = refl
+
+image_count : fault_line (codes "a.img") [] (Image (image.Count 3)) ≡ ended (codes "a.img: image count 3")
 unfolding digits
-image_1 = refl
+image_count = refl
 
-image_2 : fault_line (codes "a.img") [] (Image 2 3) ≡ ended (codes "a.img: image magic")
+image_trailing : fault_line (codes "a.img") [] (Image image.Trailing) ≡ ended (codes "a.img: image trailing")
+image_trailing = refl
+
+image_entry : fault_line (codes "a.img") [] (Image image.Entry) ≡ ended (codes "a.img: image entry")
+image_entry = refl
+
+image_cost : fault_line (codes "a.img") [] (Image (image.Cost 3)) ≡ ended (codes "a.img: image cost 3")
 unfolding digits
-image_2 = refl
+image_cost = refl
 
-image_3 : fault_line (codes "a.img") [] (Image 3 3) ≡ ended (codes "a.img: image count 3")
-unfolding digits
-image_3 = refl
+image_names : fault_line (codes "a.img") [] (Image image.Names) ≡ ended (codes "a.img: image names")
+image_names = refl
 
-image_4 : fault_line (codes "a.img") [] (Image 4 3) ≡ ended (codes "a.img: image trailing")
-unfolding digits
-image_4 = refl
-
-image_5 : fault_line (codes "a.img") [] (Image 5 3) ≡ ended (codes "a.img: image entry")
-unfolding digits
-image_5 = refl
-
-image_6 : fault_line (codes "a.img") [] (Image 6 3) ≡ ended (codes "a.img: image cost 3")
-unfolding digits
-image_6 = refl
-
-image_7 : fault_line (codes "a.img") [] (Image 7 3) ≡ ended (codes "a.img: image names")
-unfolding digits
-image_7 = refl
-
-trap_1 : fault_line [] [] (Trapped 1 0x0001a0bc) ≡ ended (codes "trap overflow at 0x0001a0bc")
+trap_overflow : fault_line [] [] (Trapped trap.Overflow 0x0001a0bc) ≡ ended (codes "trap overflow at 0x0001a0bc")
 unfolding encode_with
-trap_1 = refl
+trap_overflow = refl
 
-trap_2 : fault_line [] [] (Trapped 2 0x0001a0bc) ≡ ended (codes "trap illegal at 0x0001a0bc")
+trap_illegal : fault_line [] [] (Trapped trap.Illegal 0x0001a0bc) ≡ ended (codes "trap illegal at 0x0001a0bc")
 unfolding encode_with
-trap_2 = refl
+trap_illegal = refl
 
-trap_3 : fault_line [] [] (Trapped 3 0x0001a0bc) ≡ ended (codes "trap fetch at 0x0001a0bc")
+trap_fetch : fault_line [] [] (Trapped trap.Fetch 0x0001a0bc) ≡ ended (codes "trap fetch at 0x0001a0bc")
 unfolding encode_with
-trap_3 = refl
+trap_fetch = refl
 
-trap_4 : fault_line [] [] (Trapped 4 0x0001a0bc) ≡ ended (codes "trap jump at 0x0001a0bc")
+trap_jump : fault_line [] [] (Trapped trap.Jump 0x0001a0bc) ≡ ended (codes "trap jump at 0x0001a0bc")
 unfolding encode_with
-trap_4 = refl
+trap_jump = refl
 
-trap_5 : fault_line [] [] (Trapped 5 0x0001a0bc) ≡ ended (codes "trap load misaligned at 0x0001a0bc")
+trap_load_misaligned : fault_line [] [] (Trapped trap.LoadMisaligned 0x0001a0bc) ≡ ended (codes "trap load misaligned at 0x0001a0bc")
 unfolding encode_with
-trap_5 = refl
+trap_load_misaligned = refl
 
-trap_6 : fault_line [] [] (Trapped 6 0x0001a0bc) ≡ ended (codes "trap load at 0x0001a0bc")
+trap_load : fault_line [] [] (Trapped trap.Load 0x0001a0bc) ≡ ended (codes "trap load at 0x0001a0bc")
 unfolding encode_with
-trap_6 = refl
+trap_load = refl
 
-trap_7 : fault_line [] [] (Trapped 7 0x0001a0bc) ≡ ended (codes "trap store misaligned at 0x0001a0bc")
+trap_store_misaligned : fault_line [] [] (Trapped trap.StoreMisaligned 0x0001a0bc) ≡ ended (codes "trap store misaligned at 0x0001a0bc")
 unfolding encode_with
-trap_7 = refl
+trap_store_misaligned = refl
 
-trap_8 : fault_line [] [] (Trapped 8 0x0001a0bc) ≡ ended (codes "trap store at 0x0001a0bc")
+trap_store : fault_line [] [] (Trapped trap.Store 0x0001a0bc) ≡ ended (codes "trap store at 0x0001a0bc")
 unfolding encode_with
-trap_8 = refl
+trap_store = refl
 
-trap_9 : fault_line [] [] (Trapped 9 0x0001a0bc) ≡ ended (codes "trap call at 0x0001a0bc")
+trap_call : fault_line [] [] (Trapped trap.Call 0x0001a0bc) ≡ ended (codes "trap call at 0x0001a0bc")
 unfolding encode_with
-trap_9 = refl
+trap_call = refl
 
-trap_10 : fault_line [] [] (Trapped 10 0x0001a0bc) ≡ ended (codes "trap break at 0x0001a0bc")
+trap_break : fault_line [] [] (Trapped trap.Break 0x0001a0bc) ≡ ended (codes "trap break at 0x0001a0bc")
 unfolding encode_with
-trap_10 = refl
+trap_break = refl
 
 step_limit : fault_line [] [] (StepLimit 1000) ≡ ended (codes "step limit 1000")
 unfolding digits

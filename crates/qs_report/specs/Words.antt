@@ -1,9 +1,17 @@
--- The words of lines. Faults and causes that have a number stand in lists by their numbers, from 1.
-use Rattle.std.specs.Prelude.{ℕ, ◌-◌, ◌≤◌, List, [], ◌∷◌, ◌++◌, length, get_or, codes, decimal, flat_map}
+-- The words of lines.
+use Rattle.std.specs.Prelude.{ℕ, List, [], ◌∷◌, ◌++◌, codes, decimal, flat_map}
 use Rattle.std.specs.Int.{w32, to_be_bytes}
 use Rattle.hex.specs.Hex.{encode_lower}
 use Rattle.qs_report.specs.declared.fault_texts.Shown.{Shown}
 use Rattle.qs_report.specs.declared.fault_texts.Shown.TheVariants.{Number, Infinite, Wide}
+use Rattle.qs_report.specs.declared.fault_texts.LexText.{LexText}
+use Rattle.qs_report.specs.declared.fault_texts.LexText.TheVariants as lexical
+use Rattle.qs_report.specs.declared.fault_texts.ProofFileText.{ProofFileText}
+use Rattle.qs_report.specs.declared.fault_texts.ProofFileText.TheVariants as proof_file
+use Rattle.qs_report.specs.declared.fault_texts.ImageText.{ImageText}
+use Rattle.qs_report.specs.declared.fault_texts.ImageText.TheVariants as image
+use Rattle.qs_report.specs.declared.fault_texts.TrapText.{TrapText}
+use Rattle.qs_report.specs.declared.fault_texts.TrapText.TheVariants as trap
 use Rattle.qs_report.specs.declared.fault_texts.LimitKind.{LimitKind}
 use Rattle.qs_report.specs.declared.fault_texts.LimitKind.TheVariants.{Nodes, Functions, Parameters, Globals, Locals}
 use Rattle.qs_report.specs.declared.fault_texts.Path.{Path}
@@ -12,64 +20,47 @@ use Rattle.qs_report.specs.declared.fault_texts.Spot.TheVariants.{Pre, Post, Ent
 use Rattle.qs_report.specs.declared.fault_texts.ProofText.{ProofText}
 use Rattle.qs_report.specs.declared.fault_texts.ProofText.TheVariants.{Shape, Mentions, Step, Limit}
 
--- the word of this number
-abbrev pub word : List (List ℕ) → ℕ → List ℕ
-word words number = get_or words (number - 1) []
+-- what is wrong with the bytes of a source
+abbrev pub lex_word : LexText → List ℕ
+lex_word lexical.BadByte = codes "bad byte"
+lex_word lexical.OpenComment = codes "open comment"
+lex_word lexical.BadLiteral = codes "bad literal"
+lex_word lexical.WideLiteral = codes "wide literal"
+lex_word lexical.Directive = codes "directive"
+lex_word lexical.OpenText = codes "open text"
 
--- it is the number of one of the words
-pub record IsNumbered (words : List (List ℕ)) (number : ℕ) : Type 0 where
-  pub first : 1 ≤ number
-  pub last : number ≤ length words
+-- what is wrong with the text of a proof file
+abbrev pub proof_file_word : ProofFileText → List ℕ
+proof_file_word proof_file.BadByte = codes "bad byte"
+proof_file_word proof_file.Unbalanced = codes "unbalanced"
+proof_file_word proof_file.UnknownForm = codes "unknown form"
+proof_file_word proof_file.BadNumber = codes "bad number"
+proof_file_word proof_file.TooDeep = codes "too deep"
+proof_file_word proof_file.Duplicate = codes "duplicate"
+proof_file_word proof_file.NoSuchFunction = codes "no such function"
 
--- lexical faults
-abbrev pub lex_words : List (List ℕ)
-lex_words =
-    codes "bad byte"
-    ∷ codes "open comment"
-    ∷ codes "bad literal"
-    ∷ codes "wide literal"
-    ∷ codes "directive"
-    ∷ codes "open text"
-    ∷ []
+-- what is wrong with the bytes of an image; a count has the number of its word, a cost that of its record
+abbrev pub image_text : ImageText → List ℕ
+image_text image.Short = codes "short"
+image_text image.Magic = codes "magic"
+image_text (image.Count number) = codes "count " ++ decimal number
+image_text image.Trailing = codes "trailing"
+image_text image.Entry = codes "entry"
+image_text (image.Cost number) = codes "cost " ++ decimal number
+image_text image.Names = codes "names"
 
--- faults of a proof file's text
-abbrev pub proof_file_words : List (List ℕ)
-proof_file_words =
-    codes "bad byte"
-    ∷ codes "unbalanced"
-    ∷ codes "unknown form"
-    ∷ codes "bad number"
-    ∷ codes "too deep"
-    ∷ codes "duplicate"
-    ∷ codes "no such function"
-    ∷ []
-
--- faults of an image; a count tells the number of its word, a cost that of its record
-abbrev pub image_words : ℕ → List (List ℕ)
-image_words n =
-    codes "short"
-    ∷ codes "magic"
-    ∷ (codes "count " ++ decimal n)
-    ∷ codes "trailing"
-    ∷ codes "entry"
-    ∷ (codes "cost " ++ decimal n)
-    ∷ codes "names"
-    ∷ []
-
--- causes of traps
-abbrev pub cause_words : List (List ℕ)
-cause_words =
-    codes "overflow"
-    ∷ codes "illegal"
-    ∷ codes "fetch"
-    ∷ codes "jump"
-    ∷ codes "load misaligned"
-    ∷ codes "load"
-    ∷ codes "store misaligned"
-    ∷ codes "store"
-    ∷ codes "call"
-    ∷ codes "break"
-    ∷ []
+-- the cause of a trap
+abbrev pub trap_word : TrapText → List ℕ
+trap_word trap.Overflow = codes "overflow"
+trap_word trap.Illegal = codes "illegal"
+trap_word trap.Fetch = codes "fetch"
+trap_word trap.Jump = codes "jump"
+trap_word trap.LoadMisaligned = codes "load misaligned"
+trap_word trap.Load = codes "load"
+trap_word trap.StoreMisaligned = codes "store misaligned"
+trap_word trap.Store = codes "store"
+trap_word trap.Call = codes "call"
+trap_word trap.Break = codes "break"
 
 abbrev pub limit_word : LimitKind → List ℕ
 limit_word Nodes = codes "nodes"

@@ -74,6 +74,86 @@ pub enum ProofText {
     Limit(u32),
 }
 
+/// What is wrong with the bytes of a source.
+#[derive(Clone, Copy, Debug, PartialEq, Eq)]
+pub enum LexText {
+    /// A byte begins nothing.
+    BadByte,
+    /// A comment is not closed (C11 6.4.9).
+    OpenComment,
+    /// A number, an escape or a character is none (C11 6.4.4).
+    BadLiteral,
+    /// A value in a literal does not fit its type.
+    WideLiteral,
+    /// A `#` first on its line begins no line marker.
+    Directive,
+    /// A character or text is not closed on its line.
+    OpenText,
+}
+
+/// What is wrong with the text of a proof file.
+#[derive(Clone, Copy, Debug, PartialEq, Eq)]
+pub enum ProofFileText {
+    /// A byte begins nothing, or does not fit its symbol.
+    BadByte,
+    /// A `)` closes no list, or the text ends in a list.
+    Unbalanced,
+    /// A list or atom has no meaning in its place.
+    UnknownForm,
+    /// An atom is no number from -2^63 to 2^63 - 1.
+    BadNumber,
+    /// A list stands in too many lists.
+    TooDeep,
+    /// A name is defined twice, or a function has two lists.
+    Duplicate,
+    /// A function that is named has no body.
+    NoSuchFunction,
+}
+
+/// What is wrong with the bytes of an image.
+#[derive(Clone, Copy, Debug, PartialEq, Eq)]
+pub enum ImageText {
+    /// There are too few bytes.
+    Short,
+    /// The first bytes are not those of an image.
+    Magic,
+    /// The word of this number is out of its range.
+    Count(u32),
+    /// There are too many bytes.
+    Trailing,
+    /// An address is that of no instruction.
+    Entry,
+    /// The cost of the record of this number, from 0, is no cost.
+    Cost(u32),
+    /// The names of the functions are wrong.
+    Names,
+}
+
+/// Why a step of a program is not taken.
+#[derive(Clone, Copy, Debug, PartialEq, Eq)]
+pub enum TrapText {
+    /// The stack pointer would leave the stack.
+    Overflow,
+    /// The word at the pc is no instruction.
+    Illegal,
+    /// The pc is outside the code.
+    Fetch,
+    /// The address of a jump is misaligned.
+    Jump,
+    /// The address of a load is misaligned.
+    LoadMisaligned,
+    /// A load is outside of what can be read.
+    Load,
+    /// The address of a store is misaligned.
+    StoreMisaligned,
+    /// A store is outside of what can be written.
+    Store,
+    /// A call of the environment is none that there is.
+    Call,
+    /// The instruction is a break.
+    Break,
+}
+
 /// A fault, as its line tells it.
 #[derive(Debug, Drop)]
 pub enum FaultText {
@@ -87,8 +167,8 @@ pub enum FaultText {
     Failed,
     /// The file has more bytes than its limit.
     TooLong,
-    /// A lexical fault of this number, 1 to 6.
-    Lex(Pos, u32),
+    /// The bytes of the source are wrong here.
+    Lex(Pos, LexText),
     /// A token can't stand here.
     UnexpectedToken(Pos),
     /// The source can't end here.
@@ -103,8 +183,8 @@ pub enum FaultText {
     NoMain,
     /// A function that is called has no body.
     NoBody(Pos),
-    /// A fault of a proof file's text of this number, 1 to 7.
-    ProofFile(Pos, u32),
+    /// The text of the proof file is wrong here.
+    ProofFile(Pos, ProofFileText),
     /// These functions without a derivation call each other in this order, the last one the first.
     Cycle(Vec<Name>),
     /// A derivation is wrong at this place.
@@ -115,10 +195,10 @@ pub enum FaultText {
     ArgCount(u32, u32),
     /// The argument of this number, from 0, is no value of its type.
     ArgRange(u32),
-    /// An image's fault of this number, 1 to 7, and the number of its word or record, which is 0 where it has none.
-    Image(u32, u32),
-    /// The cause of a trap, 1 to 10, and the pc.
-    Trapped(u32, u32),
+    /// The bytes of the image are wrong.
+    Image(ImageText),
+    /// A step was not taken, for this cause; the pc is that of the instruction.
+    Trapped(TrapText, u32),
     /// The program goes on after so many steps.
     StepLimit(u64),
     /// There is no stack for this bound.

@@ -1,14 +1,14 @@
 // The lines of faults.
 ghost use Rattle.std.specs.Prelude.{◌≡◌, ◌++◌, [], ◌∷◌, codes, decimal};
 ghost use Rattle.qs_ports.specs.SinkView.{PutsAll};
-ghost use Rattle.qs_report.specs.Words.{word, IsNumbered, cause_words, hexadecimal, image_words};
-ghost use Rattle.qs_report.specs.Lines.{line, line_at, fault_line, HasItsNumbers};
+ghost use Rattle.qs_report.specs.Words.{hexadecimal, image_text, trap_word};
+ghost use Rattle.qs_report.specs.Lines.{line, line_at, fault_line};
 
-use crate::FaultText;
 use crate::derivation_faults::{put_cycle, put_proof_fault};
 use crate::parts::{put_between, put_number, put_pair, put_parts, put_two};
 use crate::results::put_shown;
-use crate::words::{cause_word, lex_word, limit_word, proof_file_word};
+use crate::words::{lex_word, limit_word, proof_file_word, trap_word};
+use crate::{FaultText, ImageText, TrapText};
 use hex::encode_to_slice;
 use itoa::Buffer;
 use qs_base::Pos;
@@ -76,30 +76,27 @@ fn put_image_count<K: Sink>(
     put_parts(log, &[file, b": image ", text, digits, b"\n"])
 }
 
-fn put_image<K: Sink>(log: &mut K, file: &[u8], number: u32, part: u32) -> Result<(), SinkFault>
-    requires { IsNumbered (image_words part) number }
-    ensures { PutsAll (K.view log.old) (K.view log.new) (line (file.now ∷ codes ": image " ∷ word (image_words part) number ∷ [])) result }
+fn put_image<K: Sink>(log: &mut K, file: &[u8], fault: ImageText) -> Result<(), SinkFault>
+    ensures { PutsAll (K.view log.old) (K.view log.new) (line (file.now ∷ codes ": image " ∷ image_text fault ∷ [])) result }
 {
-    match number {
-        1 => put_two(log, file, b": image short"),
-        2 => put_two(log, file, b": image magic"),
-        3 => put_image_count(log, file, b"count ", part),
-        4 => put_two(log, file, b": image trailing"),
-        5 => put_two(log, file, b": image entry"),
-        6 => put_image_count(log, file, b"cost ", part),
-        7 => put_two(log, file, b": image names"),
-        _ => unreachable!(),
+    match fault {
+        ImageText::Short => put_two(log, file, b": image short"),
+        ImageText::Magic => put_two(log, file, b": image magic"),
+        ImageText::Count(word) => put_image_count(log, file, b"count ", word),
+        ImageText::Trailing => put_two(log, file, b": image trailing"),
+        ImageText::Entry => put_two(log, file, b": image entry"),
+        ImageText::Cost(record) => put_image_count(log, file, b"cost ", record),
+        ImageText::Names => put_two(log, file, b": image names"),
     }
 }
 
-fn put_trap<K: Sink>(log: &mut K, cause: u32, pc: u32) -> Result<(), SinkFault>
-    requires { IsNumbered cause_words cause }
-    ensures { PutsAll (K.view log.old) (K.view log.new) (line (codes "trap " ∷ word cause_words cause ∷ codes " at 0x" ∷ hexadecimal pc ∷ [])) result }
+fn put_trap<K: Sink>(log: &mut K, cause: TrapText, pc: u32) -> Result<(), SinkFault>
+    ensures { PutsAll (K.view log.old) (K.view log.new) (line (codes "trap " ∷ trap_word cause ∷ codes " at 0x" ∷ hexadecimal pc ∷ [])) result }
 {
     let mut digits = [0; 8];
     let place = pc.to_be_bytes();
     encode_to_slice(place.as_slice(), &mut digits).unwrap();
-    let text = cause_word(cause).as_bytes();
+    let text = trap_word(cause).as_bytes();
     put_parts(log, &[b"trap ", text, b" at 0x", digits.as_slice(), b"\n"])
 }
 
@@ -124,7 +121,6 @@ pub fn put_fault<K: Sink>(
     name: &[u8],
     fault: &FaultText,
 ) -> Result<(), SinkFault>
-    requires { HasItsNumbers fault.now }
     ensures { PutsAll (K.view log.old) (K.view log.new) (fault_line file.now name.now fault.now) result }
 {
     match fault {
@@ -133,7 +129,7 @@ pub fn put_fault<K: Sink>(
         FaultText::Missing => put_two(log, b"missing: ", file),
         FaultText::Failed => put_two(log, b"failed: ", file),
         FaultText::TooLong => put_two(log, b"too long: ", file),
-        FaultText::Lex(pos, number) => put_at(log, file, *pos, lex_word(*number)),
+        FaultText::Lex(pos, fault) => put_at(log, file, *pos, lex_word(*fault)),
         FaultText::UnexpectedToken(pos) => put_at(log, file, *pos, "unexpected token"),
         FaultText::UnexpectedEnd(pos) => put_at(log, file, *pos, "unexpected end"),
         FaultText::TooDeep(pos) => put_at(log, file, *pos, "too deep"),
@@ -143,7 +139,7 @@ pub fn put_fault<K: Sink>(
         }
         FaultText::NoMain => put_two(log, file, b": no main"),
         FaultText::NoBody(pos) => put_at(log, file, *pos, "no body"),
-        FaultText::ProofFile(pos, number) => put_at(log, file, *pos, proof_file_word(*number)),
+        FaultText::ProofFile(pos, fault) => put_at(log, file, *pos, proof_file_word(*fault)),
         FaultText::Cycle(names) => put_cycle(log, names),
         FaultText::Proof(spot, text) => put_proof_fault(log, file, name, spot, text),
         FaultText::Order => put_parts(log, &[file, b": order ", name, b"\n"]),
@@ -151,7 +147,7 @@ pub fn put_fault<K: Sink>(
             put_arg_count(log, u64::from(*expected), u64::from(*given))
         }
         FaultText::ArgRange(argument) => put_arg_range(log, u64::from(*argument)),
-        FaultText::Image(number, part) => put_image(log, file, *number, *part),
+        FaultText::Image(fault) => put_image(log, file, *fault),
         FaultText::Trapped(cause, pc) => put_trap(log, *cause, *pc),
         FaultText::StepLimit(steps) => put_number(log, b"step limit ", *steps),
         FaultText::NoBound(bound) => put_shown(log, b"no bound: ", *bound),

@@ -50,7 +50,6 @@ pub fn fault_line(
     name: &[u8],
     fault: &FaultText,
 ) -> Result<Vec<u8>, NoMemory>
-    requires { meant.HasItsNumbers fault.now }
     ensures { IfOk result (λ line. line.items ≡ meant.fault_line file.now name.now fault.now) }
 {
     let mut line = Taking::new(alloc);

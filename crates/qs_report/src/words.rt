@@ -1,56 +1,50 @@
-// The words of lines. Faults and causes that have a number are counted from 1.
+// The words of lines.
 ghost use Rattle.std.specs.Prelude.{◌≡◌};
-ghost use Rattle.qs_report.specs.Words.{word, IsNumbered, lex_words, proof_file_words, cause_words, limit_word};
+ghost use Rattle.qs_report.specs.Words.{lex_word, proof_file_word, trap_word, limit_word};
 
-use crate::LimitKind;
+use crate::{LexText, LimitKind, ProofFileText, TrapText};
 
-pub fn lex_word(number: u32) -> &'static str
-    requires { IsNumbered lex_words number }
-    ensures { result.now ≡ word lex_words number }
+pub fn lex_word(fault: LexText) -> &'static str
+    ensures { result.now ≡ lex_word fault }
 {
-    match number {
-        1 => "bad byte",
-        2 => "open comment",
-        3 => "bad literal",
-        4 => "wide literal",
-        5 => "directive",
-        6 => "open text",
-        _ => unreachable!(),
+    match fault {
+        LexText::BadByte => "bad byte",
+        LexText::OpenComment => "open comment",
+        LexText::BadLiteral => "bad literal",
+        LexText::WideLiteral => "wide literal",
+        LexText::Directive => "directive",
+        LexText::OpenText => "open text",
     }
 }
 
-pub fn proof_file_word(number: u32) -> &'static str
-    requires { IsNumbered proof_file_words number }
-    ensures { result.now ≡ word proof_file_words number }
+pub fn proof_file_word(fault: ProofFileText) -> &'static str
+    ensures { result.now ≡ proof_file_word fault }
 {
-    match number {
-        1 => "bad byte",
-        2 => "unbalanced",
-        3 => "unknown form",
-        4 => "bad number",
-        5 => "too deep",
-        6 => "duplicate",
-        7 => "no such function",
-        _ => unreachable!(),
+    match fault {
+        ProofFileText::BadByte => "bad byte",
+        ProofFileText::Unbalanced => "unbalanced",
+        ProofFileText::UnknownForm => "unknown form",
+        ProofFileText::BadNumber => "bad number",
+        ProofFileText::TooDeep => "too deep",
+        ProofFileText::Duplicate => "duplicate",
+        ProofFileText::NoSuchFunction => "no such function",
     }
 }
 
-pub fn cause_word(number: u32) -> &'static str
-    requires { IsNumbered cause_words number }
-    ensures { result.now ≡ word cause_words number }
+pub fn trap_word(cause: TrapText) -> &'static str
+    ensures { result.now ≡ trap_word cause }
 {
-    match number {
-        1 => "overflow",
-        2 => "illegal",
-        3 => "fetch",
-        4 => "jump",
-        5 => "load misaligned",
-        6 => "load",
-        7 => "store misaligned",
-        8 => "store",
-        9 => "call",
-        10 => "break",
-        _ => unreachable!(),
+    match cause {
+        TrapText::Overflow => "overflow",
+        TrapText::Illegal => "illegal",
+        TrapText::Fetch => "fetch",
+        TrapText::Jump => "jump",
+        TrapText::LoadMisaligned => "load misaligned",
+        TrapText::Load => "load",
+        TrapText::StoreMisaligned => "store misaligned",
+        TrapText::Store => "store",
+        TrapText::Call => "call",
+        TrapText::Break => "break",
     }
 }
 

@@ -3,11 +3,12 @@ use Rattle.std.proofs.Common.{◌≡◌, ℕ, zero, suc, ◌+◌, ◌^◌, ◌�
 use Rattle.std.specs.Prelude.{◌&&◌, nat_le, if◌then◌else◌, slice_index_or}
 use Rattle.std.specs.List.{slice_get, list_all}
 use Rattle.std.proofs.lemmas.Bool.Decides.{nat_tests}
+use Rattle.std.specs.Option.{option_or}
 use Rattle.qs_tac.specs.Trees.{TacFunctionTree, TacUnitTree}
 use Rattle.qs_tac.specs.Places.{PlacesTree, no_places}
 use Rattle.qs_frames.specs.Layout.{total, layout}
 use Rattle.qs_select.specs.Data.{data_sizes}
-use Rattle.qs_select.specs.Limits.{passes_few, has_few, places_fit, frame_fits, function_fault, or_else, functions_fault, data_fit, first_fault}
+use Rattle.qs_select.specs.Limits.{passes_few, has_few, places_fit, frame_fits, function_fault, functions_fault, data_fit, first_fault}
 use Rattle.qs_select.specs.declared.fault.SelectionFault.{SelectionFault}
 use Rattle.qs_select.specs.declared.fault.SelectionFault.TheVariants as faults
 
@@ -47,7 +48,7 @@ is_free f p h =
       cost = grind (arith, nat_tests, t.third);
     }
 
-pub none_first : (a b : Option SelectionFault) → or_else a b ≡ None → (a ≡ None) × (b ≡ None)
+pub none_first : (a b : Option SelectionFault) → option_or a b ≡ None → (a ≡ None) × (b ≡ None)
 none_first None b h = (refl, h)
 none_first (Some f) b h = cc
 
@@ -94,7 +95,7 @@ none_from ps first (k ∷ functions) h =
     let now : function_fault k (slice_index_or ps first no_places) ≡ None =
     free_has_none k (slice_index_or ps first no_places)
     (subst (λ (i : ℕ). IsFree k (slice_index_or ps i no_places)) (add-zero first) (h zero k refl)) in
-    ap (λ o. or_else o (functions_fault ps (first + 1) functions)) now
+    ap (λ o. option_or o (functions_fault ps (first + 1) functions)) now
     ∙ none_from ps (first + 1) functions
     (λ f g e.
     let moved : first + suc f ≡ first + 1 + f = omega arith in

@@ -1,6 +1,7 @@
 -- What machine code is selected for, and the first reason why it isn't.
 use Rattle.std.specs.Prelude.{ℕ, ◌+◌, ◌^◌, ◌&&◌, nat_lt, nat_le, Bool, true, if◌then◌else◌, List, [], ◌∷◌, length, Option, Some, None, slice_index_or}
 use Rattle.std.specs.List.{list_all}
+use Rattle.std.specs.Option.{option_or}
 use Rattle.qs_tac.specs.Trees.{InstructionTree, move, unary, binary, convert, address_of, load, store}
 use Rattle.qs_tac.specs.Trees.{copy, fill, call, jump, branch, return, TacFunctionTree, TacUnitTree}
 use Rattle.qs_tac.specs.Places.{PlacesTree, no_places}
@@ -68,15 +69,11 @@ function_fault f p =
     (if places_fit p then (if frame_fits f p then None else Some faults.FrameTooLarge) else Some faults.NoRegister)
     else Some faults.TooManyArguments
 
-abbrev pub or_else : Option SelectionFault → Option SelectionFault → Option SelectionFault
-or_else None later = later
-or_else (Some fault) later = Some fault
-
 -- of functions, the first of which has this number
 abbrev pub functions_fault : List PlacesTree → (f : ℕ) → List TacFunctionTree → Option SelectionFault
 functions_fault ps f [] = None
 functions_fault ps f (g ∷ functions) =
-    or_else (function_fault g (slice_index_or ps f no_places)) (functions_fault ps (f + 1) functions)
+    option_or (function_fault g (slice_index_or ps f no_places)) (functions_fault ps (f + 1) functions)
 
 abbrev pub first_fault : TacUnitTree → List PlacesTree → Option SelectionFault
 first_fault u ps =

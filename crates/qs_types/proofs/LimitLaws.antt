@@ -2,6 +2,7 @@
 use Rattle.std.proofs.Common.{◌≡◌, ◌≤◌, ℕ, zero, suc, ◌+◌, ◌%◌, max, nat_lt, Bool, true, false, ◌||◌, List, [], ◌∷◌, ◌++◌, Option, Some, None, is_some, length, map, fold, refl, sym, ap, ◌∙◌, length-append, arith, if◌then◌else◌}
 use Rattle.std.specs.List.{slice_get}
 use Rattle.std.proofs.lemmas.Bool.Decides.{nat_tests}
+use Rattle.std.specs.Option.{option_or}
 use Rattle.qs_syntax.specs.Nodes.{unit_count}
 use Rattle.qs_syntax.specs.Units.{IsRead}
 use Rattle.qs_syntax.specs.Trees.{ParameterTree, FunctionTree, Stmts, structure, forward, function, variables, UnitTree}
@@ -10,7 +11,7 @@ use Rattle.qs_types.specs.Layout.{rounded_up}
 use Rattle.qs_types.specs.Contexts.{Context, start_context}
 use Rattle.qs_types.specs.Placed.{Local, placed_in}
 use Rattle.qs_types.specs.UnitRules.{is_name_in, with_name_once, after_declaration}
-use Rattle.qs_types.specs.Limits.{or_else, first_past_nodes, names_from, function_count, header_past, first_past_functions, parameter_count, node_of_parameter, first_past_parameters, word_size, Block, block_end, blocks_end, block_past, data_blocks, data_bytes, first_past_globals, type_size, local_block, local_blocks, placed_bytes, body_bytes, placed_from, most_placed, local_past, local_past_from, first_past_locals, node_limit, function_limit, parameter_limit, global_limit, local_limit, KeepsLimits, IsWithinLimits}
+use Rattle.qs_types.specs.Limits.{first_past_nodes, names_from, function_count, header_past, first_past_functions, parameter_count, node_of_parameter, first_past_parameters, word_size, Block, block_end, blocks_end, block_past, data_blocks, data_bytes, first_past_globals, type_size, local_block, local_blocks, placed_bytes, body_bytes, placed_from, most_placed, local_past, local_past_from, first_past_locals, node_limit, function_limit, parameter_limit, global_limit, local_limit, KeepsLimits, IsWithinLimits}
 use Rattle.qs_types.proofs.Rounding.{rounds}
 
 -- ---- nodes
@@ -73,7 +74,7 @@ functions_past limit unit = headers_past limit [] unit (grind (arith, nat_tests)
 
 -- ---- parameters
 
-either_past : (o p : Option ℕ) → is_some (or_else o p) ≡ (is_some o || is_some p)
+either_past : (o p : Option ℕ) → is_some (option_or o p) ≡ (is_some o || is_some p)
 either_past None p = refl
 either_past (Some n) p = refl
 

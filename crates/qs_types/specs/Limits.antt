@@ -2,6 +2,7 @@
 -- its limit. The height is that of a reading, which a unit has.
 use Rattle.std.specs.Prelude.{◌≡◌, ◌≤◌, ℕ, ◌+◌, max, nat_lt, true, List, [], ◌∷◌, ◌++◌, Option, Some, None, length, map, sum_by, if◌then◌else◌}
 use Rattle.std.specs.List.{slice_get}
+use Rattle.std.specs.Option.{option_or}
 use Rattle.qs_syntax.specs.Nodes.{unit_count}
 use Rattle.qs_syntax.specs.Units.{IsRead}
 use Rattle.qs_syntax.specs.declared.types.Base.{Base}
@@ -15,10 +16,6 @@ use Rattle.qs_types.specs.StatementRules.{after_variable}
 use Rattle.qs_types.specs.UnitRules.{is_name_in, with_name_once, after_declaration}
 use Rattle.qs_types.specs.Placed.{Local, placed_in}
 use Rattle.qs_types.specs.References.{TextBlock, literal_blocks}
-
-abbrev pub or_else : Option ℕ → Option ℕ → Option ℕ
-or_else None other = other
-or_else (Some n) other = Some n
 
 -- ---- nodes, which are numbered from 0
 
@@ -79,7 +76,7 @@ abbrev pub first_past_parameters : (limit : ℕ) → UnitTree → Option ℕ
 first_past_parameters limit [] = None
 first_past_parameters limit (structure s ∷ ds) = first_past_parameters limit ds
 first_past_parameters limit (forward f ∷ ds) = first_past_parameters limit ds
-first_past_parameters limit (function f ∷ ds) = or_else (parameter_past limit f) (first_past_parameters limit ds)
+first_past_parameters limit (function f ∷ ds) = option_or (parameter_past limit f) (first_past_parameters limit ds)
 first_past_parameters limit (variables d ∷ ds) = first_past_parameters limit ds
 
 -- ---- blocks of memory: each begins at a multiple of 4
@@ -183,7 +180,7 @@ abbrev pub local_past_from : (limit : ℕ) → Context → UnitTree → Option �
 local_past_from limit c [] = None
 local_past_from limit c (structure s ∷ ds) = local_past_from limit (after_declaration c (structure s)) ds
 local_past_from limit c (forward f ∷ ds) = local_past_from limit (after_declaration c (forward f)) ds
-local_past_from limit c (function f ∷ ds) = or_else (local_past limit c f f.body) (local_past_from limit (after_declaration c (function f)) ds)
+local_past_from limit c (function f ∷ ds) = option_or (local_past limit c f f.body) (local_past_from limit (after_declaration c (function f)) ds)
 local_past_from limit c (variables d ∷ ds) = local_past_from limit (after_declaration c (variables d)) ds
 
 abbrev pub first_past_locals : (limit : ℕ) → UnitTree → Option ℕ

@@ -1,6 +1,7 @@
 -- The blocks of memory that a walk notes are those that are counted.
 use Rattle.std.proofs.Common.{◌≡◌, ℕ, ◌+◌, Bool, true, false, ◌&&◌, List, [], ◌∷◌, ◌++◌, Option, Some, None, is_some, length, drop, filter, map, refl, sym, subst, ap, ◌∙◌, append_assoc, append-nil, if◌then◌else◌}
 use Rattle.std.proofs.lemmas.List.{drop_at}
+use Rattle.std.specs.Option.{option_or}
 use Rattle.qs_syntax.specs.declared.types.Base.{Base}
 use Rattle.qs_syntax.specs.declared.nodes.Node.{Node}
 use Rattle.qs_syntax.specs.Trees.{ExprTree, DeclaratorTree, InitialiserTree, value, list, Initialisers, no_initialisers, initialiser_and, VariableTree, ParameterTree, MembersTree, StartTree, no_start, start_expression, start_declaration, StmtTree, empty, expression, declaration, block, branch, while_loop, do_loop, for_loop, break, continue, return, Stmts, no_stmts, stmt_and, Else, no_else, else_by, StructTree, FunctionTree, structure, forward, function, variables, UnitTree}
@@ -15,7 +16,7 @@ use Rattle.qs_types.specs.InitialiserRules.{option_part}
 use Rattle.qs_types.specs.StatementRules.{after_variable, variable_tests, condition_tests, for_tests, loop_tests, return_tests, after_statement, for_context}
 use Rattle.qs_types.specs.UnitRules.{with_tag, is_defined, member_tests, parameter_tests, header_tests, result_type, Before, no_members, after_member, after_together, after_parameter, after_function, after_declaration, parameter_types, with_parameter, with_parameters, body_context}
 use Rattle.qs_types.specs.Placed.{Local, addressed_in, is_placed, locals_in, parameters_locals, variables_locals, start_locals, statement_locals, statements_locals, else_locals}
-use Rattle.qs_types.specs.Limits.{Block, type_size, variables_blocks, variable_blocks_from, local_block, local_past, local_past_from, local_limit, block_past, or_else}
+use Rattle.qs_types.specs.Limits.{Block, type_size, variables_blocks, variable_blocks_from, local_block, local_past, local_past_from, local_limit, block_past}
 use Rattle.qs_types.specs.Sites.{may_hold}
 use Rattle.qs_typing.specs.Noted.{LocalTree, local_tree, parameters_noted, is_block, local_past_by}
 use Rattle.qs_typing.specs.UnitWalk.{WalkTree, node_opened, object_opened, declarator_walked, node_judged, option_list_tests, site_walked, option_walked, lengths_walked, initialiser_walked, elements_walked, option_initialiser_walked, variable_walk_noted, variable_walked, variables_walked, start_walked, condition_walked, statement_walked, statements_walked, else_walked, member_walked, together_walked, members_walked, struct_walked, parameters_walked, with_body_begun, body_walked, function_walked, declarations_walked, unit_walked, start_walk}
@@ -235,23 +236,23 @@ blocks_are structs nodes (l ∷ ls) = by (is_placed nodes l) (blocks_are structs
 -- what a function adds: a local that is past the limit
 record AddsPast (f : WalkTree → WalkTree) (globals : List Block) (past : Option ℕ) : Type 0 where
   at_file : (w : WalkTree) → (f w).noted.globals ≡ w.noted.globals ++ globals
-  local_past : (w : WalkTree) → (f w).noted.local_past ≡ or_else w.noted.local_past past
+  local_past : (w : WalkTree) → (f w).noted.local_past ≡ option_or w.noted.local_past past
 
-or_none : (o : Option ℕ) → o ≡ or_else o None
+or_none : (o : Option ℕ) → o ≡ option_or o None
 or_none None = refl
 or_none (Some n) = refl
 
-or_both : (o p q : Option ℕ) → or_else (or_else o p) q ≡ or_else o (or_else p q)
+or_both : (o p q : Option ℕ) → option_or (option_or o p) q ≡ option_or o (option_or p q)
 or_both None p q = refl
 or_both (Some n) p q = refl
 
 past_of : {f : WalkTree → WalkTree} {gs : List Block} {ls : List LocalTree} → AddsBlocks f gs ls → AddsPast f gs None
 past_of {f = f} a = record { at_file = λ w. a.at_file w; local_past = λ w. a.past w ∙ or_none w.noted.local_past }
 
-then_past : {f g : WalkTree → WalkTree} {gs hs : List Block} {p q : Option ℕ} → AddsPast f gs p → AddsPast g hs q → AddsPast (λ w. g (f w)) (gs ++ hs) (or_else p q)
+then_past : {f g : WalkTree → WalkTree} {gs hs : List Block} {p q : Option ℕ} → AddsPast f gs p → AddsPast g hs q → AddsPast (λ w. g (f w)) (gs ++ hs) (option_or p q)
 then_past {f = f} {g = g} {gs = gs} {hs = hs} {p = p} {q = q} a b = record {
   at_file = λ w. in_turn w.noted.globals (f w).noted.globals (g (f w)).noted.globals gs hs (a.at_file w) (b.at_file (f w));
-  local_past = λ w. b.local_past (f w) ∙ ap (λ o. or_else o q) (a.local_past w) ∙ or_both w.noted.local_past p q;
+  local_past = λ w. b.local_past (f w) ∙ ap (λ o. option_or o q) (a.local_past w) ∙ or_both w.noted.local_past p q;
 }
 
 abbrev parameters_of : Context → FunctionTree → List LocalTree
@@ -280,9 +281,9 @@ body_past c f None = past_of nothing_kept
 body_past c f (Some ss) = let a = statements_blocks (body_context c f) ss in record {
   at_file = λ w. a.at_file (with_body_begun (parameters_of c f) w);
   local_past = λ w.
-      ap (λ o. or_else o (local_past_by (drop (length w.found.addressed) (statements_walked (body_context c f) ss (with_body_begun (parameters_of c f) w)).found.addressed) (statements_walked (body_context c f) ss (with_body_begun (parameters_of c f) w)).noted.locals))
+      ap (λ o. option_or o (local_past_by (drop (length w.found.addressed) (statements_walked (body_context c f) ss (with_body_begun (parameters_of c f) w)).found.addressed) (statements_walked (body_context c f) ss (with_body_begun (parameters_of c f) w)).noted.locals))
       (a.past (with_body_begun (parameters_of c f) w))
-      ∙ ap (or_else w.noted.local_past)
+      ∙ ap (option_or w.noted.local_past)
       (past_is c f ss (drop (length w.found.addressed) (statements_walked (body_context c f) ss (with_body_begun (parameters_of c f) w)).found.addressed)
       (statements_walked (body_context c f) ss (with_body_begun (parameters_of c f) w)).noted.locals
       (names_are c f ss w) (a.in_body (with_body_begun (parameters_of c f) w) ∙ locals_are c f ss));

@@ -1,6 +1,7 @@
 -- A unit is refused for the first of the causes that there are, in their order, and for none exactly where there is none.
 use Rattle.std.proofs.Common.{◌≡◌, ◌≤◌, ◌⊎◌, inl, inr, ℕ, suc, ◌==◌, nat_lt, Bool, true, false, ◌&&◌, ◌||◌, [], Option, Some, None, refl, sym, ap, ◌∙◌, subst, arith, if◌then◌else◌}
 use Rattle.std.proofs.lemmas.Bool.Decides.{nat_tests}
+use Rattle.std.specs.Option.{option_or}
 use Rattle.qs_syntax.specs.Trees.{UnitTree}
 use Rattle.qs_report.specs.declared.fault_texts.LimitKind.{LimitKind}
 use Rattle.qs_report.specs.declared.fault_texts.LimitKind.TheVariants as kinds
@@ -12,7 +13,7 @@ use Rattle.qs_types.proofs.RuleLaws.{numbers_differ}
 use Rattle.qs_typing.specs.declared.refusals.TypeFault.{TypeFault}
 use Rattle.qs_typing.specs.declared.refusals.TypeFault.TheVariants as faults
 use Rattle.qs_typing.specs.Findings.{least_with, IsFirst}
-use Rattle.qs_typing.specs.Refusals.{IsCause, HasCause, IsLeastViolation, first_of, first_past, limit_place, place_of, limit_fault, rule_fault, main_fault, undefined_fault, late_refusal, first_refusal}
+use Rattle.qs_typing.specs.Refusals.{IsCause, HasCause, IsLeastViolation, first_past, limit_place, place_of, limit_fault, rule_fault, main_fault, undefined_fault, late_refusal, first_refusal}
 use Rattle.qs_typing.proofs.First.{first_found, none_found}
 
 -- ---- the causes of one place
@@ -142,7 +143,7 @@ here_or_behind n m h = grind arith
 first_here : (place m n : ℕ) → m ≡ place → place ≤ n → m ≤ n
 first_here place m n e h = omega arith
 
-in_front : (unit : UnitTree) (place : ℕ) (o p : Option TypeFault) → ShowsOne unit place o → ShowsFirst unit (suc place) p → ShowsFirst unit place (first_of o p)
+in_front : (unit : UnitTree) (place : ℕ) (o p : Option TypeFault) → ShowsOne unit place o → ShowsFirst unit (suc place) p → ShowsFirst unit place (option_or o p)
 in_front unit place None p one rest = record {
   there = λ f e. let r = rest.there f e in (r.0, λ g h le. by f r.1 g h (here_or_behind place (place_of g) le));
   none = λ e g h le. elim (here_or_behind place (place_of g) le) [ inl q ↦ one.none refl g h q | inr q ↦ rest.none e g h q ];
@@ -178,11 +179,11 @@ nothing_behind unit = record { there = λ f e. absurd (cc); none = λ e. by }
     by (faults.Undefined node) h le = omega (arith, le)
     by faults.NoMemory h le = h
 
-in_turn : (o p q : Option TypeFault) → first_of o (first_of p q) ≡ first_of (first_of o p) q
+in_turn : (o p q : Option TypeFault) → option_or o (option_or p q) ≡ option_or (option_or o p) q
 in_turn None p q = refl
 in_turn (Some f) p q = refl
 
-alone : (o : Option TypeFault) → first_of o None ≡ o
+alone : (o : Option TypeFault) → option_or o None ≡ o
 alone None = refl
 alone (Some f) = refl
 
@@ -191,15 +192,15 @@ limit_of kind unit = limit_fault kind (first_past kind unit)
 
 abbrev behind_rule : UnitTree → Option TypeFault → Option TypeFault
 behind_rule unit last =
-    first_of (main_fault (has_main unit)) (first_of (undefined_fault (first_undefined unit)) (first_of (limit_of kinds.Globals unit) last))
+    option_or (main_fault (has_main unit)) (option_or (undefined_fault (first_undefined unit)) (option_or (limit_of kinds.Globals unit) last))
 
 abbrev one_by_one : UnitTree → Option TypeFault
 one_by_one unit =
-    first_of (limit_of kinds.Nodes unit)
-    (first_of (limit_of kinds.Functions unit)
-    (first_of (limit_of kinds.Parameters unit)
-    (first_of (rule_fault (least_with None (faults_in unit)))
-    (behind_rule unit (first_of (limit_of kinds.Locals unit) None)))))
+    option_or (limit_of kinds.Nodes unit)
+    (option_or (limit_of kinds.Functions unit)
+    (option_or (limit_of kinds.Parameters unit)
+    (option_or (rule_fault (least_with None (faults_in unit)))
+    (behind_rule unit (option_or (limit_of kinds.Locals unit) None)))))
 
 one_by_one_is : (unit : UnitTree) → one_by_one unit ≡ first_refusal unit
 one_by_one_is unit =
@@ -207,19 +208,19 @@ one_by_one_is unit =
     let b = limit_of kinds.Functions unit in
     let c = limit_of kinds.Parameters unit in
     let d = rule_fault (least_with None (faults_in unit)) in
-    (λ i. first_of a (first_of b (first_of c (first_of d (behind_rule unit (alone (limit_of kinds.Locals unit) i))))))
-    ∙ ap (first_of a) (in_turn b c (late_refusal unit))
-    ∙ in_turn a (first_of b c) (late_refusal unit)
+    (λ i. option_or a (option_or b (option_or c (option_or d (behind_rule unit (alone (limit_of kinds.Locals unit) i))))))
+    ∙ ap (option_or a) (in_turn b c (late_refusal unit))
+    ∙ in_turn a (option_or b c) (late_refusal unit)
 
 all_shown : (unit : UnitTree) → ShowsFirst unit 0 (one_by_one unit)
 all_shown unit =
-    let locals = first_of (limit_of kinds.Locals unit) None in
-    let globals = first_of (limit_of kinds.Globals unit) locals in
-    let undefined = first_of (undefined_fault (first_undefined unit)) globals in
-    let main = first_of (main_fault (has_main unit)) undefined in
-    let rules = first_of (rule_fault (least_with None (faults_in unit))) main in
-    let parameters = first_of (limit_of kinds.Parameters unit) rules in
-    let functions = first_of (limit_of kinds.Functions unit) parameters in
+    let locals = option_or (limit_of kinds.Locals unit) None in
+    let globals = option_or (limit_of kinds.Globals unit) locals in
+    let undefined = option_or (undefined_fault (first_undefined unit)) globals in
+    let main = option_or (main_fault (has_main unit)) undefined in
+    let rules = option_or (rule_fault (least_with None (faults_in unit))) main in
+    let parameters = option_or (limit_of kinds.Parameters unit) rules in
+    let functions = option_or (limit_of kinds.Functions unit) parameters in
     in_front unit 0 (limit_of kinds.Nodes unit) functions (limit_one unit kinds.Nodes)
     (in_front unit 1 (limit_of kinds.Functions unit) parameters (limit_one unit kinds.Functions)
     (in_front unit 2 (limit_of kinds.Parameters unit) rules (limit_one unit kinds.Parameters)

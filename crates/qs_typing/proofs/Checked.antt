@@ -1,5 +1,6 @@
 -- A unit is refused for no cause exactly where it is well typed and within the limits; what a walk shows are the causes.
 use Rattle.std.proofs.Common.{◌≡◌, inl, inr, ℕ, Bool, true, false, List, [], ◌∷◌, ◌++◌, Option, Some, None, is_some, map, refl, sym, ap, ◌∙◌}
+use Rattle.std.specs.Option.{option_or}
 use Rattle.qs_syntax.specs.Trees.{UnitTree}
 use Rattle.qs_report.specs.declared.fault_texts.LimitKind.{LimitKind}
 use Rattle.qs_report.specs.declared.fault_texts.LimitKind.TheVariants as kinds
@@ -12,7 +13,7 @@ use Rattle.qs_types.specs.WellTyped.{WellTyped, end_context, has_main, first_und
 use Rattle.qs_typing.specs.declared.refusals.TypeFault.{TypeFault}
 use Rattle.qs_typing.specs.declared.refusals.TypeFault.TheVariants as faults
 use Rattle.qs_typing.specs.Findings.{least_with}
-use Rattle.qs_typing.specs.Refusals.{IsAccepted, IsTold, first_of, limit_fault, rule_fault, main_fault, undefined_fault, early_refusal, late_refusal, first_refusal, late_by}
+use Rattle.qs_typing.specs.Refusals.{IsAccepted, IsTold, limit_fault, rule_fault, main_fault, undefined_fault, early_refusal, late_refusal, first_refusal, late_by}
 use Rattle.qs_typing.specs.UnitWalk.{WalkTree, unit_walked}
 use Rattle.qs_typing.proofs.Adding.{unit_least, unit_called, unit_texts}
 use Rattle.qs_typing.proofs.Blocks.{unit_globals, unit_past}
@@ -21,11 +22,11 @@ use Rattle.qs_typing.proofs.Watched.{any_least}
 
 -- ---- nothing is refused
 
-none_first : (o p : Option TypeFault) → first_of o p ≡ None → o ≡ None
+none_first : (o p : Option TypeFault) → option_or o p ≡ None → o ≡ None
 none_first None p h = refl
 none_first (Some f) p h = h
 
-none_second : (o p : Option TypeFault) → first_of o p ≡ None → p ≡ None
+none_second : (o p : Option TypeFault) → option_or o p ≡ None → p ≡ None
 none_second None p h = h
 none_second (Some f) p h = absurd (cc)
 
@@ -59,13 +60,13 @@ abbrev locals_of : UnitTree → Option TypeFault
 locals_of unit = limit_fault kinds.Locals (first_past_locals local_limit unit)
 
 abbrev behind_undefined : UnitTree → Option TypeFault
-behind_undefined unit = first_of (globals_of unit) (locals_of unit)
+behind_undefined unit = option_or (globals_of unit) (locals_of unit)
 
 abbrev behind_main : UnitTree → Option TypeFault
-behind_main unit = first_of (undefined_fault (first_undefined unit)) (behind_undefined unit)
+behind_main unit = option_or (undefined_fault (first_undefined unit)) (behind_undefined unit)
 
 abbrev behind_rule : UnitTree → Option TypeFault
-behind_rule unit = first_of (main_fault (has_main unit)) (behind_main unit)
+behind_rule unit = option_or (main_fault (has_main unit)) (behind_main unit)
 
 late : (unit : UnitTree) → first_refusal unit ≡ None → late_refusal unit ≡ None
 late unit h = none_second (early_refusal unit) (late_refusal unit) h
@@ -100,12 +101,12 @@ parameters_of unit = limit_fault kinds.Parameters (first_past_parameters paramet
 early : (unit : UnitTree) → first_refusal unit ≡ None → early_refusal unit ≡ None
 early unit h = none_first (early_refusal unit) (late_refusal unit) h
 
-after_nodes : (unit : UnitTree) → first_refusal unit ≡ None → first_of (functions_of unit) (parameters_of unit) ≡ None
-after_nodes unit h = none_second (nodes_of unit) (first_of (functions_of unit) (parameters_of unit)) (early unit h)
+after_nodes : (unit : UnitTree) → first_refusal unit ≡ None → option_or (functions_of unit) (parameters_of unit) ≡ None
+after_nodes unit h = none_second (nodes_of unit) (option_or (functions_of unit) (parameters_of unit)) (early unit h)
 
 is_within_limits : (unit : UnitTree) → first_refusal unit ≡ None → IsWithinLimits unit
 is_within_limits unit h = record {
-  nodes = no_limit kinds.Nodes (first_past_nodes node_limit unit) (none_first (nodes_of unit) (first_of (functions_of unit) (parameters_of unit)) (early unit h));
+  nodes = no_limit kinds.Nodes (first_past_nodes node_limit unit) (none_first (nodes_of unit) (option_or (functions_of unit) (parameters_of unit)) (early unit h));
   functions = no_limit kinds.Functions (first_past_functions function_limit unit) (none_first (functions_of unit) (parameters_of unit) (after_nodes unit h));
   parameters = no_limit kinds.Parameters (first_past_parameters parameter_limit unit) (none_second (functions_of unit) (parameters_of unit) (after_nodes unit h));
   globals = no_limit kinds.Globals (first_past_globals global_limit unit) (none_first (globals_of unit) (locals_of unit) (after_undefined unit h));
@@ -119,12 +120,12 @@ pub nothing_refused : (unit : UnitTree) → IsAccepted unit → first_refusal un
 nothing_refused unit a =
     let w = a.well_typed in
     let l = a.within_limits in
-    λ i. first_of
-    (first_of (limit_fault kinds.Nodes (l.nodes i)) (first_of (limit_fault kinds.Functions (l.functions i)) (limit_fault kinds.Parameters (l.parameters i))))
-    (first_of (rule_fault (least_with None (w.keeps_rules i)))
-    (first_of (main_fault (w.main_has_body i))
-    (first_of (undefined_fault (w.calls_have_bodies i))
-    (first_of (limit_fault kinds.Globals (l.globals i)) (limit_fault kinds.Locals (l.locals i))))))
+    λ i. option_or
+    (option_or (limit_fault kinds.Nodes (l.nodes i)) (option_or (limit_fault kinds.Functions (l.functions i)) (limit_fault kinds.Parameters (l.parameters i))))
+    (option_or (rule_fault (least_with None (w.keeps_rules i)))
+    (option_or (main_fault (w.main_has_body i))
+    (option_or (undefined_fault (w.calls_have_bodies i))
+    (option_or (limit_fault kinds.Globals (l.globals i)) (limit_fault kinds.Locals (l.locals i))))))
 
 -- ---- what a walk shows
 
@@ -133,9 +134,9 @@ data_are unit =
     ap (λ gs. gs ++ map text_block (unit_walked unit).noted.texts) (unit_globals unit) ∙ ap (λ ts. variable_blocks_from start_context unit ++ map text_block ts) (unit_texts unit)
 
 late_parts : (unit : UnitTree) (l m : Option Fault) (calls names : List (List ℕ)) (ds es : List _) (p q : Option ℕ) → l ≡ m → calls ≡ names → ds ≡ es → p ≡ q
-    → first_of (rule_fault l) (first_of (main_fault (has_main unit)) (first_of (undefined_fault (undefined_from (runs unit) calls unit)) (first_of (limit_fault kinds.Globals (block_past global_limit 0 ds)) (limit_fault kinds.Locals p))))
-    ≡ first_of (rule_fault m) (first_of (main_fault (has_main unit)) (first_of (undefined_fault (undefined_from (runs unit) names unit)) (first_of (limit_fault kinds.Globals (block_past global_limit 0 es)) (limit_fault kinds.Locals q))))
-late_parts unit l m calls names ds es p q a b d e = λ i. first_of (rule_fault (a i)) (first_of (main_fault (has_main unit)) (first_of (undefined_fault (undefined_from (runs unit) (b i) unit)) (first_of (limit_fault kinds.Globals (block_past global_limit 0 (d i))) (limit_fault kinds.Locals (e i)))))
+    → option_or (rule_fault l) (option_or (main_fault (has_main unit)) (option_or (undefined_fault (undefined_from (runs unit) calls unit)) (option_or (limit_fault kinds.Globals (block_past global_limit 0 ds)) (limit_fault kinds.Locals p))))
+    ≡ option_or (rule_fault m) (option_or (main_fault (has_main unit)) (option_or (undefined_fault (undefined_from (runs unit) names unit)) (option_or (limit_fault kinds.Globals (block_past global_limit 0 es)) (limit_fault kinds.Locals q))))
+late_parts unit l m calls names ds es p q a b d e = λ i. option_or (rule_fault (a i)) (option_or (main_fault (has_main unit)) (option_or (undefined_fault (undefined_from (runs unit) (b i) unit)) (option_or (limit_fault kinds.Globals (block_past global_limit 0 (d i))) (limit_fault kinds.Locals (e i)))))
 
 pub late_is : (unit : UnitTree) → late_by (end_context unit) (unit_walked unit) unit ≡ late_refusal unit
 late_is unit =
@@ -150,13 +151,13 @@ late_known unit c w e h = (λ i. late_by (e i) (h i) unit) ∙ late_is unit
 -- ---- what is told
 
 pub early_told : (unit : UnitTree) (f : TypeFault) → Some f ≡ early_refusal unit → IsTold unit f
-early_told unit f e = inr (cause_is unit f (ap (λ o. first_of o (late_refusal unit)) (sym e)))
+early_told unit f e = inr (cause_is unit f (ap (λ o. option_or o (late_refusal unit)) (sym e)))
 
 pub late_told : (unit : UnitTree) (c : Context) (w : WalkTree) (f : TypeFault) → None ≡ early_refusal unit → c ≡ end_context unit → w ≡ unit_walked unit → Some f ≡ late_by c w unit → IsTold unit f
-late_told unit c w f n e h l = inr (cause_is unit f ((λ i. first_of (sym n i) (sym (late_known unit c w e h) i)) ∙ sym l))
+late_told unit c w f n e h l = inr (cause_is unit f ((λ i. option_or (sym n i) (sym (late_known unit c w e h) i)) ∙ sym l))
 
 pub none_told : (unit : UnitTree) (c : Context) (w : WalkTree) → None ≡ early_refusal unit → c ≡ end_context unit → w ≡ unit_walked unit → None ≡ late_by c w unit → first_refusal unit ≡ None
-none_told unit c w n e h l = (λ i. first_of (sym n i) (sym (late_known unit c w e h) i)) ∙ sym l
+none_told unit c w n e h l = (λ i. option_or (sym n i) (sym (late_known unit c w e h) i)) ∙ sym l
 
 -- of a unit that is accepted nothing but want of memory is told
 pub told_of_good : (unit : UnitTree) (f : TypeFault) → IsTold unit f → IsAccepted unit → f ≡ faults.NoMemory

@@ -1,9 +1,10 @@
 -- What a walk over a unit notes of it besides types and faults: what is called, and the blocks of memory that it asks for.
 use Rattle.std.specs.Prelude.{ℕ, Bool, true, false, List, [], ◌∷◌, ◌++◌, Option, None, map, filter, ◌||◌, if◌then◌else◌}
+use Rattle.std.specs.Option.{option_or}
 use Rattle.qs_syntax.specs.Trees.{ExprTree, ParameterTree}
 use Rattle.qs_types.specs.Types.{TypeTree, Structs}
 use Rattle.qs_types.specs.Layout.{rounded_up}
-use Rattle.qs_types.specs.Limits.{Block, word_size, type_size, block_past, or_else, local_limit}
+use Rattle.qs_types.specs.Limits.{Block, word_size, type_size, block_past, local_limit}
 use Rattle.qs_types.specs.Placed.{is_one_of, is_no_scalar}
 use Rattle.qs_types.specs.References.{TextBlock, expr_calls, expr_texts}
 
@@ -61,4 +62,4 @@ local_past_by nodes ls = block_past local_limit 0 (map (λ l. l.block) (filter (
 
 -- at its end, where the names of these declarations are operands of `&`
 abbrev pub body_ended : (nodes : List ℕ) → NotedTree → NotedTree
-body_ended nodes n = record n { locals = []; local_past = or_else n.local_past (local_past_by nodes n.locals) }
+body_ended nodes n = record n { locals = []; local_past = option_or n.local_past (local_past_by nodes n.locals) }

@@ -1,5 +1,6 @@
 -- Why a unit is refused: the first cause of some, in their order.
 use Rattle.std.specs.Prelude.{◌≡◌, ◌≤◌, ◌⊎◌, ℕ, Bool, false, List, ◌++◌, Option, Some, None, map, if◌then◌else◌}
+use Rattle.std.specs.Option.{option_or}
 use Rattle.qs_syntax.specs.Trees.{UnitTree}
 use Rattle.qs_report.specs.declared.fault_texts.LimitKind.{LimitKind}
 use Rattle.qs_report.specs.declared.fault_texts.LimitKind.TheVariants as kinds
@@ -14,10 +15,6 @@ use Rattle.qs_typing.specs.declared.refusals.TypeFault.{TypeFault}
 use Rattle.qs_typing.specs.declared.refusals.TypeFault.TheVariants as faults
 use Rattle.qs_typing.specs.Findings.{least_with}
 use Rattle.qs_typing.specs.UnitWalk.{WalkTree}
-
-abbrev pub first_of : Option TypeFault → Option TypeFault → Option TypeFault
-first_of None other = other
-first_of (Some f) other = Some f
 
 -- the node at which a count first passes its limit
 abbrev pub limit_fault : LimitKind → Option ℕ → Option TypeFault
@@ -39,20 +36,20 @@ undefined_fault (Some node) = Some (faults.Undefined node)
 -- before the rules are looked at
 abbrev pub early_refusal : UnitTree → Option TypeFault
 early_refusal unit =
-    first_of (limit_fault kinds.Nodes (first_past_nodes node_limit unit))
-    (first_of (limit_fault kinds.Functions (first_past_functions function_limit unit))
+    option_or (limit_fault kinds.Nodes (first_past_nodes node_limit unit))
+    (option_or (limit_fault kinds.Functions (first_past_functions function_limit unit))
     (limit_fault kinds.Parameters (first_past_parameters parameter_limit unit)))
 
 abbrev pub late_refusal : UnitTree → Option TypeFault
 late_refusal unit =
-    first_of (rule_fault (least_with None (faults_in unit)))
-    (first_of (main_fault (has_main unit))
-    (first_of (undefined_fault (first_undefined unit))
-    (first_of (limit_fault kinds.Globals (first_past_globals global_limit unit))
+    option_or (rule_fault (least_with None (faults_in unit)))
+    (option_or (main_fault (has_main unit))
+    (option_or (undefined_fault (first_undefined unit))
+    (option_or (limit_fault kinds.Globals (first_past_globals global_limit unit))
     (limit_fault kinds.Locals (first_past_locals local_limit unit)))))
 
 abbrev pub first_refusal : UnitTree → Option TypeFault
-first_refusal unit = first_of (early_refusal unit) (late_refusal unit)
+first_refusal unit = option_or (early_refusal unit) (late_refusal unit)
 
 -- a node breaks a rule; no node of a lesser number breaks one, and this node none of a lesser number
 pub record IsLeastViolation (unit : UnitTree) (node : ℕ) (rule : Rule) : Type 0 where
@@ -116,8 +113,8 @@ has_main_in c = entity_has_body (entity_of c main_name)
 
 abbrev pub late_by : Context → WalkTree → UnitTree → Option TypeFault
 late_by c w unit =
-    first_of (rule_fault w.found.least)
-    (first_of (main_fault (has_main_in c))
-    (first_of (undefined_fault (undefined_from (runs_in c) w.noted.calls unit))
-    (first_of (limit_fault kinds.Globals (block_past global_limit 0 (w.noted.globals ++ map text_block w.noted.texts)))
+    option_or (rule_fault w.found.least)
+    (option_or (main_fault (has_main_in c))
+    (option_or (undefined_fault (undefined_from (runs_in c) w.noted.calls unit))
+    (option_or (limit_fault kinds.Globals (block_past global_limit 0 (w.noted.globals ++ map text_block w.noted.texts)))
     (limit_fault kinds.Locals w.noted.local_past))))

@@ -1,7 +1,8 @@
 // What is noted of a unit besides types and faults: what is called, and the blocks of memory.
 ghost use Rattle.std.specs.Prelude.{◌≡◌, ◌≤◌, IfOk, OnOk, map, option_map};
+ghost use Rattle.std.specs.Option.{option_or};
 ghost use Rattle.qs_types.specs.EnvOf.{env_tree};
-ghost use Rattle.qs_types.specs.Limits.{block_past, extent_size, or_else, type_size};
+ghost use Rattle.qs_types.specs.Limits.{block_past, extent_size, type_size};
 ghost use Rattle.qs_types.specs.Placed.{is_no_scalar};
 ghost use Rattle.qs_types.specs.TypeOf.{type_tree};
 ghost use Rattle.qs_typing.specs.Noted as noted;
@@ -198,7 +199,7 @@ impl Noted {
 }
 
 pub fn or_else(first: Option<u32>, other: Option<u32>) -> Option<u32>
-    ensures { result ≡ or_else first other }
+    ensures { result ≡ option_or first other }
 {
     match first {
         None => other,

@@ -5,6 +5,6 @@ use Rattle.qs_parser.proofs.declarations.groups.Given as goal
 
 abbrev pub invariant-loop : goal.invariant-loop
 invariant-loop l = record {
-  same : groups l.room (length l.fn.tokens - l.counter) (map members_tree l.groups.items) l.height l.rest ≡ groups l.room (length l.fn.tokens) [] 0 l.fn.tokens;
-  low : l.height ≤ l.room + 1;
+  same : groups l.context.room (length l.fn.tokens - l.counter) (map members_tree l.groups.items) l.height l.rest ≡ groups l.context.room (length l.fn.tokens) [] 0 l.fn.tokens;
+  low : l.height ≤ l.context.room + 1;
 }

@@ -4,49 +4,49 @@ use Rattle.qs_grammar.specs.ParseStatements.{items, statement}
 use Rattle.qs_parser.proofs.statements.+statement.Given as goal
 
 abbrev pub decreases-statement : goal.decreases-statement
-decreases-statement l = 64 * l.room
+decreases-statement l = 64 * l.context.room
 
 abbrev pub decreases-boxed : goal.decreases-boxed
-decreases-boxed l = 64 * l.room + 1
+decreases-boxed l = 64 * l.context.room + 1
 
 abbrev pub decreases-item : goal.decreases-item
-decreases-item l = 64 * l.room + 1
+decreases-item l = 64 * l.context.room + 1
 
 abbrev pub decreases-items : goal.decreases-items
-decreases-items l = 64 * l.room + 2
+decreases-items l = 64 * l.context.room + 2
 
 abbrev pub decreases-in_block : goal.decreases-in_block
-decreases-in_block l = 64 * l.room + 3
+decreases-in_block l = 64 * l.context.room + 3
 
 abbrev pub decreases-otherwise : goal.decreases-otherwise
-decreases-otherwise l = 64 * l.room + 2
+decreases-otherwise l = 64 * l.context.room + 2
 
 abbrev pub decreases-after_if : goal.decreases-after_if
-decreases-after_if l = 64 * l.room + 3
+decreases-after_if l = 64 * l.context.room + 3
 
 abbrev pub decreases-after_while : goal.decreases-after_while
-decreases-after_while l = 64 * l.room + 2
+decreases-after_while l = 64 * l.context.room + 2
 
 abbrev pub decreases-after_do : goal.decreases-after_do
-decreases-after_do l = 64 * l.room + 2
+decreases-after_do l = 64 * l.context.room + 2
 
 abbrev pub decreases-step_and_body : goal.decreases-step_and_body
-decreases-step_and_body l = 64 * l.room + 2
+decreases-step_and_body l = 64 * l.context.room + 2
 
 abbrev pub decreases-turn_of : goal.decreases-turn_of
-decreases-turn_of l = 64 * l.room + 3
+decreases-turn_of l = 64 * l.context.room + 3
 
 abbrev pub decreases-after_for : goal.decreases-after_for
-decreases-after_for l = 64 * l.room + 4
+decreases-after_for l = 64 * l.context.room + 4
 
 abbrev pub decreases-keyword_statement : goal.decreases-keyword_statement
-decreases-keyword_statement l = 64 * l.room + 6
+decreases-keyword_statement l = 64 * l.context.room + 6
 
 abbrev pub decreases-statement_at : goal.decreases-statement_at
-decreases-statement_at l = 64 * l.room + 60
+decreases-statement_at l = 64 * l.context.room + 60
 
 abbrev pub invariant-items-loop : goal.invariant-items-loop
 invariant-items-loop l = record {
-  same : items l.room (statement l.room) (length l.fn.tokens - l.counter) (map stmt_tree l.items.items) l.height l.rest ≡ items l.room (statement l.room) (length l.fn.tokens) [] 0 l.fn.tokens;
-  low : l.height ≤ l.room;
+  same : items l.context.room (statement l.context.room) (length l.fn.tokens - l.counter) (map stmt_tree l.items.items) l.height l.rest ≡ items l.context.room (statement l.context.room) (length l.fn.tokens) [] 0 l.fn.tokens;
+  low : l.height ≤ l.context.room;
 }

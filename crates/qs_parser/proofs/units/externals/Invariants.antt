@@ -5,6 +5,6 @@ use Rattle.qs_parser.proofs.units.externals.Given as goal
 
 abbrev pub invariant-loop : goal.invariant-loop
 invariant-loop l = record {
-  same : externals l.room (length l.fn.tokens - l.counter) (map decl_tree l.found.items) l.height l.rest ≡ externals l.room (length l.fn.tokens) [] 0 l.fn.tokens;
-  low : l.height ≤ l.room + 2;
+  same : externals l.context.room (length l.fn.tokens - l.counter) (map decl_tree l.found.items) l.height l.rest ≡ externals l.context.room (length l.fn.tokens) [] 0 l.fn.tokens;
+  low : l.height ≤ l.context.room + 2;
 }

@@ -2,20 +2,19 @@ use Rattle.std.proofs.Common.{Ok, sym, ◌∙◌, ap}
 use Rattle.qs_assert.specs.Trees.{TermTree}
 use Rattle.qs_prooftext.specs.Contexts.{setting_of}
 use Rattle.qs_prooftext.specs.declared.sorts.Sort.TheVariants.{Term}
-use Rattle.qs_prooftext.specs.Walking.{terms_in}
-use Rattle.qs_prooftext.proofs.AssertionLaws.{meant, meant_fault, passed_out, term_heads}
+use Rattle.qs_prooftext.proofs.AssertionLaws.{meant, meant_fault, passed_out}
 use Rattle.qs_prooftext.proofs.assertions.read_term.Goals as goal
 
-pub from_nodes-requires : goal.from_nodes-requires
-from_nodes-requires c =
+pub from_inner-requires : goal.from_inner-requires
+from_inner-requires c =
     let t = c.requires in
     let m = meant (setting_of c.args.context) Term t.0 c.in_ok-read.read.items (c.in_ok-read.ensures t.0 t.1) in
-    (m.value, term_heads m.value c.in_ok-read.read.items c.in_ok-heads.heads.items m.nodes_are (c.in_ok-heads.ensures ∙ ap terms_in c.deref.ensures.value))
+    (m.value, c.deref.ensures.value ∙ m.nodes_are)
 
 pub returns : goal.returns
 returns c = λ s h.
     let m = meant (setting_of c.args.context) Term s c.in_ok-read.read.items (c.in_ok-read.ensures s h) in
-    m.is_due ∙ ap (λ (a : TermTree). Ok a) (sym (c.from_nodes.ensures m.value (term_heads m.value c.in_ok-read.read.items c.in_ok-heads.heads.items m.nodes_are (c.in_ok-heads.ensures ∙ ap terms_in c.deref.ensures.value))))
+    m.is_due ∙ ap (λ (a : TermTree). Ok a) (sym (c.in_ok-term.ensures m.value (c.deref.ensures.value ∙ m.nodes_are)))
 
 pub returns-in_err-read : goal.returns-in_err-read
 returns-in_err-read c = λ s h.

@@ -1,13 +1,8 @@
-use Rattle.std.proofs.Common.{sym, ap}
-use Rattle.qs_assert.specs.Reading.{others}
-use Rattle.qs_assert.specs.Stacks.{first_or}
-use Rattle.qs_prooftext.proofs.PlantLaws.{last_first}
+use Rattle.qs_prooftext.proofs.PlantLaws.{first_taken, others_taken}
 use Rattle.qs_prooftext.proofs.taking.taken.Goals as goal
 
-pub returns-in-Some-clause-first : goal.returns-in-Some-clause-first
-returns-in-Some-clause-first g c =
-    sym (ap (first_or g.T.Part.blank) (last_first g.T.Part.tree c.args.stack.now.items c.pop.new.self.items c.in-Some.part c.in-Some.ensures.items))
+pub returns-clause-first : goal.returns-clause-first
+returns-clause-first g c = first_taken g.T.Subtree.tree g.T.Subtree.blank c.args.stack.now.items c.taken.result c.missing.result c.taken.ensures.value c.missing.ensures
 
-pub returns-in-Some-clause-left : goal.returns-in-Some-clause-left
-returns-in-Some-clause-left g c =
-    sym (ap others (last_first g.T.Part.tree c.args.stack.now.items c.pop.new.self.items c.in-Some.part c.in-Some.ensures.items))
+pub returns-clause-left : goal.returns-clause-left
+returns-clause-left g c = others_taken g.T.Subtree.tree c.args.stack.now.items c.taken.new.stack.items c.taken.ensures.left

@@ -4,8 +4,8 @@ use Rattle.qs_prooftext.proofs.taking.taken_all.Given as goal
 
 abbrev pub invariant-parts : goal.invariant-parts
 invariant-parts g l = record {
-  first : map g.T.Part.tree l.parts.items ++ firsts g.T.Part.blank l.left (reverse (map g.T.Part.tree l.stack.items)) ≡ firsts g.T.Part.blank l.fn.count (reverse (map g.T.Part.tree l.fn.stack.items));
-  kept : behind l.left (reverse (map g.T.Part.tree l.stack.items)) ≡ behind l.fn.count (reverse (map g.T.Part.tree l.fn.stack.items));
+  first : map g.T.Subtree.tree l.parts.items ++ firsts g.T.Subtree.blank l.left (reverse (map g.T.Subtree.tree l.stack.items)) ≡ firsts g.T.Subtree.blank l.fn.count (reverse (map g.T.Subtree.tree l.fn.stack.items));
+  kept : behind l.left (reverse (map g.T.Subtree.tree l.stack.items)) ≡ behind l.fn.count (reverse (map g.T.Subtree.tree l.fn.stack.items));
 }
 
 abbrev pub decreases-parts : goal.decreases-parts

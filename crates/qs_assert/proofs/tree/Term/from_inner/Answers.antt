@@ -1,8 +1,7 @@
 use Rattle.std.proofs.Common.{ap, ◌∙◌}
-use Rattle.qs_assert.specs.Listing.{term_nodes}
-use Rattle.qs_entail.specs.Fronts.{term_heads}
-use Rattle.qs_entail.proofs.Headed.{heads_are}
-use Rattle.qs_entail.proofs.fronts.term.Goals as goal
+use Rattle.qs_assert.specs.Listing.{term_heads, term_nodes}
+use Rattle.qs_assert.proofs.Headed.{heads_are}
+use Rattle.qs_assert.proofs.tree.Term.from_inner.Goals as goal
 
 pub from_nodes-requires : goal.from_nodes-requires
 from_nodes-requires c = (c.requires.0, c.in_ok-list.ensures ∙ (ap term_heads c.requires.1 ∙ heads_are (term_nodes c.requires.0)))

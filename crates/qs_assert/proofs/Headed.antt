@@ -2,7 +2,7 @@
 use Rattle.std.proofs.Common.{◌≡◌, refl, ap, List, [], ◌∷◌, map}
 use Rattle.qs_assert.specs.declared.node.TermNode.{TermNode}
 use Rattle.qs_assert.specs.declared.node.Node.TheVariants.{Term}
-use Rattle.qs_entail.specs.Fronts.{term_heads}
+use Rattle.qs_assert.specs.Listing.{term_heads}
 
 pub heads_are : (nodes : List TermNode) → term_heads (map Term nodes) ≡ nodes
 heads_are [] = refl

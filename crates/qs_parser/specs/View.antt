@@ -5,11 +5,12 @@ use Rattle.std.specs.declared.alloc.Global.{Global}
 use Rattle.std.specs.declared.vec.Vec.{Vec}
 use Rattle.qs_syntax.specs.declared.terminal.Terminal.{Terminal}
 use Rattle.qs_syntax.specs.declared.types.Base.{Base}
+use Rattle.qs_syntax.specs.declared.expressions.Expr.{Expr}
 use Rattle.qs_syntax.specs.declared.statements.Stmt.{Stmt}
 use Rattle.qs_syntax.specs.declared.units.Decl.{Decl}
 use Rattle.qs_syntax.specs.declared.types.TypeName.{TypeName}
-use Rattle.qs_syntax.specs.Trees.{unnumbered, ParameterTree, StmtTree, Stmts, DeclTree, function}
-use Rattle.qs_syntax.specs.TreeOf.{parameter_tree, stmt_tree, decl_tree}
+use Rattle.qs_syntax.specs.Trees.{unnumbered, ExprTree, ParameterTree, StmtTree, Stmts, DeclTree, function}
+use Rattle.qs_syntax.specs.TreeOf.{expr_tree, parameter_tree, stmt_tree, decl_tree}
 use Rattle.qs_syntax.specs.Reads as reads
 use Rattle.qs_parser.specs.declared.expressions.Form as forms
 use Rattle.qs_parser.specs.declared.expressions.Form.TheVariants as variants
@@ -54,6 +55,10 @@ read_as view x = ((view x.0, x.1), x.2.now)
 -- each item of a vector
 abbrev pub listed : {X Y : Type 0} → (X → Y) → Vec X Global → List Y
 listed view items = map view items.items
+
+-- an expression in a box of its own
+abbrev pub boxed_expr : Box Expr Global → ExprTree
+boxed_expr e = expr_tree e.value
 
 -- a statement in a box of its own, and one that may be there
 abbrev pub boxed_tree : Box Stmt Global → StmtTree

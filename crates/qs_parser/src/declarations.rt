@@ -10,7 +10,9 @@ ghost use Rattle.qs_parser.specs.View.{Gives, read_as, listed};
 use crate::context::Context;
 use crate::expressions::{Form, followed, part};
 use crate::fault::Halt;
-use crate::heads::{begins_one, expect, expect_name, is_keyword, is_punctuator, place, starts};
+use crate::heads::{
+    begins_one, expect, expect_name, is_keyword, is_punctuator, place, starts, strip,
+};
 use crate::types::{stars, type_of};
 use qs_base::Name;
 use qs_syntax::{
@@ -31,10 +33,9 @@ fn given_lengths(
     let mut height: u32 = 0;
     let mut rest = tokens;
     for _ in 0..tokens.len() {
-        if !starts(Punctuator::OpenBracket, rest) {
+        let Some(behind) = strip(Punctuator::OpenBracket, rest) else {
             return Ok((given, height, rest));
-        }
-        let behind = expect(Punctuator::OpenBracket, rest)?;
+        };
         let (item, high, after) = part(context, Form::Conditional, behind)?;
         let (item, after) = followed(item, Punctuator::CloseBracket, after)?;
         given.push(item)?;
@@ -133,13 +134,11 @@ fn initialisers(
         let (item, high, after) = initialiser(context, rest)?;
         items.push(item)?;
         height = height.max(high);
-        if starts(Punctuator::CloseBrace, after) {
-            let behind = expect(Punctuator::CloseBrace, after)?;
+        if let Some(behind) = strip(Punctuator::CloseBrace, after) {
             return Ok((items, height, behind));
         }
         let behind = expect(Punctuator::Comma, after)?;
-        if starts(Punctuator::CloseBrace, behind) {
-            let behind = expect(Punctuator::CloseBrace, behind)?;
+        if let Some(behind) = strip(Punctuator::CloseBrace, behind) {
             return Ok((items, height, behind));
         }
         rest = behind;
@@ -170,14 +169,13 @@ fn initialiser(
         }
         return Err(Halt::Unexpected(tokens.len()));
     }
-    if !starts(Punctuator::OpenBrace, tokens) {
+    let Some(rest) = strip(Punctuator::OpenBrace, tokens) else {
         let (value, height, rest) = part(context, Form::Assignment, tokens)?;
         return Ok((expression(value), height, rest));
-    }
+    };
     if context.room == 1 {
         return Err(Halt::TooDeep(tokens.len()));
     }
-    let rest = expect(Punctuator::OpenBrace, tokens)?;
     let (items, height, rest) = initialisers(context.inner(), rest)?;
     Ok((list(place(tokens), items), height + 1, rest))
 }
@@ -210,17 +208,16 @@ fn initialised(
     ensures gives { Gives (read_as variable_tree) result (initialised context.room (declarator_tree declarator, height) tokens.now) }
     ensures low { IfOk result (λ x. x.1 ≤ context.room + 1) }
 {
-    if !starts(Punctuator::Assign, tokens) {
+    let Some(rest) = strip(Punctuator::Assign, tokens) else {
         let variable = Variable {
             declarator,
             initialiser: None,
         };
         return Ok((variable, height + 1, tokens));
-    }
+    };
     if context.room == 0 {
         return Err(Halt::TooDeep(tokens.len()));
     }
-    let rest = expect(Punctuator::Assign, tokens)?;
     let (initialiser, high, rest) = initialiser(context, rest)?;
     let variable = Variable {
         declarator,
@@ -255,8 +252,7 @@ fn variables(
         let (item, high, after) = variable(context, rest)?;
         variables.push(item)?;
         height = height.max(high);
-        if starts(Punctuator::Semicolon, after) {
-            let behind = expect(Punctuator::Semicolon, after)?;
+        if let Some(behind) = strip(Punctuator::Semicolon, after) {
             return Ok((variables, height, behind));
         }
         rest = expect(Punctuator::Comma, after)?;
@@ -321,8 +317,7 @@ fn declarators(
         let (item, high, after) = declarator(context, rest)?;
         declarators.push(item)?;
         height = height.max(high + 1);
-        if starts(Punctuator::Semicolon, after) {
-            let behind = expect(Punctuator::Semicolon, after)?;
+        if let Some(behind) = strip(Punctuator::Semicolon, after) {
             return Ok((declarators, height, behind));
         }
         rest = expect(Punctuator::Comma, after)?;
@@ -357,8 +352,7 @@ pub fn groups(
         let (group, high, after) = members(context, rest)?;
         groups.push(group)?;
         height = height.max(high);
-        if starts(Punctuator::CloseBrace, after) {
-            let behind = expect(Punctuator::CloseBrace, after)?;
+        if let Some(behind) = strip(Punctuator::CloseBrace, after) {
             return Ok((groups, height, behind));
         }
         rest = after;
@@ -461,8 +455,7 @@ fn parameters(
         let (item, high, after) = parameter(context, rest)?;
         parameters.push(item)?;
         height = height.max(high);
-        if starts(Punctuator::CloseParenthesis, after) {
-            let behind = expect(Punctuator::CloseParenthesis, after)?;
+        if let Some(behind) = strip(Punctuator::CloseParenthesis, after) {
             return Ok((parameters, height, behind));
         }
         rest = expect(Punctuator::Comma, after)?;
@@ -491,8 +484,7 @@ pub fn head(
     ensures gives { Gives (read_as (listed parameter_tree)) result (head context.room tokens.now) }
     ensures low { IfOk result (λ x. x.1 ≤ context.room + 1) }
 {
-    if starts(Punctuator::CloseParenthesis, tokens) {
-        let rest = expect(Punctuator::CloseParenthesis, tokens)?;
+    if let Some(rest) = strip(Punctuator::CloseParenthesis, tokens) {
         return Ok((Vec::new(context.alloc), 0, rest));
     }
     if is_void_head(tokens) {

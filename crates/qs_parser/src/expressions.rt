@@ -7,13 +7,13 @@ ghost use Rattle.qs_syntax.specs.TreeOf.{expr_tree};
 ghost use Rattle.qs_syntax.specs.Reads.{Assignment};
 ghost use Rattle.qs_grammar.specs.Parse.{expect, texts_from, arguments, call_of, after_name, in_parentheses, primary, index_of, member_of, access_at, suffix, suffixes, postfix, step_of, operator_of, beyond, size_at_limit, size_of, unary_operator_at, unary_of_all, cast_of, cast_or_unary, operations, climb, after_or, after_operand, assignment_of, after_unary, assignment, commas, expression, part};
 ghost use Rattle.qs_grammar.specs.Operands.{right_operand};
-ghost use Rattle.qs_parser.specs.View.{Gives, behind_of, read_as, listed, texts_of, form_of};
+ghost use Rattle.qs_parser.specs.View.{Gives, behind_of, read_as, boxed_expr, listed, texts_of, form_of};
 
 use crate::context::Context;
 use crate::fault::Halt;
 use crate::heads::{
     access_at, assign_at, begins_cast, begins_one, expect, expect_name, is_punctuator,
-    level_operator_at, place, starts, starts_suffix, starts_with,
+    level_operator_at, place, starts, starts_suffix, starts_with, strip,
 };
 use crate::nodes;
 use crate::types::type_name;
@@ -110,6 +110,20 @@ fn expression(
     }
 }
 
+/// What is at most `context.room` high, in a box of its own.
+#[cycle(parser)]
+fn boxed(
+    context: Context,
+    form: Form,
+    tokens: &[Terminal],
+) -> Result<(Box<Expr>, u32, &[Terminal]), Halt>
+    ensures gives { Gives (read_as boxed_expr) result (part context.room (form_of form) tokens.now) }
+    ensures low { IfOk result (λ x. x.1 ≤ context.room) }
+{
+    let (found, height, rest) = part(context, form, tokens)?;
+    Ok((Box::new(context.alloc, found)?, height, rest))
+}
+
 /// The arguments of a call, and the parenthesis behind them.
 #[cycle(parser)]
 #[tactic(auto, using(crate::proofs::CodeExpressions::argument_steps))]
@@ -124,8 +138,7 @@ fn arguments(context: Context, tokens: &[Terminal]) -> Result<(Vec<Expr>, u32, &
         let (item, high, after) = part(context, Form::Assignment, rest)?;
         items.push(item)?;
         height = height.max(high);
-        if starts(Punctuator::CloseParenthesis, after) {
-            let behind = expect(Punctuator::CloseParenthesis, after)?;
+        if let Some(behind) = strip(Punctuator::CloseParenthesis, after) {
             return Ok((items, height, behind));
         }
         rest = expect(Punctuator::Comma, after)?;
@@ -144,8 +157,7 @@ fn call_of(
     ensures gives { Gives (read_as expr_tree) result (call_of context.room (part context.room) at name tokens.now) }
     ensures low { IfOk result (λ x. x.1 ≤ context.room + 1) }
 {
-    if starts(Punctuator::CloseParenthesis, tokens) {
-        let rest = expect(Punctuator::CloseParenthesis, tokens)?;
+    if let Some(rest) = strip(Punctuator::CloseParenthesis, tokens) {
         return Ok((nodes::call(at, name, Vec::new(context.alloc)), 1, rest));
     }
     let (items, height, rest) = arguments(context, tokens)?;
@@ -163,8 +175,7 @@ fn after_name(
     ensures gives { Gives (read_as expr_tree) result (after_name context.room (part context.room) at name tokens.now) }
     ensures low { IfOk result (λ x. x.1 ≤ context.room + 1) }
 {
-    if starts(Punctuator::OpenParenthesis, tokens) {
-        let rest = expect(Punctuator::OpenParenthesis, tokens)?;
+    if let Some(rest) = strip(Punctuator::OpenParenthesis, tokens) {
         return call_of(context, at, name, rest);
     }
     Ok((nodes::name(at, name), 1, tokens))
@@ -235,8 +246,7 @@ fn index_of(
     ensures gives { Gives (read_as expr_tree) result (index_of context.room (part context.room) start (expr_tree array.value, height) tokens.now) }
     ensures low { IfOk result (λ x. x.1 ≤ context.room + 1) }
 {
-    let (at, high, rest) = part(context, Form::Expression, tokens)?;
-    let at = Box::new(context.alloc, at)?;
+    let (at, high, rest) = boxed(context, Form::Expression, tokens)?;
     let rest = expect(Punctuator::CloseBracket, rest)?;
     Ok((
         nodes::subscript(start, array, at),
@@ -349,8 +359,7 @@ fn step_of(
     ensures gives { Gives (read_as expr_tree) result (step_of context.room (part context.room) at operator tokens.now) }
     ensures low { IfOk result (λ x. x.1 ≤ context.room + 1) }
 {
-    let (operand, height, rest) = part(context, Form::Unary, tokens)?;
-    let operand = Box::new(context.alloc, operand)?;
+    let (operand, height, rest) = boxed(context, Form::Unary, tokens)?;
     Ok((nodes::step(at, operator, operand), height + 1, rest))
 }
 
@@ -365,8 +374,7 @@ fn operator_of(
     ensures gives { Gives (read_as expr_tree) result (operator_of context.room (part context.room) at operator tokens.now) }
     ensures low { IfOk result (λ x. x.1 ≤ context.room + 1) }
 {
-    let (operand, height, rest) = part(context, Form::Level(0), tokens)?;
-    let operand = Box::new(context.alloc, operand)?;
+    let (operand, height, rest) = boxed(context, Form::Level(0), tokens)?;
     Ok((nodes::unary(at, operator, operand), height + 1, rest))
 }
 
@@ -404,8 +412,7 @@ fn size_of(context: Context, at: u32, tokens: &[Terminal]) -> Result<(Expr, u32,
     if context.room <= 1 && starts(Punctuator::OpenParenthesis, tokens) {
         return size_at_limit(tokens);
     }
-    let (operand, height, rest) = part(context, Form::Unary, tokens)?;
-    let operand = Box::new(context.alloc, operand)?;
+    let (operand, height, rest) = boxed(context, Form::Unary, tokens)?;
     Ok((nodes::sizeof_expr(at, operand), height + 1, rest))
 }
 
@@ -478,8 +485,7 @@ fn cast_of(context: Context, at: u32, tokens: &[Terminal]) -> Result<(Expr, u32,
 {
     let (to, rest) = type_name(context.alloc, tokens)?;
     let rest = expect(Punctuator::CloseParenthesis, rest)?;
-    let (operand, height, rest) = part(context, Form::Level(0), rest)?;
-    let operand = Box::new(context.alloc, operand)?;
+    let (operand, height, rest) = boxed(context, Form::Level(0), rest)?;
     Ok((nodes::cast(at, to, operand), height + 1, rest))
 }
 
@@ -585,19 +591,16 @@ fn after_or(
     ensures gives { Gives (read_as expr_tree) result (after_or context.room (part context.room) start (expr_tree condition, height) tokens.now) }
     ensures low { IfOk result (λ x. x.1 ≤ context.room + 1) }
 {
-    if !starts(Punctuator::Question, tokens) {
+    let Some(rest) = strip(Punctuator::Question, tokens) else {
         return Ok((condition, height, tokens));
-    }
+    };
     let condition = Box::new(context.alloc, condition)?;
     if height > u32::from(context.room) {
         return Err(Halt::TooDeep(tokens.len()));
     }
-    let rest = expect(Punctuator::Question, tokens)?;
-    let (yes, yes_high, rest) = part(context, Form::Expression, rest)?;
-    let yes = Box::new(context.alloc, yes)?;
+    let (yes, yes_high, rest) = boxed(context, Form::Expression, rest)?;
     let rest = expect(Punctuator::Colon, rest)?;
-    let (no, no_high, rest) = part(context, Form::Conditional, rest)?;
-    let no = Box::new(context.alloc, no)?;
+    let (no, no_high, rest) = boxed(context, Form::Conditional, rest)?;
     let node = nodes::conditional(start, condition, yes, no);
     Ok((node, height.max(yes_high.max(no_high)) + 1, rest))
 }
@@ -643,8 +646,7 @@ fn assignment_of(
     if height > u32::from(context.room) {
         return Err(Halt::TooDeep(tokens.len()));
     }
-    let (right, high, rest) = part(context, Form::Assignment, rest)?;
-    let right = Box::new(context.alloc, right)?;
+    let (right, high, rest) = boxed(context, Form::Assignment, rest)?;
     let node = nodes::assign(start, operator, left, right);
     Ok((node, height.max(high) + 1, rest))
 }
@@ -697,16 +699,14 @@ fn commas(
     let mut height = height;
     let mut rest = tokens;
     for _ in 0..tokens.len() {
-        if !starts(Punctuator::Comma, rest) {
+        let Some(behind) = strip(Punctuator::Comma, rest) else {
             return Ok((left, height, rest));
-        }
+        };
         let operand = Box::new(context.alloc, left)?;
         if height > u32::from(context.room) {
             return Err(Halt::TooDeep(rest.len()));
         }
-        let behind = expect(Punctuator::Comma, rest)?;
-        let (right, high, after) = part(context, Form::Assignment, behind)?;
-        let right = Box::new(context.alloc, right)?;
+        let (right, high, after) = boxed(context, Form::Assignment, behind)?;
         left = nodes::comma(start, operand, right);
         height = height.max(high) + 1;
         rest = after;

@@ -1,5 +1,6 @@
 // What tokens begin with.
-ghost use Rattle.std.specs.Prelude.{◌≡◌, ◌+◌};
+ghost use Rattle.std.specs.Prelude.{◌≡◌, ◌+◌, ◌||◌, Ok, is_some, IfSome};
+ghost use Rattle.qs_syntax.specs.declared.punctuator.Punctuator.TheVariants as punctuators;
 ghost use Rattle.qs_syntax.specs.Reads.{place};
 ghost use Rattle.qs_syntax.specs.Operators.{access_of, assign_of, binary_of};
 ghost use Rattle.qs_grammar.specs.Heads.{is_punctuator, is_keyword, starts, starts_with, operator_at, begins_type};
@@ -73,6 +74,23 @@ pub fn expect(punctuator: Punctuator, tokens: &[Terminal]) -> Result<&[Terminal]
     }
 }
 
+/// What stands behind this punctuator, if it stands first.
+pub fn strip(punctuator: Punctuator, tokens: &[Terminal]) -> Option<&[Terminal]>
+    ensures first { is_some result ≡ starts punctuator tokens.now }
+    ensures rest { IfSome result (λ rest. expect punctuator tokens.now ≡ Ok (tt, rest.now)) }
+{
+    match tokens {
+        [] => None,
+        [first, rest @ ..] => {
+            if is_punctuator(punctuator, first) {
+                Some(rest)
+            } else {
+                None
+            }
+        }
+    }
+}
+
 /// A name: the number of its token, its bytes, and what stands behind it.
 pub fn expect_name(alloc: Global, tokens: &[Terminal]) -> Result<(u32, Name, &[Terminal]), Halt>
     ensures { Gives name_of result (expect_name tokens.now) }
@@ -140,6 +158,15 @@ pub fn level_operator_at(level: u8, tokens: &[Terminal]) -> Option<BinaryOperato
     }
 }
 
+/// Whether a parenthesis or a step by one stands first.
+fn is_marked(tokens: &[Terminal]) -> bool
+    ensures { result ≡ (starts punctuators.OpenParenthesis tokens.now || (starts punctuators.Increment tokens.now || starts punctuators.Decrement tokens.now)) }
+{
+    starts(Punctuator::OpenParenthesis, tokens)
+        || starts(Punctuator::Increment, tokens)
+        || starts(Punctuator::Decrement, tokens)
+}
+
 /// Whether an expression begins here.
 pub fn begins_one(tokens: &[Terminal]) -> bool
     ensures { result ≡ begins_one tokens.now }
@@ -148,10 +175,7 @@ pub fn begins_one(tokens: &[Terminal]) -> bool
         [] => false,
         [Terminal::Keyword(..), ..] => starts_with(Keyword::Sizeof, tokens),
         [Terminal::Punctuator(_, punctuator), ..] => {
-            UnaryOperator::of(*punctuator).is_some()
-                || starts(Punctuator::OpenParenthesis, tokens)
-                || starts(Punctuator::Increment, tokens)
-                || starts(Punctuator::Decrement, tokens)
+            UnaryOperator::of(*punctuator).is_some() || is_marked(tokens)
         }
         _ => true,
     }

@@ -14,7 +14,7 @@ use crate::declarations::declaration_within;
 use crate::expressions::{Form, followed, part};
 use crate::fault::Halt;
 use crate::heads::{
-    begins_one, begins_type, expect, is_keyword, is_punctuator, place, starts, starts_with,
+    begins_one, begins_type, expect, is_keyword, is_punctuator, place, starts, starts_with, strip,
 };
 use crate::statement_nodes as nodes;
 use qs_syntax::{Expr, Keyword, Punctuator, Start, Stmt, Terminal};
@@ -28,8 +28,7 @@ fn optional(
     ensures gives { Gives (read_as option_tree) result (optional context.room punctuator tokens.now) }
     ensures low { IfOk result (λ x. x.1 ≤ context.room) }
 {
-    if starts(punctuator, tokens) {
-        let rest = expect(punctuator, tokens)?;
+    if let Some(rest) = strip(punctuator, tokens) {
         return Ok((None, 0, rest));
     }
     let (expression, height, rest) = part(context, Form::Expression, tokens)?;
@@ -57,8 +56,7 @@ fn start_of(context: Context, tokens: &[Terminal]) -> Result<(Start, u32, &[Term
         let (declaration, height, rest) = declaration_within(context, tokens)?;
         return Ok((Start::Declaration(declaration), height, rest));
     }
-    if starts(Punctuator::Semicolon, tokens) {
-        let rest = expect(Punctuator::Semicolon, tokens)?;
+    if let Some(rest) = strip(Punctuator::Semicolon, tokens) {
         return Ok((Start::Nothing, 0, rest));
     }
     let (expression, height, rest) = part(context, Form::Expression, tokens)?;
@@ -211,8 +209,7 @@ pub fn items(context: Context, tokens: &[Terminal]) -> Result<(Vec<Stmt>, u32, &
     let mut height: u32 = 0;
     let mut rest = tokens;
     for _ in 0..tokens.len() {
-        if starts(Punctuator::CloseBrace, rest) {
-            let behind = expect(Punctuator::CloseBrace, rest)?;
+        if let Some(behind) = strip(Punctuator::CloseBrace, rest) {
             return Ok((items, height, behind));
         }
         let (found, high, after) = item(context, rest)?;

@@ -7,7 +7,7 @@ ghost use Rattle.qs_parser.specs.View.{Gives, read_as, listed, parameters_of, fu
 use crate::context::Context;
 use crate::declarations::{declared, groups, head};
 use crate::fault::Halt;
-use crate::heads::{expect, expect_name, is_keyword, place, starts};
+use crate::heads::{expect, expect_name, is_keyword, place, starts, strip};
 use crate::statements::items;
 use crate::types::{outer_type, stars};
 use qs_base::Name;
@@ -110,8 +110,7 @@ fn body_of(
     ensures gives { Gives (read_as decl_tree) result (body_of context.room header.token header.base header.stars header.name (parameters_of header, height) tokens.now) }
     ensures low { IfOk result (λ x. x.1 ≤ context.room + 2) }
 {
-    if starts(Punctuator::Semicolon, tokens) {
-        let rest = expect(Punctuator::Semicolon, tokens)?;
+    if let Some(rest) = strip(Punctuator::Semicolon, tokens) {
         return Ok((function(header, None), height + 1, rest));
     }
     let rest = expect(Punctuator::OpenBrace, tokens)?;

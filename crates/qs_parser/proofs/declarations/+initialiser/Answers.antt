@@ -5,21 +5,6 @@ use Rattle.qs_parser.proofs.declarations.+initialiser.Goals as goal
 pub initialisers-returns-in_err-item-clause-gives : goal.initialisers-returns-in_err-item-clause-gives
 initialisers-returns-in_err-item-clause-gives t c = grind (arith, initialiser_steps)
 
-pub initialisers-returns-then-starts-clause-gives : goal.initialisers-returns-then-starts-clause-gives
-initialisers-returns-then-starts-clause-gives t c = grind (arith, initialiser_steps)
-
-pub initialisers-returns-in_err-behind-clause-gives : goal.initialisers-returns-in_err-behind-clause-gives
-initialisers-returns-in_err-behind-clause-gives t c = grind (arith, initialiser_steps)
-
-pub initialisers-returns-in_err-behind-2-clause-gives : goal.initialisers-returns-in_err-behind-2-clause-gives
-initialisers-returns-in_err-behind-2-clause-gives t c = grind (arith, initialiser_steps)
-
-pub initialisers-returns-then-starts-2-clause-gives : goal.initialisers-returns-then-starts-2-clause-gives
-initialisers-returns-then-starts-2-clause-gives t c = grind (arith, initialiser_steps)
-
-pub initialisers-returns-in_err-behind-3-clause-gives : goal.initialisers-returns-in_err-behind-3-clause-gives
-initialisers-returns-in_err-behind-3-clause-gives t c = grind (arith, initialiser_steps)
-
 pub initialisers-returns-clause-gives : goal.initialisers-returns-clause-gives
 initialisers-returns-clause-gives t c = grind (arith, initialiser_steps)
 

@@ -5,12 +5,6 @@ use Rattle.qs_parser.proofs.declarations.declarators.Goals as goal
 pub returns-in_err-item-clause-gives : goal.returns-in_err-item-clause-gives
 returns-in_err-item-clause-gives c = grind (arith, declarator_steps)
 
-pub returns-then-starts-clause-gives : goal.returns-then-starts-clause-gives
-returns-then-starts-clause-gives c = grind (arith, declarator_steps)
-
-pub returns-in_err-behind-clause-gives : goal.returns-in_err-behind-clause-gives
-returns-in_err-behind-clause-gives c = grind (arith, declarator_steps)
-
 pub returns-in_err-rest-clause-gives : goal.returns-in_err-rest-clause-gives
 returns-in_err-rest-clause-gives c = grind (arith, declarator_steps)
 

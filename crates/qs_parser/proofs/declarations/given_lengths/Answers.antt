@@ -2,11 +2,8 @@ use Rattle.std.proofs.Common.{arith}
 use Rattle.qs_parser.proofs.CodeDeclarations.{length_steps}
 use Rattle.qs_parser.proofs.declarations.given_lengths.Goals as goal
 
-pub returns-then-not-starts-clause-gives : goal.returns-then-not-starts-clause-gives
-returns-then-not-starts-clause-gives c = grind (arith, length_steps)
-
-pub returns-in_err-behind-clause-gives : goal.returns-in_err-behind-clause-gives
-returns-in_err-behind-clause-gives c = grind (arith, length_steps)
+pub returns-in_default-clause-gives : goal.returns-in_default-clause-gives
+returns-in_default-clause-gives c = grind (arith, length_steps)
 
 pub returns-in_err-item-clause-gives : goal.returns-in_err-item-clause-gives
 returns-in_err-item-clause-gives c = grind (arith, length_steps)

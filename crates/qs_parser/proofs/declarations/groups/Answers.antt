@@ -5,12 +5,6 @@ use Rattle.qs_parser.proofs.declarations.groups.Goals as goal
 pub returns-in_err-group-clause-gives : goal.returns-in_err-group-clause-gives
 returns-in_err-group-clause-gives c = grind (arith, group_steps)
 
-pub returns-then-starts-clause-gives : goal.returns-then-starts-clause-gives
-returns-then-starts-clause-gives c = grind (arith, group_steps)
-
-pub returns-in_err-behind-clause-gives : goal.returns-in_err-behind-clause-gives
-returns-in_err-behind-clause-gives c = grind (arith, group_steps)
-
 pub returns-clause-gives : goal.returns-clause-gives
 returns-clause-gives c = grind (arith, group_steps)
 

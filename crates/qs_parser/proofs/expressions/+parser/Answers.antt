@@ -6,12 +6,6 @@ use Rattle.qs_parser.proofs.expressions.+parser.Goals as goal
 pub arguments-returns-in_err-item-clause-gives : goal.arguments-returns-in_err-item-clause-gives
 arguments-returns-in_err-item-clause-gives t c = grind (arith, argument_steps)
 
-pub arguments-returns-then-starts-clause-gives : goal.arguments-returns-then-starts-clause-gives
-arguments-returns-then-starts-clause-gives t c = grind (arith, argument_steps)
-
-pub arguments-returns-in_err-behind-clause-gives : goal.arguments-returns-in_err-behind-clause-gives
-arguments-returns-in_err-behind-clause-gives t c = grind (arith, argument_steps)
-
 pub arguments-returns-in_err-rest-clause-gives : goal.arguments-returns-in_err-rest-clause-gives
 arguments-returns-in_err-rest-clause-gives t c = grind (arith, argument_steps)
 
@@ -51,14 +45,11 @@ operations-returns-clause-gives t c = grind (arith, operation_steps)
 pub operations-loop-preserved : goal.operations-loop-preserved
 operations-loop-preserved t c = record { same = grind (arith, operation_steps); low = grind (arith, operation_steps) }
 
-pub commas-returns-then-not-starts-clause-gives : goal.commas-returns-then-not-starts-clause-gives
-commas-returns-then-not-starts-clause-gives t c = grind (arith, comma_steps)
+pub commas-returns-in_default-clause-gives : goal.commas-returns-in_default-clause-gives
+commas-returns-in_default-clause-gives t c = grind (arith, comma_steps)
 
 pub commas-returns-then-height-from-clause-gives : goal.commas-returns-then-height-from-clause-gives
 commas-returns-then-height-from-clause-gives t c = grind (arith, comma_steps)
-
-pub commas-returns-in_err-behind-clause-gives : goal.commas-returns-in_err-behind-clause-gives
-commas-returns-in_err-behind-clause-gives t c = grind (arith, comma_steps)
 
 pub commas-returns-in_err-right-clause-gives : goal.commas-returns-in_err-right-clause-gives
 commas-returns-in_err-right-clause-gives t c = grind (arith, comma_steps)

@@ -9,6 +9,9 @@ decreases-part l = 1024 * l.context.room
 abbrev pub decreases-expression : goal.decreases-expression
 decreases-expression l = 1024 * l.context.room + 1000
 
+abbrev pub decreases-boxed : goal.decreases-boxed
+decreases-boxed l = 1024 * l.context.room + 1
+
 abbrev pub decreases-arguments : goal.decreases-arguments
 decreases-arguments l = 1024 * l.context.room + 1
 
@@ -25,25 +28,25 @@ abbrev pub decreases-primary : goal.decreases-primary
 decreases-primary l = 1024 * l.context.room + 4
 
 abbrev pub decreases-index_of : goal.decreases-index_of
-decreases-index_of l = 1024 * l.context.room + 1
+decreases-index_of l = 1024 * l.context.room + 2
 
 abbrev pub decreases-suffix : goal.decreases-suffix
-decreases-suffix l = 1024 * l.context.room + 2
+decreases-suffix l = 1024 * l.context.room + 3
 
 abbrev pub decreases-suffixes : goal.decreases-suffixes
-decreases-suffixes l = 1024 * l.context.room + 3
+decreases-suffixes l = 1024 * l.context.room + 4
 
 abbrev pub decreases-postfix : goal.decreases-postfix
 decreases-postfix l = 1024 * l.context.room + 5
 
 abbrev pub decreases-step_of : goal.decreases-step_of
-decreases-step_of l = 1024 * l.context.room + 1
+decreases-step_of l = 1024 * l.context.room + 2
 
 abbrev pub decreases-operator_of : goal.decreases-operator_of
-decreases-operator_of l = 1024 * l.context.room + 1
+decreases-operator_of l = 1024 * l.context.room + 2
 
 abbrev pub decreases-size_of : goal.decreases-size_of
-decreases-size_of l = 1024 * l.context.room + 1
+decreases-size_of l = 1024 * l.context.room + 2
 
 abbrev pub decreases-marked : goal.decreases-marked
 decreases-marked l = 1024 * l.context.room + 6
@@ -52,7 +55,7 @@ abbrev pub decreases-unary : goal.decreases-unary
 decreases-unary l = 1024 * l.context.room + 7
 
 abbrev pub decreases-cast_of : goal.decreases-cast_of
-decreases-cast_of l = 1024 * l.context.room + 1
+decreases-cast_of l = 1024 * l.context.room + 2
 
 abbrev pub decreases-cast_or_unary : goal.decreases-cast_or_unary
 decreases-cast_or_unary l = 1024 * l.context.room + 8
@@ -67,7 +70,7 @@ abbrev pub decreases-climb : goal.decreases-climb
 decreases-climb l = 1024 * l.context.room + 3 + l.level
 
 abbrev pub decreases-after_or : goal.decreases-after_or
-decreases-after_or l = 1024 * l.context.room + 1
+decreases-after_or l = 1024 * l.context.room + 2
 
 abbrev pub decreases-after_operand : goal.decreases-after_operand
 decreases-after_operand l = 1024 * l.context.room + 600
@@ -82,7 +85,7 @@ abbrev pub decreases-assignment : goal.decreases-assignment
 decreases-assignment l = 1024 * l.context.room + 900
 
 abbrev pub decreases-commas : goal.decreases-commas
-decreases-commas l = 1024 * l.context.room + 1
+decreases-commas l = 1024 * l.context.room + 2
 
 abbrev pub invariant-arguments-loop : goal.invariant-arguments-loop
 invariant-arguments-loop l = record {

@@ -2,12 +2,6 @@ use Rattle.std.proofs.Common.{arith, rules}
 use Rattle.qs_parser.proofs.CodeStatements.{for_ends, for_fails, item_steps}
 use Rattle.qs_parser.proofs.statements.+statement.Goals as goal
 
-pub items-returns-then-starts-clause-gives : goal.items-returns-then-starts-clause-gives
-items-returns-then-starts-clause-gives t c = grind (arith, item_steps)
-
-pub items-returns-in_err-behind-clause-gives : goal.items-returns-in_err-behind-clause-gives
-items-returns-in_err-behind-clause-gives t c = grind (arith, item_steps)
-
 pub items-returns-in_err-found-clause-gives : goal.items-returns-in_err-found-clause-gives
 items-returns-in_err-found-clause-gives t c = grind (arith, item_steps)
 

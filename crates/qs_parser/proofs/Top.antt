@@ -15,7 +15,7 @@ use Rattle.qs_syntax.specs.UnitTrees.{unit_tree}
 use Rattle.qs_syntax.specs.Begins.{BeginsUnit, BeginsLowUnit}
 use Rattle.qs_grammar.specs.Parse.{Unexpected, Deep}
 use Rattle.qs_grammar.specs.ParseStatements.{unit}
-use Rattle.qs_parser.specs.Answers.{ReadsAs, HasNoReading, IsUnexpected, IsTooDeep, HasFault, Answers, GivesTree, Decides, IsDecision}
+use Rattle.qs_parser.specs.Answers.{ReadsAs, HasNoReading, IsUnexpected, IsTooDeep, HasFault, Answers, IsDecision}
 use Rattle.qs_parser.specs.declared.syntax_fault.SyntaxFault.{SyntaxFault}
 use Rattle.qs_parser.specs.declared.syntax_fault.SyntaxFault.TheVariants as faults
 use Rattle.qs_grammar.proofs.Counted.{counted_unit}

@@ -9,23 +9,21 @@ mod devices;
 mod due;
 mod faults;
 mod files;
-mod headline;
 mod kept_output;
+mod laws;
 mod limits;
 mod lines;
 mod made;
 mod names;
 mod orders;
-mod sample_laws;
 mod sample_source;
-mod sizes;
 mod source;
 mod status;
 mod told;
 mod tool;
 
-pub use headline::accepted_sources_are_built_right;
-pub use sample_laws::{samples_are_good, samples_have_stacks};
-pub use sizes::sources_pass_no_size;
+pub use laws::{
+    accepted_sources_are_built_right, samples_are_good, samples_have_stacks, sources_pass_no_size,
+};
 pub use status::{FileKind, ProofFault, SourceFault, Status, TokenPlace, WordsFault};
 pub use tool::run_tool;

@@ -1,5 +1,5 @@
 use Rattle.qs_driver.proofs.SampleLaws.{samples_are_good}
-use Rattle.qs_driver.proofs.sample_laws.samples_are_good.Goals as goal
+use Rattle.qs_driver.proofs.laws.samples_are_good.Goals as goal
 
 pub returns : goal.returns
 returns c = samples_are_good

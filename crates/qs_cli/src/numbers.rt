@@ -14,7 +14,7 @@ pub const DEFAULT_STEPS: u64 = 100_000_000;
 fn are_digits(text: &str) -> bool
     ensures { result ≡ list_all is_digit text.now }
 {
-    text.bytes().all(|b| is_digit(b))
+    text.bytes().all(|byte| is_digit(byte))
 }
 
 /// 1 to `most` decimal digits.

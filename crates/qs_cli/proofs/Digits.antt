@@ -4,25 +4,25 @@ use Rattle.std.proofs.Math.Nat.{pow-le-pow_right}
 use Rattle.std.specs.Prelude.{nat_lt, nat_le}
 use Rattle.std.proofs.lemmas.Bool.{lt-ltb, le-leb, leb-true, eqb-true}
 use Rattle.std.specs.List.{list_all}
-use Rattle.std.specs.Char.{is_ascii_digit}
 use Rattle.std.specs.Result.{result_ok}
 use Rattle.std.specs.Str.Parse.{ParsesUnsigned, digits_value}
 use Rattle.std.proofs.lemmas.Str.Parse.{IsNumeralModel, numerals_by_value, parse_gives, digits_value_short}
+use Rattle.qs_base.specs.Bytes.{is_digit}
 use Rattle.qs_cli.specs.Words.{Text}
 use Rattle.qs_cli.specs.Numbers.{number_of, signed_of}
 
-decimal : IsNumeralModel (λ ds. list_all is_ascii_digit ds ≡ true) (digits_value 10)
+decimal : IsNumeralModel (λ ds. list_all is_digit ds ≡ true) (digits_value 10)
 decimal = numerals_by_value _ (search rules)
 
-below : (most : ℕ) (text : Text) → length text ≤ most → list_all is_ascii_digit text ≡ true → digits_value 10 text < 10 ^ most
+below : (most : ℕ) (text : Text) → length text ≤ most → list_all is_digit text ≡ true → digits_value 10 text < 10 ^ most
 below most text fits digits = digits_value_short decimal text most digits fits
 
-number_is : (most : ℕ) (text : Text) → 0 < length text → length text ≤ most → list_all is_ascii_digit text ≡ true
+number_is : (most : ℕ) (text : Text) → 0 < length text → length text ≤ most → list_all is_digit text ≡ true
     → number_of most text ≡ Some (digits_value 10 text)
 number_is most text some fits digits = rw (lt-ltb 0 (length text) some, le-leb (length text) most fits, digits) refl
 
 pub number_parsed : {E : Type 0} (most : ℕ) (text : Text) (r : Result ℕ E) → most ≤ 19 → 0 < length text → length text ≤ most
-    → list_all is_ascii_digit text ≡ true → ParsesUnsigned 64 10 text r → result_ok r ≡ number_of most text
+    → list_all is_digit text ≡ true → ParsesUnsigned 64 10 text r → result_ok r ≡ number_of most text
 number_parsed most text r small some fits digits parsed =
     let bound = below most text fits digits in
     let up : 10 ^ most ≤ 10 ^ 19 = pow-le-pow_right {n = 10} (omega arith) small in
@@ -31,9 +31,9 @@ number_parsed most text r small some fits digits parsed =
 -- a number of so many digits is small
 pub number_small : (most : ℕ) (text : Text) (o : Option ℕ) → o ≡ number_of most text → IfSome o (λ n. n < 10 ^ most)
 number_small most text None is = tt
-number_small most text (Some n) is = go (nat_lt 0 (length text)) (nat_le (length text) most) refl (list_all is_ascii_digit text) refl is
+number_small most text (Some n) is = go (nat_lt 0 (length text)) (nat_le (length text) most) refl (list_all is_digit text) refl is
   where
-    go : (some fits : Bool) → nat_le (length text) most ≡ fits → (digits : Bool) → list_all is_ascii_digit text ≡ digits
+    go : (some fits : Bool) → nat_le (length text) most ≡ fits → (digits : Bool) → list_all is_digit text ≡ digits
         → Some n ≡ (if (some && fits) && digits then Some (digits_value 10 text) else None) → n < 10 ^ most
     go true true fits true digits e = let same : n ≡ digits_value 10 text = cc in let bound = below most text (leb-true (length text) most fits) digits in omega arith
     go true true fits false digits e = absurd cc

@@ -1,14 +1,14 @@
 -- Numbers in the words. 44 is `,` and 45 is `-`.
 use Rattle.std.specs.Prelude.{ℕ, ℤ, pos, neg_ℤ, List, [], ◌∷◌, ◌&&◌, ◌==◌, if◌then◌else◌, Option, Some, None, length, nat_le, nat_lt, option_map, option_and_then}
 use Rattle.std.specs.List.{list_all, slice_split}
-use Rattle.std.specs.Char.{is_ascii_digit}
 use Rattle.std.specs.Str.Parse.{digits_value}
+use Rattle.qs_base.specs.Bytes.{is_digit}
 use Rattle.qs_cli.specs.Words.{Text}
 
 -- 1 to `most` decimal digits
 abbrev pub number_of : ℕ → Text → Option ℕ
 number_of most text =
-    if (nat_lt 0 (length text) && nat_le (length text) most) && list_all is_ascii_digit text then Some (digits_value 10 text) else None
+    if (nat_lt 0 (length text) && nat_le (length text) most) && list_all is_digit text then Some (digits_value 10 text) else None
 
 abbrev pub within : ℕ → ℕ → ℕ → Option ℕ
 within low high n = if nat_le low n && nat_le n high then Some n else None
@@ -17,9 +17,13 @@ within low high n = if nat_le low n && nat_le n high then Some n else None
 abbrev pub count_of : Text → Option ℕ
 count_of text = option_and_then (within 1 500) (number_of 19 text)
 
--- a number of 1 to 10 digits, from 1 to 1,000,000,000; 100,000,000 where none is given
+-- the most steps of a run, where the words name no number
+abbrev pub default_steps : ℕ
+default_steps = 100000000
+
+-- a number of 1 to 10 digits, from 1 to 1,000,000,000; the default where none is given
 abbrev pub steps_of : Option Text → Option ℕ
-steps_of None = Some 100000000
+steps_of None = Some default_steps
 steps_of (Some text) = option_and_then (within 1 1000000000) (number_of 10 text)
 
 -- an optional `-` and 1 to 10 digits

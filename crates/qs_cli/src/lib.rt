@@ -10,4 +10,5 @@ mod table;
 mod values;
 
 pub use commands::{CliFault, Command};
+pub use numbers::DEFAULT_STEPS;
 pub use reading::read_words;

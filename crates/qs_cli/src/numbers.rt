@@ -1,16 +1,20 @@
 // Numbers in the words.
 ghost use Rattle.std.specs.Prelude.{◌≡◌, ◌≤◌, ◌<◌, ◌^◌, IfSome, IfOk, IsErrOf, Some, None, option_map, map, ◌==◌};
 ghost use Rattle.std.specs.List.{list_all, slice_split};
-ghost use Rattle.std.specs.Char.{is_ascii_digit};
+ghost use Rattle.qs_base.specs.Bytes.{is_digit};
 ghost use Rattle.qs_cli.specs.Numbers.{number_of, count_of, signed_of, all_signed_of, steps_of, arguments_of};
 
 use crate::commands::CliFault;
+use qs_base::is_digit;
 use std::alloc::{AllocError, Global};
 
+/// The most steps of a run, where the words name no number.
+pub const DEFAULT_STEPS: u64 = 100_000_000;
+
 fn are_digits(text: &str) -> bool
-    ensures { result ≡ list_all is_ascii_digit text.now }
+    ensures { result ≡ list_all is_digit text.now }
 {
-    text.bytes().all(|b| b.is_ascii_digit())
+    text.bytes().all(|byte| is_digit(byte))
 }
 
 /// 1 to `most` decimal digits.
@@ -34,12 +38,12 @@ pub(crate) fn count(text: &str) -> Option<u64>
     if 1 <= n && n <= 500 { Some(n) } else { None }
 }
 
-/// 1 to 10 decimal digits, a number from 1 to 1,000,000,000. Without a text 100,000,000.
+/// 1 to 10 decimal digits, a number from 1 to 1,000,000,000. Without a text `DEFAULT_STEPS`.
 pub(crate) fn steps(text: Option<&str>) -> Option<u64>
     ensures { result ≡ steps_of (option_map (λ t. t.now) text.entry) }
 {
     let Some(text) = text else {
-        return Some(100_000_000);
+        return Some(DEFAULT_STEPS);
     };
     let n = number(text, 10)?;
     if 1 <= n && n <= 1_000_000_000 {

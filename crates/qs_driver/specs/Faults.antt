@@ -19,8 +19,12 @@ use Rattle.qs_prooftext.specs.declared.fault.TextFault.TheVariants as proof_file
 use Rattle.qs_report.specs.Lines as lines
 use Rattle.qs_report.specs.declared.fault_texts.FaultText.{FaultText}
 use Rattle.qs_report.specs.declared.fault_texts.FaultText.TheVariants as texts
+use Rattle.qs_report.specs.declared.fault_texts.ImageText.TheVariants as image_texts
+use Rattle.qs_report.specs.declared.fault_texts.LexText.TheVariants as lex_texts
+use Rattle.qs_report.specs.declared.fault_texts.ProofFileText.TheVariants as proof_file_texts
 use Rattle.qs_report.specs.declared.fault_texts.Shown.{Shown}
 use Rattle.qs_report.specs.declared.fault_texts.Shown.TheVariants as shown
+use Rattle.qs_report.specs.declared.fault_texts.TrapText.TheVariants as trap_texts
 use Rattle.qs_driver.specs.Names.{Names, file_name}
 use Rattle.qs_driver.specs.declared.status.Status.{Status}
 use Rattle.qs_driver.specs.declared.status.Status.TheVariants.{Done, Source, Proof, Words, Missing, StoreFailed, Image, Trapped, StepLimit, NoBound, StackTooLarge, SinkFailed, NoMemory}
@@ -32,36 +36,36 @@ use Rattle.qs_driver.specs.declared.status.WordsFault.TheVariants.{Usage, SameNa
 
 -- what is wrong with an image
 abbrev pub image_text : ImageFault → FaultText
-image_text fault.Short = texts.Image 1 0
-image_text fault.Magic = texts.Image 2 0
-image_text (fault.Count word) = texts.Image 3 word
-image_text fault.Trailing = texts.Image 4 0
-image_text fault.Entry = texts.Image 5 0
-image_text (fault.Cost i) = texts.Image 6 i
-image_text fault.Names = texts.Image 7 0
+image_text fault.Short = texts.Image image_texts.Short
+image_text fault.Magic = texts.Image image_texts.Magic
+image_text (fault.Count word) = texts.Image (image_texts.Count word)
+image_text fault.Trailing = texts.Image image_texts.Trailing
+image_text fault.Entry = texts.Image image_texts.Entry
+image_text (fault.Cost i) = texts.Image (image_texts.Cost i)
+image_text fault.Names = texts.Image image_texts.Names
 
 -- the cause of a trap at this pc
 abbrev pub trap_text : Cause → ℕ → FaultText
-trap_text cause.Overflow pc = texts.Trapped 1 pc
-trap_text cause.IllegalInstruction pc = texts.Trapped 2 pc
-trap_text cause.FetchOutside pc = texts.Trapped 3 pc
-trap_text cause.JumpMisaligned pc = texts.Trapped 4 pc
-trap_text cause.LoadMisaligned pc = texts.Trapped 5 pc
-trap_text cause.LoadOutside pc = texts.Trapped 6 pc
-trap_text cause.StoreMisaligned pc = texts.Trapped 7 pc
-trap_text cause.StoreOutside pc = texts.Trapped 8 pc
-trap_text cause.UnknownCall pc = texts.Trapped 9 pc
-trap_text cause.Breakpoint pc = texts.Trapped 10 pc
+trap_text cause.Overflow pc = texts.Trapped trap_texts.Overflow pc
+trap_text cause.IllegalInstruction pc = texts.Trapped trap_texts.Illegal pc
+trap_text cause.FetchOutside pc = texts.Trapped trap_texts.Fetch pc
+trap_text cause.JumpMisaligned pc = texts.Trapped trap_texts.Jump pc
+trap_text cause.LoadMisaligned pc = texts.Trapped trap_texts.LoadMisaligned pc
+trap_text cause.LoadOutside pc = texts.Trapped trap_texts.Load pc
+trap_text cause.StoreMisaligned pc = texts.Trapped trap_texts.StoreMisaligned pc
+trap_text cause.StoreOutside pc = texts.Trapped trap_texts.Store pc
+trap_text cause.UnknownCall pc = texts.Trapped trap_texts.Call pc
+trap_text cause.Breakpoint pc = texts.Trapped trap_texts.Break pc
 
 -- what is wrong with the bytes of a source
 abbrev pub lex_text : LexFault → Pos → FaultText
 lex_text lexical.NoMemory pos = texts.NoMemory
-lex_text (lexical.BadByte at) pos = texts.Lex pos 1
-lex_text (lexical.OpenComment at) pos = texts.Lex pos 2
-lex_text (lexical.BadLiteral at) pos = texts.Lex pos 3
-lex_text (lexical.WideLiteral at) pos = texts.Lex pos 4
-lex_text (lexical.Directive at) pos = texts.Lex pos 5
-lex_text (lexical.OpenText at) pos = texts.Lex pos 6
+lex_text (lexical.BadByte at) pos = texts.Lex pos lex_texts.BadByte
+lex_text (lexical.OpenComment at) pos = texts.Lex pos lex_texts.OpenComment
+lex_text (lexical.BadLiteral at) pos = texts.Lex pos lex_texts.BadLiteral
+lex_text (lexical.WideLiteral at) pos = texts.Lex pos lex_texts.WideLiteral
+lex_text (lexical.Directive at) pos = texts.Lex pos lex_texts.Directive
+lex_text (lexical.OpenText at) pos = texts.Lex pos lex_texts.OpenText
 
 -- what can't stand there: a token, or the end
 abbrev pub unexpected_text : TokenPlace → FaultText
@@ -94,13 +98,13 @@ typing_text fault (Some pos) = placed_text fault pos
 -- what is wrong with the text of a proof file
 abbrev pub proof_file_text : TextFault → Pos → FaultText
 proof_file_text proof_file.NoMemory pos = texts.NoMemory
-proof_file_text (proof_file.BadByte at) pos = texts.ProofFile pos 1
-proof_file_text (proof_file.Unbalanced at) pos = texts.ProofFile pos 2
-proof_file_text (proof_file.UnknownForm at) pos = texts.ProofFile pos 3
-proof_file_text (proof_file.BadNumber at) pos = texts.ProofFile pos 4
-proof_file_text (proof_file.TooDeep at) pos = texts.ProofFile pos 5
-proof_file_text (proof_file.Duplicate at) pos = texts.ProofFile pos 6
-proof_file_text (proof_file.NoSuchFunction at) pos = texts.ProofFile pos 7
+proof_file_text (proof_file.BadByte at) pos = texts.ProofFile pos proof_file_texts.BadByte
+proof_file_text (proof_file.Unbalanced at) pos = texts.ProofFile pos proof_file_texts.Unbalanced
+proof_file_text (proof_file.UnknownForm at) pos = texts.ProofFile pos proof_file_texts.UnknownForm
+proof_file_text (proof_file.BadNumber at) pos = texts.ProofFile pos proof_file_texts.BadNumber
+proof_file_text (proof_file.TooDeep at) pos = texts.ProofFile pos proof_file_texts.TooDeep
+proof_file_text (proof_file.Duplicate at) pos = texts.ProofFile pos proof_file_texts.Duplicate
+proof_file_text (proof_file.NoSuchFunction at) pos = texts.ProofFile pos proof_file_texts.NoSuchFunction
 
 -- a bound as lines show it
 abbrev pub shown_of : Amount → Shown

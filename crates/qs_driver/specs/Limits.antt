@@ -16,7 +16,3 @@ image_limit = 33554432
 -- the longest input of a run, in bytes
 abbrev pub input_limit : ℕ
 input_limit = 1048576
-
--- the most steps of a run, where the words name no number
-abbrev pub default_steps : ℕ
-default_steps = 100000000

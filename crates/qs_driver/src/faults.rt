@@ -1,7 +1,6 @@
 // The line that tells a status. Nothing here takes memory.
 ghost use Rattle.std.specs.Prelude.{◌≡◌};
 ghost use Rattle.qs_ports.specs.SinkView.{PutsAll};
-ghost use Rattle.qs_report.specs.Lines.{HasItsNumbers};
 ghost use Rattle.qs_driver.specs.Faults.{status_line, image_text, lex_text, named_line, placed_text, pos_of, proof_file_text, shown_of, syntax_text, trap_text, typing_text, unexpected_text};
 ghost use Rattle.qs_driver.specs.Names.{names_in};
 
@@ -16,61 +15,58 @@ use qs_parser::SyntaxFault;
 use qs_ports::{Sink, SinkFault};
 use qs_prooftext::TextFault;
 use qs_report::{
-    FaultText, Shown, put_arg_count, put_arg_range, put_cycle, put_fault, put_proof_fault,
+    FaultText, ImageText, LexText, ProofFileText, Shown, TrapText, put_arg_count, put_arg_range,
+    put_cycle, put_fault, put_proof_fault,
 };
 use qs_typing::TypeFault;
 
 fn image_text(fault: ImageFault) -> FaultText
-    ensures is { result ≡ image_text fault }
-    ensures numbered { HasItsNumbers result }
+    ensures { result ≡ image_text fault }
 {
     match fault {
-        ImageFault::Short => FaultText::Image(1, 0),
-        ImageFault::Magic => FaultText::Image(2, 0),
-        ImageFault::Count(word) => FaultText::Image(3, word),
-        ImageFault::Trailing => FaultText::Image(4, 0),
-        ImageFault::Entry => FaultText::Image(5, 0),
-        ImageFault::Cost(record) => FaultText::Image(6, record),
-        ImageFault::Names => FaultText::Image(7, 0),
+        ImageFault::Short => FaultText::Image(ImageText::Short),
+        ImageFault::Magic => FaultText::Image(ImageText::Magic),
+        ImageFault::Count(word) => FaultText::Image(ImageText::Count(word)),
+        ImageFault::Trailing => FaultText::Image(ImageText::Trailing),
+        ImageFault::Entry => FaultText::Image(ImageText::Entry),
+        ImageFault::Cost(record) => FaultText::Image(ImageText::Cost(record)),
+        ImageFault::Names => FaultText::Image(ImageText::Names),
     }
 }
 
 fn trap_text(cause: Cause, pc: u32) -> FaultText
-    ensures is { result ≡ trap_text cause pc }
-    ensures numbered { HasItsNumbers result }
+    ensures { result ≡ trap_text cause pc }
 {
     match cause {
-        Cause::Overflow => FaultText::Trapped(1, pc),
-        Cause::IllegalInstruction => FaultText::Trapped(2, pc),
-        Cause::FetchOutside => FaultText::Trapped(3, pc),
-        Cause::JumpMisaligned => FaultText::Trapped(4, pc),
-        Cause::LoadMisaligned => FaultText::Trapped(5, pc),
-        Cause::LoadOutside => FaultText::Trapped(6, pc),
-        Cause::StoreMisaligned => FaultText::Trapped(7, pc),
-        Cause::StoreOutside => FaultText::Trapped(8, pc),
-        Cause::UnknownCall => FaultText::Trapped(9, pc),
-        Cause::Breakpoint => FaultText::Trapped(10, pc),
+        Cause::Overflow => FaultText::Trapped(TrapText::Overflow, pc),
+        Cause::IllegalInstruction => FaultText::Trapped(TrapText::Illegal, pc),
+        Cause::FetchOutside => FaultText::Trapped(TrapText::Fetch, pc),
+        Cause::JumpMisaligned => FaultText::Trapped(TrapText::Jump, pc),
+        Cause::LoadMisaligned => FaultText::Trapped(TrapText::LoadMisaligned, pc),
+        Cause::LoadOutside => FaultText::Trapped(TrapText::Load, pc),
+        Cause::StoreMisaligned => FaultText::Trapped(TrapText::StoreMisaligned, pc),
+        Cause::StoreOutside => FaultText::Trapped(TrapText::Store, pc),
+        Cause::UnknownCall => FaultText::Trapped(TrapText::Call, pc),
+        Cause::Breakpoint => FaultText::Trapped(TrapText::Break, pc),
     }
 }
 
 fn lex_text(fault: LexFault, pos: Pos) -> FaultText
-    ensures is { result ≡ lex_text fault pos }
-    ensures numbered { HasItsNumbers result }
+    ensures { result ≡ lex_text fault pos }
 {
     match fault {
         LexFault::NoMemory => FaultText::NoMemory,
-        LexFault::BadByte(_) => FaultText::Lex(pos, 1),
-        LexFault::OpenComment(_) => FaultText::Lex(pos, 2),
-        LexFault::BadLiteral(_) => FaultText::Lex(pos, 3),
-        LexFault::WideLiteral(_) => FaultText::Lex(pos, 4),
-        LexFault::Directive(_) => FaultText::Lex(pos, 5),
-        LexFault::OpenText(_) => FaultText::Lex(pos, 6),
+        LexFault::BadByte(_) => FaultText::Lex(pos, LexText::BadByte),
+        LexFault::OpenComment(_) => FaultText::Lex(pos, LexText::OpenComment),
+        LexFault::BadLiteral(_) => FaultText::Lex(pos, LexText::BadLiteral),
+        LexFault::WideLiteral(_) => FaultText::Lex(pos, LexText::WideLiteral),
+        LexFault::Directive(_) => FaultText::Lex(pos, LexText::Directive),
+        LexFault::OpenText(_) => FaultText::Lex(pos, LexText::OpenText),
     }
 }
 
 fn unexpected_text(place: TokenPlace) -> FaultText
-    ensures is { result ≡ unexpected_text place }
-    ensures numbered { HasItsNumbers result }
+    ensures { result ≡ unexpected_text place }
 {
     match place {
         TokenPlace::At(pos) => FaultText::UnexpectedToken(pos),
@@ -88,8 +84,7 @@ fn pos_of(place: TokenPlace) -> Pos
 }
 
 fn syntax_text(fault: SyntaxFault, place: TokenPlace) -> FaultText
-    ensures is { result ≡ syntax_text fault place }
-    ensures numbered { HasItsNumbers result }
+    ensures { result ≡ syntax_text fault place }
 {
     match fault {
         SyntaxFault::NoMemory => FaultText::NoMemory,
@@ -99,8 +94,7 @@ fn syntax_text(fault: SyntaxFault, place: TokenPlace) -> FaultText
 }
 
 fn placed_text(fault: TypeFault, pos: Pos) -> FaultText
-    ensures is { result ≡ placed_text fault pos }
-    ensures numbered { HasItsNumbers result }
+    ensures { result ≡ placed_text fault pos }
 {
     match fault {
         TypeFault::Rule(_, rule) => FaultText::Rule(pos, rule.number()),
@@ -112,8 +106,7 @@ fn placed_text(fault: TypeFault, pos: Pos) -> FaultText
 }
 
 fn typing_text(fault: TypeFault, place: Option<Pos>) -> FaultText
-    ensures is { result ≡ typing_text fault place }
-    ensures numbered { HasItsNumbers result }
+    ensures { result ≡ typing_text fault place }
 {
     match place {
         Some(pos) => placed_text(fault, pos),
@@ -122,18 +115,17 @@ fn typing_text(fault: TypeFault, place: Option<Pos>) -> FaultText
 }
 
 fn proof_file_text(fault: TextFault, pos: Pos) -> FaultText
-    ensures is { result ≡ proof_file_text fault pos }
-    ensures numbered { HasItsNumbers result }
+    ensures { result ≡ proof_file_text fault pos }
 {
     match fault {
         TextFault::NoMemory => FaultText::NoMemory,
-        TextFault::BadByte(_) => FaultText::ProofFile(pos, 1),
-        TextFault::Unbalanced(_) => FaultText::ProofFile(pos, 2),
-        TextFault::UnknownForm(_) => FaultText::ProofFile(pos, 3),
-        TextFault::BadNumber(_) => FaultText::ProofFile(pos, 4),
-        TextFault::TooDeep(_) => FaultText::ProofFile(pos, 5),
-        TextFault::Duplicate(_) => FaultText::ProofFile(pos, 6),
-        TextFault::NoSuchFunction(_) => FaultText::ProofFile(pos, 7),
+        TextFault::BadByte(_) => FaultText::ProofFile(pos, ProofFileText::BadByte),
+        TextFault::Unbalanced(_) => FaultText::ProofFile(pos, ProofFileText::Unbalanced),
+        TextFault::UnknownForm(_) => FaultText::ProofFile(pos, ProofFileText::UnknownForm),
+        TextFault::BadNumber(_) => FaultText::ProofFile(pos, ProofFileText::BadNumber),
+        TextFault::TooDeep(_) => FaultText::ProofFile(pos, ProofFileText::TooDeep),
+        TextFault::Duplicate(_) => FaultText::ProofFile(pos, ProofFileText::Duplicate),
+        TextFault::NoSuchFunction(_) => FaultText::ProofFile(pos, ProofFileText::NoSuchFunction),
     }
 }
 
@@ -150,7 +142,6 @@ pub fn shown_of(bound: Amount) -> Shown
 
 // Puts the line of a fault that names this file, or none.
 fn put_text<K: Sink>(log: &mut K, file: &str, text: FaultText) -> Result<(), SinkFault>
-    requires { HasItsNumbers text }
     ensures { PutsAll (K.view log.old) (K.view log.new) (named_line file.now text) result }
 {
     put_fault(log, file.as_bytes(), b"", &text)

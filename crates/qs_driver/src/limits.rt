@@ -11,6 +11,3 @@ pub const IMAGE_LIMIT: usize = 33_554_432;
 
 /// The longest input of a run.
 pub const INPUT_LIMIT: usize = 1_048_576;
-
-/// The most steps of a run, where the words name no number.
-pub const DEFAULT_STEPS: u64 = 100_000_000;

@@ -17,13 +17,13 @@ use Rattle.qs_machine.specs.declared.answers.RunEnd.TheVariants as end
 use Rattle.qs_emit.specs.Agree.{Agree}
 use Rattle.qs_certify.specs.Bound.{main_bound}
 use Rattle.qs_compile.specs.Compiled.{IsCompiled, IsImageOfSource}
+use Rattle.qs_cli.specs.Numbers.{default_steps}
 use Rattle.qs_driver.specs.Bounds.{IsImageOf, bound_by, bytes_by, costs_in, if_finite, seen_runs}
 use Rattle.qs_driver.specs.Certified.{IsCertifiedUnit}
 use Rattle.qs_driver.specs.Devices.{streams, views_of}
 use Rattle.qs_driver.specs.Due.{Due, EndsWith, IsWritten}
 use Rattle.qs_driver.specs.Faults.{status_line}
 use Rattle.qs_driver.specs.KeptOutput.{kept_view}
-use Rattle.qs_driver.specs.Limits.{default_steps}
 use Rattle.qs_driver.specs.Made.{IsMadeOf}
 use Rattle.qs_driver.specs.SampleSource.{sample_text}
 use Rattle.qs_driver.specs.Source.{IsTypedAs}

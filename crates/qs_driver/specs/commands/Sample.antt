@@ -13,7 +13,7 @@ use Rattle.qs_machine.specs.State.{stack_limit}
 use Rattle.qs_report.specs.Lines.{bound_line, count_line, end_line}
 use Rattle.qs_report.specs.declared.fault_texts.Count.TheVariants.{Functions, Output}
 use Rattle.qs_report.specs.declared.fault_texts.Shown.TheVariants as shown
-use Rattle.qs_driver.specs.Limits.{default_steps}
+use Rattle.qs_cli.specs.Numbers.{default_steps}
 use Rattle.qs_driver.specs.Names.{Names, no_names}
 use Rattle.qs_driver.specs.Steps.{on_out}
 use Rattle.qs_driver.specs.Due.{Due, refusal, IsRefusal}

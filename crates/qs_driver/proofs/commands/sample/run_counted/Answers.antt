@@ -3,8 +3,8 @@ use Rattle.qs_machine.specs.Arguments.{words_of}
 use Rattle.qs_machine.specs.Run.{start}
 use Rattle.qs_machine.specs.declared.answers.RunEnd.TheVariants as end
 use Rattle.qs_machine.proofs.FromStart.{shows_machine}
+use Rattle.qs_cli.specs.Numbers.{default_steps}
 use Rattle.qs_driver.specs.KeptOutput.{kept_view}
-use Rattle.qs_driver.specs.Limits.{default_steps}
 use Rattle.qs_driver.specs.commands.Sample.{outcome}
 use Rattle.qs_driver.specs.declared.commands.sample.SampleEnd.{SampleEnd}
 use Rattle.qs_driver.proofs.laws.Sample.{comes_to}

@@ -252,9 +252,25 @@ a_call_with_a_frame = refl
 a_frame_too_much : fault_of (main_with (natural 1) (fact (cost_range 0) (fact (num_bounds (of (kinds.Plain 0))) (arithmetic (item 0 ∷ item 1 ∷ pair 2 1 ∷ []))))) ≡ Some (entry (step [] rules.Arithmetic))
 a_frame_too_much = refl
 
+abbrev no_specs : ProofsTree
+no_specs = record { defines = []; functions = [] }
+
 -- f has no entry
-a_call_without_spec : entry_fault unit (record { defines = []; functions = [] }) of_main ≡ Some (no_spec (0 ∷ []) 0)
+a_call_without_spec : entry_fault unit no_specs of_main ≡ Some (no_spec (0 ∷ []) 0)
 a_call_without_spec = refl
+
+a_framed_call_without_spec : entry_fault unit no_specs (main_with (natural 0) not_negative) ≡ Some (no_spec (0 ∷ []) 0)
+a_framed_call_without_spec = refl
+
+-- that the callee has a specification comes before what the frame mentions
+abbrev foreign_frame : EntryTree
+foreign_frame = main_with (num (of (kinds.Plain 7))) same
+
+a_foreign_frame : fault_of foreign_frame ≡ Some (mentions (at_node (0 ∷ [])) None (unsigned_variable (kinds.Plain 7)))
+a_foreign_frame = refl
+
+no_spec_before_mentions : entry_fault unit no_specs foreign_frame ≡ Some (no_spec (0 ∷ []) 0)
+no_spec_before_mentions = refl
 
 abbrev with_spec : SpecTree → ProofsTree
 with_spec s = record { defines = []; functions = record { function = 0; spec = s; entry = same; body = leaf } ∷ [] }

@@ -1,9 +1,10 @@
-// The tool over real files and streams.
+// The tool over real files.
 use qs_driver::run_tool;
 use qs_ports::{DirStore, StdSink};
 use std::alloc::{AllocError, Global};
+use std::fs::{self, File};
+use std::process;
 use std::test::Fail;
-use std::{fs, process};
 
 fn words_of(alloc: Global, source: &str, out: &str) -> Result<Vec<String>, AllocError> {
     let mut words = Vec::new(alloc);
@@ -24,26 +25,27 @@ const IMAGE: [u8; 96] = [
     0x00, 0x83, 0x20, 0x01, 0x00, 0x13, 0x01, 0x01, 0x01, 0x67, 0x80, 0x00, 0x00,
 ];
 
-// The names are those of this process, in the system's folder for such files.
+const SOURCE: &str = "int main(void){putchar(33);return 0;}\n";
+
+// What standard output and standard error get stands in files too. The names are those of this process, in the system's
+// folder for such files.
 #[test]
-fn real_files_and_streams(rt: HostRuntime) -> Result<(), Fail> {
+fn real_files(rt: HostRuntime) -> Result<(), Fail> {
     let alloc = rt.alloc();
     let id = process::id(rt.process());
     let source = format!(in alloc; "/tmp/qsc_test_{id}.c")?;
-    let out = format!(in alloc; "/tmp/qsc_test_{id}.img")?;
-    fs::write(
-        &rt,
-        source.as_str(),
-        "int main(void){putchar(33);return 0;}\n",
-    )?;
+    let image = format!(in alloc; "/tmp/qsc_test_{id}.img")?;
+    let out = format!(in alloc; "/tmp/qsc_test_{id}.out")?;
+    let log = format!(in alloc; "/tmp/qsc_test_{id}.log")?;
+    fs::write(&rt, source.as_str(), SOURCE)?;
     let mut store = DirStore::new(rt.clone()?);
-    let mut lines = StdSink::new(rt.stdout());
-    let mut faults = StdSink::new(rt.stderr());
+    let mut lines = StdSink::new(File::create(&rt, out.as_str())?);
+    let mut faults = StdSink::new(File::create(&rt, log.as_str())?);
     for (from, to, code) in [
-        (source.as_str(), out.as_str(), 0),
-        (out.as_str(), source.as_str(), 1),
-        ("/tmp/qsc_test_no_such_file.c", out.as_str(), 4),
-        ("/tmp", out.as_str(), 5),
+        (source.as_str(), image.as_str(), 0),
+        (image.as_str(), source.as_str(), 1),
+        ("/tmp/qsc_test_no_such_file.c", image.as_str(), 4),
+        ("/tmp", image.as_str(), 5),
         (source.as_str(), "/tmp", 5),
         (source.as_str(), "/dev/full", 5),
         (source.as_str(), source.as_str(), 3),
@@ -52,14 +54,19 @@ fn real_files_and_streams(rt: HostRuntime) -> Result<(), Fail> {
         let ended = run_tool(alloc, &words, &mut store, &mut lines, &mut faults);
         assert_eq!(rt; ended.code(), code);
     }
-    let image = fs::read(&rt, out.as_str())?;
-    assert_eq!(rt; image.as_slice(), IMAGE.as_slice());
-    let kept = fs::read(&rt, source.as_str())?;
-    assert_eq!(rt;
-        kept.as_slice(),
-        b"int main(void){putchar(33);return 0;}\n".as_slice()
-    );
-    fs::remove_file(&rt, source.as_str())?;
-    fs::remove_file(&rt, out.as_str())?;
+    let told = format!(in alloc;
+        "{image}:1:6: bad byte\nmissing: /tmp/qsc_test_no_such_file.c\nfailed: /tmp\n\
+        failed: /tmp\nfailed: /dev/full\nsame name: {source}\n"
+    )?;
+    for (name, bytes) in [
+        (image, IMAGE.as_slice()),
+        (source, SOURCE.as_bytes()),
+        (out, b"cost main 16\n".as_slice()),
+        (log, told.as_bytes()),
+    ] {
+        let held = fs::read(&rt, name.as_str())?;
+        assert_eq!(rt; held.as_slice(), bytes, "in {name}");
+        fs::remove_file(&rt, name.as_str())?;
+    }
     Ok(())
 }

@@ -1,12 +1,10 @@
-// What no clause says: that memory is found for the stores and sinks in memory, and that a call that was interrupted is
-// tried again.
+// What no clause says: that memory is found for the stores and sinks in memory.
 use qs_base::NoMemory;
 use qs_ports::{
-    CleanSink, CleanStore, FILE_ROOM, MemSink, MemStore, ReadFault, Sink, SinkFault, StdSink, Store,
+    CleanSink, CleanStore, FILE_ROOM, MemSink, MemStore, ReadFault, Sink, SinkFault, Store,
     put_all, read_whole, write_whole,
 };
 use std::alloc::Global;
-use std::io::{self, ErrorKind, Write};
 use std::test::Fail;
 
 const TEXT: &[u8] = b"eleven byte";
@@ -69,56 +67,6 @@ fn forms_with_a_plan_take_all_that_has_room(rt: HostRuntime) -> Result<(), Fail>
         let mut sink = MemSink::new(alloc, 4, Vec::new(alloc), room)?;
         put_two(&mut sink)?;
         assert!(rt; held.is_none() || sink.written() == TEXT, "at {room}");
-    }
-    Ok(())
-}
-
-// A writer that is interrupted some times before each call, and takes at most so many bytes at one.
-#[derive(Drop)]
-struct Halting {
-    taken: Vec<u8>,
-    interruptions: u32,
-    waits: u32,
-    most: usize,
-}
-
-impl Write for Halting {
-    fn write(&mut self, piece: &[u8]) -> io::Result<usize> {
-        if self.waits > 0 {
-            self.waits -= 1;
-            return Err(io::Error::from(ErrorKind::Interrupted));
-        }
-        self.waits = self.interruptions;
-        let count = piece.len().min(self.most);
-        self.taken.extend_from_slice(&piece[..count])?;
-        Ok(count)
-    }
-
-    fn flush(&mut self) -> io::Result<()> {
-        Ok(())
-    }
-}
-
-#[test]
-fn a_write_is_tried_again_and_a_write_of_nothing_fails(rt: HostRuntime) -> Result<(), Fail> {
-    let alloc = rt.alloc();
-    for (interruptions, most, answer) in [
-        (0, 3, true),
-        (5, 3, true),
-        (2_000, 3, false),
-        (0, 0, false),
-    ] {
-        let mut sink = StdSink::new(Halting {
-            taken: Vec::new(alloc),
-            interruptions,
-            waits: interruptions,
-            most,
-        });
-        assert_eq!(rt;
-            put_two(&mut sink).is_ok(),
-            answer,
-            "at {interruptions} {most}"
-        );
     }
     Ok(())
 }

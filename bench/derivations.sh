@@ -104,7 +104,7 @@ try() {
 }
 
 for n in 500 1000 2000 3300; do try straight $n; done
-for n in 350 700 1400; do try conditionals $n; done
+for n in 350 700 1426; do try conditionals $n; done
 for shape in calls_use calls_frame calls_bal; do for n in 1125 2250 4500; do try $shape $n; done; done
 for shape in facts vias splits; do for n in 2500 5000 10000; do try $shape $n; done; done
 for n in 200 400 1600; do try picks $n; done

@@ -112,5 +112,5 @@ for n in 250 500 1000; do try wraps $n; done
 for n in 125 250 500; do try sums_of_wraps $n; done
 for n in 25 50; do try products $n; done
 try large_product 1
-for shape in definitions definitions_in_turn definitions_of_first; do for n in 1000 8000; do try $shape $n; done; done
+for shape in definitions definitions_in_turn definitions_of_first; do try $shape 1000; done
 exit $slow

@@ -104,7 +104,7 @@ try() {
 }
 
 for n in 500 1000 2000 3300; do try straight $n; done
-for n in 350 700 1400; do try conditionals $n; done
+for n in 350 700 1426; do try conditionals $n; done
 for shape in calls_use calls_frame calls_bal; do for n in 1125 2250 4500; do try $shape $n; done; done
 for shape in facts vias splits; do for n in 2500 5000 10000; do try $shape $n; done; done
 for n in 200 400 1600; do try picks $n; done
@@ -112,5 +112,5 @@ for n in 250 500 1000; do try wraps $n; done
 for n in 125 250 500; do try sums_of_wraps $n; done
 for n in 25 50; do try products $n; done
 try large_product 1
-for shape in definitions definitions_in_turn definitions_of_first; do for n in 1000 8000; do try $shape $n; done; done
+for shape in definitions definitions_in_turn definitions_of_first; do try $shape 1000; done
 exit $slow

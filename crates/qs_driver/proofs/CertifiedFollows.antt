@@ -23,7 +23,7 @@ use Rattle.qs_driver.specs.declared.status.FileKind.TheVariants as kinds
 use Rattle.qs_driver.proofs.FilesLaws.{held_content, held_long}
 use Rattle.qs_driver.proofs.SourceFollows.{not_absent, not_long, one_content, source_own, source_no_unit}
 use Rattle.qs_driver.proofs.SourceLaws.{same_trees}
-use Rattle.qs_driver.proofs.laws.Follows.{not_untouched, source_shows, unread_shows}
+use Rattle.qs_driver.proofs.rooms.Follows.{not_untouched, source_shows, unread_shows}
 
 -- ---- its own statuses
 

@@ -40,4 +40,4 @@ pub mod SampleStackLaw
 pub mod SampleRefusals
 pub mod SampleCounts
 pub mod SampleStarts
-pub mod laws
+pub mod rooms

@@ -41,7 +41,7 @@ use Rattle.qs_driver.proofs.SourceLaws.{same_trees}
 use Rattle.qs_driver.proofs.CertifiedFollows.{certified_own, certified_shows, certified_no_right}
 use Rattle.qs_driver.proofs.CertifiedRefusals.{CertifiedEnds, IsNoCertifiedRefusal, certified_ends, was_right, refuses_certified}
 use Rattle.qs_driver.proofs.MainLaws.{as_many, one_unfit, none_unfit}
-use Rattle.qs_driver.proofs.laws.Follows.{not_untouched}
+use Rattle.qs_driver.proofs.rooms.Follows.{not_untouched}
 
 -- ---- statuses at which a source or its proofs are refused
 

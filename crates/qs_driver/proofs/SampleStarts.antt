@@ -21,8 +21,8 @@ use Rattle.qs_driver.proofs.CertifiedLaws.{HoldsCertified, holds_certified}
 use Rattle.qs_driver.proofs.SampleLaws.{samples_are_good}
 use Rattle.qs_driver.proofs.SampleStackLaw.{samples_have_stacks}
 use Rattle.qs_driver.proofs.SampleRefusals.{good_text_is_typed, good_core, good_core_is_certified, stack_is_there}
-use Rattle.qs_driver.proofs.laws.Exec.{lacks_none, no_load}
-use Rattle.qs_driver.proofs.laws.Sample.{image_of, bound_of_held}
+use Rattle.qs_driver.proofs.rooms.Exec.{lacks_none, no_load}
+use Rattle.qs_driver.proofs.rooms.Sample.{image_of, bound_of_held}
 
 pub not_too_long : (text : List ℕ) (status : Status) → source_limit < length text → CanStart text → status ≡ NoMemory
 not_too_long text status long can = let short = can.good.short in absurd (omega (arith, short, long))

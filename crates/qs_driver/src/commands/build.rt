@@ -60,7 +60,7 @@ fn overwrites_proof(order: &BuildOrder<'_>) -> bool
 }
 
 // Whether the file that gets the image is one of those that are read.
-#[tactic(auto, using(crate::proofs::laws::Build::names_differ))]
+#[tactic(auto, using(crate::proofs::rooms::Build::names_differ))]
 fn names_one_twice(order: &BuildOrder<'_>) -> bool
     ensures twice { result ≡ true → NamesOneTwice (words_in order.now) }
     ensures differ { result ≡ false → NamesDiffer (words_in order.now) }

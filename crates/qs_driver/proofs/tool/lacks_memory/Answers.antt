@@ -1,4 +1,4 @@
-use Rattle.qs_driver.proofs.laws.Tool.{lacks}
+use Rattle.qs_driver.proofs.rooms.Tool.{lacks}
 use Rattle.qs_driver.proofs.tool.lacks_memory.Goals as goal
 
 pub returns : goal.returns

@@ -1,6 +1,6 @@
 use Rattle.std.proofs.Common.{Some, None}
 use Rattle.qs_cli.specs.Reading.{command_of}
-use Rattle.qs_driver.proofs.laws.Tool.{promised, lacks_promised}
+use Rattle.qs_driver.proofs.rooms.Tool.{promised, lacks_promised}
 use Rattle.qs_driver.proofs.tool.run_tool.Goals as goal
 
 pub perform-requires : goal.perform-requires

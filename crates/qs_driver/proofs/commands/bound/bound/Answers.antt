@@ -1,5 +1,5 @@
 use Rattle.qs_driver.specs.commands.Bound.{words_in}
-use Rattle.qs_driver.proofs.laws.Bound.{bound_answers}
+use Rattle.qs_driver.proofs.rooms.Bound.{bound_answers}
 use Rattle.qs_driver.proofs.commands.bound.bound.Goals as goal
 
 pub returns : goal.returns

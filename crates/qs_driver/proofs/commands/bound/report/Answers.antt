@@ -1,6 +1,6 @@
 use Rattle.qs_driver.specs.commands.Bound.{words_in}
 use Rattle.qs_driver.proofs.StepsLaws.{ends_with}
-use Rattle.qs_driver.proofs.laws.Bound.{bound_put, fault_put}
+use Rattle.qs_driver.proofs.rooms.Bound.{bound_put, fault_put}
 use Rattle.qs_driver.proofs.commands.bound.report.Goals as goal
 
 pub returns-in-Ok : goal.returns-in-Ok

@@ -1,5 +1,5 @@
 use Rattle.qs_driver.specs.commands.Build.{words_in}
-use Rattle.qs_driver.proofs.laws.Build.{build_answers}
+use Rattle.qs_driver.proofs.rooms.Build.{build_answers}
 use Rattle.qs_driver.proofs.commands.build.build.Goals as goal
 
 pub returns : goal.returns

@@ -1,5 +1,5 @@
 use Rattle.qs_driver.specs.Certified.{words_in}
-use Rattle.qs_driver.proofs.laws.Check.{check_answers}
+use Rattle.qs_driver.proofs.rooms.Check.{check_answers}
 use Rattle.qs_driver.proofs.commands.check.check.Goals as goal
 
 pub returns : goal.returns

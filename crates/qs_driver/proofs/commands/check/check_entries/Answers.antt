@@ -1,6 +1,6 @@
 use Rattle.std.proofs.lemmas.Result.{err_from_is_err_and}
 use Rattle.qs_driver.specs.Certified.{words_in}
-use Rattle.qs_driver.proofs.laws.Check.{not_certified, not_lowered, was_checked}
+use Rattle.qs_driver.proofs.rooms.Check.{not_certified, not_lowered, was_checked}
 use Rattle.qs_driver.proofs.commands.check.check_entries.Goals as goal
 
 pub returns-in_err-unit : goal.returns-in_err-unit

@@ -1,5 +1,5 @@
 use Rattle.qs_driver.specs.commands.Derive.{words_in}
-use Rattle.qs_driver.proofs.laws.Derive.{derive_answers}
+use Rattle.qs_driver.proofs.rooms.Derive.{derive_answers}
 use Rattle.qs_driver.proofs.commands.derive.derive.Goals as goal
 
 pub returns : goal.returns

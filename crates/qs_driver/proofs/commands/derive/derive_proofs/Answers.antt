@@ -4,7 +4,7 @@ use Rattle.std.proofs.lemmas.Result.{err_from_is_err_and}
 use Rattle.qs_typing.proofs.TypedLaws.{is_read}
 use Rattle.qs_triples.specs.TreeOf.{entry_tree, proofs_tree}
 use Rattle.qs_driver.specs.commands.Derive.{words_in}
-use Rattle.qs_driver.proofs.laws.Derive.{not_certified, not_written, out_of_memory, was_derived}
+use Rattle.qs_driver.proofs.rooms.Derive.{not_certified, not_written, out_of_memory, was_derived}
 use Rattle.qs_driver.proofs.commands.derive.derive_proofs.Goals as goal
 
 pub returns-in_err-certified : goal.returns-in_err-certified

@@ -1,5 +1,5 @@
 use Rattle.qs_driver.specs.commands.Exec.{words_in}
-use Rattle.qs_driver.proofs.laws.Exec.{fresh}
+use Rattle.qs_driver.proofs.rooms.Exec.{fresh}
 use Rattle.qs_driver.proofs.commands.exec.exec.Goals as goal
 
 pub run_or_refuse-requires : goal.run_or_refuse-requires

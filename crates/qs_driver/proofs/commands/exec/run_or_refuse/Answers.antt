@@ -1,5 +1,5 @@
 use Rattle.qs_driver.specs.commands.Exec.{words_in, CannotExec}
-use Rattle.qs_driver.proofs.laws.Exec.{fault_put}
+use Rattle.qs_driver.proofs.rooms.Exec.{fault_put}
 use Rattle.qs_driver.proofs.commands.exec.run_or_refuse.Goals as goal
 
 pub run_started-requires : goal.run_started-requires

@@ -1,5 +1,5 @@
 use Rattle.qs_driver.specs.commands.Outline.{words_in}
-use Rattle.qs_driver.proofs.laws.Outline.{outline_answers}
+use Rattle.qs_driver.proofs.rooms.Outline.{outline_answers}
 use Rattle.qs_driver.proofs.commands.outline.outline.Goals as goal
 
 pub returns : goal.returns

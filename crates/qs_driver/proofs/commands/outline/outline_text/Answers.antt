@@ -1,7 +1,7 @@
 use Rattle.std.proofs.lemmas.Result.{err_from_is_err_and}
 use Rattle.qs_typing.proofs.TypedLaws.{is_read}
 use Rattle.qs_driver.specs.commands.Outline.{words_in}
-use Rattle.qs_driver.proofs.laws.Outline.{no_source, out_of_memory, was_outlined}
+use Rattle.qs_driver.proofs.rooms.Outline.{no_source, out_of_memory, was_outlined}
 use Rattle.qs_driver.proofs.commands.outline.outline_text.Goals as goal
 
 pub returns-in_err-typed : goal.returns-in_err-typed

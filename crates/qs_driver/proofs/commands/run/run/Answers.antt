@@ -1,5 +1,5 @@
 use Rattle.qs_driver.specs.commands.Run.{words_in}
-use Rattle.qs_driver.proofs.laws.Run.{fresh}
+use Rattle.qs_driver.proofs.rooms.Run.{fresh}
 use Rattle.qs_driver.proofs.commands.run.run.Goals as goal
 
 pub run_ready-requires : goal.run_ready-requires

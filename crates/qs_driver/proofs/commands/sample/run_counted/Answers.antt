@@ -7,7 +7,7 @@ use Rattle.qs_cli.specs.Numbers.{default_steps}
 use Rattle.qs_driver.specs.KeptOutput.{kept_view}
 use Rattle.qs_driver.specs.commands.Sample.{outcome}
 use Rattle.qs_driver.specs.declared.commands.sample.SampleEnd.{SampleEnd}
-use Rattle.qs_driver.proofs.laws.Sample.{comes_to}
+use Rattle.qs_driver.proofs.rooms.Sample.{comes_to}
 use Rattle.qs_driver.proofs.commands.sample.run_counted.Goals as goal
 
 pub returns-in-Exited : goal.returns-in-Exited

@@ -1,7 +1,7 @@
 use Rattle.std.proofs.lemmas.Result.{err_from_is_err_and}
 use Rattle.qs_driver.specs.commands.Sample.{words_in}
 use Rattle.qs_driver.proofs.SampleStarts.{samples_start}
-use Rattle.qs_driver.proofs.laws.Sample.{no_text, source_not_written, out_of_memory, has_sampled}
+use Rattle.qs_driver.proofs.rooms.Sample.{no_text, source_not_written, out_of_memory, has_sampled}
 use Rattle.qs_driver.proofs.commands.sample.run_sample.Goals as goal
 
 pub returns-in_err-text : goal.returns-in_err-text

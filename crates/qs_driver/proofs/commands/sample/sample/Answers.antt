@@ -1,5 +1,5 @@
 use Rattle.qs_driver.specs.commands.Sample.{words_in}
-use Rattle.qs_driver.proofs.laws.Sample.{sample_answers}
+use Rattle.qs_driver.proofs.rooms.Sample.{sample_answers}
 use Rattle.qs_driver.proofs.commands.sample.sample.Goals as goal
 
 pub returns : goal.returns

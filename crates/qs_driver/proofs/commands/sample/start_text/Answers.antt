@@ -3,7 +3,7 @@ use Rattle.std.proofs.lemmas.Result.{err_from_is_err_and}
 use Rattle.qs_typing.proofs.TypedLaws.{is_read}
 use Rattle.qs_driver.specs.commands.Exec.{as_run, ExecWords, LoadsImage}
 use Rattle.qs_driver.specs.declared.commands.sample.SampleStart.{SampleStart}
-use Rattle.qs_driver.proofs.laws.Sample.{has_started}
+use Rattle.qs_driver.proofs.rooms.Sample.{has_started}
 use Rattle.qs_driver.proofs.SampleStarts.{not_refused, not_uncertified, not_unmade, not_without_stack, not_unloaded}
 use Rattle.qs_driver.proofs.commands.sample.start_text.Goals as goal
 

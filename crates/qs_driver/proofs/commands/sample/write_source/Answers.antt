@@ -1,4 +1,4 @@
-use Rattle.qs_driver.proofs.laws.Sample.{nothing_written}
+use Rattle.qs_driver.proofs.rooms.Sample.{nothing_written}
 use Rattle.qs_driver.proofs.commands.sample.write_source.Goals as goal
 
 pub returns-in-None : goal.returns-in-None

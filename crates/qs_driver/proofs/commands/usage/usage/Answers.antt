@@ -1,4 +1,4 @@
-use Rattle.qs_driver.proofs.laws.Usage.{usage_answers}
+use Rattle.qs_driver.proofs.rooms.Usage.{usage_answers}
 use Rattle.qs_driver.proofs.commands.usage.usage.Goals as goal
 
 pub returns : goal.returns

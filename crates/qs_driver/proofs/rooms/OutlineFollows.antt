@@ -13,7 +13,7 @@ use Rattle.qs_driver.specs.declared.status.Status.{Status}
 use Rattle.qs_driver.specs.declared.status.Status.TheVariants.{Done, NoMemory}
 use Rattle.qs_driver.proofs.FilesLaws.{held_with}
 use Rattle.qs_driver.proofs.SourceFollows.{SourceEnds, good, source_ends, source_own, source_no_unit, refuses_source, done_is_none}
-use Rattle.qs_driver.proofs.laws.Follows.{Follows, not_untouched, source_shows}
+use Rattle.qs_driver.proofs.rooms.Follows.{Follows, not_untouched, source_shows}
 
 -- ---- how it ends
 

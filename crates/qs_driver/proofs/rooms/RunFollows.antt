@@ -21,7 +21,7 @@ use Rattle.qs_driver.specs.declared.status.SourceFault.TheVariants.{TooLong}
 use Rattle.qs_driver.specs.declared.status.WordsFault.TheVariants.{ArgCount}
 use Rattle.qs_driver.specs.declared.status.FileKind.TheVariants as kinds
 use Rattle.qs_driver.proofs.FilesLaws.{held_content, held_with, held_long}
-use Rattle.qs_driver.proofs.laws.Follows.{Follows, not_untouched, unread_shows}
+use Rattle.qs_driver.proofs.rooms.Follows.{Follows, not_untouched, unread_shows}
 
 -- ---- the tests, one after the other
 

@@ -40,8 +40,8 @@ use Rattle.qs_driver.specs.declared.status.Status.{Status}
 use Rattle.qs_driver.specs.declared.status.Status.TheVariants.{Done, Trapped, StepLimit, NoMemory}
 use Rattle.qs_driver.proofs.BoundsLaws.{compiled_is_image, is_compiled}
 use Rattle.qs_driver.proofs.CertifiedLaws.{HoldsCertified, holds_certified}
-use Rattle.qs_driver.proofs.laws.Exec.{sources_end, stands_at}
-use Rattle.qs_driver.proofs.laws.Follows.{untouched}
+use Rattle.qs_driver.proofs.rooms.Exec.{sources_end, stands_at}
+use Rattle.qs_driver.proofs.rooms.Follows.{untouched}
 use Rattle.qs_driver.proofs.StepsLaws.{log_last, out_last}
 
 -- ---- a text comes to a machine

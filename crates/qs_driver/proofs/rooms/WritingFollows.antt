@@ -13,7 +13,7 @@ use Rattle.qs_driver.specs.declared.status.WordsFault.TheVariants.{SameName}
 use Rattle.qs_driver.specs.declared.status.FileKind.TheVariants as kinds
 use Rattle.qs_driver.proofs.CertifiedFollows.{certified_own, certified_shows, certified_no_right}
 use Rattle.qs_driver.proofs.CertifiedRefusals.{CertifiedEnds, certified_ends, was_right, refuses_certified, done_is_no_refusal}
-use Rattle.qs_driver.proofs.laws.Follows.{not_risen, not_untouched}
+use Rattle.qs_driver.proofs.rooms.Follows.{not_risen, not_untouched}
 
 -- How it ends. Its words may name one file twice.
 pub data WritingEnds (c : CertifyWords) (Twice : Type 0) (v w : StoreView) (status : Status) : Type 0 where

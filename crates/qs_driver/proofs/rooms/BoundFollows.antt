@@ -10,7 +10,7 @@ use Rattle.qs_driver.specs.declared.status.Status.{Status}
 use Rattle.qs_driver.specs.declared.status.Status.TheVariants.{Done, NoMemory}
 use Rattle.qs_driver.proofs.MadeFollows.{is_refusal, none_refused, made_own, made_shows, made_no_good, MadeEnds, goes_on, refuses_made}
 use Rattle.qs_driver.proofs.MadeFollows as made
-use Rattle.qs_driver.proofs.laws.Follows.{Follows, not_untouched}
+use Rattle.qs_driver.proofs.rooms.Follows.{Follows, not_untouched}
 
 data BoundEnds (b : BoundWords) (v w : StoreView) (status : Status) : Type 0 where
   bounded : (due : Due) → HasBound b v w due → status ≡ Done → BoundEnds b v w status

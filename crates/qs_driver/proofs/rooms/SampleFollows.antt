@@ -13,7 +13,7 @@ use Rattle.qs_driver.specs.commands.Sample as meant
 use Rattle.qs_driver.specs.declared.status.Status.{Status}
 use Rattle.qs_driver.specs.declared.status.Status.TheVariants.{NoMemory}
 use Rattle.qs_driver.specs.declared.status.FileKind.TheVariants as kinds
-use Rattle.qs_driver.proofs.laws.Follows.{Follows, not_risen, not_untouched}
+use Rattle.qs_driver.proofs.rooms.Follows.{Follows, not_risen, not_untouched}
 
 -- ---- how it ends
 

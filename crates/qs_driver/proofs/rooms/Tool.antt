@@ -14,16 +14,16 @@ use Rattle.qs_driver.specs.Promises.{LacksMemory, NoneFailed, SaysStoreFailed, P
 use Rattle.qs_driver.specs.declared.status.Status.{Status}
 use Rattle.qs_driver.specs.declared.status.Status.TheVariants.{SinkFailed, NoMemory}
 use Rattle.qs_driver.proofs.StepsLaws.{HasSameFaults, all_same, short_rose, log_last}
-use Rattle.qs_driver.proofs.laws.Follows.{Follows, not_risen, not_untouched, untouched}
-use Rattle.qs_driver.proofs.laws.Usage.{usage_follows}
-use Rattle.qs_driver.proofs.laws.BuildFollows.{build_follows}
-use Rattle.qs_driver.proofs.laws.BoundFollows.{bound_follows}
-use Rattle.qs_driver.proofs.laws.ExecFollows.{exec_follows}
-use Rattle.qs_driver.proofs.laws.CheckFollows.{check_follows}
-use Rattle.qs_driver.proofs.laws.DeriveFollows.{derive_follows}
-use Rattle.qs_driver.proofs.laws.OutlineFollows.{outline_follows}
-use Rattle.qs_driver.proofs.laws.RunFollows.{run_follows}
-use Rattle.qs_driver.proofs.laws.SampleFollows.{sample_follows}
+use Rattle.qs_driver.proofs.rooms.Follows.{Follows, not_risen, not_untouched, untouched}
+use Rattle.qs_driver.proofs.rooms.Usage.{usage_follows}
+use Rattle.qs_driver.proofs.rooms.BuildFollows.{build_follows}
+use Rattle.qs_driver.proofs.rooms.BoundFollows.{bound_follows}
+use Rattle.qs_driver.proofs.rooms.ExecFollows.{exec_follows}
+use Rattle.qs_driver.proofs.rooms.CheckFollows.{check_follows}
+use Rattle.qs_driver.proofs.rooms.DeriveFollows.{derive_follows}
+use Rattle.qs_driver.proofs.rooms.OutlineFollows.{outline_follows}
+use Rattle.qs_driver.proofs.rooms.RunFollows.{run_follows}
+use Rattle.qs_driver.proofs.rooms.SampleFollows.{sample_follows}
 
 -- ---- the rows
 

@@ -10,7 +10,7 @@ use Rattle.qs_driver.specs.declared.status.Status.{Status}
 use Rattle.qs_driver.specs.declared.status.Status.TheVariants.{Done, NoMemory}
 use Rattle.qs_driver.proofs.CertifiedFollows.{certified_own, certified_shows, certified_no_right}
 use Rattle.qs_driver.proofs.CertifiedRefusals.{CertifiedEnds, certified_ends, was_right, refuses_certified, done_is_no_refusal}
-use Rattle.qs_driver.proofs.laws.Follows.{Follows, not_untouched}
+use Rattle.qs_driver.proofs.rooms.Follows.{Follows, not_untouched}
 
 data CheckEnds (c : CertifyWords) (v w : StoreView) (status : Status) : Type 0 where
   checked : (s : CertifiedSource) → ReadsCertified c v s → status ≡ Done → CheckEnds c v w status

@@ -26,7 +26,7 @@ use Rattle.qs_driver.proofs.FilesLaws.{held_content, held_long}
 use Rattle.qs_driver.proofs.SourceFollows.{not_absent, not_long, one_content}
 use Rattle.qs_driver.proofs.MadeFollows.{is_refusal, certified_refuses, none_refused, made_or_bound, made_own, made_shows, made_no_good, one_bound, certified_or_not, IsNoMadeRefusal, MadeEnds, goes_on, refuses_made}
 use Rattle.qs_driver.proofs.MadeFollows as made
-use Rattle.qs_driver.proofs.laws.Follows.{Follows, not_untouched, unread_shows}
+use Rattle.qs_driver.proofs.rooms.Follows.{Follows, not_untouched, unread_shows}
 
 -- ---- how it ends
 

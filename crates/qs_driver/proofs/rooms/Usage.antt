@@ -12,7 +12,7 @@ use Rattle.qs_driver.specs.declared.status.Status.{Status}
 use Rattle.qs_driver.specs.declared.status.Status.TheVariants.{Words}
 use Rattle.qs_driver.specs.declared.status.WordsFault.TheVariants.{Usage}
 use Rattle.qs_driver.proofs.StepsLaws.{log_last}
-use Rattle.qs_driver.proofs.laws.Follows.{Follows, untouched, not_untouched}
+use Rattle.qs_driver.proofs.rooms.Follows.{Follows, untouched, not_untouched}
 
 pub usage_answers : (s : StoreView) (o v w : SinkView) (result : Status) → EndsWith (status_line no_names (Words Usage)) (Words Usage) v w result → Answers none (views_of s o v) (views_of s o w) result
 usage_answers s o v w result h = record {

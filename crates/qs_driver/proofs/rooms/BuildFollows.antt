@@ -9,9 +9,9 @@ use Rattle.qs_driver.specs.commands.Build as meant
 use Rattle.qs_driver.specs.declared.status.Status.{Status}
 use Rattle.qs_driver.specs.declared.status.Status.TheVariants.{NoMemory}
 use Rattle.qs_driver.proofs.CertifiedFollows.{certified_own}
-use Rattle.qs_driver.proofs.laws.Follows.{Follows}
-use Rattle.qs_driver.proofs.laws.WritingFollows.{WritingEnds, written, same, not_certified, unwritable, no_memory, right_is_written, own, same_name, shows}
-use Rattle.qs_driver.proofs.laws.WritingFollows as writing
+use Rattle.qs_driver.proofs.rooms.Follows.{Follows}
+use Rattle.qs_driver.proofs.rooms.WritingFollows.{WritingEnds, written, same, not_certified, unwritable, no_memory, right_is_written, own, same_name, shows}
+use Rattle.qs_driver.proofs.rooms.WritingFollows as writing
 
 -- ---- how it ends
 

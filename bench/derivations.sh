@@ -1,6 +1,6 @@
 #!/usr/bin/env bash
 # Times `check` on large files of derivations, on 4 MiB of native stack: bench/derivations.sh [PROGRAM] (by default ./qsc,
-# which is proved and built at its first call). Prints a line for each shape and size, with the user's time and whether it
+# which is proved and built at its first call). Prints a line for each shape and size, with the user time and whether it
 # is below the target: a second, and two for rows of `bal`. Ends with 1 where a file is refused or takes longer; only a
 # product of 64 by 64 terms is to be refused, for its limit.
 set -u
@@ -32,15 +32,15 @@ conditionals() {
     each "$1" "(use (num x) (split (lt % x) $less (same)) (if (leaf) (leaf)))" && printf '(leaf))))'; } >a.proof
 }
 # n calls: precondition, postcondition, certificate of the entry, and what each call is derived by
-calls() {
+row_of_calls() {
   echo "void g(void){}void f(void){$(each "$1" 'g();')}$main" >a.c
   entry "$2" "$3" "$4" "(seq $(each "$1" "$5"))" >a.proof
 }
-calls_use() { calls "$1" '(cost g)' '(cost g)' '(same)' '(use (cost g) (all (same) (unfold g (arith ((0 0))))) (bal))'; }
-calls_frame() { calls "$1" '(add (cost g) (name g) 0)' '(add (cost g) (name g) 0)' '(same)' '(call 0 (same))'; }
+calls_use() { row_of_calls "$1" '(cost g)' '(cost g)' '(same)' '(use (cost g) (all (same) (unfold g (arith ((0 0))))) (bal))'; }
+calls_frame() { row_of_calls "$1" '(add (cost g) (name g) 0)' '(add (cost g) (name g) 0)' '(same)' '(call 0 (same))'; }
 # what is needed nests a maximum deeper at each call, in the end deeper than the parts of a certificate may: it is shown
 # from a precondition that nothing meets
-calls_bal() { calls "$1" '(guard (le 1 0) 0)' '(cost g)' '(assume (absurd ((1 1))))' '(bal)'; }
+calls_bal() { row_of_calls "$1" '(guard (le 1 0) 0)' '(cost g)' '(assume (absurd ((1 1))))' '(bal)'; }
 
 # a certificate for a function that only returns
 certificate() { echo "$one" >a.c && entry 0 "${2-0}" "$1" '(seq (leaf))' >a.proof; }

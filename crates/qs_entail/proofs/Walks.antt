@@ -22,7 +22,7 @@ use Rattle.qs_entail.specs.declared.failed.Failed.{Failed}
 use Rattle.qs_entail.specs.declared.failed.Failed.TheVariants as failures
 use Rattle.qs_entail.specs.Answers.{Follows, FollowsAs}
 use Rattle.qs_base.specs.Results.{bind}
-use Rattle.qs_entail.specs.Building.{Failure, breaks}
+use Rattle.qs_entail.specs.Building.{Failure}
 use Rattle.qs_entail.specs.Faults.{Fault, step, limit, node, part, Guarded}
 use Rattle.qs_entail.specs.Verdicts.{fault, faults_all, faults_parts}
 use Rattle.qs_entail.specs.Pushing.{Known, with_polynomials}
@@ -44,10 +44,6 @@ says_stopped old new rule Breaks view attempt others e h =
     subst (λ a. Says old new (Err (failures.Step rule)) (node rule a others)) (sym h) (refl, e ∙ sym (append-nil old.path))
 says_stopped old new rule (Passes l) view attempt others e h =
     subst (λ a. Says old new (Err (failures.Limit l)) (node rule a others)) (sym h) (refl, e ∙ sym (append-nil old.path))
-
-pub says_broken : {B : Type 0} (old new : Place) (rule : Rule) (attempt : Result B Failure) (others : B → Option Fault) → new.path ≡ old.path → attempt ≡ Err breaks → Says old new (Err (failures.Step rule)) (node rule attempt others)
-says_broken old new rule attempt others e h =
-    subst (λ a. Says old new (Err (failures.Step rule)) (node rule a others)) (sym h) (refl, e ∙ sym (append-nil old.path))
 
 -- and one that gives something
 pub says_given : {B : Type 0} (old new : Place) (rule : Rule) (r : Result (Unit {0}) Failed) (b : B) (attempt : Result B Failure) (others : B → Option Fault) → attempt ≡ Ok b → Says old new r (others b) → Says old new r (node rule attempt others)

@@ -43,10 +43,8 @@ fn put_difference(alloc: Global, stack: &mut Vec<Built>) -> Result<(), NoMemory>
 {
     let a = taken(stack);
     let b = taken(stack);
-    match on_both(alloc, Operation::Difference, &a, &b) {
-        Ok(item) => put(stack, item),
-        Err(fault) => Err(fault),
-    }
+    let item = on_both(alloc, Operation::Difference, &a, &b)?;
+    put(stack, item)
 }
 
 fn put_sum(alloc: Global, stack: &mut Vec<Built>, count: usize) -> Result<(), NoMemory>

@@ -110,10 +110,7 @@ fn sum_all(alloc: Global, list: &[Poly]) -> Result<Poly, Stop>
 {
     let mut sum = zero(alloc)?;
     for poly in list {
-        sum = match operate(alloc, Operation::Sum, &sum, poly) {
-            Ok(more) => more,
-            Err(stop) => return Err(stop),
-        };
+        sum = operate(alloc, Operation::Sum, &sum, poly)?;
     }
     Ok(sum)
 }
@@ -131,16 +128,8 @@ pub fn two_combinations(alloc: Global, v: &[Item], w: &[Item], list: &[Poly]) ->
     ensures { FollowsAs two_view result (building.two_combinations (items_view v.now) (items_view w.now) list.now) }
 {
     let ps = item_polynomials(alloc, v, list)?;
-    let qs = match item_polynomials(alloc, w, list) {
-        Ok(qs) => qs,
-        Err(stop) => return Err(stop),
-    };
-    let first = match sum_all(alloc, &ps) {
-        Ok(first) => first,
-        Err(stop) => return Err(stop),
-    };
-    match sum_all(alloc, &qs) {
-        Ok(second) => Ok(Two { first, second }),
-        Err(stop) => Err(stop),
-    }
+    let qs = item_polynomials(alloc, w, list)?;
+    let first = sum_all(alloc, &ps)?;
+    let second = sum_all(alloc, &qs)?;
+    Ok(Two { first, second })
 }

@@ -1,8 +1,8 @@
 // The polynomials that facts add, where their conditions without polynomials hold.
-ghost use Rattle.std.specs.Prelude.{◌≡◌, ◌≤◌, [], ◌∷◌, ◌||◌, Ok, negsuc, pos};
+ghost use Rattle.std.specs.Prelude.{[], ◌∷◌, ◌||◌, Ok, negsuc};
 ghost use Rattle.qs_poly.specs.Operations.{sum, number};
 ghost use Rattle.qs_poly.specs.Terms.{polynomial_eq};
-ghost use Rattle.qs_entail.specs.Answers.{FindsAs, Follows, FollowsAs};
+ghost use Rattle.qs_entail.specs.Answers.{FindsAs, FollowsAs};
 ghost use Rattle.qs_entail.specs.Building as building;
 ghost use Rattle.qs_base.specs.Results.{bind, require};
 ghost use Rattle.qs_entail.specs.Building.{breaks, limited};

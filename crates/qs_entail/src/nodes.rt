@@ -34,16 +34,10 @@ impl Walk {
     ) -> Result<(), Failed>
         ensures { Says (place self.old) (place self.new) result (part i (fault (cert_tree certificate.now) defines.now (known_view self.old.known) p.now q.now)) }
     {
-        match self.enter(i) {
-            Ok(()) => match self.check(defines, certificate, p, q) {
-                Ok(()) => {
-                    self.leave();
-                    Ok(())
-                }
-                Err(e) => Err(e),
-            },
-            Err(e) => Err(e),
-        }
+        self.enter(i)?;
+        self.check(defines, certificate, p, q)?;
+        self.leave();
+        Ok(())
     }
 
     /// Checks a part, and forgets what was pushed since the mark.
@@ -59,13 +53,9 @@ impl Walk {
     ) -> Result<(), Failed>
         ensures { Says (cut mark (place self.old)) (place self.new) result (part i (fault (cert_tree certificate.now) defines.now (known_view self.old.known) p.now q.now)) }
     {
-        match self.check_part(defines, i, certificate, p, q) {
-            Ok(()) => {
-                self.back(mark);
-                Ok(())
-            }
-            Err(e) => Err(e),
-        }
+        self.check_part(defines, i, certificate, p, q)?;
+        self.back(mark);
+        Ok(())
     }
 
     /// Checks that a certificate shows that P is at least Q. On a fault the path leads to its node.
@@ -100,10 +90,8 @@ impl Walk {
             Certificate::Same => Ok(()),
             Certificate::Via(r, c, d) => {
                 let middle = r.view();
-                match self.check_part(defines, 0, c, p, &middle) {
-                    Ok(()) => self.check_part(defines, 1, d, &middle, q),
-                    Err(e) => Err(e),
-                }
+                self.check_part(defines, 0, c, p, &middle)?;
+                self.check_part(defines, 1, d, &middle, q)
             }
             Certificate::Pick(i, c) => self.check_pick(defines, *i, c, p, q),
             Certificate::All(parts) => self.check_all(defines, parts, p, q),
@@ -173,10 +161,8 @@ impl Walk {
             let Some((member, others)) = rest.split_first() else {
                 return Ok(());
             };
-            match self.check_part(defines, i, certificate, p, &member) {
-                Ok(()) => rest = others,
-                Err(e) => return Err(e),
-            }
+            self.check_part(defines, i, certificate, p, &member)?;
+            rest = others;
         }
         Ok(())
     }
@@ -232,13 +218,9 @@ impl Walk {
             let Some((q, other_rights)) = rights.split_first() else {
                 return Ok(());
             };
-            match self.check_part(defines, i, certificate, &p, &q) {
-                Ok(()) => {
-                    lefts = other_lefts;
-                    rights = other_rights;
-                }
-                Err(e) => return Err(e),
-            }
+            self.check_part(defines, i, certificate, &p, &q)?;
+            lefts = other_lefts;
+            rights = other_rights;
         }
         Ok(())
     }

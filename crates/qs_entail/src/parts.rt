@@ -138,16 +138,10 @@ fn member_numbered<'a>(members: AssertionViews<'a>, number: usize) -> Option<Ass
     let mut rest = members;
     let mut left = number;
     while left > 0 {
-        match rest.split_first() {
-            Some((_member, others)) => rest = others,
-            None => return None,
-        }
+        rest = rest.split_first()?.1;
         left -= 1;
     }
-    match rest.split_first() {
-        Some((member, _others)) => Some(member),
-        None => None,
-    }
+    Some(rest.split_first()?.0)
 }
 
 /// A member by its number, which may be below 0, if there is one.
@@ -193,10 +187,8 @@ pub fn both_sides(alloc: Global, nodes: &[Node]) -> Result<Sides, NoMemory>
 {
     let (first, others) = split_tree(nodes);
     let left = Term::from_inner(alloc, first)?;
-    match Term::from_inner(alloc, others) {
-        Ok(right) => Ok(Sides { left, right }),
-        Err(fault) => Err(fault),
-    }
+    let right = Term::from_inner(alloc, others)?;
+    Ok(Sides { left, right })
 }
 
 /// The terms of which a condition says that they differ; it breaks where it says no such thing.

@@ -1,5 +1,4 @@
 // What conditions add to what is known.
-ghost use Rattle.std.specs.Prelude.{◌≡◌};
 ghost use Rattle.qs_assert.specs.Trees as trees;
 ghost use Rattle.qs_poly.specs.Operations.{lessened};
 ghost use Rattle.qs_entail.specs.Answers.{Follows, FollowsAs};
@@ -31,10 +30,8 @@ fn both_polynomials(alloc: Global, sides: &Sides) -> Result<Pair, Stop>
     ensures { FollowsAs pair_view result (flattening.both_polynomials sides.now.left sides.now.right) }
 {
     let left = term_polynomial(alloc, &sides.left)?;
-    match term_polynomial(alloc, &sides.right) {
-        Ok(right) => Ok(Pair { left, right }),
-        Err(stop) => Err(stop),
-    }
+    let right = term_polynomial(alloc, &sides.right)?;
+    Ok(Pair { left, right })
 }
 
 /// The second less the first, less 1.

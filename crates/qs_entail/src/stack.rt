@@ -1,5 +1,5 @@
 // The polynomials of parts, on stacks.
-ghost use Rattle.std.specs.Prelude.{◌≡◌, List, IfOk, OnOk, Result, drop, pos};
+ghost use Rattle.std.specs.Prelude.{◌≡◌, IfOk, OnOk, Result, drop};
 ghost use Rattle.qs_assert.specs.Reading.{others};
 ghost use Rattle.qs_poly.specs.Polynomials.{Polynomial};
 ghost use Rattle.qs_poly.specs.Atoms.{tree_of};
@@ -123,10 +123,7 @@ pub fn joined(
     while left > 0 {
         left -= 1;
         let item = taken(stack);
-        so_far = match on_both(alloc, operation, &so_far, &item) {
-            Ok(built) => built,
-            Err(fault) => return Err(fault),
-        };
+        so_far = on_both(alloc, operation, &so_far, &item)?;
     }
     Ok(so_far)
 }

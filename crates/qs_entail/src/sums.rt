@@ -73,10 +73,8 @@ pub fn less_negated(alloc: Global, p: &Poly, k: u64, q: &Poly, c: u64) -> Result
     requires canonical { IsCanonical (lessened p.now k q.now c) }
     ensures { Follows result (limited (multiple (negsuc 0) (lessened p.now k q.now c))) }
 {
-    match less(alloc, p, k, q, c) {
-        Ok(rest) => negation(alloc, &rest),
-        Err(stop) => Err(stop),
-    }
+    let rest = less(alloc, p, k, q, c)?;
+    negation(alloc, &rest)
 }
 
 /// `num p`.

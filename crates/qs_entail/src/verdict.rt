@@ -42,17 +42,15 @@ fn at_root(alloc: Global) -> Result<Walk, Stop>
     ensures { IfOk result (λ walk. place walk ≡ record { path = []; known = at_first }) }
 {
     let unit = small(alloc, 1)?;
-    match one(alloc, unit) {
-        Ok(polynomials) => Ok(Walk {
-            alloc,
-            path: Vec::new(alloc),
-            known: Known {
-                conditions: Vec::new(alloc),
-                polynomials,
-            },
-        }),
-        Err(stop) => Err(stop),
-    }
+    let polynomials = one(alloc, unit)?;
+    Ok(Walk {
+        alloc,
+        path: Vec::new(alloc),
+        known: Known {
+            conditions: Vec::new(alloc),
+            polynomials,
+        },
+    })
 }
 
 /// Whether the root's side condition holds under the hypotheses, polynomials aside.

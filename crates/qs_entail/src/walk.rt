@@ -82,10 +82,8 @@ impl Walk {
         ensures path { self.new.path.items ≡ self.old.path.items }
     {
         let mark = self.mark();
-        match push(self.alloc, condition, negated, &mut self.known) {
-            Ok(()) => Ok(mark),
-            Err(stop) => Err(stop),
-        }
+        push(self.alloc, condition, negated, &mut self.known)?;
+        Ok(mark)
     }
 
     /// Whether a condition, or its negation, can be pushed.
@@ -94,13 +92,9 @@ impl Walk {
         ensures back { OnOk result (place self.new ≡ place self.old) }
         ensures path { self.new.path.items ≡ self.old.path.items }
     {
-        match self.push(condition, negated) {
-            Ok(mark) => {
-                self.back(mark);
-                Ok(())
-            }
-            Err(stop) => Err(stop),
-        }
+        let mark = self.push(condition, negated)?;
+        self.back(mark);
+        Ok(())
     }
 
     /// Whether a condition can be pushed, and its negation.
@@ -109,10 +103,8 @@ impl Walk {
         ensures back { OnOk result (place self.new ≡ place self.old) }
         ensures path { self.new.path.items ≡ self.old.path.items }
     {
-        match self.tries(condition, false) {
-            Ok(()) => self.tries(condition, true),
-            Err(stop) => Err(stop),
-        }
+        self.tries(condition, false)?;
+        self.tries(condition, true)
     }
 
     /// Adds the polynomials of a fact.
@@ -122,13 +114,9 @@ impl Walk {
         ensures path { self.new.path.items ≡ self.old.path.items }
     {
         let mark = self.mark();
-        match added(self.alloc, fact, &self.known) {
-            Ok(mut polynomials) => {
-                self.known.polynomials.append(&mut polynomials)?;
-                Ok(mark)
-            }
-            Err(stop) => Err(stop),
-        }
+        let mut polynomials = added(self.alloc, fact, &self.known)?;
+        self.known.polynomials.append(&mut polynomials)?;
+        Ok(mark)
     }
 
     /// Whether the conditions of a node hold, polynomials aside.

@@ -3,14 +3,14 @@ use Rattle.qs_entail.specs.Stacks.{attempt_of}
 use Rattle.qs_entail.proofs.Stacked.{joined_goes_on, drop_goes_on}
 use Rattle.qs_entail.proofs.stack.joined.Goals as goal
 
-pub loop-left-preserved-in-Ok : goal.loop-left-preserved-in-Ok
-loop-left-preserved-in-Ok c = record {
-  value = c.loop-left.invariant.value ∙ joined_goes_on c.args.operation c.loop-left.left _ _ (attempt_of c.loop-left.so_far) (attempt_of c.in-Ok.built) _ c.loop-left-test.true c.taken-item.ensures.left c.taken-item.ensures.value c.in-Ok.ensures;
+pub loop-left-preserved-in_ok-so_far-2 : goal.loop-left-preserved-in_ok-so_far-2
+loop-left-preserved-in_ok-so_far-2 c = record {
+  value = c.loop-left.invariant.value ∙ joined_goes_on c.args.operation c.loop-left.left _ _ (attempt_of c.loop-left.so_far) _ _ c.loop-left-test.true c.taken-item.ensures.left c.taken-item.ensures.value c.in_ok-so_far-2.ensures;
   left = c.loop-left.invariant.left ∙ drop_goes_on c.loop-left.left _ _ c.loop-left-test.true c.taken-item.ensures.left;
 }
 
 pub loop-left-preserved : goal.loop-left-preserved
 loop-left-preserved c = record {
-  value = c.loop-left.invariant.value ∙ joined_goes_on c.args.operation c.loop-left.left _ _ (attempt_of c.loop-left.so_far) (attempt_of c.in-Ok.built) _ c.loop-left-test.true c.taken-item.ensures.left c.taken-item.ensures.value c.in-Ok.ensures;
+  value = c.loop-left.invariant.value ∙ joined_goes_on c.args.operation c.loop-left.left _ _ (attempt_of c.loop-left.so_far) _ _ c.loop-left-test.true c.taken-item.ensures.left c.taken-item.ensures.value c.in_ok-so_far-2.ensures;
   left = c.loop-left.invariant.left ∙ drop_goes_on c.loop-left.left _ _ c.loop-left-test.true c.taken-item.ensures.left;
 }

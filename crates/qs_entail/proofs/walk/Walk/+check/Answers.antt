@@ -12,20 +12,22 @@ use Rattle.qs_entail.specs.View.{cert_tree, fact_tree, known_view}
 use Rattle.qs_entail.specs.Walking.{place, cut, Says}
 use Rattle.qs_entail.proofs.walk.Walk.+check.Goals as goal
 
-pub check_rest-returns-in-Err : goal.check_rest-returns-in-Err
-check_rest-returns-in-Err t c =
-    let h = rw (c.deref.ensures, c.view-middle.ensures) at c.in-Err.ensures in
+pub check_rest-returns-in_err-check_part-in-Via : goal.check_rest-returns-in_err-check_part-in-Via
+check_rest-returns-in_err-check_part-in-Via t c =
+    let p = err_from_is_err_and c.from_residual.result c.from_residual.ensures.1 in
+    let h = rw (c.deref.ensures, c.view-middle.ensures) at c.in_err-check_part-in-Via.ensures in
     let e = ap cert_tree c.in-Via.is ∙ via_of c.in-Via.r c.in-Via.c c.in-Via.d in
-    subst (λ z. Says (place c.args.self.now) (place c.check_part.new.self) (Err c.in-Err.e) (rest z c.args.defines.now (known_view c.args.self.now.known) c.args.p.now c.args.q.now)) (sym e)
-    (both_err (place c.args.self.now) (place c.check_part.new.self) c.in-Err.e _ _ h)
+    rw (p.1, p.2)
+    (subst (λ z. Says (place c.args.self.now) (place c.check_part.new.self) (Err c.in_err-check_part-in-Via.field-0.0) (rest z c.args.defines.now (known_view c.args.self.now.known) c.args.p.now c.args.q.now)) (sym e)
+    (both_err (place c.args.self.now) (place c.check_part.new.self) c.in_err-check_part-in-Via.field-0.0 _ _ h))
 
-pub check_rest-returns-in-Ok : goal.check_rest-returns-in-Ok
-check_rest-returns-in-Ok t c =
-    let h = rw (c.deref.ensures, c.view-middle.ensures) at c.in-Ok.ensures in
-    let k = rw (c.deref-in-Ok.ensures, c.view-middle.ensures) at c.check_part-in-Ok.ensures in
+pub check_rest-returns-in_ok-check_part-in-Via : goal.check_rest-returns-in_ok-check_part-in-Via
+check_rest-returns-in_ok-check_part-in-Via t c =
+    let h = rw (c.deref.ensures, c.view-middle.ensures) at c.in_ok-check_part-in-Via.ensures in
+    let k = rw (c.deref-in-Via.ensures, c.view-middle.ensures) at c.check_part-in-Via.ensures in
     let e = ap cert_tree c.in-Via.is ∙ via_of c.in-Via.r c.in-Via.c c.in-Via.d in
-    subst (λ z. Says (place c.args.self.now) (place c.check_part-in-Ok.new.self) c.check_part-in-Ok.result (rest z c.args.defines.now (known_view c.args.self.now.known) c.args.p.now c.args.q.now)) (sym e)
-    (via_ok (place c.args.self.now) (place c.check_part.new.self) (place c.check_part-in-Ok.new.self) tt c.check_part-in-Ok.result (part 0 (fault (cert_tree c.in-Via.c.value) c.args.defines.now (known_view c.args.self.now.known) c.args.p.now c.in-Via.r)) (λ k. part 1 (fault (cert_tree c.in-Via.d.value) c.args.defines.now k c.in-Via.r c.args.q.now)) h k)
+    subst (λ z. Says (place c.args.self.now) (place c.check_part-in-Via.new.self) c.check_part-in-Via.result (rest z c.args.defines.now (known_view c.args.self.now.known) c.args.p.now c.args.q.now)) (sym e)
+    (via_ok (place c.args.self.now) (place c.check_part.new.self) (place c.check_part-in-Via.new.self) tt c.check_part-in-Via.result (part 0 (fault (cert_tree c.in-Via.c.value) c.args.defines.now (known_view c.args.self.now.known) c.args.p.now c.in-Via.r)) (λ k. part 1 (fault (cert_tree c.in-Via.d.value) c.args.defines.now k c.in-Via.r c.args.q.now)) h k)
 
 pub check_rest-returns-in_ok-check_first-in-Split : goal.check_rest-returns-in_ok-check_first-in-Split
 check_rest-returns-in_ok-check_first-in-Split t c =
@@ -54,7 +56,7 @@ check_rest-returns-in_ok-check_contradiction-in-DropGuard t c =
 
 pub check_rest-returns-in_err-check_contradiction-in-DropGuard : goal.check_rest-returns-in_err-check_contradiction-in-DropGuard
 check_rest-returns-in_err-check_contradiction-in-DropGuard t c =
-    let p = err_from_is_err_and c.from_residual.result c.from_residual.ensures.1 in
+    let p = err_from_is_err_and c.from_residual-in_err-check_contradiction-in-DropGuard.result c.from_residual-in_err-check_contradiction-in-DropGuard.ensures.1 in
     let h = rw c.deref-in-DropGuard.ensures at c.in_err-check_contradiction-in-DropGuard.ensures in
     let e = ap cert_tree c.in-DropGuard.is ∙ drop_of c.in-DropGuard.c c.in-DropGuard.d in
     rw (p.1, p.2)
@@ -67,10 +69,10 @@ check_fact-returns-in-Ok t c =
 
 pub check_each-loop-i-preserved : goal.check_each-loop-i-preserved
 check_each-loop-i-preserved t c =
-    let r = each_goes_on (place c.args.self.now) (place c.loop-i.self) (place c.check_part.new.self) tt c.args.certificates.now c.loop-i.rest c.in-Some.others c.loop-i.i c.index-certificates-i.result c.in-Some.member c.args.defines.now c.args.p.now _ c.loop-i.invariant.back (omega arith) c.index-certificates-i.is c.in-Some.ensures c.in-Ok.ensures c.loop-i.invariant.rest in
+    let r = each_goes_on (place c.args.self.now) (place c.loop-i.self) (place c.check_part.new.self) tt c.args.certificates.now c.loop-i.rest c.in-Some.others c.loop-i.i c.index-certificates-i.result c.in-Some.member c.args.defines.now c.args.p.now _ c.loop-i.invariant.back (omega arith) c.index-certificates-i.is c.in-Some.ensures c.in_ok-check_part.ensures c.loop-i.invariant.rest in
     record { back = r.0; rest = r.1 }
 
 pub check_pairs-loop-i-preserved : goal.check_pairs-loop-i-preserved
 check_pairs-loop-i-preserved t c =
-    let r = pair_goes_on (place c.args.self.now) (place c.loop-i.self) (place c.check_part.new.self) tt c.args.certificates.now c.loop-i.lefts c.loop-i.rights c.in-Some.other_lefts c.in-Some-split_first.other_rights c.loop-i.i c.index-certificates-i.result c.in-Some.p c.in-Some-split_first.q c.args.defines.now _ c.loop-i.invariant.back (omega arith) c.index-certificates-i.is c.in-Some.ensures c.in-Some-split_first.ensures c.in-Ok.ensures c.loop-i.invariant.rest in
+    let r = pair_goes_on (place c.args.self.now) (place c.loop-i.self) (place c.check_part.new.self) tt c.args.certificates.now c.loop-i.lefts c.loop-i.rights c.in-Some.other_lefts c.in-Some-split_first.other_rights c.loop-i.i c.index-certificates-i.result c.in-Some.p c.in-Some-split_first.q c.args.defines.now _ c.loop-i.invariant.back (omega arith) c.index-certificates-i.is c.in-Some.ensures c.in-Some-split_first.ensures c.in_ok-check_part.ensures c.loop-i.invariant.rest in
     record { back = r.0; rest = r.1 }

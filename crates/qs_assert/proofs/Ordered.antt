@@ -1,6 +1,6 @@
 -- Which names the nodes of an assertion have, and how definitions are gone through in order.
-use Rattle.std.proofs.Common.{◌≡◌, ◌<◌, ◌≤◌, ℕ, suc, ◌+◌, take, drop, length, get_or, refl, ap, sym, ◌∙◌, Bool, true, false, List, [], ◌∷◌, ◌++◌, map, add-one, arith}
-use Rattle.std.specs.Prelude.{◌&&◌, if◌then◌else◌, Option, Some, None}
+use Rattle.std.proofs.Common.{◌≡◌, ◌<◌, ◌≤◌, ℕ, zero, suc, ◌+◌, ◌-◌, take, drop, length, get_or, refl, ap, sym, ◌∙◌, Bool, true, false, List, [], ◌∷◌, ◌++◌, map, add-one, arith}
+use Rattle.std.specs.Prelude.{◌&&◌, ◌||◌, if◌then◌else◌, Option, Some, None}
 use Rattle.std.specs.List.{list_all}
 use Rattle.std.proofs.lemmas.List.Folds.{list_all-append}
 use Rattle.std.proofs.Math.Seq.{take-suc, drop-cons}
@@ -11,6 +11,7 @@ use Rattle.qs_assert.specs.declared.node.TermNode.{TermNode}
 use Rattle.qs_assert.specs.declared.node.Node.{Node}
 use Rattle.qs_assert.specs.declared.node.Node.TheVariants.{Term}
 use Rattle.qs_assert.specs.Trees.{CondTree, le, lt, eq, ne, not, and, or, CondTrees, no_conds, cond_and, AssertionTree, natural, infinity, cost, num, total, greatest, product, guard, choose, named, AssertionTrees, no_assertions, assertion_and}
+use Rattle.qs_assert.specs.Bounds.{same_name}
 use Rattle.qs_assert.specs.Listing.{term_nodes, inner_term, cond_nodes, conds_nodes, assertion_nodes, assertions_nodes}
 use Rattle.qs_assert.specs.Order.{names_known, all_names_known, is_among, order_fault_behind, node_known}
 
@@ -60,6 +61,31 @@ mutual
   all_nodes_known known no_assertions = refl
   all_nodes_known known (assertion_and a parts) =
       both known (assertion_nodes a) (assertions_nodes parts) (names_known a known) (all_names_known parts known) (nodes_known known a) (all_nodes_known known parts)
+
+-- ---- a name that is sought from both ends
+
+none_of : (b c d : Bool) → (b || c) ≡ false → (c ≡ false → d ≡ false) → (b || d) ≡ false
+none_of true c d h k = h
+none_of false c d h k = k h
+
+-- it is not the name before those behind
+pub before_behind : (ds : List Define) (n : List ℕ) (k : ℕ) (d : Define) → k < length ds → same_name n (get_or ds (length ds - 1 - k) d).name ≡ false → is_among (drop (length ds - k) ds) n ≡ false → is_among (drop (length ds - (k + 1)) ds) n ≡ false
+before_behind ds n k d h e back =
+    let at : length ds - (k + 1) ≡ length ds - 1 - k = omega (arith, h) in
+    let next : length ds - k ≡ suc (length ds - 1 - k) = omega (arith, h) in
+    let low : length ds - 1 - k < length ds = omega (arith, h) in
+    ap (λ (j : ℕ). is_among (drop j ds) n) at
+    ∙ (ap (λ (l : List Define). is_among l n) (drop-cons ds (length ds - 1 - k) d low)
+    ∙ (ap (λ b. b || is_among (drop (suc (length ds - 1 - k)) ds) n) e
+    ∙ (ap (λ (j : ℕ). is_among (drop j ds) n) (sym next) ∙ back)))
+
+-- where the ends meet, it is none
+pub neither_end : (ds : List Define) (n : List ℕ) (i j : ℕ) → j ≤ i → is_among (take i ds) n ≡ false → is_among (drop j ds) n ≡ false → is_among ds n ≡ false
+neither_end [] n i j h front back = refl
+neither_end (d ∷ ds) n i zero h front back = back
+neither_end (d ∷ ds) n zero (suc j) h front back = absurd (omega (arith, h))
+neither_end (d ∷ ds) n (suc i) (suc j) h front back =
+    none_of (same_name n d.name) (is_among (take i ds) n) (is_among ds n) front (λ f. neither_end ds n i j (omega (arith, h)) f back)
 
 -- ---- definitions
 

@@ -8,11 +8,12 @@ use crate::{Assertion, AssertionNode, Define, Node};
 use qs_base::Name;
 
 // Sought from both ends, as a definition mostly names the one before it or one of the first.
+#[tactic(auto, using(crate::proofs::Ordered::before_behind, crate::proofs::Ordered::neither_end))]
 fn is_among(defines: &[Define], name: &Name) -> bool
     ensures { result ≡ is_among defines.now name.now }
 {
     let count = defines.len();
-    for k in 0..count {
+    for k in 0..count.div_ceil(2) {
         if *name == defines[k].name || *name == defines[count - 1 - k].name {
             return true;
         }

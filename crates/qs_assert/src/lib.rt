@@ -1,9 +1,6 @@
 //! Terms, conditions and assertions of derivations: their trees, substitution, and their values.
 #![tactic(auto)]
 
-ghost use Rattle.qs_assert.specs.Laws.{ImagesGiveValues, PartsAreOfTheirVariables};
-ghost use Rattle.qs_assert.specs.Variables.{IsOfItsVariables};
-
 mod amounts;
 mod assertions;
 mod bound;
@@ -11,6 +8,7 @@ mod conditions;
 mod define;
 mod evaluation;
 mod images;
+mod laws;
 mod listing;
 mod node;
 mod numbers;
@@ -30,6 +28,7 @@ mod views;
 pub use bound::{bound_of, value_at};
 pub use define::{Amount, Define};
 pub use images::{Image, Others, Substituted, substitute, substitute_all};
+pub use laws::{images_give_values, parts_are_of_their_variables, values_are_of_their_variables};
 pub use listing::{put_nodes, put_term};
 pub use node::{AssertionNode, CondNode, Node, TermNode};
 pub use order::order_fault;
@@ -40,19 +39,3 @@ pub use variables::mentions;
 pub use views::{
     AssertionView, AssertionViews, CondView, begins, head_arity, parts, split_tree, tree_length,
 };
-
-/// An assertion has the same value where the variables that it mentions have the same numbers.
-pub fn values_are_of_their_variables()
-    ensures { IsOfItsVariables }
-{}
-
-/// A term has the same number, and a condition holds alike, where their variables have the same numbers.
-pub fn parts_are_of_their_variables()
-    ensures { PartsAreOfTheirVariables }
-{}
-
-/// What has its variables replaced by images has the value that it had where each variable has the number of
-/// its image.
-pub fn images_give_values()
-    ensures { ImagesGiveValues }
-{}

@@ -1,9 +1,6 @@
 //! Certificates that one assertion is at least another: which are valid, and that these are sound.
 #![tactic(auto)]
 
-ghost use Rattle.qs_entail.specs.Laws.{RootIsANode};
-ghost use Rattle.qs_entail.specs.Meaning.{IsSound};
-
 mod branches;
 mod building;
 mod certificate;
@@ -15,6 +12,7 @@ mod flattening;
 mod fronts;
 mod item;
 mod known;
+mod laws;
 mod nodes;
 mod operation;
 mod outlining;
@@ -33,18 +31,7 @@ mod walk;
 pub use certificate::{Certificate, Fact};
 pub use fault::{CertFault, Rule};
 pub use item::Item;
+pub use laws::{certificates_are_sound, the_root_is_a_node};
 pub use stop::Limit;
 use stop::Stop;
 pub use verdict::check;
-
-/// A certificate without a fault shows that under the hypotheses P is at least Q, for all costs and in each
-/// state.
-pub fn certificates_are_sound()
-    ensures { IsSound }
-{}
-
-/// The root of a certificate is a node like the others: where the hypotheses pass no limit, the verdict is the
-/// first fault under what they push.
-pub fn the_root_is_a_node()
-    ensures { RootIsANode }
-{}

@@ -1,5 +1,5 @@
 use Rattle.qs_entail.proofs.Sound.{certificates_are_sound}
-use Rattle.qs_entail.proofs.certificates_are_sound.Goals as goal
+use Rattle.qs_entail.proofs.laws.certificates_are_sound.Goals as goal
 
 pub returns : goal.returns
 returns c = certificates_are_sound

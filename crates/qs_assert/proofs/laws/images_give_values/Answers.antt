@@ -1,5 +1,5 @@
 use Rattle.qs_assert.proofs.Moved.{images_give_values}
-use Rattle.qs_assert.proofs.images_give_values.Goals as goal
+use Rattle.qs_assert.proofs.laws.images_give_values.Goals as goal
 
 pub returns : goal.returns
 returns c = images_give_values

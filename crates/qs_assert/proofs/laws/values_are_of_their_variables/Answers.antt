@@ -1,5 +1,5 @@
 use Rattle.qs_assert.proofs.Variabled.{of_its_variables}
-use Rattle.qs_assert.proofs.values_are_of_their_variables.Goals as goal
+use Rattle.qs_assert.proofs.laws.values_are_of_their_variables.Goals as goal
 
 pub returns : goal.returns
 returns c = of_its_variables

@@ -1,4 +1,5 @@
-// Trees that are read where they stand: the trees in a list of nodes, each node before those of its parts.
+// Trees that are read where they stand: the trees in a
+// list of nodes, each node before those of its parts.
 ghost use Rattle.std.specs.Prelude.{◌≡◌, ◌≤◌, ◌↔◌, ◌∷◌, [], IsTrue, IfOk, MatchOption, length, take, drop};
 ghost use Rattle.qs_assert.specs.Trees.{CondTree, AssertionTree, AssertionTrees, assertion_list};
 ghost use Rattle.qs_assert.specs.Listing.{cond_nodes, assertion_nodes, assertions_nodes};
@@ -109,7 +110,8 @@ impl<'a> Model for AssertionView<'a> {
     ghost invariant = { λ a. a.nodes.now ≡ assertion_nodes (assertion_of a.nodes.now) };
 }
 
-/// Assertions one after another in a list of nodes that others hold. Contracts see them as a list of trees.
+/// Assertions one after another in a list of nodes that
+/// others hold. Contracts see them as a list of trees.
 #[derive(Debug, Drop)]
 pub struct AssertionViews<'a> {
     nodes: &'a [Node],

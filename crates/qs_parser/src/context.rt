@@ -3,8 +3,8 @@ ghost use Rattle.std.specs.Prelude.{◌≡◌, ◌<◌, ◌-◌};
 
 use std::alloc::Global;
 
-/// What the reading of a part is given: where memory comes from, and how many levels are left for it, from 0
-/// to the limit of the height.
+/// What the reading of a part is given: where memory comes from, and how many levels are left for
+/// it, from 0 to the limit of the height.
 #[derive(Clone, Copy)]
 pub struct Context {
     /// Where memory comes from.

@@ -104,7 +104,7 @@ pub enum ProofFileText {
     BadNumber,
     /// A list stands in too many lists.
     TooDeep,
-    /// A name is defined twice, or a function has two lists.
+    /// A name is defined twice or is that of an open function, or a function has two lists.
     Duplicate,
     /// A function that is named has no body.
     NoSuchFunction,

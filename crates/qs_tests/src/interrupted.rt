@@ -1,4 +1,5 @@
-// Calls of the system that are interrupted: they are tried again, and each byte is moved once. The files are real.
+// Calls of the system that are interrupted: they are tried
+// again, and each byte is moved once. The files are real.
 ghost use Rattle.std.specs.Prelude.{◌≤◌, IfOk};
 
 use qs_ports::{DirStore, ReadFault, StdSink, put_all, read_whole, write_whole};
@@ -12,8 +13,8 @@ use std::test::Fail;
 
 const TEXT: &[u8] = b"eleven byte";
 
-// So many interruptions come before each call that moves bytes; such a call moves at most so many; and after so many of
-// them nothing comes but interruptions.
+// So many interruptions come before each call that moves bytes; such a call moves at most so many;
+// and after so many of them nothing comes but interruptions.
 #[derive(Clone, Copy)]
 struct Plan {
     interruptions: u32,
@@ -152,8 +153,8 @@ impl<'c, R: Files> Files for HaltingSystem<'c, R> {
     }
 }
 
-// The plans; for each how many calls write the text and what is written so, and how many calls read it to its end, or
-// until they fail. A call is tried 1,000 times.
+// The plans; for each how many calls write the text and what is written so, and how many calls read
+// it to its end, or until they fail. A call is tried 1,000 times.
 const PLANS: [((u32, usize, u32), (u32, &[u8]), (u32, bool)); 6] = [
     ((0, 3, 9), (4, TEXT), (5, true)),
     ((5, 3, 9), (24, TEXT), (30, true)),

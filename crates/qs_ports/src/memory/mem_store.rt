@@ -7,8 +7,9 @@ use crate::{Store, StoreFault};
 use qs_base::NoMemory;
 use std::alloc::Global;
 
-/// A store in memory that fails exactly at listed calls, and moves at most a chunk of bytes at each other call of `read`
-/// and `write`. It tells its files while its room is enough for what is created and written; a small room is no failure.
+/// A store in memory that fails exactly at listed calls, and moves at most a chunk of bytes at each
+/// other call of `read` and `write`. It tells its files while its room is enough for what is
+/// created and written; a small room is no failure.
 #[derive(Drop)]
 pub struct MemStore {
     shelf: Shelf,
@@ -24,10 +25,11 @@ impl MemStore {
     ghost use Rattle.qs_ports.specs.Memory.{IsNewStore, files_in};
     ghost use Rattle.qs_ports.specs.MemStore.{mem_store_of, IsPlanned};
 
-    /// A store with these files, of which the later one of a name counts, and with `room` bytes for what is created and
-    /// written; a file that is created takes the bytes of its name and `FILE_ROOM` more. A call moves at most `chunk`
-    /// bytes, 1 or more. The calls in `failing` fail: each pair is a kind of call and the number of the call among those
-    /// of its kind, from 0.
+    /// A store with these files, of which the later one of a name counts, and
+    /// with `room` bytes for what is created and written; a file that is created
+    /// takes the bytes of its name and `FILE_ROOM` more. A call moves at most
+    /// `chunk` bytes, 1 or more. The calls in `failing` fail: each pair is a
+    /// kind of call and the number of the call among those of its kind, from 0.
     pub fn new(
         alloc: Global,
         files: Vec<(String, Vec<u8>)>,

@@ -8,14 +8,16 @@ use crate::memory::span::Span;
 use qs_base::NoMemory;
 use std::alloc::Global;
 
-/// What a file takes of the room beside its name and its content, in bytes: as much as the place where it is noted.
+/// What a file takes of the room beside its name and its
+/// content, in bytes: as much as the place where it is noted.
 pub const FILE_ROOM: usize = 24;
 
 const _: () = prove!(size_of::<Span>() <= FILE_ROOM);
 
-/// Files in memory. To create a file or to append to it takes no memory: names and contents lie, one after the other, in
-/// room that was reserved before. Where that is too small, the shelf is `full`, and doesn't tell its files from then on.
-/// The file that is open for writing is the newest one.
+/// Files in memory. To create a file or to append to it takes no memory:
+/// names and contents lie, one after the other, in room that was reserved
+/// before. Where that is too small, the shelf is `full`, and doesn't tell its
+/// files from then on. The file that is open for writing is the newest one.
 #[derive(Drop)]
 pub struct Shelf {
     pub bytes: Vec<u8>,
@@ -73,8 +75,8 @@ impl Shelf {
         })
     }
 
-    /// Has room for at least so many bytes more. Each file that is created uses `FILE_ROOM` of them at least, so that
-    /// the places that are reserved for files take no more memory than the bytes.
+    /// Has room for at least so many bytes more. Each file that is created uses `FILE_ROOM` of them
+    /// at least, so that the places that are reserved for files take no more memory than the bytes.
     pub fn reserve(&mut self, bytes: usize) -> Result<(), NoMemory>
         ensures reserved { OnOk result ((faults misses : ℕ) →
             shelf_view self.new faults misses ≡ with_store_room (shelf_view self.old faults misses) bytes) }

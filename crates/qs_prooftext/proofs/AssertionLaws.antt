@@ -1,5 +1,5 @@
 -- Steps of the walk over an assertion.
-use Rattle.std.proofs.Common.{arith, ◌≡◌, ◌⊎◌, inl, inr, ℕ, zero, suc, ◌<◌, ℤ, pos, negsuc, option_map, ◌+◌, ◌-◌, ◌==◌, Bool, true, false, List, [], ◌∷◌, ◌++◌, length, map, reverse, drop, if◌then◌else◌, Option, Some, None, is_some, Result, Ok, Err, refl, sym, ap, ◌∙◌, append_assoc, subst, length-append}
+use Rattle.std.proofs.Common.{arith, ◌≡◌, ◌⊎◌, inl, inr, ℕ, zero, suc, ◌<◌, ℤ, pos, negsuc, option_map, ◌+◌, ◌-◌, ◌==◌, Bool, true, false, List, [], ◌∷◌, ◌++◌, length, reverse, drop, if◌then◌else◌, Option, Some, None, is_some, Result, Ok, Err, refl, sym, ap, ◌∙◌, append_assoc, subst, length-append}
 use Rattle.std.proofs.lemmas.List.{append-nil, reverse-append, length-replicate, length-reverse}
 use Rattle.std.specs.Option.{option_to_list}
 use Rattle.std.specs.Borrow.{Bor}
@@ -8,7 +8,6 @@ use Rattle.qs_base.specs.Results.{bind}
 use Rattle.qs_memory.specs.Partial.{◌>>=◌}
 use Rattle.qs_assert.specs.Listing.{inner_term, assertion_nodes}
 use Rattle.qs_assert.specs.Trees as trees
-use Rattle.qs_assert.specs.Trees.{TermTree}
 use Rattle.qs_assert.specs.declared.node.Node.TheVariants as nodes
 use Rattle.qs_assert.specs.declared.node.Node.{Node as AssertNode}
 use Rattle.qs_assert.specs.declared.variable.Var.{Var}

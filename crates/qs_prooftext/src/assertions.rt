@@ -4,10 +4,9 @@ ghost use Rattle.std.specs.Option.{option_to_list};
 ghost use Rattle.qs_assert.specs.declared.node.Node.{Node as AssertNode};
 ghost use Rattle.qs_prooftext.specs.Answers.{Gives, Stands, StandAll};
 ghost use Rattle.qs_prooftext.specs.Contexts.{setting_of};
-ghost use Rattle.qs_prooftext.specs.Flattening.{flat, kind_of, sorts, IsDivisor};
+ghost use Rattle.qs_prooftext.specs.Flattening.{flat, sorts};
 ghost use Rattle.qs_prooftext.specs.Kinds.{a_condition, a_definition_body, a_term, an_assertion};
 ghost use Rattle.qs_prooftext.specs.Meanings.{Answer, means};
-ghost use Rattle.qs_prooftext.specs.Settings.{Setting};
 ghost use Rattle.qs_prooftext.specs.Walking.{Goes, GivesOpened, HasParts, Remains, function_flat, known_flat, name_flat, natural_flat, nodes_in, number_flat, symbol_flat, variable_flat};
 ghost use Rattle.qs_sexpr.specs.Trees.{Sexp, Sexps, list, number, part_and, symbol};
 
@@ -296,6 +295,5 @@ pub fn read_term(
     ensures { (s : Sexp) → Stands context.entry.text.now nodes.now s → Gives (λ t. t) (means (setting_of context.entry) a_term s) result }
 {
     let read = read_nodes(alloc, context, Sort::Term, nodes)?;
-    let term = Term::from_inner(alloc, &read)?;
-    Ok(term)
+    Ok(Term::from_inner(alloc, &read)?)
 }

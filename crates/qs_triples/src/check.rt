@@ -19,8 +19,8 @@ use qs_base::FnId;
 use qs_core::{CoreFunction, CoreUnit};
 use std::alloc::Global;
 
-/// Checks that each definition mentions only names that are defined earlier. `BadOrder` is the first that doesn't; no other
-/// fault comes, since this takes no memory.
+/// Checks that each definition mentions only names that are defined earlier. `BadOrder` is the
+/// first that doesn't; no other fault comes, since this takes no memory.
 pub fn defines_in_order(proofs: &Proofs) -> Result<(), DerivFault>
     ensures { TellsOrder result (order.order_fault proofs.now.defines.items) }
 {
@@ -81,7 +81,7 @@ fn check_found(
     }
 }
 
-// Checks the first entry of a function, where the first definition that is out of order is known.
+// The first entry of a function, where this is the first definition out of order, if there is one.
 fn check_first(
     alloc: Global,
     unit: &CoreUnit,
@@ -101,9 +101,10 @@ fn check_first(
 
 /// Checks that the first entry of a function is derived.
 ///
-/// Otherwise it answers the first fault in the order of search: the definitions, what the precondition and
-/// then the postcondition mention, the body, the precondition's certificate. For a number that is no function of the unit, and a
-/// function without an entry, it answers `Shape` at the body.
+/// Otherwise it answers the first fault in the order of search: the
+/// definitions, what the precondition and then the postcondition mention, the
+/// body, the precondition's certificate. For a number that is no function of
+/// the unit, and a function without an entry, it answers `Shape` at the body.
 #[tactic(auto, using(crate::proofs::EntryLaws::tells_derived))]
 pub fn check_function(
     alloc: Global,
@@ -119,8 +120,8 @@ pub fn check_function(
     check_first(alloc, unit, f, proofs, order_fault(&proofs.defines))
 }
 
-/// Checks that the first entry of a function is derived, as `check_function` does, where it is known that the definitions
-/// are in order: for many functions they are gone through once.
+/// Checks that the first entry of a function is derived, as `check_function` does, where it is
+/// known that the definitions are in order: for many functions they are gone through once.
 #[tactic(auto, using(crate::proofs::EntryLaws::tells_derived))]
 pub fn check_in_order(
     alloc: Global,

@@ -1,5 +1,5 @@
 // Which variables an assertion may mention.
-ghost use Rattle.std.specs.Prelude.{◌≡◌, IfOk, not, option_map};
+ghost use Rattle.std.specs.Prelude.{◌≡◌, IfOk, not};
 ghost use Rattle.std.specs.List.{find};
 ghost use Rattle.qs_assert.specs.Variables.{variables};
 ghost use Rattle.qs_core.specs.Interfaces as interfaces;

@@ -14,7 +14,7 @@ from_inner-requires c =
 pub returns : goal.returns
 returns c = λ s h.
     let m = meant (setting_of c.args.context) Term s c.in_ok-read.read.items (c.in_ok-read.ensures s h) in
-    m.is_due ∙ ap (λ (a : TermTree). Ok a) (sym (c.in_ok-term.ensures m.value (c.deref.ensures.value ∙ m.nodes_are)))
+    m.is_due ∙ ap (λ (a : TermTree). Ok a) (sym (c.in_ok-from_inner.ensures m.value (c.deref.ensures.value ∙ m.nodes_are)))
 
 pub returns-in_err-read : goal.returns-in_err-read
 returns-in_err-read c = λ s h.

@@ -1,4 +1,5 @@
 mod Examples
+mod ViewExamples
 pub mod Agreement
 pub mod BitLengths
 pub mod Evaluated

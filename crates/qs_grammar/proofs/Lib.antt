@@ -36,3 +36,4 @@ pub mod StatementsViable
 pub mod UnitsViable
 pub mod Exact
 pub mod BeginsExamples
+mod StopsExamples

@@ -98,7 +98,7 @@ pub fn written(alloc: Global, f: Needs<'_>, s: &CoreStmt) -> Result<Derivation, 
         CoreStmt::Seq(ss) => Ok(Derivation::Sequence(all_written(alloc, f, ss)?)),
         CoreStmt::Assign(_, _) => Ok(Derivation::Leaf),
         CoreStmt::Store(_, _, _) => Ok(Derivation::Leaf),
-        CoreStmt::Copy(_, _, _, _) => Ok(Derivation::Leaf),
+        CoreStmt::Copy { .. } => Ok(Derivation::Leaf),
         CoreStmt::Fill(_, _) => Ok(Derivation::Leaf),
         CoreStmt::Call(_, callee, _) => written_call(alloc, f, *callee),
         CoreStmt::If(_, first, second) => {

@@ -43,7 +43,7 @@ fn mark_callees(marks: &mut [bool], s: &CoreStmt)
         CoreStmt::Seq(ss) => mark_all_callees(marks, ss),
         CoreStmt::Assign(_, _) => {}
         CoreStmt::Store(_, _, _) => {}
-        CoreStmt::Copy(_, _, _, _) => {}
+        CoreStmt::Copy { .. } => {}
         CoreStmt::Fill(_, _) => {}
         CoreStmt::Call(_, callee, _) => mark_callee(marks, *callee),
         CoreStmt::If(_, first, second) => {

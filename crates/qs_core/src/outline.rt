@@ -291,7 +291,7 @@ fn put_stmt(
         }
         CoreStmt::Assign(x, e) => put_assign(alloc, out, f, path, *x, e),
         CoreStmt::Store(_, _, _) => put_line(out, path, b"store"),
-        CoreStmt::Copy(_, _, _, _) => put_line(out, path, b"copy"),
+        CoreStmt::Copy { .. } => put_line(out, path, b"copy"),
         CoreStmt::Fill(_, _) => put_line(out, path, b"fill"),
         CoreStmt::Call(x, g, es) => put_call(alloc, out, functions, f, path, *x, *g, es),
         CoreStmt::If(e, a, b) => {

@@ -18,7 +18,12 @@ pub enum CoreStmt {
     Store(Scalar, CoreExpr, CoreExpr),
     /// copies so many bytes, aligned like this, to where the first points to, from where the second
     /// does
-    Copy(u32, u32, CoreExpr, CoreExpr),
+    Copy {
+        size: u32,
+        alignment: u32,
+        to: CoreExpr,
+        from: CoreExpr,
+    },
     /// fills the object that the pointer points to
     Fill(Blank, CoreExpr),
     /// calls with these arguments, and puts the result into this temporary
@@ -44,7 +49,7 @@ impl Drop for CoreStmt {
             CoreStmt::Seq(_) => {}
             CoreStmt::Assign(_, _) => {}
             CoreStmt::Store(_, _, _) => {}
-            CoreStmt::Copy(_, _, _, _) => {}
+            CoreStmt::Copy { .. } => {}
             CoreStmt::Fill(_, _) => {}
             CoreStmt::Call(_, _, _) => {}
             CoreStmt::If(_, _, _) => {}

@@ -431,7 +431,15 @@ pub fn effect(
         } => {
             let to = operand(to, alloc, out, ts, acts(from))?;
             let from = expression(from, alloc, out, ts)?;
-            push(out, CoreStmt::Copy(*size, *alignment, to, from))?;
+            push(
+                out,
+                CoreStmt::Copy {
+                    size: *size,
+                    alignment: *alignment,
+                    to,
+                    from,
+                },
+            )?;
             Ok(())
         }
         Effect::Fill(blank, e) => {

@@ -45,7 +45,13 @@ fn copy_plan(
 {
     let a = lowered(alloc, v, a)?;
     let b = lowered(alloc, v, b)?;
-    Ok(StmtPlan::Copy(free, size, alignment, a, b))
+    Ok(StmtPlan::Copy {
+        location: free,
+        size,
+        alignment,
+        to: a,
+        from: b,
+    })
 }
 
 fn call_plan(
@@ -90,7 +96,12 @@ fn stmt_plan(alloc: Global, v: u32, free: u32, s: &CoreStmt) -> Result<StmtPlan,
             Ok(StmtPlan::Assign(free, target_of(v, *x)?, e))
         }
         CoreStmt::Store(s, a, b) => store_plan(alloc, v, free, *s, a, b),
-        CoreStmt::Copy(size, alignment, a, b) => copy_plan(alloc, v, free, *size, *alignment, a, b),
+        CoreStmt::Copy {
+            size,
+            alignment,
+            to: a,
+            from: b,
+        } => copy_plan(alloc, v, free, *size, *alignment, a, b),
         CoreStmt::Fill(blank, a) => {
             let a = lowered(alloc, v, a)?;
             Ok(StmtPlan::Fill(free, blank.copy(alloc)?, a))

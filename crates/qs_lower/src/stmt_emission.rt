@@ -181,9 +181,13 @@ pub fn emit_stmt(
         }
         StmtPlan::PlainReturn => put(code, Instruction::Return(None)),
         StmtPlan::Store(t, s, p, e) => emit_store(code, *t, *s, p, e, x.next),
-        StmtPlan::Copy(t, size, alignment, p, q) => emit_copy(
-            code, *t, *size, *alignment, p, q, x.next,
-        ),
+        StmtPlan::Copy {
+            location: t,
+            size,
+            alignment,
+            to: p,
+            from: q,
+        } => emit_copy(code, *t, *size, *alignment, p, q, x.next),
         StmtPlan::Fill(t, blank, p) => emit_fill(alloc, code, *t, blank, p, x.next),
         StmtPlan::Call(t, y, f, es) => emit_call(alloc, code, *t, *y, *f, es, x.next),
     }

@@ -22,7 +22,13 @@ pub enum StmtPlan {
     /// stores, as this type, at the address, the value
     Store(u32, Scalar, ExprPlan, ExprPlan),
     /// copies so many bytes, aligned like this, to an address from another
-    Copy(u32, u32, u32, ExprPlan, ExprPlan),
+    Copy {
+        location: u32,
+        size: u32,
+        alignment: u32,
+        to: ExprPlan,
+        from: ExprPlan,
+    },
     /// fills the object at the address
     Fill(u32, Blank, ExprPlan),
     /// calls with these arguments, and puts the result into this temporary
@@ -94,7 +100,7 @@ impl Drop for StmtPlan {
             StmtPlan::Go(_) => {}
             StmtPlan::Assign(_, _, _) => {}
             StmtPlan::Store(_, _, _, _) => {}
-            StmtPlan::Copy(_, _, _, _, _) => {}
+            StmtPlan::Copy { .. } => {}
             StmtPlan::Fill(_, _, _) => {}
             StmtPlan::Call(_, _, _, _) => {}
             StmtPlan::Return(_, _) => {}
@@ -162,7 +168,7 @@ impl StmtPlan {
             StmtPlan::Redirected(_, _) => None,
             StmtPlan::Assign(_, _, _) => None,
             StmtPlan::Store(_, _, _, _) => None,
-            StmtPlan::Copy(_, _, _, _, _) => None,
+            StmtPlan::Copy { .. } => None,
             StmtPlan::Fill(_, _, _) => None,
             StmtPlan::Call(_, _, _, _) => None,
             StmtPlan::Return(_, _) => None,
@@ -185,7 +191,7 @@ impl StmtPlan {
             StmtPlan::Branch(p) => p.met.breaks() || p.unmet.breaks(),
             StmtPlan::Assign(_, _, _) => false,
             StmtPlan::Store(_, _, _, _) => false,
-            StmtPlan::Copy(_, _, _, _, _) => false,
+            StmtPlan::Copy { .. } => false,
             StmtPlan::Fill(_, _, _) => false,
             StmtPlan::Call(_, _, _, _) => false,
             StmtPlan::Return(_, _) => false,
@@ -210,7 +216,7 @@ impl StmtPlan {
             StmtPlan::PlainReturn => true,
             StmtPlan::Assign(_, _, _) => false,
             StmtPlan::Store(_, _, _, _) => false,
-            StmtPlan::Copy(_, _, _, _, _) => false,
+            StmtPlan::Copy { .. } => false,
             StmtPlan::Fill(_, _, _) => false,
             StmtPlan::Call(_, _, _, _) => false,
         }
@@ -227,7 +233,7 @@ impl StmtPlan {
             StmtPlan::Redirected(_, _) => None,
             StmtPlan::Assign(_, _, _) => None,
             StmtPlan::Store(_, _, _, _) => None,
-            StmtPlan::Copy(_, _, _, _, _) => None,
+            StmtPlan::Copy { .. } => None,
             StmtPlan::Fill(_, _, _) => None,
             StmtPlan::Call(_, _, _, _) => None,
             StmtPlan::Return(_, _) => None,
@@ -321,7 +327,7 @@ impl StmtPlan {
             StmtPlan::Redirected(_, _) => unreachable!(),
             StmtPlan::Assign(_, _, _) => unreachable!(),
             StmtPlan::Store(_, _, _, _) => unreachable!(),
-            StmtPlan::Copy(_, _, _, _, _) => unreachable!(),
+            StmtPlan::Copy { .. } => unreachable!(),
             StmtPlan::Fill(_, _, _) => unreachable!(),
             StmtPlan::Call(_, _, _, _) => unreachable!(),
             StmtPlan::Return(_, _) => unreachable!(),

@@ -35,7 +35,7 @@ pub fn stmt_used(s: &StmtPlan) -> Result<u32, NoMemory>
             let behind = sum(base_own(p)?, used_by(e)?)?;
             Ok(base_used(p)?.max(behind))
         }
-        StmtPlan::Copy(_, _, _, p, q) => {
+        StmtPlan::Copy { to: p, from: q, .. } => {
             let behind = sum(base_own(p)?, base_used(q)?)?;
             Ok(base_used(p)?.max(behind))
         }

@@ -79,7 +79,7 @@ fn is_return(s: &CoreStmt) -> bool
         CoreStmt::Seq(_) => false,
         CoreStmt::Assign(_, _) => false,
         CoreStmt::Store(_, _, _) => false,
-        CoreStmt::Copy(_, _, _, _) => false,
+        CoreStmt::Copy { .. } => false,
         CoreStmt::Fill(_, _) => false,
         CoreStmt::Call(_, _, _) => false,
         CoreStmt::If(_, _, _) => false,

@@ -6,7 +6,7 @@ ghost use Rattle.qs_types.specs.TypeOf.{type_tree};
 use crate::kinds::is_unsigned;
 use crate::types::CType;
 
-/// The type after the integer promotions (C11 6.3.1.1p2).
+/// The type of an operand of an integer type after the integer promotions (C11 6.3.1.1p2).
 pub fn promoted(t: &CType) -> CType
     ensures { type_tree result ≡ promoted (type_tree t.now) }
 {

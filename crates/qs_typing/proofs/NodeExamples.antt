@@ -54,6 +54,16 @@ file_name = refl
 hidden_name : unit_referents (numbered_unit (global bases.Int 97 one ∷ g (local bases.Char 97 one ∷ eval a ∷ []) ∷ [])) ≡ None ∷ None ∷ None ∷ None ∷ Some (referents.Local 2) ∷ []
 hidden_name = refl
 
+-- int a(void);void g(void){int a;a;}
+hidden_function : unit_referents (numbered_unit (header bases.Int (97 ∷ []) [] ∷ g (local bases.Int 97 one ∷ eval a ∷ []) ∷ []))
+    ≡ None ∷ None ∷ None ∷ None ∷ Some (referents.Local 2) ∷ []
+hidden_function = refl
+
+-- void a(void);void f(int a[3]){a;}
+hidden_by_parameter : unit_referents (numbered_unit (header bases.Void (97 ∷ []) [] ∷ with_parameter (eval a ∷ []) ∷ []))
+    ≡ None ∷ None ∷ None ∷ None ∷ None ∷ Some (referents.Local 2) ∷ []
+hidden_by_parameter = refl
+
 -- void g(void){int a;{char a;a;}a;}
 inner_name : unit_referents (numbered_unit (g (local bases.Int 97 one ∷ trees.block (stmts_of (local bases.Char 97 one ∷ eval a ∷ [])) ∷ eval a ∷ []) ∷ []))
     ≡ None ∷ None ∷ None ∷ None ∷ Some (referents.Local 2) ∷ None ∷ Some (referents.Local 1) ∷ []
@@ -62,6 +72,15 @@ inner_name = refl
 -- void g(void){putchar(1);}
 given_name : unit_referents (numbered_unit (g (eval (e (trees.call putchar_name (trees.exprs_of (number 1 ∷ [])))) ∷ []) ∷ [])) ≡ None ∷ None ∷ Some referents.PutChar ∷ None ∷ []
 given_name = refl
+
+-- int putchar(int);void g(void){putchar(1);}
+abbrev character : trees.ParameterTree
+character = record { node = unnumbered 0; type_name = record { base = bases.Int; stars = 0 }; name = None; lengths = one }
+
+-- the header hides what is given
+declared_name : unit_referents (numbered_unit (header bases.Int putchar_name (character ∷ []) ∷ g (eval (e (trees.call putchar_name (trees.exprs_of (number 1 ∷ [])))) ∷ []) ∷ []))
+    ≡ None ∷ None ∷ None ∷ None ∷ Some (referents.Function 0) ∷ None ∷ []
+declared_name = refl
 
 -- void g(void){int a;&a;}
 address : unit_addressed (numbered_unit (g (local bases.Int 97 one ∷ eval (e (trees.unary unaries.Address a)) ∷ []) ∷ [])) ≡ 1 ∷ []

@@ -1,4 +1,5 @@
--- The headers of a unit's functions, and that a function's name stands for the latest header before it (C11 6.2.1p7, 6.7.6.3p15).
+-- The headers of a unit's functions, and that a function's name stands for the latest header before it: a header is in scope
+-- from its end (C11 6.2.1p7), and later ones declare the same function (6.2.2p2) with a type that is compatible (6.2.7p4).
 use Rattle.std.specs.Prelude.{◌≡◌, ℕ, Bool, List, [], ◌∷◌, ◌++◌, Option, Some, None, if◌then◌else◌}
 use Rattle.qs_syntax.specs.Sameness.{same_bytes}
 use Rattle.qs_syntax.specs.Trees.{FunctionTree, structure, forward, function, variables, UnitTree}

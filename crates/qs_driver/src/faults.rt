@@ -97,7 +97,7 @@ fn placed_text(fault: TypeFault, pos: Pos) -> FaultText
     ensures { result ≡ placed_text fault pos }
 {
     match fault {
-        TypeFault::Rule(_, rule) => FaultText::Rule(pos, rule.number()),
+        TypeFault::Rule(_, rule) => FaultText::Rule(pos, rule),
         TypeFault::Limit(kind, _) => FaultText::Limit(pos, kind),
         TypeFault::NoMain => FaultText::NoMain,
         TypeFault::Undefined(_) => FaultText::NoBody(pos),

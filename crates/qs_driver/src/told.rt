@@ -87,11 +87,11 @@ fn certificate_told(fault: CertFault) -> Result<WrongStep, NoMemory>
         CertFault::NoMemory => Err(NoMemory),
         CertFault::Step(path, rule) => Ok(WrongStep {
             path: path_of(path),
-            text: ProofText::Step(rule.number()),
+            text: ProofText::Step(rule),
         }),
         CertFault::Limit(path, limit) => Ok(WrongStep {
             path: path_of(path),
-            text: ProofText::Limit(limit.number()),
+            text: ProofText::Limit(limit),
         }),
     }
 }

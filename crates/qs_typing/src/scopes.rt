@@ -8,8 +8,8 @@ use crate::entity::Binding;
 use indexmap::IndexMap;
 use qs_base::Name;
 
-/// The declarations in scope, in their order, and for each name the place of its latest one. A scope
-/// costs what is declared in it.
+/// The declarations in scope, in their order, and for each name the place of its latest one. A
+/// scope costs what is declared in it.
 #[derive(Drop)]
 pub struct Scopes {
     bindings: Vec<Binding>,

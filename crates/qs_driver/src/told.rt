@@ -2,7 +2,8 @@
 ghost use Rattle.std.specs.Prelude.{◌≡◌, ◌<◌, IfOk, length, List, Option, ℕ};
 ghost use Rattle.qs_core.specs.Trees.{CoreUnitTree};
 ghost use Rattle.qs_core.specs.UnitTrees.{unit_tree};
-ghost use Rattle.qs_driver.specs.Certified.{IsCertificateTold, IsEntryTold, IsMentionPlace, IsToldAs, TellsFault};
+ghost use Rattle.qs_driver.specs.Certified.{IsCertificateTold, IsEntryTold, IsMentionPlace};
+ghost use Rattle.qs_driver.specs.Certified.{IsToldAs, TellsFault};
 ghost use Rattle.qs_driver.specs.Told.{owner_of};
 ghost use Rattle.qs_certify.specs.Entries.{IsMet};
 ghost use Rattle.qs_certify.specs.declared.fault.CertifyFault.TheVariants as faults;

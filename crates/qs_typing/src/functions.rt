@@ -444,7 +444,7 @@ fn declare_function(
 
 // ---- bodies
 
-#[tactic(auto, using(crate::proofs::Ends::no_types))]
+#[tactic(auto, using(crate::proofs::Headers::no_types))]
 fn declare_parameters(
     alloc: Global,
     c: &mut Context,
@@ -461,7 +461,7 @@ fn declare_parameters(
     Ok(())
 }
 
-#[tactic(auto, using(crate::proofs::Ends::none_noted))]
+#[tactic(auto, using(crate::proofs::Headers::none_noted))]
 fn parameters_noted(
     alloc: Global,
     structs: &Env,

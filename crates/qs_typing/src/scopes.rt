@@ -16,6 +16,7 @@ pub struct Scopes {
     places: IndexMap<Name, Option<usize>>,
     start: usize,
     ghost within: { start ≤ length bindings.items },
-    ghost indexed: { (x : List ℕ) → latest_place places.entries x ≡ place_in x (newest_first bindings.items) },
+    ghost indexed: { (x : List ℕ) →
+        latest_place places.entries x ≡ place_in x (newest_first bindings.items) },
     ghost hiding: { hide_right (newest_first bindings.items) ≡ true },
 }

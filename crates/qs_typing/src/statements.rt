@@ -325,7 +325,8 @@ fn walk_for(
     walk: &mut Walk,
 ) -> Result<(), NoMemory>
     ensures context { OnOk result (context_tree c.new ≡ context_tree c.old) }
-    ensures walked { OnOk result (WalksFor c.old node start.now condition.now step.now body.now walk.old walk.new) }
+    ensures walked { OnOk result
+        (WalksFor c.old node start.now condition.now step.now body.now walk.old walk.new) }
 {
     walk.open()?;
     let around = c.enter_scope();

@@ -1,9 +1,10 @@
 -- What the code's values say, for its clauses.
-use Rattle.std.specs.Prelude.{◌≡◌, List, Bool, true, false, Option, Some, None, Result, Ok, Err, [], map, string_bytes, option_map}
+use Rattle.std.specs.Prelude.{◌≡◌, ℕ, List, Bool, true, false, Option, Some, None, Result, Ok, Err, IsErrOf, [], map, string_bytes, codes, option_map}
+use Rattle.std.specs.Borrow.{Bor}
 use Rattle.std.specs.declared.alloc.Global.{Global}
 use Rattle.std.specs.declared.string.String.{String}
-use Rattle.qs_cli.specs.Words.{Text, Word, Plain, Assigned, Named, Excluded, Options, Values}
-use Rattle.qs_cli.specs.Commands.{meaning}
+use Rattle.qs_cli.specs.Words.{Text, Word, Plain, Assigned, Named, Excluded, Options, Values, reading}
+use Rattle.qs_cli.specs.Commands.{meaning, command_named}
 use Rattle.qs_cli.specs.Commands as meant
 use Rattle.qs_cli.specs.declared.commands.Command.{Command}
 use Rattle.qs_cli.specs.declared.commands.Command.TheVariants.{Build, Check, Bound, Derive, Outline, Run, Exec, Sample}
@@ -14,12 +15,21 @@ use Rattle.qs_cli.specs.declared.spelling.Shape.{Shape}
 use Rattle.qs_cli.specs.declared.spelling.Shape.TheVariants as shape
 use Rattle.qs_cli.specs.declared.values.Values as code
 use Rattle.clap.specs.Words.{first_value, found_of}
+use Rattle.clap.specs.declared.parser.matches.ArgMatches.{ArgMatches}
 
 abbrev pub options_of : List OptionRule → Options
 options_of = map (λ o. (o.name.now, o.required))
 
+-- the values that a parse found, by their keys
+abbrev pub found_values : ArgMatches → Values
+found_values matches = first_value (found_of matches)
+
 abbrev pub values_of : code.Values → Values
-values_of values = first_value (found_of values.matches)
+values_of values = found_values values.matches
+
+-- the text of the arguments of `main`, if one is given
+abbrev pub arguments_text : code.Values → Option Text
+arguments_text values = values_of values (codes "args")
 
 abbrev pub is_shape : Shape → Word → Bool
 is_shape shape.Plain Plain = true
@@ -46,6 +56,28 @@ waiting_of true = Some []
 
 abbrev pub text_of : Option (String Global) → Option Text
 text_of = option_map string_bytes
+
+abbrev pub texts_of : List (String Global) → List Text
+texts_of = map string_bytes
+
+-- a text that is lent, if one is
+abbrev pub lent_text : Option (Bor (List ℕ)) → Option Text
+lent_text = option_map (λ t. t.now)
+
+abbrev pub lent_texts : List (Bor (List ℕ)) → List Text
+lent_texts = map (λ t. t.now)
+
+-- the values that words give to a command with these options, if they fit it
+abbrev pub values_in : List OptionRule → List (String Global) → Option Values
+values_in options words = reading (options_of options) (texts_of words)
+
+-- the command of this name whose values these words give, if there is one
+abbrev pub named_by : Text → List (String Global) → Option meant.Command
+named_by name words = command_named name (texts_of words)
+
+-- the answer that words have no meaning
+abbrev pub IsUsage : {A : Type 0} → Result A CliFault → Type 0
+IsUsage r = IsErrOf r Usage
 
 abbrev pub command_of : Command → meant.Command
 command_of (Build source proof out) = meant.Build (string_bytes source) (text_of proof) (string_bytes out)

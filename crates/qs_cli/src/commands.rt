@@ -43,7 +43,8 @@ pub enum Command {
         input: Option<String>,
         steps: u64,
     },
-    /// Compile a source file and run it on a stack of the size of its bound, for at most so many steps.
+    /// Compile a source file and run it on a stack of the size of its bound, for at most so many
+    /// steps.
     Exec {
         source: String,
         proof: Option<String>,

@@ -1,9 +1,9 @@
 // The words of a command, read by `clap`.
-ghost use Rattle.std.specs.Prelude.{◌≡◌, IfOk, IsErrOf, None, Some, false, map, string_bytes, codes};
-ghost use Rattle.qs_cli.specs.Words.{operand, among, names_of, reading};
+ghost use Rattle.std.specs.Prelude.{◌≡◌, IfOk, None, Some, false, codes};
+ghost use Rattle.qs_cli.specs.Words.{operand, among, names_of};
 ghost use Rattle.qs_cli.specs.Parser.{flat};
-ghost use Rattle.qs_cli.specs.Reading.{options_of};
-ghost use Rattle.clap.specs.Words.{app_of, kind_of, first_value, found_of};
+ghost use Rattle.qs_cli.specs.Reading.{found_values, options_of, values_in, IsUsage};
+ghost use Rattle.clap.specs.Words.{app_of, kind_of};
 
 use crate::commands::CliFault;
 use crate::spelling::are_items;
@@ -41,15 +41,16 @@ fn flat_command<'a>(alloc: Global, options: &'a [OptionRule]) -> Result<Command<
     command.arg(operand)
 }
 
-/// The values of the words behind a command's name, or Usage where they aren't those of a command with these options.
+/// The values of the words behind a command's name, or Usage where they aren't those of a command
+/// with these options.
 pub(crate) fn flat_matches<'a>(
     alloc: Global,
     options: &'a [OptionRule],
     words: &'a [String],
 ) -> Result<ArgMatches<'a>, CliFault>
     requires { among operand (names_of (options_of options.now)) ≡ false }
-    ensures ok { IfOk result (λ m. reading (options_of options.now) (map string_bytes words.entry.now) ≡ Some (first_value (found_of m))) }
-    ensures usage { IsErrOf result CliFault.Usage → reading (options_of options.now) (map string_bytes words.entry.now) ≡ None }
+    ensures ok { IfOk result (λ m. values_in options.now words.entry.now ≡ Some (found_values m)) }
+    ensures usage { IsUsage result → values_in options.now words.entry.now ≡ None }
 {
     if !are_items(words) {
         return Err(CliFault::Usage);

@@ -1,8 +1,10 @@
 // Numbers in the words.
-ghost use Rattle.std.specs.Prelude.{◌≡◌, ◌≤◌, ◌<◌, ◌^◌, IfSome, IfOk, IsErrOf, Some, None, option_map, map, ◌==◌};
+ghost use Rattle.std.specs.Prelude.{◌≡◌, ◌≤◌, ◌<◌, ◌^◌, IfSome, IfOk, Some, None, ◌==◌};
 ghost use Rattle.std.specs.List.{list_all, slice_split};
 ghost use Rattle.qs_base.specs.Bytes.{is_digit};
-ghost use Rattle.qs_cli.specs.Numbers.{number_of, count_of, signed_of, all_signed_of, steps_of, arguments_of};
+ghost use Rattle.qs_cli.specs.Numbers.{number_of, count_of, signed_of, all_signed_of, steps_of};
+ghost use Rattle.qs_cli.specs.Numbers.{arguments_of};
+ghost use Rattle.qs_cli.specs.Reading.{lent_text, lent_texts, IsUsage};
 
 use crate::commands::CliFault;
 use qs_base::is_digit;
@@ -40,7 +42,7 @@ pub(crate) fn count(text: &str) -> Option<u64>
 
 /// 1 to 10 decimal digits, a number from 1 to 1,000,000,000. Without a text `DEFAULT_STEPS`.
 pub(crate) fn steps(text: Option<&str>) -> Option<u64>
-    ensures { result ≡ steps_of (option_map (λ t. t.now) text.entry) }
+    ensures { result ≡ steps_of (lent_text text.entry) }
 {
     let Some(text) = text else {
         return Some(DEFAULT_STEPS);
@@ -71,14 +73,14 @@ fn signed(text: &str) -> Option<i64>
 
 /// The texts between the commas.
 fn comma_parts(alloc: Global, text: &str) -> Result<Vec<&str>, AllocError>
-    ensures { IfOk result (λ v. map (λ t. t.now) v.items ≡ slice_split (λ b. b == 44) text.now) }
+    ensures { IfOk result (λ v. lent_texts v.items ≡ slice_split (λ b. b == 44) text.now) }
 {
     text.split(',').collect(alloc)
 }
 
 fn all_signed(alloc: Global, parts: &[&str]) -> Result<Vec<i64>, CliFault>
-    ensures ok { IfOk result (λ v. all_signed_of (map (λ t. t.now) parts.now) ≡ Some v.items) }
-    ensures usage { IsErrOf result CliFault.Usage → all_signed_of (map (λ t. t.now) parts.now) ≡ None }
+    ensures ok { IfOk result (λ v. all_signed_of (lent_texts parts.now) ≡ Some v.items) }
+    ensures usage { IsUsage result → all_signed_of (lent_texts parts.now) ≡ None }
 {
     let mut numbers = Vec::new(alloc);
     for part in parts {
@@ -92,8 +94,8 @@ fn all_signed(alloc: Global, parts: &[&str]) -> Result<Vec<i64>, CliFault>
 
 /// 1 to 8 such numbers with commas between. Without a text none.
 pub(crate) fn arguments(alloc: Global, text: Option<&str>) -> Result<Vec<i64>, CliFault>
-    ensures ok { IfOk result (λ v. arguments_of (option_map (λ t. t.now) text.entry) ≡ Some v.items) }
-    ensures usage { IsErrOf result CliFault.Usage → arguments_of (option_map (λ t. t.now) text.entry) ≡ None }
+    ensures ok { IfOk result (λ v. arguments_of (lent_text text.entry) ≡ Some v.items) }
+    ensures usage { IsUsage result → arguments_of (lent_text text.entry) ≡ None }
 {
     let Some(text) = text else {
         return Ok(Vec::new(alloc));

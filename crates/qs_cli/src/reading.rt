@@ -1,7 +1,8 @@
 // The command that the words mean: by its name, from its values.
-ghost use Rattle.std.specs.Prelude.{◌≡◌, IfOk, IsErrOf, None, Some, map, string_bytes};
-ghost use Rattle.qs_cli.specs.Commands.{build_of, check_of, bound_of, derive_of, outline_of, run_of, exec_of, sample_of, command_named};
-ghost use Rattle.qs_cli.specs.Reading.{values_of, command_of, Reads};
+ghost use Rattle.std.specs.Prelude.{◌≡◌, IfOk, None, Some};
+ghost use Rattle.qs_cli.specs.Commands.{build_of, check_of, bound_of, derive_of, outline_of};
+ghost use Rattle.qs_cli.specs.Commands.{run_of, exec_of, sample_of};
+ghost use Rattle.qs_cli.specs.Reading.{command_of, named_by, texts_of, values_of, IsUsage, Reads};
 
 use crate::commands::{CliFault, Command};
 use crate::table;
@@ -11,7 +12,7 @@ use std::alloc::Global;
 
 fn build(alloc: Global, values: &Values<'_>) -> Result<Command, CliFault>
     ensures ok { IfOk result (λ c. build_of (values_of values.now) ≡ Some (command_of c)) }
-    ensures usage { IsErrOf result CliFault.Usage → build_of (values_of values.now) ≡ None }
+    ensures usage { IsUsage result → build_of (values_of values.now) ≡ None }
 {
     Ok(Command::Build {
         source: values.text(alloc, OPERAND)?,
@@ -22,7 +23,7 @@ fn build(alloc: Global, values: &Values<'_>) -> Result<Command, CliFault>
 
 fn check(alloc: Global, values: &Values<'_>) -> Result<Command, CliFault>
     ensures ok { IfOk result (λ c. check_of (values_of values.now) ≡ Some (command_of c)) }
-    ensures usage { IsErrOf result CliFault.Usage → check_of (values_of values.now) ≡ None }
+    ensures usage { IsUsage result → check_of (values_of values.now) ≡ None }
 {
     Ok(Command::Check {
         source: values.text(alloc, OPERAND)?,
@@ -32,7 +33,7 @@ fn check(alloc: Global, values: &Values<'_>) -> Result<Command, CliFault>
 
 fn bound(alloc: Global, values: &Values<'_>) -> Result<Command, CliFault>
     ensures ok { IfOk result (λ c. bound_of (values_of values.now) ≡ Some (command_of c)) }
-    ensures usage { IsErrOf result CliFault.Usage → bound_of (values_of values.now) ≡ None }
+    ensures usage { IsUsage result → bound_of (values_of values.now) ≡ None }
 {
     Ok(Command::Bound {
         source: values.text(alloc, OPERAND)?,
@@ -43,7 +44,7 @@ fn bound(alloc: Global, values: &Values<'_>) -> Result<Command, CliFault>
 
 fn derive(alloc: Global, values: &Values<'_>) -> Result<Command, CliFault>
     ensures ok { IfOk result (λ c. derive_of (values_of values.now) ≡ Some (command_of c)) }
-    ensures usage { IsErrOf result CliFault.Usage → derive_of (values_of values.now) ≡ None }
+    ensures usage { IsUsage result → derive_of (values_of values.now) ≡ None }
 {
     Ok(Command::Derive {
         source: values.text(alloc, OPERAND)?,
@@ -53,7 +54,7 @@ fn derive(alloc: Global, values: &Values<'_>) -> Result<Command, CliFault>
 
 fn outline(alloc: Global, values: &Values<'_>) -> Result<Command, CliFault>
     ensures ok { IfOk result (λ c. outline_of (values_of values.now) ≡ Some (command_of c)) }
-    ensures usage { IsErrOf result CliFault.Usage → outline_of (values_of values.now) ≡ None }
+    ensures usage { IsUsage result → outline_of (values_of values.now) ≡ None }
 {
     Ok(Command::Outline {
         source: values.text(alloc, OPERAND)?,
@@ -62,7 +63,7 @@ fn outline(alloc: Global, values: &Values<'_>) -> Result<Command, CliFault>
 
 fn run(alloc: Global, values: &Values<'_>) -> Result<Command, CliFault>
     ensures ok { IfOk result (λ c. run_of (values_of values.now) ≡ Some (command_of c)) }
-    ensures usage { IsErrOf result CliFault.Usage → run_of (values_of values.now) ≡ None }
+    ensures usage { IsUsage result → run_of (values_of values.now) ≡ None }
 {
     Ok(Command::Run {
         image: values.text(alloc, OPERAND)?,
@@ -75,7 +76,7 @@ fn run(alloc: Global, values: &Values<'_>) -> Result<Command, CliFault>
 
 fn exec(alloc: Global, values: &Values<'_>) -> Result<Command, CliFault>
     ensures ok { IfOk result (λ c. exec_of (values_of values.now) ≡ Some (command_of c)) }
-    ensures usage { IsErrOf result CliFault.Usage → exec_of (values_of values.now) ≡ None }
+    ensures usage { IsUsage result → exec_of (values_of values.now) ≡ None }
 {
     Ok(Command::Exec {
         source: values.text(alloc, OPERAND)?,
@@ -88,7 +89,7 @@ fn exec(alloc: Global, values: &Values<'_>) -> Result<Command, CliFault>
 
 fn sample(alloc: Global, values: &Values<'_>) -> Result<Command, CliFault>
     ensures ok { IfOk result (λ c. sample_of (values_of values.now) ≡ Some (command_of c)) }
-    ensures usage { IsErrOf result CliFault.Usage → sample_of (values_of values.now) ≡ None }
+    ensures usage { IsUsage result → sample_of (values_of values.now) ≡ None }
 {
     Ok(Command::Sample {
         count: values.sample_count()?,
@@ -98,8 +99,8 @@ fn sample(alloc: Global, values: &Values<'_>) -> Result<Command, CliFault>
 
 /// The command of this name whose values these words give.
 fn named(alloc: Global, name: &str, words: &[String]) -> Result<Command, CliFault>
-    ensures ok { IfOk result (λ c. command_named name.now (map string_bytes words.now) ≡ Some (command_of c)) }
-    ensures usage { IsErrOf result CliFault.Usage → command_named name.now (map string_bytes words.now) ≡ None }
+    ensures ok { IfOk result (λ c. named_by name.now words.now ≡ Some (command_of c)) }
+    ensures usage { IsUsage result → named_by name.now words.now ≡ None }
 {
     match name {
         "build" => build(alloc, &Values::read(alloc, &table::BUILD, words)?),
@@ -116,28 +117,25 @@ fn named(alloc: Global, name: &str, words: &[String]) -> Result<Command, CliFaul
 
 /// The command that the words mean, the program's own name not among them.
 ///
-/// The first word is the command's name. Behind it stand its operand, a file or a number, and its options, in any order, each
-/// as `--opt=VALUE` or as `--opt` and the word VALUE. A word for an operand or a VALUE isn't empty and doesn't begin with `-`; a
-/// VALUE behind `=` isn't empty. Each option stands at most once.
+/// The first word is the command's name. Behind it stand its operand, a file or a number, and its
+/// options, in any order, each as `--opt=VALUE` or as `--opt` and the word VALUE. A word for an
+/// operand or a VALUE isn't empty and doesn't begin with `-`; a VALUE behind `=` isn't empty. Each
+/// option stands at most once.
 ///
-/// | Command | Options, the required ones with a star |
-/// |---|---|
-/// | `build SRC` | `--proof`, `--out`* |
-/// | `check SRC` | `--proof` |
-/// | `bound SRC` | `--proof`, `--args` |
-/// | `derive SRC` | `--out`* |
-/// | `outline SRC` | |
-/// | `run IMG` | `--stack`*, `--args`, `--input`, `--steps` |
-/// | `exec SRC` | `--proof`, `--args`, `--input`, `--steps` |
-/// | `sample N` | `--out` |
+/// | Command | Options, the required ones with a star | |---|---| | `build SRC` | `--proof`,
+/// `--out`* | | `check SRC` | `--proof` | | `bound SRC` | `--proof`, `--args` | | `derive SRC` |
+/// `--out`* | | `outline SRC` | | | `run IMG` | `--stack`*, `--args`, `--input`, `--steps` | |
+/// `exec SRC` | `--proof`, `--args`, `--input`, `--steps` | | `sample N` | `--out` |
 ///
-/// `--stack` and N have 1 to 19 decimal digits, and N is 1 to 500. `--steps` has 1 to 10 digits and is 1 to 1,000,000,000, and
-/// 100,000,000 where it isn't given. `--args` has 1 to 8 numbers with commas between, each an optional `-` and 1 to 10 digits.
+/// `--stack` and N have 1 to 19 decimal digits, and N is 1 to 500. `--steps` has 1 to 10 digits and
+/// is 1 to 1,000,000,000, and 100,000,000 where it isn't given. `--args` has 1 to 8 numbers with
+/// commas between, each an optional `-` and 1 to 10 digits.
 ///
-/// Anything else is Usage, the empty list, `-`, `--` and `--help` among it. NoMemory comes for want of memory alone.
+/// Anything else is Usage, the empty list, `-`, `--` and `--help` among it. NoMemory comes for want
+/// of memory alone.
 #[tactic(auto, unfolding(crate::specs::Commands::meaning))]
 pub fn read_words(alloc: Global, words: &[String]) -> Result<Command, CliFault>
-    ensures { Reads (map string_bytes words.now) result }
+    ensures { Reads (texts_of words.now) result }
 {
     match words {
         [] => Err(CliFault::Usage),

@@ -3,7 +3,8 @@
 /// The key of a command's operand, its file or number.
 pub(crate) const OPERAND: &str = "operand";
 
-/// An option's name without its hyphens, and whether the command needs it. Each option takes one value.
+/// An option's name without its hyphens, and whether the command needs it. Each option takes one
+/// value.
 #[derive(Clone, Copy)]
 pub(crate) struct OptionRule {
     pub name: &'static str,

@@ -1,9 +1,10 @@
 // The values that the words give, by their keys.
-ghost use Rattle.std.specs.Prelude.{◌≡◌, IfOk, IsErrOf, None, Some, false, map, string_bytes, codes};
-ghost use Rattle.qs_cli.specs.Words.{operand, among, names_of, reading};
+ghost use Rattle.std.specs.Prelude.{◌≡◌, IfOk, None, Some, false, string_bytes, codes};
+ghost use Rattle.qs_cli.specs.Words.{operand, among, names_of};
 ghost use Rattle.qs_cli.specs.Numbers.{steps_of, arguments_of};
 ghost use Rattle.qs_cli.specs.Commands.{stack_of, sample_count_of};
-ghost use Rattle.qs_cli.specs.Reading.{options_of, values_of, text_of};
+ghost use Rattle.qs_cli.specs.Reading.{arguments_text, options_of, text_of, values_in, values_of};
+ghost use Rattle.qs_cli.specs.Reading.{IsUsage};
 
 use crate::commands::CliFault;
 use crate::flat::flat_matches;
@@ -13,7 +14,8 @@ use clap::ArgMatches;
 use qs_base::NoMemory;
 use std::alloc::Global;
 
-/// The values of a command's operand and options. A call answers Usage where its value has no meaning.
+/// The values of a command's operand and options. A call answers Usage where its value has no
+/// meaning.
 #[derive(Drop)]
 pub(crate) struct Values<'a> {
     matches: ArgMatches<'a>,
@@ -27,8 +29,8 @@ impl<'a> Values<'a> {
         words: &'a [String],
     ) -> Result<Values<'a>, CliFault>
         requires { among operand (names_of (options_of options.now)) ≡ false }
-        ensures ok { IfOk result (λ v. reading (options_of options.now) (map string_bytes words.entry.now) ≡ Some (values_of v)) }
-        ensures usage { IsErrOf result CliFault.Usage → reading (options_of options.now) (map string_bytes words.entry.now) ≡ None }
+        ensures ok { IfOk result (λ v. values_in options.now words.entry.now ≡ Some (values_of v)) }
+        ensures usage { IsUsage result → values_in options.now words.entry.now ≡ None }
     {
         let matches = flat_matches(alloc, options, words)?;
         Ok(Values { matches })
@@ -37,7 +39,7 @@ impl<'a> Values<'a> {
     /// The text that has to stand under this key.
     pub fn text(&self, alloc: Global, key: &str) -> Result<String, CliFault>
         ensures ok { IfOk result (λ t. values_of self.now key.now ≡ Some (string_bytes t)) }
-        ensures usage { IsErrOf result CliFault.Usage → values_of self.now key.now ≡ None }
+        ensures usage { IsUsage result → values_of self.now key.now ≡ None }
     {
         match self.matches.get_str(key) {
             Some(text) => Ok(String::from_str(alloc, text)?),
@@ -58,7 +60,7 @@ impl<'a> Values<'a> {
     /// The number of bytes of the stack.
     pub fn stack(&self) -> Result<u64, CliFault>
         ensures ok { IfOk result (λ n. stack_of (values_of self.now (codes "stack")) ≡ Some n) }
-        ensures usage { IsErrOf result CliFault.Usage → stack_of (values_of self.now (codes "stack")) ≡ None }
+        ensures usage { IsUsage result → stack_of (values_of self.now (codes "stack")) ≡ None }
     {
         let Some(text) = self.matches.get_str("stack") else {
             return Err(CliFault::Usage);
@@ -69,7 +71,7 @@ impl<'a> Values<'a> {
     /// The number of functions of a sample, which is its operand.
     pub fn sample_count(&self) -> Result<u64, CliFault>
         ensures ok { IfOk result (λ n. sample_count_of (values_of self.now operand) ≡ Some n) }
-        ensures usage { IsErrOf result CliFault.Usage → sample_count_of (values_of self.now operand) ≡ None }
+        ensures usage { IsUsage result → sample_count_of (values_of self.now operand) ≡ None }
     {
         let Some(text) = self.matches.get_str(OPERAND) else {
             return Err(CliFault::Usage);
@@ -80,15 +82,15 @@ impl<'a> Values<'a> {
     /// The most steps of a run.
     pub fn steps(&self) -> Result<u64, CliFault>
         ensures ok { IfOk result (λ n. steps_of (values_of self.now (codes "steps")) ≡ Some n) }
-        ensures usage { IsErrOf result CliFault.Usage → steps_of (values_of self.now (codes "steps")) ≡ None }
+        ensures usage { IsUsage result → steps_of (values_of self.now (codes "steps")) ≡ None }
     {
         numbers::steps(self.matches.get_str("steps")).ok_or(CliFault::Usage)
     }
 
     /// The arguments of `main`.
     pub fn arguments(&self, alloc: Global) -> Result<Vec<i64>, CliFault>
-        ensures ok { IfOk result (λ v. arguments_of (values_of self.now (codes "args")) ≡ Some v.items) }
-        ensures usage { IsErrOf result CliFault.Usage → arguments_of (values_of self.now (codes "args")) ≡ None }
+        ensures ok { IfOk result (λ v. arguments_of (arguments_text self.now) ≡ Some v.items) }
+        ensures usage { IsUsage result → arguments_of (arguments_text self.now) ≡ None }
     {
         numbers::arguments(alloc, self.matches.get_str("args"))
     }

@@ -26,8 +26,8 @@ use Rattle.qs_types.specs.WellTyped.{undefined_from, runs, first_undefined, has_
 use Rattle.qs_types.specs.Limits.{node_limit, first_past_nodes, function_limit, header_past, first_past_functions, parameter_limit, node_of_parameter, first_past_parameters, Block, block_end, block_past, variables_blocks, variable_blocks_from, text_block, data_blocks, global_limit, first_past_globals, local_block, local_blocks, local_past, local_past_from, local_limit, first_past_locals}
 use Rattle.qs_typing.specs.Findings.{is_before, lesser, least_with}
 use Rattle.qs_typing.specs.Refusals.{limit_fault, rule_fault, main_fault, undefined_fault, early_refusal, late_refusal, first_refusal}
-use Rattle.qs_report.specs.declared.fault_texts.LimitKind.{LimitKind}
-use Rattle.qs_report.specs.declared.fault_texts.LimitKind.TheVariants as kinds
+use Rattle.qs_types.specs.declared.limits.LimitKind.{LimitKind}
+use Rattle.qs_types.specs.declared.limits.LimitKind.TheVariants as kinds
 use Rattle.qs_typing.specs.declared.refusals.TypeFault.{TypeFault}
 use Rattle.qs_parser.specs.Answers.{ReadsAs}
 use Rattle.qs_driver.specs.Source.{node_of}

@@ -7,6 +7,7 @@ use Rattle.qs_assert.specs.declared.variable.VarKind.TheVariants as kinds
 use Rattle.qs_assert.specs.declared.variable.Var.{Var}
 use Rattle.qs_entail.specs.Faults.{step, limit}
 use Rattle.qs_entail.specs.declared.fault.Rule.TheVariants as rules
+use Rattle.qs_entail.specs.declared.stop.Limit.TheVariants.{Terms}
 use Rattle.qs_prooftext.proofs.Examples.{u}
 use Rattle.qs_triples.specs.Rules.{in_precondition, in_postcondition, at_node, shape, mentions, certificate, entry}
 use Rattle.qs_report.specs.declared.fault_texts.Path.{Path}
@@ -44,10 +45,10 @@ the_place_of_a_line node inner = refl
 
 -- ---- texts
 
-a_rule : fault_text u 0 (certificate [] (step [] rules.Arithmetic)) ≡ wrongs.Step 10
+a_rule : fault_text u 0 (certificate [] (step [] rules.Arithmetic)) ≡ wrongs.Step rules.Arithmetic
 a_rule = refl
 
-a_limit : fault_text u 0 (entry (limit [] ManyTerms)) ≡ wrongs.Limit 2
+a_limit : fault_text u 0 (entry (limit [] ManyTerms)) ≡ wrongs.Limit Terms
 a_limit = refl
 
 its_own_variable : fault_text u 0 (mentions in_postcondition None (n (kinds.Old 0))) ≡ wrongs.Mentions (codes "(old n)")

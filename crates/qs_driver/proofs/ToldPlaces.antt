@@ -4,7 +4,6 @@ use Rattle.std.proofs.lemmas.Option.{same_Some}
 use Rattle.qs_core.specs.Trees.{CoreUnitTree}
 use Rattle.qs_entail.specs.Answers.{fault_of}
 use Rattle.qs_entail.specs.Faults.{Fault, step, limit}
-use Rattle.qs_entail.specs.Said.{limit_number}
 use Rattle.qs_entail.specs.declared.fault.CertFault.{CertFault}
 use Rattle.qs_entail.specs.declared.fault.CertFault.TheVariants as certificates
 use Rattle.qs_entail.specs.declared.stop.Limit.{Limit}
@@ -18,7 +17,7 @@ use Rattle.qs_triples.specs.declared.fault.Place.TheVariants as places
 use Rattle.qs_report.specs.declared.fault_texts.Spot.{Spot}
 use Rattle.qs_report.specs.declared.fault_texts.ProofText.{ProofText}
 use Rattle.qs_report.specs.declared.fault_texts.ProofText.TheVariants as wrongs
-use Rattle.qs_driver.specs.Told.{at_entry, at_body, at_certificate, place_of, mention_place, inner_path, fault_place, passed_number, certificate_text, fault_text}
+use Rattle.qs_driver.specs.Told.{at_entry, at_body, at_certificate, place_of, mention_place, inner_path, fault_place, passed_text, certificate_text, fault_text}
 use Rattle.qs_driver.specs.Certified.{path_in, IsWrongThere, IsMentionPlace, IsToldAs}
 
 -- the line tells this fault of the entry of this function
@@ -28,10 +27,10 @@ pub record IsToldBy (u : CoreUnitTree) (f : ℕ) (fault : DerivationFault) (spot
 
 -- ---- parts
 
-same_number : (l : Limit) → limit_number l ≡ passed_number (fault_of l)
-same_number Coefficient = refl
-same_number Terms = refl
-same_number Degree = refl
+same_limit : (l : Limit) → wrongs.Limit l ≡ passed_text (fault_of l)
+same_limit Coefficient = refl
+same_limit Terms = refl
+same_limit Degree = refl
 
 mentioned_at : (place : Place) (spot : Spot) → IsMentionPlace place spot → place_of spot ≡ mention_place (place_view place)
 mentioned_at places.Precondition spot e = ap place_of e
@@ -57,7 +56,7 @@ certificate_due there (certificates.Limit path l) due text is wrong = record {
   inner = limit path.items (fault_of l);
   due_is = same_Some due (there (limit path.items (fault_of l))) is;
   path = refl;
-  wrong = wrong ∙ ap wrongs.Limit (same_number l);
+  wrong = wrong ∙ same_limit l;
 }
 
 -- ---- the whole

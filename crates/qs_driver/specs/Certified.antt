@@ -15,7 +15,6 @@ use Rattle.qs_prooftext.specs.Writing.{variable_text}
 use Rattle.qs_prooftext.specs.declared.fault.TextFault.{TextFault}
 use Rattle.qs_prooftext.specs.declared.fault.TextFault.TheVariants as texts
 use Rattle.qs_assert.specs.Order.{IsInOrder}
-use Rattle.qs_entail.specs.Said.{rule_number, limit_number}
 use Rattle.qs_entail.specs.declared.fault.CertFault.{CertFault}
 use Rattle.qs_entail.specs.declared.fault.CertFault.TheVariants as certificates
 use Rattle.qs_triples.specs.Derivations.{ProofsTree}
@@ -145,8 +144,8 @@ path_in (certificates.Limit path limit) = path.items
 -- what is wrong there
 abbrev pub IsWrongThere : CertFault → ProofText → Type 0
 IsWrongThere certificates.NoMemory text = ⊥
-IsWrongThere (certificates.Step path rule) text = text ≡ wrongs.Step (rule_number rule)
-IsWrongThere (certificates.Limit path limit) text = text ≡ wrongs.Limit (limit_number limit)
+IsWrongThere (certificates.Step path rule) text = text ≡ wrongs.Step rule
+IsWrongThere (certificates.Limit path limit) text = text ≡ wrongs.Limit limit
 
 -- the place of an assertion that mentions a variable
 abbrev pub IsMentionPlace : Place → Spot → Type 0

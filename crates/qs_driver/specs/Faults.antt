@@ -9,7 +9,6 @@ use Rattle.qs_image.specs.declared.fault.ImageFault.{ImageFault}
 use Rattle.qs_image.specs.declared.fault.ImageFault.TheVariants as fault
 use Rattle.qs_machine.specs.declared.answers.Cause.{Cause}
 use Rattle.qs_machine.specs.declared.answers.Cause.TheVariants as cause
-use Rattle.qs_types.specs.Rules.{rule_number}
 use Rattle.qs_typing.specs.declared.refusals.TypeFault.{TypeFault}
 use Rattle.qs_typing.specs.declared.refusals.TypeFault.TheVariants as typing
 use Rattle.qs_assert.specs.declared.define.Amount.{Amount}
@@ -84,7 +83,7 @@ syntax_text (syntax.TooDeep number) place = texts.TooDeep (pos_of place)
 
 -- what is wrong with the types of a source, at the place of the node that the fault names
 abbrev pub placed_text : TypeFault → Pos → FaultText
-placed_text (typing.Rule node rule) pos = texts.Rule pos (rule_number rule)
+placed_text (typing.Rule node rule) pos = texts.Rule pos rule
 placed_text (typing.Limit kind node) pos = texts.Limit pos kind
 placed_text typing.NoMain pos = texts.NoMain
 placed_text (typing.Undefined node) pos = texts.NoBody pos

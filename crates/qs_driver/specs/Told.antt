@@ -5,7 +5,7 @@ use Rattle.qs_poly.specs.declared.fault.PolyFault.TheVariants.{NoMemory, Wide, M
 use Rattle.qs_core.specs.Trees.{CoreUnitTree}
 use Rattle.qs_prooftext.specs.Writing.{variable_text}
 use Rattle.qs_entail.specs.Faults.{Fault, step, limit}
-use Rattle.qs_entail.specs.Said.{rule_number}
+use Rattle.qs_entail.specs.declared.stop.Limit.TheVariants.{Coefficient, Terms, Degree}
 use Rattle.qs_triples.specs.Rules.{DerivationFault, Place, in_precondition, in_postcondition, at_node, shape, mentions, certificate, no_spec, entry, bad_order}
 use Rattle.qs_report.specs.declared.fault_texts.ProofText.{ProofText}
 use Rattle.qs_report.specs.declared.fault_texts.ProofText.TheVariants as wrongs
@@ -54,16 +54,16 @@ fault_place (bad_order d) = at_precondition
 
 -- ---- what is wrong there
 
--- the number of a limit of polynomials
-abbrev pub passed_number : PolyFault → ℕ
-passed_number NoMemory = 0
-passed_number Wide = 1
-passed_number ManyTerms = 2
-passed_number HighDegree = 3
+-- the limit of polynomials that is passed (want of memory is never met here)
+abbrev pub passed_text : PolyFault → ProofText
+passed_text NoMemory = wrongs.Shape
+passed_text Wide = wrongs.Limit Coefficient
+passed_text ManyTerms = wrongs.Limit Terms
+passed_text HighDegree = wrongs.Limit Degree
 
 abbrev pub certificate_text : Fault → ProofText
-certificate_text (step path rule) = wrongs.Step (rule_number rule)
-certificate_text (limit path passed) = wrongs.Limit (passed_number passed)
+certificate_text (step path rule) = wrongs.Step rule
+certificate_text (limit path passed) = passed_text passed
 
 -- whose variable it is: the function's own, or that of the function that is called there
 abbrev pub owner_of : (function : ℕ) → (callee : Option ℕ) → ℕ

@@ -34,7 +34,8 @@ fn word_of(number: i64) -> u32
     number.rem_euclid(1 << 32) as u32
 }
 
-// The words of the arguments, if there are as many as main has parameters and each is a value of its parameter.
+// The words of the arguments, if there are as many as main has parameters and each is a value of
+// its parameter.
 fn words_for(alloc: Global, parameters: Parameters, args: &[i64]) -> Result<Vec<u32>, Status>
     requires { parameters.count ≤ 8 }
     ensures { FindsWords (image_with parameters) args.now result }

@@ -1,5 +1,7 @@
-// A source and a proof file that a command reads: a unit with proofs that cover it, or why it is refused.
-ghost use Rattle.std.specs.Prelude.{◌≡◌, ◌<◌, ◌^◌, IfOk, List, Option, Some, length, map, option_map, true, ℕ};
+// A source and a proof file that a command reads: a unit with proofs that cover it, or why it is
+// refused.
+ghost use Rattle.std.specs.Prelude.{◌≡◌, ◌<◌, ◌^◌, IfOk, List, Option, Some, length, map};
+ghost use Rattle.std.specs.Prelude.{option_map, true, ℕ};
 ghost use Rattle.qs_core.specs.Trees.{CoreUnitTree};
 ghost use Rattle.qs_core.specs.UnitTrees.{unit_tree};
 ghost use Rattle.qs_certify.specs.Certification.{ToldOfFunctions};
@@ -8,7 +10,8 @@ ghost use Rattle.qs_certify.specs.declared.fault.CertifyFault.TheVariants as fau
 ghost use Rattle.qs_callgraph.specs.CallLists.{is_member, numbers};
 ghost use Rattle.qs_triples.specs.Filled.{function_name};
 ghost use Rattle.qs_typing.specs.TypedOf.{typed_tree};
-ghost use Rattle.qs_driver.specs.Certified.{byte_of, file_of, words_in, CertifiesTyped, ReadsAll, ReadsProof, TellsFault};
+ghost use Rattle.qs_driver.specs.Certified.{byte_of, file_of, words_in, CertifiesTyped, ReadsAll};
+ghost use Rattle.qs_driver.specs.Certified.{ReadsProof, TellsFault};
 
 use crate::files::read_file;
 use crate::limits::PROOF_LIMIT;
@@ -149,8 +152,8 @@ fn text_in(file: &Option<Vec<u8>>) -> Option<&[u8]>
     file.as_ref().map(|text| text.as_slice())
 }
 
-/// The core of a typed unit, and proofs that cover it: those of the file, if there is one, and what is added to them. Or
-/// the status at which its proofs are refused.
+/// The core of a typed unit, and proofs that cover it: those of the file, if there is one, and what
+/// is added to them. Or the status at which its proofs are refused.
 pub fn certify_typed(
     alloc: Global,
     typed: TypedUnit,
@@ -170,8 +173,9 @@ pub fn certify_typed(
     }
 }
 
-/// The unit of a source, and proofs that cover it: those of the proof file, where one is named, and what is added to
-/// them. Or the status at which the source or its proofs are refused: the source first, then the proof file.
+/// The unit of a source, and proofs that cover it: those of the proof file, where one is named, and
+/// what is added to them. Or the status at which the source or its proofs are refused: the source
+/// first, then the proof file.
 pub fn read_certified<S: Store>(
     alloc: Global,
     store: &mut S,

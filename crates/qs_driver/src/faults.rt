@@ -1,7 +1,9 @@
 // The line that tells a status. Nothing here takes memory.
 ghost use Rattle.std.specs.Prelude.{◌≡◌};
 ghost use Rattle.qs_ports.specs.SinkView.{PutsAll};
-ghost use Rattle.qs_driver.specs.Faults.{status_line, image_text, lex_text, named_line, placed_text, pos_of, proof_file_text, shown_of, syntax_text, trap_text, typing_text, unexpected_text};
+ghost use Rattle.qs_driver.specs.Faults.{status_line, image_text, lex_text, named_line};
+ghost use Rattle.qs_driver.specs.Faults.{placed_text, pos_of, proof_file_text, shown_of};
+ghost use Rattle.qs_driver.specs.Faults.{syntax_text, trap_text, typing_text, unexpected_text};
 ghost use Rattle.qs_driver.specs.Names.{names_in};
 
 use crate::names::{FileNames, file_name};
@@ -97,7 +99,7 @@ fn placed_text(fault: TypeFault, pos: Pos) -> FaultText
     ensures { result ≡ placed_text fault pos }
 {
     match fault {
-        TypeFault::Rule(_, rule) => FaultText::Rule(pos, rule.number()),
+        TypeFault::Rule(_, rule) => FaultText::Rule(pos, rule),
         TypeFault::Limit(kind, _) => FaultText::Limit(pos, kind),
         TypeFault::NoMain => FaultText::NoMain,
         TypeFault::Undefined(_) => FaultText::NoBody(pos),

@@ -6,7 +6,8 @@ use crate::{FileKind, SourceFault, Status};
 use qs_ports::{ReadFault, Store, read_whole};
 use std::alloc::Global;
 
-/// The bytes of the file, or the status at which it can't be read: missing, failed, too long or no memory.
+/// The bytes of the file, or the status at which it can't be read: missing, failed, too long or no
+/// memory.
 pub fn read_file<S: Store>(
     alloc: Global,
     store: &mut S,

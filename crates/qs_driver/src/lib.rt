@@ -25,5 +25,6 @@ mod tool;
 pub use laws::{
     accepted_sources_are_built_right, samples_are_good, samples_have_stacks, sources_pass_no_size,
 };
+pub use limits::SOURCE_LIMIT;
 pub use status::{FileKind, ProofFault, SourceFault, Status, TokenPlace, WordsFault};
 pub use tool::run_tool;

@@ -1,4 +1,5 @@
-// What is made of a source that is certified: its image, which isn't written, and main's bound at some arguments.
+// What is made of a source that is certified: its image, which isn't written, and main's bound at
+// some arguments.
 ghost use Rattle.std.specs.Prelude.{◌≡◌, IfOk};
 ghost use Rattle.qs_driver.specs.Bounds.{costs_in};
 ghost use Rattle.qs_driver.specs.Certified.{words_in};
@@ -55,7 +56,8 @@ pub fn make_certified(
     Ok(Made { image, bound })
 }
 
-/// The image of a source that is certified, and main's bound at the arguments, if these are main's. Nothing is written.
+/// The image of a source that is certified, and main's bound at the arguments, if these are main's.
+/// Nothing is written.
 pub fn make<S: Store>(
     alloc: Global,
     store: &mut S,

@@ -4,7 +4,8 @@ ghost use Rattle.qs_driver.specs.Names.{names_in, no_names, file_name};
 
 use crate::FileKind;
 
-/// The names of the files of a command, as its words give them; those that it doesn't have are empty.
+/// The names of the files of a command, as its words give them; those that it doesn't have are
+/// empty.
 #[derive(Clone, Copy)]
 pub struct FileNames<'a> {
     pub source: &'a str,

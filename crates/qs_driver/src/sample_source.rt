@@ -71,7 +71,8 @@ fn put_main(text: &mut Vec<u8>, count: u64) -> Result<(), NoMemory>
     )
 }
 
-/// The source of a sample of so many functions, each of which calls the one before, and of main, which calls the last one.
+/// The source of a sample of so many functions, each of which calls the one before, and of main,
+/// which calls the last one.
 pub fn sample_text(alloc: Global, count: u64) -> Result<Vec<u8>, NoMemory>
     ensures { IfOk result (λ text. text.items ≡ meant.sample_text count) }
 {

@@ -8,7 +8,8 @@ ghost use Rattle.qs_lexer.specs.Terminals.{terminals};
 ghost use Rattle.qs_parser.specs.Answers.{Answers, ReadsAs};
 ghost use Rattle.qs_typing.specs.Refusals.{IsCause, IsTold};
 ghost use Rattle.qs_driver.specs.Limits.{source_limit};
-ghost use Rattle.qs_driver.specs.Source.{byte_of, node_of, number_of, IsNodeStart, IsPlaceOf, IsTokenPlace, ReadsUnit, RefusesText, TypesText};
+ghost use Rattle.qs_driver.specs.Source.{byte_of, node_of, number_of, IsNodeStart, IsPlaceOf};
+ghost use Rattle.qs_driver.specs.Source.{IsTokenPlace, ReadsUnit, RefusesText, TypesText};
 
 use crate::files::read_file;
 use crate::limits::SOURCE_LIMIT;
@@ -67,7 +68,8 @@ fn number_of(fault: SyntaxFault) -> Option<u32>
     }
 }
 
-/// The place of the token with this number, or of the end where the number is the count of all tokens.
+/// The place of the token with this number, or of the end where the number is the count of all
+/// tokens.
 fn token_place(text: &[u8], tokens: &[Token], number: u32) -> TokenPlace
     requires short { length text.now < 2 ^ 31 }
     requires within { number ≤ length tokens.now }

@@ -50,11 +50,13 @@ pub enum SourceFault {
     /// It has this lexical fault, at this line and column.
     #[error("{0}")]
     Lex(LexFault, Pos),
-    /// Its tokens are no unit, or one that is too high; the fault names a token, which stands at this place.
+    /// Its tokens are no unit, or one that is too high; the fault names a token, which stands at
+    /// this place.
     #[error("{0}")]
     Syntax(SyntaxFault, TokenPlace),
-    /// It is a unit with this type fault first: a limit that is passed, a rule that is broken, no `main`, or a function
-    /// without a body; the place is that of the node which the fault names, and `no main` names none.
+    /// It is a unit with this type fault first: a limit that is passed, a rule that is broken, no
+    /// `main`, or a function without a body; the place is that of the node which the fault names,
+    /// and `no main` names none.
     #[error("{0}")]
     Typing(TypeFault, Option<Pos>),
 }
@@ -65,13 +67,15 @@ pub enum ProofFault {
     /// The text of the proof file has this fault first, at this line and column.
     #[error("{0}")]
     Text(TextFault, Pos),
-    /// These functions, none with an entry in the file, call each other in turn: each the next, and the last the first.
+    /// These functions, none with an entry in the file, call each other in turn: each the next, and
+    /// the last the first.
     #[error("recursion without derivation")]
     Cycle(Vec<Name>),
     /// The definition of this name is the first that mentions a name that isn't defined earlier.
     #[error("order")]
     Order(Name),
-    /// The entry of this function is the first of the file that isn't derived: at this place this is wrong.
+    /// The entry of this function is the first of the file that isn't derived: at this place this
+    /// is wrong.
     #[error("not derived")]
     Entry(Name, Spot, ProofText),
 }

@@ -2,7 +2,8 @@
 ghost use Rattle.std.specs.Prelude.{◌≡◌, ◌<◌, IfOk, length, List, Option, ℕ};
 ghost use Rattle.qs_core.specs.Trees.{CoreUnitTree};
 ghost use Rattle.qs_core.specs.UnitTrees.{unit_tree};
-ghost use Rattle.qs_driver.specs.Certified.{IsCertificateTold, IsEntryTold, IsMentionPlace, IsToldAs, TellsFault};
+ghost use Rattle.qs_driver.specs.Certified.{IsCertificateTold, IsEntryTold, IsMentionPlace};
+ghost use Rattle.qs_driver.specs.Certified.{IsToldAs, TellsFault};
 ghost use Rattle.qs_driver.specs.Told.{owner_of};
 ghost use Rattle.qs_certify.specs.Entries.{IsMet};
 ghost use Rattle.qs_certify.specs.declared.fault.CertifyFault.TheVariants as faults;
@@ -87,11 +88,11 @@ fn certificate_told(fault: CertFault) -> Result<WrongStep, NoMemory>
         CertFault::NoMemory => Err(NoMemory),
         CertFault::Step(path, rule) => Ok(WrongStep {
             path: path_of(path),
-            text: ProofText::Step(rule.number()),
+            text: ProofText::Step(rule),
         }),
         CertFault::Limit(path, limit) => Ok(WrongStep {
             path: path_of(path),
-            text: ProofText::Limit(limit.number()),
+            text: ProofText::Limit(limit),
         }),
     }
 }

@@ -81,8 +81,9 @@ fn lacks_memory<S: Store, O: Sink, L: Sink>(devices: Devices<'_, S, O, L>) -> St
     refuse(log, &nameless(), Status::NoMemory)
 }
 
-/// Does all that the program does: reads the words of the command line (the program's own name aside), does the
-/// command's work on the store, and writes the lines of its results to `out` and those of a fault to `log`.
+/// Does all that the program does: reads the words of the command line (the program's own name
+/// aside), does the command's work on the store, and writes the lines of its results to `out` and
+/// those of a fault to `log`.
 pub fn run_tool<S: Store, O: Sink, L: Sink>(
     alloc: Global,
     words: &[String],

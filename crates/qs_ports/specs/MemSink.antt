@@ -2,12 +2,17 @@
 use Rattle.std.specs.Prelude.{◌≡◌, ℕ, List, Contains}
 use Rattle.qs_ports.specs.Causes.{one_more}
 use Rattle.qs_ports.specs.SinkView.{SinkView}
+use Rattle.qs_ports.specs.Memory.{SinkTellsOn}
 use Rattle.qs_ports.specs.Room.{room_view}
 use Rattle.qs_ports.specs.declared.memory.mem_sink.MemSink.{MemSink}
 
 -- the sink, with its own count
 abbrev pub mem_sink_of : MemSink → SinkView
 mem_sink_of s = room_view s.room s.faults s.failed
+
+-- after a call that moves so many bytes it tells what it holds, if it did before and had the room
+abbrev pub TellsOn : MemSink → MemSink → ℕ → Type 0
+TellsOn s t moved = SinkTellsOn (mem_sink_of s) (mem_sink_of t) moved
 
 -- the most bytes that a call moves
 abbrev pub chunk_of : MemSink → ℕ

@@ -1,7 +1,8 @@
 -- What a `MemStore` is for those who use it, and at which calls it fails.
-use Rattle.std.specs.Prelude.{◌≡◌, ◌≢◌, ℕ, List, Contains}
+use Rattle.std.specs.Prelude.{◌≡◌, ◌≢◌, ℕ, List, length, Contains}
 use Rattle.qs_ports.specs.Causes.{one_more}
 use Rattle.qs_ports.specs.StoreView.{StoreView}
+use Rattle.qs_ports.specs.Memory.{StoreTellsOn, read_count}
 use Rattle.qs_ports.specs.ShelfView.{shelf_view}
 use Rattle.qs_ports.specs.Plan.{calls_in}
 use Rattle.qs_ports.specs.declared.memory.mem_store.MemStore.{MemStore}
@@ -14,6 +15,14 @@ mem_store_of s = shelf_view s.shelf s.faults s.misses
 -- the most bytes that a call of `read` or `write` moves
 abbrev pub chunk_of : MemStore → ℕ
 chunk_of s = s.chunk
+
+-- after a call that moves so many bytes it tells its files, if it did before and had the room
+abbrev pub TellsOn : MemStore → MemStore → ℕ → Type 0
+TellsOn s t moved = StoreTellsOn (mem_store_of s) (mem_store_of t) moved
+
+-- how many bytes the next `read` puts into this buffer, unless it fails
+abbrev pub readable : MemStore → List ℕ → ℕ
+readable s buffer = read_count (mem_store_of s) (chunk_of s) (length buffer)
 
 -- the calls that fail, each by its kind and its number among the calls of that kind, from 0
 abbrev pub failing_of : MemStore → List (StoreCall × ℕ)

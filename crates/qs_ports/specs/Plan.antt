@@ -1,5 +1,5 @@
 -- Which calls on a store in memory fail: a list of calls, each by its kind and its number among the calls of that kind.
-use Rattle.std.specs.Prelude.{◌≡◌, ◌≢◌, ℕ}
+use Rattle.std.specs.Prelude.{◌≡◌, ◌≢◌, ℕ, Contains}
 use Rattle.qs_ports.specs.Causes.{one_more}
 use Rattle.qs_ports.specs.declared.memory.plan.Plan.{Plan}
 use Rattle.qs_ports.specs.declared.memory.plan.StoreCall.{StoreCall}
@@ -11,6 +11,10 @@ calls_in p Open = p.opens
 calls_in p Read = p.reads
 calls_in p Create = p.creates
 calls_in p Write = p.writes
+
+-- this call, the next one of its kind, is one that fails
+abbrev pub IsListed : Plan → StoreCall → Type 0
+IsListed p kind = Contains p.failing.items (kind, calls_in p kind)
 
 -- one call more of this kind was counted: the list and the other counts are as before
 pub record CountsIn (p q : Plan) (kind : StoreCall) : Type 0 where

@@ -64,3 +64,7 @@ pub record IsCut (v w : SinkView) (text : List ℕ) (k : ℕ) : Type 0 where
 abbrev pub PutsAll : SinkView → SinkView → List ℕ → Result Unit SinkFault → Type 0
 PutsAll v w text (Ok t) = Appends v w text
 PutsAll v w text (Err e) = (k : ℕ) × IsCut v w text k
+
+-- the same of a sink that is seen by this view, before the call and after it
+abbrev pub PutsOn : {Sink : Type 0} → (Sink → SinkView) → Sink → Sink → List ℕ → Result Unit SinkFault → Type 0
+PutsOn view old new text r = PutsAll (view old) (view new) text r

@@ -60,6 +60,10 @@ ReadsMore v w old new most (Err Missing) = ⊥
 ReadsMore v w old new most (Err Failed) = OnlyReads v w × HasFailed v w × TakesAtMost v w 0
 ReadsMore v w old new most (Err NoMemory) = OnlyReads v w × HasSameCounts v w × TakesAtMost v w most
 
+-- the same of the bytes that were read so far, before the call and after it
+abbrev pub ReadsInto : StoreView → StoreView → Vec ℕ Global → Vec ℕ Global → ℕ → Result ℕ ReadFault → Type 0
+ReadsInto v w old new most r = ReadsMore v w old.items new.items most r
+
 -- how many bytes are moved where a file is made and filled
 abbrev pub moved_by : List ℕ → List ℕ → ℕ
 moved_by name bytes = length name + file_room + length bytes

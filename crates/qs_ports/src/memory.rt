@@ -1,4 +1,5 @@
-// Stores and sinks in memory: `CleanStore` and `CleanSink` never fail, `MemStore` and `MemSink` fail at listed calls.
+// Stores and sinks in memory: `CleanStore` and `CleanSink` never fail, `MemStore` and `MemSink`
+// fail at listed calls.
 mod clean_sink;
 mod clean_store;
 mod mem_sink;

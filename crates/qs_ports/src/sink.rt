@@ -12,14 +12,15 @@ pub struct SinkFault;
 pub trait Sink {
     ghost view: { Self → SinkView };
 
-    /// Appends the first bytes of the piece, at least one where it isn't empty, and answers how many. A fault comes
-    /// only where the sink counted a failure in this call, and then nothing was appended.
+    /// Appends the first bytes of the piece, at least one where it isn't empty, and answers how
+    /// many. A fault comes only where the sink counted a failure in this call, and then nothing was
+    /// appended.
     fn put(&mut self, piece: &[u8]) -> Result<usize, SinkFault>
         ensures { Puts (view self.old) (view self.new) piece.now result };
 }
 
-/// Appends all of the bytes. A fault comes only where the sink counted a failure in this call; some first bytes were
-/// appended then, and the sink isn't called after it failed.
+/// Appends all of the bytes. A fault comes only where the sink counted a failure in this call; some
+/// first bytes were appended then, and the sink isn't called after it failed.
 pub fn put_all<K: Sink>(sink: &mut K, bytes: &[u8]) -> Result<(), SinkFault>
     ensures { PutsAll (K.view sink.old) (K.view sink.new) bytes.now result }
 {

@@ -15,17 +15,20 @@ pub enum StoreFault {
     Failed,
 }
 
-/// What holds files by their names. One file may be open for reading, at a place in it, and one for writing.
+/// What holds files by their names. One file may be open for reading, at a place in it, and one for
+/// writing.
 pub trait Store {
     ghost view: { Self → StoreView };
 
-    /// Makes the file the one for reading, at its start. `Missing` comes only where the store counted a missing file in
-    /// this call, and `Failed` only where it counted a failure; both leave no file open for reading.
+    /// Makes the file the one for reading, at its start. `Missing` comes only where the store
+    /// counted a missing file in this call, and `Failed` only where it counted a failure; both
+    /// leave no file open for reading.
     fn open(&mut self, name: &str) -> Result<(), StoreFault>
         ensures { Opens (view self.old) (view self.new) name.now result };
 
-    /// Puts the next bytes of the file that is open for reading into the buffer, and answers how many: 0 into a buffer
-    /// that isn't empty exactly at the file's end or past it. `Failed` takes none of them.
+    /// Puts the next bytes of the file that is open for reading into the buffer, and answers how
+    /// many: 0 into a buffer that isn't empty exactly at the file's end or past it. `Failed` takes
+    /// none of them.
     fn read(&mut self, into: &mut [u8]) -> Result<usize, StoreFault>
         requires { IsSome (view self.old).reading }
         ensures { Reads (view self.old) (view self.new) into.old into.new result };
@@ -34,8 +37,9 @@ pub trait Store {
     fn create(&mut self, name: &str) -> Result<(), StoreFault>
         ensures { Creates (view self.old) (view self.new) name.now result };
 
-    /// Appends the first bytes of the piece to the file that is open for writing, at least one where the piece isn't
-    /// empty, and answers how many. After `Failed` nothing was appended, where the store tells its files.
+    /// Appends the first bytes of the piece to the file that is open for writing, at least one
+    /// where the piece isn't empty, and answers how many. After `Failed` nothing was appended,
+    /// where the store tells its files.
     fn write(&mut self, piece: &[u8]) -> Result<usize, StoreFault>
         requires { IsSome (view self.old).writing }
         ensures { Writes (view self.old) (view self.new) piece.now result };

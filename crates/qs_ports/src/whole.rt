@@ -1,6 +1,6 @@
 // Files as a whole.
 ghost use Rattle.std.specs.Prelude.{◌<◌, ◌≤◌, ◌≡◌, ◌+◌, ◌++◌, ◌^◌, IsSome, OnOk};
-ghost use Rattle.qs_ports.specs.Whole.{ReadsWhole, ReadsMore, TakesUpTo, WritesWhole};
+ghost use Rattle.qs_ports.specs.Whole.{ReadsWhole, ReadsInto, TakesUpTo, WritesWhole};
 
 use crate::{Store, StoreFault};
 use qs_base::NoMemory;
@@ -69,7 +69,7 @@ fn add(bytes: &mut Vec<u8>, piece: &[u8]) -> Result<(), NoMemory>
 fn read_more<S: Store>(store: &mut S, bytes: &mut Vec<u8>, most: usize) -> Result<usize, ReadFault>
     requires opened { IsSome (S.view store.old).reading }
     requires some { 0 < most }
-    ensures { ReadsMore (S.view store.old) (S.view store.new) bytes.old.items bytes.new.items most result }
+    ensures { ReadsInto (S.view store.old) (S.view store.new) bytes.old bytes.new most result }
 {
     let mut chunk = [0u8; CHUNK];
     let room = most.min(CHUNK);
@@ -78,8 +78,9 @@ fn read_more<S: Store>(store: &mut S, bytes: &mut Vec<u8>, most: usize) -> Resul
     Ok(count)
 }
 
-/// The bytes of a file, up to one past the limit, so that a file that is longer than the limit shows; no more are taken
-/// from it. `Missing` and `Failed` come only where the store counted them in this call.
+/// The bytes of a file, up to one past the limit, so that a file that is longer than the limit
+/// shows; no more are taken from it. `Missing` and `Failed` come only where the store counted them
+/// in this call.
 pub fn read_whole<S: Store>(
     alloc: Global,
     store: &mut S,
@@ -101,8 +102,8 @@ pub fn read_whole<S: Store>(
     Ok(bytes)
 }
 
-/// Makes a file of these bytes. A fault comes only where the store counted a failure in this call; the file wasn't made
-/// then, or holds some first bytes of them.
+/// Makes a file of these bytes. A fault comes only where the store counted a failure in this call;
+/// the file wasn't made then, or holds some first bytes of them.
 pub fn write_whole<S: Store>(store: &mut S, name: &str, bytes: &[u8]) -> Result<(), WriteFault>
     ensures { WritesWhole (S.view store.old) (S.view store.new) name.now bytes.now result }
 {

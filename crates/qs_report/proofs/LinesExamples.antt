@@ -4,12 +4,15 @@ use Rattle.std.specs.declared.alloc.Global.{Global}
 use Rattle.std.specs.Fmt.{digits}
 use Rattle.hex.specs.Hex.{encode_with}
 use Rattle.qs_base.specs.declared.places.Pos.{Pos}
+use Rattle.qs_types.specs.declared.limits.LimitKind.TheVariants as kinds
+use Rattle.qs_types.specs.declared.rules.Rule.TheVariants as rules
+use Rattle.qs_entail.specs.declared.fault.Rule.TheVariants as step_rules
+use Rattle.qs_entail.specs.declared.stop.Limit.TheVariants.{Terms, Degree}
 use Rattle.qs_report.specs.Lines.{bound_line, cost_line, count_line, end_line, fault_line}
 use Rattle.qs_report.specs.declared.fault_texts.Count.TheVariants.{Checked, Derived, Functions, Output}
 use Rattle.qs_report.specs.declared.fault_texts.FaultText.TheVariants.{Usage, SameName, Missing, Failed, TooLong, Lex, UnexpectedToken, UnexpectedEnd, TooDeep, Rule, Limit, NoMain, NoBody, ProofFile, Cycle, Proof, Order, ArgCount, ArgRange, Image, Trapped, StepLimit, NoBound, StackTooLarge, NoMemory}
 use Rattle.qs_report.specs.declared.fault_texts.ImageText.TheVariants as image
 use Rattle.qs_report.specs.declared.fault_texts.LexText.TheVariants as lexical
-use Rattle.qs_report.specs.declared.fault_texts.LimitKind.TheVariants as kinds
 use Rattle.qs_report.specs.declared.fault_texts.Path.{Path}
 use Rattle.qs_report.specs.declared.fault_texts.ProofFileText.TheVariants as proof_file
 use Rattle.qs_report.specs.declared.fault_texts.ProofText.TheVariants.{Shape, Mentions, Step}
@@ -116,7 +119,7 @@ too_deep : fault_line (codes "a.c") [] (TooDeep place) ≡ ended (codes "a.c:3:1
 unfolding digits
 too_deep = refl
 
-rule : fault_line (codes "a.c") [] (Rule place 17) ≡ ended (codes "a.c:3:14: rule K17")
+rule : fault_line (codes "a.c") [] (Rule place rules.IntegerOperands) ≡ ended (codes "a.c:3:14: rule K17")
 unfolding digits
 rule = refl
 
@@ -276,11 +279,11 @@ shape_at_pre = refl
 mentions_at_post : fault_line (codes "p.drv") (codes "f") (Proof Post (Mentions (codes "(old x)"))) ≡ ended (codes "p.drv: f post: mentions (old x)")
 mentions_at_post = refl
 
-limit_at_pre : fault_line (codes "p.drv") (codes "f") (Proof Pre (proof_texts.Limit 2)) ≡ ended (codes "p.drv: f pre: limit 2")
+limit_at_pre : fault_line (codes "p.drv") (codes "f") (Proof Pre (proof_texts.Limit Terms)) ≡ ended (codes "p.drv: f pre: limit 2")
 unfolding digits
 limit_at_pre = refl
 
-step_at_entry : (steps : Vec ℕ Global) → steps.items ≡ 1 ∷ 1 ∷ 0 ∷ [] → fault_line (codes "p.drv") (codes "f") (Proof (Entry (path steps)) (Step 12)) ≡ ended (codes "p.drv: f entry .1.1.0: step 12")
+step_at_entry : (steps : Vec ℕ Global) → steps.items ≡ 1 ∷ 1 ∷ 0 ∷ [] → fault_line (codes "p.drv") (codes "f") (Proof (Entry (path steps)) (Step step_rules.Fact)) ≡ ended (codes "p.drv: f entry .1.1.0: step 12")
 unfolding digits
 step_at_entry steps e = rw e refl
 
@@ -288,7 +291,7 @@ shape_at_body : (root : Vec ℕ Global) → root.items ≡ [] → fault_line (co
 unfolding digits
 shape_at_body root e = rw e refl
 
-limit_in_body : (steps : Vec ℕ Global) → steps.items ≡ 1 ∷ 1 ∷ 0 ∷ [] → (root : Vec ℕ Global) → root.items ≡ [] → fault_line (codes "p.drv") (codes "f") (Proof (BodyCert (path steps) (path root)) (proof_texts.Limit 3)) ≡ ended (codes "p.drv: f body .1.1.0 cert .: limit 3")
+limit_in_body : (steps : Vec ℕ Global) → steps.items ≡ 1 ∷ 1 ∷ 0 ∷ [] → (root : Vec ℕ Global) → root.items ≡ [] → fault_line (codes "p.drv") (codes "f") (Proof (BodyCert (path steps) (path root)) (proof_texts.Limit Degree)) ≡ ended (codes "p.drv: f body .1.1.0 cert .: limit 3")
 unfolding digits
 limit_in_body steps e root f = rw (e, f) refl
 

@@ -1,10 +1,14 @@
 -- The lines that the tool prints, a row for each. docs/TOOL.md has those that it prints today.
 use Rattle.std.specs.Prelude.{ℕ, List, [], ◌∷◌, ◌++◌, codes, decimal, flat_map}
 use Rattle.qs_base.specs.declared.places.Pos.{Pos}
-use Rattle.qs_report.specs.Words.{lex_word, proof_file_word, image_text, trap_word, limit_word, shown_text, hexadecimal, spot_text, proof_text, spaced}
+use Rattle.qs_report.specs.Words.{lex_word, proof_file_word, image_text, trap_word, rule_text, limit_word, shown_text, hexadecimal, spot_text, proof_text, spaced}
 use Rattle.qs_report.specs.declared.fault_texts.Shown.{Shown}
 use Rattle.qs_report.specs.declared.fault_texts.Count.{Count}
 use Rattle.qs_report.specs.declared.fault_texts.Count.TheVariants.{Checked, Derived, Functions, Output}
+use Rattle.qs_report.specs.declared.fault_texts.ImageText.{ImageText}
+use Rattle.qs_report.specs.declared.fault_texts.ProofText.{ProofText}
+use Rattle.qs_report.specs.declared.fault_texts.Spot.{Spot}
+use Rattle.qs_report.specs.declared.fault_texts.TrapText.{TrapText}
 use Rattle.qs_report.specs.declared.fault_texts.FaultText.{FaultText}
 use Rattle.qs_report.specs.declared.fault_texts.FaultText.TheVariants.{Usage, SameName, Missing, Failed, TooLong, Lex, UnexpectedToken, UnexpectedEnd, TooDeep, Rule, Limit, NoMain, NoBody, ProofFile, Cycle, Proof, Order, ArgCount, ArgRange, Image, Trapped, StepLimit, NoBound, StackTooLarge, NoMemory}
 
@@ -16,6 +20,18 @@ line (part ∷ parts) = part ++ line parts
 -- `FILE:L:C: TEXT`, with a line and a column in bytes, from 1
 abbrev pub line_at : List ℕ → Pos → List ℕ → List ℕ
 line_at file pos text = line (file ∷ codes ":" ∷ decimal pos.line ∷ codes ":" ∷ decimal pos.column ∷ codes ": " ∷ text ∷ [])
+
+-- the same, with a text of two parts
+abbrev pub both_at : List ℕ → Pos → List ℕ → List ℕ → List ℕ
+both_at file pos text more = line (file ∷ codes ":" ∷ decimal pos.line ∷ codes ":" ∷ decimal pos.column ∷ codes ": " ∷ text ∷ more ∷ [])
+
+-- a number between two texts
+abbrev pub between_line : List ℕ → ℕ → List ℕ → List ℕ
+between_line head number tail = line (head ∷ decimal number ∷ tail ∷ [])
+
+-- two numbers, each behind a text
+abbrev pub pair_line : List ℕ → ℕ → List ℕ → ℕ → List ℕ
+pair_line head first middle second = line (head ∷ decimal first ∷ middle ∷ decimal second ∷ [])
 
 -- ---- results
 
@@ -34,6 +50,44 @@ count_line (Derived filled) = line (codes "derived " ∷ decimal filled ∷ [])
 count_line (Functions count) = line (codes "functions " ∷ decimal count ∷ [])
 count_line (Output bytes) = line (codes "output " ∷ decimal bytes ∷ [])
 
+-- ---- the parts of lines of faults
+
+-- the names of functions that call each other, at the end of their line
+abbrev pub names_end : List (List ℕ) → List ℕ
+names_end names = line (flat_map spaced names ∷ [])
+
+abbrev pub cycle_line : List (List ℕ) → List ℕ
+cycle_line names = line (codes "recursion without derivation:" ∷ flat_map spaced names ∷ [])
+
+-- what is wrong in a derivation, at the end of its line
+abbrev pub proof_end : ProofText → List ℕ
+proof_end text = line (codes ": " ∷ proof_text text ∷ [])
+
+-- the same behind the place of it
+abbrev pub spot_end : Spot → ProofText → List ℕ
+spot_end spot text = line (spot_text spot ∷ codes ": " ∷ proof_text text ∷ [])
+
+abbrev pub spot_line : List ℕ → List ℕ → Spot → ProofText → List ℕ
+spot_line file name spot text = line (file ∷ codes ": " ∷ name ∷ codes " " ∷ spot_text spot ∷ codes ": " ∷ proof_text text ∷ [])
+
+-- `main` expects so many arguments and is given so many
+abbrev pub arguments_line : ℕ → ℕ → List ℕ
+arguments_line expected given = pair_line (codes "arguments: expected ") expected (codes " given ") given
+
+-- the argument of this number is no value of its type
+abbrev pub argument_line : ℕ → List ℕ
+argument_line argument = between_line (codes "argument ") argument (codes " out of range")
+
+abbrev pub image_line : List ℕ → ImageText → List ℕ
+image_line file fault = line (file ∷ codes ": image " ∷ image_text fault ∷ [])
+
+-- the same where a number ends it
+abbrev pub image_count_line : List ℕ → List ℕ → ℕ → List ℕ
+image_count_line file text number = line (file ∷ codes ": image " ∷ text ∷ decimal number ∷ [])
+
+abbrev pub trap_line : TrapText → ℕ → List ℕ
+trap_line cause pc = line (codes "trap " ∷ trap_word cause ∷ codes " at 0x" ∷ hexadecimal pc ∷ [])
+
 -- ---- faults: the file and the function or definition are named where the line has them
 
 abbrev pub fault_line : List ℕ → List ℕ → FaultText → List ℕ
@@ -46,18 +100,18 @@ fault_line file name (Lex pos fault) = line_at file pos (lex_word fault)
 fault_line file name (UnexpectedToken pos) = line_at file pos (codes "unexpected token")
 fault_line file name (UnexpectedEnd pos) = line_at file pos (codes "unexpected end")
 fault_line file name (TooDeep pos) = line_at file pos (codes "too deep")
-fault_line file name (Rule pos number) = line_at file pos (codes "rule K" ++ decimal number)
+fault_line file name (Rule pos rule) = line_at file pos (rule_text rule)
 fault_line file name (Limit pos kind) = line_at file pos (codes "limit " ++ limit_word kind)
 fault_line file name NoMain = line (file ∷ codes ": no main" ∷ [])
 fault_line file name (NoBody pos) = line_at file pos (codes "no body")
 fault_line file name (ProofFile pos fault) = line_at file pos (proof_file_word fault)
-fault_line file name (Cycle names) = line (codes "recursion without derivation:" ∷ flat_map spaced names.items ∷ [])
-fault_line file name (Proof spot text) = line (file ∷ codes ": " ∷ name ∷ codes " " ∷ spot_text spot ∷ codes ": " ∷ proof_text text ∷ [])
+fault_line file name (Cycle names) = cycle_line names.items
+fault_line file name (Proof spot text) = spot_line file name spot text
 fault_line file name Order = line (file ∷ codes ": order " ∷ name ∷ [])
-fault_line file name (ArgCount expected given) = line (codes "arguments: expected " ∷ decimal expected ∷ codes " given " ∷ decimal given ∷ [])
-fault_line file name (ArgRange argument) = line (codes "argument " ∷ decimal argument ∷ codes " out of range" ∷ [])
-fault_line file name (Image fault) = line (file ∷ codes ": image " ∷ image_text fault ∷ [])
-fault_line file name (Trapped cause pc) = line (codes "trap " ∷ trap_word cause ∷ codes " at 0x" ∷ hexadecimal pc ∷ [])
+fault_line file name (ArgCount expected given) = arguments_line expected given
+fault_line file name (ArgRange argument) = argument_line argument
+fault_line file name (Image fault) = image_line file fault
+fault_line file name (Trapped cause pc) = trap_line cause pc
 fault_line file name (StepLimit steps) = line (codes "step limit " ∷ decimal steps ∷ [])
 fault_line file name (NoBound bound) = line (codes "no bound: " ∷ shown_text bound ∷ [])
 fault_line file name (StackTooLarge size) = line (codes "stack too large: " ∷ decimal size ∷ [])

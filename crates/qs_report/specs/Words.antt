@@ -2,6 +2,12 @@
 use Rattle.std.specs.Prelude.{ℕ, List, [], ◌∷◌, ◌++◌, codes, decimal, flat_map}
 use Rattle.std.specs.Int.{w32, to_be_bytes}
 use Rattle.hex.specs.Hex.{encode_lower}
+use Rattle.qs_types.specs.Rules.{rule_number}
+use Rattle.qs_types.specs.declared.limits.LimitKind.{LimitKind}
+use Rattle.qs_types.specs.declared.limits.LimitKind.TheVariants.{Nodes, Functions, Parameters, Globals, Locals}
+use Rattle.qs_types.specs.declared.rules.Rule.{Rule}
+use Rattle.qs_entail.specs.Said as step_rules
+use Rattle.qs_entail.specs.Said.{limit_number}
 use Rattle.qs_report.specs.declared.fault_texts.Shown.{Shown}
 use Rattle.qs_report.specs.declared.fault_texts.Shown.TheVariants.{Number, Infinite, Wide}
 use Rattle.qs_report.specs.declared.fault_texts.LexText.{LexText}
@@ -12,8 +18,6 @@ use Rattle.qs_report.specs.declared.fault_texts.ImageText.{ImageText}
 use Rattle.qs_report.specs.declared.fault_texts.ImageText.TheVariants as image
 use Rattle.qs_report.specs.declared.fault_texts.TrapText.{TrapText}
 use Rattle.qs_report.specs.declared.fault_texts.TrapText.TheVariants as trap
-use Rattle.qs_report.specs.declared.fault_texts.LimitKind.{LimitKind}
-use Rattle.qs_report.specs.declared.fault_texts.LimitKind.TheVariants.{Nodes, Functions, Parameters, Globals, Locals}
 use Rattle.qs_report.specs.declared.fault_texts.Path.{Path}
 use Rattle.qs_report.specs.declared.fault_texts.Spot.{Spot}
 use Rattle.qs_report.specs.declared.fault_texts.Spot.TheVariants.{Pre, Post, Entry, Body, BodyCert}
@@ -62,6 +66,10 @@ trap_word trap.Store = codes "store"
 trap_word trap.Call = codes "call"
 trap_word trap.Break = codes "break"
 
+-- a typing rule, by its number
+abbrev pub rule_text : Rule → List ℕ
+rule_text rule = codes "rule K" ++ decimal (rule_number rule)
+
 abbrev pub limit_word : LimitKind → List ℕ
 limit_word Nodes = codes "nodes"
 limit_word Functions = codes "functions"
@@ -91,18 +99,22 @@ path_text (part ∷ parts) = flat_map step_text (part ∷ parts)
 abbrev pub path_after : List ℕ → Path → List ℕ
 path_after before path = before ++ path_text path.steps.items
 
+-- a path in a body, and one in the certificate there
+abbrev pub both_paths : Path → Path → List ℕ
+both_paths node path = path_after (codes "body ") node ++ path_after (codes " cert ") path
+
 abbrev pub spot_text : Spot → List ℕ
 spot_text Pre = codes "pre"
 spot_text Post = codes "post"
 spot_text (Entry path) = path_after (codes "entry ") path
 spot_text (Body path) = path_after (codes "body ") path
-spot_text (BodyCert node path) = path_after (codes "body ") node ++ path_after (codes " cert ") path
+spot_text (BodyCert node path) = both_paths node path
 
 abbrev pub proof_text : ProofText → List ℕ
 proof_text Shape = codes "shape"
 proof_text (Mentions variable) = codes "mentions " ++ variable
-proof_text (Step rule) = codes "step " ++ decimal rule
-proof_text (Limit number) = codes "limit " ++ decimal number
+proof_text (Step rule) = codes "step " ++ decimal (step_rules.rule_number rule)
+proof_text (Limit limit) = codes "limit " ++ decimal (limit_number limit)
 
 -- a blank and a name
 abbrev pub spaced : List ℕ → List ℕ

@@ -1,5 +1,7 @@
 // What the lines tell.
 use qs_base::{Name, Pos};
+use qs_entail::Limit;
+use qs_types::{LimitKind, Rule};
 
 /// A bound on the stack.
 #[derive(Clone, Copy, Debug, PartialEq, Eq)]
@@ -25,21 +27,6 @@ pub enum Count {
     Output(u64),
 }
 
-/// A count of a source that has a limit.
-#[derive(Clone, Copy, Debug, PartialEq, Eq)]
-pub enum LimitKind {
-    /// Nodes.
-    Nodes,
-    /// Names of functions.
-    Functions,
-    /// Parameters of one function.
-    Parameters,
-    /// Bytes of data.
-    Globals,
-    /// Bytes of one function's placed locals and parameters.
-    Locals,
-}
-
 /// The way from a root to a node: the numbers of the parts, from 0.
 #[derive(Debug, Drop)]
 pub struct Path {
@@ -57,7 +44,8 @@ pub enum Spot {
     Entry(Path),
     /// A node of the body.
     Body(Path),
-    /// A node of the certificate at a node of the body: the path of that node, then that within the certificate.
+    /// A node of the certificate at a node of the body: the path of that node, then that within the
+    /// certificate.
     BodyCert(Path, Path),
 }
 
@@ -68,10 +56,10 @@ pub enum ProofText {
     Shape,
     /// This variable, as a proof file writes it, can't be mentioned there.
     Mentions(Name),
-    /// The side condition of the rule of this number fails.
-    Step(u32),
-    /// A polynomial passes the limit of this number.
-    Limit(u32),
+    /// The side condition of this rule fails.
+    Step(qs_entail::Rule),
+    /// A polynomial passes this limit.
+    Limit(Limit),
 }
 
 /// What is wrong with the bytes of a source.
@@ -175,8 +163,8 @@ pub enum FaultText {
     UnexpectedEnd(Pos),
     /// The source is too high here.
     TooDeep(Pos),
-    /// The typing rule of this number is violated.
-    Rule(Pos, u32),
+    /// This typing rule is violated.
+    Rule(Pos, Rule),
     /// A count passes its limit here.
     Limit(Pos, LimitKind),
     /// No function `main` has a body.

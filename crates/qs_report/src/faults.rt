@@ -1,8 +1,9 @@
 // The lines of faults.
-ghost use Rattle.std.specs.Prelude.{◌≡◌, ◌++◌, [], ◌∷◌, codes, decimal};
-ghost use Rattle.qs_ports.specs.SinkView.{PutsAll};
-ghost use Rattle.qs_report.specs.Words.{hexadecimal, image_text, trap_word};
-ghost use Rattle.qs_report.specs.Lines.{line, line_at, fault_line};
+ghost use Rattle.qs_ports.specs.SinkView.{PutsOn};
+ghost use Rattle.qs_report.specs.Words.{rule_text};
+ghost use Rattle.qs_report.specs.Lines.{both_at, line_at, fault_line};
+ghost use Rattle.qs_report.specs.Lines.{argument_line, arguments_line, image_count_line};
+ghost use Rattle.qs_report.specs.Lines.{image_line, trap_line};
 
 use crate::derivation_faults::{put_cycle, put_proof_fault};
 use crate::parts::{put_between, put_number, put_pair, put_parts, put_two};
@@ -13,23 +14,7 @@ use hex::encode_to_slice;
 use itoa::Buffer;
 use qs_base::Pos;
 use qs_ports::{Sink, SinkFault};
-
-// Puts a line at a line and a column of a file, whose text has two parts.
-fn put_place<K: Sink>(
-    log: &mut K,
-    file: &[u8],
-    number: &[u8],
-    column: &[u8],
-    text: &[u8],
-    more: &[u8],
-) -> Result<(), SinkFault>
-    ensures { PutsAll (K.view log.old) (K.view log.new) (line (file.now ∷ codes ":" ∷ number.now ∷ codes ":" ∷ column.now ∷ codes ": " ∷ text.now ∷ more.now ∷ [])) result }
-{
-    put_parts(
-        log,
-        &[file, b":", number, b":", column, b": ", text, more, b"\n"],
-    )
-}
+use qs_types::Rule;
 
 // Puts a line at a place of a file, whose text has two parts.
 fn put_both_at<K: Sink>(
@@ -39,27 +24,36 @@ fn put_both_at<K: Sink>(
     text: &[u8],
     more: &[u8],
 ) -> Result<(), SinkFault>
-    ensures { PutsAll (K.view log.old) (K.view log.new) (line (file.now ∷ codes ":" ∷ decimal pos.line ∷ codes ":" ∷ decimal pos.column ∷ codes ": " ∷ text.now ∷ more.now ∷ [])) result }
+    ensures { PutsOn K.view log.old log.new (both_at file.now pos text.now more.now) result }
 {
     let mut lines = Buffer::new();
     let mut columns = Buffer::new();
     let number = lines.format(pos.line).as_bytes();
     let column = columns.format(pos.column).as_bytes();
-    put_place(log, file, number, column, text, more)
+    put_parts(
+        log,
+        &[file, b":", number, b":", column, b": ", text, more, b"\n"],
+    )
 }
 
 // Puts a line at a place of a file.
 fn put_at<K: Sink>(log: &mut K, file: &[u8], pos: Pos, text: &str) -> Result<(), SinkFault>
-    ensures { PutsAll (K.view log.old) (K.view log.new) (line_at file.now pos text.now) result }
+    ensures { PutsOn K.view log.old log.new (line_at file.now pos text.now) result }
 {
     put_both_at(log, file, pos, text.as_bytes(), b"")
 }
 
-fn put_rule<K: Sink>(log: &mut K, file: &[u8], pos: Pos, rule: u32) -> Result<(), SinkFault>
-    ensures { PutsAll (K.view log.old) (K.view log.new) (line_at file.now pos (codes "rule K" ++ decimal rule)) result }
+fn put_rule<K: Sink>(log: &mut K, file: &[u8], pos: Pos, rule: Rule) -> Result<(), SinkFault>
+    ensures { PutsOn K.view log.old log.new (line_at file.now pos (rule_text rule)) result }
 {
     let mut digits = Buffer::new();
-    put_both_at(log, file, pos, b"rule K", digits.format(rule).as_bytes())
+    put_both_at(
+        log,
+        file,
+        pos,
+        b"rule K",
+        digits.format(rule.number()).as_bytes(),
+    )
 }
 
 // Puts the line of an image's fault: its word, and a number behind it.
@@ -69,7 +63,7 @@ fn put_image_count<K: Sink>(
     text: &[u8],
     number: u32,
 ) -> Result<(), SinkFault>
-    ensures { PutsAll (K.view log.old) (K.view log.new) (line (file.now ∷ codes ": image " ∷ text.now ∷ decimal number ∷ [])) result }
+    ensures { PutsOn K.view log.old log.new (image_count_line file.now text.now number) result }
 {
     let mut digits = Buffer::new();
     let digits = digits.format(number).as_bytes();
@@ -77,7 +71,7 @@ fn put_image_count<K: Sink>(
 }
 
 fn put_image<K: Sink>(log: &mut K, file: &[u8], fault: ImageText) -> Result<(), SinkFault>
-    ensures { PutsAll (K.view log.old) (K.view log.new) (line (file.now ∷ codes ": image " ∷ image_text fault ∷ [])) result }
+    ensures { PutsOn K.view log.old log.new (image_line file.now fault) result }
 {
     match fault {
         ImageText::Short => put_two(log, file, b": image short"),
@@ -91,7 +85,7 @@ fn put_image<K: Sink>(log: &mut K, file: &[u8], fault: ImageText) -> Result<(), 
 }
 
 fn put_trap<K: Sink>(log: &mut K, cause: TrapText, pc: u32) -> Result<(), SinkFault>
-    ensures { PutsAll (K.view log.old) (K.view log.new) (line (codes "trap " ∷ trap_word cause ∷ codes " at 0x" ∷ hexadecimal pc ∷ [])) result }
+    ensures { PutsOn K.view log.old log.new (trap_line cause pc) result }
 {
     let mut digits = [0; 8];
     let place = pc.to_be_bytes();
@@ -102,26 +96,27 @@ fn put_trap<K: Sink>(log: &mut K, cause: TrapText, pc: u32) -> Result<(), SinkFa
 
 /// Puts the line `arguments: expected E given G`.
 pub fn put_arg_count<K: Sink>(log: &mut K, expected: u64, given: u64) -> Result<(), SinkFault>
-    ensures { PutsAll (K.view log.old) (K.view log.new) (fault_line [] [] (FaultText.ArgCount expected given)) result }
+    ensures { PutsOn K.view log.old log.new (arguments_line expected given) result }
 {
     put_pair(log, b"arguments: expected ", expected, b" given ", given)
 }
 
 /// Puts the line `argument I out of range`.
 pub fn put_arg_range<K: Sink>(log: &mut K, argument: u64) -> Result<(), SinkFault>
-    ensures { PutsAll (K.view log.old) (K.view log.new) (fault_line [] [] (FaultText.ArgRange argument)) result }
+    ensures { PutsOn K.view log.old log.new (argument_line argument) result }
 {
     put_between(log, b"argument ", argument, b" out of range")
 }
 
-/// Puts the line of a fault. The file and the function or definition have these names in it, where it has them.
+/// Puts the line of a fault. The file and the function or definition have these names in it, where
+/// it has them.
 pub fn put_fault<K: Sink>(
     log: &mut K,
     file: &[u8],
     name: &[u8],
     fault: &FaultText,
 ) -> Result<(), SinkFault>
-    ensures { PutsAll (K.view log.old) (K.view log.new) (fault_line file.now name.now fault.now) result }
+    ensures { PutsOn K.view log.old log.new (fault_line file.now name.now fault.now) result }
 {
     match fault {
         FaultText::Usage => put_two(log, b"usage: qsc COMMAND FILE OPTIONS", b""),
@@ -133,7 +128,7 @@ pub fn put_fault<K: Sink>(
         FaultText::UnexpectedToken(pos) => put_at(log, file, *pos, "unexpected token"),
         FaultText::UnexpectedEnd(pos) => put_at(log, file, *pos, "unexpected end"),
         FaultText::TooDeep(pos) => put_at(log, file, *pos, "too deep"),
-        FaultText::Rule(pos, number) => put_rule(log, file, *pos, *number),
+        FaultText::Rule(pos, rule) => put_rule(log, file, *pos, *rule),
         FaultText::Limit(pos, kind) => {
             put_both_at(log, file, *pos, b"limit ", limit_word(*kind).as_bytes())
         }

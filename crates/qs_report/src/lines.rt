@@ -43,7 +43,8 @@ pub fn count_line(alloc: Global, count: Count) -> Result<Vec<u8>, NoMemory>
     line.line(put)
 }
 
-/// The line of a fault. The file and the function or definition have these names in it, where it has them.
+/// The line of a fault. The file and the function or definition have these names in it, where it
+/// has them.
 pub fn fault_line(
     alloc: Global,
     file: &[u8],

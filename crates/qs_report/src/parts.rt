@@ -1,14 +1,14 @@
 // Lines that are put part by part. Nothing here takes memory.
 ghost use Rattle.std.specs.Prelude.{[], ◌∷◌, decimal, flat_map};
-ghost use Rattle.qs_ports.specs.SinkView.{PutsAll};
-ghost use Rattle.qs_report.specs.Lines.{line};
+ghost use Rattle.qs_ports.specs.SinkView.{PutsOn};
+ghost use Rattle.qs_report.specs.Lines.{between_line, line, pair_line};
 
 use itoa::Buffer;
 use qs_ports::{Sink, SinkFault, put_all};
 
 /// Puts these parts, one after the other.
 pub fn put_parts<K: Sink>(sink: &mut K, parts: &[&[u8]]) -> Result<(), SinkFault>
-    ensures { PutsAll (K.view sink.old) (K.view sink.new) (flat_map (λ part. part.now) parts.now) result }
+    ensures { PutsOn K.view sink.old sink.new (flat_map (λ part. part.now) parts.now) result }
 {
     for part in parts {
         put_all(sink, part)?;
@@ -18,14 +18,14 @@ pub fn put_parts<K: Sink>(sink: &mut K, parts: &[&[u8]]) -> Result<(), SinkFault
 
 /// Puts a line in two parts.
 pub fn put_two<K: Sink>(sink: &mut K, head: &[u8], tail: &[u8]) -> Result<(), SinkFault>
-    ensures { PutsAll (K.view sink.old) (K.view sink.new) (line (head.now ∷ tail.now ∷ [])) result }
+    ensures { PutsOn K.view sink.old sink.new (line (head.now ∷ tail.now ∷ [])) result }
 {
     put_parts(sink, &[head, tail, b"\n"])
 }
 
 /// Puts a line that ends with a number, in decimal.
 pub fn put_number<K: Sink>(sink: &mut K, head: &[u8], number: u64) -> Result<(), SinkFault>
-    ensures { PutsAll (K.view sink.old) (K.view sink.new) (line (head.now ∷ decimal number ∷ [])) result }
+    ensures { PutsOn K.view sink.old sink.new (line (head.now ∷ decimal number ∷ [])) result }
 {
     let mut digits = Buffer::new();
     put_two(sink, head, digits.format(number).as_bytes())
@@ -38,7 +38,7 @@ pub fn put_between<K: Sink>(
     number: u64,
     tail: &[u8],
 ) -> Result<(), SinkFault>
-    ensures { PutsAll (K.view sink.old) (K.view sink.new) (line (head.now ∷ decimal number ∷ tail.now ∷ [])) result }
+    ensures { PutsOn K.view sink.old sink.new (between_line head.now number tail.now) result }
 {
     let mut digits = Buffer::new();
     put_parts(sink, &[head, digits.format(number).as_bytes(), tail, b"\n"])
@@ -52,7 +52,7 @@ pub fn put_pair<K: Sink>(
     middle: &[u8],
     second: u64,
 ) -> Result<(), SinkFault>
-    ensures { PutsAll (K.view sink.old) (K.view sink.new) (line (head.now ∷ decimal first ∷ middle.now ∷ decimal second ∷ [])) result }
+    ensures { PutsOn K.view sink.old sink.new (pair_line head.now first middle.now second) result }
 {
     let mut digits = Buffer::new();
     let mut others = Buffer::new();

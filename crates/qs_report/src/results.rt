@@ -1,6 +1,6 @@
 // The lines of results.
 ghost use Rattle.std.specs.Prelude.{◌≡◌, [], ◌∷◌, codes};
-ghost use Rattle.qs_ports.specs.SinkView.{PutsAll};
+ghost use Rattle.qs_ports.specs.SinkView.{PutsOn};
 ghost use Rattle.qs_report.specs.Words.{shown_text};
 ghost use Rattle.qs_report.specs.Lines.{line, bound_line, cost_line, count_line, end_line};
 
@@ -11,7 +11,7 @@ use qs_ports::{Sink, SinkFault};
 
 /// Puts the line `cost NAME N` of a function and its cost in bytes of stack.
 pub fn put_cost<K: Sink>(out: &mut K, name: &[u8], cost: u32) -> Result<(), SinkFault>
-    ensures { PutsAll (K.view out.old) (K.view out.new) (cost_line name.now cost) result }
+    ensures { PutsOn K.view out.old out.new (cost_line name.now cost) result }
 {
     let mut digits = Buffer::new();
     let cost = digits.format(cost).as_bytes();
@@ -20,7 +20,7 @@ pub fn put_cost<K: Sink>(out: &mut K, name: &[u8], cost: u32) -> Result<(), Sink
 
 /// Puts a bound behind a word.
 pub fn put_shown<K: Sink>(sink: &mut K, head: &[u8], bound: Shown) -> Result<(), SinkFault>
-    ensures { PutsAll (K.view sink.old) (K.view sink.new) (line (head.now ∷ shown_text bound ∷ [])) result }
+    ensures { PutsOn K.view sink.old sink.new (line (head.now ∷ shown_text bound ∷ [])) result }
 {
     match bound {
         Shown::Number(n) => {
@@ -34,21 +34,21 @@ pub fn put_shown<K: Sink>(sink: &mut K, head: &[u8], bound: Shown) -> Result<(),
 
 /// Puts the line `bound N`, `bound infinite` or `bound wide`.
 pub fn put_bound<K: Sink>(out: &mut K, bound: Shown) -> Result<(), SinkFault>
-    ensures { PutsAll (K.view out.old) (K.view out.new) (bound_line bound) result }
+    ensures { PutsOn K.view out.old out.new (bound_line bound) result }
 {
     put_shown(out, b"bound ", bound)
 }
 
 /// Puts the line `exit S` of a program that ended with this status.
 pub fn put_end<K: Sink>(log: &mut K, status: u8) -> Result<(), SinkFault>
-    ensures { PutsAll (K.view log.old) (K.view log.new) (end_line status) result }
+    ensures { PutsOn K.view log.old log.new (end_line status) result }
 {
     put_number(log, b"exit ", u64::from(status))
 }
 
 /// Puts the line of a count: `checked A derived B`, `derived B`, `functions F` or `output B`.
 pub fn put_count<K: Sink>(out: &mut K, count: Count) -> Result<(), SinkFault>
-    ensures { PutsAll (K.view out.old) (K.view out.new) (count_line count) result }
+    ensures { PutsOn K.view out.old out.new (count_line count) result }
 {
     match count {
         Count::Checked(given, filled) => put_pair(

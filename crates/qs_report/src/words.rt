@@ -2,7 +2,8 @@
 ghost use Rattle.std.specs.Prelude.{◌≡◌};
 ghost use Rattle.qs_report.specs.Words.{lex_word, proof_file_word, trap_word, limit_word};
 
-use crate::{LexText, LimitKind, ProofFileText, TrapText};
+use crate::{LexText, ProofFileText, TrapText};
+use qs_types::LimitKind;
 
 pub fn lex_word(fault: LexText) -> &'static str
     ensures { result.now ≡ lex_word fault }

@@ -44,7 +44,8 @@ fn index(alloc: Global, i: Index) -> Result<String, AllocError> {
     format!(in alloc; " + {count} {signedness:?} * {element}{member}")
 }
 
-// An address: the pointer, the offset of a member where one is taken, and the element where there is one.
+// An address: the pointer, the offset of a member where one is taken, and the element where there
+// is one.
 fn address(alloc: Global, p: Address) -> Result<String, AllocError> {
     let base = operand(alloc, p.base)?;
     let member = offset(alloc, p.offset)?;
@@ -244,8 +245,8 @@ fn parameter(alloc: Global, p: Parameter) -> Result<String, AllocError> {
     }
 }
 
-// The first line of a function: its name, where its arguments go, how many temporaries it has, and the sizes of
-// its blocks.
+// The first line of a function: its name, where its arguments go, how many temporaries it has, and
+// the sizes of its blocks.
 fn head(alloc: Global, name: &str, f: &TacFunction) -> Result<String, AllocError> {
     let mut text = format!(in alloc; "function {name}")?;
     for p in &f.parameters {

@@ -1,7 +1,7 @@
-//! Runs tables of rows. A row has files, the words of a call and the calls of devices that fail, and what the
-//! call must answer: its status, its lines and the files that it leaves. Each row is run through the tool over
-//! files and streams in memory; what differs is printed, and at the end of a table how many rows it has.
-//! docs/ROWS.md has the form of a table.
+//! Runs tables of rows. A row has files, the words of a call and the calls of devices that fail,
+//! and what the call must answer: its status, its lines and the files that it leaves. Each row is
+//! run through the tool over files and streams in memory; what differs is printed, and at the end
+//! of a table how many rows it has. docs/ROWS.md has the form of a table.
 #![tactic(auto)]
 
 mod content;

@@ -3,6 +3,7 @@ use crate::fault::TableFault;
 use crate::linear::linear_text;
 use qs_base::NoMemory;
 use qs_cli::{CliFault, read_words};
+use qs_driver::SOURCE_LIMIT;
 use qs_elaborate::elaborate;
 use qs_isa::{decode, encode};
 use qs_lexer::tokens;
@@ -12,9 +13,6 @@ use qs_print::print;
 use qs_syntax::{Token, Unit};
 use qs_typing::check;
 use std::alloc::{AllocError, Global};
-
-// The longest source, in bytes.
-const SOURCE_LIMIT: usize = 1_048_576;
 
 // The unit of a source, where it has one.
 fn read(alloc: Global, source: &[u8]) -> Option<Unit> {
@@ -36,8 +34,8 @@ fn text_of(alloc: Global, unit: &Unit) -> Result<Option<Vec<u8>>, NoMemory> {
     }
 }
 
-/// The text that the source is printed as, where its copy and the unit that the text reads back to are printed
-/// alike; None where they differ, or where the source has no unit.
+/// The text that the source is printed as, where its copy and the unit that the text reads back to
+/// are printed alike; None where they differ, or where the source has no unit.
 pub fn printed_unit(alloc: Global, source: &[u8]) -> Result<Option<Vec<u8>>, TableFault> {
     let Some(unit) = read(alloc, source) else {
         return Ok(None);
@@ -55,7 +53,8 @@ pub fn printed_unit(alloc: Global, source: &[u8]) -> Result<Option<Vec<u8>>, Tab
     }
 }
 
-/// The linear code of the source; None where it has no unit, or one that is ill typed or beyond the limits.
+/// The linear code of the source; None where it has no unit, or one that is ill typed or beyond the
+/// limits.
 pub fn printed_code(alloc: Global, source: &[u8]) -> Result<Option<Vec<u8>>, TableFault> {
     let Some(unit) = read(alloc, source) else {
         return Ok(None);
@@ -110,7 +109,8 @@ fn line_of(alloc: Global, word: u32) -> Result<String, AllocError> {
     }
 }
 
-/// A line for each word, a hexadecimal number: the instruction that it is, and the word of that instruction.
+/// A line for each word, a hexadecimal number: the instruction that it is, and the word of that
+/// instruction.
 pub fn printed_instructions(
     alloc: Global,
     words: &[String],

@@ -157,7 +157,8 @@ impl Progress {
     }
 }
 
-/// Runs the rows of a table, prints what differs and how many rows there are, and tells how many differ.
+/// Runs the rows of a table, prints what differs and how many rows there are, and tells how many
+/// differ.
 pub fn run_table<R: Print + AllocGlobal>(
     rt: &R,
     name: &str,

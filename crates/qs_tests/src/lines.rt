@@ -1,6 +1,7 @@
 // That memory is found for the lines as bytes.
 use qs_base::Pos;
 use qs_report::{Count, FaultText, Shown, bound_line, cost_line, count_line, end_line, fault_line};
+use qs_types::Rule;
 use std::test::Fail;
 
 #[test]
@@ -29,7 +30,7 @@ fn the_line_of_a_fault(rt: HostRuntime) -> Result<(), Fail> {
         line: 4,
         column: 16,
     };
-    let line = fault_line(rt.alloc(), b"a.c", b"", &FaultText::Rule(pos, 21))?;
+    let line = fault_line(rt.alloc(), b"a.c", b"", &FaultText::Rule(pos, Rule::TruthOperand))?;
     assert_eq!(rt; line.as_slice(), b"a.c:4:16: rule K21\n".as_slice());
     Ok(())
 }

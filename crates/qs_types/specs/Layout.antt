@@ -1,12 +1,13 @@
 -- Sizes, alignments and the offsets of members (C11 6.2.8, 6.5.3.4, 6.7.2.1).
 use Rattle.std.specs.Prelude.{ℕ, zero, suc, ◌+◌, ◌-◌, ◌*◌, ◌/◌, max, nat_le, Bool, List, [], ◌∷◌, Option, Some, None, is_some, map, slice_set, if◌then◌else◌}
 use Rattle.std.specs.List.{slice_get}
+use Rattle.std.specs.Option.{option_and_then}
 use Rattle.qs_types.specs.declared.extent.Extent.{Extent}
 use Rattle.qs_types.specs.Types.{TypeTree, int, unsigned, char, void, pointer, array, struct, MemberTree, StructTree, Structs}
 
+-- std's `option_and_then`, with the value first, as it reads
 abbrev pub and_then : {A B : Type 0} → Option A → (A → Option B) → Option B
-and_then None go = None
-and_then (Some x) go = go x
+and_then o go = option_and_then go o
 
 -- where the members of a struct lie, in their order, and the struct's own size and alignment
 pub record StructLayout : Type 0 where

@@ -6,7 +6,8 @@ ghost use Rattle.qs_types.specs.Constants.{shape_value, value_of};
 ghost use Rattle.qs_types.specs.Contexts.{context_with};
 ghost use Rattle.qs_types.specs.EnvOf.{env_tree};
 ghost use Rattle.qs_types.specs.Expressions as expressions;
-ghost use Rattle.qs_types.specs.KnownTypes.{base_size, converted_known, is_known_base, known_in, named_size};
+ghost use Rattle.qs_types.specs.KnownTypes.{base_size, converted_known, is_known_base, known_in};
+ghost use Rattle.qs_types.specs.KnownTypes.{named_size};
 
 use crate::env::Env;
 use crate::tags::tag_place;
@@ -273,7 +274,8 @@ fn combined(operator: BinaryOperator, p: bool, q: bool, a: u32, b: u32) -> Optio
     }
 }
 
-/// Whether the left operand decides, so that the right one isn't evaluated (C11 6.5.13p4, 6.5.14p4).
+/// Whether the left operand decides, so that the right one isn't evaluated (C11 6.5.13p4,
+/// 6.5.14p4).
 fn decides(operator: BinaryOperator, a: u32) -> bool
     ensures { result ≡ constants.decides operator a }
 {
@@ -380,8 +382,8 @@ fn named_size(env: &Env, tags: &IndexSet<Name>, name: &TypeName) -> Option<u32>
 
 // ---- values
 
-/// The value, where it is defined; a part that isn't evaluated needs none. Its type names may speak of
-/// these structs, which have these tags.
+/// The value, where it is defined; a part that isn't evaluated needs none. Its type names may speak
+/// of these structs, which have these tags.
 #[cycle(value)]
 pub fn value(env: &Env, tags: &IndexSet<Name>, e: &Expr) -> Option<u32>
     ensures { result ≡ value_of (context_with (env_tree env.now) tags.now.keys) (expr_tree e.now) }

@@ -12,6 +12,7 @@ use crate::structs::StructType;
 #[derive(Drop)]
 pub struct Env {
     structs: Vec<StructType>,
-    ghost laid_out: { (k : ℕ) → kept_layouts structs.items k ≡ layout_of (structs_tree structs.items) k },
+    ghost laid_out: { (k : ℕ) →
+        kept_layouts structs.items k ≡ layout_of (structs_tree structs.items) k },
     ghost whole: { map has_layout structs.items ≡ map has_members structs.items },
 }

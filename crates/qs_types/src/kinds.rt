@@ -1,7 +1,8 @@
 // Kinds of types (C11 6.2.5).
 ghost use Rattle.std.specs.Prelude.{◌≡◌};
 ghost use Rattle.qs_types.specs.TypeOf.{type_tree};
-ghost use Rattle.qs_types.specs.Types.{is_array, is_integer, is_pointer, is_scalar, is_struct, is_void, same_type, unsigned};
+ghost use Rattle.qs_types.specs.Types.{is_array, is_integer, is_pointer, is_scalar, is_struct};
+ghost use Rattle.qs_types.specs.Types.{is_void, same_type, unsigned};
 
 use crate::types::CType;
 

@@ -1,7 +1,9 @@
 // Sizes, alignments and the offsets of members (C11 6.2.8, 6.5.3.4, 6.7.2.1).
 ghost use Rattle.std.specs.Prelude.{◌≡◌, ◌≤◌, ◌<◌, ◌+◌, ◌^◌, true, Some, IfOk, IfSome, is_some};
-ghost use Rattle.qs_types.specs.Layout.{rounded_up, array_extent, struct_extent, extent_within, layout_of, size_of, alignment_of, offset_of, is_complete, is_sized, sized_by};
-ghost use Rattle.qs_types.specs.LayoutLaws.{IsSmall, Rounds, SizesAligned, StructsLaidOut};
+ghost use Rattle.qs_types.specs.Layout.{array_extent, extent_within, sized_by, struct_extent};
+ghost use Rattle.qs_types.specs.Layout.{alignment_of, is_complete, is_sized, layout_of, offset_of};
+ghost use Rattle.qs_types.specs.Layout.{rounded_up, size_of};
+ghost use Rattle.qs_types.specs.LayoutLaws.{IsSmall};
 ghost use Rattle.qs_types.specs.TypeOf.{type_tree};
 ghost use Rattle.qs_types.specs.StructsOf.{layout_tree};
 ghost use Rattle.qs_types.specs.Defining.{IsLaidOut, IsWhole};
@@ -159,18 +161,3 @@ fn whole_layout(offsets: Vec<u32>, size: u32, alignment: u32) -> Option<StructLa
         alignment,
     })
 }
-
-/// Each struct is laid out as the types of its members ask.
-pub fn structs_laid_out()
-    ensures { StructsLaidOut }
-{}
-
-/// The size of each type is a multiple of its alignment.
-pub fn sizes_aligned()
-    ensures { SizesAligned }
-{}
-
-/// What is rounded up is the least multiple that isn't below.
-pub fn rounds()
-    ensures { Rounds }
-{}

@@ -6,7 +6,9 @@ mod conversions;
 mod env;
 mod extent;
 mod kinds;
+mod laws;
 mod layout;
+mod limits;
 mod rules;
 mod structs;
 mod tags;
@@ -17,10 +19,11 @@ pub use conversions::{arithmetic, promoted};
 pub use env::Env;
 pub use extent::Extent;
 pub use kinds::{is_array, is_integer, is_pointer, is_scalar, is_struct, is_unsigned, is_void};
+pub use laws::{rounds, sizes_aligned, structs_laid_out};
 pub use layout::{
-    SIZE_LIMIT, align_of, extent_of, is_complete, members_layout, offset_of, rounds, size_of,
-    sizes_aligned, structs_laid_out,
+    SIZE_LIMIT, align_of, extent_of, is_complete, members_layout, offset_of, size_of,
 };
+pub use limits::LimitKind;
 pub use rules::Rule;
 pub use structs::{StructLayout, StructType};
 pub use tags::tag_place;

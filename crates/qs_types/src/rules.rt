@@ -7,7 +7,8 @@ ghost use Rattle.qs_types.specs.Rules.{rule_number};
 pub enum Rule {
     /// In one scope a name is declared once (C11 6.7p3).
     DeclaredTwice,
-    /// A name that is used is a variable or parameter that was declared before and is in scope (6.5.1).
+    /// A name that is used is a variable or parameter that was declared before and is in scope
+    /// (6.5.1).
     UnknownVariable,
     /// A called name is a function that was declared before and that no variable hides (6.5.2.2).
     UnknownFunction,
@@ -17,7 +18,8 @@ pub enum Rule {
     ArgumentType,
     /// A struct tag was declared before or is being defined, and it is defined once (6.7.2.3).
     UnknownTag,
-    /// `void` is only a result without stars; objects have complete types (6.7p7, 6.7.2.1p3, 6.5.3.4p1).
+    /// `void` is only a result without stars; objects have complete types (6.7p7, 6.7.2.1p3,
+    /// 6.5.3.4p1).
     IncompleteType,
     /// The members of a struct have different names (6.7.2.1).
     MemberTwice,
@@ -25,7 +27,8 @@ pub enum Rule {
     ArrayLength,
     /// No type is larger than 16,777,216 bytes.
     LargeType,
-    /// Parameters are scalars, and have names where there is a body; a result is a scalar or void (6.9.1p5).
+    /// Parameters are scalars, and have names where there is a body; a result is a scalar or void
+    /// (6.9.1p5).
     SignatureType,
     /// `main` returns `int` and takes only `int` and `unsigned` (5.1.2.2.1).
     MainType,
@@ -35,33 +38,42 @@ pub enum Rule {
     IndirectOperand,
     /// The operand of `&` is an lvalue (6.5.3.2p1).
     AddressOperand,
-    /// The operand of `++` and `--` is an lvalue, an integer or a pointer to an object (6.5.2.4, 6.5.3.1).
+    /// The operand of `++` and `--` is an lvalue, an integer or a pointer to an object (6.5.2.4,
+    /// 6.5.3.1).
     StepOperand,
     /// Operands of `* / % & ^ | << >>` are integers (6.5.5, 6.5.7, 6.5.10 to 6.5.12).
     IntegerOperands,
-    /// Operands of `+` and `-` are integers, or pointers to objects where they may be (6.5.6p2, p3).
+    /// Operands of `+` and `-` are integers, or pointers to objects where they may be (6.5.6p2,
+    /// p3).
     SumOperands,
     /// Operands of `< <= > >=` are two integers or two pointers of one type (6.5.8p2).
     OrderOperands,
-    /// Operands of `== !=` are two integers, two pointers of one type, or a pointer and a null constant (6.5.9p2).
+    /// Operands of `== !=` are two integers, two pointers of one type, or a pointer and a null
+    /// constant (6.5.9p2).
     EqualityOperands,
-    /// Operands of `&&` and `||`, and conditions of statements, are scalars (6.5.13, 6.5.14, 6.8.4.1, 6.8.5).
+    /// Operands of `&&` and `||`, and conditions of statements, are scalars (6.5.13, 6.5.14,
+    /// 6.8.4.1, 6.8.5).
     TruthOperand,
     /// `?:` has a scalar before `?`, and branches of one kind (6.5.15).
     BranchTypes,
-    /// Left of `=` stands an lvalue that is no array, right of it what is assignable to it (6.5.16.1).
+    /// Left of `=` stands an lvalue that is no array, right of it what is assignable to it
+    /// (6.5.16.1).
     AssignedType,
     /// A compound assignment has an lvalue on its left and the operands of its operator (6.5.16.2).
     CompoundOperands,
-    /// `.` has an lvalue of a struct type, `->` a pointer to a complete struct, each with that member (6.5.2.3).
+    /// `.` has an lvalue of a struct type, `->` a pointer to a complete struct, each with that
+    /// member (6.5.2.3).
     UnknownMember,
-    /// A cast goes between integers, between pointers, or from a null constant to a pointer (6.5.4).
+    /// A cast goes between integers, between pointers, or from a null constant to a pointer
+    /// (6.5.4).
     CastType,
-    /// `return` has an assignable expression where the result isn't void, and none where it is (6.8.6.4).
+    /// `return` has an assignable expression where the result isn't void, and none where it is
+    /// (6.8.6.4).
     ReturnedType,
     /// `break` and `continue` stand in a loop (6.8.6.2, 6.8.6.3).
     OutsideLoop,
-    /// A void call and an assignment of a struct stand only where the value is discarded, another struct where it may.
+    /// A void call and an assignment of a struct stand only where the value is discarded, another
+    /// struct where it may.
     MisplacedValue,
     /// An initialiser fits (6.7.9).
     InitialiserType,

@@ -113,9 +113,6 @@ locals_add : (c : Context) (base : Base) (vs : List VariableTree) → AddsBlocks
 locals_add c base [] = nothing_kept
 locals_add c base (v ∷ vs) = then_blocks (local_adds c base v) (locals_add (after_variable false c base v) base vs)
 
-with_globals : {f : WalkTree → WalkTree} {gs hs : List Block} {ls : List LocalTree} → gs ≡ hs → AddsBlocks f gs ls → AddsBlocks f hs ls
-with_globals {f = f} {ls = ls} e a = subst (λ l. AddsBlocks f l ls) e a
-
 global_adds : (c : Context) (base : Base) (v : VariableTree) → AddsBlocks (variable_walked true c base v) (global_block c.structs v.declarator.node.id (variable_declared c base v).type ∷ []) []
 global_adds c base v =
     judged_kept v.declarator.node (variable_tests true c (after_variable true c base v) base v)

@@ -3,8 +3,8 @@ use Rattle.std.proofs.Common.{◌≡◌, ◌≤◌, ◌⊎◌, inl, inr, ℕ, su
 use Rattle.std.proofs.lemmas.Bool.Decides.{nat_tests}
 use Rattle.std.specs.Option.{option_or}
 use Rattle.qs_syntax.specs.Trees.{UnitTree}
-use Rattle.qs_report.specs.declared.fault_texts.LimitKind.{LimitKind}
-use Rattle.qs_report.specs.declared.fault_texts.LimitKind.TheVariants as kinds
+use Rattle.qs_types.specs.declared.limits.LimitKind.{LimitKind}
+use Rattle.qs_types.specs.declared.limits.LimitKind.TheVariants as kinds
 use Rattle.qs_types.specs.declared.rules.Rule.{Rule}
 use Rattle.qs_types.specs.Rules.{Fault, rule_number}
 use Rattle.qs_types.specs.UnitRules.{faults_in, is_among}

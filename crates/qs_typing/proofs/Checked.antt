@@ -2,8 +2,8 @@
 use Rattle.std.proofs.Common.{◌≡◌, inl, inr, ℕ, Bool, true, false, List, [], ◌∷◌, ◌++◌, Option, Some, None, is_some, map, refl, sym, ap, ◌∙◌}
 use Rattle.std.specs.Option.{option_or}
 use Rattle.qs_syntax.specs.Trees.{UnitTree}
-use Rattle.qs_report.specs.declared.fault_texts.LimitKind.{LimitKind}
-use Rattle.qs_report.specs.declared.fault_texts.LimitKind.TheVariants as kinds
+use Rattle.qs_types.specs.declared.limits.LimitKind.{LimitKind}
+use Rattle.qs_types.specs.declared.limits.LimitKind.TheVariants as kinds
 use Rattle.qs_types.specs.Contexts.{Context, start_context}
 use Rattle.qs_types.specs.Limits.{IsWithinLimits, data_blocks, variable_blocks_from, text_block, block_past, first_past_nodes, node_limit, first_past_functions, function_limit, first_past_parameters, parameter_limit, first_past_globals, global_limit, first_past_locals, local_limit}
 use Rattle.qs_types.specs.References.{unit_calls}

@@ -1,16 +1,16 @@
 -- The types that declarations give, as they are built.
-use Rattle.std.proofs.Common.{◌≡◌, ℕ, ◌+◌, ◌-◌, ◌<◌, ◌≤◌, List, [], ◌∷◌, ◌++◌, Some, Box, rules, length, take, get_or, refl, sym, ap, ◌∙◌, arith}
+use Rattle.std.proofs.Common.{◌≡◌, ℕ, suc, ◌+◌, ◌-◌, ◌<◌, ◌≤◌, List, [], ◌∷◌, ◌++◌, Some, Box, rules, length, take, get_or, refl, sym, ap, ◌∙◌, arith}
 use Rattle.std.proofs.lemmas.List.{take_more}
 use Rattle.std.specs.declared.alloc.Global.{Global}
 use Rattle.qs_syntax.specs.Trees.{list}
 use Rattle.qs_syntax.specs.TreeOf.{initialisers_tree, list_tree}
+use Rattle.qs_syntax.specs.declared.declarations.Initialiser.{Initialiser}
 use Rattle.qs_syntax.specs.declared.declarations.InitialiserList.{InitialiserList, the_lemmas}
 use Rattle.qs_types.specs.Types.{TypeTree, array}
 use Rattle.qs_types.specs.TypeOf.{type_step, type_tree}
-use Rattle.qs_types.specs.Declarations.{arrays, length_by}
+use Rattle.qs_types.specs.Declarations.{arrays, initialisers_count, length_by}
 use Rattle.qs_types.specs.declared.types.CType.{CType, CType-F, Array, fold-roll-CType}
 use Rattle.qs_types.specs.declared.types.CType.TheVariants.{rolls-Array}
-use Rattle.qs_typing.proofs.Counts.{count_of}
 
 -- ---- arrays
 
@@ -35,6 +35,10 @@ arrays_step t b ns i h k e =
     ∙ ap (λ u. arrays u (take (i - 1) ns)) (sym (array_of b (get_or ns (i - 1) 0)))
 
 -- ---- the length that a list gives
+
+pub count_of : (is : List Initialiser) → initialisers_count (initialisers_tree is) ≡ length is
+count_of [] = refl
+count_of (i ∷ is) = ap suc (count_of is)
 
 list_of : (l : InitialiserList) → list_tree l ≡ list l.node (initialisers_tree l.items.items)
 list_of l = search (rules, the_lemmas)

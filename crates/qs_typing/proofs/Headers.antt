@@ -1,13 +1,14 @@
 -- A walk over a function: its header, and its body.
-use Rattle.std.proofs.Common.{◌≡◌, Bool, not, List, ◌∷◌, Option, Some, None, is_some, option_map, refl, sym, ap, ◌∙◌}
+use Rattle.std.proofs.Common.{◌≡◌, Bool, not, List, [], ◌∷◌, Option, Some, None, is_some, option_map, refl, sym, ap, ◌∙◌}
 use Rattle.qs_syntax.specs.Trees.{ParameterTree, FunctionTree, Stmts}
-use Rattle.qs_types.specs.Types.{TypeTree, is_struct}
+use Rattle.qs_types.specs.Types.{TypeTree, Structs, is_struct}
 use Rattle.qs_types.specs.declared.rules.Rule.TheVariants as rules
 use Rattle.qs_types.specs.Rules.{Test}
 use Rattle.qs_types.specs.Contexts.{Context, base_type, inner_scope, lookup}
 use Rattle.qs_types.specs.Expressions.{type_or_void}
-use Rattle.qs_types.specs.UnitRules.{agrees_with, is_void_pointer, main_tests, after_function, header_tests, parameter_types, result_type}
+use Rattle.qs_types.specs.UnitRules.{agrees_with, is_void_pointer, main_tests, after_function, header_tests, parameter_types, result_type, with_parameters}
 use Rattle.qs_typing.specs.Functions.{items_walked}
+use Rattle.qs_typing.specs.Noted.{parameters_noted}
 use Rattle.qs_typing.specs.UnitWalk.{WalkTree, node_opened, node_judged, parameters_walked, body_walked, function_walked}
 
 pub still_some : {A B : Type 0} (g : A → B) (o : Option A) → is_some o ≡ is_some (option_map g o)
@@ -50,3 +51,13 @@ body_is c known f ps types to ss before judged k p ts t s j =
 
 pub no_body : (c : Context) (f : FunctionTree) (before judged : WalkTree) → f.body ≡ None → judged ≡ header_walk c f before → judged ≡ function_walked c f before
 no_body c f before judged n j = j ∙ ap (λ body. body_walked c f body (header_walk c f before)) (sym n)
+
+-- ---- parameters without types: nothing is declared, and nothing is noted
+
+pub no_types : (c : Context) (ps : List ParameterTree) → with_parameters c ps [] ≡ c
+no_types c [] = refl
+no_types c (p ∷ ps) = refl
+
+pub none_noted : (structs : Structs) (ps : List ParameterTree) → parameters_noted structs ps [] ≡ []
+none_noted structs [] = refl
+none_noted structs (p ∷ ps) = refl

@@ -5,17 +5,14 @@ pub mod Least
 pub mod First
 pub mod Walks
 pub mod Aligned
-pub mod TreeLaws
 pub mod MemberLookups
 pub mod Watched
 pub mod Scoping
 pub mod Heads
 pub mod Headers
 pub mod Adding
-pub mod Ends
 pub mod Declaring
 pub mod Defining
-pub mod Counts
 pub mod Declarators
 pub mod Blocks
 pub mod Causes

@@ -1,6 +1,6 @@
 -- The first cause to refuse a unit.
 use Rattle.std.proofs.Common.{◌≡◌, List, [], ◌∷◌, Option, Some, None, refl}
-use Rattle.qs_report.specs.declared.fault_texts.LimitKind.TheVariants as kinds
+use Rattle.qs_types.specs.declared.limits.LimitKind.TheVariants as kinds
 use Rattle.qs_syntax.specs.declared.operators.BinaryOperator.TheVariants as binaries
 use Rattle.qs_syntax.specs.declared.types.Base.TheVariants as bases
 use Rattle.qs_syntax.specs.Numbering.{numbered_unit}

@@ -1,8 +1,10 @@
 -- The walk over an expression finds what the definitions say.
-use Rattle.std.proofs.Common.{◌≡◌, ℕ, ◌<◌, List, [], ◌∷◌, ◌++◌, Option, Some, None, refl, sym, ap, ◌∙◌, length, append_assoc, append-nil, length-append, slice_set, arith, if◌then◌else◌, true, false}
+use Rattle.std.proofs.Common.{◌≡◌, ℕ, ◌<◌, List, [], ◌∷◌, ◌++◌, Option, Some, None, refl, sym, ap, ◌∙◌, length, append_assoc, append-nil, length-append, slice_set, arith, rules, if◌then◌else◌, true, false}
 use Rattle.std.proofs.Math.Seq.{set-append_seam}
 use Rattle.qs_syntax.specs.Trees.{ExprTree, expr, ShapeTree, Exprs, no_exprs, expr_and}
 use Rattle.qs_syntax.specs.Trees as trees
+use Rattle.qs_syntax.specs.TreeOf.{expr_tree, shape_tree}
+use Rattle.qs_syntax.specs.declared.expressions.Expr.{Expr, the_lemmas}
 use Rattle.qs_syntax.specs.declared.nodes.Node.{Node}
 use Rattle.qs_types.specs.Types.{TypeTree}
 use Rattle.qs_types.specs.Rules.{Test, Fault, faults_of}
@@ -17,6 +19,10 @@ use Rattle.qs_typing.specs.ExprFindings.{shape_referent, expr_findings, part_fin
 use Rattle.qs_typing.specs.PartsOf.{joined, one_more, type_by}
 use Rattle.qs_typing.specs.Walk.{opened, filled, with_addressed, walked, parts_walked, all_walked}
 use Rattle.qs_typing.proofs.Least.{least_swaps, least_with-append}
+
+-- the tree of an expression, one level opened
+pub expr_of : (e : Expr) → expr_tree e ≡ expr e.node (shape_tree e.shape)
+expr_of e = search (rules, the_lemmas)
 
 -- ---- findings in turn
 

@@ -62,9 +62,6 @@ with_findings f g = record {
   least = least_with f.least g.faults;
 }
 
-abbrev pub no_findings : Findings
-no_findings = record { types = []; referents = []; addressed = []; faults = [] }
-
 -- of two parts
 abbrev pub both : Findings → Findings → Findings
 both g h = record {

@@ -4,7 +4,8 @@ ghost use Rattle.qs_syntax.specs.TreeOf.{expr_tree};
 ghost use Rattle.qs_types.specs.Expressions.{may_combine, compound_judged};
 ghost use Rattle.qs_types.specs.TypeOf.{type_tree};
 ghost use Rattle.qs_typing.specs.JudgedOf.{judged_tree};
-ghost use Rattle.qs_typing.specs.Judging.{IsAssign, IsCombined, IsMoved, JudgesAssign, MayAssign, may_move};
+ghost use Rattle.qs_typing.specs.Judging.{IsAssign, IsCombined, IsMoved, JudgesAssign, MayAssign};
+ghost use Rattle.qs_typing.specs.Judging.{may_move};
 
 use crate::judged::{Judged, keeps, with_tests};
 use crate::operands::{is_assignable, is_lvalue};

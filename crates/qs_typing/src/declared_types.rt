@@ -1,5 +1,6 @@
 // The types that declarations give (C11 6.7), and the rules that their nodes keep.
-ghost use Rattle.std.specs.Prelude.{◌≡◌, ◌+◌, IfOk, None, Some, length, not, option_map, if◌then◌else◌};
+ghost use Rattle.std.specs.Prelude.{◌≡◌, ◌+◌, IfOk, None, Some, length, not, option_map};
+ghost use Rattle.std.specs.Prelude.{if◌then◌else◌};
 ghost use Rattle.qs_syntax.specs.TreeOf.{expr_tree, initialiser_tree, lengths_tree, list_tree};
 ghost use Rattle.qs_types.specs.Declarations as declarations;
 ghost use Rattle.qs_types.specs.EnvOf.{env_tree};
@@ -8,9 +9,13 @@ ghost use Rattle.qs_types.specs.Layout.{is_sized};
 ghost use Rattle.qs_types.specs.Types.{pointer};
 ghost use Rattle.qs_types.specs.TypeOf.{type_tree};
 ghost use Rattle.qs_typing.specs.ContextOf.{context_tree};
-ghost use Rattle.qs_typing.specs.DeclaredOf.{declared_tree, is_incomplete, option_type, tests_and_type};
-ghost use Rattle.qs_typing.specs.Declares.{AreWholeLengths, IsArrayParameter, IsDeclared, IsObject, IsObjectType, IsParameter, IsPlainParameter, IsPointer, IsSizedByTests, IsVariable};
-ghost use Rattle.qs_typing.specs.LengthsOf.{AreTyped, AreValued, ElementsAreTyped, ElementsAreValued, is_length, is_length_typed};
+ghost use Rattle.qs_typing.specs.DeclaredOf.{declared_tree, is_incomplete, option_type};
+ghost use Rattle.qs_typing.specs.DeclaredOf.{tests_and_type};
+ghost use Rattle.qs_typing.specs.Declares.{AreWholeLengths, IsArrayParameter, IsDeclared, IsObject};
+ghost use Rattle.qs_typing.specs.Declares.{IsObjectType, IsParameter, IsPlainParameter, IsPointer};
+ghost use Rattle.qs_typing.specs.Declares.{IsSizedByTests, IsVariable};
+ghost use Rattle.qs_typing.specs.LengthsOf.{AreTyped, AreValued, ElementsAreTyped};
+ghost use Rattle.qs_typing.specs.LengthsOf.{ElementsAreValued, is_length, is_length_typed};
 
 use crate::context::{Context, is_void_base};
 use crate::judged::{Test, keeps, violates};

@@ -1,5 +1,6 @@
 // The walk over expressions (C11 6.5).
-ghost use Rattle.std.specs.Prelude.{◌≡◌, ◌+◌, [], IfOk, OnOk, length, option_to_list, if◌then◌else◌};
+ghost use Rattle.std.specs.Prelude.{◌≡◌, ◌+◌, [], IfOk, OnOk, length, option_to_list};
+ghost use Rattle.std.specs.Prelude.{if◌then◌else◌};
 ghost use Rattle.qs_syntax.specs.TreeOf.{expr_tree, shape_tree};
 ghost use Rattle.qs_types.specs.ExpressionFaults.{used};
 ghost use Rattle.qs_types.specs.Expressions.{judged};
@@ -8,7 +9,13 @@ ghost use Rattle.qs_types.specs.Types.{array, char, int, unsigned};
 ghost use Rattle.qs_typing.specs.ContextOf.{context_tree};
 ghost use Rattle.qs_typing.specs.EntityOf.{entity_at};
 ghost use Rattle.qs_typing.specs.ExprFindings.{given_referent, referent, shape_referent};
-ghost use Rattle.qs_typing.specs.ExprWalks.{AddsFindings, AddsType, HasType, HaveTypes, IsJudgedAssign, IsJudgedBinary, IsJudgedComma, IsJudgedConditional, IsJudgedMember, IsJudgedShape, IsJudgedSubscript, IsJudgedUnary, NotesNode, NotesOperand, Settles, Walks, WalksAll, WalksAssigned, WalksComma, WalksObject, WalksPart, WalksParts, WalksThree, WalksTwo, WalksUnary};
+ghost use Rattle.qs_typing.specs.ExprWalks.{AddsFindings, AddsType, HasType, HaveTypes};
+ghost use Rattle.qs_typing.specs.ExprWalks.{IsJudgedAssign, IsJudgedBinary, IsJudgedComma};
+ghost use Rattle.qs_typing.specs.ExprWalks.{IsJudgedConditional, IsJudgedMember, IsJudgedShape};
+ghost use Rattle.qs_typing.specs.ExprWalks.{IsJudgedSubscript, IsJudgedUnary, NotesNode};
+ghost use Rattle.qs_typing.specs.ExprWalks.{NotesOperand, Settles, Walks, WalksAll, WalksAssigned};
+ghost use Rattle.qs_typing.specs.ExprWalks.{WalksComma, WalksObject, WalksPart, WalksParts};
+ghost use Rattle.qs_typing.specs.ExprWalks.{WalksThree, WalksTwo, WalksUnary};
 ghost use Rattle.qs_typing.specs.JudgedOf.{judged_tree};
 ghost use Rattle.qs_typing.specs.Judging.{option_judged};
 ghost use Rattle.qs_typing.specs.PartsOf.{option_type, type_by};
@@ -424,8 +431,8 @@ fn with_one_more(all: Option<Vec<CType>>, t: Option<CType>) -> Result<Option<Vec
 }
 
 /// The type of an expression, if it has one. What is found in it is added to what was found before:
-/// the types of its nodes, what its names stand for, the declarations whose names are operands of `&`,
-/// and the rules that its nodes break (C11 6.5).
+/// the types of its nodes, what its names stand for, the declarations whose names are operands of
+/// `&`, and the rules that its nodes break (C11 6.5).
 #[tactic(auto, using(crate::proofs::Walks::expr_walked))]
 pub fn walk_expression(
     alloc: Global,

@@ -23,8 +23,8 @@ pub struct Fault {
     pub rule: Rule,
 }
 
-/// The type of each node so far, and what its name stands for, at its number; the declarations whose
-/// names are operands of `&`; the least fault.
+/// The type of each node so far, and what its name stands for, at its number; the declarations
+/// whose names are operands of `&`; the least fault.
 #[derive(Drop)]
 pub struct Found {
     pub types: Vec<Option<CType>>,

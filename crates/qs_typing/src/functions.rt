@@ -1,5 +1,6 @@
 // Functions (C11 6.7.6.3, 6.9.1).
-ghost use Rattle.std.specs.Prelude.{◌≡◌, ◌∷◌, ◌++◌, [], Some, IfOk, OnOk, map, option_map, option_to_list, if◌then◌else◌};
+ghost use Rattle.std.specs.Prelude.{◌≡◌, ◌∷◌, ◌++◌, [], Some, IfOk, OnOk, map, option_map};
+ghost use Rattle.std.specs.Prelude.{option_to_list, if◌then◌else◌};
 ghost use Rattle.std.specs.List.{list_all};
 ghost use Rattle.qs_syntax.specs.TreeOf.{function_tree, parameter_tree, stmts_tree};
 ghost use Rattle.qs_types.specs.Contexts.{inner_scope};
@@ -13,7 +14,15 @@ ghost use Rattle.qs_types.specs.TypeOf.{type_tree};
 ghost use Rattle.qs_types.specs.UnitRules as rules;
 ghost use Rattle.qs_typing.specs.ContextOf.{context_tree};
 ghost use Rattle.qs_typing.specs.PartsOf.{option_type};
-ghost use Rattle.qs_typing.specs.FunctionWalks.{AreHeaderTests, AreNoted, AreParameterTests, AreParameterTypes, AreWithOne, DeclaresParameter, DeclaresParameters, HasParameterTypes, IsDeclaredFunction, IsMainTest, IsParameterType, IsResultType, IsSignature, IsSignatureTest, KnowsFunction, KnowsParameter, KnowsParameters, WalksDeclarator, WalksFunction, WalksItems, WalksParameter, WalksParameters, agrees_with, are_lengths_typed, header_by};
+ghost use Rattle.qs_typing.specs.FunctionWalks.{AreHeaderTests, AreNoted, AreParameterTests};
+ghost use Rattle.qs_typing.specs.FunctionWalks.{AreParameterTypes, AreWithOne, DeclaresParameter};
+ghost use Rattle.qs_typing.specs.FunctionWalks.{DeclaresParameters, HasParameterTypes};
+ghost use Rattle.qs_typing.specs.FunctionWalks.{IsDeclaredFunction, IsMainTest, IsParameterType};
+ghost use Rattle.qs_typing.specs.FunctionWalks.{IsResultType, IsSignature, IsSignatureTest};
+ghost use Rattle.qs_typing.specs.FunctionWalks.{KnowsFunction, KnowsParameter, KnowsParameters};
+ghost use Rattle.qs_typing.specs.FunctionWalks.{WalksDeclarator, WalksFunction, WalksItems};
+ghost use Rattle.qs_typing.specs.FunctionWalks.{WalksParameter, WalksParameters, agrees_with};
+ghost use Rattle.qs_typing.specs.FunctionWalks.{are_lengths_typed, header_by};
 ghost use Rattle.qs_typing.specs.Declares.{IsParameter};
 ghost use Rattle.qs_typing.specs.EntityOf.{entity_tree, signature_tree};
 ghost use Rattle.qs_typing.specs.JudgedOf.{test_tree};
@@ -375,7 +384,8 @@ fn copied_signature(alloc: Global, s: &Signature) -> Result<Signature, NoMemory>
     })
 }
 
-/// What a header declares: a body that was given before stays, and so does a function that is given.
+/// What a header declares: a body that was given before stays, and so does a function that is
+/// given.
 fn declared_function(
     alloc: Global,
     entity: Option<&Entity>,
@@ -434,7 +444,7 @@ fn declare_function(
 
 // ---- bodies
 
-#[tactic(auto, using(crate::proofs::Ends::no_types))]
+#[tactic(auto, using(crate::proofs::Headers::no_types))]
 fn declare_parameters(
     alloc: Global,
     c: &mut Context,
@@ -451,7 +461,7 @@ fn declare_parameters(
     Ok(())
 }
 
-#[tactic(auto, using(crate::proofs::Ends::none_noted))]
+#[tactic(auto, using(crate::proofs::Headers::none_noted))]
 fn parameters_noted(
     alloc: Global,
     structs: &Env,

@@ -10,7 +10,11 @@ ghost use Rattle.qs_types.specs.Sites.{may_hold};
 ghost use Rattle.qs_types.specs.TypeOf.{type_tree};
 ghost use Rattle.qs_typing.specs.ContextOf.{context_tree};
 ghost use Rattle.qs_typing.specs.EntityOf.{entity_at};
-ghost use Rattle.qs_typing.specs.Initialisers.{Fills, Initialises, WalksList, WalksValue, all_fit, all_typed, fits, fits_as, is_char, is_constant_at, is_typed, is_value_typed, list_fits_at, list_fits_in, option_takes_list, type_at, value_fits};
+ghost use Rattle.qs_typing.specs.Initialisers.{Fills, Initialises, WalksList, WalksValue, all_fit};
+ghost use Rattle.qs_typing.specs.Initialisers.{all_typed, fits, fits_as, is_char, is_constant_at};
+ghost use Rattle.qs_typing.specs.Initialisers.{is_typed, is_value_typed, list_fits_at};
+ghost use Rattle.qs_typing.specs.Initialisers.{list_fits_in, option_takes_list, type_at};
+ghost use Rattle.qs_typing.specs.Initialisers.{value_fits};
 
 use crate::context::Context;
 use crate::declared_types::text_length;
@@ -269,7 +273,7 @@ fn count_of_members(types: &Env, k: u32) -> usize
 }
 
 /// Whether a list of so many initialisers fits, where there is a type.
-#[tactic(auto, using(crate::proofs::Counts::count_of))]
+#[tactic(auto, using(crate::proofs::Declaring::count_of))]
 fn list_fits(types: &Env, t: Option<&CType>, items: &[Initialiser]) -> bool
     ensures { result ≡ list_fits_in types.now t.entry items.now }
 {

@@ -1,5 +1,12 @@
-// The laws of the names of functions. Each is the contract of an empty function.
-ghost use Rattle.qs_typing.specs.LatestHeaders.{GivenBehindFronts, GivenInBodies, LatestBehindFronts, LatestInBodies};
+// The laws of the names of functions, and what each typed unit keeps. Each is the contract of an
+// empty function.
+ghost use Rattle.qs_types.specs.Limits.{KeepsLimits};
+ghost use Rattle.qs_typing.specs.LatestHeaders.{GivenBehindFronts, GivenInBodies};
+ghost use Rattle.qs_typing.specs.LatestHeaders.{LatestBehindFronts, LatestInBodies};
+ghost use Rattle.qs_typing.specs.Refusals.{IsAccepted};
+ghost use Rattle.qs_typing.specs.TypedOf.{typed_tree};
+
+use crate::typed_unit::TypedUnit;
 
 /// Behind any declarations of a unit a function's name stands for its latest header (C11 6.2.1p7).
 pub fn functions_are_latest()
@@ -20,3 +27,18 @@ pub fn given_functions_keep_types()
 pub fn given_functions_keep_types_in_bodies()
     ensures { GivenInBodies }
 {}
+
+impl TypedUnit {
+    /// It keeps the rules, its `main` has a body, and so has each function that is called; its
+    /// counts are within their limits.
+    pub fn is_accepted(&self)
+        ensures { IsAccepted (typed_tree self.now) }
+    {}
+
+    /// Its nodes, functions, parameters and bytes are counted, and each count is at most its limit;
+    /// it has a reading.
+    #[tactic(auto, using(crate::proofs::TypedLaws::keeps_limits))]
+    pub fn keeps_limits(&self)
+        ensures { KeepsLimits (typed_tree self.now) }
+    {}
+}

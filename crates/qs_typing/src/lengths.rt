@@ -7,7 +7,9 @@ ghost use Rattle.qs_types.specs.Expressions.{type_of};
 ghost use Rattle.qs_types.specs.TypeOf.{type_tree};
 ghost use Rattle.qs_typing.specs.ContextOf.{context_tree};
 ghost use Rattle.qs_typing.specs.DeclaredOf.{all_lengths, numbers, one_length};
-ghost use Rattle.qs_typing.specs.LengthsOf.{AreTyped, AreValued, ElementsAreTyped, ElementsAreValued, WalksGiven, WalksLengths, WholeTyped, is_length, is_length_typed};
+ghost use Rattle.qs_typing.specs.LengthsOf.{AreTyped, AreValued, ElementsAreTyped};
+ghost use Rattle.qs_typing.specs.LengthsOf.{ElementsAreValued, WalksGiven, WalksLengths};
+ghost use Rattle.qs_typing.specs.LengthsOf.{WholeTyped, is_length, is_length_typed};
 
 use crate::context::Context;
 use crate::positions::Position;

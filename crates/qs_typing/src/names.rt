@@ -3,7 +3,9 @@ ghost use Rattle.std.specs.Prelude.{◌≡◌, IfOk};
 ghost use Rattle.qs_types.specs.Expressions.{unknown_name, unknown_call, size_judged};
 ghost use Rattle.qs_typing.specs.ContextOf.{context_tree};
 ghost use Rattle.qs_typing.specs.JudgedOf.{judged_tree};
-ghost use Rattle.qs_typing.specs.NameJudging.{ArgumentsFit, IsCast, IsSignature, JudgesCall, JudgesCast, JudgesFunction, JudgesName, JudgesObject, JudgesTyped, JudgesVariable};
+ghost use Rattle.qs_typing.specs.NameJudging.{ArgumentsFit, IsCast, IsSignature, JudgesCall};
+ghost use Rattle.qs_typing.specs.NameJudging.{JudgesCast, JudgesFunction, JudgesName, JudgesObject};
+ghost use Rattle.qs_typing.specs.NameJudging.{JudgesTyped, JudgesVariable};
 
 use crate::context::{Context, is_void_base};
 use crate::entity::{Entity, Signature};

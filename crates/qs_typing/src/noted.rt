@@ -49,8 +49,9 @@ pub struct Local {
     pub is_object: bool,
 }
 
-/// The names that are called, the texts that are blocks, the variables of file scope, the locals of the
-/// function so far, and the local at which the placed locals of a function first passed their limit.
+/// The names that are called, the texts that are blocks, the variables of file scope, the locals of
+/// the function so far, and the local at which the placed locals of a function first passed their
+/// limit.
 #[derive(Drop)]
 pub struct Noted {
     pub calls: Vec<Name>,
@@ -97,8 +98,8 @@ pub fn local_of(structs: &Env, node: u32, t: &Option<CType>) -> Local
     }
 }
 
-/// The first block that ends past the limit, where each begins at the least multiple of 4 behind the
-/// one before.
+/// The first block that ends past the limit, where each begins at the least multiple of 4 behind
+/// the one before.
 pub fn block_past(limit: u32, blocks: &[Block]) -> Option<u32>
     ensures { result ≡ block_past limit 0 (map block_tree blocks.now) }
 {

@@ -50,7 +50,8 @@ fn is_lvalue_shape(shape: &Shape) -> bool
     }
 }
 
-/// Whether an expression whose value has the type `from` may be assigned to the type `to` (C11 6.5.16.1p1).
+/// Whether an expression whose value has the type `from` may be assigned to the type `to` (C11
+/// 6.5.16.1p1).
 pub fn is_assignable(to: &CType, e: &Expr, from: &CType) -> bool
     ensures { result ≡ is_assignable (type_tree to.now) (expr_tree e.now) (type_tree from.now) }
 {

@@ -1,11 +1,15 @@
-// What operators ask of their operands, and the types that they give (C11 6.5.2 to 6.5.15). An expression
-// is judged where its parts have types.
+// What operators ask of their operands, and the types that they give (C11 6.5.2 to 6.5.15). An
+// expression is judged where its parts have types.
 ghost use Rattle.std.specs.Prelude.{◌≡◌, IfOk};
 ghost use Rattle.qs_types.specs.EnvOf.{env_tree};
-ghost use Rattle.qs_types.specs.Expressions.{may_add, may_subtract, difference_type, may_order, order_judged, truth_judged};
+ghost use Rattle.qs_types.specs.Expressions.{may_add, may_subtract, difference_type, may_order};
+ghost use Rattle.qs_types.specs.Expressions.{order_judged, truth_judged};
 ghost use Rattle.qs_types.specs.TypeOf.{type_tree};
 ghost use Rattle.qs_typing.specs.JudgedOf.{judged_tree};
-ghost use Rattle.qs_typing.specs.Judging.{IsArithmetic, IsBinary, IsConditional, IsDifference, IsEquality, IsIntegers, IsSubscript, IsSum, IsUnary, JudgesBinary, JudgesComma, JudgesConditional, JudgesStep, JudgesSubscript, JudgesUnary, may_equal};
+ghost use Rattle.qs_typing.specs.Judging.{IsArithmetic, IsBinary, IsConditional, IsDifference};
+ghost use Rattle.qs_typing.specs.Judging.{IsEquality, IsIntegers, IsSubscript, IsSum, IsUnary};
+ghost use Rattle.qs_typing.specs.Judging.{JudgesBinary, JudgesComma, JudgesConditional, JudgesStep};
+ghost use Rattle.qs_typing.specs.Judging.{JudgesSubscript, JudgesUnary, may_equal};
 
 use crate::judged::{Judged, keeps, violates, with_tests};
 use crate::operands::{alike_pointers, is_lvalue};

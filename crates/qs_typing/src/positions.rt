@@ -1,7 +1,10 @@
 // Where expressions stand.
 ghost use Rattle.std.specs.Prelude.{◌≡◌};
 ghost use Rattle.qs_syntax.specs.TreeOf.{shape_tree};
-ghost use Rattle.qs_types.specs.ExpressionFaults.{is_discarded, is_whole, operand_position, assigned_position, object_position, right_position, is_call, is_assignment, is_misplaced};
+ghost use Rattle.qs_types.specs.ExpressionFaults.{is_discarded, is_whole, operand_position};
+ghost use Rattle.qs_types.specs.ExpressionFaults.{assigned_position, object_position};
+ghost use Rattle.qs_types.specs.ExpressionFaults.{right_position, is_call, is_assignment};
+ghost use Rattle.qs_types.specs.ExpressionFaults.{is_misplaced};
 ghost use Rattle.qs_types.specs.TypeOf.{type_tree};
 ghost use Rattle.qs_typing.specs.PositionOf.{position_tree};
 

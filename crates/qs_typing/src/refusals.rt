@@ -1,7 +1,7 @@
 // The check of a unit.
 ghost use Rattle.std.specs.Prelude.{◌≡◌, IfErr, IfOk, OnOk, map};
 ghost use Rattle.qs_syntax.specs.TreeOf.{decl_tree, function_tree};
-ghost use Rattle.qs_report.specs.declared.fault_texts.LimitKind.TheVariants as kinds;
+ghost use Rattle.qs_types.specs.declared.limits.LimitKind.TheVariants as kinds;
 ghost use Rattle.qs_syntax.specs.UnitTrees.{unit_tree};
 ghost use Rattle.qs_types.specs.Limits as limits;
 ghost use Rattle.qs_types.specs.WellTyped as well_typed;
@@ -9,7 +9,8 @@ ghost use Rattle.qs_typing.specs.ContextOf.{context_tree};
 ghost use Rattle.qs_typing.specs.Checking.{IsEnd, IsFirstPast, IsLate, IsUndefined, WalksUnit};
 ghost use Rattle.qs_typing.specs.EntityOf.{entity_at};
 ghost use Rattle.qs_typing.specs.Noting.{AreTextBlocks, IsTextBlock};
-ghost use Rattle.qs_typing.specs.Refusals.{IsAccepted, IsTold, early_refusal, first_past, has_main_in, limit_fault};
+ghost use Rattle.qs_typing.specs.Refusals.{IsAccepted, IsTold, early_refusal, first_past};
+ghost use Rattle.qs_typing.specs.Refusals.{has_main_in, limit_fault};
 ghost use Rattle.qs_typing.specs.Sets.{names_once};
 ghost use Rattle.qs_typing.specs.TypedOf.{typed_tree};
 ghost use Rattle.qs_typing.specs.declared.refusals.TypeFault.TheVariants as faults;
@@ -22,17 +23,17 @@ use crate::units::walk_declarations;
 use crate::walk::Walk;
 use indexmap::IndexSet;
 use qs_base::{Name, NoMemory};
-use qs_report::LimitKind;
 use qs_syntax::{Decl, Function, Unit};
-use qs_types::Rule;
+use qs_types::{LimitKind, Rule};
 use std::alloc::Global;
 use thiserror::Error;
 
-/// Why a unit is refused, in this order: a limit of nodes, functions or parameters, a rule, no main, a
-/// function without a body, a limit of globals or locals.
+/// Why a unit is refused, in this order: a limit of nodes, functions or parameters, a rule, no
+/// main, a function without a body, a limit of globals or locals.
 #[derive(Clone, Copy, PartialEq, Eq, Debug, Error)]
 pub enum TypeFault {
-    /// The node with this number breaks this rule: no node before it breaks one, nor it one before this.
+    /// The node with this number breaks this rule: no node before it breaks one, nor it one before
+    /// this.
     #[error("node {0} breaks a rule")]
     Rule(u32, Rule),
     /// What is counted first passes its limit at the node with this number.
@@ -41,7 +42,8 @@ pub enum TypeFault {
     /// No function `main` has a body (C11 5.1.2.2.1).
     #[error("no main")]
     NoMain,
-    /// The function whose first declaration is the node with this number is called and has no body (C11 6.9p5).
+    /// The function whose first declaration is the node with this number is called and has no body
+    /// (C11 6.9p5).
     #[error("the function at node {0} is called and has no body")]
     Undefined(u32),
     /// No memory was found.
@@ -276,8 +278,8 @@ fn walk_unit(alloc: Global, unit: &Unit) -> Result<(Context, Walk), NoMemory>
     Ok((c, walk))
 }
 
-/// The typed unit, where every node keeps the rules and the counts are within their limits; or why the
-/// unit is refused: the first cause in the order of `TypeFault`, or want of memory.
+/// The typed unit, where every node keeps the rules and the counts are within their limits; or why
+/// the unit is refused: the first cause in the order of `TypeFault`, or want of memory.
 #[tactic(auto, using(crate::proofs::Checked::early_told, crate::proofs::Checked::late_told, crate::proofs::Checked::told_of_good))]
 pub fn check(alloc: Global, unit: &Unit) -> Result<TypedUnit, TypeFault>
     ensures unit { IfOk result (λ typed. typed_tree typed ≡ unit_tree unit.now) }

@@ -2,7 +2,8 @@
 ghost use Rattle.std.specs.Prelude.{◌≡◌, ◌++◌, OnOk};
 ghost use Rattle.qs_syntax.specs.TreeOf.{expr_tree, exprs_tree};
 ghost use Rattle.qs_types.specs.References.{expr_calls, exprs_calls};
-ghost use Rattle.qs_typing.specs.Noting.{AddsAllTexts, AddsBothCalls, AddsBothTexts, AddsCalls, AddsShapeTexts, AddsText, AddsTexts, NotesSite};
+ghost use Rattle.qs_typing.specs.Noting.{AddsAllTexts, AddsBothCalls, AddsBothTexts, AddsCalls};
+ghost use Rattle.qs_typing.specs.Noting.{AddsShapeTexts, AddsText, AddsTexts, NotesSite};
 
 use crate::noted::{Noted, TextBlock};
 use qs_base::{Name, NoMemory};

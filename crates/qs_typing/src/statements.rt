@@ -1,6 +1,7 @@
 // Statements (C11 6.8).
 ghost use Rattle.std.specs.Prelude.{◌≡◌, IfOk, OnOk, map, option_map, option_to_list};
-ghost use Rattle.qs_syntax.specs.TreeOf.{else_tree, expr_tree, option_tree, start_tree, stmt_tree, stmts_tree};
+ghost use Rattle.qs_syntax.specs.TreeOf.{else_tree, expr_tree, option_tree, start_tree, stmt_tree};
+ghost use Rattle.qs_syntax.specs.TreeOf.{stmts_tree};
 ghost use Rattle.qs_syntax.specs.Trees.{return};
 ghost use Rattle.qs_types.specs.Contexts.{inner_scope, inside_loop};
 ghost use Rattle.qs_types.specs.Expressions.{type_of};
@@ -10,8 +11,16 @@ ghost use Rattle.qs_types.specs.TypeOf.{type_tree};
 ghost use Rattle.qs_typing.specs.ContextOf.{context_tree};
 ghost use Rattle.qs_typing.specs.JudgedOf.{test_tree};
 ghost use Rattle.qs_typing.specs.PositionOf.{position_tree};
-ghost use Rattle.qs_typing.specs.Statements.{after_statements, head_tests_by, head_walked, return_tests_by, typed_by};
-ghost use Rattle.qs_typing.specs.StatementWalks.{WalksDiscarded, WalksDo, WalksFor, WalksIf, WalksWhile, IsConditionTest, IsHeadTest, IsOptionType, IsReturnTest, IsReturned, IsStartTyped, JudgesJump, JudgesOne, KnowsStart, KnowsStatement, KnowsStatements, WalksBlock, WalksBody, WalksCondition, WalksElse, WalksHead, WalksOption, WalksPart, WalksReturn, WalksStart, WalksStatement, WalksStatements};
+ghost use Rattle.qs_typing.specs.Statements.{after_statements, head_tests_by, head_walked};
+ghost use Rattle.qs_typing.specs.Statements.{return_tests_by, typed_by};
+ghost use Rattle.qs_typing.specs.StatementWalks.{WalksDiscarded, WalksDo, WalksFor, WalksIf};
+ghost use Rattle.qs_typing.specs.StatementWalks.{WalksWhile, IsConditionTest, IsHeadTest};
+ghost use Rattle.qs_typing.specs.StatementWalks.{IsOptionType, IsReturnTest, IsReturned};
+ghost use Rattle.qs_typing.specs.StatementWalks.{IsStartTyped, JudgesJump, JudgesOne, KnowsStart};
+ghost use Rattle.qs_typing.specs.StatementWalks.{KnowsStatement, KnowsStatements, WalksBlock};
+ghost use Rattle.qs_typing.specs.StatementWalks.{WalksBody, WalksCondition, WalksElse, WalksHead};
+ghost use Rattle.qs_typing.specs.StatementWalks.{WalksOption, WalksPart, WalksReturn, WalksStart};
+ghost use Rattle.qs_typing.specs.StatementWalks.{WalksStatement, WalksStatements};
 ghost use Rattle.qs_typing.specs.UnitWalk as walks;
 ghost use Rattle.qs_typing.specs.WalkOf.{walk_tree};
 
@@ -316,7 +325,8 @@ fn walk_for(
     walk: &mut Walk,
 ) -> Result<(), NoMemory>
     ensures context { OnOk result (context_tree c.new ≡ context_tree c.old) }
-    ensures walked { OnOk result (WalksFor c.old node start.now condition.now step.now body.now walk.old walk.new) }
+    ensures walked { OnOk result
+        (WalksFor c.old node start.now condition.now step.now body.now walk.old walk.new) }
 {
     walk.open()?;
     let around = c.enter_scope();

@@ -8,7 +8,9 @@ ghost use Rattle.qs_typing.specs.ContextOf.{context_tree};
 ghost use Rattle.qs_typing.specs.DeclaredOf.{option_type};
 ghost use Rattle.qs_typing.specs.Declares.{IsMember};
 ghost use Rattle.qs_typing.specs.LengthsOf.{AreTyped, AreValued};
-ghost use Rattle.qs_typing.specs.StructWalks.{AddsDeclared, AddsGroup, AddsMembers, AreMemberTests, DefinesAt, KnowsStruct, WalksGroup, WalksMember, WalksMembers, WalksStruct};
+ghost use Rattle.qs_typing.specs.StructWalks.{AddsDeclared, AddsGroup, AddsMembers, AreMemberTests};
+ghost use Rattle.qs_typing.specs.StructWalks.{DefinesAt, KnowsStruct, WalksGroup, WalksMember};
+ghost use Rattle.qs_typing.specs.StructWalks.{WalksMembers, WalksStruct};
 
 use crate::context::Context;
 use crate::declared_types::{Declared, declarator_declared};

@@ -22,9 +22,10 @@ use qs_base::Name;
 use qs_syntax::Unit;
 use qs_types::{CType, Env};
 
-/// A unit that keeps the rules and is within the limits, with the type of each expression at the number of
-/// its node and what each name and call stands for, the declarations whose names are operands of `&`, the
-/// structs with their tags, the blocks of the variables of file scope, and the texts that are blocks.
+/// A unit that keeps the rules and is within the limits, with the type of each expression at the
+/// number of its node and what each name and call stands for, the declarations whose names are
+/// operands of `&`, the structs with their tags, the blocks of the variables of file scope, and the
+/// texts that are blocks.
 #[derive(Drop)]
 pub struct TypedUnit {
     unit: Unit,

@@ -11,7 +11,8 @@ use qs_base::NoMemory;
 use qs_types::{CType, Env, arithmetic, is_complete, is_integer, is_pointer};
 use std::alloc::Global;
 
-/// The type that a pointer leads to, and that of an array's elements; of another type the type itself.
+/// The type that a pointer leads to, and that of an array's elements; of another type the type
+/// itself.
 pub fn referenced(t: CType) -> CType
     ensures { type_tree result ≡ referenced (type_tree t) }
 {

@@ -1,6 +1,7 @@
 // Units (C11 6.9).
 ghost use Rattle.std.specs.Prelude.{OnOk};
-ghost use Rattle.qs_typing.specs.DeclarationWalks.{KnowsDeclaration, KnowsDeclarations, WalksDeclaration, WalksDeclarations};
+ghost use Rattle.qs_typing.specs.DeclarationWalks.{KnowsDeclaration, KnowsDeclarations};
+ghost use Rattle.qs_typing.specs.DeclarationWalks.{WalksDeclaration, WalksDeclarations};
 
 use crate::context::Context;
 use crate::functions::walk_function;

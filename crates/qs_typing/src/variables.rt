@@ -5,7 +5,10 @@ ghost use Rattle.qs_typing.specs.DeclaredOf.{option_type};
 ghost use Rattle.qs_typing.specs.Declares.{IsVariable};
 ghost use Rattle.qs_typing.specs.EntityOf.{entity_tree};
 ghost use Rattle.qs_typing.specs.Initialisers.{WalksValue, is_value_typed, value_fits};
-ghost use Rattle.qs_typing.specs.VariableWalks.{AreVariableTests, HasDeclaredType, IsTested, KnowsAll, KnowsOne, WalksAll, WalksDeclarator, WalksOne, WalksOption, are_lengths_typed, breaks_rule, holds_back};
+ghost use Rattle.qs_typing.specs.VariableWalks.{AreVariableTests, HasDeclaredType, IsTested};
+ghost use Rattle.qs_typing.specs.VariableWalks.{KnowsAll, KnowsOne, WalksAll, WalksDeclarator};
+ghost use Rattle.qs_typing.specs.VariableWalks.{WalksOne, WalksOption, are_lengths_typed};
+ghost use Rattle.qs_typing.specs.VariableWalks.{breaks_rule, holds_back};
 ghost use Rattle.qs_typing.specs.Variables.{fits_of};
 
 use crate::context::Context;

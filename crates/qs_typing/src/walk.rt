@@ -1,7 +1,9 @@
 // A walk over a unit.
 ghost use Rattle.std.specs.Prelude.{◌≡◌, ◌<◌, IfOk, OnOk, length};
 ghost use Rattle.qs_typing.specs.ExprWalks.{HasType};
-ghost use Rattle.qs_typing.specs.SiteWalks.{GivesType, JoinsLeast, JudgesNode, NotesDeclared, OpensObject, WalkBeginsBody, WalksExpression, WalksSite};
+ghost use Rattle.qs_typing.specs.SiteWalks.{GivesType, JoinsLeast, JudgesNode, NotesDeclared};
+ghost use Rattle.qs_typing.specs.SiteWalks.{OpensObject, WalkBeginsBody, WalksExpression};
+ghost use Rattle.qs_typing.specs.SiteWalks.{WalksSite};
 ghost use Rattle.qs_typing.specs.UnitWalk.{node_opened, start_walk, with_body_ended};
 ghost use Rattle.qs_typing.specs.WalkOf.{walk_tree};
 
@@ -67,8 +69,8 @@ impl Walk {
         self.found.judge(node.id, tests);
     }
 
-    /// The type of an expression that is no part of another. It may be a text that only fills an array
-    /// of file scope.
+    /// The type of an expression that is no part of another. It may be a text that only fills an
+    /// array of file scope.
     pub fn site(
         &mut self,
         alloc: Global,

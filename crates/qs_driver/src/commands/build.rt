@@ -5,7 +5,8 @@ ghost use Rattle.qs_driver.specs.Devices.{streams, views, views_left};
 ghost use Rattle.qs_driver.specs.Due.{IsWritten};
 ghost use Rattle.qs_driver.specs.Names.{names_in};
 ghost use Rattle.qs_driver.specs.Task.{Answers};
-ghost use Rattle.qs_driver.specs.commands.Build.{build, due_of, inputs, names_of, words_in, Builds, NamesDiffer, NamesOneTwice};
+ghost use Rattle.qs_driver.specs.commands.Build.{build, due_of, inputs, names_of, words_in, Builds};
+ghost use Rattle.qs_driver.specs.commands.Build.{NamesDiffer, NamesOneTwice};
 
 use crate::certified::{CertifyOrder, read_certified};
 use crate::devices::Devices;

@@ -27,8 +27,8 @@ fn names_of<'a>(order: &CertifyOrder<'a>) -> FileNames<'a>
     }
 }
 
-// The counts of entries of the proof file, and of those that are filled in. The unit is lowered too: what is
-// checked has linear code, and where memory is wanting for that, it is told here.
+// The counts of entries of the proof file, and of those that are filled in. The unit is lowered
+// too: what is checked has linear code, and where memory is wanting for that, it is told here.
 fn check_entries<S: Store>(
     alloc: Global,
     order: &CertifyOrder<'_>,
@@ -42,7 +42,8 @@ fn check_entries<S: Store>(
     Ok(Count::Checked(certified.given, certified.added))
 }
 
-/// Checks the derivations of the source, and puts how many entries its proof file has, and how many were filled in.
+/// Checks the derivations of the source, and puts how many entries its proof file has, and how many
+/// were filled in.
 pub fn check<S: Store, O: Sink, L: Sink>(
     alloc: Global,
     order: &CertifyOrder<'_>,

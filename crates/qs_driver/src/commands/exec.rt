@@ -6,7 +6,8 @@ ghost use Rattle.qs_driver.specs.Certified as meant;
 ghost use Rattle.qs_driver.specs.Devices.{streams, views, views_left};
 ghost use Rattle.qs_driver.specs.Names.{names_in};
 ghost use Rattle.qs_driver.specs.Task.{Answers};
-ghost use Rattle.qs_driver.specs.commands.Exec.{as_run, exec, names_of, to_make, words_in, IsFresh, IsStackOf, LoadsImage, RunsFrom, Starts};
+ghost use Rattle.qs_driver.specs.commands.Exec.{as_run, exec, names_of, to_make, words_in, IsFresh};
+ghost use Rattle.qs_driver.specs.commands.Exec.{IsStackOf, LoadsImage, RunsFrom, Starts};
 ghost use Rattle.qs_driver.specs.commands.Run as run_meant;
 
 use crate::Status;
@@ -170,7 +171,8 @@ fn run_or_refuse<O: Sink, L: Sink>(
     }
 }
 
-/// Runs the source on a stack of exactly its bound: the bound and the line at the end go to `log`, the output to `out`.
+/// Runs the source on a stack of exactly its bound: the bound and the line at the end go to `log`,
+/// the output to `out`.
 pub fn exec<S: Store, O: Sink, L: Sink>(
     alloc: Global,
     order: &ExecOrder<'_>,

@@ -3,7 +3,8 @@ ghost use Rattle.std.specs.Prelude.{◌≡◌};
 ghost use Rattle.qs_driver.specs.Devices.{streams, views, views_left};
 ghost use Rattle.qs_driver.specs.Names.{names_in};
 ghost use Rattle.qs_driver.specs.Task.{Answers};
-ghost use Rattle.qs_driver.specs.commands.Run.{names_of, run, words_in, Finishes, IsFresh, Loads, Prepares, ReadsInput, RunsFrom};
+ghost use Rattle.qs_driver.specs.commands.Run.{names_of, run, words_in, Finishes, IsFresh, Loads};
+ghost use Rattle.qs_driver.specs.commands.Run.{Prepares, ReadsInput, RunsFrom};
 
 use crate::arguments::argument_words;
 use crate::devices::Devices;

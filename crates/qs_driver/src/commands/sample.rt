@@ -1,5 +1,5 @@
-// `sample`: a source of as many functions as asked for, each of which calls the one before. It is certified, compiled and
-// run on a stack of exactly its bound, and what it puts is counted.
+// `sample`: a source of as many functions as asked for, each of which calls the one before. It is
+// certified, compiled and run on a stack of exactly its bound, and what it puts is counted.
 ghost use Rattle.std.specs.Prelude.{◌≡◌, List, length, option_map, ℕ};
 ghost use Rattle.qs_ports.specs.SinkView.{PutsAll};
 ghost use Rattle.qs_machine.specs.Standing.{taken_of};
@@ -9,7 +9,9 @@ ghost use Rattle.qs_driver.specs.Names.{names_in};
 ghost use Rattle.qs_driver.specs.Task.{Answers};
 ghost use Rattle.qs_driver.specs.SampleLaws.{IsSampleCount};
 ghost use Rattle.qs_driver.specs.commands.Exec as run_meant;
-ghost use Rattle.qs_driver.specs.commands.Sample.{as_exec, due_of, names_of, sample, sample_lines, words_in, HasStarted, RunsCounted, Samples, StartsText, WritesSource};
+ghost use Rattle.qs_driver.specs.commands.Sample.{as_exec, due_of, names_of, sample, sample_lines};
+ghost use Rattle.qs_driver.specs.commands.Sample.{words_in, HasStarted, RunsCounted, Samples};
+ghost use Rattle.qs_driver.specs.commands.Sample.{StartsText, WritesSource};
 
 use crate::certified::certify_typed;
 use crate::commands::exec::{ExecOrder, loaded, stack_of};
@@ -59,7 +61,8 @@ fn run_order() -> ExecOrder<'static>
     }
 }
 
-/// A machine at the start of a sample's image, the bytes of its stack, and how many functions the image has.
+/// A machine at the start of a sample's image, the bytes of its stack, and how many functions the
+/// image has.
 #[derive(Drop)]
 pub struct SampleStart {
     pub functions: u32,
@@ -67,8 +70,8 @@ pub struct SampleStart {
     pub machine: Machine,
 }
 
-/// How the run of a sample ended: how many functions it has, the bytes of its stack, how many bytes it put, and its
-/// status.
+/// How the run of a sample ended: how many functions it has, the bytes of its stack, how many bytes
+/// it put, and its status.
 #[derive(Clone, Copy)]
 pub struct SampleEnd {
     pub functions: u32,
@@ -99,7 +102,8 @@ fn count_functions(image: &Image) -> u32
     image.functions.len() as u32
 }
 
-// Certifies and compiles the text as any other source, and loads its image on a stack of exactly its bound.
+// Certifies and compiles the text as any other source, and loads its image on a stack of exactly
+// its bound.
 fn start_text(alloc: Global, text: &[u8]) -> Result<SampleStart, Status>
     ensures { StartsText text.now result }
 {
@@ -142,8 +146,8 @@ fn run_counted(alloc: Global, started: SampleStart) -> Result<SampleEnd, Status>
     }
 }
 
-// Makes the sample's source, writes it where a file is named, and runs it. The source is a good one and has a stack, so
-// that only memory can be wanting to start it.
+// Makes the sample's source, writes it where a file is named, and runs it. The source is a good one
+// and has a stack, so that only memory can be wanting to start it.
 fn run_sample<S: Store>(
     alloc: Global,
     order: &SampleOrder<'_>,
@@ -188,7 +192,8 @@ fn report<O: Sink, L: Sink>(
     }
 }
 
-/// Makes the source of a sample, writes it where a file is named, and runs it on a stack of exactly its bound.
+/// Makes the source of a sample, writes it where a file is named, and runs it on a stack of exactly
+/// its bound.
 pub fn sample<S: Store, O: Sink, L: Sink>(
     alloc: Global,
     order: &SampleOrder<'_>,

@@ -4,8 +4,8 @@ use crate::{Store, StoreFault};
 use qs_base::NoMemory;
 use std::alloc::Global;
 
-/// A store in memory that never fails. It tells its files while the room that was reserved is enough for what is created
-/// and written.
+/// A store in memory that never fails. It tells its files while the room that was reserved is
+/// enough for what is created and written.
 #[derive(Drop)]
 pub struct CleanStore {
     shelf: Shelf,
@@ -15,11 +15,12 @@ pub struct CleanStore {
 impl CleanStore {
     ghost use Rattle.std.specs.Prelude.{IfOk, OnOk, OnErr, ◌≡◌, option_copied};
     ghost use Rattle.qs_ports.specs.Memory.{IsNewStore, files_in, with_store_room};
-    ghost use Rattle.qs_ports.specs.CleanStore.{clean_store_of};
+    ghost use Rattle.qs_ports.specs.CleanStore.{clean_store_of as view_of};
 
-    /// A store with these files, of which the later one of a name counts, and without room for more.
+    /// A store with these files, of which the later one of a name counts, and without room for
+    /// more.
     pub fn new(alloc: Global, files: Vec<(String, Vec<u8>)>) -> Result<CleanStore, NoMemory>
-        ensures { IfOk result (λ s. IsNewStore (clean_store_of s) (files_in files.items) 0) }
+        ensures { IfOk result (λ s. IsNewStore (view_of s) (files_in files.items) 0) }
     {
         Ok(CleanStore {
             shelf: Shelf::new(alloc, &files)?,
@@ -27,18 +28,18 @@ impl CleanStore {
         })
     }
 
-    /// Has room for at least so many bytes beside the files that are there; a file that is created takes the bytes of
-    /// its name and `FILE_ROOM` more. After `NoMemory` the room is as before.
+    /// Has room for at least so many bytes beside the files that are there; a file that is created
+    /// takes the bytes of its name and `FILE_ROOM` more. After `NoMemory` the room is as before.
     pub fn reserve(&mut self, bytes: usize) -> Result<(), NoMemory>
-        ensures ok { OnOk result (clean_store_of self.new ≡ with_store_room (clean_store_of self.old) bytes) }
-        ensures err { OnErr result (clean_store_of self.new ≡ clean_store_of self.old) }
+        ensures ok { OnOk result (view_of self.new ≡ with_store_room (view_of self.old) bytes) }
+        ensures err { OnErr result (view_of self.new ≡ view_of self.old) }
     {
         self.shelf.reserve(bytes)
     }
 
     /// The bytes of the file of this name, if there is one.
     pub fn file(&self, name: &str) -> Option<&[u8]>
-        ensures { option_copied result ≡ (clean_store_of self.now).files name.now }
+        ensures { option_copied result ≡ (view_of self.now).files name.now }
     {
         self.shelf.file(name.as_bytes())
     }
@@ -48,21 +49,19 @@ impl Store for CleanStore {
     ghost use Rattle.std.specs.Prelude.{IsSome, IfOk, ◌≡◌, ◌+◌, length};
     ghost use Rattle.qs_ports.specs.StoreView.{Opens, Reads, Creates, Writes, file_room};
     ghost use Rattle.qs_ports.specs.Memory.{
-      StoreTellsOn,
       FillsBuffer,
-      read_count,
       open_answer,
       after_open,
       after_read,
     };
-    ghost use Rattle.qs_ports.specs.CleanStore.{clean_store_of};
+    ghost use Rattle.qs_ports.specs.CleanStore.{clean_store_of as view_of, TellsOn, readable};
 
-    ghost view = { clean_store_of };
+    ghost view = { view_of };
 
     fn open(&mut self, name: &str) -> Result<(), StoreFault>
-        ensures opens { Opens (clean_store_of self.old) (clean_store_of self.new) name.now result }
-        ensures answers { result ≡ open_answer ((clean_store_of self.old).files name.now) }
-        ensures changes { clean_store_of self.new ≡ after_open (clean_store_of self.old) name.now result }
+        ensures opens { Opens (view_of self.old) (view_of self.new) name.now result }
+        ensures answers { result ≡ open_answer ((view_of self.old).files name.now) }
+        ensures changes { view_of self.new ≡ after_open (view_of self.old) name.now result }
     {
         if self.shelf.open(name.as_bytes()) {
             return Ok(());
@@ -72,30 +71,30 @@ impl Store for CleanStore {
     }
 
     fn read(&mut self, into: &mut [u8]) -> Result<usize, StoreFault>
-        requires { IsSome (clean_store_of self.old).reading }
-        ensures reads { Reads (clean_store_of self.old) (clean_store_of self.new) into.old into.new result }
-        ensures answers { result ≡ Ok (read_count (clean_store_of self.old) (length into.old) (length into.old)) }
-        ensures fills { IfOk result (FillsBuffer (clean_store_of self.old) into.old into.new) }
-        ensures changes { clean_store_of self.new ≡ after_read (clean_store_of self.old) result }
+        requires { IsSome (view_of self.old).reading }
+        ensures reads { Reads (view_of self.old) (view_of self.new) into.old into.new result }
+        ensures answers { result ≡ Ok (readable self.old into.old) }
+        ensures fills { IfOk result (FillsBuffer (view_of self.old) into.old into.new) }
+        ensures changes { view_of self.new ≡ after_read (view_of self.old) result }
     {
         let most = into.len();
         Ok(self.shelf.read(into, most))
     }
 
     fn create(&mut self, name: &str) -> Result<(), StoreFault>
-        ensures creates { Creates (clean_store_of self.old) (clean_store_of self.new) name.now result }
+        ensures creates { Creates (view_of self.old) (view_of self.new) name.now result }
         ensures answers { result ≡ Ok tt }
-        ensures tells { StoreTellsOn (clean_store_of self.old) (clean_store_of self.new) (length name.now + file_room) }
+        ensures tells { TellsOn self.old self.new (length name.now + file_room) }
     {
         self.shelf.create(name.as_bytes());
         Ok(())
     }
 
     fn write(&mut self, piece: &[u8]) -> Result<usize, StoreFault>
-        requires { IsSome (clean_store_of self.old).writing }
-        ensures writes { Writes (clean_store_of self.old) (clean_store_of self.new) piece.now result }
+        requires { IsSome (view_of self.old).writing }
+        ensures writes { Writes (view_of self.old) (view_of self.new) piece.now result }
         ensures answers { result ≡ Ok (length piece.now) }
-        ensures tells { StoreTellsOn (clean_store_of self.old) (clean_store_of self.new) (length piece.now) }
+        ensures tells { TellsOn self.old self.new (length piece.now) }
     {
         self.shelf.append(piece);
         Ok(piece.len())

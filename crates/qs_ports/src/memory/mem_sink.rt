@@ -6,8 +6,9 @@ use crate::{Sink, SinkFault};
 use qs_base::NoMemory;
 use std::alloc::Global;
 
-/// A sink in memory that fails exactly at listed calls, and takes at most a chunk of bytes at each other call. It tells
-/// what was written to it while its room is enough for that; a small room is no failure.
+/// A sink in memory that fails exactly at listed calls, and takes at most a chunk of bytes at each
+/// other call. It tells what was written to it while its room is enough for that; a small room is
+/// no failure.
 #[derive(Drop)]
 pub struct MemSink {
     room: Room,
@@ -22,10 +23,10 @@ pub struct MemSink {
 impl MemSink {
     ghost use Rattle.std.specs.Prelude.{IfOk, ◌≡◌};
     ghost use Rattle.qs_ports.specs.Memory.{IsNewSink};
-    ghost use Rattle.qs_ports.specs.MemSink.{mem_sink_of, IsPlanned};
+    ghost use Rattle.qs_ports.specs.MemSink.{mem_sink_of as view_of, IsPlanned};
 
-    /// A sink that nothing was written to, with `room` bytes. A call takes at most `chunk` bytes, 1 or more. The calls of
-    /// `put` whose numbers, from 0, are in `failing` fail.
+    /// A sink that nothing was written to, with `room` bytes. A call takes at most `chunk` bytes, 1
+    /// or more. The calls of `put` whose numbers, from 0, are in `failing` fail.
     pub fn new(
         alloc: Global,
         chunk: usize,
@@ -33,7 +34,7 @@ impl MemSink {
         room: usize,
     ) -> Result<MemSink, NoMemory>
         requires { 1 ≤ chunk }
-        ensures fresh { IfOk result (λ s. IsNewSink (mem_sink_of s) room) }
+        ensures fresh { IfOk result (λ s. IsNewSink (view_of s) room) }
         ensures planned { IfOk result (λ s. IsPlanned s chunk failing.items) }
     {
         let mut taken = Room::new(alloc);
@@ -50,7 +51,7 @@ impl MemSink {
 
     /// The bytes that were written so far.
     pub fn written(&self) -> &[u8]
-        ensures { result.now ≡ (mem_sink_of self.now).written }
+        ensures { result.now ≡ (view_of self.now).written }
     {
         &self.room.bytes
     }
@@ -59,18 +60,19 @@ impl MemSink {
 impl Sink for MemSink {
     ghost use Rattle.std.specs.Prelude.{IsErr, IfOk, OnErr, ◌↔◌, ◌≡◌, min, length};
     ghost use Rattle.qs_ports.specs.SinkView.{Puts};
-    ghost use Rattle.qs_ports.specs.Memory.{SinkTellsOn, failed_sink};
-    ghost use Rattle.qs_ports.specs.MemSink.{mem_sink_of, chunk_of, IsListed, CountsCall};
+    ghost use Rattle.qs_ports.specs.Memory.{failed_sink};
+    ghost use Rattle.qs_ports.specs.MemSink.{mem_sink_of as view_of, chunk_of, IsListed};
+    ghost use Rattle.qs_ports.specs.MemSink.{CountsCall, TellsOn};
 
-    ghost view = { mem_sink_of };
+    ghost view = { view_of };
 
     fn put(&mut self, piece: &[u8]) -> Result<usize, SinkFault>
-        ensures puts { Puts (mem_sink_of self.old) (mem_sink_of self.new) piece.now result }
+        ensures puts { Puts (view_of self.old) (view_of self.new) piece.now result }
         ensures fails { IsErr result ↔ IsListed self.old }
         ensures counts { CountsCall self.old self.new }
         ensures moves { IfOk result (λ n. n ≡ min (length piece.now) (chunk_of self.old)) }
-        ensures tells { IfOk result (SinkTellsOn (mem_sink_of self.old) (mem_sink_of self.new)) }
-        ensures failed { OnErr result (mem_sink_of self.new ≡ failed_sink (mem_sink_of self.old)) }
+        ensures tells { IfOk result (TellsOn self.old self.new) }
+        ensures failed { OnErr result (view_of self.new ≡ failed_sink (view_of self.old)) }
     {
         let call = self.calls;
         self.calls = call.saturating_add(1);

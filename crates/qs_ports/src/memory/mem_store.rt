@@ -23,7 +23,7 @@ pub struct MemStore {
 impl MemStore {
     ghost use Rattle.std.specs.Prelude.{IfOk, ◌≡◌, option_copied};
     ghost use Rattle.qs_ports.specs.Memory.{IsNewStore, files_in};
-    ghost use Rattle.qs_ports.specs.MemStore.{mem_store_of, IsPlanned};
+    ghost use Rattle.qs_ports.specs.MemStore.{mem_store_of as view_of, IsPlanned};
 
     /// A store with these files, of which the later one of a name counts, and
     /// with `room` bytes for what is created and written; a file that is created
@@ -38,7 +38,7 @@ impl MemStore {
         room: usize,
     ) -> Result<MemStore, NoMemory>
         requires { 1 ≤ chunk }
-        ensures fresh { IfOk result (λ s. IsNewStore (mem_store_of s) (files_in files.items) room) }
+        ensures fresh { IfOk result (λ s. IsNewStore (view_of s) (files_in files.items) room) }
         ensures planned { IfOk result (λ s. IsPlanned s chunk failing.items) }
     {
         let mut shelf = Shelf::new(alloc, &files)?;
@@ -54,7 +54,7 @@ impl MemStore {
 
     /// The bytes of the file of this name, if there is one.
     pub fn file(&self, name: &str) -> Option<&[u8]>
-        ensures { option_copied result ≡ (mem_store_of self.now).files name.now }
+        ensures { option_copied result ≡ (view_of self.now).files name.now }
     {
         self.shelf.file(name.as_bytes())
     }
@@ -64,23 +64,28 @@ impl Store for MemStore {
     ghost use Rattle.std.specs.Prelude.{IsSome, IfOk, OnOk, OnErr, ◌↔◌, ◌≡◌, ◌+◌, min, length};
     ghost use Rattle.qs_ports.specs.StoreView.{Opens, Reads, Creates, Writes, file_room};
     ghost use Rattle.qs_ports.specs.Memory.{
-      StoreTellsOn,
       FillsBuffer,
-      read_count,
       after_open,
       after_read,
       after_failed_create,
       failed_store,
     };
-    ghost use Rattle.qs_ports.specs.MemStore.{mem_store_of, chunk_of, IsListed, CountsCall};
+    ghost use Rattle.qs_ports.specs.MemStore.{
+      mem_store_of as view_of,
+      chunk_of,
+      readable,
+      IsListed,
+      CountsCall,
+      TellsOn,
+    };
 
-    ghost view = { mem_store_of };
+    ghost view = { view_of };
 
     fn open(&mut self, name: &str) -> Result<(), StoreFault>
-        ensures opens { Opens (mem_store_of self.old) (mem_store_of self.new) name.now result }
+        ensures opens { Opens (view_of self.old) (view_of self.new) name.now result }
         ensures fails { (result ≡ Err StoreFault.Failed) ↔ IsListed self.old StoreCall.Open }
         ensures counts { CountsCall self.old self.new StoreCall.Open }
-        ensures changes { mem_store_of self.new ≡ after_open (mem_store_of self.old) name.now result }
+        ensures changes { view_of self.new ≡ after_open (view_of self.old) name.now result }
     {
         if self.plan.count(StoreCall::Open) {
             self.shelf.close_reading();
@@ -95,14 +100,14 @@ impl Store for MemStore {
     }
 
     fn read(&mut self, into: &mut [u8]) -> Result<usize, StoreFault>
-        requires { IsSome (mem_store_of self.old).reading }
-        ensures reads { Reads (mem_store_of self.old) (mem_store_of self.new) into.old into.new result }
+        requires { IsSome (view_of self.old).reading }
+        ensures reads { Reads (view_of self.old) (view_of self.new) into.old into.new result }
         ensures fails { (result ≡ Err StoreFault.Failed) ↔ IsListed self.old StoreCall.Read }
         ensures counts { CountsCall self.old self.new StoreCall.Read }
-        ensures moves { IfOk result (λ n. n ≡ read_count (mem_store_of self.old) (chunk_of self.old) (length into.old)) }
-        ensures fills { IfOk result (λ n. FillsBuffer (mem_store_of self.old) into.old into.new n) }
+        ensures moves { IfOk result (λ n. n ≡ readable self.old into.old) }
+        ensures fills { IfOk result (λ n. FillsBuffer (view_of self.old) into.old into.new n) }
         ensures leaves { OnErr result (into.new ≡ into.old) }
-        ensures changes { mem_store_of self.new ≡ after_read (mem_store_of self.old) result }
+        ensures changes { view_of self.new ≡ after_read (view_of self.old) result }
     {
         if self.plan.count(StoreCall::Read) {
             self.faults = self.faults.saturating_add(1);
@@ -112,11 +117,11 @@ impl Store for MemStore {
     }
 
     fn create(&mut self, name: &str) -> Result<(), StoreFault>
-        ensures creates { Creates (mem_store_of self.old) (mem_store_of self.new) name.now result }
+        ensures creates { Creates (view_of self.old) (view_of self.new) name.now result }
         ensures fails { (result ≡ Err StoreFault.Failed) ↔ IsListed self.old StoreCall.Create }
         ensures counts { CountsCall self.old self.new StoreCall.Create }
-        ensures tells { OnOk result (StoreTellsOn (mem_store_of self.old) (mem_store_of self.new) (length name.now + file_room)) }
-        ensures failed { OnErr result (mem_store_of self.new ≡ after_failed_create (mem_store_of self.old)) }
+        ensures tells { OnOk result (TellsOn self.old self.new (length name.now + file_room)) }
+        ensures failed { OnErr result (view_of self.new ≡ after_failed_create (view_of self.old)) }
     {
         if self.plan.count(StoreCall::Create) {
             self.shelf.close_writing();
@@ -128,13 +133,13 @@ impl Store for MemStore {
     }
 
     fn write(&mut self, piece: &[u8]) -> Result<usize, StoreFault>
-        requires { IsSome (mem_store_of self.old).writing }
-        ensures writes { Writes (mem_store_of self.old) (mem_store_of self.new) piece.now result }
+        requires { IsSome (view_of self.old).writing }
+        ensures writes { Writes (view_of self.old) (view_of self.new) piece.now result }
         ensures fails { (result ≡ Err StoreFault.Failed) ↔ IsListed self.old StoreCall.Write }
         ensures counts { CountsCall self.old self.new StoreCall.Write }
         ensures moves { IfOk result (λ n. n ≡ min (length piece.now) (chunk_of self.old)) }
-        ensures tells { IfOk result (StoreTellsOn (mem_store_of self.old) (mem_store_of self.new)) }
-        ensures failed { OnErr result (mem_store_of self.new ≡ failed_store (mem_store_of self.old)) }
+        ensures tells { IfOk result (TellsOn self.old self.new) }
+        ensures failed { OnErr result (view_of self.new ≡ failed_store (view_of self.old)) }
     {
         if self.plan.count(StoreCall::Write) {
             self.faults = self.faults.saturating_add(1);

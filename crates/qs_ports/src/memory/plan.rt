@@ -13,8 +13,8 @@ pub enum StoreCall {
     Write,
 }
 
-/// The calls that fail, each by its kind and its number among the calls of that kind, from 0; and how many calls of each
-/// kind there were. A count stands still at its last value.
+/// The calls that fail, each by its kind and its number among the calls of that kind, from 0; and
+/// how many calls of each kind there were. A count stands still at its last value.
 #[derive(Drop)]
 pub struct Plan {
     pub failing: Vec<(StoreCall, u64)>,
@@ -25,8 +25,8 @@ pub struct Plan {
 }
 
 impl Plan {
-    ghost use Rattle.std.specs.Prelude.{Contains, IsTrue, ◌↔◌, ◌≡◌};
-    ghost use Rattle.qs_ports.specs.Plan.{calls_in, CountsIn};
+    ghost use Rattle.std.specs.Prelude.{IsTrue, ◌↔◌, ◌≡◌};
+    ghost use Rattle.qs_ports.specs.Plan.{calls_in, CountsIn, IsListed};
 
     /// A plan before the first call.
     pub fn new(failing: Vec<(StoreCall, u64)>) -> Plan
@@ -44,7 +44,7 @@ impl Plan {
 
     /// Counts one more call of this kind, and tells whether it is one that fails.
     pub fn count(&mut self, kind: StoreCall) -> bool
-        ensures fails { IsTrue result ↔ Contains self.old.failing.items (kind, calls_in self.old kind) }
+        ensures fails { IsTrue result ↔ IsListed self.old kind }
         ensures counts { CountsIn self.old self.new kind }
     {
         let call = self.calls(kind);

@@ -4,8 +4,8 @@ ghost use Rattle.std.specs.Prelude.{◌+◌, ◌≤◌, vec_len, vec_capacity};
 use qs_base::NoMemory;
 use std::alloc::Global;
 
-/// Bytes in memory. To add to them takes no memory: they lie in room that was reserved before. Where that is too small,
-/// the bytes are `full`, and aren't told from then on.
+/// Bytes in memory. To add to them takes no memory: they lie in room that was reserved before.
+/// Where that is too small, the bytes are `full`, and aren't told from then on.
 #[derive(Drop)]
 pub struct Room {
     pub bytes: Vec<u8>,
@@ -15,10 +15,9 @@ pub struct Room {
 }
 
 impl Room {
-    ghost use Rattle.std.specs.Prelude.{OnOk, OnErr, ◌≡◌, ℕ, Bool, false, length, max};
-    ghost use Rattle.qs_ports.specs.SinkView.{Appends};
-    ghost use Rattle.qs_ports.specs.Memory.{IsNewSink, SinkTellsOn};
-    ghost use Rattle.qs_ports.specs.Room.{room_view};
+    ghost use Rattle.std.specs.Prelude.{OnOk, OnErr, ◌≡◌, false, length, max};
+    ghost use Rattle.qs_ports.specs.Memory.{IsNewSink};
+    ghost use Rattle.qs_ports.specs.Room.{room_view, Takes, TellsOn};
 
     /// No bytes, and no room.
     pub fn new(alloc: Global) -> Room
@@ -47,9 +46,8 @@ impl Room {
 
     /// Adds the piece, or is full from then on where there is no room for it.
     pub fn add(&mut self, piece: &[u8])
-        ensures appends { (faults : ℕ) (before after : Bool) →
-            Appends (room_view self.old faults before) (room_view self.new faults after) piece.now }
-        ensures tells { SinkTellsOn (room_view self.old 0 false) (room_view self.new 0 false) (length piece.now) }
+        ensures appends { Takes self.old self.new piece.now }
+        ensures tells { TellsOn self.old self.new (length piece.now) }
     {
         if !self.full && piece.len() <= self.spare {
             self.spare -= piece.len();

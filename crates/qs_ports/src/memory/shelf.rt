@@ -1,6 +1,9 @@
 // Files over room that was reserved before.
-ghost use Rattle.std.specs.Prelude.{◌≡◌, ◌+◌, ◌-◌, ◌≤◌, ◌<◌, ◌/◌, ◌++◌, IsTrue, IfOk, OnOk, OnErr, IsSome, ℕ, false, vec_len, vec_capacity, length, take, drop, min, option_copied, is_some, if◌then◌else◌};
-ghost use Rattle.qs_ports.specs.Shelf.{AreWithin, OptionWithin, find, files_of, newest_end};
+ghost use Rattle.std.specs.Prelude.{◌≡◌, ◌+◌, ◌-◌, ◌≤◌, ◌<◌, ◌/◌, ◌++◌};
+ghost use Rattle.std.specs.Prelude.{IsTrue, IfOk, OnOk, OnErr, IsSome, false, vec_len};
+ghost use Rattle.std.specs.Prelude.{vec_capacity};
+ghost use Rattle.std.specs.Prelude.{length, take, drop, min, option_copied, is_some};
+ghost use Rattle.qs_ports.specs.Shelf.{AreWithin, OptionWithin, find, newest_end};
 ghost use Rattle.qs_ports.specs.ShelfProps.{are_within_prop, option_within_prop};
 ghost use Rattle.qs_ports.specs.StoreView.{file_room};
 
@@ -29,9 +32,11 @@ pub struct Shelf {
     pub writing: bool,
     ghost room: { vec_len bytes + spare ≤ vec_capacity bytes },
     ghost slots: { vec_len files + spare / file_room ≤ vec_capacity files },
-    ghost within: { AreWithin files.items (length bytes.items) } by { are_within_prop files.items (length bytes.items) },
+    ghost within: { AreWithin files.items (length bytes.items) }
+        by { are_within_prop files.items (length bytes.items) },
     ghost last: { newest_end files.items ≡ length bytes.items },
-    ghost reads: { OptionWithin reading (length bytes.items) } by { option_within_prop reading (length bytes.items) },
+    ghost reads: { OptionWithin reading (length bytes.items) }
+        by { option_within_prop reading (length bytes.items) },
     ghost writes: { IsTrue writing → full ≡ false → 0 < vec_len files },
 }
 
@@ -41,11 +46,21 @@ impl Shelf {
       IsNewStore,
       files_in,
       with_store_room,
-      StoreTellsOn,
       read_count,
       FillsBuffer,
     };
-    ghost use Rattle.qs_ports.specs.ShelfView.{shelf_view, Created, Appended};
+    ghost use Rattle.qs_ports.specs.ShelfView.{
+      shelf_view,
+      shelf_files,
+      with_found,
+      with_more_read,
+      with_reading,
+      AsStores,
+      Becomes,
+      TellsOn,
+      Created,
+      Appended,
+    };
 
     /// These files, without room for more. Of two files of one name the later one counts.
     pub fn new(alloc: Global, entries: &[(String, Vec<u8>)]) -> Result<Shelf, NoMemory>
@@ -78,10 +93,8 @@ impl Shelf {
     /// Has room for at least so many bytes more. Each file that is created uses `FILE_ROOM` of them
     /// at least, so that the places that are reserved for files take no more memory than the bytes.
     pub fn reserve(&mut self, bytes: usize) -> Result<(), NoMemory>
-        ensures reserved { OnOk result ((faults misses : ℕ) →
-            shelf_view self.new faults misses ≡ with_store_room (shelf_view self.old faults misses) bytes) }
-        ensures refused { OnErr result ((faults misses : ℕ) →
-            shelf_view self.new faults misses ≡ shelf_view self.old faults misses) }
+        ensures reserved { OnOk result (Becomes self.old self.new (λ v. with_store_room v bytes)) }
+        ensures refused { OnErr result (Becomes self.old self.new (λ v. v)) }
     {
         if self.spare < bytes {
             self.bytes.reserve_exact(bytes)?;
@@ -93,9 +106,8 @@ impl Shelf {
 
     /// Makes the file the one for reading, at its start; whether it is there.
     pub fn open(&mut self, name: &[u8]) -> bool
-        ensures there { result ≡ is_some (files_of self.old.bytes.items self.old.files.items name.now) }
-        ensures opened { (faults misses : ℕ) → shelf_view self.new faults misses
-            ≡ record (shelf_view self.old faults misses) { reading = if result then Some name.now else None; place = 0 } }
+        ensures there { result ≡ is_some (shelf_files self.old name.now) }
+        ensures opened { Becomes self.old self.new (with_found result name.now) }
     {
         self.place = 0;
         self.reading = find(&self.bytes, &self.files, name);
@@ -104,8 +116,7 @@ impl Shelf {
 
     /// Makes no file the one for reading.
     pub fn close_reading(&mut self)
-        ensures { (faults misses : ℕ) → shelf_view self.new faults misses
-            ≡ record (shelf_view self.old faults misses) { reading = None; place = 0 } }
+        ensures { Becomes self.old self.new (with_reading None) }
     {
         self.place = 0;
         self.reading = None;
@@ -113,8 +124,7 @@ impl Shelf {
 
     /// Makes no file the one for writing.
     pub fn close_writing(&mut self)
-        ensures { (faults misses : ℕ) → shelf_view self.new faults misses
-            ≡ record (shelf_view self.old faults misses) { writing = None } }
+        ensures { Becomes self.old self.new (λ v. record v { writing = None }) }
     {
         self.writing = false;
     }
@@ -122,9 +132,8 @@ impl Shelf {
     /// Makes the file empty and the one for writing.
     pub fn create(&mut self, name: &[u8])
         ensures writes { IsTrue self.new.writing }
-        ensures tells { StoreTellsOn (shelf_view self.old 0 0) (shelf_view self.new 0 0) (length name.now + file_room) }
-        ensures created { (faults misses : ℕ) →
-            Created (shelf_view self.old faults misses) (shelf_view self.new faults misses) name.now }
+        ensures tells { TellsOn self.old self.new (length name.now + file_room) }
+        ensures created { AsStores self.old self.new (λ v w. Created v w name.now) }
     {
         self.writing = true;
         if self.full || name.len() + FILE_ROOM > self.spare {
@@ -146,9 +155,8 @@ impl Shelf {
     /// Appends the piece to the file for writing.
     pub fn append(&mut self, piece: &[u8])
         requires { IsTrue self.old.writing }
-        ensures tells { StoreTellsOn (shelf_view self.old 0 0) (shelf_view self.new 0 0) (length piece.now) }
-        ensures appended { (faults misses : ℕ) →
-            Appended (shelf_view self.old faults misses) (shelf_view self.new faults misses) piece.now }
+        ensures tells { TellsOn self.old self.new (length piece.now) }
+        ensures appended { AsStores self.old self.new (λ v w. Appended v w piece.now) }
     {
         if self.full || piece.len() > self.spare {
             self.full = true;
@@ -162,7 +170,7 @@ impl Shelf {
 
     /// The bytes of a file.
     pub fn file(&self, name: &[u8]) -> Option<&[u8]>
-        ensures { option_copied result ≡ files_of self.now.bytes.items self.now.files.items name.now }
+        ensures { option_copied result ≡ shelf_files self.now name.now }
     {
         let file = find(&self.bytes, &self.files, name)?;
         Some(&self.bytes[file.content..file.end])
@@ -173,8 +181,7 @@ impl Shelf {
         requires { IsSome self.old.reading }
         ensures count { result ≡ read_count (shelf_view self.old 0 0) most (length into.old) }
         ensures bytes { FillsBuffer (shelf_view self.old 0 0) into.old into.new result }
-        ensures place { (faults misses : ℕ) → shelf_view self.new faults misses
-            ≡ record (shelf_view self.old faults misses) { place = self.old.place + result } }
+        ensures place { Becomes self.old self.new (with_more_read result) }
     {
         let Some(named) = self.reading else {
             unreachable!();

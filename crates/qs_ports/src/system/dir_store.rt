@@ -8,8 +8,9 @@ use std::fs::File;
 use std::io::{Error, ErrorKind};
 use std::rt::Files;
 
-/// The files of the system, by their paths. It tells nothing of what they hold. `Missing` is the system's answer that it
-/// doesn't find the file to be read; each other error of the system is `Failed`, and so is a write of nothing.
+/// The files of the system, by their paths. It tells nothing of what they hold. `Missing` is the
+/// system's answer that it doesn't find the file to be read; each other error of the system is
+/// `Failed`, and so is a write of nothing.
 #[derive(Drop)]
 pub struct DirStore<R: Files + Drop> {
     system: R,
@@ -21,11 +22,11 @@ pub struct DirStore<R: Files + Drop> {
 
 impl<R: Files + Drop> DirStore<R> {
     ghost use Rattle.std.specs.Prelude.{None};
-    ghost use Rattle.qs_ports.specs.System.{silent_store, dir_store_of};
+    ghost use Rattle.qs_ports.specs.System.{silent_store, dir_store_of as view_of};
 
     /// The files that this system has, with nothing open.
     pub fn new(system: R) -> DirStore<R>
-        ensures { dir_store_of result ≡ silent_store None None 0 0 }
+        ensures { view_of result ≡ silent_store None None 0 0 }
     {
         DirStore {
             system,
@@ -41,7 +42,7 @@ impl<R: Files + Drop> Store for DirStore<R> {
     ghost use Rattle.std.specs.Prelude.{IsSome};
     ghost use Rattle.qs_ports.specs.StoreView.{Opens, Reads, Creates, Writes};
     ghost use Rattle.qs_ports.specs.System.{
-      dir_store_of,
+      dir_store_of as view_of,
       TakesFromFile,
       AddsToFile,
       after_silent_open,
@@ -49,11 +50,11 @@ impl<R: Files + Drop> Store for DirStore<R> {
       after_silent_move,
     };
 
-    ghost view = { dir_store_of };
+    ghost view = { view_of };
 
     fn open(&mut self, name: &str) -> Result<(), StoreFault>
-        ensures opens { Opens (dir_store_of self.old) (dir_store_of self.new) name.now result }
-        ensures changes { dir_store_of self.new ≡ after_silent_open (dir_store_of self.old) result }
+        ensures opens { Opens (view_of self.old) (view_of self.new) name.now result }
+        ensures changes { view_of self.new ≡ after_silent_open (view_of self.old) result }
         ensures writing_stays { self.new.writing ≡ self.old.writing }
     {
         self.reading = None;
@@ -76,9 +77,9 @@ impl<R: Files + Drop> Store for DirStore<R> {
     }
 
     fn read(&mut self, into: &mut [u8]) -> Result<usize, StoreFault>
-        requires { IsSome (dir_store_of self.old).reading }
-        ensures reads { Reads (dir_store_of self.old) (dir_store_of self.new) into.old into.new result }
-        ensures changes { dir_store_of self.new ≡ after_silent_move (dir_store_of self.old) result }
+        requires { IsSome (view_of self.old).reading }
+        ensures reads { Reads (view_of self.old) (view_of self.new) into.old into.new result }
+        ensures changes { view_of self.new ≡ after_silent_move (view_of self.old) result }
         ensures bytes { TakesFromFile R.File.remaining self.old self.new into.new result }
         ensures writing_stays { self.new.writing ≡ self.old.writing }
     {
@@ -95,8 +96,8 @@ impl<R: Files + Drop> Store for DirStore<R> {
     }
 
     fn create(&mut self, name: &str) -> Result<(), StoreFault>
-        ensures creates { Creates (dir_store_of self.old) (dir_store_of self.new) name.now result }
-        ensures changes { dir_store_of self.new ≡ after_silent_create (dir_store_of self.old) result }
+        ensures creates { Creates (view_of self.old) (view_of self.new) name.now result }
+        ensures changes { view_of self.new ≡ after_silent_create (view_of self.old) result }
         ensures reading_stays { self.new.reading ≡ self.old.reading }
     {
         self.writing = None;
@@ -113,9 +114,9 @@ impl<R: Files + Drop> Store for DirStore<R> {
     }
 
     fn write(&mut self, piece: &[u8]) -> Result<usize, StoreFault>
-        requires { IsSome (dir_store_of self.old).writing }
-        ensures writes { Writes (dir_store_of self.old) (dir_store_of self.new) piece.now result }
-        ensures changes { dir_store_of self.new ≡ after_silent_move (dir_store_of self.old) result }
+        requires { IsSome (view_of self.old).writing }
+        ensures writes { Writes (view_of self.old) (view_of self.new) piece.now result }
+        ensures changes { view_of self.new ≡ after_silent_move (view_of self.old) result }
         ensures bytes { AddsToFile R.File.contents self.old self.new piece.now result }
         ensures reading_stays { self.new.reading ≡ self.old.reading }
     {
@@ -132,7 +133,8 @@ impl<R: Files + Drop> Store for DirStore<R> {
     }
 }
 
-// Why a file wasn't opened for reading: it is missing exactly where the system says that it isn't found.
+// Why a file wasn't opened for reading: it is missing exactly where the system says that it isn't
+// found.
 fn fault_of(error: &Error) -> StoreFault
     ensures { (result ≡ StoreFault.Missing) ↔ (error_kind error.now ≡ ErrorKind.NotFound) }
 {

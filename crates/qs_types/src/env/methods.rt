@@ -60,8 +60,8 @@ impl Env {
         Ok(())
     }
 
-    /// Gives a struct that has no members yet its members (C11 6.7.2.1), if each member and the whole
-    /// have a size within the limit, and tells whether they have.
+    /// Gives a struct that has no members yet its members (C11 6.7.2.1), if each member and the
+    /// whole have a size within the limit, and tells whether they have.
     pub fn define(
         &mut self,
         alloc: Global,

@@ -2,7 +2,9 @@
 ghost use Rattle.std.specs.Prelude.{◌≡◌, ◌≤◌, IfOk, OnOk, None, Some, [], length, option_map};
 ghost use Rattle.std.specs.List.{slice_get};
 ghost use Rattle.qs_types.specs.GivenFunctions.{putchar_type, getchar_type};
-ghost use Rattle.qs_types.specs.Contexts.{given_functions, pointers, start_context, entity_of, lookup, is_declared_here, inner_scope, tag_place, base_type, is_void_base};
+ghost use Rattle.qs_types.specs.Contexts.{given_functions, pointers, start_context, entity_of};
+ghost use Rattle.qs_types.specs.Contexts.{lookup, is_declared_here, inner_scope, tag_place};
+ghost use Rattle.qs_types.specs.Contexts.{base_type, is_void_base};
 ghost use Rattle.qs_types.specs.EnvOf.{env_tree};
 ghost use Rattle.qs_types.specs.TypeOf.{type_tree};
 ghost use Rattle.qs_types.specs.UnitRules.{with_tag};
@@ -21,8 +23,8 @@ use qs_types::{CType, Env, tag_place};
 use std::alloc::Global;
 use std::mem;
 
-/// A type with more stars is answered as want of memory: types are copied and dropped level by level,
-/// on the native stack.
+/// A type with more stars is answered as want of memory: types are copied and dropped level by
+/// level, on the native stack.
 const STAR_LIMIT: u32 = 10_000;
 
 /// The most structs that a context holds.
@@ -153,7 +155,8 @@ impl Context {
         self.names.declare(alloc, name, entity)
     }
 
-    /// Begins a scope, and tells where the one around it begins: how many names stand outside of that.
+    /// Begins a scope, and tells where the one around it begins: how many names stand outside of
+    /// that.
     pub fn enter_scope(&mut self) -> usize
         ensures around { result ≡ length (context_tree self.old).outer }
         ensures inside { context_tree self.new ≡ inner_scope (context_tree self.old) }

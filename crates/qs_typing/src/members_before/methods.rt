@@ -1,7 +1,8 @@
 // How members are added.
 ghost use Rattle.std.specs.Prelude.{◌≡◌, ◌≤◌, OnOk, Some};
 ghost use Rattle.qs_types.specs.UnitRules as rules;
-ghost use Rattle.qs_typing.specs.MembersOf.{AddsMember, AddsName, AddsTyped, HasRoomFor, before_tree};
+ghost use Rattle.qs_typing.specs.MembersOf.{AddsMember, AddsName, AddsTyped, HasRoomFor};
+ghost use Rattle.qs_typing.specs.MembersOf.{before_tree};
 
 use super::MembersBefore;
 use indexmap::{IndexMap, IndexSet};

@@ -2,7 +2,6 @@
 ghost use Rattle.std.specs.Prelude.{◌≡◌, map, option_map};
 ghost use Rattle.qs_syntax.specs.UnitTrees.{unit_tree};
 ghost use Rattle.qs_types.specs.EnvOf.{env_tree};
-ghost use Rattle.qs_types.specs.Limits.{KeepsLimits};
 ghost use Rattle.qs_types.specs.Recorded.{global_blocks, tags_of};
 ghost use Rattle.qs_types.specs.References.{literal_blocks};
 ghost use Rattle.qs_types.specs.TypeOf.{type_tree};
@@ -59,9 +58,9 @@ impl TypedUnit {
         &self.unit
     }
 
-    /// The type of each expression, and the declared type of each variable and parameter, at the number of
-    /// its node, None at every other number. The declared type of a variable may be an array; a parameter
-    /// that is written as an array is a pointer (C11 6.7.6.3p7).
+    /// The type of each expression, and the declared type of each variable and parameter, at the
+    /// number of its node, None at every other number. The declared type of a variable may be an
+    /// array; a parameter that is written as an array is a pointer (C11 6.7.6.3p7).
     pub fn types(&self) -> &[Option<CType>]
         ensures types { map (option_map type_tree) result.now ≡ unit_types (typed_tree self.now) }
         ensures by_number { AreTypesByNumber (typed_tree self.now) result.now }
@@ -84,8 +83,8 @@ impl TypedUnit {
         &self.referents
     }
 
-    /// The locals and parameters whose names are operands of `&`, below `sizeof` too, by the numbers of the
-    /// nodes of their declarations, in the order of the text.
+    /// The locals and parameters whose names are operands of `&`, below `sizeof` too, by the
+    /// numbers of the nodes of their declarations, in the order of the text.
     pub fn addressed(&self) -> &[u32]
         ensures { result.now ≡ unit_addressed (typed_tree self.now) }
     {
@@ -106,24 +105,11 @@ impl TypedUnit {
         &self.globals
     }
 
-    /// The texts that are blocks of memory, all but those that fill an array of file scope, in the order of
-    /// the text (C11 6.4.5p6).
+    /// The texts that are blocks of memory, all but those that fill an array of file scope, in the
+    /// order of the text (C11 6.4.5p6).
     pub fn texts(&self) -> &[TextBlock]
         ensures { map text_tree result.now ≡ literal_blocks (typed_tree self.now) }
     {
         &self.texts
     }
-
-    /// It keeps the rules, its `main` has a body, and so has each function that is called; its counts are
-    /// within their limits.
-    pub fn is_accepted(&self)
-        ensures { IsAccepted (typed_tree self.now) }
-    {}
-
-    /// Its nodes, functions, parameters and bytes are counted, and each count is at most its limit; it has a
-    /// reading.
-    #[tactic(auto, using(crate::proofs::TypedLaws::keeps_limits))]
-    pub fn keeps_limits(&self)
-        ensures { KeepsLimits (typed_tree self.now) }
-    {}
 }

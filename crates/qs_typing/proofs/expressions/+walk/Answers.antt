@@ -9,7 +9,7 @@ use Rattle.qs_typing.specs.JudgedOf.{judged_tree}
 use Rattle.qs_typing.specs.PartsOf.{with_types, with_three}
 use Rattle.qs_typing.specs.PositionOf.{position_tree}
 use Rattle.qs_typing.specs.Walk.{walked, parts_walked}
-use Rattle.qs_typing.proofs.TreeLaws.{expr_of}
+use Rattle.qs_typing.proofs.Walks.{expr_of}
 use Rattle.qs_typing.proofs.Walks.{has_place, node_walked}
 use Rattle.qs_typing.proofs.expressions.+walk.Goals as goal
 

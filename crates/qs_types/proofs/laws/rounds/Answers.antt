@@ -1,5 +1,5 @@
 use Rattle.qs_types.proofs.Rounding.{rounds}
-use Rattle.qs_types.proofs.layout.rounds.Goals as goal
+use Rattle.qs_types.proofs.laws.rounds.Goals as goal
 
 pub returns : goal.returns
 returns c = rounds

@@ -1,8 +1,11 @@
 // Reading an image.
-ghost use Rattle.std.specs.Prelude.{◌≡◌, ◌≤◌, ◌==◌, ◌&&◌, length, sum, Some, None, MatchResult, IfOk, IsOkAnd};
+ghost use Rattle.std.specs.Prelude.{◌≡◌, ◌≤◌, ◌==◌, ◌&&◌, length, sum, Some, None, MatchResult};
+ghost use Rattle.std.specs.Prelude.{IfOk, IsOkAnd};
 ghost use Rattle.qs_image.specs.Image.{Image, IsImage};
 ghost use Rattle.qs_image.specs.Bytes.{word, size, lengths_of, image_of};
-ghost use Rattle.qs_image.specs.Faults.{all_differ, are_names, is_address, are_addresses, is_cost, cost_fault, first_of, count_tests, header_tests, size_tests, part_tests, first_fault};
+ghost use Rattle.qs_image.specs.Faults.{all_differ, are_names, is_address, are_addresses, is_cost};
+ghost use Rattle.qs_image.specs.Faults.{cost_fault, first_of, count_tests, header_tests};
+ghost use Rattle.qs_image.specs.Faults.{size_tests, part_tests, first_fault};
 ghost use Rattle.qs_image.specs.View.{records_left, image_in};
 
 use crate::fault::ImageFault;
@@ -107,8 +110,8 @@ fn sections_of(bytes: &[u8]) -> Result<Sections<'_>, ImageFault>
     }
 }
 
-/// Reads an image, without taking memory. `Ok` comes exactly where the bytes are an image, which is then the one
-/// that the view shows; else the fault is that of the first test that fails.
+/// Reads an image, without taking memory. `Ok` comes exactly where the bytes are an image, which is
+/// then the one that the view shows; else the fault is that of the first test that fails.
 pub fn read(bytes: &[u8]) -> Result<ImageView<'_>, ImageFault>
     ensures image { IfOk result (λ image. IsImage bytes.now image) }
     ensures accepts { (image : Image) → IsImage bytes.now image → IsOkAnd result (λ view. view ≡ image) }

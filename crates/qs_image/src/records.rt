@@ -1,5 +1,6 @@
 // Records of functions in a table, and their names.
-ghost use Rattle.std.specs.Prelude.{[], ◌∷◌, MatchOption, ◌≡◌, ◌≤◌, ◌==◌, length, sum, codes, bytes_eq};
+ghost use Rattle.std.specs.Prelude.{[], ◌∷◌, MatchOption, ◌≡◌, ◌≤◌, ◌==◌, length, sum, codes};
+ghost use Rattle.std.specs.Prelude.{bytes_eq};
 ghost use Rattle.std.specs.List.{list_all, list_any};
 ghost use Rattle.qs_base.specs.Names.{is_name};
 ghost use Rattle.qs_image.specs.Bytes.{lengths_of};
@@ -23,8 +24,8 @@ pub struct RecordView<'a> {
     pub cost: u32,
 }
 
-/// The records of a table, whose names lie one after the other. Of a name that passes the end of the names
-/// there is what is there.
+/// The records of a table, whose names lie one after the other. Of a name that passes the end of
+/// the names there is what is there.
 #[derive(Clone, Copy, Debug)]
 pub struct Records<'a> {
     /// `RECORD_BYTES` for each record.
@@ -129,8 +130,8 @@ impl<'a> Records<'a> {
         true
     }
 
-    /// Whether each name is a name of the language, they differ, and one is `main`. Takes time in the square
-    /// of the count.
+    /// Whether each name is a name of the language, they differ, and one is `main`. Takes time in
+    /// the square of the count.
     pub fn are_names(&self) -> bool
         ensures { result ≡ are_names (records_left self.now) }
     {

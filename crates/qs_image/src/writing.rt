@@ -1,6 +1,7 @@
 // Writing an image.
 ghost use Rattle.std.specs.Prelude.{[], ◌∷◌, All, ◌≡◌, ◌<◌, ◌^◌, ◌++◌, length, map, OnOk, IfOk};
-ghost use Rattle.qs_image.specs.Image.{words_bytes, joined_names, header_words, record_words, IsWellFormed, IsImage};
+ghost use Rattle.qs_image.specs.Image.{words_bytes, joined_names, header_words, record_words};
+ghost use Rattle.qs_image.specs.Image.{IsWellFormed, IsImage};
 
 use crate::image::{FunctionRecord, Image};
 use crate::word::put_word;

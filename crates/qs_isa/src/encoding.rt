@@ -71,7 +71,8 @@ fn word_of(i: &Instr) -> u32
     }
 }
 
-/// The word of these fields, with `rs2` and `rd` as numbers, since parts of immediates stand there too.
+/// The word of these fields, with `rs2` and `rd` as numbers, since parts of immediates stand there
+/// too.
 fn r_word(funct7: u32, rs2: u32, rs1: Register, funct3: u32, rd: u32, opcode: u32) -> u32
     requires seven { funct7 < 128 }
     requires second { rs2 < 32 }

@@ -8,8 +8,8 @@ ghost use Rattle.qs_machine.specs.Step.{fetch};
 use crate::regions::{CODE_START, place_in};
 use qs_isa::Instr;
 
-/// What stands at the pc: None where it is the address of no word of the code, and Some of None where the word
-/// there is no instruction.
+/// What stands at the pc: None where it is the address of no word of the code, and Some of None
+/// where the word there is no instruction.
 pub fn fetch(instructions: &[Option<Instr>], pc: u32) -> Option<Option<Instr>>
     requires { length instructions.now ≤ 2 ^ 18 }
     ensures fetched { (image : Image) → instructions.now ≡ map decode_of image.code → result ≡ option_map decode_of (fetch image pc) }

@@ -75,8 +75,9 @@ fn zeros(alloc: Global, count: usize) -> Result<Vec<u8>, NoMemory>
     Ok(vec![in alloc; 0; count]?)
 }
 
-/// Loads an image, on a stack of so many bytes and with these arguments for its parameters, each a word (a negative
-/// number in two's complement). The machine stands at the start of the program, whatever its input will be.
+/// Loads an image, on a stack of so many bytes and with these arguments for its parameters, each a
+/// word (a negative number in two's complement). The machine stands at the start of the program,
+/// whatever its input will be.
 pub fn load(
     alloc: Global,
     image: &ImageView<'_>,

@@ -1,5 +1,6 @@
 // The memory: the bytes of the code, the data and the stack.
-ghost use Rattle.std.specs.Prelude.{◌≡◌, ◌+◌, ◌-◌, ◌≤◌, ◌^◌, Option, Some, None, option_copied, if◌then◌else◌, length, IsTrue, false};
+ghost use Rattle.std.specs.Prelude.{◌≡◌, ◌+◌, ◌-◌, ◌≤◌, ◌^◌, Option, Some, None, option_copied};
+ghost use Rattle.std.specs.Prelude.{if◌then◌else◌, length, IsTrue, false};
 ghost use Rattle.qs_base.specs.Words.{sign_extend};
 ghost use Rattle.qs_machine.specs.Bytes.{loaded_from, bytes_from};
 ghost use Rattle.qs_machine.specs.State.{stack_base, stack_limit};
@@ -93,7 +94,8 @@ impl Memory {
         Some(&self.stack[at..at + end])
     }
 
-    /// The word that a load reads; None where it does not lie whole in the code, the data or the stack.
+    /// The word that a load reads; None where it does not lie whole in the code, the data or the
+    /// stack.
     pub fn load(&self, kind: LoadKind, address: u32) -> Option<u32>
         ensures { result ≡ (if can_read_in self.now address (load_width kind) then Some (loaded kind (memory_of self.now) address) else None) }
     {

@@ -1,5 +1,6 @@
 // Where things lie, and the bytes of a region.
-ghost use Rattle.std.specs.Prelude.{◌≡◌, ◌+◌, ◌-◌, ◌<◌, ◌≤◌, ◌^◌, length, Some, None, if◌then◌else◌};
+ghost use Rattle.std.specs.Prelude.{◌≡◌, ◌+◌, ◌-◌, ◌<◌, ◌≤◌, ◌^◌, length, Some, None};
+ghost use Rattle.std.specs.Prelude.{if◌then◌else◌};
 ghost use Rattle.qs_machine.specs.State.{is_inside};
 ghost use Rattle.qs_machine.specs.Step.{store_width};
 ghost use Rattle.qs_machine.specs.Bytes.{put_bytes};

@@ -19,11 +19,11 @@ fn run_end_of(end: End) -> RunEnd
 }
 
 impl Machine {
-    /// Takes at most so many steps, and puts each byte of the output on the sink at once. `input` is the whole
-    /// input, of which the machine has taken some. Takes no memory.
+    /// Takes at most so many steps, and puts each byte of the output on the sink at once. `input`
+    /// is the whole input, of which the machine has taken some. Takes no memory.
     ///
-    /// A machine that has ended answers as it did then, and nothing changes. After `SinkFailed` the machine stands
-    /// behind the step that put the byte which the sink did not take.
+    /// A machine that has ended answers as it did then, and nothing changes. After `SinkFailed` the
+    /// machine stands behind the step that put the byte which the sink did not take.
     pub fn run<K: Sink>(&mut self, steps: u64, input: &[u8], out: &mut K) -> RunEnd
         requires { taken_of self.old ≤ length input.now }
         ensures runs { (image : Image) (size : ℕ) (s : State) → Stands self.old image size input.now s → RunsTo self.new image size input.now s steps (K.view out.old) (K.view out.new) result }

@@ -45,8 +45,9 @@ impl Machine {
         }
     }
 
-    /// Takes a step. `input` is the whole input, of which the machine has taken some: the rest is what is left. Takes
-    /// no memory. A machine that has ended answers as it did then, and nothing changes.
+    /// Takes a step. `input` is the whole input, of which the machine has taken some: the rest is
+    /// what is left. Takes no memory. A machine that has ended answers as it did then, and nothing
+    /// changes.
     pub fn step(&mut self, input: &[u8]) -> StepResult
         requires { taken_of self.old ≤ length input.now }
         ensures steps { (image : Image) (size : ℕ) (s : State) → Stands self.old image size input.now s → Steps self.old self.new image size input.now s result }

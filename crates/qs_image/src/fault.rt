@@ -20,8 +20,8 @@ pub enum ImageFault {
     /// The address to begin at or that of a record is that of no instruction.
     #[error("entry")]
     Entry,
-    /// The cost of the record of this number, from 0, is no positive multiple of 16 up to 2^28; the
-    /// least such.
+    /// The cost of the record of this number, from 0, is no positive multiple of 16 up to
+    /// `LARGEST_COST`; the least such.
     #[error("cost {0}")]
     Cost(u32),
     /// A name is no name of the language, two names are equal, none is `main`, or their lengths do

@@ -26,15 +26,13 @@ fn end_of(answer: StepResult) -> Option<End>
 }
 
 impl Machine {
-    ghost use Rattle.std.specs.Prelude.{◌≡◌, ℕ, ◌≤◌, length, IfSome};
-    ghost use Rattle.qs_image.specs.Image.{Image};
-    ghost use Rattle.qs_machine.specs.State.{State};
-    ghost use Rattle.qs_machine.specs.Step as step;
-    ghost use Rattle.qs_machine.specs.Standing.{taken_of, end_of, Does, Stands, Steps, answer_of};
+    ghost use Rattle.std.specs.Prelude.{◌≤◌, length};
+    ghost use Rattle.qs_machine.specs.Actions as action;
+    ghost use Rattle.qs_machine.specs.Standing.{taken_of, Does, TakesStep, AnswersAgain};
 
     fn take_step(&mut self, input: &[u8]) -> StepResult
         requires { taken_of self.old ≤ length input.now }
-        ensures does { Does self.old self.new input.now (λ image size s. step.step image size s) result }
+        ensures does { Does self.old self.new input.now action.step result }
         ensures more { taken_of self.old ≤ taken_of self.new }
         ensures within { taken_of self.new ≤ length input.now }
     {
@@ -50,8 +48,8 @@ impl Machine {
     /// changes.
     pub fn step(&mut self, input: &[u8]) -> StepResult
         requires { taken_of self.old ≤ length input.now }
-        ensures steps { (image : Image) (size : ℕ) (s : State) → Stands self.old image size input.now s → Steps self.old self.new image size input.now s result }
-        ensures again { IfSome (end_of self.old) (λ end. (result ≡ answer_of end) × (self.new ≡ self.old)) }
+        ensures steps { TakesStep self.old self.new input.now result }
+        ensures again { AnswersAgain self.old self.new result }
         ensures more { taken_of self.old ≤ taken_of self.new }
         ensures within { taken_of self.new ≤ length input.now }
     {

@@ -1,5 +1,5 @@
 -- What a run of a machine does, and how it is loaded.
-use Rattle.std.specs.Prelude.{◌≡◌, ◌≢◌, ℕ, ◌+◌, ◌<◌, ◌≤◌, ◌^◌, List, [], ◌∷◌, ◌++◌, take, slice_index, Some, IfSome}
+use Rattle.std.specs.Prelude.{◌≡◌, ◌≢◌, ℕ, ◌+◌, ◌<◌, ◌≤◌, List, [], ◌∷◌, ◌++◌, take, slice_index, Some, IfSome}
 use Rattle.qs_image.specs.Image.{Image}
 use Rattle.qs_ports.specs.SinkView.{SinkView, Appends, IsCut}
 use Rattle.qs_machine.specs.declared.answers.RunEnd.{RunEnd}

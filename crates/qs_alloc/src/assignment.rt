@@ -47,8 +47,8 @@ fn assign_all(alloc: Global, functions: &[TacFunction]) -> Result<Vec<Places>, N
     Ok(all)
 }
 
-/// Places that keep what each function of the unit does, by the functions' numbers. `verify_unit` accepts
-/// them.
+/// Places that keep what each function of the unit does, by the functions' numbers. `verify_unit`
+/// accepts them.
 pub fn assign_unit(alloc: Global, unit: &TacUnit) -> Result<Vec<Places>, NoMemory>
     ensures { IfOk result (λ places. AreAccepted (unit_tree unit.now) (map spec.places_tree places.items)) }
 {

@@ -34,7 +34,8 @@ fn are_own_slots(places: &[Place], count: u32) -> bool
     places.len() == count as usize && are_in_order(places)
 }
 
-/// Whether the places keep what the function does: exactly where each temporary has a slot of its own.
+/// Whether the places keep what the function does: exactly where each temporary has a slot of its
+/// own.
 pub fn verify(f: &TacFunction, places: &Places) -> bool
     ensures { IsTrue result ↔ Accepted (function_tree f.now) (places_tree places.now) }
 {

@@ -1,5 +1,6 @@
 // The words of items.
-ghost use Rattle.std.specs.Prelude.{◌≡◌, ◌<◌, ◌^◌, All, IfOk, OnOk, IfErr, Some, None, [], if◌then◌else◌, map, nat_eq};
+ghost use Rattle.std.specs.Prelude.{◌≡◌, ◌<◌, ◌^◌, All, IfOk, OnOk, IfErr, Some, None, []};
+ghost use Rattle.std.specs.Prelude.{if◌then◌else◌, map, nat_eq};
 ghost use Rattle.std.specs.HashMap.{get};
 ghost use Rattle.qs_isa.specs.Table.{decode_of};
 ghost use Rattle.qs_asm.specs.declared.fault.AssemblyFault.TheVariants as fault;

@@ -9,8 +9,8 @@ pub enum AssemblyFault {
     /// No memory was found.
     #[error("out of memory")]
     NoMemory,
-    /// A label that is gone to stands nowhere, or is further away than a jump goes (-2^20 to 2^20 - 2
-    /// bytes); or a label stands at two addresses.
+    /// A label that is gone to stands nowhere, or is further away than a jump goes (-2^20 to 2^20 -
+    /// 2 bytes); or a label stands at two addresses.
     #[error("a label is out of reach")]
     BadLabel,
 }

@@ -12,7 +12,8 @@ pub fn items_take_their_words()
     ensures { ItemsTakeTheirWords }
 {}
 
-/// Items whose labels count up from 0, which lead to none but these, and which have less than 2^18 words, have an assembly.
+/// Items whose labels count up from 0, which lead to none but these, and which have less than 2^18
+/// words, have an assembly.
 pub fn counted_items_are_assembled()
     ensures { CountedItemsAreAssembled }
 {}

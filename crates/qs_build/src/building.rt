@@ -1,5 +1,6 @@
 // The image of a unit of core.
-ghost use Rattle.std.specs.Prelude.{◌≡◌, ◌<◌, ◌≤◌, ◌^◌, All, IfOk, IfErr, map, length, nat_le, true};
+ghost use Rattle.std.specs.Prelude.{◌≡◌, ◌<◌, ◌≤◌, ◌^◌, All, IfOk, IfErr, map, length, nat_le};
+ghost use Rattle.std.specs.Prelude.{true};
 ghost use Rattle.qs_core.specs.UnitTrees as core;
 ghost use Rattle.qs_core.specs.TreeOf.{function_tree};
 ghost use Rattle.qs_core.specs.Units.{initial_memory};
@@ -166,9 +167,9 @@ fn image_of(
     })
 }
 
-/// The image of a unit of core: the code of its linear code, each value in a slot of its own. It does what
-/// the unit does wherever main returns a value. Where there is none, no memory was found, or the unit passes
-/// the size that the fault names.
+/// The image of a unit of core: the code of its linear code, each value in a slot of its own. It
+/// does what the unit does wherever main returns a value. Where there is none, no memory was found,
+/// or the unit passes the size that the fault names.
 pub fn build_image(alloc: Global, unit: &CoreUnit) -> Result<Image, BuildFault>
     ensures built { IfOk result (λ image. IsBuiltFrom (core.unit_tree unit.now) image) }
     ensures limits { IfOk result (λ image. IsWithinLimits image) }

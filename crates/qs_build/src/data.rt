@@ -1,5 +1,6 @@
 // The bytes of a unit's data.
-ghost use Rattle.std.specs.Prelude.{◌≡◌, ◌++◌, ◌+◌, ◌-◌, ◌^◌, ◌%◌, ◌≤◌, [], OnOk, IfOk, map, replicate, length};
+ghost use Rattle.std.specs.Prelude.{◌≡◌, ◌++◌, ◌+◌, ◌-◌, ◌^◌, ◌%◌, ◌≤◌, [], OnOk, IfOk, map};
+ghost use Rattle.std.specs.Prelude.{replicate, length};
 ghost use Rattle.qs_image.specs.Image.{word_bytes};
 ghost use Rattle.qs_core.specs.TreeOf.{piece_tree, data_block_tree};
 ghost use Rattle.qs_core.specs.Units.{cells_of_pieces, data_block};
@@ -62,8 +63,8 @@ fn put_pieces(bytes: &mut Vec<u8>, starts: &Starts, pieces: &[Piece]) -> Result<
     Ok(())
 }
 
-/// The bytes of the data whose blocks begin there: one block behind the other, each at the next multiple
-/// of 4, and nothing behind the last.
+/// The bytes of the data whose blocks begin there: one block behind the other, each at the next
+/// multiple of 4, and nothing behind the last.
 pub fn data_bytes(alloc: Global, starts: &Starts, blocks: &[DataBlock]) -> Result<Vec<u8>, NoMemory>
     ensures { IfOk result (λ bytes. bytes.items ≡ data_bytes (start_of starts.now) (map data_block (map data_block_tree blocks.now))) }
 {

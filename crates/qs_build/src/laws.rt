@@ -3,7 +3,8 @@ ghost use Rattle.qs_build.specs.Follows.{AccountsGoThrough, AgreementGoesThrough
 ghost use Rattle.qs_build.specs.Laws.{ImagesDoAsCore};
 ghost use Rattle.qs_build.specs.Small.{SmallUnitsPassNoSize};
 
-/// A machine that does what some code does also does what a source does whose runs that code follows.
+/// A machine that does what some code does also does what a source does whose runs that code
+/// follows.
 pub fn agreement_goes_through<End>()
     ensures { AgreementGoesThrough End }
 {}
@@ -13,17 +14,18 @@ pub fn accounts_go_through<End>()
     ensures { AccountsGoThrough End }
 {}
 
-/// An image that is built from a unit of core does what the unit does: on every stack that has the weight of
-/// main's runs by the costs of its records the machine and main's run agree both ways, within the same
-/// steps, and the least x2 is the stack's top less the weight. And each of its functions does what its
-/// linear code does.
+/// An image that is built from a unit of core does what the unit does: on every stack that has the
+/// weight of main's runs by the costs of its records the machine and main's run agree both ways,
+/// within the same steps, and the least x2 is the stack's top less the weight. And each of its
+/// functions does what its linear code does.
 pub fn images_do_as_core()
     ensures { ImagesDoAsCore }
 {}
 
-/// A unit of core that is small enough has an image, where memory suffices: at most 512 functions whose names
-/// have at most 1,048,576 bytes, 8 parameters, 2^27 bytes of blocks, 2^24 values, of which those for parts of
-/// expressions lie in reach, less than 2^18 words by the count of core, and 16,777,216 bytes of data.
+/// A unit of core that is small enough has an image, where memory suffices: at most 512 functions
+/// whose names have at most 1,048,576 bytes, 8 parameters, 2^27 bytes of blocks, 2^24 values, of
+/// which those for parts of expressions lie in reach, less than 2^18 words by the count of core,
+/// and 16,777,216 bytes of data.
 pub fn small_units_pass_no_size()
     ensures { SmallUnitsPassNoSize }
 {}

@@ -43,8 +43,8 @@ pub struct Operands {
     pub right: CoreExpr,
 }
 
-// Drops are written by hand, since a derived drop of a tree stands with all its cases at each place where a tree may be
-// dropped.
+// Drops are written by hand, since a derived drop of a tree stands with all its cases at each place
+// where a tree may be dropped.
 
 impl Drop for CoreExpr {
     #[cycle(drop_expr)]

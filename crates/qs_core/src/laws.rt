@@ -1,6 +1,7 @@
 // The laws of core. Each is the contract of an empty function.
 ghost use Rattle.qs_core.specs.Laws.{CoreGrows, CallsAlone};
-ghost use Rattle.qs_core.specs.Ranges.{BodiesStayInRange, CallsStayInRange, ExpressionsHaveTypes, InitialMemoryIsReady, RunsLeaveSound};
+ghost use Rattle.qs_core.specs.Ranges.{BodiesStayInRange, CallsStayInRange, ExpressionsHaveTypes};
+ghost use Rattle.qs_core.specs.Ranges.{InitialMemoryIsReady, RunsLeaveSound};
 
 /// A greater bound keeps what has ended or is undefined, and extends the trace of what is short.
 pub fn core_grows()

@@ -1,7 +1,8 @@
 // The outline of a unit.
 ghost use Rattle.std.specs.Prelude.{◌≡◌, ◌++◌, IfOk, OnOk, flat_map, map};
 ghost use Rattle.qs_core.specs.Trees.{stmts_of, seq};
-ghost use Rattle.qs_core.specs.TreeOf.{core_expr, core_exprs, core_stmt, core_stmts, function_tree, option_expr, parameter_tree};
+ghost use Rattle.qs_core.specs.TreeOf.{core_expr, core_exprs, core_stmt, core_stmts, function_tree};
+ghost use Rattle.qs_core.specs.TreeOf.{option_expr, parameter_tree};
 ghost use Rattle.qs_core.specs.UnitTrees.{unit_tree};
 ghost use Rattle.qs_core.specs.Outline as spec;
 

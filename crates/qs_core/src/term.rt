@@ -76,8 +76,8 @@ pub struct ConditionPair {
     pub right: CoreCondition,
 }
 
-// Drops are written by hand, since a derived drop of a tree stands with all its cases at each place where a tree may be
-// dropped.
+// Drops are written by hand, since a derived drop of a tree stands with all its cases at each place
+// where a tree may be dropped.
 
 impl Drop for CoreTerm {
     #[cycle(drop_term)]

@@ -1,11 +1,12 @@
 // The laws of emitted code. Each is the contract of an empty function.
 ghost use Rattle.qs_emit.specs.Emitted.{ImagesFollow};
 ghost use Rattle.qs_emit.specs.Entries.{EmittedCodeFollows};
-ghost use Rattle.qs_emit.specs.Laws.{BlocksApartHaveOwners, CodeIsShort, WatchingLeads, WatchingRefines, WatchingSteps};
+ghost use Rattle.qs_emit.specs.Laws.{BlocksApartHaveOwners, CodeIsShort, WatchingLeads};
+ghost use Rattle.qs_emit.specs.Laws.{WatchingRefines, WatchingSteps};
 ghost use Rattle.qs_emit.specs.Started.{EmittedCodeFollowsFromStart};
 
-/// The machine that is watched is the machine, where it doesn't stop and nobody changes anything: they come
-/// to the same outcome, and their least x2 is the same.
+/// The machine that is watched is the machine, where it doesn't stop and nobody changes anything:
+/// they come to the same outcome, and their least x2 is the same.
 pub fn watching_refines()
     ensures { WatchingRefines }
 {}
@@ -20,34 +21,35 @@ pub fn watching_leads()
     ensures { WatchingLeads }
 {}
 
-/// Emitted code does what its linear code does, from every entry of every function, on every stack that
-/// has the weight of the run; while the run is defined no instruction breaks a rule of the machine that is
-/// watched.
+/// Emitted code does what its linear code does, from every entry of every function, on every stack
+/// that has the weight of the run; while the run is defined no instruction breaks a rule of the
+/// machine that is watched.
 pub fn emitted_code_follows()
     ensures { EmittedCodeFollows }
 {}
 
-/// From the start of an image the machine that is watched goes on, exits and stops as main does, with the
-/// output, the status and the least stack of the run.
+/// From the start of an image the machine that is watched goes on, exits and stops as main does,
+/// with the output, the status and the least stack of the run.
 pub fn emitted_code_follows_from_start()
     ensures { EmittedCodeFollowsFromStart }
 {}
 
-/// Live blocks in ranges that don't meet have owners of their bytes, which the entry of a function asks for.
+/// Live blocks in ranges that don't meet have owners of their bytes, which the entry of a function
+/// asks for.
 pub fn blocks_apart_have_owners()
     ensures { BlocksApartHaveOwners }
 {}
 
-/// An image that has a unit's code, records and data does what the unit does. Every function of it, from
-/// the address in its record, follows its linear code on every stack that has the run's weight by the costs
-/// of the records. From the start the machine and main's run agree both ways, within the same steps, and
-/// the least x2 is the stack's top less the weight.
+/// An image that has a unit's code, records and data does what the unit does. Every function of it,
+/// from the address in its record, follows its linear code on every stack that has the run's weight
+/// by the costs of the records. From the start the machine and main's run agree both ways, within
+/// the same steps, and the least x2 is the stack's top less the weight.
 pub fn images_follow()
     ensures { ImagesFollow }
 {}
 
-/// The code of an image has at most three words, and those of each function: so it has room where they
-/// do.
+/// The code of an image has at most three words, and those of each function: so it has room where
+/// they do.
 pub fn code_is_short()
     ensures { CodeIsShort }
 {}

@@ -1,4 +1,5 @@
-//! Machine code of linear code: what each instruction becomes, and that it does the same on a finite stack.
+//! Machine code of linear code: what each instruction becomes, and that it does the same on a
+//! finite stack.
 #![tactic(auto)]
 
 mod laws;

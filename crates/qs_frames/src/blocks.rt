@@ -58,7 +58,8 @@ pub struct Starts {
 impl Starts {
     ghost use Rattle.qs_frames.specs.Starts.{start_of};
 
-    /// Where the block with this number begins. No block has a number from the length of the list on.
+    /// Where the block with this number begins. No block has a number from the length of the list
+    /// on.
     pub fn start(&self, block: u32) -> u32
         ensures { result ≡ start_of self.now block }
     {

@@ -1,5 +1,6 @@
 // The frame of a function, and where its parts lie.
-ghost use Rattle.std.specs.Prelude.{◌≡◌, ◌↔◌, ◌+◌, ◌*◌, ◌^◌, ◌≤◌, ◌<◌, IfOk, IsSome, IfSome, length};
+ghost use Rattle.std.specs.Prelude.{◌≡◌, ◌↔◌, ◌+◌, ◌*◌, ◌^◌, ◌≤◌, ◌<◌, IfOk, IsSome, IfSome};
+ghost use Rattle.std.specs.Prelude.{length};
 ghost use Rattle.qs_tac.specs.TreeOf.{function_tree};
 ghost use Rattle.qs_tac.specs.Places.{places_tree};
 ghost use Rattle.qs_frames.specs.Layout as spec;
@@ -83,8 +84,8 @@ fn used_among(alloc: Global, places: &[Place], registers: &[u32]) -> Result<Vec<
     Ok(used)
 }
 
-/// The registers that the function gives back to its caller as they were: those among x8, x9 and x18 to
-/// x27 in which a temporary stands, in rising order.
+/// The registers that the function gives back to its caller as they were: those among x8, x9 and
+/// x18 to x27 in which a temporary stands, in rising order.
 pub fn used_registers(alloc: Global, places: &Places) -> Result<Vec<u32>, NoMemory>
     ensures { IfOk result (λ registers. registers.items ≡ spec.used_registers (places_tree places.now)) }
 {
@@ -101,8 +102,8 @@ fn frame_cost(kept: u32, blocks: u32) -> u32
     (4 + blocks + 4 * kept + 15) / 16 * 16
 }
 
-/// The frame of a function whose temporaries stand in these places: with room for the return address, the
-/// registers that are given back, the slots, and the blocks.
+/// The frame of a function whose temporaries stand in these places: with room for the return
+/// address, the registers that are given back, the slots, and the blocks.
 #[tactic(auto, using(crate::proofs::OffsetLaws::cost_has_room))]
 pub fn layout(f: &TacFunction, places: &Places) -> Frame
     requires { (spec.layout (function_tree f.now) (places_tree places.now)).cost ≤ 2 ^ 28 }

@@ -1,10 +1,11 @@
 -- The tests of bytes that are read as an image, in their order, and the fault of the first that fails.
-use Rattle.std.specs.Prelude.{ℕ, ◌+◌, ◌*◌, ◌^◌, ◌%◌, Bool, true, ◌&&◌, not, List, [], ◌∷◌, ◌++◌, length, take, nat_le, nat_lt, ◌==◌, if◌then◌else◌, Option, Some, None, bytes_eq, codes, sum, option_map}
+use Rattle.std.specs.Prelude.{◌≡◌, ℕ, ◌+◌, ◌*◌, ◌^◌, ◌%◌, Bool, true, ◌&&◌, not, List, [], ◌∷◌, ◌++◌, length, take, nat_le, nat_lt, ◌==◌, if◌then◌else◌, Option, Some, None, bytes_eq, codes, sum, option_map}
 use Rattle.std.specs.List.{list_all, list_any, position_from}
 use Rattle.qs_base.specs.Bytes.{is_between}
 use Rattle.qs_base.specs.Names.{is_name}
 use Rattle.qs_image.specs.declared.fault.ImageFault.{ImageFault}
 use Rattle.qs_image.specs.declared.fault.ImageFault.TheVariants.{Short, Magic, Count, Trailing, Entry, Cost, Names}
+use Rattle.qs_image.specs.Limits.{most_code_words, most_data_bytes, most_functions, most_name_bytes, most_parameters, largest_cost}
 use Rattle.qs_image.specs.Image.{Image, FunctionRecord}
 use Rattle.qs_image.specs.Bytes.{word, code_count, byte_count, function_count, names_length, size, table_of, lengths_of, image_of}
 
@@ -24,9 +25,9 @@ is_address count address = nat_le 65536 address && nat_lt address (65536 + 4 * c
 abbrev pub are_addresses : Image → Bool
 are_addresses image = is_address (length image.code) image.entry && list_all (λ f. is_address (length image.code) f.address) image.functions
 
--- a positive multiple of 16 bytes, at most 2^28
+-- a positive multiple of 16 bytes, up to the largest
 abbrev pub is_cost : ℕ → Bool
-is_cost cost = is_between 1 (2 ^ 28) cost && cost % 16 == 0
+is_cost cost = is_between 1 largest_cost cost && cost % 16 == 0
 
 -- by the number of the first function whose cost is none
 abbrev pub cost_fault : List FunctionRecord → Option ImageFault
@@ -39,11 +40,11 @@ unless test fault = if test then None else Some fault
 -- The ranges of the words of the header.
 abbrev pub count_tests : List ℕ → List (Option ImageFault)
 count_tests bytes =
-    unless (is_between 1 262144 (code_count bytes)) (Count 1)
-    ∷ unless (nat_le (byte_count bytes) 16777216) (Count 2)
-    ∷ unless (is_between 1 512 (function_count bytes)) (Count 3)
-    ∷ unless (is_between 1 1048576 (names_length bytes)) (Count 4)
-    ∷ unless (nat_le (word 6 bytes) 8) (Count 6)
+    unless (is_between 1 most_code_words (code_count bytes)) (Count 1)
+    ∷ unless (nat_le (byte_count bytes) most_data_bytes) (Count 2)
+    ∷ unless (is_between 1 most_functions (function_count bytes)) (Count 3)
+    ∷ unless (is_between 1 most_name_bytes (names_length bytes)) (Count 4)
+    ∷ unless (nat_le (word 6 bytes) most_parameters) (Count 6)
     ∷ unless (nat_lt (word 7 bytes) (2 ^ word 6 bytes)) (Count 7)
     ∷ []
 
@@ -75,3 +76,10 @@ first_of (Some fault ∷ others) = Some fault
 -- The fault of the first test that fails, or `None`, which is where the bytes are an image.
 unfoldable pub first_fault : List ℕ → Option ImageFault
 first_fault bytes = first_of (header_tests bytes ++ size_tests bytes ++ part_tests (names_length bytes) (lengths_of (table_of bytes)) (image_of bytes))
+
+-- all tests are passed
+abbrev pub HasNoFault : List ℕ → Type 0
+HasNoFault bytes = first_fault bytes ≡ None
+
+abbrev pub IsFirstFault : List ℕ → ImageFault → Type 0
+IsFirstFault bytes fault = first_fault bytes ≡ Some fault

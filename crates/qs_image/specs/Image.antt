@@ -1,6 +1,7 @@
 -- The image as a pure value, and its bytes.
 use Rattle.std.specs.Prelude.{◌≡◌, ℕ, ◌+◌, ◌*◌, ◌/◌, ◌%◌, ◌^◌, ◌<◌, ◌≤◌, ◌≢◌, List, [], ◌∷◌, ◌++◌, length, map, codes, All, AllPairs, Contains, IsTrue}
 use Rattle.qs_base.specs.Names.{is_name}
+use Rattle.qs_image.specs.Limits.{most_code_words, most_data_bytes, most_functions, most_name_bytes, most_parameters, largest_cost}
 
 -- a function with a body
 pub record FunctionRecord : Type 0 where
@@ -30,6 +31,10 @@ word_bytes word = word % 256 ∷ word / 256 % 256 ∷ word / 65536 % 256 ∷ wor
 abbrev pub words_bytes : List ℕ → List ℕ
 words_bytes [] = []
 words_bytes (word ∷ words) = word_bytes word ++ words_bytes words
+
+-- words were written behind these bytes
+abbrev pub Writes : List ℕ → List ℕ → List ℕ → Type 0
+Writes before after words = after ≡ before ++ words_bytes words
 
 -- the names, one after the other
 abbrev pub joined_names : List FunctionRecord → List ℕ
@@ -72,20 +77,20 @@ pub record IsAddress (count address : ℕ) : Type 0 where
   pub below : k < count
   pub at : address ≡ 65536 + 4 * k
 
--- a positive multiple of 16 bytes, at most 2^28
+-- a positive multiple of 16 bytes, up to the largest
 pub record IsCost (cost : ℕ) : Type 0 where
   pub k : ℕ
   pub multiple : cost ≡ 16 * k
   pub positive : 0 < cost
-  pub most : cost ≤ 2 ^ 28
+  pub most : cost ≤ largest_cost
 
 -- What an image keeps to.
 pub record IsWellFormed (image : Image) : Type 0 where
-  pub code_count : IsBetween 1 262144 (length image.code)
-  pub byte_count : length image.bytes ≤ 16777216
-  pub function_count : IsBetween 1 512 (length image.functions)
-  pub names_length : IsBetween 1 1048576 (length (joined_names image.functions))
-  pub parameters : image.parameters ≤ 8
+  pub code_count : IsBetween 1 most_code_words (length image.code)
+  pub byte_count : length image.bytes ≤ most_data_bytes
+  pub function_count : IsBetween 1 most_functions (length image.functions)
+  pub names_length : IsBetween 1 most_name_bytes (length (joined_names image.functions))
+  pub parameters : image.parameters ≤ most_parameters
   pub unsigned_set : image.unsigned_set < 2 ^ image.parameters
   pub names : All (λ f. IsTrue (is_name f.name)) image.functions
   pub differ : AllPairs (λ f g. f.name ≢ g.name) image.functions

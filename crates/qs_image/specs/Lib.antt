@@ -1,3 +1,4 @@
+pub mod Limits
 pub mod Image
 pub mod Example
 pub mod Bytes

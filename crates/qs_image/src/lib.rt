@@ -3,6 +3,7 @@
 
 mod fault;
 mod image;
+mod limits;
 mod reading;
 mod records;
 mod sections;
@@ -12,6 +13,7 @@ mod writing;
 
 pub use fault::ImageFault;
 pub use image::{FunctionRecord, Image};
+pub use limits::{MOST_FUNCTIONS, MOST_NAME_BYTES};
 pub use reading::read;
 pub use records::RecordView;
 pub use view::ImageView;

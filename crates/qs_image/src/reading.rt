@@ -1,11 +1,15 @@
 // Reading an image.
-ghost use Rattle.std.specs.Prelude.{◌≡◌, ◌≤◌, ◌==◌, ◌&&◌, length, sum, Some, None, MatchResult, IfOk, IsOkAnd};
+ghost use Rattle.std.specs.Prelude.{◌≡◌, ◌≤◌, length, MatchResult, IfOk, IsOkAnd};
+ghost use Rattle.qs_image.specs.Limits.{most_code_words, most_functions};
 ghost use Rattle.qs_image.specs.Image.{Image, IsImage};
-ghost use Rattle.qs_image.specs.Bytes.{word, size, lengths_of, image_of};
-ghost use Rattle.qs_image.specs.Faults.{all_differ, are_names, is_address, are_addresses, is_cost, cost_fault, first_of, count_tests, header_tests, size_tests, part_tests, first_fault};
-ghost use Rattle.qs_image.specs.View.{records_left, image_in};
+ghost use Rattle.qs_image.specs.Faults.{are_addresses, first_of, count_tests};
+ghost use Rattle.qs_image.specs.Faults.{header_tests, size_tests, HasNoFault, IsFirstFault};
+ghost use Rattle.qs_image.specs.View.{image_in, have_names, section_tests, AreSections};
 
 use crate::fault::ImageFault;
+use crate::limits::{
+    MOST_CODE_WORDS, MOST_DATA_BYTES, MOST_FUNCTIONS, MOST_NAME_BYTES, MOST_PARAMETERS,
+};
 use crate::records::{RECORD_BYTES, is_address};
 use crate::sections::{HEADER_BYTES, Sections};
 use crate::view::ImageView;
@@ -15,15 +19,15 @@ fn count_fault(bytes: &[u8]) -> Option<ImageFault>
     requires { 32 ≤ length bytes.now }
     ensures { result ≡ first_of (count_tests bytes.now) }
 {
-    if word(bytes, 1) < 1 || word(bytes, 1) > 262_144 {
+    if word(bytes, 1) < 1 || word(bytes, 1) > MOST_CODE_WORDS {
         Some(ImageFault::Count(1))
-    } else if word(bytes, 2) > 16_777_216 {
+    } else if word(bytes, 2) > MOST_DATA_BYTES {
         Some(ImageFault::Count(2))
-    } else if word(bytes, 3) < 1 || word(bytes, 3) > 512 {
+    } else if word(bytes, 3) < 1 || word(bytes, 3) > MOST_FUNCTIONS {
         Some(ImageFault::Count(3))
-    } else if word(bytes, 4) < 1 || word(bytes, 4) > 1_048_576 {
+    } else if word(bytes, 4) < 1 || word(bytes, 4) > MOST_NAME_BYTES {
         Some(ImageFault::Count(4))
-    } else if word(bytes, 6) > 8 {
+    } else if word(bytes, 6) > MOST_PARAMETERS {
         Some(ImageFault::Count(6))
     } else if word(bytes, 7) >> word(bytes, 6) != 0 {
         Some(ImageFault::Count(7))
@@ -63,14 +67,14 @@ fn size_fault(bytes: &[u8]) -> Option<ImageFault>
 }
 
 fn are_names(sections: &Sections<'_>) -> bool
-    ensures { result ≡ (sum (lengths_of sections.now.table.now) == length sections.now.names.now && are_names (image_in sections.now).functions) }
+    ensures { result ≡ have_names sections.now }
 {
     let records = sections.records();
     records.lengths_add_up() && records.are_names()
 }
 
 fn are_addresses(sections: &Sections<'_>) -> bool
-    requires { length (image_in sections.now).code ≤ 262144 }
+    requires { length (image_in sections.now).code ≤ most_code_words }
     ensures { result ≡ are_addresses (image_in sections.now) }
 {
     let count = sections.code_count();
@@ -78,9 +82,9 @@ fn are_addresses(sections: &Sections<'_>) -> bool
 }
 
 fn part_fault(sections: &Sections<'_>) -> Option<ImageFault>
-    requires code { length (image_in sections.now).code ≤ 262144 }
-    requires functions { length (image_in sections.now).functions ≤ 512 }
-    ensures { result ≡ first_of (part_tests (length sections.now.names.now) (lengths_of sections.now.table.now) (image_in sections.now)) }
+    requires code { length (image_in sections.now).code ≤ most_code_words }
+    requires functions { length (image_in sections.now).functions ≤ most_functions }
+    ensures { result ≡ first_of (section_tests sections.now) }
 {
     if !are_names(sections) {
         Some(ImageFault::Names)
@@ -92,7 +96,7 @@ fn part_fault(sections: &Sections<'_>) -> Option<ImageFault>
 }
 
 fn sections_of(bytes: &[u8]) -> Result<Sections<'_>, ImageFault>
-    ensures { MatchResult result (λ s. (first_fault bytes.now ≡ None) × (image_in s ≡ image_of bytes.now)) (λ fault. first_fault bytes.now ≡ Some fault) }
+    ensures { MatchResult result (AreSections bytes.now) (IsFirstFault bytes.now) }
 {
     if let Some(fault) = header_fault(bytes) {
         return Err(fault);
@@ -107,12 +111,12 @@ fn sections_of(bytes: &[u8]) -> Result<Sections<'_>, ImageFault>
     }
 }
 
-/// Reads an image, without taking memory. `Ok` comes exactly where the bytes are an image, which is then the one
-/// that the view shows; else the fault is that of the first test that fails.
+/// Reads an image, without taking memory. `Ok` comes exactly where the bytes are an image, which is
+/// then the one that the view shows; else the fault is that of the first test that fails.
 pub fn read(bytes: &[u8]) -> Result<ImageView<'_>, ImageFault>
     ensures image { IfOk result (λ image. IsImage bytes.now image) }
-    ensures accepts { (image : Image) → IsImage bytes.now image → IsOkAnd result (λ view. view ≡ image) }
-    ensures fault { MatchResult result (λ _. first_fault bytes.now ≡ None) (λ fault. first_fault bytes.now ≡ Some fault) }
+    ensures accepts { (image : Image) → IsImage bytes.now image → IsOkAnd result (λ v. v ≡ image) }
+    ensures fault { MatchResult result (λ _. HasNoFault bytes.now) (IsFirstFault bytes.now) }
 {
     let sections = sections_of(bytes)?;
     Ok(ImageView { sections })

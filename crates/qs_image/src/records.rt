@@ -1,11 +1,13 @@
 // Records of functions in a table, and their names.
-ghost use Rattle.std.specs.Prelude.{[], ◌∷◌, MatchOption, ◌≡◌, ◌≤◌, ◌==◌, length, sum, codes, bytes_eq};
+ghost use Rattle.std.specs.Prelude.{[], ◌∷◌, MatchOption, ◌≡◌, ◌≤◌, ◌==◌, length, sum, bytes_eq};
 ghost use Rattle.std.specs.List.{list_all, list_any};
 ghost use Rattle.qs_base.specs.Names.{is_name};
+ghost use Rattle.qs_image.specs.Limits.{most_code_words, most_functions};
 ghost use Rattle.qs_image.specs.Bytes.{lengths_of};
 ghost use Rattle.qs_image.specs.Faults.{all_differ, are_names, is_address, is_cost, cost_fault};
 
 use crate::fault::ImageFault;
+use crate::limits::LARGEST_COST;
 use crate::word::word;
 use qs_base::is_name;
 
@@ -23,8 +25,8 @@ pub struct RecordView<'a> {
     pub cost: u32,
 }
 
-/// The records of a table, whose names lie one after the other. Of a name that passes the end of the names
-/// there is what is there.
+/// The records of a table, whose names lie one after the other. Of a name that passes the end of
+/// the names there is what is there.
 #[derive(Clone, Copy, Debug)]
 pub struct Records<'a> {
     /// `RECORD_BYTES` for each record.
@@ -52,7 +54,7 @@ impl<'a> Iterator for Records<'a> {
 
 /// Whether this is the address of one of `count` instructions.
 pub fn is_address(count: u32, address: u32) -> bool
-    requires { count ≤ 262144 }
+    requires { count ≤ most_code_words }
     ensures { result ≡ is_address count address }
 {
     65_536 <= address && address < 65_536 + 4 * count && address % 4 == 0
@@ -61,15 +63,15 @@ pub fn is_address(count: u32, address: u32) -> bool
 fn is_cost(cost: u32) -> bool
     ensures { result ≡ is_cost cost }
 {
-    1 <= cost && cost <= 1 << 28 && cost % 16 == 0
+    1 <= cost && cost <= LARGEST_COST && cost % 16 == 0
 }
 
 impl<'a> Records<'a> {
-    ghost use Rattle.qs_image.specs.View.{record_of, records_left};
+    ghost use Rattle.qs_image.specs.View.{records_left, BeginsWith};
 
     /// The first record, and the others.
     fn split_first(&self) -> Option<(RecordView<'a>, Records<'a>)>
-        ensures { MatchOption result (records_left self.now ≡ []) (λ first. records_left self.now ≡ record_of first.0 ∷ records_left first.1) }
+        ensures { MatchOption result (records_left self.now ≡ []) (BeginsWith self.now) }
     {
         if self.table.len() < RECORD_BYTES {
             return None;
@@ -129,8 +131,8 @@ impl<'a> Records<'a> {
         true
     }
 
-    /// Whether each name is a name of the language, they differ, and one is `main`. Takes time in the square
-    /// of the count.
+    /// Whether each name is a name of the language, they differ, and one is `main`. Takes time in
+    /// the square of the count.
     pub fn are_names(&self) -> bool
         ensures { result ≡ are_names (records_left self.now) }
     {
@@ -139,7 +141,7 @@ impl<'a> Records<'a> {
 
     /// Whether each address is that of one of `count` instructions.
     pub fn are_addresses(&self, count: u32) -> bool
-        requires { count ≤ 262144 }
+        requires { count ≤ most_code_words }
         ensures { result ≡ list_all (λ f. is_address count f.address) (records_left self.now) }
     {
         let mut records = *self;
@@ -148,7 +150,7 @@ impl<'a> Records<'a> {
 
     /// The fault of the first record whose cost is none.
     pub fn cost_fault(&self) -> Option<ImageFault>
-        requires { length (records_left self.now) ≤ 512 }
+        requires { length (records_left self.now) ≤ most_functions }
         ensures { result ≡ cost_fault (records_left self.now) }
     {
         let mut records = *self;

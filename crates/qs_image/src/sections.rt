@@ -9,8 +9,8 @@ use crate::word::word;
 /// The four bytes `QSI1` and seven words.
 pub const HEADER_BYTES: usize = 32;
 
-/// The bytes of an image, taken apart: three words of the header, the table of records, the names, the
-/// code and the data.
+/// The bytes of an image, taken apart: three words of the header, the table of records, the names,
+/// the code and the data.
 #[derive(Clone, Copy, Debug)]
 pub struct Sections<'a> {
     pub entry: u32,

@@ -7,8 +7,8 @@ use crate::sections::Sections;
 use crate::word::word;
 use std::marker::Model;
 
-/// An image that was read, over the bytes that were read. Contracts see it as a pure image that keeps to its
-/// form: `IsWellFormed`. No call takes memory.
+/// An image that was read, over the bytes that were read. Contracts see it as a pure image that
+/// keeps to its form: `IsWellFormed`. No call takes memory.
 #[derive(Debug, Drop)]
 pub struct ImageView<'a> {
     pub(crate) sections: Sections<'a>,
@@ -61,7 +61,8 @@ impl<'a> ImageView<'a> {
         self.sections.function_count()
     }
 
-    /// Function number `i`, from 0, in time proportional to `i`: the names before its own have to be passed.
+    /// Function number `i`, from 0, in time proportional to `i`: the names before its own have to
+    /// be passed.
     pub fn functions(&self, i: u32) -> RecordView<'_>
         requires { i < length self.now.functions }
         ensures { slice_get self.now.functions i ≡ Some (record_of result) }

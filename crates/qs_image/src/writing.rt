@@ -1,6 +1,6 @@
 // Writing an image.
-ghost use Rattle.std.specs.Prelude.{[], ◌∷◌, All, ◌≡◌, ◌<◌, ◌^◌, ◌++◌, length, map, OnOk, IfOk};
-ghost use Rattle.qs_image.specs.Image.{words_bytes, joined_names, header_words, record_words, IsWellFormed, IsImage};
+ghost use Rattle.std.specs.Prelude.{[], ◌∷◌, All, ◌≡◌, ◌<◌, ◌^◌, ◌++◌, length, OnOk, IfOk};
+ghost use Rattle.qs_image.specs.Image.{Writes, joined_names, header_words, record_words, IsImage};
 
 use crate::image::{FunctionRecord, Image};
 use crate::word::put_word;
@@ -19,7 +19,7 @@ fn names_length(functions: &[FunctionRecord]) -> usize
 }
 
 fn put_words(bytes: &mut Vec<u8>, words: &[u32]) -> Result<(), NoMemory>
-    ensures { OnOk result (bytes.new.items ≡ bytes.old.items ++ words_bytes words.now) }
+    ensures { OnOk result (Writes bytes.old.items bytes.new.items words.now) }
 {
     for word in words {
         put_word(bytes, *word)?;
@@ -28,7 +28,7 @@ fn put_words(bytes: &mut Vec<u8>, words: &[u32]) -> Result<(), NoMemory>
 }
 
 fn put_header(bytes: &mut Vec<u8>, image: &Image) -> Result<(), NoMemory>
-    ensures { OnOk result (bytes.new.items ≡ bytes.old.items ++ words_bytes (header_words image.now)) }
+    ensures { OnOk result (Writes bytes.old.items bytes.new.items (header_words image.now)) }
 {
     let words = [
         image.code.len() as u32,
@@ -44,7 +44,7 @@ fn put_header(bytes: &mut Vec<u8>, image: &Image) -> Result<(), NoMemory>
 
 fn put_record(bytes: &mut Vec<u8>, f: &FunctionRecord) -> Result<(), NoMemory>
     requires { length f.now.name < 2 ^ 32 }
-    ensures { OnOk result (bytes.new.items ≡ bytes.old.items ++ words_bytes (record_words (f.now ∷ []))) }
+    ensures { OnOk result (Writes bytes.old.items bytes.new.items (record_words (f.now ∷ []))) }
 {
     let words = [f.name.bytes().len() as u32, f.address, f.cost];
     put_words(bytes, &words)
@@ -52,7 +52,7 @@ fn put_record(bytes: &mut Vec<u8>, f: &FunctionRecord) -> Result<(), NoMemory>
 
 fn put_records(bytes: &mut Vec<u8>, functions: &[FunctionRecord]) -> Result<(), NoMemory>
     requires { All (λ f. length f.name < 2 ^ 32) functions.now }
-    ensures { OnOk result (bytes.new.items ≡ bytes.old.items ++ words_bytes (record_words functions.now)) }
+    ensures { OnOk result (Writes bytes.old.items bytes.new.items (record_words functions.now)) }
 {
     for f in functions {
         put_record(bytes, f)?;

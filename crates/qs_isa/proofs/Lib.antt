@@ -1,3 +1,2 @@
 pub mod ByOpcode
 pub mod RoundTrip
-pub mod Within

@@ -103,6 +103,13 @@ op_funct7 Remu = 0b0000001
 abbrev pub r_word : ℕ → ℕ → ℕ → ℕ → ℕ → ℕ → ℕ
 r_word funct7 rs2 rs1 funct3 rd opcode = funct7 * 2 ^ 25 + rs2 * 2 ^ 20 + rs1 * 2 ^ 15 + funct3 * 2 ^ 12 + rd * 2 ^ 7 + opcode
 
+-- the operations on two registers, and on a register and an amount to shift by
+abbrev pub op_word : OpKind → ℕ → ℕ → ℕ → ℕ
+op_word kind rs2 rs1 rd = r_word (op_funct7 kind) rs2 rs1 (op_funct3 kind) rd 0b0110011
+
+abbrev pub shift_imm_word : ShiftImmKind → ℕ → ℕ → ℕ → ℕ
+shift_imm_word kind amount rs1 rd = r_word (shift_imm_funct7 kind) amount rs1 (shift_imm_funct3 kind) rd 0b0010011
+
 -- imm[11:0], rs1, funct3, rd, opcode
 abbrev pub i_word : ℕ → ℕ → ℕ → ℕ → ℕ → ℕ
 i_word imm rs1 funct3 rd opcode = r_word (bits imm 5 7) (bits imm 0 5) rs1 funct3 rd opcode
@@ -135,8 +142,8 @@ encode_of (Branch kind rs1 rs2 offset) = b_word offset rs2 rs1 (branch_funct3 ki
 encode_of (Load kind rd rs1 offset) = i_word offset rs1 (load_funct3 kind) rd 0b0000011
 encode_of (Store kind rs1 rs2 offset) = s_word offset rs2 rs1 (store_funct3 kind) 0b0100011
 encode_of (OpImm kind rd rs1 immediate) = i_word immediate rs1 (op_imm_funct3 kind) rd 0b0010011
-encode_of (ShiftImm kind rd rs1 amount) = r_word (shift_imm_funct7 kind) amount rs1 (shift_imm_funct3 kind) rd 0b0010011
-encode_of (Op kind rd rs1 rs2) = r_word (op_funct7 kind) rs2 rs1 (op_funct3 kind) rd 0b0110011
+encode_of (ShiftImm kind rd rs1 amount) = shift_imm_word kind amount rs1 rd
+encode_of (Op kind rd rs1 rs2) = op_word kind rs2 rs1 rd
 encode_of Fence = 0x0ff0000f
 encode_of Ecall = 0x00000073
 encode_of Ebreak = 0x00100073

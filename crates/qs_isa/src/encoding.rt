@@ -71,7 +71,8 @@ fn word_of(i: &Instr) -> u32
     }
 }
 
-/// The word of these fields, with `rs2` and `rd` as numbers, since parts of immediates stand there too.
+/// The word of these fields, with `rs2` and `rd` as numbers, since parts of immediates stand there
+/// too.
 fn r_word(funct7: u32, rs2: u32, rs1: Register, funct3: u32, rd: u32, opcode: u32) -> u32
     requires seven { funct7 < 128 }
     requires second { rs2 < 32 }
@@ -149,8 +150,7 @@ fn j_word(offset: JumpOffset, rd: Register, opcode: u32) -> u32
 }
 
 fn shift_imm_word(kind: ShiftImmKind, amount: ShiftAmount, rs1: Register, rd: Register) -> u32
-    ensures word { result ≡ words.r_word (words.shift_imm_funct7 kind) amount rs1
-        (words.shift_imm_funct3 kind) rd 0b0010011 }
+    ensures word { result ≡ words.shift_imm_word kind amount rs1 rd }
     ensures within { amount < 32 }
     ensures first { rs1 < 32 }
     ensures destination { rd < 32 }
@@ -168,7 +168,7 @@ fn shift_imm_word(kind: ShiftImmKind, amount: ShiftAmount, rs1: Register, rd: Re
 }
 
 fn op_word(kind: OpKind, rs2: Register, rs1: Register, rd: Register) -> u32
-    ensures word { result ≡ words.r_word (words.op_funct7 kind) rs2 rs1 (words.op_funct3 kind) rd 0b0110011 }
+    ensures word { result ≡ words.op_word kind rs2 rs1 rd }
     ensures second { rs2 < 32 }
     ensures first { rs1 < 32 }
     ensures destination { rd < 32 }

@@ -142,7 +142,8 @@ impl BranchOffset {
     }
 }
 
-/// The distance of a jump in bytes: even, -1048576 to 1048574, seen as the word with its sign extended.
+/// The distance of a jump in bytes: even, -1048576 to 1048574, seen as the word with its sign
+/// extended.
 #[derive(Clone, Copy, Debug, PartialEq, Eq)]
 pub struct JumpOffset {
     word: u32,

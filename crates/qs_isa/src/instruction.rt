@@ -72,7 +72,8 @@ pub enum OpKind {
     Remu,
 }
 
-/// An instruction of RV32IM (chapter 24). `rd` is the register that is written, `rs1` and `rs2` are read.
+/// An instruction of RV32IM (chapter 24). `rd` is the register that is written, `rs1` and `rs2` are
+/// read.
 #[derive(Clone, Copy, Debug, PartialEq, Eq)]
 pub enum Instr {
     /// `rd` becomes the immediate.

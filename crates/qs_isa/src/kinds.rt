@@ -1,7 +1,10 @@
 // The kinds within an opcode, and their funct3 and funct7.
 ghost use Rattle.std.specs.Prelude.{◌≡◌, ◌<◌};
-ghost use Rattle.qs_isa.specs.Kinds.{branch_kind_of, load_kind_of, store_kind_of, op_imm_kind_of, shift_imm_kind_of, plain_kind_of, marked_kind_of, multiply_kind_of, op_kind_of};
-ghost use Rattle.qs_isa.specs.Encoding.{branch_funct3, load_funct3, store_funct3, op_imm_funct3, shift_imm_funct3, shift_imm_funct7, op_funct3, op_funct7};
+ghost use Rattle.qs_isa.specs.Kinds.{branch_kind_of, load_kind_of, store_kind_of, op_imm_kind_of};
+ghost use Rattle.qs_isa.specs.Kinds.{shift_imm_kind_of, plain_kind_of, marked_kind_of};
+ghost use Rattle.qs_isa.specs.Kinds.{multiply_kind_of, op_kind_of};
+ghost use Rattle.qs_isa.specs.Encoding.{branch_funct3, load_funct3, store_funct3, op_imm_funct3};
+ghost use Rattle.qs_isa.specs.Encoding.{shift_imm_funct3, shift_imm_funct7, op_funct3, op_funct7};
 
 use crate::{BranchKind, LoadKind, OpImmKind, OpKind, ShiftImmKind, StoreKind};
 

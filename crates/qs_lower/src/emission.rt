@@ -3,7 +3,8 @@ ghost use Rattle.std.specs.Prelude.{◌≡◌, ◌+◌, [], ◌∷◌, ◌++◌,
 ghost use Rattle.qs_tac.specs.TreeOf.{instruction_tree};
 ghost use Rattle.qs_lower.specs.Exits as exits;
 ghost use Rattle.qs_lower.specs.Expressions as spec;
-ghost use Rattle.qs_lower.specs.Plans.{expr_code, exit_tree, started, Emitted, number_code, of_plain_operation, element_code, value_test_code};
+ghost use Rattle.qs_lower.specs.Plans.{expr_code, exit_tree, started, Emitted, number_code};
+ghost use Rattle.qs_lower.specs.Plans.{of_plain_operation, element_code, value_test_code};
 
 use crate::addresses::{address_at, operand_of};
 use crate::exits::{Exit, emit_branch, emit_known, put};
@@ -16,7 +17,8 @@ use qs_base::NoMemory;
 use qs_memory::{BinaryOperation, Scalar, UnaryOperation};
 use qs_tac::{Condition, Instruction, Operand};
 
-// The operation, with a constant on the right where the instruction lets its operands change places.
+// The operation, with a constant on the right where the instruction lets its operands change
+// places.
 fn binary_instruction(op: BinaryOperation, x: u32, left: Operand, right: Operand) -> Instruction
     ensures { instruction_tree result ≡ spec.binary_instruction op x left right }
 {
@@ -37,8 +39,8 @@ fn converting_instruction(s: Scalar, x: u32, o: Operand) -> Instruction
     }
 }
 
-// Behind a test that goes on here where it holds, and just before the last of these instructions where it
-// doesn't: the number 1 or 0.
+// Behind a test that goes on here where it holds, and just before the last of these instructions
+// where it doesn't: the number 1 or 0.
 fn put_number(code: &mut Vec<Instruction>, x: u32, end: u32) -> Result<(), NoMemory>
     ensures code { OnOk result (Emitted code.old.items code.new.items (number_code x end)) }
     ensures size { OnOk result (length code.new.items ≡ length code.old.items + 3) }

@@ -12,8 +12,8 @@ pub fn lowered_fits()
     ensures { LoweredFits }
 {}
 
-/// The linear code of a function has at most the values of its core, and where what it holds of expressions is in
-/// reach, at most its words; so have units.
+/// The linear code of a function has at most the values of its core, and where what it holds of
+/// expressions is in reach, at most its words; so have units.
 pub fn lowered_sizes_are_kept()
     ensures { LoweredSizesAreKept }
 {}

@@ -290,8 +290,8 @@ fn of_conditional(
 
 // ---- expressions
 
-/// The plan of an expression in a function with so many variables, which are the first temporaries; the
-/// function's temporaries follow. Like the expression it is as high as the source's.
+/// The plan of an expression in a function with so many variables, which are the first temporaries;
+/// the function's temporaries follow. Like the expression it is as high as the source's.
 #[cycle(lowered)]
 pub fn lowered(alloc: Global, v: u32, e: &CoreExpr) -> Result<ExprPlan, NoMemory>
     ensures { IfOk result (λ r. expr_code r ≡ spec.lowered v (core_expr e.now)) }

@@ -6,8 +6,8 @@ use crate::operands::truth_of;
 use qs_memory::{BinaryOperation, Scalar, Signedness, UnaryOperation};
 use qs_tac::Operand;
 
-/// The plan of an expression's code. Where a pointer is taken, the flag tells that its value is computed
-/// first; else the parts of its address are taken.
+/// The plan of an expression's code. Where a pointer is taken, the flag tells that its value is
+/// computed first; else the parts of its address are taken.
 #[cycle(expr_plan)]
 pub enum ExprPlan {
     /// an operand as it stands

@@ -4,7 +4,8 @@ ghost use Rattle.qs_memory.specs.BlankOf.{blank_tree};
 ghost use Rattle.qs_lower.specs.Expressions as spec;
 ghost use Rattle.qs_lower.specs.Plans.{expr_code, exit_tree, Emitted};
 ghost use Rattle.qs_lower.specs.Statements as statements;
-ghost use Rattle.qs_lower.specs.StmtPlans.{stmt_part, branch_part, loop_part, tested_part, sizes_before, code_before};
+ghost use Rattle.qs_lower.specs.StmtPlans.{stmt_part, branch_part, loop_part, tested_part};
+ghost use Rattle.qs_lower.specs.StmtPlans.{sizes_before, code_before};
 ghost use Rattle.qs_lower.specs.Ways.{exits_tree, only};
 
 use crate::addresses::{address_at, operand_of};

@@ -4,7 +4,8 @@ ghost use Rattle.qs_core.specs.TreeOf.{core_exprs};
 ghost use Rattle.qs_lower.specs.Expressions as expressions;
 ghost use Rattle.qs_lower.specs.Plans.{expr_code};
 ghost use Rattle.qs_lower.specs.Statements as spec;
-ghost use Rattle.qs_lower.specs.StmtPlans.{stmt_part, joined_before, all_before, all_joined, test_at_end, loop_of, loop_at_end};
+ghost use Rattle.qs_lower.specs.StmtPlans.{stmt_part, joined_before, all_before, all_joined};
+ghost use Rattle.qs_lower.specs.StmtPlans.{test_at_end, loop_of, loop_at_end};
 
 use crate::numbers::sum;
 use crate::planning::lowered;
@@ -45,8 +46,8 @@ fn all_before(alloc: Global, all: Vec<StmtPlan>, last: StmtPlan) -> Result<StmtP
     }
 }
 
-/// All of them, one after the other. What does nothing is left out, and so is what stands behind one that
-/// ends, which is never reached.
+/// All of them, one after the other. What does nothing is left out, and so is what stands behind
+/// one that ends, which is never reached.
 pub fn joined(alloc: Global, all: Vec<StmtPlan>) -> Result<StmtPlan, NoMemory>
     ensures { IfOk result (λ r. stmt_part r ≡ all_joined (map stmt_part all.items)) }
 {

@@ -2,7 +2,8 @@
 ghost use Rattle.std.specs.Prelude.{◌≡◌, IfOk, IfSome, IsSome, Some, map};
 ghost use Rattle.qs_lower.specs.Plans.{expr_code};
 ghost use Rattle.qs_lower.specs.Statements as statements;
-ghost use Rattle.qs_lower.specs.StmtPlans.{stmt_part, branch_part, idle_of, some_breaks, test_in, test_at_end, tested_of};
+ghost use Rattle.qs_lower.specs.StmtPlans.{stmt_part, branch_part, idle_of, some_breaks, test_in};
+ghost use Rattle.qs_lower.specs.StmtPlans.{test_at_end, tested_of};
 ghost use Rattle.qs_lower.specs.Ways.{option_way, way_tree};
 
 use crate::plans::ExprPlan;
@@ -12,7 +13,8 @@ use qs_calls::Callee;
 use qs_memory::{Blank, Scalar};
 use std::alloc::Global;
 
-/// The plan of a statement's code. The first number of each is that of the first temporary that is free.
+/// The plan of a statement's code. The first number of each is that of the first temporary that is
+/// free.
 #[cycle(stmt_plan)]
 pub enum StmtPlan {
     /// only goes on
@@ -73,7 +75,8 @@ pub struct LoopPlan {
     pub step: StmtPlan,
 }
 
-/// The plan of a loop whose body ends in a test: where it holds a statement follows, and else a break.
+/// The plan of a loop whose body ends in a test: where it holds a statement follows, and else a
+/// break.
 #[cycle(stmt_plan)]
 pub struct TestedPlan {
     /// the first temporary that is free

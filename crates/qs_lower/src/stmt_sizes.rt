@@ -2,7 +2,8 @@
 ghost use Rattle.std.specs.Prelude.{◌≡◌, ◌+◌, IfOk, map};
 ghost use Rattle.qs_lower.specs.Expressions as spec;
 ghost use Rattle.qs_lower.specs.Plans.{expr_code};
-ghost use Rattle.qs_lower.specs.StmtPlans.{stmt_part, branch_part, loop_part, tested_part, joined_before, sizes_before};
+ghost use Rattle.qs_lower.specs.StmtPlans.{stmt_part, branch_part, loop_part, tested_part};
+ghost use Rattle.qs_lower.specs.StmtPlans.{joined_before, sizes_before};
 ghost use Rattle.qs_lower.specs.Ways.{falls_tree};
 
 use crate::exits::exit_size;

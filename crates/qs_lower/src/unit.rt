@@ -11,8 +11,8 @@ use qs_core::CoreUnit;
 use qs_tac::TacUnit;
 use std::alloc::Global;
 
-/// The linear code of a unit of core, or `NoMemory` where too little is left. `lowering_follows` tells what
-/// its runs are.
+/// The linear code of a unit of core, or `NoMemory` where too little is left. `lowering_follows`
+/// tells what its runs are.
 pub fn lower(alloc: Global, unit: &CoreUnit) -> Result<TacUnit, NoMemory>
     ensures { IfOk result (λ r. tac.unit_tree r ≡ lower_unit (core.unit_tree unit.now)) }
 {

@@ -107,7 +107,8 @@ fn unary_gives_truth(op: UnaryOperation) -> bool
     }
 }
 
-/// Whether it is 1 or 0, whatever variables hold (C11 6.5.3.3p5, 6.5.8p6, 6.5.9p3, 6.5.13p3, 6.5.14p3).
+/// Whether it is 1 or 0, whatever variables hold (C11 6.5.3.3p5, 6.5.8p6, 6.5.9p3, 6.5.13p3,
+/// 6.5.14p3).
 pub fn gives_truth(e: &CoreExpr) -> bool
     ensures { result ≡ spec.gives_truth (core_expr e.now) }
 {

@@ -1,6 +1,6 @@
 -- Which case of an instruction holds.
-use Rattle.std.proofs.Common.{◌≡◌, ℕ, ◌*◌, ◌%◌, Bool, true, false, List, [], ◌∷◌, length, eq-eqb, refl, ap, ◌∙◌, arith}
-use Rattle.std.specs.Prelude.{nat_eq}
+use Rattle.std.proofs.Common.{Some, None, ◌≡◌, ℕ, ◌*◌, ◌%◌, Bool, true, false, List, [], ◌∷◌, length, eq-eqb, refl, ap, ◌∙◌, arith}
+use Rattle.std.specs.Prelude.{nat_eq, if◌then◌else◌}
 use Rattle.qs_isa.specs.declared.instruction.LoadKind.{LoadKind}
 use Rattle.qs_isa.specs.declared.instruction.StoreKind.{StoreKind}
 use Rattle.qs_image.specs.Image.{Image, words_bytes}
@@ -10,6 +10,20 @@ use Rattle.qs_machine.specs.Step.{Next, Traps, next_pc, write, write_and_go, jum
 use Rattle.qs_machine.specs.declared.machine.Machine.{Machine}
 use Rattle.qs_machine.specs.Hart.{can_read_in, can_write_in}
 use Rattle.qs_machine.specs.Standing.{IsLoaded}
+
+-- ---- what an answer says of the test behind it
+
+pub record Found (test : Bool) (x y : ℕ) : Type 0 where
+  pub holds : test ≡ true
+  pub is : y ≡ x
+
+pub found : (test : Bool) (x y : ℕ) → Some y ≡ (if test then Some x else None) → Found test x y
+found true x y e = record { holds = refl; is = cc }
+found false x y e = absurd cc
+
+pub not_found : (test : Bool) (x : ℕ) → None ≡ (if test then Some x else None) → test ≡ false
+not_found true x e = cc
+not_found false x e = refl
 
 -- ---- jumps and branches
 

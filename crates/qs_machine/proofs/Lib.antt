@@ -1,7 +1,3 @@
-pub mod Steps
-pub mod Reaches
-pub mod Writes
-pub mod Found
 pub mod Choices
 pub mod Memories
 pub mod Doing

@@ -13,7 +13,7 @@ use Rattle.qs_machine.specs.State.{with_value, is_inside, code_start, data_start
 use Rattle.qs_machine.specs.Step.{stored, store_width}
 use Rattle.qs_machine.specs.declared.memory.Memory.{Memory}
 use Rattle.qs_machine.specs.Hart.{memory_of, can_read_in, nothing}
-use Rattle.qs_machine.proofs.Found.{found}
+use Rattle.qs_machine.proofs.Choices.{found}
 use Rattle.qs_machine.specs.Bytes.{byte_in, bytes_from, put_1, put_2, put_4, put_bytes}
 
 -- ---- one byte

@@ -2,22 +2,31 @@
 use Rattle.std.proofs.Common.{◌≡◌, ℕ, suc, ◌+◌, ◌-◌, ◌<◌, List, [], ◌∷◌, ◌++◌, length, Result, Ok, Err, true, false, refl, sym, ◌∙◌, ap, subst, append_assoc, arith}
 use Rattle.std.specs.Result.{is_err}
 use Rattle.std.specs.Prelude.{slice_index}
-use Rattle.std.proofs.lemmas.List.{append-nil, get_or_at}
+use Rattle.std.proofs.lemmas.List.{get_or_at}
 use Rattle.std.proofs.Math.Seq.{take-append_seam, take-append-add}
 use Rattle.qs_image.specs.Image.{Image}
 use Rattle.qs_ports.specs.declared.sink.SinkFault.{SinkFault}
 use Rattle.qs_ports.specs.SinkView.{SinkView, Appends, IsCut, PutsAll}
-use Rattle.qs_ports.proofs.Sinks.{appends_nothing, appends_more, cut_later, cut_sooner}
+use Rattle.qs_ports.proofs.Sinks.{appends_more, cut_later, cut_sooner}
 use Rattle.qs_machine.specs.declared.answers.Cause.{Cause}
 use Rattle.qs_machine.specs.declared.answers.End.TheVariants as end
 use Rattle.qs_machine.specs.declared.machine.Machine.{Machine}
 use Rattle.qs_machine.specs.State.{State}
-use Rattle.qs_machine.specs.Step.{Exits, Traps, step}
-use Rattle.qs_machine.specs.Run.{Outcome, Exited, Trapped, Going, run, output_so_far}
-use Rattle.qs_machine.specs.Standing.{Stands, GoesOn, end_of, ended}
+use Rattle.qs_machine.specs.Step.{StepResult, Next, Exits, Traps, step}
+use Rattle.qs_machine.specs.Run.{Outcome, Exited, Trapped, Going, run, outcome_after, output_so_far}
+use Rattle.qs_machine.specs.Standing.{GoesOn, end_of, ended}
 use Rattle.qs_machine.specs.Running.{Reached, HasExited, HasTrapped, IsGoing, IsCutOff}
-use Rattle.qs_machine.proofs.Steps.{run_next, run_exits, run_traps}
 use Rattle.qs_machine.proofs.Growth.{IsFront, grows-run}
+
+-- runs, by their first step
+pub run_next : (image : Image) (size steps : ℕ) (s t : State) → step image size s ≡ Next t → run image size (suc steps) s ≡ run image size steps t
+run_next image size steps s t e = ap (λ (r : StepResult). outcome_after s r (run image size steps)) e
+
+pub run_exits : (image : Image) (size steps : ℕ) (s : State) (status : ℕ) → step image size s ≡ Exits status → run image size (suc steps) s ≡ Exited s.output status
+run_exits image size steps s status e = ap (λ (r : StepResult). outcome_after s r (run image size steps)) e
+
+pub run_traps : (image : Image) (size steps : ℕ) (s : State) (cause : Cause) → step image size s ≡ Traps cause → run image size (suc steps) s ≡ Trapped cause s.pc s.output
+run_traps image size steps s cause e = ap (λ (r : StepResult). outcome_after s r (run image size steps)) e
 
 -- so many steps were taken from the state `s`, and what they put was appended to the sink
 pub record HasGone (n : Machine) (image : Image) (size : ℕ) (input : List ℕ) (s : State) (steps : ℕ) (v w : SinkView) : Type 0 where
@@ -26,15 +35,6 @@ pub record HasGone (n : Machine) (image : Image) (size : ℕ) (input : List ℕ)
   pub bytes : List ℕ
   pub puts : next.output ≡ s.output ++ bytes
   pub appended : Appends v w bytes
-
-pub has_begun : (m : Machine) (image : Image) (size : ℕ) (input : List ℕ) (s : State) (v : SinkView) → Stands m image size input s → HasGone m image size input s 0 v v
-has_begun m image size input s v stands = record {
-  next = s;
-  reached = record { stands = stands; ahead = λ more. let e : 0 + more ≡ more = omega arith in ap (λ (k : ℕ). run image size k s) e };
-  bytes = [];
-  puts = sym (append-nil s.output);
-  appended = appends_nothing v;
-}
 
 reached_next : (m n : Machine) (image : Image) (size : ℕ) (input : List ℕ) (s t : State) (steps : ℕ) (bytes : List ℕ) → Reached m image size input s steps t → (g : GoesOn n image size input t bytes) → Reached n image size input s (steps + 1) g.next
 reached_next m n image size input s t steps bytes r g = record {

@@ -3,6 +3,7 @@ pub mod Step
 pub mod Run
 pub mod Bytes
 pub mod Hart
+pub mod Actions
 pub mod Standing
 pub mod Running
 pub mod Example

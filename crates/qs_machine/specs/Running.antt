@@ -1,5 +1,5 @@
 -- What a run of a machine does, and how it is loaded.
-use Rattle.std.specs.Prelude.{◌≡◌, ◌≢◌, ℕ, ◌+◌, ◌<◌, ◌≤◌, ◌^◌, List, [], ◌∷◌, ◌++◌, take, slice_index, Some}
+use Rattle.std.specs.Prelude.{◌≡◌, ◌≢◌, ℕ, ◌+◌, ◌<◌, ◌≤◌, List, [], ◌∷◌, ◌++◌, take, slice_index, Some, IfSome}
 use Rattle.qs_image.specs.Image.{Image}
 use Rattle.qs_ports.specs.SinkView.{SinkView, Appends, IsCut}
 use Rattle.qs_machine.specs.declared.answers.RunEnd.{RunEnd}
@@ -11,7 +11,7 @@ use Rattle.qs_machine.specs.declared.machine.Machine.{Machine}
 use Rattle.qs_machine.specs.declared.loading.LoadFault.{LoadFault}
 use Rattle.qs_machine.specs.declared.loading.LoadFault.TheVariants.{StackTooLarge, ArgCount, NoMemory}
 use Rattle.qs_machine.specs.State.{State, stack_limit}
-use Rattle.qs_machine.specs.Run.{Outcome, Exited, Trapped, Going, run, output_so_far}
+use Rattle.qs_machine.specs.Run.{Outcome, Exited, Trapped, Going, start, run, output_so_far}
 use Rattle.qs_machine.specs.Standing.{Stands, GoesOn, end_of}
 
 -- So many steps lead from the state `s` to the state `next`, from which the run goes on.
@@ -75,6 +75,22 @@ RunsTo n image size input s steps v w run_end.SinkFailed = IsCutOff n image size
 abbrev pub run_end_of : End → RunEnd
 run_end_of (end.Exited status) = run_end.Exited status
 run_end_of (end.Trapped cause pc) = run_end.Trapped cause pc
+
+-- it has ended, answers as it did then, and nothing changes, the sink neither
+abbrev pub EndsAgain : {Sink : Type 0} → Machine → Machine → Sink → Sink → RunEnd → Type 0
+EndsAgain m n before after answer = IfSome (end_of m) (λ e. (answer ≡ run_end_of e) × (n ≡ m) × (after ≡ before))
+
+-- wherever the machine stands, it runs from there
+abbrev pub Runs : {Sink : Type 0} → (Sink → SinkView) → Machine → Machine → Sink → Sink → List ℕ → ℕ → RunEnd → Type 0
+Runs view m n before after input steps answer =
+    (image : Image) (size : ℕ) (s : State) → Stands m image size input s
+    → RunsTo n image size input s steps (view before) (view after) answer
+
+-- ---- Loading
+
+-- it stands at the start of the program, whatever its input will be
+abbrev pub StandsAtStart : Machine → Image → ℕ → List ℕ → Type 0
+StandsAtStart m image size args = (input : List ℕ) → Stands m image size input (start image args input)
 
 -- ---- Why an image is not loaded
 

@@ -1,5 +1,5 @@
 -- Where a machine stands, and what a step of it does.
-use Rattle.std.specs.Prelude.{◌≡◌, ℕ, List, [], ◌∷◌, ◌++◌, length, map, drop, Option, Some, None}
+use Rattle.std.specs.Prelude.{◌≡◌, ℕ, List, [], ◌∷◌, ◌++◌, length, map, drop, Option, Some, None, IfSome}
 use Rattle.qs_isa.specs.Table.{decode_of}
 use Rattle.qs_image.specs.Image.{Image, words_bytes}
 use Rattle.qs_machine.specs.declared.answers.StepResult.{StepResult as Answer}
@@ -9,6 +9,8 @@ use Rattle.qs_machine.specs.declared.answers.End.TheVariants as end
 use Rattle.qs_machine.specs.declared.machine.Machine.{Machine}
 use Rattle.qs_machine.specs.State.{State}
 use Rattle.qs_machine.specs.Step.{StepResult, Next, Exits, Traps, step}
+use Rattle.qs_machine.specs.Step.{answer as answered}
+use Rattle.qs_machine.specs.Actions.{Action}
 use Rattle.qs_machine.specs.Hart.{registers_of, memory_of}
 
 -- how many bytes of the input it has taken
@@ -80,7 +82,30 @@ abbrev pub answer_of : End → Answer
 answer_of (end.Exited status) = Exited status
 answer_of (end.Trapped cause pc) = Trapped cause pc
 
--- What a part of a step does, as a function of the image, the size of the stack and the state, where this is the input.
-abbrev pub Does : Machine → Machine → List ℕ → (Image → ℕ → State → StepResult) → Answer → Type 0
-Does m n input r answer =
-    (image : Image) (size : ℕ) (output : List ℕ) → IsLoaded m image size → Did m n image size input (state_of m input output) (r image size (state_of m input output)) answer
+-- the machine takes the step that the definition gives, wherever it stands
+abbrev pub TakesStep : Machine → Machine → List ℕ → Answer → Type 0
+TakesStep m n input answer =
+    (image : Image) (size : ℕ) (s : State) → Stands m image size input s → Steps m n image size input s answer
+
+-- where it has ended it answers as it did then, and nothing changes
+abbrev pub AnswersAgain : Machine → Machine → Answer → Type 0
+AnswersAgain m n answer = IfSome (end_of m) (λ e. (answer ≡ answer_of e) × (n ≡ m))
+
+-- ---- parts of a step
+
+-- The machine does what the action does, where this is the input.
+abbrev pub Does : Machine → Machine → List ℕ → Action → Answer → Type 0
+Does m n input action answer =
+    (image : Image) (size : ℕ) (output : List ℕ) → IsLoaded m image size
+    → Did m n image size input (state_of m input output) (action image size (state_of m input output)) answer
+
+abbrev pub DoesForAnyInput : Machine → Machine → Action → Answer → Type 0
+DoesForAnyInput m n action answer = (input : List ℕ) → Does m n input action answer
+
+-- it puts a value into a0 and goes on
+abbrev pub PutsAnswer : Machine → Machine → ℕ → Type 0
+PutsAnswer m n value = (input output : List ℕ) → state_of n input output ≡ answered (state_of m input output) value
+
+-- what was loaded stays loaded
+abbrev pub StaysLoaded : Machine → Machine → Type 0
+StaysLoaded m n = (image : Image) (size : ℕ) → IsLoaded m image size → IsLoaded n image size

@@ -1,5 +1,5 @@
 -- The state of the machine: one hart over a flat memory (RISC-V Unprivileged ISA 20191213, 1.4 and 2.1).
-use Rattle.std.specs.Prelude.{ℕ, ◌+◌, ◌-◌, ◌*◌, ◌/◌, ◌%◌, ◌^◌, Bool, ◌&&◌, ◌||◌, ◌==◌, nat_le, List, if◌then◌else◌, length}
+use Rattle.std.specs.Prelude.{ℕ, ◌+◌, ◌-◌, ◌*◌, ◌/◌, ◌%◌, ◌^◌, Bool, ◌&&◌, ◌||◌, ◌==◌, nat_le, List, Option, Some, None, if◌then◌else◌, length}
 use Rattle.qs_isa.specs.Registers.{sp}
 use Rattle.qs_image.specs.Image.{Image}
 
@@ -48,6 +48,10 @@ stack_base size = stack_top - size
 -- `width` bytes from `address` on lie whole in the region from `start` to `end`, the end not included
 abbrev pub is_inside : ℕ → ℕ → ℕ → ℕ → Bool
 is_inside start end address width = nat_le start address && nat_le (address + width) end
+
+-- the place in a region of `count` bytes from `start` on of an access that lies in it whole
+abbrev pub place_in : ℕ → ℕ → ℕ → ℕ → Option ℕ
+place_in start count address width = if is_inside start (start + count) address width then Some (address - start) else None
 
 abbrev pub is_code : Image → ℕ → ℕ → Bool
 is_code image address width = is_inside code_start (code_start + 4 * length image.code) address width

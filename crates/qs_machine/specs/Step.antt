@@ -1,6 +1,6 @@
 -- One step: the word at the pc is fetched, decoded and acted on (RISC-V Unprivileged ISA 20191213, chapters 2 and 7).
 -- A step that traps leaves the state as it was. Of several causes the one that is tested first counts.
-use Rattle.std.specs.Prelude.{ℕ, ◌+◌, ◌-◌, ◌*◌, ◌/◌, ◌%◌, Bool, true, false, not, ◌&&◌, ◌||◌, ◌==◌, nat_lt, List, [], ◌∷◌, ◌++◌, if◌then◌else◌, slice_index, Option, Some, None, int_lt}
+use Rattle.std.specs.Prelude.{◌≡◌, ℕ, ◌+◌, ◌-◌, ◌*◌, ◌/◌, ◌%◌, Bool, true, false, not, ◌&&◌, ◌||◌, ◌==◌, nat_lt, List, [], ◌∷◌, ◌++◌, if◌then◌else◌, map, slice_index, Option, Some, None, option_map, int_lt}
 use Rattle.qs_base.specs.Words.{add, sub, slt, sltu, and, or, xor, sll, srl, sra, mul, mulh, mulhsu, mulhu, div, divu, rem, remu, signed, sign_extend}
 use Rattle.qs_isa.specs.declared.instruction.Instr.{Instr}
 use Rattle.qs_isa.specs.declared.instruction.Instr.TheVariants.{Lui, Auipc, Jal, Jalr, Branch, Load, Store, OpImm, ShiftImm, Op, Fence, Ecall, Ebreak}
@@ -182,6 +182,11 @@ act_on image size s (Some instruction) = act image size s instruction
 -- the word of code at an address
 abbrev pub fetch : Image → ℕ → Option ℕ
 fetch image address = if is_code image address 4 then Some (slice_index image.code ((address - code_start) / 4)) else None
+
+-- for each image with these instructions this is the one at an address, `None` where its word is no instruction
+abbrev pub Fetches : List (Option Instr) → ℕ → Option (Option Instr) → Type 0
+Fetches instructions address result =
+    (image : Image) → instructions ≡ map decode_of image.code → result ≡ option_map decode_of (fetch image address)
 
 abbrev pub step_on : Image → ℕ → State → Option ℕ → StepResult
 step_on image size s None = Traps FetchOutside

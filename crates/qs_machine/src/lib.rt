@@ -1,5 +1,5 @@
-//! The machine that programs run on: one hart of RV32IM over code, data and a stack of a fixed size, seen by its
-//! definitions in specs/ (RISC-V Unprivileged ISA 20191213, chapters 2 and 7).
+//! The machine that programs run on: one hart of RV32IM over code, data and a stack of a fixed
+//! size, seen by its definitions in specs/ (RISC-V Unprivileged ISA 20191213, chapters 2 and 7).
 #![tactic(auto)]
 
 mod answers;

@@ -1,11 +1,10 @@
 // The machine at its start.
-ghost use Rattle.std.specs.Prelude.{◌≡◌, ℕ, List, length, map, replicate, IfOk, IfErr};
+ghost use Rattle.std.specs.Prelude.{◌≡◌, length, map, replicate, IfOk, IfErr};
 ghost use Rattle.qs_isa.specs.Table.{decode_of};
 ghost use Rattle.qs_image.specs.Image.{words_bytes};
 ghost use Rattle.qs_machine.specs.declared.loading.LoadFault.TheVariants.{NoMemory};
-ghost use Rattle.qs_machine.specs.Run.{start};
-ghost use Rattle.qs_machine.specs.Standing.{taken_of, Stands};
-ghost use Rattle.qs_machine.specs.Running.{MayLoad, IsLoadFault};
+ghost use Rattle.qs_machine.specs.Standing.{taken_of};
+ghost use Rattle.qs_machine.specs.Running.{StandsAtStart, MayLoad, IsLoadFault};
 
 use crate::machine::Machine;
 use crate::memory::Memory;
@@ -75,18 +74,19 @@ fn zeros(alloc: Global, count: usize) -> Result<Vec<u8>, NoMemory>
     Ok(vec![in alloc; 0; count]?)
 }
 
-/// Loads an image, on a stack of so many bytes and with these arguments for its parameters, each a word (a negative
-/// number in two's complement). The machine stands at the start of the program, whatever its input will be.
+/// Loads an image, on a stack of so many bytes and with these arguments for its parameters, each a
+/// word (a negative number in two's complement). The machine stands at the start of the program,
+/// whatever its input will be.
 pub fn load(
     alloc: Global,
     image: &ImageView<'_>,
     stack: u64,
     args: &[u32],
 ) -> Result<Machine, LoadFault>
-    ensures start { IfOk result (λ machine. (input : List ℕ) → Stands machine image.now stack input (start image.now args.now input)) }
+    ensures start { IfOk result (λ machine. StandsAtStart machine image.now stack args.now) }
     ensures fresh { IfOk result (λ machine. taken_of machine ≡ 0) }
     ensures loads { IfOk result (λ _. MayLoad stack image.now.parameters (length args.now)) }
-    ensures fault { IfErr result (λ fault. IsLoadFault stack image.now.parameters (length args.now) fault) }
+    ensures fault { IfErr result (IsLoadFault stack image.now.parameters (length args.now)) }
 {
     if stack > STACK_LIMIT {
         return Err(LoadFault::StackTooLarge);

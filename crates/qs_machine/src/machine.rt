@@ -22,11 +22,10 @@ pub struct Machine {
 }
 
 impl Machine {
-    ghost use Rattle.std.specs.Prelude.{◌≡◌, ℕ, ◌+◌, ◌<◌, ◌≤◌, ◌^◌, List, [], ◌∷◌, length, if◌then◌else◌};
-    ghost use Rattle.qs_machine.specs.Step as step;
-    ghost use Rattle.qs_machine.specs.Hart.{registers_of, memory_of, written};
-    ghost use Rattle.qs_image.specs.Image.{Image};
-    ghost use Rattle.qs_machine.specs.Standing.{taken_of, state_of, Does, IsLoaded};
+    ghost use Rattle.std.specs.Prelude.{◌≡◌, ◌+◌, ◌<◌, ◌≤◌, ◌^◌, length};
+    ghost use Rattle.qs_machine.specs.Actions as action;
+    ghost use Rattle.qs_machine.specs.Standing.{taken_of, Does, DoesForAnyInput, PutsAnswer};
+    ghost use Rattle.qs_machine.specs.Standing.{StaysLoaded};
 
     fn trap(&self, cause: Cause) -> StepResult
         ensures { result ≡ StepResult.Trapped cause self.now.pc }
@@ -43,7 +42,7 @@ impl Machine {
 
     // Writes a register and goes on at an address. The stack pointer may not leave the stack.
     fn write_and_go(&mut self, rd: Register, value: u32, pc: u32) -> StepResult
-        ensures does { (input : List ℕ) → Does self.old self.new input (λ image size s. step.write_and_go size s rd value pc) result }
+        ensures does { DoesForAnyInput self.old self.new (action.write_and_go rd value pc) result }
         ensures taken { taken_of self.new ≡ taken_of self.old }
     {
         if rd == Register::SP && (value < self.memory.stack_base() || STACK_TOP < value) {
@@ -56,7 +55,7 @@ impl Machine {
 
     fn write(&mut self, rd: Register, value: u32) -> StepResult
         requires { self.old.pc < 2 ^ 31 }
-        ensures does { (input : List ℕ) → Does self.old self.new input (λ image size s. step.write size s rd value) result }
+        ensures does { DoesForAnyInput self.old self.new (action.write rd value) result }
         ensures taken { taken_of self.new ≡ taken_of self.old }
     {
         let next = self.next_pc();
@@ -64,7 +63,7 @@ impl Machine {
     }
 
     fn go_to(&mut self, pc: u32) -> StepResult
-        ensures does { (input : List ℕ) → Does self.old self.new input (λ image size s. step.go_to s pc) result }
+        ensures does { DoesForAnyInput self.old self.new (action.go_to pc) result }
         ensures taken { taken_of self.new ≡ taken_of self.old }
     {
         self.pc = pc;
@@ -73,7 +72,7 @@ impl Machine {
 
     fn jump(&mut self, rd: Register, target: u32) -> StepResult
         requires { self.old.pc < 2 ^ 31 }
-        ensures does { (input : List ℕ) → Does self.old self.new input (λ image size s. step.jump size s rd target) result }
+        ensures does { DoesForAnyInput self.old self.new (action.jump rd target) result }
         ensures taken { taken_of self.new ≡ taken_of self.old }
     {
         if target % 4 != 0 {
@@ -85,7 +84,7 @@ impl Machine {
 
     fn branch(&mut self, taken: bool, target: u32) -> StepResult
         requires { self.old.pc < 2 ^ 31 }
-        ensures does { (input : List ℕ) → Does self.old self.new input (λ image size s. step.branch s taken target) result }
+        ensures does { DoesForAnyInput self.old self.new (action.branch taken target) result }
         ensures taken { taken_of self.new ≡ taken_of self.old }
     {
         if !taken {
@@ -101,7 +100,7 @@ impl Machine {
 
     fn load(&mut self, kind: LoadKind, rd: Register, address: u32) -> StepResult
         requires { self.old.pc < 2 ^ 31 }
-        ensures does { (input : List ℕ) → Does self.old self.new input (λ image size s. step.load image size s kind rd address) result }
+        ensures does { DoesForAnyInput self.old self.new (action.load kind rd address) result }
         ensures taken { taken_of self.new ≡ taken_of self.old }
     {
         if address % load_width(kind) != 0 {
@@ -115,7 +114,7 @@ impl Machine {
 
     fn store(&mut self, kind: StoreKind, address: u32, value: u32) -> StepResult
         requires { self.old.pc < 2 ^ 31 }
-        ensures does { (input : List ℕ) → Does self.old self.new input (λ image size s. step.store image size s kind address value) result }
+        ensures does { DoesForAnyInput self.old self.new (action.store kind address value) result }
         ensures taken { taken_of self.new ≡ taken_of self.old }
     {
         if address % store_width(kind) != 0 {
@@ -131,8 +130,8 @@ impl Machine {
     // Puts a value into a0 and goes on.
     fn answer(&mut self, value: u32)
         requires { self.old.pc < 2 ^ 31 }
-        ensures answers { (input output : List ℕ) → state_of self.new input output ≡ step.answer (state_of self.old input output) value }
-        ensures loaded { (image : Image) (size : ℕ) → IsLoaded self.old image size → IsLoaded self.new image size }
+        ensures answers { PutsAnswer self.old self.new value }
+        ensures loaded { StaysLoaded self.old self.new }
         ensures taken { taken_of self.new ≡ taken_of self.old }
     {
         self.registers.write(Register::A0, value);
@@ -142,7 +141,7 @@ impl Machine {
     fn take_byte(&mut self, input: &[u8]) -> StepResult
         requires low { self.old.pc < 2 ^ 31 }
         requires room { taken_of self.old ≤ length input.now }
-        ensures does { Does self.old self.new input.now (λ image size s. step.take_byte s s.input) result }
+        ensures does { Does self.old self.new input.now action.take_byte result }
         ensures more { taken_of self.old ≤ taken_of self.new }
         ensures within { taken_of self.new ≤ length input.now }
     {
@@ -158,7 +157,7 @@ impl Machine {
     fn environment_call(&mut self, call: u32, input: &[u8]) -> StepResult
         requires low { self.old.pc < 2 ^ 31 }
         requires room { taken_of self.old ≤ length input.now }
-        ensures does { Does self.old self.new input.now (λ image size s. step.environment_call s call) result }
+        ensures does { Does self.old self.new input.now (action.environment_call call) result }
         ensures more { taken_of self.old ≤ taken_of self.new }
         ensures within { taken_of self.new ≤ length input.now }
     {
@@ -177,7 +176,7 @@ impl Machine {
     pub(crate) fn act(&mut self, instruction: Instr, input: &[u8]) -> StepResult
         requires low { self.old.pc < 2 ^ 31 }
         requires room { taken_of self.old ≤ length input.now }
-        ensures does { Does self.old self.new input.now (λ image size s. step.act image size s instruction) result }
+        ensures does { Does self.old self.new input.now (action.act instruction) result }
         ensures more { taken_of self.old ≤ taken_of self.new }
         ensures within { taken_of self.new ≤ length input.now }
     {

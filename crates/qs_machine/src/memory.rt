@@ -1,9 +1,9 @@
 // The memory: the bytes of the code, the data and the stack.
-ghost use Rattle.std.specs.Prelude.{◌≡◌, ◌+◌, ◌-◌, ◌≤◌, ◌^◌, Option, Some, None, option_copied, if◌then◌else◌, length, IsTrue, false};
+ghost use Rattle.std.specs.Prelude.{◌≡◌, ◌≤◌, ◌^◌, option_copied, length, IsTrue, false};
 ghost use Rattle.qs_base.specs.Words.{sign_extend};
-ghost use Rattle.qs_machine.specs.Bytes.{loaded_from, bytes_from};
+ghost use Rattle.qs_machine.specs.Bytes.{loaded_from};
 ghost use Rattle.qs_machine.specs.State.{stack_base, stack_limit};
-ghost use Rattle.qs_machine.specs.Step.{load_width, loaded, store_width, stored};
+ghost use Rattle.qs_machine.specs.Step.{load_width, store_width};
 
 use crate::regions::{CODE_START, DATA_START, STACK_TOP, place_in, put};
 use byteorder::{ByteOrder, LittleEndian};
@@ -69,7 +69,7 @@ fn sign_extend_half(half: u16) -> u32
 }
 
 impl Memory {
-    ghost use Rattle.qs_machine.specs.Hart.{memory_of, can_read_in, can_write_in};
+    ghost use Rattle.qs_machine.specs.Hart.{can_write_in, bytes_read, word_read, Stores};
 
     /// The lowest address of the stack.
     pub fn stack_base(&self) -> u32
@@ -80,7 +80,7 @@ impl Memory {
 
     // The bytes of an access that may be read.
     fn readable(&self, address: u32, width: u32) -> Option<&[u8]>
-        ensures { option_copied result ≡ (if can_read_in self.now address width then Some (bytes_from (memory_of self.now) address width) else None) }
+        ensures { option_copied result ≡ bytes_read self.now address width }
     {
         let end = width as usize;
         if let Some(at) = place_in(CODE_START, self.code.len(), address, width) {
@@ -93,9 +93,10 @@ impl Memory {
         Some(&self.stack[at..at + end])
     }
 
-    /// The word that a load reads; None where it does not lie whole in the code, the data or the stack.
+    /// The word that a load reads; None where it does not lie whole in the code, the data or the
+    /// stack.
     pub fn load(&self, kind: LoadKind, address: u32) -> Option<u32>
-        ensures { result ≡ (if can_read_in self.now address (load_width kind) then Some (loaded kind (memory_of self.now) address) else None) }
+        ensures { result ≡ word_read self.now kind address }
     {
         let bytes = self.readable(address, load_width(kind))?;
         Some(word_of(kind, bytes))
@@ -104,7 +105,7 @@ impl Memory {
     /// Stores the low bytes of a word; whether they lie whole in the data or the stack.
     pub fn store(&mut self, kind: StoreKind, address: u32, value: u32) -> bool
         ensures done { result ≡ can_write_in self.old address (store_width kind) }
-        ensures stored { IsTrue result → memory_of self.new ≡ stored kind (memory_of self.old) address value }
+        ensures stored { IsTrue result → Stores self.old self.new kind address value }
         ensures refused { result ≡ false → self.new ≡ self.old }
         ensures code { self.new.code.items ≡ self.old.code.items }
         ensures data_count { length self.new.data.items ≡ length self.old.data.items }

@@ -1,6 +1,6 @@
 // Where things lie, and the bytes of a region.
-ghost use Rattle.std.specs.Prelude.{◌≡◌, ◌+◌, ◌-◌, ◌<◌, ◌≤◌, ◌^◌, length, Some, None, if◌then◌else◌};
-ghost use Rattle.qs_machine.specs.State.{is_inside};
+ghost use Rattle.std.specs.Prelude.{◌≡◌, ◌+◌, ◌<◌, ◌≤◌, ◌^◌, length};
+ghost use Rattle.qs_machine.specs.State.{place_in};
 ghost use Rattle.qs_machine.specs.Step.{store_width};
 ghost use Rattle.qs_machine.specs.Bytes.{put_bytes};
 
@@ -19,7 +19,7 @@ pub const STACK_LIMIT: u64 = 1 << 28;
 /// The place in a region of an access that lies in it whole.
 pub fn place_in(start: u32, count: usize, address: u32, width: u32) -> Option<usize>
     requires { count < 2 ^ 32 }
-    ensures { result ≡ (if is_inside start (start + count) address width then Some (address - start) else None) }
+    ensures { result ≡ place_in start count address width }
 {
     if start <= address && (address - start) as usize + width as usize <= count {
         Some((address - start) as usize)

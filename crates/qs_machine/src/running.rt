@@ -1,9 +1,7 @@
 // Runs.
-ghost use Rattle.std.specs.Prelude.{◌≡◌, ℕ, ◌≤◌, length, IfSome};
-ghost use Rattle.qs_image.specs.Image.{Image};
-ghost use Rattle.qs_machine.specs.State.{State};
-ghost use Rattle.qs_machine.specs.Standing.{taken_of, end_of, Stands};
-ghost use Rattle.qs_machine.specs.Running.{run_end_of, RunsTo};
+ghost use Rattle.std.specs.Prelude.{◌≡◌, ◌≤◌, length};
+ghost use Rattle.qs_machine.specs.Standing.{taken_of};
+ghost use Rattle.qs_machine.specs.Running.{run_end_of, Runs, EndsAgain};
 
 use crate::answers::{End, RunEnd, StepResult};
 use crate::machine::Machine;
@@ -19,15 +17,15 @@ fn run_end_of(end: End) -> RunEnd
 }
 
 impl Machine {
-    /// Takes at most so many steps, and puts each byte of the output on the sink at once. `input` is the whole
-    /// input, of which the machine has taken some. Takes no memory.
+    /// Takes at most so many steps, and puts each byte of the output on the sink at once. `input`
+    /// is the whole input, of which the machine has taken some. Takes no memory.
     ///
-    /// A machine that has ended answers as it did then, and nothing changes. After `SinkFailed` the machine stands
-    /// behind the step that put the byte which the sink did not take.
+    /// A machine that has ended answers as it did then, and nothing changes. After `SinkFailed` the
+    /// machine stands behind the step that put the byte which the sink did not take.
     pub fn run<K: Sink>(&mut self, steps: u64, input: &[u8], out: &mut K) -> RunEnd
         requires { taken_of self.old ≤ length input.now }
-        ensures runs { (image : Image) (size : ℕ) (s : State) → Stands self.old image size input.now s → RunsTo self.new image size input.now s steps (K.view out.old) (K.view out.new) result }
-        ensures again { IfSome (end_of self.old) (λ end. (result ≡ run_end_of end) × (self.new ≡ self.old) × (out.new ≡ out.old)) }
+        ensures runs { Runs K.view self.old self.new out.old out.new input.now steps result }
+        ensures again { EndsAgain self.old self.new out.old out.new result }
         ensures more { taken_of self.old ≤ taken_of self.new }
         ensures within { taken_of self.new ≤ length input.now }
     {

@@ -26,15 +26,13 @@ fn end_of(answer: StepResult) -> Option<End>
 }
 
 impl Machine {
-    ghost use Rattle.std.specs.Prelude.{◌≡◌, ℕ, ◌≤◌, length, IfSome};
-    ghost use Rattle.qs_image.specs.Image.{Image};
-    ghost use Rattle.qs_machine.specs.State.{State};
-    ghost use Rattle.qs_machine.specs.Step as step;
-    ghost use Rattle.qs_machine.specs.Standing.{taken_of, end_of, Does, Stands, Steps, answer_of};
+    ghost use Rattle.std.specs.Prelude.{◌≤◌, length};
+    ghost use Rattle.qs_machine.specs.Actions as action;
+    ghost use Rattle.qs_machine.specs.Standing.{taken_of, Does, TakesStep, AnswersAgain};
 
     fn take_step(&mut self, input: &[u8]) -> StepResult
         requires { taken_of self.old ≤ length input.now }
-        ensures does { Does self.old self.new input.now (λ image size s. step.step image size s) result }
+        ensures does { Does self.old self.new input.now action.step result }
         ensures more { taken_of self.old ≤ taken_of self.new }
         ensures within { taken_of self.new ≤ length input.now }
     {
@@ -45,12 +43,13 @@ impl Machine {
         }
     }
 
-    /// Takes a step. `input` is the whole input, of which the machine has taken some: the rest is what is left. Takes
-    /// no memory. A machine that has ended answers as it did then, and nothing changes.
+    /// Takes a step. `input` is the whole input, of which the machine has taken some: the rest is
+    /// what is left. Takes no memory. A machine that has ended answers as it did then, and nothing
+    /// changes.
     pub fn step(&mut self, input: &[u8]) -> StepResult
         requires { taken_of self.old ≤ length input.now }
-        ensures steps { (image : Image) (size : ℕ) (s : State) → Stands self.old image size input.now s → Steps self.old self.new image size input.now s result }
-        ensures again { IfSome (end_of self.old) (λ end. (result ≡ answer_of end) × (self.new ≡ self.old)) }
+        ensures steps { TakesStep self.old self.new input.now result }
+        ensures again { AnswersAgain self.old self.new result }
         ensures more { taken_of self.old ≤ taken_of self.new }
         ensures within { taken_of self.new ≤ length input.now }
     {

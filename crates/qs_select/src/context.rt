@@ -11,7 +11,8 @@ ghost use Rattle.qs_select.specs.Limits.{places_fit};
 use qs_frames::{Frame, Starts};
 use qs_tac::{Places, TacFunction, TacUnit};
 
-/// A function with the places of its temporaries, its frame, and where its blocks and the unit's data lie.
+/// A function with the places of its temporaries, its frame, and where its blocks and the unit's
+/// data lie.
 #[derive(Drop)]
 pub struct FunctionContext<'a> {
     /// the unit

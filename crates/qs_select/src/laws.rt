@@ -1,19 +1,21 @@
 // The laws of instruction selection. Each is the contract of an empty function.
 ghost use Rattle.qs_select.specs.Labels.{UnitLabelsCountUp};
-ghost use Rattle.qs_select.specs.Laws.{FunctionsKeepWords, UnitsKeepWords, WhatIsSelectedAreWords, WordsAreKept};
+ghost use Rattle.qs_select.specs.Laws.{FunctionsKeepWords, UnitsKeepWords, WhatIsSelectedAreWords};
+ghost use Rattle.qs_select.specs.Laws.{WordsAreKept};
 
 /// Each instruction that is selected has a word: its registers and immediates are in their ranges.
 pub fn what_is_selected_are_words()
     ensures { WhatIsSelectedAreWords }
 {}
 
-/// What an instruction of linear code becomes takes at most its words, and at least one; so does an entry.
+/// What an instruction of linear code becomes takes at most its words, and at least one; so does an
+/// entry.
 pub fn words_are_kept()
     ensures { WordsAreKept }
 {}
 
-/// The labels of a unit count up, and each jump and call leads to one of them: so its items have an assembly where their
-/// words are few.
+/// The labels of a unit count up, and each jump and call leads to one of them: so its items have an
+/// assembly where their words are few.
 pub fn unit_labels_count_up()
     ensures { UnitLabelsCountUp }
 {}

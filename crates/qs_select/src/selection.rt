@@ -39,8 +39,8 @@ pub fn data_sizes(alloc: Global, blocks: &[TacData]) -> Result<Vec<u32>, NoMemor
     Ok(sizes)
 }
 
-/// The first label of each function, which has one for its entry, one for each instruction, and one for its
-/// end.
+/// The first label of each function, which has one for its entry, one for each instruction, and one
+/// for its end.
 pub fn first_labels(alloc: Global, functions: &[TacFunction]) -> Result<Starts, NoMemory>
     ensures { IfOk result (λ labels. units.AreFirstLabels (map function_tree functions.now) labels) }
 {
@@ -163,8 +163,8 @@ fn selected(
     Ok(items)
 }
 
-/// The machine code of a unit whose temporaries stand in these places, as items: a function's places stand
-/// by its number. Where there is a fault, it is `NoMemory` or the unit's first.
+/// The machine code of a unit whose temporaries stand in these places, as items: a function's
+/// places stand by its number. Where there is a fault, it is `NoMemory` or the unit's first.
 pub fn select(alloc: Global, unit: &TacUnit, places: &[Places]) -> Result<Vec<Item>, SelectionFault>
     ensures items { IfOk result (λ items. items.items ≡ units.selected (unit_tree unit.now) (map places_tree places.now)) }
     ensures fits { OnOk result (limits.first_fault (unit_tree unit.now) (map places_tree places.now) ≡ None) }

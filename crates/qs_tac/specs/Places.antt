@@ -1,5 +1,5 @@
 -- The places in which the values of a function may stand.
-use Rattle.std.specs.Prelude.{◌≡◌, ℕ, zero, suc, ◌+◌, ◌&&◌, nat_le, Bool, List, [], ◌∷◌, slice_index_or}
+use Rattle.std.specs.Prelude.{◌≡◌, ℕ, zero, suc, ◌+◌, ◌&&◌, nat_le, Bool, List, [], ◌∷◌, map, slice_index_or}
 use Rattle.qs_tac.specs.Trees.{TacFunctionTree}
 use Rattle.qs_tac.specs.declared.places.Place.{Place}
 use Rattle.qs_tac.specs.declared.places.Place.TheVariants.{Slot}
@@ -11,6 +11,10 @@ pub record PlacesTree : Type 0 where
 
 abbrev pub places_tree : Places → PlacesTree
 places_tree p = record { at = p.at.items }
+
+-- of functions, by their numbers
+abbrev pub places_trees : List Places → List PlacesTree
+places_trees ps = map places_tree ps
 
 -- ---- a slot for each temporary
 

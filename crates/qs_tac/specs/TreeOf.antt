@@ -1,5 +1,5 @@
 -- The trees that the program's values stand for.
-use Rattle.std.specs.Prelude.{map}
+use Rattle.std.specs.Prelude.{List, map}
 use Rattle.qs_memory.specs.BlankOf.{blank_tree}
 use Rattle.qs_tac.specs.Trees.{InstructionTree, move, unary, binary, convert, address_of, load, store}
 use Rattle.qs_tac.specs.Trees.{copy, fill, call, jump, branch, return, TacFunctionTree}
@@ -29,3 +29,6 @@ function_tree f = record {
   blocks = f.blocks.items;
   code = map instruction_tree f.code.items;
 }
+
+abbrev pub function_trees : List TacFunction → List TacFunctionTree
+function_trees functions = map function_tree functions

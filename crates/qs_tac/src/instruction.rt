@@ -4,8 +4,8 @@ use crate::operands::{Address, Condition, Operand};
 use qs_calls::Callee;
 use qs_memory::{BinaryOperation, Blank, Scalar, UnaryOperation};
 
-/// An instruction. What it writes is a temporary, by its number; what it jumps to is an instruction of
-/// its function, by its index.
+/// An instruction. What it writes is a temporary, by its number; what it jumps to is an instruction
+/// of its function, by its index.
 #[derive(Drop)]
 pub enum Instruction {
     /// gives the temporary the value

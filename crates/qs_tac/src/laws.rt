@@ -6,7 +6,8 @@ pub fn linear_code_grows<S>()
     ensures { LinearCodeGrows S }
 {}
 
-/// A unit whose values stand in places that are accepted does what it does with them in temporaries.
+/// A unit whose values stand in places that are accepted does what it does with them in
+/// temporaries.
 pub fn places_keep_runs()
     ensures { PlacesKeepRuns }
 {}

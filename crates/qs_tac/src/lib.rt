@@ -1,5 +1,6 @@
 //! Linear code: instructions over numbered temporaries, with jumps to their indices; what they mean
-//! over whatever holds the values of the temporaries, which places hold them, and what holds of every unit.
+//! over whatever holds the values of the temporaries, which places hold them, and what holds of
+//! every unit.
 #![tactic(auto)]
 
 mod instruction;

@@ -7,8 +7,8 @@ use qs_memory::{Comparison, Signedness};
 pub enum Operand {
     /// the value of the temporary with this number
     Temporary(u32),
-    /// the integer in the temporary with this number; as an `int` and as an `unsigned` it has the same
-    /// 32 bits, and each `char` is an `int` (C11 6.3.1.1p2, 6.3.1.3)
+    /// the integer in the temporary with this number; as an `int` and as an `unsigned` it has the
+    /// same 32 bits, and each `char` is an `int` (C11 6.3.1.1p2, 6.3.1.3)
     Integer(u32),
     /// the low 8 bits of the integer in the temporary with this number: what it is as a `char`
     /// (C11 6.3.1.3p2)
@@ -36,8 +36,9 @@ pub struct Index {
     pub offset: Option<u32>,
 }
 
-/// Where an access begins: a pointer, a member of what it points to (C11 6.5.2.3), and an element there
-/// (C11 6.5.2.1). Where a member or an element is taken, the pointer has to be into a live object.
+/// Where an access begins: a pointer, a member of what it points to (C11 6.5.2.3), and an element
+/// there (C11 6.5.2.1). Where a member or an element is taken, the pointer has to be into a live
+/// object.
 #[derive(Clone, Copy, PartialEq, Eq, Debug)]
 pub struct Address {
     /// the pointer

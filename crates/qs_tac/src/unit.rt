@@ -14,8 +14,8 @@ pub struct TacUnit {
     pub functions: Vec<TacFunction>,
     /// main
     pub main: FnId,
-    /// the file-scope variables in order of declaration, and then the string literals in order of the
-    /// text: the first blocks of every memory
+    /// the file-scope variables in order of declaration, and then the string literals in order of
+    /// the text: the first blocks of every memory
     pub data_blocks: Vec<TacData>,
     ghost fits: { unit_fits (record { functions = map function_tree functions.items; main = main.0; data_blocks = data_blocks.items }) ≡ true },
 }

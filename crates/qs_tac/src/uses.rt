@@ -2,7 +2,8 @@
 ghost use Rattle.std.specs.Prelude.{◌≡◌, ◌++◌, length, option_to_list};
 ghost use Rattle.std.specs.List.{slice_get};
 ghost use Rattle.qs_tac.specs.TreeOf.{instruction_tree};
-ghost use Rattle.qs_tac.specs.Uses.{read_by, read_by_address, read_by_all, read_by_option, read_by_condition, reads, writes};
+ghost use Rattle.qs_tac.specs.Uses.{read_by, read_by_address, read_by_all, read_by_option};
+ghost use Rattle.qs_tac.specs.Uses.{read_by_condition, reads, writes};
 
 use crate::instruction::Instruction;
 use crate::operands::{Address, Condition, Operand};
@@ -120,8 +121,8 @@ impl Condition {
 }
 
 impl Instruction {
-    /// The k-th of the temporaries that the instruction reads, from 0, in the order of its operands; one
-    /// that is read twice counts twice.
+    /// The k-th of the temporaries that the instruction reads, from 0, in the order of its
+    /// operands; one that is read twice counts twice.
     pub fn read_at(&self, k: usize) -> Option<u32>
         ensures { result ≡ slice_get (reads (instruction_tree self.now)) k }
     {

@@ -2,8 +2,7 @@ use Rattle.std.proofs.Common.{◌≡◌, true, false, rules, sym, ◌∙◌, ◌
 use Rattle.qs_machine.specs.State.{can_read}
 use Rattle.qs_machine.specs.Step.{load_width}
 use Rattle.qs_machine.specs.Standing.{state_of}
-use Rattle.qs_machine.proofs.Choices.{load-read, load-outside, can_read-loaded}
-use Rattle.qs_machine.proofs.Found.{found, not_found}
+use Rattle.qs_machine.proofs.Choices.{found, not_found, load-read, load-outside, can_read-loaded}
 use Rattle.qs_machine.proofs.machine.Machine.load.Goals as goal
 
 pub returns-in-Some-clause-does : goal.returns-in-Some-clause-does

@@ -31,8 +31,5 @@ wide_product x y h e =
     let q : unsigned_abs (x *ℤ y) ≡ unsigned_abs x * unsigned_abs y = unsigned_abs-mul x y in
     sym (known_wide (x *ℤ y) (omega arith))
 
-pub joined_more : {A B : Type 0} (f : A → B → B) (z : B) (xs : List (Option A)) (i : ℕ) (d : Option A) → i < length xs → joined f z (reverse (take (i + 1) xs)) ≡ joins f (get_or xs i d) (joined f z (reverse (take i xs)))
-joined_more f z xs i d h = ap (joined f z) (reverse_more xs i d h)
-
 pub none_more : {A : Type 0} (xs : List (Option A)) (i : ℕ) (d : Option A) → i < length xs → some_none (reverse (take (i + 1) xs)) ≡ some_none (get_or xs i d ∷ reverse (take i xs))
 none_more xs i d h = ap some_none (reverse_more xs i d h)

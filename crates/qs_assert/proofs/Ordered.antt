@@ -86,31 +86,3 @@ neither_end (d ∷ ds) n i zero h front back = back
 neither_end (d ∷ ds) n zero (suc j) h front back = absurd (omega (arith, h))
 neither_end (d ∷ ds) n (suc i) (suc j) h front back =
     none_of (same_name n d.name) (is_among (take i ds) n) (is_among ds n) front (λ f. neither_end ds n i j (omega (arith, h)) f back)
-
--- ---- definitions
-
-goes_on : (b : Bool) (x y : Option ℕ) → b ≡ true → (if b then x else y) ≡ x
-goes_on true x y h = refl
-goes_on false x y h = cc
-
-stops : (b : Bool) (x y : Option ℕ) → b ≡ false → (if b then x else y) ≡ y
-stops true x y h = cc
-stops false x y h = refl
-
--- definition i is in order
-pub order_step : (ds : List Define) (i : ℕ) (d : Define) → i < length ds → names_known (get_or ds i d).body (is_among (take i ds)) ≡ true → order_fault_behind (drop i ds) (take i ds) ≡ order_fault_behind (drop (i + 1) ds) (take (i + 1) ds)
-order_step ds i d h k =
-    ap (λ (l : List Define). order_fault_behind l (take i ds)) (drop-cons ds i d h)
-    ∙ (goes_on (names_known (get_or ds i d).body (is_among (take i ds))) (order_fault_behind (drop (suc i) ds) (take i ds ++ get_or ds i d ∷ [])) (Some (length (take i ds))) k
-    ∙ (ap (λ (e : List Define). order_fault_behind (drop (suc i) ds) e) (sym (take-suc ds i d h))
-    ∙ ap (λ (j : ℕ). order_fault_behind (drop j ds) (take j ds)) (sym (add-one i))))
-
--- or it is the first that isn't
-pub order_stop : (ds : List Define) (i : ℕ) (d : Define) → i < length ds → names_known (get_or ds i d).body (is_among (take i ds)) ≡ false → order_fault_behind (drop i ds) (take i ds) ≡ Some i
-order_stop ds i d h k =
-    ap (λ (l : List Define). order_fault_behind l (take i ds)) (drop-cons ds i d h)
-    ∙ (stops (names_known (get_or ds i d).body (is_among (take i ds))) (order_fault_behind (drop (suc i) ds) (take i ds ++ get_or ds i d ∷ [])) (Some (length (take i ds))) k
-    ∙ ap (λ (n : ℕ). Some n) (length-take-le i ds (omega arith)))
-
-pub order_end : (ds : List Define) (i : ℕ) → length ds ≤ i → order_fault_behind (drop i ds) (take i ds) ≡ None
-order_end ds i h = ap (λ (l : List Define). order_fault_behind l (take i ds)) (drop_of_length-le ds h)

@@ -125,13 +125,6 @@ none_there nodes b e h t k = not_both (sym (is_one t) ∙ (ap (λ (l : List Term
 swapped : (a k : ℕ) → a + k ≡ suc k - 1 + a
 swapped a k = omega arith
 
-not_zero : (k : ℕ) → (suc k == 0) ≡ false
-not_zero k = grind arith
-
-at_end : (due : ℕ) → are_terms [] due ≡ (due == 0)
-at_end zero = refl
-at_end (suc k) = sym (not_zero k)
-
 pub shape_step : (nodes : List TermNode) (i due : ℕ) (d : TermNode) → i < length nodes → due ≢ 0 → are_terms (drop i nodes) due ≡ are_terms (drop (i + 1) nodes) (due - 1 + term_arity (get_or nodes i d))
 shape_step nodes i zero d h z = absurd (z refl)
 shape_step nodes i (suc k) d h z =
@@ -140,6 +133,3 @@ shape_step nodes i (suc k) d h z =
 
 pub shape_stop : (nodes : List TermNode) (i due : ℕ) (d : TermNode) → i < length nodes → due ≡ 0 → are_terms (drop i nodes) due ≡ false
 shape_stop nodes i due d h z = ap (are_terms (drop i nodes)) z ∙ ap (λ (l : List TermNode). are_terms l 0) (drop-cons nodes i d h)
-
-pub shape_end : (nodes : List TermNode) (i due : ℕ) → length nodes ≤ i → are_terms (drop i nodes) due ≡ (due == 0)
-shape_end nodes i due h = ap (λ (l : List TermNode). are_terms l due) (drop_of_length-le nodes h) ∙ at_end due

@@ -244,25 +244,6 @@ mentioned a x nodes b e h =
 
 -- ---- the first variable without an image, node by node
 
-or_second : {A : Type 0} (o p : Option A) → is_some o ≡ false → option_or o p ≡ p
-or_second None p h = refl
-or_second (Some a) p h = cc
-
-or_first : {A : Type 0} (o p : Option A) → is_some o ≡ true → option_or o p ≡ o
-or_first None p h = cc
-or_first (Some a) p h = refl
-
-pub find_step : (p : Var → Bool) (nodes : List Node) (i : ℕ) (d : Node) → i < length nodes → is_some (find p (node_variables (get_or nodes i d))) ≡ false → find p (listed (drop i nodes)) ≡ find p (listed (drop (i + 1) nodes))
-find_step p nodes i d h k =
-    ap (λ (l : List Node). find p (listed l)) (drop-cons nodes i d h)
-    ∙ (find-append p (node_variables (get_or nodes i d)) (listed (drop (suc i) nodes))
-    ∙ (or_second (find p (node_variables (get_or nodes i d))) (find p (listed (drop (suc i) nodes))) k ∙ ap (λ (j : ℕ). find p (listed (drop j nodes))) (sym (add-one i))))
-
-pub find_stop : (p : Var → Bool) (nodes : List Node) (i : ℕ) (d : Node) → i < length nodes → is_some (find p (node_variables (get_or nodes i d))) ≡ true → find p (listed (drop i nodes)) ≡ find p (node_variables (get_or nodes i d))
-find_stop p nodes i d h k =
-    ap (λ (l : List Node). find p (listed l)) (drop-cons nodes i d h)
-    ∙ (find-append p (node_variables (get_or nodes i d)) (listed (drop (suc i) nodes)) ∙ or_first (find p (node_variables (get_or nodes i d))) (find p (listed (drop (suc i) nodes))) k)
-
 pub told_missing : (m : Var → Option TermTree) (a : AssertionTree) (nodes : List Node) (o : Option Var) → o ≡ find (λ x. is_none (m x)) (listed nodes) → nodes ≡ assertion_nodes a → o ≡ first_without m a
 told_missing m a nodes o h e =
     h ∙ (ap (λ (l : List Node). find (λ x. is_none (m x)) (listed l)) e ∙ ap (find (λ x. is_none (m x))) (assertion_listed a))

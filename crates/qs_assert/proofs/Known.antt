@@ -4,7 +4,7 @@ use Rattle.std.specs.Prelude.{◌*ℤ◌, unsigned_abs, if◌then◌else◌}
 use Rattle.std.proofs.Math.Nat.{mul-le-mul_right}
 use Rattle.std.proofs.lemmas.Bool.{cases_lt, le-leb, lt-leb}
 use Rattle.std.proofs.lemmas.Int.{unsigned_abs-mul}
-use Rattle.qs_assert.specs.Stacks.{known, joins, joined, some_none}
+use Rattle.qs_assert.specs.Stacks.{known, some_none}
 use Rattle.qs_assert.proofs.Reversed.{reverse_more}
 
 pub known_wide : (z : ℤ) → 2 ^ 127 ≤ unsigned_abs z → known z ≡ None

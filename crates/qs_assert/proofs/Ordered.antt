@@ -1,11 +1,9 @@
 -- Which names the nodes of an assertion have, and how definitions are gone through in order.
-use Rattle.std.proofs.Common.{◌≡◌, ◌<◌, ◌≤◌, ℕ, zero, suc, ◌+◌, ◌-◌, take, drop, length, get_or, refl, ap, sym, ◌∙◌, Bool, true, false, List, [], ◌∷◌, ◌++◌, map, add-one, arith}
-use Rattle.std.specs.Prelude.{◌&&◌, ◌||◌, if◌then◌else◌, Option, Some, None}
+use Rattle.std.proofs.Common.{◌≡◌, ◌<◌, ◌≤◌, ℕ, zero, suc, ◌+◌, ◌-◌, take, drop, length, get_or, refl, ap, sym, ◌∙◌, Bool, true, false, List, [], ◌∷◌, ◌++◌, map, arith}
+use Rattle.std.specs.Prelude.{◌&&◌, ◌||◌}
 use Rattle.std.specs.List.{list_all}
 use Rattle.std.proofs.lemmas.List.Folds.{list_all-append}
-use Rattle.std.proofs.Math.Seq.{take-suc, drop-cons}
-use Rattle.std.proofs.Math.ListN.{drop_of_length-le}
-use Rattle.std.proofs.lemmas.List.{length-take-le}
+use Rattle.std.proofs.Math.Seq.{drop-cons}
 use Rattle.qs_assert.specs.declared.define.Define.{Define}
 use Rattle.qs_assert.specs.declared.node.TermNode.{TermNode}
 use Rattle.qs_assert.specs.declared.node.Node.{Node}
@@ -13,7 +11,7 @@ use Rattle.qs_assert.specs.declared.node.Node.TheVariants.{Term}
 use Rattle.qs_assert.specs.Trees.{CondTree, le, lt, eq, ne, not, and, or, CondTrees, no_conds, cond_and, AssertionTree, natural, infinity, cost, num, total, greatest, product, guard, choose, named, AssertionTrees, no_assertions, assertion_and}
 use Rattle.qs_assert.specs.Bounds.{same_name}
 use Rattle.qs_assert.specs.Listing.{term_nodes, inner_term, cond_nodes, conds_nodes, assertion_nodes, assertions_nodes}
-use Rattle.qs_assert.specs.Order.{names_known, all_names_known, is_among, order_fault_behind, node_known}
+use Rattle.qs_assert.specs.Order.{names_known, all_names_known, is_among, node_known}
 
 both : (known : List ℕ → Bool) (xs ys : List Node) (a b : Bool) → list_all (node_known known) xs ≡ a → list_all (node_known known) ys ≡ b → list_all (node_known known) (xs ++ ys) ≡ (a && b)
 both known xs ys a b p q = list_all-append (node_known known) xs ys ∙ (λ i. p i && q i)

@@ -4,7 +4,7 @@ use Rattle.std.specs.Prelude.{◌*ℤ◌, unsigned_abs, if◌then◌else◌}
 use Rattle.std.proofs.Math.Nat.{mul-le-mul_right}
 use Rattle.std.proofs.lemmas.Bool.{cases_lt, le-leb, lt-leb}
 use Rattle.std.proofs.lemmas.Int.{unsigned_abs-mul}
-use Rattle.qs_assert.specs.Stacks.{known, joins, joined, some_none}
+use Rattle.qs_assert.specs.Stacks.{known, some_none}
 use Rattle.qs_assert.proofs.Reversed.{reverse_more}
 
 pub known_wide : (z : ℤ) → 2 ^ 127 ≤ unsigned_abs z → known z ≡ None
@@ -30,9 +30,6 @@ wide_product x y h e =
     let p : 1 * unsigned_abs y ≤ unsigned_abs x * unsigned_abs y = mul-le-mul_right (unsigned_abs y) (positive x h) in
     let q : unsigned_abs (x *ℤ y) ≡ unsigned_abs x * unsigned_abs y = unsigned_abs-mul x y in
     sym (known_wide (x *ℤ y) (omega arith))
-
-pub joined_more : {A B : Type 0} (f : A → B → B) (z : B) (xs : List (Option A)) (i : ℕ) (d : Option A) → i < length xs → joined f z (reverse (take (i + 1) xs)) ≡ joins f (get_or xs i d) (joined f z (reverse (take i xs)))
-joined_more f z xs i d h = ap (joined f z) (reverse_more xs i d h)
 
 pub none_more : {A : Type 0} (xs : List (Option A)) (i : ℕ) (d : Option A) → i < length xs → some_none (reverse (take (i + 1) xs)) ≡ some_none (get_or xs i d ∷ reverse (take i xs))
 none_more xs i d h = ap some_none (reverse_more xs i d h)

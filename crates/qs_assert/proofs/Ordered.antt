@@ -1,11 +1,9 @@
 -- Which names the nodes of an assertion have, and how definitions are gone through in order.
-use Rattle.std.proofs.Common.{◌≡◌, ◌<◌, ◌≤◌, ℕ, zero, suc, ◌+◌, ◌-◌, take, drop, length, get_or, refl, ap, sym, ◌∙◌, Bool, true, false, List, [], ◌∷◌, ◌++◌, map, add-one, arith}
-use Rattle.std.specs.Prelude.{◌&&◌, ◌||◌, if◌then◌else◌, Option, Some, None}
+use Rattle.std.proofs.Common.{◌≡◌, ◌<◌, ◌≤◌, ℕ, zero, suc, ◌+◌, ◌-◌, take, drop, length, get_or, refl, ap, sym, ◌∙◌, Bool, true, false, List, [], ◌∷◌, ◌++◌, map, arith}
+use Rattle.std.specs.Prelude.{◌&&◌, ◌||◌}
 use Rattle.std.specs.List.{list_all}
 use Rattle.std.proofs.lemmas.List.Folds.{list_all-append}
-use Rattle.std.proofs.Math.Seq.{take-suc, drop-cons}
-use Rattle.std.proofs.Math.ListN.{drop_of_length-le}
-use Rattle.std.proofs.lemmas.List.{length-take-le}
+use Rattle.std.proofs.Math.Seq.{drop-cons}
 use Rattle.qs_assert.specs.declared.define.Define.{Define}
 use Rattle.qs_assert.specs.declared.node.TermNode.{TermNode}
 use Rattle.qs_assert.specs.declared.node.Node.{Node}
@@ -13,7 +11,7 @@ use Rattle.qs_assert.specs.declared.node.Node.TheVariants.{Term}
 use Rattle.qs_assert.specs.Trees.{CondTree, le, lt, eq, ne, not, and, or, CondTrees, no_conds, cond_and, AssertionTree, natural, infinity, cost, num, total, greatest, product, guard, choose, named, AssertionTrees, no_assertions, assertion_and}
 use Rattle.qs_assert.specs.Bounds.{same_name}
 use Rattle.qs_assert.specs.Listing.{term_nodes, inner_term, cond_nodes, conds_nodes, assertion_nodes, assertions_nodes}
-use Rattle.qs_assert.specs.Order.{names_known, all_names_known, is_among, order_fault_behind, node_known}
+use Rattle.qs_assert.specs.Order.{names_known, all_names_known, is_among, node_known}
 
 both : (known : List ℕ → Bool) (xs ys : List Node) (a b : Bool) → list_all (node_known known) xs ≡ a → list_all (node_known known) ys ≡ b → list_all (node_known known) (xs ++ ys) ≡ (a && b)
 both known xs ys a b p q = list_all-append (node_known known) xs ys ∙ (λ i. p i && q i)
@@ -86,31 +84,3 @@ neither_end (d ∷ ds) n i zero h front back = back
 neither_end (d ∷ ds) n zero (suc j) h front back = absurd (omega (arith, h))
 neither_end (d ∷ ds) n (suc i) (suc j) h front back =
     none_of (same_name n d.name) (is_among (take i ds) n) (is_among ds n) front (λ f. neither_end ds n i j (omega (arith, h)) f back)
-
--- ---- definitions
-
-goes_on : (b : Bool) (x y : Option ℕ) → b ≡ true → (if b then x else y) ≡ x
-goes_on true x y h = refl
-goes_on false x y h = cc
-
-stops : (b : Bool) (x y : Option ℕ) → b ≡ false → (if b then x else y) ≡ y
-stops true x y h = cc
-stops false x y h = refl
-
--- definition i is in order
-pub order_step : (ds : List Define) (i : ℕ) (d : Define) → i < length ds → names_known (get_or ds i d).body (is_among (take i ds)) ≡ true → order_fault_behind (drop i ds) (take i ds) ≡ order_fault_behind (drop (i + 1) ds) (take (i + 1) ds)
-order_step ds i d h k =
-    ap (λ (l : List Define). order_fault_behind l (take i ds)) (drop-cons ds i d h)
-    ∙ (goes_on (names_known (get_or ds i d).body (is_among (take i ds))) (order_fault_behind (drop (suc i) ds) (take i ds ++ get_or ds i d ∷ [])) (Some (length (take i ds))) k
-    ∙ (ap (λ (e : List Define). order_fault_behind (drop (suc i) ds) e) (sym (take-suc ds i d h))
-    ∙ ap (λ (j : ℕ). order_fault_behind (drop j ds) (take j ds)) (sym (add-one i))))
-
--- or it is the first that isn't
-pub order_stop : (ds : List Define) (i : ℕ) (d : Define) → i < length ds → names_known (get_or ds i d).body (is_among (take i ds)) ≡ false → order_fault_behind (drop i ds) (take i ds) ≡ Some i
-order_stop ds i d h k =
-    ap (λ (l : List Define). order_fault_behind l (take i ds)) (drop-cons ds i d h)
-    ∙ (stops (names_known (get_or ds i d).body (is_among (take i ds))) (order_fault_behind (drop (suc i) ds) (take i ds ++ get_or ds i d ∷ [])) (Some (length (take i ds))) k
-    ∙ ap (λ (n : ℕ). Some n) (length-take-le i ds (omega arith)))
-
-pub order_end : (ds : List Define) (i : ℕ) → length ds ≤ i → order_fault_behind (drop i ds) (take i ds) ≡ None
-order_end ds i h = ap (λ (l : List Define). order_fault_behind l (take i ds)) (drop_of_length-le ds h)

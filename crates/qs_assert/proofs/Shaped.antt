@@ -1,7 +1,6 @@
 -- Nodes that are those of terms.
-use Rattle.std.proofs.Common.{◌≡◌, ◌≢◌, ◌≤◌, ◌<◌, ℕ, zero, suc, ◌+◌, ◌-◌, ◌==◌, refl, sym, ap, ◌∙◌, Bool, true, false, List, [], ◌∷◌, ◌++◌, length, get_or, take, drop, append_assoc, append-nil, zero-add, add-one, length-drop, arith}
+use Rattle.std.proofs.Common.{◌≡◌, ◌≢◌, ◌≤◌, ◌<◌, ℕ, zero, suc, ◌+◌, ◌-◌, refl, sym, ap, ◌∙◌, Bool, true, false, List, [], ◌∷◌, ◌++◌, length, get_or, take, drop, append_assoc, append-nil, zero-add, add-one, length-drop, arith}
 use Rattle.std.proofs.lemmas.List.{length-take-le, take-append-drop}
-use Rattle.std.proofs.Math.ListN.{drop_of_length-le}
 use Rattle.std.proofs.Math.Seq.{drop-cons}
 use Rattle.qs_assert.specs.declared.node.TermNode.{TermNode}
 use Rattle.qs_assert.specs.declared.node.TermNode.TheVariants.{Number, Variable, Add, Sub, Mul, Div, WrapUnsigned, WrapSigned, Bits}
@@ -125,13 +124,6 @@ none_there nodes b e h t k = not_both (sym (is_one t) ∙ (ap (λ (l : List Term
 swapped : (a k : ℕ) → a + k ≡ suc k - 1 + a
 swapped a k = omega arith
 
-not_zero : (k : ℕ) → (suc k == 0) ≡ false
-not_zero k = grind arith
-
-at_end : (due : ℕ) → are_terms [] due ≡ (due == 0)
-at_end zero = refl
-at_end (suc k) = sym (not_zero k)
-
 pub shape_step : (nodes : List TermNode) (i due : ℕ) (d : TermNode) → i < length nodes → due ≢ 0 → are_terms (drop i nodes) due ≡ are_terms (drop (i + 1) nodes) (due - 1 + term_arity (get_or nodes i d))
 shape_step nodes i zero d h z = absurd (z refl)
 shape_step nodes i (suc k) d h z =
@@ -140,6 +132,3 @@ shape_step nodes i (suc k) d h z =
 
 pub shape_stop : (nodes : List TermNode) (i due : ℕ) (d : TermNode) → i < length nodes → due ≡ 0 → are_terms (drop i nodes) due ≡ false
 shape_stop nodes i due d h z = ap (are_terms (drop i nodes)) z ∙ ap (λ (l : List TermNode). are_terms l 0) (drop-cons nodes i d h)
-
-pub shape_end : (nodes : List TermNode) (i due : ℕ) → length nodes ≤ i → are_terms (drop i nodes) due ≡ (due == 0)
-shape_end nodes i due h = ap (λ (l : List TermNode). are_terms l due) (drop_of_length-le nodes h) ∙ at_end due

@@ -1,12 +1,9 @@
 -- The variables among the nodes of a tree, and values where variables have other numbers.
-use Rattle.std.proofs.Common.{◌≡◌, ◌<◌, ℕ, suc, ◌+◌, drop, length, get_or, refl, ap, sym, ◌∙◌, Bool, true, false, List, [], ◌∷◌, ◌++◌, map, add-one}
-use Rattle.std.specs.Prelude.{ℤ, pos, if◌then◌else◌, ◌+ℤ◌, ◌-ℤ◌, ◌*ℤ◌, ◌&&◌, ◌||◌, int_le, int_lt, Option, Some, None, is_some, is_none}
+use Rattle.std.proofs.Common.{◌≡◌, refl, ap, sym, ◌∙◌, Bool, true, false, List, [], ◌∷◌, ◌++◌, map}
+use Rattle.std.specs.Prelude.{ℤ, pos, if◌then◌else◌, ◌+ℤ◌, ◌-ℤ◌, ◌*ℤ◌, ◌&&◌, ◌||◌, int_le, int_lt, Option, is_none}
 use Rattle.std.specs.Prelude.{not as flip}
 use Rattle.std.specs.Ordering.{int_eq}
 use Rattle.std.specs.List.{list_any, flat_map, find}
-use Rattle.std.specs.Option.{option_or}
-use Rattle.std.proofs.lemmas.List.Folds.{find-append}
-use Rattle.std.proofs.Math.Seq.{drop-cons}
 use Rattle.std.proofs.lemmas.Grind.{flat_map-append}
 use Rattle.std.proofs.lemmas.List.{map-append}
 use Rattle.qs_assert.specs.declared.variable.Var.{Var}
@@ -243,25 +240,6 @@ mentioned a x nodes b e h =
     h ∙ (mentioned_among x nodes ∙ (ap (λ (l : List Node). list_any (λ y. same_variable y x) (listed l)) e ∙ ap (list_any (λ y. same_variable y x)) (assertion_listed a)))
 
 -- ---- the first variable without an image, node by node
-
-or_second : {A : Type 0} (o p : Option A) → is_some o ≡ false → option_or o p ≡ p
-or_second None p h = refl
-or_second (Some a) p h = cc
-
-or_first : {A : Type 0} (o p : Option A) → is_some o ≡ true → option_or o p ≡ o
-or_first None p h = cc
-or_first (Some a) p h = refl
-
-pub find_step : (p : Var → Bool) (nodes : List Node) (i : ℕ) (d : Node) → i < length nodes → is_some (find p (node_variables (get_or nodes i d))) ≡ false → find p (listed (drop i nodes)) ≡ find p (listed (drop (i + 1) nodes))
-find_step p nodes i d h k =
-    ap (λ (l : List Node). find p (listed l)) (drop-cons nodes i d h)
-    ∙ (find-append p (node_variables (get_or nodes i d)) (listed (drop (suc i) nodes))
-    ∙ (or_second (find p (node_variables (get_or nodes i d))) (find p (listed (drop (suc i) nodes))) k ∙ ap (λ (j : ℕ). find p (listed (drop j nodes))) (sym (add-one i))))
-
-pub find_stop : (p : Var → Bool) (nodes : List Node) (i : ℕ) (d : Node) → i < length nodes → is_some (find p (node_variables (get_or nodes i d))) ≡ true → find p (listed (drop i nodes)) ≡ find p (node_variables (get_or nodes i d))
-find_stop p nodes i d h k =
-    ap (λ (l : List Node). find p (listed l)) (drop-cons nodes i d h)
-    ∙ (find-append p (node_variables (get_or nodes i d)) (listed (drop (suc i) nodes)) ∙ or_first (find p (node_variables (get_or nodes i d))) (find p (listed (drop (suc i) nodes))) k)
 
 pub told_missing : (m : Var → Option TermTree) (a : AssertionTree) (nodes : List Node) (o : Option Var) → o ≡ find (λ x. is_none (m x)) (listed nodes) → nodes ≡ assertion_nodes a → o ≡ first_without m a
 told_missing m a nodes o h e =

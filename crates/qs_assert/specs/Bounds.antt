@@ -2,6 +2,7 @@
 -- is finite and too wide.
 use Rattle.std.specs.Prelude.{ℕ, ◌^◌, ◌==◌, ℤ, pos, unsigned_abs, Bool, true, false, if◌then◌else◌, ◌&&◌, ◌||◌, leb, List, [], ◌∷◌, Some, None, slice_index_or}
 use Rattle.std.specs.Cmp.Lexicographic.{pointwise}
+use Rattle.qs_assert.specs.declared.variable.Var.{Var}
 use Rattle.qs_assert.specs.declared.variable.VarKind.{VarKind}
 use Rattle.qs_assert.specs.declared.variable.VarKind.TheVariants.{Plain, Temporary, Old, Returned}
 use Rattle.qs_assert.specs.declared.define.Define.{Define}
@@ -103,10 +104,13 @@ argument args (Temporary i) = pos 0
 argument args (Old i) = pos 0
 argument args Returned = pos 0
 
+abbrev pub arguments : List ℤ → Var → ℤ
+arguments args x = argument args x.kind
+
 -- the state at the entry of a function, before the definitions
 abbrev pub at_entry : List ℤ → List ℕ → Setting
 at_entry args costs = record {
-  state = record { at = λ x. argument args x.kind; costs = λ f. slice_index_or costs f 0; names = λ n. None };
+  state = record { at = arguments args; costs = λ f. slice_index_or costs f 0; names = λ n. None };
   wides = λ n. false;
 }
 

@@ -1,10 +1,10 @@
 -- What values have to do with variables and with the images that stand for them.
-use Rattle.std.specs.Prelude.{◌≡◌, true, ℤ, Option, Some, None, is_none, List}
-use Rattle.std.specs.List.{find, list_any}
+use Rattle.std.specs.Prelude.{◌≡◌, true, ℤ, Option, Some, None, List}
+use Rattle.std.specs.List.{list_any}
 use Rattle.qs_assert.specs.declared.variable.Var.{Var}
 use Rattle.qs_assert.specs.declared.images.Substituted.TheVariants.{Whole}
 use Rattle.qs_assert.specs.Images.{term_image, cond_image}
-use Rattle.qs_assert.specs.Simultaneous.{terms_for, substituted}
+use Rattle.qs_assert.specs.Simultaneous.{terms_for, first_lacking, substituted}
 use Rattle.qs_assert.specs.Substitution.{same_variable}
 use Rattle.qs_assert.specs.Trees.{TermTree, CondTree, AssertionTree}
 use Rattle.qs_assert.specs.Values.{State, term_value, holds, value}
@@ -18,7 +18,7 @@ HaveNumbers m s at = (x : Var) (t : TermTree) → m x ≡ Some t → term_value 
 
 -- each of these variables has an image
 abbrev pub HaveImages : (Var → Option TermTree) → List Var → Type 0
-HaveImages m xs = find (λ x. is_none (m x)) xs ≡ None
+HaveImages m xs = first_lacking m xs ≡ None
 
 -- What has its variables replaced by images, all at once, has in a state the value that it had before where each
 -- variable has the number of its image.

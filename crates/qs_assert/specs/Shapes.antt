@@ -1,5 +1,5 @@
 -- How many parts follow a node, and which lists of nodes are those of terms.
-use Rattle.std.specs.Prelude.{ℕ, zero, suc, ◌+◌, Bool, true, false, List, [], ◌∷◌}
+use Rattle.std.specs.Prelude.{◌≢◌, ℕ, zero, suc, ◌+◌, Bool, true, false, List, [], ◌∷◌}
 use Rattle.qs_assert.specs.declared.node.TermNode.{TermNode}
 use Rattle.qs_assert.specs.declared.node.TermNode.TheVariants.{Number, Variable, Add, Sub, Mul, Div, WrapUnsigned, WrapSigned, Bits}
 use Rattle.qs_assert.specs.declared.node.CondNode.{CondNode}
@@ -8,6 +8,8 @@ use Rattle.qs_assert.specs.declared.node.AssertionNode.{AssertionNode}
 use Rattle.qs_assert.specs.declared.node.AssertionNode.TheVariants.{Natural, Infinity, Cost, Num, Total, Greatest, Product, Guard, If, Named}
 use Rattle.qs_assert.specs.declared.node.Node.{Node}
 use Rattle.qs_assert.specs.declared.node.Node.TheVariants.{Term, Condition, Assertion}
+use Rattle.qs_assert.specs.Listing.{term_nodes}
+use Rattle.qs_assert.specs.Trees.{TermTree}
 
 -- ---- how many parts follow a node
 
@@ -56,3 +58,7 @@ are_terms [] zero = true
 are_terms [] (suc k) = false
 are_terms (node ∷ nodes) zero = false
 are_terms (node ∷ nodes) (suc k) = are_terms nodes (term_arity node + k)
+
+-- no term has these nodes
+abbrev pub AreOfNoTerm : List TermNode → Type 0
+AreOfNoTerm nodes = (t : TermTree) → nodes ≢ term_nodes t

@@ -1,6 +1,7 @@
 -- How the values of the nodes of a list come one from the other, the list being read from its end: each
 -- node takes the values of its parts from the front of a stack. A value is None or Wide where a part is wide.
-use Rattle.std.specs.Prelude.{ℕ, ℤ, pos, ◌+ℤ◌, ◌-ℤ◌, ◌*ℤ◌, Bool, true, false, if◌then◌else◌, ◌&&◌, ◌||◌, int_le, int_lt, List, [], ◌∷◌, Option, Some, None, take, drop}
+use Rattle.std.specs.Prelude.{◌≡◌, ℕ, ℤ, pos, ◌+ℤ◌, ◌-ℤ◌, ◌*ℤ◌, Bool, true, false, if◌then◌else◌, ◌&&◌, ◌||◌, int_le, int_lt, List, [], ◌∷◌, Option, Some, None, MatchOption, Result, IfOk, reverse, take, drop}
+use Rattle.qs_base.specs.declared.memory.NoMemory.{NoMemory}
 use Rattle.std.specs.Prelude.{not as flip}
 use Rattle.std.specs.Ordering.{int_eq}
 use Rattle.qs_assert.specs.declared.variable.Var.{Var}
@@ -21,6 +22,16 @@ use Rattle.qs_assert.specs.Bounds.{is_wide, is_wide_value, amount_of}
 abbrev pub first_or : {A : Type 0} → A → List A → A
 first_or otherwise [] = otherwise
 first_or otherwise (x ∷ xs) = x
+
+-- ---- stacks that are kept with their front last
+
+-- read from its front, the stack becomes what f makes of it, if memory suffices
+abbrev pub Changes : {A : Type 0} → (List A → List A) → (old new : List A) → Result (Unit {0}) NoMemory → Type 0
+Changes f old new result = IfOk result (λ _. reverse new ≡ f (reverse old))
+
+-- the front is taken off, unless there is none
+abbrev pub TakesFront : {A : Type 0} → (old new : List A) → Option A → Type 0
+TakesFront old new result = MatchOption result (reverse old ≡ []) (λ item. reverse old ≡ item ∷ reverse new)
 
 -- Numbers
 
@@ -60,15 +71,30 @@ sum_known xs = if some_none xs then None else known (joined ◌+ℤ◌ (pos 0) x
 abbrev pub product_known : List (Option ℤ) → Option ℤ
 product_known xs = if some_none xs then None else known (joined ◌*ℤ◌ (pos 1) xs)
 
+-- where `whole` is a number that is known, the answer is what f makes of it
+abbrev pub AppliesToNumber : (ℤ → ℤ) → Option ℤ → Option ℤ → Type 0
+AppliesToNumber f whole result = (y : ℤ) → whole ≡ known y → result ≡ known (f y)
+
 abbrev pub none_or_first : List (Option ℤ) → Option ℤ
 none_or_first = first_or (Some (pos 0))
+
+-- the first n numbers are joined to their sum, or to their product
+abbrev pub sum_step : ℕ → List (Option ℤ) → List (Option ℤ)
+sum_step n xs = sum_known (take n xs) ∷ drop n xs
+
+abbrev pub product_step : ℕ → List (Option ℤ) → List (Option ℤ)
+product_step n xs = product_known (take n xs) ∷ drop n xs
+
+-- the first number less the second
+abbrev pub difference_step : List (Option ℤ) → List (Option ℤ)
+difference_step xs = on_both ◌-ℤ◌ (none_or_first xs) (none_or_first (others xs)) ∷ others (others xs)
 
 abbrev pub step_term : (Var → ℤ) → TermNode → List (Option ℤ) → List (Option ℤ)
 step_term at (Number k) xs = known k ∷ xs
 step_term at (Variable x) xs = known (at x) ∷ xs
-step_term at (Add n) xs = sum_known (take n xs) ∷ drop n xs
-step_term at Sub xs = on_both ◌-ℤ◌ (none_or_first xs) (none_or_first (others xs)) ∷ others (others xs)
-step_term at (Mul n) xs = product_known (take n xs) ∷ drop n xs
+step_term at (Add n) xs = sum_step n xs
+step_term at Sub xs = difference_step xs
+step_term at (Mul n) xs = product_step n xs
 step_term at (Div k) xs = on_known (λ z. quotient z k) (none_or_first xs) ∷ others xs
 step_term at WrapUnsigned xs = on_known wrapped_unsigned (none_or_first xs) ∷ others xs
 step_term at WrapSigned xs = on_known wrapped_signed (none_or_first xs) ∷ others xs
@@ -141,6 +167,10 @@ joined_amounts f z (x ∷ xs) = joins_amount f x (joined_amounts f z xs)
 
 abbrev pub joined_known : (Extended → Extended → Extended) → Extended → List Amount → Amount
 joined_known f z xs = if some_amount_wide xs then Wide else amount_known (joined_amounts f z xs)
+
+-- where `whole` is the amount of a value, the answer is the amount of what f makes of the value
+abbrev pub AppliesToAmount : (Extended → Extended) → Amount → Amount → Type 0
+AppliesToAmount f whole result = (y : Extended) → whole ≡ amount_known y → result ≡ amount_known (f y)
 
 abbrev pub first_amount : List Amount → Amount
 first_amount = first_or (Finite 0)

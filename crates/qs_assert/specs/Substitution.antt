@@ -1,5 +1,5 @@
 -- Variables are replaced by terms.
-use Rattle.std.specs.Prelude.{◌==◌, ◌&&◌, ℤ, Bool, true, false, if◌then◌else◌}
+use Rattle.std.specs.Prelude.{◌≡◌, ◌==◌, ◌&&◌, ℤ, Bool, true, false, if◌then◌else◌}
 use Rattle.qs_assert.specs.declared.variable.VarKind.{VarKind}
 use Rattle.qs_assert.specs.declared.variable.VarKind.TheVariants.{Plain, Temporary, Old, Returned}
 use Rattle.qs_assert.specs.declared.variable.NumberType.{NumberType}
@@ -7,7 +7,7 @@ use Rattle.qs_assert.specs.declared.variable.NumberType.TheVariants.{Int, Unsign
 use Rattle.qs_assert.specs.declared.variable.Var.{Var}
 use Rattle.qs_assert.specs.Images.{Images, assertion_image}
 use Rattle.qs_assert.specs.Trees.{TermTree, variable, AssertionTree}
-use Rattle.qs_assert.specs.Values.{State}
+use Rattle.qs_assert.specs.Values.{State, term_value, value}
 
 -- the same kind of variable
 abbrev pub same_kind : VarKind → VarKind → Bool
@@ -39,3 +39,11 @@ in_assertion x u a = assertion_image (one_image x u) a
 -- the state in which x has the value z
 abbrev pub with_value : Var → ℤ → State → State
 with_value x z s = record s { at = λ y. if same_variable y x then z else s.at y }
+
+-- in each state b has the value that a has where x has the value of t
+abbrev pub HasValueWith : Var → TermTree → AssertionTree → AssertionTree → Type 0
+HasValueWith x t a b = (s : State) → value b s ≡ value a (with_value x (term_value t s) s)
+
+-- the value of a is the same whatever the number of x
+abbrev pub IsIndependentOf : AssertionTree → Var → Type 0
+IsIndependentOf a x = (s : State) (z : ℤ) → value a (with_value x z s) ≡ value a s

@@ -1,7 +1,6 @@
 // Amounts. Wide stands for a finite amount that is wide.
 ghost use Rattle.std.specs.Prelude.{◌≡◌, ◌^◌, ℕ, reverse};
 ghost use Rattle.qs_assert.specs.Values as values;
-ghost use Rattle.qs_assert.specs.Values.{Extended};
 ghost use Rattle.qs_assert.specs.Stacks as stacks;
 ghost use Rattle.qs_assert.specs.Joining.{operation, start};
 
@@ -37,7 +36,7 @@ pub fn natural(a: Option<i128>) -> Amount
 }
 
 fn with_sum(n: u128, sum: Amount) -> Amount
-    ensures { (y : Extended) → sum ≡ stacks.amount_known y → result ≡ stacks.amount_known (values.plus (values.finite n) y) }
+    ensures { stacks.AppliesToAmount (values.plus (values.finite n)) sum result }
 {
     match sum {
         Amount::Finite(m) => match n.checked_add(m) {
@@ -50,7 +49,7 @@ fn with_sum(n: u128, sum: Amount) -> Amount
 }
 
 fn with_greatest(n: u128, greatest: Amount) -> Amount
-    ensures { (y : Extended) → greatest ≡ stacks.amount_known y → result ≡ stacks.amount_known (values.greater (values.finite n) y) }
+    ensures { stacks.AppliesToAmount (values.greater (values.finite n)) greatest result }
 {
     match greatest {
         Amount::Finite(m) => finite(if n < m { m } else { n }),
@@ -60,7 +59,7 @@ fn with_greatest(n: u128, greatest: Amount) -> Amount
 }
 
 fn with_product(n: u128, product: Amount) -> Amount
-    ensures { (y : Extended) → product ≡ stacks.amount_known y → result ≡ stacks.amount_known (values.times (values.finite n) y) }
+    ensures { stacks.AppliesToAmount (values.times (values.finite n)) product result }
 {
     if n == 0 {
         return Amount::Finite(0);
@@ -76,7 +75,7 @@ fn with_product(n: u128, product: Amount) -> Amount
 }
 
 fn infinite_product(product: Amount) -> Amount
-    ensures { (y : Extended) → product ≡ stacks.amount_known y → result ≡ stacks.amount_known (values.times values.infinite y) }
+    ensures { stacks.AppliesToAmount (values.times values.infinite) product result }
 {
     match product {
         Amount::Finite(0) => Amount::Finite(0),
@@ -103,7 +102,7 @@ fn start(joining: Joining) -> Amount
 }
 
 fn with_finite(joining: Joining, n: u128, whole: Amount) -> Amount
-    ensures { (y : Extended) → whole ≡ stacks.amount_known y → result ≡ stacks.amount_known (operation joining (values.finite n) y) }
+    ensures { stacks.AppliesToAmount (operation joining (values.finite n)) whole result }
 {
     match joining {
         Joining::Sum => with_sum(n, whole),
@@ -113,7 +112,7 @@ fn with_finite(joining: Joining, n: u128, whole: Amount) -> Amount
 }
 
 fn with_infinite(joining: Joining, whole: Amount) -> Amount
-    ensures { (y : Extended) → whole ≡ stacks.amount_known y → result ≡ stacks.amount_known (operation joining values.infinite y) }
+    ensures { stacks.AppliesToAmount (operation joining values.infinite) whole result }
 {
     match joining {
         Joining::Sum => Amount::Infinite,
@@ -123,7 +122,7 @@ fn with_infinite(joining: Joining, whole: Amount) -> Amount
 }
 
 fn with_part(joining: Joining, part: Amount, whole: Amount) -> Amount
-    ensures { (y : Extended) → whole ≡ stacks.amount_known y → result ≡ stacks.amount_known (stacks.joins_amount (operation joining) part y) }
+    ensures { stacks.AppliesToAmount (stacks.joins_amount (operation joining) part) whole result }
 {
     match part {
         Amount::Finite(n) => with_finite(joining, n, whole),
@@ -142,8 +141,8 @@ fn is_wide(amount: Amount) -> bool
     }
 }
 
-/// The sum, the greatest or the product, the amounts being given the last first. That it is Wide on the way
-/// is hidden by infinity, or in a product by 0; a part that is Wide isn't hidden.
+/// The sum, the greatest or the product, the amounts being given the last first. That it is Wide on
+/// the way is hidden by infinity, or in a product by 0; a part that is Wide isn't hidden.
 pub fn joined(joining: Joining, parts: &[Amount]) -> Amount
     ensures { result ≡ stacks.joined_known (operation joining) (start joining) (reverse parts.now) }
 {

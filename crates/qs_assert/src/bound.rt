@@ -1,7 +1,7 @@
 // What an assertion amounts to at given arguments.
-ghost use Rattle.std.specs.Prelude.{◌≡◌, [], IfOk, OnOk};
+ghost use Rattle.std.specs.Prelude.{◌≡◌, [], IfOk};
 ghost use Rattle.qs_assert.specs.Bounds.{amount_at, bound_at};
-ghost use Rattle.qs_assert.specs.Tables.{reckoned, tabled, with_amount};
+ghost use Rattle.qs_assert.specs.Tables.{reckoned, tabled, AddsDefine};
 
 use crate::amounts::Joining;
 use crate::evaluation::{cost, evaluate};
@@ -31,7 +31,7 @@ fn add(
     costs: &[u32],
     known: &mut IndexMap<Name, Amount>,
 ) -> Result<(), NoMemory>
-    ensures { OnOk result (known.new.entries ≡ with_amount define.now.name (reckoned args.now costs.now known.old.entries define.now.body) known.old.entries) }
+    ensures { AddsDefine args.now costs.now define.now known.old.entries known.new.entries result }
 {
     if known.get(&define.name).is_some() {
         return Ok(());
@@ -57,12 +57,13 @@ fn table(
     Ok(known)
 }
 
-/// The value of `a` where parameter i is `args[i]` and function f costs `costs[f]`; every other variable is
-/// unset and counts as 0. A name has the value of its first definition, in which a name that isn't defined
-/// earlier is infinite, as is a name without a definition. The answer is `Wide` exactly where a part that is
-/// evaluated is finite and outside -(2^127 - 1) to 2^127 - 1, and it comes before `Infinite`. In a
-/// conditional only the chosen branch is evaluated, in a guard the assertion only where the condition holds;
-/// all else is. The value of each definition is computed once.
+/// The value of `a` where parameter i is `args[i]` and function f costs `costs[f]`; every other
+/// variable is unset and counts as 0. A name has the value of its first definition, in which a name
+/// that isn't defined earlier is infinite, as is a name without a definition. The answer is `Wide`
+/// exactly where a part that is evaluated is finite and outside -(2^127 - 1) to 2^127 - 1, and it
+/// comes before `Infinite`. In a conditional only the chosen branch is evaluated, in a guard the
+/// assertion only where the condition holds; all else is. The value of each definition is computed
+/// once.
 pub fn value_at(
     alloc: Global,
     a: &Assertion,
@@ -77,7 +78,8 @@ pub fn value_at(
     Ok(amount)
 }
 
-/// The value of `pre`, as `value_at` has it, and the cost of `main`; `Wide` also where their sum is.
+/// The value of `pre`, as `value_at` has it, and the cost of `main`; `Wide` also where their sum
+/// is.
 pub fn bound_of(
     alloc: Global,
     pre: &Assertion,
@@ -86,7 +88,7 @@ pub fn bound_of(
     costs: &[u32],
     main: FnId,
 ) -> Result<Amount, NoMemory>
-    ensures { IfOk result (λ bound. bound ≡ bound_at pre.now defines.now args.now costs.now main.0) }
+    ensures { IfOk result (λ b. b ≡ bound_at pre.now defines.now args.now costs.now main.0) }
 {
     let amount = value_at(alloc, pre, defines, args, costs)?;
     let cost = amounts::finite(u128::from(cost(costs, main.0)));

@@ -1,10 +1,12 @@
 // The values of the nodes of a list, from its end.
-ghost use Rattle.std.specs.Prelude.{◌≡◌, ◌∷◌, List, ℤ, IfOk, reverse, take, drop, slice_index_or, pos};
+ghost use Rattle.std.specs.Prelude.{◌≡◌, IfOk, slice_index_or, pos};
 ghost use Rattle.qs_assert.specs.Bounds as bounds;
-ghost use Rattle.qs_assert.specs.Stacks as stacks;
-ghost use Rattle.qs_assert.specs.Evaluations.{seen, found, meaning};
-ghost use Rattle.qs_assert.specs.Joining.{operation, start};
-ghost use Rattle.qs_assert.specs.Stacks.{joined_step, guard_step, choose_step, num_step};
+ghost use Rattle.qs_assert.specs.Bounds.{arguments};
+ghost use Rattle.qs_assert.specs.Evaluations.{found, nodes_amount, Steps, StepsHead, StepsNode};
+ghost use Rattle.qs_assert.specs.Joining.{join_step};
+ghost use Rattle.qs_assert.specs.Stacks.{Changes, sum_step, product_step, difference_step};
+ghost use Rattle.qs_assert.specs.Stacks.{step_term, step_comparison, step_cond};
+ghost use Rattle.qs_assert.specs.Stacks.{guard_step, choose_step, num_step};
 ghost use Rattle.qs_assert.specs.Comparing.{relation_of};
 
 use crate::amounts::Joining;
@@ -58,7 +60,7 @@ fn amount_of(known: &IndexMap<Name, Amount>, name: &Name) -> Amount
 }
 
 fn put_sum(stack: &mut Vec<Option<i128>>, count: usize) -> Result<(), NoMemory>
-    ensures { IfOk result (λ _. reverse stack.new.items ≡ stacks.sum_known (take count (reverse stack.old.items)) ∷ drop count (reverse stack.old.items)) }
+    ensures { Changes (sum_step count) stack.old.items stack.new.items result }
 {
     let value = numbers::sum(front(stack, count));
     cut(stack, count);
@@ -66,7 +68,7 @@ fn put_sum(stack: &mut Vec<Option<i128>>, count: usize) -> Result<(), NoMemory>
 }
 
 fn put_product(stack: &mut Vec<Option<i128>>, count: usize) -> Result<(), NoMemory>
-    ensures { IfOk result (λ _. reverse stack.new.items ≡ stacks.product_known (take count (reverse stack.old.items)) ∷ drop count (reverse stack.old.items)) }
+    ensures { Changes (product_step count) stack.old.items stack.new.items result }
 {
     let value = numbers::product(front(stack, count));
     cut(stack, count);
@@ -74,7 +76,7 @@ fn put_product(stack: &mut Vec<Option<i128>>, count: usize) -> Result<(), NoMemo
 }
 
 fn put_difference(stack: &mut Vec<Option<i128>>) -> Result<(), NoMemory>
-    ensures { IfOk result (λ _. reverse stack.new.items ≡ stacks.step_term (λ _. pos 0) TermNode.Sub (reverse stack.old.items)) }
+    ensures { Changes difference_step stack.old.items stack.new.items result }
 {
     let a = taken(stack, Some(0));
     let b = taken(stack, Some(0));
@@ -82,7 +84,7 @@ fn put_difference(stack: &mut Vec<Option<i128>>) -> Result<(), NoMemory>
 }
 
 fn step_term(stack: &mut Vec<Option<i128>>, node: TermNode, args: &[i64]) -> Result<(), NoMemory>
-    ensures { IfOk result (λ _. reverse stack.new.items ≡ stacks.step_term (λ x. bounds.argument args.now x.kind) node (reverse stack.old.items)) }
+    ensures { Changes (step_term (arguments args.now) node) stack.old.items stack.new.items result }
 {
     match node {
         TermNode::Number(k) => put(stack, numbers::known(i128::from(k))),
@@ -111,7 +113,7 @@ fn step_term(stack: &mut Vec<Option<i128>>, node: TermNode, args: &[i64]) -> Res
 
 impl Evaluation {
     fn compare(&mut self, relation: Relation) -> Result<(), NoMemory>
-        ensures { IfOk result (λ _. seen self.new ≡ stacks.step_comparison (relation_of relation) (seen self.old)) }
+        ensures { Steps (step_comparison (relation_of relation)) self.old self.new result }
     {
         let a = taken(&mut self.numbers, Some(0));
         let b = taken(&mut self.numbers, Some(0));
@@ -119,7 +121,7 @@ impl Evaluation {
     }
 
     fn step_cond(&mut self, node: CondNode) -> Result<(), NoMemory>
-        ensures { IfOk result (λ _. seen self.new ≡ stacks.step_cond node (seen self.old)) }
+        ensures { Steps (step_cond node) self.old self.new result }
     {
         match node {
             CondNode::Le => self.compare(Relation::AtMost),
@@ -144,7 +146,7 @@ impl Evaluation {
     }
 
     fn join(&mut self, joining: Joining, count: usize) -> Result<(), NoMemory>
-        ensures { IfOk result (λ _. seen self.new ≡ joined_step (operation joining) (start joining) count (seen self.old)) }
+        ensures { Steps (join_step joining count) self.old self.new result }
     {
         let amount = amounts::joined(joining, front(&self.amounts, count));
         cut(&mut self.amounts, count);
@@ -152,7 +154,7 @@ impl Evaluation {
     }
 
     fn guard(&mut self) -> Result<(), NoMemory>
-        ensures { IfOk result (λ _. seen self.new ≡ guard_step (seen self.old)) }
+        ensures { Steps guard_step self.old self.new result }
     {
         let test = taken(&mut self.tests, Some(true));
         let amount = taken(&mut self.amounts, Amount::Finite(0));
@@ -163,7 +165,7 @@ impl Evaluation {
     }
 
     fn choose(&mut self) -> Result<(), NoMemory>
-        ensures { IfOk result (λ _. seen self.new ≡ choose_step (seen self.old)) }
+        ensures { Steps choose_step self.old self.new result }
     {
         let test = taken(&mut self.tests, Some(true));
         let first = taken(&mut self.amounts, Amount::Finite(0));
@@ -172,7 +174,7 @@ impl Evaluation {
     }
 
     fn num(&mut self) -> Result<(), NoMemory>
-        ensures { IfOk result (λ _. seen self.new ≡ num_step (seen self.old)) }
+        ensures { Steps num_step self.old self.new result }
     {
         let number = taken(&mut self.numbers, Some(0));
         put(&mut self.amounts, amounts::natural(number))
@@ -184,7 +186,7 @@ impl Evaluation {
         costs: &[u32],
         known: &IndexMap<Name, Amount>,
     ) -> Result<(), NoMemory>
-        ensures { IfOk result (λ _. (args : List ℤ) → seen self.new ≡ stacks.step_assertion (meaning args costs.now known.now.entries) node.now (seen self.old)) }
+        ensures { StepsHead costs.now known.now.entries node.now self.old self.new result }
     {
         match node {
             AssertionNode::Natural(n) => put(&mut self.amounts, amounts::finite(u128::from(*n))),
@@ -210,7 +212,7 @@ impl Evaluation {
         costs: &[u32],
         known: &IndexMap<Name, Amount>,
     ) -> Result<(), NoMemory>
-        ensures { IfOk result (λ _. seen self.new ≡ stacks.step_node (meaning args.now costs.now known.now.entries) node.now (seen self.old)) }
+        ensures { StepsNode args.now costs.now known.now.entries node.now self.old self.new result }
     {
         match node {
             Node::Term(head) => step_term(&mut self.numbers, *head, args),
@@ -228,7 +230,7 @@ pub fn evaluate(
     costs: &[u32],
     known: &IndexMap<Name, Amount>,
 ) -> Result<Amount, NoMemory>
-    ensures { IfOk result (λ amount. amount ≡ stacks.first_amount (stacks.steps (meaning args.now costs.now known.now.entries) nodes.now).amounts) }
+    ensures { IfOk result (λ a. a ≡ nodes_amount args.now costs.now known.now.entries nodes.now) }
 {
     let mut evaluation = Evaluation {
         numbers: Vec::new(alloc),

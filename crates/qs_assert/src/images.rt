@@ -1,12 +1,11 @@
 // Variables are replaced by terms, all at once.
-ghost use Rattle.std.specs.Prelude.{◌≡◌, ◌++◌, IfOk, MatchOption, Some, None, is_none};
-ghost use Rattle.std.specs.List.{find, flat_map};
+ghost use Rattle.std.specs.Prelude.{◌≡◌, ◌++◌, IfOk, MatchOption, is_none};
+ghost use Rattle.std.specs.List.{flat_map};
 ghost use Rattle.qs_assert.specs.Images.{assertion_image};
-ghost use Rattle.qs_assert.specs.Listing.{inner_term};
-ghost use Rattle.qs_assert.specs.Replacing.{replacement};
-ghost use Rattle.qs_assert.specs.Simultaneous.{image_in, images, terms_for, substituted};
-ghost use Rattle.qs_assert.specs.Substitution.{in_assertion, with_value};
-ghost use Rattle.qs_assert.specs.Values.{State, term_value, value};
+ghost use Rattle.qs_assert.specs.Replacing.{image_nodes, nodes_for};
+ghost use Rattle.qs_assert.specs.Simultaneous.{images, images_in, first_lacking, substituted};
+ghost use Rattle.qs_assert.specs.Simultaneous.{HasImage, HasNoImage};
+ghost use Rattle.qs_assert.specs.Substitution.{in_assertion, HasValueWith};
 ghost use Rattle.qs_assert.specs.Variables.{node_variables};
 
 use crate::listing::put_term;
@@ -43,7 +42,7 @@ pub enum Substituted {
 
 /// The first image of a variable.
 fn image_in<'a>(list: &'a [Image], x: Var) -> Option<&'a Term>
-    ensures { MatchOption result (image_in list.now x ≡ None) (λ t. image_in list.now x ≡ Some t.now) }
+    ensures { MatchOption result (HasNoImage list.now x) (λ t. HasImage list.now x t.now) }
 {
     for image in list {
         if x.same(image.variable) {
@@ -67,7 +66,7 @@ fn has_none(list: &[Image], others: Others, x: Var) -> bool
 
 /// The variable of a node, if it has no image.
 fn missing_at(list: &[Image], others: Others, node: &Node) -> Option<Var>
-    ensures { result ≡ find (λ x. is_none (images list.now others x)) (node_variables node.now) }
+    ensures { result ≡ first_lacking (images list.now others) (node_variables node.now) }
 {
     match node {
         Node::Term(TermNode::Variable(x)) if has_none(list, others, *x) => Some(*x),
@@ -76,7 +75,7 @@ fn missing_at(list: &[Image], others: Others, node: &Node) -> Option<Var>
 }
 
 fn first_without(list: &[Image], others: Others, nodes: &[Node]) -> Option<Var>
-    ensures { result ≡ find (λ x. is_none (images list.now others x)) (flat_map node_variables nodes.now) }
+    ensures { result ≡ first_lacking (images list.now others) (flat_map node_variables nodes.now) }
 {
     for node in nodes {
         let missing = missing_at(list, others, node);
@@ -88,7 +87,7 @@ fn first_without(list: &[Image], others: Others, nodes: &[Node]) -> Option<Var>
 }
 
 fn put_variable(nodes: &mut Vec<Node>, x: Var, list: &[Image]) -> Result<(), NoMemory>
-    ensures { IfOk result (λ _. nodes.new.items ≡ nodes.old.items ++ inner_term (terms_for (image_in list.now) x)) }
+    ensures { IfOk result (λ _. nodes.new.items ≡ nodes.old.items ++ image_nodes list.now x) }
 {
     match image_in(list, x) {
         Some(t) => put_term(nodes, t),
@@ -106,7 +105,7 @@ fn put_image(
     node: &Node,
     list: &[Image],
 ) -> Result<(), NoMemory>
-    ensures { IfOk result (λ _. nodes.new.items ≡ nodes.old.items ++ replacement (terms_for (image_in list.now)) node.now) }
+    ensures { IfOk result (λ _. nodes.new.items ≡ nodes.old.items ++ nodes_for list.now node.now) }
 {
     match node {
         Node::Term(TermNode::Variable(x)) => put_variable(nodes, *x, list),
@@ -119,7 +118,7 @@ fn put_image(
 
 /// The assertion with the images of a list, where the other variables stay.
 fn with_images(alloc: Global, a: &Assertion, list: &[Image]) -> Result<Assertion, NoMemory>
-    ensures { IfOk result (λ b. b ≡ assertion_image (terms_for (image_in list.now)) a.now) }
+    ensures { IfOk result (λ b. b ≡ assertion_image (images_in list.now) a.now) }
 {
     let mut nodes = Vec::new(alloc);
     let given = a.nodes();
@@ -129,8 +128,8 @@ fn with_images(alloc: Global, a: &Assertion, list: &[Image]) -> Result<Assertion
     Ok(Assertion::from_nodes(nodes))
 }
 
-/// The assertion with the images in the places of their variables, all at once, or the first variable without
-/// an image. Of two images of one variable the first counts.
+/// The assertion with the images in the places of their variables, all at once, or the first
+/// variable without an image. Of two images of one variable the first counts.
 pub fn substitute_all(
     alloc: Global,
     a: &Assertion,
@@ -148,7 +147,7 @@ pub fn substitute_all(
 /// The assertion with the term `t` in the place of the variable `x`.
 pub fn substitute(alloc: Global, a: &Assertion, x: &Var, t: &Term) -> Result<Assertion, NoMemory>
     ensures tree { IfOk result (λ b. b ≡ in_assertion x.now t.now a.now) }
-    ensures value { IfOk result (λ b. (s : State) → value b s ≡ value a.now (with_value x.now (term_value t.now s) s)) }
+    ensures value { IfOk result (λ b. HasValueWith x.now t.now a.now b) }
 {
     let image = Image {
         variable: *x,

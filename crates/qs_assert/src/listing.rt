@@ -1,6 +1,8 @@
 // Lists of nodes are made of the lists of the parts.
 ghost use Rattle.std.specs.Prelude.{◌≡◌, [], ◌∷◌, ◌++◌, IfOk, OnOk};
-ghost use Rattle.qs_assert.specs.Listing.{term_nodes, terms_nodes, inner_term, term_heads, cond_nodes, conds_nodes, assertion_nodes, assertions_nodes};
+ghost use Rattle.qs_assert.specs.Listing.{term_nodes, terms_nodes, inner_term, term_heads};
+ghost use Rattle.qs_assert.specs.Listing.{cond_nodes, conds_nodes};
+ghost use Rattle.qs_assert.specs.Listing.{assertion_nodes, assertions_nodes};
 ghost use Rattle.qs_assert.specs.Trees.{TermTree, terms_of, conds_of, assertions_of};
 
 use crate::{Assertion, AssertionNode, Cond, Node, Term, TermNode};
@@ -190,7 +192,7 @@ pub fn on_assertions(alloc: Global, head: Node, parts: &[Assertion]) -> Result<V
 
 /// A node with a condition and an assertion as its parts.
 pub fn on_guarded(alloc: Global, head: Node, c: &Cond, a: &Assertion) -> Result<Vec<Node>, NoMemory>
-    ensures { IfOk result (λ list. list.items ≡ head ∷ (cond_nodes c.now ++ assertion_nodes a.now)) }
+    ensures { IfOk result (λ list. list.items ≡ head ∷ cond_nodes c.now ++ assertion_nodes a.now) }
 {
     let mut list = on_cond(alloc, head, c)?;
     put_nodes(alloc, &mut list, a.nodes())?;

@@ -1,5 +1,5 @@
-// The heads of terms, conditions and assertions. A tree is kept as the list of its heads, each before
-// its parts, so that no tree is too deep to be walked.
+// The heads of terms, conditions and assertions. A tree is kept as the list of its heads, each
+// before its parts, so that no tree is too deep to be walked.
 use crate::Var;
 use qs_base::{FnId, Name};
 

@@ -1,5 +1,6 @@
 // Numbers of 128 bits. None stands for a number that is wide.
-ghost use Rattle.std.specs.Prelude.{◌≡◌, ◌≤◌, ℤ, pos, negsuc, ◌+ℤ◌, ◌-ℤ◌, ◌*ℤ◌, ◌≤ℤ◌, ◌^◌, ◌-◌, ℕ, reverse};
+ghost use Rattle.std.specs.Prelude.{◌≡◌, ◌≤◌, ℤ, pos, negsuc, ◌+ℤ◌, ◌-ℤ◌, ◌*ℤ◌, ◌≤ℤ◌};
+ghost use Rattle.std.specs.Prelude.{◌^◌, ◌-◌, ℕ, reverse};
 ghost use Rattle.qs_assert.specs.Values as values;
 ghost use Rattle.qs_assert.specs.Stacks as stacks;
 
@@ -121,7 +122,7 @@ pub fn sum(parts: &[Option<i128>]) -> Option<i128>
 }
 
 fn known_product(x: i128, product: Option<i128>) -> Option<i128>
-    ensures { (y : ℤ) → product ≡ stacks.known y → result ≡ stacks.known (x *ℤ y) }
+    ensures { stacks.AppliesToNumber (λ y. x *ℤ y) product result }
 {
     if x == 0 {
         return Some(0);
@@ -136,7 +137,7 @@ fn known_product(x: i128, product: Option<i128>) -> Option<i128>
 }
 
 fn with_factor(part: Option<i128>, product: Option<i128>) -> Option<i128>
-    ensures { (y : ℤ) → product ≡ stacks.known y → result ≡ stacks.known (stacks.joins ◌*ℤ◌ part y) }
+    ensures { stacks.AppliesToNumber (stacks.joins ◌*ℤ◌ part) product result }
 {
     match part {
         Some(x) => known_product(x, product),

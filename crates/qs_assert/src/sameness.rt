@@ -1,7 +1,8 @@
 // Whether two trees are the same.
 ghost use Rattle.std.specs.Prelude.{◌≡◌, ◌↔◌, IsTrue};
 ghost use Rattle.qs_assert.specs.Sameness as sameness;
-ghost use Rattle.qs_assert.specs.Sameness.{all_same, same_term_node, same_cond_node, same_assertion_node, same_node};
+ghost use Rattle.qs_assert.specs.Sameness.{all_same, same_term_node, same_cond_node};
+ghost use Rattle.qs_assert.specs.Sameness.{same_assertion_node, same_node};
 
 use crate::{Assertion, AssertionNode, Cond, CondNode, Node, Term, TermNode};
 

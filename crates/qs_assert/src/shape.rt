@@ -1,8 +1,8 @@
 // How many parts follow a node, and whether nodes are those of a term.
-ghost use Rattle.std.specs.Prelude.{◌≡◌, ◌≢◌, MatchOption};
+ghost use Rattle.std.specs.Prelude.{◌≡◌, MatchOption};
 ghost use Rattle.qs_assert.specs.Listing.{term_nodes};
-ghost use Rattle.qs_assert.specs.Shapes.{term_arity, cond_arity, assertion_arity, arity, are_terms};
-ghost use Rattle.qs_assert.specs.Trees.{TermTree};
+ghost use Rattle.qs_assert.specs.Shapes.{term_arity, cond_arity, assertion_arity, arity};
+ghost use Rattle.qs_assert.specs.Shapes.{are_terms, AreOfNoTerm};
 
 use crate::{AssertionNode, CondNode, Node, Term, TermNode};
 
@@ -91,7 +91,7 @@ fn is_one_term(nodes: &[TermNode]) -> bool
 impl Term {
     /// The term that has these nodes, each before those of its parts, if there is one.
     pub fn read(nodes: Vec<TermNode>) -> Option<Term>
-        ensures { MatchOption result ((t : TermTree) → nodes.items ≢ term_nodes t) (λ t. nodes.items ≡ term_nodes t) }
+        ensures { MatchOption result (AreOfNoTerm nodes.items) (λ t. nodes.items ≡ term_nodes t) }
     {
         if is_one_term(&nodes) {
             Some(Term::from_nodes(nodes))

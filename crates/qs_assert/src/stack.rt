@@ -1,7 +1,7 @@
 //! Stacks kept in a `Vec`, the front being the end of the `Vec`.
-ghost use Rattle.std.specs.Prelude.{◌≡◌, [], ◌∷◌, ◌++◌, MatchOption, OnOk, reverse, replicate, take, drop};
+ghost use Rattle.std.specs.Prelude.{◌≡◌, ◌∷◌, ◌++◌, OnOk, reverse, replicate, take, drop};
 ghost use Rattle.qs_assert.specs.Reading.{others};
-ghost use Rattle.qs_assert.specs.Stacks.{first_or};
+ghost use Rattle.qs_assert.specs.Stacks.{first_or, TakesFront};
 
 use qs_base::NoMemory;
 
@@ -14,10 +14,10 @@ pub fn put<T: Drop>(stack: &mut Vec<T>, item: T) -> Result<(), NoMemory>
 }
 
 /// Puts an item in front so many times.
-pub fn put_all<T: Copy>(stack: &mut Vec<T>, item: T, count: usize) -> Result<(), NoMemory>
-    ensures { OnOk result (reverse stack.new.items ≡ replicate count item ++ reverse stack.old.items) }
+pub fn put_all<T: Copy>(stack: &mut Vec<T>, item: T, n: usize) -> Result<(), NoMemory>
+    ensures { OnOk result (reverse stack.new.items ≡ replicate n item ++ reverse stack.old.items) }
 {
-    for _index in 0..count {
+    for _index in 0..n {
         put(stack, item)?;
     }
     Ok(())
@@ -25,7 +25,7 @@ pub fn put_all<T: Copy>(stack: &mut Vec<T>, item: T, count: usize) -> Result<(),
 
 /// Takes the first item off, unless there is none.
 pub fn next<T>(stack: &mut Vec<T>) -> Option<T>
-    ensures { MatchOption result (reverse stack.old.items ≡ []) (λ item. reverse stack.old.items ≡ item ∷ reverse stack.new.items) }
+    ensures { TakesFront stack.old.items stack.new.items result }
 {
     stack.pop()
 }

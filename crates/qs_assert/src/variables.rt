@@ -1,11 +1,9 @@
 // Which variables an assertion mentions.
 ghost use Rattle.std.specs.Prelude.{◌≡◌, false};
 ghost use Rattle.std.specs.List.{list_any};
-ghost use Rattle.qs_assert.specs.Substitution.{with_value};
-ghost use Rattle.qs_assert.specs.Values.{State, value};
+ghost use Rattle.qs_assert.specs.Substitution.{IsIndependentOf};
 ghost use Rattle.qs_assert.specs.Variables as variables;
 ghost use Rattle.qs_assert.specs.Variables.{head_mentions, node_mentions};
-ghost use Rattle.std.specs.Prelude.{ℤ};
 
 use crate::{Assertion, Node, TermNode, Var};
 
@@ -41,11 +39,11 @@ fn some_mentions(nodes: &[Node], x: Var) -> bool
     nodes.iter().any(|node| node_mentions(node, x))
 }
 
-/// Whether the assertion mentions the variable, at its type. If it doesn't, its value is the same whatever the
-/// number of the variable.
+/// Whether the assertion mentions the variable, at its type. If it doesn't, its value is the same
+/// whatever the number of the variable.
 pub fn mentions(a: &Assertion, x: &Var) -> bool
     ensures test { result ≡ variables.mentions a.now x.now }
-    ensures value { result ≡ false → (s : State) (z : ℤ) → value a.now (with_value x.now z s) ≡ value a.now s }
+    ensures value { result ≡ false → IsIndependentOf a.now x.now }
 {
     some_mentions(a.nodes(), *x)
 }

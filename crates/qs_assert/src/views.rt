@@ -1,12 +1,13 @@
 // Trees that are read where they stand: the trees in a
 // list of nodes, each node before those of its parts.
-ghost use Rattle.std.specs.Prelude.{◌≡◌, ◌≤◌, ◌↔◌, ◌∷◌, [], IsTrue, IfOk, MatchOption, length, take, drop};
-ghost use Rattle.qs_assert.specs.Trees.{CondTree, AssertionTree, AssertionTrees, assertion_list};
+ghost use Rattle.std.specs.Prelude.{◌≡◌, ◌≤◌, ◌↔◌, ◌∷◌, [], IsTrue, IfOk, MatchOption};
+ghost use Rattle.std.specs.Prelude.{length, take, drop};
+ghost use Rattle.qs_assert.specs.Trees.{CondTree, AssertionTree, AssertionTrees};
 ghost use Rattle.qs_assert.specs.Listing.{cond_nodes, assertion_nodes, assertions_nodes};
 ghost use Rattle.qs_assert.specs.Reading.{others};
 ghost use Rattle.qs_assert.specs.Sameness as sameness;
 ghost use Rattle.qs_assert.specs.Views as views;
-ghost use Rattle.qs_assert.specs.Views.{head_arity, front_length};
+ghost use Rattle.qs_assert.specs.Views.{head_arity, front_length, ListsAssertions};
 
 use crate::{Assertion, Cond, Node, put_nodes, same_nodes};
 use qs_base::NoMemory;
@@ -187,7 +188,7 @@ impl<'a> AssertionViews<'a> {
     /// The assertions that have these nodes.
     pub fn from_nodes(nodes: &'a [Node]) -> AssertionViews<'a>
         requires { (parts : AssertionTrees) × (nodes.now ≡ assertions_nodes parts) }
-        ensures { (parts : AssertionTrees) → nodes.now ≡ assertions_nodes parts → result ≡ assertion_list parts }
+        ensures { ListsAssertions nodes.now result }
     {
         AssertionViews { nodes }
     }

@@ -5,6 +5,7 @@ pub mod Orders
 pub mod Operations
 pub mod Views
 pub mod Terms
+pub mod Adding
 pub mod Limits
 pub mod Canonical
 pub mod Atoms

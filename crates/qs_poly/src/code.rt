@@ -76,7 +76,8 @@ impl Eq for AtomCode {
 impl PartialOrd for AtomCode {
     ghost partial_cmp = { as_partial_cmp atom_cmp };
 
-    ghost laws = { partial_order_from_own_ties (Prim.search (comparing, atom_cmp_total, rules)) (Prim.search (comparing, rules)) };
+    ghost laws = { partial_order_from_own_ties
+        (Prim.search (comparing, atom_cmp_total, rules)) (Prim.search (comparing, rules)) };
 
     fn partial_cmp(&self, other: &AtomCode) -> Option<Ordering> {
         Some(self.cmp(other))

@@ -1,15 +1,14 @@
 // Monomials: sorted lists of atoms.
-ghost use Rattle.std.specs.Prelude.{◌≡◌, ◌≤◌, IfOk, OnOk, length, take, drop};
+ghost use Rattle.std.specs.Prelude.{◌≡◌, ◌≤◌, IfOk, OnOk, length};
 ghost use Rattle.std.proofs.Common.{rules};
 ghost use Rattle.std.specs.Cmp.{partial_order_from_own_ties};
 ghost use Rattle.std.specs.Cmp.Rules.{comparing};
 ghost use Rattle.std.specs.Ordering.{as_partial_cmp, eq_by_cmp};
 ghost use Rattle.qs_poly.specs.Polynomials.{one, times};
 ghost use Rattle.qs_poly.specs.Limits.{degree};
-ghost use Rattle.qs_poly.specs.Operations.{insert_atom, monomial_product};
+ghost use Rattle.qs_poly.specs.Adding.{AtomGoesAt, AddsAtom, AddsAtoms};
+ghost use Rattle.qs_poly.specs.Operations.{monomial_product};
 ghost use Rattle.qs_poly.specs.Orders.{atoms, monomial_cmp, monomial_cmp_total};
-ghost use Rattle.qs_poly.specs.Views.{product_of};
-ghost use Rattle.qs_poly.specs.Terms.{atoms_before};
 
 use crate::code::AtomCode;
 use qs_base::NoMemory;
@@ -38,7 +37,7 @@ impl Model for Monomial {
 /// Where an atom goes: before the first that isn't less.
 fn place_of_atom(atoms: &[AtomCode], atom: &AtomCode) -> usize
     ensures within { result ≤ length atoms.now }
-    ensures place { insert_atom atom.now (product_of atoms.now) ≡ atoms_before (take result atoms.now) (times atom.now (product_of (drop result atoms.now))) }
+    ensures place { AtomGoesAt atom.now atoms.now result }
 {
     for (i, other) in atoms.iter().enumerate() {
         match atom.cmp(other) {
@@ -50,7 +49,7 @@ fn place_of_atom(atoms: &[AtomCode], atom: &AtomCode) -> usize
 }
 
 fn insert_atom(atoms: &mut Vec<AtomCode>, atom: AtomCode) -> Result<(), NoMemory>
-    ensures { OnOk result (product_of atoms.new.items ≡ insert_atom atom (product_of atoms.old.items)) }
+    ensures { OnOk result (AddsAtom atom atoms.old.items atoms.new.items) }
 {
     let at = place_of_atom(atoms, &atom);
     atoms.insert(at, atom)?;
@@ -72,7 +71,7 @@ fn multiply_atoms(
     from: &[AtomCode],
     product: &mut Vec<AtomCode>,
 ) -> Result<(), NoMemory>
-    ensures { OnOk result (product_of product.new.items ≡ monomial_product (product_of from.now) (product_of product.old.items)) }
+    ensures { OnOk result (AddsAtoms from.now product.old.items product.new.items) }
 {
     for atom in from {
         insert_atom(product, atom.copy(alloc)?)?;
@@ -149,7 +148,8 @@ impl Eq for Monomial {
 impl PartialOrd for Monomial {
     ghost partial_cmp = { as_partial_cmp monomial_cmp };
 
-    ghost laws = { partial_order_from_own_ties (Prim.search (comparing, monomial_cmp_total, rules)) (Prim.search (comparing, rules)) };
+    ghost laws = { partial_order_from_own_ties
+        (Prim.search (comparing, monomial_cmp_total, rules)) (Prim.search (comparing, rules)) };
 
     fn partial_cmp(&self, other: &Monomial) -> Option<Ordering> {
         Some(self.cmp(other))

@@ -4,14 +4,16 @@ ghost use Rattle.std.proofs.Common.{rules};
 ghost use Rattle.std.specs.Cmp.{partial_order_from_own_ties};
 ghost use Rattle.std.specs.Cmp.Rules.{comparing};
 ghost use Rattle.std.specs.Ordering.{as_partial_cmp, eq_by_cmp};
-ghost use Rattle.qs_poly.specs.Nodes.{node_cmp, node_number, node_rank, kind_rank, kind_number, type_rank};
+ghost use Rattle.qs_poly.specs.Nodes.{node_cmp, node_number, node_rank};
+ghost use Rattle.qs_poly.specs.Nodes.{kind_rank, kind_number, type_rank};
 
 use qs_assert::{NumberType, Var, VarKind};
 use qs_base::FnId;
 use std::cmp::Ordering;
 
-/// One node of an atom's code in prefix order. `Num` to `Bits` stand before the code of a polynomial:
-/// for each term its coefficient, the codes of its atoms and `EndOfTerm`, and at last `EndOfPoly`.
+/// One node of an atom's code in prefix order. `Num` to `Bits` stand before the code of a
+/// polynomial: for each term its coefficient, the codes of its atoms and `EndOfTerm`, and at last
+/// `EndOfPoly`.
 #[derive(Clone, Copy, Debug)]
 pub enum Node {
     Variable(Var),
@@ -109,7 +111,8 @@ impl Eq for Node {
 impl PartialOrd for Node {
     ghost partial_cmp = { as_partial_cmp node_cmp };
 
-    ghost laws = { partial_order_from_own_ties (Prim.search (comparing, rules)) (Prim.search (comparing, rules)) };
+    ghost laws = { partial_order_from_own_ties
+        (Prim.search (comparing, rules)) (Prim.search (comparing, rules)) };
 
     fn partial_cmp(&self, other: &Node) -> Option<Ordering> {
         Some(self.cmp(other))

@@ -3,7 +3,8 @@ ghost use Rattle.std.specs.Prelude.{◌≡◌, pos, IfOk};
 ghost use Rattle.std.specs.Cmp.{partial_equiv_from_equiv};
 ghost use Rattle.qs_poly.specs.Canonical.{IsCanonical, IsCanonicalAtom};
 ghost use Rattle.qs_poly.specs.Operations.{number, single, sum, multiple, lessened, product};
-ghost use Rattle.qs_poly.specs.Limits.{is_narrow, all_narrow, count_terms, has_few_terms, is_low, all_low, Gives, IsPolynomial};
+ghost use Rattle.qs_poly.specs.Limits.{is_narrow, all_narrow, count_terms, has_few_terms};
+ghost use Rattle.qs_poly.specs.Limits.{is_low, all_low, Gives, IsPolynomial};
 ghost use Rattle.qs_poly.specs.Terms.{polynomial_eq, polynomial_eq_equivalence, sum_of, terms};
 
 use crate::code::AtomCode;

@@ -1,7 +1,8 @@
 // Sums, multiples and products of lists of terms, before any limit is asked.
 ghost use Rattle.std.specs.Prelude.{◌≡◌, ◌≤◌, ◌^◌, ℤ, pos, ◌-ℤ◌, length, IfOk, OnOk, unsigned_abs};
 ghost use Rattle.qs_poly.specs.Canonical.{IsCanonical, IsCanonicalMonomial};
-ghost use Rattle.qs_poly.specs.Operations.{plus_unless_zero, sum, multiple, lessened, product, add_term_product, add_product};
+ghost use Rattle.qs_poly.specs.Adding.{terms_less, AddsTerms, AddsProduct};
+ghost use Rattle.qs_poly.specs.Operations.{multiple, product};
 ghost use Rattle.qs_poly.specs.Terms.{sum_of, AllAtMost};
 
 use crate::monomial::Monomial;
@@ -16,7 +17,7 @@ pub fn add_terms(alloc: Global, terms: &[Term], so_far: &mut Vec<Term>) -> Resul
     requires small { AllAtMost (2 ^ 120) (sum_of so_far.old.items) }
     requires canonical_terms { IsCanonical (sum_of terms.now) }
     requires canonical { IsCanonical (sum_of so_far.old.items) }
-    ensures { OnOk result (sum_of so_far.new.items ≡ sum (sum_of terms.now) (sum_of so_far.old.items)) }
+    ensures { OnOk result (AddsTerms terms.now so_far.old.items so_far.new.items) }
 {
     for term in terms {
         insert_term(so_far, term.copy(alloc)?)?;
@@ -56,7 +57,7 @@ pub fn less_terms(
     requires narrow_others { AllAtMost (2 ^ 56) (sum_of others.now) }
     requires canonical_terms { IsCanonical (sum_of terms.now) }
     requires canonical_others { IsCanonical (sum_of others.now) }
-    ensures { IfOk result (λ v. sum_of v.items ≡ lessened (sum_of terms.now) k (sum_of others.now) c) }
+    ensures { IfOk result (λ v. sum_of v.items ≡ terms_less terms.now k others.now c) }
 {
     let mut so_far = scale_terms(alloc, others, negative(k))?;
     add_terms(alloc, terms, &mut so_far)?;
@@ -82,7 +83,7 @@ fn add_term_product(
     requires canonical_term { IsCanonicalMonomial term.now.monomial }
     requires canonical_others { IsCanonical (sum_of others.now) }
     requires canonical { IsCanonical (sum_of so_far.old.items) }
-    ensures { OnOk result (sum_of so_far.new.items ≡ add_term_product term.now.coefficient term.now.monomial (sum_of others.now) (sum_of so_far.old.items)) }
+    ensures { OnOk result (AddsProduct term.now others.now so_far.old.items so_far.new.items) }
 {
     for other in others {
         insert_term(so_far, term.multiply(alloc, other)?)?;

@@ -1,10 +1,11 @@
 // Lists of terms, sorted by their monomials.
-ghost use Rattle.std.specs.Prelude.{◌≡◌, ◌≢◌, ◌≤◌, ◌<◌, ◌^◌, ℤ, pos, ◌+ℤ◌, ◌*ℤ◌, length, take, drop, IfOk, OnOk, MatchResult, unsigned_abs};
+ghost use Rattle.std.specs.Prelude.{◌≡◌, ◌≢◌, ◌≤◌, ◌<◌, ◌^◌, pos, ◌*ℤ◌, length, IfOk, OnOk};
+ghost use Rattle.std.specs.Prelude.{MatchResult, unsigned_abs};
 ghost use Rattle.std.specs.Bool.{MatchBool};
 ghost use Rattle.qs_poly.specs.Canonical.{IsCanonical};
-ghost use Rattle.qs_poly.specs.Operations.{plus_unless_zero, insert_term, monomial_product};
-ghost use Rattle.qs_poly.specs.Polynomials.{Polynomial};
-ghost use Rattle.qs_poly.specs.Terms.{sum_of, terms_before, join_first, AllAtMost};
+ghost use Rattle.qs_poly.specs.Adding.{term_multiple, term_product};
+ghost use Rattle.qs_poly.specs.Adding.{IsPlaceOf, AddsTerm, AddsToTerm, PutsLast};
+ghost use Rattle.qs_poly.specs.Terms.{sum_of, AllAtMost};
 
 use crate::monomial::Monomial;
 use qs_base::NoMemory;
@@ -49,7 +50,7 @@ impl Term {
     pub fn scale(&self, alloc: Global, k: i128) -> Result<Term, NoMemory>
         requires small { unsigned_abs k ≤ 2 ^ 64 }
         requires narrow { unsigned_abs self.now.coefficient ≤ 2 ^ 56 }
-        ensures { IfOk result (λ t. t ≡ record { coefficient = k *ℤ self.now.coefficient; monomial = self.now.monomial }) }
+        ensures { IfOk result (λ t. t ≡ term_multiple k self.now) }
     {
         Ok(Term {
             coefficient: times(k, self.coefficient),
@@ -61,7 +62,7 @@ impl Term {
     pub fn multiply(&self, alloc: Global, other: &Term) -> Result<Term, NoMemory>
         requires narrow { unsigned_abs self.now.coefficient ≤ 2 ^ 56 }
         requires narrow_other { unsigned_abs other.now.coefficient ≤ 2 ^ 56 }
-        ensures { IfOk result (λ t. t ≡ record { coefficient = self.now.coefficient *ℤ other.now.coefficient; monomial = monomial_product self.now.monomial other.now.monomial }) }
+        ensures { IfOk result (λ t. t ≡ term_product self.now other.now) }
     {
         Ok(Term {
             coefficient: times(self.coefficient, other.coefficient),
@@ -103,9 +104,7 @@ pub fn copy_terms(alloc: Global, from: &[Term]) -> Result<Vec<Term>, NoMemory>
 fn place_of(terms: &[Term], monomial: &Monomial) -> Result<usize, usize>
     requires canonical { IsCanonical (sum_of terms.now) }
     ensures within { MatchResult result (λ i. i < length terms.now) (λ i. i ≤ length terms.now) }
-    ensures place { (c : ℤ) → MatchResult result
-        (λ i. insert_term c monomial.now (sum_of terms.now) ≡ terms_before (take i terms.now) (join_first c (drop i terms.now)))
-        (λ i. insert_term c monomial.now (sum_of terms.now) ≡ terms_before (take i terms.now) (plus_unless_zero c monomial.now (sum_of (drop i terms.now)))) }
+    ensures place { IsPlaceOf monomial.now terms.now result }
 {
     let mut low = 0;
     let mut high = terms.len();
@@ -131,7 +130,7 @@ fn join(terms: &mut Vec<Term>, i: usize, coefficient: i128)
     requires within { i < length terms.old.items }
     requires small { unsigned_abs coefficient ≤ 2 ^ 125 }
     requires all_small { AllAtMost (2 ^ 125) (sum_of terms.old.items) }
-    ensures { sum_of terms.new.items ≡ terms_before (take i terms.old.items) (join_first coefficient (drop i terms.old.items)) }
+    ensures { AddsToTerm i coefficient terms.old.items terms.new.items }
 {
     let sum = coefficient + terms[i].coefficient;
     if is_zero(sum) {
@@ -146,7 +145,7 @@ pub fn insert_term(terms: &mut Vec<Term>, term: Term) -> Result<(), NoMemory>
     requires small { unsigned_abs term.coefficient ≤ 2 ^ 125 }
     requires all_small { AllAtMost (2 ^ 125) (sum_of terms.old.items) }
     requires canonical { IsCanonical (sum_of terms.old.items) }
-    ensures { OnOk result (sum_of terms.new.items ≡ insert_term term.coefficient term.monomial (sum_of terms.old.items)) }
+    ensures { OnOk result (AddsTerm term terms.old.items terms.new.items) }
 {
     match place_of(terms, &term.monomial) {
         Ok(i) => {
@@ -165,7 +164,7 @@ pub fn insert_term(terms: &mut Vec<Term>, term: Term) -> Result<(), NoMemory>
 
 /// Puts a term at the end, unless its coefficient is 0.
 pub fn push_unless_zero(terms: &mut Vec<Term>, term: Term) -> Result<(), NoMemory>
-    ensures { OnOk result ((p : Polynomial) → terms_before terms.new.items p ≡ terms_before terms.old.items (plus_unless_zero term.coefficient term.monomial p)) }
+    ensures { OnOk result (PutsLast term terms.old.items terms.new.items) }
 {
     if is_zero(term.coefficient) {
         return Ok(());

@@ -45,12 +45,8 @@ use Rattle.qs_build.proofs.Fitting.{function_found}
 use Rattle.qs_build.proofs.SmallUnits.{slots_at}
 use Rattle.qs_build.specs.Agrees.{values_of, HasStack, DoesAsCore}
 use Rattle.qs_build.specs.Built.{IsBuiltFrom}
-use Rattle.qs_build.specs.Limits.{Passes}
 use Rattle.qs_build.specs.Units.{linear, own_slots, MainReturns}
-use Rattle.qs_build.specs.declared.fault.BuildFault.{BuildFault}
-use Rattle.qs_build.specs.declared.fault.BuildFault.TheVariants.{NoMemory}
 use Rattle.qs_compile.specs.Compiled.{SourceHasStack, DoesAsSource, IsCompiled, IsImageOfSource, BuiltImagesAreCompiled, UnitsPassNoSize}
-use Rattle.qs_compile.specs.Names.{HasRoomForNames}
 use Rattle.qs_compile.proofs.UnitSizes.{words_total, passes_none}
 
 -- ---- cores
@@ -215,10 +211,3 @@ pub typed_image :
 unfolding IsImageOfSource
 typed_image typed u image is built does =
     is_compiled (typed_tree typed) u image (is_read typed) typed.well_typed typed.within_limits is built does
-
--- where the image of the core of a typed unit fails, memory is wanting
-pub typed_fault :
-    (typed : TypedUnit) (u : CoreUnitTree) (fault : BuildFault) → HasRoomForNames (typed_tree typed) → core_of (typed_tree typed) ≡ Some u
-    → Passes u fault → fault ≡ NoMemory
-typed_fault typed u fault room is passes =
-    units_pass_no_size (typed_tree typed) u fault (is_read typed) typed.well_typed typed.within_limits is room passes

@@ -1,17 +1,17 @@
 -- What stands behind a first part that was pushed already.
-use Rattle.std.proofs.Common.{◌≡◌, ℕ, ◌||◌, Bool, true, false, List, [], ◌∷◌, ◌++◌, length, take, refl, sym, ap, ◌∙◌, if◌then◌else◌, append_assoc}
+use Rattle.std.proofs.Common.{◌≡◌, ◌||◌, Bool, true, false, List, [], ◌∷◌, ◌++◌, length, take, refl, sym, ap, ◌∙◌, if◌then◌else◌, append_assoc}
 use Rattle.std.proofs.lemmas.List.{append-nil, take_at}
 use Rattle.qs_memory.specs.declared.scalar.Scalar.{Scalar}
 use Rattle.qs_memory.specs.declared.scalar.Scalar.TheVariants as scalars
 use Rattle.qs_core.specs.Trees.{CoreExprTree, CoreStmtTree}
 use Rattle.qs_core.specs.Trees as core
-use Rattle.qs_meaning.specs.Typed.{Conversion, Expr, logical_and, logical_or, conditional, variable}
+use Rattle.qs_meaning.specs.Typed.{Conversion, Expr, logical_and, logical_or, conditional}
 use Rattle.qs_elaborate.specs.Literals.{is_literal, converted_core}
 use Rattle.qs_elaborate.specs.Acting.{acts}
 use Rattle.qs_elaborate.specs.Laws.{has_any}
 use Rattle.qs_elaborate.specs.Lists.{behind, and_behind, or_behind, choice_behind}
 use Rattle.qs_elaborate.specs.Parts.{Temporaries, with_temporary, Valued, Location, plain, pointed, pure, joined, in_temporary, saved, saved_if, at_address, address_saved_if}
-use Rattle.qs_elaborate.specs.Expressions.{Written, and_branching, or_branching, choice_branching, choice_joined, write_at, write_valued, expression_core, lvalue_core}
+use Rattle.qs_elaborate.specs.Expressions.{Written, and_branching, or_branching, choice_branching, choice_joined, write_at, write_valued, expression_core}
 use Rattle.qs_elaborate.proofs.Quiet.{acts_exactly, quiet}
 use Rattle.qs_elaborate.proofs.Unchanged.{neither_left, neither_right, if_off, quiet_temporaries, quiet_value}
 
@@ -31,10 +31,6 @@ saved_if_is false g = ap (λ (ss : List CoreStmtTree). record g { statements = s
 pub address_is : (z : Bool) (g : Valued) → address_saved_if z (at_address g) ≡ at_address (saved_if z g)
 address_is true g = refl
 address_is false g = refl
-
-pub address_plain : (z : Bool) (x : ℕ) (ts : Temporaries) → address_saved_if z (lvalue_core (variable x) ts) ≡ lvalue_core (variable x) ts
-address_plain true x ts = refl
-address_plain false x ts = refl
 
 -- ---- assignments
 
@@ -115,41 +111,13 @@ write_pushed w s l a ts o p q hs hl ha ht hp hq =
     ∙ ap (λ (x : Valued). o ++ (w.statements ++ x.statements)) (write_same w s l a ts hs hl ha ht)
     ∙ ap (λ (x : Valued). o ++ x.statements) (sym (write_is w.scalar w.location w.statements w.value w.temporaries))
 
-pub write_value : (w : Written) (s : Scalar) (l : Location) (a : CoreExprTree) (ts : Temporaries) (x : CoreExprTree)
-    → s ≡ w.scalar → l ≡ w.location → a ≡ w.value → ts ≡ w.temporaries
-    → x ≡ (write_at s l [] a ts).value → x ≡ (write_valued w).value
-write_value w s l a ts x hs hl ha ht hx =
-    hx ∙ ap (λ (y : Valued). y.value) (write_same w s l a ts hs hl ha ht) ∙ ap (λ (y : Valued). y.value) (sym (write_is w.scalar w.location w.statements w.value w.temporaries))
-
-pub write_temporaries : (w : Written) (s : Scalar) (l : Location) (a : CoreExprTree) (ts us : Temporaries)
-    → s ≡ w.scalar → l ≡ w.location → a ≡ w.value → ts ≡ w.temporaries
-    → us ≡ (write_at s l [] a ts).temporaries → us ≡ (write_valued w).temporaries
-write_temporaries w s l a ts us hs hl ha ht hx =
-    hx ∙ ap (λ (y : Valued). y.temporaries) (write_same w s l a ts hs hl ha ht) ∙ ap (λ (y : Valued). y.temporaries) (sym (write_is w.scalar w.location w.statements w.value w.temporaries))
-
 -- ---- whether the second operand acts, by its statements
-
-if_on : (z : Bool) (g j : Valued) → z ≡ true → (if z then g else j) ≡ g
-if_on true g j h = refl
-if_on false g j h = cc
 
 nothing_pushed : (o : List CoreStmtTree) (g : Valued) → g.statements ≡ [] → o ≡ o ++ g.statements
 nothing_pushed o g h = sym (append-nil o) ∙ ap (λ l. o ++ l) (sym h)
 
-pub and_off : (v : CoreExprTree) (b : Expr) (ts : Temporaries) → acts b ≡ false → and_behind v b ts ≡ joined core.logical_and (pure v ts) (expression_core b ts)
-and_off v b ts h = if_off (acts b) _ _ h
-
-pub and_on : (v : CoreExprTree) (b : Expr) (ts : Temporaries) → acts b ≡ true → and_behind v b ts ≡ and_branching (pure v ts) (expression_core b ts)
-and_on v b ts h = if_on (acts b) _ _ h
-
 pub or_off : (v : CoreExprTree) (b : Expr) (ts : Temporaries) → acts b ≡ false → or_behind v b ts ≡ joined core.logical_or (pure v ts) (expression_core b ts)
 or_off v b ts h = if_off (acts b) _ _ h
-
-pub or_on : (v : CoreExprTree) (b : Expr) (ts : Temporaries) → acts b ≡ true → or_behind v b ts ≡ or_branching (pure v ts) (expression_core b (with_temporary ts scalars.Int))
-or_on v b ts h = if_on (acts b) _ _ h
-
-pub and_quiet_statements : (o : List CoreStmtTree) (v : CoreExprTree) (b : Expr) (ts : Temporaries) → acts b ≡ false → o ≡ o ++ (and_behind v b ts).statements
-and_quiet_statements o v b ts h = nothing_pushed o (and_behind v b ts) (ap (λ (g : Valued). g.statements) (and_off v b ts h) ∙ quiet b ts h)
 
 pub or_quiet_statements : (o : List CoreStmtTree) (v : CoreExprTree) (b : Expr) (ts : Temporaries) → acts b ≡ false → o ≡ o ++ (or_behind v b ts).statements
 or_quiet_statements o v b ts h = nothing_pushed o (or_behind v b ts) (ap (λ (g : Valued). g.statements) (or_off v b ts h) ∙ quiet b ts h)
@@ -171,10 +139,6 @@ or_quiet_temporaries v b ts h = taken_away b ts scalars.Int h ∙ sym (quiet_tem
 pub choice_off : (s : Scalar) (second third : Conversion) (v : CoreExprTree) (met : Valued) (b : Expr) → (has_any met.statements || acts b) ≡ false
     → choice_behind s second third v met b ≡ choice_joined second third (pure v []) met (expression_core b met.temporaries)
 choice_off s second third v met b h = if_off (has_any met.statements || acts b) _ _ h
-
-pub choice_on : (s : Scalar) (second third : Conversion) (v : CoreExprTree) (met : Valued) (b : Expr) → (has_any met.statements || acts b) ≡ true
-    → choice_behind s second third v met b ≡ choice_branching s second third (pure v []) met (expression_core b (with_temporary met.temporaries s))
-choice_on s second third v met b h = if_on (has_any met.statements || acts b) _ _ h
 
 no_any : (ss : List CoreStmtTree) → has_any ss ≡ false → ss ≡ []
 no_any [] h = refl

@@ -1,5 +1,5 @@
 -- The nodes that the typed tree of a form counts are at most those of its parts and one.
-use Rattle.std.proofs.Common.{◌≡◌, ◌≤◌, ℕ, ◌+◌, Bool, true, false, not, ◌&&◌, ◌||◌, List, Option, Some, None, refl, sym, ap, ◌∙◌, subst, arith, if◌then◌else◌}
+use Rattle.std.proofs.Common.{◌≡◌, ◌≤◌, ℕ, ◌+◌, Bool, true, false, not, ◌&&◌, ◌||◌, List, Some, refl, sym, ap, subst, arith, if◌then◌else◌}
 use Rattle.qs_syntax.specs.declared.operators.UnaryOperator.{UnaryOperator}
 use Rattle.qs_syntax.specs.declared.operators.UnaryOperator.TheVariants as unaries
 use Rattle.qs_syntax.specs.declared.operators.StepOperator.{StepOperator}
@@ -11,23 +11,21 @@ use Rattle.qs_syntax.specs.declared.operators.AssignmentOperator.TheVariants as 
 use Rattle.qs_syntax.specs.declared.operators.Access.{Access}
 use Rattle.qs_syntax.specs.declared.operators.Access.TheVariants as accesses
 use Rattle.qs_syntax.specs.Trees.{ExprTree}
-use Rattle.qs_memory.specs.Partial.{◌>>=◌}
 use Rattle.qs_memory.proofs.Options.{some_same, followed}
 use Rattle.qs_calls.specs.declared.callee.Callee.{Callee}
-use Rattle.qs_types.specs.declared.extent.Extent.{Extent}
-use Rattle.qs_types.specs.Types.{TypeTree, int, unsigned, char, void, pointer, array, struct, is_pointer, is_integer, is_array, is_struct, is_scalar, same_type, referenced, Structs}
+use Rattle.qs_types.specs.Types.{TypeTree, int, unsigned, char, void, pointer, array, struct, is_integer, is_array, is_struct, same_type, referenced, Structs}
 use Rattle.qs_types.specs.Layout.{extent_of, size_of}
 use Rattle.qs_types.specs.Conversions.{decayed}
 use Rattle.qs_types.specs.Rules.{breaks_one}
-use Rattle.qs_types.specs.Expressions.{is_lvalue, is_assignable, is_object_pointer, may_add, may_combine, may_move, may_choose, unary_judged, binary_judged, conditional_judged, assign_judged, subscript_judged, member_judged}
-use Rattle.qs_meaning.specs.Typed.{Expr, constant, pointer_to, member, called, stepped_after, unary, cast, binary, logical_and, logical_or, conditional, assigned, sequence, Lvalue, variable, object, Arguments, Assignment, set, update, Effect}
+use Rattle.qs_types.specs.Expressions.{is_lvalue, is_assignable, is_object_pointer, may_combine, may_move, unary_judged, assign_judged, subscript_judged, member_judged}
+use Rattle.qs_meaning.specs.Typed.{Expr, constant, pointer_to, member, called, stepped_after, unary, cast, binary, logical_and, logical_or, conditional, assigned, sequence, Lvalue, variable, object, Arguments, Assignment, set, update}
 use Rattle.qs_meaning.specs.Typed as typed_trees
 use Rattle.qs_meaning.specs.Forms.{Form, lvalue, result, call, assignment, step, struct_assignment, comma, TypedExpr, lvalue_of, address_in, address_of, value_in, value_of, effect_of, type_in_use, value_in_use, effect_in_use}
 use Rattle.qs_meaning.specs.Operations.{operation_of}
 use Rattle.qs_meaning.specs.Expressions.{operated, operator_value, member_offset, member_form, set_form, struct_form, plain_form, compound_form, assign_form, one, step_after_form, step_form, unary_form, size_form, cast_form, operator_form, binary_form, subscript_form, conditional_form}
-use Rattle.qs_meaning.proofs.Options.{never, left, right, either, nothing, same}
+use Rattle.qs_meaning.proofs.Options.{never, left, right, nothing, same}
 use Rattle.qs_elaborate.specs.Counts.{indirection, is_object, is_fixed, is_amount, nodes, lvalue_nodes, arguments_nodes, assignment_nodes, discarded_nodes, target_nodes, effect_nodes}
-use Rattle.qs_elaborate.proofs.CountedTypes.{kept, not_true, first_unbroken, HasValue, HaveValues, NullHasValue, integer_value, pointer_value, scalar_value, assignable_value, alike_values, sum_values, operand_values}
+use Rattle.qs_elaborate.proofs.CountedTypes.{kept, not_true, first_unbroken, HasValue, NullHasValue, integer_value, pointer_value, scalar_value, assignable_value, sum_values}
 
 -- ---- what is counted at most
 
@@ -58,9 +56,6 @@ target_less (object p) = unless_less (is_fixed p) (nodes p 1 + indirection p)
 discarded_less : (a : Assignment) → discarded_nodes a 1 ≤ 1 + assignment_nodes a 1
 discarded_less (set s l c a) = let t = target_less l in omega arith
 discarded_less (update s l operation first second back a) = omega arith
-
-update_less : (l : Lvalue) (a : Expr) (n m : ℕ) → lvalue_nodes l 1 ≤ n → nodes a 1 ≤ m → lvalue_nodes l 1 + (if is_amount a then 0 else nodes a 1) ≤ n + m
-update_less l a n m h k = let t = unless_less (is_amount a) (nodes a 1) in omega arith
 
 -- ---- forms
 
@@ -132,9 +127,6 @@ comma_counted n m a b h k =
     }
 
 -- ---- parts
-
-pub value_counted : (n : ℕ) (a : TypedExpr) → CountedIn n a → HasValue (type_in_use a) → nodes (value_in_use a) 1 ≤ n
-value_counted n a h v = h.value v
 
 pub address_counted : (n : ℕ) (t : TypeTree) (form : Form) (p : Expr) → Counted n t form → address_of form ≡ Some p → nodes p 1 + indirection p ≤ n
 address_counted n t form p h e = let l = followed (lvalue_of form) address_in p e in go l.value (h.place l.value l.first) l.then

@@ -24,9 +24,6 @@ Worth V = (variables temporaries : Environment) → World → Option V
 abbrev pub Source : Type 0 → Type 0
 Source V = (V → Next) → Next
 
-pub next_ext : (f g : Next) → ((v : Environment) (w : World) → f v w ≡ g v w) → f ≡ g
-next_ext f g h = fun_ext (λ v. fun_ext (λ w. h v w))
-
 pub value_ext : {V : Type 0} → (f g : V → Next) → ((x : V) (v : Environment) (w : World) → f x v w ≡ g x v w) → f ≡ g
 value_ext f g h = fun_ext (λ x. fun_ext (λ v. fun_ext (λ w. h x v w)))
 

@@ -48,7 +48,6 @@ mod NumberingExamples
 mod WriteExamples
 mod Unchanged
 mod Behind
-mod TurnLaws
 mod Steps
 mod PieceRuns
 mod Settled

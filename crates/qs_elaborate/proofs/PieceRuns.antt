@@ -57,14 +57,6 @@ is_zero n h = grind (arith, nat_tests)
 pub no_bytes : (bs : List ℕ) → length bs ≡ 0 → bytes_piece bs ≡ []
 no_bytes bs h = ap bytes_piece (nil_from_length bs h)
 
-pub some_bytes : (bs : List ℕ) → 0 < length bs → bytes_piece bs ≡ bytes bs ∷ []
-some_bytes [] h = absurd (omega arith)
-some_bytes (b ∷ bs) h = refl
-
-pub some_nulls : (n : ℕ) → 0 < n → nulls_piece n ≡ blank (nulls n) ∷ []
-some_nulls zero h = absurd (omega arith)
-some_nulls (suc n) h = refl
-
 -- ---- one more datum
 
 pub bytes_more : (done : List PieceTree) (bs : List ℕ) (n : ℕ) (more : List ℕ) (ps : List PieceTree)

@@ -105,9 +105,6 @@ amount_quiet : (a : Expr) (k : ℕ) → acts a ≡ true → 2 * nodes a k ≤ 2 
 amount_quiet (constant s n) k h = absurd (cc)
 amount_quiet _ k h = omega arith
 
-either_or : (y z : Bool) (g j : Valued) (m : ℕ) → Within 1 g m → Within 1 j m → Within 1 (if y || z then g else j) m
-either_or y z g j m h k = either_within 1 (y || z) g j m h k
-
 behind_effect : (a : Listed) (b : Valued) (t m n : ℕ) → ListWithin a (t + 2 * m) → Within 1 b (length a.temporaries + 2 * n) → Within 1 (before a b) (t + 2 * (m + n))
 behind_effect a b t m n h k = record {
   statements_fit = omega (arith, held-append a.statements b.statements, h, k.statements_fit);

@@ -1,13 +1,9 @@
 -- A step along two lists, of which the first may be the shorter one.
 use Rattle.std.proofs.Common.{◌≡◌, ℕ, ◌+◌, ◌<◌, List, [], ◌∷◌, length, get_or, drop, refl, ap, ◌∙◌, arith}
 use Rattle.std.proofs.lemmas.List.{drop_more, drop-drop, get_or-drop}
-use Rattle.qs_memory.specs.declared.scalar.Scalar.{Scalar}
-use Rattle.qs_calls.specs.declared.parameter.Parameter.{Parameter}
-use Rattle.qs_core.specs.Trees.{CoreParameterTree}
 use Rattle.qs_meaning.specs.Typed.{Function}
-use Rattle.qs_elaborate.specs.Names.{VariableName, FunctionNames}
-use Rattle.qs_elaborate.specs.NamesOf.{no_name, variable_named}
-use Rattle.qs_elaborate.specs.Units.{named_parameters, named_variables, function_core, no_names, functions_core}
+use Rattle.qs_elaborate.specs.Names.{FunctionNames}
+use Rattle.qs_elaborate.specs.Units.{function_core, no_names, functions_core}
 
 at_zero : (i : ℕ) → i + 0 ≡ i
 at_zero i = omega arith
@@ -22,25 +18,6 @@ step d f F p xs ys i e h =
     ∙ p (drop i xs) (get_or ys i e) (drop (i + 1) ys)
     ∙ ap (λ x. f x (get_or ys i e) ∷ F (drop 1 (drop i xs)) (drop (i + 1) ys)) (get_or-drop i xs 0 d ∙ ap (λ k. get_or xs k d) (at_zero i))
     ∙ ap (λ l. f (get_or xs i d) (get_or ys i e) ∷ F l (drop (i + 1) ys)) (drop-drop 1 i xs)
-
-abbrev parameter_named : List ℕ → Parameter → CoreParameterTree
-parameter_named x p = record { name = x; place = p }
-
-parameters_pair : (xs : List (List ℕ)) (y : Parameter) (ys : List Parameter) → named_parameters xs (y ∷ ys) ≡ parameter_named (get_or xs 0 []) y ∷ named_parameters (drop 1 xs) ys
-parameters_pair [] y ys = refl
-parameters_pair (x ∷ xs) y ys = refl
-
-pub named_parameters_step : (xs : List (List ℕ)) (ys : List Parameter) (i : ℕ) (e : Parameter) → i < length ys
-    → named_parameters (drop i xs) (drop i ys) ≡ record { name = get_or xs i []; place = get_or ys i e } ∷ named_parameters (drop (i + 1) xs) (drop (i + 1) ys)
-named_parameters_step xs ys i e h = step [] parameter_named named_parameters parameters_pair xs ys i e h
-
-variables_pair : (xs : List VariableName) (y : Scalar) (ys : List Scalar) → named_variables xs (y ∷ ys) ≡ variable_named (get_or xs 0 no_name) y ∷ named_variables (drop 1 xs) ys
-variables_pair [] y ys = refl
-variables_pair (x ∷ xs) y ys = refl
-
-pub named_variables_step : (xs : List VariableName) (ys : List Scalar) (i : ℕ) (e : Scalar) → i < length ys
-    → named_variables (drop i xs) (drop i ys) ≡ variable_named (get_or xs i no_name) (get_or ys i e) ∷ named_variables (drop (i + 1) xs) (drop (i + 1) ys)
-named_variables_step xs ys i e h = step no_name variable_named named_variables variables_pair xs ys i e h
 
 functions_pair : (xs : List FunctionNames) (y : Function) (ys : List Function) → functions_core xs (y ∷ ys) ≡ function_core (get_or xs 0 no_names) y ∷ functions_core (drop 1 xs) ys
 functions_pair [] y ys = refl

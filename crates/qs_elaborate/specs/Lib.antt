@@ -10,6 +10,8 @@ pub mod NamesOf
 pub mod DeclaredOf
 pub mod Naming
 pub mod UnitNames
+pub mod UnitNamesOf
+pub mod FunctionOf
 pub mod Data
 pub mod Pieces
 pub mod Units
@@ -18,6 +20,8 @@ pub mod FitLaws
 pub mod Lists
 pub mod Reserved
 pub mod Turns
+pub mod Results
+pub mod CoreOf
 pub mod Counts
 pub mod ExpressionCounts
 pub mod SizeLaws

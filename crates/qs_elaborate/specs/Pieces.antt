@@ -1,10 +1,15 @@
 -- What blocks of data begin with, datum by datum.
-use Rattle.std.specs.Prelude.{ℕ, zero, suc, ◌==◌, ◌||◌, Bool, true, false, List, [], ◌∷◌}
+use Rattle.std.specs.Prelude.{◌≡◌, ℕ, zero, suc, ◌==◌, ◌||◌, Bool, true, false, List, [], ◌∷◌, ◌++◌, Result, OnOk, map}
+use Rattle.std.specs.Global.{Vec}
 use Rattle.qs_memory.specs.Memory.{nulls}
-use Rattle.qs_core.specs.Trees.{PieceTree, blank, bytes, pointer}
+use Rattle.qs_core.specs.Trees.{PieceTree, blank, bytes, pointer, DataBlockTree}
+use Rattle.qs_core.specs.TreeOf.{piece_tree}
+use Rattle.qs_core.specs.declared.units.Piece.{Piece}
+use Rattle.qs_typed.specs.TreeOf.{static_block_tree}
+use Rattle.qs_typed.specs.declared.data.StaticBlock.{StaticBlock}
 use Rattle.qs_typed.specs.declared.data.Datum.{Datum}
 use Rattle.qs_typed.specs.declared.data.Datum.TheVariants as data_parts
-use Rattle.qs_elaborate.specs.Data.{with_byte, with_null}
+use Rattle.qs_elaborate.specs.Data.{with_byte, with_null, data_core}
 
 -- ---- bytes, null pointers and a datum in front of pieces
 
@@ -16,10 +21,13 @@ abbrev pub with_nulls : ℕ → List PieceTree → List PieceTree
 with_nulls zero ps = ps
 with_nulls (suc n) ps = with_null (with_nulls n ps)
 
+abbrev pub pointer_before : (block : ℕ) → List PieceTree → List PieceTree
+pointer_before block ps = pointer block 0 ∷ ps
+
 abbrev pub with_datum : Datum → List PieceTree → List PieceTree
 with_datum (data_parts.Bytes bs) ps = with_bytes bs.items ps
 with_datum (data_parts.Nulls n) ps = with_nulls n ps
-with_datum (data_parts.Pointer block) ps = pointer block 0 ∷ ps
+with_datum (data_parts.Pointer block) ps = pointer_before block ps
 
 abbrev pub with_contents : List Datum → List PieceTree → List PieceTree
 with_contents [] ps = ps
@@ -46,3 +54,19 @@ is_empty (b ∷ bs) = false
 
 abbrev pub is_one_run : List ℕ → ℕ → Bool
 is_one_run bs n = is_empty bs || n == 0
+
+-- ---- what code does
+
+-- these pieces stand behind those from before
+abbrev pub Appends : {A E : Type 0} → List PieceTree → (old new : Vec Piece) → Result A E → Type 0
+Appends ps old new result = OnOk result (map piece_tree new.items ≡ map piece_tree old.items ++ ps)
+
+-- Pieces that are done, and a run of bytes or of null pointers, give with what comes later what those from before give with this put in
+-- front of it.
+abbrev pub Puts : {A E : Type 0} → (List PieceTree → List PieceTree) → Vec Piece → Vec ℕ → ℕ → Vec Piece → Vec ℕ → ℕ → Result A E → Type 0
+Puts put out bs n new_out new_bs new_n result =
+    OnOk result ((ps : List PieceTree) →
+    map piece_tree new_out.items ++ with_run new_bs.items new_n ps ≡ map piece_tree out.items ++ with_run bs.items n (put ps))
+
+abbrev pub data_cores : List StaticBlock → List DataBlockTree
+data_cores blocks = map data_core (map static_block_tree blocks)

@@ -1,6 +1,7 @@
 // Which expressions act: those that have statements in core.
 ghost use Rattle.std.specs.Prelude.{◌≡◌};
-ghost use Rattle.qs_typed.specs.TreeOf.{expression_tree, lvalue_tree, arguments_tree, effect_tree, effects_tree};
+ghost use Rattle.qs_typed.specs.TreeOf.{expression_tree, lvalue_tree, arguments_tree, effect_tree};
+ghost use Rattle.qs_typed.specs.TreeOf.{effects_tree};
 ghost use Rattle.qs_elaborate.specs.LiteralOf.{option_value};
 ghost use Rattle.qs_elaborate.specs.Acting as spec;
 

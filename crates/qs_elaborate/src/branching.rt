@@ -1,12 +1,14 @@
-// `&&`, `||` and `?:` where an operand behind the first one acts: an `if` whose branches give one temporary.
-ghost use Rattle.std.specs.Prelude.{◌≡◌, ◌||◌, [], ◌∷◌, ◌++◌, IfOk, OnOk};
+// `&&`, `||` and `?:` where an operand behind the first one acts: an `if` whose branches give one
+// temporary.
+ghost use Rattle.std.specs.Prelude.{◌≡◌, ◌||◌, [], ◌∷◌};
 ghost use Rattle.qs_memory.specs.declared.scalar.Scalar.TheVariants as scalars;
 ghost use Rattle.qs_core.specs.Trees as core;
-ghost use Rattle.qs_core.specs.TreeOf.{core_expr, core_stmt, core_stmts};
-ghost use Rattle.qs_elaborate.specs.Laws.{has_any};
-ghost use Rattle.qs_elaborate.specs.Parts.{pure};
-ghost use Rattle.qs_elaborate.specs.Lists.{valued};
+ghost use Rattle.qs_core.specs.TreeOf.{core_expr, core_stmts};
 ghost use Rattle.qs_elaborate.specs.Expressions as spec;
+ghost use Rattle.qs_elaborate.specs.CoreOf.{statements_in, truth_branch, literal_branch};
+ghost use Rattle.qs_elaborate.specs.CoreOf.{and_branching, or_branching, choice_branching};
+ghost use Rattle.qs_elaborate.specs.Results.{Adds, Leaves, Gives, Makes};
+ghost use Rattle.qs_elaborate.specs.Laws.{has_any};
 
 use crate::operations::truth;
 use crate::parts::{new_temporary, one_statement, push_branch, push_keep};
@@ -26,21 +28,21 @@ pub struct Branch {
 
 /// Whether it has statements.
 pub fn acted(b: &Branch) -> bool
-    ensures { result ≡ has_any (core_stmts b.now.statements.items) }
+    ensures { result ≡ has_any (statements_in b.now) }
 {
     !b.statements.is_empty()
 }
 
 /// Whether one of them has statements.
 pub fn one_acted(a: &Branch, b: &Branch) -> bool
-    ensures { result ≡ has_any (core_stmts a.now.statements.items) || has_any (core_stmts b.now.statements.items) }
+    ensures { result ≡ has_any (statements_in a.now) || has_any (statements_in b.now) }
 {
     acted(a) || acted(b)
 }
 
 // A branch that gives the temporary this value.
 fn branch_with(mut list: Vec<CoreStmt>, k: u32, a: CoreExpr) -> Result<CoreStmt, NoMemory>
-    ensures { IfOk result (λ s. core_stmt s ≡ spec.branch_with (core_stmts list.items) k (core_expr a)) }
+    ensures { Makes (spec.branch_with (core_stmts list.items) k (core_expr a)) result }
 {
     push_keep(&mut list, k, a)?;
     Ok(one_statement(list))
@@ -48,14 +50,14 @@ fn branch_with(mut list: Vec<CoreStmt>, k: u32, a: CoreExpr) -> Result<CoreStmt,
 
 // A branch that gives the temporary whether the value differs from 0.
 fn truth_branch(alloc: Global, b: Branch, k: u32) -> Result<CoreStmt, NoMemory>
-    ensures { IfOk result (λ s. core_stmt s ≡ spec.branch_with (core_stmts b.statements.items) k (spec.truth_core (core_expr b.value))) }
+    ensures { Makes (truth_branch k b) result }
 {
     branch_with(b.statements, k, truth(alloc, b.value)?)
 }
 
 // A branch that gives the temporary 1 or 0.
 fn literal_branch(alloc: Global, k: u32, n: u32) -> Result<CoreStmt, NoMemory>
-    ensures { IfOk result (λ s. core_stmt s ≡ spec.branch_with [] k (spec.truth_literal n)) }
+    ensures { Makes (literal_branch k n) result }
 {
     branch_with(Vec::new(alloc), k, CoreExpr::Literal(Scalar::Int, n))
 }
@@ -68,9 +70,9 @@ pub fn and_branching(
     v: CoreExpr,
     b: Branch,
 ) -> Result<CoreExpr, NoMemory>
-    ensures statements { OnOk result (core_stmts out.new.items ≡ core_stmts out.old.items ++ (spec.and_branching (pure (core_expr v) []) (valued (core_stmts b.statements.items) (core_expr b.value) ts.old.items)).statements) }
-    ensures value { IfOk result (λ c. core_expr c ≡ (spec.and_branching (pure (core_expr v) []) (valued (core_stmts b.statements.items) (core_expr b.value) ts.old.items)).value) }
-    ensures temporaries { OnOk result (ts.new.items ≡ (spec.and_branching (pure (core_expr v) []) (valued (core_stmts b.statements.items) (core_expr b.value) ts.old.items)).temporaries) }
+    ensures statements { Adds (and_branching v b ts.old).statements out.old out.new result }
+    ensures value { Gives (and_branching v b ts.old).value result }
+    ensures temporaries { Leaves (and_branching v b ts.old).temporaries ts.new result }
 {
     let k = new_temporary(ts, Scalar::Int)?;
     let met = truth_branch(alloc, b, k)?;
@@ -87,8 +89,8 @@ pub fn or_branching(
     v: CoreExpr,
     b: Branch,
 ) -> Result<CoreExpr, NoMemory>
-    ensures statements { OnOk result (core_stmts out.new.items ≡ core_stmts out.old.items ++ core.branch (core_expr v) (spec.branch_with [] k (spec.truth_literal 1)) (spec.branch_with (core_stmts b.statements.items) k (spec.truth_core (core_expr b.value))) ∷ []) }
-    ensures value { IfOk result (λ c. core_expr c ≡ core.temporary scalars.Int k) }
+    ensures statements { Adds (or_branching k v b ∷ []) out.old out.new result }
+    ensures value { Gives (core.temporary scalars.Int k) result }
 {
     let met = literal_branch(alloc, k, 1)?;
     let unmet = truth_branch(alloc, b, k)?;
@@ -106,8 +108,8 @@ pub fn choice_branching(
     a: Branch,
     b: Branch,
 ) -> Result<CoreExpr, NoMemory>
-    ensures statements { OnOk result (core_stmts out.new.items ≡ core_stmts out.old.items ++ core.branch (core_expr v) (spec.branch_with (core_stmts a.statements.items) k (core_expr a.value)) (spec.branch_with (core_stmts b.statements.items) k (core_expr b.value)) ∷ []) }
-    ensures value { IfOk result (λ c. core_expr c ≡ core.temporary s k) }
+    ensures statements { Adds (choice_branching k v a b ∷ []) out.old out.new result }
+    ensures value { Gives (core.temporary s k) result }
 {
     let met = branch_with(a.statements, k, a.value)?;
     let unmet = branch_with(b.statements, k, b.value)?;

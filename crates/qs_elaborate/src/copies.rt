@@ -1,6 +1,7 @@
 // Expressions of core again.
 ghost use Rattle.std.specs.Prelude.{◌≡◌, IfOk};
 ghost use Rattle.qs_core.specs.TreeOf.{core_expr, core_operands};
+ghost use Rattle.qs_elaborate.specs.Results.{Gives};
 
 use qs_base::NoMemory;
 use qs_core::{CoreExpr, Operands};
@@ -9,7 +10,7 @@ use std::alloc::Global;
 /// The same expression again.
 #[cycle(copy_expr)]
 pub fn copy_expr(a: &CoreExpr, alloc: Global) -> Result<CoreExpr, NoMemory>
-    ensures { IfOk result (λ b. core_expr b ≡ core_expr a.now) }
+    ensures { Gives (core_expr a.now) result }
 {
     match a {
         CoreExpr::Literal(s, n) => Ok(CoreExpr::Literal(*s, *n)),

@@ -1,10 +1,11 @@
 // What the blocks of a unit begin with, in core: piece by piece, as few as can be.
-ghost use Rattle.std.specs.Prelude.{◌≡◌, ◌+◌, true, List, [], ◌∷◌, ◌++◌, IfOk, OnOk, map};
-ghost use Rattle.qs_core.specs.Trees.{PieceTree, pointer};
+ghost use Rattle.std.specs.Prelude.{◌≡◌, ◌+◌, true, [], ◌∷◌, IfOk, OnOk, map};
 ghost use Rattle.qs_core.specs.TreeOf.{piece_tree, data_block_tree};
 ghost use Rattle.qs_typed.specs.TreeOf.{static_block_tree};
 ghost use Rattle.qs_elaborate.specs.Data.{data_core};
-ghost use Rattle.qs_elaborate.specs.Pieces as spec;
+ghost use Rattle.qs_elaborate.specs.Pieces.{with_bytes, with_nulls, pointer_before, with_datum};
+ghost use Rattle.qs_elaborate.specs.Pieces.{with_contents, bytes_piece, nulls_piece, is_one_run};
+ghost use Rattle.qs_elaborate.specs.Pieces.{Appends, Puts, data_cores};
 
 use qs_base::NoMemory;
 use qs_core::{DataBlock, Piece};
@@ -14,7 +15,7 @@ use std::alloc::Global;
 use std::mem::replace;
 
 fn push_piece(pieces: &mut Vec<Piece>, p: Piece) -> Result<(), NoMemory>
-    ensures { OnOk result (map piece_tree pieces.new.items ≡ map piece_tree pieces.old.items ++ piece_tree p ∷ []) }
+    ensures { Appends (piece_tree p ∷ []) pieces.old pieces.new result }
 {
     pieces.push(p)?;
     Ok(())
@@ -22,7 +23,7 @@ fn push_piece(pieces: &mut Vec<Piece>, p: Piece) -> Result<(), NoMemory>
 
 // Ends a run of bytes.
 fn end_bytes(alloc: Global, pieces: &mut Vec<Piece>, bytes: &mut Vec<u8>) -> Result<(), NoMemory>
-    ensures pieces { OnOk result (map piece_tree pieces.new.items ≡ map piece_tree pieces.old.items ++ spec.bytes_piece bytes.old.items) }
+    ensures pieces { Appends (bytes_piece bytes.old.items) pieces.old pieces.new result }
     ensures bytes { OnOk result (bytes.new.items ≡ []) }
 {
     if bytes.is_empty() {
@@ -34,7 +35,7 @@ fn end_bytes(alloc: Global, pieces: &mut Vec<Piece>, bytes: &mut Vec<u8>) -> Res
 
 // Ends a run of null pointers.
 fn end_nulls(pieces: &mut Vec<Piece>, nulls: &mut u32) -> Result<(), NoMemory>
-    ensures pieces { OnOk result (map piece_tree pieces.new.items ≡ map piece_tree pieces.old.items ++ spec.nulls_piece nulls.old) }
+    ensures pieces { Appends (nulls_piece nulls.old) pieces.old pieces.new result }
     ensures nulls { OnOk result (nulls.new ≡ 0) }
 {
     if *nulls == 0 {
@@ -46,20 +47,20 @@ fn end_nulls(pieces: &mut Vec<Piece>, nulls: &mut u32) -> Result<(), NoMemory>
 }
 
 fn put_bytes(
-    pieces: &mut Vec<Piece>,
-    bytes: &mut Vec<u8>,
-    nulls: &mut u32,
+    out: &mut Vec<Piece>,
+    bs: &mut Vec<u8>,
+    n: &mut u32,
     more: &[u8],
 ) -> Result<(), NoMemory>
-    requires { spec.is_one_run bytes.old.items nulls.old ≡ true }
-    ensures run { OnOk result (spec.is_one_run bytes.new.items nulls.new ≡ true) }
-    ensures pieces { OnOk result ((ps : List PieceTree) → map piece_tree pieces.new.items ++ spec.with_run bytes.new.items nulls.new ps ≡ map piece_tree pieces.old.items ++ spec.with_run bytes.old.items nulls.old (spec.with_bytes more.now ps)) }
+    requires { is_one_run bs.old.items n.old ≡ true }
+    ensures run { OnOk result (is_one_run bs.new.items n.new ≡ true) }
+    ensures pieces { Puts (with_bytes more.now) out.old bs.old n.old out.new bs.new n.new result }
 {
     if more.is_empty() {
         return Ok(());
     }
-    end_nulls(pieces, nulls)?;
-    bytes.extend_from_slice(more)?;
+    end_nulls(out, n)?;
+    bs.extend_from_slice(more)?;
     Ok(())
 }
 
@@ -74,60 +75,60 @@ fn sum(a: u32, b: u32) -> Result<u32, NoMemory>
 
 fn put_nulls(
     alloc: Global,
-    pieces: &mut Vec<Piece>,
-    bytes: &mut Vec<u8>,
-    nulls: &mut u32,
+    out: &mut Vec<Piece>,
+    bs: &mut Vec<u8>,
+    n: &mut u32,
     more: u32,
 ) -> Result<(), NoMemory>
-    requires { spec.is_one_run bytes.old.items nulls.old ≡ true }
-    ensures run { OnOk result (spec.is_one_run bytes.new.items nulls.new ≡ true) }
-    ensures pieces { OnOk result ((ps : List PieceTree) → map piece_tree pieces.new.items ++ spec.with_run bytes.new.items nulls.new ps ≡ map piece_tree pieces.old.items ++ spec.with_run bytes.old.items nulls.old (spec.with_nulls more ps)) }
+    requires { is_one_run bs.old.items n.old ≡ true }
+    ensures run { OnOk result (is_one_run bs.new.items n.new ≡ true) }
+    ensures pieces { Puts (with_nulls more) out.old bs.old n.old out.new bs.new n.new result }
 {
     if more == 0 {
         return Ok(());
     }
-    end_bytes(alloc, pieces, bytes)?;
-    *nulls = sum(*nulls, more)?;
+    end_bytes(alloc, out, bs)?;
+    *n = sum(*n, more)?;
     Ok(())
 }
 
 fn put_pointer(
     alloc: Global,
-    pieces: &mut Vec<Piece>,
-    bytes: &mut Vec<u8>,
-    nulls: &mut u32,
+    out: &mut Vec<Piece>,
+    bs: &mut Vec<u8>,
+    n: &mut u32,
     block: u32,
 ) -> Result<(), NoMemory>
-    requires { spec.is_one_run bytes.old.items nulls.old ≡ true }
-    ensures run { OnOk result (spec.is_one_run bytes.new.items nulls.new ≡ true) }
-    ensures pieces { OnOk result ((ps : List PieceTree) → map piece_tree pieces.new.items ++ spec.with_run bytes.new.items nulls.new ps ≡ map piece_tree pieces.old.items ++ spec.with_run bytes.old.items nulls.old (pointer block 0 ∷ ps)) }
+    requires { is_one_run bs.old.items n.old ≡ true }
+    ensures run { OnOk result (is_one_run bs.new.items n.new ≡ true) }
+    ensures pieces { Puts (pointer_before block) out.old bs.old n.old out.new bs.new n.new result }
 {
-    end_bytes(alloc, pieces, bytes)?;
-    end_nulls(pieces, nulls)?;
-    push_piece(pieces, Piece::Address(block, 0))?;
+    end_bytes(alloc, out, bs)?;
+    end_nulls(out, n)?;
+    push_piece(out, Piece::Address(block, 0))?;
     Ok(())
 }
 
 fn put_datum(
     alloc: Global,
-    pieces: &mut Vec<Piece>,
-    bytes: &mut Vec<u8>,
-    nulls: &mut u32,
+    out: &mut Vec<Piece>,
+    bs: &mut Vec<u8>,
+    n: &mut u32,
     d: &Datum,
 ) -> Result<(), NoMemory>
-    requires { spec.is_one_run bytes.old.items nulls.old ≡ true }
-    ensures run { OnOk result (spec.is_one_run bytes.new.items nulls.new ≡ true) }
-    ensures pieces { OnOk result ((ps : List PieceTree) → map piece_tree pieces.new.items ++ spec.with_run bytes.new.items nulls.new ps ≡ map piece_tree pieces.old.items ++ spec.with_run bytes.old.items nulls.old (spec.with_datum d.now ps)) }
+    requires { is_one_run bs.old.items n.old ≡ true }
+    ensures run { OnOk result (is_one_run bs.new.items n.new ≡ true) }
+    ensures pieces { Puts (with_datum d.now) out.old bs.old n.old out.new bs.new n.new result }
 {
     match d {
-        Datum::Bytes(more) => put_bytes(pieces, bytes, nulls, more),
-        Datum::Nulls(more) => put_nulls(alloc, pieces, bytes, nulls, *more),
-        Datum::Pointer(block) => put_pointer(alloc, pieces, bytes, nulls, *block),
+        Datum::Bytes(more) => put_bytes(out, bs, n, more),
+        Datum::Nulls(more) => put_nulls(alloc, out, bs, n, *more),
+        Datum::Pointer(block) => put_pointer(alloc, out, bs, n, *block),
     }
 }
 
 fn pieces_of(alloc: Global, contents: &[Datum]) -> Result<Vec<Piece>, NoMemory>
-    ensures { IfOk result (λ ps. map piece_tree ps.items ≡ spec.with_contents contents.now []) }
+    ensures { IfOk result (λ ps. map piece_tree ps.items ≡ with_contents contents.now []) }
 {
     let mut pieces = Vec::new(alloc);
     let mut bytes = Vec::new(alloc);
@@ -153,7 +154,7 @@ fn data_block(alloc: Global, b: &StaticBlock) -> Result<DataBlock, NoMemory>
 
 /// The blocks of data of a unit.
 pub fn data_blocks(alloc: Global, blocks: &[StaticBlock]) -> Result<Vec<DataBlock>, NoMemory>
-    ensures { IfOk result (λ ds. map data_block_tree ds.items ≡ map data_core (map static_block_tree blocks.now)) }
+    ensures { IfOk result (λ ds. map data_block_tree ds.items ≡ data_cores blocks.now) }
 {
     let mut data = Vec::new(alloc);
     for b in blocks {

@@ -1,8 +1,12 @@
 // What a function declares, in the order of the text: parameters and variables.
-ghost use Rattle.std.specs.Prelude.{◌≡◌, [], ◌∷◌, ◌++◌, IfOk, OnOk, map};
-ghost use Rattle.qs_syntax.specs.TreeOf.{variable_tree, parameter_tree, start_tree, stmt_tree, stmts_tree, else_tree, function_tree};
-ghost use Rattle.qs_elaborate.specs.DeclaredOf.{declared_of};
-ghost use Rattle.qs_elaborate.specs.Names as spec;
+ghost use Rattle.std.specs.Prelude.{◌≡◌, [], ◌∷◌, IfOk, map};
+ghost use Rattle.qs_syntax.specs.TreeOf.{variable_tree, parameter_tree, start_tree, stmt_tree};
+ghost use Rattle.qs_syntax.specs.TreeOf.{stmts_tree, else_tree};
+ghost use Rattle.qs_elaborate.specs.Names.{declared_variable, start_declares, statement_declares};
+ghost use Rattle.qs_elaborate.specs.Names.{statements_declare, else_declares, parameter_name};
+ghost use Rattle.qs_elaborate.specs.Names.{declared_parameter};
+ghost use Rattle.qs_elaborate.specs.DeclaredOf.{declared_of, declared_variables};
+ghost use Rattle.qs_elaborate.specs.DeclaredOf.{declared_parameters, declared_in, Declares};
 
 use crate::names::Declared;
 use qs_base::{Name, NoMemory};
@@ -10,7 +14,7 @@ use qs_syntax::{Function, Parameter, Start, Stmt, Variable};
 use std::alloc::Global;
 
 fn put_variable(alloc: Global, out: &mut Vec<Declared>, v: &Variable) -> Result<(), NoMemory>
-    ensures { OnOk result (map declared_of out.new.items ≡ map declared_of out.old.items ++ spec.declared_variable (variable_tree v.now) ∷ []) }
+    ensures { Declares (declared_variable (variable_tree v.now) ∷ []) out.old out.new result }
 {
     let node = v.declarator.node.id;
     let name = v.declarator.name.copy(alloc)?;
@@ -19,7 +23,7 @@ fn put_variable(alloc: Global, out: &mut Vec<Declared>, v: &Variable) -> Result<
 }
 
 fn put_variables(alloc: Global, out: &mut Vec<Declared>, vs: &[Variable]) -> Result<(), NoMemory>
-    ensures { OnOk result (map declared_of out.new.items ≡ map declared_of out.old.items ++ map spec.declared_variable (map variable_tree vs.now)) }
+    ensures { Declares (declared_variables vs.now) out.old out.new result }
 {
     for v in vs {
         put_variable(alloc, out, v)?;
@@ -29,7 +33,7 @@ fn put_variables(alloc: Global, out: &mut Vec<Declared>, vs: &[Variable]) -> Res
 
 /// The name of a parameter; those of a body have one (C11 6.9.1p5).
 pub fn parameter_name(alloc: Global, name: &Option<Name>) -> Result<Name, NoMemory>
-    ensures { IfOk result (λ n. n ≡ spec.parameter_name name.now) }
+    ensures { IfOk result (λ n. n ≡ parameter_name name.now) }
 {
     match name {
         None => Name::new(alloc, b""),
@@ -38,7 +42,7 @@ pub fn parameter_name(alloc: Global, name: &Option<Name>) -> Result<Name, NoMemo
 }
 
 fn put_parameter(alloc: Global, out: &mut Vec<Declared>, p: &Parameter) -> Result<(), NoMemory>
-    ensures { OnOk result (map declared_of out.new.items ≡ map declared_of out.old.items ++ spec.declared_parameter (parameter_tree p.now) ∷ []) }
+    ensures { Declares (declared_parameter (parameter_tree p.now) ∷ []) out.old out.new result }
 {
     let node = p.node.id;
     let name = parameter_name(alloc, &p.name)?;
@@ -47,7 +51,7 @@ fn put_parameter(alloc: Global, out: &mut Vec<Declared>, p: &Parameter) -> Resul
 }
 
 fn put_parameters(alloc: Global, out: &mut Vec<Declared>, ps: &[Parameter]) -> Result<(), NoMemory>
-    ensures { OnOk result (map declared_of out.new.items ≡ map declared_of out.old.items ++ map spec.declared_parameter (map parameter_tree ps.now)) }
+    ensures { Declares (declared_parameters ps.now) out.old out.new result }
 {
     for p in ps {
         put_parameter(alloc, out, p)?;
@@ -56,7 +60,7 @@ fn put_parameters(alloc: Global, out: &mut Vec<Declared>, ps: &[Parameter]) -> R
 }
 
 fn put_start(alloc: Global, out: &mut Vec<Declared>, s: &Start) -> Result<(), NoMemory>
-    ensures { OnOk result (map declared_of out.new.items ≡ map declared_of out.old.items ++ spec.start_declares (start_tree s.now)) }
+    ensures { Declares (start_declares (start_tree s.now)) out.old out.new result }
 {
     match s {
         Start::Nothing => Ok(()),
@@ -67,7 +71,7 @@ fn put_start(alloc: Global, out: &mut Vec<Declared>, s: &Start) -> Result<(), No
 
 #[cycle(put_statement)]
 fn put_statement(s: &Stmt, alloc: Global, out: &mut Vec<Declared>) -> Result<(), NoMemory>
-    ensures { OnOk result (map declared_of out.new.items ≡ map declared_of out.old.items ++ spec.statement_declares (stmt_tree s.now)) }
+    ensures { Declares (statement_declares (stmt_tree s.now)) out.old out.new result }
 {
     match s {
         Stmt::Empty(_) => Ok(()),
@@ -96,7 +100,7 @@ fn put_statement(s: &Stmt, alloc: Global, out: &mut Vec<Declared>) -> Result<(),
 
 #[cycle(put_statement)]
 fn put_else(s: &Option<Box<Stmt>>, alloc: Global, out: &mut Vec<Declared>) -> Result<(), NoMemory>
-    ensures { OnOk result (map declared_of out.new.items ≡ map declared_of out.old.items ++ spec.else_declares (else_tree s.now)) }
+    ensures { Declares (else_declares (else_tree s.now)) out.old out.new result }
 {
     match s {
         None => Ok(()),
@@ -106,7 +110,7 @@ fn put_else(s: &Option<Box<Stmt>>, alloc: Global, out: &mut Vec<Declared>) -> Re
 
 #[cycle(put_statement)]
 fn put_statements(ss: &[Stmt], alloc: Global, out: &mut Vec<Declared>) -> Result<(), NoMemory>
-    ensures { OnOk result (map declared_of out.new.items ≡ map declared_of out.old.items ++ spec.statements_declare (stmts_tree ss.now)) }
+    ensures { Declares (statements_declare (stmts_tree ss.now)) out.old out.new result }
 {
     for s in ss {
         put_statement(s, alloc, out)?;
@@ -120,7 +124,7 @@ pub fn function_declares(
     f: &Function,
     body: &[Stmt],
 ) -> Result<Vec<Declared>, NoMemory>
-    ensures { IfOk result (λ ds. map declared_of ds.items ≡ spec.function_declares (function_tree f.now) (stmts_tree body.now)) }
+    ensures { IfOk result (λ ds. map declared_of ds.items ≡ declared_in f.now body.now) }
 {
     let mut declared = Vec::new(alloc);
     put_parameters(alloc, &mut declared, &f.parameters)?;

@@ -1,14 +1,15 @@
-// Expressions in core: their statements are pushed, their temporaries added, and their value is the answer.
-ghost use Rattle.std.specs.Prelude.{◌≡◌, [], ◌∷◌, ◌++◌, IfOk, OnOk};
-ghost use Rattle.qs_core.specs.TreeOf.{core_expr, core_exprs, core_stmts};
-ghost use Rattle.qs_typed.specs.TreeOf.{expression_tree, lvalue_tree, arguments_tree, assignment_tree, effect_tree, effects_tree, conversion_tree};
+// Expressions in core: their statements are pushed, their temporaries added, and their value is the
+// answer.
+ghost use Rattle.std.specs.Prelude.{◌≡◌, IfOk};
+ghost use Rattle.qs_core.specs.TreeOf.{core_expr, core_exprs};
+ghost use Rattle.qs_typed.specs.TreeOf.{expression_tree};
+ghost use Rattle.qs_elaborate.specs.CoreOf.{converted, expression, operand, address, value_of};
+ghost use Rattle.qs_elaborate.specs.CoreOf.{arguments, called, assignment, effect, effects};
+ghost use Rattle.qs_elaborate.specs.CoreOf.{statements_in, conjunction, disjunction, choice};
+ghost use Rattle.qs_elaborate.specs.CoreOf.{written_at};
+ghost use Rattle.qs_elaborate.specs.Results.{Adds, Leaves, Gives, Locates};
 ghost use Rattle.qs_elaborate.specs.Acting.{acts};
 ghost use Rattle.qs_elaborate.specs.Laws.{has_any};
-ghost use Rattle.qs_elaborate.specs.LocationOf.{location_of};
-ghost use Rattle.qs_elaborate.specs.Parts.{saved_if, value_read, address_saved_if};
-ghost use Rattle.qs_elaborate.specs.Lists.{and_behind, or_behind, choice_behind, valued};
-ghost use Rattle.qs_elaborate.specs.Literals.{converted_core};
-ghost use Rattle.qs_elaborate.specs.Expressions as spec;
 
 use crate::acting::{acts, arguments_act};
 use crate::branching::{Branch, acted, and_branching, choice_branching, one_acted, or_branching};
@@ -35,9 +36,9 @@ pub fn expression(
     out: &mut Vec<CoreStmt>,
     ts: &mut Vec<Scalar>,
 ) -> Result<CoreExpr, NoMemory>
-    ensures statements { OnOk result (core_stmts out.new.items ≡ core_stmts out.old.items ++ (spec.expression_core (expression_tree e.now) ts.old.items).statements) }
-    ensures value { IfOk result (λ v. core_expr v ≡ (spec.expression_core (expression_tree e.now) ts.old.items).value) }
-    ensures temporaries { OnOk result (ts.new.items ≡ (spec.expression_core (expression_tree e.now) ts.old.items).temporaries) }
+    ensures statements { Adds (expression e.now ts.old).statements out.old out.new result }
+    ensures value { Gives (expression e.now ts.old).value result }
+    ensures temporaries { Leaves (expression e.now ts.old).temporaries ts.new result }
 {
     match e {
         Expression::Constant(s, n) => Ok(CoreExpr::Literal(*s, *n)),
@@ -131,9 +132,9 @@ fn operand(
     ts: &mut Vec<Scalar>,
     later_acts: bool,
 ) -> Result<CoreExpr, NoMemory>
-    ensures statements { OnOk result (core_stmts out.new.items ≡ core_stmts out.old.items ++ (saved_if later_acts (spec.expression_core (expression_tree e.now) ts.old.items)).statements) }
-    ensures value { IfOk result (λ v. core_expr v ≡ (saved_if later_acts (spec.expression_core (expression_tree e.now) ts.old.items)).value) }
-    ensures temporaries { OnOk result (ts.new.items ≡ (saved_if later_acts (spec.expression_core (expression_tree e.now) ts.old.items)).temporaries) }
+    ensures statements { Adds (operand later_acts e.now ts.old).statements out.old out.new result }
+    ensures value { Gives (operand later_acts e.now ts.old).value result }
+    ensures temporaries { Leaves (operand later_acts e.now ts.old).temporaries ts.new result }
 {
     let v = expression(e, alloc, out, ts)?;
     let w = saved_if(out, ts, later_acts, v)?;
@@ -143,10 +144,10 @@ fn operand(
 // An operand, its statements in a list of their own.
 #[cycle(expression)]
 fn branch(e: &Expression, alloc: Global, ts: &mut Vec<Scalar>) -> Result<Branch, NoMemory>
-    ensures acted { IfOk result (λ b. has_any (core_stmts b.statements.items) ≡ acts (expression_tree e.now)) }
-    ensures statements { IfOk result (λ b. core_stmts b.statements.items ≡ (spec.expression_core (expression_tree e.now) ts.old.items).statements) }
-    ensures value { IfOk result (λ b. core_expr b.value ≡ (spec.expression_core (expression_tree e.now) ts.old.items).value) }
-    ensures temporaries { OnOk result (ts.new.items ≡ (spec.expression_core (expression_tree e.now) ts.old.items).temporaries) }
+    ensures acted { IfOk result (λ b. has_any (statements_in b) ≡ acts (expression_tree e.now)) }
+    ensures statements { IfOk result (λ b. statements_in b ≡ (expression e.now ts.old).statements) }
+    ensures value { IfOk result (λ b. core_expr b.value ≡ (expression e.now ts.old).value) }
+    ensures temporaries { Leaves (expression e.now ts.old).temporaries ts.new result }
 {
     let mut statements = Vec::new(alloc);
     let value = expression(e, alloc, &mut statements, ts)?;
@@ -163,9 +164,9 @@ fn conjunction(
     ts: &mut Vec<Scalar>,
     v: CoreExpr,
 ) -> Result<CoreExpr, NoMemory>
-    ensures statements { OnOk result (core_stmts out.new.items ≡ core_stmts out.old.items ++ (and_behind (core_expr v) (expression_tree b.now) ts.old.items).statements) }
-    ensures value { IfOk result (λ c. core_expr c ≡ (and_behind (core_expr v) (expression_tree b.now) ts.old.items).value) }
-    ensures temporaries { OnOk result (ts.new.items ≡ (and_behind (core_expr v) (expression_tree b.now) ts.old.items).temporaries) }
+    ensures statements { Adds (conjunction v b.now ts.old).statements out.old out.new result }
+    ensures value { Gives (conjunction v b.now ts.old).value result }
+    ensures temporaries { Leaves (conjunction v b.now ts.old).temporaries ts.new result }
 {
     let b = branch(b, alloc, ts)?;
     if acted(&b) {
@@ -185,9 +186,9 @@ fn disjunction(
     ts: &mut Vec<Scalar>,
     v: CoreExpr,
 ) -> Result<CoreExpr, NoMemory>
-    ensures statements { OnOk result (core_stmts out.new.items ≡ core_stmts out.old.items ++ (or_behind (core_expr v) (expression_tree b.now) ts.old.items).statements) }
-    ensures value { IfOk result (λ c. core_expr c ≡ (or_behind (core_expr v) (expression_tree b.now) ts.old.items).value) }
-    ensures temporaries { OnOk result (ts.new.items ≡ (or_behind (core_expr v) (expression_tree b.now) ts.old.items).temporaries) }
+    ensures statements { Adds (disjunction v b.now ts.old).statements out.old out.new result }
+    ensures value { Gives (disjunction v b.now ts.old).value result }
+    ensures temporaries { Leaves (disjunction v b.now ts.old).temporaries ts.new result }
 {
     let k = new_temporary(ts, Scalar::Int)?;
     let b = branch(b, alloc, ts)?;
@@ -201,6 +202,8 @@ fn disjunction(
     }
 }
 
+// The second operand gave a branch; c and d are the conversions of the second operand and the
+// third.
 #[cycle(expression)]
 fn choice(
     b: &Expression,
@@ -208,20 +211,20 @@ fn choice(
     out: &mut Vec<CoreStmt>,
     ts: &mut Vec<Scalar>,
     s: Scalar,
-    second: Conversion,
-    third: Conversion,
+    c: Conversion,
+    d: Conversion,
     v: CoreExpr,
     met: Branch,
 ) -> Result<CoreExpr, NoMemory>
-    ensures statements { OnOk result (core_stmts out.new.items ≡ core_stmts out.old.items ++ (choice_behind s (conversion_tree second) (conversion_tree third) (core_expr v) (valued (core_stmts met.statements.items) (core_expr met.value) ts.old.items) (expression_tree b.now)).statements) }
-    ensures value { IfOk result (λ c. core_expr c ≡ (choice_behind s (conversion_tree second) (conversion_tree third) (core_expr v) (valued (core_stmts met.statements.items) (core_expr met.value) ts.old.items) (expression_tree b.now)).value) }
-    ensures temporaries { OnOk result (ts.new.items ≡ (choice_behind s (conversion_tree second) (conversion_tree third) (core_expr v) (valued (core_stmts met.statements.items) (core_expr met.value) ts.old.items) (expression_tree b.now)).temporaries) }
+    ensures statements { Adds (choice s c d v met b.now ts.old).statements out.old out.new result }
+    ensures value { Gives (choice s c d v met b.now ts.old).value result }
+    ensures temporaries { Leaves (choice s c d v met b.now ts.old).temporaries ts.new result }
 {
     let k = new_temporary(ts, s)?;
     let unmet = branch(b, alloc, ts)?;
     let some_acted = one_acted(&met, &unmet);
-    let met = converted_branch(alloc, second, met)?;
-    let unmet = converted_branch(alloc, third, unmet)?;
+    let met = converted_branch(alloc, c, met)?;
+    let unmet = converted_branch(alloc, d, unmet)?;
     if some_acted {
         let w = choice_branching(alloc, out, s, k, v, met, unmet)?;
         Ok(w)
@@ -233,8 +236,8 @@ fn choice(
 }
 
 fn converted_branch(alloc: Global, c: Conversion, b: Branch) -> Result<Branch, NoMemory>
-    ensures statements { IfOk result (λ d. core_stmts d.statements.items ≡ core_stmts b.statements.items) }
-    ensures value { IfOk result (λ d. core_expr d.value ≡ converted_core (conversion_tree c) (core_expr b.value)) }
+    ensures statements { IfOk result (λ d. statements_in d ≡ statements_in b) }
+    ensures value { IfOk result (λ d. core_expr d.value ≡ converted c b.value) }
 {
     let value = converted(alloc, c, b.value)?;
     Ok(Branch {
@@ -254,9 +257,9 @@ fn address(
     ts: &mut Vec<Scalar>,
     later_acts: bool,
 ) -> Result<Location, NoMemory>
-    ensures statements { OnOk result (core_stmts out.new.items ≡ core_stmts out.old.items ++ (address_saved_if later_acts (spec.lvalue_core (lvalue_tree l.now) ts.old.items)).statements) }
-    ensures location { IfOk result (λ at. location_of at ≡ (address_saved_if later_acts (spec.lvalue_core (lvalue_tree l.now) ts.old.items)).location) }
-    ensures temporaries { OnOk result (ts.new.items ≡ (address_saved_if later_acts (spec.lvalue_core (lvalue_tree l.now) ts.old.items)).temporaries) }
+    ensures statements { Adds (address later_acts l.now ts.old).statements out.old out.new result }
+    ensures location { Locates (address later_acts l.now ts.old).location result }
+    ensures temporaries { Leaves (address later_acts l.now ts.old).temporaries ts.new result }
 {
     match l {
         Lvalue::Variable(x) => Ok(Location::Plain(*x)),
@@ -276,9 +279,9 @@ fn value_of(
     ts: &mut Vec<Scalar>,
     s: Scalar,
 ) -> Result<CoreExpr, NoMemory>
-    ensures statements { OnOk result (core_stmts out.new.items ≡ core_stmts out.old.items ++ (value_read s (spec.lvalue_core (lvalue_tree l.now) ts.old.items)).statements) }
-    ensures value { IfOk result (λ v. core_expr v ≡ (value_read s (spec.lvalue_core (lvalue_tree l.now) ts.old.items)).value) }
-    ensures temporaries { OnOk result (ts.new.items ≡ (value_read s (spec.lvalue_core (lvalue_tree l.now) ts.old.items)).temporaries) }
+    ensures statements { Adds (value_of s l.now ts.old).statements out.old out.new result }
+    ensures value { Gives (value_of s l.now ts.old).value result }
+    ensures temporaries { Leaves (value_of s l.now ts.old).temporaries ts.new result }
 {
     let at = address(l, alloc, out, ts, false)?;
     value_in(alloc, s, at)
@@ -294,9 +297,9 @@ fn arguments(
     out: &mut Vec<CoreStmt>,
     ts: &mut Vec<Scalar>,
 ) -> Result<Vec<CoreExpr>, NoMemory>
-    ensures statements { OnOk result (core_stmts out.new.items ≡ core_stmts out.old.items ++ (spec.arguments_core (arguments_tree given.now) ts.old.items).statements) }
-    ensures values { IfOk result (λ vs. core_exprs vs.items ≡ (spec.arguments_core (arguments_tree given.now) ts.old.items).values) }
-    ensures temporaries { OnOk result (ts.new.items ≡ (spec.arguments_core (arguments_tree given.now) ts.old.items).temporaries) }
+    ensures statements { Adds (arguments given.now ts.old).statements out.old out.new result }
+    ensures values { IfOk result (λ vs. core_exprs vs.items ≡ (arguments given.now ts.old).values) }
+    ensures temporaries { Leaves (arguments given.now ts.old).temporaries ts.new result }
 {
     let mut values = Vec::new(alloc);
     for i in 0..given.len() {
@@ -317,9 +320,9 @@ fn called(
     s: Scalar,
     f: Callee,
 ) -> Result<CoreExpr, NoMemory>
-    ensures statements { OnOk result (core_stmts out.new.items ≡ core_stmts out.old.items ++ (spec.call_valued s f (spec.arguments_core (arguments_tree given.now) ts.old.items)).statements) }
-    ensures value { IfOk result (λ v. core_expr v ≡ (spec.call_valued s f (spec.arguments_core (arguments_tree given.now) ts.old.items)).value) }
-    ensures temporaries { OnOk result (ts.new.items ≡ (spec.call_valued s f (spec.arguments_core (arguments_tree given.now) ts.old.items)).temporaries) }
+    ensures statements { Adds (called s f given.now ts.old).statements out.old out.new result }
+    ensures value { Gives (called s f given.now ts.old).value result }
+    ensures temporaries { Leaves (called s f given.now ts.old).temporaries ts.new result }
 {
     let values = arguments(given, alloc, out, ts)?;
     let k = new_temporary(ts, s)?;
@@ -337,11 +340,11 @@ fn assignment(
     out: &mut Vec<CoreStmt>,
     ts: &mut Vec<Scalar>,
 ) -> Result<Written, NoMemory>
-    ensures statements { OnOk result (core_stmts out.new.items ≡ core_stmts out.old.items ++ (spec.assignment_core (assignment_tree a.now) ts.old.items).statements) }
-    ensures scalar { IfOk result (λ w. w.scalar ≡ (spec.assignment_core (assignment_tree a.now) ts.old.items).scalar) }
-    ensures location { IfOk result (λ w. location_of w.location ≡ (spec.assignment_core (assignment_tree a.now) ts.old.items).location) }
-    ensures value { IfOk result (λ w. core_expr w.value ≡ (spec.assignment_core (assignment_tree a.now) ts.old.items).value) }
-    ensures temporaries { OnOk result (ts.new.items ≡ (spec.assignment_core (assignment_tree a.now) ts.old.items).temporaries) }
+    ensures statements { Adds (assignment a.now ts.old).statements out.old out.new result }
+    ensures scalar { IfOk result (λ w. w.scalar ≡ (assignment a.now ts.old).scalar) }
+    ensures location { IfOk result (λ w. written_at w ≡ (assignment a.now ts.old).location) }
+    ensures value { IfOk result (λ w. core_expr w.value ≡ (assignment a.now ts.old).value) }
+    ensures temporaries { Leaves (assignment a.now ts.old).temporaries ts.new result }
 {
     match a {
         Assignment::Set {
@@ -403,8 +406,8 @@ pub fn effect(
     out: &mut Vec<CoreStmt>,
     ts: &mut Vec<Scalar>,
 ) -> Result<(), NoMemory>
-    ensures statements { OnOk result (core_stmts out.new.items ≡ core_stmts out.old.items ++ (spec.effect_core (effect_tree a.now) ts.old.items).statements) }
-    ensures temporaries { OnOk result (ts.new.items ≡ (spec.effect_core (effect_tree a.now) ts.old.items).temporaries) }
+    ensures statements { Adds (effect a.now ts.old).statements out.old out.new result }
+    ensures temporaries { Leaves (effect a.now ts.old).temporaries ts.new result }
 {
     match a {
         Effect::Nothing => Ok(()),
@@ -463,8 +466,8 @@ fn effects(
     out: &mut Vec<CoreStmt>,
     ts: &mut Vec<Scalar>,
 ) -> Result<(), NoMemory>
-    ensures statements { OnOk result (core_stmts out.new.items ≡ core_stmts out.old.items ++ (spec.effect_core (effects_tree all.now) ts.old.items).statements) }
-    ensures temporaries { OnOk result (ts.new.items ≡ (spec.effect_core (effects_tree all.now) ts.old.items).temporaries) }
+    ensures statements { Adds (effects all.now ts.old).statements out.old out.new result }
+    ensures temporaries { Leaves (effects all.now ts.old).temporaries ts.new result }
 {
     for a in all {
         effect(a, alloc, out, ts)?;

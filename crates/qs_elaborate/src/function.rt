@@ -1,10 +1,11 @@
 // Functions in core.
-ghost use Rattle.std.specs.Prelude.{◌≡◌, ◌++◌, IfOk, OnOk, map, slice_index_or, []};
-ghost use Rattle.qs_core.specs.TreeOf.{core_stmts, parameter_tree, variable_tree, function_tree};
-ghost use Rattle.qs_typed.specs.TreeOf as typed;
-ghost use Rattle.qs_elaborate.specs.NamesOf.{variable_name_of, names_of};
-ghost use Rattle.qs_elaborate.specs.NamesOf.{named, variable_named, no_name};
-ghost use Rattle.qs_elaborate.specs.Units as spec;
+ghost use Rattle.std.specs.Prelude.{◌≡◌, IfOk, slice_index_or, []};
+ghost use Rattle.qs_core.specs.TreeOf.{variable_tree};
+ghost use Rattle.qs_elaborate.specs.Units.{named_parameters, end_of_body};
+ghost use Rattle.qs_elaborate.specs.FunctionOf.{parameter_trees, variable_trees, variable_at};
+ghost use Rattle.qs_elaborate.specs.FunctionOf.{named_variables, function_with, function_at};
+ghost use Rattle.qs_elaborate.specs.FunctionOf.{function_trees, functions, GivesFunction};
+ghost use Rattle.qs_elaborate.specs.Results.{Adds};
 
 use crate::names::{FunctionNames, VariableName};
 use crate::parts::push;
@@ -32,7 +33,7 @@ fn named_parameters(
     names: &[Name],
     parameters: &[Parameter],
 ) -> Result<Vec<CoreParameter>, NoMemory>
-    ensures { IfOk result (λ ps. map parameter_tree ps.items ≡ spec.named_parameters names.now parameters.now) }
+    ensures { IfOk result (λ ps. parameter_trees ps ≡ named_parameters names.now parameters.now) }
 {
     let mut named = Vec::new(alloc);
     for i in 0..parameters.len() {
@@ -49,7 +50,7 @@ fn variable_at(
     i: usize,
     scalar: Scalar,
 ) -> Result<CoreVariable, NoMemory>
-    ensures { IfOk result (λ v. variable_tree v ≡ variable_named (slice_index_or (map variable_name_of names.now) i no_name) scalar) }
+    ensures { IfOk result (λ v. variable_tree v ≡ variable_at names.now i scalar) }
 {
     match names.get(i) {
         None => {
@@ -78,7 +79,7 @@ fn named_variables(
     names: &[VariableName],
     scalars: &[Scalar],
 ) -> Result<Vec<CoreVariable>, NoMemory>
-    ensures { IfOk result (λ vs. map variable_tree vs.items ≡ spec.named_variables (map variable_name_of names.now) scalars.now) }
+    ensures { IfOk result (λ vs. variable_trees vs ≡ named_variables names.now scalars.now) }
 {
     let mut named = Vec::new(alloc);
     for i in 0..scalars.len() {
@@ -92,7 +93,7 @@ fn named_variables(
 
 // 5.1.2.2.3: the end of main returns 0
 fn end_body(out: &mut Vec<CoreStmt>, is_main: bool) -> Result<(), NoMemory>
-    ensures { OnOk result (core_stmts out.new.items ≡ core_stmts out.old.items ++ spec.end_of_body is_main) }
+    ensures { Adds (end_of_body is_main) out.old out.new result }
 {
     if is_main {
         push(
@@ -110,7 +111,7 @@ fn function_with(
     variable_names: &[VariableName],
     g: &TypedFunction,
 ) -> Result<CoreFunction, NoMemory>
-    ensures { IfOk result (λ f. function_tree f ≡ spec.function_core (named parameter_names.now (map variable_name_of variable_names.now)) (typed.function_tree g.now)) }
+    ensures { GivesFunction (function_with parameter_names.now variable_names.now g.now) result }
 {
     let mut temporaries = Vec::new(alloc);
     let mut body = Vec::new(alloc);
@@ -137,7 +138,7 @@ fn function_at(
     i: usize,
     g: &TypedFunction,
 ) -> Result<CoreFunction, NoMemory>
-    ensures { IfOk result (λ f. function_tree f ≡ spec.function_core (slice_index_or (map names_of names.now) i spec.no_names) (typed.function_tree g.now)) }
+    ensures { GivesFunction (function_at names.now i g.now) result }
 {
     match names.get(i) {
         None => function_with(alloc, &[], &[], g),
@@ -151,7 +152,7 @@ pub fn functions(
     names: &[FunctionNames],
     gs: &[TypedFunction],
 ) -> Result<Vec<CoreFunction>, NoMemory>
-    ensures { IfOk result (λ fs. map function_tree fs.items ≡ spec.functions_core (map names_of names.now) (map typed.function_tree gs.now)) }
+    ensures { IfOk result (λ fs. function_trees fs ≡ functions names.now gs.now) }
 {
     let mut functions = Vec::new(alloc);
     for i in 0..gs.len() {

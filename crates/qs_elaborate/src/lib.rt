@@ -7,7 +7,6 @@ mod copies;
 mod data_blocks;
 mod declaring;
 mod expression;
-mod fit_laws;
 mod function;
 mod laws;
 mod literals;
@@ -21,8 +20,8 @@ mod unit;
 mod unit_names;
 mod writing;
 
-pub use fit_laws::{core_fits, read_units_have_names, units_have_cores};
 pub use laws::{
-    acts_exactly, core_follows, main_follows, unit_words_are_few, values_are_few, words_are_few,
+    acts_exactly, core_fits, core_follows, main_follows, read_units_have_names, unit_words_are_few,
+    units_have_cores, values_are_few, words_are_few,
 };
 pub use unit::{elaborate, elaborated};

@@ -1,5 +1,5 @@
 // Literals of core, and conversions, which fold on them (C11 6.3, 6.4.4).
-ghost use Rattle.std.specs.Prelude.{◌≡◌, IfOk};
+ghost use Rattle.std.specs.Prelude.{◌≡◌};
 ghost use Rattle.qs_memory.specs.declared.scalar.Scalar.TheVariants as scalars;
 ghost use Rattle.qs_memory.specs.Values.{convert, integer, address, null};
 ghost use Rattle.qs_core.specs.TreeOf.{core_expr};
@@ -7,6 +7,8 @@ ghost use Rattle.qs_typed.specs.TreeOf.{conversion_tree};
 ghost use Rattle.qs_meaning.specs.States.{convert_by};
 ghost use Rattle.qs_elaborate.specs.LiteralOf.{value_of, option_value, option_converted};
 ghost use Rattle.qs_elaborate.specs.Literals as spec;
+ghost use Rattle.qs_elaborate.specs.CoreOf.{converted};
+ghost use Rattle.qs_elaborate.specs.Results.{Gives};
 
 use qs_base::NoMemory;
 use qs_core::CoreExpr;
@@ -135,7 +137,7 @@ fn literal_of(s: Scalar, x: Literal) -> CoreExpr
 }
 
 fn folded(alloc: Global, to: Scalar, a: CoreExpr, x: Option<Literal>) -> Result<CoreExpr, NoMemory>
-    ensures { IfOk result (λ b. core_expr b ≡ spec.folded to (core_expr a) (option_value x)) }
+    ensures { Gives (spec.folded to (core_expr a) (option_value x)) result }
 {
     match x {
         None => Ok(CoreExpr::Convert(to, Box::new(alloc, a)?)),
@@ -145,7 +147,7 @@ fn folded(alloc: Global, to: Scalar, a: CoreExpr, x: Option<Literal>) -> Result<
 
 /// A value after a conversion.
 pub fn converted(alloc: Global, c: Conversion, a: CoreExpr) -> Result<CoreExpr, NoMemory>
-    ensures { IfOk result (λ b. core_expr b ≡ spec.converted_core (conversion_tree c) (core_expr a)) }
+    ensures { Gives (converted c a) result }
 {
     match c {
         Conversion::Unchanged => Ok(a),

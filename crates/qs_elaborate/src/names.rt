@@ -1,4 +1,5 @@
-// What core says of a function beside what its typed tree says: the names of its parameters and variables.
+// What core says of a function beside what its typed tree says: the names of its parameters and
+// variables.
 
 use qs_base::Name;
 
@@ -11,7 +12,8 @@ pub struct Declared {
     pub name: Name,
 }
 
-/// A variable is the one with this number, from 1, among those that the function declares with its name.
+/// A variable is the one with this number, from 1, among those that the function declares with its
+/// name.
 #[derive(Drop)]
 pub struct VariableName {
     /// its name

@@ -1,13 +1,9 @@
 // The names of variables, by their nodes.
-ghost use Rattle.std.specs.Prelude.{◌≡◌, ◌+◌, ◌==◌, ℕ, List, [], ◌∷◌, Some, IfOk, OnOk, map, option_map, nat_eq};
-ghost use Rattle.std.specs.Map.{update};
-ghost use Rattle.std.specs.Option.{option_or};
-ghost use Rattle.indexmap.specs.IndexMap.{get};
-ghost use Rattle.qs_syntax.specs.Sameness.{same_bytes};
-ghost use Rattle.qs_elaborate.specs.Names as spec;
+ghost use Rattle.std.specs.Prelude.{◌≡◌, ◌+◌, IfOk, map};
 ghost use Rattle.qs_elaborate.specs.NamesOf.{variable_name_of};
 ghost use Rattle.qs_elaborate.specs.DeclaredOf.{declared_of};
-ghost use Rattle.qs_elaborate.specs.Naming.{name_or_none, times, numbered_at, name_among, newest_first, Known};
+ghost use Rattle.qs_elaborate.specs.Naming.{name_or_none, name_in, times_of, CountsOneMore, Names};
+ghost use Rattle.qs_elaborate.specs.Naming.{Notes, NamesAll, names_at};
 
 use crate::names::{Declared, VariableName};
 use indexmap::IndexMap;
@@ -17,7 +13,7 @@ use std::alloc::Global;
 // ---- counts
 
 fn count(counts: &IndexMap<Name, u32>, name: &Name) -> u32
-    ensures { result ≡ times (get same_bytes counts.now name.now) }
+    ensures { result ≡ times_of name.now counts.now }
 {
     match counts.get(name) {
         None => 0,
@@ -36,8 +32,8 @@ fn one_more(n: u32) -> Result<u32, NoMemory>
 
 // One more of this name: how many there are now.
 fn count_one(alloc: Global, counts: &mut IndexMap<Name, u32>, name: &Name) -> Result<u32, NoMemory>
-    ensures count { IfOk result (λ n. n ≡ times (get same_bytes counts.old name.now) + 1) }
-    ensures counts { OnOk result ((x : List ℕ) → get same_bytes counts.new x ≡ update same_bytes (get same_bytes counts.old) name.now (Some (times (get same_bytes counts.old name.now) + 1)) x) }
+    ensures count { IfOk result (λ n. n ≡ times_of name.now counts.old + 1) }
+    ensures counts { CountsOneMore name.now counts.old counts.new result }
 {
     let n = one_more(count(counts, name))?;
     counts.insert(name.copy(alloc)?, n)?;
@@ -54,7 +50,7 @@ fn note_name(
     name: &Name,
     ordinal: u32,
 ) -> Result<(), NoMemory>
-    ensures { OnOk result ((x : ℕ) → option_map variable_name_of (get nat_eq names.new x) ≡ option_or (option_map variable_name_of (get nat_eq names.old x)) (numbered_at x node name.now ordinal)) }
+    ensures { Names node name.now ordinal names.old names.new result }
 {
     if names.contains_key(&node) {
         return Ok(());
@@ -70,7 +66,7 @@ fn note(
     counts: &mut IndexMap<Name, u32>,
     d: &Declared,
 ) -> Result<(), NoMemory>
-    ensures { OnOk result ((ds : List spec.Declared) → Known (λ x. option_map variable_name_of (get nat_eq names.old x)) (get same_bytes counts.old) ds → Known (λ x. option_map variable_name_of (get nat_eq names.new x)) (get same_bytes counts.new) (declared_of d.now ∷ ds)) }
+    ensures { Notes (declared_of d.now) names.old counts.old names.new counts.new result }
 {
     let ordinal = count_one(alloc, counts, &d.name)?;
     note_name(alloc, names, d.node, &d.name, ordinal)?;
@@ -82,7 +78,7 @@ fn names_by_node(
     alloc: Global,
     declared: &[Declared],
 ) -> Result<IndexMap<u32, VariableName>, NoMemory>
-    ensures { IfOk result (λ names. (x : ℕ) → option_map variable_name_of (get nat_eq names x) ≡ name_among x (newest_first [] (map declared_of declared.now))) }
+    ensures { IfOk result (λ names. NamesAll declared.now names) }
 {
     let mut names = IndexMap::new(alloc);
     let mut counts = IndexMap::new(alloc);
@@ -97,7 +93,7 @@ fn name_of(
     names: &IndexMap<u32, VariableName>,
     node: u32,
 ) -> Result<VariableName, NoMemory>
-    ensures { IfOk result (λ v. variable_name_of v ≡ name_or_none (option_map variable_name_of (get nat_eq names.now node))) }
+    ensures { IfOk result (λ v. variable_name_of v ≡ name_or_none (name_in names.now node)) }
 {
     match names.get(&node) {
         None => {
@@ -119,7 +115,7 @@ pub fn variable_names(
     declared: &[Declared],
     nodes: &[u32],
 ) -> Result<Vec<VariableName>, NoMemory>
-    ensures { IfOk result (λ vs. map variable_name_of vs.items ≡ map (λ node. spec.name_at node [] (map declared_of declared.now)) nodes.now) }
+    ensures { IfOk result (λ vs. map variable_name_of vs.items ≡ names_at nodes.now declared.now) }
 {
     let names = names_by_node(alloc, declared)?;
     let mut variables = Vec::new(alloc);

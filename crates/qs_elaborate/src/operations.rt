@@ -1,9 +1,11 @@
 // Operations of core, with the conversions of their operands.
-ghost use Rattle.std.specs.Prelude.{◌≡◌, IfOk};
+ghost use Rattle.std.specs.Prelude.{◌≡◌};
 ghost use Rattle.qs_memory.specs.Operations.{integer_type};
 ghost use Rattle.qs_core.specs.TreeOf.{core_expr};
-ghost use Rattle.qs_typed.specs.TreeOf.{conversion_tree, order_tree, object_tree};
+ghost use Rattle.qs_typed.specs.TreeOf.{object_tree};
 ghost use Rattle.qs_elaborate.specs.Expressions as spec;
+ghost use Rattle.qs_elaborate.specs.CoreOf.{in_their_order, operated, updated};
+ghost use Rattle.qs_elaborate.specs.Results.{Gives};
 
 use crate::literals::converted;
 use crate::parts::{binary, unary};
@@ -30,7 +32,7 @@ fn in_their_order(
     a: CoreExpr,
     b: CoreExpr,
 ) -> Result<CoreExpr, NoMemory>
-    ensures { IfOk result (λ c. core_expr c ≡ spec.in_their_order operation (order_tree order) (core_expr a) (core_expr b)) }
+    ensures { Gives (in_their_order operation order a b) result }
 {
     match order {
         Order::AsWritten => binary(alloc, operation, a, b),
@@ -48,7 +50,7 @@ pub fn operated(
     a: CoreExpr,
     b: CoreExpr,
 ) -> Result<CoreExpr, NoMemory>
-    ensures { IfOk result (λ c. core_expr c ≡ spec.operation_core operation (order_tree order) (conversion_tree left) (conversion_tree right) (core_expr a) (core_expr b)) }
+    ensures { Gives (operated operation order left right a b) result }
 {
     let a = converted(alloc, left, a)?;
     let b = converted(alloc, right, b)?;
@@ -65,7 +67,7 @@ pub fn updated(
     a: CoreExpr,
     b: CoreExpr,
 ) -> Result<CoreExpr, NoMemory>
-    ensures { IfOk result (λ c. core_expr c ≡ spec.updated_core operation (conversion_tree left) (conversion_tree right) (conversion_tree back) (core_expr a) (core_expr b)) }
+    ensures { Gives (updated operation left right back a b) result }
 {
     let c = operated(alloc, operation, Order::AsWritten, left, right, a, b)?;
     converted(alloc, back, c)
@@ -101,7 +103,7 @@ pub fn step_amount(operation: BinaryOperation) -> CoreExpr
 
 /// Whether a value differs from 0.
 pub fn truth(alloc: Global, a: CoreExpr) -> Result<CoreExpr, NoMemory>
-    ensures { IfOk result (λ b. core_expr b ≡ spec.truth_core (core_expr a)) }
+    ensures { Gives (spec.truth_core (core_expr a)) result }
 {
     unary(alloc, UnaryOperation::Truth, a)
 }

@@ -1,9 +1,11 @@
 // Parts of what expressions give in core: statements, temporaries, and where values stand.
-ghost use Rattle.std.specs.Prelude.{◌≡◌, [], ◌∷◌, ◌++◌, IfOk, OnOk};
+ghost use Rattle.std.specs.Prelude.{◌≡◌, [], ◌∷◌, IfOk};
 ghost use Rattle.qs_core.specs.TreeOf.{core_expr, core_stmt, core_stmts};
 ghost use Rattle.qs_core.specs.Trees as core;
 ghost use Rattle.qs_elaborate.specs.LocationOf.{location_of};
 ghost use Rattle.qs_elaborate.specs.Parts as spec;
+ghost use Rattle.qs_elaborate.specs.CoreOf.{chosen, in_temporary, saved, saved_if, branched};
+ghost use Rattle.qs_elaborate.specs.Results.{Adds, Leaves, Gives};
 
 use crate::copies::copy_expr;
 use crate::literals::is_literal;
@@ -16,7 +18,7 @@ use std::alloc::Global;
 
 /// One more statement.
 pub fn push(out: &mut Vec<CoreStmt>, s: CoreStmt) -> Result<(), NoMemory>
-    ensures { OnOk result (core_stmts out.new.items ≡ core_stmts out.old.items ++ core_stmt s ∷ []) }
+    ensures { Adds (core_stmt s ∷ []) out.old out.new result }
 {
     out.push(s)?;
     Ok(())
@@ -45,7 +47,7 @@ pub fn push_branch(
     met: CoreStmt,
     unmet: CoreStmt,
 ) -> Result<(), NoMemory>
-    ensures { OnOk result (core_stmts out.new.items ≡ core_stmts out.old.items ++ core.branch (core_expr condition) (core_stmt met) (core_stmt unmet) ∷ []) }
+    ensures { Adds (branched condition met unmet ∷ []) out.old out.new result }
 {
     let met = Box::new(alloc, met)?;
     let unmet = Box::new(alloc, unmet)?;
@@ -57,7 +59,7 @@ pub fn push_branch(
 /// One more temporary, of this type: its number. A function has fewer than 2 ^ 32.
 pub fn new_temporary(ts: &mut Vec<Scalar>, s: Scalar) -> Result<u32, NoMemory>
     ensures number { IfOk result (λ k. k ≡ spec.next_number ts.old.items) }
-    ensures temporaries { OnOk result (ts.new.items ≡ spec.with_temporary ts.old.items s) }
+    ensures temporaries { Leaves (spec.with_temporary ts.old.items s) ts.new result }
 {
     let number = ts.len();
     if number > u32::MAX as usize {
@@ -83,7 +85,7 @@ pub fn keep(k: u32, a: CoreExpr) -> CoreStmt
 
 /// Puts a statement that does so behind others.
 pub fn push_keep(out: &mut Vec<CoreStmt>, k: u32, a: CoreExpr) -> Result<(), NoMemory>
-    ensures { OnOk result (core_stmts out.new.items ≡ core_stmts out.old.items ++ spec.keep k (core_expr a) ∷ []) }
+    ensures { Adds (spec.keep k (core_expr a) ∷ []) out.old out.new result }
 {
     push(out, keep(k, a))
 }
@@ -93,9 +95,9 @@ fn in_temporary(
     ts: &mut Vec<Scalar>,
     a: CoreExpr,
 ) -> Result<CoreExpr, NoMemory>
-    ensures statements { OnOk result (core_stmts out.new.items ≡ core_stmts out.old.items ++ (spec.in_temporary (spec.pure (core_expr a) ts.old.items)).statements) }
-    ensures value { IfOk result (λ b. core_expr b ≡ (spec.in_temporary (spec.pure (core_expr a) ts.old.items)).value) }
-    ensures temporaries { OnOk result (ts.new.items ≡ (spec.in_temporary (spec.pure (core_expr a) ts.old.items)).temporaries) }
+    ensures statements { Adds (in_temporary a ts.old).statements out.old out.new result }
+    ensures value { Gives (in_temporary a ts.old).value result }
+    ensures temporaries { Leaves (in_temporary a ts.old).temporaries ts.new result }
 {
     let s = type_of(&a);
     let k = new_temporary(ts, s)?;
@@ -109,9 +111,9 @@ pub fn saved(
     ts: &mut Vec<Scalar>,
     a: CoreExpr,
 ) -> Result<CoreExpr, NoMemory>
-    ensures statements { OnOk result (core_stmts out.new.items ≡ core_stmts out.old.items ++ (spec.saved (spec.pure (core_expr a) ts.old.items)).statements) }
-    ensures value { IfOk result (λ b. core_expr b ≡ (spec.saved (spec.pure (core_expr a) ts.old.items)).value) }
-    ensures temporaries { OnOk result (ts.new.items ≡ (spec.saved (spec.pure (core_expr a) ts.old.items)).temporaries) }
+    ensures statements { Adds (saved a ts.old).statements out.old out.new result }
+    ensures value { Gives (saved a ts.old).value result }
+    ensures temporaries { Leaves (saved a ts.old).temporaries ts.new result }
 {
     if is_literal(&a) {
         Ok(a)
@@ -127,17 +129,17 @@ pub fn saved_if(
     later_acts: bool,
     a: CoreExpr,
 ) -> Result<CoreExpr, NoMemory>
-    ensures statements { OnOk result (core_stmts out.new.items ≡ core_stmts out.old.items ++ (spec.saved_if later_acts (spec.pure (core_expr a) ts.old.items)).statements) }
-    ensures value { IfOk result (λ b. core_expr b ≡ (spec.saved_if later_acts (spec.pure (core_expr a) ts.old.items)).value) }
-    ensures temporaries { OnOk result (ts.new.items ≡ (spec.saved_if later_acts (spec.pure (core_expr a) ts.old.items)).temporaries) }
+    ensures statements { Adds (saved_if later_acts a ts.old).statements out.old out.new result }
+    ensures value { Gives (saved_if later_acts a ts.old).value result }
+    ensures temporaries { Leaves (saved_if later_acts a ts.old).temporaries ts.new result }
 {
     if later_acts { saved(out, ts, a) } else { Ok(a) }
 }
 
 /// A value that is discarded is put in a temporary too, unless it is a literal.
 pub fn discarded(out: &mut Vec<CoreStmt>, ts: &mut Vec<Scalar>, a: CoreExpr) -> Result<(), NoMemory>
-    ensures statements { OnOk result (core_stmts out.new.items ≡ core_stmts out.old.items ++ (spec.saved (spec.pure (core_expr a) ts.old.items)).statements) }
-    ensures temporaries { OnOk result (ts.new.items ≡ (spec.saved (spec.pure (core_expr a) ts.old.items)).temporaries) }
+    ensures statements { Adds (saved a ts.old).statements out.old out.new result }
+    ensures temporaries { Leaves (saved a ts.old).temporaries ts.new result }
 {
     saved(out, ts, a)?;
     Ok(())
@@ -156,7 +158,7 @@ pub enum Location {
 
 /// The value that stands there.
 pub fn value_in(alloc: Global, s: Scalar, at: Location) -> Result<CoreExpr, NoMemory>
-    ensures { IfOk result (λ a. core_expr a ≡ spec.value_at s (location_of at)) }
+    ensures { Gives (spec.value_at s (location_of at)) result }
 {
     match at {
         Location::Plain(x) => Ok(CoreExpr::Variable(s, x)),
@@ -166,7 +168,7 @@ pub fn value_in(alloc: Global, s: Scalar, at: Location) -> Result<CoreExpr, NoMe
 
 /// The same, where it is written too.
 pub fn value_at(alloc: Global, s: Scalar, at: &Location) -> Result<CoreExpr, NoMemory>
-    ensures { IfOk result (λ a. core_expr a ≡ spec.value_at s (location_of at.now)) }
+    ensures { Gives (spec.value_at s (location_of at.now)) result }
 {
     match at {
         Location::Plain(x) => Ok(CoreExpr::Variable(s, *x)),
@@ -188,14 +190,14 @@ pub fn written(s: Scalar, at: Location, a: CoreExpr) -> CoreStmt
 
 /// A pointer to the member at this offset.
 pub fn member(alloc: Global, offset: u32, a: CoreExpr) -> Result<CoreExpr, NoMemory>
-    ensures { IfOk result (λ b. core_expr b ≡ core.member offset (core_expr a)) }
+    ensures { Gives (core.member offset (core_expr a)) result }
 {
     Ok(CoreExpr::Member(offset, Box::new(alloc, a)?))
 }
 
 /// An operation on a value.
 pub fn unary(alloc: Global, operation: UnaryOperation, a: CoreExpr) -> Result<CoreExpr, NoMemory>
-    ensures { IfOk result (λ b. core_expr b ≡ core.unary operation (core_expr a)) }
+    ensures { Gives (core.unary operation (core_expr a)) result }
 {
     Ok(CoreExpr::Unary(operation, Box::new(alloc, a)?))
 }
@@ -207,21 +209,21 @@ pub fn binary(
     left: CoreExpr,
     right: CoreExpr,
 ) -> Result<CoreExpr, NoMemory>
-    ensures { IfOk result (λ c. core_expr c ≡ core.binary operation (core_expr left) (core_expr right)) }
+    ensures { Gives (core.binary operation (core_expr left) (core_expr right)) result }
 {
     Ok(CoreExpr::Binary(operation, Box::new(alloc, Operands { left, right })?))
 }
 
 /// `&&`
 pub fn logical_and(alloc: Global, left: CoreExpr, right: CoreExpr) -> Result<CoreExpr, NoMemory>
-    ensures { IfOk result (λ c. core_expr c ≡ core.logical_and (core_expr left) (core_expr right)) }
+    ensures { Gives (core.logical_and (core_expr left) (core_expr right)) result }
 {
     Ok(CoreExpr::And(Box::new(alloc, Operands { left, right })?))
 }
 
 /// `||`
 pub fn logical_or(alloc: Global, left: CoreExpr, right: CoreExpr) -> Result<CoreExpr, NoMemory>
-    ensures { IfOk result (λ c. core_expr c ≡ core.logical_or (core_expr left) (core_expr right)) }
+    ensures { Gives (core.logical_or (core_expr left) (core_expr right)) result }
 {
     Ok(CoreExpr::Or(Box::new(alloc, Operands { left, right })?))
 }
@@ -233,7 +235,7 @@ pub fn conditional(
     met: CoreExpr,
     unmet: CoreExpr,
 ) -> Result<CoreExpr, NoMemory>
-    ensures { IfOk result (λ d. core_expr d ≡ core.conditional (core_expr condition) (core_expr met) (core_expr unmet)) }
+    ensures { Gives (chosen condition met unmet) result }
 {
     let condition = Box::new(alloc, condition)?;
     let met = Box::new(alloc, met)?;

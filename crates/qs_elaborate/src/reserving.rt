@@ -1,8 +1,9 @@
 // An operand whose temporary is reserved until it is known whether a later operand acts.
 ghost use Rattle.std.specs.Prelude.{◌≡◌, IfOk, OnOk};
 ghost use Rattle.qs_core.specs.TreeOf.{core_expr, core_stmts};
-ghost use Rattle.qs_elaborate.specs.Literals.{is_literal};
-ghost use Rattle.qs_elaborate.specs.Reserved as spec;
+ghost use Rattle.qs_elaborate.specs.CoreOf.{reservation, with_room, with_reserved, settled_at};
+ghost use Rattle.qs_elaborate.specs.CoreOf.{settled};
+ghost use Rattle.qs_elaborate.specs.Results.{Leaves};
 
 use crate::literals::is_literal;
 use crate::parts::{keep, new_temporary, push, temporary};
@@ -25,9 +26,9 @@ pub fn reserve(
     ts: &mut Vec<Scalar>,
     v: &CoreExpr,
 ) -> Result<Option<Reserved>, NoMemory>
-    ensures reserved { IfOk result (λ r. r ≡ spec.reservation (is_literal (core_expr v.now)) (core_stmts out.old.items) ts.old.items) }
-    ensures statements { OnOk result (core_stmts out.new.items ≡ spec.with_room (is_literal (core_expr v.now)) (core_stmts out.old.items)) }
-    ensures temporaries { OnOk result (ts.new.items ≡ spec.with_reserved (is_literal (core_expr v.now)) (core_expr v.now) ts.old.items) }
+    ensures reserved { IfOk result (λ r. r ≡ reservation v.now out.old ts.old) }
+    ensures statements { OnOk result (core_stmts out.new.items ≡ with_room v.now out.old) }
+    ensures temporaries { Leaves (with_reserved v.now ts.old) ts.new result }
 {
     if is_literal(v) {
         return Ok(None);
@@ -39,9 +40,9 @@ pub fn reserve(
 }
 
 fn settle_at(out: &mut Vec<CoreStmt>, ts: &mut Vec<Scalar>, r: Reserved, v: CoreExpr) -> CoreExpr
-    ensures statements { core_stmts out.new.items ≡ (spec.settled_at r (core_expr v) (core_stmts out.old.items) ts.old.items).statements }
-    ensures value { core_expr result ≡ (spec.settled_at r (core_expr v) (core_stmts out.old.items) ts.old.items).value }
-    ensures temporaries { ts.new.items ≡ (spec.settled_at r (core_expr v) (core_stmts out.old.items) ts.old.items).temporaries }
+    ensures statements { core_stmts out.new.items ≡ (settled_at r v out.old ts.old).statements }
+    ensures value { core_expr result ≡ (settled_at r v out.old ts.old).value }
+    ensures temporaries { ts.new.items ≡ (settled_at r v out.old ts.old).temporaries }
 {
     if out.len().saturating_sub(r.place) <= 1 {
         out.truncate(r.place);
@@ -60,9 +61,9 @@ pub fn settle(
     reserved: Option<Reserved>,
     v: CoreExpr,
 ) -> CoreExpr
-    ensures statements { core_stmts out.new.items ≡ (spec.settled reserved (core_expr v) (core_stmts out.old.items) ts.old.items).statements }
-    ensures value { core_expr result ≡ (spec.settled reserved (core_expr v) (core_stmts out.old.items) ts.old.items).value }
-    ensures temporaries { ts.new.items ≡ (spec.settled reserved (core_expr v) (core_stmts out.old.items) ts.old.items).temporaries }
+    ensures statements { core_stmts out.new.items ≡ (settled reserved v out.old ts.old).statements }
+    ensures value { core_expr result ≡ (settled reserved v out.old ts.old).value }
+    ensures temporaries { ts.new.items ≡ (settled reserved v out.old ts.old).temporaries }
 {
     match reserved {
         None => v,

@@ -1,12 +1,11 @@
 // Statements in core: lists of statements.
-ghost use Rattle.std.specs.Prelude.{◌≡◌, [], ◌∷◌, ◌++◌, IfOk, OnOk};
+ghost use Rattle.std.specs.Prelude.{[], ◌∷◌};
 ghost use Rattle.qs_core.specs.Trees as core;
-ghost use Rattle.qs_core.specs.TreeOf.{core_stmt, core_stmts};
-ghost use Rattle.qs_typed.specs.TreeOf.{expression_tree, effect_tree, option_expression, statement_tree, statements_tree};
 ghost use Rattle.qs_elaborate.specs.Parts as parts;
-ghost use Rattle.qs_elaborate.specs.Expressions.{expression_core, effect_core};
-ghost use Rattle.qs_elaborate.specs.Turns.{guarded_turn, turn};
-ghost use Rattle.qs_elaborate.specs.Statements as spec;
+ghost use Rattle.qs_elaborate.specs.CoreOf.{expression, effect, looped, statement, guarded, turn};
+ghost use Rattle.qs_elaborate.specs.CoreOf.{statements_of};
+ghost use Rattle.qs_elaborate.specs.Results.{Adds, Leaves, Makes, Lists};
+ghost use Rattle.qs_elaborate.specs.Statements.{tested};
 
 use crate::expression::{effect, expression};
 use crate::literals::converted;
@@ -25,7 +24,7 @@ fn push_loop(
     body: Vec<CoreStmt>,
     step: Vec<CoreStmt>,
 ) -> Result<(), NoMemory>
-    ensures { OnOk result (core_stmts out.new.items ≡ core_stmts out.old.items ++ spec.looped (core_stmts body.items) (core_stmts step.items) ∷ []) }
+    ensures { Adds (looped body step ∷ []) out.old out.new result }
 {
     let body = Box::new(alloc, one_statement(body))?;
     let step = Box::new(alloc, one_statement(step))?;
@@ -34,8 +33,8 @@ fn push_loop(
 
 // The step of a `do` loop: another turn where the condition holds.
 fn again(e: &Expression, alloc: Global, ts: &mut Vec<Scalar>) -> Result<Vec<CoreStmt>, NoMemory>
-    ensures statements { IfOk result (λ ss. core_stmts ss.items ≡ spec.tested (expression_core (expression_tree e.now) ts.old.items) core.skip core.break) }
-    ensures temporaries { OnOk result (ts.new.items ≡ (expression_core (expression_tree e.now) ts.old.items).temporaries) }
+    ensures statements { Lists (tested (expression e.now ts.old) core.skip core.break) result }
+    ensures temporaries { Leaves (expression e.now ts.old).temporaries ts.new result }
 {
     let mut list = Vec::new(alloc);
     let v = expression(e, alloc, &mut list, ts)?;
@@ -45,8 +44,8 @@ fn again(e: &Expression, alloc: Global, ts: &mut Vec<Scalar>) -> Result<Vec<Core
 
 // The step of a `for` loop.
 fn effect_list(a: &Effect, alloc: Global, ts: &mut Vec<Scalar>) -> Result<Vec<CoreStmt>, NoMemory>
-    ensures statements { IfOk result (λ ss. core_stmts ss.items ≡ (effect_core (effect_tree a.now) ts.old.items).statements) }
-    ensures temporaries { OnOk result (ts.new.items ≡ (effect_core (effect_tree a.now) ts.old.items).temporaries) }
+    ensures statements { Lists (effect a.now ts.old).statements result }
+    ensures temporaries { Leaves (effect a.now ts.old).temporaries ts.new result }
 {
     let mut list = Vec::new(alloc);
     effect(a, alloc, &mut list, ts)?;
@@ -63,8 +62,8 @@ pub fn statement(
     out: &mut Vec<CoreStmt>,
     ts: &mut Vec<Scalar>,
 ) -> Result<(), NoMemory>
-    ensures statements { OnOk result (core_stmts out.new.items ≡ core_stmts out.old.items ++ (spec.statement_core (statement_tree s.now) ts.old.items).statements) }
-    ensures temporaries { OnOk result (ts.new.items ≡ (spec.statement_core (statement_tree s.now) ts.old.items).temporaries) }
+    ensures statements { Adds (statement s.now ts.old).statements out.old out.new result }
+    ensures temporaries { Leaves (statement s.now ts.old).temporaries ts.new result }
 {
     match s {
         Statement::Evaluate(a) => effect(a, alloc, out, ts),
@@ -114,8 +113,8 @@ pub fn statement(
 // A statement as a list of its own.
 #[cycle(statement)]
 fn list(s: &Statement, alloc: Global, ts: &mut Vec<Scalar>) -> Result<Vec<CoreStmt>, NoMemory>
-    ensures statements { IfOk result (λ ss. core_stmts ss.items ≡ (spec.statement_core (statement_tree s.now) ts.old.items).statements) }
-    ensures temporaries { OnOk result (ts.new.items ≡ (spec.statement_core (statement_tree s.now) ts.old.items).temporaries) }
+    ensures statements { Lists (statement s.now ts.old).statements result }
+    ensures temporaries { Leaves (statement s.now ts.old).temporaries ts.new result }
 {
     let mut list = Vec::new(alloc);
     statement(s, alloc, &mut list, ts)?;
@@ -125,8 +124,8 @@ fn list(s: &Statement, alloc: Global, ts: &mut Vec<Scalar>) -> Result<Vec<CoreSt
 // A statement as one statement.
 #[cycle(statement)]
 fn one(s: &Statement, alloc: Global, ts: &mut Vec<Scalar>) -> Result<CoreStmt, NoMemory>
-    ensures statement { IfOk result (λ r. core_stmt r ≡ parts.one_statement (spec.statement_core (statement_tree s.now) ts.old.items).statements) }
-    ensures temporaries { OnOk result (ts.new.items ≡ (spec.statement_core (statement_tree s.now) ts.old.items).temporaries) }
+    ensures statement { Makes (parts.one_statement (statement s.now ts.old).statements) result }
+    ensures temporaries { Leaves (statement s.now ts.old).temporaries ts.new result }
 {
     Ok(one_statement(list(s, alloc, ts)?))
 }
@@ -139,8 +138,8 @@ fn guarded(
     ts: &mut Vec<Scalar>,
     e: &Expression,
 ) -> Result<Vec<CoreStmt>, NoMemory>
-    ensures statements { IfOk result (λ ss. core_stmts ss.items ≡ (guarded_turn (expression_tree e.now) (statement_tree s.now) ts.old.items).statements) }
-    ensures temporaries { OnOk result (ts.new.items ≡ (guarded_turn (expression_tree e.now) (statement_tree s.now) ts.old.items).temporaries) }
+    ensures statements { Lists (guarded e.now s.now ts.old).statements result }
+    ensures temporaries { Leaves (guarded e.now s.now ts.old).temporaries ts.new result }
 {
     let mut list = Vec::new(alloc);
     let v = expression(e, alloc, &mut list, ts)?;
@@ -157,8 +156,8 @@ fn turn(
     ts: &mut Vec<Scalar>,
     condition: &Option<Expression>,
 ) -> Result<Vec<CoreStmt>, NoMemory>
-    ensures statements { IfOk result (λ ss. core_stmts ss.items ≡ (turn (option_expression condition.now) (statement_tree s.now) ts.old.items).statements) }
-    ensures temporaries { OnOk result (ts.new.items ≡ (turn (option_expression condition.now) (statement_tree s.now) ts.old.items).temporaries) }
+    ensures statements { Lists (turn condition.now s.now ts.old).statements result }
+    ensures temporaries { Leaves (turn condition.now s.now ts.old).temporaries ts.new result }
 {
     match condition {
         None => list(s, alloc, ts),
@@ -174,8 +173,8 @@ pub fn statements(
     out: &mut Vec<CoreStmt>,
     ts: &mut Vec<Scalar>,
 ) -> Result<(), NoMemory>
-    ensures statements { OnOk result (core_stmts out.new.items ≡ core_stmts out.old.items ++ (spec.statements_core (statements_tree ss.now) ts.old.items).statements) }
-    ensures temporaries { OnOk result (ts.new.items ≡ (spec.statements_core (statements_tree ss.now) ts.old.items).temporaries) }
+    ensures statements { Adds (statements_of ss.now ts.old).statements out.old out.new result }
+    ensures temporaries { Leaves (statements_of ss.now ts.old).temporaries ts.new result }
 {
     for s in ss {
         statement(s, alloc, out, ts)?;

@@ -8,9 +8,10 @@ ghost use Rattle.qs_typing.specs.TypedOf.{typed_tree};
 ghost use Rattle.qs_meaning.specs.Units.{typed_of};
 ghost use Rattle.qs_meaning.specs.Runs.{main_from};
 ghost use Rattle.qs_elaborate.specs.FitLaws.{HasCore};
-ghost use Rattle.qs_elaborate.specs.NamesOf.{names_of};
+ghost use Rattle.qs_typed.specs.TablesOf.{numbers};
 ghost use Rattle.qs_typed.specs.UnitVariables.{unit_variables};
-ghost use Rattle.qs_elaborate.specs.Units.{unit_core, core_of};
+ghost use Rattle.qs_elaborate.specs.Units.{core_of};
+ghost use Rattle.qs_elaborate.specs.FunctionOf.{core_with};
 
 use crate::data_blocks::data_blocks;
 use crate::function::functions;
@@ -42,8 +43,8 @@ fn core_unit(
     program: &TypedProgram,
     main: FnId,
 ) -> Result<CoreUnit, NoMemory>
-    requires { unit_fits (unit_core (map names_of names.now) (program_tree program.now) main.0) ≡ true }
-    ensures { IfOk result (λ u. unit_tree u ≡ unit_core (map names_of names.now) (program_tree program.now) main.0) }
+    requires { unit_fits (core_with names.now program.now main.0) ≡ true }
+    ensures { IfOk result (λ u. unit_tree u ≡ core_with names.now program.now main.0) }
 {
     let functions = functions(alloc, names, &program.functions)?;
     let data_blocks = data_blocks(alloc, &program.blocks)?;
@@ -54,8 +55,8 @@ fn core_unit(
     })
 }
 
-/// The core of a unit with this typed tree, where the variables of each function with a body stand at these
-/// nodes. Want of memory is the other answer.
+/// The core of a unit with this typed tree, where the variables of each function with a body stand
+/// at these nodes. Want of memory is the other answer.
 pub fn elaborated(
     alloc: Global,
     unit: &Unit,
@@ -64,7 +65,7 @@ pub fn elaborated(
 ) -> Result<CoreUnit, NoMemory>
     requires has_core { HasCore (source.unit_tree unit.now) }
     requires tree { typed_of (source.unit_tree unit.now) ≡ Some (program_tree program.now) }
-    requires variables { map (λ v. v.items) variables.now ≡ unit_variables (source.unit_tree unit.now) }
+    requires variables { map numbers variables.now ≡ unit_variables (source.unit_tree unit.now) }
     ensures { IfOk result (λ core. core_of (source.unit_tree unit.now) ≡ Some (unit_tree core)) }
 {
     let names = unit_names(alloc, unit.declarations(), variables)?;

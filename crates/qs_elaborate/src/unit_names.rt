@@ -1,10 +1,11 @@
 // The names of the functions of a unit and of their variables.
-ghost use Rattle.std.specs.Prelude.{◌≡◌, ◌++◌, List, ℕ, [], IfOk, OnOk, length, map, slice_index_or};
-ghost use Rattle.qs_syntax.specs.Trees.{ParameterTree};
-ghost use Rattle.qs_syntax.specs.TreeOf.{parameter_tree, stmts_tree, function_tree, decl_tree};
-ghost use Rattle.qs_elaborate.specs.Names.{parameter_name};
+ghost use Rattle.std.specs.Prelude.{◌≡◌, [], IfOk, map, slice_index_or};
+ghost use Rattle.qs_syntax.specs.TreeOf.{decl_tree};
+ghost use Rattle.qs_typed.specs.TablesOf.{numbers};
 ghost use Rattle.qs_elaborate.specs.NamesOf.{names_of};
-ghost use Rattle.qs_elaborate.specs.UnitNames as spec;
+ghost use Rattle.qs_elaborate.specs.UnitNames.{declaration_named};
+ghost use Rattle.qs_elaborate.specs.UnitNamesOf.{parameter_names, names_with, function_named};
+ghost use Rattle.qs_elaborate.specs.UnitNamesOf.{names_in, AddsNames};
 
 use crate::declaring::{function_declares, parameter_name};
 use crate::names::FunctionNames;
@@ -14,7 +15,7 @@ use qs_syntax::{Decl, Function, Parameter, Stmt};
 use std::alloc::Global;
 
 fn parameter_names(alloc: Global, ps: &[Parameter]) -> Result<Vec<Name>, NoMemory>
-    ensures { IfOk result (λ ns. ns.items ≡ map (λ (p : ParameterTree). parameter_name p.name) (map parameter_tree ps.now)) }
+    ensures { IfOk result (λ ns. ns.items ≡ parameter_names ps.now) }
 {
     let mut names = Vec::new(alloc);
     for p in ps {
@@ -30,7 +31,7 @@ fn names_with(
     body: &[Stmt],
     nodes: &[u32],
 ) -> Result<FunctionNames, NoMemory>
-    ensures { IfOk result (λ n. names_of n ≡ spec.names_with (function_tree f.now) (stmts_tree body.now) nodes.now) }
+    ensures { IfOk result (λ n. names_of n ≡ names_with f.now body.now nodes.now) }
 {
     let parameters = parameter_names(alloc, &f.parameters)?;
     let declared = function_declares(alloc, f, body)?;
@@ -42,7 +43,7 @@ fn names_with(
 }
 
 fn nodes_at(all: &[Vec<u32>], i: usize) -> &[u32]
-    ensures { result.now ≡ slice_index_or (map (λ v. v.items) all.now) i [] }
+    ensures { result.now ≡ slice_index_or (map numbers all.now) i [] }
 {
     match all.get(i) {
         None => &[],
@@ -57,7 +58,7 @@ fn put_function(
     nodes: &[u32],
     f: &Function,
 ) -> Result<(), NoMemory>
-    ensures { OnOk result (map names_of names.new.items ≡ map names_of names.old.items ++ spec.function_named nodes.now (function_tree f.now) (function_tree f.now).body) }
+    ensures { AddsNames (function_named nodes.now f.now) names.old names.new result }
 {
     match &f.body {
         None => Ok(()),
@@ -74,7 +75,7 @@ fn put_declaration(
     nodes: &[u32],
     d: &Decl,
 ) -> Result<(), NoMemory>
-    ensures { OnOk result (map names_of names.new.items ≡ map names_of names.old.items ++ spec.declaration_named nodes.now (decl_tree d.now)) }
+    ensures { AddsNames (declaration_named nodes.now (decl_tree d.now)) names.old names.new result }
 {
     match d {
         Decl::Struct(_) => Ok(()),
@@ -90,7 +91,7 @@ pub fn unit_names(
     ds: &[Decl],
     all: &[Vec<u32>],
 ) -> Result<Vec<FunctionNames>, NoMemory>
-    ensures { IfOk result (λ ns. map names_of ns.items ≡ spec.declarations_named (map (λ v. v.items) all.now) (map decl_tree ds.now)) }
+    ensures { IfOk result (λ ns. map names_of ns.items ≡ names_in all.now ds.now) }
 {
     let mut names = Vec::new(alloc);
     for d in ds {

@@ -1,12 +1,7 @@
 // What assignments and steps write, and values that are discarded.
-ghost use Rattle.std.specs.Prelude.{◌≡◌, [], ◌∷◌, ◌++◌, IfOk, OnOk};
-ghost use Rattle.qs_core.specs.TreeOf.{core_expr, core_stmt, core_stmts};
-ghost use Rattle.qs_typed.specs.TreeOf.{conversion_tree};
-ghost use Rattle.qs_elaborate.specs.LocationOf.{location_of};
-ghost use Rattle.qs_elaborate.specs.Lists.{located};
-ghost use Rattle.qs_elaborate.specs.Parts.{pointed};
-ghost use Rattle.qs_elaborate.specs.Parts as parts;
-ghost use Rattle.qs_elaborate.specs.Expressions as spec;
+ghost use Rattle.std.specs.Prelude.{[], ◌∷◌};
+ghost use Rattle.qs_elaborate.specs.CoreOf.{written, write_pointed, write_valued, step};
+ghost use Rattle.qs_elaborate.specs.Results.{Adds, Leaves, Gives};
 
 use crate::operations::{step_amount, updated};
 use crate::parts::{Location, new_temporary, push, push_keep, value_at, written};
@@ -35,9 +30,9 @@ fn write_pointed(
     p: CoreExpr,
     a: CoreExpr,
 ) -> Result<CoreExpr, NoMemory>
-    ensures statements { OnOk result (core_stmts out.new.items ≡ core_stmts out.old.items ++ (spec.write_at s (pointed (core_expr p)) [] (core_expr a) ts.old.items).statements) }
-    ensures value { IfOk result (λ b. core_expr b ≡ (spec.write_at s (pointed (core_expr p)) [] (core_expr a) ts.old.items).value) }
-    ensures temporaries { OnOk result (ts.new.items ≡ (spec.write_at s (pointed (core_expr p)) [] (core_expr a) ts.old.items).temporaries) }
+    ensures statements { Adds (write_pointed s p a ts.old).statements out.old out.new result }
+    ensures value { Gives (write_pointed s p a ts.old).value result }
+    ensures temporaries { Leaves (write_pointed s p a ts.old).temporaries ts.new result }
 {
     let k = new_temporary(ts, s)?;
     push_keep(out, k, a)?;
@@ -51,9 +46,9 @@ pub fn write_valued(
     ts: &mut Vec<Scalar>,
     w: Written,
 ) -> Result<CoreExpr, NoMemory>
-    ensures statements { OnOk result (core_stmts out.new.items ≡ core_stmts out.old.items ++ (spec.write_at w.scalar (location_of w.location) [] (core_expr w.value) ts.old.items).statements) }
-    ensures value { IfOk result (λ b. core_expr b ≡ (spec.write_at w.scalar (location_of w.location) [] (core_expr w.value) ts.old.items).value) }
-    ensures temporaries { OnOk result (ts.new.items ≡ (spec.write_at w.scalar (location_of w.location) [] (core_expr w.value) ts.old.items).temporaries) }
+    ensures statements { Adds (write_valued w ts.old).statements out.old out.new result }
+    ensures value { Gives (write_valued w ts.old).value result }
+    ensures temporaries { Leaves (write_valued w ts.old).temporaries ts.new result }
 {
     let Written {
         scalar,
@@ -71,7 +66,7 @@ pub fn write_valued(
 
 /// An assignment whose value is discarded.
 pub fn write_discarded(out: &mut Vec<CoreStmt>, w: Written) -> Result<(), NoMemory>
-    ensures { OnOk result (core_stmts out.new.items ≡ core_stmts out.old.items ++ parts.written w.scalar (location_of w.location) (core_expr w.value) ∷ []) }
+    ensures { Adds (written w ∷ []) out.old out.new result }
 {
     push(out, written(w.scalar, w.location, w.value))
 }
@@ -82,22 +77,22 @@ pub fn step_valued(
     out: &mut Vec<CoreStmt>,
     ts: &mut Vec<Scalar>,
     s: Scalar,
-    operation: BinaryOperation,
+    op: BinaryOperation,
     left: Conversion,
     back: Conversion,
     at: Location,
 ) -> Result<CoreExpr, NoMemory>
-    ensures statements { OnOk result (core_stmts out.new.items ≡ core_stmts out.old.items ++ (spec.step_valued s operation (conversion_tree left) (conversion_tree back) (located (location_of at) ts.old.items)).statements) }
-    ensures value { IfOk result (λ b. core_expr b ≡ (spec.step_valued s operation (conversion_tree left) (conversion_tree back) (located (location_of at) ts.old.items)).value) }
-    ensures temporaries { OnOk result (ts.new.items ≡ (spec.step_valued s operation (conversion_tree left) (conversion_tree back) (located (location_of at) ts.old.items)).temporaries) }
+    ensures statements { Adds (step s op left back at ts.old).statements out.old out.new result }
+    ensures value { Gives (step s op left back at ts.old).value result }
+    ensures temporaries { Leaves (step s op left back at ts.old).temporaries ts.new result }
 {
     let k = new_temporary(ts, s)?;
     let old = value_at(alloc, s, &at)?;
     push_keep(out, k, old)?;
     let kept = CoreExpr::Temporary(s, k);
-    let amount = step_amount(operation);
+    let amount = step_amount(op);
     let unchanged = Conversion::Unchanged;
-    let new = updated(alloc, operation, left, unchanged, back, kept, amount)?;
+    let new = updated(alloc, op, left, unchanged, back, kept, amount)?;
     push(out, written(s, at, new))?;
     Ok(CoreExpr::Temporary(s, k))
 }

@@ -106,8 +106,8 @@ pub choice-returns-in_ok-w-2-clause-statements : goal.choice-returns-in_ok-w-2-c
 choice-returns-in_ok-w-2-clause-statements t c =
     let b = expression_tree c.args.b.now in
     let s = c.args.s in
-    let second = conversion_tree c.args.second in
-    let third = conversion_tree c.args.third in
+    let second = conversion_tree c.args.c in
+    let third = conversion_tree c.args.d in
     let v = core_expr c.args.v in
     let ts = c.args.ts.now.items in
     let met : Valued = valued (core_stmts c.args.met.statements.items) (core_expr c.args.met.value) ts in
@@ -118,8 +118,8 @@ pub choice-returns-in_ok-w-2-clause-value : goal.choice-returns-in_ok-w-2-clause
 choice-returns-in_ok-w-2-clause-value t c =
     let b = expression_tree c.args.b.now in
     let s = c.args.s in
-    let second = conversion_tree c.args.second in
-    let third = conversion_tree c.args.third in
+    let second = conversion_tree c.args.c in
+    let third = conversion_tree c.args.d in
     let v = core_expr c.args.v in
     let ts = c.args.ts.now.items in
     let met : Valued = valued (core_stmts c.args.met.statements.items) (core_expr c.args.met.value) ts in
@@ -134,8 +134,8 @@ pub choice-returns-in_ok-w-2-clause-temporaries : goal.choice-returns-in_ok-w-2-
 choice-returns-in_ok-w-2-clause-temporaries t c =
     let b = expression_tree c.args.b.now in
     let s = c.args.s in
-    let second = conversion_tree c.args.second in
-    let third = conversion_tree c.args.third in
+    let second = conversion_tree c.args.c in
+    let third = conversion_tree c.args.d in
     let v = core_expr c.args.v in
     let ts = c.args.ts.now.items in
     let met : Valued = valued (core_stmts c.args.met.statements.items) (core_expr c.args.met.value) ts in

@@ -12,7 +12,7 @@ use Rattle.qs_memory.specs.declared.blank.Blank.{Blank-F, fold-roll-Blank}
 use Rattle.qs_memory.specs.declared.blank.Blank.TheVariants as blanks
 use Rattle.qs_typed.specs.declared.data.Datum.{Datum}
 use Rattle.qs_typed.specs.declared.cells.Cell.{Cell}
-use Rattle.qs_typed.specs.TreeOf.{datum_cells, contents_cells, pointer_width}
+use Rattle.qs_typed.specs.TreeOf.{contents_cells, pointer_width}
 use Rattle.qs_syntax.specs.Trees.{ExprTree}
 use Rattle.qs_types.specs.Types.{TypeTree}
 use Rattle.qs_types.specs.Declarations.{text_of}
@@ -20,13 +20,6 @@ use Rattle.qs_meaning.specs.InitialValues.{array_cells, length_in, text_cells, w
 use Rattle.qs_typed.specs.CellsOf.{cell_tree}
 
 -- ---- lists
-
-pub contents_more : (xs ys : List Datum) → contents_cells (xs ++ ys) ≡ contents_cells xs ++ contents_cells ys
-contents_more [] ys = refl
-contents_more (x ∷ xs) ys = ap (λ rest. datum_cells x ++ rest) (contents_more xs ys) ∙ sym (append_assoc (datum_cells x) (contents_cells xs) (contents_cells ys))
-
-pub contents_last : (xs : List Datum) (x : Datum) → contents_cells (xs ++ x ∷ []) ≡ contents_cells xs ++ datum_cells x
-contents_last xs x = contents_more xs (x ∷ []) ∙ ap (λ rest. contents_cells xs ++ rest) (append-nil (datum_cells x))
 
 pub map_take : {A B : Type 0} (f : A → B) (n : ℕ) (xs : List A) → map f (take n xs) ≡ take n (map f xs)
 map_take f zero xs = refl

@@ -19,7 +19,6 @@ pub mod UnitHeaders
 pub mod UnitContexts
 pub mod AddressedLaws
 pub mod Variants
-pub mod Behind
 pub mod UnitLocals
 pub mod UnitGiven
 pub mod UnitBodies

@@ -1,5 +1,5 @@
 -- Places in tables and in lists.
-use Rattle.std.proofs.Common.{◌≡◌, ℕ, zero, suc, ◌+◌, ◌<◌, Bool, true, false, not, ◌||◌, List, [], ◌∷◌, Option, Some, None, length, nat_lt, nat_eq, cond, refl, sym, ap, ◌∙◌, append_assoc, arith, if◌then◌else◌}
+use Rattle.std.proofs.Common.{◌≡◌, ℕ, ◌+◌, Bool, true, false, not, ◌||◌, List, [], ◌∷◌, Option, Some, None, length, nat_lt, nat_eq, cond, refl, sym, ap, ◌∙◌, append_assoc, arith, if◌then◌else◌}
 use Rattle.std.specs.Prelude.{◌==◌, position}
 use Rattle.std.specs.List.{position_or_len, list_any}
 use Rattle.std.specs.Map.{lookup}
@@ -8,16 +8,12 @@ use Rattle.std.specs.declared.alloc.Global.{Global}
 use Rattle.qs_memory.specs.declared.scalar.Scalar.{Scalar}
 use Rattle.qs_typing.proofs.Tags.{tag_position}
 use Rattle.std.proofs.lemmas.Cmp.{nat_list_eq_equiv, nat_eq_equiv}
-use Rattle.qs_memory.specs.Partial.{◌>>=◌}
 use Rattle.qs_syntax.specs.Sameness.{same_bytes}
-use Rattle.qs_syntax.specs.declared.types.TypeName.{TypeName}
-use Rattle.qs_types.specs.Types.{TypeTree, Structs}
-use Rattle.qs_types.specs.Layout.{and_then, size_of}
-use Rattle.qs_types.specs.Contexts.{place_from, pointers}
+use Rattle.qs_types.specs.Types.{TypeTree}
+use Rattle.qs_types.specs.Contexts.{place_from}
 use Rattle.qs_types.specs.Placed.{is_one_of}
 use Rattle.qs_meaning.specs.Names.{place_where, place_among, function_number}
-use Rattle.qs_meaning.specs.Expressions.{size_form}
-use Rattle.qs_typed.specs.Known.{Known, base_known, named_known, named_size_known, sized, parameters_of}
+use Rattle.qs_typed.specs.Known.{parameters_of}
 use Rattle.qs_typed.specs.KnownOf.{headers_tree}
 use Rattle.std.specs.Prelude.{◌++◌}
 use Rattle.std.proofs.lemmas.List.Elements.{filter-append}
@@ -56,26 +52,10 @@ pub one_of : (n : ℕ) (ms : List ℕ) → list_any (nat_eq n) ms ≡ is_one_of 
 one_of n [] = refl
 one_of n (m ∷ ms) = λ i. nat_eq_equiv.symm n m i || one_of n ms i
 
--- ---- types by name
+-- ---- tags
 
 pub tag_found : (tag : List ℕ) (tags : List (List ℕ)) (i : ℕ) → position (same_bytes tag) tags ≡ Some i → place_from 0 tag tags ≡ Some i
 tag_found tag tags i e = sym (tag_position tag tags) ∙ e
-
-named_is : (k : Known) (name : TypeName) (t : TypeTree) → base_known k name.base ≡ Some t → named_known k name ≡ Some (pointers name.stars t)
-named_is k name t e = ap (λ o. and_then o (λ t. Some (pointers name.stars t))) e
-
-pub named_size : (k : Known) (name : TypeName) (t : TypeTree) (n : ℕ) → base_known k name.base ≡ Some t → name.stars ≡ 0 → size_of k.structs t ≡ Some n
-    → named_size_known k name ≡ Some (sized n)
-named_size k name t n p z q =
-    ap (λ o. o >>= size_form k.structs) (named_is k name t p ∙ ap (λ m. Some (pointers m t)) z) ∙ ap (λ o. o >>= λ size. Some (sized size)) q
-
-pointed : (structs : Structs) (stars : ℕ) (t : TypeTree) → 0 < stars → size_of structs (pointers stars t) ≡ Some 4
-pointed structs zero t h = absurd (omega arith)
-pointed structs (suc stars) t h = refl
-
-pub pointed_size : (k : Known) (name : TypeName) (t : TypeTree) → base_known k name.base ≡ Some t → 0 < name.stars → named_size_known k name ≡ Some (sized 4)
-pointed_size k name t p h =
-    ap (λ o. o >>= size_form k.structs) (named_is k name t p) ∙ ap (λ o. o >>= λ size. Some (sized size)) (pointed k.structs name.stars t h)
 
 -- ---- headers
 

@@ -26,8 +26,8 @@ one_more t f body ds all g e h =
 
 -- ---- variables
 
-pub no_variables : (t : Tables) (f : FunctionTree) (b : Option Stmts) → b ≡ None → variables_of t f b ≡ []
-no_variables t f b e = ap (variables_of t f) e
+pub without_body : (t : Tables) (f : FunctionTree) (b : Option Stmts) → b ≡ None → variables_of t f b ≡ []
+without_body t f b e = ap (variables_of t f) e
 
-pub its_variables : (t : Tables) (f : FunctionTree) (b : Option Stmts) (body : Stmts) → b ≡ Some body → variables_of t f b ≡ (body_places t f body).variables ∷ []
-its_variables t f b body e = ap (variables_of t f) e
+pub with_body : (t : Tables) (f : FunctionTree) (b : Option Stmts) (body : Stmts) → b ≡ Some body → variables_of t f b ≡ (body_places t f body).variables ∷ []
+with_body t f b body e = ap (variables_of t f) e

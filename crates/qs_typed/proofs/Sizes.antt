@@ -1,8 +1,13 @@
 -- Sizes of types.
-use Rattle.std.proofs.Common.{◌≡◌, Bool, true, false, Option, Some, None, nat_le, refl, sym, ap, ◌∙◌, if◌then◌else◌}
+use Rattle.std.proofs.Common.{◌≡◌, ℕ, zero, suc, ◌<◌, Bool, true, false, Option, Some, None, nat_le, refl, sym, ap, ◌∙◌, arith, if◌then◌else◌}
+use Rattle.qs_memory.specs.Partial.{◌>>=◌}
+use Rattle.qs_syntax.specs.declared.types.TypeName.{TypeName}
+use Rattle.qs_types.specs.Contexts.{pointers}
 use Rattle.qs_types.specs.declared.extent.Extent.{Extent}
 use Rattle.qs_types.specs.Types.{TypeTree, int, unsigned, char, void, pointer, array, struct, Structs}
-use Rattle.qs_types.specs.Layout.{and_then, Layouts, StructLayout, extent_by, extent_of, sized_by, layout_of, extent_within, array_extent, struct_extent, size_limit}
+use Rattle.qs_types.specs.Layout.{and_then, Layouts, StructLayout, extent_by, extent_of, sized_by, size_of, layout_of, extent_within, array_extent, struct_extent, size_limit}
+use Rattle.qs_meaning.specs.Expressions.{size_form}
+use Rattle.qs_typed.specs.Known.{Known, base_known, named_known, named_size_known, sized}
 
 same : {A : Type 0} (x y : A) → Some x ≡ Some y → x ≡ y
 same x y e = cc
@@ -41,3 +46,21 @@ sized_is layouts (struct k) e p = go (layouts k) p
 
 pub extent_is : (structs : Structs) (t : TypeTree) (e : Extent) (o : Option Extent) → o ≡ sized_by (layout_of structs) t → o ≡ Some e → extent_of structs t ≡ Some e
 extent_is structs t e o p q = sized_is (layout_of structs) t e (sym p ∙ q)
+
+-- ---- of types by name
+
+named_is : (k : Known) (name : TypeName) (t : TypeTree) → base_known k name.base ≡ Some t → named_known k name ≡ Some (pointers name.stars t)
+named_is k name t e = ap (λ o. and_then o (λ t. Some (pointers name.stars t))) e
+
+pub named_size : (k : Known) (name : TypeName) (t : TypeTree) (n : ℕ) → base_known k name.base ≡ Some t → name.stars ≡ 0 → size_of k.structs t ≡ Some n
+    → named_size_known k name ≡ Some (sized n)
+named_size k name t n p z q =
+    ap (λ o. o >>= size_form k.structs) (named_is k name t p ∙ ap (λ m. Some (pointers m t)) z) ∙ ap (λ o. o >>= λ size. Some (sized size)) q
+
+pointed : (structs : Structs) (stars : ℕ) (t : TypeTree) → 0 < stars → size_of structs (pointers stars t) ≡ Some 4
+pointed structs zero t h = absurd (omega arith)
+pointed structs (suc stars) t h = refl
+
+pub pointed_size : (k : Known) (name : TypeName) (t : TypeTree) → base_known k name.base ≡ Some t → 0 < name.stars → named_size_known k name ≡ Some (sized 4)
+pointed_size k name t p h =
+    ap (λ o. o >>= size_form k.structs) (named_is k name t p) ∙ ap (λ o. o >>= λ size. Some (sized size)) (pointed k.structs name.stars t h)

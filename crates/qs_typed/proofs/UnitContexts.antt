@@ -5,7 +5,7 @@ use Rattle.qs_syntax.specs.Sameness.{same_bytes}
 use Rattle.qs_syntax.specs.declared.types.Base.{Base}
 use Rattle.qs_syntax.specs.Trees.{VariableTree, StructTree, DeclTree, structure, forward, function, variables, UnitTree}
 use Rattle.qs_types.specs.Types as types
-use Rattle.qs_types.specs.Types.{TypeTree, MemberTree, Structs}
+use Rattle.qs_types.specs.Types.{MemberTree, Structs}
 use Rattle.qs_types.specs.Layout.{and_then, struct_of, layout_of, sized_layout, member_types, with_members}
 use Rattle.qs_types.specs.Contexts.{Context, place_from, tag_place}
 use Rattle.qs_types.specs.StatementRules.{after_variable, after_variables}

@@ -1,14 +1,20 @@
 -- The pure forms that forms in code stand for.
+use Rattle.std.specs.Prelude.{Option, Result}
 use Rattle.qs_memory.specs.declared.scalar.Scalar.{Scalar}
 use Rattle.qs_memory.specs.declared.scalar.Scalar.TheVariants as scalars
 use Rattle.qs_memory.specs.declared.operation.BinaryOperation.{BinaryOperation}
 use Rattle.qs_types.specs.TypeOf.{type_tree}
 use Rattle.qs_meaning.specs.Typed as trees
+use Rattle.qs_meaning.specs.Expressions.{conditional_form}
 use Rattle.qs_meaning.specs.Forms as forms
+use Rattle.qs_typed.specs.Parts.{operated_by, operated_tree}
+use Rattle.qs_typed.specs.Results.{Gives, Makes}
 use Rattle.qs_typed.specs.TreeOf.{conversion_tree, expression_tree, lvalue_tree, assignment_tree, effect_tree, arguments_tree}
+use Rattle.qs_typed.specs.declared.expressions.Expression.{Expression}
 use Rattle.qs_typed.specs.declared.forms.Form.{Form, Form-F, fold-Form}
 use Rattle.qs_typed.specs.declared.forms.Step.{Step}
 use Rattle.qs_typed.specs.declared.forms.Typed.{Typed}
+use Rattle.qs_typed.specs.declared.operations.Operated.{Operated}
 
 -- a step behind its operand
 pub record StepTree : Type 0 where
@@ -53,3 +59,25 @@ form_tree = fold-Form forms.Form form_step
 
 abbrev pub typed_tree : Typed → forms.TypedExpr
 typed_tree a = record { type = type_tree a.of.now; form = form_tree a.form }
+
+-- an operation on two values
+abbrev pub operation_tree : Operated → (a b : Typed) → trees.Expr
+operation_tree o a b = operated_by (operated_tree o) (typed_tree a) (typed_tree b)
+
+-- ---- answers
+
+-- the form is the one that is due
+abbrev pub IsForm : {E : Type 0} → Option forms.Form → Result Form E → Type 0
+IsForm due result = Gives form_tree due result
+
+-- .. that two operands have together
+abbrev pub Combines : {E : Type 0} → (forms.TypedExpr → forms.TypedExpr → Option forms.Form) → (a b : Typed) → Result Form E → Type 0
+Combines form a b result = IsForm (form (typed_tree a) (typed_tree b)) result
+
+-- the value is the one that two operands have together
+abbrev pub Computes : {E : Type 0} → (forms.TypedExpr → forms.TypedExpr → Option trees.Expr) → (a b : Typed) → Result Expression E → Type 0
+Computes value a b result = Gives expression_tree (value (typed_tree a) (typed_tree b)) result
+
+-- 6.5.15: one value or the other
+abbrev pub Chooses : {E : Type 0} → (c a b : Typed) → Result Form E → Type 0
+Chooses c a b result = Makes form_tree (conditional_form (typed_tree c) (typed_tree a) (typed_tree b)) result

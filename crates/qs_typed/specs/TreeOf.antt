@@ -1,5 +1,6 @@
 -- The trees that the program's values stand for.
-use Rattle.std.specs.Prelude.{ℕ, List, [], ◌∷◌, Option, map, option_map, flat_map}
+use Rattle.std.specs.Prelude.{ℕ, List, [], ◌∷◌, Option, map, option_map, flat_map, Vec}
+use Rattle.std.specs.declared.alloc.Global.{Global}
 use Rattle.qs_memory.specs.Values.{null, into}
 use Rattle.qs_memory.specs.Memory.{Cell, byte, parts_of, times}
 use Rattle.qs_memory.specs.BlankOf.{blank_tree}
@@ -148,8 +149,14 @@ datum_cells (data_parts.Pointer block) = parts_of (into block 0) 0 pointer_width
 abbrev pub contents_cells : List Datum → List Cell
 contents_cells parts = flat_map datum_cells parts
 
+abbrev pub data_cells : Vec Datum Global → List Cell
+data_cells parts = contents_cells parts.items
+
 abbrev pub static_block_tree : StaticBlock → trees.StaticBlock
 static_block_tree b = record { cells = contents_cells b.contents.items; writable = b.is_writable }
+
+abbrev pub blocks_tree : Vec StaticBlock Global → List trees.StaticBlock
+blocks_tree bs = map static_block_tree bs.items
 
 -- ---- functions and units
 
@@ -164,5 +171,8 @@ function_tree f = record {
   is_main = f.is_main;
 }
 
+abbrev pub functions_tree : Vec TypedFunction Global → List trees.Function
+functions_tree fs = map function_tree fs.items
+
 abbrev pub program_tree : TypedProgram → trees.TypedProgram
-program_tree u = record { functions = map function_tree u.functions.items; blocks = map static_block_tree u.blocks.items }
+program_tree u = record { functions = functions_tree u.functions; blocks = blocks_tree u.blocks }

@@ -1,9 +1,15 @@
 // Which locals and parameters are operands of `&` in a body (C11 6.5.3.2).
-ghost use Rattle.std.specs.Prelude.{◌≡◌, ◌++◌, OnOk, map};
-ghost use Rattle.qs_syntax.specs.TreeOf.{else_tree, expr_tree, exprs_tree, initialiser_tree, initialisers_tree, option_tree, shape_tree, start_tree, stmt_tree, stmts_tree, variable_tree};
-ghost use Rattle.std.specs.Prelude.{option_map};
-ghost use Rattle.qs_types.specs.Placed.{operand_of};
-ghost use Rattle.qs_typed.specs.Addressed.{addressed_known, all_addressed, each_addressed, else_addressed, initial_addressed, initialiser_addressed, initialisers_addressed, local_named, name_known, option_addressed, shape_addressed, start_addressed, statement_addressed, statements_addressed, variable_addressed, variables_addressed};
+ghost use Rattle.std.specs.Prelude.{map};
+ghost use Rattle.qs_syntax.specs.TreeOf.{else_tree, expr_tree, exprs_tree, option_tree, shape_tree};
+ghost use Rattle.qs_syntax.specs.TreeOf.{start_tree, stmt_tree, stmts_tree, variable_tree};
+ghost use Rattle.qs_typed.specs.Addressed.{addressed_known, all_addressed, each_addressed};
+ghost use Rattle.qs_typed.specs.Addressed.{else_addressed, local_named, name_known};
+ghost use Rattle.qs_typed.specs.Addressed.{option_addressed, shape_addressed, start_addressed};
+ghost use Rattle.qs_typed.specs.Addressed.{statement_addressed, statements_addressed};
+ghost use Rattle.qs_typed.specs.Addressed.{variable_addressed};
+ghost use Rattle.qs_typed.specs.AddressedOf.{initial_operands, initialiser_operands};
+ghost use Rattle.qs_typed.specs.AddressedOf.{initialisers_operands, operand_in, variables_operands};
+ghost use Rattle.qs_typed.specs.Results.{Adds};
 
 use crate::known::referent_in;
 use qs_base::NoMemory;
@@ -13,7 +19,7 @@ use qs_typing::Referent;
 // ---- expressions
 
 fn local_named(referent: Option<Referent>, nodes: &mut Vec<u32>) -> Result<(), NoMemory>
-    ensures { OnOk result (nodes.new.items ≡ nodes.old.items ++ local_named referent) }
+    ensures { Adds (local_named referent) nodes.old nodes.new result }
 {
     match referent {
         None => Ok(()),
@@ -32,7 +38,7 @@ fn local_named(referent: Option<Referent>, nodes: &mut Vec<u32>) -> Result<(), N
 
 /// Of the operand of `&`, where it is a name.
 fn name_known(names: &[Option<Referent>], e: &Expr, nodes: &mut Vec<u32>) -> Result<(), NoMemory>
-    ensures { OnOk result (nodes.new.items ≡ nodes.old.items ++ name_known names.now (expr_tree e.now)) }
+    ensures { Adds (name_known names.now (expr_tree e.now)) nodes.old nodes.new result }
 {
     match &e.shape {
         Shape::Name(_) => local_named(referent_in(names, e.node.id), nodes),
@@ -46,7 +52,7 @@ fn operand_of(
     e: &Expr,
     nodes: &mut Vec<u32>,
 ) -> Result<(), NoMemory>
-    ensures { OnOk result (nodes.new.items ≡ nodes.old.items ++ operand_of operator (name_known names.now (expr_tree e.now))) }
+    ensures { Adds (operand_in operator names.now e.now) nodes.old nodes.new result }
 {
     match operator {
         UnaryOperator::Address => name_known(names, e, nodes),
@@ -64,7 +70,7 @@ fn addressed_known(
     e: &Expr,
     nodes: &mut Vec<u32>,
 ) -> Result<(), NoMemory>
-    ensures { OnOk result (nodes.new.items ≡ nodes.old.items ++ addressed_known names.now (expr_tree e.now)) }
+    ensures { Adds (addressed_known names.now (expr_tree e.now)) nodes.old nodes.new result }
 {
     shape_addressed(names, &e.shape, nodes)
 }
@@ -75,7 +81,7 @@ fn shape_addressed(
     shape: &Shape,
     nodes: &mut Vec<u32>,
 ) -> Result<(), NoMemory>
-    ensures { OnOk result (nodes.new.items ≡ nodes.old.items ++ shape_addressed names.now (shape_tree shape.now)) }
+    ensures { Adds (shape_addressed names.now (shape_tree shape.now)) nodes.old nodes.new result }
 {
     match shape {
         Shape::Constant(_, _) => Ok(()),
@@ -137,7 +143,7 @@ fn all_addressed(
     es: &[Expr],
     nodes: &mut Vec<u32>,
 ) -> Result<(), NoMemory>
-    ensures { OnOk result (nodes.new.items ≡ nodes.old.items ++ all_addressed names.now (exprs_tree es.now)) }
+    ensures { Adds (all_addressed names.now (exprs_tree es.now)) nodes.old nodes.new result }
 {
     for e in es {
         addressed_known(names, e, nodes)?;
@@ -150,7 +156,7 @@ fn option_addressed(
     e: &Option<Expr>,
     nodes: &mut Vec<u32>,
 ) -> Result<(), NoMemory>
-    ensures { OnOk result (nodes.new.items ≡ nodes.old.items ++ option_addressed names.now (option_tree e.now)) }
+    ensures { Adds (option_addressed names.now (option_tree e.now)) nodes.old nodes.new result }
 {
     match e {
         None => Ok(()),
@@ -163,7 +169,7 @@ fn each_addressed(
     es: &[Expr],
     nodes: &mut Vec<u32>,
 ) -> Result<(), NoMemory>
-    ensures { OnOk result (nodes.new.items ≡ nodes.old.items ++ each_addressed names.now (map expr_tree es.now)) }
+    ensures { Adds (each_addressed names.now (map expr_tree es.now)) nodes.old nodes.new result }
 {
     for e in es {
         addressed_known(names, e, nodes)?;
@@ -179,7 +185,7 @@ fn initialiser_addressed(
     i: &Initialiser,
     nodes: &mut Vec<u32>,
 ) -> Result<(), NoMemory>
-    ensures { OnOk result (nodes.new.items ≡ nodes.old.items ++ initialiser_addressed names.now (initialiser_tree i.now)) }
+    ensures { Adds (initialiser_operands names.now i.now) nodes.old nodes.new result }
 {
     match i {
         Initialiser::Value(e) => addressed_known(names, e, nodes),
@@ -193,7 +199,7 @@ fn initialisers_addressed(
     is: &[Initialiser],
     nodes: &mut Vec<u32>,
 ) -> Result<(), NoMemory>
-    ensures { OnOk result (nodes.new.items ≡ nodes.old.items ++ initialisers_addressed names.now (initialisers_tree is.now)) }
+    ensures { Adds (initialisers_operands names.now is.now) nodes.old nodes.new result }
 {
     for i in is {
         initialiser_addressed(names, i, nodes)?;
@@ -206,7 +212,7 @@ fn initial_addressed(
     i: &Option<Initialiser>,
     nodes: &mut Vec<u32>,
 ) -> Result<(), NoMemory>
-    ensures { OnOk result (nodes.new.items ≡ nodes.old.items ++ initial_addressed names.now (option_map initialiser_tree i.now)) }
+    ensures { Adds (initial_operands names.now i.now) nodes.old nodes.new result }
 {
     match i {
         None => Ok(()),
@@ -219,7 +225,7 @@ fn variable_addressed(
     v: &Variable,
     nodes: &mut Vec<u32>,
 ) -> Result<(), NoMemory>
-    ensures { OnOk result (nodes.new.items ≡ nodes.old.items ++ variable_addressed names.now (variable_tree v.now)) }
+    ensures { Adds (variable_addressed names.now (variable_tree v.now)) nodes.old nodes.new result }
 {
     each_addressed(names, &v.declarator.lengths.given, nodes)?;
     initial_addressed(names, &v.initialiser, nodes)
@@ -230,7 +236,7 @@ fn variables_addressed(
     vs: &[Variable],
     nodes: &mut Vec<u32>,
 ) -> Result<(), NoMemory>
-    ensures { OnOk result (nodes.new.items ≡ nodes.old.items ++ variables_addressed names.now (map variable_tree vs.now)) }
+    ensures { Adds (variables_operands names.now vs.now) nodes.old nodes.new result }
 {
     for v in vs {
         variable_addressed(names, v, nodes)?;
@@ -245,7 +251,7 @@ fn start_addressed(
     start: &Start,
     nodes: &mut Vec<u32>,
 ) -> Result<(), NoMemory>
-    ensures { OnOk result (nodes.new.items ≡ nodes.old.items ++ start_addressed names.now (start_tree start.now)) }
+    ensures { Adds (start_addressed names.now (start_tree start.now)) nodes.old nodes.new result }
 {
     match start {
         Start::Nothing => Ok(()),
@@ -260,7 +266,7 @@ fn statement_addressed(
     s: &Stmt,
     nodes: &mut Vec<u32>,
 ) -> Result<(), NoMemory>
-    ensures { OnOk result (nodes.new.items ≡ nodes.old.items ++ statement_addressed names.now (stmt_tree s.now)) }
+    ensures { Adds (statement_addressed names.now (stmt_tree s.now)) nodes.old nodes.new result }
 {
     match s {
         Stmt::Empty(_) => Ok(()),
@@ -317,7 +323,7 @@ fn else_addressed(
     s: &Option<Box<Stmt>>,
     nodes: &mut Vec<u32>,
 ) -> Result<(), NoMemory>
-    ensures { OnOk result (nodes.new.items ≡ nodes.old.items ++ else_addressed names.now (else_tree s.now)) }
+    ensures { Adds (else_addressed names.now (else_tree s.now)) nodes.old nodes.new result }
 {
     match s {
         None => Ok(()),
@@ -325,15 +331,15 @@ fn else_addressed(
     }
 }
 
-/// Adds the locals and parameters whose names are operands of `&` in these statements, by the numbers of
-/// the nodes of their declarations, in the order of the text.
+/// Adds the locals and parameters whose names are operands of `&` in these statements, by the
+/// numbers of the nodes of their declarations, in the order of the text.
 #[cycle(statements)]
 pub fn statements_addressed(
     names: &[Option<Referent>],
     ss: &[Stmt],
     nodes: &mut Vec<u32>,
 ) -> Result<(), NoMemory>
-    ensures { OnOk result (nodes.new.items ≡ nodes.old.items ++ statements_addressed names.now (stmts_tree ss.now)) }
+    ensures { Adds (statements_addressed names.now (stmts_tree ss.now)) nodes.old nodes.new result }
 {
     for s in ss {
         statement_addressed(names, s, nodes)?;

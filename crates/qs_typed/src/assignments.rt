@@ -1,11 +1,10 @@
 // Assignments and steps (C11 6.5.16, 6.5.2.4, 6.5.3.1).
-ghost use Rattle.std.specs.Prelude.{◌≡◌, IfOk, Some};
-ghost use Rattle.qs_meaning.specs.Expressions.{assign_form, compound_form, one, plain_form, set_form, step_after_form, step_form, struct_form};
+ghost use Rattle.qs_meaning.specs.Expressions.{assign_form, compound_form, one, plain_form};
+ghost use Rattle.qs_meaning.specs.Expressions.{set_form, step_after_form, step_form, struct_form};
 ghost use Rattle.qs_types.specs.EnvOf.{env_tree};
-ghost use Rattle.qs_types.specs.TypeOf.{type_tree};
-ghost use Rattle.qs_typed.specs.FormOf.{form_tree, typed_tree};
-ghost use Rattle.qs_typed.specs.Parts.{operated_tree, stepped_by, updated_by};
-ghost use Rattle.qs_typed.specs.TreeOf.{expression_tree, lvalue_tree};
+ghost use Rattle.qs_typed.specs.FormOf.{Combines, IsForm, form_tree, typed_tree};
+ghost use Rattle.qs_typed.specs.Parts.{stepped_tree, updated_tree};
+ghost use Rattle.qs_typed.specs.Results.{Makes};
 
 use crate::expressions::{Assignment, Expression, Lvalue};
 use crate::forms::{Form, Step, Typed, type_in_use, value_in_use};
@@ -19,7 +18,7 @@ use std::alloc::Global;
 
 /// The value is converted to the type of the lvalue (C11 6.5.16.1p2).
 fn set_form(alloc: Global, a: Typed<'_>, b: Typed<'_>) -> Result<Form, NoMemory>
-    ensures { IfOk result (λ f. set_form (typed_tree a.entry) (typed_tree b.entry) ≡ Some (form_tree f)) }
+    ensures { Combines set_form a.entry b.entry result }
 {
     let lvalue = a.form.into_lvalue()?;
     let from = type_in_use(alloc, &b)?;
@@ -38,7 +37,7 @@ fn set_form(alloc: Global, a: Typed<'_>, b: Typed<'_>) -> Result<Form, NoMemory>
 
 /// A struct (C11 6.5.16.1p2).
 fn struct_form(alloc: Global, env: &Env, a: Typed<'_>, b: Typed<'_>) -> Result<Form, NoMemory>
-    ensures { IfOk result (λ f. struct_form (env_tree env.now) (typed_tree a.entry) (typed_tree b.entry) ≡ Some (form_tree f)) }
+    ensures { Combines (struct_form (env_tree env.now)) a.entry b.entry result }
 {
     let extent = extent_in(env, a.of)?;
     let to = a.form.into_address()?;
@@ -53,7 +52,7 @@ fn struct_form(alloc: Global, env: &Env, a: Typed<'_>, b: Typed<'_>) -> Result<F
 
 /// `=` (C11 6.5.16.1).
 pub fn plain_form(alloc: Global, env: &Env, a: Typed<'_>, b: Typed<'_>) -> Result<Form, NoMemory>
-    ensures { IfOk result (λ f. plain_form (env_tree env.now) (typed_tree a.entry) (typed_tree b.entry) ≡ Some (form_tree f)) }
+    ensures { Combines (plain_form (env_tree env.now)) a.entry b.entry result }
 {
     if is_struct(a.of) {
         struct_form(alloc, env, a, b)
@@ -70,7 +69,7 @@ fn updated(
     o: Operated,
     value: Expression,
 ) -> Result<Form, NoMemory>
-    ensures { IfOk result (λ f. form_tree f ≡ updated_by (type_tree t.now) (lvalue_tree lvalue) (operated_tree o) (expression_tree value)) }
+    ensures { Makes form_tree (updated_tree t.now lvalue o value) result }
 {
     let scalar = scalar_of(t);
     Ok(Form::Assignment(Box::new(
@@ -96,7 +95,7 @@ fn compound_form(
     a: Typed<'_>,
     b: Typed<'_>,
 ) -> Result<Form, NoMemory>
-    ensures { IfOk result (λ f. compound_form (env_tree env.now) operator (typed_tree a.entry) (typed_tree b.entry) ≡ Some (form_tree f)) }
+    ensures { Combines (compound_form (env_tree env.now) operator) a.entry b.entry result }
 {
     let lvalue = a.form.into_lvalue()?;
     let u = type_in_use(alloc, &b)?;
@@ -113,7 +112,7 @@ pub fn assign_form(
     a: Typed<'_>,
     b: Typed<'_>,
 ) -> Result<Form, NoMemory>
-    ensures { IfOk result (λ f. assign_form (env_tree env.now) operator (typed_tree a.entry) (typed_tree b.entry) ≡ Some (form_tree f)) }
+    ensures { Combines (assign_form (env_tree env.now) operator) a.entry b.entry result }
 {
     match operator {
         AssignmentOperator::Plain => plain_form(alloc, env, a, b),
@@ -142,7 +141,7 @@ fn step_before_form(
     operator: BinaryOperator,
     a: Typed<'_>,
 ) -> Result<Form, NoMemory>
-    ensures { IfOk result (λ f. compound_form (env_tree env.now) operator (typed_tree a.entry) one ≡ Some (form_tree f)) }
+    ensures { IsForm (compound_form (env_tree env.now) operator (typed_tree a.entry) one) result }
 {
     let lvalue = a.form.into_lvalue()?;
     let o = operation_of(env, operator, a.of, &CType::Int)?;
@@ -151,7 +150,7 @@ fn step_before_form(
 
 /// What `a++` writes, and the value before, by the operation.
 fn stepped(alloc: Global, t: &CType, lvalue: Lvalue, o: Operated) -> Result<Form, NoMemory>
-    ensures { IfOk result (λ f. form_tree f ≡ stepped_by (type_tree t.now) (lvalue_tree lvalue) (operated_tree o)) }
+    ensures { Makes form_tree (stepped_tree t.now lvalue o) result }
 {
     let scalar = scalar_of(t);
     Ok(Form::Step(Box::new(
@@ -175,7 +174,7 @@ fn step_after_form(
     operator: BinaryOperator,
     a: Typed<'_>,
 ) -> Result<Form, NoMemory>
-    ensures { IfOk result (λ f. step_after_form (env_tree env.now) operator (typed_tree a.entry) ≡ Some (form_tree f)) }
+    ensures { IsForm (step_after_form (env_tree env.now) operator (typed_tree a.entry)) result }
 {
     let lvalue = a.form.into_lvalue()?;
     let o = operation_of(env, operator, a.of, &CType::Int)?;
@@ -189,7 +188,7 @@ pub fn step_form(
     operator: StepOperator,
     a: Typed<'_>,
 ) -> Result<Form, NoMemory>
-    ensures { IfOk result (λ f. step_form (env_tree env.now) operator (typed_tree a.entry) ≡ Some (form_tree f)) }
+    ensures { IsForm (step_form (env_tree env.now) operator (typed_tree a.entry)) result }
 {
     match operator {
         StepOperator::IncrementBefore => step_before_form(alloc, env, BinaryOperator::Add, a),

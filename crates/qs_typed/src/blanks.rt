@@ -1,12 +1,14 @@
 // What an object holds where nothing else is given (C11 6.7.9p10, p21).
-ghost use Rattle.std.specs.Prelude.{◌≡◌, ◌-◌, ℕ, IfOk, Some, map};
-ghost use Rattle.qs_memory.specs.BlankOf.{blank_tree, joined_of};
+ghost use Rattle.std.specs.Prelude.{◌≡◌, ◌-◌, IfOk, Some};
+ghost use Rattle.qs_memory.specs.BlankOf.{blank_tree};
 ghost use Rattle.qs_memory.specs.Memory.{zeros};
-ghost use Rattle.qs_meaning.specs.Blanks.{blank_by, blank_of, blanks_within, members_blank};
+ghost use Rattle.qs_meaning.specs.Blanks.{blank_by, blank_of};
 ghost use Rattle.qs_types.specs.EnvOf.{env_tree};
 ghost use Rattle.qs_types.specs.Layout.{defined_structs, layout_of};
-ghost use Rattle.qs_types.specs.StructsOf.{layout_tree, member_tree, structs_tree};
+ghost use Rattle.qs_types.specs.StructsOf.{layout_tree, structs_tree};
 ghost use Rattle.qs_types.specs.TypeOf.{type_tree};
+ghost use Rattle.qs_typed.specs.Results.{Gives};
+ghost use Rattle.qs_typed.specs.TypesOf.{blank_in, blanks_in, joined_tree};
 
 use crate::members::struct_members;
 use crate::places::sum;
@@ -17,7 +19,8 @@ use qs_memory::Blank;
 use qs_types::{CType, Env, StructLayout, StructType};
 use std::alloc::Global;
 
-/// Types that nest deeper are answered as want of memory: the walk over them is on the native stack.
+/// Types that nest deeper are answered as want of memory: the walk over them is on the native
+/// stack.
 const ROOM: u32 = 10_000;
 
 /// How many structs have members.
@@ -45,7 +48,7 @@ fn layout_in(env: &Env, k: u32) -> Result<&StructLayout, NoMemory>
 /// What a type holds, whose structs nest at most so deep.
 #[cycle(blank)]
 fn blank_by(alloc: Global, room: u32, env: &Env, depth: usize, t: &CType) -> Result<Blank, NoMemory>
-    ensures { IfOk result (λ b. blank_by (blanks_within depth (env_tree env.now)) (type_tree t.now) ≡ Some (blank_tree b)) }
+    ensures { Gives blank_tree (blank_by (blanks_in depth env.now) (type_tree t.now)) result }
 {
     if room == 0 {
         return Err(NoMemory);
@@ -73,7 +76,7 @@ fn struct_blank(
     depth: usize,
     k: u32,
 ) -> Result<Blank, NoMemory>
-    ensures { IfOk result (λ b. blanks_within depth (env_tree env.now) k ≡ Some (blank_tree b)) }
+    ensures { Gives blank_tree (blanks_in depth env.now k) result }
 {
     if room == 0 || depth == 0 {
         return Err(NoMemory);
@@ -101,7 +104,7 @@ fn members_parts(
     members: &IndexMap<Name, CType>,
     layout: &StructLayout,
 ) -> Result<Vec<Blank>, NoMemory>
-    ensures { IfOk result (λ parts. members_blank (env_tree env.now) (blanks_within depth (env_tree env.now)) 0 (layout.now).size (map member_tree (members.now).entries) (layout.now).offsets.items ≡ Some (joined_of (map blank_tree parts.items))) }
+    ensures { Gives joined_tree (blank_in depth env.now members.now layout.now) result }
 {
     if room == 0 || layout.offsets.len() < members.len() {
         return Err(NoMemory);
@@ -124,7 +127,7 @@ fn members_parts(
 
 /// What an object of this type holds.
 pub fn blank_of(alloc: Global, env: &Env, t: &CType) -> Result<Blank, NoMemory>
-    ensures { IfOk result (λ b. blank_of (env_tree env.now) (type_tree t.now) ≡ Some (blank_tree b)) }
+    ensures { Gives blank_tree (blank_of (env_tree env.now) (type_tree t.now)) result }
 {
     let depth = defined_structs(env.structs());
     blank_by(alloc, ROOM, env, depth, t)

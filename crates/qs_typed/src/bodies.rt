@@ -1,9 +1,14 @@
 // The typed tree of statements (C11 6.8).
-ghost use Rattle.std.specs.Prelude.{◌≡◌, IfOk, Some, map, option_map};
-ghost use Rattle.qs_syntax.specs.TreeOf.{else_tree, expr_tree, option_tree, start_tree, stmt_tree, stmts_tree};
-ghost use Rattle.qs_typed.specs.KnownOf.{known_tree};
-ghost use Rattle.qs_typed.specs.KnownStatements.{condition_known, effect_known, else_known, option_condition_known, option_effect_known, return_known, start_known, statement_known, statements_known};
-ghost use Rattle.qs_typed.specs.TreeOf.{effect_tree, expression_tree, option_expression, statement_tree, statements_tree};
+ghost use Rattle.qs_syntax.specs.TreeOf.{else_tree, expr_tree, option_tree, start_tree, stmt_tree};
+ghost use Rattle.qs_syntax.specs.TreeOf.{stmts_tree};
+ghost use Rattle.qs_typed.specs.KnownOf.{Knows};
+ghost use Rattle.qs_typed.specs.KnownStatements.{condition_known, effect_known, else_known};
+ghost use Rattle.qs_typed.specs.KnownStatements.{option_condition_known, option_effect_known};
+ghost use Rattle.qs_typed.specs.KnownStatements.{return_known, start_known, statement_known};
+ghost use Rattle.qs_typed.specs.KnownStatements.{statements_known};
+ghost use Rattle.qs_typed.specs.Results.{listed};
+ghost use Rattle.qs_typed.specs.TreeOf.{effect_tree, expression_tree, option_expression};
+ghost use Rattle.qs_typed.specs.TreeOf.{statement_tree, statements_tree};
 
 use crate::expressions::{Effect, Expression};
 use crate::forms::{effect_in_use, value_in_use};
@@ -20,14 +25,14 @@ use std::alloc::Global;
 
 /// An expression is evaluated for its effect (C11 6.8.3p2).
 fn effect(alloc: Global, k: &Known<'_>, e: &Expr) -> Result<Effect, NoMemory>
-    ensures { IfOk result (λ r. effect_known (known_tree k.now) (expr_tree e.now) ≡ Some (effect_tree r)) }
+    ensures { Knows effect_tree effect_known k.now (expr_tree e.now) result }
 {
     let a = typed(alloc, k, e)?;
     effect_in_use(alloc, a)
 }
 
 fn option_effect(alloc: Global, k: &Known<'_>, e: &Option<Expr>) -> Result<Effect, NoMemory>
-    ensures { IfOk result (λ r. option_effect_known (known_tree k.now) (option_tree e.now) ≡ Some (effect_tree r)) }
+    ensures { Knows effect_tree option_effect_known k.now (option_tree e.now) result }
 {
     match e {
         None => Ok(Effect::Nothing),
@@ -37,7 +42,7 @@ fn option_effect(alloc: Global, k: &Known<'_>, e: &Option<Expr>) -> Result<Effec
 
 /// A condition is compared with 0 (C11 6.8.4.1p2, 6.8.5p4).
 fn condition(alloc: Global, k: &Known<'_>, e: &Expr) -> Result<Expression, NoMemory>
-    ensures { IfOk result (λ r. condition_known (known_tree k.now) (expr_tree e.now) ≡ Some (expression_tree r)) }
+    ensures { Knows expression_tree condition_known k.now (expr_tree e.now) result }
 {
     let a = typed(alloc, k, e)?;
     value_in_use(alloc, a)
@@ -48,7 +53,7 @@ fn option_condition(
     k: &Known<'_>,
     e: &Option<Expr>,
 ) -> Result<Option<Expression>, NoMemory>
-    ensures { IfOk result (λ r. option_condition_known (known_tree k.now) (option_tree e.now) ≡ Some (option_expression r)) }
+    ensures { Knows option_expression option_condition_known k.now (option_tree e.now) result }
 {
     match e {
         None => Ok(None),
@@ -61,7 +66,7 @@ fn option_condition(
 
 /// The first part of a `for` (C11 6.8.5.3).
 fn start(alloc: Global, k: &Known<'_>, start: &Start) -> Result<Effect, NoMemory>
-    ensures { IfOk result (λ r. start_known (known_tree k.now) (start_tree start.now) ≡ Some (effect_tree r)) }
+    ensures { Knows effect_tree start_known k.now (start_tree start.now) result }
 {
     match start {
         Start::Nothing => Ok(Effect::Nothing),
@@ -73,7 +78,7 @@ fn start(alloc: Global, k: &Known<'_>, start: &Start) -> Result<Effect, NoMemory
 /// The value is converted to the type of the result (C11 6.8.6.4p3).
 #[tactic(auto, using(crate::proofs::Operated::scalar_in_use))]
 fn returned(alloc: Global, k: &Known<'_>, e: &Option<Expr>) -> Result<Statement, NoMemory>
-    ensures { IfOk result (λ r. return_known (known_tree k.now) (option_tree e.now) ≡ Some (statement_tree r)) }
+    ensures { Knows statement_tree return_known k.now (option_tree e.now) result }
 {
     match e {
         None => Ok(Statement::ReturnNothing),
@@ -91,7 +96,7 @@ fn returned(alloc: Global, k: &Known<'_>, e: &Option<Expr>) -> Result<Statement,
 /// A statement.
 #[cycle(statement)]
 fn statement(alloc: Global, k: &Known<'_>, s: &Stmt) -> Result<Statement, NoMemory>
-    ensures { IfOk result (λ r. statement_known (known_tree k.now) (stmt_tree s.now) ≡ Some (statement_tree r)) }
+    ensures { Knows statement_tree statement_known k.now (stmt_tree s.now) result }
 {
     match s {
         Stmt::Empty(_) => Ok(Statement::Evaluate(Effect::Nothing)),
@@ -162,7 +167,7 @@ fn statement(alloc: Global, k: &Known<'_>, s: &Stmt) -> Result<Statement, NoMemo
 
 #[cycle(statement)]
 fn otherwise_of(alloc: Global, k: &Known<'_>, s: &Option<Box<Stmt>>) -> Result<Statement, NoMemory>
-    ensures { IfOk result (λ r. else_known (known_tree k.now) (else_tree s.now) ≡ Some (statement_tree r)) }
+    ensures { Knows statement_tree else_known k.now (else_tree s.now) result }
 {
     match s {
         None => Ok(Statement::Evaluate(Effect::Nothing)),
@@ -173,7 +178,7 @@ fn otherwise_of(alloc: Global, k: &Known<'_>, s: &Option<Box<Stmt>>) -> Result<S
 /// The statements of a block.
 #[cycle(statement)]
 pub fn statements(alloc: Global, k: &Known<'_>, ss: &[Stmt]) -> Result<Vec<Statement>, NoMemory>
-    ensures { IfOk result (λ r. statements_known (known_tree k.now) (stmts_tree ss.now) ≡ Some (statements_tree r.items)) }
+    ensures { Knows (listed statements_tree) statements_known k.now (stmts_tree ss.now) result }
 {
     let mut all = Vec::new(alloc);
     for s in ss {

@@ -1,9 +1,10 @@
 // The bytes of a block one by one, while initialisers are written over them.
-ghost use Rattle.std.specs.Prelude.{◌≡◌, ◌++◌, ◌∷◌, [], ℕ, IfOk, IsTrue, OnOk, map};
-ghost use Rattle.qs_meaning.specs.InitialValues.{written_over};
+ghost use Rattle.std.specs.Prelude.{◌≡◌, IsTrue, map};
 ghost use Rattle.qs_memory.specs.Memory.{byte, parts_of};
-ghost use Rattle.qs_typed.specs.CellsOf.{begun_cells, cell_tree, contents_tree, target_tree};
-ghost use Rattle.qs_typed.specs.TreeOf.{contents_cells, datum_cells, pointer_width};
+ghost use Rattle.qs_typed.specs.CellsOf.{AddsCells, Overwrites, PutsCell, begun_cells, cell_tree};
+ghost use Rattle.qs_typed.specs.CellsOf.{cells_tree, pointer_cells, target_tree};
+ghost use Rattle.qs_typed.specs.Results.{Makes};
+ghost use Rattle.qs_typed.specs.TreeOf.{contents_cells, data_cells, datum_cells};
 
 use crate::contents::{Contents, Target};
 use crate::data::Datum;
@@ -23,7 +24,7 @@ pub enum Cell {
 
 /// Adds bytes.
 pub fn push_bytes(cells: &mut Vec<Cell>, bytes: &[u8]) -> Result<(), NoMemory>
-    ensures { OnOk result (map cell_tree cells.new.items ≡ map cell_tree cells.old.items ++ map byte bytes.now) }
+    ensures { AddsCells (map byte bytes.now) cells.old cells.new result }
 {
     for b in bytes {
         cells.push(Cell::Byte(*b))?;
@@ -33,7 +34,7 @@ pub fn push_bytes(cells: &mut Vec<Cell>, bytes: &[u8]) -> Result<(), NoMemory>
 
 /// Adds the parts of a pointer.
 pub fn push_pointer(cells: &mut Vec<Cell>, target: Target) -> Result<(), NoMemory>
-    ensures { OnOk result (map cell_tree cells.new.items ≡ map cell_tree cells.old.items ++ parts_of (target_tree target) 0 pointer_width) }
+    ensures { AddsCells (pointer_cells target) cells.old cells.new result }
 {
     cells.push(Cell::Part(target, 0))?;
     cells.push(Cell::Part(target, 1))?;
@@ -43,7 +44,7 @@ pub fn push_pointer(cells: &mut Vec<Cell>, target: Target) -> Result<(), NoMemor
 }
 
 fn push_nulls(cells: &mut Vec<Cell>, n: u32) -> Result<(), NoMemory>
-    ensures { OnOk result (map cell_tree cells.new.items ≡ map cell_tree cells.old.items ++ datum_cells (Datum.Nulls n)) }
+    ensures { AddsCells (datum_cells (Datum.Nulls n)) cells.old cells.new result }
 {
     for _ in 0..n {
         push_pointer(cells, Target::Null)?;
@@ -52,7 +53,7 @@ fn push_nulls(cells: &mut Vec<Cell>, n: u32) -> Result<(), NoMemory>
 }
 
 fn push_datum(cells: &mut Vec<Cell>, d: &Datum) -> Result<(), NoMemory>
-    ensures { OnOk result (map cell_tree cells.new.items ≡ map cell_tree cells.old.items ++ datum_cells d.now) }
+    ensures { AddsCells (datum_cells d.now) cells.old cells.new result }
 {
     match d {
         Datum::Bytes(bytes) => push_bytes(cells, bytes),
@@ -63,7 +64,7 @@ fn push_datum(cells: &mut Vec<Cell>, d: &Datum) -> Result<(), NoMemory>
 
 /// The bytes of data, one by one.
 pub fn cells_of(alloc: Global, parts: &[Datum]) -> Result<Vec<Cell>, NoMemory>
-    ensures { IfOk result (λ cells. map cell_tree cells.items ≡ contents_cells parts.now) }
+    ensures { Makes cells_tree (contents_cells parts.now) result }
 {
     let mut cells = Vec::new(alloc);
     for d in parts {
@@ -77,7 +78,7 @@ pub fn cells_of(alloc: Global, parts: &[Datum]) -> Result<Vec<Cell>, NoMemory>
 /// Puts cells in place of those from this place on.
 #[tactic(auto, using(crate::proofs::Gathering::over))]
 pub fn write_over(cells: &mut [Cell], at: u32, new: &[Cell]) -> Result<(), NoMemory>
-    ensures { OnOk result (map cell_tree cells.new ≡ written_over (map cell_tree cells.old) at (map cell_tree new.now)) }
+    ensures { Overwrites at new.now cells.old cells.new result }
 {
     let at = at as usize;
     if at > cells.len() || new.len() > cells.len() - at {
@@ -114,7 +115,7 @@ fn put_byte(
     begun: &mut Begun,
     contents: &mut Contents,
 ) -> Result<(), NoMemory>
-    ensures { OnOk result (contents_tree contents.new ++ begun_cells begun.new ≡ (contents_tree contents.old ++ begun_cells begun.old) ++ cell_tree (Cell.Byte n) ∷ []) }
+    ensures { PutsCell (Cell.Byte n) begun.old contents.old begun.new contents.new result }
 {
     if begun.parts > 0 {
         return Err(NoMemory);
@@ -135,7 +136,7 @@ fn put_part(
     begun: &mut Begun,
     contents: &mut Contents,
 ) -> Result<(), NoMemory>
-    ensures { OnOk result (contents_tree contents.new ++ begun_cells begun.new ≡ (contents_tree contents.old ++ begun_cells begun.old) ++ cell_tree (Cell.Part target k) ∷ []) }
+    ensures { PutsCell (Cell.Part target k) begun.old contents.old begun.new contents.new result }
 {
     if k > 3 || !goes_on(*begun, target, k) {
         return Err(NoMemory);
@@ -157,7 +158,7 @@ fn put_cell(
     begun: &mut Begun,
     contents: &mut Contents,
 ) -> Result<(), NoMemory>
-    ensures { OnOk result (contents_tree contents.new ++ begun_cells begun.new ≡ (contents_tree contents.old ++ begun_cells begun.old) ++ cell_tree cell ∷ []) }
+    ensures { PutsCell cell begun.old contents.old begun.new contents.new result }
 {
     match cell {
         Cell::Byte(n) => put_byte(alloc, n, begun, contents),
@@ -167,7 +168,7 @@ fn put_cell(
 
 /// The data of which these are the bytes; want of memory where they hold a part of a pointer alone.
 pub fn data_of(alloc: Global, cells: &[Cell]) -> Result<Vec<Datum>, NoMemory>
-    ensures { IfOk result (λ ds. contents_cells ds.items ≡ map cell_tree cells.now) }
+    ensures { Makes data_cells (map cell_tree cells.now) result }
 {
     let mut contents = Contents::new(alloc);
     let mut begun = Begun {

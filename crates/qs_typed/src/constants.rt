@@ -1,16 +1,20 @@
 // Constants as the bytes of the scalars that they initialise (C11 6.6, 6.7.9p11, p14).
-ghost use Rattle.std.specs.Prelude.{◌≡◌, IfOk, Some, map};
-ghost use Rattle.qs_meaning.specs.InitialValues.{array_cells, length_in, pointer_by, static_pointer};
+ghost use Rattle.std.specs.Prelude.{◌≡◌};
+ghost use Rattle.qs_meaning.specs.InitialValues.{array_cells, length_in, static_pointer};
 ghost use Rattle.qs_memory.specs.Memory.{bytes_of};
 ghost use Rattle.qs_memory.specs.Values.{width};
 ghost use Rattle.qs_syntax.specs.TreeOf.{expr_tree};
 ghost use Rattle.qs_types.specs.Constants.{value_of};
-ghost use Rattle.qs_types.specs.Contexts.{context_with};
 ghost use Rattle.qs_types.specs.TypeOf.{type_tree};
-ghost use Rattle.qs_typed.specs.CellsOf.{cell_tree, target_tree};
-ghost use Rattle.qs_typed.specs.KnownBlocks.{address_constant_known, constant_cells_known, integer_cells_known, name_pointer, named_pointer_known, pointer_cells_known, pointer_constant_known, referent_pointer};
+ghost use Rattle.qs_typed.specs.BlocksOf.{FindsCells, operand_pointer};
+ghost use Rattle.qs_typed.specs.CellsOf.{cells_tree, target_tree};
+ghost use Rattle.qs_typed.specs.KnownBlocks.{address_constant_known, constant_cells_known};
+ghost use Rattle.qs_typed.specs.KnownBlocks.{integer_cells_known, name_pointer};
+ghost use Rattle.qs_typed.specs.KnownBlocks.{named_pointer_known, pointer_cells_known};
+ghost use Rattle.qs_typed.specs.KnownBlocks.{pointer_constant_known, referent_pointer};
 ghost use Rattle.qs_typed.specs.PlacesOf.{statics_tree};
-ghost use Rattle.qs_typed.specs.TablesOf.{tables_tree};
+ghost use Rattle.qs_typed.specs.Results.{Gives, Makes, itself};
+ghost use Rattle.qs_typed.specs.TablesOf.{Finds, structs_known};
 ghost use Rattle.qs_typed.specs.TreeOf.{object_tree};
 
 use crate::cells::{Cell, push_bytes, push_pointer};
@@ -31,7 +35,7 @@ use std::alloc::Global;
 // ---- addresses (6.6p9)
 
 fn static_pointer(object: Object) -> Result<Target, NoMemory>
-    ensures { IfOk result (λ p. static_pointer (object_tree object) ≡ Some (target_tree p)) }
+    ensures { Gives target_tree (static_pointer (object_tree object)) result }
 {
     match object {
         Object::Local(_) => Err(NoMemory),
@@ -40,7 +44,7 @@ fn static_pointer(object: Object) -> Result<Target, NoMemory>
 }
 
 fn referent_pointer(statics: &Statics, referent: Referent) -> Result<Target, NoMemory>
-    ensures { IfOk result (λ p. referent_pointer (statics_tree statics.now) referent ≡ Some (target_tree p)) }
+    ensures { Gives target_tree (referent_pointer (statics_tree statics.now) referent) result }
 {
     match referent {
         Referent::Local(_) => Err(NoMemory),
@@ -53,7 +57,7 @@ fn referent_pointer(statics: &Statics, referent: Referent) -> Result<Target, NoM
 
 /// What the name at a node stands for.
 fn name_pointer(t: &Tables<'_>, node: u32) -> Result<Target, NoMemory>
-    ensures { IfOk result (λ p. name_pointer (tables_tree t.now) node ≡ Some (target_tree p)) }
+    ensures { Finds target_tree name_pointer t.now node result }
 {
     match referent_in(t.referents, node) {
         None => Err(NoMemory),
@@ -63,7 +67,7 @@ fn name_pointer(t: &Tables<'_>, node: u32) -> Result<Target, NoMemory>
 
 /// The operand of `&`, where it is a name.
 fn named_pointer(t: &Tables<'_>, e: &Expr) -> Result<Target, NoMemory>
-    ensures { IfOk result (λ p. named_pointer_known (tables_tree t.now) (expr_tree e.now) ≡ Some (target_tree p)) }
+    ensures { Finds target_tree named_pointer_known t.now (expr_tree e.now) result }
 {
     match &e.shape {
         Shape::Name(_) => name_pointer(t, e.node.id),
@@ -72,7 +76,7 @@ fn named_pointer(t: &Tables<'_>, e: &Expr) -> Result<Target, NoMemory>
 }
 
 fn pointer_by(t: &Tables<'_>, operator: UnaryOperator, operand: &Expr) -> Result<Target, NoMemory>
-    ensures { IfOk result (λ p. pointer_by operator (named_pointer_known (tables_tree t.now) (expr_tree operand.now)) ≡ Some (target_tree p)) }
+    ensures { Finds target_tree (operand_pointer operator) t.now (expr_tree operand.now) result }
 {
     match operator {
         UnaryOperator::Address => named_pointer(t, operand),
@@ -82,7 +86,7 @@ fn pointer_by(t: &Tables<'_>, operator: UnaryOperator, operand: &Expr) -> Result
 
 /// A text, the name of an array, or `&` of a variable.
 fn address_constant(t: &Tables<'_>, e: &Expr) -> Result<Target, NoMemory>
-    ensures { IfOk result (λ p. address_constant_known (tables_tree t.now) (expr_tree e.now) ≡ Some (target_tree p)) }
+    ensures { Finds target_tree address_constant_known t.now (expr_tree e.now) result }
 {
     match &e.shape {
         Shape::Text(_) => static_pointer(text_object(&t.statics, e.node.id)?),
@@ -93,7 +97,7 @@ fn address_constant(t: &Tables<'_>, e: &Expr) -> Result<Target, NoMemory>
 }
 
 fn pointer_constant(t: &Tables<'_>, e: &Expr) -> Result<Target, NoMemory>
-    ensures { IfOk result (λ p. pointer_constant_known (tables_tree t.now) (expr_tree e.now) ≡ Some (target_tree p)) }
+    ensures { Finds target_tree pointer_constant_known t.now (expr_tree e.now) result }
 {
     if is_null_constant(e) {
         return Ok(Target::Null);
@@ -102,7 +106,7 @@ fn pointer_constant(t: &Tables<'_>, e: &Expr) -> Result<Target, NoMemory>
 }
 
 fn pointer_cells(alloc: Global, t: &Tables<'_>, e: &Expr) -> Result<Vec<Cell>, NoMemory>
-    ensures { IfOk result (λ cells. pointer_cells_known (tables_tree t.now) (expr_tree e.now) ≡ Some (map cell_tree cells.items)) }
+    ensures { Finds cells_tree pointer_cells_known t.now (expr_tree e.now) result }
 {
     let target = pointer_constant(t, e)?;
     let mut cells = Vec::new(alloc);
@@ -114,7 +118,7 @@ fn pointer_cells(alloc: Global, t: &Tables<'_>, e: &Expr) -> Result<Vec<Cell>, N
 
 /// The value of a constant expression.
 fn value(t: &Tables<'_>, e: &Expr) -> Result<u32, NoMemory>
-    ensures { IfOk result (λ n. value_of (context_with (tables_tree t.now).structs (tables_tree t.now).tags) (expr_tree e.now) ≡ Some n) }
+    ensures { Gives itself (value_of (structs_known t.now) (expr_tree e.now)) result }
 {
     match qs_types::value(t.env, t.tags, e) {
         None => Err(NoMemory),
@@ -136,7 +140,7 @@ fn width(s: Scalar) -> u32
 
 /// The bytes of a number, the lowest first.
 fn bytes_of(alloc: Global, size: u32, n: u32) -> Result<Vec<Cell>, NoMemory>
-    ensures { IfOk result (λ cells. map cell_tree cells.items ≡ bytes_of size n) }
+    ensures { Makes cells_tree (bytes_of size n) result }
 {
     let mut cells = Vec::new(alloc);
     let mut rest = n;
@@ -148,7 +152,7 @@ fn bytes_of(alloc: Global, size: u32, n: u32) -> Result<Vec<Cell>, NoMemory>
 }
 
 fn integer_cells(alloc: Global, t: &Tables<'_>, of: &CType, e: &Expr) -> Result<Vec<Cell>, NoMemory>
-    ensures { IfOk result (λ cells. integer_cells_known (tables_tree t.now) (type_tree of.now) (expr_tree e.now) ≡ Some (map cell_tree cells.items)) }
+    ensures { FindsCells integer_cells_known t.now of.now (expr_tree e.now) result }
 {
     let n = value(t, e)?;
     bytes_of(alloc, width(scalar_of(of)), n)
@@ -161,7 +165,7 @@ pub fn constant_cells(
     of: &CType,
     e: &Expr,
 ) -> Result<Vec<Cell>, NoMemory>
-    ensures { IfOk result (λ cells. constant_cells_known (tables_tree t.now) (type_tree of.now) (expr_tree e.now) ≡ Some (map cell_tree cells.items)) }
+    ensures { FindsCells constant_cells_known t.now of.now (expr_tree e.now) result }
 {
     if is_pointer(of) {
         pointer_cells(alloc, t, e)
@@ -188,7 +192,7 @@ fn length_in(t: &CType) -> u32
 
 /// Of a text with a zero behind it as many bytes as an array has room for (C11 6.7.9p14).
 pub fn array_cells(alloc: Global, of: &CType, e: &Expr) -> Result<Vec<Cell>, NoMemory>
-    ensures { IfOk result (λ cells. array_cells (type_tree of.now) (expr_tree e.now) ≡ Some (map cell_tree cells.items)) }
+    ensures { Gives cells_tree (array_cells (type_tree of.now) (expr_tree e.now)) result }
 {
     let text = text_of(e)?;
     let mut cells = Vec::new(alloc);

@@ -1,10 +1,11 @@
 // What a block holds, gathered in the order of its bytes.
-ghost use Rattle.std.specs.Prelude.{◌≡◌, ◌++◌, ◌∷◌, [], ◌*◌, IfOk, OnOk, map, if◌then◌else◌};
-ghost use Rattle.qs_memory.specs.BlankOf.{blank_tree, joined_of};
-ghost use Rattle.qs_memory.specs.Memory.{blank_cells, byte, parts_of, times};
-ghost use Rattle.qs_memory.specs.Values.{null};
-ghost use Rattle.qs_typed.specs.CellsOf.{contents_tree, target_tree};
-ghost use Rattle.qs_typed.specs.TreeOf.{contents_cells, pointer_width};
+ghost use Rattle.std.specs.Prelude.{◌≡◌, ◌∷◌, [], ◌*◌, IfOk, OnOk, map};
+ghost use Rattle.qs_memory.specs.BlankOf.{blank_tree};
+ghost use Rattle.qs_memory.specs.Memory.{blank_cells, byte, times};
+ghost use Rattle.qs_typed.specs.CellsOf.{AddsData, Gathers, GathersRun, blanks_cells};
+ghost use Rattle.qs_typed.specs.CellsOf.{contents_tree, null_cells, pointer_cells};
+ghost use Rattle.qs_typed.specs.Results.{Makes};
+ghost use Rattle.qs_typed.specs.TreeOf.{contents_cells, data_cells};
 
 use crate::data::Datum;
 use crate::places::sum;
@@ -36,7 +37,7 @@ pub struct Contents {
 /// Ends a run of bytes.
 #[tactic(auto, using(crate::proofs::Gathering::bytes_ended))]
 fn end_bytes(alloc: Global, whole: &mut Vec<Datum>, bytes: &mut Vec<u8>) -> Result<(), NoMemory>
-    ensures cells { OnOk result (contents_cells whole.new.items ≡ contents_cells whole.old.items ++ map byte bytes.old.items) }
+    ensures cells { AddsData (map byte bytes.old.items) whole.old whole.new result }
     ensures bytes { OnOk result (bytes.new.items ≡ []) }
 {
     if bytes.is_empty() {
@@ -50,7 +51,7 @@ fn end_bytes(alloc: Global, whole: &mut Vec<Datum>, bytes: &mut Vec<u8>) -> Resu
 /// Ends a run of null pointers.
 #[tactic(auto, using(crate::proofs::Gathering::nulls_ended))]
 fn end_nulls(whole: &mut Vec<Datum>, nulls: &mut u32) -> Result<(), NoMemory>
-    ensures cells { OnOk result (contents_cells whole.new.items ≡ contents_cells whole.old.items ++ times nulls.old (parts_of null 0 pointer_width)) }
+    ensures cells { AddsData (null_cells nulls.old) whole.old whole.new result }
     ensures nulls { OnOk result (nulls.new ≡ 0) }
 {
     if *nulls == 0 {
@@ -105,7 +106,7 @@ impl Contents {
 
     /// Adds a byte.
     pub fn byte(&mut self, alloc: Global, n: u8) -> Result<(), NoMemory>
-        ensures { OnOk result (contents_tree self.new ≡ contents_tree self.old ++ byte n ∷ []) }
+        ensures { Gathers (byte n ∷ []) self.old self.new result }
     {
         self.expect_bytes(alloc)?;
         self.bytes.push(n)?;
@@ -114,7 +115,7 @@ impl Contents {
 
     /// Adds so many bytes 0.
     pub fn zeros(&mut self, alloc: Global, n: u32) -> Result<(), NoMemory>
-        ensures { OnOk result (contents_tree self.new ≡ contents_tree self.old ++ times n (byte 0 ∷ [])) }
+        ensures { Gathers (times n (byte 0 ∷ [])) self.old self.new result }
     {
         self.expect_bytes(alloc)?;
         let len = self.bytes.len() + n as usize;
@@ -124,7 +125,7 @@ impl Contents {
 
     /// Adds so many null pointers.
     pub fn nulls(&mut self, n: u32) -> Result<(), NoMemory>
-        ensures { OnOk result (contents_tree self.new ≡ contents_tree self.old ++ times n (parts_of null 0 pointer_width)) }
+        ensures { Gathers (null_cells n) self.old self.new result }
     {
         self.nulls = sum(self.nulls, n)?;
         Ok(())
@@ -132,7 +133,7 @@ impl Contents {
 
     /// Adds a pointer.
     pub fn pointer(&mut self, alloc: Global, target: Target) -> Result<(), NoMemory>
-        ensures { OnOk result (contents_tree self.new ≡ contents_tree self.old ++ parts_of (target_tree target) 0 pointer_width) }
+        ensures { Gathers (pointer_cells target) self.old self.new result }
     {
         match target {
             Target::Null => self.nulls(1),
@@ -146,7 +147,7 @@ impl Contents {
 
     /// Adds a part so many times at once, if it is zeros or null pointers alone.
     fn run(&mut self, alloc: Global, n: u32, part: &Blank) -> Result<bool, NoMemory>
-        ensures { IfOk result (λ added. contents_tree self.new ≡ contents_tree self.old ++ (if added then times n (blank_cells (blank_tree part.now)) else [])) }
+        ensures { GathersRun n part.now self.old self.new result }
     {
         match part {
             Blank::Zeros(k) => {
@@ -164,7 +165,7 @@ impl Contents {
 
     /// All data, in order.
     pub fn finish(self, alloc: Global) -> Result<Vec<Datum>, NoMemory>
-        ensures { IfOk result (λ ds. contents_cells ds.items ≡ contents_tree self) }
+        ensures { Makes data_cells (contents_tree self) result }
     {
         let mut contents = self;
         contents.end_runs(alloc)?;
@@ -175,7 +176,7 @@ impl Contents {
 /// Adds zeros and null pointers.
 #[cycle(blank)]
 pub fn put_blank(alloc: Global, b: &Blank, contents: &mut Contents) -> Result<(), NoMemory>
-    ensures { OnOk result (contents_tree contents.new ≡ contents_tree contents.old ++ blank_cells (blank_tree b.now)) }
+    ensures { Gathers (blank_cells (blank_tree b.now)) contents.old contents.new result }
 {
     match b {
         Blank::Zeros(n) => contents.zeros(alloc, *n),
@@ -195,7 +196,7 @@ pub fn put_blank(alloc: Global, b: &Blank, contents: &mut Contents) -> Result<()
 
 #[cycle(blank)]
 fn put_blanks(alloc: Global, parts: &[Blank], contents: &mut Contents) -> Result<(), NoMemory>
-    ensures { OnOk result (contents_tree contents.new ≡ contents_tree contents.old ++ blank_cells (joined_of (map blank_tree parts.now))) }
+    ensures { Gathers (blanks_cells parts.now) contents.old contents.new result }
 {
     for part in parts {
         put_blank(alloc, part, contents)?;

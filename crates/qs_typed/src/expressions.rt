@@ -20,8 +20,8 @@ pub enum Conversion {
     Converted(Scalar, Scalar),
 }
 
-/// Whether an operation takes its operands as they are written, or a pointer that stands on the right
-/// first (C11 6.5.6p2).
+/// Whether an operation takes its operands as they are written, or a pointer that stands on the
+/// right first (C11 6.5.6p2).
 #[derive(Clone, Copy, PartialEq, Eq, Debug)]
 pub enum Order {
     /// the left operand is the first
@@ -39,8 +39,8 @@ pub enum Object {
     Static(u32),
 }
 
-/// An expression with a scalar value. An array or a struct in a value's place is a pointer to its first
-/// byte (C11 6.3.2.1p3), and `&` leaves no trace.
+/// An expression with a scalar value. An array or a struct in a value's place is a pointer to its
+/// first byte (C11 6.3.2.1p3), and `&` leaves no trace.
 #[cycle(expression)]
 pub enum Expression {
     /// a literal or a size, as its 32 bits (C11 6.4.4, 6.5.3.4)
@@ -161,7 +161,8 @@ pub enum Assignment {
     },
 }
 
-/// An expression whose value is discarded (C11 6.8.3p2, 6.5.17p2), or what a declaration does (6.7.9).
+/// An expression whose value is discarded (C11 6.8.3p2, 6.5.17p2), or what a declaration does
+/// (6.7.9).
 #[cycle(expression)]
 pub enum Effect {
     /// nothing
@@ -204,8 +205,8 @@ impl Lvalue {
         }
     }
 
-    /// An lvalue turns into the value that it has, one of an array into a pointer to its first element; a
-    /// struct stands as its address (C11 6.3.2.1p2, p3).
+    /// An lvalue turns into the value that it has, one of an array into a pointer to its first
+    /// element; a struct stands as its address (C11 6.3.2.1p2, p3).
     pub fn into_value(self, t: &CType) -> Expression
         ensures { expression_tree result ≡ value_in (type_tree t.now) (lvalue_tree self) }
     {
@@ -232,7 +233,8 @@ impl Lvalue {
 }
 
 // ---- how trees are dropped
-// By hand, since a derived drop of a tree stands with all its cases at each place where a tree may be dropped.
+// By hand, since a derived drop of a tree stands with all its cases at each place where a tree may
+// be dropped.
 
 impl Drop for Expression {
     #[cycle(drop_expression)]

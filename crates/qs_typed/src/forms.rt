@@ -1,8 +1,11 @@
-// What an expression is before it is known how it is used, and its uses (C11 6.3.2.1, 6.5.17, 6.8.3).
-ghost use Rattle.std.specs.Prelude.{◌≡◌, IfOk, Some};
-ghost use Rattle.qs_meaning.specs.Forms.{address_of, effect_in_use, effect_of, lvalue_of, type_in_use, value_in_use, value_of};
+// What an expression is before it is known how it is used, and its uses (C11 6.3.2.1, 6.5.17,
+// 6.8.3).
+ghost use Rattle.std.specs.Prelude.{◌≡◌};
+ghost use Rattle.qs_meaning.specs.Forms.{address_of, effect_in_use, effect_of, lvalue_of};
+ghost use Rattle.qs_meaning.specs.Forms.{type_in_use, value_in_use, value_of};
 ghost use Rattle.qs_types.specs.TypeOf.{type_tree};
 ghost use Rattle.qs_typed.specs.FormOf.{form_tree, step_tree, typed_tree, value_before, written};
+ghost use Rattle.qs_typed.specs.Results.{Equals, Gives, Makes};
 ghost use Rattle.qs_typed.specs.TreeOf.{assignment_tree, effect_tree, expression_tree, lvalue_tree};
 
 use crate::expressions::{Argument, Assignment, Conversion, Effect, Expression, Lvalue};
@@ -102,7 +105,7 @@ fn written(step: Step) -> Assignment
 impl Form {
     /// The lvalue that it is.
     pub fn into_lvalue(self) -> Result<Lvalue, NoMemory>
-        ensures { IfOk result (λ l. lvalue_of (form_tree self) ≡ Some (lvalue_tree l)) }
+        ensures { Gives lvalue_tree (lvalue_of (form_tree self)) result }
     {
         match self {
             Form::Lvalue(l) => Ok(l),
@@ -122,15 +125,16 @@ impl Form {
 
     /// The address of the object that it is.
     pub fn into_address(self) -> Result<Expression, NoMemory>
-        ensures { IfOk result (λ e. address_of (form_tree self) ≡ Some (expression_tree e)) }
+        ensures { Gives expression_tree (address_of (form_tree self)) result }
     {
         let l = self.into_lvalue()?;
         l.into_address()
     }
 
-    /// Its value. An assignment of a struct, whose value no typed unit uses, is answered as want of memory.
+    /// Its value. An assignment of a struct, whose value no typed unit uses, is answered as want of
+    /// memory.
     pub fn into_value(self, alloc: Global, t: &CType) -> Result<Expression, NoMemory>
-        ensures { IfOk result (λ e. value_of (type_tree t.now) (form_tree self) ≡ expression_tree e) }
+        ensures { Equals expression_tree (value_of (type_tree t.now) (form_tree self)) result }
     {
         match self {
             Form::Lvalue(l) => Ok(l.into_value(t)),
@@ -151,9 +155,10 @@ impl Form {
         }
     }
 
-    /// Its effect: the value is discarded, so a call needs none, and `a++` is `++a` (C11 6.8.3p2, 6.5.17p2).
+    /// Its effect: the value is discarded, so a call needs none, and `a++` is `++a` (C11 6.8.3p2,
+    /// 6.5.17p2).
     pub fn into_effect(self, alloc: Global, t: &CType) -> Result<Effect, NoMemory>
-        ensures { IfOk result (λ e. effect_of (type_tree t.now) (form_tree self) ≡ effect_tree e) }
+        ensures { Equals effect_tree (effect_of (type_tree t.now) (form_tree self)) result }
     {
         match self {
             Form::Lvalue(l) => Ok(Effect::Discard(l.into_value(t))),
@@ -205,21 +210,21 @@ impl Drop for Form {
 
 /// The type of its value (C11 6.3.2.1p3).
 pub fn type_in_use(alloc: Global, a: &Typed<'_>) -> Result<CType, NoMemory>
-    ensures { IfOk result (λ t. type_tree t ≡ type_in_use (typed_tree a.now)) }
+    ensures { Makes type_tree (type_in_use (typed_tree a.now)) result }
 {
     decayed(alloc, a.of)
 }
 
 /// Its value.
 pub fn value_in_use(alloc: Global, a: Typed<'_>) -> Result<Expression, NoMemory>
-    ensures { IfOk result (λ e. value_in_use (typed_tree a.entry) ≡ expression_tree e) }
+    ensures { Equals expression_tree (value_in_use (typed_tree a.entry)) result }
 {
     a.form.into_value(alloc, a.of)
 }
 
 /// Its effect.
 pub fn effect_in_use(alloc: Global, a: Typed<'_>) -> Result<Effect, NoMemory>
-    ensures { IfOk result (λ e. effect_in_use (typed_tree a.entry) ≡ effect_tree e) }
+    ensures { Equals effect_tree (effect_in_use (typed_tree a.entry)) result }
 {
     a.form.into_effect(alloc, a.of)
 }

@@ -1,16 +1,18 @@
 // The typed tree of functions (C11 6.9.1).
-ghost use Rattle.std.specs.Prelude.{◌≡◌, ◌++◌, ◌∷◌, [], IfOk, OnOk, Some, map, option_map};
+ghost use Rattle.std.specs.Prelude.{◌≡◌, ◌∷◌, [], option_map};
 ghost use Rattle.qs_meaning.specs.Units.{scalars_of, sizes_of};
-ghost use Rattle.qs_syntax.specs.TreeOf.{function_tree, stmts_tree};
+ghost use Rattle.qs_syntax.specs.TreeOf.{function_tree};
 ghost use Rattle.qs_types.specs.EnvOf.{env_tree};
 ghost use Rattle.qs_types.specs.GivenFunctions.{main_name};
 ghost use Rattle.qs_types.specs.Placed.{is_no_scalar, is_placed};
 ghost use Rattle.qs_types.specs.TypeOf.{type_tree};
 ghost use Rattle.qs_syntax.specs.Sameness.{same_bytes};
-ghost use Rattle.qs_typed.specs.KnownFunctions.{base_scalar, function_known, named_scalar, returns_nothing, local_at, locals_at, places_at, with_locals, with_parameters};
-ghost use Rattle.qs_typed.specs.KnownOf.{known_tree};
-ghost use Rattle.qs_typed.specs.PlacesOf.{locals_tree};
-ghost use Rattle.qs_typed.specs.TreeOf as trees;
+ghost use Rattle.qs_typed.specs.KnownFunctions.{base_scalar, named_scalar, returns_nothing};
+ghost use Rattle.qs_typed.specs.KnownFunctions.{local_at, with_locals, with_parameters};
+ghost use Rattle.qs_typed.specs.LocalsOf.{Places, Puts, locals_in};
+ghost use Rattle.qs_typed.specs.Results.{Gives, Inserts, elements};
+ghost use Rattle.qs_typed.specs.TypesOf.{types_tree};
+ghost use Rattle.qs_typed.specs.UnitsOf.{KnowsFunction};
 
 use crate::bodies::statements;
 use crate::known::{Known, type_in};
@@ -30,7 +32,7 @@ use std::alloc::Global;
 /// Adds a node behind others that it isn't among.
 #[tactic(auto, using(crate::proofs::PlaceTables::added_last))]
 pub fn insert(nodes: &mut IndexSet<u32>, node: u32) -> Result<(), NoMemory>
-    ensures { OnOk result ((nodes.new).keys ≡ (nodes.old).keys ++ node ∷ []) }
+    ensures { Inserts (node ∷ []) nodes.old nodes.new result }
 {
     if nodes.contains(&node) {
         return Err(NoMemory);
@@ -51,7 +53,7 @@ fn is_no_scalar(t: Option<&CType>) -> bool
 /// Whether a local is a block of memory.
 #[tactic(auto, using(crate::proofs::PlaceTables::one_of))]
 fn is_placed(types: &[Option<CType>], addressed: &IndexSet<u32>, node: u32) -> bool
-    ensures { result ≡ is_placed (addressed.now).keys (local_at (map (option_map type_tree) types.now) node) }
+    ensures { result ≡ is_placed (addressed.now).keys (local_at (types_tree types.now) node) }
 {
     addressed.contains(&node) || is_no_scalar(type_in(types, node))
 }
@@ -64,7 +66,7 @@ fn place_parameters(
     nodes: &[u32],
     locals: &mut Locals,
 ) -> Result<(), NoMemory>
-    ensures { OnOk result (locals_tree locals.new ≡ with_parameters (map (option_map type_tree) types.now) (addressed.now).keys nodes.now (locals_tree locals.old)) }
+    ensures { Puts with_parameters types.now addressed.now nodes.now locals.old locals.new result }
 {
     for node in nodes {
         insert(&mut locals.variables, *node)?;
@@ -83,7 +85,7 @@ fn place_locals(
     nodes: &[u32],
     locals: &mut Locals,
 ) -> Result<(), NoMemory>
-    ensures { OnOk result (locals_tree locals.new ≡ with_locals (map (option_map type_tree) types.now) (addressed.now).keys nodes.now (locals_tree locals.old)) }
+    ensures { Puts with_locals types.now addressed.now nodes.now locals.old locals.new result }
 {
     for node in nodes {
         if is_placed(types, addressed, *node) {
@@ -104,7 +106,7 @@ pub fn places_of(
     parameters: &[u32],
     locals: &[u32],
 ) -> Result<Locals, NoMemory>
-    ensures { IfOk result (λ l. locals_tree l ≡ places_at (map (option_map type_tree) types.now) (addressed.now).keys parameters.now locals.now) }
+    ensures { Places types.now addressed.now parameters.now locals.now result }
 {
     let mut places = Locals {
         variables: IndexSet::new(alloc),
@@ -123,7 +125,7 @@ fn scalars(
     types: &[Option<CType>],
     nodes: &IndexSet<u32>,
 ) -> Result<Vec<Scalar>, NoMemory>
-    ensures { IfOk result (λ ss. scalars_of (locals_at (map (option_map type_tree) types.now) (nodes.now).keys) ≡ Some ss.items) }
+    ensures { Gives elements (scalars_of (locals_in types.now nodes.now)) result }
 {
     let mut all = Vec::new(alloc);
     for i in 0..nodes.len() {
@@ -142,7 +144,7 @@ fn sizes(
     types: &[Option<CType>],
     nodes: &IndexSet<u32>,
 ) -> Result<Vec<u32>, NoMemory>
-    ensures { IfOk result (λ ns. sizes_of (env_tree env.now) (locals_at (map (option_map type_tree) types.now) (nodes.now).keys) ≡ Some ns.items) }
+    ensures { Gives elements (sizes_of (env_tree env.now) (locals_in types.now nodes.now)) result }
 {
     let mut all = Vec::new(alloc);
     for i in 0..nodes.len() {
@@ -205,7 +207,7 @@ pub fn function(
     f: &Function,
     body: &[Stmt],
 ) -> Result<TypedFunction, NoMemory>
-    ensures { IfOk result (λ g. function_known (known_tree k.now) (function_tree f.now) (stmts_tree body.now) ≡ Some (trees.function_tree g)) }
+    ensures { KnowsFunction k.now f.now body.now result }
 {
     let parameters = parameters(alloc, k, &f.parameters)?;
     let variables = scalars(alloc, k.types, &k.locals.variables)?;

@@ -1,13 +1,11 @@
 // The headers of the functions of a unit (C11 6.7.6.3, 6.9.1).
 ghost use Rattle.std.specs.Map.{lookup};
-ghost use Rattle.std.specs.Prelude.{◌≡◌, ◌∷◌, [], nat_eq, IfOk, IsTrue, None, OnOk, Some, map, option_map};
+ghost use Rattle.std.specs.Prelude.{◌≡◌, nat_eq, IsTrue, None};
 ghost use Rattle.qs_meaning.specs.Units.{scalars_of};
-ghost use Rattle.qs_syntax.specs.TreeOf.{decl_tree, function_tree, parameter_tree};
-ghost use Rattle.qs_syntax.specs.Trees.{UnitTree};
-ghost use Rattle.qs_types.specs.TypeOf.{type_tree};
-ghost use Rattle.qs_typed.specs.KnownFunctions.{locals_at, parameters_nodes};
-ghost use Rattle.qs_typed.specs.KnownOf.{headers_tree};
-ghost use Rattle.qs_typed.specs.KnownUnits.{headers_behind, with_header};
+ghost use Rattle.qs_typed.specs.HeadersOf.{AddsHeader, AddsHeaders, headers_in};
+ghost use Rattle.qs_typed.specs.KnownOf.{table_headers};
+ghost use Rattle.qs_typed.specs.LocalsOf.{parameters_in};
+ghost use Rattle.qs_typed.specs.Results.{Gives, elements};
 
 use crate::known::type_in;
 use crate::types::scalar_of;
@@ -24,7 +22,7 @@ fn parameter_scalars(
     types: &[Option<CType>],
     ps: &[Parameter],
 ) -> Result<Vec<Scalar>, NoMemory>
-    ensures { IfOk result (λ ss. scalars_of (locals_at (map (option_map type_tree) types.now) (parameters_nodes (map parameter_tree ps.now))) ≡ Some ss.items) }
+    ensures { Gives elements (scalars_of (parameters_in types.now ps.now)) result }
 {
     let mut all = Vec::new(alloc);
     for p in ps {
@@ -54,7 +52,7 @@ fn note_header(
     f: &Function,
     headers: &mut IndexMap<u32, Vec<Scalar>>,
 ) -> Result<(), NoMemory>
-    ensures { OnOk result (with_header (map (option_map type_tree) types.now) (function_tree f.now) (headers_tree (headers.old).entries) ≡ Some (headers_tree (headers.new).entries)) }
+    ensures { AddsHeader types.now f.now headers.old headers.new result }
 {
     let scalars = parameter_scalars(alloc, types, &f.parameters)?;
     if !is_new(headers, f.node.id) {
@@ -71,7 +69,7 @@ fn declaration_header(
     d: &Decl,
     headers: &mut IndexMap<u32, Vec<Scalar>>,
 ) -> Result<(), NoMemory>
-    ensures { OnOk result ((ds : UnitTree) → headers_behind (map (option_map type_tree) types.now) (headers_tree (headers.old).entries) (decl_tree d.now ∷ ds) ≡ headers_behind (map (option_map type_tree) types.now) (headers_tree (headers.new).entries) ds) }
+    ensures { AddsHeaders types.now d.now headers.old headers.new result }
 {
     match d {
         Decl::Struct(_) => Ok(()),
@@ -87,7 +85,7 @@ pub fn headers(
     types: &[Option<CType>],
     ds: &[Decl],
 ) -> Result<IndexMap<u32, Vec<Scalar>>, NoMemory>
-    ensures { IfOk result (λ hs. headers_behind (map (option_map type_tree) types.now) [] (map decl_tree ds.now) ≡ Some (headers_tree hs.entries)) }
+    ensures { Gives table_headers (headers_in types.now ds.now) result }
 {
     let mut headers = IndexMap::new(alloc);
     for d in ds {

@@ -1,16 +1,18 @@
 // What the declaration of a local does (C11 6.7.9).
-ghost use Rattle.std.specs.Prelude.{◌≡◌, ℕ, List, IfOk, Some, length, map, option_map};
-ghost use Rattle.qs_meaning.specs.Forms.{address_in, lvalue};
+ghost use Rattle.std.specs.Prelude.{◌≡◌, ℕ, List, IfOk, Some, length, map};
+ghost use Rattle.qs_meaning.specs.Forms.{address_in};
 ghost use Rattle.qs_meaning.specs.Initialisers.{text_room};
-ghost use Rattle.qs_meaning.specs.Typed.{member, pointer_to};
-ghost use Rattle.qs_syntax.specs.TreeOf.{expr_tree, initialiser_tree, variable_tree};
+ghost use Rattle.qs_meaning.specs.Typed.{member};
+ghost use Rattle.qs_syntax.specs.TreeOf.{expr_tree, variable_tree};
 ghost use Rattle.qs_types.specs.Declarations.{text_of};
 ghost use Rattle.qs_types.specs.TypeOf.{type_tree};
-ghost use Rattle.qs_typed.specs.FormOf.{typed_tree};
-ghost use Rattle.qs_typed.specs.KnownOf.{known_tree};
-ghost use Rattle.qs_typed.specs.KnownStatements.{assigned_set_known, filled_known, initialised_known, local_set_known, object_set_known, piece_set_known, pieces_set_known, text_set_known, variable_known, variables_known};
-ghost use Rattle.qs_typed.specs.PieceOf.{piece_tree};
-ghost use Rattle.qs_typed.specs.TreeOf.{effect_tree, effects_tree, expression_tree, lvalue_tree, object_tree};
+ghost use Rattle.qs_typed.specs.KnownOf.{Knows};
+ghost use Rattle.qs_typed.specs.KnownStatements.{local_set_known, object_set_known, variable_known};
+ghost use Rattle.qs_typed.specs.KnownStatements.{variables_known};
+ghost use Rattle.qs_typed.specs.Results.{Equals, Gives, Makes, listed};
+ghost use Rattle.qs_typed.specs.SetsOf.{Fills, Initialises, SetsLocal, SetsPart, SetsPiece};
+ghost use Rattle.qs_typed.specs.SetsOf.{SetsPieces, SetsText, object_address};
+ghost use Rattle.qs_typed.specs.TreeOf.{effect_tree, effects_tree, expression_tree, lvalue_tree};
 
 use crate::assignments::plain_form;
 use crate::blanks::blank_of;
@@ -64,7 +66,7 @@ fn text_set(
     to: Expression,
     e: &Expr,
 ) -> Result<Effect, NoMemory>
-    ensures { IfOk result (λ r. text_set_known (known_tree k.now) (type_tree t.now) (expression_tree to) (expr_tree e.now) ≡ Some (effect_tree r)) }
+    ensures { SetsText k.now t.now to e.now result }
 {
     let text = text_of(e)?;
     let size = text_room(t, text.bytes().len());
@@ -78,9 +80,10 @@ fn text_set(
     })
 }
 
-/// A scalar or a struct is initialised as by an assignment whose value is discarded (C11 6.7.9p11, p13).
+/// A scalar or a struct is initialised as by an assignment whose value is discarded (C11 6.7.9p11,
+/// p13).
 fn assigned_set(alloc: Global, k: &Known<'_>, part: Typed<'_>, e: &Expr) -> Result<Effect, NoMemory>
-    ensures { IfOk result (λ r. assigned_set_known (known_tree k.now) (typed_tree part.entry) (expr_tree e.now) ≡ Some (effect_tree r)) }
+    ensures { SetsPart k.now part.entry e.now result }
 {
     let a = typed(alloc, k, e)?;
     let of = part.of;
@@ -90,7 +93,7 @@ fn assigned_set(alloc: Global, k: &Known<'_>, part: Typed<'_>, e: &Expr) -> Resu
 
 /// The address of the part of the object that begins at this offset.
 fn part_at(alloc: Global, base: Object, offset: u32) -> Result<Expression, NoMemory>
-    ensures { IfOk result (λ e. expression_tree e ≡ member offset (pointer_to (object_tree base))) }
+    ensures { Makes expression_tree (member offset (object_address base)) result }
 {
     let base = Expression::PointerTo(base);
     Ok(Expression::Member(offset, Box::new(alloc, base)?))
@@ -98,7 +101,7 @@ fn part_at(alloc: Global, base: Object, offset: u32) -> Result<Expression, NoMem
 
 /// The part of the object.
 fn piece_set(alloc: Global, k: &Known<'_>, base: Object, p: Piece<'_>) -> Result<Effect, NoMemory>
-    ensures { IfOk result (λ r. piece_set_known (known_tree k.now) (pointer_to (object_tree base)) (piece_tree p.entry) ≡ Some (effect_tree r)) }
+    ensures { SetsPiece k.now base p.entry result }
 {
     let to = part_at(alloc, base, p.offset)?;
     if is_array(p.of) {
@@ -119,7 +122,7 @@ fn pieces_effects(
     base: Object,
     ps: &[Piece<'_>],
 ) -> Result<Vec<Effect>, NoMemory>
-    ensures { IfOk result (λ all. pieces_set_known (known_tree k.now) (pointer_to (object_tree base)) (map piece_tree ps.now) ≡ Some (effects_tree all.items)) }
+    ensures { SetsPieces (listed effects_tree) k.now base ps.now result }
 {
     let mut all = Vec::new(alloc);
     for p in ps {
@@ -134,7 +137,7 @@ fn pieces_set(
     base: Object,
     ps: &[Piece<'_>],
 ) -> Result<Effect, NoMemory>
-    ensures { IfOk result (λ r. pieces_set_known (known_tree k.now) (pointer_to (object_tree base)) (map piece_tree ps.now) ≡ Some (effect_tree r)) }
+    ensures { SetsPieces effect_tree k.now base ps.now result }
 {
     let all = pieces_effects(alloc, k, base, ps)?;
     Ok(Effect::Each(all))
@@ -148,7 +151,7 @@ fn filled(
     base: Object,
     i: &Initialiser,
 ) -> Result<Effect, NoMemory>
-    ensures { IfOk result (λ r. filled_known (known_tree k.now) (type_tree t.now) (pointer_to (object_tree base)) (initialiser_tree i.now) ≡ Some (effect_tree r)) }
+    ensures { Fills k.now t.now base i.now result }
 {
     let cells = blank_of(alloc, k.env, t)?;
     let ps = pieces(alloc, k.env, i, t, 0)?;
@@ -158,7 +161,7 @@ fn filled(
 }
 
 fn pointed(e: &Expression) -> Result<Object, NoMemory>
-    ensures { IfOk result (λ o. expression_tree e.now ≡ pointer_to (object_tree o)) }
+    ensures { Equals object_address (expression_tree e.now) result }
 {
     match e {
         Expression::PointerTo(o) => Ok(*o),
@@ -168,7 +171,7 @@ fn pointed(e: &Expression) -> Result<Object, NoMemory>
 
 /// The object that a placed local is.
 fn object_of(l: &Lvalue) -> Result<Object, NoMemory>
-    ensures { IfOk result (λ o. address_in (lvalue_tree l.now) ≡ Some (pointer_to (object_tree o))) }
+    ensures { Gives object_address (address_in (lvalue_tree l.now)) result }
 {
     match l {
         Lvalue::Variable(_) => Err(NoMemory),
@@ -183,7 +186,7 @@ fn object_set(
     l: Lvalue,
     i: &Initialiser,
 ) -> Result<Effect, NoMemory>
-    ensures { IfOk result (λ r. object_set_known (known_tree k.now) (record { type = type_tree t.now; form = lvalue (lvalue_tree l) }) (initialiser_tree i.now) ≡ Some (effect_tree r)) }
+    ensures { SetsLocal object_set_known k.now t.now l i.now result }
 {
     let base = object_of(&l)?;
     filled(alloc, k, t, base, i)
@@ -197,7 +200,7 @@ fn local_set(
     l: Lvalue,
     i: &Initialiser,
 ) -> Result<Effect, NoMemory>
-    ensures { IfOk result (λ r. local_set_known (known_tree k.now) (record { type = type_tree t.now; form = lvalue (lvalue_tree l) }) (initialiser_tree i.now) ≡ Some (effect_tree r)) }
+    ensures { SetsLocal local_set_known k.now t.now l i.now result }
 {
     match i {
         Initialiser::Value(e) => {
@@ -222,7 +225,7 @@ fn initialised(
     t: &CType,
     i: &Option<Initialiser>,
 ) -> Result<Effect, NoMemory>
-    ensures { IfOk result (λ r. initialised_known (known_tree k.now) node (type_tree t.now) (option_map initialiser_tree i.now) ≡ Some (effect_tree r)) }
+    ensures { Initialises k.now node t.now i.now result }
 {
     match i {
         None => Ok(Effect::Nothing),
@@ -235,7 +238,7 @@ fn initialised(
 
 /// What the declaration of a variable does.
 fn variable(alloc: Global, k: &Known<'_>, v: &Variable) -> Result<Effect, NoMemory>
-    ensures { IfOk result (λ r. variable_known (known_tree k.now) (variable_tree v.now) ≡ Some (effect_tree r)) }
+    ensures { Knows effect_tree variable_known k.now (variable_tree v.now) result }
 {
     let node = v.declarator.node.id;
     let t = k.type_at(node)?;
@@ -243,7 +246,7 @@ fn variable(alloc: Global, k: &Known<'_>, v: &Variable) -> Result<Effect, NoMemo
 }
 
 fn variables_effects(alloc: Global, k: &Known<'_>, vs: &[Variable]) -> Result<Vec<Effect>, NoMemory>
-    ensures { IfOk result (λ all. variables_known (known_tree k.now) (map variable_tree vs.now) ≡ Some (effects_tree all.items)) }
+    ensures { Knows (listed effects_tree) variables_known k.now (map variable_tree vs.now) result }
 {
     let mut all = Vec::new(alloc);
     for v in vs {
@@ -254,7 +257,7 @@ fn variables_effects(alloc: Global, k: &Known<'_>, vs: &[Variable]) -> Result<Ve
 
 /// What the declarations of variables do, in order.
 pub fn variables(alloc: Global, k: &Known<'_>, vs: &[Variable]) -> Result<Effect, NoMemory>
-    ensures { IfOk result (λ r. variables_known (known_tree k.now) (map variable_tree vs.now) ≡ Some (effect_tree r)) }
+    ensures { Knows effect_tree variables_known k.now (map variable_tree vs.now) result }
 {
     let all = variables_effects(alloc, k, vs)?;
     Ok(Effect::Each(all))

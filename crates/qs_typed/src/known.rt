@@ -1,13 +1,17 @@
 // What is known in a unit by the numbers of its nodes.
-ghost use Rattle.std.specs.Prelude.{◌≡◌, IfOk, Some, map, option_map};
-ghost use Rattle.qs_meaning.specs.Forms.{lvalue};
+ghost use Rattle.std.specs.Prelude.{◌≡◌, option_map};
 ghost use Rattle.qs_syntax.specs.TreeOf.{expr_tree};
 ghost use Rattle.qs_types.specs.Contexts.{place_from};
 ghost use Rattle.qs_types.specs.TypeOf.{type_tree};
 ghost use Rattle.qs_typed.specs.FormOf.{form_tree};
-ghost use Rattle.qs_typed.specs.Known.{at_number, base_known, designated_by, designated_known, name_known, named_size_known, parameters_of, referent_lvalue, sized, text_known, type_known};
-ghost use Rattle.qs_typed.specs.KnownOf.{designator_tree, headers_tree, known_tree};
+ghost use Rattle.qs_typed.specs.Known.{at_number, base_known, designated_known, name_known};
+ghost use Rattle.qs_typed.specs.Known.{named_size_known, parameters_of, referent_lvalue};
+ghost use Rattle.qs_typed.specs.Known.{sized, text_known, type_known};
+ghost use Rattle.qs_typed.specs.KnownOf.{Designates, Knows, designator_tree, known_tree};
+ghost use Rattle.qs_typed.specs.KnownOf.{table_headers};
+ghost use Rattle.qs_typed.specs.Results.{Gives, Makes, elements, itself};
 ghost use Rattle.qs_typed.specs.TreeOf.{lvalue_tree};
+ghost use Rattle.qs_typed.specs.TypesOf.{lent_type, types_tree};
 
 use crate::expressions::{Expression, Lvalue};
 use crate::forms::Form;
@@ -27,7 +31,8 @@ use std::alloc::Global;
 /// What is known.
 #[derive(Drop)]
 pub struct Known<'a> {
-    /// the types of expressions, and those of variables and parameters, at the numbers of their nodes
+    /// the types of expressions, and those of variables and parameters, at the numbers of their
+    /// nodes
     pub types: &'a [Option<CType>],
     /// what the names of the nodes stand for
     pub referents: &'a [Option<Referent>],
@@ -58,7 +63,7 @@ pub struct Designator {
 
 /// The type that stands at the number of a node, if one does.
 pub fn type_in(types: &[Option<CType>], node: u32) -> Option<&CType>
-    ensures { option_map (λ t. type_tree t.now) result ≡ at_number (map (option_map type_tree) types.now) node }
+    ensures { option_map lent_type result ≡ at_number (types_tree types.now) node }
 {
     match types.get(node as usize) {
         None => None,
@@ -79,7 +84,7 @@ pub fn referent_in(referents: &[Option<Referent>], node: u32) -> Option<Referent
 /// The number of the struct with this tag.
 #[tactic(auto, using(crate::proofs::PlaceTables::tag_found))]
 fn tag_number(tags: &IndexSet<Name>, tag: &Name) -> Result<u32, NoMemory>
-    ensures { IfOk result (λ k. place_from 0 tag.now (tags.now).keys ≡ Some k) }
+    ensures { Gives itself (place_from 0 tag.now (tags.now).keys) result }
 {
     match tags.get_index_of(tag) {
         None => Err(NoMemory),
@@ -88,9 +93,10 @@ fn tag_number(tags: &IndexSet<Name>, tag: &Name) -> Result<u32, NoMemory>
 }
 
 impl<'a> Known<'a> {
-    /// The type of the expression at a node, or that of the variable or parameter which is declared there.
+    /// The type of the expression at a node, or that of the variable or parameter which is declared
+    /// there.
     pub fn type_at(&self, node: u32) -> Result<&'a CType, NoMemory>
-        ensures { IfOk result (λ t. at_number (known_tree self.now).types node ≡ Some (type_tree t.now)) }
+        ensures { Gives lent_type (at_number (known_tree self.now).types node) result }
     {
         match type_in(self.types, node) {
             None => Err(NoMemory),
@@ -100,13 +106,13 @@ impl<'a> Known<'a> {
 
     /// The type of an expression.
     pub fn type_of(&self, e: &Expr) -> Result<&'a CType, NoMemory>
-        ensures { IfOk result (λ t. type_known (known_tree self.now) (expr_tree e.now) ≡ Some (type_tree t.now)) }
+        ensures { Knows lent_type type_known self.now (expr_tree e.now) result }
     {
         self.type_at(e.node.id)
     }
 
     fn referent_at(&self, node: u32) -> Result<Referent, NoMemory>
-        ensures { IfOk result (λ r. at_number (known_tree self.now).referents node ≡ Some r) }
+        ensures { Gives itself (at_number (known_tree self.now).referents node) result }
     {
         match referent_in(self.referents, node) {
             None => Err(NoMemory),
@@ -115,7 +121,7 @@ impl<'a> Known<'a> {
     }
 
     fn referent_lvalue(&self, alloc: Global, referent: Referent) -> Result<Lvalue, NoMemory>
-        ensures { IfOk result (λ l. referent_lvalue (known_tree self.now) referent ≡ Some (lvalue_tree l)) }
+        ensures { Knows lvalue_tree referent_lvalue self.now referent result }
     {
         match referent {
             Referent::Local(node) => local_lvalue(alloc, self.locals, node),
@@ -132,7 +138,7 @@ impl<'a> Known<'a> {
 
     /// The name of a variable (C11 6.5.1p2).
     pub fn name_form(&self, alloc: Global, node: u32) -> Result<Form, NoMemory>
-        ensures { IfOk result (λ f. name_known (known_tree self.now) node ≡ Some (form_tree f)) }
+        ensures { Knows form_tree name_known self.now node result }
     {
         let referent = self.referent_at(node)?;
         let l = self.referent_lvalue(alloc, referent)?;
@@ -141,7 +147,7 @@ impl<'a> Known<'a> {
 
     /// A text (C11 6.5.1p4).
     pub fn text_form(&self, alloc: Global, node: u32) -> Result<Form, NoMemory>
-        ensures { IfOk result (λ f. form_tree f ≡ text_known (known_tree self.now) node) }
+        ensures { Makes form_tree (text_known (known_tree self.now) node) result }
     {
         let object = text_object(self.statics, node)?;
         let address = Expression::PointerTo(object);
@@ -155,7 +161,7 @@ impl<'a> Known<'a> {
         node: u32,
         f: &Name,
     ) -> Result<Designator, NoMemory>
-        ensures { IfOk result (λ d. designated_by (known_tree self.now) f.now (Referent.Function node) ≡ Some (designator_tree d)) }
+        ensures { Designates self.now f.now (Referent.Function node) result }
     {
         let parameters = parameters_of(alloc, self.headers, node)?;
         let number = function_number(f, self.functions)?;
@@ -171,7 +177,7 @@ impl<'a> Known<'a> {
         f: &Name,
         referent: Referent,
     ) -> Result<Designator, NoMemory>
-        ensures { IfOk result (λ d. designated_by (known_tree self.now) f.now referent ≡ Some (designator_tree d)) }
+        ensures { Designates self.now f.now referent result }
     {
         match referent {
             Referent::Local(_) => Err(NoMemory),
@@ -194,7 +200,7 @@ impl<'a> Known<'a> {
 
     /// What is called at a node, by this name.
     pub fn designated(&self, alloc: Global, node: u32, f: &Name) -> Result<Designator, NoMemory>
-        ensures { IfOk result (λ d. designated_known (known_tree self.now) node f.now ≡ Some (designator_tree d)) }
+        ensures { Gives designator_tree (designated_known (known_tree self.now) node f.now) result }
     {
         let referent = self.referent_at(node)?;
         self.designated_by(alloc, f, referent)
@@ -202,7 +208,7 @@ impl<'a> Known<'a> {
 
     /// The type that a declaration begins with (C11 6.7.2).
     fn base_type(&self, base: &Base) -> Result<CType, NoMemory>
-        ensures { IfOk result (λ t. base_known (known_tree self.now) base.now ≡ Some (type_tree t)) }
+        ensures { Knows type_tree base_known self.now base.now result }
     {
         match base {
             Base::Void => Ok(CType::Void),
@@ -217,9 +223,9 @@ impl<'a> Known<'a> {
     }
 
     /// The size of a type by its name (C11 6.5.3.4).
-    #[tactic(auto, using(crate::proofs::PlaceTables::named_size, crate::proofs::PlaceTables::pointed_size))]
+    #[tactic(auto, using(crate::proofs::Sizes::named_size, crate::proofs::Sizes::pointed_size))]
     pub fn named_size_form(&self, name: &TypeName) -> Result<Form, NoMemory>
-        ensures { IfOk result (λ f. named_size_known (known_tree self.now) name.now ≡ Some (form_tree f)) }
+        ensures { Knows form_tree named_size_known self.now name.now result }
     {
         let t = self.base_type(&name.base)?;
         if name.stars > 0 {
@@ -243,7 +249,7 @@ fn parameters_of(
     headers: &IndexMap<u32, Vec<Scalar>>,
     node: u32,
 ) -> Result<Vec<Scalar>, NoMemory>
-    ensures { IfOk result (λ ps. parameters_of node (headers_tree (headers.now).entries) ≡ Some ps.items) }
+    ensures { Gives elements (parameters_of node (table_headers headers.now)) result }
 {
     match headers.get(&node) {
         None => Err(NoMemory),
@@ -252,7 +258,7 @@ fn parameters_of(
 }
 
 fn copied(alloc: Global, scalars: &[Scalar]) -> Result<Vec<Scalar>, NoMemory>
-    ensures { IfOk result (λ ss. ss.items ≡ scalars.now) }
+    ensures { Makes elements scalars.now result }
 {
     Ok(Vec::from_slice(alloc, scalars)?)
 }

@@ -1,4 +1,5 @@
-// The laws of trees that are found by the numbers of nodes. Each is the contract of an empty function.
+// The laws of trees that are found by the numbers of nodes. Each is the contract of an empty
+// function.
 ghost use Rattle.qs_typed.specs.BlockLaws.{UnitBlocksAreTyped};
 ghost use Rattle.qs_typed.specs.Laws.{ExpressionsAreTyped, FunctionsAreTyped, StatementsAreTyped};
 ghost use Rattle.qs_typed.specs.UnitLaws.{UnitFunctionsAreTyped, UnitVariablesAreKnown};
@@ -28,7 +29,8 @@ pub fn unit_variables_are_known()
     ensures { UnitVariablesAreKnown }
 {}
 
-/// The blocks that tables of a well typed unit give, with those of its texts, are those of its typed tree.
+/// The blocks that tables of a well typed unit give, with those of its texts, are those of its
+/// typed tree.
 pub fn unit_blocks_are_typed()
     ensures { UnitBlocksAreTyped }
 {}

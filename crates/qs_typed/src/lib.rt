@@ -1,5 +1,5 @@
-//! The typed tree of a unit in code: names resolved, lvalues as such, conversions explicit, sizes and
-//! offsets as numbers, and what stands in memory when a run begins.
+//! The typed tree of a unit in code: names resolved, lvalues as such, conversions explicit, sizes
+//! and offsets as numbers, and what stands in memory when a run begins.
 #![tactic(auto)]
 
 mod addressed;

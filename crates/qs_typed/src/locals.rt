@@ -1,11 +1,14 @@
 // The locals of a function (C11 6.8, 6.9.1).
-ghost use Rattle.std.specs.Prelude.{◌≡◌, ◌++◌, IfOk, OnOk, Some, map};
-ghost use Rattle.qs_meaning.specs.Names.{local_lvalue};
+ghost use Rattle.std.specs.Prelude.{map};
 ghost use Rattle.qs_meaning.specs.Units.{parameter_by};
-ghost use Rattle.qs_syntax.specs.TreeOf.{else_tree, parameter_tree, start_tree, stmt_tree, stmts_tree, variable_tree};
-ghost use Rattle.qs_typed.specs.KnownFunctions.{else_nodes, parameter_known, parameters_known, parameters_nodes, start_nodes, statement_nodes, statements_nodes, variables_nodes};
-ghost use Rattle.qs_typed.specs.KnownOf.{known_tree};
+ghost use Rattle.qs_syntax.specs.TreeOf.{else_tree, parameter_tree, start_tree, stmt_tree};
+ghost use Rattle.qs_syntax.specs.TreeOf.{stmts_tree, variable_tree};
 ghost use Rattle.qs_meaning.specs.Typed.{object};
+ghost use Rattle.qs_typed.specs.KnownFunctions.{else_nodes, parameter_known, parameters_known};
+ghost use Rattle.qs_typed.specs.KnownFunctions.{parameters_nodes, start_nodes, statement_nodes};
+ghost use Rattle.qs_typed.specs.KnownFunctions.{statements_nodes, variables_nodes};
+ghost use Rattle.qs_typed.specs.KnownOf.{Knows};
+ghost use Rattle.qs_typed.specs.Results.{Adds, Gives, elements, itself};
 ghost use Rattle.qs_typed.specs.TreeOf.{expression_tree, lvalue_tree};
 
 use crate::expressions::{Expression, Lvalue, Object};
@@ -21,7 +24,7 @@ use std::alloc::Global;
 // ---- the nodes of the locals that a body declares, in the order of the text
 
 fn variables_nodes(vs: &[Variable], nodes: &mut Vec<u32>) -> Result<(), NoMemory>
-    ensures { OnOk result (nodes.new.items ≡ nodes.old.items ++ variables_nodes (map variable_tree vs.now)) }
+    ensures { Adds (variables_nodes (map variable_tree vs.now)) nodes.old nodes.new result }
 {
     for v in vs {
         nodes.push(v.declarator.node.id)?;
@@ -31,7 +34,7 @@ fn variables_nodes(vs: &[Variable], nodes: &mut Vec<u32>) -> Result<(), NoMemory
 
 /// Adds the nodes of parameters.
 pub fn parameters_nodes(ps: &[ParameterNode], nodes: &mut Vec<u32>) -> Result<(), NoMemory>
-    ensures { OnOk result (nodes.new.items ≡ nodes.old.items ++ parameters_nodes (map parameter_tree ps.now)) }
+    ensures { Adds (parameters_nodes (map parameter_tree ps.now)) nodes.old nodes.new result }
 {
     for p in ps {
         nodes.push(p.node.id)?;
@@ -40,7 +43,7 @@ pub fn parameters_nodes(ps: &[ParameterNode], nodes: &mut Vec<u32>) -> Result<()
 }
 
 fn start_nodes(start: &Start, nodes: &mut Vec<u32>) -> Result<(), NoMemory>
-    ensures { OnOk result (nodes.new.items ≡ nodes.old.items ++ start_nodes (start_tree start.now)) }
+    ensures { Adds (start_nodes (start_tree start.now)) nodes.old nodes.new result }
 {
     match start {
         Start::Nothing => Ok(()),
@@ -51,7 +54,7 @@ fn start_nodes(start: &Start, nodes: &mut Vec<u32>) -> Result<(), NoMemory>
 
 #[cycle(nodes)]
 fn statement_nodes(s: &Stmt, nodes: &mut Vec<u32>) -> Result<(), NoMemory>
-    ensures { OnOk result (nodes.new.items ≡ nodes.old.items ++ statement_nodes (stmt_tree s.now)) }
+    ensures { Adds (statement_nodes (stmt_tree s.now)) nodes.old nodes.new result }
 {
     match s {
         Stmt::Empty(_) => Ok(()),
@@ -80,7 +83,7 @@ fn statement_nodes(s: &Stmt, nodes: &mut Vec<u32>) -> Result<(), NoMemory>
 
 #[cycle(nodes)]
 fn else_nodes(s: &Option<Box<Stmt>>, nodes: &mut Vec<u32>) -> Result<(), NoMemory>
-    ensures { OnOk result (nodes.new.items ≡ nodes.old.items ++ else_nodes (else_tree s.now)) }
+    ensures { Adds (else_nodes (else_tree s.now)) nodes.old nodes.new result }
 {
     match s {
         None => Ok(()),
@@ -91,7 +94,7 @@ fn else_nodes(s: &Option<Box<Stmt>>, nodes: &mut Vec<u32>) -> Result<(), NoMemor
 /// Adds the nodes of the locals that these statements declare.
 #[cycle(nodes)]
 pub fn statements_nodes(ss: &[Stmt], nodes: &mut Vec<u32>) -> Result<(), NoMemory>
-    ensures { OnOk result (nodes.new.items ≡ nodes.old.items ++ statements_nodes (stmts_tree ss.now)) }
+    ensures { Adds (statements_nodes (stmts_tree ss.now)) nodes.old nodes.new result }
 {
     for s in ss {
         statement_nodes(s, nodes)?;
@@ -102,7 +105,7 @@ pub fn statements_nodes(ss: &[Stmt], nodes: &mut Vec<u32>) -> Result<(), NoMemor
 // ---- parameters (C11 6.9.1p9, p10)
 
 fn placed_parameter(scalar: Scalar, address: &Expression) -> Result<Parameter, NoMemory>
-    ensures { IfOk result (λ p. parameter_by scalar (object (expression_tree address.now)) ≡ Some p) }
+    ensures { Gives itself (parameter_by scalar (object (expression_tree address.now))) result }
 {
     match address {
         Expression::PointerTo(object) => match object {
@@ -115,7 +118,7 @@ fn placed_parameter(scalar: Scalar, address: &Expression) -> Result<Parameter, N
 
 /// Where a call puts an argument.
 fn parameter_by(scalar: Scalar, l: &Lvalue) -> Result<Parameter, NoMemory>
-    ensures { IfOk result (λ p. parameter_by scalar (lvalue_tree l.now) ≡ Some p) }
+    ensures { Gives itself (parameter_by scalar (lvalue_tree l.now)) result }
 {
     match l {
         Lvalue::Variable(x) => Ok(Parameter::Plain(*x)),
@@ -124,7 +127,7 @@ fn parameter_by(scalar: Scalar, l: &Lvalue) -> Result<Parameter, NoMemory>
 }
 
 fn parameter(alloc: Global, k: &Known<'_>, p: &ParameterNode) -> Result<Parameter, NoMemory>
-    ensures { IfOk result (λ r. parameter_known (known_tree k.now) (parameter_tree p.now) ≡ Some r) }
+    ensures { Knows itself parameter_known k.now (parameter_tree p.now) result }
 {
     let t = k.type_at(p.node.id)?;
     let l = local_lvalue(alloc, k.locals, p.node.id)?;
@@ -137,7 +140,7 @@ pub fn parameters(
     k: &Known<'_>,
     ps: &[ParameterNode],
 ) -> Result<Vec<Parameter>, NoMemory>
-    ensures { IfOk result (λ r. parameters_known (known_tree k.now) (map parameter_tree ps.now) ≡ Some r.items) }
+    ensures { Knows elements parameters_known k.now (map parameter_tree ps.now) result }
 {
     let mut all = Vec::new(alloc);
     for p in ps {

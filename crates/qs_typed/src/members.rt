@@ -1,14 +1,16 @@
 // Members of structs (C11 6.5.2.3).
-ghost use Rattle.std.specs.Prelude.{◌≡◌, IfOk, Some, map};
-ghost use Rattle.qs_meaning.specs.Expressions.{arrow_form, dot_form, member_form, member_number, member_offset, object_at};
+ghost use Rattle.std.specs.Prelude.{◌≡◌, IfOk, Some};
+ghost use Rattle.qs_meaning.specs.Expressions.{arrow_form, dot_form, member_form, member_number};
+ghost use Rattle.qs_meaning.specs.Expressions.{member_offset, object_at};
 ghost use Rattle.qs_meaning.specs.Typed.{member};
 ghost use Rattle.qs_types.specs.EnvOf.{env_tree};
 ghost use Rattle.qs_types.specs.Layout.{offset_of, struct_of};
-ghost use Rattle.qs_types.specs.StructsOf.{member_tree};
 ghost use Rattle.qs_types.specs.TypeOf.{type_tree};
 ghost use Rattle.qs_types.specs.Types.{struct};
-ghost use Rattle.qs_typed.specs.FormOf.{form_tree, typed_tree};
+ghost use Rattle.qs_typed.specs.FormOf.{IsForm, form_tree, typed_tree};
+ghost use Rattle.qs_typed.specs.Results.{Gives, Makes, itself};
 ghost use Rattle.qs_typed.specs.TreeOf.{expression_tree};
+ghost use Rattle.qs_typed.specs.TypesOf.{members_tree};
 
 use crate::expressions::Expression;
 use crate::forms::{Form, Typed, value_in_use};
@@ -22,7 +24,7 @@ use std::alloc::Global;
 
 /// The members of a struct.
 pub fn struct_members(env: &Env, k: u32) -> Result<&IndexMap<Name, CType>, NoMemory>
-    ensures { IfOk result (λ ms. struct_of (env_tree env.now) k ≡ Some (map member_tree (ms.now).entries)) }
+    ensures { IfOk result (λ ms. struct_of (env_tree env.now) k ≡ Some (members_tree ms.now)) }
 {
     match env.structs().get(k as usize) {
         None => Err(NoMemory),
@@ -36,7 +38,7 @@ pub fn struct_members(env: &Env, k: u32) -> Result<&IndexMap<Name, CType>, NoMem
 /// The place of a member among others.
 #[tactic(auto, using(crate::proofs::MemberPlaces::number_found))]
 fn member_number(members: &IndexMap<Name, CType>, name: &Name) -> Result<usize, NoMemory>
-    ensures { IfOk result (λ i. member_number 0 name.now (map member_tree (members.now).entries) ≡ Some i) }
+    ensures { Gives itself (member_number 0 name.now (members_tree members.now)) result }
 {
     match members.get_index_of(name) {
         None => Err(NoMemory),
@@ -46,7 +48,7 @@ fn member_number(members: &IndexMap<Name, CType>, name: &Name) -> Result<usize, 
 
 /// The offset of the member at this place.
 pub fn offset_at(env: &Env, k: u32, i: usize) -> Result<u32, NoMemory>
-    ensures { IfOk result (λ n. offset_of (env_tree env.now) k i ≡ Some n) }
+    ensures { Gives itself (offset_of (env_tree env.now) k i) result }
 {
     match env.layout_of(k) {
         None => Err(NoMemory),
@@ -59,7 +61,7 @@ pub fn offset_at(env: &Env, k: u32, i: usize) -> Result<u32, NoMemory>
 
 #[tactic(auto, using(crate::proofs::MemberPlaces::offset_found))]
 fn struct_offset(env: &Env, k: u32, name: &Name) -> Result<u32, NoMemory>
-    ensures { IfOk result (λ n. member_offset (env_tree env.now) (struct k) name.now ≡ Some n) }
+    ensures { Gives itself (member_offset (env_tree env.now) (struct k) name.now) result }
 {
     let members = struct_members(env, k)?;
     let i = member_number(members, name)?;
@@ -68,7 +70,7 @@ fn struct_offset(env: &Env, k: u32, name: &Name) -> Result<u32, NoMemory>
 
 /// The offset of a member of a struct of this type.
 fn member_offset(env: &Env, t: &CType, name: &Name) -> Result<u32, NoMemory>
-    ensures { IfOk result (λ n. member_offset (env_tree env.now) (type_tree t.now) name.now ≡ Some n) }
+    ensures { Gives itself (member_offset (env_tree env.now) (type_tree t.now) name.now) result }
 {
     match t {
         CType::Int => Err(NoMemory),
@@ -83,14 +85,14 @@ fn member_offset(env: &Env, t: &CType, name: &Name) -> Result<u32, NoMemory>
 
 /// The object at this offset of the one at this address.
 fn member_at(alloc: Global, offset: u32, base: Expression) -> Result<Form, NoMemory>
-    ensures { IfOk result (λ f. form_tree f ≡ object_at (member offset (expression_tree base))) }
+    ensures { Makes form_tree (object_at (member offset (expression_tree base))) result }
 {
     object_at(alloc, Expression::Member(offset, Box::new(alloc, base)?))
 }
 
 /// `e.x` of an lvalue (C11 6.5.2.3p3).
 fn dot_form(alloc: Global, env: &Env, a: Typed<'_>, name: &Name) -> Result<Form, NoMemory>
-    ensures { IfOk result (λ f. dot_form (env_tree env.now) (typed_tree a.entry) name.now ≡ Some (form_tree f)) }
+    ensures { IsForm (dot_form (env_tree env.now) (typed_tree a.entry) name.now) result }
 {
     let base = a.form.into_address()?;
     let offset = member_offset(env, a.of, name)?;
@@ -100,7 +102,7 @@ fn dot_form(alloc: Global, env: &Env, a: Typed<'_>, name: &Name) -> Result<Form,
 /// `p->x` (C11 6.5.2.3p4).
 #[tactic(auto, using(crate::proofs::Operated::referenced_in_use))]
 fn arrow_form(alloc: Global, env: &Env, a: Typed<'_>, name: &Name) -> Result<Form, NoMemory>
-    ensures { IfOk result (λ f. arrow_form (env_tree env.now) (typed_tree a.entry) name.now ≡ Some (form_tree f)) }
+    ensures { IsForm (arrow_form (env_tree env.now) (typed_tree a.entry) name.now) result }
 {
     let offset = member_offset(env, referenced(a.of), name)?;
     let base = value_in_use(alloc, a)?;
@@ -115,7 +117,7 @@ pub fn member_form(
     a: Typed<'_>,
     name: &Name,
 ) -> Result<Form, NoMemory>
-    ensures { IfOk result (λ f. member_form (env_tree env.now) access (typed_tree a.entry) name.now ≡ Some (form_tree f)) }
+    ensures { IsForm (member_form (env_tree env.now) access (typed_tree a.entry) name.now) result }
 {
     match access {
         Access::Dot => dot_form(alloc, env, a, name),

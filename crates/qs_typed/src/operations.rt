@@ -1,9 +1,13 @@
-// Which operation an operator stands for at the types of its operands (C11 6.5.5 to 6.5.12, 6.5.16.2).
-ghost use Rattle.std.specs.Prelude.{◌≡◌, IfOk, Some, option_map};
-ghost use Rattle.qs_meaning.specs.Operations.{apart, combined, compared, comparison_of, element_size, moved, moved_from_left, operation_of, shifted, subtracted, summed};
+// Which operation an operator stands for at the types of its operands (C11 6.5.5 to 6.5.12,
+// 6.5.16.2).
+ghost use Rattle.std.specs.Prelude.{◌≡◌};
+ghost use Rattle.qs_meaning.specs.Operations.{apart, combined, compared, comparison_of};
+ghost use Rattle.qs_meaning.specs.Operations.{element_size, moved, moved_from_left, operation_of};
+ghost use Rattle.qs_meaning.specs.Operations.{shifted, subtracted, summed};
 ghost use Rattle.qs_types.specs.EnvOf.{env_tree};
 ghost use Rattle.qs_types.specs.TypeOf.{type_tree};
-ghost use Rattle.qs_typed.specs.Parts.{in_scalars, operated_tree};
+ghost use Rattle.qs_typed.specs.Parts.{GivesOperation, IsOperation, in_scalars, operated_tree};
+ghost use Rattle.qs_typed.specs.Results.{Gives, itself};
 
 use crate::expressions::{Conversion, Order};
 use crate::types::{common, conversion, referenced, scalar_of, signedness, size_in};
@@ -12,8 +16,8 @@ use qs_memory::{Arithmetic, BinaryOperation, Comparison, Direction, Scalar};
 use qs_syntax::BinaryOperator;
 use qs_types::{CType, Env, arithmetic, is_pointer, promoted};
 
-/// The operation, what its operands are converted to before it, the scalar type of its result, and the
-/// order in which it takes its operands.
+/// The operation, what its operands are converted to before it, the scalar type of its result, and
+/// the order in which it takes its operands.
 #[derive(Clone, Copy, PartialEq, Eq, Debug)]
 pub struct Operated {
     /// the operation
@@ -30,7 +34,7 @@ pub struct Operated {
 
 /// Two integers after the usual arithmetic conversions.
 fn combined(operator: Arithmetic, t: &CType, u: &CType) -> Operated
-    ensures { operated_tree result ≡ in_scalars (combined operator (type_tree t.now) (type_tree u.now)) }
+    ensures { IsOperation (combined operator) t.now u.now result }
 {
     let both = arithmetic(t, u);
     Operated {
@@ -44,7 +48,7 @@ fn combined(operator: Arithmetic, t: &CType, u: &CType) -> Operated
 
 /// A shift: each operand is promoted (C11 6.5.7p3).
 fn shifted(operator: Arithmetic, t: &CType, u: &CType) -> Operated
-    ensures { operated_tree result ≡ in_scalars (shifted operator (type_tree t.now) (type_tree u.now)) }
+    ensures { IsOperation (shifted operator) t.now u.now result }
 {
     let left = promoted(t);
     let right = promoted(u);
@@ -69,7 +73,7 @@ fn comparison_of(comparison: Comparison, t: &CType) -> BinaryOperation
 
 /// A comparison of integers or of pointers (C11 6.5.8, 6.5.9).
 fn compared(comparison: Comparison, t: &CType, u: &CType) -> Operated
-    ensures { operated_tree result ≡ in_scalars (compared comparison (type_tree t.now) (type_tree u.now)) }
+    ensures { IsOperation (compared comparison) t.now u.now result }
 {
     let both = arithmetic(t, u);
     let common = common(t, u, &both);
@@ -84,7 +88,7 @@ fn compared(comparison: Comparison, t: &CType, u: &CType) -> Operated
 
 /// A pointer that the integer on its right moves (C11 6.5.6p8).
 fn moved(direction: Direction, element: u32, t: &CType, u: &CType) -> Operated
-    ensures { operated_tree result ≡ in_scalars (moved direction element (type_tree t.now) (type_tree u.now)) }
+    ensures { IsOperation (moved direction element) t.now u.now result }
 {
     let right = promoted(u);
     Operated {
@@ -98,7 +102,7 @@ fn moved(direction: Direction, element: u32, t: &CType, u: &CType) -> Operated
 
 /// A pointer that the integer on its left moves.
 fn moved_from_left(element: u32, t: &CType, u: &CType) -> Operated
-    ensures { operated_tree result ≡ in_scalars (moved_from_left element (type_tree t.now) (type_tree u.now)) }
+    ensures { IsOperation (moved_from_left element) t.now u.now result }
 {
     let left = promoted(t);
     Operated {
@@ -125,13 +129,13 @@ fn apart(element: u32) -> Operated
 
 /// The size of what a pointer leads to.
 fn element_size(env: &Env, t: &CType) -> Result<u32, NoMemory>
-    ensures { IfOk result (λ n. element_size (env_tree env.now) (type_tree t.now) ≡ Some n) }
+    ensures { Gives itself (element_size (env_tree env.now) (type_tree t.now)) result }
 {
     size_in(env, referenced(t))
 }
 
 fn summed(env: &Env, t: &CType, u: &CType) -> Result<Operated, NoMemory>
-    ensures { IfOk result (λ o. option_map in_scalars (summed (env_tree env.now) (type_tree t.now) (type_tree u.now)) ≡ Some (operated_tree o)) }
+    ensures { GivesOperation (summed (env_tree env.now)) t.now u.now result }
 {
     if is_pointer(t) {
         let element = element_size(env, t)?;
@@ -145,7 +149,7 @@ fn summed(env: &Env, t: &CType, u: &CType) -> Result<Operated, NoMemory>
 }
 
 fn subtracted(env: &Env, t: &CType, u: &CType) -> Result<Operated, NoMemory>
-    ensures { IfOk result (λ o. option_map in_scalars (subtracted (env_tree env.now) (type_tree t.now) (type_tree u.now)) ≡ Some (operated_tree o)) }
+    ensures { GivesOperation (subtracted (env_tree env.now)) t.now u.now result }
 {
     if is_pointer(u) {
         let element = element_size(env, t)?;
@@ -165,7 +169,7 @@ pub fn operation_of(
     t: &CType,
     u: &CType,
 ) -> Result<Operated, NoMemory>
-    ensures { IfOk result (λ o. option_map in_scalars (operation_of (env_tree env.now) operator (type_tree t.now) (type_tree u.now)) ≡ Some (operated_tree o)) }
+    ensures { GivesOperation (operation_of (env_tree env.now) operator) t.now u.now result }
 {
     match operator {
         BinaryOperator::Multiply => Ok(combined(Arithmetic::Multiply, t, u)),

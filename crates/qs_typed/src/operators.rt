@@ -1,13 +1,19 @@
 // Operators between two operands, unary operators, casts and sizes (C11 6.5.2.1, 6.5.3 to 6.5.15).
-ghost use Rattle.std.specs.Prelude.{◌≡◌, IfOk, Some};
-ghost use Rattle.qs_memory.specs.declared.operation.UnaryOperation.TheVariants.{Complement, Minus, Plus};
-ghost use Rattle.qs_meaning.specs.Expressions.{address_form, arithmetic_form, beside_zero, binary_form, cast_form, comma_form, conditional_form, indirect_form, negation_form, object_at, operator_form, operator_value, size_form, subscript_form, unary_form};
+ghost use Rattle.std.specs.Prelude.{◌≡◌};
+ghost use Rattle.qs_memory.specs.declared.operation.UnaryOperation.TheVariants.{Complement, Minus};
+ghost use Rattle.qs_memory.specs.declared.operation.UnaryOperation.TheVariants.{Plus};
+ghost use Rattle.qs_meaning.specs.Expressions.{address_form, arithmetic_form, beside_zero};
+ghost use Rattle.qs_meaning.specs.Expressions.{binary_form, cast_form, comma_form, indirect_form};
+ghost use Rattle.qs_meaning.specs.Expressions.{negation_form, object_at, operator_form};
+ghost use Rattle.qs_meaning.specs.Expressions.{operator_value, size_form, subscript_form};
+ghost use Rattle.qs_meaning.specs.Expressions.{unary_form};
 ghost use Rattle.qs_types.specs.Conversions.{arithmetic};
 ghost use Rattle.qs_types.specs.EnvOf.{env_tree};
 ghost use Rattle.qs_types.specs.TypeOf.{type_tree};
 ghost use Rattle.qs_types.specs.Types.{int};
-ghost use Rattle.qs_typed.specs.FormOf.{form_tree, typed_tree};
-ghost use Rattle.qs_typed.specs.Parts.{operated_by, operated_tree};
+ghost use Rattle.qs_typed.specs.FormOf.{Chooses, Combines, Computes, IsForm, form_tree};
+ghost use Rattle.qs_typed.specs.FormOf.{operation_tree, typed_tree};
+ghost use Rattle.qs_typed.specs.Results.{Equals, Makes};
 ghost use Rattle.qs_typed.specs.TreeOf.{expression_tree};
 
 use crate::expressions::{Expression, Lvalue};
@@ -22,14 +28,14 @@ use std::alloc::Global;
 
 /// The object at this address.
 pub fn object_at(alloc: Global, address: Expression) -> Result<Form, NoMemory>
-    ensures { IfOk result (λ f. form_tree f ≡ object_at (expression_tree address)) }
+    ensures { Makes form_tree (object_at (expression_tree address)) result }
 {
     Ok(Form::Lvalue(Lvalue::Object(Box::new(alloc, address)?)))
 }
 
 /// An operation on two values.
 fn operated(alloc: Global, o: Operated, a: Typed<'_>, b: Typed<'_>) -> Result<Expression, NoMemory>
-    ensures { IfOk result (λ e. operated_by (operated_tree o) (typed_tree a.entry) (typed_tree b.entry) ≡ expression_tree e) }
+    ensures { Equals expression_tree (operation_tree o a.entry b.entry) result }
 {
     let left = value_in_use(alloc, a)?;
     let right = value_in_use(alloc, b)?;
@@ -52,7 +58,7 @@ pub fn operator_value(
     a: Typed<'_>,
     b: Typed<'_>,
 ) -> Result<Expression, NoMemory>
-    ensures { IfOk result (λ e. operator_value (env_tree env.now) operator (typed_tree a.entry) (typed_tree b.entry) ≡ Some (expression_tree e)) }
+    ensures { Computes (operator_value (env_tree env.now) operator) a.entry b.entry result }
 {
     let t = type_in_use(alloc, &a)?;
     let u = type_in_use(alloc, &b)?;
@@ -67,7 +73,7 @@ fn operator_form(
     a: Typed<'_>,
     b: Typed<'_>,
 ) -> Result<Form, NoMemory>
-    ensures { IfOk result (λ f. operator_form (env_tree env.now) operator (typed_tree a.entry) (typed_tree b.entry) ≡ Some (form_tree f)) }
+    ensures { Combines (operator_form (env_tree env.now) operator) a.entry b.entry result }
 {
     let e = operator_value(alloc, env, operator, a, b)?;
     Ok(Form::Value(e))
@@ -80,14 +86,14 @@ pub fn subscript_form(
     a: Typed<'_>,
     b: Typed<'_>,
 ) -> Result<Form, NoMemory>
-    ensures { IfOk result (λ f. subscript_form (env_tree env.now) (typed_tree a.entry) (typed_tree b.entry) ≡ Some (form_tree f)) }
+    ensures { Combines (subscript_form (env_tree env.now)) a.entry b.entry result }
 {
     let sum = operator_value(alloc, env, BinaryOperator::Add, a, b)?;
     object_at(alloc, sum)
 }
 
 fn and_form(alloc: Global, env: &Env, a: Typed<'_>, b: Typed<'_>) -> Result<Form, NoMemory>
-    ensures { IfOk result (λ f. binary_form (env_tree env.now) BinaryOperator.And (typed_tree a.entry) (typed_tree b.entry) ≡ Some (form_tree f)) }
+    ensures { Combines (binary_form (env_tree env.now) BinaryOperator.And) a.entry b.entry result }
 {
     let left = value_in_use(alloc, a)?;
     let right = value_in_use(alloc, b)?;
@@ -95,7 +101,7 @@ fn and_form(alloc: Global, env: &Env, a: Typed<'_>, b: Typed<'_>) -> Result<Form
 }
 
 fn or_form(alloc: Global, env: &Env, a: Typed<'_>, b: Typed<'_>) -> Result<Form, NoMemory>
-    ensures { IfOk result (λ f. binary_form (env_tree env.now) BinaryOperator.Or (typed_tree a.entry) (typed_tree b.entry) ≡ Some (form_tree f)) }
+    ensures { Combines (binary_form (env_tree env.now) BinaryOperator.Or) a.entry b.entry result }
 {
     let left = value_in_use(alloc, a)?;
     let right = value_in_use(alloc, b)?;
@@ -110,7 +116,7 @@ pub fn binary_form(
     a: Typed<'_>,
     b: Typed<'_>,
 ) -> Result<Form, NoMemory>
-    ensures { IfOk result (λ f. binary_form (env_tree env.now) operator (typed_tree a.entry) (typed_tree b.entry) ≡ Some (form_tree f)) }
+    ensures { Combines (binary_form (env_tree env.now) operator) a.entry b.entry result }
 {
     match operator {
         BinaryOperator::And => and_form(alloc, env, a, b),
@@ -140,7 +146,7 @@ pub fn binary_form(
 
 /// `&` (C11 6.5.3.2p3).
 fn address_form(a: Typed<'_>) -> Result<Form, NoMemory>
-    ensures { IfOk result (λ f. address_form (typed_tree a.entry) ≡ Some (form_tree f)) }
+    ensures { IsForm (address_form (typed_tree a.entry)) result }
 {
     let address = a.form.into_address()?;
     Ok(Form::Value(address))
@@ -148,14 +154,14 @@ fn address_form(a: Typed<'_>) -> Result<Form, NoMemory>
 
 /// `*` (C11 6.5.3.2p4).
 fn indirect_form(alloc: Global, a: Typed<'_>) -> Result<Form, NoMemory>
-    ensures { IfOk result (λ f. form_tree f ≡ indirect_form (typed_tree a.entry)) }
+    ensures { Makes form_tree (indirect_form (typed_tree a.entry)) result }
 {
     let address = value_in_use(alloc, a)?;
     object_at(alloc, address)
 }
 
 fn plus_form(alloc: Global, a: Typed<'_>) -> Result<Form, NoMemory>
-    ensures { IfOk result (λ f. form_tree f ≡ arithmetic_form Plus (typed_tree a.entry)) }
+    ensures { Makes form_tree (arithmetic_form Plus (typed_tree a.entry)) result }
 {
     let t = type_in_use(alloc, &a)?;
     let to = promoted(&t);
@@ -168,7 +174,7 @@ fn plus_form(alloc: Global, a: Typed<'_>) -> Result<Form, NoMemory>
 }
 
 fn minus_form(alloc: Global, a: Typed<'_>) -> Result<Form, NoMemory>
-    ensures { IfOk result (λ f. form_tree f ≡ arithmetic_form Minus (typed_tree a.entry)) }
+    ensures { Makes form_tree (arithmetic_form Minus (typed_tree a.entry)) result }
 {
     let t = type_in_use(alloc, &a)?;
     let to = promoted(&t);
@@ -181,7 +187,7 @@ fn minus_form(alloc: Global, a: Typed<'_>) -> Result<Form, NoMemory>
 }
 
 fn complement_form(alloc: Global, a: Typed<'_>) -> Result<Form, NoMemory>
-    ensures { IfOk result (λ f. form_tree f ≡ arithmetic_form Complement (typed_tree a.entry)) }
+    ensures { Makes form_tree (arithmetic_form Complement (typed_tree a.entry)) result }
 {
     let t = type_in_use(alloc, &a)?;
     let to = promoted(&t);
@@ -203,7 +209,7 @@ fn beside_zero<'a>(t: &'a CType, both: &'a CType) -> &'a CType
 
 /// `!` (C11 6.5.3.3p5).
 fn negation_form(alloc: Global, a: Typed<'_>) -> Result<Form, NoMemory>
-    ensures { IfOk result (λ f. form_tree f ≡ negation_form (typed_tree a.entry)) }
+    ensures { Makes form_tree (negation_form (typed_tree a.entry)) result }
 {
     let t = type_in_use(alloc, &a)?;
     let both = arithmetic(&CType::Int, &t);
@@ -215,7 +221,7 @@ fn negation_form(alloc: Global, a: Typed<'_>) -> Result<Form, NoMemory>
 
 /// A unary operator (C11 6.5.3.2, 6.5.3.3).
 pub fn unary_form(alloc: Global, operator: UnaryOperator, a: Typed<'_>) -> Result<Form, NoMemory>
-    ensures { IfOk result (λ f. unary_form operator (typed_tree a.entry) ≡ Some (form_tree f)) }
+    ensures { IsForm (unary_form operator (typed_tree a.entry)) result }
 {
     match operator {
         UnaryOperator::Address => address_form(a),
@@ -229,7 +235,7 @@ pub fn unary_form(alloc: Global, operator: UnaryOperator, a: Typed<'_>) -> Resul
 
 /// `sizeof`: the operand isn't evaluated, and the size has type `unsigned` (C11 6.5.3.4p2, p5).
 pub fn size_form(env: &Env, t: &CType) -> Result<Form, NoMemory>
-    ensures { IfOk result (λ f. size_form (env_tree env.now) (type_tree t.now) ≡ Some (form_tree f)) }
+    ensures { IsForm (size_form (env_tree env.now) (type_tree t.now)) result }
 {
     let size = size_in(env, t)?;
     Ok(Form::Value(Expression::Constant(Scalar::Unsigned, size)))
@@ -237,7 +243,7 @@ pub fn size_form(env: &Env, t: &CType) -> Result<Form, NoMemory>
 
 /// A cast (C11 6.5.4p5).
 pub fn cast_form(alloc: Global, t: &CType, a: Typed<'_>) -> Result<Form, NoMemory>
-    ensures { IfOk result (λ f. form_tree f ≡ cast_form (type_tree t.now) (typed_tree a.entry)) }
+    ensures { Makes form_tree (cast_form (type_tree t.now) (typed_tree a.entry)) result }
 {
     let from = type_in_use(alloc, &a)?;
     let value = value_in_use(alloc, a)?;
@@ -251,7 +257,7 @@ pub fn conditional_form(
     a: Typed<'_>,
     b: Typed<'_>,
 ) -> Result<Form, NoMemory>
-    ensures { IfOk result (λ f. form_tree f ≡ conditional_form (typed_tree c.entry) (typed_tree a.entry) (typed_tree b.entry)) }
+    ensures { Chooses c.entry a.entry b.entry result }
 {
     let t = type_in_use(alloc, &a)?;
     let u = type_in_use(alloc, &b)?;
@@ -275,7 +281,7 @@ pub fn conditional_form(
 
 /// `,`: the left operand is used for its effect (C11 6.5.17p2).
 pub fn comma_form(alloc: Global, a: Typed<'_>, b: Typed<'_>) -> Result<Form, NoMemory>
-    ensures { IfOk result (λ f. form_tree f ≡ comma_form (typed_tree a.entry) (typed_tree b.entry)) }
+    ensures { Makes form_tree (comma_form (typed_tree a.entry) (typed_tree b.entry)) result }
 {
     let before = effect_in_use(alloc, a)?;
     let of = b.of.copy(alloc)?;

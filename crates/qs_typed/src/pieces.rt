@@ -1,12 +1,14 @@
 // Which expression initialises which part of an object (C11 6.7.9p17 to p20).
-ghost use Rattle.std.specs.Prelude.{◌≡◌, ◌*◌, [], ◌∷◌, IfOk, Some, map};
-ghost use Rattle.qs_meaning.specs.Initialisers.{part_offset, pieces, pieces_from};
-ghost use Rattle.qs_syntax.specs.TreeOf.{expr_tree, initialiser_tree, initialisers_tree};
+ghost use Rattle.std.specs.Prelude.{◌≡◌, ◌*◌, [], ◌∷◌, IfOk};
+ghost use Rattle.qs_meaning.specs.Initialisers.{part_offset, pieces};
+ghost use Rattle.qs_syntax.specs.TreeOf.{initialiser_tree, initialisers_tree};
 ghost use Rattle.qs_types.specs.EnvOf.{env_tree};
 ghost use Rattle.qs_types.specs.InitialiserRules.{member_at, part_type};
 ghost use Rattle.qs_types.specs.Layout.{struct_of};
 ghost use Rattle.qs_types.specs.TypeOf.{type_tree};
-ghost use Rattle.qs_typed.specs.PieceOf.{piece_tree};
+ghost use Rattle.qs_typed.specs.PieceOf.{Divides, list_pieces, piece_of, pieces_tree};
+ghost use Rattle.qs_typed.specs.Results.{Gives, Makes, itself};
+ghost use Rattle.qs_typed.specs.TypesOf.{lent_type};
 
 use crate::members::{offset_at, struct_members};
 use crate::places::{number, sum};
@@ -30,7 +32,7 @@ pub struct Piece<'a> {
 /// The type of a member by its number.
 #[tactic(auto, using(crate::proofs::MemberPlaces::member_there))]
 fn member_at(env: &Env, k: u32, i: usize) -> Result<&CType, NoMemory>
-    ensures { IfOk result (λ t. member_at (struct_of (env_tree env.now) k) i ≡ Some (type_tree t.now)) }
+    ensures { Gives lent_type (member_at (struct_of (env_tree env.now) k) i) result }
 {
     let members = struct_members(env, k)?;
     match members.get_index(i) {
@@ -41,7 +43,7 @@ fn member_at(env: &Env, k: u32, i: usize) -> Result<&CType, NoMemory>
 
 /// The type of a part by its number.
 fn part_type<'a>(env: &'a Env, t: &'a CType, i: usize) -> Result<&'a CType, NoMemory>
-    ensures { IfOk result (λ u. part_type (env_tree env.now) (type_tree t.now) i ≡ Some (type_tree u.now)) }
+    ensures { Gives lent_type (part_type (env_tree env.now) (type_tree t.now) i) result }
 {
     match t {
         CType::Int => Err(NoMemory),
@@ -72,7 +74,7 @@ fn product(size: u32, i: usize) -> Result<u32, NoMemory>
 
 /// Where a part begins, by its number.
 fn part_offset(env: &Env, t: &CType, i: usize) -> Result<u32, NoMemory>
-    ensures { IfOk result (λ n. part_offset (env_tree env.now) (type_tree t.now) i ≡ Some n) }
+    ensures { Gives itself (part_offset (env_tree env.now) (type_tree t.now) i) result }
 {
     match t {
         CType::Int => Err(NoMemory),
@@ -94,7 +96,7 @@ fn one_piece<'a>(
     offset: u32,
     expression: &'a Expr,
 ) -> Result<Vec<Piece<'a>>, NoMemory>
-    ensures { IfOk result (λ ps. map piece_tree ps.items ≡ record { offset = offset; type = type_tree of.now; expression = expr_tree expression.now } ∷ []) }
+    ensures { Makes pieces_tree (piece_of offset of.now expression.now ∷ []) result }
 {
     let mut pieces = Vec::new(alloc);
     pieces.push(Piece {
@@ -114,7 +116,7 @@ pub fn pieces<'a>(
     t: &'a CType,
     offset: u32,
 ) -> Result<Vec<Piece<'a>>, NoMemory>
-    ensures { IfOk result (λ ps. pieces (env_tree env.now) (type_tree t.now) offset (initialiser_tree i.now) ≡ Some (map piece_tree ps.items)) }
+    ensures { Divides pieces env.now t.now offset (initialiser_tree i.now) result }
 {
     match i {
         Initialiser::Value(e) => one_piece(alloc, t, offset, e),
@@ -131,7 +133,7 @@ fn pieces_from<'a>(
     t: &'a CType,
     offset: u32,
 ) -> Result<Vec<Piece<'a>>, NoMemory>
-    ensures { IfOk result (λ ps. pieces_from (env_tree env.now) (type_tree t.now) offset 0 (initialisers_tree is.now) ≡ Some (map piece_tree ps.items)) }
+    ensures { Divides list_pieces env.now t.now offset (initialisers_tree is.now) result }
 {
     let mut all = Vec::new(alloc);
     for n in 0..is.len() {

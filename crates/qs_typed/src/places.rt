@@ -1,8 +1,10 @@
 // Which variable or block a declaration has, and what is known at the nodes of a unit.
 ghost use Rattle.std.specs.Prelude.{◌≡◌, ◌+◌, IfOk};
-ghost use Rattle.qs_meaning.specs.Names.{file_variable_object, function_number, local_lvalue, place_among, text_object};
+ghost use Rattle.qs_meaning.specs.Names.{file_variable_object, function_number, local_lvalue};
+ghost use Rattle.qs_meaning.specs.Names.{place_among, text_object};
 ghost use Rattle.qs_types.specs.Placed.{is_one_of};
 ghost use Rattle.qs_typed.specs.PlacesOf.{locals_tree, statics_tree};
+ghost use Rattle.qs_typed.specs.Results.{Equals};
 ghost use Rattle.qs_typed.specs.TreeOf.{lvalue_tree, object_tree};
 
 use crate::expressions::{Expression, Lvalue, Object};
@@ -10,8 +12,8 @@ use indexmap::IndexSet;
 use qs_base::{Name, NoMemory};
 use std::alloc::Global;
 
-/// The variables of a function, and its locals and parameters that are placed, by the numbers of their
-/// nodes.
+/// The variables of a function, and its locals and parameters that are placed, by the numbers of
+/// their nodes.
 #[derive(Drop)]
 pub struct Locals {
     /// the parameters and then the plain locals
@@ -69,7 +71,7 @@ fn is_one_of(node: u32, nodes: &IndexSet<u32>) -> bool
 
 /// A placed local is a block of the call, any other a variable of the call.
 pub fn local_lvalue(alloc: Global, locals: &Locals, node: u32) -> Result<Lvalue, NoMemory>
-    ensures { IfOk result (λ l. local_lvalue (locals_tree locals.now) node ≡ lvalue_tree l) }
+    ensures { Equals lvalue_tree (local_lvalue (locals_tree locals.now) node) result }
 {
     if is_one_of(node, &locals.placed) {
         let k = place_among(node, &locals.placed)?;
@@ -83,7 +85,7 @@ pub fn local_lvalue(alloc: Global, locals: &Locals, node: u32) -> Result<Lvalue,
 
 /// The block of a variable of file scope.
 pub fn file_variable_object(statics: &Statics, node: u32) -> Result<Object, NoMemory>
-    ensures { IfOk result (λ o. file_variable_object (statics_tree statics.now) node ≡ object_tree o) }
+    ensures { Equals object_tree (file_variable_object (statics_tree statics.now) node) result }
 {
     let k = place_among(node, &statics.variables)?;
     Ok(Object::Static(k))
@@ -91,7 +93,7 @@ pub fn file_variable_object(statics: &Statics, node: u32) -> Result<Object, NoMe
 
 /// The block of a text (C11 6.4.5p6).
 pub fn text_object(statics: &Statics, node: u32) -> Result<Object, NoMemory>
-    ensures { IfOk result (λ o. text_object (statics_tree statics.now) node ≡ object_tree o) }
+    ensures { Equals object_tree (text_object (statics_tree statics.now) node) result }
 {
     let k = place_among(node, &statics.texts)?;
     let at = number(statics.variables.len() + k as usize)?;

@@ -1,14 +1,15 @@
 // The blocks of file-scope variables (C11 6.7.9, 6.9.2).
-ghost use Rattle.std.specs.Prelude.{◌≡◌, ◌∷◌, IfOk, OnOk, Some, map, option_map};
+ghost use Rattle.std.specs.Prelude.{map, option_map};
 ghost use Rattle.qs_syntax.specs.TreeOf.{decl_tree, initialiser_tree, variable_tree};
-ghost use Rattle.qs_syntax.specs.Trees.{UnitTree};
 ghost use Rattle.qs_types.specs.TypeOf.{type_tree};
-ghost use Rattle.qs_typed.specs.Behind.{followed};
-ghost use Rattle.qs_typed.specs.CellsOf.{cell_tree};
-ghost use Rattle.qs_typed.specs.KnownBlocks.{blank_cells_known, blocks_known, file_variables_known, initial_cells_known, initialised_cells_known, piece_cells_known, pieces_over_known, variable_block_known};
+ghost use Rattle.qs_typed.specs.BlocksOf.{AddsBlocks, Holds, WritesPieces};
+ghost use Rattle.qs_typed.specs.CellsOf.{cells_tree};
+ghost use Rattle.qs_typed.specs.KnownBlocks.{blank_cells_known, blocks_known, file_variables_known};
+ghost use Rattle.qs_typed.specs.KnownBlocks.{initial_cells_known, initialised_cells_known};
+ghost use Rattle.qs_typed.specs.KnownBlocks.{piece_cells_known, variable_block_known};
 ghost use Rattle.qs_typed.specs.PieceOf.{piece_tree};
-ghost use Rattle.qs_typed.specs.TablesOf.{tables_tree};
-ghost use Rattle.qs_typed.specs.TreeOf.{contents_cells, static_block_tree};
+ghost use Rattle.qs_typed.specs.TablesOf.{Finds};
+ghost use Rattle.qs_typed.specs.TreeOf.{blocks_tree, data_cells, static_block_tree};
 
 use crate::blanks::blank_of;
 use crate::cells::{Cell, cells_of, data_of, write_over};
@@ -24,7 +25,7 @@ use qs_types::{CType, is_array};
 use std::alloc::Global;
 
 fn piece_cells(alloc: Global, t: &Tables<'_>, p: Piece<'_>) -> Result<Vec<Cell>, NoMemory>
-    ensures { IfOk result (λ cells. piece_cells_known (tables_tree t.now) (piece_tree p.entry) ≡ Some (map cell_tree cells.items)) }
+    ensures { Finds cells_tree piece_cells_known t.now (piece_tree p.entry) result }
 {
     if is_array(p.of) {
         array_cells(alloc, p.of, p.expression)
@@ -40,7 +41,7 @@ fn pieces_over(
     ps: &[Piece<'_>],
     cells: &mut [Cell],
 ) -> Result<(), NoMemory>
-    ensures { OnOk result (pieces_over_known (tables_tree t.now) (map piece_tree ps.now) (map cell_tree cells.old) ≡ Some (map cell_tree cells.new)) }
+    ensures { WritesPieces t.now ps.now cells.old cells.new result }
 {
     for p in ps {
         let new = piece_cells(alloc, t, *p)?;
@@ -51,7 +52,7 @@ fn pieces_over(
 
 /// What an object holds that isn't initialised (C11 6.7.9p10).
 fn blank_data(alloc: Global, t: &Tables<'_>, of: &CType) -> Result<Vec<Datum>, NoMemory>
-    ensures { IfOk result (λ ds. blank_cells_known (tables_tree t.now) (type_tree of.now) ≡ Some (contents_cells ds.items)) }
+    ensures { Finds data_cells blank_cells_known t.now (type_tree of.now) result }
 {
     let blank = blank_of(alloc, t.env, of)?;
     let mut contents = Contents::new(alloc);
@@ -59,14 +60,15 @@ fn blank_data(alloc: Global, t: &Tables<'_>, of: &CType) -> Result<Vec<Datum>, N
     contents.finish(alloc)
 }
 
-/// What an object with an initialiser holds: where that says nothing, what it holds without (C11 6.7.9p21).
+/// What an object with an initialiser holds: where that says nothing, what it holds without (C11
+/// 6.7.9p21).
 fn initialised_data(
     alloc: Global,
     t: &Tables<'_>,
     of: &CType,
     i: &Initialiser,
 ) -> Result<Vec<Datum>, NoMemory>
-    ensures { IfOk result (λ ds. initialised_cells_known (tables_tree t.now) (type_tree of.now) (initialiser_tree i.now) ≡ Some (contents_cells ds.items)) }
+    ensures { Holds initialised_cells_known t.now of.now (initialiser_tree i.now) result }
 {
     let blank = blank_data(alloc, t, of)?;
     let ps = pieces(alloc, t.env, i, of, 0)?;
@@ -81,7 +83,7 @@ fn initial_data(
     of: &CType,
     i: &Option<Initialiser>,
 ) -> Result<Vec<Datum>, NoMemory>
-    ensures { IfOk result (λ ds. initial_cells_known (tables_tree t.now) (type_tree of.now) (option_map initialiser_tree i.now) ≡ Some (contents_cells ds.items)) }
+    ensures { Holds initial_cells_known t.now of.now (option_map initialiser_tree i.now) result }
 {
     match i {
         None => blank_data(alloc, t, of),
@@ -90,7 +92,7 @@ fn initial_data(
 }
 
 fn variable_block(alloc: Global, t: &Tables<'_>, v: &Variable) -> Result<StaticBlock, NoMemory>
-    ensures { IfOk result (λ b. variable_block_known (tables_tree t.now) (variable_tree v.now) ≡ Some (static_block_tree b)) }
+    ensures { Finds static_block_tree variable_block_known t.now (variable_tree v.now) result }
 {
     match type_in(t.types, v.declarator.node.id) {
         None => Err(NoMemory),
@@ -110,7 +112,7 @@ fn file_variables(
     t: &Tables<'_>,
     vs: &[Variable],
 ) -> Result<Vec<StaticBlock>, NoMemory>
-    ensures { IfOk result (λ bs. file_variables_known (tables_tree t.now) (map variable_tree vs.now) ≡ Some (map static_block_tree bs.items)) }
+    ensures { Finds blocks_tree file_variables_known t.now (map variable_tree vs.now) result }
 {
     let mut all = Vec::new(alloc);
     for v in vs {
@@ -126,7 +128,7 @@ fn add_declaration(
     d: &Decl,
     all: &mut Vec<StaticBlock>,
 ) -> Result<(), NoMemory>
-    ensures { OnOk result ((ds : UnitTree) → followed (map static_block_tree all.old.items) (blocks_known (tables_tree t.now) (decl_tree d.now ∷ ds)) ≡ followed (map static_block_tree all.new.items) (blocks_known (tables_tree t.now) ds)) }
+    ensures { AddsBlocks t.now (decl_tree d.now) all.old all.new result }
 {
     match d {
         Decl::Struct(_) => Ok(()),
@@ -142,7 +144,7 @@ fn add_declaration(
 
 /// The blocks of the variables of a unit, in order.
 pub fn blocks(alloc: Global, t: &Tables<'_>, ds: &[Decl]) -> Result<Vec<StaticBlock>, NoMemory>
-    ensures { IfOk result (λ bs. blocks_known (tables_tree t.now) (map decl_tree ds.now) ≡ Some (map static_block_tree bs.items)) }
+    ensures { Finds blocks_tree blocks_known t.now (map decl_tree ds.now) result }
 {
     let mut all = Vec::new(alloc);
     for d in ds {

@@ -1,9 +1,11 @@
 // What is known of a unit as a whole (C11 6.9).
-ghost use Rattle.std.specs.Prelude.{◌≡◌, ◌++◌, ◌∷◌, [], IfOk, OnOk, map};
-ghost use Rattle.qs_meaning.specs.Units.{file_variables_in, functions_in, name_with_body};
+ghost use Rattle.std.specs.Prelude.{◌≡◌, ◌∷◌, [], IfOk, map};
+ghost use Rattle.qs_meaning.specs.Units.{file_variables_in, functions_in};
 ghost use Rattle.qs_syntax.specs.TreeOf.{decl_tree, function_tree, variable_tree};
 ghost use Rattle.qs_typed.specs.KnownFunctions.{variables_nodes};
 ghost use Rattle.qs_typed.specs.KnownPrograms.{each_once};
+ghost use Rattle.qs_typed.specs.Results.{Inserts};
+ghost use Rattle.qs_typed.specs.TablesOf.{defined_name};
 
 use crate::functions::insert;
 use crate::places::Statics;
@@ -18,7 +20,8 @@ use std::alloc::Global;
 /// What is known of all functions of a unit.
 #[derive(Drop)]
 pub struct Tables<'a> {
-    /// the types of expressions, and those of variables and parameters, at the numbers of their nodes
+    /// the types of expressions, and those of variables and parameters, at the numbers of their
+    /// nodes
     pub types: &'a [Option<CType>],
     /// what the names of the nodes stand for
     pub referents: &'a [Option<Referent>],
@@ -39,7 +42,7 @@ pub struct Tables<'a> {
 /// Adds the name of a function with a body, which isn't among the others.
 #[tactic(auto, using(crate::proofs::PlaceTables::name_last))]
 fn note_body(alloc: Global, f: &Function, names: &mut IndexSet<Name>) -> Result<(), NoMemory>
-    ensures { OnOk result ((names.new).keys ≡ (names.old).keys ++ name_with_body (function_tree f.now).name (function_tree f.now).body) }
+    ensures { Inserts (defined_name (function_tree f.now)) names.old names.new result }
 {
     match &f.body {
         None => Ok(()),
@@ -58,7 +61,7 @@ fn declaration_functions(
     d: &Decl,
     names: &mut IndexSet<Name>,
 ) -> Result<(), NoMemory>
-    ensures { OnOk result ((names.new).keys ≡ (names.old).keys ++ functions_in (decl_tree d.now ∷ [])) }
+    ensures { Inserts (functions_in (decl_tree d.now ∷ [])) names.old names.new result }
 {
     match d {
         Decl::Struct(_) => Ok(()),
@@ -82,7 +85,7 @@ pub fn functions_in(alloc: Global, ds: &[Decl]) -> Result<IndexSet<Name>, NoMemo
 // ---- variables of file scope
 
 fn insert_variables(vs: &[Variable], nodes: &mut IndexSet<u32>) -> Result<(), NoMemory>
-    ensures { OnOk result ((nodes.new).keys ≡ (nodes.old).keys ++ variables_nodes (map variable_tree vs.now)) }
+    ensures { Inserts (variables_nodes (map variable_tree vs.now)) nodes.old nodes.new result }
 {
     for v in vs {
         insert(nodes, v.declarator.node.id)?;
@@ -91,7 +94,7 @@ fn insert_variables(vs: &[Variable], nodes: &mut IndexSet<u32>) -> Result<(), No
 }
 
 fn declaration_variables(d: &Decl, nodes: &mut IndexSet<u32>) -> Result<(), NoMemory>
-    ensures { OnOk result ((nodes.new).keys ≡ (nodes.old).keys ++ file_variables_in (decl_tree d.now ∷ [])) }
+    ensures { Inserts (file_variables_in (decl_tree d.now ∷ [])) nodes.old nodes.new result }
 {
     match d {
         Decl::Struct(_) => Ok(()),

@@ -1,11 +1,11 @@
 // The typed tree of an expression (C11 6.5).
-ghost use Rattle.std.specs.Prelude.{◌≡◌, IfOk, Some, map};
+ghost use Rattle.std.specs.Prelude.{◌≡◌, IfOk};
 ghost use Rattle.qs_meaning.specs.Expressions.{constant_form};
-ghost use Rattle.qs_syntax.specs.TreeOf.{expr_tree, exprs_tree, shape_tree};
-ghost use Rattle.qs_typed.specs.FormOf.{form_tree, typed_tree};
-ghost use Rattle.qs_typed.specs.Known.{arguments_known, form_known, known, with_conversion};
-ghost use Rattle.qs_typed.specs.KnownOf.{known_tree};
-ghost use Rattle.qs_typed.specs.TreeOf.{argument_tree, arguments_tree};
+ghost use Rattle.qs_syntax.specs.TreeOf.{expr_tree, shape_tree};
+ghost use Rattle.qs_typed.specs.FormOf.{IsForm, form_tree, typed_tree};
+ghost use Rattle.qs_typed.specs.Known.{form_known, known, with_conversion};
+ghost use Rattle.qs_typed.specs.KnownOf.{Knows, KnowsArguments, known_tree};
+ghost use Rattle.qs_typed.specs.TreeOf.{argument_tree};
 
 use crate::assignments::{assign_form, step_form};
 use crate::expressions::{Argument, Expression};
@@ -45,7 +45,7 @@ fn with_conversion(alloc: Global, s: Scalar, a: Typed<'_>) -> Result<Argument, N
 /// An expression with its type.
 #[cycle(typed)]
 pub fn typed<'a>(alloc: Global, k: &Known<'a>, e: &Expr) -> Result<Typed<'a>, NoMemory>
-    ensures { IfOk result (λ a. known (known_tree k.now) (expr_tree e.now) ≡ Some (typed_tree a)) }
+    ensures { Knows typed_tree known k.now (expr_tree e.now) result }
 {
     let of = k.type_at(e.node.id)?;
     let form = form_of(alloc, k, e.node.id, &e.shape)?;
@@ -54,7 +54,7 @@ pub fn typed<'a>(alloc: Global, k: &Known<'a>, e: &Expr) -> Result<Typed<'a>, No
 
 #[cycle(typed)]
 fn form_of(alloc: Global, k: &Known<'_>, node: u32, shape: &Shape) -> Result<Form, NoMemory>
-    ensures { IfOk result (λ f. form_known (known_tree k.now) node (shape_tree shape.now) ≡ Some (form_tree f)) }
+    ensures { IsForm (form_known (known_tree k.now) node (shape_tree shape.now)) result }
 {
     match shape {
         Shape::Constant(n, is_unsigned) => Ok(constant_form(*n, *is_unsigned)),
@@ -140,7 +140,7 @@ fn arguments(
     parameters: &[Scalar],
     es: &[Expr],
 ) -> Result<Vec<Argument>, NoMemory>
-    ensures { IfOk result (λ given. arguments_known (known_tree k.now) parameters.now (exprs_tree es.now) ≡ Some (arguments_tree given.items)) }
+    ensures { KnowsArguments k.now parameters.now es.now result }
 {
     let mut given = Vec::new(alloc);
     if parameters.len() != es.len() {

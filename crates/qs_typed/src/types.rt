@@ -7,8 +7,8 @@ ghost use Rattle.qs_types.specs.EnvOf.{env_tree};
 ghost use Rattle.qs_types.specs.Layout.{extent_of, size_of};
 ghost use Rattle.qs_types.specs.TypeOf.{type_tree};
 ghost use Rattle.qs_types.specs.Types.{referenced};
-ghost use Rattle.qs_typed.specs.TreeOf.{conversion_tree};
 ghost use Rattle.qs_typed.specs.Parts.{between};
+ghost use Rattle.qs_typed.specs.TreeOf.{conversion_tree};
 
 use crate::expressions::Conversion;
 use qs_base::NoMemory;
@@ -31,7 +31,8 @@ pub fn scalar_of(t: &CType) -> Scalar
     }
 }
 
-/// The type that a pointer leads to, and that of an array's elements; of another type the type itself.
+/// The type that a pointer leads to, and that of an array's elements; of another type the type
+/// itself.
 pub fn referenced(t: &CType) -> &CType
     ensures { type_tree result.now ≡ referenced (type_tree t.now) }
 {

@@ -1,10 +1,12 @@
 // The typed tree of a unit (C11 6.9), and the variables of its functions.
-ghost use Rattle.std.specs.Prelude.{◌≡◌, ◌++◌, IfOk, OnOk, Some, map};
+ghost use Rattle.std.specs.Prelude.{◌≡◌, IfOk, map};
 ghost use Rattle.qs_meaning.specs.InitialValues.{text_block};
 ghost use Rattle.qs_meaning.specs.Units.{typed_of};
 ghost use Rattle.qs_typing.specs.NotedOf.{text_tree};
 ghost use Rattle.qs_typing.specs.TypedOf.{typed_tree};
-ghost use Rattle.qs_typed.specs.TablesOf.{AreOf, numbers, tables_tree, text_nodes};
+ghost use Rattle.qs_typed.specs.BlocksOf.{AddsTexts};
+ghost use Rattle.qs_typed.specs.Results.{Gives, Makes};
+ghost use Rattle.qs_typed.specs.TablesOf.{AreOf, number_lists, tables_tree, text_nodes};
 ghost use Rattle.qs_typed.specs.TreeOf.{program_tree, static_block_tree};
 ghost use Rattle.qs_typed.specs.UnitVariables.{unit_variables};
 
@@ -36,7 +38,7 @@ fn text_nodes(alloc: Global, texts: &[TextBlock]) -> Result<IndexSet<u32>, NoMem
 
 /// The block of a text: its bytes and a zero, which aren't written to (C11 6.4.5p6, p7).
 fn text_data(alloc: Global, text: &TextBlock) -> Result<StaticBlock, NoMemory>
-    ensures { IfOk result (λ b. static_block_tree b ≡ text_block (text_tree text.now)) }
+    ensures { Makes static_block_tree (text_block (text_tree text.now)) result }
 {
     let mut bytes = Vec::new(alloc);
     bytes.extend_from_slice(&text.bytes)?;
@@ -55,7 +57,7 @@ fn add_texts(
     texts: &[TextBlock],
     blocks: &mut Vec<StaticBlock>,
 ) -> Result<(), NoMemory>
-    ensures { OnOk result (map static_block_tree blocks.new.items ≡ map static_block_tree blocks.old.items ++ map text_block (map text_tree texts.now)) }
+    ensures { AddsTexts texts.now blocks.old blocks.new result }
 {
     for text in texts {
         blocks.push(text_data(alloc, text)?)?;
@@ -88,7 +90,7 @@ fn tables<'a>(alloc: Global, typed: &'a TypedUnit) -> Result<Tables<'a>, NoMemor
 
 /// The typed tree of a unit. Want of memory is the other answer.
 pub fn typed_program(alloc: Global, typed: &TypedUnit) -> Result<TypedProgram, NoMemory>
-    ensures { IfOk result (λ p. typed_of (typed_tree typed.now) ≡ Some (program_tree p)) }
+    ensures { Gives program_tree (typed_of (typed_tree typed.now)) result }
 {
     let t = tables(alloc, typed)?;
     let ds = typed.unit().declarations();
@@ -98,9 +100,10 @@ pub fn typed_program(alloc: Global, typed: &TypedUnit) -> Result<TypedProgram, N
     Ok(TypedProgram { functions, blocks })
 }
 
-/// The variables of each function with a body, parameters among them, by the numbers of their nodes.
+/// The variables of each function with a body, parameters among them, by the numbers of their
+/// nodes.
 pub fn variable_nodes(alloc: Global, typed: &TypedUnit) -> Result<Vec<Vec<u32>>, NoMemory>
-    ensures { IfOk result (λ vs. map numbers vs.items ≡ unit_variables (typed_tree typed.now)) }
+    ensures { Makes number_lists (unit_variables (typed_tree typed.now)) result }
 {
     let t = tables(alloc, typed)?;
     variables(alloc, &t, typed.unit().declarations())

@@ -1,14 +1,14 @@
 // The functions of the typed tree of a unit (C11 6.9).
-ghost use Rattle.std.specs.Prelude.{◌≡◌, ◌++◌, ◌∷◌, [], IfOk, OnOk, Some, map};
-ghost use Rattle.qs_syntax.specs.TreeOf.{decl_tree, function_tree, parameter_tree, stmts_tree};
-ghost use Rattle.qs_syntax.specs.Trees.{function, UnitTree};
-ghost use Rattle.qs_typed.specs.Behind.{followed};
-ghost use Rattle.qs_typed.specs.KnownFunctions.{parameters_nodes};
-ghost use Rattle.qs_typed.specs.KnownPrograms.{body_known, body_places, functions_known};
-ghost use Rattle.qs_typed.specs.PlacesOf.{locals_tree};
-ghost use Rattle.qs_typed.specs.TablesOf.{numbers, tables_tree};
-ghost use Rattle.qs_typed.specs.TreeOf as trees;
-ghost use Rattle.qs_typed.specs.UnitVariables.{variables_known, variables_of};
+ghost use Rattle.std.specs.Prelude.{◌∷◌, [], map};
+ghost use Rattle.qs_syntax.specs.TreeOf.{decl_tree, function_tree};
+ghost use Rattle.qs_syntax.specs.Trees.{function};
+ghost use Rattle.qs_typed.specs.KnownPrograms.{functions_known};
+ghost use Rattle.qs_typed.specs.Results.{Makes};
+ghost use Rattle.qs_typed.specs.TablesOf.{Finds, number_lists};
+ghost use Rattle.qs_typed.specs.TreeOf.{functions_tree};
+ghost use Rattle.qs_typed.specs.UnitVariables.{variables_known};
+ghost use Rattle.qs_typed.specs.UnitsOf.{AddsFunctions, AddsVariables, FindsFunction, FindsPlaces};
+ghost use Rattle.qs_typed.specs.UnitsOf.{body_variables, variables_in};
 
 use crate::addressed::statements_addressed;
 use crate::functions::{function, named_scalar, places_of};
@@ -28,7 +28,7 @@ pub fn body_places(
     f: &Function,
     body: &[Stmt],
 ) -> Result<Locals, NoMemory>
-    ensures { IfOk result (λ l. locals_tree l ≡ body_places (tables_tree t.now) (function_tree f.now) (stmts_tree body.now)) }
+    ensures { FindsPlaces t.now f.now body.now result }
 {
     let mut parameters = Vec::new(alloc);
     parameters_nodes(&f.parameters, &mut parameters)?;
@@ -47,7 +47,7 @@ fn body_typed(
     f: &Function,
     body: &[Stmt],
 ) -> Result<TypedFunction, NoMemory>
-    ensures { IfOk result (λ g. body_known (tables_tree t.now) (function_tree f.now) (stmts_tree body.now) ≡ Some (trees.function_tree g)) }
+    ensures { FindsFunction t.now f.now body.now result }
 {
     let locals = body_places(alloc, t, f, body)?;
     let k = Known {
@@ -72,7 +72,7 @@ fn add_function(
     f: &Function,
     all: &mut Vec<TypedFunction>,
 ) -> Result<(), NoMemory>
-    ensures { OnOk result ((ds : UnitTree) → followed (map trees.function_tree all.old.items) (functions_known (tables_tree t.now) (function (function_tree f.now) ∷ ds)) ≡ followed (map trees.function_tree all.new.items) (functions_known (tables_tree t.now) ds)) }
+    ensures { AddsFunctions t.now (function (function_tree f.now)) all.old all.new result }
 {
     match &f.body {
         None => Ok(()),
@@ -89,7 +89,7 @@ fn add_declaration(
     d: &Decl,
     all: &mut Vec<TypedFunction>,
 ) -> Result<(), NoMemory>
-    ensures { OnOk result ((ds : UnitTree) → followed (map trees.function_tree all.old.items) (functions_known (tables_tree t.now) (decl_tree d.now ∷ ds)) ≡ followed (map trees.function_tree all.new.items) (functions_known (tables_tree t.now) ds)) }
+    ensures { AddsFunctions t.now (decl_tree d.now) all.old all.new result }
 {
     match d {
         Decl::Struct(_) => Ok(()),
@@ -101,7 +101,7 @@ fn add_declaration(
 
 /// The functions with a body, in order.
 pub fn functions(alloc: Global, t: &Tables<'_>, ds: &[Decl]) -> Result<Vec<TypedFunction>, NoMemory>
-    ensures { IfOk result (λ fs. functions_known (tables_tree t.now) (map decl_tree ds.now) ≡ Some (map trees.function_tree fs.items)) }
+    ensures { Finds functions_tree functions_known t.now (map decl_tree ds.now) result }
 {
     let mut all = Vec::new(alloc);
     for d in ds {
@@ -113,14 +113,14 @@ pub fn functions(alloc: Global, t: &Tables<'_>, ds: &[Decl]) -> Result<Vec<Typed
 // ---- variables
 
 /// Adds the variables of a function, if it has a body.
-#[tactic(auto, using(crate::proofs::Programs::no_variables, crate::proofs::Programs::its_variables))]
+#[tactic(auto, using(crate::proofs::Programs::without_body, crate::proofs::Programs::with_body))]
 fn add_variables(
     alloc: Global,
     t: &Tables<'_>,
     f: &Function,
     all: &mut Vec<Vec<u32>>,
 ) -> Result<(), NoMemory>
-    ensures { OnOk result (map numbers all.new.items ≡ map numbers all.old.items ++ variables_of (tables_tree t.now) (function_tree f.now) (function_tree f.now).body) }
+    ensures { AddsVariables body_variables t.now (function_tree f.now) all.old all.new result }
 {
     match &f.body {
         None => Ok(()),
@@ -138,7 +138,7 @@ fn declaration_variables(
     d: &Decl,
     all: &mut Vec<Vec<u32>>,
 ) -> Result<(), NoMemory>
-    ensures { OnOk result (map numbers all.new.items ≡ map numbers all.old.items ++ variables_known (tables_tree t.now) (decl_tree d.now ∷ [])) }
+    ensures { AddsVariables variables_known t.now (decl_tree d.now ∷ []) all.old all.new result }
 {
     match d {
         Decl::Struct(_) => Ok(()),
@@ -150,7 +150,7 @@ fn declaration_variables(
 
 /// The variables of each function with a body, by the numbers of their nodes.
 pub fn variables(alloc: Global, t: &Tables<'_>, ds: &[Decl]) -> Result<Vec<Vec<u32>>, NoMemory>
-    ensures { IfOk result (λ vs. map numbers vs.items ≡ variables_known (tables_tree t.now) (map decl_tree ds.now)) }
+    ensures { Makes number_lists (variables_in t.now ds.now) result }
 {
     let mut all = Vec::new(alloc);
     for d in ds {

@@ -1,6 +1,11 @@
-use Rattle.qs_typed.proofs.Behind.{then_added}
+use Rattle.std.proofs.Common.{◌≡◌, ℕ, List, ◌++◌, Result, Ok, Err, OnOk, ap, ◌∙◌, append_assoc}
 use Rattle.qs_typed.proofs.Variants.{branch_tree, do_loop_tree, for_loop_tree, while_loop_tree}
 use Rattle.qs_typed.proofs.addressed.+statements.Goals as goal
+
+-- what is added first and what is added then, which may fail, are added together
+then_added : {A E : Type 0} (old new end xs ys : List ℕ) (r : Result A E) → new ≡ old ++ xs → OnOk r (end ≡ new ++ ys) → OnOk r (end ≡ old ++ (xs ++ ys))
+then_added old new end xs ys (Ok x) p q = q ∙ ap (λ l. l ++ ys) p ∙ append_assoc old xs ys
+then_added old new end xs ys (Err e) p q = tt
 
 pub statement_addressed-returns-in_ok-statement_addressed-in-If : goal.statement_addressed-returns-in_ok-statement_addressed-in-If
 statement_addressed-returns-in_ok-statement_addressed-in-If t c =

@@ -1,5 +1,5 @@
 -- The functions that each function calls, as lists of numbers.
-use Rattle.std.specs.Prelude.{◌≡◌, ℕ, ◌<◌, ◌==◌, Bool, true, false, List, [], ◌∷◌, length, map, slice_index_or, slice_set}
+use Rattle.std.specs.Prelude.{◌≡◌, ℕ, ◌<◌, ◌==◌, Bool, true, false, List, [], ◌∷◌, filter, length, map, slice_index_or, slice_set, Result, IfOk}
 use Rattle.std.specs.List.{list_any}
 use Rattle.std.specs.declared.alloc.Global.{Global}
 use Rattle.std.specs.declared.vec.Vec.{Vec}
@@ -30,6 +30,14 @@ flag flags f = slice_index_or flags f false
 abbrev pub is_member : ℕ → List ℕ → Bool
 is_member f fs = list_any (λ g. g == f) fs
 
+-- those with a value that is true, in order
+abbrev pub flagged : List Bool → List ℕ
+flagged flags = filter (flag flags) (below (length flags))
+
+-- each number of the list is below this one
+abbrev pub AreBelow : List ℕ → ℕ → Type 0
+AreBelow fs count = (f : ℕ) → is_member f fs ≡ true → f < count
+
 -- with those in the list marked
 abbrev pub marked : List ℕ → List Bool → List Bool
 marked [] marks = marks
@@ -39,3 +47,11 @@ marked (g ∷ gs) marks = marked gs (slice_set marks g true)
 pub record IsGraph (graph : List (List ℕ)) (flags : List Bool) : Type 0 where
   pub as_many : length flags ≡ length graph
   pub within : (f g : ℕ) → is_member g (callees_in graph f) ≡ true → g < length graph
+
+-- all that are called are among so many functions
+abbrev pub CalleesAreBelow : List (List ℕ) → ℕ → Type 0
+CalleesAreBelow graph count = (f g : ℕ) → is_member g (callees_in graph f) ≡ true → g < count
+
+-- if functions are answered, their numbers are so
+abbrev pub IfListed : {E : Type 0} → Result (Vec FnId Global) E → (List ℕ → Type 0) → Type 0
+IfListed result P = IfOk result (λ fs. P (numbers fs.items))

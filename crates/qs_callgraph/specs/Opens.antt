@@ -1,8 +1,11 @@
 -- Which functions are open.
 use Rattle.std.specs.Prelude.{◌≡◌, ◌⊎◌, ℕ, ◌+◌, ◌<◌, Bool, true, false, if◌then◌else◌, List, [], ◌∷◌, ◌++◌, length, slice_set, sum_by}
+use Rattle.std.specs.declared.alloc.Global.{Global}
+use Rattle.std.specs.declared.vec.Vec.{Vec}
+use Rattle.qs_base.specs.declared.function.FnId.{FnId}
 use Rattle.qs_core.specs.CallGraph.{IsOpen}
 use Rattle.qs_core.specs.Trees.{CoreUnitTree}
-use Rattle.qs_callgraph.specs.CallLists.{callees_in, flag, is_member, marked}
+use Rattle.qs_callgraph.specs.CallLists.{callees_in, flag, is_member, marked, number_lists, numbers, numbers_in}
 
 -- the values are those of the test, one for each function
 pub record AreOf (u : CoreUnitTree) (test : ℕ → Bool) (flags : List Bool) : Type 0 where
@@ -13,6 +16,10 @@ pub record AreOf (u : CoreUnitTree) (test : ℕ → Bool) (flags : List Bool) : 
 pub record TellsOpen (u : CoreUnitTree) (has_spec is_open : ℕ → Bool) : Type 0 where
   pub open_ones : (f : ℕ) → is_open f ≡ true → IsOpen u has_spec f
   pub all_there : (f : ℕ) → IsOpen u has_spec f → is_open f ≡ true
+
+-- the same, where the values are those of any test
+abbrev pub TellsOpenOf : CoreUnitTree → (has_spec : List Bool) → Vec Bool Global → Type 0
+TellsOpenOf u has_spec flags = (test : ℕ → Bool) → AreOf u test has_spec → TellsOpen u test (flag flags.items)
 
 -- ---- callers
 
@@ -25,6 +32,10 @@ pub record AreCallers (graph callers : List (List ℕ)) : Type 0 where
 abbrev pub with_caller : (f : ℕ) → (callees : List ℕ) → List (List ℕ) → List (List ℕ)
 with_caller f [] callers = callers
 with_caller f (g ∷ gs) callers = with_caller f gs (slice_set callers g (callees_in callers g ++ f ∷ []))
+
+-- f is added as a caller of these
+abbrev pub AddsCaller : (f : ℕ) → (callees : List FnId) → (before now : List (Vec FnId Global)) → Type 0
+AddsCaller f callees before now = number_lists now ≡ with_caller f (numbers callees) (number_lists before)
 
 -- ---- closed functions: those from which calls lead to a specification
 
@@ -68,3 +79,7 @@ pub record AddsDue (old new : List Bool) (due_before due : List ℕ) : Type 0 wh
 pub record ClosesCallers (old new : List Bool) (due_before due callers : List ℕ) : Type 0 where
   pub closed : new ≡ marked callers old
   pub adds : AddsDue old new due_before due
+
+-- the same of the code's lists
+abbrev pub ClosesAll : (callers : List FnId) → (old new : List Bool) → (due_before due : Vec FnId Global) → Type 0
+ClosesAll callers old new due_before due = ClosesCallers old new (numbers_in due_before) (numbers_in due) (numbers callers)

@@ -1,7 +1,11 @@
 -- What a depth first search over calls keeps.
-use Rattle.std.specs.Prelude.{◌≡◌, ℕ, ◌+◌, ◌-◌, ◌<◌, ◌≤◌, ◌^◌, slice_index, replicate, Bool, true, false, List, [], ◌∷◌, ◌++◌, length, take, drop, slice_index_or, slice_set, Result, Ok, Err}
+use Rattle.std.specs.Prelude.{◌≡◌, ℕ, ◌+◌, ◌-◌, ◌<◌, ◌≤◌, ◌^◌, slice_index, replicate, Bool, true, false, List, [], ◌∷◌, ◌++◌, length, take, drop, slice_index_or, slice_set, Result, Ok, Err, Option, MatchOption, not, ◌&&◌}
+use Rattle.std.specs.declared.alloc.Global.{Global}
+use Rattle.std.specs.declared.vec.Vec.{Vec}
 use Rattle.std.specs.List.{list_any}
-use Rattle.qs_callgraph.specs.CallLists.{callees_in, flag, is_member, numbers}
+use Rattle.qs_base.specs.declared.function.FnId.{FnId}
+use Rattle.qs_core.specs.CallGraph.{below}
+use Rattle.qs_callgraph.specs.CallLists.{callees_in, flag, is_member, number_lists, numbers}
 use Rattle.qs_callgraph.specs.Orders.{CalleesFirst, DepthFirst}
 use Rattle.qs_callgraph.specs.declared.fault.CycleFault.{CycleFault}
 use Rattle.qs_callgraph.specs.declared.fault.CycleFault.TheVariants.{NoMemory, Cycle}
@@ -75,6 +79,10 @@ pub record IsCalleeAt (callees : List ℕ) (at g : ℕ) : Type 0 where
   pub few : at + 1 < 2 ^ 64
   pub is : slice_index callees at ≡ g
 
+-- the function at this place among those that are called, if there are so many
+abbrev pub FindsCallee : (callees : List ℕ) → (at : ℕ) → Option FnId → Type 0
+FindsCallee callees at found = MatchOption found (length callees ≤ at) (λ g. IsCalleeAt callees at g.0)
+
 -- ---- the search
 
 -- A function of the path has no specification, and of those that it calls all that were looked at are in the order or
@@ -125,6 +133,24 @@ pub record Sets (old new : Search) (f : ℕ) (p : Progress) (path order : List �
   pub path_is : numbers new.path.items ≡ path
   pub order_is : numbers new.order.items ≡ order
 
+-- one more of the functions that it calls is looked at
+abbrev pub LooksOn : (at f : ℕ) → (old new : Search) → Type 0
+LooksOn at f old new = Sets old new f (Open (at + 1)) (numbers old.path.items) (numbers old.order.items)
+
+-- a function is begun, behind the path
+abbrev pub Begins : (g : ℕ) → (old new : Search) → Type 0
+Begins g old new = Sets old new g (Open 0) (numbers old.path.items ++ g ∷ []) (numbers old.order.items)
+
+-- the last function of the path is done
+abbrev pub GoesBack : (f : ℕ) → (old new : Search) → Type 0
+GoesBack f old new =
+    (front : List ℕ) → numbers old.path.items ≡ front ++ f ∷ []
+    → Sets old new f Done front (numbers old.order.items ++ f ∷ [])
+
+-- a function is to be begun
+abbrev pub is_due : Search → List Bool → (f : ℕ) → Bool
+is_due search has_spec f = not (flag has_spec f) && is_new (progress_of search.progress.items f)
+
 -- none of so many functions is begun
 pub record IsNewSearch (count : ℕ) (search : Search) : Type 0 where
   pub progress : search.progress.items ≡ replicate count New
@@ -171,3 +197,8 @@ pub record IsOrderIn (graph : List (List ℕ)) (has_spec : List Bool) (fs : List
   pub none : list_any (flag has_spec) fs ≡ false
   pub all_there : (f : ℕ) → f < length graph → flag has_spec f ≡ false → is_member f fs ≡ true
   pub in_order : CalleesFirst (callees_in graph) (flag has_spec) [] fs
+
+-- the order in which a search through all functions of the graph finds them
+abbrev pub IsDepthFirstIn : List (Vec FnId Global) → List Bool → List ℕ → Type 0
+IsDepthFirstIn graph has_spec fs =
+    DepthFirst (callees_in (number_lists graph)) (flag has_spec) [] (below (length graph)) fs

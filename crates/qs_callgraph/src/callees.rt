@@ -1,11 +1,10 @@
 // The functions that a function calls.
-ghost use Rattle.std.specs.Prelude.{◌≡◌, ◌<◌, IfOk, false, filter, length, map, slice_set, true};
+ghost use Rattle.std.specs.Prelude.{◌≡◌, ◌<◌, IfOk, length, slice_set, true};
 ghost use Rattle.qs_core.specs.CallGraph as calls;
-ghost use Rattle.qs_core.specs.CallGraph.{below};
 ghost use Rattle.qs_core.specs.TreeOf.{core_stmt, core_stmts};
 ghost use Rattle.qs_core.specs.Trees.{stmts_of};
 ghost use Rattle.qs_core.specs.UnitTrees.{unit_tree};
-ghost use Rattle.qs_callgraph.specs.CallLists.{call_lists, flag, marked, numbers, number_lists};
+ghost use Rattle.qs_callgraph.specs.CallLists.{call_lists, flagged, marked, numbers, number_lists};
 
 use crate::numbers::{function, put};
 use qs_base::{FnId, NoMemory};
@@ -71,7 +70,7 @@ fn mark_all_callees(marks: &mut [bool], ss: &[CoreStmt])
 
 /// The functions that are marked, in order of definition.
 pub fn marked_functions(alloc: Global, marks: &[bool]) -> Result<Vec<FnId>, NoMemory>
-    ensures { IfOk result (λ fs. numbers fs.items ≡ filter (flag marks.now) (below (length marks.now))) }
+    ensures { IfOk result (λ fs. numbers fs.items ≡ flagged marks.now) }
 {
     let mut fs = Vec::new(alloc);
     for i in 0..marks.len() {

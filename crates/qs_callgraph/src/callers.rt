@@ -1,7 +1,7 @@
 // The functions by which a function is called.
-ghost use Rattle.std.specs.Prelude.{◌≡◌, ◌<◌, ℕ, IfOk, OnOk, length, replicate, [], true};
-ghost use Rattle.qs_callgraph.specs.CallLists.{IsGraph, callees_in, is_member, number_lists, numbers};
-ghost use Rattle.qs_callgraph.specs.Opens.{AreCallers, with_caller};
+ghost use Rattle.std.specs.Prelude.{◌≡◌, IfOk, OnOk, length, replicate, []};
+ghost use Rattle.qs_callgraph.specs.CallLists.{AreBelow, CalleesAreBelow, number_lists, numbers};
+ghost use Rattle.qs_callgraph.specs.Opens.{AddsCaller, AreCallers};
 
 use crate::numbers::{function, put};
 use qs_base::{FnId, NoMemory};
@@ -18,9 +18,8 @@ fn no_callers(alloc: Global, count: usize) -> Result<Vec<Vec<FnId>>, NoMemory>
 }
 
 fn add_caller(callers: &mut [Vec<FnId>], callees: &[FnId], f: FnId) -> Result<(), NoMemory>
-    requires { (g : ℕ) → is_member g (numbers callees.now) ≡ true → g < length callers.old }
-    ensures { OnOk result (number_lists callers.new
-        ≡ with_caller f.0 (numbers callees.now) (number_lists callers.old)) }
+    requires { AreBelow (numbers callees.now) (length callers.old) }
+    ensures { OnOk result (AddsCaller f.0 callees.now callers.old callers.new) }
 {
     for g in callees {
         put(&mut callers[g.0 as usize], f)?;
@@ -30,8 +29,8 @@ fn add_caller(callers: &mut [Vec<FnId>], callees: &[FnId], f: FnId) -> Result<()
 
 /// The callers of each function.
 pub fn callers_in(alloc: Global, graph: &[Vec<FnId>]) -> Result<Vec<Vec<FnId>>, NoMemory>
-    requires { (f g : ℕ) → is_member g (callees_in (number_lists graph.now) f) ≡ true → g < length graph.now }
-    ensures { IfOk result (λ callers. AreCallers (number_lists graph.now) (number_lists callers.items)) }
+    requires { CalleesAreBelow (number_lists graph.now) (length graph.now) }
+    ensures { IfOk result (λ all. AreCallers (number_lists graph.now) (number_lists all.items)) }
 {
     let mut callers = no_callers(alloc, graph.len())?;
     for i in 0..graph.len() {

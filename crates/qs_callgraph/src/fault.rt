@@ -11,7 +11,8 @@ pub enum CycleFault {
     /// No memory was found.
     #[error("out of memory")]
     NoMemory,
-    /// These functions, none with a specification, call each other in turn: each the next, and the last the first.
+    /// These functions, none with a specification, call each other in turn: each the next, and the
+    /// last the first.
     #[error("functions without a specification call each other in turn")]
     Cycle(Vec<FnId>),
 }

@@ -1,5 +1,6 @@
 // Laws of orders: functions that do nothing, for what their clauses say.
-ghost use Rattle.qs_callgraph.specs.Laws.{OneDepthFirst, OrdersExcludeCycles, OrdersExcludeRecursion};
+ghost use Rattle.qs_callgraph.specs.Laws.{OneDepthFirst, OrdersExcludeCycles};
+ghost use Rattle.qs_callgraph.specs.Laws.{OrdersExcludeRecursion};
 
 /// Functions have an order or a cycle, and never both: so each is answered only where it is there.
 pub fn orders_exclude_cycles()

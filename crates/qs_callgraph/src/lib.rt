@@ -1,5 +1,5 @@
-//! Which functions call which: an order in which callees stand before callers, or a cycle, and which functions are
-//! open.
+//! Which functions call which: an order in which callees stand before callers, or a cycle, and
+//! which functions are open.
 #![tactic(auto)]
 
 mod callees;

@@ -1,8 +1,8 @@
 // Open functions.
-ghost use Rattle.std.specs.Prelude.{◌≡◌, ◌<◌, ℕ, Bool, IfOk, OnOk, length, map, not, true};
+ghost use Rattle.std.specs.Prelude.{◌≡◌, IfOk, OnOk, length, map, not};
 ghost use Rattle.qs_core.specs.UnitTrees.{unit_tree};
-ghost use Rattle.qs_callgraph.specs.CallLists.{IsGraph, flag, is_member, number_lists, numbers};
-ghost use Rattle.qs_callgraph.specs.Opens.{AreClosed, AreOf, ClosesCallers, TellsOpen};
+ghost use Rattle.qs_callgraph.specs.CallLists.{AreBelow, IsGraph, number_lists, numbers};
+ghost use Rattle.qs_callgraph.specs.Opens.{AreClosed, ClosesAll, TellsOpenOf};
 
 use crate::callees::{call_lists, marked_functions};
 use crate::callers::callers_in;
@@ -12,9 +12,8 @@ use qs_core::CoreUnit;
 use std::alloc::Global;
 
 fn close_callers(closed: &mut [bool], due: &mut Vec<FnId>, callers: &[FnId]) -> Result<(), NoMemory>
-    requires { (f : ℕ) → is_member f (numbers callers.now) ≡ true → f < length closed.old }
-    ensures { OnOk result (ClosesCallers closed.old closed.new
-        (numbers due.old.items) (numbers due.new.items) (numbers callers.now)) }
+    requires { AreBelow (numbers callers.now) (length closed.old) }
+    ensures { OnOk result (ClosesAll callers.now closed.old closed.new due.old due.new) }
 {
     for f in callers {
         let at = f.0 as usize;
@@ -33,7 +32,7 @@ fn closed_ones(
     has_spec: &[bool],
 ) -> Result<Vec<bool>, NoMemory>
     requires { IsGraph (number_lists callers.now) has_spec.now }
-    ensures { IfOk result (λ closed. AreClosed (number_lists callers.now) has_spec.now closed.items) }
+    ensures { IfOk result (λ flags. AreClosed (number_lists callers.now) has_spec.now flags.items) }
 {
     let mut closed = Vec::from_slice(alloc, has_spec)?;
     let mut due = marked_functions(alloc, has_spec)?;
@@ -49,13 +48,12 @@ fn others(alloc: Global, closed: &[bool]) -> Result<Vec<bool>, NoMemory>
     Ok(closed.iter().map(|c| !*c).collect(alloc)?)
 }
 
-/// For each function of the unit whether it is open: neither it nor any function to which calls lead from it has a
-/// specification. `has_spec` has a value for each function of the unit.
+/// For each function of the unit whether it is open: neither it nor any function to which calls
+/// lead from it has a specification. `has_spec` has a value for each function of the unit.
 pub fn open(alloc: Global, unit: &CoreUnit, has_spec: &[bool]) -> Result<Vec<bool>, NoMemory>
     requires { length has_spec.now ≡ length unit.now.functions.items }
     ensures as_many { IfOk result (λ flags. length flags.items ≡ length unit.now.functions.items) }
-    ensures open_ones { IfOk result (λ flags. (test : ℕ → Bool) → AreOf (unit_tree unit.now) test has_spec.now
-        → TellsOpen (unit_tree unit.now) test (flag flags.items)) }
+    ensures open_ones { IfOk result (TellsOpenOf (unit_tree unit.now) has_spec.now) }
 {
     let graph = call_lists(alloc, unit)?;
     let callers = callers_in(alloc, &graph)?;

@@ -1,10 +1,9 @@
 // The order of functions, callees before callers.
-ghost use Rattle.std.specs.Prelude.{◌≡◌, IfErr, IfOk, [], length};
-ghost use Rattle.qs_core.specs.CallGraph.{below};
+ghost use Rattle.std.specs.Prelude.{◌≡◌, IfErr, length};
 ghost use Rattle.qs_core.specs.UnitTrees.{unit_tree};
-ghost use Rattle.qs_callgraph.specs.CallLists.{IsGraph, callees_in, flag, number_lists, numbers};
-ghost use Rattle.qs_callgraph.specs.Orders.{DepthFirst, IsDepthFirst, IsOrder, IsTrueCycle};
-ghost use Rattle.qs_callgraph.specs.Searches.{Ends, IsOrderIn};
+ghost use Rattle.qs_callgraph.specs.CallLists.{IfListed, IsGraph, flag, number_lists};
+ghost use Rattle.qs_callgraph.specs.Orders.{IsDepthFirst, IsOrder, IsTrueCycle};
+ghost use Rattle.qs_callgraph.specs.Searches.{Ends, IsDepthFirstIn, IsOrderIn};
 
 use crate::callees::call_lists;
 use crate::fault::CycleFault;
@@ -18,9 +17,8 @@ use std::alloc::Global;
 #[tactic(auto, using(crate::proofs::StepLaws::not_due, crate::proofs::StepLaws::next_visited))]
 fn searched(alloc: Global, graph: &[Vec<FnId>], has_spec: &[bool]) -> Result<Vec<FnId>, CycleFault>
     requires { IsGraph (number_lists graph.now) has_spec.now }
-    ensures order { IfOk result (λ fs. IsOrderIn (number_lists graph.now) has_spec.now (numbers fs.items)) }
-    ensures depth_first { IfOk result (λ fs. DepthFirst (callees_in (number_lists graph.now)) (flag has_spec.now) []
-        (below (length graph.now)) (numbers fs.items)) }
+    ensures order { IfListed result (IsOrderIn (number_lists graph.now) has_spec.now) }
+    ensures depth_first { IfListed result (IsDepthFirstIn graph.now has_spec.now) }
     ensures cycle { IfErr result (Ends (number_lists graph.now) has_spec.now) }
 {
     let mut search = new_search(alloc, graph.len())?;
@@ -33,13 +31,14 @@ fn searched(alloc: Global, graph: &[Vec<FnId>], has_spec: &[bool]) -> Result<Vec
     Ok(search.order)
 }
 
-/// The functions without a specification, each once, callees before their callers; or a cycle of such functions where
-/// there is no order. `has_spec` has a value for each function of the unit. A callee with a specification ends the
-/// search, and what it calls is no matter. The order is that of a depth first search, so there is one.
+/// The functions without a specification, each once, callees before their callers; or a cycle of
+/// such functions where there is no order. `has_spec` has a value for each function of the unit. A
+/// callee with a specification ends the search, and what it calls is no matter. The order is that
+/// of a depth first search, so there is one.
 pub fn order(alloc: Global, unit: &CoreUnit, has_spec: &[bool]) -> Result<Vec<FnId>, CycleFault>
     requires { length has_spec.now ≡ length unit.now.functions.items }
-    ensures order { IfOk result (λ fs. IsOrder (unit_tree unit.now) (flag has_spec.now) (numbers fs.items)) }
-    ensures depth_first { IfOk result (λ fs. IsDepthFirst (unit_tree unit.now) (flag has_spec.now) (numbers fs.items)) }
+    ensures order { IfListed result (IsOrder (unit_tree unit.now) (flag has_spec.now)) }
+    ensures depth_first { IfListed result (IsDepthFirst (unit_tree unit.now) (flag has_spec.now)) }
     ensures cycle { IfErr result (IsTrueCycle (unit_tree unit.now) (flag has_spec.now)) }
 {
     let graph = call_lists(alloc, unit)?;

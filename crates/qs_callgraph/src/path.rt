@@ -1,7 +1,7 @@
 // Paths of functions, each called by the one before it.
-ghost use Rattle.std.specs.Prelude.{◌≡◌, ◌<◌, ◌≤◌, IfOk, MatchOption, [], length};
+ghost use Rattle.std.specs.Prelude.{◌≡◌, ◌<◌, IfOk, MatchOption, [], length};
 ghost use Rattle.qs_callgraph.specs.CallLists.{callees_in, number_lists, numbers};
-ghost use Rattle.qs_callgraph.specs.Searches.{IsCalleeAt, IsLast, IsPathFrom};
+ghost use Rattle.qs_callgraph.specs.Searches.{FindsCallee, IsLast, IsPathFrom};
 
 use qs_base::{FnId, NoMemory};
 use std::alloc::Global;
@@ -36,8 +36,7 @@ pub fn callees_of(graph: &[Vec<FnId>], f: FnId) -> &[FnId]
 /// The function at this place among those.
 pub fn callee(graph: &[Vec<FnId>], f: FnId, at: usize) -> Option<FnId>
     requires { f.0 < length graph.now }
-    ensures { MatchOption result (length (callees_in (number_lists graph.now) f.0) ≤ at)
-        (λ g. IsCalleeAt (callees_in (number_lists graph.now) f.0) at g.0) }
+    ensures { FindsCallee (callees_in (number_lists graph.now) f.0) at result }
 {
     let callees = callees_of(graph, f);
     if at < callees.len() {

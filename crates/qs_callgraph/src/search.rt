@@ -1,7 +1,9 @@
-// A depth first search over calls. The path has the functions that are begun, so that none of its own runs nests.
-ghost use Rattle.std.specs.Prelude.{◌≡◌, ◌+◌, ◌<◌, ◌^◌, ◌++◌, ◌∷◌, ◌&&◌, [], ℕ, IfOk, List, OnOk, false, length, not};
+// A depth first search over calls. The path has the functions that are begun, so that none of its
+// own runs nests.
+ghost use Rattle.std.specs.Prelude.{◌≡◌, ◌+◌, ◌<◌, ◌^◌, [], ℕ, IfOk, OnOk, false, length};
 ghost use Rattle.qs_callgraph.specs.CallLists.{IsGraph, flag, number_lists, numbers};
-ghost use Rattle.qs_callgraph.specs.Searches.{HoldsIn, IsLast, IsNewSearch, Sets, Steps, Visits, is_new, progress_of};
+ghost use Rattle.qs_callgraph.specs.Searches.{Begins, GoesBack, HoldsIn, IsLast, IsNewSearch};
+ghost use Rattle.qs_callgraph.specs.Searches.{LooksOn, Steps, Visits, is_due, progress_of};
 ghost use Rattle.qs_callgraph.specs.declared.search.Progress.TheVariants as stages;
 
 use crate::fault::CycleFault;
@@ -65,7 +67,7 @@ pub fn new_search(alloc: Global, count: usize) -> Result<Search, NoMemory>
 pub fn is_due(search: &Search, has_spec: &[bool], f: FnId) -> bool
     requires within { f.0 < length search.now.progress.items }
     requires as_many { f.0 < length has_spec.now }
-    ensures { result ≡ (not (flag has_spec.now f.0) && is_new (progress_of search.now.progress.items f.0)) }
+    ensures { result ≡ is_due search.now has_spec.now f.0 }
 {
     if has_spec[f.0 as usize] {
         return false;
@@ -80,16 +82,14 @@ pub fn is_due(search: &Search, has_spec: &[bool], f: FnId) -> bool
 fn look(search: &mut Search, f: FnId, at: usize)
     requires within { f.0 < length search.old.progress.items }
     requires few { at + 1 < 2 ^ 64 }
-    ensures { Sets search.old search.new f.0 (stages.Open (at + 1))
-        (numbers search.old.path.items) (numbers search.old.order.items) }
+    ensures { LooksOn at f.0 search.old search.new }
 {
     search.progress[f.0 as usize] = Progress::Open(at + 1);
 }
 
 fn begin(search: &mut Search, g: FnId) -> Result<(), NoMemory>
     requires { g.0 < length search.old.progress.items }
-    ensures { OnOk result (Sets search.old search.new g.0 (stages.Open 0)
-        (numbers search.old.path.items ++ g.0 ∷ []) (numbers search.old.order.items)) }
+    ensures { OnOk result (Begins g.0 search.old search.new) }
 {
     put(&mut search.path, g)?;
     search.progress[g.0 as usize] = Progress::Open(0);
@@ -98,8 +98,7 @@ fn begin(search: &mut Search, g: FnId) -> Result<(), NoMemory>
 
 fn finish(search: &mut Search, f: FnId) -> Result<(), NoMemory>
     requires { f.0 < length search.old.progress.items }
-    ensures { OnOk result ((front : List ℕ) → numbers search.old.path.items ≡ front ++ f.0 ∷ []
-        → Sets search.old search.new f.0 stages.Done front (numbers search.old.order.items ++ f.0 ∷ [])) }
+    ensures { OnOk result (GoesBack f.0 search.old search.new) }
 {
     put(&mut search.order, f)?;
     let _last = search.path.pop();

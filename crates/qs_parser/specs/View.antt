@@ -1,5 +1,5 @@
 -- What the code's values stand for.
-use Rattle.std.specs.Prelude.{◌≡◌, ℕ, List, [], Option, Result, Ok, Err, map, option_map, Box}
+use Rattle.std.specs.Prelude.{◌≡◌, ℕ, List, [], length, Option, Result, Ok, Err, map, option_map, Box}
 use Rattle.std.specs.Borrow.{Bor}
 use Rattle.std.specs.declared.alloc.Global.{Global}
 use Rattle.std.specs.declared.vec.Vec.{Vec}
@@ -8,16 +8,17 @@ use Rattle.qs_syntax.specs.declared.types.Base.{Base}
 use Rattle.qs_syntax.specs.declared.expressions.Expr.{Expr}
 use Rattle.qs_syntax.specs.declared.statements.Stmt.{Stmt}
 use Rattle.qs_syntax.specs.declared.units.Decl.{Decl}
+use Rattle.qs_syntax.specs.declared.declarations.Parameter.{Parameter}
 use Rattle.qs_syntax.specs.declared.types.TypeName.{TypeName}
 use Rattle.qs_syntax.specs.Trees.{unnumbered, ExprTree, ParameterTree, StmtTree, Stmts, DeclTree, function}
-use Rattle.qs_syntax.specs.TreeOf.{expr_tree, parameter_tree, stmt_tree, decl_tree}
+use Rattle.qs_syntax.specs.TreeOf.{expr_tree, parameter_tree, stmt_tree, stmts_tree, decl_tree}
 use Rattle.qs_syntax.specs.Reads as reads
 use Rattle.qs_parser.specs.declared.expressions.Form as forms
 use Rattle.qs_parser.specs.declared.expressions.Form.TheVariants as variants
 use Rattle.qs_parser.specs.declared.fault.Halt.{Halt}
 use Rattle.qs_parser.specs.declared.fault.Halt.TheVariants as halts
 use Rattle.qs_parser.specs.declared.units.Header.{Header}
-use Rattle.qs_grammar.specs.Parse.{Stop, Unexpected, Deep}
+use Rattle.qs_grammar.specs.Parse.{Stop, Unexpected, Deep, Parse}
 
 -- What a function answers, seen by `view`, is what the function on lists gives, unless memory runs out.
 abbrev pub Fails : {Y : Type 0} → Halt → Result Y Stop → Type 0
@@ -52,20 +53,34 @@ type_name_of x = (x.0, x.1.now)
 abbrev pub read_as : {X Y : Type 0} → (X → Y) → X × ℕ × Bor (List Terminal) → (Y × ℕ) × List Terminal
 read_as view x = ((view x.0, x.1), x.2.now)
 
+abbrev pub Reads : {X Y : Type 0} → (X → Y) → Result (X × ℕ × Bor (List Terminal)) Halt → Result ((Y × ℕ) × List Terminal) Stop → Type 0
+Reads view result given = Gives (read_as view) result given
+
+-- the same of an expression and of a parameter
+abbrev pub ReadsExpr : Result (Expr × ℕ × Bor (List Terminal)) Halt → Result ((ExprTree × ℕ) × List Terminal) Stop → Type 0
+ReadsExpr result given = Reads expr_tree result given
+
+abbrev pub ReadsParameter : Result (Parameter × ℕ × Bor (List Terminal)) Halt → Result ((ParameterTree × ℕ) × List Terminal) Stop → Type 0
+ReadsParameter result given = Reads parameter_tree result given
+
 -- each item of a vector
 abbrev pub listed : {X Y : Type 0} → (X → Y) → Vec X Global → List Y
 listed view items = map view items.items
+
+-- what this list is read as, with turns for all of the tokens
+abbrev pub ReadsAll : {X Y : Type 0} → (X → Y) → Result (Vec X Global × ℕ × Bor (List Terminal)) Halt → (ℕ → List Y → ℕ → Parse (List Y × ℕ)) → List Terminal → Type 0
+ReadsAll view result read tokens = Reads (listed view) result (read (length tokens) [] 0 tokens)
 
 -- an expression in a box of its own
 abbrev pub boxed_expr : Box Expr Global → ExprTree
 boxed_expr e = expr_tree e.value
 
 -- a statement in a box of its own, and one that may be there
-abbrev pub boxed_tree : Box Stmt Global → StmtTree
-boxed_tree s = stmt_tree s.value
+abbrev pub boxed_stmt : Box Stmt Global → StmtTree
+boxed_stmt s = stmt_tree s.value
 
 abbrev pub second_tree : Option (Box Stmt Global) → Option StmtTree
-second_tree o = option_map boxed_tree o
+second_tree o = option_map boxed_stmt o
 
 -- joined texts, and what stands behind them
 abbrev pub texts_of : List ℕ × Bor (List Terminal) → List ℕ × List Terminal
@@ -83,6 +98,10 @@ form_of variants.Expression = reads.Expression
 -- the parameters of a header
 abbrev pub parameters_of : Header → List ParameterTree
 parameters_of h = listed parameter_tree h.parameters
+
+-- the items of a body that may be there
+abbrev pub body_tree : Option (Vec Stmt Global) → Option Stmts
+body_tree body = option_map (λ items. stmts_tree items.items) body
 
 -- a function of this header with this body
 abbrev pub function_with : Header → Option Stmts → DeclTree

@@ -1,11 +1,19 @@
-// Declarations (C11 6.7). In all functions at most `context.room` levels are left for the parts of a node, and
-// each answers what is read, how high its highest node is, and what stands behind it.
-ghost use Rattle.std.specs.Prelude.{◌≡◌, ◌+◌, ◌≤◌, length, [], IfOk};
-ghost use Rattle.qs_syntax.specs.Trees as trees;
-ghost use Rattle.qs_syntax.specs.Trees.{initialisers_of};
-ghost use Rattle.qs_syntax.specs.TreeOf.{expr_tree, lengths_tree, declarator_tree, initialiser_tree, variable_tree, declaration_tree, members_tree, parameter_tree};
-ghost use Rattle.qs_grammar.specs.ParseDeclarations.{given_lengths, is_empty_brackets, lengths_of, lengths, named, declarator, initialisers, begins_initialiser, initialiser, initialised, variable, variables, declared, declaration, declaration_within, declarators, members, groups, bracketed, with_name, is_void_alone, without_first, parameter, parameters, is_void_head, head};
-ghost use Rattle.qs_parser.specs.View.{Gives, read_as, listed};
+// Declarations (C11 6.7). In all functions at most `context.room` levels are left for the parts of
+// a node, and each answers what is read, how high its highest node is, and what stands behind it.
+ghost use Rattle.std.specs.Prelude.{◌≡◌, ◌+◌, ◌≤◌, [], IfOk};
+ghost use Rattle.qs_syntax.specs.Trees.{list, unnumbered, value};
+ghost use Rattle.qs_syntax.specs.TreeOf.{expr_tree, lengths_tree, declarator_tree};
+ghost use Rattle.qs_syntax.specs.TreeOf.{initialiser_tree, initialisers_tree, variable_tree};
+ghost use Rattle.qs_syntax.specs.TreeOf.{declaration_tree, members_tree, parameter_tree};
+ghost use Rattle.qs_grammar.specs.ParseDeclarations.{given_lengths, is_empty_brackets, lengths};
+ghost use Rattle.qs_grammar.specs.ParseDeclarations.{named, declarator, begins_initialiser};
+ghost use Rattle.qs_grammar.specs.ParseDeclarations.{initialiser, variable, variables, declared};
+ghost use Rattle.qs_grammar.specs.ParseDeclarations.{declaration, declaration_within, declarators};
+ghost use Rattle.qs_grammar.specs.ParseDeclarations.{members, groups, with_name, is_void_alone};
+ghost use Rattle.qs_grammar.specs.ParseDeclarations.{without_first, parameter, parameters};
+ghost use Rattle.qs_grammar.specs.ParseDeclarations.{is_void_head, head};
+ghost use Rattle.qs_parser.specs.View.{Reads, ReadsAll, ReadsParameter, listed};
+ghost use Rattle.qs_parser.specs.Readers.{lengths_of, initialisers, initialised, bracketed};
 
 use crate::context::Context;
 use crate::expressions::{Form, followed, part};
@@ -26,7 +34,7 @@ fn given_lengths(
     context: Context,
     tokens: &[Terminal],
 ) -> Result<(Vec<Expr>, u32, &[Terminal]), Halt>
-    ensures gives { Gives (read_as (listed expr_tree)) result (given_lengths context.room (length tokens.now) [] 0 tokens.now) }
+    ensures gives { ReadsAll expr_tree result (given_lengths context.room) tokens.now }
     ensures low { IfOk result (λ x. x.1 ≤ context.room) }
 {
     let mut given = Vec::new(context.alloc);
@@ -63,7 +71,7 @@ fn lengths_of(
     is_open: bool,
     tokens: &[Terminal],
 ) -> Result<(Lengths, u32, &[Terminal]), Halt>
-    ensures gives { Gives (read_as lengths_tree) result (lengths_of is_open (given_lengths context.room (length tokens.now) [] 0 tokens.now)) }
+    ensures gives { Reads lengths_tree result (lengths_of context is_open tokens.now) }
     ensures low { IfOk result (λ x. x.1 ≤ context.room) }
 {
     let (given, height, rest) = given_lengths(context, tokens)?;
@@ -73,7 +81,7 @@ fn lengths_of(
 /// The brackets behind a name (C11 6.7.6.2).
 #[tactic(auto, unfolding(qs_grammar::specs::ParseDeclarations::lengths))]
 fn lengths(context: Context, tokens: &[Terminal]) -> Result<(Lengths, u32, &[Terminal]), Halt>
-    ensures gives { Gives (read_as lengths_tree) result (lengths context.room tokens.now) }
+    ensures gives { Reads lengths_tree result (lengths context.room tokens.now) }
     ensures low { IfOk result (λ x. x.1 ≤ context.room) }
 {
     if !is_empty_brackets(tokens) {
@@ -93,7 +101,7 @@ fn named(
     stars: u32,
     tokens: &[Terminal],
 ) -> Result<(Declarator, u32, &[Terminal]), Halt>
-    ensures gives { Gives (read_as declarator_tree) result (named context.room stars tokens.now) }
+    ensures gives { Reads declarator_tree result (named context.room stars tokens.now) }
     ensures low { IfOk result (λ x. x.1 ≤ context.room) }
 {
     let (token, name, rest) = expect_name(context.alloc, tokens)?;
@@ -110,7 +118,7 @@ fn named(
 /// A name with the stars before it and the brackets behind it (C11 6.7.6).
 #[tactic(auto, unfolding(qs_grammar::specs::ParseDeclarations::declarator))]
 fn declarator(context: Context, tokens: &[Terminal]) -> Result<(Declarator, u32, &[Terminal]), Halt>
-    ensures gives { Gives (read_as declarator_tree) result (declarator context.room tokens.now) }
+    ensures gives { Reads declarator_tree result (declarator context.room tokens.now) }
     ensures low { IfOk result (λ x. x.1 ≤ context.room) }
 {
     let (stars, rest) = stars(tokens)?;
@@ -124,7 +132,7 @@ fn initialisers(
     context: Context,
     tokens: &[Terminal],
 ) -> Result<(Vec<Initialiser>, u32, &[Terminal]), Halt>
-    ensures gives { Gives (read_as (listed initialiser_tree)) result (initialisers (initialiser context.room) (length tokens.now) [] 0 tokens.now) }
+    ensures gives { ReadsAll initialiser_tree result (initialisers context) tokens.now }
     ensures low { IfOk result (λ x. x.1 ≤ context.room) }
 {
     let mut items = Vec::new(context.alloc);
@@ -160,7 +168,7 @@ fn initialiser(
     context: Context,
     tokens: &[Terminal],
 ) -> Result<(Initialiser, u32, &[Terminal]), Halt>
-    ensures gives { Gives (read_as initialiser_tree) result (initialiser context.room tokens.now) }
+    ensures gives { Reads initialiser_tree result (initialiser context.room tokens.now) }
     ensures low { IfOk result (λ x. x.1 ≤ context.room) }
 {
     if context.room == 0 {
@@ -182,14 +190,14 @@ fn initialiser(
 
 /// An initialiser that is an expression.
 fn expression(value: Expr) -> Initialiser
-    ensures { initialiser_tree result ≡ trees.value (expr_tree value) }
+    ensures { initialiser_tree result ≡ value (expr_tree value) }
 {
     Initialiser::Value(value)
 }
 
 /// A list of initialisers.
 fn list(token: u32, items: Vec<Initialiser>) -> Initialiser
-    ensures { initialiser_tree result ≡ trees.list (trees.unnumbered token) (initialisers_of (listed initialiser_tree items)) }
+    ensures { initialiser_tree result ≡ list (unnumbered token) (initialisers_tree items.items) }
 {
     Initialiser::List(InitialiserList {
         node: Node { id: 0, token },
@@ -205,7 +213,7 @@ fn initialised(
     tokens: &[Terminal],
 ) -> Result<(Variable, u32, &[Terminal]), Halt>
     requires low { height ≤ context.room }
-    ensures gives { Gives (read_as variable_tree) result (initialised context.room (declarator_tree declarator, height) tokens.now) }
+    ensures gives { Reads variable_tree result (initialised context declarator height tokens.now) }
     ensures low { IfOk result (λ x. x.1 ≤ context.room + 1) }
 {
     let Some(rest) = strip(Punctuator::Assign, tokens) else {
@@ -229,7 +237,7 @@ fn initialised(
 /// A variable with its initialiser (C11 6.7).
 #[tactic(auto, unfolding(qs_grammar::specs::ParseDeclarations::variable))]
 fn variable(context: Context, tokens: &[Terminal]) -> Result<(Variable, u32, &[Terminal]), Halt>
-    ensures gives { Gives (read_as variable_tree) result (variable context.room tokens.now) }
+    ensures gives { Reads variable_tree result (variable context.room tokens.now) }
     ensures low { IfOk result (λ x. x.1 ≤ context.room + 1) }
 {
     let (declarator, height, rest) = declarator(context, tokens)?;
@@ -242,7 +250,7 @@ fn variables(
     context: Context,
     tokens: &[Terminal],
 ) -> Result<(Vec<Variable>, u32, &[Terminal]), Halt>
-    ensures gives { Gives (read_as (listed variable_tree)) result (variables context.room (length tokens.now) [] 0 tokens.now) }
+    ensures gives { ReadsAll variable_tree result (variables context.room) tokens.now }
     ensures low { IfOk result (λ x. x.1 ≤ context.room + 1) }
 {
     let mut variables = Vec::new(context.alloc);
@@ -266,7 +274,7 @@ pub fn declared(
     base: Base,
     tokens: &[Terminal],
 ) -> Result<(Declaration, u32, &[Terminal]), Halt>
-    ensures gives { Gives (read_as declaration_tree) result (declared context.room base tokens.now) }
+    ensures gives { Reads declaration_tree result (declared context.room base tokens.now) }
     ensures low { IfOk result (λ x. x.1 ≤ context.room + 1) }
 {
     let (variables, height, rest) = variables(context, tokens)?;
@@ -279,7 +287,7 @@ fn declaration(
     context: Context,
     tokens: &[Terminal],
 ) -> Result<(Declaration, u32, &[Terminal]), Halt>
-    ensures gives { Gives (read_as declaration_tree) result (declaration context.room tokens.now) }
+    ensures gives { Reads declaration_tree result (declaration context.room tokens.now) }
     ensures low { IfOk result (λ x. x.1 ≤ context.room + 1) }
 {
     let (base, rest) = type_of(context.alloc, tokens)?;
@@ -292,7 +300,7 @@ pub fn declaration_within(
     context: Context,
     tokens: &[Terminal],
 ) -> Result<(Declaration, u32, &[Terminal]), Halt>
-    ensures gives { Gives (read_as declaration_tree) result (declaration_within context.room tokens.now) }
+    ensures gives { Reads declaration_tree result (declaration_within context.room tokens.now) }
     ensures low { IfOk result (λ x. x.1 ≤ context.room) }
 {
     if context.room == 0 {
@@ -307,7 +315,7 @@ fn declarators(
     context: Context,
     tokens: &[Terminal],
 ) -> Result<(Vec<Declarator>, u32, &[Terminal]), Halt>
-    ensures gives { Gives (read_as (listed declarator_tree)) result (declarators context.room (length tokens.now) [] 0 tokens.now) }
+    ensures gives { ReadsAll declarator_tree result (declarators context.room) tokens.now }
     ensures low { IfOk result (λ x. x.1 ≤ context.room + 1) }
 {
     let mut declarators = Vec::new(context.alloc);
@@ -328,7 +336,7 @@ fn declarators(
 /// A group of members with their type (C11 6.7.2.1).
 #[tactic(auto, unfolding(qs_grammar::specs::ParseDeclarations::members))]
 fn members(context: Context, tokens: &[Terminal]) -> Result<(Members, u32, &[Terminal]), Halt>
-    ensures gives { Gives (read_as members_tree) result (members context.room tokens.now) }
+    ensures gives { Reads members_tree result (members context.room tokens.now) }
     ensures low { IfOk result (λ x. x.1 ≤ context.room + 1) }
 {
     let (base, rest) = type_of(context.alloc, tokens)?;
@@ -342,7 +350,7 @@ pub fn groups(
     context: Context,
     tokens: &[Terminal],
 ) -> Result<(Vec<Members>, u32, &[Terminal]), Halt>
-    ensures gives { Gives (read_as (listed members_tree)) result (groups context.room (length tokens.now) [] 0 tokens.now) }
+    ensures gives { ReadsAll members_tree result (groups context.room) tokens.now }
     ensures low { IfOk result (λ x. x.1 ≤ context.room + 1) }
 {
     let mut groups = Vec::new(context.alloc);
@@ -369,7 +377,7 @@ fn bracketed(
     name: Option<Name>,
     tokens: &[Terminal],
 ) -> Result<(Parameter, u32, &[Terminal]), Halt>
-    ensures gives { Gives (read_as parameter_tree) result (bracketed context.room token base stars name tokens.now) }
+    ensures gives { ReadsParameter result (bracketed context token base stars name tokens.now) }
     ensures low { IfOk result (λ x. x.1 ≤ context.room + 1) }
 {
     let (lengths, height, rest) = lengths(context, tokens)?;
@@ -390,7 +398,7 @@ fn with_name(
     stars: u32,
     tokens: &[Terminal],
 ) -> Result<(Parameter, u32, &[Terminal]), Halt>
-    ensures gives { Gives (read_as parameter_tree) result (with_name context.room start base stars tokens.now) }
+    ensures gives { ReadsParameter result (with_name context.room start base stars tokens.now) }
     ensures low { IfOk result (λ x. x.1 ≤ context.room + 1) }
 {
     match tokens {
@@ -428,7 +436,7 @@ fn without_first(tokens: &[Terminal]) -> &[Terminal]
 /// A parameter (C11 6.7.6.3).
 #[tactic(auto, unfolding(qs_grammar::specs::ParseDeclarations::parameter))]
 fn parameter(context: Context, tokens: &[Terminal]) -> Result<(Parameter, u32, &[Terminal]), Halt>
-    ensures gives { Gives (read_as parameter_tree) result (parameter context.room tokens.now) }
+    ensures gives { ReadsParameter result (parameter context.room tokens.now) }
     ensures low { IfOk result (λ x. x.1 ≤ context.room + 1) }
 {
     if is_void_alone(tokens) {
@@ -445,7 +453,7 @@ fn parameters(
     context: Context,
     tokens: &[Terminal],
 ) -> Result<(Vec<Parameter>, u32, &[Terminal]), Halt>
-    ensures gives { Gives (read_as (listed parameter_tree)) result (parameters context.room (length tokens.now) [] 0 tokens.now) }
+    ensures gives { ReadsAll parameter_tree result (parameters context.room) tokens.now }
     ensures low { IfOk result (λ x. x.1 ≤ context.room + 1) }
 {
     let mut parameters = Vec::new(context.alloc);
@@ -481,7 +489,7 @@ pub fn head(
     context: Context,
     tokens: &[Terminal],
 ) -> Result<(Vec<Parameter>, u32, &[Terminal]), Halt>
-    ensures gives { Gives (read_as (listed parameter_tree)) result (head context.room tokens.now) }
+    ensures gives { Reads (listed parameter_tree) result (head context.room tokens.now) }
     ensures low { IfOk result (λ x. x.1 ≤ context.room + 1) }
 {
     if let Some(rest) = strip(Punctuator::CloseParenthesis, tokens) {

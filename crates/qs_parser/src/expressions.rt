@@ -1,13 +1,20 @@
-// Expressions (C11 6.5). In all functions at most `context.room` levels are left for the parts of what is
-// read, and each answers the expression, how high its reading is, and what stands behind it. An operand that
-// was read before comes with its height, and `start` is the place of its first token.
-ghost use Rattle.std.specs.Prelude.{◌≡◌, ◌+◌, ◌≤◌, length, [], ◌∷◌, Ok, IfOk};
+// Expressions (C11 6.5). In all functions at most `context.room` levels are left for the parts of
+// what is read, and each answers the expression, how high its reading is, and what stands behind
+// it. An operand that was read before comes with its height, and `start` is the place of its first
+// token.
+ghost use Rattle.std.specs.Prelude.{◌≡◌, ◌+◌, ◌≤◌, [], ◌∷◌, Ok, IfOk};
 ghost use Rattle.qs_syntax.specs.declared.terminal.Terminal.TheVariants as terminals;
 ghost use Rattle.qs_syntax.specs.TreeOf.{expr_tree};
-ghost use Rattle.qs_syntax.specs.Reads.{Assignment};
-ghost use Rattle.qs_grammar.specs.Parse.{expect, texts_from, arguments, call_of, after_name, in_parentheses, primary, index_of, member_of, access_at, suffix, suffixes, postfix, step_of, operator_of, beyond, size_at_limit, size_of, unary_operator_at, unary_of_all, cast_of, cast_or_unary, operations, climb, after_or, after_operand, assignment_of, after_unary, assignment, commas, expression, part};
+ghost use Rattle.qs_grammar.specs.Parse.{expect, texts_from, arguments, call_of, after_name};
+ghost use Rattle.qs_grammar.specs.Parse.{in_parentheses, primary, postfix, step_of};
+ghost use Rattle.qs_grammar.specs.Parse.{operator_of, beyond, size_at_limit, size_of, unary_of_all};
+ghost use Rattle.qs_grammar.specs.Parse.{cast_of, cast_or_unary, assignment, expression, part};
 ghost use Rattle.qs_grammar.specs.Operands.{right_operand};
-ghost use Rattle.qs_parser.specs.View.{Gives, behind_of, read_as, boxed_expr, listed, texts_of, form_of};
+ghost use Rattle.qs_parser.specs.View.{Gives, Reads, ReadsAll, ReadsExpr, behind_of, boxed_expr};
+ghost use Rattle.qs_parser.specs.View.{texts_of, form_of};
+ghost use Rattle.qs_parser.specs.Readers.{with_parts, index_of, member_of, suffix, suffixes};
+ghost use Rattle.qs_parser.specs.Readers.{operations, climb, after_or, after_operand};
+ghost use Rattle.qs_parser.specs.Readers.{assignment_of, after_unary, commas};
 
 use crate::context::Context;
 use crate::fault::Halt;
@@ -31,8 +38,8 @@ pub enum Form {
     Postfix,
     /// A unary expression (C11 6.5.3).
     Unary,
-    /// Operators of the levels up to this between casts: 0 for a cast, 1 for `* / %`, up to 10 for `||`
-    /// (C11 6.5.4 to 6.5.14).
+    /// Operators of the levels up to this between casts: 0 for a cast, 1 for `* / %`, up to 10 for
+    /// `||` (C11 6.5.4 to 6.5.14).
     Level(u8),
     /// A conditional expression (C11 6.5.15).
     Conditional,
@@ -68,7 +75,7 @@ pub fn part(
     form: Form,
     tokens: &[Terminal],
 ) -> Result<(Expr, u32, &[Terminal]), Halt>
-    ensures gives { Gives (read_as expr_tree) result (part context.room (form_of form) tokens.now) }
+    ensures gives { ReadsExpr result (part context.room (form_of form) tokens.now) }
     ensures low { IfOk result (λ x. x.1 ≤ context.room) }
 {
     if context.room == 0 {
@@ -88,7 +95,7 @@ fn expression(
     form: Form,
     tokens: &[Terminal],
 ) -> Result<(Expr, u32, &[Terminal]), Halt>
-    ensures gives { Gives (read_as expr_tree) result (expression context.room (part context.room) (form_of form) tokens.now) }
+    ensures gives { ReadsExpr result (with_parts context expression (form_of form) tokens.now) }
     ensures low { IfOk result (λ x. x.1 ≤ context.room + 1) }
 {
     match form {
@@ -117,7 +124,7 @@ fn boxed(
     form: Form,
     tokens: &[Terminal],
 ) -> Result<(Box<Expr>, u32, &[Terminal]), Halt>
-    ensures gives { Gives (read_as boxed_expr) result (part context.room (form_of form) tokens.now) }
+    ensures gives { Reads boxed_expr result (part context.room (form_of form) tokens.now) }
     ensures low { IfOk result (λ x. x.1 ≤ context.room) }
 {
     let (found, height, rest) = part(context, form, tokens)?;
@@ -128,7 +135,7 @@ fn boxed(
 #[cycle(parser)]
 #[tactic(auto, using(crate::proofs::CodeExpressions::argument_steps))]
 fn arguments(context: Context, tokens: &[Terminal]) -> Result<(Vec<Expr>, u32, &[Terminal]), Halt>
-    ensures gives { Gives (read_as (listed expr_tree)) result (arguments context.room (part context.room) (length tokens.now) [] 0 tokens.now) }
+    ensures gives { ReadsAll expr_tree result (with_parts context arguments) tokens.now }
     ensures low { IfOk result (λ x. x.1 ≤ context.room) }
 {
     let mut items = Vec::new(context.alloc);
@@ -154,7 +161,7 @@ fn call_of(
     name: Name,
     tokens: &[Terminal],
 ) -> Result<(Expr, u32, &[Terminal]), Halt>
-    ensures gives { Gives (read_as expr_tree) result (call_of context.room (part context.room) at name tokens.now) }
+    ensures gives { ReadsExpr result (with_parts context call_of at name tokens.now) }
     ensures low { IfOk result (λ x. x.1 ≤ context.room + 1) }
 {
     if let Some(rest) = strip(Punctuator::CloseParenthesis, tokens) {
@@ -172,7 +179,7 @@ fn after_name(
     name: Name,
     tokens: &[Terminal],
 ) -> Result<(Expr, u32, &[Terminal]), Halt>
-    ensures gives { Gives (read_as expr_tree) result (after_name context.room (part context.room) at name tokens.now) }
+    ensures gives { ReadsExpr result (with_parts context after_name at name tokens.now) }
     ensures low { IfOk result (λ x. x.1 ≤ context.room + 1) }
 {
     if let Some(rest) = strip(Punctuator::OpenParenthesis, tokens) {
@@ -197,7 +204,7 @@ pub fn followed(
 /// An expression in parentheses, behind the first.
 #[cycle(parser)]
 fn in_parentheses(context: Context, tokens: &[Terminal]) -> Result<(Expr, u32, &[Terminal]), Halt>
-    ensures gives { Gives (read_as expr_tree) result (in_parentheses context.room (part context.room) tokens.now) }
+    ensures gives { ReadsExpr result (with_parts context in_parentheses tokens.now) }
     ensures low { IfOk result (λ x. x.1 ≤ context.room + 1) }
 {
     let (inner, height, rest) = part(context, Form::Expression, tokens)?;
@@ -209,7 +216,7 @@ fn in_parentheses(context: Context, tokens: &[Terminal]) -> Result<(Expr, u32, &
 #[cycle(parser)]
 #[tactic(auto, unfolding(qs_grammar::specs::Parse::primary))]
 fn primary(context: Context, tokens: &[Terminal]) -> Result<(Expr, u32, &[Terminal]), Halt>
-    ensures gives { Gives (read_as expr_tree) result (primary context.room (part context.room) tokens.now) }
+    ensures gives { ReadsExpr result (with_parts context primary tokens.now) }
     ensures low { IfOk result (λ x. x.1 ≤ context.room + 1) }
 {
     match tokens {
@@ -243,7 +250,7 @@ fn index_of(
     tokens: &[Terminal],
 ) -> Result<(Expr, u32, &[Terminal]), Halt>
     requires low { height ≤ context.room }
-    ensures gives { Gives (read_as expr_tree) result (index_of context.room (part context.room) start (expr_tree array.value, height) tokens.now) }
+    ensures gives { ReadsExpr result (index_of context start array height tokens.now) }
     ensures low { IfOk result (λ x. x.1 ≤ context.room + 1) }
 {
     let (at, high, rest) = boxed(context, Form::Expression, tokens)?;
@@ -265,7 +272,7 @@ fn member_of(
     tokens: &[Terminal],
 ) -> Result<(Expr, u32, &[Terminal]), Halt>
     requires low { height ≤ context.room }
-    ensures gives { Gives (read_as expr_tree) result (member_of context.room (part context.room) start (expr_tree object.value, height) access tokens.now) }
+    ensures gives { ReadsExpr result (member_of context start object height access tokens.now) }
     ensures low { IfOk result (λ x. x.1 ≤ context.room + 1) }
 {
     let (_at, name, rest) = expect_name(context.alloc, tokens)?;
@@ -282,7 +289,7 @@ fn suffix(
     tokens: &[Terminal],
 ) -> Result<(Expr, u32, &[Terminal]), Halt>
     requires low { height ≤ context.room }
-    ensures gives { Gives (read_as expr_tree) result (suffix context.room (part context.room) start (expr_tree left.value, height) tokens.now) }
+    ensures gives { ReadsExpr result (suffix context start left height tokens.now) }
     ensures low { IfOk result (λ x. x.1 ≤ context.room + 1) }
 {
     let [first, rest @ ..] = tokens else {
@@ -316,7 +323,7 @@ fn suffixes(
     tokens: &[Terminal],
 ) -> Result<(Expr, u32, &[Terminal]), Halt>
     requires low { height ≤ context.room + 1 }
-    ensures gives { Gives (read_as expr_tree) result (suffixes context.room (part context.room) (length tokens.now) start (expr_tree left, height) tokens.now) }
+    ensures gives { ReadsExpr result (suffixes context start left height tokens.now) }
     ensures low { IfOk result (λ x. x.1 ≤ context.room + 1) }
 {
     let mut left = left;
@@ -341,7 +348,7 @@ fn suffixes(
 /// An operand with its suffixes (C11 6.5.2).
 #[cycle(parser)]
 fn postfix(context: Context, tokens: &[Terminal]) -> Result<(Expr, u32, &[Terminal]), Halt>
-    ensures gives { Gives (read_as expr_tree) result (postfix context.room (part context.room) tokens.now) }
+    ensures gives { ReadsExpr result (with_parts context postfix tokens.now) }
     ensures low { IfOk result (λ x. x.1 ≤ context.room + 1) }
 {
     let (operand, height, rest) = primary(context, tokens)?;
@@ -356,7 +363,7 @@ fn step_of(
     operator: StepOperator,
     tokens: &[Terminal],
 ) -> Result<(Expr, u32, &[Terminal]), Halt>
-    ensures gives { Gives (read_as expr_tree) result (step_of context.room (part context.room) at operator tokens.now) }
+    ensures gives { ReadsExpr result (with_parts context step_of at operator tokens.now) }
     ensures low { IfOk result (λ x. x.1 ≤ context.room + 1) }
 {
     let (operand, height, rest) = boxed(context, Form::Unary, tokens)?;
@@ -371,7 +378,7 @@ fn operator_of(
     operator: UnaryOperator,
     tokens: &[Terminal],
 ) -> Result<(Expr, u32, &[Terminal]), Halt>
-    ensures gives { Gives (read_as expr_tree) result (operator_of context.room (part context.room) at operator tokens.now) }
+    ensures gives { ReadsExpr result (with_parts context operator_of at operator tokens.now) }
     ensures low { IfOk result (λ x. x.1 ≤ context.room + 1) }
 {
     let (operand, height, rest) = boxed(context, Form::Level(0), tokens)?;
@@ -380,7 +387,7 @@ fn operator_of(
 
 /// Where no level is left for a part, an expression is too deep, and nothing else may stand here.
 fn beyond(tokens: &[Terminal]) -> Result<(Expr, u32, &[Terminal]), Halt>
-    ensures gives { Gives (read_as expr_tree) result (beyond tokens.now) }
+    ensures gives { ReadsExpr result (beyond tokens.now) }
     ensures low { IfOk result (λ x. x.1 ≤ 0) }
 {
     if begins_one(tokens) {
@@ -391,7 +398,7 @@ fn beyond(tokens: &[Terminal]) -> Result<(Expr, u32, &[Terminal]), Halt>
 
 /// Behind `sizeof`, where what stands in parentheses would be too deep and no type does.
 fn size_at_limit(tokens: &[Terminal]) -> Result<(Expr, u32, &[Terminal]), Halt>
-    ensures gives { Gives (read_as expr_tree) result (size_at_limit tokens.now) }
+    ensures gives { ReadsExpr result (size_at_limit tokens.now) }
     ensures low { IfOk result (λ x. x.1 ≤ 0) }
 {
     beyond(expect(Punctuator::OpenParenthesis, tokens)?)
@@ -400,7 +407,7 @@ fn size_at_limit(tokens: &[Terminal]) -> Result<(Expr, u32, &[Terminal]), Halt>
 /// The operand of `sizeof`: a type in parentheses, or an expression (C11 6.5.3.4).
 #[cycle(parser)]
 fn size_of(context: Context, at: u32, tokens: &[Terminal]) -> Result<(Expr, u32, &[Terminal]), Halt>
-    ensures gives { Gives (read_as expr_tree) result (size_of context.room (part context.room) at tokens.now) }
+    ensures gives { ReadsExpr result (with_parts context size_of at tokens.now) }
     ensures low { IfOk result (λ x. x.1 ≤ context.room + 1) }
 {
     if begins_cast(tokens) {
@@ -427,7 +434,7 @@ fn marked<'a>(
     rest: &'a [Terminal],
 ) -> Result<(Expr, u32, &'a [Terminal]), Halt>
     requires first { tokens.now ≡ terminals.Punctuator at punctuator ∷ rest.now }
-    ensures gives { Gives (read_as expr_tree) result (unary_of_all context.room (part context.room) tokens.now) }
+    ensures gives { ReadsExpr result (with_parts context unary_of_all tokens.now) }
     ensures low { IfOk result (λ x. x.1 ≤ context.room + 1) }
 {
     let is_increment = starts(Punctuator::Increment, tokens);
@@ -455,7 +462,7 @@ fn marked<'a>(
 #[cycle(parser)]
 #[tactic(auto, unfolding(qs_grammar::specs::Parse::unary_of_all))]
 fn unary(context: Context, tokens: &[Terminal]) -> Result<(Expr, u32, &[Terminal]), Halt>
-    ensures gives { Gives (read_as expr_tree) result (unary_of_all context.room (part context.room) tokens.now) }
+    ensures gives { ReadsExpr result (with_parts context unary_of_all tokens.now) }
     ensures low { IfOk result (λ x. x.1 ≤ context.room + 1) }
 {
     match tokens {
@@ -480,7 +487,7 @@ fn unary(context: Context, tokens: &[Terminal]) -> Result<(Expr, u32, &[Terminal
 /// A cast, behind its opening parenthesis (C11 6.5.4).
 #[cycle(parser)]
 fn cast_of(context: Context, at: u32, tokens: &[Terminal]) -> Result<(Expr, u32, &[Terminal]), Halt>
-    ensures gives { Gives (read_as expr_tree) result (cast_of context.room (part context.room) at tokens.now) }
+    ensures gives { ReadsExpr result (with_parts context cast_of at tokens.now) }
     ensures low { IfOk result (λ x. x.1 ≤ context.room + 1) }
 {
     let (to, rest) = type_name(context.alloc, tokens)?;
@@ -492,7 +499,7 @@ fn cast_of(context: Context, at: u32, tokens: &[Terminal]) -> Result<(Expr, u32,
 /// A cast or a unary expression (C11 6.5.4).
 #[cycle(parser)]
 fn cast_or_unary(context: Context, tokens: &[Terminal]) -> Result<(Expr, u32, &[Terminal]), Halt>
-    ensures gives { Gives (read_as expr_tree) result (cast_or_unary context.room (part context.room) tokens.now) }
+    ensures gives { ReadsExpr result (with_parts context cast_or_unary tokens.now) }
     ensures low { IfOk result (λ x. x.1 ≤ context.room + 1) }
 {
     if !begins_cast(tokens) {
@@ -512,7 +519,7 @@ fn right_operand(
     level: u8,
     tokens: &[Terminal],
 ) -> Result<(Expr, u32, &[Terminal]), Halt>
-    ensures gives { Gives (read_as expr_tree) result (right_operand (part context.room) level tokens.now) }
+    ensures gives { ReadsExpr result (right_operand (part context.room) level tokens.now) }
     ensures low { IfOk result (λ x. x.1 ≤ context.room) }
 {
     match tokens {
@@ -533,7 +540,7 @@ fn operations(
     tokens: &[Terminal],
 ) -> Result<(Expr, u32, &[Terminal]), Halt>
     requires low { height ≤ context.room + 1 }
-    ensures gives { Gives (read_as expr_tree) result (operations context.room (part context.room) (length tokens.now) level start (expr_tree left, height) tokens.now) }
+    ensures gives { ReadsExpr result (operations context level start left height tokens.now) }
     ensures low { IfOk result (λ x. x.1 ≤ context.room + 1) }
 {
     let mut left = left;
@@ -568,7 +575,7 @@ fn climb(
     tokens: &[Terminal],
 ) -> Result<(Expr, u32, &[Terminal]), Halt>
     requires low { height ≤ context.room + 1 }
-    ensures gives { Gives (read_as expr_tree) result (climb context.room (part context.room) level start (expr_tree left, height) tokens.now) }
+    ensures gives { ReadsExpr result (climb context level start left height tokens.now) }
     ensures low { IfOk result (λ x. x.1 ≤ context.room + 1) }
 {
     if level == 0 {
@@ -588,7 +595,7 @@ fn after_or(
     tokens: &[Terminal],
 ) -> Result<(Expr, u32, &[Terminal]), Halt>
     requires low { height ≤ context.room + 1 }
-    ensures gives { Gives (read_as expr_tree) result (after_or context.room (part context.room) start (expr_tree condition, height) tokens.now) }
+    ensures gives { ReadsExpr result (after_or context start condition height tokens.now) }
     ensures low { IfOk result (λ x. x.1 ≤ context.room + 1) }
 {
     let Some(rest) = strip(Punctuator::Question, tokens) else {
@@ -615,7 +622,7 @@ fn after_operand(
     tokens: &[Terminal],
 ) -> Result<(Expr, u32, &[Terminal]), Halt>
     requires low { height ≤ context.room + 1 }
-    ensures gives { Gives (read_as expr_tree) result (after_operand context.room (part context.room) start (expr_tree left, height) tokens.now) }
+    ensures gives { ReadsExpr result (after_operand context start left height tokens.now) }
     ensures low { IfOk result (λ x. x.1 ≤ context.room + 1) }
 {
     let (left, height, rest) = climb(context, 10, start, left, height, tokens)?;
@@ -633,7 +640,7 @@ fn assignment_of(
     tokens: &[Terminal],
 ) -> Result<(Expr, u32, &[Terminal]), Halt>
     requires low { height ≤ context.room + 1 }
-    ensures gives { Gives (read_as expr_tree) result (assignment_of context.room (part context.room) start (expr_tree left, height) operator tokens.now) }
+    ensures gives { ReadsExpr result (assignment_of context start left height operator tokens.now) }
     ensures low { IfOk result (λ x. x.1 ≤ context.room + 1) }
 {
     let Some(operator) = operator else {
@@ -661,7 +668,7 @@ fn after_unary(
     tokens: &[Terminal],
 ) -> Result<(Expr, u32, &[Terminal]), Halt>
     requires low { height ≤ context.room + 1 }
-    ensures gives { Gives (read_as expr_tree) result (after_unary context.room (part context.room) start (expr_tree left, height) tokens.now) }
+    ensures gives { ReadsExpr result (after_unary context start left height tokens.now) }
     ensures low { IfOk result (λ x. x.1 ≤ context.room + 1) }
 {
     assignment_of(context, start, left, height, assign_at(tokens), tokens)
@@ -670,7 +677,7 @@ fn after_unary(
 /// An assignment expression (C11 6.5.16).
 #[cycle(parser)]
 fn assignment(context: Context, tokens: &[Terminal]) -> Result<(Expr, u32, &[Terminal]), Halt>
-    ensures gives { Gives (read_as expr_tree) result (assignment context.room (part context.room) tokens.now) }
+    ensures gives { ReadsExpr result (with_parts context assignment tokens.now) }
     ensures low { IfOk result (λ x. x.1 ≤ context.room + 1) }
 {
     if begins_cast(tokens) {
@@ -692,7 +699,7 @@ fn commas(
     tokens: &[Terminal],
 ) -> Result<(Expr, u32, &[Terminal]), Halt>
     requires low { height ≤ context.room + 1 }
-    ensures gives { Gives (read_as expr_tree) result (commas context.room (part context.room) (length tokens.now) start (expr_tree left, height) tokens.now) }
+    ensures gives { ReadsExpr result (commas context start left height tokens.now) }
     ensures low { IfOk result (λ x. x.1 ≤ context.room + 1) }
 {
     let mut left = left;

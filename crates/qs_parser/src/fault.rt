@@ -4,7 +4,8 @@ ghost use Rattle.qs_parser.specs.declared.fault.Halt.TheVariants.{NoMemory};
 
 use std::alloc::{AllocError, AllocFailed};
 
-/// Why tokens are not read as a form, with how many tokens are left at its place, the token there among them.
+/// Why tokens are not read as a form, with how many tokens are left at its place, the token there
+/// among them.
 #[derive(Clone, Copy, Debug, PartialEq, Eq)]
 pub enum Halt {
     /// No memory was found.

@@ -3,9 +3,12 @@ ghost use Rattle.std.specs.Prelude.{◌≡◌, ◌+◌, ◌||◌, Ok, is_some, I
 ghost use Rattle.qs_syntax.specs.declared.punctuator.Punctuator.TheVariants as punctuators;
 ghost use Rattle.qs_syntax.specs.Reads.{place};
 ghost use Rattle.qs_syntax.specs.Operators.{access_of, assign_of, binary_of};
-ghost use Rattle.qs_grammar.specs.Heads.{is_punctuator, is_keyword, starts, starts_with, operator_at, begins_type};
-ghost use Rattle.qs_grammar.specs.Parse.{expect, expect_name, begins_one, begins_cast, starts_suffix, operator_of_level};
+ghost use Rattle.qs_grammar.specs.Heads.{is_punctuator, is_keyword, starts, starts_with};
+ghost use Rattle.qs_grammar.specs.Heads.{operator_at, begins_type};
+ghost use Rattle.qs_grammar.specs.Parse.{expect, expect_name, begins_one, begins_cast};
+ghost use Rattle.qs_grammar.specs.Parse.{starts_suffix, operator_of_level};
 ghost use Rattle.qs_parser.specs.View.{Gives, rest_of, name_of};
+ghost use Rattle.qs_parser.specs.Heads.{is_marked};
 
 use crate::fault::Halt;
 use qs_base::Name;
@@ -160,7 +163,7 @@ pub fn level_operator_at(level: u8, tokens: &[Terminal]) -> Option<BinaryOperato
 
 /// Whether a parenthesis or a step by one stands first.
 fn is_marked(tokens: &[Terminal]) -> bool
-    ensures { result ≡ (starts punctuators.OpenParenthesis tokens.now || (starts punctuators.Increment tokens.now || starts punctuators.Decrement tokens.now)) }
+    ensures { result ≡ is_marked tokens.now }
 {
     starts(Punctuator::OpenParenthesis, tokens)
         || starts(Punctuator::Increment, tokens)

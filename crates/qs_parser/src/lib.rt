@@ -1,5 +1,5 @@
-//! The parser (C11 6.5 to 6.9): the unit that tokens are read as, or that they have no reading of height
-//! at most 128.
+//! The parser (C11 6.5 to 6.9): the unit that tokens are read as, or that they have no reading of
+//! height at most 128.
 #![tactic(auto)]
 
 mod context;
@@ -7,6 +7,7 @@ mod declarations;
 mod expressions;
 mod fault;
 mod heads;
+mod laws;
 mod nodes;
 mod parse;
 mod statement_nodes;
@@ -15,5 +16,6 @@ mod syntax_fault;
 mod types;
 mod units;
 
-pub use parse::{faults_are_unique, one_reading, unit};
+pub use laws::{faults_are_unique, one_reading};
+pub use parse::unit;
 pub use syntax_fault::SyntaxFault;

@@ -1,7 +1,10 @@
 // Nodes of expressions, not yet numbered.
-ghost use Rattle.std.specs.Prelude.{◌≡◌, map};
-ghost use Rattle.qs_syntax.specs.Trees.{unnumbered, expr, constant, text, name, sizeof_type, unary, step, cast, sizeof_expr, binary, assign, conditional, comma, subscript, member, call, exprs_of};
+ghost use Rattle.qs_syntax.specs.Trees.{constant, text, name, sizeof_type, unary, step, cast};
+ghost use Rattle.qs_syntax.specs.Trees.{sizeof_expr, binary, assign, comma, subscript};
+ghost use Rattle.qs_syntax.specs.Trees.{member, call, exprs_of};
 ghost use Rattle.qs_syntax.specs.TreeOf.{expr_tree};
+ghost use Rattle.qs_parser.specs.View.{boxed_expr, listed};
+ghost use Rattle.qs_parser.specs.Nodes.{IsExpr, conditional_of};
 
 use qs_base::Name;
 use qs_syntax::{
@@ -11,7 +14,7 @@ use qs_syntax::{
 
 /// A number or character.
 pub fn constant(token: u32, value: u32, is_unsigned: bool) -> Expr
-    ensures { expr_tree result ≡ expr (unnumbered token) (constant value is_unsigned) }
+    ensures { IsExpr result token (constant value is_unsigned) }
 {
     Expr {
         node: Node { id: 0, token },
@@ -21,7 +24,7 @@ pub fn constant(token: u32, value: u32, is_unsigned: bool) -> Expr
 
 /// A string literal.
 pub fn text(token: u32, bytes: Text) -> Expr
-    ensures { expr_tree result ≡ expr (unnumbered token) (text bytes) }
+    ensures { IsExpr result token (text bytes) }
 {
     Expr {
         node: Node { id: 0, token },
@@ -31,7 +34,7 @@ pub fn text(token: u32, bytes: Text) -> Expr
 
 /// The name of a variable.
 pub fn name(token: u32, bytes: Name) -> Expr
-    ensures { expr_tree result ≡ expr (unnumbered token) (name bytes) }
+    ensures { IsExpr result token (name bytes) }
 {
     Expr {
         node: Node { id: 0, token },
@@ -41,7 +44,7 @@ pub fn name(token: u32, bytes: Name) -> Expr
 
 /// `sizeof` of a type.
 pub fn sizeof_type(token: u32, of: TypeName) -> Expr
-    ensures { expr_tree result ≡ expr (unnumbered token) (sizeof_type of) }
+    ensures { IsExpr result token (sizeof_type of) }
 {
     Expr {
         node: Node { id: 0, token },
@@ -51,7 +54,7 @@ pub fn sizeof_type(token: u32, of: TypeName) -> Expr
 
 /// A unary operator and its operand.
 pub fn unary(token: u32, operator: UnaryOperator, part: Box<Expr>) -> Expr
-    ensures { expr_tree result ≡ expr (unnumbered token) (unary operator (expr_tree part.value)) }
+    ensures { IsExpr result token (unary operator (boxed_expr part)) }
 {
     Expr {
         node: Node { id: 0, token },
@@ -61,7 +64,7 @@ pub fn unary(token: u32, operator: UnaryOperator, part: Box<Expr>) -> Expr
 
 /// A step by one and its operand.
 pub fn step(token: u32, operator: StepOperator, part: Box<Expr>) -> Expr
-    ensures { expr_tree result ≡ expr (unnumbered token) (step operator (expr_tree part.value)) }
+    ensures { IsExpr result token (step operator (boxed_expr part)) }
 {
     Expr {
         node: Node { id: 0, token },
@@ -71,7 +74,7 @@ pub fn step(token: u32, operator: StepOperator, part: Box<Expr>) -> Expr
 
 /// A cast and its operand.
 pub fn cast(token: u32, to: TypeName, part: Box<Expr>) -> Expr
-    ensures { expr_tree result ≡ expr (unnumbered token) (cast to (expr_tree part.value)) }
+    ensures { IsExpr result token (cast to (boxed_expr part)) }
 {
     Expr {
         node: Node { id: 0, token },
@@ -81,7 +84,7 @@ pub fn cast(token: u32, to: TypeName, part: Box<Expr>) -> Expr
 
 /// `sizeof` and its operand.
 pub fn sizeof_expr(token: u32, part: Box<Expr>) -> Expr
-    ensures { expr_tree result ≡ expr (unnumbered token) (sizeof_expr (expr_tree part.value)) }
+    ensures { IsExpr result token (sizeof_expr (boxed_expr part)) }
 {
     Expr {
         node: Node { id: 0, token },
@@ -91,7 +94,7 @@ pub fn sizeof_expr(token: u32, part: Box<Expr>) -> Expr
 
 /// An operator between two operands.
 pub fn binary(token: u32, operator: BinaryOperator, left: Box<Expr>, right: Box<Expr>) -> Expr
-    ensures { expr_tree result ≡ expr (unnumbered token) (binary operator (expr_tree left.value) (expr_tree right.value)) }
+    ensures { IsExpr result token (binary operator (boxed_expr left) (boxed_expr right)) }
 {
     Expr {
         node: Node { id: 0, token },
@@ -105,7 +108,7 @@ pub fn binary(token: u32, operator: BinaryOperator, left: Box<Expr>, right: Box<
 
 /// An assignment and its two sides.
 pub fn assign(token: u32, operator: AssignmentOperator, left: Box<Expr>, right: Box<Expr>) -> Expr
-    ensures { expr_tree result ≡ expr (unnumbered token) (assign operator (expr_tree left.value) (expr_tree right.value)) }
+    ensures { IsExpr result token (assign operator (boxed_expr left) (boxed_expr right)) }
 {
     Expr {
         node: Node { id: 0, token },
@@ -119,7 +122,7 @@ pub fn assign(token: u32, operator: AssignmentOperator, left: Box<Expr>, right: 
 
 /// A conditional: its condition and the two expressions behind it.
 pub fn conditional(token: u32, condition: Box<Expr>, then: Box<Expr>, otherwise: Box<Expr>) -> Expr
-    ensures { expr_tree result ≡ expr (unnumbered token) (conditional (expr_tree condition.value) (expr_tree then.value) (expr_tree otherwise.value)) }
+    ensures { IsExpr result token (conditional_of condition then otherwise) }
 {
     Expr {
         node: Node { id: 0, token },
@@ -133,7 +136,7 @@ pub fn conditional(token: u32, condition: Box<Expr>, then: Box<Expr>, otherwise:
 
 /// A comma between two expressions.
 pub fn comma(token: u32, left: Box<Expr>, right: Box<Expr>) -> Expr
-    ensures { expr_tree result ≡ expr (unnumbered token) (comma (expr_tree left.value) (expr_tree right.value)) }
+    ensures { IsExpr result token (comma (boxed_expr left) (boxed_expr right)) }
 {
     Expr {
         node: Node { id: 0, token },
@@ -143,7 +146,7 @@ pub fn comma(token: u32, left: Box<Expr>, right: Box<Expr>) -> Expr
 
 /// An element of an array.
 pub fn subscript(token: u32, array: Box<Expr>, at: Box<Expr>) -> Expr
-    ensures { expr_tree result ≡ expr (unnumbered token) (subscript (expr_tree array.value) (expr_tree at.value)) }
+    ensures { IsExpr result token (subscript (boxed_expr array) (boxed_expr at)) }
 {
     Expr {
         node: Node { id: 0, token },
@@ -153,7 +156,7 @@ pub fn subscript(token: u32, array: Box<Expr>, at: Box<Expr>) -> Expr
 
 /// A member of a struct.
 pub fn member(token: u32, access: Access, object: Box<Expr>, name: Name) -> Expr
-    ensures { expr_tree result ≡ expr (unnumbered token) (member access (expr_tree object.value) name) }
+    ensures { IsExpr result token (member access (boxed_expr object) name) }
 {
     Expr {
         node: Node { id: 0, token },
@@ -167,7 +170,7 @@ pub fn member(token: u32, access: Access, object: Box<Expr>, name: Name) -> Expr
 
 /// A call.
 pub fn call(token: u32, function: Name, arguments: Vec<Expr>) -> Expr
-    ensures { expr_tree result ≡ expr (unnumbered token) (call function (exprs_of (map expr_tree arguments.items))) }
+    ensures { IsExpr result token (call function (exprs_of (listed expr_tree arguments))) }
 {
     Expr {
         node: Node { id: 0, token },

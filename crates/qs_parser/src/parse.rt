@@ -1,15 +1,10 @@
 // From tokens to a unit.
-ghost use Rattle.std.specs.Prelude.{◌≡◌, ◌≢◌, ◌+◌, ◌≤◌, ◌<◌, ◌^◌, ℕ, List, true, length};
+ghost use Rattle.std.specs.Prelude.{◌≡◌, ◌+◌, ◌≤◌, ◌<◌, ◌^◌, true, length};
 ghost use Rattle.std.specs.List.{list_all};
 ghost use Rattle.qs_syntax.specs.Units.{is_well_formed};
-ghost use Rattle.qs_syntax.specs.Trees.{DeclTree};
-ghost use Rattle.qs_syntax.specs.ReadsUnits.{ReadsUnit};
-ghost use Rattle.qs_syntax.specs.declared.terminal.Terminal.{Terminal};
 ghost use Rattle.qs_lexer.specs.Tokens.{Tokens};
 ghost use Rattle.qs_lexer.specs.Terminals.{terminals};
-ghost use Rattle.qs_parser.specs.Answers.{Answers, HasFault, IsDecision};
-ghost use Rattle.qs_parser.specs.declared.syntax_fault.SyntaxFault.{SyntaxFault};
-ghost use Rattle.qs_parser.specs.declared.syntax_fault.SyntaxFault.TheVariants.{NoMemory};
+ghost use Rattle.qs_parser.specs.Answers.{Answers, IsDecision};
 
 use crate::fault::Halt;
 use crate::syntax_fault::SyntaxFault;
@@ -60,8 +55,8 @@ fn are_few(text: &[u8], tokens: &[Token])
     fits(tokens[tokens.len() - 1].end);
 }
 
-/// The unit that the tokens of a text are read as (C11 6.9), or why there is none of height at most 128.
-/// `tokens` are those that the lexer gives for the text.
+/// The unit that the tokens of a text are read as (C11 6.9), or why there is none of height at most
+/// 128. `tokens` are those that the lexer gives for the text.
 pub fn unit(alloc: Global, text: &[u8], tokens: &[Token]) -> Result<Unit, SyntaxFault>
     requires tokens { Tokens text.now tokens.now }
     ensures answers { Answers (terminals text.now 0 tokens.now) result }
@@ -71,13 +66,3 @@ pub fn unit(alloc: Global, text: &[u8], tokens: &[Token]) -> Result<Unit, Syntax
     let seen = terminals(alloc, text, tokens)?;
     unit_of(alloc, &seen)
 }
-
-/// Tokens have at most one reading as a unit: a law, for what its clause says.
-pub fn one_reading()
-    ensures { (tokens : List Terminal) (ds es : List DeclTree) (h k : ℕ) → ReadsUnit h tokens ds → ReadsUnit k tokens es → (ds ≡ es) × (h ≡ k) }
-{}
-
-/// Tokens have at most one fault: a law, for what its clause says.
-pub fn faults_are_unique()
-    ensures { (tokens : List Terminal) (fault other : SyntaxFault) → HasFault tokens fault → HasFault tokens other → fault ≢ NoMemory → other ≢ NoMemory → fault ≡ other }
-{}

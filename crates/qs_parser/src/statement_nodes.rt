@@ -1,22 +1,23 @@
 // Nodes of statements, not yet numbered.
 ghost use Rattle.std.specs.Prelude.{◌≡◌};
 ghost use Rattle.qs_syntax.specs.Trees as trees;
-ghost use Rattle.qs_syntax.specs.Trees.{stmts_of};
-ghost use Rattle.qs_syntax.specs.TreeOf.{expr_tree, option_tree, start_tree, stmt_tree, else_tree};
+ghost use Rattle.qs_syntax.specs.Trees.{stmts_of, unnumbered};
+ghost use Rattle.qs_syntax.specs.TreeOf.{expr_tree, option_tree, stmt_tree};
 ghost use Rattle.qs_parser.specs.View.{listed};
+ghost use Rattle.qs_parser.specs.Nodes.{branch_tree, while_tree, do_tree, for_tree};
 
 use qs_syntax::{Expr, Node, Start, Stmt};
 
 /// A semicolon.
 pub fn empty(token: u32) -> Stmt
-    ensures { stmt_tree result ≡ trees.empty (trees.unnumbered token) }
+    ensures { stmt_tree result ≡ trees.empty (unnumbered token) }
 {
     Stmt::Empty(Node { id: 0, token })
 }
 
 /// An expression.
 pub fn expression(token: u32, value: Expr) -> Stmt
-    ensures { stmt_tree result ≡ trees.expression (trees.unnumbered token) (expr_tree value) }
+    ensures { stmt_tree result ≡ trees.expression (unnumbered token) (expr_tree value) }
 {
     Stmt::Expression(Node { id: 0, token }, value)
 }
@@ -31,7 +32,7 @@ pub fn block(items: Vec<Stmt>) -> Stmt
 /// `if`, with what follows `else`.
 #[tactic(auto, using(crate::proofs::CodeBranches::tree_of_if))]
 pub fn branch(token: u32, condition: Expr, then: Box<Stmt>, otherwise: Option<Box<Stmt>>) -> Stmt
-    ensures { stmt_tree result ≡ trees.branch (trees.unnumbered token) (expr_tree condition) (stmt_tree then.value) (else_tree otherwise) }
+    ensures { stmt_tree result ≡ branch_tree token condition then otherwise }
 {
     Stmt::If {
         node: Node { id: 0, token },
@@ -43,7 +44,7 @@ pub fn branch(token: u32, condition: Expr, then: Box<Stmt>, otherwise: Option<Bo
 
 /// `while`.
 pub fn while_loop(token: u32, condition: Expr, body: Box<Stmt>) -> Stmt
-    ensures { stmt_tree result ≡ trees.while_loop (trees.unnumbered token) (expr_tree condition) (stmt_tree body.value) }
+    ensures { stmt_tree result ≡ while_tree token condition body }
 {
     Stmt::While {
         node: Node { id: 0, token },
@@ -54,7 +55,7 @@ pub fn while_loop(token: u32, condition: Expr, body: Box<Stmt>) -> Stmt
 
 /// `do`.
 pub fn do_loop(token: u32, body: Box<Stmt>, condition: Expr) -> Stmt
-    ensures { stmt_tree result ≡ trees.do_loop (trees.unnumbered token) (stmt_tree body.value) (expr_tree condition) }
+    ensures { stmt_tree result ≡ do_tree token body condition }
 {
     Stmt::Do {
         node: Node { id: 0, token },
@@ -71,7 +72,7 @@ pub fn for_loop(
     step: Option<Expr>,
     body: Box<Stmt>,
 ) -> Stmt
-    ensures { stmt_tree result ≡ trees.for_loop (trees.unnumbered token) (start_tree start) (option_tree condition) (option_tree step) (stmt_tree body.value) }
+    ensures { stmt_tree result ≡ for_tree token start condition step body }
 {
     Stmt::For {
         node: Node { id: 0, token },
@@ -84,21 +85,21 @@ pub fn for_loop(
 
 /// `break`.
 pub fn broken(token: u32) -> Stmt
-    ensures { stmt_tree result ≡ trees.break (trees.unnumbered token) }
+    ensures { stmt_tree result ≡ trees.break (unnumbered token) }
 {
     Stmt::Break(Node { id: 0, token })
 }
 
 /// `continue`.
 pub fn continued(token: u32) -> Stmt
-    ensures { stmt_tree result ≡ trees.continue (trees.unnumbered token) }
+    ensures { stmt_tree result ≡ trees.continue (unnumbered token) }
 {
     Stmt::Continue(Node { id: 0, token })
 }
 
 /// `return`.
 pub fn returned(token: u32, value: Option<Expr>) -> Stmt
-    ensures { stmt_tree result ≡ trees.return (trees.unnumbered token) (option_tree value) }
+    ensures { stmt_tree result ≡ trees.return (unnumbered token) (option_tree value) }
 {
     Stmt::Return(Node { id: 0, token }, value)
 }

@@ -1,12 +1,17 @@
-// Statements (C11 6.8). In all functions at most `context.room` levels are left for the parts of a node, and
-// each answers what is read, how high it is, and what stands behind it. `at` is the place of a first token.
-ghost use Rattle.std.specs.Prelude.{◌≡◌, ◌+◌, ◌≤◌, ◌||◌, length, [], ◌∷◌, IfOk};
+// Statements (C11 6.8). In all functions at most `context.room` levels are left for the parts of a
+// node, and each answers what is read, how high it is, and what stands behind it. `at` is the place
+// of a first token.
+ghost use Rattle.std.specs.Prelude.{◌≡◌, ◌+◌, ◌≤◌, ◌||◌, [], ◌∷◌, IfOk};
 ghost use Rattle.qs_base.specs.declared.keyword.Keyword.TheVariants as keywords;
-ghost use Rattle.qs_syntax.specs.Operators.{number_of};
 ghost use Rattle.qs_grammar.specs.Heads.{is_keyword};
 ghost use Rattle.qs_syntax.specs.TreeOf.{expr_tree, option_tree, start_tree, stmt_tree};
-ghost use Rattle.qs_grammar.specs.ParseStatements.{optional, condition, start_of, begins_statement, item, items, in_block, otherwise, after_if, after_while, expect_while, after_do, after_for, after_return, running, plain_statement, keyword_statement, statement_at, statement};
-ghost use Rattle.qs_parser.specs.View.{Gives, read_as, boxed_tree, second_tree, listed, rest_of};
+ghost use Rattle.qs_grammar.specs.ParseStatements.{optional, condition, start_of, begins_statement};
+ghost use Rattle.qs_grammar.specs.ParseStatements.{item, items, in_block, otherwise, after_if};
+ghost use Rattle.qs_grammar.specs.ParseStatements.{after_while, expect_while, after_do, after_for};
+ghost use Rattle.qs_grammar.specs.ParseStatements.{after_return, running, statement_at, statement};
+ghost use Rattle.qs_parser.specs.View.{Gives, Reads, ReadsAll, boxed_stmt, second_tree, rest_of};
+ghost use Rattle.qs_parser.specs.Heads.{is_nesting};
+ghost use Rattle.qs_parser.specs.Readers.{with_statements, plain_statement, keyword_statement};
 ghost use Rattle.qs_parser.specs.Turns.{step_tree, turn_tree, step_and_body, turn_of};
 
 use crate::context::Context;
@@ -25,7 +30,7 @@ fn optional(
     punctuator: Punctuator,
     tokens: &[Terminal],
 ) -> Result<(Option<Expr>, u32, &[Terminal]), Halt>
-    ensures gives { Gives (read_as option_tree) result (optional context.room punctuator tokens.now) }
+    ensures gives { Reads option_tree result (optional context.room punctuator tokens.now) }
     ensures low { IfOk result (λ x. x.1 ≤ context.room) }
 {
     if let Some(rest) = strip(punctuator, tokens) {
@@ -38,7 +43,7 @@ fn optional(
 
 /// An expression in parentheses.
 fn condition(context: Context, tokens: &[Terminal]) -> Result<(Expr, u32, &[Terminal]), Halt>
-    ensures gives { Gives (read_as expr_tree) result (condition context.room tokens.now) }
+    ensures gives { Reads expr_tree result (condition context.room tokens.now) }
     ensures low { IfOk result (λ x. x.1 ≤ context.room) }
 {
     let rest = expect(Punctuator::OpenParenthesis, tokens)?;
@@ -49,7 +54,7 @@ fn condition(context: Context, tokens: &[Terminal]) -> Result<(Expr, u32, &[Term
 
 /// What a `for` begins with, and the semicolon behind it (C11 6.8.5.3).
 fn start_of(context: Context, tokens: &[Terminal]) -> Result<(Start, u32, &[Terminal]), Halt>
-    ensures gives { Gives (read_as start_tree) result (start_of context.room tokens.now) }
+    ensures gives { Reads start_tree result (start_of context.room tokens.now) }
     ensures low { IfOk result (λ x. x.1 ≤ context.room) }
 {
     if begins_type(tokens) {
@@ -102,7 +107,7 @@ fn after_return(
     at: u32,
     tokens: &[Terminal],
 ) -> Result<(Stmt, u32, &[Terminal]), Halt>
-    ensures gives { Gives (read_as stmt_tree) result (after_return context.room (statement context.room) at tokens.now) }
+    ensures gives { Reads stmt_tree result (with_statements context after_return at tokens.now) }
     ensures low { IfOk result (λ x. x.1 ≤ context.room + 1) }
 {
     let (value, height, rest) = optional(context, Punctuator::Semicolon, tokens)?;
@@ -111,7 +116,7 @@ fn after_return(
 
 /// An expression and the semicolon behind it (C11 6.8.3).
 fn running(context: Context, tokens: &[Terminal]) -> Result<(Stmt, u32, &[Terminal]), Halt>
-    ensures gives { Gives (read_as stmt_tree) result (running context.room (statement context.room) tokens.now) }
+    ensures gives { Reads stmt_tree result (with_statements context running tokens.now) }
     ensures low { IfOk result (λ x. x.1 ≤ context.room + 1) }
 {
     let (expression, height, rest) = part(context, Form::Expression, tokens)?;
@@ -131,7 +136,7 @@ fn plain_statement<'a>(
     tokens: &'a [Terminal],
 ) -> Result<(Stmt, u32, &'a [Terminal]), Halt>
     requires all { tokens.now ≡ first.now ∷ rest.now }
-    ensures gives { Gives (read_as stmt_tree) result (plain_statement context.room (statement context.room) (number_of first.now) first.now rest.now) }
+    ensures gives { Reads stmt_tree result (plain_statement context first.now rest.now) }
     ensures low { IfOk result (λ x. x.1 ≤ context.room + 1) }
 {
     let at = place(tokens);
@@ -151,7 +156,7 @@ fn plain_statement<'a>(
 
 /// Whether a statement that begins with this token has a statement as a part.
 fn is_nesting(first: &Terminal) -> bool
-    ensures { result ≡ (is_keyword keywords.If first.now || (is_keyword keywords.While first.now || (is_keyword keywords.Do first.now || is_keyword keywords.For first.now))) }
+    ensures { result ≡ is_nesting first.now }
 {
     is_keyword(Keyword::If, first)
         || is_keyword(Keyword::While, first)
@@ -163,7 +168,7 @@ fn is_nesting(first: &Terminal) -> bool
 #[cycle(statement)]
 #[tactic(auto, using(crate::proofs::CodeStatements::statement_cases))]
 fn statement(context: Context, tokens: &[Terminal]) -> Result<(Stmt, u32, &[Terminal]), Halt>
-    ensures gives { Gives (read_as stmt_tree) result (statement context.room tokens.now) }
+    ensures gives { Reads stmt_tree result (statement context.room tokens.now) }
     ensures low { IfOk result (λ x. x.1 ≤ context.room) }
 {
     if context.room == 0 {
@@ -178,7 +183,7 @@ fn statement(context: Context, tokens: &[Terminal]) -> Result<(Stmt, u32, &[Term
 /// A statement that is at most `context.room` high, in a box of its own.
 #[cycle(statement)]
 fn boxed(context: Context, tokens: &[Terminal]) -> Result<(Box<Stmt>, u32, &[Terminal]), Halt>
-    ensures gives { Gives (read_as boxed_tree) result (statement context.room tokens.now) }
+    ensures gives { Reads boxed_stmt result (statement context.room tokens.now) }
     ensures low { IfOk result (λ x. x.1 ≤ context.room) }
 {
     let (found, height, rest) = statement(context, tokens)?;
@@ -188,7 +193,7 @@ fn boxed(context: Context, tokens: &[Terminal]) -> Result<(Box<Stmt>, u32, &[Ter
 /// A statement or a declaration of a block (C11 6.8.2).
 #[cycle(statement)]
 fn item(context: Context, tokens: &[Terminal]) -> Result<(Stmt, u32, &[Terminal]), Halt>
-    ensures gives { Gives (read_as stmt_tree) result (item context.room (statement context.room) tokens.now) }
+    ensures gives { Reads stmt_tree result (with_statements context item tokens.now) }
     ensures low { IfOk result (λ x. x.1 ≤ context.room) }
 {
     if begins_type(tokens) {
@@ -202,7 +207,7 @@ fn item(context: Context, tokens: &[Terminal]) -> Result<(Stmt, u32, &[Terminal]
 #[cycle(statement)]
 #[tactic(auto, using(crate::proofs::CodeStatements::item_steps))]
 pub fn items(context: Context, tokens: &[Terminal]) -> Result<(Vec<Stmt>, u32, &[Terminal]), Halt>
-    ensures gives { Gives (read_as (listed stmt_tree)) result (items context.room (statement context.room) (length tokens.now) [] 0 tokens.now) }
+    ensures gives { ReadsAll stmt_tree result (with_statements context items) tokens.now }
     ensures low { IfOk result (λ x. x.1 ≤ context.room) }
 {
     let mut items = Vec::new(context.alloc);
@@ -223,7 +228,7 @@ pub fn items(context: Context, tokens: &[Terminal]) -> Result<(Vec<Stmt>, u32, &
 /// A block, behind its brace (C11 6.8.2).
 #[cycle(statement)]
 fn in_block(context: Context, tokens: &[Terminal]) -> Result<(Stmt, u32, &[Terminal]), Halt>
-    ensures gives { Gives (read_as stmt_tree) result (in_block context.room (statement context.room) tokens.now) }
+    ensures gives { Reads stmt_tree result (with_statements context in_block tokens.now) }
     ensures low { IfOk result (λ x. x.1 ≤ context.room + 1) }
 {
     let (items, height, rest) = items(context, tokens)?;
@@ -236,7 +241,7 @@ fn otherwise(
     context: Context,
     tokens: &[Terminal],
 ) -> Result<(Option<Box<Stmt>>, u32, &[Terminal]), Halt>
-    ensures gives { Gives (read_as second_tree) result (otherwise context.room (statement context.room) tokens.now) }
+    ensures gives { Reads second_tree result (with_statements context otherwise tokens.now) }
     ensures low { IfOk result (λ x. x.1 ≤ context.room) }
 {
     if !starts_with(Keyword::Else, tokens) {
@@ -256,7 +261,7 @@ fn after_if(
     at: u32,
     tokens: &[Terminal],
 ) -> Result<(Stmt, u32, &[Terminal]), Halt>
-    ensures gives { Gives (read_as stmt_tree) result (after_if context.room (statement context.room) at tokens.now) }
+    ensures gives { Reads stmt_tree result (with_statements context after_if at tokens.now) }
     ensures low { IfOk result (λ x. x.1 ≤ context.room + 1) }
 {
     let (condition, condition_height, rest) = condition(context, tokens)?;
@@ -274,7 +279,7 @@ fn after_while(
     at: u32,
     tokens: &[Terminal],
 ) -> Result<(Stmt, u32, &[Terminal]), Halt>
-    ensures gives { Gives (read_as stmt_tree) result (after_while context.room (statement context.room) at tokens.now) }
+    ensures gives { Reads stmt_tree result (with_statements context after_while at tokens.now) }
     ensures low { IfOk result (λ x. x.1 ≤ context.room + 1) }
 {
     let (condition, height, rest) = condition(context, tokens)?;
@@ -290,7 +295,7 @@ fn after_do(
     at: u32,
     tokens: &[Terminal],
 ) -> Result<(Stmt, u32, &[Terminal]), Halt>
-    ensures gives { Gives (read_as stmt_tree) result (after_do context.room (statement context.room) at tokens.now) }
+    ensures gives { Reads stmt_tree result (with_statements context after_do at tokens.now) }
     ensures low { IfOk result (λ x. x.1 ≤ context.room + 1) }
 {
     let (body, height, rest) = boxed(context, tokens)?;
@@ -314,7 +319,7 @@ fn step_and_body(
     context: Context,
     tokens: &[Terminal],
 ) -> Result<((Option<Expr>, Box<Stmt>), u32, &[Terminal]), Halt>
-    ensures gives { Gives (read_as step_tree) result (step_and_body context.room (statement context.room) tokens.now) }
+    ensures gives { Reads step_tree result (with_statements context step_and_body tokens.now) }
     ensures low { IfOk result (λ x. x.1 ≤ context.room) }
 {
     let (step, height, rest) = optional(context, Punctuator::CloseParenthesis, tokens)?;
@@ -325,7 +330,7 @@ fn step_and_body(
 /// What stands behind what a `for` begins with.
 #[cycle(statement)]
 fn turn_of(context: Context, tokens: &[Terminal]) -> Result<(Turn, u32, &[Terminal]), Halt>
-    ensures gives { Gives (read_as turn_tree) result (turn_of context.room (statement context.room) tokens.now) }
+    ensures gives { Reads turn_tree result (with_statements context turn_of tokens.now) }
     ensures low { IfOk result (λ x. x.1 ≤ context.room) }
 {
     let (condition, height, rest) = optional(context, Punctuator::Semicolon, tokens)?;
@@ -345,7 +350,7 @@ fn after_for(
     at: u32,
     tokens: &[Terminal],
 ) -> Result<(Stmt, u32, &[Terminal]), Halt>
-    ensures gives { Gives (read_as stmt_tree) result (after_for context.room (statement context.room) at tokens.now) }
+    ensures gives { Reads stmt_tree result (with_statements context after_for at tokens.now) }
     ensures low { IfOk result (λ x. x.1 ≤ context.room + 1) }
 {
     let rest = expect(Punctuator::OpenParenthesis, tokens)?;
@@ -372,7 +377,7 @@ fn keyword_statement<'a>(
     tokens: &'a [Terminal],
 ) -> Result<(Stmt, u32, &'a [Terminal]), Halt>
     requires all { tokens.now ≡ first.now ∷ rest.now }
-    ensures gives { Gives (read_as stmt_tree) result (keyword_statement context.room (statement context.room) (number_of first.now) first.now rest.now) }
+    ensures gives { Reads stmt_tree result (keyword_statement context first.now rest.now) }
     ensures low { IfOk result (λ x. x.1 ≤ context.room + 1) }
 {
     let at = place(tokens);
@@ -397,7 +402,7 @@ fn keyword_statement<'a>(
 /// A statement (C11 6.8) with at most `context.room` levels for its parts.
 #[cycle(statement)]
 fn statement_at(context: Context, tokens: &[Terminal]) -> Result<(Stmt, u32, &[Terminal]), Halt>
-    ensures gives { Gives (read_as stmt_tree) result (statement_at context.room (statement context.room) tokens.now) }
+    ensures gives { Reads stmt_tree result (with_statements context statement_at tokens.now) }
     ensures low { IfOk result (λ x. x.1 ≤ context.room + 1) }
 {
     let [first, rest @ ..] = tokens else {

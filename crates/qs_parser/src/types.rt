@@ -1,6 +1,7 @@
 // Types (C11 6.7.2, 6.7.3, 6.7.6, 6.7.7).
 ghost use Rattle.std.specs.Prelude.{◌≡◌, Ok};
-ghost use Rattle.qs_grammar.specs.Parse.{skip_consts, after_unsigned, after_signed, tagged, base, type, stars_from, stars, type_name};
+ghost use Rattle.qs_grammar.specs.Parse.{skip_consts, after_unsigned, after_signed, tagged, base};
+ghost use Rattle.qs_grammar.specs.Parse.{type, stars_from, stars, type_name};
 ghost use Rattle.qs_grammar.specs.ParseDeclarations.{skip_prefixes, outer_type};
 ghost use Rattle.qs_parser.specs.View.{Gives, base_of, stars_of, type_name_of};
 
@@ -101,7 +102,8 @@ fn skip_prefixes(tokens: &[Terminal]) -> &[Terminal]
     rest
 }
 
-/// A type without stars at file scope, with `const` on both sides and `static` before it (C11 6.7.1).
+/// A type without stars at file scope, with `const` on both sides and `static` before it (C11
+/// 6.7.1).
 #[tactic(auto, unfolding(qs_grammar::specs::ParseDeclarations::outer_type))]
 pub fn outer_type(alloc: Global, tokens: &[Terminal]) -> Result<(Base, &[Terminal]), Halt>
     ensures { Gives base_of result (outer_type tokens.now) }
@@ -110,8 +112,8 @@ pub fn outer_type(alloc: Global, tokens: &[Terminal]) -> Result<(Base, &[Termina
     Ok((base, skip_consts(rest)))
 }
 
-/// The count of stars behind one, and what stands behind them and each `const` among them. A count that
-/// fits no `u32` is `NoMemory`; no text that fits memory has it.
+/// The count of stars behind one, and what stands behind them and each `const` among them. A count
+/// that fits no `u32` is `NoMemory`; no text that fits memory has it.
 fn stars_from(tokens: &[Terminal]) -> Result<(u32, &[Terminal]), Halt>
     ensures { Gives stars_of result (Ok (stars_from 0 tokens.now)) }
 {
@@ -128,7 +130,8 @@ fn stars_from(tokens: &[Terminal]) -> Result<(u32, &[Terminal]), Halt>
     Ok((count, rest))
 }
 
-/// The count of the stars, each with any number of `const` behind it (C11 6.7.6.1), and what follows.
+/// The count of the stars, each with any number of `const` behind it (C11 6.7.6.1), and what
+/// follows.
 #[tactic(auto, unfolding(qs_grammar::specs::Parse::stars))]
 pub fn stars(tokens: &[Terminal]) -> Result<(u32, &[Terminal]), Halt>
     ensures { Gives stars_of result (Ok (stars tokens.now)) }

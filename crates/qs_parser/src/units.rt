@@ -1,8 +1,10 @@
 // What stands at file scope (C11 6.9). What is read is at most `context.room + 2` high.
-ghost use Rattle.std.specs.Prelude.{◌≡◌, ◌+◌, ◌<◌, ◌≤◌, length, [], IfOk, option_map};
-ghost use Rattle.qs_syntax.specs.TreeOf.{decl_tree, stmts_tree};
-ghost use Rattle.qs_grammar.specs.ParseStatements.{is_named, struct_of, forward_of, body_of, function_of, typed, external, is_empty, externals, unit};
-ghost use Rattle.qs_parser.specs.View.{Gives, read_as, listed, parameters_of, function_with, unit_of};
+ghost use Rattle.std.specs.Prelude.{◌≡◌, ◌+◌, ◌<◌, ◌≤◌, [], IfOk};
+ghost use Rattle.qs_syntax.specs.TreeOf.{decl_tree};
+ghost use Rattle.qs_grammar.specs.ParseStatements.{is_named, struct_of, forward_of, function_of};
+ghost use Rattle.qs_grammar.specs.ParseStatements.{typed, external, is_empty, externals, unit};
+ghost use Rattle.qs_parser.specs.View.{Gives, Reads, ReadsAll, body_tree, function_with, unit_of};
+ghost use Rattle.qs_parser.specs.Readers.{body_of};
 
 use crate::context::Context;
 use crate::declarations::{declared, groups, head};
@@ -17,7 +19,8 @@ use qs_syntax::{
 };
 use std::alloc::Global;
 
-/// The height to which the parts of a function's body are read: with it the unit is at most 128 high.
+/// The height to which the parts of a function's body are read: with it the unit is at most 128
+/// high.
 const ROOM: u8 = 126;
 
 /// Whether a name with this punctuator behind it stands here.
@@ -36,7 +39,7 @@ fn struct_of(
     token: u32,
     tokens: &[Terminal],
 ) -> Result<(Decl, u32, &[Terminal]), Halt>
-    ensures gives { Gives (read_as decl_tree) result (struct_of context.room token tokens.now) }
+    ensures gives { Reads decl_tree result (struct_of context.room token tokens.now) }
     ensures low { IfOk result (λ x. x.1 ≤ context.room + 2) }
 {
     let (_at, name, rest) = expect_name(context.alloc, tokens)?;
@@ -57,7 +60,7 @@ fn forward_of(
     token: u32,
     tokens: &[Terminal],
 ) -> Result<(Decl, u32, &[Terminal]), Halt>
-    ensures gives { Gives (read_as decl_tree) result (forward_of token tokens.now) }
+    ensures gives { Reads decl_tree result (forward_of token tokens.now) }
     ensures low { IfOk result (λ x. x.1 ≤ 1) }
 {
     let (_at, name, rest) = expect_name(alloc, tokens)?;
@@ -81,7 +84,7 @@ struct Header {
 
 /// A function of this header, with or without a body.
 fn function(header: Header, body: Option<Vec<Stmt>>) -> Decl
-    ensures { decl_tree result ≡ function_with header (option_map (λ items. stmts_tree items.items) body) }
+    ensures { decl_tree result ≡ function_with header (body_tree body) }
 {
     Decl::Function(Function {
         node: Node {
@@ -107,7 +110,7 @@ fn body_of(
     tokens: &[Terminal],
 ) -> Result<(Decl, u32, &[Terminal]), Halt>
     requires low { height ≤ context.room + 1 }
-    ensures gives { Gives (read_as decl_tree) result (body_of context.room header.token header.base header.stars header.name (parameters_of header, height) tokens.now) }
+    ensures gives { Reads decl_tree result (body_of context header height tokens.now) }
     ensures low { IfOk result (λ x. x.1 ≤ context.room + 2) }
 {
     if let Some(rest) = strip(Punctuator::Semicolon, tokens) {
@@ -126,7 +129,7 @@ fn function_of(
     stars: u32,
     tokens: &[Terminal],
 ) -> Result<(Decl, u32, &[Terminal]), Halt>
-    ensures gives { Gives (read_as decl_tree) result (function_of context.room token base stars tokens.now) }
+    ensures gives { Reads decl_tree result (function_of context.room token base stars tokens.now) }
     ensures low { IfOk result (λ x. x.1 ≤ context.room + 2) }
 {
     let (_at, name, rest) = expect_name(context.alloc, tokens)?;
@@ -150,7 +153,7 @@ fn typed(
     tokens: &[Terminal],
 ) -> Result<(Decl, u32, &[Terminal]), Halt>
     requires fits { context.room < 255 }
-    ensures gives { Gives (read_as decl_tree) result (typed context.room start base tokens.now) }
+    ensures gives { Reads decl_tree result (typed context.room start base tokens.now) }
     ensures low { IfOk result (λ x. x.1 ≤ context.room + 2) }
 {
     let (stars, rest) = stars(tokens)?;
@@ -169,7 +172,7 @@ fn typed(
 #[tactic(auto, unfolding(qs_grammar::specs::ParseStatements::external))]
 fn external(context: Context, tokens: &[Terminal]) -> Result<(Decl, u32, &[Terminal]), Halt>
     requires fits { context.room < 255 }
-    ensures gives { Gives (read_as decl_tree) result (external context.room tokens.now) }
+    ensures gives { Reads decl_tree result (external context.room tokens.now) }
     ensures low { IfOk result (λ x. x.1 ≤ context.room + 2) }
 {
     let [first, rest @ ..] = tokens else {
@@ -200,7 +203,7 @@ fn is_empty(tokens: &[Terminal]) -> bool
 #[tactic(auto, using(crate::proofs::CodeStatements::external_steps))]
 fn externals(context: Context, tokens: &[Terminal]) -> Result<(Vec<Decl>, u32, &[Terminal]), Halt>
     requires fits { context.room < 255 }
-    ensures gives { Gives (read_as (listed decl_tree)) result (externals context.room (length tokens.now) [] 0 tokens.now) }
+    ensures gives { ReadsAll decl_tree result (externals context.room) tokens.now }
     ensures low { IfOk result (λ x. (x.1 ≤ context.room + 2) × (x.2.now ≡ [])) }
 {
     let mut found = Vec::new(context.alloc);
@@ -218,7 +221,8 @@ fn externals(context: Context, tokens: &[Terminal]) -> Result<(Vec<Decl>, u32, &
     Err(Halt::Unexpected(rest.len()))
 }
 
-/// All of the tokens as a unit (C11 6.9) that is at most 128 high, not yet numbered, and how high it is.
+/// All of the tokens as a unit (C11 6.9) that is at most 128 high, not yet numbered, and how high
+/// it is.
 #[tactic(auto, unfolding(qs_grammar::specs::ParseStatements::unit))]
 pub fn read_unit(alloc: Global, tokens: &[Terminal]) -> Result<(Vec<Decl>, u32), Halt>
     ensures gives { Gives unit_of result (unit 126 tokens.now) }

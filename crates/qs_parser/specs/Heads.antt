@@ -1,0 +1,14 @@
+-- What tokens begin with.
+use Rattle.std.specs.Prelude.{List, Bool, ◌||◌}
+use Rattle.qs_syntax.specs.declared.terminal.Terminal.{Terminal}
+use Rattle.qs_syntax.specs.declared.punctuator.Punctuator.TheVariants as punctuators
+use Rattle.qs_base.specs.declared.keyword.Keyword.TheVariants as keywords
+use Rattle.qs_grammar.specs.Heads.{is_keyword, starts}
+
+-- a parenthesis or a step by one stands first
+abbrev pub is_marked : List Terminal → Bool
+is_marked ts = starts punctuators.OpenParenthesis ts || (starts punctuators.Increment ts || starts punctuators.Decrement ts)
+
+-- a statement that begins with this token has a statement as a part
+abbrev pub is_nesting : Terminal → Bool
+is_nesting t = is_keyword keywords.If t || (is_keyword keywords.While t || (is_keyword keywords.Do t || is_keyword keywords.For t))

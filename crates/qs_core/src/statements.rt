@@ -49,7 +49,12 @@ impl Drop for CoreStmt {
             CoreStmt::Seq(_) => {}
             CoreStmt::Assign(_, _) => {}
             CoreStmt::Store(_, _, _) => {}
-            CoreStmt::Copy { .. } => {}
+            CoreStmt::Copy {
+                size: _,
+                alignment: _,
+                to: _,
+                from: _,
+            } => {}
             CoreStmt::Fill(_, _) => {}
             CoreStmt::Call(_, _, _) => {}
             CoreStmt::If(_, _, _) => {}

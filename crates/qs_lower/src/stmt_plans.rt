@@ -103,7 +103,13 @@ impl Drop for StmtPlan {
             StmtPlan::Go(_) => {}
             StmtPlan::Assign(_, _, _) => {}
             StmtPlan::Store(_, _, _, _) => {}
-            StmtPlan::Copy { .. } => {}
+            StmtPlan::Copy {
+                location: _,
+                size: _,
+                alignment: _,
+                to: _,
+                from: _,
+            } => {}
             StmtPlan::Fill(_, _, _) => {}
             StmtPlan::Call(_, _, _, _) => {}
             StmtPlan::Return(_, _) => {}

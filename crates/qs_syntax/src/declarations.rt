@@ -1,4 +1,5 @@
-// Declarations (C11 6.7): their trees, whether two are the same, copies, and the numbers of their nodes.
+// Declarations (C11 6.7): their trees, whether two are the same, copies, and the numbers of their
+// nodes.
 ghost use Rattle.std.specs.Prelude.{◌≡◌, IfOk, OnOk, map};
 ghost use Rattle.qs_syntax.specs.TreeOf.{lengths_tree, declarator_tree, initialiser_tree};
 ghost use Rattle.qs_syntax.specs.TreeOf.{list_tree, initialisers_tree, variable_tree};
@@ -31,7 +32,8 @@ pub struct Lengths {
     pub given: Vec<Expr>,
 }
 
-/// A name that is declared, with what stands around it (C11 6.7.6): a member, or the head of a variable.
+/// A name that is declared, with what stands around it (C11 6.7.6): a member, or the head of a
+/// variable.
 #[derive(Drop)]
 pub struct Declarator {
     /// Its node. Its token is the name's.

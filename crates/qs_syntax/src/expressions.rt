@@ -1,4 +1,5 @@
-// Expressions (C11 6.5): their trees, whether two are the same, copies, and the numbers of their nodes.
+// Expressions (C11 6.5): their trees, whether two are the same, copies, and the numbers of their
+// nodes.
 ghost use Rattle.std.specs.Prelude.{◌≡◌, ◌↔◌, IfOk, IsTrue, OnOk, map};
 ghost use Rattle.qs_syntax.specs.TreeOf.{expr_tree, exprs_tree, shape_tree};
 ghost use Rattle.qs_syntax.specs.Operators.{same_unary, same_step, same_binary, same_assign};
@@ -98,7 +99,8 @@ impl Expr {
 }
 
 // ---- how trees are dropped
-// By hand, since a derived drop of a tree stands with all its cases at each place where a tree may be dropped.
+// By hand, since a derived drop of a tree stands with all its cases at each place where a tree may
+// be dropped.
 
 impl Drop for Expr {
     #[cycle(drop_expr)]

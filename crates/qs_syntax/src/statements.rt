@@ -1,4 +1,5 @@
-// Statements (C11 6.8): their trees, whether two are the same, copies, and the numbers of their nodes.
+// Statements (C11 6.8): their trees, whether two are the same, copies, and the numbers of their
+// nodes.
 ghost use Rattle.std.specs.Prelude.{◌≡◌, ◌↔◌, IfOk, IsTrue, OnOk, map};
 ghost use Rattle.qs_syntax.specs.TreeOf.{option_tree, start_tree, stmt_tree, stmts_tree, else_tree};
 ghost use Rattle.qs_syntax.specs.Sameness.{same_option, same_start, same_stmt, same_stmts};

@@ -1,4 +1,5 @@
-// What stands at file scope (C11 6.9): its trees, whether two are the same, copies, and the numbers of the nodes.
+// What stands at file scope (C11 6.9): its trees, whether two are the same, copies, and the numbers
+// of the nodes.
 ghost use Rattle.std.specs.Prelude.{◌≡◌, ◌↔◌, IfOk, IsTrue, OnOk, map};
 ghost use Rattle.qs_syntax.specs.TreeOf.{parameter_tree, members_tree, struct_tree, forward_tree};
 ghost use Rattle.qs_syntax.specs.TreeOf.{function_tree, decl_tree, body_tree};

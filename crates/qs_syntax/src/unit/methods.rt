@@ -56,7 +56,8 @@ impl Unit {
     }
 }
 
-/// The unit of these trees, which are given without numbers. Their nodes are numbered where they stand.
+/// The unit of these trees, which are given without numbers. Their nodes are numbered where they
+/// stand.
 pub fn numbered(alloc: Global, unnumbered: Vec<Decl>) -> Result<Unit, NoMemory>
     requires read { IsRead (numbered_unit (map decl_tree unnumbered.items)) }
     requires few { unit_count (map decl_tree unnumbered.items) < 2 ^ 32 }

@@ -30,6 +30,10 @@ abbrev pub InOrder : ℕ → List Token → ℕ → Type 0
 InOrder from [] to = from ≤ to
 InOrder from (token ∷ tokens) to = (from ≤ token.start) × InOrder token.end tokens to
 
+-- the tokens stand in order in the text
+abbrev pub IsInOrder : List ℕ → List Token → Type 0
+IsInOrder text tokens = InOrder 0 tokens (length text)
+
 -- the text consists of one list of tokens at most
 abbrev pub HasOneList : List ℕ → Type 0
 HasOneList text = (tokens others : List Token) → Tokens text tokens → Tokens text others → tokens ≡ others

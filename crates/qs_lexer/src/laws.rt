@@ -1,6 +1,6 @@
 // Laws of tokens: functions that do nothing, for what their clauses say.
 ghost use Rattle.std.specs.Prelude.{◌≤◌, ℕ, List, All, length};
-ghost use Rattle.qs_lexer.specs.Laws.{InOrder, IsTokenOf, NotBoth, HasOneKind, HasOneList};
+ghost use Rattle.qs_lexer.specs.Laws.{IsInOrder, IsTokenOf, NotBoth, HasOneKind, HasOneList};
 ghost use Rattle.qs_lexer.specs.Laws.{HasOnePlace};
 ghost use Rattle.qs_lexer.specs.Terminals.{AreAsMany, AreWellFormed};
 ghost use Rattle.qs_lexer.specs.Tokens.{EachReading};
@@ -17,11 +17,11 @@ pub fn one_reading()
 /// language and texts are text literals; the tokens stand in order, none over another.
 pub fn each_token()
     ensures tokens_of { (text : List ℕ) → EachReading text (All (IsTokenOf text)) }
-    ensures in_order { (text : List ℕ) → EachReading text (λ tokens. InOrder 0 tokens (length text)) }
+    ensures in_order { (text : List ℕ) → EachReading text (IsInOrder text) }
 {}
 
-/// There are as many terminals as tokens, and no more than bytes; each name is none of the keywords,
-/// each constant is a value of its type, and each text consists of bytes.
+/// There are as many terminals as tokens, and no more than bytes; each name is none of the
+/// keywords, each constant is a value of its type, and each text consists of bytes.
 pub fn each_terminal()
     ensures as_many { (text : List ℕ) → AreAsMany text }
     ensures at_most { (text : List ℕ) → EachReading text (λ tokens. length tokens ≤ length text) }

@@ -1,5 +1,5 @@
 -- Which fronts of a list have a shape.
-use Rattle.std.proofs.Common.{◌≡◌, ℕ, ◌+◌, ◌<◌, ◌≤◌, zero, suc, Bool, true, false, cond, ◌&&◌, List, [], ◌∷◌, Option, Some, None, length, take, refl, ap, sym, ◌∙◌, arith, nat_le, ◌==◌}
+use Rattle.std.proofs.Common.{◌≡◌, ℕ, ◌+◌, ◌<◌, ◌≤◌, zero, suc, Bool, true, false, cond, ◌&&◌, List, [], ◌∷◌, Option, Some, None, length, take, refl, sym, ◌∙◌, arith, nat_le, ◌==◌}
 use Rattle.std.proofs.lemmas.Bool.Decides.{nat_tests}
 use Rattle.std.specs.List.{list_all, prefix_len}
 use Rattle.qs_lexer.specs.Bytes.{is_empty}
@@ -91,13 +91,6 @@ longest_of_at s rest n h e = record {
   has = let f = e n h (omega arith) in grind (arith, nat_tests);
   no_longer = λ m a b. let f = e m b (omega arith) in grind (arith, nat_tests);
 }
-
-pub end_positive : (turn : Bool → ℕ → Turn) (s : Bool) (xs : List ℕ) (n : ℕ) → end_of turn s xs ≡ Some n → 1 ≤ n
-end_positive turn s xs n e =
-    let z : false ≡ is_at 0 (end_of turn s xs) = closes_take turn s xs 0 (omega arith) in
-    let y : is_at 0 (end_of turn s xs) ≡ (0 == n) = ap (is_at 0) e in
-    let x : false ≡ (0 == n) = z ∙ y in
-    grind (arith, nat_tests)
 
 -- the same form under another name
 pub longest_same : (s t : List ℕ → Bool) (rest : List ℕ) (n : ℕ) → ((m : ℕ) → s (take m rest) ≡ t (take m rest)) → Longest s rest n → Longest t rest n

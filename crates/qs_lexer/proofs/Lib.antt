@@ -1,6 +1,5 @@
 pub mod Conjunctions
 pub mod Fronts
-pub mod EndLaws
 pub mod PieceClasses
 pub mod ScanWhiteSpace
 pub mod ScanTokens

@@ -2,7 +2,7 @@
 use Rattle.std.proofs.Common.{◌≡◌, ℕ, ◌+◌, ◌-◌, ◌<◌, ◌≤◌, zero, suc, Bool, true, false, cond, ◌||◌, List, [], ◌∷◌, ◌++◌, Result, Ok, Err, length, drop, refl, ap, sym, ◌∙◌, arith, ◌==◌}
 use Rattle.std.specs.List.{list_any}
 use Rattle.std.proofs.lemmas.List.{drop-drop, length-drop}
-use Rattle.qs_lexer.specs.Literals.{byte_values, character_of_elements, character_with, element_length, elements_behind, escape_length, first_element, is_bad, is_wide, text_with}
+use Rattle.qs_lexer.specs.Literals.{byte_values, character_of_elements, character_with, element_length, elements_behind, escape_length, first_element, is_bad, is_wide}
 use Rattle.qs_lexer.specs.declared.literals.Element.{Element}
 use Rattle.qs_lexer.specs.declared.literals.Element.TheVariants as item
 use Rattle.qs_lexer.specs.declared.fault.FaultKind.{FaultKind}
@@ -67,9 +67,6 @@ or_or : (x y z : Bool) → (x || (y || z)) ≡ ((x || y) || z)
 or_or true y z = refl
 or_or false y z = refl
 
-pub text_starts : (list : List Element) → text_after false list ≡ text_with list
-text_starts list = refl
-
 good_first : (wide : Bool) (first : Element) (others : List Element) → is_bad first ≡ false → text_after wide (first ∷ others) ≡ text_after (wide || is_wide first) others
 good_first wide first others h = rw (h, or_or wide (is_wide first) (list_any is_wide others)) refl
 
@@ -105,6 +102,3 @@ values_first item.Bad others = refl
 pub values_go_on : (body rest : List ℕ) (at n : ℕ) → at < length body → rest ≡ drop at body → n ≡ element_length rest
     → byte_values (elements_behind 0 (drop at body)) ≡ byte_values (first_element rest ∷ []) ++ byte_values (elements_behind 0 (drop (at + n) body))
 values_go_on body rest at n h r e = ap byte_values (next_elements body rest at n h r e) ∙ values_first (first_element rest) (elements_behind 0 (drop (at + n) body))
-
-pub values_end : (body : List ℕ) (at : ℕ) → length body ≤ at → byte_values (elements_behind 0 (drop at body)) ≡ []
-values_end body at h = ap (λ bs. byte_values (elements_behind 0 bs)) (drop_past at body h)

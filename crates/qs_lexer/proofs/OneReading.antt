@@ -170,3 +170,5 @@ that_fault text fault kind at f (inr (other, place, e, g)) =
 pub only_fault : (text : List ℕ) (result : Result (Vec Token Global) LexFault) → Says text result → (kind : FaultKind) (at : ℕ) → LexFaultAt text kind at → GivesFault kind at result
 only_fault text (Ok vec) says kind at f = not_both text vec.items kind at says f
 only_fault text (Err fault) says kind at f = that_fault text fault kind at f (said text fault says)
+
+pub ruleset only_answer = (only_tokens, only_fault)

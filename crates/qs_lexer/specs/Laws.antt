@@ -3,6 +3,8 @@ use Rattle.std.specs.Prelude.{◌≡◌, ℕ, ◌-◌, ◌<◌, ◌≤◌, true,
 use Rattle.qs_base.specs.Names.{is_name}
 use Rattle.qs_lexer.specs.Literals.{text_of}
 use Rattle.qs_lexer.specs.Pieces.{Longest, is_quoted, is_token}
+use Rattle.qs_lexer.specs.Tokens.{LexFaultAt, Tokens}
+use Rattle.qs_lexer.specs.declared.fault.FaultKind.{FaultKind}
 use Rattle.qs_syntax.specs.declared.tokens.Token.{Token}
 use Rattle.qs_syntax.specs.declared.tokens.TokenKind.TheVariants as kinds
 
@@ -27,3 +29,23 @@ pub record IsTokenOf (text : List ℕ) (token : Token) : Type 0 where
 abbrev pub InOrder : ℕ → List Token → ℕ → Type 0
 InOrder from [] to = from ≤ to
 InOrder from (token ∷ tokens) to = (from ≤ token.start) × InOrder token.end tokens to
+
+-- the tokens stand in order in the text
+abbrev pub IsInOrder : List ℕ → List Token → Type 0
+IsInOrder text tokens = InOrder 0 tokens (length text)
+
+-- the text consists of one list of tokens at most
+abbrev pub HasOneList : List ℕ → Type 0
+HasOneList text = (tokens others : List Token) → Tokens text tokens → Tokens text others → tokens ≡ others
+
+-- the faults of the text are of one kind
+abbrev pub HasOneKind : List ℕ → Type 0
+HasOneKind text = (kind other : FaultKind) (at place : ℕ) → LexFaultAt text kind at → LexFaultAt text other place → kind ≡ other
+
+-- the faults of the text are at one place
+abbrev pub HasOnePlace : List ℕ → Type 0
+HasOnePlace text = (kind other : FaultKind) (at place : ℕ) → LexFaultAt text kind at → LexFaultAt text other place → at ≡ place
+
+-- a text that consists of tokens has no fault
+abbrev pub NotBoth : List ℕ → Type 0
+NotBoth text = (tokens : List Token) (kind : FaultKind) (at : ℕ) → Tokens text tokens → LexFaultAt text kind at → ⊥

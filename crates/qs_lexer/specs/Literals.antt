@@ -137,6 +137,10 @@ byte_values (item.Byte value ∷ others) = value ∷ byte_values others
 byte_values (item.Wide ∷ others) = byte_values others
 byte_values (item.Bad ∷ others) = byte_values others
 
+-- those of the elements of these bytes
+abbrev pub element_values : List ℕ → List ℕ
+element_values body = byte_values (elements_behind 0 body)
+
 -- those of a text literal, its quotes included in the literal: each element's value, in order
 abbrev pub elements : List ℕ → List ℕ
 elements literal = byte_values (elements_of literal)

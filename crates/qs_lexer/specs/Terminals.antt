@@ -1,7 +1,9 @@
 -- The tokens of a text as the grammar sees them.
-use Rattle.std.specs.Prelude.{ℕ, ◌+◌, false, List, [], ◌∷◌}
+use Rattle.std.specs.Prelude.{◌≡◌, ℕ, ◌+◌, true, false, List, [], ◌∷◌, length}
+use Rattle.std.specs.List.{list_all}
 use Rattle.qs_lexer.specs.Laws.{spelling}
 use Rattle.qs_lexer.specs.Literals.{elements}
+use Rattle.qs_syntax.specs.Units.{is_byte, is_well_formed}
 use Rattle.qs_syntax.specs.declared.terminal.Terminal.{Terminal}
 use Rattle.qs_syntax.specs.declared.terminal.Terminal.TheVariants.{Name, Keyword, Constant, Text, Punctuator}
 use Rattle.qs_syntax.specs.declared.tokens.Token.{Token}
@@ -24,3 +26,11 @@ terminal text at token = terminal_of at (spelling text token) token.kind
 abbrev pub terminals : List ℕ → ℕ → List Token → List Terminal
 terminals text at [] = []
 terminals text at (token ∷ tokens) = terminal text at token ∷ terminals text (at + 1) tokens
+
+-- there are as many terminals as tokens
+abbrev pub AreAsMany : List ℕ → Type 0
+AreAsMany text = (at : ℕ) (tokens : List Token) → length (terminals text at tokens) ≡ length tokens
+
+-- the terminals of a text of bytes are well-formed
+abbrev pub AreWellFormed : List ℕ → List Token → Type 0
+AreWellFormed text tokens = list_all is_byte text ≡ true → list_all is_well_formed (terminals text 0 tokens) ≡ true

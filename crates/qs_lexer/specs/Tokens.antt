@@ -28,3 +28,11 @@ pub record LexFaultAt (text : List ℕ) (kind : FaultKind) (at : ℕ) : Type 0 w
   pub fresh : Bool
   pub reads : ReadsTo text tokens fresh at
   pub stands : Next fresh (drop at text) (pieces.Fault kind)
+
+-- it holds of each list of tokens that the text consists of
+abbrev pub EachReading : List ℕ → (List Token → Type 0) → Type 0
+EachReading text holds = (tokens : List Token) → Tokens text tokens → holds tokens
+
+-- it holds of each fault of the text
+abbrev pub EachFault : List ℕ → (FaultKind → ℕ → Type 0) → Type 0
+EachFault text holds = (kind : FaultKind) (at : ℕ) → LexFaultAt text kind at → holds kind at

@@ -2,7 +2,8 @@
 ghost use Rattle.std.specs.Prelude.{◌≡◌};
 ghost use Rattle.std.specs.List.{prefix_len};
 ghost use Rattle.qs_base.specs.Bytes.{is_word_byte};
-ghost use Rattle.qs_lexer.specs.Bytes.{blanks_then_digit, digit_after_blanks, is_blank, is_in_line, is_number_byte, is_space, starts, starts_with};
+ghost use Rattle.qs_lexer.specs.Bytes.{blanks_then_digit, digit_after_blanks, is_blank, is_in_line};
+ghost use Rattle.qs_lexer.specs.Bytes.{is_number_byte, is_space, starts, starts_with};
 
 use qs_base::{is_between, is_digit, is_word_byte};
 

@@ -14,8 +14,8 @@ pub enum FaultKind {
     BadByte,
     /// A comment that is not closed.
     OpenComment,
-    /// A number that is none, a literal with an escape that is none (C11 6.4.4.4), or a character that
-    /// has not one element.
+    /// A number that is none, a literal with an escape that is none (C11 6.4.4.4), or a character
+    /// that has not one element.
     BadLiteral,
     /// A literal that is good, but a value in it does not fit its type.
     WideLiteral,
@@ -37,12 +37,12 @@ pub enum LexFault {
     /// The comment that begins here is not closed (C11 6.4.9).
     #[error("open comment at {0}")]
     OpenComment(u32),
-    /// The literal that begins here is a number that is none (C11 6.4.4.1), has an escape that is none
-    /// (C11 6.4.4.4), or is a character with no element or several.
+    /// The literal that begins here is a number that is none (C11 6.4.4.1), has an escape that is
+    /// none (C11 6.4.4.4), or is a character with no element or several.
     #[error("bad literal at {0}")]
     BadLiteral(u32),
-    /// The literal that begins here is good, but a number of it fits neither `int` nor `unsigned`, or the
-    /// value of an escape is over 255.
+    /// The literal that begins here is good, but a number of it fits neither `int` nor `unsigned`,
+    /// or the value of an escape is over 255.
     #[error("wide literal at {0}")]
     WideLiteral(u32),
     /// This `#` is first on its line and begins no line marker.

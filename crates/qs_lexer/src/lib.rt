@@ -16,5 +16,5 @@ mod words;
 pub use fault::{FaultKind, LexFault};
 pub use laws::{each_terminal, each_token, one_reading};
 pub use literals::text_bytes;
-pub use reading::tokens;
+pub use reading::{SOURCE_LIMIT, tokens};
 pub use terminal_list::terminals;

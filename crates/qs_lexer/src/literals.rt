@@ -1,6 +1,12 @@
 // Characters and texts.
-ghost use Rattle.std.specs.Prelude.{◌≡◌, ◌<◌, ◌≤◌, ◌+◌, ◌^◌, ◌||◌, [], ◌∷◌, ◌++◌, OnOk, length, take};
-ghost use Rattle.qs_lexer.specs.Literals.{byte_values, character_of, character_of_elements, character_with, element_length, elements, elements_behind, first_element, escape, escape_length, hexadecimal_count, hexadecimal_escape, inside, is_bad, is_wide, octal_count, octal_escape, simple, simple_escape, text_of, text_with, valued};
+ghost use Rattle.std.specs.Prelude.{◌≡◌, ◌≤◌, ◌+◌, ◌||◌, [], ◌∷◌, ◌++◌, OnOk, length};
+ghost use Rattle.qs_lexer.specs.Literals.{byte_values, character_of, character_of_elements};
+ghost use Rattle.qs_lexer.specs.Literals.{character_with, element_length, elements};
+ghost use Rattle.qs_lexer.specs.Literals.{elements_behind, first_element, escape, escape_length};
+ghost use Rattle.qs_lexer.specs.Literals.{hexadecimal_count, hexadecimal_escape, inside, is_bad};
+ghost use Rattle.qs_lexer.specs.Literals.{is_wide, octal_count, octal_escape, simple};
+ghost use Rattle.qs_lexer.specs.Literals.{simple_escape, text_of, text_with, valued};
+ghost use Rattle.qs_lexer.specs.Literals.{element_values};
 ghost use Rattle.qs_lexer.specs.Numbers.{value_of};
 
 use crate::bytes::starts_with;
@@ -281,7 +287,7 @@ fn put_element(element: Element, into: &mut Vec<u8>) -> Result<(), NoMemory>
 }
 
 fn put_elements(body: &[u8], into: &mut Vec<u8>) -> Result<(), NoMemory>
-    ensures { OnOk result (into.new.items ≡ into.old.items ++ byte_values (elements_behind 0 body.now)) }
+    ensures { OnOk result (into.new.items ≡ into.old.items ++ element_values body.now) }
 {
     let mut at = 0;
     while at < body.len() {
@@ -292,8 +298,9 @@ fn put_elements(body: &[u8], into: &mut Vec<u8>) -> Result<(), NoMemory>
     Ok(())
 }
 
-/// Puts the bytes that a text literal stands for behind those of `into`: the values of its elements, its
-/// escapes resolved (C11 6.4.5). The literal is the slice of a `Text` token, with its quotes.
+/// Puts the bytes that a text literal stands for behind those of `into`: the values of its
+/// elements, its escapes resolved (C11 6.4.5). The literal is the slice of a `Text` token, with its
+/// quotes.
 pub fn text_bytes(literal: &[u8], into: &mut Vec<u8>) -> Result<(), NoMemory>
     ensures appends { OnOk result (into.new.items ≡ into.old.items ++ elements literal.now) }
 {

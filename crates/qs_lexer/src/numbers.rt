@@ -1,6 +1,7 @@
 // Integer literals.
 ghost use Rattle.std.specs.Prelude.{◌≡◌, ◌<◌, ◌≤◌, ◌^◌, SomeIff, length};
-ghost use Rattle.qs_lexer.specs.Numbers.{are_digits, digit_value, is_hexadecimal, number_of, number_without_suffix, typed, value_of};
+ghost use Rattle.qs_lexer.specs.Numbers.{are_digits, digit_value, is_hexadecimal, number_of};
+ghost use Rattle.qs_lexer.specs.Numbers.{number_without_suffix, typed, value_of};
 
 use crate::bytes::starts_with;
 use crate::fault::FaultKind;

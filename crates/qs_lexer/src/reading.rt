@@ -1,15 +1,16 @@
 // The tokens of a whole text.
-ghost use Rattle.std.specs.Prelude.{◌≡◌, ◌<◌, ◌≤◌, ◌^◌, ℕ, List, length};
+ghost use Rattle.std.specs.Prelude.{◌<◌, ◌≤◌, ◌^◌, length};
 ghost use Rattle.qs_lexer.specs.Results.{GivesFault, GivesTokens, Says};
-ghost use Rattle.qs_lexer.specs.Tokens.{LexFaultAt, Tokens};
-ghost use Rattle.qs_lexer.specs.declared.fault.FaultKind.{FaultKind};
-ghost use Rattle.qs_syntax.specs.declared.tokens.Token.{Token};
+ghost use Rattle.qs_lexer.specs.Tokens.{EachFault, EachReading};
 
 use crate::fault::LexFault;
 use crate::pieces::Piece;
 use crate::scan::next;
 use qs_syntax::Token;
 use std::alloc::Global;
+
+/// The length of the longest text, in bytes.
+pub const SOURCE_LIMIT: usize = 1_048_576;
 
 fn read(alloc: Global, text: &[u8]) -> Result<Vec<Token>, LexFault>
     requires { length text.now < 2 ^ 31 }
@@ -41,14 +42,14 @@ fn read(alloc: Global, text: &[u8]) -> Result<Vec<Token>, LexFault>
     Ok(list)
 }
 
-/// The tokens of a text (C11 6.4), or its first fault. White space and comments stand between tokens, and
-/// each token is the longest that can stand at its place. The text has at most 1,048,576 bytes.
-#[tactic(auto, using(crate::proofs::OneReading::only_tokens, crate::proofs::OneReading::only_fault))]
+/// The tokens of a text (C11 6.4), or its first fault. White space and comments stand between
+/// tokens, and each token is the longest that can stand at its place.
+#[tactic(auto, using(crate::proofs::OneReading::only_answer))]
 pub fn tokens(alloc: Global, text: &[u8]) -> Result<Vec<Token>, LexFault>
-    requires limit { length text.now ≤ 1048576 }
+    requires limit { length text.now ≤ SOURCE_LIMIT }
     ensures says { Says text.now result }
-    ensures tokens_only { (tokens : List Token) → Tokens text.now tokens → GivesTokens tokens result }
-    ensures fault_only { (kind : FaultKind) (at : ℕ) → LexFaultAt text.now kind at → GivesFault kind at result }
+    ensures tokens_only { EachReading text.now (λ tokens. GivesTokens tokens result) }
+    ensures fault_only { EachFault text.now (λ kind at. GivesFault kind at result) }
 {
     read(alloc, text)
 }

@@ -26,8 +26,16 @@ fn terminal_of(alloc: Global, at: u32, bytes: &[u8], kind: TokenKind) -> Result<
     match kind {
         TokenKind::Name => Ok(Terminal::Name(at, Name::new(alloc, bytes)?)),
         TokenKind::Keyword(keyword) => Ok(Terminal::Keyword(at, keyword)),
-        TokenKind::Number(value, unsigned) => Ok(Terminal::Constant(at, value, unsigned)),
-        TokenKind::Character(value) => Ok(Terminal::Constant(at, value as u32, false)),
+        TokenKind::Number(value, is_unsigned) => Ok(Terminal::Constant {
+            at,
+            value,
+            is_unsigned,
+        }),
+        TokenKind::Character(value) => Ok(Terminal::Constant {
+            at,
+            value: value as u32,
+            is_unsigned: false,
+        }),
         TokenKind::Text => Ok(Terminal::Text(at, text_of(alloc, bytes)?)),
         TokenKind::Punctuator(punctuator) => Ok(Terminal::Punctuator(at, punctuator)),
     }
@@ -44,8 +52,8 @@ fn terminal(alloc: Global, text: &[u8], at: usize, token: Token) -> Result<Termi
     terminal_of(alloc, at as u32, bytes, token.kind)
 }
 
-/// The tokens of a text as the grammar sees them, in order, with their numbers from 0. `tokens` are those
-/// that the lexer gives for the text.
+/// The tokens of a text as the grammar sees them, in order, with their numbers from 0. `tokens` are
+/// those that the lexer gives for the text.
 pub fn terminals(alloc: Global, text: &[u8], tokens: &[Token]) -> Result<Vec<Terminal>, NoMemory>
     requires tokens_of { Tokens text.now tokens.now }
     ensures terminals { IfOk result (λ list. list.items ≡ terminals text.now 0 tokens.now) }

@@ -223,7 +223,14 @@ fn primary(context: Context, tokens: &[Terminal]) -> Result<(Expr, u32, &[Termin
         [Terminal::Name(at, name), rest @ ..] => {
             after_name(context, *at, name.copy(context.alloc)?, rest)
         }
-        [Terminal::Constant(at, value, is_unsigned), rest @ ..] => {
+        [
+            Terminal::Constant {
+                at,
+                value,
+                is_unsigned,
+            },
+            rest @ ..,
+        ] => {
             Ok((nodes::constant(*at, *value, *is_unsigned), 1, rest))
         }
         [Terminal::Text(at, first), rest @ ..] => {

@@ -23,8 +23,10 @@ pub fn is_punctuator(punctuator: Punctuator, token: &Terminal) -> bool
 {
     match token {
         Terminal::Punctuator(_, other) => *other == punctuator,
-        Terminal::Name(..) | Terminal::Keyword(..) | Terminal::Constant(..) | Terminal::Text(..) =>
-            false,
+        Terminal::Name(..)
+        | Terminal::Keyword(..)
+        | Terminal::Constant { .. }
+        | Terminal::Text(..) => false,
     }
 }
 
@@ -36,7 +38,7 @@ pub fn is_keyword(keyword: Keyword, token: &Terminal) -> bool
         Terminal::Keyword(_, other) => *other == keyword,
         Terminal::Name(..)
         | Terminal::Punctuator(..)
-        | Terminal::Constant(..)
+        | Terminal::Constant { .. }
         | Terminal::Text(..) => false,
     }
 }
@@ -113,7 +115,7 @@ pub fn place(tokens: &[Terminal]) -> u32
         [
             Terminal::Name(at, _)
             | Terminal::Keyword(at, _)
-            | Terminal::Constant(at, _, _)
+            | Terminal::Constant { at, .. }
             | Terminal::Text(at, _)
             | Terminal::Punctuator(at, _),
             ..

@@ -3,6 +3,7 @@
 use Rattle.std.specs.Prelude.{ℕ, zero, suc, ◌+◌, Bool, true, false, ◌&&◌, List, [], ◌∷◌, ◌++◌, nat_le, ◌==◌, if◌then◌else◌, flat_map, Option, Some, None}
 use Rattle.qs_syntax.specs.declared.terminal.Terminal.{Terminal}
 use Rattle.qs_syntax.specs.declared.terminal.Terminal.TheVariants.{Name, Keyword, Constant, Text, Punctuator}
+use Rattle.qs_base.specs.declared.keyword.Keyword.{Keyword as Word}
 use Rattle.qs_base.specs.declared.keyword.Keyword.TheVariants as keywords
 use Rattle.qs_syntax.specs.declared.punctuator.Punctuator.TheVariants as punctuators
 use Rattle.qs_syntax.specs.declared.types.Base.{Base}
@@ -180,6 +181,10 @@ printed_parameters (p ∷ ps) = with_commas printed_parameter (p ∷ ps)
 
 -- ---- statements (6.8)
 
+-- a keyword that is a statement of its own
+abbrev pub printed_jump : Word → List Terminal
+printed_jump keyword = Keyword 0 keyword ∷ Punctuator 0 punctuators.Semicolon ∷ []
+
 abbrev pub printed_optional : Option ExprTree → List Terminal
 printed_optional None = []
 printed_optional (Some e) = printed_expr e
@@ -202,8 +207,8 @@ abbrev mutual
   printed_stmt (for_loop node start e u s) =
       Keyword 0 keywords.For
       ∷ (in_parentheses (printed_start start ++ (printed_optional e ++ Punctuator 0 punctuators.Semicolon ∷ printed_optional u)) ++ printed_stmt s)
-  printed_stmt (break node) = Keyword 0 keywords.Break ∷ Punctuator 0 punctuators.Semicolon ∷ []
-  printed_stmt (continue node) = Keyword 0 keywords.Continue ∷ Punctuator 0 punctuators.Semicolon ∷ []
+  printed_stmt (break node) = printed_jump keywords.Break
+  printed_stmt (continue node) = printed_jump keywords.Continue
   printed_stmt (return node e) = Keyword 0 keywords.Return ∷ (printed_optional e ++ Punctuator 0 punctuators.Semicolon ∷ [])
 
   pub printed_stmts : Stmts → List Terminal

@@ -1,8 +1,16 @@
 // Writes declarations (C11 6.7).
-ghost use Rattle.std.specs.Prelude.{◌≡◌, OnOk, flat_map, map, option_map};
-ghost use Rattle.qs_print.specs.Printed.{const_if, is_void_alone, open_brackets, printed_declaration, printed_declarator, printed_initialiser, printed_length, printed_lengths, printed_members, printed_name, printed_parameter, printed_parameters, printed_setting, printed_variable, with_commas};
-ghost use Rattle.qs_print.specs.Words.{Writes};
-ghost use Rattle.qs_syntax.specs.TreeOf.{declaration_tree, declarator_tree, expr_tree, initialiser_tree, lengths_tree, members_tree, parameter_tree, variable_tree};
+ghost use Rattle.std.specs.Prelude.{◌≡◌, OnOk};
+ghost use Rattle.qs_print.specs.Printed.{const_if, is_void_alone, open_brackets};
+ghost use Rattle.qs_print.specs.Printed.{printed_declaration, printed_declarator};
+ghost use Rattle.qs_print.specs.Printed.{printed_initialiser, printed_length, printed_lengths};
+ghost use Rattle.qs_print.specs.Printed.{printed_members, printed_name, printed_parameter};
+ghost use Rattle.qs_print.specs.Printed.{printed_setting, printed_variable};
+ghost use Rattle.qs_print.specs.Words.{Puts};
+ghost use Rattle.qs_syntax.specs.TreeOf.{declaration_tree, declarator_tree, expr_tree};
+ghost use Rattle.qs_syntax.specs.TreeOf.{initialiser_tree, lengths_tree, members_tree};
+ghost use Rattle.qs_syntax.specs.TreeOf.{parameter_tree, variable_tree, setting_tree};
+ghost use Rattle.qs_print.specs.Rows.{declarator_row, initialiser_row, length_row, parameter_row};
+ghost use Rattle.qs_print.specs.Rows.{row_or_void, variable_row};
 
 use crate::expressions::put_part;
 use crate::levels::{ASSIGNMENT, CONDITIONAL};
@@ -15,7 +23,7 @@ use qs_syntax::{
 };
 
 fn put_length(out: &mut Vec<u8>, e: &Expr) -> Result<(), NoMemory>
-    ensures { OnOk result (Writes out.old.items (printed_length (expr_tree e.now)) out.new.items) }
+    ensures { OnOk result (Puts out.old (printed_length (expr_tree e.now)) out.new) }
 {
     put_punctuator(out, Punctuator::OpenBracket)?;
     put_part(out, CONDITIONAL, e)?;
@@ -23,7 +31,7 @@ fn put_length(out: &mut Vec<u8>, e: &Expr) -> Result<(), NoMemory>
 }
 
 fn put_given(out: &mut Vec<u8>, lengths: &[Expr]) -> Result<(), NoMemory>
-    ensures { OnOk result (Writes out.old.items (flat_map printed_length (map expr_tree lengths.now)) out.new.items) }
+    ensures { OnOk result (Puts out.old (length_row lengths.now) out.new) }
 {
     for e in lengths {
         put_length(out, e)?;
@@ -32,7 +40,7 @@ fn put_given(out: &mut Vec<u8>, lengths: &[Expr]) -> Result<(), NoMemory>
 }
 
 fn put_open_brackets(out: &mut Vec<u8>, is_open: bool) -> Result<(), NoMemory>
-    ensures { OnOk result (Writes out.old.items (open_brackets is_open) out.new.items) }
+    ensures { OnOk result (Puts out.old (open_brackets is_open) out.new) }
 {
     if !is_open {
         return Ok(());
@@ -42,14 +50,14 @@ fn put_open_brackets(out: &mut Vec<u8>, is_open: bool) -> Result<(), NoMemory>
 }
 
 fn put_lengths(out: &mut Vec<u8>, lengths: &Lengths) -> Result<(), NoMemory>
-    ensures { OnOk result (Writes out.old.items (printed_lengths (lengths_tree lengths.now)) out.new.items) }
+    ensures { OnOk result (Puts out.old (printed_lengths (lengths_tree lengths.now)) out.new) }
 {
     put_open_brackets(out, lengths.is_open)?;
     put_given(out, &lengths.given)
 }
 
 fn put_declarator(out: &mut Vec<u8>, d: &Declarator) -> Result<(), NoMemory>
-    ensures { OnOk result (Writes out.old.items (printed_declarator (declarator_tree d.now)) out.new.items) }
+    ensures { OnOk result (Puts out.old (printed_declarator (declarator_tree d.now)) out.new) }
 {
     put_stars(out, d.stars)?;
     put_name(out, &d.name)?;
@@ -58,7 +66,7 @@ fn put_declarator(out: &mut Vec<u8>, d: &Declarator) -> Result<(), NoMemory>
 
 #[cycle(put_initialiser)]
 fn put_initialiser(out: &mut Vec<u8>, i: &Initialiser) -> Result<(), NoMemory>
-    ensures { OnOk result (Writes out.old.items (printed_initialiser (initialiser_tree i.now)) out.new.items) }
+    ensures { OnOk result (Puts out.old (printed_initialiser (initialiser_tree i.now)) out.new) }
 {
     match i {
         Initialiser::Value(e) => put_part(out, ASSIGNMENT, e),
@@ -72,7 +80,7 @@ fn put_initialiser(out: &mut Vec<u8>, i: &Initialiser) -> Result<(), NoMemory>
 
 #[cycle(put_initialiser)]
 fn put_initialisers(out: &mut Vec<u8>, items: &[Initialiser]) -> Result<(), NoMemory>
-    ensures { OnOk result (Writes out.old.items (with_commas printed_initialiser (map initialiser_tree items.now)) out.new.items) }
+    ensures { OnOk result (Puts out.old (initialiser_row items.now) out.new) }
 {
     let mut is_first = true;
     for i in items {
@@ -84,7 +92,7 @@ fn put_initialisers(out: &mut Vec<u8>, items: &[Initialiser]) -> Result<(), NoMe
 }
 
 fn put_setting(out: &mut Vec<u8>, setting: &Option<Initialiser>) -> Result<(), NoMemory>
-    ensures { OnOk result (Writes out.old.items (printed_setting (option_map initialiser_tree setting.now)) out.new.items) }
+    ensures { OnOk result (Puts out.old (printed_setting (setting_tree setting.now)) out.new) }
 {
     match setting {
         None => Ok(()),
@@ -96,14 +104,14 @@ fn put_setting(out: &mut Vec<u8>, setting: &Option<Initialiser>) -> Result<(), N
 }
 
 fn put_variable(out: &mut Vec<u8>, v: &Variable) -> Result<(), NoMemory>
-    ensures { OnOk result (Writes out.old.items (printed_variable (variable_tree v.now)) out.new.items) }
+    ensures { OnOk result (Puts out.old (printed_variable (variable_tree v.now)) out.new) }
 {
     put_declarator(out, &v.declarator)?;
     put_setting(out, &v.initialiser)
 }
 
 fn put_variables(out: &mut Vec<u8>, variables: &[Variable]) -> Result<(), NoMemory>
-    ensures { OnOk result (Writes out.old.items (with_commas printed_variable (map variable_tree variables.now)) out.new.items) }
+    ensures { OnOk result (Puts out.old (variable_row variables.now) out.new) }
 {
     let mut is_first = true;
     for v in variables {
@@ -116,7 +124,7 @@ fn put_variables(out: &mut Vec<u8>, variables: &[Variable]) -> Result<(), NoMemo
 
 /// Writes variables that are declared together.
 pub fn put_declaration(out: &mut Vec<u8>, d: &Declaration) -> Result<(), NoMemory>
-    ensures { OnOk result (Writes out.old.items (printed_declaration (declaration_tree d.now)) out.new.items) }
+    ensures { OnOk result (Puts out.old (printed_declaration (declaration_tree d.now)) out.new) }
 {
     put_base(out, &d.base)?;
     put_variables(out, &d.variables)?;
@@ -124,7 +132,7 @@ pub fn put_declaration(out: &mut Vec<u8>, d: &Declaration) -> Result<(), NoMemor
 }
 
 fn put_declarators(out: &mut Vec<u8>, declarators: &[Declarator]) -> Result<(), NoMemory>
-    ensures { OnOk result (Writes out.old.items (with_commas printed_declarator (map declarator_tree declarators.now)) out.new.items) }
+    ensures { OnOk result (Puts out.old (declarator_row declarators.now) out.new) }
 {
     let mut is_first = true;
     for d in declarators {
@@ -137,7 +145,7 @@ fn put_declarators(out: &mut Vec<u8>, declarators: &[Declarator]) -> Result<(), 
 
 /// Writes members that are declared together.
 pub fn put_members(out: &mut Vec<u8>, m: &Members) -> Result<(), NoMemory>
-    ensures { OnOk result (Writes out.old.items (printed_members (members_tree m.now)) out.new.items) }
+    ensures { OnOk result (Puts out.old (printed_members (members_tree m.now)) out.new) }
 {
     put_base(out, &m.base)?;
     put_declarators(out, &m.declarators)?;
@@ -155,7 +163,7 @@ fn is_void_alone(p: &Parameter) -> bool
 }
 
 fn put_const_if(out: &mut Vec<u8>, is_const: bool) -> Result<(), NoMemory>
-    ensures { OnOk result (Writes out.old.items (const_if is_const) out.new.items) }
+    ensures { OnOk result (Puts out.old (const_if is_const) out.new) }
 {
     if is_const {
         put_keyword(out, Keyword::Const)
@@ -165,7 +173,7 @@ fn put_const_if(out: &mut Vec<u8>, is_const: bool) -> Result<(), NoMemory>
 }
 
 fn put_optional_name(out: &mut Vec<u8>, name: &Option<Name>) -> Result<(), NoMemory>
-    ensures { OnOk result (Writes out.old.items (printed_name name.now) out.new.items) }
+    ensures { OnOk result (Puts out.old (printed_name name.now) out.new) }
 {
     match name {
         None => Ok(()),
@@ -174,7 +182,7 @@ fn put_optional_name(out: &mut Vec<u8>, name: &Option<Name>) -> Result<(), NoMem
 }
 
 fn put_parameter(out: &mut Vec<u8>, p: &Parameter) -> Result<(), NoMemory>
-    ensures { OnOk result (Writes out.old.items (printed_parameter (parameter_tree p.now)) out.new.items) }
+    ensures { OnOk result (Puts out.old (printed_parameter (parameter_tree p.now)) out.new) }
 {
     put_const_if(out, is_void_alone(p))?;
     put_base(out, &p.type_name.base)?;
@@ -184,7 +192,7 @@ fn put_parameter(out: &mut Vec<u8>, p: &Parameter) -> Result<(), NoMemory>
 }
 
 fn put_some_parameters(out: &mut Vec<u8>, parameters: &[Parameter]) -> Result<(), NoMemory>
-    ensures { OnOk result (Writes out.old.items (with_commas printed_parameter (map parameter_tree parameters.now)) out.new.items) }
+    ensures { OnOk result (Puts out.old (parameter_row parameters.now) out.new) }
 {
     let mut is_first = true;
     for p in parameters {
@@ -197,7 +205,7 @@ fn put_some_parameters(out: &mut Vec<u8>, parameters: &[Parameter]) -> Result<()
 
 /// Writes parameters, `void` where there are none.
 pub fn put_parameters(out: &mut Vec<u8>, parameters: &[Parameter]) -> Result<(), NoMemory>
-    ensures { OnOk result (Writes out.old.items (printed_parameters (map parameter_tree parameters.now)) out.new.items) }
+    ensures { OnOk result (Puts out.old (row_or_void parameters.now) out.new) }
 {
     if parameters.is_empty() {
         return put_keyword(out, Keyword::Void);

@@ -1,9 +1,11 @@
 // Writes expressions (C11 6.5).
-ghost use Rattle.std.specs.Prelude.{OnOk, map};
-ghost use Rattle.qs_print.specs.Levels.{assignment_level, step_level};
-ghost use Rattle.qs_print.specs.Printed.{in_parentheses, printed_expr, printed_part, printed_shape, printed_type_name, with_commas, with_step};
-ghost use Rattle.qs_print.specs.Words.{Writes};
+ghost use Rattle.std.specs.Prelude.{OnOk};
+ghost use Rattle.qs_print.specs.Printed.{in_parentheses, printed_expr, printed_part, printed_shape};
+ghost use Rattle.qs_print.specs.Printed.{printed_type_name};
+ghost use Rattle.qs_print.specs.Words.{Puts};
 ghost use Rattle.qs_syntax.specs.TreeOf.{expr_tree, shape_tree};
+ghost use Rattle.qs_print.specs.Rows.{argument_row};
+ghost use Rattle.qs_syntax.specs.Trees.{step};
 
 use crate::levels::{ASSIGNMENT, CAST, CONDITIONAL, OR, POSTFIX, UNARY, level};
 use crate::literals::{put_constant, put_text};
@@ -14,7 +16,7 @@ use qs_syntax::{Expr, Keyword, Punctuator, Shape, StepOperator, TypeName};
 
 /// Writes the name of a type in parentheses.
 fn put_type_in_parentheses(out: &mut Vec<u8>, name: &TypeName) -> Result<(), NoMemory>
-    ensures { OnOk result (Writes out.old.items (in_parentheses (printed_type_name name.now)) out.new.items) }
+    ensures { OnOk result (Puts out.old (in_parentheses (printed_type_name name.now)) out.new) }
 {
     put_punctuator(out, Punctuator::OpenParenthesis)?;
     put_type_name(out, name)?;
@@ -24,7 +26,7 @@ fn put_type_in_parentheses(out: &mut Vec<u8>, name: &TypeName) -> Result<(), NoM
 /// Writes an expression in parentheses.
 #[cycle(put_expr)]
 pub fn put_in_parentheses(out: &mut Vec<u8>, e: &Expr) -> Result<(), NoMemory>
-    ensures { OnOk result (Writes out.old.items (in_parentheses (printed_expr (expr_tree e.now))) out.new.items) }
+    ensures { OnOk result (Puts out.old (in_parentheses (printed_expr (expr_tree e.now))) out.new) }
 {
     put_punctuator(out, Punctuator::OpenParenthesis)?;
     put_expr(out, e)?;
@@ -34,7 +36,7 @@ pub fn put_in_parentheses(out: &mut Vec<u8>, e: &Expr) -> Result<(), NoMemory>
 /// Writes an expression where nothing may stand that binds more weakly than this level.
 #[cycle(put_expr)]
 pub fn put_part(out: &mut Vec<u8>, most: u32, e: &Expr) -> Result<(), NoMemory>
-    ensures { OnOk result (Writes out.old.items (printed_part most (expr_tree e.now)) out.new.items) }
+    ensures { OnOk result (Puts out.old (printed_part most (expr_tree e.now)) out.new) }
 {
     if level(e) <= most {
         put_expr(out, e)
@@ -46,14 +48,14 @@ pub fn put_part(out: &mut Vec<u8>, most: u32, e: &Expr) -> Result<(), NoMemory>
 /// Writes an expression.
 #[cycle(put_expr)]
 pub fn put_expr(out: &mut Vec<u8>, e: &Expr) -> Result<(), NoMemory>
-    ensures { OnOk result (Writes out.old.items (printed_expr (expr_tree e.now)) out.new.items) }
+    ensures { OnOk result (Puts out.old (printed_expr (expr_tree e.now)) out.new) }
 {
     put_shape(out, &e.shape)
 }
 
 #[cycle(put_expr)]
 fn put_step(out: &mut Vec<u8>, operator: StepOperator, a: &Expr) -> Result<(), NoMemory>
-    ensures { OnOk result (Writes out.old.items (with_step operator (printed_part (step_level operator) (expr_tree a.now))) out.new.items) }
+    ensures { OnOk result (Puts out.old (printed_shape (step operator (expr_tree a.now))) out.new) }
 {
     if operator.stands_before() {
         put_punctuator(out, operator.punctuator())?;
@@ -66,7 +68,7 @@ fn put_step(out: &mut Vec<u8>, operator: StepOperator, a: &Expr) -> Result<(), N
 
 #[cycle(put_expr)]
 fn put_shape(out: &mut Vec<u8>, shape: &Shape) -> Result<(), NoMemory>
-    ensures { OnOk result (Writes out.old.items (printed_shape (shape_tree shape.now)) out.new.items) }
+    ensures { OnOk result (Puts out.old (printed_shape (shape_tree shape.now)) out.new) }
 {
     match shape {
         Shape::Constant(value, is_unsigned) => put_constant(out, *value, *is_unsigned),
@@ -150,7 +152,7 @@ fn put_shape(out: &mut Vec<u8>, shape: &Shape) -> Result<(), NoMemory>
 
 #[cycle(put_expr)]
 fn put_arguments(out: &mut Vec<u8>, arguments: &[Expr]) -> Result<(), NoMemory>
-    ensures { OnOk result (Writes out.old.items (with_commas (printed_part assignment_level) (map expr_tree arguments.now)) out.new.items) }
+    ensures { OnOk result (Puts out.old (argument_row arguments.now) out.new) }
 {
     let mut is_first = true;
     for e in arguments {

@@ -5,8 +5,8 @@ ghost use Rattle.qs_print.specs.Laws.{LexedBack};
 ghost use Rattle.qs_syntax.specs.Units.{is_well_formed};
 ghost use Rattle.qs_syntax.specs.declared.terminal.Terminal.{Terminal};
 
-/// Terminals that are spelled with single blanks between them, and a line feed behind the last, are the tokens
-/// of that text.
+/// Terminals that are spelled with single blanks between them, and a line feed behind the last, are
+/// the tokens of that text.
 pub fn lexed_back()
     ensures lexed_back { (ls : List Terminal) → list_all is_well_formed ls ≡ true → LexedBack ls }
 {}

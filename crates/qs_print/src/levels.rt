@@ -26,7 +26,8 @@ pub const ASSIGNMENT: u32 = 14;
 /// The level of a comma.
 pub const COMMA: u32 = 15;
 
-/// The level of a step: behind its operand that of a postfix expression, and before it that of a unary one.
+/// The level of a step: behind its operand that of a postfix expression, and before it that of a
+/// unary one.
 pub fn step_level(operator: StepOperator) -> u32
     ensures { result ≡ step_level operator }
 {

@@ -1,8 +1,8 @@
 // Writes numbers and texts, each with a blank behind it.
 ghost use Rattle.std.specs.Prelude.{◌≡◌, ◌++◌, [], ◌∷◌, OnOk, flat_map};
-ghost use Rattle.qs_print.specs.Words.{Writes};
-ghost use Rattle.qs_print.specs.Spelling.{octal};
+ghost use Rattle.qs_print.specs.Words.{Puts};
 ghost use Rattle.qs_syntax.specs.declared.terminal.Terminal.TheVariants as terminals;
+ghost use Rattle.qs_print.specs.Spelling.{octal};
 
 use itoa::Buffer;
 use qs_base::NoMemory;
@@ -10,7 +10,7 @@ use qs_syntax::Text;
 
 /// Writes a constant in decimal, with `u` where it is unsigned.
 pub fn put_constant(out: &mut Vec<u8>, value: u32, is_unsigned: bool) -> Result<(), NoMemory>
-    ensures { OnOk result (Writes out.old.items (terminals.Constant 0 value is_unsigned ∷ []) out.new.items) }
+    ensures { OnOk result (Puts out.old (terminals.Constant 0 value is_unsigned ∷ []) out.new) }
 {
     let mut digits = Buffer::new();
     out.extend_from_slice(digits.format(value).as_bytes())?;
@@ -42,7 +42,7 @@ fn put_octals(out: &mut Vec<u8>, bytes: &[u8]) -> Result<(), NoMemory>
 
 /// Writes a text as one literal, each of its bytes in octal.
 pub fn put_text(out: &mut Vec<u8>, text: &Text) -> Result<(), NoMemory>
-    ensures { OnOk result (Writes out.old.items (terminals.Text 0 text.now ∷ []) out.new.items) }
+    ensures { OnOk result (Puts out.old (terminals.Text 0 text.now ∷ []) out.new) }
 {
     out.push(b'"')?;
     put_octals(out, text.bytes())?;

@@ -1,11 +1,11 @@
 // Writes statements (C11 6.8).
-ghost use Rattle.std.specs.Prelude.{[], ◌∷◌, ◌++◌, OnOk, flat_map, map};
-ghost use Rattle.qs_print.specs.Printed.{in_parentheses, printed_else, printed_optional, printed_start, printed_stmt};
-ghost use Rattle.qs_print.specs.Words.{Writes};
-ghost use Rattle.qs_syntax.specs.TreeOf.{else_tree, expr_tree, option_tree, start_tree, stmt_tree, stmts_tree};
+ghost use Rattle.std.specs.Prelude.{OnOk, flat_map, map};
+ghost use Rattle.qs_print.specs.Printed.{printed_else, printed_optional, printed_start};
+ghost use Rattle.qs_print.specs.Printed.{printed_stmt, printed_jump};
+ghost use Rattle.qs_print.specs.Words.{Puts};
+ghost use Rattle.qs_syntax.specs.TreeOf.{else_tree, option_tree, start_tree, stmt_tree, stmts_tree};
 ghost use Rattle.qs_syntax.specs.Trees.{block};
-ghost use Rattle.qs_syntax.specs.declared.terminal.Terminal.TheVariants as terminals;
-ghost use Rattle.qs_syntax.specs.declared.punctuator.Punctuator.TheVariants as punctuators;
+ghost use Rattle.qs_print.specs.Rows.{for_head};
 
 use crate::declarations::put_declaration;
 use crate::expressions::{put_expr, put_in_parentheses};
@@ -14,7 +14,7 @@ use qs_base::NoMemory;
 use qs_syntax::{Expr, Keyword, Punctuator, Start, Stmt};
 
 fn put_optional(out: &mut Vec<u8>, e: &Option<Expr>) -> Result<(), NoMemory>
-    ensures { OnOk result (Writes out.old.items (printed_optional (option_tree e.now)) out.new.items) }
+    ensures { OnOk result (Puts out.old (printed_optional (option_tree e.now)) out.new) }
 {
     match e {
         None => Ok(()),
@@ -23,7 +23,7 @@ fn put_optional(out: &mut Vec<u8>, e: &Option<Expr>) -> Result<(), NoMemory>
 }
 
 fn put_start(out: &mut Vec<u8>, start: &Start) -> Result<(), NoMemory>
-    ensures { OnOk result (Writes out.old.items (printed_start (start_tree start.now)) out.new.items) }
+    ensures { OnOk result (Puts out.old (printed_start (start_tree start.now)) out.new) }
 {
     match start {
         Start::Nothing => put_punctuator(out, Punctuator::Semicolon),
@@ -42,7 +42,7 @@ fn put_for_head(
     e: &Option<Expr>,
     u: &Option<Expr>,
 ) -> Result<(), NoMemory>
-    ensures { OnOk result (Writes out.old.items (in_parentheses (printed_start (start_tree start.now) ++ (printed_optional (option_tree e.now) ++ terminals.Punctuator 0 punctuators.Semicolon ∷ printed_optional (option_tree u.now)))) out.new.items) }
+    ensures { OnOk result (Puts out.old (for_head start.now e.now u.now) out.new) }
 {
     put_punctuator(out, Punctuator::OpenParenthesis)?;
     put_start(out, start)?;
@@ -53,7 +53,7 @@ fn put_for_head(
 }
 
 fn put_jump(out: &mut Vec<u8>, keyword: Keyword) -> Result<(), NoMemory>
-    ensures { OnOk result (Writes out.old.items (terminals.Keyword 0 keyword ∷ terminals.Punctuator 0 punctuators.Semicolon ∷ []) out.new.items) }
+    ensures { OnOk result (Puts out.old (printed_jump keyword) out.new) }
 {
     put_keyword(out, keyword)?;
     put_punctuator(out, Punctuator::Semicolon)
@@ -62,7 +62,7 @@ fn put_jump(out: &mut Vec<u8>, keyword: Keyword) -> Result<(), NoMemory>
 /// Writes a statement or a declaration of a block.
 #[cycle(put_stmt)]
 pub fn put_stmt(out: &mut Vec<u8>, s: &Stmt) -> Result<(), NoMemory>
-    ensures { OnOk result (Writes out.old.items (printed_stmt (stmt_tree s.now)) out.new.items) }
+    ensures { OnOk result (Puts out.old (printed_stmt (stmt_tree s.now)) out.new) }
 {
     match s {
         Stmt::Empty(_) => put_punctuator(out, Punctuator::Semicolon),
@@ -126,7 +126,7 @@ pub fn put_stmt(out: &mut Vec<u8>, s: &Stmt) -> Result<(), NoMemory>
 
 #[cycle(put_stmt)]
 fn put_else(out: &mut Vec<u8>, other: &Option<Box<Stmt>>) -> Result<(), NoMemory>
-    ensures { OnOk result (Writes out.old.items (printed_else (else_tree other.now)) out.new.items) }
+    ensures { OnOk result (Puts out.old (printed_else (else_tree other.now)) out.new) }
 {
     match other {
         None => Ok(()),
@@ -140,7 +140,7 @@ fn put_else(out: &mut Vec<u8>, other: &Option<Box<Stmt>>) -> Result<(), NoMemory
 /// Writes a block with its braces.
 #[cycle(put_stmt)]
 pub fn put_block(out: &mut Vec<u8>, items: &[Stmt]) -> Result<(), NoMemory>
-    ensures { OnOk result (Writes out.old.items (printed_stmt (block (stmts_tree items.now))) out.new.items) }
+    ensures { OnOk result (Puts out.old (printed_stmt (block (stmts_tree items.now))) out.new) }
 {
     put_punctuator(out, Punctuator::OpenBrace)?;
     put_stmts(out, items)?;
@@ -149,7 +149,7 @@ pub fn put_block(out: &mut Vec<u8>, items: &[Stmt]) -> Result<(), NoMemory>
 
 #[cycle(put_stmt)]
 fn put_stmts(out: &mut Vec<u8>, items: &[Stmt]) -> Result<(), NoMemory>
-    ensures { OnOk result (Writes out.old.items (flat_map printed_stmt (map stmt_tree items.now)) out.new.items) }
+    ensures { OnOk result (Puts out.old (flat_map printed_stmt (map stmt_tree items.now)) out.new) }
 {
     for s in items {
         put_stmt(out, s)?;

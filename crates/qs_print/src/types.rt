@@ -1,7 +1,7 @@
 // Writes types (C11 6.7.2, 6.7.6, 6.7.7).
-ghost use Rattle.std.specs.Prelude.{◌≡◌, ◌++◌, OnOk};
+ghost use Rattle.std.specs.Prelude.{OnOk};
 ghost use Rattle.qs_print.specs.Printed.{printed_base, printed_stars, printed_type_name};
-ghost use Rattle.qs_print.specs.Words.{Writes};
+ghost use Rattle.qs_print.specs.Words.{Puts};
 
 use crate::words::{put_keyword, put_name, put_punctuator};
 use qs_base::NoMemory;
@@ -9,7 +9,7 @@ use qs_syntax::{Base, Keyword, Punctuator, TypeName};
 
 /// Writes what a type begins with.
 pub fn put_base(out: &mut Vec<u8>, base: &Base) -> Result<(), NoMemory>
-    ensures { OnOk result (Writes out.old.items (printed_base base.now) out.new.items) }
+    ensures { OnOk result (Puts out.old (printed_base base.now) out.new) }
 {
     match base {
         Base::Void => put_keyword(out, Keyword::Void),
@@ -25,7 +25,7 @@ pub fn put_base(out: &mut Vec<u8>, base: &Base) -> Result<(), NoMemory>
 
 /// Writes stars.
 pub fn put_stars(out: &mut Vec<u8>, count: u32) -> Result<(), NoMemory>
-    ensures { OnOk result (Writes out.old.items (printed_stars count) out.new.items) }
+    ensures { OnOk result (Puts out.old (printed_stars count) out.new) }
 {
     for _star in 0..count {
         put_punctuator(out, Punctuator::Star)?;
@@ -35,7 +35,7 @@ pub fn put_stars(out: &mut Vec<u8>, count: u32) -> Result<(), NoMemory>
 
 /// Writes the name of a type.
 pub fn put_type_name(out: &mut Vec<u8>, name: &TypeName) -> Result<(), NoMemory>
-    ensures { OnOk result (Writes out.old.items (printed_type_name name.now) out.new.items) }
+    ensures { OnOk result (Puts out.old (printed_type_name name.now) out.new) }
 {
     put_base(out, &name.base)?;
     put_stars(out, name.stars)

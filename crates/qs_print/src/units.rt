@@ -1,11 +1,14 @@
 // Writes whole units (C11 6.9).
-ghost use Rattle.std.specs.Prelude.{◌≡◌, IfOk, OnOk, flat_map, map, option_map};
-ghost use Rattle.qs_print.specs.Printed.{printed_body, printed_decl, printed_forward, printed_function, printed_members, printed_struct, printed_unit};
+ghost use Rattle.std.specs.Prelude.{◌≡◌, IfOk, OnOk, map};
+ghost use Rattle.qs_print.specs.Printed.{printed_body, printed_decl, printed_forward};
+ghost use Rattle.qs_print.specs.Printed.{printed_function, printed_struct, printed_unit};
 ghost use Rattle.qs_print.specs.ReadsBack.{ReadsBack};
-ghost use Rattle.qs_print.specs.Words.{Writes};
+ghost use Rattle.qs_print.specs.Words.{Puts};
 ghost use Rattle.qs_print.specs.Spelling.{joined};
-ghost use Rattle.qs_syntax.specs.TreeOf.{decl_tree, forward_tree, function_tree, members_tree, stmts_tree, struct_tree};
+ghost use Rattle.qs_syntax.specs.TreeOf.{decl_tree, forward_tree, function_tree, struct_tree};
+ghost use Rattle.qs_syntax.specs.TreeOf.{body_tree};
 ghost use Rattle.qs_syntax.specs.UnitTrees.{unit_tree};
+ghost use Rattle.qs_print.specs.Rows.{member_row};
 
 use crate::declarations::{put_declaration, put_members, put_parameters};
 use crate::statements::put_block;
@@ -16,7 +19,7 @@ use qs_syntax::{Decl, Forward, Function, Keyword, Members, Punctuator, Stmt, Str
 use std::alloc::Global;
 
 fn put_all_members(out: &mut Vec<u8>, members: &[Members]) -> Result<(), NoMemory>
-    ensures { OnOk result (Writes out.old.items (flat_map printed_members (map members_tree members.now)) out.new.items) }
+    ensures { OnOk result (Puts out.old (member_row members.now) out.new) }
 {
     for m in members {
         put_members(out, m)?;
@@ -25,7 +28,7 @@ fn put_all_members(out: &mut Vec<u8>, members: &[Members]) -> Result<(), NoMemor
 }
 
 fn put_struct(out: &mut Vec<u8>, s: &Struct) -> Result<(), NoMemory>
-    ensures { OnOk result (Writes out.old.items (printed_struct (struct_tree s.now)) out.new.items) }
+    ensures { OnOk result (Puts out.old (printed_struct (struct_tree s.now)) out.new) }
 {
     put_keyword(out, Keyword::Struct)?;
     put_name(out, &s.name)?;
@@ -36,7 +39,7 @@ fn put_struct(out: &mut Vec<u8>, s: &Struct) -> Result<(), NoMemory>
 }
 
 fn put_forward(out: &mut Vec<u8>, f: &Forward) -> Result<(), NoMemory>
-    ensures { OnOk result (Writes out.old.items (printed_forward (forward_tree f.now)) out.new.items) }
+    ensures { OnOk result (Puts out.old (printed_forward (forward_tree f.now)) out.new) }
 {
     put_keyword(out, Keyword::Struct)?;
     put_name(out, &f.name)?;
@@ -44,7 +47,7 @@ fn put_forward(out: &mut Vec<u8>, f: &Forward) -> Result<(), NoMemory>
 }
 
 fn put_body(out: &mut Vec<u8>, body: &Option<Vec<Stmt>>) -> Result<(), NoMemory>
-    ensures { OnOk result (Writes out.old.items (printed_body (option_map (λ b. stmts_tree b.items) body.now)) out.new.items) }
+    ensures { OnOk result (Puts out.old (printed_body (body_tree body.now)) out.new) }
 {
     match body {
         None => put_punctuator(out, Punctuator::Semicolon),
@@ -53,7 +56,7 @@ fn put_body(out: &mut Vec<u8>, body: &Option<Vec<Stmt>>) -> Result<(), NoMemory>
 }
 
 fn put_function(out: &mut Vec<u8>, f: &Function) -> Result<(), NoMemory>
-    ensures { OnOk result (Writes out.old.items (printed_function (function_tree f.now)) out.new.items) }
+    ensures { OnOk result (Puts out.old (printed_function (function_tree f.now)) out.new) }
 {
     put_base(out, &f.result_type.base)?;
     put_stars(out, f.result_type.stars)?;
@@ -65,7 +68,7 @@ fn put_function(out: &mut Vec<u8>, f: &Function) -> Result<(), NoMemory>
 }
 
 fn put_decl(out: &mut Vec<u8>, d: &Decl) -> Result<(), NoMemory>
-    ensures { OnOk result (Writes out.old.items (printed_decl (decl_tree d.now)) out.new.items) }
+    ensures { OnOk result (Puts out.old (printed_decl (decl_tree d.now)) out.new) }
 {
     match d {
         Decl::Struct(s) => put_struct(out, s),
@@ -76,7 +79,7 @@ fn put_decl(out: &mut Vec<u8>, d: &Decl) -> Result<(), NoMemory>
 }
 
 fn put_unit(out: &mut Vec<u8>, declarations: &[Decl]) -> Result<(), NoMemory>
-    ensures { OnOk result (Writes out.old.items (printed_unit (map decl_tree declarations.now)) out.new.items) }
+    ensures { OnOk result (Puts out.old (printed_unit (map decl_tree declarations.now)) out.new) }
 {
     for d in declarations {
         put_decl(out, d)?;
@@ -84,8 +87,8 @@ fn put_unit(out: &mut Vec<u8>, declarations: &[Decl]) -> Result<(), NoMemory>
     Ok(())
 }
 
-/// The text of a unit: its tokens with single blanks between, parentheses only where the grammar needs
-/// them, ended by 0x0A. An error says that memory was wanting.
+/// The text of a unit: its tokens with single blanks between, parentheses only where the grammar
+/// needs them, ended by 0x0A. An error says that memory was wanting.
 pub fn print(alloc: Global, unit: &Unit) -> Result<Vec<u8>, NoMemory>
     ensures reads_back { IfOk result (λ text. ∥ ReadsBack text.items (unit_tree unit.now) ∥₁) }
     ensures text { IfOk result (λ text. text.items ≡ joined (printed_unit (unit_tree unit.now))) }

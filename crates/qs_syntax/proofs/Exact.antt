@@ -1,5 +1,5 @@
 -- The tests whether trees are the same are true of equal trees alone: types, expressions and declarations.
-use Rattle.std.proofs.Common.{◌≡◌, ◌==◌, ◌&&◌, ℕ, Bool, true, List, [], ◌∷◌, Option, Some, None, refl, ap, sym, subst, Decides}
+use Rattle.std.proofs.Common.{◌≡◌, ◌≤◌, ◌==◌, ◌&&◌, ℕ, zero, suc, Bool, true, false, List, [], ◌∷◌, drop, length, Option, Some, None, refl, ap, sym, ◌∙◌, subst, Decides, arith}
 use Rattle.std.specs.Option.{option_eq}
 use Rattle.std.specs.Bool.{beq}
 use Rattle.std.specs.Cmp.{first_so, second_so, booleans_Decides}
@@ -227,3 +227,20 @@ pub members_exact : (a b : MembersTree) → Decides (same_members a b) (a ≡ b)
 members_exact a b =
     Decides-like (same_members a b) (λ h. λ i. record { base = h.0 i; declarators = h.1 i }) (λ p. (ap (λ x. x.base) p, ap (λ x. x.declarators) p))
     (Decides-and (same_base a.base b.base) (pointwise same_declarator a.declarators b.declarators) (base_exact a.base b.base) (pointwise_decides declarator_exact a.declarators b.declarators))
+
+-- ---- where two lists agree up to the end of the first, their lengths decide
+
+next_same : (m n : ℕ) → (suc m == suc n) ≡ (m == n)
+next_same m n = grind arith
+
+none_is_next : (n : ℕ) → (0 == suc n) ≡ false
+none_is_next n = grind arith
+
+module _ {A : Type 0} (test : List A → List A → Bool) (ended : test [] [] ≡ true) (longer : (y : A) (ys : List A) → test [] (y ∷ ys) ≡ false) where
+  pub test_ends : (a b : List A) (i : ℕ) → length a ≤ i → i ≤ length a → i ≤ length b → (length a == length b) ≡ test (drop i a) (drop i b)
+  test_ends [] [] zero h k l = sym ended
+  test_ends [] (y ∷ ys) zero h k l = none_is_next (length ys) ∙ sym (longer y ys)
+  test_ends [] b (suc i) h k l = absurd (omega arith)
+  test_ends (x ∷ xs) b zero h k l = absurd (omega arith)
+  test_ends (x ∷ xs) [] (suc i) h k l = absurd (omega arith)
+  test_ends (x ∷ xs) (y ∷ ys) (suc i) h k l = next_same (length xs) (length ys) ∙ test_ends xs ys i (omega arith) (omega arith) (omega arith)

@@ -2,7 +2,6 @@ pub mod RelabelLaws
 pub mod NodeLaws
 pub mod NumberingLoops
 pub mod UnitLaws
-pub mod SameLoops
 pub mod PunctuatorLaws
 pub mod OperatorLaws
 pub mod Exact

@@ -1,5 +1,8 @@
--- Arguments, initialisers in braces and statements of a block are lists of their own: how they are counted and numbered as lists.
+-- Arguments, initialisers in braces and statements of a block are lists of their own: how they are counted and numbered as lists. The lemmas
+-- that functions which number nodes need stand together as rules.
 use Rattle.std.proofs.Common.{◌≡◌, ℕ, ◌+◌, List, [], ◌∷◌, ◌++◌, refl, ap}
+use Rattle.std.proofs.lemmas.List.{with_items_is}
+use Rattle.qs_syntax.proofs.NodeLaws.{tokens_of_both}
 use Rattle.qs_syntax.specs.Trees.{ExprTree, expr_and, exprs_of, InitialiserTree, initialiser_and, initialisers_of, StmtTree, stmt_and, stmts_of}
 use Rattle.qs_syntax.specs.Nodes.{all_count, all_nodes, expr_count, exprs_count, expr_nodes, exprs_nodes, initialiser_count, initialisers_count, initialiser_nodes, initialisers_nodes, stmt_count, stmts_count, stmt_nodes, stmts_nodes}
 use Rattle.qs_syntax.specs.Numbering.{numbered, relabel_all, relabel_expr, relabel_exprs, relabel_initialiser, relabel_initialisers, relabel_stmt, relabel_stmts}
@@ -39,3 +42,13 @@ stmts_nodes_of (s ∷ ss) = ap (λ l. stmt_nodes s ++ l) (stmts_nodes_of ss)
 pub stmts_of_relabelled : (n : ℕ) (ss : List StmtTree) → relabel_stmts numbered n (stmts_of ss) ≡ stmts_of (relabel_all numbered stmt_count (relabel_stmt numbered) n ss)
 stmts_of_relabelled n [] = refl
 stmts_of_relabelled n (s ∷ ss) = ap (stmt_and (relabel_stmt numbered n s)) (stmts_of_relabelled (n + stmt_count s) ss)
+
+-- ---- the rules
+
+pub ruleset numbering = (tokens_of_both, with_items_is)
+
+pub ruleset exprs_numbering = (exprs_count_of, exprs_nodes_of, exprs_of_relabelled, with_items_is)
+
+pub ruleset initialisers_numbering = (tokens_of_both, initialisers_count_of, initialisers_nodes_of, initialisers_of_relabelled, with_items_is)
+
+pub ruleset stmts_numbering = (stmts_count_of, stmts_nodes_of, stmts_of_relabelled, with_items_is)

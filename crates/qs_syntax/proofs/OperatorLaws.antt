@@ -1,10 +1,8 @@
 -- The tables of operators: each is found by its punctuator, and what is found has the punctuator.
-use Rattle.std.proofs.Common.{◌≡◌, Bool, true, ◌&&◌, Some, refl, Decides, ◌≤◌, nat_le, arith}
+use Rattle.std.proofs.Common.{◌≡◌, true, Some, refl, Decides, ◌≤◌, nat_le, arith}
 use Rattle.std.proofs.lemmas.Bool.Decides.{nat_tests}
-use Rattle.std.specs.Bool.{beq}
-use Rattle.std.specs.Cmp.{second_so}
 use Rattle.qs_base.proofs.Variants.{every, finds, find_passes, variants_exact}
-use Rattle.qs_syntax.specs.Operators.{access_of, access_operators, assign_of, assignment_operators, binary_of, binary_operators, precedence, punctuator_of_access, punctuator_of_assign, punctuator_of_binary, punctuator_of_step, punctuator_of_unary, same_access, same_assign, same_binary, same_step, same_unary, stands_before, step_of, step_operators, unary_of, unary_operators, weakest}
+use Rattle.qs_syntax.specs.Operators.{access_of, access_operators, assign_of, assignment_operators, binary_of, binary_operators, precedence, punctuator_of_access, punctuator_of_assign, punctuator_of_binary, punctuator_of_unary, same_access, same_assign, same_binary, same_step, same_unary, unary_of, unary_operators, weakest}
 use Rattle.qs_syntax.specs.Punctuators.{same_punctuator}
 use Rattle.qs_syntax.specs.declared.punctuator.Punctuator.{Punctuator}
 use Rattle.qs_syntax.specs.contracts.operators.UnaryOperator.{the_type as unary_type}
@@ -34,15 +32,6 @@ punctuator-unary_of punctuator operator e = (same_punctuator_exact (punctuator_o
 
 pub step_operator_exact : (a b : StepOperator) → Decides (same_step a b) (a ≡ b)
 step_operator_exact a b = variants_exact step_type tt a b
-
-pub step_of-punctuator : (operator : StepOperator) → step_of (stands_before operator) (punctuator_of_step operator) ≡ Some operator
-step_of-punctuator operator = finds step_type tt step_operators refl (λ k x. beq (stands_before x) (stands_before k) && same_punctuator (punctuator_of_step x) (punctuator_of_step k)) refl operator
-
-pub punctuator-step_of : (before : Bool) (punctuator : Punctuator) (operator : StepOperator) → step_of before punctuator ≡ Some operator → punctuator_of_step operator ≡ punctuator
-punctuator-step_of before punctuator operator e =
-    let test : Bool = beq (stands_before operator) before in
-    (same_punctuator_exact (punctuator_of_step operator) punctuator).0
-    (second_so test (same_punctuator (punctuator_of_step operator) punctuator) (find_passes (λ x. beq (stands_before x) before && same_punctuator (punctuator_of_step x) punctuator) step_operators operator e))
 
 -- ---- operators between two operands
 

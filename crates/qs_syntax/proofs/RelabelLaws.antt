@@ -1,5 +1,5 @@
 -- A map over the nodes of a tree keeps their count, and one such map behind another is one map.
-use Rattle.std.proofs.Common.{◌≡◌, ℕ, ◌+◌, List, [], ◌∷◌, Option, Some, None, map, option_map, refl, ap}
+use Rattle.std.proofs.Common.{◌≡◌, ℕ, ◌+◌, List, [], ◌∷◌, Option, Some, None, map, refl, ap}
 use Rattle.qs_syntax.specs.declared.nodes.Node.{Node}
 use Rattle.qs_syntax.specs.Trees.{ExprTree, expr, ShapeTree, constant, text, name, unary, step, cast, sizeof_type, sizeof_expr, binary, assign, conditional, comma, subscript, member, call, Exprs, no_exprs, expr_and, LengthsTree, DeclaratorTree, InitialiserTree, value, list, Initialisers, no_initialisers, initialiser_and, VariableTree, DeclarationTree, ParameterTree, MembersTree, StartTree, no_start, start_expression, start_declaration, StmtTree, empty, expression, declaration, block, branch, while_loop, do_loop, for_loop, break, continue, return, Stmts, no_stmts, stmt_and, Else, no_else, else_by, StructTree, FunctionTree, DeclTree, structure, forward, function, variables, UnitTree}
 use Rattle.qs_syntax.specs.Nodes.{all_count, option_count, expr_count, shape_count, exprs_count, lengths_count, declarator_count, initialiser_count, initialisers_count, variable_count, declaration_count, parameter_count, members_count, start_count, stmt_count, stmts_count, else_count, struct_count, function_count, decl_count, unit_count}
@@ -276,7 +276,3 @@ numbered_without_tokens = unit_composes bare numbered (λ n node. record { id = 
 pub bare_all : {A : Type 0} (count : A → ℕ) (relabel : ℕ → A → A) (n : ℕ) (xs : List A) → relabel_all bare count relabel n xs ≡ map (relabel n) xs
 bare_all count relabel n [] = refl
 bare_all count relabel n (x ∷ xs) = ap (λ l. relabel n x ∷ l) (bare_all count relabel n xs)
-
-pub bare_option : {A : Type 0} (relabel : ℕ → A → A) (n : ℕ) (o : Option A) → relabel_option relabel n o ≡ option_map (relabel n) o
-bare_option relabel n None = refl
-bare_option relabel n (Some x) = refl

@@ -9,6 +9,7 @@ pub mod ReadsStatements
 pub mod ReadsUnits
 pub mod Nodes
 pub mod Numbering
+pub mod Sorts
 pub mod WithoutTokens
 pub mod Units
 pub mod UnitTrees

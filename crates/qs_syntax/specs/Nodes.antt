@@ -1,5 +1,6 @@
 -- The nodes of a tree in the order of the text, a node before its parts: how many they are, and the list of them.
-use Rattle.std.specs.Prelude.{ℕ, ◌+◌, List, [], ◌∷◌, ◌++◌, Option, Some, None, map}
+use Rattle.std.specs.Prelude.{◌≡◌, ℕ, ◌+◌, List, [], ◌∷◌, ◌++◌, Option, Some, None, map}
+use Rattle.std.specs.List.{slice_get}
 use Rattle.qs_syntax.specs.declared.nodes.Node.{Node}
 use Rattle.qs_syntax.specs.Trees.{ExprTree, expr, ShapeTree, constant, text, name, unary, step, cast, sizeof_type, sizeof_expr, binary, assign, conditional, comma, subscript, member, call, Exprs, no_exprs, expr_and, LengthsTree, DeclaratorTree, InitialiserTree, value, list, Initialisers, no_initialisers, initialiser_and, VariableTree, DeclarationTree, ParameterTree, MembersTree, StartTree, no_start, start_expression, start_declaration, StmtTree, empty, expression, declaration, block, branch, while_loop, do_loop, for_loop, break, continue, return, Stmts, no_stmts, stmt_and, Else, no_else, else_by, StructTree, FunctionTree, DeclTree, structure, forward, function, variables, UnitTree}
 
@@ -215,3 +216,7 @@ decl_nodes (variables d) = declaration_nodes d
 
 abbrev pub unit_nodes : UnitTree → List Node
 unit_nodes ds = all_nodes decl_nodes ds
+
+-- the node with this number stands at this token
+abbrev pub StandsAt : UnitTree → ℕ → ℕ → Type 0
+StandsAt ds number token = slice_get (unit_nodes ds) number ≡ Some (record { id = number; token = token })

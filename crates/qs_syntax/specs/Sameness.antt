@@ -23,6 +23,9 @@ same_base bases.Char bases.Char = true
 same_base (bases.Struct x) (bases.Struct y) = same_bytes x y
 same_base _ _ = false
 
+abbrev pub same_name : Option (List ℕ) → Option (List ℕ) → Bool
+same_name = option_eq same_bytes
+
 abbrev pub same_type : TypeName → TypeName → Bool
 same_type a b = same_base a.base b.base && (a.stars == b.stars)
 
@@ -78,17 +81,26 @@ abbrev mutual
   same_initialisers (initialiser_and a is) (initialiser_and b js) = same_initialiser a b && same_initialisers is js
   same_initialisers _ _ = false
 
+abbrev pub same_setting : Option InitialiserTree → Option InitialiserTree → Bool
+same_setting = option_eq same_initialiser
+
 abbrev pub same_variable : VariableTree → VariableTree → Bool
-same_variable a b = same_declarator a.declarator b.declarator && option_eq same_initialiser a.initialiser b.initialiser
+same_variable a b = same_declarator a.declarator b.declarator && same_setting a.initialiser b.initialiser
+
+abbrev pub same_variables : List VariableTree → List VariableTree → Bool
+same_variables = pointwise same_variable
 
 abbrev pub same_declaration : DeclarationTree → DeclarationTree → Bool
-same_declaration a b = same_base a.base b.base && pointwise same_variable a.variables b.variables
+same_declaration a b = same_base a.base b.base && same_variables a.variables b.variables
 
 abbrev pub same_parameter : ParameterTree → ParameterTree → Bool
-same_parameter a b = same_node a.node b.node && (same_type a.type_name b.type_name && (option_eq same_bytes a.name b.name && same_lengths a.lengths b.lengths))
+same_parameter a b = same_node a.node b.node && (same_type a.type_name b.type_name && (same_name a.name b.name && same_lengths a.lengths b.lengths))
+
+abbrev pub same_declarators : List DeclaratorTree → List DeclaratorTree → Bool
+same_declarators = pointwise same_declarator
 
 abbrev pub same_members : MembersTree → MembersTree → Bool
-same_members a b = same_base a.base b.base && pointwise same_declarator a.declarators b.declarators
+same_members a b = same_base a.base b.base && same_declarators a.declarators b.declarators
 
 -- ---- statements
 
@@ -128,14 +140,23 @@ abbrev mutual
 
 -- ---- what stands at file scope
 
+abbrev pub same_groups : List MembersTree → List MembersTree → Bool
+same_groups = pointwise same_members
+
 abbrev pub same_struct : StructTree → StructTree → Bool
-same_struct a b = same_node a.node b.node && (same_bytes a.name b.name && pointwise same_members a.members b.members)
+same_struct a b = same_node a.node b.node && (same_bytes a.name b.name && same_groups a.members b.members)
 
 abbrev pub same_forward : ForwardTree → ForwardTree → Bool
 same_forward a b = same_node a.node b.node && same_bytes a.name b.name
 
+abbrev pub same_parameters : List ParameterTree → List ParameterTree → Bool
+same_parameters = pointwise same_parameter
+
+abbrev pub same_body : Option Stmts → Option Stmts → Bool
+same_body = option_eq same_stmts
+
 abbrev pub same_function : FunctionTree → FunctionTree → Bool
-same_function a b = same_node a.node b.node && (same_type a.result_type b.result_type && (same_bytes a.name b.name && (pointwise same_parameter a.parameters b.parameters && option_eq same_stmts a.body b.body)))
+same_function a b = same_node a.node b.node && (same_type a.result_type b.result_type && (same_bytes a.name b.name && (same_parameters a.parameters b.parameters && same_body a.body b.body)))
 
 abbrev pub same_decl : DeclTree → DeclTree → Bool
 same_decl (structure a) (structure b) = same_struct a b

@@ -1,5 +1,5 @@
 -- The trees that the program's values stand for.
-use Rattle.std.specs.Prelude.{List, Option, Some, None, map, option_map, Box}
+use Rattle.std.specs.Prelude.{List, Option, Some, None, map, option_map, Box, Vec}
 use Rattle.std.specs.declared.alloc.Global.{Global}
 use Rattle.qs_syntax.specs.Trees.{ExprTree, expr, ShapeTree, constant, text, name, unary, step, cast, sizeof_type, sizeof_expr, binary, assign, conditional, comma, subscript, member, call, Exprs, exprs_of, LengthsTree, DeclaratorTree, InitialiserTree, value, list, Initialisers, initialisers_of, VariableTree, DeclarationTree, ParameterTree, MembersTree, StartTree, no_start, start_expression, start_declaration, StmtTree, empty, expression, declaration, block, branch, while_loop, do_loop, for_loop, break, continue, return, Stmts, stmts_of, Else, else_of, StructTree, ForwardTree, FunctionTree, DeclTree, structure, forward, function, variables}
 use Rattle.qs_syntax.specs.declared.expressions.Expr.{Expr, Expr-F, fold-Expr}
@@ -78,8 +78,12 @@ list_tree = fold-InitialiserList InitialiserTree InitialiserTree initialiser_ste
 abbrev pub initialisers_tree : List Initialiser → Initialisers
 initialisers_tree is = initialisers_of (map initialiser_tree is)
 
+-- what a variable is set to
+abbrev pub setting_tree : Option Initialiser → Option InitialiserTree
+setting_tree = option_map initialiser_tree
+
 abbrev pub variable_tree : Variable → VariableTree
-variable_tree v = record { declarator = declarator_tree v.declarator; initialiser = option_map initialiser_tree v.initialiser }
+variable_tree v = record { declarator = declarator_tree v.declarator; initialiser = setting_tree v.initialiser }
 
 abbrev pub declaration_tree : Declaration → DeclarationTree
 declaration_tree d = record { base = d.base; variables = map variable_tree d.variables.items }
@@ -123,8 +127,11 @@ struct_tree s = record { node = s.node; name = s.name; members = map members_tre
 abbrev pub forward_tree : Forward → ForwardTree
 forward_tree f = record { node = f.node; name = f.name }
 
+abbrev pub body_tree : Option (Vec Stmt Global) → Option Stmts
+body_tree = option_map (λ b. stmts_tree b.items)
+
 abbrev pub function_tree : Function → FunctionTree
-function_tree f = record { node = f.node; result_type = f.result_type; name = f.name; parameters = map parameter_tree f.parameters.items; body = option_map (λ b. stmts_tree b.items) f.body }
+function_tree f = record { node = f.node; result_type = f.result_type; name = f.name; parameters = map parameter_tree f.parameters.items; body = body_tree f.body }
 
 abbrev pub decl_tree : Decl → DeclTree
 decl_tree (decls.Struct s) = structure (struct_tree s)

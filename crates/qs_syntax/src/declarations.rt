@@ -1,11 +1,18 @@
-// Declarations (C11 6.7): their trees, whether two are the same, copies, and the numbers of their nodes.
-ghost use Rattle.std.specs.Prelude.{◌≡◌, ◌+◌, ◌<◌, ◌^◌, ◌++◌, IfOk, OnOk, length, map, option_map};
-ghost use Rattle.std.specs.Option.{option_eq};
-ghost use Rattle.std.specs.Cmp.Lexicographic.{pointwise};
-ghost use Rattle.qs_syntax.specs.TreeOf.{lengths_tree, declarator_tree, initialiser_tree, list_tree, initialisers_tree, variable_tree, declaration_tree, parameter_tree, members_tree};
-ghost use Rattle.qs_syntax.specs.Nodes.{tokens_of, all_count, all_nodes, option_count, option_nodes, lengths_count, lengths_nodes, declarator_count, declarator_nodes, initialiser_count, initialiser_nodes, initialisers_count, initialisers_nodes, variable_count, variable_nodes, declaration_count, declaration_nodes, parameter_count, parameter_nodes, members_count, members_nodes};
-ghost use Rattle.qs_syntax.specs.Numbering.{numbered, relabel_all, relabel_option, relabel_lengths, relabel_declarator, relabel_initialiser, relabel_initialisers, relabel_variable, relabel_declaration, relabel_parameter, relabel_members};
-ghost use Rattle.qs_syntax.specs.Sameness.{same_bytes, same_lengths, same_declarator, same_initialiser, same_initialisers, same_variable, same_declaration, same_parameter, same_members};
+// Declarations (C11 6.7): their trees, whether two are the same, copies, and the numbers of their
+// nodes.
+ghost use Rattle.std.specs.Prelude.{◌≡◌, IfOk, OnOk, map};
+ghost use Rattle.qs_syntax.specs.TreeOf.{lengths_tree, declarator_tree, initialiser_tree};
+ghost use Rattle.qs_syntax.specs.TreeOf.{list_tree, initialisers_tree, variable_tree};
+ghost use Rattle.qs_syntax.specs.TreeOf.{declaration_tree, parameter_tree, members_tree};
+ghost use Rattle.qs_syntax.specs.TreeOf.{setting_tree};
+ghost use Rattle.qs_syntax.specs.Sameness.{same_lengths, same_declarator, same_initialiser};
+ghost use Rattle.qs_syntax.specs.Sameness.{same_initialisers, same_variable, same_declaration};
+ghost use Rattle.qs_syntax.specs.Sameness.{same_parameter, same_members, same_setting};
+ghost use Rattle.qs_syntax.specs.Sameness.{same_variables, same_declarators, same_name};
+ghost use Rattle.qs_syntax.specs.Sorts.{HasRoom, Numbers, Counts, Appends, braced_items, braces};
+ghost use Rattle.qs_syntax.specs.Sorts.{brackets, declarations, declarator_list, declarators};
+ghost use Rattle.qs_syntax.specs.Sorts.{initialiser_list, initialisers, member_groups, parameters};
+ghost use Rattle.qs_syntax.specs.Sorts.{settings, variable_list, variables};
 
 use crate::expressions::{
     Expr, Shape, copy_expr, copy_exprs, number_expr, number_exprs, same_expr, same_exprs,
@@ -25,7 +32,8 @@ pub struct Lengths {
     pub given: Vec<Expr>,
 }
 
-/// A name that is declared, with what stands around it (C11 6.7.6): a member, or the head of a variable.
+/// A name that is declared, with what stands around it (C11 6.7.6): a member, or the head of a
+/// variable.
 #[derive(Drop)]
 pub struct Declarator {
     /// Its node. Its token is the name's.
@@ -146,7 +154,7 @@ fn same_initialisers(a: &[Initialiser], b: &[Initialiser]) -> bool
 }
 
 fn same_option(a: &Option<Initialiser>, b: &Option<Initialiser>) -> bool
-    ensures { result ≡ option_eq same_initialiser (option_map initialiser_tree a.now) (option_map initialiser_tree b.now) }
+    ensures { result ≡ same_setting (setting_tree a.now) (setting_tree b.now) }
 {
     match (a, b) {
         (None, None) => true,
@@ -162,7 +170,7 @@ fn same_variable(a: &Variable, b: &Variable) -> bool
 }
 
 fn same_variables(a: &[Variable], b: &[Variable]) -> bool
-    ensures { result ≡ pointwise same_variable (map variable_tree a.now) (map variable_tree b.now) }
+    ensures { result ≡ same_variables (map variable_tree a.now) (map variable_tree b.now) }
 {
     for (i, x) in a.iter().enumerate() {
         if i == b.len() || !same_variable(x, &b[i]) {
@@ -179,7 +187,7 @@ pub fn same_declaration(a: &Declaration, b: &Declaration) -> bool
 }
 
 fn same_name(a: &Option<Name>, b: &Option<Name>) -> bool
-    ensures { result ≡ option_eq same_bytes a.now b.now }
+    ensures { result ≡ same_name a.now b.now }
 {
     match (a, b) {
         (None, None) => true,
@@ -198,7 +206,7 @@ pub fn same_parameter(a: &Parameter, b: &Parameter) -> bool
 }
 
 fn same_declarators(a: &[Declarator], b: &[Declarator]) -> bool
-    ensures { result ≡ pointwise same_declarator (map declarator_tree a.now) (map declarator_tree b.now) }
+    ensures { result ≡ same_declarators (map declarator_tree a.now) (map declarator_tree b.now) }
 {
     for (i, x) in a.iter().enumerate() {
         if i == b.len() || !same_declarator(x, &b[i]) {
@@ -269,7 +277,7 @@ fn copy_initialisers(alloc: Global, from: &[Initialiser]) -> Result<Vec<Initiali
 }
 
 fn copy_option(alloc: Global, from: &Option<Initialiser>) -> Result<Option<Initialiser>, NoMemory>
-    ensures { IfOk result (λ to. option_map initialiser_tree to ≡ option_map initialiser_tree from.now) }
+    ensures { IfOk result (λ to. setting_tree to ≡ setting_tree from.now) }
 {
     match from {
         None => Ok(None),
@@ -334,34 +342,34 @@ pub fn copy_members(alloc: Global, from: &Members) -> Result<Members, NoMemory>
 
 // ---- the numbers of the nodes
 
-#[tactic(auto, using(crate::proofs::NodeLaws::tokens_of_both, std::proofs::lemmas::List::with_items_is))]
+#[tactic(auto, using(crate::proofs::NumberingLoops::numbering))]
 fn number_lengths(lengths: &mut Lengths, tokens: &mut Vec<u32>) -> Result<(), NoMemory>
-    requires { length tokens.old.items + lengths_count (lengths_tree lengths.old) < 2 ^ 32 }
-    ensures tree { OnOk result (lengths_tree lengths.new ≡ relabel_lengths numbered (length tokens.old.items) (lengths_tree lengths.old)) }
-    ensures end { OnOk result (length tokens.new.items ≡ length tokens.old.items + lengths_count (lengths_tree lengths.old)) }
-    ensures tokens { OnOk result (tokens.new.items ≡ tokens.old.items ++ tokens_of (lengths_nodes (lengths_tree lengths.old))) }
+    requires { HasRoom brackets tokens.old lengths.old }
+    ensures tree { OnOk result (Numbers brackets tokens.old lengths.old lengths.new) }
+    ensures end { OnOk result (Counts brackets tokens.old lengths.old tokens.new) }
+    ensures tokens { OnOk result (Appends brackets tokens.old lengths.old tokens.new) }
 {
     number_exprs(&mut lengths.given, tokens)
 }
 
-#[tactic(auto, using(crate::proofs::NodeLaws::tokens_of_both, std::proofs::lemmas::List::with_items_is))]
+#[tactic(auto, using(crate::proofs::NumberingLoops::numbering))]
 fn number_declarator(declarator: &mut Declarator, tokens: &mut Vec<u32>) -> Result<(), NoMemory>
-    requires { length tokens.old.items + declarator_count (declarator_tree declarator.old) < 2 ^ 32 }
-    ensures tree { OnOk result (declarator_tree declarator.new ≡ relabel_declarator numbered (length tokens.old.items) (declarator_tree declarator.old)) }
-    ensures end { OnOk result (length tokens.new.items ≡ length tokens.old.items + declarator_count (declarator_tree declarator.old)) }
-    ensures tokens { OnOk result (tokens.new.items ≡ tokens.old.items ++ tokens_of (declarator_nodes (declarator_tree declarator.old))) }
+    requires { HasRoom declarators tokens.old declarator.old }
+    ensures tree { OnOk result (Numbers declarators tokens.old declarator.old declarator.new) }
+    ensures end { OnOk result (Counts declarators tokens.old declarator.old tokens.new) }
+    ensures tokens { OnOk result (Appends declarators tokens.old declarator.old tokens.new) }
 {
     declarator.node = number_node(declarator.node, tokens)?;
     number_lengths(&mut declarator.lengths, tokens)
 }
 
 #[cycle(number_initialiser)]
-#[tactic(auto, using(crate::proofs::NodeLaws::tokens_of_both, std::proofs::lemmas::List::with_items_is))]
+#[tactic(auto, using(crate::proofs::NumberingLoops::numbering))]
 fn number_initialiser(item: &mut Initialiser, tokens: &mut Vec<u32>) -> Result<(), NoMemory>
-    requires { length tokens.old.items + initialiser_count (initialiser_tree item.old) < 2 ^ 32 }
-    ensures tree { OnOk result (initialiser_tree item.new ≡ relabel_initialiser numbered (length tokens.old.items) (initialiser_tree item.old)) }
-    ensures end { OnOk result (length tokens.new.items ≡ length tokens.old.items + initialiser_count (initialiser_tree item.old)) }
-    ensures tokens { OnOk result (tokens.new.items ≡ tokens.old.items ++ tokens_of (initialiser_nodes (initialiser_tree item.old))) }
+    requires { HasRoom initialisers tokens.old item.old }
+    ensures tree { OnOk result (Numbers initialisers tokens.old item.old item.new) }
+    ensures end { OnOk result (Counts initialisers tokens.old item.old tokens.new) }
+    ensures tokens { OnOk result (Appends initialisers tokens.old item.old tokens.new) }
 {
     let nothing = Expr {
         node: Node { id: 0, token: 0 },
@@ -378,12 +386,12 @@ fn number_initialiser(item: &mut Initialiser, tokens: &mut Vec<u32>) -> Result<(
 }
 
 #[cycle(number_initialiser)]
-#[tactic(auto, using(crate::proofs::NodeLaws::tokens_of_both, std::proofs::lemmas::List::with_items_is))]
+#[tactic(auto, using(crate::proofs::NumberingLoops::numbering))]
 fn number_list(list: InitialiserList, tokens: &mut Vec<u32>) -> Result<InitialiserList, NoMemory>
-    requires { length tokens.old.items + initialiser_count (list_tree list) < 2 ^ 32 }
-    ensures tree { IfOk result (λ to. list_tree to ≡ relabel_initialiser numbered (length tokens.old.items) (list_tree list)) }
-    ensures end { OnOk result (length tokens.new.items ≡ length tokens.old.items + initialiser_count (list_tree list)) }
-    ensures tokens { OnOk result (tokens.new.items ≡ tokens.old.items ++ tokens_of (initialiser_nodes (list_tree list))) }
+    requires { HasRoom braces tokens.old list }
+    ensures tree { IfOk result (Numbers braces tokens.old list) }
+    ensures end { OnOk result (Counts braces tokens.old list tokens.new) }
+    ensures tokens { OnOk result (Appends braces tokens.old list tokens.new) }
 {
     let node = number_node(list.node, tokens)?;
     let items = number_items(list.items, tokens)?;
@@ -391,15 +399,15 @@ fn number_list(list: InitialiserList, tokens: &mut Vec<u32>) -> Result<Initialis
 }
 
 #[cycle(number_initialiser)]
-#[tactic(auto, using(crate::proofs::NodeLaws::tokens_of_both, crate::proofs::NumberingLoops::initialisers_count_of, crate::proofs::NumberingLoops::initialisers_nodes_of, crate::proofs::NumberingLoops::initialisers_of_relabelled, std::proofs::lemmas::List::with_items_is))]
+#[tactic(auto, using(crate::proofs::NumberingLoops::initialisers_numbering))]
 fn number_items(
     items: Vec<Initialiser>,
     tokens: &mut Vec<u32>,
 ) -> Result<Vec<Initialiser>, NoMemory>
-    requires { length tokens.old.items + initialisers_count (initialisers_tree items.items) < 2 ^ 32 }
-    ensures tree { IfOk result (λ to. initialisers_tree to.items ≡ relabel_initialisers numbered (length tokens.old.items) (initialisers_tree items.items)) }
-    ensures end { OnOk result (length tokens.new.items ≡ length tokens.old.items + initialisers_count (initialisers_tree items.items)) }
-    ensures tokens { OnOk result (tokens.new.items ≡ tokens.old.items ++ tokens_of (initialisers_nodes (initialisers_tree items.items))) }
+    requires { HasRoom braced_items tokens.old items.items }
+    ensures tree { IfOk result (λ to. Numbers braced_items tokens.old items.items to.items) }
+    ensures end { OnOk result (Counts braced_items tokens.old items.items tokens.new) }
+    ensures tokens { OnOk result (Appends braced_items tokens.old items.items tokens.new) }
 {
     let mut items = items;
     number_initialisers(&mut items, tokens)?;
@@ -407,12 +415,12 @@ fn number_items(
 }
 
 #[cycle(number_initialiser)]
-#[tactic(auto, using(crate::proofs::NodeLaws::tokens_of_both, std::proofs::lemmas::List::with_items_is))]
+#[tactic(auto, using(crate::proofs::NumberingLoops::numbering))]
 fn number_initialisers(items: &mut [Initialiser], tokens: &mut Vec<u32>) -> Result<(), NoMemory>
-    requires { length tokens.old.items + all_count initialiser_count (map initialiser_tree items.old) < 2 ^ 32 }
-    ensures tree { OnOk result (map initialiser_tree items.new ≡ relabel_all numbered initialiser_count (relabel_initialiser numbered) (length tokens.old.items) (map initialiser_tree items.old)) }
-    ensures end { OnOk result (length tokens.new.items ≡ length tokens.old.items + all_count initialiser_count (map initialiser_tree items.old)) }
-    ensures tokens { OnOk result (tokens.new.items ≡ tokens.old.items ++ tokens_of (all_nodes initialiser_nodes (map initialiser_tree items.old))) }
+    requires { HasRoom initialiser_list tokens.old items.old }
+    ensures tree { OnOk result (Numbers initialiser_list tokens.old items.old items.new) }
+    ensures end { OnOk result (Counts initialiser_list tokens.old items.old tokens.new) }
+    ensures tokens { OnOk result (Appends initialiser_list tokens.old items.old tokens.new) }
 {
     for item in items.iter_mut() {
         number_initialiser(item, tokens)?;
@@ -420,12 +428,12 @@ fn number_initialisers(items: &mut [Initialiser], tokens: &mut Vec<u32>) -> Resu
     Ok(())
 }
 
-#[tactic(auto, using(crate::proofs::NodeLaws::tokens_of_both, std::proofs::lemmas::List::with_items_is))]
+#[tactic(auto, using(crate::proofs::NumberingLoops::numbering))]
 fn number_option(option: &mut Option<Initialiser>, tokens: &mut Vec<u32>) -> Result<(), NoMemory>
-    requires { length tokens.old.items + option_count initialiser_count (option_map initialiser_tree option.old) < 2 ^ 32 }
-    ensures tree { OnOk result (option_map initialiser_tree option.new ≡ relabel_option (relabel_initialiser numbered) (length tokens.old.items) (option_map initialiser_tree option.old)) }
-    ensures end { OnOk result (length tokens.new.items ≡ length tokens.old.items + option_count initialiser_count (option_map initialiser_tree option.old)) }
-    ensures tokens { OnOk result (tokens.new.items ≡ tokens.old.items ++ tokens_of (option_nodes initialiser_nodes (option_map initialiser_tree option.old))) }
+    requires { HasRoom settings tokens.old option.old }
+    ensures tree { OnOk result (Numbers settings tokens.old option.old option.new) }
+    ensures end { OnOk result (Counts settings tokens.old option.old tokens.new) }
+    ensures tokens { OnOk result (Appends settings tokens.old option.old tokens.new) }
 {
     match option {
         None => Ok(()),
@@ -433,26 +441,26 @@ fn number_option(option: &mut Option<Initialiser>, tokens: &mut Vec<u32>) -> Res
     }
 }
 
-#[tactic(auto, using(crate::proofs::NodeLaws::tokens_of_both, std::proofs::lemmas::List::with_items_is))]
+#[tactic(auto, using(crate::proofs::NumberingLoops::numbering))]
 fn number_variable(variable: &mut Variable, tokens: &mut Vec<u32>) -> Result<(), NoMemory>
-    requires { length tokens.old.items + variable_count (variable_tree variable.old) < 2 ^ 32 }
-    ensures tree { OnOk result (variable_tree variable.new ≡ relabel_variable numbered (length tokens.old.items) (variable_tree variable.old)) }
-    ensures end { OnOk result (length tokens.new.items ≡ length tokens.old.items + variable_count (variable_tree variable.old)) }
-    ensures tokens { OnOk result (tokens.new.items ≡ tokens.old.items ++ tokens_of (variable_nodes (variable_tree variable.old))) }
+    requires { HasRoom variables tokens.old variable.old }
+    ensures tree { OnOk result (Numbers variables tokens.old variable.old variable.new) }
+    ensures end { OnOk result (Counts variables tokens.old variable.old tokens.new) }
+    ensures tokens { OnOk result (Appends variables tokens.old variable.old tokens.new) }
 {
     number_declarator(&mut variable.declarator, tokens)?;
     number_option(&mut variable.initialiser, tokens)
 }
 
-#[tactic(auto, using(crate::proofs::NodeLaws::tokens_of_both, std::proofs::lemmas::List::with_items_is))]
+#[tactic(auto, using(crate::proofs::NumberingLoops::numbering))]
 pub fn number_declaration(
     declaration: &mut Declaration,
     tokens: &mut Vec<u32>,
 ) -> Result<(), NoMemory>
-    requires { length tokens.old.items + declaration_count (declaration_tree declaration.old) < 2 ^ 32 }
-    ensures tree { OnOk result (declaration_tree declaration.new ≡ relabel_declaration numbered (length tokens.old.items) (declaration_tree declaration.old)) }
-    ensures end { OnOk result (length tokens.new.items ≡ length tokens.old.items + declaration_count (declaration_tree declaration.old)) }
-    ensures tokens { OnOk result (tokens.new.items ≡ tokens.old.items ++ tokens_of (declaration_nodes (declaration_tree declaration.old))) }
+    requires { HasRoom declarations tokens.old declaration.old }
+    ensures tree { OnOk result (Numbers declarations tokens.old declaration.old declaration.new) }
+    ensures end { OnOk result (Counts declarations tokens.old declaration.old tokens.new) }
+    ensures tokens { OnOk result (Appends declarations tokens.old declaration.old tokens.new) }
 {
     number_variables(&mut declaration.variables, tokens)
 }
@@ -462,22 +470,22 @@ pub fn number_owned_declaration(
     declaration: Declaration,
     tokens: &mut Vec<u32>,
 ) -> Result<Declaration, NoMemory>
-    requires { length tokens.old.items + declaration_count (declaration_tree declaration) < 2 ^ 32 }
-    ensures tree { IfOk result (λ to. declaration_tree to ≡ relabel_declaration numbered (length tokens.old.items) (declaration_tree declaration)) }
-    ensures end { OnOk result (length tokens.new.items ≡ length tokens.old.items + declaration_count (declaration_tree declaration)) }
-    ensures tokens { OnOk result (tokens.new.items ≡ tokens.old.items ++ tokens_of (declaration_nodes (declaration_tree declaration))) }
+    requires { HasRoom declarations tokens.old declaration }
+    ensures tree { IfOk result (Numbers declarations tokens.old declaration) }
+    ensures end { OnOk result (Counts declarations tokens.old declaration tokens.new) }
+    ensures tokens { OnOk result (Appends declarations tokens.old declaration tokens.new) }
 {
     let mut declaration = declaration;
     number_declaration(&mut declaration, tokens)?;
     Ok(declaration)
 }
 
-#[tactic(auto, using(crate::proofs::NodeLaws::tokens_of_both, std::proofs::lemmas::List::with_items_is))]
+#[tactic(auto, using(crate::proofs::NumberingLoops::numbering))]
 fn number_variables(variables: &mut [Variable], tokens: &mut Vec<u32>) -> Result<(), NoMemory>
-    requires { length tokens.old.items + all_count variable_count (map variable_tree variables.old) < 2 ^ 32 }
-    ensures tree { OnOk result (map variable_tree variables.new ≡ relabel_all numbered variable_count (relabel_variable numbered) (length tokens.old.items) (map variable_tree variables.old)) }
-    ensures end { OnOk result (length tokens.new.items ≡ length tokens.old.items + all_count variable_count (map variable_tree variables.old)) }
-    ensures tokens { OnOk result (tokens.new.items ≡ tokens.old.items ++ tokens_of (all_nodes variable_nodes (map variable_tree variables.old))) }
+    requires { HasRoom variable_list tokens.old variables.old }
+    ensures tree { OnOk result (Numbers variable_list tokens.old variables.old variables.new) }
+    ensures end { OnOk result (Counts variable_list tokens.old variables.old tokens.new) }
+    ensures tokens { OnOk result (Appends variable_list tokens.old variables.old tokens.new) }
 {
     for variable in variables.iter_mut() {
         number_variable(variable, tokens)?;
@@ -485,35 +493,35 @@ fn number_variables(variables: &mut [Variable], tokens: &mut Vec<u32>) -> Result
     Ok(())
 }
 
-#[tactic(auto, using(crate::proofs::NodeLaws::tokens_of_both, std::proofs::lemmas::List::with_items_is))]
+#[tactic(auto, using(crate::proofs::NumberingLoops::numbering))]
 pub fn number_parameter(parameter: &mut Parameter, tokens: &mut Vec<u32>) -> Result<(), NoMemory>
-    requires { length tokens.old.items + parameter_count (parameter_tree parameter.old) < 2 ^ 32 }
-    ensures tree { OnOk result (parameter_tree parameter.new ≡ relabel_parameter numbered (length tokens.old.items) (parameter_tree parameter.old)) }
-    ensures end { OnOk result (length tokens.new.items ≡ length tokens.old.items + parameter_count (parameter_tree parameter.old)) }
-    ensures tokens { OnOk result (tokens.new.items ≡ tokens.old.items ++ tokens_of (parameter_nodes (parameter_tree parameter.old))) }
+    requires { HasRoom parameters tokens.old parameter.old }
+    ensures tree { OnOk result (Numbers parameters tokens.old parameter.old parameter.new) }
+    ensures end { OnOk result (Counts parameters tokens.old parameter.old tokens.new) }
+    ensures tokens { OnOk result (Appends parameters tokens.old parameter.old tokens.new) }
 {
     parameter.node = number_node(parameter.node, tokens)?;
     number_lengths(&mut parameter.lengths, tokens)
 }
 
-#[tactic(auto, using(crate::proofs::NodeLaws::tokens_of_both, std::proofs::lemmas::List::with_items_is))]
+#[tactic(auto, using(crate::proofs::NumberingLoops::numbering))]
 pub fn number_members(members: &mut Members, tokens: &mut Vec<u32>) -> Result<(), NoMemory>
-    requires { length tokens.old.items + members_count (members_tree members.old) < 2 ^ 32 }
-    ensures tree { OnOk result (members_tree members.new ≡ relabel_members numbered (length tokens.old.items) (members_tree members.old)) }
-    ensures end { OnOk result (length tokens.new.items ≡ length tokens.old.items + members_count (members_tree members.old)) }
-    ensures tokens { OnOk result (tokens.new.items ≡ tokens.old.items ++ tokens_of (members_nodes (members_tree members.old))) }
+    requires { HasRoom member_groups tokens.old members.old }
+    ensures tree { OnOk result (Numbers member_groups tokens.old members.old members.new) }
+    ensures end { OnOk result (Counts member_groups tokens.old members.old tokens.new) }
+    ensures tokens { OnOk result (Appends member_groups tokens.old members.old tokens.new) }
 {
     number_declarators(&mut members.declarators, tokens)
 }
 
-#[tactic(auto, using(crate::proofs::NodeLaws::tokens_of_both, std::proofs::lemmas::List::with_items_is))]
-fn number_declarators(declarators: &mut [Declarator], tokens: &mut Vec<u32>) -> Result<(), NoMemory>
-    requires { length tokens.old.items + all_count declarator_count (map declarator_tree declarators.old) < 2 ^ 32 }
-    ensures tree { OnOk result (map declarator_tree declarators.new ≡ relabel_all numbered declarator_count (relabel_declarator numbered) (length tokens.old.items) (map declarator_tree declarators.old)) }
-    ensures end { OnOk result (length tokens.new.items ≡ length tokens.old.items + all_count declarator_count (map declarator_tree declarators.old)) }
-    ensures tokens { OnOk result (tokens.new.items ≡ tokens.old.items ++ tokens_of (all_nodes declarator_nodes (map declarator_tree declarators.old))) }
+#[tactic(auto, using(crate::proofs::NumberingLoops::numbering))]
+fn number_declarators(items: &mut [Declarator], tokens: &mut Vec<u32>) -> Result<(), NoMemory>
+    requires { HasRoom declarator_list tokens.old items.old }
+    ensures tree { OnOk result (Numbers declarator_list tokens.old items.old items.new) }
+    ensures end { OnOk result (Counts declarator_list tokens.old items.old tokens.new) }
+    ensures tokens { OnOk result (Appends declarator_list tokens.old items.old tokens.new) }
 {
-    for declarator in declarators.iter_mut() {
+    for declarator in items.iter_mut() {
         number_declarator(declarator, tokens)?;
     }
     Ok(())

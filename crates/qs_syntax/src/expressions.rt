@@ -1,10 +1,12 @@
-// Expressions (C11 6.5): their trees, whether two are the same, copies, and the numbers of their nodes.
-ghost use Rattle.std.specs.Prelude.{◌≡◌, ◌+◌, ◌<◌, ◌^◌, ◌++◌, ◌↔◌, IfOk, IsTrue, OnOk, length, map};
+// Expressions (C11 6.5): their trees, whether two are the same, copies, and the numbers of their
+// nodes.
+ghost use Rattle.std.specs.Prelude.{◌≡◌, ◌↔◌, IfOk, IsTrue, OnOk, map};
 ghost use Rattle.qs_syntax.specs.TreeOf.{expr_tree, exprs_tree, shape_tree};
-ghost use Rattle.qs_syntax.specs.Nodes.{tokens_of, all_count, all_nodes, expr_count, exprs_count, shape_count, expr_nodes, exprs_nodes, shape_nodes};
-ghost use Rattle.qs_syntax.specs.Numbering.{numbered, relabel_all, relabel_expr, relabel_exprs, relabel_shape};
-ghost use Rattle.qs_syntax.specs.Operators.{same_unary, same_step, same_binary, same_assign, same_access};
+ghost use Rattle.qs_syntax.specs.Operators.{same_unary, same_step, same_binary, same_assign};
+ghost use Rattle.qs_syntax.specs.Operators.{same_access};
 ghost use Rattle.qs_syntax.specs.Sameness.{same_expr, same_shape, same_exprs};
+ghost use Rattle.qs_syntax.specs.Sorts.{HasRoom, Numbers, Counts, Appends, arguments};
+ghost use Rattle.qs_syntax.specs.Sorts.{expression_list, expressions, shapes};
 
 use crate::nodes::{Node, number_node, same_node};
 use crate::operators::{Access, AssignmentOperator, BinaryOperator, StepOperator, UnaryOperator};
@@ -97,7 +99,8 @@ impl Expr {
 }
 
 // ---- how trees are dropped
-// By hand, since a derived drop of a tree stands with all its cases at each place where a tree may be dropped.
+// By hand, since a derived drop of a tree stands with all its cases at each place where a tree may
+// be dropped.
 
 impl Drop for Expr {
     #[cycle(drop_expr)]
@@ -361,12 +364,12 @@ pub fn copy_exprs(alloc: Global, from: &[Expr]) -> Result<Vec<Expr>, NoMemory>
 
 /// Numbers the nodes, where `tokens` has the token of each node before them; theirs are put behind.
 #[cycle(number_expr)]
-#[tactic(auto, using(crate::proofs::NodeLaws::tokens_of_both, std::proofs::lemmas::List::with_items_is))]
+#[tactic(auto, using(crate::proofs::NumberingLoops::numbering))]
 pub fn number_expr(e: &mut Expr, tokens: &mut Vec<u32>) -> Result<(), NoMemory>
-    requires { length tokens.old.items + expr_count (expr_tree e.old) < 2 ^ 32 }
-    ensures tree { OnOk result (expr_tree e.new ≡ relabel_expr numbered (length tokens.old.items) (expr_tree e.old)) }
-    ensures end { OnOk result (length tokens.new.items ≡ length tokens.old.items + expr_count (expr_tree e.old)) }
-    ensures tokens { OnOk result (tokens.new.items ≡ tokens.old.items ++ tokens_of (expr_nodes (expr_tree e.old))) }
+    requires { HasRoom expressions tokens.old e.old }
+    ensures tree { OnOk result (Numbers expressions tokens.old e.old e.new) }
+    ensures end { OnOk result (Counts expressions tokens.old e.old tokens.new) }
+    ensures tokens { OnOk result (Appends expressions tokens.old e.old tokens.new) }
 {
     e.node = number_node(e.node, tokens)?;
     let shape = mem::replace(&mut e.shape, Shape::Constant(0, false));
@@ -376,10 +379,10 @@ pub fn number_expr(e: &mut Expr, tokens: &mut Vec<u32>) -> Result<(), NoMemory>
 
 /// The same, of an expression that is handed over.
 pub fn number_owned_expr(e: Expr, tokens: &mut Vec<u32>) -> Result<Expr, NoMemory>
-    requires { length tokens.old.items + expr_count (expr_tree e) < 2 ^ 32 }
-    ensures tree { IfOk result (λ to. expr_tree to ≡ relabel_expr numbered (length tokens.old.items) (expr_tree e)) }
-    ensures end { OnOk result (length tokens.new.items ≡ length tokens.old.items + expr_count (expr_tree e)) }
-    ensures tokens { OnOk result (tokens.new.items ≡ tokens.old.items ++ tokens_of (expr_nodes (expr_tree e))) }
+    requires { HasRoom expressions tokens.old e }
+    ensures tree { IfOk result (Numbers expressions tokens.old e) }
+    ensures end { OnOk result (Counts expressions tokens.old e tokens.new) }
+    ensures tokens { OnOk result (Appends expressions tokens.old e tokens.new) }
 {
     let mut e = e;
     number_expr(&mut e, tokens)?;
@@ -387,12 +390,12 @@ pub fn number_owned_expr(e: Expr, tokens: &mut Vec<u32>) -> Result<Expr, NoMemor
 }
 
 #[cycle(number_expr)]
-#[tactic(auto, using(crate::proofs::NodeLaws::tokens_of_both, std::proofs::lemmas::List::with_items_is))]
+#[tactic(auto, using(crate::proofs::NumberingLoops::numbering))]
 fn number_boxed(e: Box<Expr>, tokens: &mut Vec<u32>) -> Result<Box<Expr>, NoMemory>
-    requires { length tokens.old.items + expr_count (expr_tree e.value) < 2 ^ 32 }
-    ensures tree { IfOk result (λ to. expr_tree to.value ≡ relabel_expr numbered (length tokens.old.items) (expr_tree e.value)) }
-    ensures end { OnOk result (length tokens.new.items ≡ length tokens.old.items + expr_count (expr_tree e.value)) }
-    ensures tokens { OnOk result (tokens.new.items ≡ tokens.old.items ++ tokens_of (expr_nodes (expr_tree e.value))) }
+    requires { HasRoom expressions tokens.old e.value }
+    ensures tree { IfOk result (λ to. Numbers expressions tokens.old e.value to.value) }
+    ensures end { OnOk result (Counts expressions tokens.old e.value tokens.new) }
+    ensures tokens { OnOk result (Appends expressions tokens.old e.value tokens.new) }
 {
     let mut e = e;
     number_expr(&mut e, tokens)?;
@@ -401,12 +404,12 @@ fn number_boxed(e: Box<Expr>, tokens: &mut Vec<u32>) -> Result<Box<Expr>, NoMemo
 
 impl Shape {
     #[cycle(number_expr)]
-    #[tactic(auto, using(crate::proofs::NodeLaws::tokens_of_both, std::proofs::lemmas::List::with_items_is))]
+    #[tactic(auto, using(crate::proofs::NumberingLoops::numbering))]
     fn with_numbers(self, tokens: &mut Vec<u32>) -> Result<Shape, NoMemory>
-        requires { length tokens.old.items + shape_count (shape_tree self) < 2 ^ 32 }
-        ensures tree { IfOk result (λ to. shape_tree to ≡ relabel_shape numbered (length tokens.old.items) (shape_tree self)) }
-        ensures end { OnOk result (length tokens.new.items ≡ length tokens.old.items + shape_count (shape_tree self)) }
-        ensures tokens { OnOk result (tokens.new.items ≡ tokens.old.items ++ tokens_of (shape_nodes (shape_tree self))) }
+        requires { HasRoom shapes tokens.old self }
+        ensures tree { IfOk result (Numbers shapes tokens.old self) }
+        ensures end { OnOk result (Counts shapes tokens.old self tokens.new) }
+        ensures tokens { OnOk result (Appends shapes tokens.old self tokens.new) }
     {
         match self {
             Shape::Constant(value, is_unsigned) => Ok(Shape::Constant(value, is_unsigned)),
@@ -470,12 +473,12 @@ impl Shape {
 }
 
 #[cycle(number_expr)]
-#[tactic(auto, using(crate::proofs::NumberingLoops::exprs_count_of, crate::proofs::NumberingLoops::exprs_nodes_of, crate::proofs::NumberingLoops::exprs_of_relabelled, std::proofs::lemmas::List::with_items_is))]
+#[tactic(auto, using(crate::proofs::NumberingLoops::exprs_numbering))]
 fn number_arguments(es: Vec<Expr>, tokens: &mut Vec<u32>) -> Result<Vec<Expr>, NoMemory>
-    requires { length tokens.old.items + exprs_count (exprs_tree es.items) < 2 ^ 32 }
-    ensures tree { IfOk result (λ to. exprs_tree to.items ≡ relabel_exprs numbered (length tokens.old.items) (exprs_tree es.items)) }
-    ensures end { OnOk result (length tokens.new.items ≡ length tokens.old.items + exprs_count (exprs_tree es.items)) }
-    ensures tokens { OnOk result (tokens.new.items ≡ tokens.old.items ++ tokens_of (exprs_nodes (exprs_tree es.items))) }
+    requires { HasRoom arguments tokens.old es.items }
+    ensures tree { IfOk result (λ to. Numbers arguments tokens.old es.items to.items) }
+    ensures end { OnOk result (Counts arguments tokens.old es.items tokens.new) }
+    ensures tokens { OnOk result (Appends arguments tokens.old es.items tokens.new) }
 {
     let mut es = es;
     number_exprs(&mut es, tokens)?;
@@ -484,12 +487,12 @@ fn number_arguments(es: Vec<Expr>, tokens: &mut Vec<u32>) -> Result<Vec<Expr>, N
 
 /// Numbers the nodes of all.
 #[cycle(number_expr)]
-#[tactic(auto, using(crate::proofs::NodeLaws::tokens_of_both, std::proofs::lemmas::List::with_items_is))]
+#[tactic(auto, using(crate::proofs::NumberingLoops::numbering))]
 pub fn number_exprs(es: &mut [Expr], tokens: &mut Vec<u32>) -> Result<(), NoMemory>
-    requires { length tokens.old.items + all_count expr_count (map expr_tree es.old) < 2 ^ 32 }
-    ensures tree { OnOk result (map expr_tree es.new ≡ relabel_all numbered expr_count (relabel_expr numbered) (length tokens.old.items) (map expr_tree es.old)) }
-    ensures end { OnOk result (length tokens.new.items ≡ length tokens.old.items + all_count expr_count (map expr_tree es.old)) }
-    ensures tokens { OnOk result (tokens.new.items ≡ tokens.old.items ++ tokens_of (all_nodes expr_nodes (map expr_tree es.old))) }
+    requires { HasRoom expression_list tokens.old es.old }
+    ensures tree { OnOk result (Numbers expression_list tokens.old es.old es.new) }
+    ensures end { OnOk result (Counts expression_list tokens.old es.old tokens.new) }
+    ensures tokens { OnOk result (Appends expression_list tokens.old es.old tokens.new) }
 {
     for e in es.iter_mut() {
         number_expr(e, tokens)?;

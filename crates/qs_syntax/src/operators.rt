@@ -1,6 +1,10 @@
 // Operators (C11 6.5.2 to 6.5.16).
 ghost use Rattle.std.specs.Prelude.{◌≡◌, ◌≤◌};
-ghost use Rattle.qs_syntax.specs.Operators.{access_of, assign_of, binary_of, binary_row, precedence, punctuator_of_access, punctuator_of_assign, punctuator_of_binary, punctuator_of_step, punctuator_of_unary, stands_before, step_of, step_row, unary_of, weakest};
+ghost use Rattle.qs_syntax.specs.Operators.{access_of, assign_of, binary_of, binary_row};
+ghost use Rattle.qs_syntax.specs.Operators.{precedence, punctuator_of_access, punctuator_of_assign};
+ghost use Rattle.qs_syntax.specs.Operators.{punctuator_of_binary, punctuator_of_step};
+ghost use Rattle.qs_syntax.specs.Operators.{punctuator_of_unary, stands_before, step_of, step_row};
+ghost use Rattle.qs_syntax.specs.Operators.{unary_of, weakest};
 
 use crate::punctuator::Punctuator;
 

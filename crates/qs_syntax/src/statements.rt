@@ -1,9 +1,11 @@
-// Statements (C11 6.8): their trees, whether two are the same, copies, and the numbers of their nodes.
-ghost use Rattle.std.specs.Prelude.{◌≡◌, ◌+◌, ◌<◌, ◌^◌, ◌++◌, ◌↔◌, IfOk, IsTrue, OnOk, length, map};
+// Statements (C11 6.8): their trees, whether two are the same, copies, and the numbers of their
+// nodes.
+ghost use Rattle.std.specs.Prelude.{◌≡◌, ◌↔◌, IfOk, IsTrue, OnOk, map};
 ghost use Rattle.qs_syntax.specs.TreeOf.{option_tree, start_tree, stmt_tree, stmts_tree, else_tree};
-ghost use Rattle.qs_syntax.specs.Nodes.{tokens_of, all_count, all_nodes, option_count, option_nodes, expr_count, expr_nodes, start_count, start_nodes, stmt_count, stmt_nodes, stmts_count, stmts_nodes, else_count, else_nodes};
-ghost use Rattle.qs_syntax.specs.Numbering.{numbered, relabel_all, relabel_option, relabel_expr, relabel_start, relabel_stmt, relabel_stmts, relabel_else};
-ghost use Rattle.qs_syntax.specs.Sameness.{same_option, same_start, same_stmt, same_stmts, same_else};
+ghost use Rattle.qs_syntax.specs.Sameness.{same_option, same_start, same_stmt, same_stmts};
+ghost use Rattle.qs_syntax.specs.Sameness.{same_else};
+ghost use Rattle.qs_syntax.specs.Sorts.{HasRoom, Numbers, Counts, Appends, alternatives, blocks};
+ghost use Rattle.qs_syntax.specs.Sorts.{optional_expressions, starts, statement_list, statements};
 
 use crate::declarations::{
     Declaration, copy_declaration, number_owned_declaration, same_declaration,
@@ -367,10 +369,10 @@ pub fn copy_stmts(alloc: Global, from: &[Stmt]) -> Result<Vec<Stmt>, NoMemory>
 // ---- the numbers of the nodes
 
 fn number_option(option: Option<Expr>, tokens: &mut Vec<u32>) -> Result<Option<Expr>, NoMemory>
-    requires { length tokens.old.items + option_count expr_count (option_tree option) < 2 ^ 32 }
-    ensures tree { IfOk result (λ to. option_tree to ≡ relabel_option (relabel_expr numbered) (length tokens.old.items) (option_tree option)) }
-    ensures end { OnOk result (length tokens.new.items ≡ length tokens.old.items + option_count expr_count (option_tree option)) }
-    ensures tokens { OnOk result (tokens.new.items ≡ tokens.old.items ++ tokens_of (option_nodes expr_nodes (option_tree option))) }
+    requires { HasRoom optional_expressions tokens.old option }
+    ensures tree { IfOk result (Numbers optional_expressions tokens.old option) }
+    ensures end { OnOk result (Counts optional_expressions tokens.old option tokens.new) }
+    ensures tokens { OnOk result (Appends optional_expressions tokens.old option tokens.new) }
 {
     match option {
         None => Ok(None),
@@ -379,10 +381,10 @@ fn number_option(option: Option<Expr>, tokens: &mut Vec<u32>) -> Result<Option<E
 }
 
 fn number_start(start: Start, tokens: &mut Vec<u32>) -> Result<Start, NoMemory>
-    requires { length tokens.old.items + start_count (start_tree start) < 2 ^ 32 }
-    ensures tree { IfOk result (λ to. start_tree to ≡ relabel_start numbered (length tokens.old.items) (start_tree start)) }
-    ensures end { OnOk result (length tokens.new.items ≡ length tokens.old.items + start_count (start_tree start)) }
-    ensures tokens { OnOk result (tokens.new.items ≡ tokens.old.items ++ tokens_of (start_nodes (start_tree start))) }
+    requires { HasRoom starts tokens.old start }
+    ensures tree { IfOk result (Numbers starts tokens.old start) }
+    ensures end { OnOk result (Counts starts tokens.old start tokens.new) }
+    ensures tokens { OnOk result (Appends starts tokens.old start tokens.new) }
 {
     match start {
         Start::Nothing => Ok(Start::Nothing),
@@ -393,12 +395,12 @@ fn number_start(start: Start, tokens: &mut Vec<u32>) -> Result<Start, NoMemory>
 
 impl Stmt {
     #[cycle(number_stmt)]
-    #[tactic(auto, using(crate::proofs::NodeLaws::tokens_of_both, std::proofs::lemmas::List::with_items_is))]
+    #[tactic(auto, using(crate::proofs::NumberingLoops::numbering))]
     fn with_numbers(self, tokens: &mut Vec<u32>) -> Result<Stmt, NoMemory>
-        requires { length tokens.old.items + stmt_count (stmt_tree self) < 2 ^ 32 }
-        ensures tree { IfOk result (λ to. stmt_tree to ≡ relabel_stmt numbered (length tokens.old.items) (stmt_tree self)) }
-        ensures end { OnOk result (length tokens.new.items ≡ length tokens.old.items + stmt_count (stmt_tree self)) }
-        ensures tokens { OnOk result (tokens.new.items ≡ tokens.old.items ++ tokens_of (stmt_nodes (stmt_tree self))) }
+        requires { HasRoom statements tokens.old self }
+        ensures tree { IfOk result (Numbers statements tokens.old self) }
+        ensures end { OnOk result (Counts statements tokens.old self tokens.new) }
+        ensures tokens { OnOk result (Appends statements tokens.old self tokens.new) }
     {
         match self {
             Stmt::Empty(node) => Ok(Stmt::Empty(number_node(node, tokens)?)),
@@ -461,12 +463,12 @@ impl Stmt {
 }
 
 #[cycle(number_stmt)]
-#[tactic(auto, using(crate::proofs::NodeLaws::tokens_of_both, std::proofs::lemmas::List::with_items_is))]
+#[tactic(auto, using(crate::proofs::NumberingLoops::numbering))]
 fn number_boxed(s: Box<Stmt>, tokens: &mut Vec<u32>) -> Result<Box<Stmt>, NoMemory>
-    requires { length tokens.old.items + stmt_count (stmt_tree s.value) < 2 ^ 32 }
-    ensures tree { IfOk result (λ to. stmt_tree to.value ≡ relabel_stmt numbered (length tokens.old.items) (stmt_tree s.value)) }
-    ensures end { OnOk result (length tokens.new.items ≡ length tokens.old.items + stmt_count (stmt_tree s.value)) }
-    ensures tokens { OnOk result (tokens.new.items ≡ tokens.old.items ++ tokens_of (stmt_nodes (stmt_tree s.value))) }
+    requires { HasRoom statements tokens.old s.value }
+    ensures tree { IfOk result (λ to. Numbers statements tokens.old s.value to.value) }
+    ensures end { OnOk result (Counts statements tokens.old s.value tokens.new) }
+    ensures tokens { OnOk result (Appends statements tokens.old s.value tokens.new) }
 {
     let mut s = s;
     let from = mem::replace(&mut *s, Stmt::Empty(Node { id: 0, token: 0 }));
@@ -475,15 +477,15 @@ fn number_boxed(s: Box<Stmt>, tokens: &mut Vec<u32>) -> Result<Box<Stmt>, NoMemo
 }
 
 #[cycle(number_stmt)]
-#[tactic(auto, using(crate::proofs::NodeLaws::tokens_of_both, std::proofs::lemmas::List::with_items_is))]
+#[tactic(auto, using(crate::proofs::NumberingLoops::numbering))]
 fn number_else(
     from: Option<Box<Stmt>>,
     tokens: &mut Vec<u32>,
 ) -> Result<Option<Box<Stmt>>, NoMemory>
-    requires { length tokens.old.items + else_count (else_tree from) < 2 ^ 32 }
-    ensures tree { IfOk result (λ to. else_tree to ≡ relabel_else numbered (length tokens.old.items) (else_tree from)) }
-    ensures end { OnOk result (length tokens.new.items ≡ length tokens.old.items + else_count (else_tree from)) }
-    ensures tokens { OnOk result (tokens.new.items ≡ tokens.old.items ++ tokens_of (else_nodes (else_tree from))) }
+    requires { HasRoom alternatives tokens.old from }
+    ensures tree { IfOk result (Numbers alternatives tokens.old from) }
+    ensures end { OnOk result (Counts alternatives tokens.old from tokens.new) }
+    ensures tokens { OnOk result (Appends alternatives tokens.old from tokens.new) }
 {
     match from {
         None => Ok(None),
@@ -496,12 +498,12 @@ fn number_else(
 }
 
 #[cycle(number_stmt)]
-#[tactic(auto, using(crate::proofs::NumberingLoops::stmts_count_of, crate::proofs::NumberingLoops::stmts_nodes_of, crate::proofs::NumberingLoops::stmts_of_relabelled, std::proofs::lemmas::List::with_items_is))]
+#[tactic(auto, using(crate::proofs::NumberingLoops::stmts_numbering))]
 fn number_items(items: Vec<Stmt>, tokens: &mut Vec<u32>) -> Result<Vec<Stmt>, NoMemory>
-    requires { length tokens.old.items + stmts_count (stmts_tree items.items) < 2 ^ 32 }
-    ensures tree { IfOk result (λ to. stmts_tree to.items ≡ relabel_stmts numbered (length tokens.old.items) (stmts_tree items.items)) }
-    ensures end { OnOk result (length tokens.new.items ≡ length tokens.old.items + stmts_count (stmts_tree items.items)) }
-    ensures tokens { OnOk result (tokens.new.items ≡ tokens.old.items ++ tokens_of (stmts_nodes (stmts_tree items.items))) }
+    requires { HasRoom blocks tokens.old items.items }
+    ensures tree { IfOk result (λ to. Numbers blocks tokens.old items.items to.items) }
+    ensures end { OnOk result (Counts blocks tokens.old items.items tokens.new) }
+    ensures tokens { OnOk result (Appends blocks tokens.old items.items tokens.new) }
 {
     let mut items = items;
     number_stmts(&mut items, tokens)?;
@@ -509,12 +511,12 @@ fn number_items(items: Vec<Stmt>, tokens: &mut Vec<u32>) -> Result<Vec<Stmt>, No
 }
 
 #[cycle(number_stmt)]
-#[tactic(auto, using(crate::proofs::NodeLaws::tokens_of_both, std::proofs::lemmas::List::with_items_is))]
+#[tactic(auto, using(crate::proofs::NumberingLoops::numbering))]
 pub fn number_stmts(items: &mut [Stmt], tokens: &mut Vec<u32>) -> Result<(), NoMemory>
-    requires { length tokens.old.items + all_count stmt_count (map stmt_tree items.old) < 2 ^ 32 }
-    ensures tree { OnOk result (map stmt_tree items.new ≡ relabel_all numbered stmt_count (relabel_stmt numbered) (length tokens.old.items) (map stmt_tree items.old)) }
-    ensures end { OnOk result (length tokens.new.items ≡ length tokens.old.items + all_count stmt_count (map stmt_tree items.old)) }
-    ensures tokens { OnOk result (tokens.new.items ≡ tokens.old.items ++ tokens_of (all_nodes stmt_nodes (map stmt_tree items.old))) }
+    requires { HasRoom statement_list tokens.old items.old }
+    ensures tree { OnOk result (Numbers statement_list tokens.old items.old items.new) }
+    ensures end { OnOk result (Counts statement_list tokens.old items.old tokens.new) }
+    ensures tokens { OnOk result (Appends statement_list tokens.old items.old tokens.new) }
 {
     for s in items.iter_mut() {
         let from = mem::replace(s, Stmt::Empty(Node { id: 0, token: 0 }));

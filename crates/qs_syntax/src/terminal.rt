@@ -10,8 +10,15 @@ pub enum Terminal {
     Name(u32, Name),
     /// A keyword.
     Keyword(u32, Keyword),
-    /// A number or character: its value, and whether it is `unsigned` and no `int`.
-    Constant(u32, u32, bool),
+    /// A number or character.
+    Constant {
+        /// The number of the token.
+        at: u32,
+        /// Its value.
+        value: u32,
+        /// Whether it is `unsigned` and no `int`.
+        is_unsigned: bool,
+    },
     /// A string literal: the bytes that it stands for.
     Text(u32, Text),
     /// A punctuator.

@@ -24,7 +24,8 @@ pub enum TokenKind {
     Number(u32, bool),
     /// A character (C11 6.4.4.4), of type `int`: its value.
     Character(u8),
-    /// A text in double quotes (C11 6.4.5). Its bytes are those of the text, with their quotes and escapes.
+    /// A text in double quotes (C11 6.4.5). Its bytes are those of the text, with their quotes and
+    /// escapes.
     Text,
     /// A punctuator (C11 6.4.6).
     Punctuator(Punctuator),

@@ -1,11 +1,12 @@
-// What stands at file scope (C11 6.9): its trees, whether two are the same, copies, and the numbers of the nodes.
-ghost use Rattle.std.specs.Prelude.{◌≡◌, ◌+◌, ◌<◌, ◌^◌, ◌++◌, ◌↔◌, IfOk, IsTrue, OnOk, length, map, option_map};
-ghost use Rattle.std.specs.Option.{option_eq};
-ghost use Rattle.std.specs.Cmp.Lexicographic.{pointwise};
-ghost use Rattle.qs_syntax.specs.TreeOf.{stmts_tree, parameter_tree, members_tree, struct_tree, forward_tree, function_tree, decl_tree};
-ghost use Rattle.qs_syntax.specs.Nodes.{tokens_of, all_count, all_nodes, option_count, option_nodes, stmts_count, stmts_nodes, parameter_count, parameter_nodes, members_count, members_nodes, struct_count, struct_nodes, function_count, function_nodes, decl_count, decl_nodes, unit_count, unit_nodes};
-ghost use Rattle.qs_syntax.specs.Numbering.{numbered, relabel_all, relabel_option, relabel_stmts, relabel_parameter, relabel_members, relabel_struct, relabel_function, relabel_decl};
-ghost use Rattle.qs_syntax.specs.Sameness.{same_stmts, same_parameter, same_members, same_struct, same_forward, same_function, same_decl, same_unit};
+// What stands at file scope (C11 6.9): its trees, whether two are the same, copies, and the numbers
+// of the nodes.
+ghost use Rattle.std.specs.Prelude.{◌≡◌, ◌↔◌, IfOk, IsTrue, OnOk, map};
+ghost use Rattle.qs_syntax.specs.TreeOf.{parameter_tree, members_tree, struct_tree, forward_tree};
+ghost use Rattle.qs_syntax.specs.TreeOf.{function_tree, decl_tree, body_tree};
+ghost use Rattle.qs_syntax.specs.Sameness.{same_struct, same_forward, same_function, same_decl};
+ghost use Rattle.qs_syntax.specs.Sameness.{same_unit, same_groups, same_parameters, same_body};
+ghost use Rattle.qs_syntax.specs.Sorts.{HasRoom, Numbers, Counts, Appends, bodies, externals};
+ghost use Rattle.qs_syntax.specs.Sorts.{functions, group_list, parameter_list, structs, units};
 
 use crate::declarations::{
     Declaration, Members, Parameter, copy_declaration, copy_members, copy_parameter,
@@ -79,7 +80,7 @@ impl Decl {
 // ---- whether two are the same
 
 fn same_groups(a: &[Members], b: &[Members]) -> bool
-    ensures { result ≡ pointwise same_members (map members_tree a.now) (map members_tree b.now) }
+    ensures { result ≡ same_groups (map members_tree a.now) (map members_tree b.now) }
 {
     for (i, x) in a.iter().enumerate() {
         if i == b.len() || !same_members(x, &b[i]) {
@@ -102,7 +103,7 @@ fn same_forward(a: &Forward, b: &Forward) -> bool
 }
 
 fn same_parameters(a: &[Parameter], b: &[Parameter]) -> bool
-    ensures { result ≡ pointwise same_parameter (map parameter_tree a.now) (map parameter_tree b.now) }
+    ensures { result ≡ same_parameters (map parameter_tree a.now) (map parameter_tree b.now) }
 {
     for (i, x) in a.iter().enumerate() {
         if i == b.len() || !same_parameter(x, &b[i]) {
@@ -113,7 +114,7 @@ fn same_parameters(a: &[Parameter], b: &[Parameter]) -> bool
 }
 
 fn same_body(a: &Option<Vec<Stmt>>, b: &Option<Vec<Stmt>>) -> bool
-    ensures { result ≡ option_eq same_stmts (option_map (λ body. stmts_tree body.items) a.now) (option_map (λ body. stmts_tree body.items) b.now) }
+    ensures { result ≡ same_body (body_tree a.now) (body_tree b.now) }
 {
     match (a, b) {
         (None, None) => true,
@@ -182,7 +183,7 @@ fn copy_parameters(alloc: Global, from: &[Parameter]) -> Result<Vec<Parameter>, 
 }
 
 fn copy_body(alloc: Global, from: &Option<Vec<Stmt>>) -> Result<Option<Vec<Stmt>>, NoMemory>
-    ensures { IfOk result (λ to. option_map (λ b. stmts_tree b.items) to ≡ option_map (λ b. stmts_tree b.items) from.now) }
+    ensures { IfOk result (λ to. body_tree to ≡ body_tree from.now) }
 {
     match from {
         None => Ok(None),
@@ -228,23 +229,23 @@ pub fn copy_decls(alloc: Global, from: &[Decl]) -> Result<Vec<Decl>, NoMemory>
 
 // ---- the numbers of the nodes
 
-#[tactic(auto, using(crate::proofs::NodeLaws::tokens_of_both, std::proofs::lemmas::List::with_items_is))]
+#[tactic(auto, using(crate::proofs::NumberingLoops::numbering))]
 fn number_struct(structure: &mut Struct, tokens: &mut Vec<u32>) -> Result<(), NoMemory>
-    requires { length tokens.old.items + struct_count (struct_tree structure.old) < 2 ^ 32 }
-    ensures tree { OnOk result (struct_tree structure.new ≡ relabel_struct numbered (length tokens.old.items) (struct_tree structure.old)) }
-    ensures end { OnOk result (length tokens.new.items ≡ length tokens.old.items + struct_count (struct_tree structure.old)) }
-    ensures tokens { OnOk result (tokens.new.items ≡ tokens.old.items ++ tokens_of (struct_nodes (struct_tree structure.old))) }
+    requires { HasRoom structs tokens.old structure.old }
+    ensures tree { OnOk result (Numbers structs tokens.old structure.old structure.new) }
+    ensures end { OnOk result (Counts structs tokens.old structure.old tokens.new) }
+    ensures tokens { OnOk result (Appends structs tokens.old structure.old tokens.new) }
 {
     structure.node = number_node(structure.node, tokens)?;
     number_groups(&mut structure.members, tokens)
 }
 
-#[tactic(auto, using(crate::proofs::NodeLaws::tokens_of_both, std::proofs::lemmas::List::with_items_is))]
+#[tactic(auto, using(crate::proofs::NumberingLoops::numbering))]
 fn number_groups(groups: &mut [Members], tokens: &mut Vec<u32>) -> Result<(), NoMemory>
-    requires { length tokens.old.items + all_count members_count (map members_tree groups.old) < 2 ^ 32 }
-    ensures tree { OnOk result (map members_tree groups.new ≡ relabel_all numbered members_count (relabel_members numbered) (length tokens.old.items) (map members_tree groups.old)) }
-    ensures end { OnOk result (length tokens.new.items ≡ length tokens.old.items + all_count members_count (map members_tree groups.old)) }
-    ensures tokens { OnOk result (tokens.new.items ≡ tokens.old.items ++ tokens_of (all_nodes members_nodes (map members_tree groups.old))) }
+    requires { HasRoom group_list tokens.old groups.old }
+    ensures tree { OnOk result (Numbers group_list tokens.old groups.old groups.new) }
+    ensures end { OnOk result (Counts group_list tokens.old groups.old tokens.new) }
+    ensures tokens { OnOk result (Appends group_list tokens.old groups.old tokens.new) }
 {
     for group in groups.iter_mut() {
         number_members(group, tokens)?;
@@ -252,12 +253,12 @@ fn number_groups(groups: &mut [Members], tokens: &mut Vec<u32>) -> Result<(), No
     Ok(())
 }
 
-#[tactic(auto, using(crate::proofs::NodeLaws::tokens_of_both, std::proofs::lemmas::List::with_items_is))]
+#[tactic(auto, using(crate::proofs::NumberingLoops::numbering))]
 fn number_parameters(parameters: &mut [Parameter], tokens: &mut Vec<u32>) -> Result<(), NoMemory>
-    requires { length tokens.old.items + all_count parameter_count (map parameter_tree parameters.old) < 2 ^ 32 }
-    ensures tree { OnOk result (map parameter_tree parameters.new ≡ relabel_all numbered parameter_count (relabel_parameter numbered) (length tokens.old.items) (map parameter_tree parameters.old)) }
-    ensures end { OnOk result (length tokens.new.items ≡ length tokens.old.items + all_count parameter_count (map parameter_tree parameters.old)) }
-    ensures tokens { OnOk result (tokens.new.items ≡ tokens.old.items ++ tokens_of (all_nodes parameter_nodes (map parameter_tree parameters.old))) }
+    requires { HasRoom parameter_list tokens.old parameters.old }
+    ensures tree { OnOk result (Numbers parameter_list tokens.old parameters.old parameters.new) }
+    ensures end { OnOk result (Counts parameter_list tokens.old parameters.old tokens.new) }
+    ensures tokens { OnOk result (Appends parameter_list tokens.old parameters.old tokens.new) }
 {
     for parameter in parameters.iter_mut() {
         number_parameter(parameter, tokens)?;
@@ -265,12 +266,12 @@ fn number_parameters(parameters: &mut [Parameter], tokens: &mut Vec<u32>) -> Res
     Ok(())
 }
 
-#[tactic(auto, using(crate::proofs::NumberingLoops::stmts_count_of, crate::proofs::NumberingLoops::stmts_nodes_of, crate::proofs::NumberingLoops::stmts_of_relabelled, std::proofs::lemmas::List::with_items_is))]
+#[tactic(auto, using(crate::proofs::NumberingLoops::stmts_numbering))]
 fn number_body(body: &mut Option<Vec<Stmt>>, tokens: &mut Vec<u32>) -> Result<(), NoMemory>
-    requires { length tokens.old.items + option_count stmts_count (option_map (λ b. stmts_tree b.items) body.old) < 2 ^ 32 }
-    ensures tree { OnOk result (option_map (λ b. stmts_tree b.items) body.new ≡ relabel_option (relabel_stmts numbered) (length tokens.old.items) (option_map (λ b. stmts_tree b.items) body.old)) }
-    ensures end { OnOk result (length tokens.new.items ≡ length tokens.old.items + option_count stmts_count (option_map (λ b. stmts_tree b.items) body.old)) }
-    ensures tokens { OnOk result (tokens.new.items ≡ tokens.old.items ++ tokens_of (option_nodes stmts_nodes (option_map (λ b. stmts_tree b.items) body.old))) }
+    requires { HasRoom bodies tokens.old body.old }
+    ensures tree { OnOk result (Numbers bodies tokens.old body.old body.new) }
+    ensures end { OnOk result (Counts bodies tokens.old body.old tokens.new) }
+    ensures tokens { OnOk result (Appends bodies tokens.old body.old tokens.new) }
 {
     match body {
         None => Ok(()),
@@ -278,24 +279,24 @@ fn number_body(body: &mut Option<Vec<Stmt>>, tokens: &mut Vec<u32>) -> Result<()
     }
 }
 
-#[tactic(auto, using(crate::proofs::NodeLaws::tokens_of_both, std::proofs::lemmas::List::with_items_is))]
+#[tactic(auto, using(crate::proofs::NumberingLoops::numbering))]
 fn number_function(function: &mut Function, tokens: &mut Vec<u32>) -> Result<(), NoMemory>
-    requires { length tokens.old.items + function_count (function_tree function.old) < 2 ^ 32 }
-    ensures tree { OnOk result (function_tree function.new ≡ relabel_function numbered (length tokens.old.items) (function_tree function.old)) }
-    ensures end { OnOk result (length tokens.new.items ≡ length tokens.old.items + function_count (function_tree function.old)) }
-    ensures tokens { OnOk result (tokens.new.items ≡ tokens.old.items ++ tokens_of (function_nodes (function_tree function.old))) }
+    requires { HasRoom functions tokens.old function.old }
+    ensures tree { OnOk result (Numbers functions tokens.old function.old function.new) }
+    ensures end { OnOk result (Counts functions tokens.old function.old tokens.new) }
+    ensures tokens { OnOk result (Appends functions tokens.old function.old tokens.new) }
 {
     function.node = number_node(function.node, tokens)?;
     number_parameters(&mut function.parameters, tokens)?;
     number_body(&mut function.body, tokens)
 }
 
-#[tactic(auto, using(crate::proofs::NodeLaws::tokens_of_both, std::proofs::lemmas::List::with_items_is))]
+#[tactic(auto, using(crate::proofs::NumberingLoops::numbering))]
 fn number_decl(declaration: &mut Decl, tokens: &mut Vec<u32>) -> Result<(), NoMemory>
-    requires { length tokens.old.items + decl_count (decl_tree declaration.old) < 2 ^ 32 }
-    ensures tree { OnOk result (decl_tree declaration.new ≡ relabel_decl numbered (length tokens.old.items) (decl_tree declaration.old)) }
-    ensures end { OnOk result (length tokens.new.items ≡ length tokens.old.items + decl_count (decl_tree declaration.old)) }
-    ensures tokens { OnOk result (tokens.new.items ≡ tokens.old.items ++ tokens_of (decl_nodes (decl_tree declaration.old))) }
+    requires { HasRoom externals tokens.old declaration.old }
+    ensures tree { OnOk result (Numbers externals tokens.old declaration.old declaration.new) }
+    ensures end { OnOk result (Counts externals tokens.old declaration.old tokens.new) }
+    ensures tokens { OnOk result (Appends externals tokens.old declaration.old tokens.new) }
 {
     match declaration {
         Decl::Struct(s) => number_struct(s, tokens),
@@ -309,12 +310,12 @@ fn number_decl(declaration: &mut Decl, tokens: &mut Vec<u32>) -> Result<(), NoMe
 }
 
 /// Numbers the nodes, where `tokens` has the token of each node before them; theirs are put behind.
-#[tactic(auto, using(crate::proofs::NodeLaws::tokens_of_both, std::proofs::lemmas::List::with_items_is))]
+#[tactic(auto, using(crate::proofs::NumberingLoops::numbering))]
 fn number_decls(declarations: &mut [Decl], tokens: &mut Vec<u32>) -> Result<(), NoMemory>
-    requires { length tokens.old.items + unit_count (map decl_tree declarations.old) < 2 ^ 32 }
-    ensures tree { OnOk result (map decl_tree declarations.new ≡ relabel_all numbered decl_count (relabel_decl numbered) (length tokens.old.items) (map decl_tree declarations.old)) }
-    ensures end { OnOk result (length tokens.new.items ≡ length tokens.old.items + unit_count (map decl_tree declarations.old)) }
-    ensures tokens { OnOk result (tokens.new.items ≡ tokens.old.items ++ tokens_of (unit_nodes (map decl_tree declarations.old))) }
+    requires { HasRoom units tokens.old declarations.old }
+    ensures tree { OnOk result (Numbers units tokens.old declarations.old declarations.new) }
+    ensures end { OnOk result (Counts units tokens.old declarations.old tokens.new) }
+    ensures tokens { OnOk result (Appends units tokens.old declarations.old tokens.new) }
 {
     for declaration in declarations.iter_mut() {
         number_decl(declaration, tokens)?;
@@ -323,15 +324,15 @@ fn number_decls(declarations: &mut [Decl], tokens: &mut Vec<u32>) -> Result<(), 
 }
 
 /// The same, of declarations that are handed over.
-#[tactic(auto, using(crate::proofs::NodeLaws::tokens_of_both, std::proofs::lemmas::List::with_items_is))]
+#[tactic(auto, using(crate::proofs::NumberingLoops::numbering))]
 pub fn number_owned_decls(
     declarations: Vec<Decl>,
     tokens: &mut Vec<u32>,
 ) -> Result<Vec<Decl>, NoMemory>
-    requires { length tokens.old.items + unit_count (map decl_tree declarations.items) < 2 ^ 32 }
-    ensures tree { IfOk result (λ to. map decl_tree to.items ≡ relabel_all numbered decl_count (relabel_decl numbered) (length tokens.old.items) (map decl_tree declarations.items)) }
-    ensures end { OnOk result (length tokens.new.items ≡ length tokens.old.items + unit_count (map decl_tree declarations.items)) }
-    ensures tokens { OnOk result (tokens.new.items ≡ tokens.old.items ++ tokens_of (unit_nodes (map decl_tree declarations.items))) }
+    requires { HasRoom units tokens.old declarations.items }
+    ensures tree { IfOk result (λ to. Numbers units tokens.old declarations.items to.items) }
+    ensures end { OnOk result (Counts units tokens.old declarations.items tokens.new) }
+    ensures tokens { OnOk result (Appends units tokens.old declarations.items tokens.new) }
 {
     let mut declarations = declarations;
     number_decls(&mut declarations, tokens)?;

@@ -1,9 +1,8 @@
 // How units are made, copied, compared and read.
-ghost use Rattle.std.specs.Prelude.{◌≡◌, ◌<◌, ◌^◌, ◌↔◌, map, IfOk, IsTrue, Some};
-ghost use Rattle.std.specs.List.{slice_get};
+ghost use Rattle.std.specs.Prelude.{◌≡◌, ◌<◌, ◌^◌, ◌↔◌, map, IfOk, IsTrue};
 ghost use Rattle.qs_syntax.specs.TreeOf.{decl_tree};
 ghost use Rattle.qs_syntax.specs.UnitTrees.{unit_tree};
-ghost use Rattle.qs_syntax.specs.Nodes.{unit_count, unit_nodes};
+ghost use Rattle.qs_syntax.specs.Nodes.{StandsAt, unit_count};
 ghost use Rattle.qs_syntax.specs.Numbering.{numbered_unit};
 ghost use Rattle.qs_syntax.specs.Sameness.{same_unit};
 ghost use Rattle.qs_syntax.specs.Units.{IsRead};
@@ -30,17 +29,17 @@ impl Unit {
     }
 
     /// The number of the first token of the node with this number.
-    #[tactic(auto, using(crate::proofs::UnitLaws::count_of_unit, crate::proofs::UnitLaws::node_of_unit))]
+    #[tactic(auto, using(crate::proofs::UnitLaws::count_of_unit))]
     pub fn token_of(&self, node: u32) -> u32
         requires { node < unit_count (unit_tree self.now) }
-        ensures { slice_get (unit_nodes (unit_tree self.now)) node ≡ Some (record { id = node; token = result }) }
+        ensures { StandsAt (unit_tree self.now) node result }
     {
         self.tokens[node as usize]
     }
 
     /// A copy.
     pub fn copy(&self, alloc: Global) -> Result<Unit, NoMemory>
-        ensures { IfOk result (λ unit. unit_tree unit ≡ unit_tree self.now) }
+        ensures { IfOk result (λ to. unit_tree to ≡ unit_tree self.now) }
     {
         Ok(Unit {
             declarations: copy_decls(alloc, &self.declarations)?,
@@ -57,11 +56,12 @@ impl Unit {
     }
 }
 
-/// The unit of these trees, which are given without numbers. Their nodes are numbered where they stand.
+/// The unit of these trees, which are given without numbers. Their nodes are numbered where they
+/// stand.
 pub fn numbered(alloc: Global, unnumbered: Vec<Decl>) -> Result<Unit, NoMemory>
     requires read { IsRead (numbered_unit (map decl_tree unnumbered.items)) }
     requires few { unit_count (map decl_tree unnumbered.items) < 2 ^ 32 }
-    ensures { IfOk result (λ unit. unit_tree unit ≡ numbered_unit (map decl_tree unnumbered.items)) }
+    ensures { IfOk result (λ to. unit_tree to ≡ numbered_unit (map decl_tree unnumbered.items)) }
 {
     let mut tokens = Vec::new(alloc);
     let declarations = number_owned_decls(unnumbered, &mut tokens)?;

@@ -6,7 +6,7 @@ use Rattle.qs_syntax.proofs.declarations.number_declarators.Given as goal
 
 abbrev pub invariant-loop-declarator : goal.invariant-loop-declarator
 invariant-loop-declarator l = record {
-  tree : map declarator_tree (take l.declarator-index l.declarators) ++ relabel_all numbered declarator_count (relabel_declarator numbered) (length l.tokens.items) (map declarator_tree (drop l.declarator-index l.declarators)) ≡ relabel_all numbered declarator_count (relabel_declarator numbered) (length l.fn.tokens.items) (map declarator_tree l.initial.declarators);
-  end : length l.tokens.items + all_count declarator_count (map declarator_tree (drop l.declarator-index l.declarators)) ≡ length l.fn.tokens.items + all_count declarator_count (map declarator_tree l.initial.declarators);
-  tokens : l.tokens.items ++ tokens_of (all_nodes declarator_nodes (map declarator_tree (drop l.declarator-index l.declarators))) ≡ l.fn.tokens.items ++ tokens_of (all_nodes declarator_nodes (map declarator_tree l.initial.declarators));
+  tree : map declarator_tree (take l.declarator-index l.items) ++ relabel_all numbered declarator_count (relabel_declarator numbered) (length l.tokens.items) (map declarator_tree (drop l.declarator-index l.items)) ≡ relabel_all numbered declarator_count (relabel_declarator numbered) (length l.fn.tokens.items) (map declarator_tree l.initial.items);
+  end : length l.tokens.items + all_count declarator_count (map declarator_tree (drop l.declarator-index l.items)) ≡ length l.fn.tokens.items + all_count declarator_count (map declarator_tree l.initial.items);
+  tokens : l.tokens.items ++ tokens_of (all_nodes declarator_nodes (map declarator_tree (drop l.declarator-index l.items))) ≡ l.fn.tokens.items ++ tokens_of (all_nodes declarator_nodes (map declarator_tree l.initial.items));
 }

@@ -163,3 +163,6 @@ none_told unit c w n e h l = (λ i. option_or (sym n i) (sym (late_known unit c 
 pub told_of_good : (unit : UnitTree) (f : TypeFault) → IsTold unit f → IsAccepted unit → f ≡ faults.NoMemory
 told_of_good unit f (inl e) a = e
 told_of_good unit f (inr cause) a = absurd (let e : Some f ≡ None = sym cause.first ∙ nothing_refused unit a in cc)
+
+-- what the answer of `check` tells
+pub ruleset check_told = (early_told, late_told, told_of_good)

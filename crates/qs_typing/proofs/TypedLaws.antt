@@ -51,6 +51,9 @@ globals_are unit w e = ap (λ v. v.noted.globals) e ∙ unit_globals unit
 pub texts_are : (unit : UnitTree) (w : WalkTree) → w ≡ unit_walked unit → w.noted.texts ≡ literal_blocks unit
 texts_are unit w e = ap (λ v. v.noted.texts) e ∙ unit_texts unit
 
+-- the parts of a typed unit are those of the walk over it
+pub ruleset parts_are = (types_are, referents_are, addressed_are, structs_are, tags_are, globals_are, texts_are)
+
 -- the node at a place of a unit's list has the place for its number
 number_is : (unit : Unit) (i : ℕ) (node : Node) → slice_get (unit_nodes (unit_tree unit)) i ≡ Some node → node.id ≡ i
 number_is unit i node e =

@@ -32,11 +32,9 @@ pub struct Shelf {
     pub writing: bool,
     ghost room: { vec_len bytes + spare ≤ vec_capacity bytes },
     ghost slots: { vec_len files + spare / file_room ≤ vec_capacity files },
-    ghost within: { AreWithin files.items (length bytes.items) }
-        by { are_within_prop files.items (length bytes.items) },
+    ghost within: { AreWithin files.items (length bytes.items) } by { are_within_prop files.items (length bytes.items) },
     ghost last: { newest_end files.items ≡ length bytes.items },
-    ghost reads: { OptionWithin reading (length bytes.items) }
-        by { option_within_prop reading (length bytes.items) },
+    ghost reads: { OptionWithin reading (length bytes.items) } by { option_within_prop reading (length bytes.items) },
     ghost writes: { IsTrue writing → full ≡ false → 0 < vec_len files },
 }
 

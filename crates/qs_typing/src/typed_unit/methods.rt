@@ -30,7 +30,7 @@ use qs_types::{CType, Env};
 
 impl TypedUnit {
     /// A unit that is accepted, with what was found in it and what is known behind it.
-    #[tactic(auto, using(crate::proofs::TypedLaws::types_are, crate::proofs::TypedLaws::referents_are, crate::proofs::TypedLaws::addressed_are, crate::proofs::TypedLaws::structs_are, crate::proofs::TypedLaws::tags_are, crate::proofs::TypedLaws::globals_are, crate::proofs::TypedLaws::texts_are))]
+    #[tactic(auto, using(crate::proofs::TypedLaws::parts_are))]
     pub fn new(unit: Unit, c: Context, walk: Walk) -> TypedUnit
         requires accepted { IsAccepted (unit_tree unit) }
         requires known { context_tree c ≡ end_context (unit_tree unit) }

@@ -20,11 +20,14 @@ are_in_order first (p ∷ places) = is_slot p first && are_in_order (first + 1) 
 abbrev pub are_own_slots : List Place → (count : ℕ) → Bool
 are_own_slots places count = length places == count && are_in_order 0 places
 
+-- of the function with this number
+abbrev pub is_verified : List PlacesTree → (f : ℕ) → TacFunctionTree → Bool
+is_verified ps f g = are_own_slots (slice_index_or ps f no_places).at g.temporaries
+
 -- of functions, the first of which has this number
 abbrev pub are_verified : List PlacesTree → (f : ℕ) → List TacFunctionTree → Bool
 are_verified ps f [] = true
-are_verified ps f (g ∷ functions) =
-    are_own_slots (slice_index_or ps f no_places).at g.temporaries && are_verified ps (f + 1) functions
+are_verified ps f (g ∷ functions) = is_verified ps f g && are_verified ps (f + 1) functions
 
 -- the unit does with its values in these places what it does with them in temporaries
 abbrev pub KeepsRuns : TacUnitTree → List PlacesTree → Type 0

@@ -1,8 +1,9 @@
 // Places for the temporaries of a function.
-ghost use Rattle.std.specs.Prelude.{◌≡◌, IfOk, map};
+ghost use Rattle.std.specs.Prelude.{◌≡◌, IfOk};
 ghost use Rattle.qs_tac.specs.Laws.{AreAccepted};
 ghost use Rattle.qs_tac.specs.TreeOf.{function_tree};
-ghost use Rattle.qs_tac.specs.Places as spec;
+ghost use Rattle.qs_tac.specs.Places.{slots_from, all_slots, Accepted, HaveOwnSlots};
+ghost use Rattle.qs_tac.specs.Places.{places_tree, places_trees};
 ghost use Rattle.qs_tac.specs.UnitTrees.{unit_tree};
 
 use qs_base::NoMemory;
@@ -10,7 +11,7 @@ use qs_tac::{Place, Places, TacFunction, TacUnit};
 use std::alloc::Global;
 
 fn own_slots(alloc: Global, count: u32) -> Result<Vec<Place>, NoMemory>
-    ensures { IfOk result (λ places. places.items ≡ spec.slots_from 0 count) }
+    ensures { IfOk result (λ places. places.items ≡ slots_from 0 count) }
 {
     let mut at = Vec::new(alloc);
     for slot in 0..count {
@@ -21,7 +22,7 @@ fn own_slots(alloc: Global, count: u32) -> Result<Vec<Place>, NoMemory>
 
 /// A slot for each temporary, with the temporary's number.
 pub fn all_slots(alloc: Global, f: &TacFunction) -> Result<Places, NoMemory>
-    ensures { IfOk result (λ places. spec.places_tree places ≡ spec.all_slots (function_tree f.now)) }
+    ensures { IfOk result (λ places. places_tree places ≡ all_slots (function_tree f.now)) }
 {
     Ok(Places {
         at: own_slots(alloc, f.temporaries)?,
@@ -31,14 +32,14 @@ pub fn all_slots(alloc: Global, f: &TacFunction) -> Result<Places, NoMemory>
 /// Places that keep what the function does. `verify` accepts them.
 #[tactic(auto, using(crate::proofs::Slots::slots_are_accepted))]
 pub fn assign(alloc: Global, f: &TacFunction) -> Result<Places, NoMemory>
-    ensures { IfOk result (λ places. spec.Accepted (function_tree f.now) (spec.places_tree places)) }
+    ensures { IfOk result (λ places. Accepted (function_tree f.now) (places_tree places)) }
 {
     let places = all_slots(alloc, f)?;
     Ok(places)
 }
 
 fn assign_all(alloc: Global, functions: &[TacFunction]) -> Result<Vec<Places>, NoMemory>
-    ensures { IfOk result (λ all. map spec.places_tree all.items ≡ map spec.all_slots (map function_tree functions.now)) }
+    ensures { IfOk result (λ all. HaveOwnSlots functions.now all.items) }
 {
     let mut all = Vec::new(alloc);
     for f in functions {
@@ -50,7 +51,7 @@ fn assign_all(alloc: Global, functions: &[TacFunction]) -> Result<Vec<Places>, N
 /// Places that keep what each function of the unit does, by the functions' numbers. `verify_unit`
 /// accepts them.
 pub fn assign_unit(alloc: Global, unit: &TacUnit) -> Result<Vec<Places>, NoMemory>
-    ensures { IfOk result (λ places. AreAccepted (unit_tree unit.now) (map spec.places_tree places.items)) }
+    ensures { IfOk result (λ places. AreAccepted (unit_tree unit.now) (places_trees places.items)) }
 {
     let places = assign_all(alloc, &unit.functions)?;
     Ok(places)

@@ -1,10 +1,11 @@
 // Whether places keep what functions do. No call takes memory.
-ghost use Rattle.std.specs.Prelude.{◌≡◌, ◌↔◌, IsTrue, map, slice_index_or};
+ghost use Rattle.std.specs.Prelude.{◌≡◌, ◌↔◌, IsTrue};
 ghost use Rattle.qs_tac.specs.Laws.{AreAccepted};
-ghost use Rattle.qs_tac.specs.Places.{Accepted, places_tree, no_places};
-ghost use Rattle.qs_tac.specs.TreeOf.{function_tree};
+ghost use Rattle.qs_tac.specs.Places.{Accepted, places_tree, places_trees};
+ghost use Rattle.qs_tac.specs.TreeOf.{function_tree, function_trees};
 ghost use Rattle.qs_tac.specs.UnitTrees.{unit_tree};
 ghost use Rattle.qs_alloc.specs.Verification as spec;
+ghost use Rattle.qs_alloc.specs.Verification.{are_verified};
 
 use qs_tac::{Place, Places, TacFunction, TacUnit};
 
@@ -43,7 +44,7 @@ pub fn verify(f: &TacFunction, places: &Places) -> bool
 }
 
 fn is_verified(f: &TacFunction, places: &[Places], number: usize) -> bool
-    ensures { result ≡ spec.are_own_slots (slice_index_or (map places_tree places.now) number no_places).at (function_tree f.now).temporaries }
+    ensures { result ≡ spec.is_verified (places_trees places.now) number (function_tree f.now) }
 {
     match places.get(number) {
         None => are_own_slots(&[], f.temporaries),
@@ -52,7 +53,7 @@ fn is_verified(f: &TacFunction, places: &[Places], number: usize) -> bool
 }
 
 fn are_verified(functions: &[TacFunction], places: &[Places]) -> bool
-    ensures { result ≡ spec.are_verified (map places_tree places.now) 0 (map function_tree functions.now) }
+    ensures { result ≡ are_verified (places_trees places.now) 0 (function_trees functions.now) }
 {
     for (number, f) in functions.iter().enumerate() {
         if !is_verified(f, places, number) {
@@ -65,8 +66,8 @@ fn are_verified(functions: &[TacFunction], places: &[Places]) -> bool
 /// Whether the places of each function keep what it does; a function's places stand by its number.
 #[tactic(auto, using(crate::proofs::Slots::verified_keep))]
 pub fn verify_unit(unit: &TacUnit, places: &[Places]) -> bool
-    ensures accepted { IsTrue result ↔ AreAccepted (unit_tree unit.now) (map places_tree places.now) }
-    ensures keeps { IsTrue result → spec.KeepsRuns (unit_tree unit.now) (map places_tree places.now) }
+    ensures accepted { IsTrue result ↔ AreAccepted (unit_tree unit.now) (places_trees places.now) }
+    ensures keeps { IsTrue result → spec.KeepsRuns (unit_tree unit.now) (places_trees places.now) }
 {
     are_verified(&unit.functions, places)
 }

@@ -188,3 +188,7 @@ assembly labels items code words offsets is decodes =
 pub no_assembly :
     (labels : ℕ → Option ℕ) (items : List Item) → AreOffsets labels items → code_from labels 0 items ≡ None → assembled items ≡ None
 no_assembly labels items offsets is = subst (λ f. code_from f 0 items ≡ None) (fun_ext offsets.each) is
+
+pub ruleset label_steps = (labels_start, labels_go_on)
+
+pub ruleset assembly_cases = (assembly, no_assembly)

@@ -1,15 +1,24 @@
 -- The words of items: each branch stands turned round over a jump, so that where a label stands depends on no distance.
-use Rattle.std.specs.Prelude.{◌≡◌, ℕ, ◌+◌, ◌*◌, ◌%◌, ◌^◌, ◌==◌, ◌&&◌, nat_lt, Bool, if◌then◌else◌, List, [], ◌∷◌, ◌++◌, length, map, Option, Some, None, unwrap_or}
+use Rattle.std.specs.Prelude.{◌≡◌, ℕ, ◌+◌, ◌*◌, ◌%◌, ◌^◌, ◌==◌, ◌&&◌, nat_eq, nat_lt, Bool, if◌then◌else◌, List, [], ◌∷◌, ◌++◌, length, map, Option, Some, None, unwrap_or}
+use Rattle.std.specs.HashMap.{HashMap, get}
+use Rattle.std.specs.declared.alloc.Global.{Global}
+use Rattle.std.specs.declared.vec.Vec.{Vec}
 use Rattle.qs_base.specs.Words.{sub}
 use Rattle.qs_isa.specs.declared.instruction.Instr.{Instr}
 use Rattle.qs_isa.specs.declared.instruction.Instr.TheVariants as instructions
 use Rattle.qs_isa.specs.declared.instruction.BranchKind.{BranchKind}
 use Rattle.qs_isa.specs.Table.{decode_of}
+use Rattle.qs_asm.specs.declared.fault.AssemblyFault.{AssemblyFault}
+use Rattle.qs_asm.specs.declared.fault.AssemblyFault.TheVariants.{BadLabel}
 use Rattle.qs_asm.specs.declared.item.Item.{Item}
 use Rattle.qs_asm.specs.declared.item.Item.TheVariants.{Plain, Label, Jump, Branch}
 use Rattle.qs_asm.specs.Items.{inverse, Lays}
 
 -- ---- where labels stand
+
+-- the places of labels, as far as they are known
+abbrev pub places : {S : Type 0} → HashMap ℕ ℕ S → (l : ℕ) → Option ℕ
+places labels = get nat_eq labels
 
 abbrev pub item_bytes : Item → ℕ
 item_bytes (Plain i) = 4
@@ -63,9 +72,13 @@ branch_code kind a b None = None
 branch_code kind a b (Some distance) =
     Some (instructions.Branch (inverse kind) a b 8 ∷ instructions.Jal 0 distance ∷ [])
 
+-- no instruction where it is so, and else no code
+abbrev pub nothing_if : Bool → Option (List Instr)
+nothing_if is = if is then Some [] else None
+
 abbrev pub label_code : (from : ℕ) → (place : Option ℕ) → Option (List Instr)
 label_code from None = None
-label_code from (Some place) = if place == from then Some [] else None
+label_code from (Some place) = nothing_if (place == from)
 
 -- None where a label that is jumped to stands nowhere or out of reach, and where a label stands again further on
 abbrev pub item_code : (labels : ℕ → Option ℕ) → (from : ℕ) → Item → Option (List Instr)
@@ -74,9 +87,24 @@ item_code labels from (Label l) = label_code from (labels l)
 item_code labels from (Jump rd l) = jump_code rd (distance_to from (labels l))
 item_code labels from (Branch kind a b l) = branch_code kind a b (distance_to (from + 4) (labels l))
 
+abbrev pub item_code_by : {S : Type 0} → HashMap ℕ ℕ S → (from : ℕ) → Item → Option (List Instr)
+item_code_by labels from item = item_code (places labels) from item
+
 abbrev pub before : List Instr → Option (List Instr) → Option (List Instr)
 before code None = None
 before code (Some more) = Some (code ++ more)
+
+-- there is more code, and it was put behind the instructions
+abbrev pub Appends : Vec Instr Global → Vec Instr Global → Option (List Instr) → Type 0
+Appends old new more = before old.items more ≡ Some new.items
+
+-- these instructions are the code
+abbrev pub IsCode : Option (List Instr) → Vec Instr Global → Type 0
+IsCode code instructions = code ≡ Some instructions.items
+
+-- a label is named as the fault only where there is no code
+abbrev pub IsNoCode : Option (List Instr) → AssemblyFault → Type 0
+IsNoCode code fault = fault ≡ BadLabel → code ≡ None
 
 abbrev pub joined : Option (List Instr) → Option (List Instr) → Option (List Instr)
 joined None rest = None

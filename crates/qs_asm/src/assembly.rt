@@ -1,11 +1,9 @@
 // The words of items.
-ghost use Rattle.std.specs.Prelude.{◌≡◌, ◌<◌, ◌^◌, All, IfOk, OnOk, IfErr, Some, None, []};
-ghost use Rattle.std.specs.Prelude.{if◌then◌else◌, map, nat_eq};
-ghost use Rattle.std.specs.HashMap.{get};
+ghost use Rattle.std.specs.Prelude.{◌≡◌, ◌<◌, ◌^◌, All, IfOk, OnOk, IfErr, Some, map};
 ghost use Rattle.qs_isa.specs.Table.{decode_of};
-ghost use Rattle.qs_asm.specs.declared.fault.AssemblyFault.TheVariants as fault;
 ghost use Rattle.qs_asm.specs.Items as items;
 ghost use Rattle.qs_asm.specs.Assembly as spec;
+ghost use Rattle.qs_asm.specs.Assembly.{places, item_code_by, Appends};
 
 use crate::fault::AssemblyFault;
 use crate::item::Item;
@@ -36,23 +34,18 @@ fn is_reached(distance: u32) -> bool
 }
 
 fn distance_to(labels: &Labels, from: u32, label: u32) -> Option<JumpOffset>
-    ensures { result ≡ spec.distance_to from (get nat_eq labels.now label) }
+    ensures { result ≡ spec.distance_to from (places labels.now label) }
 {
-    match labels.get(&label) {
-        None => None,
-        Some(place) => {
-            let distance = sub32(*place, from);
-            if is_reached(distance) {
-                Some(JumpOffset::new(distance))
-            } else {
-                None
-            }
-        }
+    let distance = sub32(*labels.get(&label)?, from);
+    if is_reached(distance) {
+        Some(JumpOffset::new(distance))
+    } else {
+        None
     }
 }
 
 fn is_at(labels: &Labels, from: u32, label: u32) -> bool
-    ensures { spec.label_code from (get nat_eq labels.now label) ≡ (if result then Some [] else None) }
+    ensures { spec.label_code from (places labels.now label) ≡ spec.nothing_if result }
 {
     match labels.get(&label) {
         None => false,
@@ -65,8 +58,8 @@ fn put_jump(
     rd: Register,
     distance: Option<JumpOffset>,
 ) -> Result<(), AssemblyFault>
-    ensures ok { OnOk result (spec.before code.old.items (spec.jump_code rd distance) ≡ Some code.new.items) }
-    ensures fault { IfErr result (λ f. f ≡ fault.BadLabel → spec.jump_code rd distance ≡ None) }
+    ensures ok { OnOk result (Appends code.old code.new (spec.jump_code rd distance)) }
+    ensures fault { IfErr result (spec.IsNoCode (spec.jump_code rd distance)) }
 {
     match distance {
         None => Err(AssemblyFault::BadLabel),
@@ -84,8 +77,8 @@ fn put_branch(
     rs2: Register,
     distance: Option<JumpOffset>,
 ) -> Result<(), AssemblyFault>
-    ensures ok { OnOk result (spec.before code.old.items (spec.branch_code kind rs1 rs2 distance) ≡ Some code.new.items) }
-    ensures fault { IfErr result (λ f. f ≡ fault.BadLabel → spec.branch_code kind rs1 rs2 distance ≡ None) }
+    ensures ok { OnOk result (Appends code.old code.new (spec.branch_code kind rs1 rs2 distance)) }
+    ensures fault { IfErr result (spec.IsNoCode (spec.branch_code kind rs1 rs2 distance)) }
 {
     match distance {
         None => Err(AssemblyFault::BadLabel),
@@ -111,8 +104,8 @@ fn put_item(
     from: u32,
     item: &Item,
 ) -> Result<(), AssemblyFault>
-    ensures ok { OnOk result (spec.before code.old.items (spec.item_code (get nat_eq labels.now) from item.now) ≡ Some code.new.items) }
-    ensures fault { IfErr result (λ f. f ≡ fault.BadLabel → spec.item_code (get nat_eq labels.now) from item.now ≡ None) }
+    ensures ok { OnOk result (Appends code.old code.new (item_code_by labels.now from item.now)) }
+    ensures fault { IfErr result (spec.IsNoCode (item_code_by labels.now from item.now)) }
 {
     match item {
         Item::Plain(i) => {
@@ -138,8 +131,8 @@ fn put_item(
 
 #[tactic(auto, using(crate::proofs::AssemblyLaws::code_goes_on))]
 fn instructions(alloc: Global, labels: &Labels, items: &[Item]) -> Result<Vec<Instr>, AssemblyFault>
-    ensures ok { IfOk result (λ code. spec.code_from (get nat_eq labels.now) 0 items.now ≡ Some code.items) }
-    ensures fault { IfErr result (λ f. f ≡ fault.BadLabel → spec.code_from (get nat_eq labels.now) 0 items.now ≡ None) }
+    ensures ok { IfOk result (spec.IsCode (spec.code_from (places labels.now) 0 items.now)) }
+    ensures fault { IfErr result (spec.IsNoCode (spec.code_from (places labels.now) 0 items.now)) }
 {
     let mut code = Vec::new(alloc);
     let mut from = 0;
@@ -163,11 +156,11 @@ fn words(alloc: Global, code: &[Instr]) -> Result<Vec<u32>, NoMemory>
 
 /// The words of the items, one after the other: each branch turned round over a jump to its label.
 /// Where they lie, the items lie. `BadLabel` exactly where there are none.
-#[tactic(auto, using(crate::proofs::AssemblyLaws::assembly, crate::proofs::AssemblyLaws::no_assembly))]
+#[tactic(auto, using(crate::proofs::AssemblyLaws::assembly_cases))]
 pub fn assemble(alloc: Global, items: &[Item]) -> Result<Vec<u32>, AssemblyFault>
     ensures ok { IfOk result (λ words. spec.IsAssembly items.now words.items) }
     ensures small { IfOk result (λ words. All (λ word. word < 2 ^ 32) words.items) }
-    ensures fault { IfErr result (λ f. f ≡ fault.BadLabel → spec.assembled items.now ≡ None) }
+    ensures fault { IfErr result (spec.IsNoCode (spec.assembled items.now)) }
 {
     let labels = label_offsets(alloc, items)?;
     let code = instructions(alloc, &labels, items)?;

@@ -1,7 +1,7 @@
 // Where labels stand.
-ghost use Rattle.std.specs.Prelude.{◌≡◌, ◌+◌, IfOk, OnOk, nat_eq};
-ghost use Rattle.std.specs.HashMap.{get};
+ghost use Rattle.std.specs.Prelude.{◌≡◌, ◌+◌, IfOk, OnOk};
 ghost use Rattle.qs_asm.specs.Assembly as spec;
+ghost use Rattle.qs_asm.specs.Assembly.{places, Notes};
 
 use crate::item::Item;
 use qs_base::NoMemory;
@@ -34,7 +34,7 @@ pub fn sum(a: u32, b: u32) -> Result<u32, NoMemory>
 }
 
 fn note(labels: &mut Labels, from: u32, item: &Item) -> Result<(), NoMemory>
-    ensures { OnOk result (spec.Notes (get nat_eq labels.old) (get nat_eq labels.new) from item.now) }
+    ensures { OnOk result (Notes (places labels.old) (places labels.new) from item.now) }
 {
     match item {
         Item::Plain(_) => {}
@@ -48,9 +48,9 @@ fn note(labels: &mut Labels, from: u32, item: &Item) -> Result<(), NoMemory>
 }
 
 /// Where the labels stand among the items: how many bytes before them.
-#[tactic(auto, using(crate::proofs::AssemblyLaws::labels_start, crate::proofs::AssemblyLaws::labels_go_on))]
+#[tactic(auto, using(crate::proofs::AssemblyLaws::label_steps))]
 pub fn label_offsets(alloc: Global, items: &[Item]) -> Result<Labels, NoMemory>
-    ensures { IfOk result (λ labels. spec.AreOffsets (get nat_eq labels) items.now) }
+    ensures { IfOk result (λ labels. spec.AreOffsets (places labels) items.now) }
 {
     let mut labels = HashMap::new(alloc);
     let mut from = 0;

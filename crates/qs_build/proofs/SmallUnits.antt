@@ -28,10 +28,10 @@ use Rattle.qs_lower.specs.Units.{lower_data}
 use Rattle.qs_lower.specs.WordLaws.{lowered_function, IsInReach, UnitKeepsSizes}
 use Rattle.qs_lower.proofs.UnitWords.{lowered_sizes_are_kept}
 use Rattle.qs_lower.proofs.UnitFits.{lowered_fits, function_there}
-use Rattle.qs_frames.specs.Layout.{total, layout}
+use Rattle.qs_frames.specs.Layout.{total, layout, largest_frame}
 use Rattle.qs_frames.proofs.FrameLaws.{frames_are_laid_out, no_more_is_kept}
 use Rattle.qs_select.specs.Data.{data_sizes}
-use Rattle.qs_select.specs.Limits.{most_arguments, passes_few, has_few, place_fits, places_fit, largest_frame, frame_fits, largest_data, data_fit, function_fault, functions_fault}
+use Rattle.qs_select.specs.Limits.{most_arguments, passes_few, has_few, place_fits, places_fit, frame_fits, largest_data, data_fit, function_fault, functions_fault}
 use Rattle.qs_select.specs.declared.fault.SelectionFault.{SelectionFault}
 use Rattle.qs_select.specs.declared.fault.SelectionFault.TheVariants as selection
 use Rattle.qs_select.proofs.Sizes.{units_keep_words}

@@ -7,7 +7,7 @@ use Rattle.qs_tac.specs.declared.places.Place.{Place}
 use Rattle.qs_tac.specs.declared.places.Place.TheVariants.{Slot, Register}
 use Rattle.qs_frames.specs.Layout.{rounded, frame_cost, total, offset, slots_among, is_among, used_among, saved_registers, used_registers, kept}
 use Rattle.qs_frames.specs.declared.blocks.Starts.{Starts}
-use Rattle.qs_frames.specs.Starts.{start_of, AreStarts}
+use Rattle.qs_frames.specs.Starts.{AreStarts}
 use Rattle.qs_frames.proofs.FrameLaws.{is_rounded, is_cost}
 
 abbrev pub offsets_from : (at : ℕ) → (sizes : List ℕ) → List ℕ
@@ -97,3 +97,5 @@ starts_end first sizes starts rest none h = record {
       ap (λ (l : List ℕ). slice_index_or l i starts.end) same
       ∙ (ap (λ (e : ℕ). slice_index_or (offsets_from first sizes) i e) last ∙ start_among first sizes i);
 }
+
+pub ruleset frame_sizes = (cost_has_room, slots_are_kept, few_are_kept)

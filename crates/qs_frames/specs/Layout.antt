@@ -7,13 +7,19 @@
 --
 -- What holds parts of expressions has the last numbers among the temporaries; so it lies nearest to x2, in the
 -- reach of an immediate.
-use Rattle.std.specs.Prelude.{ℕ, zero, suc, ◌+◌, ◌-◌, ◌*◌, ◌/◌, ◌==◌, Bool, true, false, if◌then◌else◌}
+use Rattle.std.specs.Prelude.{◌≡◌, ◌≤◌, ℕ, zero, suc, ◌+◌, ◌-◌, ◌*◌, ◌/◌, ◌^◌, ◌==◌, Bool, true, false, if◌then◌else◌}
 use Rattle.std.specs.Prelude.{List, [], ◌∷◌, length}
 use Rattle.qs_tac.specs.Trees.{TacFunctionTree}
 use Rattle.qs_tac.specs.Places.{PlacesTree}
 use Rattle.qs_tac.specs.declared.places.Place.{Place}
 use Rattle.qs_tac.specs.declared.places.Place.TheVariants.{Slot, Register}
 use Rattle.qs_frames.specs.declared.frame.Frame.{Frame}
+
+-- ---- limits, in bytes
+
+-- the largest frame; its blocks together are no larger, nor are the blocks of a unit's data
+abbrev pub largest_frame : ℕ
+largest_frame = 2 ^ 28
 
 -- ---- blocks, one after the other
 
@@ -76,6 +82,13 @@ layout f p = record {
   slots = 4 * kept p;
   placed = 4 + 4 * kept p;
 }
+
+abbrev pub IsFrame : TacFunctionTree → PlacesTree → Frame → Type 0
+IsFrame f p frame = frame ≡ layout f p
+
+-- it has at most as many bytes as the largest
+abbrev pub FrameFits : TacFunctionTree → PlacesTree → Type 0
+FrameFits f p = (layout f p).cost ≤ largest_frame
 
 -- ---- its parts
 

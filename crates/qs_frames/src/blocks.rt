@@ -6,7 +6,8 @@ ghost use Rattle.qs_frames.specs.Starts.{AreStarts};
 use qs_base::NoMemory;
 use std::alloc::Global;
 
-const LARGEST_TOTAL: u32 = 1 << 28;
+/// The bytes of the largest frame, of its blocks and of the blocks of a unit's data, at most.
+pub const LARGEST_FRAME: u32 = 1 << 28;
 
 #[tactic(auto, unfolding(crate::specs::Layout::rounded))]
 fn rounded(size: u32) -> u32
@@ -18,7 +19,7 @@ fn rounded(size: u32) -> u32
 
 /// The bytes of blocks of these sizes.
 pub fn total(sizes: &[u32]) -> u32
-    requires { spec.total sizes.now ≤ 2 ^ 28 }
+    requires { spec.total sizes.now ≤ spec.largest_frame }
     ensures { result ≡ spec.total sizes.now }
 {
     let mut sum = 0;
@@ -28,18 +29,18 @@ pub fn total(sizes: &[u32]) -> u32
     sum
 }
 
-/// The bytes of blocks of these sizes, where they are at most 2^28.
+/// The bytes of blocks of these sizes, where they are at most as many as those of the largest frame.
 pub fn total_within(sizes: &[u32]) -> Option<u32>
-    ensures fits { IsSome result ↔ (spec.total sizes.now ≤ 2 ^ 28) }
+    ensures fits { IsSome result ↔ (spec.total sizes.now ≤ spec.largest_frame) }
     ensures total { IfSome result (λ n. n ≡ spec.total sizes.now) }
 {
     let mut sum = 0;
     for size in sizes {
-        if *size > LARGEST_TOTAL {
+        if *size > LARGEST_FRAME {
             return None;
         }
         sum += rounded(*size);
-        if sum > LARGEST_TOTAL {
+        if sum > LARGEST_FRAME {
             return None;
         }
     }

@@ -1,20 +1,17 @@
 // The frame of a function, and where its parts lie.
-ghost use Rattle.std.specs.Prelude.{◌≡◌, ◌↔◌, ◌+◌, ◌*◌, ◌^◌, ◌≤◌, ◌<◌, IfOk, IsSome, IfSome};
-ghost use Rattle.std.specs.Prelude.{length};
+ghost use Rattle.std.specs.Prelude.{◌≡◌, ◌↔◌, ◌+◌, ◌*◌, ◌^◌, ◌≤◌, ◌<◌, IfOk, IsSome, IfSome, length};
 ghost use Rattle.qs_tac.specs.TreeOf.{function_tree};
 ghost use Rattle.qs_tac.specs.Places.{places_tree};
 ghost use Rattle.qs_frames.specs.Layout as spec;
 
-use crate::blocks::{total, total_within};
+use crate::blocks::{LARGEST_FRAME, total, total_within};
 use crate::frame::Frame;
 use qs_base::NoMemory;
 use qs_tac::{Place, Places, TacFunction};
 use std::alloc::Global;
 
-// more words than a frame of 2^28 bytes has
-const MOST_SLOTS: usize = 1 << 26;
-
-const LARGEST_FRAME: u32 = 1 << 28;
+// as many words as the largest frame has
+const MOST_SLOTS: usize = LARGEST_FRAME as usize / 4;
 
 const SAVED_REGISTERS: [u32; 12] = [8, 9, 18, 19, 20, 21, 22, 23, 24, 25, 26, 27];
 
@@ -87,7 +84,7 @@ fn used_among(alloc: Global, places: &[Place], registers: &[u32]) -> Result<Vec<
 /// The registers that the function gives back to its caller as they were: those among x8, x9 and
 /// x18 to x27 in which a temporary stands, in rising order.
 pub fn used_registers(alloc: Global, places: &Places) -> Result<Vec<u32>, NoMemory>
-    ensures { IfOk result (λ registers. registers.items ≡ spec.used_registers (places_tree places.now)) }
+    ensures { IfOk result (λ r. r.items ≡ spec.used_registers (places_tree places.now)) }
 {
     used_among(alloc, &places.at, &SAVED_REGISTERS)
 }
@@ -106,7 +103,7 @@ fn frame_cost(kept: u32, blocks: u32) -> u32
 /// address, the registers that are given back, the slots, and the blocks.
 #[tactic(auto, using(crate::proofs::OffsetLaws::cost_has_room))]
 pub fn layout(f: &TacFunction, places: &Places) -> Frame
-    requires { (spec.layout (function_tree f.now) (places_tree places.now)).cost ≤ 2 ^ 28 }
+    requires { spec.FrameFits (function_tree f.now) (places_tree places.now) }
     ensures { result ≡ spec.layout (function_tree f.now) (places_tree places.now) }
 {
     let kept = kept(places);
@@ -118,11 +115,11 @@ pub fn layout(f: &TacFunction, places: &Places) -> Frame
     }
 }
 
-/// The frame, where it has at most 2^28 bytes.
-#[tactic(auto, using(crate::proofs::OffsetLaws::cost_has_room, crate::proofs::OffsetLaws::slots_are_kept, crate::proofs::OffsetLaws::few_are_kept))]
+/// The frame, where it is no larger than the largest.
+#[tactic(auto, using(crate::proofs::OffsetLaws::frame_sizes))]
 pub fn try_layout(f: &TacFunction, places: &Places) -> Option<Frame>
-    ensures fits { IsSome result ↔ ((spec.layout (function_tree f.now) (places_tree places.now)).cost ≤ 2 ^ 28) }
-    ensures frame { IfSome result (λ frame. frame ≡ spec.layout (function_tree f.now) (places_tree places.now)) }
+    ensures fits { IsSome result ↔ spec.FrameFits (function_tree f.now) (places_tree places.now) }
+    ensures frame { IfSome result (spec.IsFrame (function_tree f.now) (places_tree places.now)) }
 {
     if slots_among(&places.at) > MOST_SLOTS {
         return None;

@@ -12,6 +12,7 @@ use Rattle.qs_select.specs.Operands.{Context}
 use Rattle.qs_select.specs.Emission.{Labels, instruction_items, body_items}
 use Rattle.qs_select.specs.Limits.{passes_few, function_fault}
 use Rattle.qs_select.proofs.LimitLaws.{is_free}
+use Rattle.qs_select.proofs.FitLaws.{code_fits}
 
 pub few_parameters : (f : TacFunctionTree) (p : PlacesTree) → function_fault f p ≡ None → length f.parameters ≤ 8
 few_parameters f p h = (is_free f p h).parameters
@@ -42,3 +43,5 @@ body_goes_on c labels items labelled more whole k next label i all rest a n is f
     ∙ (ap (λ m. items ++ (Label label ∷ (instruction_items c labels i ++ body_items c labels m rest))) n
     ∙ (ap (λ l. items ++ (Label l ∷ (instruction_items c labels i ++ body_items c labels (k + 1) rest))) is
     ∙ (ap (λ l. items ++ body_items c labels k l) (sym a) ∙ h))))))
+
+pub ruleset code_facts = (code_passes_few, code_fits)

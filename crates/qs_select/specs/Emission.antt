@@ -46,9 +46,12 @@ copy_code size alignment =
 abbrev pub unless_none : (size : ℕ) → List Instr → List Instr
 unless_none size code = if size == 0 then [] else code
 
+abbrev pub fill_words : (size : ℕ) → List Instr
+fill_words size = unless_none (size / 4) (fill_loop Sw 4 (size / 4 * 4))
+
 -- words, and behind them the bytes that are left; or bytes alone
 abbrev pub fill_code : (is_word_address : Bool) → (size : ℕ) → List Instr
-fill_code true size = unless_none (size / 4) (fill_loop Sw 4 (size / 4 * 4)) ++ zero_bytes (size % 4) 0
+fill_code true size = fill_words size ++ zero_bytes (size % 4) 0
 fill_code false size = unless_none size (fill_loop Sb 1 size)
 
 -- ---- entry and return

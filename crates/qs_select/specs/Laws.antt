@@ -13,6 +13,7 @@ use Rattle.qs_tac.specs.Sizes.{instruction_words, enter_words, words, unit_words
 use Rattle.qs_tac.specs.declared.places.Place.{Place}
 use Rattle.qs_tac.specs.declared.places.Place.TheVariants.{Slot, Register}
 use Rattle.qs_tac.specs.declared.operands.Operand.{Operand}
+use Rattle.qs_frames.specs.Layout.{largest_frame}
 use Rattle.qs_calls.specs.declared.callee.Callee.{Callee}
 use Rattle.qs_select.specs.Operands.{Context, frame_of}
 use Rattle.qs_select.specs.Emission.{Labels, instruction_items, enter, function_items, unit_items}
@@ -34,11 +35,11 @@ abbrev pub IsPlace : Place → Type 0
 IsPlace (Slot k) = Unit {0}
 IsPlace (Register r) = r < 32
 
--- the registers of places are registers, the data have addresses, and the frame has at most 2 ^ 28 bytes
+-- the registers of places are registers, the data have addresses, and the frame is no larger than the largest
 pub record IsContext (c : Context) : Type 0 where
   pub places : (t : ℕ) → IsPlace (place_of c.places t)
   pub data_at : (block : ℕ) → c.data_at block < 2 ^ 32
-  pub cost : (frame_of c).cost ≤ 2 ^ 28
+  pub cost : (frame_of c).cost ≤ largest_frame
 
 abbrev pub HasFewArguments : InstructionTree → Type 0
 HasFewArguments i = (x : Option ℕ) (f : Callee) (arguments : List Operand) → i ≡ call x f arguments → length arguments ≤ 8

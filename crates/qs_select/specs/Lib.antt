@@ -1,6 +1,7 @@
 pub mod Pieces
 pub mod Operands
 pub mod Operations
+pub mod Puts
 pub mod Emission
 pub mod Data
 pub mod Limits

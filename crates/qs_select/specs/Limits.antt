@@ -1,5 +1,5 @@
 -- What machine code is selected for, and the first reason why it isn't.
-use Rattle.std.specs.Prelude.{ℕ, ◌+◌, ◌^◌, ◌&&◌, nat_lt, nat_le, Bool, true, if◌then◌else◌, List, [], ◌∷◌, length, Option, Some, None, slice_index_or}
+use Rattle.std.specs.Prelude.{◌≡◌, ℕ, ◌+◌, ◌^◌, ◌&&◌, nat_lt, nat_le, Bool, true, if◌then◌else◌, List, [], ◌∷◌, length, Option, Some, None, slice_index_or}
 use Rattle.std.specs.List.{list_all}
 use Rattle.std.specs.Option.{option_or}
 use Rattle.qs_tac.specs.Trees.{InstructionTree, move, unary, binary, convert, address_of, load, store}
@@ -7,7 +7,7 @@ use Rattle.qs_tac.specs.Trees.{copy, fill, call, jump, branch, return, TacFuncti
 use Rattle.qs_tac.specs.Places.{PlacesTree, no_places}
 use Rattle.qs_tac.specs.declared.places.Place.{Place}
 use Rattle.qs_tac.specs.declared.places.Place.TheVariants.{Slot, Register}
-use Rattle.qs_frames.specs.Layout.{total, layout}
+use Rattle.qs_frames.specs.Layout.{total, layout, largest_frame}
 use Rattle.qs_select.specs.Data.{data_sizes}
 use Rattle.qs_select.specs.declared.fault.SelectionFault.{SelectionFault}
 use Rattle.qs_select.specs.declared.fault.SelectionFault.TheVariants as faults
@@ -46,9 +46,6 @@ places_fit p = list_all place_fits p.at
 
 -- ---- frames and data, in bytes
 
-abbrev pub largest_frame : ℕ
-largest_frame = 2 ^ 28
-
 abbrev pub frame_fits : TacFunctionTree → PlacesTree → Bool
 frame_fits f p = nat_le (layout f p).cost largest_frame
 
@@ -69,6 +66,9 @@ function_fault f p =
     (if places_fit p then (if frame_fits f p then None else Some faults.FrameTooLarge) else Some faults.NoRegister)
     else Some faults.TooManyArguments
 
+abbrev pub FunctionFits : TacFunctionTree → PlacesTree → Type 0
+FunctionFits f p = function_fault f p ≡ None
+
 -- of functions, the first of which has this number
 abbrev pub functions_fault : List PlacesTree → (f : ℕ) → List TacFunctionTree → Option SelectionFault
 functions_fault ps f [] = None
@@ -78,3 +78,10 @@ functions_fault ps f (g ∷ functions) =
 abbrev pub first_fault : TacUnitTree → List PlacesTree → Option SelectionFault
 first_fault u ps =
     if data_fit u then functions_fault ps 0 u.functions else Some faults.DataTooLarge
+
+-- all functions of the unit fit, and its data do too
+abbrev pub FunctionsFit : TacUnitTree → List PlacesTree → Type 0
+FunctionsFit u ps = functions_fault ps 0 u.functions ≡ None
+
+abbrev pub UnitFits : TacUnitTree → List PlacesTree → Type 0
+UnitFits u ps = first_fault u ps ≡ None

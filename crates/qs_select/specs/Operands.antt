@@ -171,15 +171,17 @@ abbrev pub add_elements : (base count element : ℕ) → List Instr
 add_elements base count element =
     if element == 1 then add a3 count base ∷ [] else product a3 count element ++ add a3 a3 base ∷ []
 
+-- the elements of an index whose count isn't constant
+abbrev pub element_code : Context → (base : ℕ) → Index → List Instr
+element_code c base index =
+    operand_code c a1 index.count ++ add_elements base (operand_register c a1 index.count) index.element
+
 abbrev pub add_index : Context → Anchor → Option Index → Anchor
 add_index c anchor None = anchor
 add_index c anchor (Some index) =
     if is_constant index.count then anchor
     else record {
-      code =
-          anchor.code
-          ++ (operand_code c a1 index.count
-          ++ add_elements anchor.register (operand_register c a1 index.count) index.element);
+      code = anchor.code ++ element_code c anchor.register index;
       register = a3;
       immediate = anchor.immediate;
     }

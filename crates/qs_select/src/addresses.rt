@@ -1,9 +1,9 @@
 // How addresses are made.
-ghost use Rattle.std.specs.Prelude.{◌≡◌, ◌++◌, ◌+◌, ◌%◌, ◌^◌, OnOk, IfOk};
-ghost use Rattle.qs_asm.specs.Items.{plain};
-ghost use Rattle.qs_select.specs.ContextOf.{context_tree};
+ghost use Rattle.std.specs.Prelude.{◌≡◌, ◌%◌, ◌^◌, OnOk, IfOk};
+ghost use Rattle.qs_select.specs.ContextOf.{context_tree as tree};
+ghost use Rattle.qs_select.specs.ContextOf.{reach_behind, base_anchor, address_anchor};
 ghost use Rattle.qs_select.specs.Operands as spec;
-ghost use Rattle.qs_select.specs.Pieces as pieces;
+ghost use Rattle.qs_select.specs.Puts.{Emits};
 
 use crate::context::FunctionContext;
 use crate::immediates::{high, is_near, is_small, low, near, small};
@@ -75,7 +75,7 @@ fn displacement(p: Address) -> u32
 // ---- bases
 
 fn put_behind_frame(items: &mut Vec<Item>, offset: u32) -> Result<Reach, NoMemory>
-    ensures code { OnOk result (items.new.items ≡ items.old.items ++ plain (spec.behind_frame offset).code) }
+    ensures code { OnOk result (Emits items.old items.new (spec.behind_frame offset).code) }
     ensures register { IfOk result (λ at. at.register ≡ (spec.behind_frame offset).register) }
     ensures immediate { IfOk result (λ at. at.immediate ≡ (spec.behind_frame offset).immediate) }
 {
@@ -95,7 +95,7 @@ fn put_behind_frame(items: &mut Vec<Item>, offset: u32) -> Result<Reach, NoMemor
 }
 
 fn put_at_address(items: &mut Vec<Item>, address: u32) -> Result<Reach, NoMemory>
-    ensures code { OnOk result (items.new.items ≡ items.old.items ++ plain (spec.at_address address).code) }
+    ensures code { OnOk result (Emits items.old items.new (spec.at_address address).code) }
     ensures register { IfOk result (λ at. at.register ≡ (spec.at_address address).register) }
     ensures immediate { IfOk result (λ at. at.immediate ≡ (spec.at_address address).immediate) }
 {
@@ -112,10 +112,9 @@ fn put_behind_pointer(
     distance: u32,
     o: Operand,
 ) -> Result<Reach, NoMemory>
-    ensures code { OnOk result (items.new.items
-        ≡ items.old.items ++ plain (spec.behind_pointer (context_tree c.now) distance o).code) }
-    ensures register { IfOk result (λ at. at.register ≡ (spec.behind_pointer (context_tree c.now) distance o).register) }
-    ensures immediate { IfOk result (λ at. at.immediate ≡ (spec.behind_pointer (context_tree c.now) distance o).immediate) }
+    ensures code { OnOk result (Emits items.old items.new (reach_behind c.now distance o).code) }
+    ensures register { IfOk result (λ r. r.register ≡ (reach_behind c.now distance o).register) }
+    ensures immediate { IfOk result (λ r. r.immediate ≡ (reach_behind c.now distance o).immediate) }
 {
     let pointer = put_operand(items, c, Register::A0, o)?;
     if is_small(distance) {
@@ -139,10 +138,9 @@ fn put_base(
     distance: u32,
     o: Operand,
 ) -> Result<Reach, NoMemory>
-    ensures code { OnOk result (items.new.items
-        ≡ items.old.items ++ plain (spec.based (context_tree c.now) distance o).code) }
-    ensures register { IfOk result (λ at. at.register ≡ (spec.based (context_tree c.now) distance o).register) }
-    ensures immediate { IfOk result (λ at. at.immediate ≡ (spec.based (context_tree c.now) distance o).immediate) }
+    ensures code { OnOk result (Emits items.old items.new (base_anchor c.now distance o).code) }
+    ensures register { IfOk result (λ r. r.register ≡ (base_anchor c.now distance o).register) }
+    ensures immediate { IfOk result (λ r. r.immediate ≡ (base_anchor c.now distance o).immediate) }
 {
     match o {
         Operand::Temporary(_) => put_behind_pointer(items, c, distance, o),
@@ -163,7 +161,7 @@ fn put_add_elements(
     count: Register,
     element: u32,
 ) -> Result<(), NoMemory>
-    ensures { OnOk result (items.new.items ≡ items.old.items ++ plain (spec.add_elements base count element)) }
+    ensures { OnOk result (Emits items.old items.new (spec.add_elements base count element)) }
 {
     if element == 1 {
         put(items, add(a3(), count, base))
@@ -179,9 +177,7 @@ fn put_element(
     base: Register,
     index: Index,
 ) -> Result<(), NoMemory>
-    ensures { OnOk result (items.new.items ≡ items.old.items
-        ++ plain (spec.operand_code (context_tree c.now) pieces.a1 index.count
-        ++ spec.add_elements base (spec.operand_register (context_tree c.now) pieces.a1 index.count) index.element)) }
+    ensures { OnOk result (Emits items.old items.new (spec.element_code (tree c.now) base index)) }
 {
     let count = put_operand(items, c, a1(), index.count)?;
     put_add_elements(items, base, count, index.element)
@@ -189,10 +185,9 @@ fn put_element(
 
 /// An address as a register and an immediate.
 pub fn put_anchor(items: &mut Vec<Item>, c: &FunctionContext, p: Address) -> Result<Reach, NoMemory>
-    ensures code { OnOk result (items.new.items
-        ≡ items.old.items ++ plain (spec.anchor_of (context_tree c.now) p).code) }
-    ensures register { IfOk result (λ at. at.register ≡ (spec.anchor_of (context_tree c.now) p).register) }
-    ensures immediate { IfOk result (λ at. at.immediate ≡ (spec.anchor_of (context_tree c.now) p).immediate) }
+    ensures code { OnOk result (Emits items.old items.new (address_anchor c.now p).code) }
+    ensures register { IfOk result (λ r. r.register ≡ (address_anchor c.now p).register) }
+    ensures immediate { IfOk result (λ r. r.immediate ≡ (address_anchor c.now p).immediate) }
 {
     let at = put_base(items, c, displacement(p), p.base)?;
     match p.index {
@@ -218,7 +213,7 @@ pub fn put_address(
     rd: Register,
     p: Address,
 ) -> Result<(), NoMemory>
-    ensures { OnOk result (items.new.items ≡ items.old.items ++ plain (spec.address_into (context_tree c.now) rd p)) }
+    ensures { OnOk result (Emits items.old items.new (spec.address_into (tree c.now) rd p)) }
 {
     let at = put_anchor(items, c, p)?;
     put(items, addi(rd, at.register, at.immediate))

@@ -1,7 +1,9 @@
 // Branches.
-ghost use Rattle.std.specs.Prelude.{◌≡◌, ◌++◌, OnOk};
-ghost use Rattle.qs_select.specs.ContextOf.{context_tree};
+ghost use Rattle.std.specs.Prelude.{◌≡◌, OnOk};
+ghost use Rattle.qs_select.specs.ContextOf.{context_tree as tree};
 ghost use Rattle.qs_select.specs.Emission as spec;
+ghost use Rattle.qs_select.specs.Emission.{compare_items, branch_items};
+ghost use Rattle.qs_select.specs.Puts.{Puts};
 
 use crate::context::FunctionContext;
 use crate::operands::put_operand;
@@ -59,7 +61,7 @@ fn put_compare_branch(
     y: Operand,
     label: u32,
 ) -> Result<(), NoMemory>
-    ensures { OnOk result (items.new.items ≡ items.old.items ++ spec.compare_items (context_tree c.now) op s x y label) }
+    ensures { OnOk result (Puts items.old items.new (compare_items (tree c.now) op s x y label)) }
 {
     let left = put_operand(items, c, Register::A0, x)?;
     let right = put_operand(items, c, a1(), y)?;
@@ -73,7 +75,7 @@ pub fn put_branch(
     condition: Condition,
     label: u32,
 ) -> Result<(), NoMemory>
-    ensures { OnOk result (items.new.items ≡ items.old.items ++ spec.branch_items (context_tree c.now) condition label) }
+    ensures { OnOk result (Puts items.old items.new (branch_items (tree c.now) condition label)) }
 {
     match condition {
         Condition::NotZero(o) => {

@@ -1,10 +1,10 @@
 // Calls.
-ghost use Rattle.std.specs.Prelude.{◌≡◌, ◌++◌, ◌≤◌, ◌<◌, OnOk, length};
-ghost use Rattle.qs_asm.specs.Items.{plain};
-ghost use Rattle.qs_select.specs.ContextOf.{context_tree, labels_tree};
+ghost use Rattle.std.specs.Prelude.{◌≤◌, ◌<◌, OnOk, length};
+ghost use Rattle.qs_select.specs.ContextOf.{context_tree as tree, labels_tree, call_items};
 ghost use Rattle.qs_select.specs.Emission as spec;
 ghost use Rattle.qs_select.specs.Limits.{most_arguments};
 ghost use Rattle.qs_select.specs.Pieces.{a0};
+ghost use Rattle.qs_select.specs.Puts.{Puts, Emits};
 
 use crate::context::FunctionContext;
 use crate::immediates::below;
@@ -39,7 +39,7 @@ fn put_arguments(
     arguments: &[Operand],
 ) -> Result<(), NoMemory>
     requires { length arguments.now ≤ most_arguments }
-    ensures { OnOk result (items.new.items ≡ items.old.items ++ plain (spec.pass (context_tree c.now) a0 arguments.now)) }
+    ensures { OnOk result (Emits items.old items.new (spec.pass (tree c.now) a0 arguments.now)) }
 {
     let mut register = FIRST_ARGUMENT;
     for argument in arguments {
@@ -52,14 +52,14 @@ fn put_arguments(
 /// A call of the environment by its number.
 pub fn put_environment(items: &mut Vec<Item>, number: u32) -> Result<(), NoMemory>
     requires { number < 2048 }
-    ensures { OnOk result (items.new.items ≡ items.old.items ++ plain (spec.environment number)) }
+    ensures { OnOk result (Emits items.old items.new (spec.environment number)) }
 {
     put(items, addi(Register::A7, Register::ZERO, below(number)))?;
     put(items, Instr::Ecall)
 }
 
 fn put_go(items: &mut Vec<Item>, c: &FunctionContext, callee: Callee) -> Result<(), NoMemory>
-    ensures { OnOk result (items.new.items ≡ items.old.items ++ spec.goes_to (labels_tree c.now) callee) }
+    ensures { OnOk result (Puts items.old items.new (spec.goes_to (labels_tree c.now) callee)) }
 {
     match callee {
         Callee::Function(f) => { put_item(items, Item::Jump(Register::RA, function_label(c, f))) }
@@ -69,7 +69,7 @@ fn put_go(items: &mut Vec<Item>, c: &FunctionContext, callee: Callee) -> Result<
 }
 
 fn put_taken(items: &mut Vec<Item>, c: &FunctionContext, x: Option<u32>) -> Result<(), NoMemory>
-    ensures { OnOk result (items.new.items ≡ items.old.items ++ plain (spec.take_result (context_tree c.now) x)) }
+    ensures { OnOk result (Emits items.old items.new (spec.take_result (tree c.now) x)) }
 {
     match x {
         None => Ok(()),
@@ -86,9 +86,7 @@ pub fn put_call(
     arguments: &[Operand],
 ) -> Result<(), NoMemory>
     requires { length arguments.now ≤ most_arguments }
-    ensures { OnOk result (items.new.items ≡ items.old.items
-        ++ (plain (spec.pass (context_tree c.now) a0 arguments.now)
-        ++ (spec.goes_to (labels_tree c.now) callee ++ plain (spec.take_result (context_tree c.now) x)))) }
+    ensures { OnOk result (Puts items.old items.new (call_items c.now x callee arguments.now)) }
 {
     put_arguments(items, c, arguments)?;
     put_go(items, c, callee)?;

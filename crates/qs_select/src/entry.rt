@@ -1,11 +1,11 @@
 // The entry of a function, and the return from it.
-ghost use Rattle.std.specs.Prelude.{◌≡◌, ◌++◌, ◌<◌, ◌≤◌, ◌+◌, ◌-◌, ◌^◌, OnOk, All, length};
-ghost use Rattle.qs_asm.specs.Items.{plain};
+ghost use Rattle.std.specs.Prelude.{◌≡◌, ◌<◌, ◌≤◌, ◌-◌, ◌^◌, OnOk, All, length};
 ghost use Rattle.qs_frames.specs.Layout.{used_registers, register_at};
-ghost use Rattle.qs_select.specs.ContextOf.{context_tree};
+ghost use Rattle.qs_select.specs.ContextOf.{context_tree as tree};
+ghost use Rattle.qs_select.specs.ContextOf.{parameter_code, parameters_code};
 ghost use Rattle.qs_select.specs.Emission as spec;
 ghost use Rattle.qs_select.specs.Limits.{most_arguments};
-ghost use Rattle.qs_select.specs.Pieces.{a0};
+ghost use Rattle.qs_select.specs.Puts.{Emits};
 
 use crate::calls::FIRST_ARGUMENT;
 use crate::context::FunctionContext;
@@ -21,7 +21,7 @@ use qs_isa::{Immediate, LoadKind, Register, StoreKind};
 // ---- registers that are given back
 
 fn saved_registers<'a>(c: &'a FunctionContext) -> &'a [u32]
-    ensures are { result.now ≡ used_registers (context_tree c.now).places }
+    ensures are { result.now ≡ used_registers (tree c.now).places }
     ensures few { length result.now ≤ 12 }
     ensures registers { All (λ r. r < 32) result.now }
 {
@@ -40,7 +40,7 @@ fn place_of_register(i: usize) -> Immediate
 fn put_save(items: &mut Vec<Item>, registers: &[u32]) -> Result<(), NoMemory>
     requires few { length registers.now ≤ 12 }
     requires registers { All (λ r. r < 32) registers.now }
-    ensures { OnOk result (items.new.items ≡ items.old.items ++ plain (spec.save registers.now 0)) }
+    ensures { OnOk result (Emits items.old items.new (spec.save registers.now 0)) }
 {
     for (i, register) in registers.iter().enumerate() {
         let at = place_of_register(i);
@@ -61,7 +61,7 @@ fn put_save(items: &mut Vec<Item>, registers: &[u32]) -> Result<(), NoMemory>
 fn put_restore(items: &mut Vec<Item>, registers: &[u32]) -> Result<(), NoMemory>
     requires few { length registers.now ≤ 12 }
     requires registers { All (λ r. r < 32) registers.now }
-    ensures { OnOk result (items.new.items ≡ items.old.items ++ plain (spec.restore registers.now 0)) }
+    ensures { OnOk result (Emits items.old items.new (spec.restore registers.now 0)) }
 {
     let mut i = registers.len();
     while i > 0 {
@@ -88,8 +88,7 @@ fn put_parameter(
     register: Register,
     parameter: Parameter,
 ) -> Result<(), NoMemory>
-    ensures { OnOk result (items.new.items
-        ≡ items.old.items ++ plain (spec.take_parameter (context_tree c.now) register parameter)) }
+    ensures { OnOk result (Emits items.old items.new (parameter_code c.now register parameter)) }
 {
     match parameter {
         Parameter::Plain(x) => put_value(items, c, register, x),
@@ -103,8 +102,7 @@ fn put_parameters(
     parameters: &[Parameter],
 ) -> Result<(), NoMemory>
     requires { length parameters.now ≤ most_arguments }
-    ensures { OnOk result (items.new.items
-        ≡ items.old.items ++ plain (spec.take_parameters (context_tree c.now) a0 parameters.now)) }
+    ensures { OnOk result (Emits items.old items.new (parameters_code c.now parameters.now)) }
 {
     let mut register = FIRST_ARGUMENT;
     for parameter in parameters {
@@ -125,8 +123,8 @@ fn downwards(bytes: u32) -> u32
 
 /// What a function begins with.
 pub fn put_enter(items: &mut Vec<Item>, c: &FunctionContext) -> Result<(), NoMemory>
-    requires { length (context_tree c.now).function.parameters ≤ most_arguments }
-    ensures { OnOk result (items.new.items ≡ items.old.items ++ plain (spec.enter (context_tree c.now))) }
+    requires { length (tree c.now).function.parameters ≤ most_arguments }
+    ensures { OnOk result (Emits items.old items.new (spec.enter (tree c.now))) }
 {
     put_move_stack(items, downwards(c.frame.cost))?;
     put(
@@ -139,7 +137,7 @@ pub fn put_enter(items: &mut Vec<Item>, c: &FunctionContext) -> Result<(), NoMem
 
 /// What a function ends with.
 pub fn put_leave(items: &mut Vec<Item>, c: &FunctionContext) -> Result<(), NoMemory>
-    ensures { OnOk result (items.new.items ≡ items.old.items ++ plain (spec.leave (context_tree c.now))) }
+    ensures { OnOk result (Emits items.old items.new (spec.leave (tree c.now))) }
 {
     put(
         items,

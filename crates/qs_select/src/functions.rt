@@ -1,10 +1,10 @@
 // What each function of linear code becomes.
-ghost use Rattle.std.specs.Prelude.{◌≡◌, ◌++◌, None, OnOk, true};
+ghost use Rattle.std.specs.Prelude.{◌≡◌, OnOk, true};
 ghost use Rattle.qs_tac.specs.Fits.{function_fits};
 ghost use Rattle.qs_tac.specs.UnitTrees.{unit_tree};
-ghost use Rattle.qs_select.specs.ContextOf.{context_tree, labels_tree};
-ghost use Rattle.qs_select.specs.Emission as spec;
-ghost use Rattle.qs_select.specs.Limits.{function_fault};
+ghost use Rattle.qs_select.specs.ContextOf.{context_tree, code_items, whole_items};
+ghost use Rattle.qs_select.specs.Limits.{FunctionFits};
+ghost use Rattle.qs_select.specs.Puts.{Puts};
 
 use crate::context::FunctionContext;
 use crate::entry::put_enter;
@@ -16,12 +16,11 @@ use qs_asm::Item;
 use qs_base::{FnId, NoMemory};
 
 /// Each instruction behind its label, and a label at the end.
-#[tactic(auto, using(crate::proofs::FunctionLaws::code_passes_few, crate::proofs::FitLaws::code_fits))]
+#[tactic(auto, using(crate::proofs::FunctionLaws::code_facts))]
 fn put_body(items: &mut Vec<Item>, c: &FunctionContext) -> Result<(), NoMemory>
-    requires few { function_fault (context_tree c.now).function (context_tree c.now).places ≡ None }
+    requires few { FunctionFits (context_tree c.now).function (context_tree c.now).places }
     requires fits { function_fits (unit_tree c.now.unit.now) (context_tree c.now).function ≡ true }
-    ensures { OnOk result (items.new.items ≡ items.old.items
-        ++ spec.body_items (context_tree c.now) (labels_tree c.now) 0 (context_tree c.now).function.code) }
+    ensures { OnOk result (Puts items.old items.new (code_items c.now)) }
 {
     let mut k = 0;
     for i in &c.function.code {
@@ -35,10 +34,9 @@ fn put_body(items: &mut Vec<Item>, c: &FunctionContext) -> Result<(), NoMemory>
 /// The function behind its label.
 #[tactic(auto, using(crate::proofs::FunctionLaws::few_parameters))]
 pub fn put_function(items: &mut Vec<Item>, c: &FunctionContext) -> Result<(), NoMemory>
-    requires few { function_fault (context_tree c.now).function (context_tree c.now).places ≡ None }
+    requires few { FunctionFits (context_tree c.now).function (context_tree c.now).places }
     requires fits { function_fits (unit_tree c.now.unit.now) (context_tree c.now).function ≡ true }
-    ensures { OnOk result (items.new.items ≡ items.old.items
-        ++ spec.function_items (context_tree c.now) (labels_tree c.now) c.now.number) }
+    ensures { OnOk result (Puts items.old items.new (whole_items c.now)) }
 {
     put_item(items, Item::Label(function_label(c, FnId(c.number))))?;
     put_enter(items, c)?;

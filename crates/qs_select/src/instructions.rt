@@ -1,12 +1,10 @@
 // What each instruction of linear code becomes.
-ghost use Rattle.std.specs.Prelude.{◌≡◌, ◌++◌, ◌∷◌, [], true, OnOk};
+ghost use Rattle.std.specs.Prelude.{◌≡◌, true, OnOk};
 ghost use Rattle.qs_tac.specs.TreeOf.{instruction_tree};
-ghost use Rattle.qs_tac.specs.Fits.{instruction_fits};
 ghost use Rattle.qs_tac.specs.Trees as tac;
-ghost use Rattle.qs_tac.specs.UnitTrees.{unit_tree};
-ghost use Rattle.qs_select.specs.ContextOf.{context_tree, labels_tree};
-ghost use Rattle.qs_select.specs.Emission as spec;
+ghost use Rattle.qs_select.specs.ContextOf.{items_of, fits_in};
 ghost use Rattle.qs_select.specs.Limits.{passes_few};
+ghost use Rattle.qs_select.specs.Puts.{Puts};
 
 use crate::addresses::{put_address, put_anchor};
 use crate::branches::put_branch;
@@ -35,8 +33,7 @@ fn put_unary(
     x: u32,
     o: Operand,
 ) -> Result<(), NoMemory>
-    ensures { OnOk result (items.new.items ≡ items.old.items
-        ++ spec.instruction_items (context_tree c.now) (labels_tree c.now) (tac.unary op x o)) }
+    ensures { OnOk result (Puts items.old items.new (items_of c.now (tac.unary op x o))) }
 {
     let from = put_operand(items, c, Register::A0, o)?;
     put(items, unary_instruction(op, result_register(c, x), from))?;
@@ -51,8 +48,7 @@ fn put_operation(
     left: Operand,
     right: Operand,
 ) -> Result<(), NoMemory>
-    ensures { OnOk result (items.new.items ≡ items.old.items
-        ++ spec.instruction_items (context_tree c.now) (labels_tree c.now) (tac.binary op x left right)) }
+    ensures { OnOk result (Puts items.old items.new (items_of c.now (tac.binary op x left right))) }
 {
     put_binary(items, c, op, result_register(c, x), left, right)?;
     put_result(items, c, x)
@@ -65,8 +61,7 @@ fn put_converted(
     x: u32,
     o: Operand,
 ) -> Result<(), NoMemory>
-    ensures { OnOk result (items.new.items ≡ items.old.items
-        ++ spec.instruction_items (context_tree c.now) (labels_tree c.now) (tac.convert s x o)) }
+    ensures { OnOk result (Puts items.old items.new (items_of c.now (tac.convert s x o))) }
 {
     let from = put_operand(items, c, Register::A0, o)?;
     put(items, conversion(s, result_register(c, x), from))?;
@@ -79,8 +74,7 @@ fn put_address_of(
     x: u32,
     p: Address,
 ) -> Result<(), NoMemory>
-    ensures { OnOk result (items.new.items ≡ items.old.items
-        ++ spec.instruction_items (context_tree c.now) (labels_tree c.now) (tac.address_of x p)) }
+    ensures { OnOk result (Puts items.old items.new (items_of c.now (tac.address_of x p))) }
 {
     put_address(items, c, result_register(c, x), p)?;
     put_result(items, c, x)
@@ -93,8 +87,7 @@ fn put_loaded(
     x: u32,
     p: Address,
 ) -> Result<(), NoMemory>
-    ensures { OnOk result (items.new.items ≡ items.old.items
-        ++ spec.instruction_items (context_tree c.now) (labels_tree c.now) (tac.load s x p)) }
+    ensures { OnOk result (Puts items.old items.new (items_of c.now (tac.load s x p))) }
 {
     let at = put_anchor(items, c, p)?;
     put(
@@ -116,8 +109,7 @@ fn put_stored(
     p: Address,
     o: Operand,
 ) -> Result<(), NoMemory>
-    ensures { OnOk result (items.new.items ≡ items.old.items
-        ++ spec.instruction_items (context_tree c.now) (labels_tree c.now) (tac.store s p o)) }
+    ensures { OnOk result (Puts items.old items.new (items_of c.now (tac.store s p o))) }
 {
     let at = put_anchor(items, c, p)?;
     let from = put_operand(items, c, a4(), o)?;
@@ -129,8 +121,7 @@ fn put_return(
     c: &FunctionContext,
     o: Option<Operand>,
 ) -> Result<(), NoMemory>
-    ensures { OnOk result (items.new.items ≡ items.old.items
-        ++ spec.instruction_items (context_tree c.now) (labels_tree c.now) (tac.return o)) }
+    ensures { OnOk result (Puts items.old items.new (items_of c.now (tac.return o))) }
 {
     match o {
         None => put_leave(items, c),
@@ -151,9 +142,8 @@ pub fn put_instruction(
     i: &Instruction,
 ) -> Result<(), NoMemory>
     requires few { passes_few (instruction_tree i.now) ≡ true }
-    requires fits { instruction_fits (unit_tree c.now.unit.now) (context_tree c.now).function (instruction_tree i.now) ≡ true }
-    ensures { OnOk result (items.new.items ≡ items.old.items
-        ++ spec.instruction_items (context_tree c.now) (labels_tree c.now) (instruction_tree i.now)) }
+    requires fits { fits_in c.now (instruction_tree i.now) ≡ true }
+    ensures { OnOk result (Puts items.old items.new (items_of c.now (instruction_tree i.now))) }
 {
     match i {
         Instruction::Move(x, o) => put_move(items, c, *o, place(c, *x)),

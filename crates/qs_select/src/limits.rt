@@ -1,11 +1,12 @@
 // What machine code is selected for, and the first reason why it isn't.
 ghost use Rattle.std.specs.Prelude.{◌≡◌, map, Some};
 ghost use Rattle.std.specs.List.{list_all};
-ghost use Rattle.qs_tac.specs.Places.{places_tree, no_places};
-ghost use Rattle.qs_tac.specs.TreeOf.{function_tree, instruction_tree};
+ghost use Rattle.qs_tac.specs.Places.{places_tree, places_trees, no_places};
+ghost use Rattle.qs_tac.specs.TreeOf.{function_tree, function_trees, instruction_tree};
 ghost use Rattle.qs_tac.specs.UnitTrees.{unit_tree};
 ghost use Rattle.qs_select.specs.Data as unit_data;
 ghost use Rattle.qs_select.specs.Limits as spec;
+ghost use Rattle.qs_select.specs.Limits.{functions_fault};
 
 use crate::fault::SelectionFault;
 use qs_frames::{total_within, try_layout};
@@ -101,7 +102,7 @@ fn functions_fault(
     none: &Places,
 ) -> Option<SelectionFault>
     requires { places_tree none.now ≡ no_places }
-    ensures { result ≡ spec.functions_fault (map places_tree places.now) 0 (map function_tree functions.now) }
+    ensures { result ≡ functions_fault (places_trees places.now) 0 (function_trees functions.now) }
 {
     for (f, function) in functions.iter().enumerate() {
         let found = match places.get(f) {
@@ -133,7 +134,7 @@ pub fn first_fault(
 ) -> Option<SelectionFault>
     requires none { places_tree none.now ≡ no_places }
     requires sizes { sizes.now ≡ unit_data.data_sizes (unit_tree unit.now).data_blocks }
-    ensures { result ≡ spec.first_fault (unit_tree unit.now) (map places_tree places.now) }
+    ensures { result ≡ spec.first_fault (unit_tree unit.now) (places_trees places.now) }
 {
     if data_fit(sizes) {
         functions_fault(&unit.functions, places, none)

@@ -1,12 +1,10 @@
 // Whole objects: copies and fills.
-ghost use Rattle.std.specs.Prelude.{◌≡◌, ◌-◌, ◌*◌, ◌/◌, ◌^◌, ◌<◌, ◌++◌, OnOk, map, min};
-ghost use Rattle.qs_asm.specs.Items.{plain};
+ghost use Rattle.std.specs.Prelude.{◌≡◌, ◌-◌, ◌^◌, ◌<◌, OnOk, map, min};
 ghost use Rattle.qs_memory.specs.BlankOf.{blank_tree, joined_of};
 ghost use Rattle.qs_tac.specs.Fits.{blank_size};
-ghost use Rattle.qs_select.specs.ContextOf.{context_tree};
+ghost use Rattle.qs_select.specs.ContextOf.{copy_items, fill_items};
 ghost use Rattle.qs_select.specs.Emission as spec;
-ghost use Rattle.qs_select.specs.Operands.{address_into, is_word_address};
-ghost use Rattle.qs_select.specs.Pieces as pieces;
+ghost use Rattle.qs_select.specs.Puts.{Puts, Emits};
 
 use crate::addresses::{is_word_address, put_address};
 use crate::context::FunctionContext;
@@ -48,7 +46,7 @@ fn joined_bytes(parts: &[Blank]) -> u32
 // ---- code
 
 fn put_copy_code(items: &mut Vec<Item>, size: u32, alignment: u32) -> Result<(), NoMemory>
-    ensures { OnOk result (items.new.items ≡ items.old.items ++ plain (spec.copy_code size alignment)) }
+    ensures { OnOk result (Emits items.old items.new (spec.copy_code size alignment)) }
 {
     if size == 0 {
         Ok(())
@@ -60,8 +58,7 @@ fn put_copy_code(items: &mut Vec<Item>, size: u32, alignment: u32) -> Result<(),
 }
 
 fn put_fill_words(items: &mut Vec<Item>, size: u32) -> Result<(), NoMemory>
-    ensures { OnOk result (items.new.items ≡ items.old.items
-        ++ plain (spec.unless_none (size / 4) (pieces.fill_loop StoreKind.Sw 4 (size / 4 * 4)))) }
+    ensures { OnOk result (Emits items.old items.new (spec.fill_words size)) }
 {
     if size / 4 == 0 {
         Ok(())
@@ -71,7 +68,7 @@ fn put_fill_words(items: &mut Vec<Item>, size: u32) -> Result<(), NoMemory>
 }
 
 fn put_fill_code(items: &mut Vec<Item>, is_word_address: bool, size: u32) -> Result<(), NoMemory>
-    ensures { OnOk result (items.new.items ≡ items.old.items ++ plain (spec.fill_code is_word_address size)) }
+    ensures { OnOk result (Emits items.old items.new (spec.fill_code is_word_address size)) }
 {
     if is_word_address {
         put_fill_words(items, size)?;
@@ -92,9 +89,7 @@ pub fn put_copy(
     to: Address,
     from: Address,
 ) -> Result<(), NoMemory>
-    ensures { OnOk result (items.new.items ≡ items.old.items
-        ++ plain (address_into (context_tree c.now) pieces.a5 to
-        ++ (address_into (context_tree c.now) pieces.a6 from ++ spec.copy_code size alignment))) }
+    ensures { OnOk result (Puts items.old items.new (copy_items c.now size alignment to from)) }
 {
     put_address(items, c, a5(), to)?;
     put_address(items, c, a6(), from)?;
@@ -109,9 +104,7 @@ pub fn put_fill(
     to: Address,
 ) -> Result<(), NoMemory>
     requires { blank_size (blank_tree blank.now) < 2 ^ 32 }
-    ensures { OnOk result (items.new.items ≡ items.old.items
-        ++ plain (address_into (context_tree c.now) pieces.a5 to
-        ++ spec.fill_code (is_word_address to) (blank_size (blank_tree blank.now)))) }
+    ensures { OnOk result (Puts items.old items.new (fill_items c.now (blank_tree blank.now) to)) }
 {
     put_address(items, c, a5(), to)?;
     put_fill_code(items, is_word_address(to), blank_bytes(blank))

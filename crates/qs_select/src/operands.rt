@@ -1,10 +1,10 @@
 // How operands are made, and where results go.
-ghost use Rattle.std.specs.Prelude.{◌≡◌, ◌<◌, ◌++◌, true, OnOk, IfOk};
-ghost use Rattle.qs_asm.specs.Items.{plain};
+ghost use Rattle.std.specs.Prelude.{◌≡◌, true, OnOk, IfOk};
 ghost use Rattle.qs_tac.specs.Places.{place_of};
-ghost use Rattle.qs_select.specs.ContextOf.{context_tree};
+ghost use Rattle.qs_select.specs.ContextOf.{context_tree as tree};
 ghost use Rattle.qs_select.specs.Limits.{place_fits};
 ghost use Rattle.qs_select.specs.Operands as spec;
+ghost use Rattle.qs_select.specs.Puts.{Emits};
 
 use crate::context::FunctionContext;
 use crate::immediates::below;
@@ -20,7 +20,7 @@ use qs_tac::{Operand, Place};
 /// Where the temporary stands.
 #[tactic(auto, using(crate::proofs::ContextLaws::place_is_fit))]
 pub fn place(c: &FunctionContext, t: u32) -> Place
-    ensures is { result ≡ place_of (context_tree c.now).places t }
+    ensures is { result ≡ place_of (tree c.now).places t }
     ensures fits { place_fits result ≡ true }
 {
     match c.places.at.get(t as usize) {
@@ -32,21 +32,21 @@ pub fn place(c: &FunctionContext, t: u32) -> Place
 /// The offset of the slot from x2.
 #[tactic(auto, using(crate::proofs::ContextLaws::slot_is))]
 pub fn slot_offset(c: &FunctionContext, slot: u32) -> u32
-    ensures { result ≡ spec.slot_offset (context_tree c.now) slot }
+    ensures { result ≡ spec.slot_offset (tree c.now) slot }
 {
     c.frame.slots.saturating_sub(slot.saturating_mul(4))
 }
 
 /// The offset of the placed block from x2.
 pub fn local_offset(c: &FunctionContext, block: u32) -> u32
-    ensures { result ≡ spec.local_offset (context_tree c.now) block }
+    ensures { result ≡ spec.local_offset (tree c.now) block }
 {
     c.blocks.start(block)
 }
 
 /// The address of the block of data.
 pub fn data_address(c: &FunctionContext, block: u32) -> u32
-    ensures { result ≡ (context_tree c.now).data_at block }
+    ensures { result ≡ (tree c.now).data_at block }
 {
     c.data_starts.start(block)
 }
@@ -66,7 +66,7 @@ pub fn register_of(place: Place) -> Option<Register>
 
 /// The register in which an operand stands already, if it does.
 fn stands_in(c: &FunctionContext, o: Operand) -> Option<Register>
-    ensures { result ≡ spec.stands_in (context_tree c.now) o }
+    ensures { result ≡ spec.stands_in (tree c.now) o }
 {
     match o {
         Operand::Temporary(t) => register_of(place(c, t)),
@@ -88,7 +88,7 @@ fn put_place_into(
     place: Place,
 ) -> Result<(), NoMemory>
     requires { place_fits place ≡ true }
-    ensures { OnOk result (items.new.items ≡ items.old.items ++ plain (spec.place_into (context_tree c.now) rd place)) }
+    ensures { OnOk result (Emits items.old items.new (spec.place_into (tree c.now) rd place)) }
 {
     match place {
         Place::Slot(k) => put_load(items, LoadKind::Lw, rd, slot_offset(c, k)),
@@ -103,7 +103,7 @@ fn put_byte_into(
     place: Place,
 ) -> Result<(), NoMemory>
     requires { place_fits place ≡ true }
-    ensures { OnOk result (items.new.items ≡ items.old.items ++ plain (spec.byte_into (context_tree c.now) rd place)) }
+    ensures { OnOk result (Emits items.old items.new (spec.byte_into (tree c.now) rd place)) }
 {
     match place {
         Place::Slot(k) => put_load(items, LoadKind::Lbu, rd, slot_offset(c, k)),
@@ -118,7 +118,7 @@ pub fn put_into(
     rd: Register,
     o: Operand,
 ) -> Result<(), NoMemory>
-    ensures { OnOk result (items.new.items ≡ items.old.items ++ plain (spec.into (context_tree c.now) rd o)) }
+    ensures { OnOk result (Emits items.old items.new (spec.into (tree c.now) rd o)) }
 {
     match o {
         Operand::Temporary(t) => put_place_into(items, c, rd, place(c, t)),
@@ -138,9 +138,8 @@ pub fn put_operand(
     free: Register,
     o: Operand,
 ) -> Result<Register, NoMemory>
-    ensures code { OnOk result (items.new.items
-        ≡ items.old.items ++ plain (spec.operand_code (context_tree c.now) free o)) }
-    ensures register { IfOk result (λ r. r ≡ spec.operand_register (context_tree c.now) free o) }
+    ensures code { OnOk result (Emits items.old items.new (spec.operand_code (tree c.now) free o)) }
+    ensures register { IfOk result (λ r. r ≡ spec.operand_register (tree c.now) free o) }
 {
     match stands_in(c, o) {
         None => {
@@ -155,7 +154,7 @@ pub fn put_operand(
 
 /// The register in which a result is made.
 pub fn result_register(c: &FunctionContext, x: u32) -> Register
-    ensures { result ≡ spec.result_register (context_tree c.now) x }
+    ensures { result ≡ spec.result_register (tree c.now) x }
 {
     match register_of(place(c, x)) {
         None => Register::A0,
@@ -170,7 +169,7 @@ fn put_in_place(
     place: Place,
 ) -> Result<(), NoMemory>
     requires { place_fits place ≡ true }
-    ensures { OnOk result (items.new.items ≡ items.old.items ++ plain (spec.put_place (context_tree c.now) rs place)) }
+    ensures { OnOk result (Emits items.old items.new (spec.put_place (tree c.now) rs place)) }
 {
     match place {
         Place::Slot(k) => put_store(items, StoreKind::Sw, rs, slot_offset(c, k)),
@@ -185,14 +184,14 @@ pub fn put_value(
     rs: Register,
     x: u32,
 ) -> Result<(), NoMemory>
-    ensures { OnOk result (items.new.items ≡ items.old.items ++ plain (spec.put (context_tree c.now) rs x)) }
+    ensures { OnOk result (Emits items.old items.new (spec.put (tree c.now) rs x)) }
 {
     put_in_place(items, c, rs, place(c, x))
 }
 
 /// A result, where it was made in a0, into its slot.
 pub fn put_result(items: &mut Vec<Item>, c: &FunctionContext, x: u32) -> Result<(), NoMemory>
-    ensures { OnOk result (items.new.items ≡ items.old.items ++ plain (spec.result_code (context_tree c.now) x)) }
+    ensures { OnOk result (Emits items.old items.new (spec.result_code (tree c.now) x)) }
 {
     match register_of(place(c, x)) {
         None => put_value(items, c, Register::A0, x),
@@ -208,7 +207,7 @@ pub fn put_move(
     place: Place,
 ) -> Result<(), NoMemory>
     requires { place_fits place ≡ true }
-    ensures { OnOk result (items.new.items ≡ items.old.items ++ plain (spec.move_to (context_tree c.now) o place)) }
+    ensures { OnOk result (Emits items.old items.new (spec.move_to (tree c.now) o place)) }
 {
     match place {
         Place::Slot(k) => {

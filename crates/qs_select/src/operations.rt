@@ -1,9 +1,10 @@
 // The code of operations. rd gets the result and may be a register in which an operand stands.
-ghost use Rattle.std.specs.Prelude.{◌≡◌, ◌++◌, Some, OnOk, nat_lt};
+ghost use Rattle.std.specs.Prelude.{◌≡◌, Some, OnOk, nat_lt};
 ghost use Rattle.qs_memory.specs.Partial.{only_if};
-ghost use Rattle.qs_asm.specs.Items.{plain};
-ghost use Rattle.qs_select.specs.ContextOf.{context_tree};
+ghost use Rattle.qs_select.specs.ContextOf.{context_tree as tree, moved_code};
 ghost use Rattle.qs_select.specs.Operations as spec;
+ghost use Rattle.qs_select.specs.Operations.{elements_between};
+ghost use Rattle.qs_select.specs.Puts.{Emits, EmitsMove};
 
 use crate::context::FunctionContext;
 use crate::immediates::{below, is_small, small};
@@ -101,10 +102,7 @@ fn with_operand(
 ) -> Option<Instr>
     ensures { result ≡ spec.with_operand op s rd rs right }
 {
-    match constant_of(right) {
-        None => None,
-        Some(n) => with_constant(op, s, rd, rs, n),
-    }
+    with_constant(op, s, rd, rs, constant_of(right)?)
 }
 
 // ---- integers
@@ -145,7 +143,7 @@ pub fn put_arithmetic(
     x: Operand,
     y: Operand,
 ) -> Result<(), NoMemory>
-    ensures { OnOk result (items.new.items ≡ items.old.items ++ plain (spec.arithmetic (context_tree c.now) op s rd x y)) }
+    ensures { OnOk result (Emits items.old items.new (spec.arithmetic (tree c.now) op s rd x y)) }
 {
     let left = put_operand(items, c, Register::A0, x)?;
     match with_operand(op, s, rd, left, y) {
@@ -180,10 +178,7 @@ fn less_than_constant(s: Signedness, rd: Register, rs: Register, n: u32) -> Opti
 fn less_than_operand(s: Signedness, rd: Register, rs: Register, right: Operand) -> Option<Instr>
     ensures { result ≡ spec.less_than_operand s rd rs right }
 {
-    match constant_of(right) {
-        None => None,
-        Some(n) => less_than_constant(s, rd, rs, n),
-    }
+    less_than_constant(s, rd, rs, constant_of(right)?)
 }
 
 fn put_less(
@@ -194,7 +189,7 @@ fn put_less(
     x: Operand,
     y: Operand,
 ) -> Result<(), NoMemory>
-    ensures { OnOk result (items.new.items ≡ items.old.items ++ plain (spec.less (context_tree c.now) s rd x y)) }
+    ensures { OnOk result (Emits items.old items.new (spec.less (tree c.now) s rd x y)) }
 {
     let left = put_operand(items, c, Register::A0, x)?;
     match less_than_operand(s, rd, left, y) {
@@ -213,7 +208,7 @@ fn put_apart(
     x: Operand,
     y: Operand,
 ) -> Result<(), NoMemory>
-    ensures { OnOk result (items.new.items ≡ items.old.items ++ plain (spec.apart (context_tree c.now) rd x y)) }
+    ensures { OnOk result (Emits items.old items.new (spec.apart (tree c.now) rd x y)) }
 {
     put_arithmetic(
         items,
@@ -235,7 +230,7 @@ fn put_compare(
     x: Operand,
     y: Operand,
 ) -> Result<(), NoMemory>
-    ensures { OnOk result (items.new.items ≡ items.old.items ++ plain (spec.compare (context_tree c.now) op s rd x y)) }
+    ensures { OnOk result (Emits items.old items.new (spec.compare (tree c.now) op s rd x y)) }
 {
     match op {
         Comparison::Less => put_less(items, c, s, rd, x, y),
@@ -285,7 +280,7 @@ fn put_move_by(
     pointer: Register,
     bytes: u32,
 ) -> Result<(), NoMemory>
-    ensures { OnOk result (items.new.items ≡ items.old.items ++ plain (spec.move_by rd pointer bytes)) }
+    ensures { OnOk result (Emits items.old items.new (spec.move_by rd pointer bytes)) }
 {
     if is_small(bytes) {
         put(items, addi(rd, pointer, small(bytes)))
@@ -303,8 +298,7 @@ fn put_move_by_elements(
     count: Register,
     element: u32,
 ) -> Result<(), NoMemory>
-    ensures { OnOk result (items.new.items
-        ≡ items.old.items ++ plain (spec.move_by_elements direction rd pointer count element)) }
+    ensures { OnOk result (EmitsMove items.old items.new direction rd pointer count element) }
 {
     if element == 1 {
         put(items, step(direction, rd, pointer, count))
@@ -323,8 +317,7 @@ fn put_moved(
     x: Operand,
     y: Operand,
 ) -> Result<(), NoMemory>
-    ensures { OnOk result (items.new.items
-        ≡ items.old.items ++ plain (spec.moved (context_tree c.now) direction element rd x y (spec.constant_of y))) }
+    ensures { OnOk result (Emits items.old items.new (moved_code c.now direction element rd x y)) }
 {
     let pointer = put_operand(items, c, Register::A0, x)?;
     match constant_of(y) {
@@ -343,7 +336,7 @@ fn put_elements_between(
     left: Register,
     right: Register,
 ) -> Result<(), NoMemory>
-    ensures { OnOk result (items.new.items ≡ items.old.items ++ plain (spec.elements_between element rd left right)) }
+    ensures { OnOk result (Emits items.old items.new (elements_between element rd left right)) }
 {
     if element == 1 {
         put(items, sub(rd, left, right))
@@ -365,7 +358,7 @@ pub fn put_binary(
     x: Operand,
     y: Operand,
 ) -> Result<(), NoMemory>
-    ensures { OnOk result (items.new.items ≡ items.old.items ++ plain (spec.binary (context_tree c.now) op rd x y)) }
+    ensures { OnOk result (Emits items.old items.new (spec.binary (tree c.now) op rd x y)) }
 {
     match op {
         BinaryOperation::Arithmetic(op, s) => put_arithmetic(items, c, op, s, rd, x, y),

@@ -1,7 +1,7 @@
 // Short pieces of machine code that the code of instructions is put together from.
-ghost use Rattle.std.specs.Prelude.{◌≡◌, ◌<◌, ◌+◌, ◌^◌, [], ◌∷◌, ◌++◌, OnOk};
-ghost use Rattle.qs_asm.specs.Items.{plain};
+ghost use Rattle.std.specs.Prelude.{◌≡◌, ◌<◌, ◌+◌, ◌^◌, [], ◌∷◌, OnOk};
 ghost use Rattle.qs_select.specs.Pieces as spec;
+ghost use Rattle.qs_select.specs.Puts.{Puts, Emits};
 
 use crate::immediates::{below, high, is_near, is_small, low, near, small};
 use crate::mnemonics::{add, addi, load, lui, mul, slli, store};
@@ -15,7 +15,7 @@ use qs_memory::Scalar;
 
 /// Puts an instruction behind the items.
 pub fn put(items: &mut Vec<Item>, i: Instr) -> Result<(), NoMemory>
-    ensures { OnOk result (items.new.items ≡ items.old.items ++ plain (i ∷ [])) }
+    ensures { OnOk result (Emits items.old items.new (i ∷ [])) }
 {
     items.push(Item::Plain(i))?;
     Ok(())
@@ -23,7 +23,7 @@ pub fn put(items: &mut Vec<Item>, i: Instr) -> Result<(), NoMemory>
 
 /// Puts an item behind the others.
 pub fn put_item(items: &mut Vec<Item>, item: Item) -> Result<(), NoMemory>
-    ensures { OnOk result (items.new.items ≡ items.old.items ++ (item ∷ [])) }
+    ensures { OnOk result (Puts items.old items.new (item ∷ [])) }
 {
     // the check knows what an item holds only where the code names an instruction of it
     if let Item::Plain(i) = item {
@@ -63,7 +63,7 @@ pub fn store_kind(s: Scalar) -> StoreKind
 
 /// A word into a register.
 pub fn put_constant(items: &mut Vec<Item>, rd: Register, word: u32) -> Result<(), NoMemory>
-    ensures { OnOk result (items.new.items ≡ items.old.items ++ plain (spec.constant rd word)) }
+    ensures { OnOk result (Emits items.old items.new (spec.constant rd word)) }
 {
     if is_small(word) {
         put(items, addi(rd, Register::ZERO, small(word)))
@@ -84,7 +84,7 @@ pub fn put_load(
     rd: Register,
     offset: u32,
 ) -> Result<(), NoMemory>
-    ensures { OnOk result (items.new.items ≡ items.old.items ++ plain (spec.load_from kind rd offset)) }
+    ensures { OnOk result (Emits items.old items.new (spec.load_from kind rd offset)) }
 {
     if is_near(offset) {
         put(items, load(kind, rd, Register::SP, near(offset)))
@@ -102,7 +102,7 @@ pub fn put_store(
     rs: Register,
     offset: u32,
 ) -> Result<(), NoMemory>
-    ensures { OnOk result (items.new.items ≡ items.old.items ++ plain (spec.store_to kind rs offset)) }
+    ensures { OnOk result (Emits items.old items.new (spec.store_to kind rs offset)) }
 {
     if is_near(offset) {
         put(items, store(kind, rs, Register::SP, near(offset)))
@@ -119,7 +119,7 @@ pub fn put_address_in_frame(
     rd: Register,
     offset: u32,
 ) -> Result<(), NoMemory>
-    ensures { OnOk result (items.new.items ≡ items.old.items ++ plain (spec.address_in_frame rd offset)) }
+    ensures { OnOk result (Emits items.old items.new (spec.address_in_frame rd offset)) }
 {
     if is_near(offset) {
         put(items, addi(rd, Register::SP, near(offset)))
@@ -131,7 +131,7 @@ pub fn put_address_in_frame(
 
 /// x2 moves by a word.
 pub fn put_move_stack(items: &mut Vec<Item>, word: u32) -> Result<(), NoMemory>
-    ensures { OnOk result (items.new.items ≡ items.old.items ++ plain (spec.move_stack word)) }
+    ensures { OnOk result (Emits items.old items.new (spec.move_stack word)) }
 {
     if is_small(word) {
         put(items, addi(Register::SP, Register::SP, small(word)))
@@ -161,7 +161,7 @@ pub fn put_product(
     rs: Register,
     number: u32,
 ) -> Result<(), NoMemory>
-    ensures { OnOk result (items.new.items ≡ items.old.items ++ plain (spec.product rd rs number)) }
+    ensures { OnOk result (Emits items.old items.new (spec.product rd rs number)) }
 {
     match shift_of(number) {
         Some(amount) => put(items, slli(rd, rs, amount)),
@@ -175,7 +175,7 @@ pub fn put_product(
 // ---- loops over bytes, in steps of a width; a5 goes up to a7
 
 fn put_loop_end(items: &mut Vec<Item>, size: u32) -> Result<(), NoMemory>
-    ensures { OnOk result (items.new.items ≡ items.old.items ++ plain (spec.loop_end size)) }
+    ensures { OnOk result (Emits items.old items.new (spec.loop_end size)) }
 {
     put_constant(items, Register::A7, size)?;
     put(items, add(Register::A7, Register::A7, a5()))
@@ -200,7 +200,7 @@ pub fn put_copy_loop(
     width: Immediate,
     size: u32,
 ) -> Result<(), NoMemory>
-    ensures { OnOk result (items.new.items ≡ items.old.items ++ plain (spec.copy_loop from to width size)) }
+    ensures { OnOk result (Emits items.old items.new (spec.copy_loop from to width size)) }
 {
     put_loop_end(items, size)?;
     put(items, load(from, a4(), a6(), below(0)))?;
@@ -217,7 +217,7 @@ pub fn put_fill_loop(
     width: Immediate,
     size: u32,
 ) -> Result<(), NoMemory>
-    ensures { OnOk result (items.new.items ≡ items.old.items ++ plain (spec.fill_loop to width size)) }
+    ensures { OnOk result (Emits items.old items.new (spec.fill_loop to width size)) }
 {
     put_loop_end(items, size)?;
     put(items, store(to, Register::ZERO, a5(), below(0)))?;
@@ -228,7 +228,7 @@ pub fn put_fill_loop(
 /// So many zero bytes from where a5 points on.
 pub fn put_zero_bytes(items: &mut Vec<Item>, count: u32) -> Result<(), NoMemory>
     requires { count < 2048 }
-    ensures { OnOk result (items.new.items ≡ items.old.items ++ plain (spec.zero_bytes count 0)) }
+    ensures { OnOk result (Emits items.old items.new (spec.zero_bytes count 0)) }
 {
     for offset in 0..count {
         put(

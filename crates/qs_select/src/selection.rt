@@ -1,14 +1,15 @@
 // What a unit of linear code becomes.
-ghost use Rattle.std.specs.Prelude.{◌≡◌, ◌++◌, map, None, true, IfOk, IfErr, OnOk, slice_index_or};
+ghost use Rattle.std.specs.Prelude.{◌≡◌, true, IfOk, IfErr, OnOk, slice_index_or};
 ghost use Rattle.qs_tac.specs.Fits.{function_fits};
-ghost use Rattle.qs_tac.specs.Places.{places_tree, no_places};
-ghost use Rattle.qs_tac.specs.TreeOf.{function_tree};
+ghost use Rattle.qs_tac.specs.Places.{places_tree, places_trees, no_places};
+ghost use Rattle.qs_tac.specs.TreeOf.{function_tree, function_trees};
 ghost use Rattle.qs_tac.specs.UnitTrees.{unit_tree};
-ghost use Rattle.qs_frames.specs.Starts.{start_of, AreStarts};
+ghost use Rattle.qs_frames.specs.Starts.{start_of};
 ghost use Rattle.qs_select.specs.Data as unit_data;
-ghost use Rattle.qs_select.specs.Emission as spec;
 ghost use Rattle.qs_select.specs.Limits as limits;
+ghost use Rattle.qs_select.specs.Puts.{Puts};
 ghost use Rattle.qs_select.specs.Units as units;
+ghost use Rattle.qs_select.specs.Units.{start_items_at, Selects, SelectsAll};
 
 use crate::calls::{EXIT, put_environment};
 use crate::context::FunctionContext;
@@ -42,7 +43,7 @@ pub fn data_sizes(alloc: Global, blocks: &[TacData]) -> Result<Vec<u32>, NoMemor
 /// The first label of each function, which has one for its entry, one for each instruction, and one
 /// for its end.
 pub fn first_labels(alloc: Global, functions: &[TacFunction]) -> Result<Starts, NoMemory>
-    ensures { IfOk result (λ labels. units.AreFirstLabels (map function_tree functions.now) labels) }
+    ensures { IfOk result (λ labels. units.AreFirstLabels (function_trees functions.now) labels) }
 {
     let mut at = Vec::new(alloc);
     let mut end = 0;
@@ -58,7 +59,7 @@ pub fn first_labels(alloc: Global, functions: &[TacFunction]) -> Result<Starts, 
 /// The places of the function with this number; `none` where the list has none.
 fn places_of<'a>(places: &'a [Places], none: &'a Places, f: usize) -> &'a Places
     requires { places_tree none.now ≡ no_places }
-    ensures { places_tree result.now ≡ slice_index_or (map places_tree places.now) f no_places }
+    ensures { places_tree result.now ≡ slice_index_or (places_trees places.now) f no_places }
 {
     match places.get(f) {
         None => none,
@@ -76,12 +77,11 @@ fn put_function_at(
     function: &TacFunction,
     places: &Places,
 ) -> Result<(), NoMemory>
-    requires data_starts { AreStarts unit_data.data_start (unit_data.data_sizes (unit_tree unit.now).data_blocks) data_starts.now }
+    requires data_starts { units.AreDataStarts (unit_tree unit.now) data_starts.now }
     requires labels { units.AreFirstLabels (unit_tree unit.now).functions labels.now }
-    requires fault { limits.function_fault (function_tree function.now) (places_tree places.now) ≡ None }
+    requires fault { limits.FunctionFits (function_tree function.now) (places_tree places.now) }
     requires fits { function_fits (unit_tree unit.now) (function_tree function.now) ≡ true }
-    ensures { OnOk result (items.new.items ≡ items.old.items
-        ++ units.function_items_at (unit_tree unit.now) number (function_tree function.now) (places_tree places.now)) }
+    ensures { OnOk result (Selects items.old items.new unit.now number function.now places.now) }
 {
     let frame = layout(function, places);
     let saved = used_registers(alloc, places)?;
@@ -109,13 +109,11 @@ fn put_functions(
     places: &[Places],
     none: &Places,
 ) -> Result<(), NoMemory>
-    requires data_starts { AreStarts unit_data.data_start (unit_data.data_sizes (unit_tree unit.now).data_blocks) data_starts.now }
+    requires data_starts { units.AreDataStarts (unit_tree unit.now) data_starts.now }
     requires labels { units.AreFirstLabels (unit_tree unit.now).functions labels.now }
     requires none { places_tree none.now ≡ no_places }
-    requires fit { limits.functions_fault (map places_tree places.now) 0 (unit_tree unit.now).functions ≡ None }
-    ensures { OnOk result (items.new.items ≡ items.old.items
-        ++ spec.functions_items (unit_tree unit.now) (map places_tree places.now)
-        (unit_data.data_address (unit_tree unit.now).data_blocks) 0 (unit_tree unit.now).functions) }
+    requires fit { limits.FunctionsFit (unit_tree unit.now) (places_trees places.now) }
+    ensures { OnOk result (SelectsAll items.old items.new unit.now places.now) }
 {
     for (f, function) in unit.functions.iter().enumerate() {
         let number = count(f)?;
@@ -137,7 +135,7 @@ fn put_functions(
 // ---- units
 
 fn put_start(items: &mut Vec<Item>, labels: &Starts, main: FnId) -> Result<(), NoMemory>
-    ensures { OnOk result (items.new.items ≡ items.old.items ++ units.start_items_at (start_of labels.now main.0)) }
+    ensures { OnOk result (Puts items.old items.new (start_items_at (start_of labels.now main.0))) }
 {
     put_item(items, Item::Jump(Register::RA, labels.start(main.0)))?;
     put_environment(items, EXIT)
@@ -152,8 +150,8 @@ fn selected(
 ) -> Result<Vec<Item>, NoMemory>
     requires none { places_tree none.now ≡ no_places }
     requires sizes { sizes.now ≡ unit_data.data_sizes (unit_tree unit.now).data_blocks }
-    requires fits { limits.first_fault (unit_tree unit.now) (map places_tree places.now) ≡ None }
-    ensures { IfOk result (λ items. items.items ≡ units.selected (unit_tree unit.now) (map places_tree places.now)) }
+    requires fits { limits.UnitFits (unit_tree unit.now) (places_trees places.now) }
+    ensures { IfOk result (units.IsSelection (unit_tree unit.now) (places_trees places.now)) }
 {
     let data_starts = laid_from(alloc, DATA_START, sizes)?;
     let labels = first_labels(alloc, &unit.functions)?;
@@ -166,9 +164,9 @@ fn selected(
 /// The machine code of a unit whose temporaries stand in these places, as items: a function's
 /// places stand by its number. Where there is a fault, it is `NoMemory` or the unit's first.
 pub fn select(alloc: Global, unit: &TacUnit, places: &[Places]) -> Result<Vec<Item>, SelectionFault>
-    ensures items { IfOk result (λ items. items.items ≡ units.selected (unit_tree unit.now) (map places_tree places.now)) }
-    ensures fits { OnOk result (limits.first_fault (unit_tree unit.now) (map places_tree places.now) ≡ None) }
-    ensures fault { IfErr result (λ f. units.IsFault (unit_tree unit.now) (map places_tree places.now) f) }
+    ensures items { IfOk result (units.IsSelection (unit_tree unit.now) (places_trees places.now)) }
+    ensures fits { OnOk result (limits.UnitFits (unit_tree unit.now) (places_trees places.now)) }
+    ensures fault { IfErr result (units.IsFault (unit_tree unit.now) (places_trees places.now)) }
 {
     let none = Places {
         at: Vec::new(alloc),

@@ -1,6 +1,8 @@
 -- The places in which the values of a function may stand.
 use Rattle.std.specs.Prelude.{◌≡◌, ℕ, zero, suc, ◌+◌, ◌&&◌, nat_le, Bool, List, [], ◌∷◌, map, slice_index_or}
 use Rattle.qs_tac.specs.Trees.{TacFunctionTree}
+use Rattle.qs_tac.specs.TreeOf.{function_trees}
+use Rattle.qs_tac.specs.declared.units.TacFunction.{TacFunction}
 use Rattle.qs_tac.specs.declared.places.Place.{Place}
 use Rattle.qs_tac.specs.declared.places.Place.TheVariants.{Slot}
 use Rattle.qs_tac.specs.declared.places.Places.{Places}
@@ -25,6 +27,10 @@ slots_from first (suc count) = Slot first ∷ slots_from (first + 1) count
 -- each temporary stands in the slot of its own number
 abbrev pub all_slots : TacFunctionTree → PlacesTree
 all_slots f = record { at = slots_from 0 f.temporaries }
+
+-- the places of each function are such slots
+abbrev pub HaveOwnSlots : List TacFunction → List Places → Type 0
+HaveOwnSlots functions ps = places_trees ps ≡ map all_slots (function_trees functions)
 
 -- ---- registers
 

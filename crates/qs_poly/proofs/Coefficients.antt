@@ -9,7 +9,7 @@ use Rattle.std.proofs.lemmas.Int.{ints}
 use Rattle.std.proofs.lemmas.Cmp.{upto}
 use Rattle.qs_poly.specs.Polynomials.{AtomTree, Monomial, one, times, Polynomial, nothing, plus}
 use Rattle.qs_poly.specs.Orders.{atom_cmp, monomial_cmp, atom_cmp_total, monomial_cmp_total}
-use Rattle.qs_poly.specs.Operations.{by_order, insert_atom, monomial_product, plus_unless_zero, insert_term, sum, multiple, add_term_product, add_product, product, number, lessened, single}
+use Rattle.qs_poly.specs.Operations.{by_order, insert_atom, monomial_product, plus_unless_zero, insert_term, sum, multiple, add_term_product, add_product, product, number, lessened}
 use Rattle.qs_poly.specs.Canonical.{where_same, coefficient, term_product_coefficient, product_coefficient, NotBefore, IsBefore, IsCanonicalAtom, IsCanonicalMonomial, IsCanonical}
 use Rattle.qs_poly.proofs.Ring.{add_mul}
 use Rattle.qs_poly.proofs.Order.{monomial_equal, monomial_less, monomial_itself, atom_not_after}
@@ -236,6 +236,3 @@ number_inserted k p x =
 pub lessened_canonical : (p : Polynomial) (k : ℕ) (q : Polynomial) (c : ℕ) → IsCanonical p → IsCanonical q → IsCanonical (lessened p k q c)
 lessened_canonical p k q c x y =
     sum_canonical (sum p (multiple (pos 0 -ℤ pos k) q)) (number (pos 0 -ℤ pos c)) (sum_canonical p (multiple (pos 0 -ℤ pos k) q) x (multiple_canonical (pos 0 -ℤ pos k) q y)) (number_canonical (pos 0 -ℤ pos c))
-
-pub single_canonical : (a : AtomTree) → IsCanonicalAtom a → IsCanonical (single a)
-single_canonical a c = ((λ e. cc), (c, tt, tt), tt, tt)

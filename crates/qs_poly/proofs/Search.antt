@@ -1,5 +1,5 @@
 -- The place of a monomial among terms in order, found by halves.
-use Rattle.std.proofs.Common.{◌≡◌, ◌≤◌, ◌<◌, ◌+◌, ◌-◌, ◌/◌, ℕ, zero, suc, List, [], ◌∷◌, take, drop, length, get_or, refl, sym, ap, ◌∙◌, subst, arith}
+use Rattle.std.proofs.Common.{◌≡◌, ◌<◌, ◌+◌, ◌-◌, ◌/◌, ℕ, zero, suc, List, [], ◌∷◌, take, drop, length, get_or, refl, sym, ap, ◌∙◌, subst, arith}
 use Rattle.std.specs.Prelude.{ℤ, ◌+ℤ◌}
 use Rattle.std.specs.Ordering.{ordering_reverse}
 use Rattle.std.specs.declared.cmp.Ordering.TheVariants.{Less, Equal, Greater}
@@ -10,7 +10,7 @@ use Rattle.qs_poly.specs.Canonical.{IsBefore, IsCanonicalMonomial, IsCanonical}
 use Rattle.qs_poly.specs.Operations.{by_order, insert_term, plus_unless_zero}
 use Rattle.qs_poly.specs.Terms.{sum_of, terms_before, join_first}
 use Rattle.qs_poly.proofs.Order.{monomial_equal, monomial_less}
-use Rattle.qs_poly.proofs.Steps.{term_passed, nothing_left}
+use Rattle.qs_poly.proofs.Steps.{term_passed}
 
 -- the monomial of a term is canonical
 pub item_canonical : (xs : List Term) (i : ℕ) (d : Term) → i < length xs → d ≡ get_or xs i d → IsCanonical (sum_of xs) → IsCanonicalMonomial d.monomial
@@ -66,11 +66,6 @@ same_here c m (x ∷ xs) (suc i) d lt e h = same_here c m xs i d (omega arith) e
 pub searched_same : (c : ℤ) (m : Monomial) (xs : List Term) (i : ℕ) (d : Term) → IsCanonical (sum_of xs) → i < length xs → d ≡ get_or xs i d → monomial_cmp m d.monomial ≡ Equal → insert_term c m (sum_of xs) ≡ terms_before (take i xs) (join_first c (drop i xs))
 searched_same c m xs i d o lt e h =
     reached c m xs i d o lt e (λ x k. alike m d.monomial x h k) ∙ ap (λ p. terms_before (take i xs) p) (same_here c m xs i d lt e h)
-
--- nothing is behind the end
-pub searched_end : (c : ℤ) (m : Monomial) (xs : List Term) (i : ℕ) → length xs ≤ i → insert_term c m (sum_of (drop i xs)) ≡ plus_unless_zero c m (sum_of (drop i xs))
-searched_end c m xs i h =
-    ap (λ (l : List Term). insert_term c m (sum_of l)) (nothing_left xs i h) ∙ ap (λ (l : List Term). plus_unless_zero c m (sum_of l)) (sym (nothing_left xs i h))
 
 -- the place that is left
 pub searched : (c : ℤ) (m : Monomial) (xs : List Term) (i j : ℕ) → i ≡ j → insert_term c m (sum_of xs) ≡ terms_before (take i xs) (insert_term c m (sum_of (drop i xs))) → insert_term c m (sum_of (drop j xs)) ≡ plus_unless_zero c m (sum_of (drop j xs)) → insert_term c m (sum_of xs) ≡ terms_before (take i xs) (plus_unless_zero c m (sum_of (drop i xs)))

@@ -32,11 +32,11 @@ operand_pointer operator t e = pointer_by operator (named_pointer_known t e)
 
 -- these are the bytes of a scalar of this type
 abbrev pub FindsCells : {X E : Type 0} → (Tables → TypeTree → X → Option (List cells.Cell)) → CodeTables → CType → X → Result (Vec Cell Global) E → Type 0
-FindsCells definition t of x result = Gives cells_tree (definition (tables_tree t) (type_tree of) x) result
+FindsCells definition t type x result = Gives cells_tree (definition (tables_tree t) (type_tree type) x) result
 
 -- these are the data of an object of this type
 abbrev pub Holds : {X E : Type 0} → (Tables → TypeTree → X → Option (List cells.Cell)) → CodeTables → CType → X → Result (Vec Datum Global) E → Type 0
-Holds definition t of x result = Gives data_cells (definition (tables_tree t) (type_tree of) x) result
+Holds definition t type x result = Gives data_cells (definition (tables_tree t) (type_tree type) x) result
 
 -- each piece is written over the bytes that are there
 abbrev pub WritesPieces : {T E : Type 0} → CodeTables → List Piece → (old new : List Cell) → Result T E → Type 0

@@ -21,7 +21,7 @@ pieces_tree ps = map piece_tree ps.items
 
 -- the part of this type that begins here, with an expression
 abbrev pub piece_of : (offset : ℕ) → CType → Expr → initialisers.Piece
-piece_of offset of e = record { offset = offset; type = type_tree of; expression = expr_tree e }
+piece_of offset t e = record { offset = offset; type = type_tree t; expression = expr_tree e }
 
 -- of a list, from the first part on
 abbrev pub list_pieces : Structs → TypeTree → (offset : ℕ) → Initialisers → Option (List initialisers.Piece)

@@ -9,16 +9,13 @@ use Rattle.qs_types.specs.References.{TextBlock, literal_blocks}
 use Rattle.qs_types.specs.UnitRules.{structs_of}
 use Rattle.qs_typing.specs.NodeReferents.{unit_referents}
 use Rattle.qs_typing.specs.NodeTypes.{unit_types}
-use Rattle.qs_meaning.specs.Units.{file_variables_in, functions_in, name_with_body, typed_of}
-use Rattle.qs_meaning.specs.Typed.{TypedProgram}
+use Rattle.qs_meaning.specs.Units.{file_variables_in, functions_in, name_with_body}
 use Rattle.qs_typed.specs.KnownOf.{headers_tree}
 use Rattle.qs_typed.specs.KnownPrograms.{Tables}
 use Rattle.qs_typed.specs.KnownUnits.{headers_behind}
 use Rattle.qs_typed.specs.PlacesOf.{statics_tree}
 use Rattle.qs_typed.specs.Results.{Gives}
-use Rattle.qs_typed.specs.TreeOf.{function_tree}
 use Rattle.qs_typed.specs.TypesOf.{types_tree}
-use Rattle.qs_typed.specs.declared.program.TypedFunction.{TypedFunction}
 use Rattle.qs_typed.specs.declared.tables.Tables.{Tables as CodeTables}
 
 abbrev pub tables_tree : CodeTables → Tables
@@ -62,7 +59,3 @@ pub record AreOf (t : Tables) (unit : UnitTree) : Type 0 where
   pub variables : t.statics.variables ≡ file_variables_in unit
   pub texts : t.statics.texts ≡ text_nodes (literal_blocks unit)
   pub functions : t.functions ≡ functions_in unit
-
--- the functions of the typed tree of a unit, in order
-abbrev pub AreFunctionsOf : UnitTree → List TypedFunction → Type 0
-AreFunctionsOf unit fs = (p : TypedProgram) → typed_of unit ≡ Some p → p.functions ≡ map function_tree fs

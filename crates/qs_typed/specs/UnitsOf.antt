@@ -1,7 +1,7 @@
 -- The functions that functions in code find in tables, and their variables.
 use Rattle.std.specs.Prelude.{◌≡◌, ℕ, List, ◌++◌, map, Result, Vec, OnOk}
 use Rattle.std.specs.declared.alloc.Global.{Global}
-use Rattle.qs_syntax.specs.TreeOf as syntax
+use Rattle.qs_syntax.specs.TreeOf as source
 use Rattle.qs_syntax.specs.Trees.{DeclTree, FunctionTree}
 use Rattle.qs_syntax.specs.declared.statements.Stmt.{Stmt}
 use Rattle.qs_syntax.specs.declared.units.Decl.{Decl}
@@ -23,13 +23,13 @@ use Rattle.qs_typed.specs.declared.tables.Tables.{Tables as CodeTables}
 -- ---- of a function with this body
 
 abbrev pub KnowsFunction : {E : Type 0} → Known → Function → (body : List Stmt) → Result TypedFunction E → Type 0
-KnowsFunction k f body result = Gives function_tree (function_known (known_tree k) (syntax.function_tree f) (syntax.stmts_tree body)) result
+KnowsFunction k f body result = Gives function_tree (function_known (known_tree k) (source.function_tree f) (source.stmts_tree body)) result
 
 abbrev pub FindsFunction : {E : Type 0} → CodeTables → Function → (body : List Stmt) → Result TypedFunction E → Type 0
-FindsFunction t f body result = Gives function_tree (body_known (tables_tree t) (syntax.function_tree f) (syntax.stmts_tree body)) result
+FindsFunction t f body result = Gives function_tree (body_known (tables_tree t) (source.function_tree f) (source.stmts_tree body)) result
 
 abbrev pub FindsPlaces : {E : Type 0} → CodeTables → Function → (body : List Stmt) → Result Locals E → Type 0
-FindsPlaces t f body result = Makes locals_tree (body_places (tables_tree t) (syntax.function_tree f) (syntax.stmts_tree body)) result
+FindsPlaces t f body result = Makes locals_tree (body_places (tables_tree t) (source.function_tree f) (source.stmts_tree body)) result
 
 -- ---- of declarations
 
@@ -47,4 +47,4 @@ abbrev pub AddsVariables :
 AddsVariables definition t x old new result = OnOk result (number_lists new ≡ number_lists old ++ definition (tables_tree t) x)
 
 abbrev pub variables_in : CodeTables → List Decl → List (List ℕ)
-variables_in t ds = variables_known (tables_tree t) (map syntax.decl_tree ds)
+variables_in t ds = variables_known (tables_tree t) (map source.decl_tree ds)

@@ -4,7 +4,11 @@ use Rattle.qs_calls.specs.declared.callee.Callee.{Callee}
 use Rattle.qs_calls.specs.declared.callee.Callee.TheVariants.{Function, PutChar, GetChar}
 use Rattle.qs_assert.specs.Trees.{named}
 use Rattle.qs_core.specs.Trees as core
-use Rattle.qs_core.specs.Trees.{CoreStmtTree, CoreStmts, no_stmts, stmt_and}
+use Rattle.qs_core.specs.Trees.{CoreStmtTree, CoreStmts, no_stmts, stmt_and, stmts_of}
+use Rattle.qs_core.specs.TreeOf.{core_stmt, core_stmts}
+use Rattle.qs_core.specs.declared.statements.CoreStmt.{CoreStmt}
+use Rattle.qs_callgraph.specs.CallLists.{numbers}
+use Rattle.qs_analyse.specs.declared.written.Needs.{Needs}
 use Rattle.qs_entail.specs.Certificates.{CertTree, same, pick, all, by_definition, cert_and, no_certs}
 use Rattle.qs_triples.specs.Derivations.{DerivationTree, leaf, sequence, conditional, loop, balanced_call, consequence, DerivationTrees, no_derivations, derivation_and}
 
@@ -52,3 +56,16 @@ abbrev mutual
 -- the derivations of statements, one after another
 abbrev pub each_written : (name : List ℕ) → (callees : List ℕ) → List CoreStmtTree → List DerivationTree
 each_written name callees ss = map (written name callees) ss
+
+-- ---- of the code's values
+
+-- with the name of the function and those that it calls
+abbrev pub for_needs : {X : Type 0} → Needs → ((name : List ℕ) → (callees : List ℕ) → X) → X
+for_needs f write = write f.name.now (numbers f.callees.now)
+
+-- the derivation of a statement, and those of statements one after another
+abbrev pub written_stmt : Needs → CoreStmt → DerivationTree
+written_stmt f s = for_needs f written (core_stmt s)
+
+abbrev pub written_stmts : Needs → List CoreStmt → DerivationTrees
+written_stmts f ss = for_needs f all_written (stmts_of (core_stmts ss))

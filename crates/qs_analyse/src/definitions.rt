@@ -1,11 +1,11 @@
 // The definitions of open functions.
-ghost use Rattle.std.specs.Prelude.{◌≡◌, ◌<◌, ◌++◌, ◌∷◌, [], ℕ, IfOk, OnOk, length, map, true};
+ghost use Rattle.std.specs.Prelude.{◌≡◌, ◌<◌, ◌++◌, ◌∷◌, [], IfOk, OnOk, length};
 ghost use Rattle.qs_assert.specs.Trees as trees;
-ghost use Rattle.qs_core.specs.CallGraph.{called_by};
 ghost use Rattle.qs_core.specs.UnitTrees.{unit_tree};
-ghost use Rattle.qs_triples.specs.Filled.{for_calls, function_name, open_definition};
-ghost use Rattle.qs_callgraph.specs.CallLists.{is_member, numbers};
-ghost use Rattle.qs_analyse.specs.Needs.{named_calls};
+ghost use Rattle.qs_triples.specs.Filled.{function_name, open_definition};
+ghost use Rattle.qs_callgraph.specs.CallLists.{AreBelow, numbers};
+ghost use Rattle.qs_analyse.specs.Fillable.{with_definitions};
+ghost use Rattle.qs_analyse.specs.Needs.{GivesItems, named_calls};
 
 use crate::needs::{call_part, greatest, put_part};
 use qs_assert::{Assertion, Define};
@@ -32,8 +32,8 @@ fn named(alloc: Global, unit: &CoreUnit, f: FnId) -> Result<Assertion, NoMemory>
 
 // What calls of these need, where each needs its name.
 fn named_calls(alloc: Global, unit: &CoreUnit, callees: &[FnId]) -> Result<Vec<Assertion>, NoMemory>
-    requires { (g : ℕ) → is_member g (numbers callees.now) ≡ true → g < length unit.now.functions.items }
-    ensures { IfOk result (λ parts. parts.items ≡ named_calls (unit_tree unit.now) (numbers callees.now)) }
+    requires { AreBelow (numbers callees.now) (length unit.now.functions.items) }
+    ensures { GivesItems result (named_calls (unit_tree unit.now) (numbers callees.now)) }
 {
     let mut parts = Vec::new(alloc);
     for g in callees {
@@ -69,9 +69,8 @@ pub fn definitions(
     opened: &[FnId],
     given: Vec<Define>,
 ) -> Result<Vec<Define>, NoMemory>
-    requires { (f : ℕ) → is_member f (numbers opened.now) ≡ true → f < length unit.now.functions.items }
-    ensures { IfOk result (λ defines. defines.items
-        ≡ map (open_definition (unit_tree unit.now)) (numbers opened.now) ++ given.items) }
+    requires { AreBelow (numbers opened.now) (length unit.now.functions.items) }
+    ensures { GivesItems result (with_definitions unit.now opened.now given.items) }
 {
     let mut defines = Vec::new(alloc);
     for f in opened {

@@ -1,15 +1,13 @@
 // The entries that are added.
-ghost use Rattle.std.specs.Prelude.{◌≡◌, ◌<◌, ◌++◌, ◌∷◌, [], ℕ, IfOk, MatchOption, None, OnOk, length, map, true};
+ghost use Rattle.std.specs.Prelude.{◌≡◌, ◌<◌, ◌++◌, ◌∷◌, [], IfOk, OnOk, length};
 ghost use Rattle.std.specs.List.{list_any};
-ghost use Rattle.qs_core.specs.CallGraph.{called_by};
 ghost use Rattle.qs_core.specs.UnitTrees.{unit_tree};
-ghost use Rattle.qs_triples.specs.Derivations.{entry_of};
 ghost use Rattle.qs_triples.specs.Filled as filled;
-ghost use Rattle.qs_triples.specs.TreeOf.{entry_tree};
-ghost use Rattle.qs_callgraph.specs.CallLists.{flag, is_member, numbers};
-ghost use Rattle.qs_analyse.specs.Fillable as fillable;
-ghost use Rattle.qs_analyse.specs.Fillable.{entries_only, entry_for, with_entries};
-ghost use Rattle.qs_analyse.specs.Needs.{HasPre, is_variable_head, is_variable_node, needed_calls};
+ghost use Rattle.qs_callgraph.specs.CallLists.{AreBelow, numbers};
+ghost use Rattle.qs_analyse.specs.Fillable.{AddsEntries, GivesEntry, added_entry, open_entry};
+ghost use Rattle.qs_analyse.specs.Fillable.{path_entry_of, proofs_of};
+ghost use Rattle.qs_analyse.specs.Needs.{FindsPre, GivesItems, is_variable_head};
+ghost use Rattle.qs_analyse.specs.Needs.{is_variable_node, one_says_nothing, path_needs};
 
 use crate::needs::{call_part, greatest, put_part};
 use crate::written::{Needs, all_written};
@@ -21,7 +19,8 @@ use qs_entail::Certificate;
 use qs_triples::{Derivation, FunctionProof, Spec};
 use std::alloc::Global;
 
-/// The most nodes of a precondition that is added: where it would have more, no memory is found for it.
+/// The most nodes of a precondition that is added: where it would have more, no memory is found for
+/// it.
 const MOST_NODES: usize = 1 << 24;
 
 // ---- preconditions
@@ -73,8 +72,7 @@ fn is_useless(alloc: Global, a: &Assertion) -> Result<bool, NoMemory>
 
 // The precondition of a function's entry.
 fn pre_of(entries: &[FunctionProof], g: FnId) -> Option<&Assertion>
-    ensures { MatchOption result (entry_of (entries_only (map entry_tree entries.now)) g.0 ≡ None)
-        (λ a. HasPre (entries_only (map entry_tree entries.now)) g.0 a.now) }
+    ensures { FindsPre (proofs_of entries.now) g.0 result }
 {
     for e in entries {
         if e.function.0 == g.0 {
@@ -86,8 +84,7 @@ fn pre_of(entries: &[FunctionProof], g: FnId) -> Option<&Assertion>
 
 // Whether what a function needs says nothing to those who call it without a derivation.
 fn says_nothing(alloc: Global, entries: &[FunctionProof], g: FnId) -> Result<bool, NoMemory>
-    ensures { IfOk result (λ answer. answer
-        ≡ filled.is_useless (filled.pre_of (entries_only (map entry_tree entries.now)) g.0)) }
+    ensures { IfOk result (λ b. b ≡ filled.is_useless (filled.pre_of (proofs_of entries.now) g.0)) }
 {
     match pre_of(entries, g) {
         None => Ok(true),
@@ -100,9 +97,7 @@ fn one_says_nothing(
     entries: &[FunctionProof],
     callees: &[FnId],
 ) -> Result<bool, NoMemory>
-    ensures { IfOk result (λ answer. answer
-        ≡ list_any (λ g. filled.is_useless (filled.pre_of (entries_only (map entry_tree entries.now)) g))
-        (numbers callees.now)) }
+    ensures { IfOk result (λ b. b ≡ one_says_nothing entries.now callees.now) }
 {
     for g in callees {
         if says_nothing(alloc, entries, *g)? {
@@ -128,7 +123,7 @@ fn copied_pre(
     g: FnId,
     room: usize,
 ) -> Result<Assertion, NoMemory>
-    ensures { IfOk result (λ a. a ≡ filled.pre_of (entries_only (map entry_tree entries.now)) g.0) }
+    ensures { IfOk result (λ a. a ≡ filled.pre_of (proofs_of entries.now) g.0) }
 {
     match pre_of(entries, g) {
         None => Assertion::infinity(alloc),
@@ -142,8 +137,7 @@ fn needed_calls(
     entries: &[FunctionProof],
     callees: &[FnId],
 ) -> Result<Vec<Assertion>, NoMemory>
-    ensures { IfOk result (λ parts. parts.items
-        ≡ needed_calls (filled.pre_of (entries_only (map entry_tree entries.now))) (numbers callees.now)) }
+    ensures { GivesItems result (path_needs entries.now callees.now) }
 {
     let mut parts = Vec::new(alloc);
     let mut room = MOST_NODES;
@@ -160,7 +154,7 @@ fn path_pre(
     entries: &[FunctionProof],
     callees: &[FnId],
 ) -> Result<Assertion, NoMemory>
-    ensures { IfOk result (λ a. a ≡ filled.path_pre (entries_only (map entry_tree entries.now)) (numbers callees.now)) }
+    ensures { IfOk result (λ a. a ≡ filled.path_pre (proofs_of entries.now) (numbers callees.now)) }
 {
     if one_says_nothing(alloc, entries, callees)? {
         return Assertion::infinity(alloc);
@@ -173,7 +167,7 @@ fn path_pre(
 
 fn open_entry(alloc: Global, unit: &CoreUnit, f: FnId) -> Result<FunctionProof, NoMemory>
     requires { f.0 < length unit.now.functions.items }
-    ensures { IfOk result (λ e. entry_tree e ≡ fillable.open_entry (unit_tree unit.now) f.0) }
+    ensures { GivesEntry result (open_entry (unit_tree unit.now) f.0) }
 {
     let callees = called_by(alloc, unit, f)?;
     let function = &unit.functions[f.0 as usize];
@@ -199,8 +193,7 @@ fn path_entry(
     f: FnId,
 ) -> Result<FunctionProof, NoMemory>
     requires { f.0 < length unit.now.functions.items }
-    ensures { IfOk result (λ e. entry_tree e ≡ fillable.path_entry f.0
-        (filled.path_pre (entries_only (map entry_tree entries.now)) (called_by (unit_tree unit.now) f.0))) }
+    ensures { GivesEntry result (path_entry_of unit.now entries.now f.0) }
 {
     let callees = called_by(alloc, unit, f)?;
     let pre = path_pre(alloc, entries, &callees)?;
@@ -222,8 +215,7 @@ fn entry_for(
 ) -> Result<FunctionProof, NoMemory>
     requires within { f.0 < length unit.now.functions.items }
     requires as_many { length is_open.now ≡ length unit.now.functions.items }
-    ensures { IfOk result (λ e. entry_tree e
-        ≡ entry_for (unit_tree unit.now) (flag is_open.now) (map entry_tree entries.now) f.0) }
+    ensures { GivesEntry result (added_entry unit.now is_open.now entries.now f.0) }
 {
     if is_open[f.0 as usize] {
         open_entry(alloc, unit, f)
@@ -247,10 +239,9 @@ pub fn add_entries(
     fs: &[FnId],
     entries: &mut Vec<FunctionProof>,
 ) -> Result<(), NoMemory>
-    requires within { (f : ℕ) → is_member f (numbers fs.now) ≡ true → f < length unit.now.functions.items }
+    requires within { AreBelow (numbers fs.now) (length unit.now.functions.items) }
     requires as_many { length is_open.now ≡ length unit.now.functions.items }
-    ensures { OnOk result (map entry_tree entries.new.items
-        ≡ with_entries (unit_tree unit.now) (flag is_open.now) (map entry_tree entries.old.items) (numbers fs.now)) }
+    ensures { OnOk result (AddsEntries unit.now is_open.now fs.now entries.old entries.new) }
 {
     for f in fs {
         let entry = entry_for(alloc, unit, is_open, entries, *f)?;

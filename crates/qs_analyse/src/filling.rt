@@ -1,13 +1,11 @@
 // What is added to the proofs of a unit.
-ghost use Rattle.std.specs.Prelude.{◌≡◌, ◌<◌, ℕ, IfErr, IfOk, filter, length, map, true};
+ghost use Rattle.std.specs.Prelude.{◌≡◌, IfErr, IfOk, filter, length, map};
 ghost use Rattle.qs_core.specs.UnitTrees.{unit_tree};
-ghost use Rattle.qs_triples.specs.Entries.{has_entry};
 ghost use Rattle.qs_triples.specs.Filled.{Filled};
 ghost use Rattle.qs_triples.specs.TreeOf.{entry_tree, proofs_tree};
-ghost use Rattle.qs_callgraph.specs.CallLists.{flag, is_member, marked, numbers};
-ghost use Rattle.qs_callgraph.specs.Opens.{AreOf};
-ghost use Rattle.qs_callgraph.specs.Orders.{IsTrueCycle};
-ghost use Rattle.qs_analyse.specs.Fillable.{IsFillable, entries_only, entry_functions};
+ghost use Rattle.qs_callgraph.specs.CallLists.{AreBelow, flag, marked, numbers};
+ghost use Rattle.qs_analyse.specs.Fillable.{AreOfEntries, IfProofs, IsFillable, IsUnprovedCycle};
+ghost use Rattle.qs_analyse.specs.Fillable.{entry_functions, proofs_of};
 ghost use Rattle.qs_analyse.specs.Additions.{AreAdditions, Extends, IsFilling};
 ghost use Rattle.qs_analyse.specs.Laws.{DerivesOpen, HasNoCycle};
 
@@ -36,7 +34,7 @@ fn has_entries(
     unit: &CoreUnit,
     entries: &[FunctionProof],
 ) -> Result<Vec<bool>, NoMemory>
-    ensures { IfOk result (λ flags. AreOf (unit_tree unit.now) (has_entry (entries_only (map entry_tree entries.now))) flags.items) }
+    ensures { IfOk result (AreOfEntries (unit_tree unit.now) (proofs_of entries.now)) }
 {
     let mut flags = Vec::from_elem(alloc, false, unit.functions.len())?;
     mark_entries(&mut flags, entries);
@@ -45,8 +43,8 @@ fn has_entries(
 
 // The open ones of these.
 fn open_ones(alloc: Global, fs: &[FnId], is_open: &[bool]) -> Result<Vec<FnId>, NoMemory>
-    requires { (f : ℕ) → is_member f (numbers fs.now) ≡ true → f < length is_open.now }
-    ensures { IfOk result (λ opened. numbers opened.items ≡ filter (flag is_open.now) (numbers fs.now)) }
+    requires { AreBelow (numbers fs.now) (length is_open.now) }
+    ensures { IfOk result (λ gs. numbers gs.items ≡ filter (flag is_open.now) (numbers fs.now)) }
 {
     let mut opened = Vec::new(alloc);
     for f in fs {
@@ -73,8 +71,8 @@ fn planned(
     unit: &CoreUnit,
     entries: &[FunctionProof],
 ) -> Result<Additions, CycleFault>
-    ensures plan { IfOk result (λ a. AreAdditions (unit_tree unit.now) (entries_only (map entry_tree entries.now)) a) }
-    ensures cycle { IfErr result (IsTrueCycle (unit_tree unit.now) (has_entry (entries_only (map entry_tree entries.now)))) }
+    ensures plan { IfOk result (AreAdditions (unit_tree unit.now) (proofs_of entries.now)) }
+    ensures cycle { IfErr result (IsUnprovedCycle (unit_tree unit.now) (proofs_of entries.now)) }
 {
     let has_spec = has_entries(alloc, unit, entries)?;
     let functions = order(alloc, unit, &has_spec)?;
@@ -93,8 +91,8 @@ fn extended(
     added: &Additions,
     proofs: Proofs,
 ) -> Result<Proofs, NoMemory>
-    requires { AreAdditions (unit_tree unit.now) (entries_only (map entry_tree proofs.functions.items)) added.now }
-    ensures { IfOk result (λ all. Extends (unit_tree unit.now) added.now (proofs_tree proofs) (proofs_tree all)) }
+    requires { AreAdditions (unit_tree unit.now) (proofs_of proofs.functions.items) added.now }
+    ensures { IfProofs result (Extends (unit_tree unit.now) added.now (proofs_tree proofs)) }
 {
     let Proofs {
         defines,
@@ -111,16 +109,17 @@ fn extended(
     Ok(Proofs { defines, functions })
 }
 
-/// The proofs with the definitions of the open functions before those that are given, and behind the entries that are
-/// given one for each other function; or a cycle of functions without an entry, exactly where there is one. What is given stays as it is and in
-/// order. A precondition that would have more than 2^24 nodes is answered as want of memory.
+/// The proofs with the definitions of the open functions before those that are given, and behind
+/// the entries that are given one for each other function; or a cycle of functions without an
+/// entry, exactly where there is one. What is given stays as it is and in order. A precondition
+/// that would have more than 2^24 nodes is answered as want of memory.
 pub fn fill(alloc: Global, unit: &CoreUnit, proofs: Proofs) -> Result<Proofs, CycleFault>
     requires { IsFillable (unit_tree unit.now) (proofs_tree proofs) }
-    ensures filled { IfOk result (λ all. Filled (unit_tree unit.now) (proofs_tree proofs) (proofs_tree all)) }
-    ensures filling { IfOk result (λ all. IsFilling (unit_tree unit.now) (proofs_tree proofs) (proofs_tree all)) }
-    ensures derived { IfOk result (λ all. DerivesOpen (unit_tree unit.now) (proofs_tree proofs) (proofs_tree all)) }
+    ensures filled { IfProofs result (Filled (unit_tree unit.now) (proofs_tree proofs)) }
+    ensures filling { IfProofs result (IsFilling (unit_tree unit.now) (proofs_tree proofs)) }
+    ensures derived { IfProofs result (DerivesOpen (unit_tree unit.now) (proofs_tree proofs)) }
     ensures no_cycle { IfOk result (λ all. HasNoCycle (unit_tree unit.now) (proofs_tree proofs)) }
-    ensures cycle { IfErr result (IsTrueCycle (unit_tree unit.now) (has_entry (proofs_tree proofs))) }
+    ensures cycle { IfErr result (IsUnprovedCycle (unit_tree unit.now) (proofs_tree proofs)) }
 {
     let added = planned(alloc, unit, &proofs.functions)?;
     Ok(extended(alloc, unit, &added, proofs)?)

@@ -1,17 +1,20 @@
 // Laws of what is added: functions that do nothing, for what their clauses say.
-ghost use Rattle.qs_analyse.specs.Laws.{CallsMeetSpecs, FilledEntriesAreValid, FilledProofsCover, OneFilling, OpenNamesAreLongestPaths};
+ghost use Rattle.qs_analyse.specs.Laws.{CallsMeetSpecs, FilledEntriesAreValid, FilledProofsCover};
+ghost use Rattle.qs_analyse.specs.Laws.{OneFilling, OpenNamesAreLongestPaths};
 
 /// Each entry that is added is valid: its precondition pays for each call, whatever the costs.
 pub fn filled_entries_are_valid()
     ensures { FilledEntriesAreValid }
 {}
 
-/// Where the entries that are given are derived in what they are filled to, the whole covers the unit.
+/// Where the entries that are given are derived in what they are filled to, the whole covers the
+/// unit.
 pub fn filled_proofs_cover()
     ensures { FilledProofsCover }
 {}
 
-/// For all costs, the cost of an open function and the value of its precondition are the longest path of calls from it.
+/// For all costs, the cost of an open function and the value of its precondition are the longest
+/// path of calls from it.
 pub fn open_names_are_longest_paths()
     ensures { OpenNamesAreLongestPaths }
 {}

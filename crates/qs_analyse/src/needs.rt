@@ -1,8 +1,6 @@
 // What calls need.
-ghost use Rattle.std.specs.Prelude.{◌≡◌, ◌++◌, ◌∷◌, [], IfOk, OnOk, length, map};
+ghost use Rattle.std.specs.Prelude.{◌≡◌, ◌++◌, ◌∷◌, [], IfOk, OnOk, length};
 ghost use Rattle.qs_assert.specs.Trees as trees;
-ghost use Rattle.qs_triples.specs.Filled.{for_call, for_calls};
-ghost use Rattle.qs_callgraph.specs.CallLists.{numbers};
 ghost use Rattle.qs_analyse.specs.Needs.{call_of, greatest_part};
 
 use qs_assert::Assertion;

@@ -1,7 +1,6 @@
 // The derivation of an open function: before each statement its name is enough.
 ghost use Rattle.std.specs.Prelude.{◌≡◌, IfOk, pos};
-ghost use Rattle.qs_core.specs.TreeOf.{core_stmt, core_stmts};
-ghost use Rattle.qs_core.specs.Trees.{stmts_of};
+ghost use Rattle.qs_core.specs.TreeOf.{core_stmt};
 ghost use Rattle.qs_entail.specs.Certificates.{pick, same};
 ghost use Rattle.qs_entail.specs.View.{cert_tree};
 ghost use Rattle.qs_triples.specs.TreeOf.{derivation_tree, derivation_trees};
@@ -66,7 +65,7 @@ fn pick_certificate(alloc: Global, callees: &[FnId], g: FnId) -> Result<Certific
 
 // Why the name is enough for what comes behind a call of g and for the call.
 fn call_certificate(alloc: Global, f: Needs<'_>, g: FnId) -> Result<Certificate, NoMemory>
-    ensures { IfOk result (λ c. cert_tree c ≡ spec.call_certificate f.entry.name.now (numbers f.entry.callees.now) g.0) }
+    ensures { IfOk result (λ c. cert_tree c ≡ for_needs f.entry spec.call_certificate g.0) }
 {
     let pick = Box::new(alloc, pick_certificate(alloc, f.callees, g)?)?;
     let unfold = Certificate::ByDefinition(f.name.copy(alloc)?, pick);
@@ -77,7 +76,7 @@ fn call_certificate(alloc: Global, f: Needs<'_>, g: FnId) -> Result<Certificate,
 }
 
 fn written_call(alloc: Global, f: Needs<'_>, callee: Callee) -> Result<Derivation, NoMemory>
-    ensures { IfOk result (λ d. derivation_tree d ≡ spec.written_call f.entry.name.now (numbers f.entry.callees.now) callee) }
+    ensures { IfOk result (λ d. derivation_tree d ≡ for_needs f.entry spec.written_call callee) }
 {
     let Callee::Function(g) = callee else {
         return Ok(Derivation::Leaf);
@@ -91,7 +90,7 @@ fn written_call(alloc: Global, f: Needs<'_>, callee: Callee) -> Result<Derivatio
 /// The derivation of a statement.
 #[cycle(written)]
 pub fn written(alloc: Global, f: Needs<'_>, s: &CoreStmt) -> Result<Derivation, NoMemory>
-    ensures { IfOk result (λ d. derivation_tree d ≡ spec.written f.entry.name.now (numbers f.entry.callees.now) (core_stmt s.now)) }
+    ensures { IfOk result (λ d. derivation_tree d ≡ written_stmt f.entry s.now) }
 {
     match s {
         CoreStmt::Skip => Ok(Derivation::Leaf),
@@ -125,8 +124,7 @@ pub fn all_written(
     f: Needs<'_>,
     ss: &[CoreStmt],
 ) -> Result<Vec<Derivation>, NoMemory>
-    ensures { IfOk result (λ ds. derivation_trees ds.items
-        ≡ spec.all_written f.entry.name.now (numbers f.entry.callees.now) (stmts_of (core_stmts ss.now))) }
+    ensures { IfOk result (λ ds. derivation_trees ds.items ≡ written_stmts f.entry ss.now) }
 {
     let mut ds = Vec::new(alloc);
     for s in ss {

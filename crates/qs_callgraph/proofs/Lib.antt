@@ -1,6 +1,5 @@
 pub mod MemberLaws
 pub mod MarkLaws
-pub mod StmtTrees
 pub mod UnitCalls
 pub mod PathLaws
 pub mod SearchLaws

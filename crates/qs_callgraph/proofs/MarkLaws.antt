@@ -5,8 +5,14 @@ use Rattle.std.proofs.lemmas.Bool.{eq-eqb, ne_eqb, cases_eq}
 use Rattle.std.proofs.lemmas.List.{get_or-set_same, get_or-set_other, get_or-replicate, length-set, length-replicate}
 use Rattle.std.proofs.lemmas.List.Elements.{filter-append}
 use Rattle.qs_core.specs.CallGraph.{below, callees_of, calls, called_by}
-use Rattle.qs_core.specs.Trees.{CoreFunctionTree, CoreUnitTree}
+use Rattle.qs_core.specs.Trees.{CoreFunctionTree, CoreUnitTree, CoreStmtTree, branch, loop}
 use Rattle.qs_callgraph.specs.CallLists.{flag, is_member, marked}
+use Rattle.std.specs.declared.alloc.Global.{Global}
+use Rattle.std.specs.declared.boxed.Box.{Box}
+use Rattle.qs_core.specs.TreeOf.{core_expr, core_stmt, stmt_step}
+use Rattle.qs_core.specs.declared.expressions.CoreExpr.{CoreExpr}
+use Rattle.qs_core.specs.declared.statements.CoreStmt.{CoreStmt, CoreStmt-F, fold-roll-CoreStmt}
+use Rattle.qs_core.specs.declared.statements.CoreStmt.TheVariants.{If, Loop, rolls-If, rolls-Loop}
 
 pub marked-append : (fs gs : List ℕ) (marks : List Bool) → marked (fs ++ gs) marks ≡ marked gs (marked fs marks)
 marked-append [] gs marks = refl
@@ -75,3 +81,11 @@ marked_callees u f function marks is m =
     ∙ flag-marked (callees_of (Some function)) (replicate n false) g (subst (λ (k : ℕ). g < k) (sym (length-replicate n false)) b)
     ∙ ap (λ (c : Bool). c || is_member g (callees_of (Some function))) (get_or-replicate n g false false b)
     ∙ ap (λ o. is_member g (callees_of o)) (sym is))
+
+-- ---- the trees of statements that have statements as parts
+
+pub branch_is : (s : CoreStmt) (e : CoreExpr) (a b : Box CoreStmt Global) → s ≡ If e a b → core_stmt s ≡ branch (core_expr e) (core_stmt a.value) (core_stmt b.value)
+branch_is s e a b is = ap core_stmt (is ∙ sym (rolls-If e a b)) ∙ fold-roll-CoreStmt CoreStmtTree stmt_step (CoreStmt-F.If e a b)
+
+pub loop_is : (s : CoreStmt) (a b : Box CoreStmt Global) → s ≡ Loop a b → core_stmt s ≡ loop (core_stmt a.value) (core_stmt b.value)
+loop_is s a b is = ap core_stmt (is ∙ sym (rolls-Loop a b)) ∙ fold-roll-CoreStmt CoreStmtTree stmt_step (CoreStmt-F.Loop a b)

@@ -43,3 +43,7 @@ given_fails u file given is (Text fault) h = absurd h
 given_fails u file given is (Cycle fs) h = record { given = given; given_is = is; so = h }
 given_fails u file given is (Order name) h = record { given = given; given_is = is; so = h }
 given_fails u file given is (Entry f fault) h = record { given = given; given_is = is; so = h }
+
+pub ruleset wrong_entries = (order_is_wrong, entry_is_wrong)
+
+pub ruleset first_causes = (text_fails, given_fails)

@@ -21,6 +21,7 @@ use Rattle.qs_certify.specs.Entries.{EntryFault, fault_or_next, first_fault}
 use Rattle.qs_certify.specs.Certification.{AreAll, AreRight, CannotComplete, AreWrong, IsCompleted}
 use Rattle.qs_certify.specs.declared.fault.CertifyFault.{CertifyFault}
 use Rattle.qs_certify.specs.declared.fault.CertifyFault.TheVariants.{NoMemory, Text, Cycle, Order, Entry}
+use Rattle.qs_certify.proofs.CauseLaws.{cycle_fails}
 
 -- ---- the entries of a file
 
@@ -117,3 +118,5 @@ wrong_fails u given proofs all fs are (Entry f fault) h = record {
     is_told = h.first.is_told;
   };
 }
+
+pub ruleset completed_proofs = (all_cover, as_many, no_fewer, wrong_fails, cycle_fails)

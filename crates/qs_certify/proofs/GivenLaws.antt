@@ -95,3 +95,5 @@ of_unit_fillable u proofs w = record {
 
 pub nothing_fillable : (u : CoreUnitTree) → IsFillable u no_proofs
 nothing_fillable u = record { known = λ f e is. cc; once = refl; closed = tt }
+
+pub ruleset given_text = (text_refused, of_unit_fillable)

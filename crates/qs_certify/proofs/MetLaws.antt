@@ -95,3 +95,5 @@ faults_are_of_functions u file (Text fault) fits h = tt
 faults_are_of_functions u file (Cycle fs) fits h = told_of_rest u fits h.given (Cycle fs) h.so
 faults_are_of_functions u file (Order name) fits h = tt
 faults_are_of_functions u file (Entry f fault) fits h = told_of_rest u fits h.given (Entry f fault) h.so
+
+pub ruleset met_faults = (told_of_text, told_of_rest)

@@ -26,3 +26,5 @@ order_within ds at h = let below = order_behind ds [] at h in omega arith
 pub is_misplaced : (ds : List Define) (at : ℕ) (d : Define) (name : List ℕ) → order_fault ds ≡ Some at → name ≡ (get_or ds at d).name → IsMisplaced ds name
 is_misplaced ds at d name h is =
     record { at = at; first = h; define = get_or ds at d; stands = slice_get-get_or ds at d (order_within ds at h); is = is }
+
+pub ruleset misplaced_definition = (order_within, is_misplaced)

@@ -10,13 +10,21 @@ use Rattle.qs_assert.specs.declared.define.Amount.{Amount}
 use Rattle.qs_entail.specs.Facts.{least, greatest_of_type}
 use Rattle.qs_core.specs.Interfaces.{parameter_types}
 use Rattle.qs_core.specs.Trees.{CoreFunctionTree, CoreUnitTree}
+use Rattle.qs_core.specs.UnitTrees.{unit_tree}
+use Rattle.qs_core.specs.declared.unit.CoreUnit.{CoreUnit}
 use Rattle.qs_triples.specs.Derivations.{ProofsTree}
 use Rattle.qs_triples.specs.Filled.{pre_of}
+use Rattle.qs_triples.specs.TreeOf.{proofs_tree}
 use Rattle.qs_triples.specs.Valuations.{number_type}
+use Rattle.qs_triples.specs.declared.derivation.Proofs.{Proofs}
 
 -- what main costs, and the value of its precondition at these arguments
 abbrev pub main_bound : CoreUnitTree → ProofsTree → (costs : List ℕ) → (arguments : List ℤ) → Amount
 main_bound u proofs costs arguments = bound_at (pre_of proofs u.main) proofs.defines arguments costs u.main
+
+-- the same of the code's values
+abbrev pub bound_in : CoreUnit → Proofs → (costs : List ℕ) → (arguments : List ℤ) → Amount
+bound_in unit proofs costs arguments = main_bound (unit_tree unit) (proofs_tree proofs) costs arguments
 
 -- ---- costs and arguments, as runs have them
 

@@ -4,11 +4,15 @@ use Rattle.std.specs.List.{slice_get}
 use Rattle.qs_assert.specs.Order.{order_fault, IsInOrder}
 use Rattle.qs_assert.specs.declared.define.Define.{Define}
 use Rattle.qs_core.specs.CallGraph.{IsCycle}
+use Rattle.qs_base.specs.declared.function.FnId.{FnId}
 use Rattle.qs_core.specs.Trees.{CoreUnitTree}
+use Rattle.qs_core.specs.UnitTrees.{unit_tree}
+use Rattle.qs_core.specs.declared.unit.CoreUnit.{CoreUnit}
 use Rattle.qs_triples.specs.Derivations.{ProofsTree}
 use Rattle.qs_triples.specs.Entries.{has_entry, Covers}
 use Rattle.qs_triples.specs.Filled.{Filled}
 use Rattle.qs_triples.specs.TreeOf.{proofs_tree}
+use Rattle.qs_triples.specs.declared.derivation.Proofs.{Proofs}
 use Rattle.qs_triples.specs.declared.fault.DerivFault.{DerivFault}
 use Rattle.qs_callgraph.specs.CallLists.{is_member, numbers}
 use Rattle.qs_analyse.specs.Additions.{IsFilling}
@@ -139,6 +143,13 @@ AreWrong u proofs fs (Text fault) = ⊥
 AreWrong u proofs fs (Cycle gs) = ⊥
 AreWrong u proofs fs (Order name) = IsMisplaced proofs.defines name
 AreWrong u proofs fs (Entry f fault) = HasEntryFault u proofs fs (Entry f fault)
+
+-- the same of the code's values
+abbrev pub AreRightIn : CoreUnit → Proofs → List FnId → Type 0
+AreRightIn unit proofs fs = AreRight (unit_tree unit) (proofs_tree proofs) (numbers fs)
+
+abbrev pub AreWrongIn : CoreUnit → Proofs → List FnId → CertifyFault → Type 0
+AreWrongIn unit proofs fs fault = AreWrong (unit_tree unit) (proofs_tree proofs) (numbers fs) fault
 
 -- the given proofs are completed, and cover the unit
 pub record IsCompleted (u : CoreUnitTree) (given : ProofsTree) (c : Certified) : Type 0 where

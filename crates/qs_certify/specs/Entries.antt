@@ -2,12 +2,17 @@
 use Rattle.std.specs.Prelude.{◌≡◌, ℕ, List, [], ◌∷◌, Option, Some, None, Result, Ok, Err}
 use Rattle.qs_base.specs.declared.function.FnId.{FnId}
 use Rattle.qs_core.specs.Trees.{CoreUnitTree}
+use Rattle.qs_core.specs.UnitTrees.{unit_tree}
+use Rattle.qs_core.specs.declared.unit.CoreUnit.{CoreUnit}
 use Rattle.qs_triples.specs.Derivations.{ProofsTree}
 use Rattle.qs_triples.specs.Entries.{function_fault}
 use Rattle.qs_triples.specs.Rules.{DerivationFault}
 use Rattle.qs_triples.specs.Told.{IsDue}
+use Rattle.qs_triples.specs.TreeOf.{proofs_tree}
+use Rattle.qs_triples.specs.declared.derivation.Proofs.{Proofs}
 use Rattle.qs_triples.specs.declared.fault.DerivFault.{DerivFault}
 use Rattle.qs_triples.specs.declared.fault.DerivFault.TheVariants as faults
+use Rattle.qs_callgraph.specs.CallLists.{numbers}
 use Rattle.qs_certify.specs.declared.fault.CertifyFault.{CertifyFault}
 use Rattle.qs_certify.specs.declared.fault.CertifyFault.TheVariants.{NoMemory, Text, Cycle, Order, Entry}
 
@@ -75,3 +80,7 @@ IsEntryFault u proofs fs (Entry f fault) = IsFirstFault u proofs fs f.0 fault
 abbrev pub TellsEntries : CoreUnitTree → ProofsTree → List ℕ → Result (Unit {0}) CertifyFault → Type 0
 TellsEntries u proofs fs (Ok done) = first_fault u proofs fs ≡ None
 TellsEntries u proofs fs (Err fault) = IsEntryFault u proofs fs fault
+
+-- the same of the code's values
+abbrev pub TellsEntriesIn : CoreUnit → Proofs → List FnId → Result (Unit {0}) CertifyFault → Type 0
+TellsEntriesIn unit proofs fs result = TellsEntries (unit_tree unit) (proofs_tree proofs) (numbers fs) result

@@ -1,10 +1,8 @@
 // The bound of main.
 ghost use Rattle.std.specs.Prelude.{◌≡◌, IfOk};
-ghost use Rattle.qs_core.specs.UnitTrees.{unit_tree};
 ghost use Rattle.qs_triples.specs.Filled.{pre_in};
-ghost use Rattle.qs_triples.specs.TreeOf.{proofs_tree};
 ghost use Rattle.qs_triples.specs.Views.{entry_in};
-ghost use Rattle.qs_certify.specs.Bound.{main_bound};
+ghost use Rattle.qs_certify.specs.Bound.{bound_in};
 
 use qs_assert::{Amount, Assertion, bound_of};
 use qs_base::{FnId, NoMemory};
@@ -24,9 +22,10 @@ fn needed_by(alloc: Global, entries: &[FunctionProof], f: FnId) -> Result<Assert
     Assertion::infinity(alloc)
 }
 
-/// What a run of main needs of the stack at most: what main costs and the value of its precondition, where parameter i
-/// is `arguments[i]` and function f costs `costs[f]`. It is `Infinite` where main has no entry, and `Wide` where a part
-/// that is evaluated is finite and outside -(2^127 - 1) to 2^127 - 1.
+/// What a run of main needs of the stack at most: what main costs and the value of its
+/// precondition, where parameter i is `arguments[i]` and function f costs `costs[f]`. It is
+/// `Infinite` where main has no entry, and `Wide` where a part that is evaluated is finite and
+/// outside -(2^127 - 1) to 2^127 - 1.
 pub fn bound_of_main(
     alloc: Global,
     unit: &CoreUnit,
@@ -34,8 +33,7 @@ pub fn bound_of_main(
     costs: &[u32],
     arguments: &[i64],
 ) -> Result<Amount, NoMemory>
-    ensures { IfOk result (λ bound. bound
-        ≡ main_bound (unit_tree unit.now) (proofs_tree proofs.now) costs.now arguments.now) }
+    ensures { IfOk result (λ bound. bound ≡ bound_in unit.now proofs.now costs.now arguments.now) }
 {
     let pre = needed_by(alloc, &proofs.functions, unit.main)?;
     bound_of(alloc, &pre, &proofs.defines, arguments, costs, unit.main)

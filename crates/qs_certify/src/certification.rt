@@ -1,14 +1,14 @@
 // The certification of a unit's proofs.
-ghost use Rattle.std.specs.Prelude.{◌≡◌, IfErr, IfOk, OnOk, Some, map};
+ghost use Rattle.std.specs.Prelude.{◌≡◌, IfErr, IfOk, OnOk, Some};
 ghost use Rattle.qs_assert.specs.Order as order;
 ghost use Rattle.qs_assert.specs.Order.{IsInOrder};
 ghost use Rattle.qs_core.specs.UnitTrees.{unit_tree};
-ghost use Rattle.qs_triples.specs.Filled.{Filled};
 ghost use Rattle.qs_triples.specs.TreeOf.{proofs_tree};
-ghost use Rattle.qs_callgraph.specs.CallLists.{numbers};
-ghost use Rattle.qs_analyse.specs.Fillable.{IsFillable};
+ghost use Rattle.qs_analyse.specs.Fillable.{IfProofs, IsFillable};
 ghost use Rattle.qs_certify.specs.Given.{IsShort, text_of};
-ghost use Rattle.qs_certify.specs.Certification.{AreAll, AreRight, AreWrong, CannotCertify, CannotComplete, Certifies, IsCompleted, IsCycleFault, IsOrderFault, ToldOfFunctions};
+ghost use Rattle.qs_certify.specs.Certification.{AreAll, AreRightIn, AreWrongIn, CannotCertify};
+ghost use Rattle.qs_certify.specs.Certification.{CannotComplete, Certifies, IsCompleted};
+ghost use Rattle.qs_certify.specs.Certification.{IsCycleFault, IsOrderFault, ToldOfFunctions};
 
 use crate::entries::{check_entries, functions_of};
 use crate::fault::CertifyFault;
@@ -34,7 +34,7 @@ pub struct Certified {
 
 // ---- checks
 
-#[tactic(auto, using(crate::proofs::OrderLaws::order_within, crate::proofs::OrderLaws::is_misplaced))]
+#[tactic(auto, using(crate::proofs::OrderLaws::misplaced_definition))]
 fn misplaced(alloc: Global, defines: &[Define], at: usize) -> CertifyFault
     requires { order.order_fault defines.now ≡ Some at }
     ensures { IsOrderFault defines.now result }
@@ -56,15 +56,15 @@ fn check_order(alloc: Global, defines: &[Define]) -> Result<(), CertifyFault>
 }
 
 // Checks the order of the definitions, and then the entries of these functions.
-#[tactic(auto, using(crate::proofs::CauseLaws::order_is_wrong, crate::proofs::CauseLaws::entry_is_wrong))]
+#[tactic(auto, using(crate::proofs::CauseLaws::wrong_entries))]
 fn check_all(
     alloc: Global,
     unit: &CoreUnit,
     proofs: &Proofs,
     functions: &[FnId],
 ) -> Result<(), CertifyFault>
-    ensures right { OnOk result (AreRight (unit_tree unit.now) (proofs_tree proofs.now) (numbers functions.now)) }
-    ensures wrong { IfErr result (AreWrong (unit_tree unit.now) (proofs_tree proofs.now) (numbers functions.now)) }
+    ensures right { OnOk result (AreRightIn unit.now proofs.now functions.now) }
+    ensures wrong { IfErr result (AreWrongIn unit.now proofs.now functions.now) }
 {
     check_order(alloc, &proofs.defines)?;
     check_entries(alloc, unit, proofs, functions)
@@ -74,7 +74,7 @@ fn check_all(
 
 fn filled(alloc: Global, unit: &CoreUnit, given: Proofs) -> Result<Proofs, CertifyFault>
     requires { IsFillable (unit_tree unit.now) (proofs_tree given) }
-    ensures all { IfOk result (λ proofs. AreAll (unit_tree unit.now) (proofs_tree given) (proofs_tree proofs)) }
+    ensures all { IfProofs result (AreAll (unit_tree unit.now) (proofs_tree given)) }
     ensures cycle { IfErr result (IsCycleFault (unit_tree unit.now) (proofs_tree given)) }
 {
     match fill(alloc, unit, given) {
@@ -84,7 +84,7 @@ fn filled(alloc: Global, unit: &CoreUnit, given: Proofs) -> Result<Proofs, Certi
     }
 }
 
-#[tactic(auto, using(crate::proofs::CompletedLaws::all_cover, crate::proofs::CompletedLaws::as_many, crate::proofs::CompletedLaws::no_fewer, crate::proofs::CompletedLaws::wrong_fails, crate::proofs::CauseLaws::cycle_fails))]
+#[tactic(auto, using(crate::proofs::CompletedLaws::completed_proofs))]
 fn completed(alloc: Global, unit: &CoreUnit, given: Proofs) -> Result<Certified, CertifyFault>
     requires { IsFillable (unit_tree unit.now) (proofs_tree given) }
     ensures completed { IfOk result (IsCompleted (unit_tree unit.now) (proofs_tree given)) }
@@ -100,13 +100,13 @@ fn completed(alloc: Global, unit: &CoreUnit, given: Proofs) -> Result<Certified,
     })
 }
 
-/// Certifies a unit: reads the proof file, if there is one, adds what it doesn't have, and checks the order of the
-/// definitions and the entries of the file. What comes of it covers the unit, so its preconditions bound every run. The
-/// file has fewer than 2^31 bytes.
+/// Certifies a unit: reads the proof file, if there is one, adds what it doesn't have, and checks
+/// the order of the definitions and the entries of the file. What comes of it covers the unit, so
+/// its preconditions bound every run. The file has fewer than 2^31 bytes.
 ///
-/// A fault is the first in the order of search: the text of the file, a cycle of functions without an entry, the order
-/// of the definitions, and the first entry of the file that isn't derived.
-#[tactic(auto, using(crate::proofs::CauseLaws::text_fails, crate::proofs::CauseLaws::given_fails, crate::proofs::MetLaws::told_of_text, crate::proofs::MetLaws::told_of_rest))]
+/// A fault is the first in the order of search: the text of the file, a cycle of functions without
+/// an entry, the order of the definitions, and the first entry of the file that isn't derived.
+#[tactic(auto, using(crate::proofs::CauseLaws::first_causes, crate::proofs::MetLaws::met_faults))]
 pub fn certify(
     alloc: Global,
     unit: &CoreUnit,

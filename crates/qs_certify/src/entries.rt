@@ -5,7 +5,7 @@ ghost use Rattle.qs_core.specs.UnitTrees.{unit_tree};
 ghost use Rattle.qs_triples.specs.TreeOf.{entry_tree, proofs_tree};
 ghost use Rattle.qs_callgraph.specs.CallLists.{numbers};
 ghost use Rattle.qs_analyse.specs.Fillable.{entry_functions};
-ghost use Rattle.qs_certify.specs.Entries.{TellsEntries, entry_told};
+ghost use Rattle.qs_certify.specs.Entries.{TellsEntries, TellsEntriesIn, entry_told};
 
 use crate::fault::CertifyFault;
 use qs_base::{FnId, NoMemory};
@@ -52,8 +52,8 @@ fn check_entry(alloc: Global, unit: &CoreUnit, proofs: &Proofs, f: FnId) -> Resu
     }
 }
 
-/// Checks that the entries of these functions are derived, where the definitions are in order. Otherwise it answers the
-/// first of them whose entry isn't, with that entry's first fault.
+/// Checks that the entries of these functions are derived, where the definitions are in order.
+/// Otherwise it answers the first of them whose entry isn't, with that entry's first fault.
 #[tactic(auto, using(crate::proofs::EntryLaws::goes_on, crate::proofs::EntryLaws::ends_at))]
 pub fn check_entries(
     alloc: Global,
@@ -62,7 +62,7 @@ pub fn check_entries(
     functions: &[FnId],
 ) -> Result<(), CertifyFault>
     requires { IsInOrder proofs.now.defines.items }
-    ensures { TellsEntries (unit_tree unit.now) (proofs_tree proofs.now) (numbers functions.now) result }
+    ensures { TellsEntriesIn unit.now proofs.now functions.now result }
 {
     for f in functions {
         check_entry(alloc, unit, proofs, *f)?;

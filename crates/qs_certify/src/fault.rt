@@ -16,13 +16,15 @@ pub enum CertifyFault {
     /// The text of the proof file is no proofs of the unit: its first fault.
     #[error("the proof file can't be read")]
     Text(TextFault),
-    /// These functions, none with an entry in the file, call each other in turn: each the next, and the last the first.
+    /// These functions, none with an entry in the file, call each other in turn: each the next, and
+    /// the last the first.
     #[error("recursion without a derivation")]
     Cycle(Vec<FnId>),
     /// The definition of this name is the first that mentions a name that isn't defined earlier.
     #[error("a definition mentions a name that isn't defined earlier")]
     Order(Name),
-    /// The entry of this function is the first of the file that isn't derived, and this is its first fault.
+    /// The entry of this function is the first of the file that isn't derived, and this is its
+    /// first fault.
     #[error("an entry of the proof file isn't derived")]
     Entry(FnId, DerivFault),
 }

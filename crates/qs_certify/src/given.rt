@@ -1,9 +1,8 @@
 // The proofs that a proof file gives.
-ghost use Rattle.std.specs.Prelude.{◌≡◌, ◌<◌, ◌^◌, IfErr, IfOk, length, Some};
+ghost use Rattle.std.specs.Prelude.{◌≡◌, ◌<◌, ◌^◌, IfErr, length, Some};
 ghost use Rattle.qs_core.specs.UnitTrees.{unit_tree};
 ghost use Rattle.qs_prooftext.specs.Reading.{Reading};
-ghost use Rattle.qs_triples.specs.TreeOf.{proofs_tree};
-ghost use Rattle.qs_analyse.specs.Fillable.{IsFillable};
+ghost use Rattle.qs_analyse.specs.Fillable.{IfProofs, IsFillable};
 ghost use Rattle.qs_certify.specs.Given.{GivenIs, IsShort, text_of, text_told};
 ghost use Rattle.qs_certify.specs.Certification.{IsTextFault};
 
@@ -28,11 +27,11 @@ fn refused(fault: TextFault) -> CertifyFault
     }
 }
 
-#[tactic(auto, using(crate::proofs::GivenLaws::text_refused, crate::proofs::GivenLaws::of_unit_fillable))]
+#[tactic(auto, using(crate::proofs::GivenLaws::given_text))]
 fn given_in(alloc: Global, unit: &CoreUnit, text: &[u8]) -> Result<Proofs, CertifyFault>
     requires { length text.now < 2 ^ 31 }
-    ensures reads { IfOk result (λ given. Reading (unit_tree unit.now) text.now (proofs_tree given)) }
-    ensures fillable { IfOk result (λ given. IsFillable (unit_tree unit.now) (proofs_tree given)) }
+    ensures reads { IfProofs result (Reading (unit_tree unit.now) text.now) }
+    ensures fillable { IfProofs result (IsFillable (unit_tree unit.now)) }
     ensures fault { IfErr result (IsTextFault (unit_tree unit.now) (Some text.now)) }
 {
     match read(alloc, text, unit) {
@@ -49,8 +48,8 @@ pub fn given_proofs(
     file: Option<&[u8]>,
 ) -> Result<Proofs, CertifyFault>
     requires { IsShort (text_of file) }
-    ensures given { IfOk result (λ given. GivenIs (unit_tree unit.now) (text_of file.entry) (proofs_tree given)) }
-    ensures fillable { IfOk result (λ given. IsFillable (unit_tree unit.now) (proofs_tree given)) }
+    ensures given { IfProofs result (GivenIs (unit_tree unit.now) (text_of file.entry)) }
+    ensures fillable { IfProofs result (IsFillable (unit_tree unit.now)) }
     ensures fault { IfErr result (IsTextFault (unit_tree unit.now) (text_of file.entry)) }
 {
     match file {

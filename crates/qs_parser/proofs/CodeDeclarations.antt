@@ -8,7 +8,7 @@ use Rattle.qs_syntax.specs.Trees.{unnumbered, ExprTree, InitialiserTree, value, 
 use Rattle.qs_syntax.specs.Reads.{Conditional, Assignment, place}
 use Rattle.qs_grammar.specs.Heads.{starts}
 use Rattle.qs_parser.proofs.CodeExpressions.{map_more}
-use Rattle.qs_grammar.specs.Parse.{Parse, bind, unexpected, deep, deeper, expect, part}
+use Rattle.qs_grammar.specs.Parse.{Parse, bind, unexpected, deep, deeper, expect, part, base, skip_consts, type}
 use Rattle.qs_grammar.specs.ParseDeclarations.{given_lengths, after_initialiser, initialisers, begins_initialiser, initialiser, after_variable, variable, variables, declaration, declaration_within, declarator, after_member, declarators, members, groups, after_parameter, parameter, parameters}
 
 left_turns : (n i : ℕ) → i < n → n - i ≡ suc (n - (i + 1))
@@ -130,3 +130,9 @@ pub ruleset declarator_steps = (declarators_more, declarators_end, map_more)
 pub ruleset group_steps = (groups_more, groups_end, map_more)
 
 pub ruleset parameter_steps = (parameters_more, parameters_end, map_more)
+
+-- ---- a type by its parts
+
+pub type_is : (ts : List Terminal) → type ts ≡ bind (base (skip_consts ts)) (λ b us. Ok (b, skip_consts us))
+unfolding type
+type_is ts = refl

@@ -1,10 +1,10 @@
 -- Turns of the loops that read statements and units.
-use Rattle.std.proofs.Common.{◌≡◌, ℕ, zero, suc, ◌+◌, ◌-◌, ◌<◌, ◌≤◌, cond, List, [], ◌∷◌, ◌++◌, Result, Ok, Err, Option, refl, ap, ◌∙◌, arith}
+use Rattle.std.proofs.Common.{◌≡◌, ℕ, zero, suc, ◌+◌, ◌-◌, ◌<◌, ◌≤◌, cond, List, [], ◌∷◌, ◌++◌, Result, Ok, Err, Option, refl, ap, ◌∙◌, arith, Some, None, Box, Global, sym}
 use Rattle.std.specs.Prelude.{max}
 use Rattle.qs_syntax.specs.declared.terminal.Terminal.{Terminal}
 use Rattle.qs_base.specs.declared.keyword.Keyword.TheVariants as keywords
 use Rattle.qs_syntax.specs.declared.punctuator.Punctuator.TheVariants as punctuators
-use Rattle.qs_syntax.specs.Trees.{unnumbered, ExprTree, StartTree, StmtTree, for_loop, DeclTree}
+use Rattle.qs_syntax.specs.Trees.{unnumbered, ExprTree, StartTree, StmtTree, for_loop, DeclTree, branch, no_else, else_by}
 use Rattle.qs_grammar.specs.Heads.{starts}
 use Rattle.qs_parser.specs.View.{Fails}
 use Rattle.qs_parser.specs.Turns.{TurnTree, step_and_body, turn_of}
@@ -13,6 +13,11 @@ use Rattle.qs_parser.specs.declared.fault.Halt.TheVariants as halts
 use Rattle.qs_parser.proofs.CodeExpressions.{map_more}
 use Rattle.qs_grammar.specs.Parse.{Parse, Stop, bind, unexpected, deep, expect}
 use Rattle.qs_grammar.specs.ParseStatements.{S, optional, start_of, begins_statement, after_for, item, items, statement_at, statement, external, is_empty, externals}
+use Rattle.qs_syntax.specs.TreeOf.{expr_tree, stmt_tree, else_tree, stmt_step}
+use Rattle.qs_syntax.specs.declared.expressions.Expr.{Expr}
+use Rattle.qs_syntax.specs.declared.nodes.Node.{Node}
+use Rattle.qs_syntax.specs.declared.statements.Stmt.{Stmt, Stmt-F, If, fold-roll-Stmt}
+use Rattle.qs_syntax.specs.declared.statements.Stmt.TheVariants.{rolls-If}
 
 left_turns : (n i : ℕ) → i < n → n - i ≡ suc (n - (i + 1))
 left_turns n i h = omega arith
@@ -95,3 +100,15 @@ pub ruleset statement_cases = (statement_none, statement_more)
 pub ruleset item_steps = (items_more, items_end, map_more)
 
 pub ruleset external_steps = (externals_more, externals_end, map_more)
+
+-- ---- the tree of an `if`
+
+tree_alone : (n : Node) (e : Expr) (s : Box Stmt Global) → stmt_tree (If n e s None) ≡ branch n (expr_tree e) (stmt_tree s.value) no_else
+tree_alone n e s = ap stmt_tree (sym (rolls-If n e s None)) ∙ fold-roll-Stmt StmtTree stmt_step (Stmt-F.If n e s None)
+
+tree_else : (n : Node) (e : Expr) (s t : Box Stmt Global) → stmt_tree (If n e s (Some t)) ≡ branch n (expr_tree e) (stmt_tree s.value) (else_by (stmt_tree t.value))
+tree_else n e s t = ap stmt_tree (sym (rolls-If n e s (Some t))) ∙ fold-roll-Stmt StmtTree stmt_step (Stmt-F.If n e s (Some t))
+
+pub tree_of_if : (n : Node) (e : Expr) (s : Box Stmt Global) (o : Option (Box Stmt Global)) → stmt_tree (If n e s o) ≡ branch n (expr_tree e) (stmt_tree s.value) (else_tree o)
+tree_of_if n e s None = tree_alone n e s
+tree_of_if n e s (Some t) = tree_else n e s t

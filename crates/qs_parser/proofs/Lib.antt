@@ -1,7 +1,5 @@
-pub mod CodeTypes
 pub mod CodeExpressions
 pub mod CodeDeclarations
-pub mod CodeBranches
 pub mod CodeStatements
 pub mod Top
 pub mod CodeOperations

@@ -30,7 +30,7 @@ pub fn block(items: Vec<Stmt>) -> Stmt
 }
 
 /// `if`, with what follows `else`.
-#[tactic(auto, using(crate::proofs::CodeBranches::tree_of_if))]
+#[tactic(auto, using(crate::proofs::CodeStatements::tree_of_if))]
 pub fn branch(token: u32, condition: Expr, then: Box<Stmt>, otherwise: Option<Box<Stmt>>) -> Stmt
     ensures { stmt_tree result ≡ branch_tree token condition then otherwise }
 {

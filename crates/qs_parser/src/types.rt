@@ -80,7 +80,7 @@ pub fn base(alloc: Global, tokens: &[Terminal]) -> Result<(Base, &[Terminal]), H
 }
 
 /// A type without stars, with `const` on both sides (C11 6.7.2, 6.7.3).
-#[tactic(auto, using(crate::proofs::CodeTypes::type_is))]
+#[tactic(auto, using(crate::proofs::CodeDeclarations::type_is))]
 pub fn type_of(alloc: Global, tokens: &[Terminal]) -> Result<(Base, &[Terminal]), Halt>
     ensures { Gives base_of result (type tokens.now) }
 {

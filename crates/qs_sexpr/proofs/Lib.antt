@@ -1,5 +1,4 @@
 pub mod NodeLaws
-pub mod ValueLaws
 pub mod ScanLaws
 pub mod StepLaws
 pub mod ReadingScans

@@ -101,3 +101,5 @@ only_fault text (Err (faults.BadByte at)) g fault f = inl (told_fault text fault
 only_fault text (Err (faults.Unbalanced at)) g fault f = inl (told_fault text fault (faults.Unbalanced at) f g)
 only_fault text (Err (faults.BadNumber at)) g fault f = inl (told_fault text fault (faults.BadNumber at) f g)
 only_fault text (Err (faults.TooDeep at)) g fault f = inl (told_fault text fault (faults.TooDeep at) f g)
+
+pub ruleset answer_laws = (says, only_reading, only_fault)

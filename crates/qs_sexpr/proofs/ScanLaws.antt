@@ -1,10 +1,10 @@
 -- How the scan goes over a piece.
-use Rattle.std.proofs.Common.{arith, ◌≡◌, ℕ, zero, suc, ◌+◌, ◌≤◌, Bool, true, false, List, [], ◌∷◌, length, drop, take, refl, sym, ap, ◌∙◌, add-one, if◌then◌else◌, Option, Some, None, ℤ, ◌==◌, not, ◌<◌, nat_lt, Err}
+use Rattle.std.proofs.Common.{arith, ◌≡◌, ℕ, zero, suc, ◌+◌, ◌≤◌, Bool, true, false, List, [], ◌∷◌, length, drop, take, refl, sym, ap, ◌∙◌, add-one, if◌then◌else◌, Option, Some, None, ℤ, ◌==◌, not, ◌<◌, nat_lt, Err, ◌-◌, ◌*◌, get_or, drop-cons}
 use Rattle.std.proofs.lemmas.List.{length-take}
 use Rattle.std.proofs.lemmas.List.Sums.{prefix_len-le-length}
 use Rattle.std.specs.List.{prefix_len}
 use Rattle.qs_sexpr.specs.Bytes.{is_atom_byte, is_in_line, is_space, is_symbol_byte, starts_number, starts_symbol}
-use Rattle.qs_sexpr.specs.Numbers.{number_of}
+use Rattle.qs_sexpr.specs.Numbers.{number_of, value_from}
 use Rattle.qs_sexpr.specs.Pieces.{atom, first_piece, number, symbol}
 use Rattle.qs_sexpr.specs.Trees.{Sexp}
 use Rattle.qs_sexpr.specs.Scan.{Layer, Rest, act, scan}
@@ -87,3 +87,12 @@ lt_false n m h = grind (arith, h)
 -- a list is opened, where fewer than 1,024 are open
 pub open_acts : (outer : List Layer) (done : List Sexp) (at byte : ℕ) (bytes : List ℕ) (go : Rest) → length outer < 1024 → act Open outer done at byte bytes go ≡ go (record { place = at; before = done } ∷ outer) [] 0
 open_acts outer done at byte bytes go h = ap (λ (b : Bool). if b then go (record { place = at; before = done } ∷ outer) [] 0 else Err (TooDeep at)) (lt_true (length outer) 1024 h)
+
+-- ---- the number that digits write
+
+pub value_goes : (v : ℕ) (text : List ℕ) (i : ℕ) → i < length text → value_from v (drop i text) ≡ value_from (v * 10 + (get_or text i 0 - 48)) (drop (i + 1) text)
+value_goes v text i h = rw (add-one, drop-cons text i 0 h) refl
+
+pub value_grows : (v : ℕ) (text : List ℕ) → v ≤ value_from v text
+value_grows v [] = omega arith
+value_grows v (b ∷ bs) = let g : v * 10 + (b - 48) ≤ value_from (v * 10 + (b - 48)) bs = value_grows (v * 10 + (b - 48)) bs in omega arith

@@ -14,3 +14,4 @@ pub mod Layout
 pub mod Gaps
 pub mod Marks
 pub mod Pages
+pub mod Laws

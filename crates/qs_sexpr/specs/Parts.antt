@@ -1,6 +1,7 @@
 -- Where the nodes of a list or atom end.
 use Rattle.std.specs.Prelude.{◌≡◌, ℕ, ◌+◌, ◌<◌, min, List, [], ◌∷◌, ◌++◌, length}
-use Rattle.qs_sexpr.specs.Trees.{Sexp, Sexps, part_and, sexp_nodes, sexps_nodes}
+use Rattle.std.specs.Borrow.{Bor}
+use Rattle.qs_sexpr.specs.Trees.{Sexp, Sexps, list, part_and, sexp_nodes, sexps_nodes}
 use Rattle.qs_sexpr.specs.declared.node.Item.{Item}
 use Rattle.qs_sexpr.specs.declared.node.Item.TheVariants as items
 use Rattle.qs_sexpr.specs.declared.node.Node.{Node}
@@ -22,3 +23,11 @@ pub record Splits (nodes first others : List Node) : Type 0 where
   pub some : 0 < length first
   pub part : (part : Sexp) → (parts : Sexps) → nodes ≡ sexps_nodes (part_and part parts) → first ≡ sexp_nodes part
   pub others_are : (part : Sexp) → (parts : Sexps) → nodes ≡ sexps_nodes (part_and part parts) → others ≡ sexps_nodes parts
+
+-- the same of the parts that a slice is split in
+abbrev pub SplitsInto : List Node → Bor (List Node) × Bor (List Node) → Type 0
+SplitsInto nodes split = Splits nodes split.0.now split.1.now
+
+-- these are the nodes of the parts of the list that has those nodes
+abbrev pub AreOfParts : List Node → List Node → Type 0
+AreOfParts below nodes = (at : ℕ) → (parts : Sexps) → nodes ≡ sexp_nodes (list at parts) → below ≡ sexps_nodes parts

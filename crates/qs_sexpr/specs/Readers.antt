@@ -68,6 +68,10 @@ IsDepth reader depth = (outer : List Layer) → (done : List Sexp) → Holds rea
 abbrev pub Puts : Reader → ℕ → Item → Reader → Type 0
 Puts before at item now = (outer : List Layer) → (done : List Sexp) → (s : Sexp) → Holds before outer done → sexp_nodes s ≡ node at item ∷ [] → Holds now outer (done ++ s ∷ [])
 
+-- there is at most one node more
+abbrev pub AddsOneNode : Reader → Reader → Type 0
+AddsOneNode before now = length now.nodes.items ≤ length before.nodes.items + 1
+
 -- a list is opened
 abbrev pub Begins : Reader → ℕ → Reader → Type 0
 Begins before at now = (outer : List Layer) → (done : List Sexp) → Holds before outer done → Holds now (record { place = at; before = done } ∷ outer) []

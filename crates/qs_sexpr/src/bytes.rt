@@ -1,7 +1,8 @@
 // Classes of bytes, and how far they go.
 ghost use Rattle.std.specs.Prelude.{◌≡◌, ◌≤◌, length};
 ghost use Rattle.std.specs.List.{prefix_len};
-ghost use Rattle.qs_sexpr.specs.Bytes.{is_atom_byte, is_in_line, is_space, is_symbol_byte, starts_number, starts_symbol};
+ghost use Rattle.qs_sexpr.specs.Bytes.{is_atom_byte, is_in_line, is_space, is_symbol_byte};
+ghost use Rattle.qs_sexpr.specs.Bytes.{starts_number, starts_symbol};
 
 use qs_base::{is_digit, is_letter};
 

@@ -12,7 +12,8 @@ pub enum SexprFault {
     /// No memory was found.
     #[error("out of memory")]
     NoMemory,
-    /// This byte begins nothing, or it is the first that does not fit the symbol in which it stands.
+    /// This byte begins nothing, or it is the first that does not fit the symbol in which it
+    /// stands.
     #[error("bad byte at {0}")]
     BadByte(u32),
     /// This `)` closes no list, or the text ends here in a list.

@@ -13,7 +13,8 @@ pub enum Layer {
     OnLine(bool),
     /// The list has begun at this column, and its first part is next.
     Head(usize),
-    /// The list has begun at this column, and its second part is next; so many columns are left of the line.
+    /// The list has begun at this column, and its second part is next; so many columns are left of
+    /// the line.
     Second(usize, usize),
     /// The list has begun at this column, and its other parts stand on lines of their own.
     Others(usize),

@@ -1,6 +1,7 @@
 // Numbers.
 ghost use Rattle.std.specs.Prelude.{◌≡◌, ◌^◌, ◌<◌, ◌≤◌, SomeIff, IfSome, true};
-ghost use Rattle.qs_sexpr.specs.Numbers.{are_digits, magnitude, negated, negative, number_of, positive, value_of};
+ghost use Rattle.qs_sexpr.specs.Numbers.{are_digits, magnitude, negated, negative, number_of};
+ghost use Rattle.qs_sexpr.specs.Numbers.{positive, value_of};
 
 use qs_base::is_digit;
 

@@ -1,7 +1,6 @@
 // Walks over the parts of lists, without copying.
-ghost use Rattle.std.specs.Prelude.{◌≡◌, ℕ, [], MatchOption, take, drop};
-ghost use Rattle.qs_sexpr.specs.Parts.{Splits, below, tree_length};
-ghost use Rattle.qs_sexpr.specs.Trees.{Sexps, list, sexp_nodes, sexps_nodes};
+ghost use Rattle.std.specs.Prelude.{◌≡◌, [], MatchOption, take, drop};
+ghost use Rattle.qs_sexpr.specs.Parts.{AreOfParts, SplitsInto, below, tree_length};
 
 use crate::node::{Item, Node};
 
@@ -26,11 +25,11 @@ fn tree_length(nodes: &[Node]) -> usize
     }
 }
 
-/// The nodes of the first list or atom, with everything in it, and the nodes behind it; nothing where
-/// there is no node.
+/// The nodes of the first list or atom, with everything in it, and the nodes behind it; nothing
+/// where there is no node.
 #[tactic(auto, using(crate::proofs::PartLaws::splits))]
 pub fn first_part(nodes: &[Node]) -> Option<(&[Node], &[Node])>
-    ensures { MatchOption result (nodes.now ≡ []) (λ split. Splits nodes.now split.0.now split.1.now) }
+    ensures { MatchOption result (nodes.now ≡ []) (SplitsInto nodes.now) }
 {
     if nodes.is_empty() {
         return None;
@@ -40,7 +39,7 @@ pub fn first_part(nodes: &[Node]) -> Option<(&[Node], &[Node])>
 
 /// The nodes of the parts of the list that has these nodes.
 pub fn parts_of_list(nodes: &[Node]) -> &[Node]
-    ensures { (at : ℕ) → (parts : Sexps) → nodes.now ≡ sexp_nodes (list at parts) → result.now ≡ sexps_nodes parts }
+    ensures { AreOfParts result.now nodes.now }
 {
     match nodes {
         [] => nodes,
@@ -48,7 +47,8 @@ pub fn parts_of_list(nodes: &[Node]) -> &[Node]
     }
 }
 
-/// The bytes of a symbol of so many bytes at this place of the text; fewer, where the text ends before.
+/// The bytes of a symbol of so many bytes at this place of the text; fewer, where the text ends
+/// before.
 pub fn symbol_bytes(text: &[u8], at: u32, length: u32) -> &[u8]
     ensures { result.now ≡ take length (drop at text.now) }
 {

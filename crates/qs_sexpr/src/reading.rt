@@ -1,5 +1,5 @@
 // The nodes of a whole text.
-ghost use Rattle.std.specs.Prelude.{◌≡◌, ◌+◌, ◌<◌, ◌^◌, List, length};
+ghost use Rattle.std.specs.Prelude.{◌+◌, ◌<◌, ◌^◌, length};
 ghost use Rattle.qs_sexpr.specs.Trees.{Sexps};
 ghost use Rattle.qs_sexpr.specs.Reading.{Fault, Reading};
 ghost use Rattle.qs_sexpr.specs.Results.{Gives, GivesFault, GivesNodes, Says, nodes_in};
@@ -70,10 +70,10 @@ fn read_all(alloc: Global, text: &[u8]) -> Result<Vec<Node>, SexprFault>
     Ok(reader.nodes)
 }
 
-/// The nodes of the lists and atoms of a text of fewer than 2^31 bytes, or its first fault. Each list
-/// stands before its parts. White space and comments stand between lists and atoms, and an atom goes on
-/// as far as bytes of atoms do.
-#[tactic(auto, using(crate::proofs::OneReading::says, crate::proofs::OneReading::only_reading, crate::proofs::OneReading::only_fault))]
+/// The nodes of the lists and atoms of a text of fewer than 2^31 bytes, or its first fault. Each
+/// list stands before its parts. White space and comments stand between lists and atoms, and an
+/// atom goes on as far as bytes of atoms do.
+#[tactic(auto, using(crate::proofs::OneReading::answer_laws))]
 pub fn read(alloc: Global, text: &[u8]) -> Result<Vec<Node>, SexprFault>
     requires limit { length text.now < 2 ^ 31 }
     ensures says { Says text.now result }

@@ -1,8 +1,8 @@
 // How much room lists take on one line.
-ghost use Rattle.std.specs.Prelude.{◌≡◌, ◌∷◌, ◌+◌, List, map, reverse, IfOk, OnOk, length};
+ghost use Rattle.std.specs.Prelude.{◌≡◌, ◌+◌, map, reverse, IfOk, length};
 ghost use Rattle.std.specs.Fmt.{decimal, signed_decimal};
-ghost use Rattle.qs_sexpr.specs.Marks.{Mark, added, first_of, list_size, list_sizes, mark_of, others_of};
-ghost use Rattle.qs_sexpr.specs.Pages.{AreSizes};
+ghost use Rattle.qs_sexpr.specs.Marks.{first_of, list_size, list_sizes, mark_of, others_of};
+ghost use Rattle.qs_sexpr.specs.Pages.{AddsSize, AddsToken};
 
 use crate::token::Token;
 use itoa::Buffer;
@@ -39,7 +39,7 @@ fn taken(left: &mut Vec<usize>) -> usize
 
 /// Adds the size of a part, and a blank, to what is left in the innermost list.
 fn add(left: &mut Vec<usize>, size: usize) -> Result<(), NoMemory>
-    ensures { IfOk result (λ _. reverse left.new.items ≡ added (size + 1) (reverse left.old.items)) }
+    ensures { IfOk result (λ _. AddsSize size left.old.items left.new.items) }
 {
     let others = taken(left);
     let sum = size.min(WIDE) + 1 + others.min(WIDE);
@@ -59,8 +59,7 @@ fn put_token(
     left: &mut Vec<usize>,
     found: &mut Vec<usize>,
 ) -> Result<(), NoMemory>
-    ensures { (ms : List Mark) → AreSizes left.old.items found.old.items ms
-        → OnOk result (AreSizes left.new.items found.new.items (mark_of token.entry ∷ ms)) }
+    ensures { AddsToken token.entry left.old left.new found.old found.new result }
 {
     match token {
         Token::Open => {

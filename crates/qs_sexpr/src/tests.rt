@@ -1,10 +1,11 @@
-// That memory is found: small texts with their answers, and one of 16 MiB that nests as deep as it may.
+// That memory is found: small texts with their answers, and one of 16 MiB that nests as deep as it
+// may.
 use crate::{Item, Node, SexprFault, Token, first_part, parts_of_list, read, symbol_bytes, write};
 use std::alloc::Global;
 use std::test::*;
 
-/// Texts and their answers: a fault, or the nodes, a list as `AT(PARTS,NODES)`, a symbol as `AT:BYTES` and
-/// a number as `AT=VALUE`.
+/// Texts and their answers: a fault, or the nodes, a list as `AT(PARTS,NODES)`, a symbol as
+/// `AT:BYTES` and a number as `AT=VALUE`.
 const ROWS: [(&str, &str); 28] = [
     ("", ""),
     (" \t\r\n", ""),
@@ -75,7 +76,8 @@ fn texts_and_their_answers(rt: HostRuntime) -> Result<(), Fail> {
     Ok(())
 }
 
-/// `depth` lists, one in the other, the innermost with a symbol, a number and a comment `times` times.
+/// `depth` lists, one in the other, the innermost with a symbol, a number and a comment `times`
+/// times.
 fn nested(alloc: Global, depth: usize, times: usize) -> Result<Vec<u8>, Fail> {
     let mut text = Vec::new(alloc);
     for _ in 0..depth {

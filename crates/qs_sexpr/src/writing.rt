@@ -1,11 +1,8 @@
 // Lists and atoms, laid out for people.
-ghost use Rattle.std.specs.Prelude.{◌≡◌, ◌∷◌, [], ◌++◌, List, ℕ, true, false, map, replicate, reverse, length, IfOk, OnOk};
-ghost use Rattle.std.specs.Fmt.{signed_decimal};
+ghost use Rattle.std.specs.Prelude.{◌≡◌, ◌++◌, reverse, replicate, OnOk};
 ghost use Rattle.qs_sexpr.specs.Gaps.{gap_view};
-ghost use Rattle.qs_sexpr.specs.Layout.{before, behind, ending, inside, lay_all};
-ghost use Rattle.qs_sexpr.specs.Marks.{Mark, all_marks, first_of, layer_of, layers_behind, line_end, list_sizes, mark_of, others_of};
-ghost use Rattle.qs_sexpr.specs.Pages.{GoesOn, IsPage};
-ghost use Rattle.qs_sexpr.specs.Writing.{Forms};
+ghost use Rattle.qs_sexpr.specs.Marks.{first_of, layer_of, layers_behind, mark_of, others_of};
+ghost use Rattle.qs_sexpr.specs.Pages.{ClosesList, LaysOut, OpensList, PutsMark, PutsWord};
 
 use crate::layout::{Gap, Layer};
 use crate::sizes::list_sizes;
@@ -77,9 +74,7 @@ fn layer_behind(outer: &mut Vec<Layer>) -> Layer
 
 impl Page {
     fn put_word(&mut self, bytes: &[u8]) -> Result<(), NoMemory>
-        ensures { let l = self.old.layer in
-            let text = self.old.text.items ++ before l true (length bytes.now) ++ bytes.now ++ line_end l in
-            OnOk result (IsPage self.new text (behind l true (length bytes.now)) (reverse self.old.outer.items) (reverse self.old.sizes.items)) }
+        ensures { OnOk result (PutsWord bytes.now self.old self.new) }
     {
         put_gap(&mut self.text, self.layer.before(true, bytes.len()))?;
         put(&mut self.text, bytes)?;
@@ -89,10 +84,7 @@ impl Page {
     }
 
     fn open(&mut self) -> Result<(), NoMemory>
-        ensures { let l = self.old.layer in
-            let text = self.old.text.items ++ before l false 0 ++ 40 ∷ [] in
-            let sizes = reverse self.old.sizes.items in
-            OnOk result (IsPage self.new text (inside l (first_of sizes)) (behind l false 0 ∷ reverse self.old.outer.items) (others_of sizes)) }
+        ensures { OnOk result (OpensList self.old self.new) }
     {
         put_gap(&mut self.text, self.layer.before(false, 0))?;
         put(&mut self.text, b"(")?;
@@ -102,9 +94,7 @@ impl Page {
     }
 
     fn close(&mut self) -> Result<(), NoMemory>
-        ensures { let l = layer_of (reverse self.old.outer.items) in
-            let text = self.old.text.items ++ ending self.old.layer ++ 41 ∷ [] ++ line_end l in
-            OnOk result (IsPage self.new text l (layers_behind (reverse self.old.outer.items)) (reverse self.old.sizes.items)) }
+        ensures { OnOk result (ClosesList self.old self.new) }
     {
         put_gap(&mut self.text, self.layer.ending())?;
         put(&mut self.text, b")")?;
@@ -113,8 +103,7 @@ impl Page {
     }
 
     fn put_token(&mut self, token: Token<'_>) -> Result<(), NoMemory>
-        ensures { (ms : List Mark) → reverse self.old.sizes.items ≡ list_sizes (mark_of token.entry ∷ ms)
-            → OnOk result (GoesOn self.old self.new (mark_of token.entry) ms) }
+        ensures { PutsMark (mark_of token.entry) self.old self.new result }
     {
         match token {
             Token::Open => self.open(),
@@ -132,10 +121,10 @@ impl Page {
     }
 }
 
-/// The text of these lists and atoms, laid out for people: a list that fits stands on one line, and else
-/// its parts stand on lines of their own, further to the right.
+/// The text of these lists and atoms, laid out for people: a list that fits stands on one line, and
+/// else its parts stand on lines of their own, further to the right.
 pub fn write(alloc: Global, tokens: &[Token<'_>]) -> Result<Vec<u8>, NoMemory>
-    ensures { (forms : Forms) → map mark_of tokens.now ≡ all_marks forms → IfOk result (λ text. text.items ≡ lay_all forms) }
+    ensures { LaysOut tokens.now result }
 {
     let mut page = Page {
         text: Vec::new(alloc),

@@ -121,3 +121,7 @@ told_limit failure path now inner l e r =
 pub told_no_spec : (failure : Failure) (path now : Vec ℕ Global) (g : FnId) → failure ≡ failures.Fault path (causes.NoSpec g) → now.items ≡ reverse path.items → WasDue failure (faults.NoSpec now g)
 told_no_spec failure path now g e r =
     at_path failure path now (causes.NoSpec g) (no_spec now.items g.0) e (ap (λ (p : List ℕ). no_spec p g.0) (sym r))
+
+pub ruleset known_order = (order_stops, order_passed)
+
+pub ruleset told_faults = (told_shape, told_mentions, told_step, told_limit, told_no_spec)

@@ -1,16 +1,23 @@
 -- The first fault of an entry, as the code looks for it.
-use Rattle.std.specs.Prelude.{[], Option}
+use Rattle.std.specs.Prelude.{ℕ, [], Option}
 use Rattle.std.specs.Option.{option_or}
 use Rattle.qs_base.specs.Results.{fault_or}
 use Rattle.qs_assert.specs.Images.{assertion_image}
 use Rattle.qs_assert.specs.Trees.{AssertionTree}
 use Rattle.qs_core.specs.Trees as core
+use Rattle.qs_core.specs.TreeOf.{function_tree}
+use Rattle.qs_core.specs.UnitTrees.{unit_tree}
+use Rattle.qs_core.specs.declared.unit.CoreUnit.{CoreUnit}
+use Rattle.qs_core.specs.declared.units.CoreFunction.{CoreFunction}
 use Rattle.qs_entail.specs.Verdicts.{verdict}
 use Rattle.qs_triples.specs.Derivations.{EntryTree}
-use Rattle.qs_triples.specs.Entries.{function_posts, mentions_fault, entry_told, result_at_end}
+use Rattle.qs_triples.specs.Entries.{function_posts, mentions_fault, entry_told, result_at_end, fault_in, entry_fault, function_fault, HasDerivedEntry}
 use Rattle.qs_triples.specs.Mentions.{in_pre, in_post, first_other, as_plain}
 use Rattle.qs_triples.specs.Rules.{in_precondition, in_postcondition, DerivationFault, Answer, Scope, pre}
 use Rattle.qs_triples.specs.Told.{FailsAs, IsDue}
+use Rattle.qs_triples.specs.TreeOf.{entry_tree, proofs_tree}
+use Rattle.qs_triples.specs.declared.derivation.FunctionProof.{FunctionProof}
+use Rattle.qs_triples.specs.declared.derivation.Proofs.{Proofs}
 use Rattle.qs_triples.specs.declared.failure.Failure.{Failure}
 use Rattle.qs_triples.specs.declared.fault.DerivFault.{DerivFault}
 
@@ -37,3 +44,17 @@ abbrev pub WasDue : Failure → DerivFault → Type 0
 WasDue failure fault =
     (answer : Answer) (others : AssertionTree → Option DerivationFault)
     → FailsAs failure answer → IsDue fault (fault_or (λ fault. fault) answer others)
+
+-- ---- of the code's values: an entry whose function is known, one that is found, and the first of a function
+
+abbrev pub known_entry_fault : CoreUnit → CoreFunction → Proofs → FunctionProof → Option DerivationFault
+known_entry_fault unit f proofs e = fault_in (unit_tree unit) (proofs_tree proofs) (function_tree f) (entry_tree e)
+
+abbrev pub found_entry_fault : CoreUnit → Proofs → FunctionProof → Option DerivationFault
+found_entry_fault unit proofs e = entry_fault (unit_tree unit) (proofs_tree proofs) (entry_tree e)
+
+abbrev pub first_entry_fault : CoreUnit → (function : ℕ) → Proofs → Option DerivationFault
+first_entry_fault unit f proofs = function_fault (unit_tree unit) (proofs_tree proofs) f
+
+abbrev pub FirstEntryIsDerived : CoreUnit → (function : ℕ) → Proofs → Type 0
+FirstEntryIsDerived unit f proofs = HasDerivedEntry (unit_tree unit) (proofs_tree proofs) f

@@ -1,5 +1,5 @@
 -- What a statement of a form is made of, whatever its rule; or that it has another form.
-use Rattle.std.specs.Prelude.{◌≡◌, ℕ, List, [], Option, Err}
+use Rattle.std.specs.Prelude.{◌≡◌, ℕ, List, [], Option, MatchOption, Err}
 use Rattle.qs_calls.specs.declared.callee.Callee.{Callee}
 use Rattle.qs_core.specs.declared.expressions.CoreExpr.{CoreExpr}
 use Rattle.qs_core.specs.declared.statements.CoreStmt.{CoreStmt}
@@ -9,6 +9,10 @@ use Rattle.qs_triples.specs.Rules.{Answer, CallSite, shape, of_sequence, of_bran
 use Rattle.qs_triples.specs.declared.forms.Branches.{Branches}
 use Rattle.qs_triples.specs.declared.forms.Site.{Site}
 use Rattle.qs_triples.specs.declared.forms.Turns.{Turns}
+
+-- what a statement of the form is made of, or that it has another
+abbrev pub TellsForm : {X : Type 0} → Option X → (CoreStmtTree → Type 0) → (X → CoreStmtTree → Type 0) → CoreStmt → Type 0
+TellsForm found IsNone IsOf s = MatchOption found (IsNone (core_stmt s)) (λ x. IsOf x (core_stmt s))
 
 -- ---- sequences
 
@@ -48,6 +52,9 @@ IsCalleeOf c x g es = (rule : CallSite → Answer) → of_callee x g (core_exprs
 
 abbrev pub IsNoCallee : Option ℕ → Callee → List CoreExpr → Type 0
 IsNoCallee x g es = (rule : CallSite → Answer) → of_callee x g (core_exprs es) rule ≡ Err (shape [])
+
+abbrev pub TellsCallee : Option ℕ → Callee → List CoreExpr → Option Site → Type 0
+TellsCallee x g es found = MatchOption found (IsNoCallee x g es) (λ c. IsCalleeOf c x g es)
 
 abbrev pub IsCallOf : Site → CoreStmtTree → Type 0
 IsCallOf c s = (rule : CallSite → Answer) → of_call s rule ≡ rule (site_view c)

@@ -14,4 +14,5 @@ pub mod Told
 pub mod Views
 pub mod Forms
 pub mod Nodes
+pub mod Walk
 pub mod Checking

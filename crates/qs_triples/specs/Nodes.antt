@@ -1,15 +1,18 @@
 -- What the walk over a body finds at a node before it goes into the parts.
-use Rattle.std.specs.Prelude.{◌≡◌, ℕ, ◌==◌, List, [], length, not, Result, Ok, Err}
+use Rattle.std.specs.Prelude.{◌≡◌, ℕ, ◌==◌, List, [], length, not, Result, MatchResult, Ok, Err}
+use Rattle.std.specs.Borrow.{Bor}
 use Rattle.qs_base.specs.Results.{require}
 use Rattle.qs_assert.specs.Trees.{AssertionTree}
 use Rattle.qs_core.specs.declared.statements.CoreStmt.{CoreStmt}
 use Rattle.qs_core.specs.TreeOf.{core_stmt, core_stmts}
 use Rattle.qs_core.specs.Trees.{CoreExprTree, CoreStmtTree, CoreStmts, stmts_of}
 use Rattle.qs_triples.specs.Derivations.{DerivationTree}
+use Rattle.qs_triples.specs.Forms.{IsBranchOf}
 use Rattle.qs_triples.specs.Mentions.{in_body, first_other}
 use Rattle.qs_triples.specs.Rules.{Answer, Scope, shape, unless, of_sequence, of_branch, of_loop, is_consequence, count_stmts}
 use Rattle.qs_triples.specs.Told.{FailsAs}
 use Rattle.qs_triples.specs.declared.failure.Failure.{Failure}
+use Rattle.qs_triples.specs.declared.forms.Branches.{Branches}
 use Rattle.qs_triples.specs.declared.forms.Turns.{Turns}
 
 -- a variable of the invariant or assertion of a node that it may not mention comes before all else
@@ -29,11 +32,19 @@ HasParts ss s count =
 abbrev pub HasNoParts : Failure → CoreStmtTree → (derivations : ℕ) → Type 0
 HasNoParts failure s count = (rule : CoreStmts → Answer) → FailsAs failure (as_many s count rule)
 
+abbrev pub GivesParts : Result (Bor (List CoreStmt)) Failure → CoreStmt → (derivations : ℕ) → Type 0
+GivesParts result s count =
+    MatchResult result (λ ss. HasParts ss.now (core_stmt s) count) (λ failure. HasNoParts failure (core_stmt s) count)
+
 -- ---- conditionals
 
 abbrev pub HasNoBranches : Failure → CoreStmtTree → Type 0
 HasNoBranches failure s =
     (rule : CoreExprTree → CoreStmtTree → CoreStmtTree → Answer) → FailsAs failure (of_branch s rule)
+
+abbrev pub GivesBranches : Result Branches Failure → CoreStmt → Type 0
+GivesBranches result s =
+    MatchResult result (λ b. IsBranchOf b (core_stmt s)) (λ failure. HasNoBranches failure (core_stmt s))
 
 -- ---- loops with an invariant
 
@@ -48,6 +59,10 @@ HasTurns t c i s =
 abbrev pub HasNoTurns : Failure → Scope → AssertionTree → CoreStmtTree → Type 0
 HasNoTurns failure c i s =
     (rule : CoreStmtTree → CoreStmtTree → Answer) → FailsAs failure (under_invariant c i s rule)
+
+abbrev pub GivesTurns : Result Turns Failure → Scope → AssertionTree → CoreStmt → Type 0
+GivesTurns result c i s =
+    MatchResult result (λ t. HasTurns t c i (core_stmt s)) (λ failure. HasNoTurns failure c i (core_stmt s))
 
 -- ---- consequences
 

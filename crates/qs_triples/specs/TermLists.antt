@@ -1,4 +1,7 @@
 -- The nodes of terms that are made of core terms.
+use Rattle.std.specs.Prelude.{◌≡◌, ◌++◌, List}
+use Rattle.std.specs.declared.alloc.Global.{Global}
+use Rattle.std.specs.declared.vec.Vec.{Vec}
 use Rattle.qs_memory.specs.declared.operation.Signedness.{Signedness}
 use Rattle.qs_memory.specs.declared.operation.Signedness.TheVariants.{Signed, Unsigned}
 use Rattle.qs_assert.specs.declared.node.TermNode.{TermNode}
@@ -15,3 +18,7 @@ operation_head Multiply = nodes.Mul 2
 abbrev pub wrapped_head : Signedness → TermNode
 wrapped_head Signed = nodes.WrapSigned
 wrapped_head Unsigned = nodes.WrapUnsigned
+
+-- these nodes are put behind the others
+abbrev pub Puts : {X : Type 0} → List X → (before now : Vec X Global) → Type 0
+Puts nodes before now = now.items ≡ before.items ++ nodes

@@ -3,6 +3,7 @@ use Rattle.std.specs.Prelude.{◌≡◌, ℕ, Option, Some, None, List, reverse,
 use Rattle.qs_base.specs.declared.function.FnId.{FnId}
 use Rattle.qs_assert.specs.declared.variable.Var.{Var}
 use Rattle.qs_assert.specs.Trees.{AssertionTree}
+use Rattle.qs_core.specs.Trees.{CoreFunctionTree}
 use Rattle.qs_entail.specs.declared.fault.CertFault.{CertFault}
 use Rattle.qs_entail.specs.declared.fault.CertFault.TheVariants as certs
 use Rattle.qs_entail.specs.Answers.{fault_of}
@@ -15,6 +16,7 @@ use Rattle.qs_triples.specs.declared.fault.Place.{Place}
 use Rattle.qs_triples.specs.declared.fault.Place.TheVariants as places
 use Rattle.qs_triples.specs.declared.failure.Failure.{Failure}
 use Rattle.qs_triples.specs.declared.failure.Failure.TheVariants as failures
+use Rattle.qs_triples.specs.Entries.{mentions_fault, result_at_end}
 use Rattle.qs_triples.specs.Rules as rules
 use Rattle.qs_triples.specs.Rules.{unless_of, DerivationFault, Answer, shape, mentions, in_precondition, in_postcondition, at_node, certificate, no_spec, entry, bad_order}
 
@@ -91,6 +93,14 @@ IsDue (faults.BadOrder d) due = due ≡ Some (bad_order d)
 abbrev pub Tells : Result (Unit {0}) DerivFault → Option DerivationFault → Type 0
 Tells (Ok u) due = due ≡ None
 Tells (Err fault) due = IsDue fault due
+
+-- no variable is found, or it is told that it is mentioned there
+abbrev pub TellsMention : Place → Option Var → Result (Unit {0}) DerivFault → Type 0
+TellsMention place found result = Tells result (mentions_fault (place_view place) found)
+
+-- the same of a postcondition that speaks of a result where the end of the body can be met
+abbrev pub TellsResult : CoreFunctionTree → (post : AssertionTree) → Result (Unit {0}) DerivFault → Type 0
+TellsResult f post result = TellsMention places.Postcondition (result_at_end f post) result
 
 -- the order of definitions, or the first that breaks it
 abbrev pub TellsOrder : Result (Unit {0}) DerivFault → Option ℕ → Type 0

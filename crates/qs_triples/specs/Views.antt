@@ -1,6 +1,7 @@
 -- What the parts of the code's walk are.
 use Rattle.std.specs.List.{slice_get, find}
-use Rattle.std.specs.Prelude.{◌≡◌, ℕ, List, map, option_map, Option, Some, Result, Ok, Err}
+use Rattle.std.specs.Prelude.{◌≡◌, ℕ, List, map, option_map, Option, Some, None, MatchOption, Result, Ok, Err}
+use Rattle.std.specs.Borrow.{Bor}
 use Rattle.qs_core.specs.Trees.{CoreFunctionTree}
 use Rattle.qs_core.specs.TreeOf.{function_tree}
 use Rattle.qs_triples.specs.Derivations.{SpecTree, EntryTree, is_entry_of, spec_of}
@@ -34,6 +35,10 @@ known_view k = record { function = function_tree k.function.now; spec = spec_tre
 
 abbrev pub callee_in : Scope → (function : ℕ) → Option CoreFunctionTree
 callee_in c g = slice_get (scope_view c).functions g
+
+-- what is due is found, seen by `view`, or there is none
+abbrev pub Finds : {X Y : Type 0} → Option (Bor X) → (X → Y) → (due : Option Y) → Type 0
+Finds found view due = MatchOption found (due ≡ None) (λ x. due ≡ Some (view x.now))
 
 -- the first entry of the function
 abbrev pub entry_in : List FunctionProof → (function : ℕ) → Option EntryTree

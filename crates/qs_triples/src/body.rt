@@ -1,11 +1,8 @@
 // The walk over a body and its derivation.
 ghost use Rattle.std.specs.Prelude.{◌≡◌, length};
-ghost use Rattle.qs_core.specs.TreeOf.{core_stmt, core_stmts};
-ghost use Rattle.qs_core.specs.Trees.{seq, stmts_of};
-ghost use Rattle.qs_triples.specs.Rules as rules;
 ghost use Rattle.qs_triples.specs.Told.{Follows};
 ghost use Rattle.qs_triples.specs.TreeOf.{derivation_tree, derivation_trees};
-ghost use Rattle.qs_triples.specs.Views.{posts_view, scope_view};
+ghost use Rattle.qs_triples.specs.Walk.{body_pre_of, pre_of, sequence_pre_of};
 
 use crate::derivation::Derivation;
 use crate::failure::{Cause, Failure};
@@ -28,8 +25,7 @@ pub fn pre(
     s: &CoreStmt,
     q: Posts<'_>,
 ) -> Result<Assertion, Failure>
-    ensures { Follows result (rules.pre (derivation_tree d.now) (scope_view c.entry)
-        (core_stmt s.now) (posts_view q.entry)) }
+    ensures { Follows result (pre_of (derivation_tree d.now) c.entry s.now q.entry) }
 {
     match d {
         Derivation::Leaf => leaf_rule(alloc, s, q),
@@ -69,8 +65,7 @@ fn sequence_pre(
     q: Posts<'_>,
 ) -> Result<Assertion, Failure>
     requires { length ds.now ≡ length ss.now }
-    ensures { Follows result (rules.sequence_pre (derivation_trees ds.now) 0 (scope_view c.entry)
-        (stmts_of (core_stmts ss.now)) (posts_view q.entry)) }
+    ensures { Follows result (sequence_pre_of (derivation_trees ds.now) c.entry ss.now q.entry) }
 {
     let mut next = q.next.copy(alloc)?;
     let mut i = ds.len();
@@ -89,8 +84,7 @@ pub fn body_pre(
     body: &[CoreStmt],
     q: Posts<'_>,
 ) -> Result<Assertion, Failure>
-    ensures { Follows result (rules.pre (derivation_tree d.now) (scope_view c.entry)
-        (seq (stmts_of (core_stmts body.now))) (posts_view q.entry)) }
+    ensures { Follows result (body_pre_of (derivation_tree d.now) c.entry body.now q.entry) }
 {
     match d {
         Derivation::Sequence(ds) => {

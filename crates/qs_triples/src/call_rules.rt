@@ -1,11 +1,8 @@
 // The rules for calls of functions with a body.
 ghost use Rattle.std.specs.Prelude.{◌≡◌, IfOk};
-ghost use Rattle.qs_entail.specs.View.{cert_tree};
 ghost use Rattle.qs_triples.specs.Rules as rules;
-ghost use Rattle.qs_triples.specs.Told.{Follows};
 ghost use Rattle.qs_triples.specs.TreeOf.{spec_tree};
-ghost use Rattle.qs_triples.specs.Forms.{site_view};
-ghost use Rattle.qs_triples.specs.Views.{posts_view, scope_view, known_view};
+ghost use Rattle.qs_triples.specs.Walk.{FollowsBalancedCall, FollowsCall};
 
 use crate::calls::{around, at_call, behind_call, certified, none_found, with_frame};
 use crate::derivation::Spec;
@@ -30,9 +27,7 @@ pub fn call_rule(
     site: Site<'_>,
     k: Known<'_>,
 ) -> Result<Assertion, Failure>
-    ensures { Follows result (rules.call_rule (scope_view c.entry) frame.now
-        (cert_tree certificate.now) (posts_view q.entry) (site_view site.entry)
-        (known_view k.entry)) }
+    ensures { FollowsCall c.entry q.entry frame.now certificate.now site.entry k.entry result }
 {
     let other = first_other(alloc, c.function, Standing::Within, frame)?;
     none_found(alloc, other)?;
@@ -61,8 +56,7 @@ pub fn balanced_rule(
     site: Site<'_>,
     k: Known<'_>,
 ) -> Result<Assertion, Failure>
-    ensures { Follows result (rules.balanced_rule (posts_view q.entry) (site_view site.entry)
-        (known_view k.entry)) }
+    ensures { FollowsBalancedCall q.entry site.entry k.entry result }
 {
     if !is_balanced(alloc, k.spec)? {
         return Err(failed(alloc, Cause::Shape));

@@ -1,16 +1,14 @@
 // The rules for calls of functions with a body.
-ghost use Rattle.std.specs.Prelude.{◌≡◌, false, true, IfOk, MatchOption, map, None, Ok, Some, option_map};
-ghost use Rattle.qs_assert.specs.Trees as trees;
-ghost use Rattle.qs_assert.specs.Simultaneous.{first_without};
-ghost use Rattle.qs_assert.specs.Variables as assertion_variables;
+ghost use Rattle.std.specs.Prelude.{◌≡◌, false, IfOk, Some, option_map};
 ghost use Rattle.qs_entail.specs.View.{cert_tree};
 ghost use Rattle.qs_triples.specs.Replacements as replacements;
 ghost use Rattle.qs_triples.specs.Rules as rules;
-ghost use Rattle.qs_triples.specs.Derivations.{spec_of};
-ghost use Rattle.qs_triples.specs.Mentions.{plain_variable, first_without_argument};
-ghost use Rattle.qs_triples.specs.Told.{Follows, Passes, PassesOf, Carries, CarriesBehind, callee_view};
-ghost use Rattle.qs_triples.specs.TreeOf.{entry_tree, spec_tree};
-ghost use Rattle.qs_triples.specs.Views.{entry_in, IsKnown, callee_in, spec_in};
+ghost use Rattle.qs_triples.specs.Rules.{certified};
+ghost use Rattle.qs_triples.specs.Mentions.{plain_variable};
+ghost use Rattle.qs_triples.specs.Told.{Follows, Passes, PassesOf, callee_view};
+ghost use Rattle.qs_triples.specs.TreeOf.{entry_tree};
+ghost use Rattle.qs_triples.specs.Views.{Finds, entry_in, IsKnown, callee_in, spec_in};
+ghost use Rattle.qs_triples.specs.Walk.{CarriesReplaced, CarriesReplacedBehind, missing_argument};
 
 use crate::derivation::{FunctionProof, Spec};
 use crate::failure::{Cause, Failure};
@@ -24,7 +22,8 @@ use qs_core::CoreExpr;
 use qs_entail::{CertFault, Certificate, check};
 use std::alloc::Global;
 
-// Nothing, unless a variable is found: one of that function, if it is given, and else of the one that calls it.
+// Nothing, unless a variable is found: one of that function, if it is given, and else of the one
+// that calls it.
 fn none_found_of(alloc: Global, callee: Option<FnId>, found: Option<Var>) -> Result<(), Failure>
     ensures { PassesOf (callee_view callee) result found }
 {
@@ -50,8 +49,7 @@ pub fn certified(
     q: &Assertion,
     r: Assertion,
 ) -> Result<Assertion, Failure>
-    ensures { Follows result (rules.certified defines.now (cert_tree certificate.now)
-        p.now q.now r) }
+    ensures { Follows result (certified defines.now (cert_tree certificate.now) p.now q.now r) }
 {
     match check(alloc, &[], defines, p, q, certificate) {
         Ok(()) => Ok(r),
@@ -108,8 +106,7 @@ pub fn either(
 /// The first entry of a function.
 #[tactic(auto, using(crate::proofs::ListLaws::entry_found))]
 pub fn entry_in<'a>(entries: &'a [FunctionProof], g: FnId) -> Option<&'a FunctionProof>
-    ensures { MatchOption result (entry_in entries.now g.0 ≡ None)
-        (λ e. entry_in entries.now g.0 ≡ Some (entry_tree e.now)) }
+    ensures { Finds result entry_tree (entry_in entries.now g.0) }
 {
     for entry in entries {
         if entry.function.0 == g.0 {
@@ -157,8 +154,7 @@ fn plain(found: Option<Var>) -> Option<Var>
 }
 
 fn missing_argument(alloc: Global, g: FnId, r: Replacement<'_>, xs: &[Var]) -> Result<(), Failure>
-    ensures { PassesOf (Some g.0) result
-        (option_map plain_variable (replacements.first_missing r.entry true xs.now)) }
+    ensures { PassesOf (Some g.0) result (missing_argument r.entry xs.now) }
 {
     let found = first_missing(alloc, r, true, xs)?;
     none_found_of(alloc, Some(g), plain(found))
@@ -171,8 +167,7 @@ pub fn at_call(
     r: Replacement<'_>,
     a: &Assertion,
 ) -> Result<Assertion, Failure>
-    ensures { Carries g.0 result (first_without (replacements.image r.entry) a.now)
-        (replacements.replaced r.entry a.now) }
+    ensures { CarriesReplaced g.0 r.entry a.now result }
 {
     let xs = variables(alloc, a)?;
     missing(alloc, g, r, &xs)?;
@@ -186,9 +181,7 @@ pub fn behind_call(
     r: Replacement<'_>,
     a: &Assertion,
 ) -> Result<Assertion, Failure>
-    ensures { CarriesBehind g.0 result
-        (option_map plain_variable (first_without_argument (replacements.image r.entry) a.now))
-        (first_without (replacements.image r.entry) a.now) (replacements.replaced r.entry a.now) }
+    ensures { CarriesReplacedBehind g.0 r.entry a.now result }
 {
     let xs = variables(alloc, a)?;
     missing_argument(alloc, g, r, &xs)?;

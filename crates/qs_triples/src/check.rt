@@ -1,13 +1,14 @@
 // The checks of definitions and of functions.
 ghost use Rattle.std.specs.List.{slice_get};
-ghost use Rattle.std.specs.Prelude.{◌≡◌, MatchOption, None, OnOk, Some};
+ghost use Rattle.std.specs.Prelude.{◌≡◌, OnOk};
 ghost use Rattle.qs_assert.specs.Order as order;
 ghost use Rattle.qs_assert.specs.Order.{IsInOrder};
 ghost use Rattle.qs_core.specs.TreeOf.{function_tree};
 ghost use Rattle.qs_core.specs.UnitTrees.{unit_tree};
-ghost use Rattle.qs_triples.specs.Entries.{fault_in, entry_fault, function_fault, HasDerivedEntry};
+ghost use Rattle.qs_triples.specs.Checking.{FirstEntryIsDerived, first_entry_fault};
+ghost use Rattle.qs_triples.specs.Checking.{found_entry_fault, known_entry_fault};
 ghost use Rattle.qs_triples.specs.Told.{Tells, TellsOrder};
-ghost use Rattle.qs_triples.specs.TreeOf.{entry_tree, proofs_tree};
+ghost use Rattle.qs_triples.specs.Views.{Finds};
 
 use crate::calls::entry_in;
 use crate::derivation::{FunctionProof, Proofs};
@@ -31,7 +32,7 @@ pub fn defines_in_order(proofs: &Proofs) -> Result<(), DerivFault>
 }
 
 // The entry of this function, where this is the first definition out of order, if there is one.
-#[tactic(auto, using(crate::proofs::EntryLaws::order_stops, crate::proofs::EntryLaws::order_passed))]
+#[tactic(auto, using(crate::proofs::EntryLaws::known_order))]
 fn check_known(
     alloc: Global,
     unit: &CoreUnit,
@@ -41,8 +42,7 @@ fn check_known(
     misplaced: Option<usize>,
 ) -> Result<(), DerivFault>
     requires { misplaced ≡ order.order_fault proofs.now.defines.items }
-    ensures { Tells result (fault_in (unit_tree unit.now) (proofs_tree proofs.now)
-        (function_tree function.now) (entry_tree e.now)) }
+    ensures { Tells result (known_entry_fault unit.now function.now proofs.now e.now) }
 {
     let scope = Scope {
         function,
@@ -58,8 +58,7 @@ fn check_known(
 
 // The function with this number.
 fn function_of(unit: &CoreUnit, f: FnId) -> Option<&CoreFunction>
-    ensures { MatchOption result (slice_get (unit_tree unit.now).functions f.0 ≡ None)
-        (λ g. slice_get (unit_tree unit.now).functions f.0 ≡ Some (function_tree g.now)) }
+    ensures { Finds result function_tree (slice_get (unit_tree unit.now).functions f.0) }
 {
     unit.functions.get(f.0 as usize)
 }
@@ -72,8 +71,7 @@ fn check_found(
     misplaced: Option<usize>,
 ) -> Result<(), DerivFault>
     requires { misplaced ≡ order.order_fault proofs.now.defines.items }
-    ensures { Tells result
-        (entry_fault (unit_tree unit.now) (proofs_tree proofs.now) (entry_tree e.now)) }
+    ensures { Tells result (found_entry_fault unit.now proofs.now e.now) }
 {
     match function_of(unit, e.function) {
         Some(function) => check_known(alloc, unit, function, proofs, e, misplaced),
@@ -90,8 +88,7 @@ fn check_first(
     misplaced: Option<usize>,
 ) -> Result<(), DerivFault>
     requires { misplaced ≡ order.order_fault proofs.now.defines.items }
-    ensures { Tells result
-        (function_fault (unit_tree unit.now) (proofs_tree proofs.now) f.0) }
+    ensures { Tells result (first_entry_fault unit.now f.0 proofs.now) }
 {
     match entry_in(&proofs.functions, f) {
         Some(e) => check_found(alloc, unit, proofs, e, misplaced),
@@ -112,10 +109,8 @@ pub fn check_function(
     f: FnId,
     proofs: &Proofs,
 ) -> Result<(), DerivFault>
-    ensures exact { Tells result
-        (function_fault (unit_tree unit.now) (proofs_tree proofs.now) f.0) }
-    ensures derived { OnOk result
-        (HasDerivedEntry (unit_tree unit.now) (proofs_tree proofs.now) f.0) }
+    ensures exact { Tells result (first_entry_fault unit.now f.0 proofs.now) }
+    ensures derived { OnOk result (FirstEntryIsDerived unit.now f.0 proofs.now) }
 {
     check_first(alloc, unit, f, proofs, order_fault(&proofs.defines))
 }
@@ -130,10 +125,8 @@ pub fn check_in_order(
     proofs: &Proofs,
 ) -> Result<(), DerivFault>
     requires { IsInOrder proofs.now.defines.items }
-    ensures exact { Tells result
-        (function_fault (unit_tree unit.now) (proofs_tree proofs.now) f.0) }
-    ensures derived { OnOk result
-        (HasDerivedEntry (unit_tree unit.now) (proofs_tree proofs.now) f.0) }
+    ensures exact { Tells result (first_entry_fault unit.now f.0 proofs.now) }
+    ensures derived { OnOk result (FirstEntryIsDerived unit.now f.0 proofs.now) }
 {
     check_first(alloc, unit, f, proofs, None)
 }

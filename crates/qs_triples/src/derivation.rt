@@ -13,18 +13,21 @@ pub enum Derivation {
     Sequence(Vec<Derivation>),
     /// a conditional: its first branch, its second
     Conditional(Box<Derivation>, Box<Derivation>),
-    /// a loop: its invariant, which the certificate shows to be at least what the body needs; its body, its step
+    /// a loop: its invariant, which the certificate shows to be at least what the body needs; its
+    /// body, its step
     Loop(Assertion, Certificate, Box<Derivation>, Box<Derivation>),
-    /// a call, beside which the frame stays free; the certificate shows that what is free after the call is at least
-    /// what comes next
+    /// a call, beside which the frame stays free; the certificate shows that what is free after the
+    /// call is at least what comes next
     Call(Assertion, Certificate),
     /// a call of a function that gives back all that it takes
     BalancedCall,
-    /// the assertion, which the certificate shows to be at least what the part needs; the part draws no consequence
+    /// the assertion, which the certificate shows to be at least what the part needs; the part
+    /// draws no consequence
     Consequence(Assertion, Certificate, Box<Derivation>),
 }
 
-// By hand, since a derived drop of a tree stands with all its cases at each place where a tree may be dropped.
+// By hand, since a derived drop of a tree stands with all its cases at each place where a tree may
+// be dropped.
 impl Drop for Derivation {
     #[cycle(drop_derivation)]
     fn drop(self) {
@@ -40,8 +43,8 @@ impl Drop for Derivation {
     }
 }
 
-/// What is enough for each run of a function from arguments, besides its own cost, and what of it is free again at its
-/// return.
+/// What is enough for each run of a function from arguments, besides its own cost, and what of it
+/// is free again at its return.
 #[derive(Drop)]
 pub struct Spec {
     /// the precondition

@@ -1,13 +1,12 @@
 // The check of an entry.
 ghost use Rattle.std.specs.Prelude.{◌≡◌, IfOk};
-ghost use Rattle.qs_base.specs.Results.{fault_or};
 ghost use Rattle.qs_core.specs.TreeOf.{core_stmt, core_stmts, function_tree};
 ghost use Rattle.qs_core.specs.Trees.{stmts_of};
 ghost use Rattle.qs_triples.specs.Checking.{WasDue, first_fault, body_fault, entry_certificate};
 ghost use Rattle.qs_triples.specs.Entries as entries;
-ghost use Rattle.qs_triples.specs.Mentions.{first_other};
-ghost use Rattle.qs_triples.specs.Standing.{allowed};
-ghost use Rattle.qs_triples.specs.Told.{IsDue, Tells, place_view};
+ghost use Rattle.qs_triples.specs.Entries.{result_at_end};
+ghost use Rattle.qs_triples.specs.Standing.{first_other_at};
+ghost use Rattle.qs_triples.specs.Told.{Tells, TellsMention, TellsResult};
 ghost use Rattle.qs_triples.specs.TreeOf.{entry_tree};
 ghost use Rattle.qs_triples.specs.Views.{scope_view};
 
@@ -27,7 +26,7 @@ use std::alloc::Global;
 // ---- faults
 
 // The fault of a walk that ended so.
-#[tactic(auto, using(crate::proofs::EntryLaws::told_shape, crate::proofs::EntryLaws::told_mentions, crate::proofs::EntryLaws::told_step, crate::proofs::EntryLaws::told_limit, crate::proofs::EntryLaws::told_no_spec))]
+#[tactic(auto, using(crate::proofs::EntryLaws::told_faults))]
 fn told(failure: Failure) -> DerivFault
     ensures { WasDue failure result }
 {
@@ -46,7 +45,7 @@ fn told(failure: Failure) -> DerivFault
 
 // Nothing, unless a variable is found that may not be mentioned there.
 fn not_mentioned(place: Place, found: Option<Var>) -> Result<(), DerivFault>
-    ensures { Tells result (entries.mentions_fault (place_view place) found) }
+    ensures { TellsMention place found result }
 {
     match found {
         None => Ok(()),
@@ -63,8 +62,7 @@ fn check_mentions(
     place: Place,
     a: &Assertion,
 ) -> Result<(), DerivFault>
-    ensures { Tells result (entries.mentions_fault (place_view place)
-        (first_other (function_tree f.now) (allowed standing (function_tree f.now)) a.now)) }
+    ensures { TellsMention place (first_other_at standing (function_tree f.now) a.now) result }
 {
     let found = first_other(alloc, f, standing, a)?;
     not_mentioned(place, found)
@@ -100,7 +98,7 @@ fn ends_in_return(body: &[CoreStmt]) -> bool
 }
 
 fn result_at_end(alloc: Global, f: &CoreFunction, post: &Assertion) -> Result<Option<Var>, NoMemory>
-    ensures { IfOk result (λ x. x ≡ entries.result_at_end (function_tree f.now) post.now) }
+    ensures { IfOk result (λ x. x ≡ result_at_end (function_tree f.now) post.now) }
 {
     if ends_in_return(&f.body) {
         Ok(None)
@@ -110,8 +108,7 @@ fn result_at_end(alloc: Global, f: &CoreFunction, post: &Assertion) -> Result<Op
 }
 
 fn check_end(alloc: Global, f: &CoreFunction, post: &Assertion) -> Result<(), DerivFault>
-    ensures { Tells result (entries.mentions_fault (place_view Place.Postcondition)
-        (entries.result_at_end (function_tree f.now) post.now)) }
+    ensures { TellsResult (function_tree f.now) post.now result }
 {
     let found = result_at_end(alloc, f, post)?;
     not_mentioned(Place::Postcondition, found)

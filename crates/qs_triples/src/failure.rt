@@ -9,8 +9,8 @@ use qs_entail::{Limit, Rule};
 pub enum Cause {
     /// it is no node for its statement
     Shape,
-    /// the variable may not be mentioned there; or it is one of this function, which is called there, is needed and has
-    /// no term
+    /// the variable may not be mentioned there; or it is one of this function, which is called
+    /// there, is needed and has no term
     Mentions(Option<FnId>, Var),
     /// at this path of its certificate this rule's side condition fails
     Step(Vec<usize>, Rule),

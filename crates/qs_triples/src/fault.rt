@@ -5,7 +5,8 @@ use qs_base::{FnId, NoMemory};
 use qs_entail::CertFault;
 use thiserror::Error;
 
-/// Where an assertion stands. A path has the numbers of the parts of statements, from 0, from that of the body on.
+/// Where an assertion stands. A path has the numbers of the parts of statements, from 0, from that
+/// of the body on.
 #[derive(Debug, Drop)]
 pub enum Place {
     /// it is the precondition
@@ -25,8 +26,8 @@ pub enum DerivFault {
     /// The node is none for its statement.
     #[error("a node of a derivation doesn't fit its statement")]
     Shape(Vec<usize>),
-    /// The variable may not be mentioned there; or it is one of this function, which is called there, is needed and has
-    /// no term.
+    /// The variable may not be mentioned there; or it is one of this function, which is called
+    /// there, is needed and has no term.
     #[error("an assertion mentions a variable that it may not")]
     Mentions(Place, Option<FnId>, Var),
     /// The node's certificate has this fault.

@@ -1,8 +1,6 @@
 // The forms of statements that rules ask for.
-ghost use Rattle.std.specs.Prelude.{MatchOption};
-ghost use Rattle.qs_core.specs.TreeOf.{core_stmt};
-ghost use Rattle.qs_triples.specs.Forms.{IsSequenceOf, IsNoSequence, IsBranchOf, IsNoBranch};
-ghost use Rattle.qs_triples.specs.Forms.{IsLoopOf, IsNoLoop, IsCalleeOf, IsNoCallee};
+ghost use Rattle.qs_triples.specs.Forms.{TellsForm, TellsCallee, IsSequenceOf, IsNoSequence};
+ghost use Rattle.qs_triples.specs.Forms.{IsBranchOf, IsNoBranch, IsLoopOf, IsNoLoop};
 ghost use Rattle.qs_triples.specs.Forms.{IsCallOf, IsNoCall};
 
 use qs_base::FnId;
@@ -42,8 +40,7 @@ pub struct Site<'a> {
 
 /// The branches of a conditional.
 pub fn branches_of<'a>(s: &'a CoreStmt) -> Option<Branches<'a>>
-    ensures { MatchOption result (IsNoBranch (core_stmt s.now))
-        (λ b. IsBranchOf b (core_stmt s.now)) }
+    ensures { TellsForm result IsNoBranch IsBranchOf s.now }
 {
     match s {
         CoreStmt::If(condition, first, second) => Some(Branches {
@@ -67,8 +64,7 @@ pub fn branches_of<'a>(s: &'a CoreStmt) -> Option<Branches<'a>>
 
 /// The body and the step of a loop.
 pub fn turns_of<'a>(s: &'a CoreStmt) -> Option<Turns<'a>>
-    ensures { MatchOption result (IsNoLoop (core_stmt s.now))
-        (λ t. IsLoopOf t (core_stmt s.now)) }
+    ensures { TellsForm result IsNoLoop IsLoopOf s.now }
 {
     match s {
         CoreStmt::Loop(body, step) => Some(Turns { body, step }),
@@ -88,8 +84,7 @@ pub fn turns_of<'a>(s: &'a CoreStmt) -> Option<Turns<'a>>
 
 /// The parts of a sequence.
 pub fn parts_of<'a>(s: &'a CoreStmt) -> Option<&'a [CoreStmt]>
-    ensures { MatchOption result (IsNoSequence (core_stmt s.now))
-        (λ ss. IsSequenceOf ss.now (core_stmt s.now)) }
+    ensures { TellsForm result IsNoSequence (λ ss. IsSequenceOf ss.now) s.now }
 {
     match s {
         CoreStmt::Seq(parts) => Some(parts),
@@ -108,8 +103,7 @@ pub fn parts_of<'a>(s: &'a CoreStmt) -> Option<&'a [CoreStmt]>
 }
 
 fn callee_of<'a>(destination: Option<u32>, g: Callee, arguments: &'a [CoreExpr]) -> Option<Site<'a>>
-    ensures { MatchOption result (IsNoCallee destination g arguments.now)
-        (λ c. IsCalleeOf c destination g arguments.now) }
+    ensures { TellsCallee destination g arguments.now result }
 {
     match g {
         Callee::Function(function) => Some(Site {
@@ -124,8 +118,7 @@ fn callee_of<'a>(destination: Option<u32>, g: Callee, arguments: &'a [CoreExpr])
 
 /// A call of a function with a body.
 pub fn site_of<'a>(s: &'a CoreStmt) -> Option<Site<'a>>
-    ensures { MatchOption result (IsNoCall (core_stmt s.now))
-        (λ c. IsCallOf c (core_stmt s.now)) }
+    ensures { TellsForm result IsNoCall IsCallOf s.now }
 {
     match s {
         CoreStmt::Call(destination, g, arguments) => callee_of(*destination, *g, arguments),

@@ -1,12 +1,12 @@
 // The rule for simple statements, and for calls of the functions that the environment gives.
 ghost use Rattle.std.specs.Prelude.{◌≡◌, Ok};
-ghost use Rattle.qs_core.specs.TreeOf.{core_expr, core_stmt, option_expr};
-ghost use Rattle.qs_core.specs.Expressions as expressions;
-ghost use Rattle.qs_triples.specs.ExpressionTerms.{var, expression_term};
-ghost use Rattle.qs_triples.specs.Mentions as spec;
+ghost use Rattle.qs_core.specs.TreeOf.{core_stmt, option_expr};
+ghost use Rattle.qs_triples.specs.Mentions.{first_of_destination};
 ghost use Rattle.qs_triples.specs.Rules as rules;
+ghost use Rattle.qs_triples.specs.Rules.{unless};
 ghost use Rattle.qs_triples.specs.Told.{Follows};
 ghost use Rattle.qs_triples.specs.Views.{posts_view};
+ghost use Rattle.qs_triples.specs.Walk.{assigned};
 
 use crate::failure::{Cause, Failure};
 use crate::mentions::{first_of, first_of_destination};
@@ -27,7 +27,7 @@ fn copied(alloc: Global, a: &Assertion) -> Result<Assertion, Failure>
 
 /// The assertion, unless a variable is found.
 pub fn kept(alloc: Global, found: Option<Var>, a: &Assertion) -> Result<Assertion, Failure>
-    ensures { Follows result (rules.unless found (Ok a.now)) }
+    ensures { Follows result (unless found (Ok a.now)) }
 {
     match found {
         Some(x) => Err(failed(alloc, Cause::Mentions(None, x))),
@@ -57,7 +57,7 @@ fn target_kind(x: Target) -> VarKind
 }
 
 fn assigned(alloc: Global, kind: VarKind, e: &CoreExpr, a: &Assertion) -> Result<Assertion, Failure>
-    ensures { Follows result (rules.replaced (var kind (expressions.type_of (core_expr e.now))) (expression_term (core_expr e.now)) a.now) }
+    ensures { Follows result (assigned kind e.now a.now) }
 {
     let t = expression_term(alloc, e)?;
     replaced(alloc, var(kind, type_of(e)), t, a)
@@ -76,7 +76,7 @@ fn returned(alloc: Global, e: &Option<CoreExpr>, a: &Assertion) -> Result<Assert
 }
 
 fn given(alloc: Global, destination: Option<u32>, a: &Assertion) -> Result<Assertion, Failure>
-    ensures { Follows result (rules.unless (spec.first_of_destination destination a.now) (Ok a.now)) }
+    ensures { Follows result (unless (first_of_destination destination a.now) (Ok a.now)) }
 {
     let found = first_of_destination(alloc, destination, a)?;
     kept(alloc, found, a)

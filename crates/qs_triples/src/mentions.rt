@@ -7,7 +7,7 @@ ghost use Rattle.qs_core.specs.Scalars as scalars;
 ghost use Rattle.qs_core.specs.TreeOf.{function_tree, parameter_tree};
 ghost use Rattle.qs_triples.specs.Valuations as valuations;
 ghost use Rattle.qs_triples.specs.Mentions as spec;
-ghost use Rattle.qs_triples.specs.Standing.{allowed};
+ghost use Rattle.qs_triples.specs.Standing.{allowed, first_other_at, may_mention_at};
 
 use crate::terms::number_type;
 use qs_assert::{Assertion, Node, NumberType, TermNode, Var, VarKind};
@@ -173,7 +173,7 @@ fn is_allowed(standing: Standing, f: &CoreFunction, kind: VarKind) -> bool
 
 /// Whether an assertion of the function that stands there may mention the variable.
 pub fn may_mention(f: &CoreFunction, standing: Standing, x: Var) -> bool
-    ensures { result ≡ spec.may_mention (function_tree f.now) (allowed standing (function_tree f.now)) x }
+    ensures { result ≡ may_mention_at standing (function_tree f.now) x }
 {
     is_allowed(standing, f, x.kind) && is_own(f, x)
 }
@@ -201,7 +201,7 @@ pub fn first_other(
     standing: Standing,
     a: &Assertion,
 ) -> Result<Option<Var>, NoMemory>
-    ensures { IfOk result (λ x. x ≡ spec.first_other (function_tree f.now) (allowed standing (function_tree f.now)) a.now) }
+    ensures { IfOk result (λ x. x ≡ first_other_at standing (function_tree f.now) a.now) }
 {
     let xs = variables(alloc, a)?;
     Ok(xs.iter().copied().find(|x| !may_mention(f, standing, *x)))

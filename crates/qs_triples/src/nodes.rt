@@ -1,15 +1,14 @@
 // What the rules ask at a node, but for its parts.
-ghost use Rattle.std.specs.Prelude.{◌≡◌, MatchResult, Ok};
-ghost use Rattle.qs_core.specs.TreeOf.{core_expr, core_stmt};
-ghost use Rattle.qs_entail.specs.View.{cert_tree};
-ghost use Rattle.qs_triples.specs.Derivations.{call, balanced_call};
+ghost use Rattle.std.specs.Prelude.{◌≡◌, Ok};
+ghost use Rattle.qs_core.specs.TreeOf.{core_expr};
+ghost use Rattle.qs_triples.specs.Derivations.{balanced_call};
 ghost use Rattle.qs_triples.specs.ExpressionTerms.{expression_condition};
-ghost use Rattle.qs_triples.specs.Forms.{IsBranchOf};
-ghost use Rattle.qs_triples.specs.Nodes.{HasParts, HasNoParts, HasNoBranches, HasTurns, HasNoTurns, MayDraw};
+ghost use Rattle.qs_triples.specs.Nodes.{GivesBranches, GivesParts, GivesTurns, MayDraw};
 ghost use Rattle.qs_triples.specs.Rules as rules;
 ghost use Rattle.qs_triples.specs.Told.{Follows};
 ghost use Rattle.qs_triples.specs.TreeOf.{derivation_tree};
-ghost use Rattle.qs_triples.specs.Views.{posts_view, scope_view};
+ghost use Rattle.qs_triples.specs.Views.{scope_view};
+ghost use Rattle.qs_triples.specs.Walk.{call_with, concluded, pre_of};
 
 use crate::call_rules::{balanced_rule, call_rule};
 use crate::calls::{certified, either, known_callee, none_found};
@@ -34,8 +33,7 @@ pub fn sequence_at<'a>(
     s: &'a CoreStmt,
     derivations: usize,
 ) -> Result<&'a [CoreStmt], Failure>
-    ensures { MatchResult result (λ ss. HasParts ss.now (core_stmt s.now) derivations)
-        (λ failure. HasNoParts failure (core_stmt s.now) derivations) }
+    ensures { GivesParts result s.now derivations }
 {
     let Some(parts) = parts_of(s) else {
         return Err(failed(alloc, Cause::Shape));
@@ -49,8 +47,7 @@ pub fn sequence_at<'a>(
 
 /// The parts of a conditional.
 pub fn conditional_at<'a>(alloc: Global, s: &'a CoreStmt) -> Result<Branches<'a>, Failure>
-    ensures { MatchResult result (λ b. IsBranchOf b (core_stmt s.now))
-        (λ failure. HasNoBranches failure (core_stmt s.now)) }
+    ensures { GivesBranches result s.now }
 {
     match branches_of(s) {
         None => Err(failed(alloc, Cause::Shape)),
@@ -65,9 +62,7 @@ pub fn loop_at<'a>(
     invariant: &Assertion,
     s: &'a CoreStmt,
 ) -> Result<Turns<'a>, Failure>
-    ensures { MatchResult result
-        (λ t. HasTurns t (scope_view c.entry) invariant.now (core_stmt s.now))
-        (λ failure. HasNoTurns failure (scope_view c.entry) invariant.now (core_stmt s.now)) }
+    ensures { GivesTurns result (scope_view c.entry) invariant.now s.now }
 {
     let Some(turns) = turns_of(s) else {
         return Err(failed(alloc, Cause::Shape));
@@ -114,8 +109,7 @@ pub fn concluded(
     r: &Assertion,
     needed: &Assertion,
 ) -> Result<Assertion, Failure>
-    ensures { Follows result (rules.certified (scope_view c.entry).defines
-        (cert_tree certificate.now) r.now needed.now r.now) }
+    ensures { Follows result (concluded c.entry certificate.now r.now needed.now) }
 {
     let same = r.copy(alloc)?;
     certified(alloc, c.defines, certificate, r, needed, same)
@@ -138,8 +132,7 @@ pub fn call_pre(
     s: &CoreStmt,
     q: Posts<'_>,
 ) -> Result<Assertion, Failure>
-    ensures { Follows result (rules.pre (call frame.now (cert_tree certificate.now))
-        (scope_view c.entry) (core_stmt s.now) (posts_view q.entry)) }
+    ensures { Follows result (pre_of (call_with frame.now certificate.now) c.entry s.now q.entry) }
 {
     let Some(site) = site_of(s) else {
         return Err(failed(alloc, Cause::Shape));
@@ -155,8 +148,7 @@ pub fn balanced_pre(
     s: &CoreStmt,
     q: Posts<'_>,
 ) -> Result<Assertion, Failure>
-    ensures { Follows result (rules.pre balanced_call (scope_view c.entry) (core_stmt s.now)
-        (posts_view q.entry)) }
+    ensures { Follows result (pre_of balanced_call c.entry s.now q.entry) }
 {
     let Some(site) = site_of(s) else {
         return Err(failed(alloc, Cause::Shape));

@@ -1,11 +1,13 @@
-// Variables of assertions are replaced: those of a called function at a call of it, and values at the entry.
-ghost use Rattle.std.specs.Prelude.{◌≡◌, ◌++◌, IfOk, OnOk};
+// Variables of assertions are replaced: those of a called function at a call of it, and values at
+// the entry.
+ghost use Rattle.std.specs.Prelude.{◌≡◌, IfOk, OnOk};
 ghost use Rattle.qs_assert.specs.Listing.{inner_term};
 ghost use Rattle.qs_assert.specs.Replacing.{replacement};
-ghost use Rattle.qs_assert.specs.Simultaneous.{terms_for};
-ghost use Rattle.qs_core.specs.TreeOf.{core_exprs, function_tree};
+ghost use Rattle.qs_core.specs.TreeOf.{core_exprs};
 ghost use Rattle.qs_triples.specs.Mentions as spec;
-ghost use Rattle.qs_triples.specs.Replacements.{image, replaced, is_missing, first_missing};
+ghost use Rattle.qs_triples.specs.Replacements.{first_missing, image, images_before};
+ghost use Rattle.qs_triples.specs.Replacements.{images_behind, is_missing, replaced, terms_in};
+ghost use Rattle.qs_triples.specs.TermLists.{Puts};
 
 use crate::mentions::{Standing, may_mention};
 use crate::terms::expression_term;
@@ -19,8 +21,8 @@ use std::alloc::Global;
 pub enum Replacement<'a> {
     /// In a precondition of this function: for the parameters the terms of these arguments.
     BeforeCall(&'a CoreFunction, &'a [CoreExpr]),
-    /// In a postcondition of this function: for the values of the parameters at the entry the terms of these
-    /// arguments, for the result this temporary.
+    /// In a postcondition of this function: for the values of the parameters at the entry the terms
+    /// of these arguments, for the result this temporary.
     BehindCall(&'a CoreFunction, Option<u32>, &'a [CoreExpr]),
     /// For each variable its value at the entry.
     AsOld,
@@ -91,7 +93,7 @@ fn pre_image(
     es: &[CoreExpr],
     x: Var,
 ) -> Result<Option<Term>, NoMemory>
-    ensures { IfOk result (λ t. t ≡ spec.pre_images (function_tree g.now) (core_exprs es.now) x) }
+    ensures { IfOk result (λ t. t ≡ images_before g.now es.now x) }
 {
     if may_mention(g, Standing::Before, x) {
         pre_term(alloc, es, x)
@@ -107,7 +109,7 @@ fn post_image(
     es: &[CoreExpr],
     x: Var,
 ) -> Result<Option<Term>, NoMemory>
-    ensures { IfOk result (λ t. t ≡ spec.post_images (function_tree g.now) destination (core_exprs es.now) x) }
+    ensures { IfOk result (λ t. t ≡ images_behind g.now destination es.now x) }
 {
     if may_mention(g, Standing::Behind, x) {
         post_term(alloc, destination, es, x)
@@ -211,7 +213,7 @@ fn put_variable(
     x: Var,
     r: Replacement<'_>,
 ) -> Result<(), NoMemory>
-    ensures { OnOk result (nodes.new.items ≡ nodes.old.items ++ inner_term (terms_for (image r.entry) x)) }
+    ensures { OnOk result (Puts (inner_term (terms_in r.entry x)) nodes.old nodes.new) }
 {
     match image_of(alloc, r, x)? {
         Some(t) => put_term(nodes, &t),
@@ -228,7 +230,7 @@ fn put_image(
     node: &Node,
     r: Replacement<'_>,
 ) -> Result<(), NoMemory>
-    ensures { OnOk result (nodes.new.items ≡ nodes.old.items ++ replacement (terms_for (image r.entry)) node.now) }
+    ensures { OnOk result (Puts (replacement (terms_in r.entry) node.now) nodes.old nodes.new) }
 {
     match node {
         Node::Term(TermNode::Variable(x)) => put_variable(alloc, nodes, *x, r),

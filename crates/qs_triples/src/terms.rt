@@ -1,11 +1,12 @@
 // The terms and conditions of core expressions, as those of assertions.
-ghost use Rattle.std.specs.Prelude.{◌≡◌, ◌++◌, [], ◌∷◌, IfOk, OnOk, option_map};
+ghost use Rattle.std.specs.Prelude.{◌≡◌, [], ◌∷◌, IfOk, OnOk};
 ghost use Rattle.qs_assert.specs.Listing.{term_nodes};
 ghost use Rattle.qs_core.specs.TreeOf.{core_expr};
 ghost use Rattle.qs_core.specs.TermTreeOf.{core_term, core_condition};
 ghost use Rattle.qs_triples.specs.Valuations as valuations;
 ghost use Rattle.qs_triples.specs.ExpressionTerms as spec;
-ghost use Rattle.qs_triples.specs.TermLists.{operation_head, wrapped_head};
+ghost use Rattle.qs_triples.specs.ExpressionTerms.{term_tree};
+ghost use Rattle.qs_triples.specs.TermLists.{Puts, operation_head, wrapped_head};
 
 use qs_assert::{Cond, NumberType, Term, TermNode, Var, VarKind};
 use qs_base::NoMemory;
@@ -72,7 +73,7 @@ fn count_nodes(t: &CoreTerm) -> usize {
 }
 
 fn put(nodes: &mut Vec<TermNode>, node: TermNode) -> Result<(), NoMemory>
-    ensures { OnOk result (nodes.new.items ≡ nodes.old.items ++ node ∷ []) }
+    ensures { OnOk result (Puts (node ∷ []) nodes.old nodes.new) }
 {
     nodes.push(node)?;
     Ok(())
@@ -80,7 +81,7 @@ fn put(nodes: &mut Vec<TermNode>, node: TermNode) -> Result<(), NoMemory>
 
 // Puts the nodes of a term at the end of a list.
 fn put_term(nodes: &mut Vec<TermNode>, t: &CoreTerm) -> Result<(), NoMemory>
-    ensures { OnOk result (nodes.new.items ≡ nodes.old.items ++ term_nodes (spec.term_tree (core_term t.now))) }
+    ensures { OnOk result (Puts (term_nodes (term_tree (core_term t.now))) nodes.old nodes.new) }
 {
     match t {
         CoreTerm::Number(k) => put(nodes, TermNode::Number(*k)),
@@ -115,7 +116,7 @@ fn put_term(nodes: &mut Vec<TermNode>, t: &CoreTerm) -> Result<(), NoMemory>
 
 /// The term of a core term. One that no memory holds is told before anything of it is made.
 fn term(alloc: Global, t: &CoreTerm) -> Result<Term, NoMemory>
-    ensures { IfOk result (λ r. r ≡ spec.term_tree (core_term t.now)) }
+    ensures { IfOk result (λ r. r ≡ term_tree (core_term t.now)) }
 {
     let mut nodes = Vec::new(alloc);
     nodes.reserve(count_nodes(t))?;

@@ -1,6 +1,5 @@
 // Faults on the way from a node to the body.
 ghost use Rattle.std.specs.Prelude.{[], Err};
-ghost use Rattle.qs_assert.specs.Trees.{AssertionTree};
 ghost use Rattle.qs_triples.specs.Rules as rules;
 ghost use Rattle.qs_triples.specs.Rules.{Answer};
 ghost use Rattle.qs_triples.specs.Told.{fault_at, FailsAs, Follows};

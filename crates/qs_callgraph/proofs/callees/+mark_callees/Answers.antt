@@ -5,8 +5,7 @@ use Rattle.qs_core.specs.TreeOf.{core_stmt, core_stmts}
 use Rattle.qs_core.specs.Trees.{stmts_of}
 use Rattle.qs_core.specs.declared.statements.CoreStmt.{CoreStmt}
 use Rattle.qs_callgraph.specs.CallLists.{marked}
-use Rattle.qs_callgraph.proofs.MarkLaws.{marked-append}
-use Rattle.qs_callgraph.proofs.StmtTrees.{branch_is, loop_is}
+use Rattle.qs_callgraph.proofs.MarkLaws.{marked-append, branch_is, loop_is}
 use Rattle.qs_callgraph.proofs.callees.+mark_callees.Goals as goal
 
 pub mark_all_callees-loop-s-preserved : goal.mark_all_callees-loop-s-preserved

@@ -1,6 +1,6 @@
 use Rattle.std.proofs.Common.{arith, ◌+◌, ◌*◌, ◌-◌, drop, ap, get_or}
 use Rattle.qs_sexpr.specs.Numbers.{value_from}
-use Rattle.qs_sexpr.proofs.ValueLaws.{value_goes, value_grows}
+use Rattle.qs_sexpr.proofs.ScanLaws.{value_goes, value_grows}
 use Rattle.qs_sexpr.proofs.numbers.value_of.Goals as goal
 
 pub returns-then-value-gt1000000000000000000 : goal.returns-then-value-gt1000000000000000000

@@ -1,6 +1,5 @@
 -- What writers promise: which tokens are put for a value, its words being those of a table.
 use Rattle.std.specs.Prelude.{◌≡◌, ℕ, List, [], ◌∷◌, ◌++◌, Vec, Result, OnOk, map, replicate, reverse}
-use Rattle.std.specs.Borrow.{Bor}
 use Rattle.std.specs.declared.alloc.Global.{Global}
 use Rattle.qs_assert.specs.Trees.{AssertionTree, CondTree, TermTree}
 use Rattle.qs_assert.specs.declared.define.Define.{Define}
@@ -75,9 +74,11 @@ term_begins table head t = opens ∷ word head ∷ term_marks table t
 abbrev pub items_begin : WordTable → (head : List ℕ) → TermTree → List Item → List Mark
 items_begin table head t items = opens ∷ word head ∷ (term_marks table t ++ combination_marks items)
 
-abbrev pub both_begin : WordTable → (head : List ℕ) → TermTree → (first second : Bor (List Item)) → List Mark
-both_begin table head t first second =
-    opens ∷ word head ∷ (term_marks table t ++ (combination_marks first.now ++ combination_marks second.now))
+abbrev pub BeginsBoth :
+    {A E : Type 0} → Vec Token Global → WordTable → (head : List ℕ) → TermTree → (first second : List Item)
+    → Vec Token Global → Result A E → Type 0
+BeginsBoth old table head t first second new result =
+    Writes old (opens ∷ word head ∷ (term_marks table t ++ (combination_marks first ++ combination_marks second))) new result
 
 abbrev pub fact_marks : WordTable → Fact → List Mark
 fact_marks table f = fact_begins (words_in_table table) (fact_tree f)

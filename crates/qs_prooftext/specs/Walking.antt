@@ -74,12 +74,13 @@ HasParts n parts = n ≡ count parts + 1
 
 -- the list at this place with this head, so many parts and these nodes behind its head is opened
 abbrev pub Opens :
-    Context → Sort → (at : ℕ) → (word : Bor (List ℕ)) → (parts : ℕ) → (others : Bor (List Node))
+    Context → Sort → (at : ℕ) → (word : List ℕ) → (parts : ℕ) → (others : List Node)
     → (todo todo_now : Vec Sort Global) → (out out_now : Vec AssertNode Global) → Result (Unit {0}) TextFault
     → Type 0
 Opens c sort at word n others todo todo_now out out_now result =
-    (place : ℕ) (parts : Sexps) → StandAll c.text.now others.now parts → HasParts n parts
-    → GivesOpened (setting_of c) (flat (setting_of c) sort (list at (part_and (symbol place word.now) parts))) parts todo.items todo_now.items out.items out_now.items result
+    (place : ℕ) (parts : Sexps) → StandAll c.text.now others parts → HasParts n parts
+    → GivesOpened (setting_of c) (flat (setting_of c) sort (list at (part_and (symbol place word) parts)))
+    parts todo.items todo_now.items out.items out_now.items result
 
 -- ---- the nodes of atoms
 

@@ -167,14 +167,15 @@ fn open_list(
     at: u32,
     word: &[u8],
     count: usize,
-    rest: &[qs_sexpr::Node],
+    others: &[qs_sexpr::Node],
     todo: &mut Vec<Sort>,
     out: &mut Vec<Node>,
 ) -> Result<(), TextFault>
-    ensures { Opens context.entry sort at word count rest todo.old todo.new out.old out.new result }
+    ensures { Opens context.entry sort at word.now count others.now
+        todo.old todo.new out.old out.new result }
 {
     let behind = count.saturating_sub(1);
-    let divisor = divisor_in(context.text, rest);
+    let divisor = divisor_in(context.text, others);
     match row_of_list(context.result, sort, at, behind, divisor, word) {
         Some(row) => {
             put_node(out, row.node)?;

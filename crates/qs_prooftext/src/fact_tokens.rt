@@ -5,7 +5,7 @@ ghost use Rattle.qs_sexpr.specs.Marks.{marks};
 ghost use Rattle.qs_prooftext.specs.Putting.{fact_begins, list_marks, words_in_table, apart_begins};
 ghost use Rattle.qs_prooftext.specs.Writing.{item_form};
 ghost use Rattle.qs_prooftext.specs.Tokens.{Writes, combination_marks, term_begins, items_begin};
-ghost use Rattle.qs_prooftext.specs.Tokens.{both_begin, fact_marks};
+ghost use Rattle.qs_prooftext.specs.Tokens.{BeginsBoth, fact_marks};
 ghost use Rattle.qs_entail.specs.Certificates.{range};
 
 use crate::naming::{WordTable, function_word};
@@ -91,7 +91,7 @@ fn begin_with_both<'a>(
     first: &[Item],
     second: &[Item],
 ) -> Result<(), NoMemory>
-    ensures { Writes out.old (both_begin table.entry head.now t.now first second) out.new result }
+    ensures { BeginsBoth out.old table.entry head.now t.now first.now second.now out.new result }
 {
     begin_with_items(alloc, out, table, head, t, first)?;
     put_combination(out, second)
